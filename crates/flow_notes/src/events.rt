@@ -1,0 +1,132 @@
+// What happens to a core.
+ghost use Rattle.std.specs.Prelude.{◌≡◌, ◌==◌, ◌++◌, ◌∷◌, [], length, OnOk, OnErr};
+
+use io_ports::{NoMemory, Octets, PressureList};
+use std::alloc::Global;
+use std::marker::Model;
+
+/// What happens in a plain session, where each stream is an exchange with a request alone.
+#[derive(Debug, Drop)]
+pub enum PlainEvent {
+    /// Stream `stream` begins.
+    Begin { stream: u32 },
+    /// Once the end of `first` is framed, `second` is doomed.
+    Pair { first: u32, second: u32 },
+    /// Body octets came.
+    Body { stream: u32, octets: Octets },
+    /// The body's end came.
+    Finish { stream: u32 },
+    /// The peer resets the stream.
+    Cut { stream: u32 },
+    /// Up to `n` octets leave the write buffer.
+    Room { n: u32 },
+}
+
+/// What a posted callback asks for.
+#[derive(Clone, Copy, Debug, PartialEq, Eq)]
+pub enum Job {
+    /// Every client connection is to be drained.
+    Drain,
+    /// An exchange is to be given up.
+    Cancel { exchange: u64 },
+    /// The published state is to be looked at.
+    Look,
+}
+
+/// What happens to a core. A connection has the number that its accept or join gave it.
+#[derive(Debug, Drop)]
+pub enum Event {
+    /// A client connection came.
+    Accept {
+        conn: u32,
+    },
+    /// A connection to a cluster, which is counted from 0 in the configuration's order.
+    Join {
+        conn: u32,
+        cluster: u32,
+    },
+    /// Octets came.
+    Read {
+        conn: u32,
+        octets: Octets,
+    },
+    /// The connection is lost.
+    Gone {
+        conn: u32,
+    },
+    /// Up to `n` octets leave the write buffer.
+    Room {
+        conn: u32,
+        n: u32,
+    },
+    /// The clock, in milliseconds.
+    Tick {
+        now: u64,
+    },
+    /// Post `number` of `poster`.
+    Post {
+        poster: u32,
+        number: u64,
+        job: Job,
+    },
+    /// A published version with its pressures, in parts per million.
+    Obey {
+        version: u64,
+        pressures: PressureList,
+    },
+    /// What happens in a plain session.
+    Plain(PlainEvent),
+}
+
+/// A list of events.
+#[derive(Debug, Drop)]
+pub struct EventList {
+    events: Vec<Event>,
+}
+
+impl Model for EventList {
+    ghost use Rattle.std.specs.Prelude.{List};
+    ghost use Rattle.flow_notes.specs.declared.events.Event.{Event};
+
+    ghost Value = { List Event };
+
+    ghost view = { λ a. a.events.items };
+}
+
+impl EventList {
+    /// No events. Takes no memory.
+    pub fn new(alloc: Global) -> Self
+        ensures { result ≡ [] }
+    {
+        EventList {
+            events: Vec::new(alloc),
+        }
+    }
+
+    /// Appends an event. After want of memory the list is as it was.
+    pub fn push(&mut self, event: Event) -> Result<(), NoMemory>
+        ensures ok { OnOk result (self.new ≡ self.old ++ event ∷ []) }
+        ensures err { OnErr result (self.new ≡ self.old) }
+    {
+        self.events.push(event)?;
+        Ok(())
+    }
+
+    pub fn as_slice(&self) -> &[Event]
+        ensures { result.now ≡ self.now }
+    {
+        self.events.as_slice()
+    }
+
+    pub fn len(&self) -> usize
+        ensures { result ≡ length self.now }
+    {
+        self.events.len()
+    }
+
+    pub fn is_empty(&self) -> bool
+        ensures { result ≡ (length self.now == 0) }
+    {
+        self.events.is_empty()
+    }
+}

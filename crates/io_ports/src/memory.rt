@@ -1,0 +1,158 @@
+// Sources and sinks in memory, which fail at the calls that they are told.
+ghost use Rattle.std.specs.Prelude.{◌≡◌, ◌<◌, ◌≤◌, [], length, take, min, Some, IfOk};
+
+use crate::{Failed, NoMemory, Sink, Source};
+use std::alloc::Global;
+use std::marker::Model;
+
+/// Octets in memory, given in pieces. A read whose number is in `failing` fails and takes nothing.
+#[derive(Drop)]
+pub struct MemSource {
+    octets: Vec<u8>,
+    at: usize,
+    most: usize,
+    calls: u64,
+    failing: Vec<u64>,
+    faults: u64,
+}
+
+impl Model for MemSource {
+    ghost use Rattle.std.specs.Prelude.{◌<◌, ◌≤◌, length, drop};
+    ghost use Rattle.io_ports.specs.Memory.{Memory};
+
+    ghost Value = { Memory };
+
+    ghost view = { λ s. record { octets = drop s.at s.octets.items; faults = s.faults } };
+
+    ghost invariant = { λ s. (s.at ≤ length s.octets.items) × (0 < s.most) };
+}
+
+impl MemSource {
+    /// Gives these octets. The reads whose numbers, counted from 0, are in `failing` fail.
+    pub fn new(octets: Vec<u8>, failing: Vec<u64>) -> Self
+        ensures octets { result.octets ≡ octets.items }
+        ensures faults { result.faults ≡ 0 }
+    {
+        MemSource {
+            octets,
+            at: 0,
+            most: usize::MAX,
+            calls: 0,
+            failing,
+            faults: 0,
+        }
+    }
+
+    /// From now on a read gives at most so many octets.
+    pub fn give_at_most(&mut self, most: usize)
+        requires { 0 < most }
+        ensures { self.new ≡ self.old }
+    {
+        self.most = most;
+    }
+}
+
+// Copies what fits to the front, at most so many octets.
+fn copy_front(into: &mut [u8], from: &[u8], most: usize) -> usize
+    ensures bound { result ≡ min (min (length into.old) (length from.now)) most }
+    ensures front { take result into.new ≡ take result from.now }
+{
+    let n = into.len().min(from.len()).min(most);
+    into[..n].copy_from_slice(&from[..n]);
+    n
+}
+
+impl Source for MemSource {
+    ghost left = { λ s. Some s.octets };
+
+    ghost faults = { λ s. s.faults };
+
+    fn read(&mut self, into: &mut [u8]) -> Result<usize, Failed> {
+        let call = self.calls;
+        self.calls = self.calls.saturating_add(1);
+        if self.failing.contains(&call) {
+            self.faults = self.faults.saturating_add(1);
+            return Err(Failed);
+        }
+        let n = copy_front(into, &self.octets[self.at..], self.most);
+        self.at += n;
+        Ok(n)
+    }
+}
+
+/// A sink in memory, with room for a number of octets. A write whose number is in `failing`, or
+/// that finds no room for its piece, fails and writes nothing.
+#[derive(Drop)]
+pub struct MemSink {
+    octets: Vec<u8>,
+    room: usize,
+    most: usize,
+    calls: u64,
+    failing: Vec<u64>,
+    faults: u64,
+}
+
+impl Model for MemSink {
+    ghost use Rattle.io_ports.specs.Memory.{Memory};
+
+    ghost Value = { Memory };
+
+    ghost view = { λ s. record { octets = s.octets.items; faults = s.faults } };
+}
+
+impl MemSink {
+    /// Takes the memory for `room` octets, which later writes fill. The writes whose numbers,
+    /// counted from 0, are in `failing` fail.
+    pub fn new(alloc: Global, room: usize, failing: Vec<u64>) -> Result<Self, NoMemory>
+        ensures octets { IfOk result (λ made. made.octets ≡ []) }
+        ensures faults { IfOk result (λ made. made.faults ≡ 0) }
+    {
+        Ok(MemSink {
+            octets: Vec::with_capacity(alloc, room)?,
+            room,
+            most: usize::MAX,
+            calls: 0,
+            failing,
+            faults: 0,
+        })
+    }
+
+    /// From now on a write takes at most so many octets. With 0 each write takes nothing, which
+    /// counts as a fault for a nonempty piece.
+    pub fn take_at_most(&mut self, most: usize)
+        ensures { self.new ≡ self.old }
+    {
+        self.most = most;
+    }
+
+    /// What was written.
+    pub fn octets(&self) -> &[u8]
+        ensures { result.now ≡ self.now.octets }
+    {
+        self.octets.as_slice()
+    }
+}
+
+impl Sink for MemSink {
+    ghost contents = { λ s. Some s.octets };
+
+    ghost faults = { λ s. s.faults };
+
+    fn write(&mut self, piece: &[u8]) -> Result<usize, Failed> {
+        let call = self.calls;
+        self.calls = self.calls.saturating_add(1);
+        let taken = &piece[..piece.len().min(self.most)];
+        let room = self.room.saturating_sub(self.octets.len());
+        if self.failing.contains(&call)
+            || taken.len() > room
+            || self.octets.extend_from_slice(taken).is_err()
+        {
+            self.faults = self.faults.saturating_add(1);
+            return Err(Failed);
+        }
+        if taken.is_empty() && !piece.is_empty() {
+            self.faults = self.faults.saturating_add(1);
+        }
+        Ok(taken.len())
+    }
+}
