@@ -1,0 +1,4 @@
+pub mod Buffer
+pub mod Stored
+pub mod View
+pub mod Watermark

@@ -1,0 +1,151 @@
+// The buffer.
+ghost use Rattle.std.specs.Prelude.{◌≡◌, ◌==◌, ◌<◌, ◌≤◌, ◌+◌, ◌^◌, ◌++◌, length, take, IsOk, OnOk, OnErr, IfOk};
+ghost use Rattle.wm_buffer.specs.Watermark.{crossing};
+ghost use Rattle.wm_buffer.specs.Buffer.{empty_buffer, AppendsOctets, DropsOctets, KeepsOctets, IsWithinMarks};
+
+use crate::store::Store;
+use crate::watermark::{Crossed, Watermark};
+use io_ports::NoMemory;
+use std::alloc::Global;
+use std::marker::Model;
+
+/// What one move did to the buffer that it took from, and to the one that it went to.
+#[derive(Clone, Copy, Debug, PartialEq, Eq)]
+pub struct Shifted {
+    pub from: Crossed,
+    pub to: Crossed,
+}
+
+/// Octets in order, with a high watermark at their limit and a low one at half of it.
+///
+/// It has places for 2^31 - 1 octets. An append that finds no place is want of memory.
+#[derive(Debug, Drop)]
+pub struct WatermarkBuffer {
+    store: Store,
+    watermark: Watermark,
+}
+
+impl Model for WatermarkBuffer {
+    ghost use Rattle.wm_buffer.specs.Buffer.{Buffer, IsWithinMarks};
+
+    ghost Value = { Buffer };
+
+    ghost use Rattle.wm_buffer.specs.View.{buffer_of};
+
+    ghost view = { buffer_of };
+
+    ghost invariant = { λ b. IsWithinMarks (buffer_of b) };
+}
+
+impl WatermarkBuffer {
+    /// An empty buffer, not above. It takes no memory until octets come or room is made.
+    pub fn new(alloc: Global, limit: u32) -> Self
+        ensures { result ≡ empty_buffer limit }
+    {
+        WatermarkBuffer {
+            store: Store::new(alloc),
+            watermark: Watermark::new(limit),
+        }
+    }
+
+    /// Makes room for all octets up to the limit and `unit` more, so that until then no append takes
+    /// memory.
+    pub fn ready(&mut self, unit: u32) -> Result<(), NoMemory>
+        requires { self.old.limit + unit < 2 ^ 31 }
+        ensures keeps { KeepsOctets self.old self.new }
+        ensures room { OnOk result (self.new.limit + unit ≤ length self.new.octets + self.new.spare) }
+        ensures covered { self.old.limit + unit ≤ length self.old.octets + self.old.spare → IsOk result }
+        ensures err { OnErr result (self.new ≡ self.old) }
+    {
+        let wanted = self.watermark.limit as usize + unit as usize;
+        let missing = wanted.saturating_sub(self.store.len());
+        self.store.reserve(missing)
+    }
+
+    /// Appends a piece. Where there is room for it, it takes no memory.
+    pub fn add(&mut self, piece: &[u8]) -> Result<Crossed, NoMemory>
+        ensures appends { OnOk result (AppendsOctets self.old self.new piece.now) }
+        ensures crossed { IfOk result (λ crossed. crossed ≡ crossing self.old.above self.new.above) }
+        ensures covered { length piece.now ≤ self.old.spare → IsOk result }
+        ensures err { OnErr result (self.new ≡ self.old) }
+    {
+        self.store.reserve(piece.len())?;
+        self.store.append(piece);
+        Ok(self.watermark.follow(self.store.len()))
+    }
+
+    /// Drops the first n octets, and keeps their room.
+    pub fn take(&mut self, n: u32) -> Crossed
+        requires { n ≤ length self.old.octets }
+        ensures drops { DropsOctets self.old self.new n }
+        ensures crossed { result ≡ crossing self.old.above self.new.above }
+    {
+        self.store.drop_front(n as usize);
+        self.watermark.follow(self.store.len())
+    }
+
+    /// Appends `head` and then the first n octets of this buffer to another as one change, and drops
+    /// them here. Where the other has room for both, it takes no memory.
+    pub fn move_to(
+        &mut self,
+        to: &mut WatermarkBuffer,
+        head: &[u8],
+        n: u32,
+    ) -> Result<Shifted, NoMemory>
+        requires { n ≤ length self.old.octets }
+        ensures drops { OnOk result (DropsOctets self.old self.new n) }
+        ensures appends { OnOk result (AppendsOctets to.old to.new (head.now ++ take n self.old.octets)) }
+        ensures from { IfOk result (λ shifted. shifted.from ≡ crossing self.old.above self.new.above) }
+        ensures to { IfOk result (λ shifted. shifted.to ≡ crossing to.old.above to.new.above) }
+        ensures covered { length head.now + n ≤ to.old.spare → IsOk result }
+        ensures err { OnErr result ((self.new ≡ self.old) × (to.new ≡ to.old)) }
+    {
+        to.store.reserve(head.len().saturating_add(n as usize))?;
+        let (front, back) = self.store.first_pieces(n as usize);
+        to.store.append(head);
+        to.store.append(front);
+        to.store.append(back);
+        let raised = to.watermark.follow(to.store.len());
+        let drained = self.take(n);
+        Ok(Shifted {
+            from: drained,
+            to: raised,
+        })
+    }
+
+    /// A prefix of the octets, nonempty where they are. The ring has two parts, and this is the first
+    /// that isn't empty.
+    pub fn front(&self) -> &[u8]
+        ensures prefix { result.now ≡ take (length result.now) self.now.octets }
+        ensures nonempty { 0 < length self.now.octets → 0 < length result.now }
+    {
+        let (front, back) = self.store.pieces();
+        if front.is_empty() { back } else { front }
+    }
+
+    pub fn len(&self) -> u32
+        ensures len { result ≡ length self.now.octets }
+        ensures within { result + self.now.spare < 2 ^ 31 }
+    {
+        self.store.len() as u32
+    }
+
+    pub fn is_empty(&self) -> bool
+        ensures { result ≡ (length self.now.octets == 0) }
+    {
+        self.store.len() == 0
+    }
+
+    pub fn limit(&self) -> u32
+        ensures { result ≡ self.now.limit }
+    {
+        self.watermark.limit
+    }
+
+    pub fn is_above(&self) -> bool
+        ensures above { result ≡ self.now.above }
+        ensures marks { IsWithinMarks self.now }
+    {
+        self.watermark.above
+    }
+}
