@@ -1,0 +1,2 @@
+pub mod RecvWindow
+pub mod SendWindow
