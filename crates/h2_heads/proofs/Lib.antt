@@ -1,0 +1,6 @@
+pub mod Decimals
+pub mod Faults
+pub mod FirstLengths
+pub mod FirstValues
+pub mod Found
+pub mod SoundFields

@@ -1,0 +1,47 @@
+use Rattle.std.proofs.Common.{List, None, Option, Some, ℕ, ◌∙◌, ap, arith, below_more, codes, refl, sym}
+use Rattle.std.specs.Option.{option_or}
+use Rattle.std.specs.Prelude.{if◌then◌else◌}
+use Rattle.h2_heads.specs.Named.{is_named}
+use Rattle.h2_heads.proofs.Faults.{all_sound, fault_at_field, first_fault, first_missing, malformed_at, malformed_at_end, not_malformed}
+use Rattle.h2_heads.proofs.FirstValues.{value_of_more}
+use Rattle.h2_heads.proofs.check.check.Goals as goal
+
+pub loop-place-init : goal.loop-place-init
+loop-place-init c = (λ k h. absurd (omega arith), refl)
+
+pub lowest-requires : goal.lowest-requires
+lowest-requires c = c.loop-place.invariant.1
+
+pub returns-in-Some-clause-fault : goal.returns-in-Some-clause-fault
+returns-in-Some-clause-fault c =
+    let there = fault_at_field c.args.message c.args.fields.now c.loop-place.place c.index-fields-place.result c.loop-place-test.true c.index-fields-place.is in
+    first_fault _ c.loop-place.place _ c.in-Some.kind c.loop-place.invariant.0 (there ∙ sym c.lowest.ensures ∙ c.in-Some.is) c.at.ensures.place c.at.ensures.kind
+
+pub returns-in-Some-clause-malformed : goal.returns-in-Some-clause-malformed
+returns-in-Some-clause-malformed c =
+    let there = fault_at_field c.args.message c.args.fields.now c.loop-place.place c.index-fields-place.result c.loop-place-test.true c.index-fields-place.is in
+    sym (malformed_at c.args.message c.args.fields.now c.loop-place.place c.in-Some.kind (omega arith) (there ∙ sym c.lowest.ensures ∙ c.in-Some.is))
+
+pub loop-place-preserved : goal.loop-place-preserved
+loop-place-preserved c =
+    let there = fault_at_field c.args.message c.args.fields.now c.loop-place.place c.index-fields-place.result c.loop-place-test.true c.index-fields-place.is in
+    let more = value_of_more (codes "content-length") c.args.fields.now c.loop-place.place c.index-fields-place.result c.loop-place-test.true c.index-fields-place.is in
+    let next = if is_named (codes "content-length") c.index-fields-place.result then Some c.index-fields-place.result.value else None in
+    let joined = ap (λ (first : Option (List ℕ)). option_or first next) c.loop-place.invariant.1 in
+    (below_more _ _ c.loop-place.invariant.0 (there ∙ sym c.lowest.ensures ∙ c.in_default.is), c.first_length-length.ensures ∙ joined ∙ sym more)
+
+pub returns-then-lacks-clause-fault : goal.returns-then-lacks-clause-fault
+returns-then-lacks-clause-fault c =
+    first_missing c.args.message c.args.fields.now c.loop-place.place _ c.loop-place.invariant.0 c.loop-place-test.false (sym c.lacks.ensures ∙ c.if-lacks.true) c.at-then-lacks.ensures.place c.at-then-lacks.ensures.kind
+
+pub returns-clause-sound : goal.returns-clause-sound
+returns-clause-sound c =
+    all_sound c.args.message c.args.fields.now c.loop-place.place c.loop-place.invariant.0 c.loop-place-test.false (sym c.lacks.ensures ∙ c.if-lacks.false)
+
+pub returns-then-lacks-clause-malformed : goal.returns-then-lacks-clause-malformed
+returns-then-lacks-clause-malformed c =
+    sym (malformed_at_end c.args.message c.args.fields.now (sym c.lacks.ensures ∙ c.if-lacks.true))
+
+pub returns-clause-malformed : goal.returns-clause-malformed
+returns-clause-malformed c =
+    sym (not_malformed c.args.message c.args.fields.now (all_sound c.args.message c.args.fields.now c.loop-place.place c.loop-place.invariant.0 c.loop-place-test.false (sym c.lacks.ensures ∙ c.if-lacks.false)))

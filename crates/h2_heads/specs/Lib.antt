@@ -1,0 +1,6 @@
+pub mod Heads
+pub mod Kinds
+pub mod Malformed
+pub mod Named
+pub mod Numbers
+pub mod Rules

@@ -1,0 +1,28 @@
+// The check of a whole list.
+ghost use Rattle.std.specs.Prelude.{◌≡◌, ◌^◌, ◌<◌, is_err, length, IfErr, OnOk};
+ghost use Rattle.h2_heads.specs.Malformed.{fault_at, is_malformed, IsFirst, IsSound};
+
+use crate::lengths::first_length;
+use crate::malformed::{Kind, Malformed, Message};
+use crate::rules::{lacks, lowest};
+use hpack_codec::Field;
+
+/// Goes once through the list, and stops at the first field that breaks a rule.
+pub fn check(message: Message, fields: &[Field]) -> Result<(), Malformed>
+    requires { length fields.now < 2 ^ 32 }
+    ensures sound { OnOk result (IsSound (fault_at message fields.now)) }
+    ensures fault { IfErr result (IsFirst (fault_at message fields.now)) }
+    ensures malformed { is_err result ≡ is_malformed message fields.now }
+{
+    let mut length = None;
+    for (place, field) in fields.iter().enumerate() {
+        if let Some(kind) = lowest(message, &fields[..place], length, field) {
+            return Err(Malformed::at(place, kind));
+        }
+        length = first_length(length, field);
+    }
+    if lacks(message, fields) {
+        return Err(Malformed::at(fields.len(), Kind::Missing));
+    }
+    Ok(())
+}

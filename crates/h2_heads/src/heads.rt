@@ -1,0 +1,105 @@
+// The heads of requests and responses, and trailers.
+ghost use Rattle.std.specs.Prelude.{◌≡◌, ◌^◌, ◌<◌, ◌≤◌, codes, if◌then◌else◌, is_err, length, IfErr, IfOk, IfSome, IsSome, IsTrue, OnOk};
+ghost use Rattle.std.specs.Bool.{OnFalse};
+ghost use Rattle.std.specs.Option.{SomeIff};
+ghost use Rattle.h2_heads.specs.Heads.{is_malformed_request, is_malformed_response, is_malformed_trailers, request_head, status_of};
+ghost use Rattle.h2_heads.specs.Malformed.{fault_at, is_connect, message_of_request, IsFirst, IsSound};
+ghost use Rattle.h2_heads.specs.Named.{StandsAt, value_of};
+ghost use Rattle.h2_heads.specs.Numbers.{decimal, is_status};
+ghost use Rattle.h2_heads.specs.declared.malformed.Message.TheVariants.{Connect, Request, Response, Trailers};
+
+use crate::check::check;
+use crate::malformed::{Malformed, Message};
+use crate::names::{place_of, value_of};
+use crate::values::status_in;
+use hpack_codec::{Field, FieldList};
+
+/// What the head of a request says: whether its method is CONNECT, and at which places of the
+/// list its `:authority` and `:path` stand.
+#[derive(Clone, Copy, Debug, PartialEq, Eq)]
+pub struct RequestHead {
+    pub connect: bool,
+    pub authority: Option<u32>,
+    pub path: Option<u32>,
+}
+
+/// What the head of a response says: its status, from 100 to 999.
+#[derive(Clone, Copy, Debug, PartialEq, Eq)]
+pub struct ResponseHead {
+    pub status: u16,
+}
+
+/// Checks the fields of a request's head (RFC 9113 section 8.3.1).
+pub fn check_request(fields: &FieldList) -> Result<RequestHead, Malformed>
+    requires { length fields.now < 2 ^ 32 }
+    ensures sound { OnOk result (IsSound (fault_at (message_of_request fields.now) fields.now)) }
+    ensures head { IfOk result (λ head. head ≡ request_head fields.now) }
+    ensures authority { IfOk result (λ head. StandsAt (codes ":authority") fields.now head.authority) }
+    ensures path { IfOk result (λ head. StandsAt (codes ":path") fields.now head.path) }
+    ensures path_needed { IfOk result (λ head. OnFalse head.connect (IsSome head.path)) }
+    ensures fault { IfErr result (IsFirst (fault_at (message_of_request fields.now) fields.now)) }
+    ensures malformed { is_err result ≡ is_malformed_request fields.now }
+{
+    let fields = fields.as_slice();
+    let connect = is_connect(fields);
+    check(message_of_request(connect), fields)?;
+    Ok(RequestHead {
+        connect,
+        authority: place_of(fields, b":authority"),
+        path: place_of(fields, b":path"),
+    })
+}
+
+/// Checks the fields of a response's head (RFC 9113 section 8.3.2). A head with status 101 or
+/// another interim one is checked as any other.
+pub fn check_response(fields: &FieldList) -> Result<ResponseHead, Malformed>
+    requires { length fields.now < 2 ^ 32 }
+    ensures sound { OnOk result (IsSound (fault_at Response fields.now)) }
+    ensures status { IfOk result (λ head. head.status ≡ status_of fields.now) }
+    ensures range { IfOk result (λ head. (100 ≤ head.status) × (head.status ≤ 999)) }
+    ensures fault { IfErr result (IsFirst (fault_at Response fields.now)) }
+    ensures malformed { is_err result ≡ is_malformed_response fields.now }
+{
+    let fields = fields.as_slice();
+    check(Message::Response, fields)?;
+    Ok(ResponseHead {
+        status: named_status(fields).unwrap_or(0),
+    })
+}
+
+/// Checks the fields of trailers (RFC 9113 section 8.1).
+pub fn check_trailers(fields: &FieldList) -> Result<(), Malformed>
+    requires { length fields.now < 2 ^ 32 }
+    ensures sound { OnOk result (IsSound (fault_at Trailers fields.now)) }
+    ensures fault { IfErr result (IsFirst (fault_at Trailers fields.now)) }
+    ensures malformed { is_err result ≡ is_malformed_trailers fields.now }
+{
+    check(Message::Trailers, fields.as_slice())
+}
+
+fn message_of_request(connect: bool) -> Message
+    ensures { result ≡ (if connect then Connect else Request) }
+{
+    if connect {
+        Message::Connect
+    } else {
+        Message::Request
+    }
+}
+
+fn is_connect(fields: &[Field]) -> bool
+    ensures { result ≡ is_connect fields.now }
+{
+    value_of(fields, b":method").is_some_and(|method| method == b"CONNECT".as_slice())
+}
+
+// The status that the list names in its form.
+fn named_status(fields: &[Field]) -> Option<u16>
+    ensures { IfSome (value_of (codes ":status") fields.now)
+        (λ value. SomeIff result (IsTrue (is_status value)) (decimal value)) }
+{
+    match value_of(fields, b":status") {
+        Some(value) => status_in(value),
+        None => None,
+    }
+}

@@ -1,0 +1,78 @@
+// Names of fields, and fields by their names.
+ghost use Rattle.std.specs.Prelude.{◌≡◌, ◌<◌, ◌^◌, length, IfSome};
+ghost use Rattle.h2_heads.specs.Named.{has_field, is_named, place_of, value_of, StandsAt};
+ghost use Rattle.h2_heads.specs.Rules.{has_inner_colon, is_bad_in_name, is_bad_name, is_pseudo};
+ghost use Rattle.std.specs.List.{list_any};
+ghost use Rattle.std.specs.Option.{option_copied};
+
+use hpack_codec::Field;
+
+/// Whether the name is empty or has an octet that no name has.
+pub fn is_bad_name(name: &[u8]) -> bool
+    ensures { result ≡ is_bad_name name.now }
+{
+    name.is_empty() || has_bad_octet(name)
+}
+
+fn has_bad_octet(name: &[u8]) -> bool
+    ensures { result ≡ list_any is_bad_in_name name.now }
+{
+    name.iter().any(|octet| is_bad_in_name(*octet))
+}
+
+fn is_bad_in_name(octet: u8) -> bool
+    ensures { result ≡ is_bad_in_name octet }
+{
+    octet.is_ascii_uppercase() || octet < 0x21 || octet > 0x7e
+}
+
+/// Whether a colon stands in the name past its first octet.
+pub fn has_inner_colon(name: &[u8]) -> bool
+    ensures { result ≡ has_inner_colon name.now }
+{
+    name.iter().skip(1).any(|octet| *octet == b':')
+}
+
+pub fn is_pseudo(field: &Field) -> bool
+    ensures { result ≡ is_pseudo field.now }
+{
+    field.name.as_slice().starts_with(b":")
+}
+
+pub fn is_named(field: &Field, name: &[u8]) -> bool
+    ensures { result ≡ is_named name.now field.now }
+{
+    field.name.as_slice() == name
+}
+
+/// The value of the first field with the name.
+pub fn value_of<'a>(fields: &'a [Field], name: &[u8]) -> Option<&'a [u8]>
+    ensures { option_copied result ≡ value_of name.now fields.now }
+{
+    fields
+        .iter()
+        .find(|field| is_named(field, name))
+        .map(|field| field.value.as_slice())
+}
+
+pub fn has_field(fields: &[Field], name: &[u8]) -> bool
+    ensures { result ≡ has_field name.now fields.now }
+{
+    value_of(fields, name).is_some()
+}
+
+/// The place of the first field with the name.
+pub fn place_of(fields: &[Field], name: &[u8]) -> Option<u32>
+    requires { length fields.now < 2 ^ 32 }
+    ensures place { result ≡ place_of name.now fields.now }
+    ensures stands { StandsAt name.now fields.now result }
+{
+    position_of(fields, name).map(|place| place as u32)
+}
+
+fn position_of(fields: &[Field], name: &[u8]) -> Option<usize>
+    ensures place { result ≡ place_of name.now fields.now }
+    ensures within { IfSome result (λ place. place < length fields.now) }
+{
+    fields.iter().position(|field| is_named(field, name))
+}

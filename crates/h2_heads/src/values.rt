@@ -1,0 +1,106 @@
+// Values of fields, and the numbers in them.
+ghost use Rattle.std.specs.Prelude.{◌≡◌, ◌^◌, [], ◌∷◌, ◌&&◌, false, nat_lt, IsTrue};
+ghost use Rattle.std.specs.List.{list_any};
+ghost use Rattle.std.specs.Option.{SomeIff, option_copied, option_map_or};
+ghost use Rattle.h2_heads.specs.Numbers.{begins_zero, decimal, is_decimal, is_digit, is_length, is_status, with_digit};
+ghost use Rattle.h2_heads.specs.Rules.{is_bad_in_value, is_bad_value, is_blank};
+
+/// Whether the value has an octet that no value has, or a space or tab at its start or end.
+pub fn is_bad_value(value: &[u8]) -> bool
+    ensures { result ≡ is_bad_value value.now }
+{
+    has_bad_octet(value) || is_some_blank(value.first()) || is_some_blank(value.last())
+}
+
+fn has_bad_octet(value: &[u8]) -> bool
+    ensures { result ≡ list_any is_bad_in_value value.now }
+{
+    value.iter().any(|octet| is_bad_in_value(*octet))
+}
+
+fn is_some_blank(octet: Option<&u8>) -> bool
+    ensures { result ≡ option_map_or is_blank (option_copied octet.entry) false }
+{
+    octet.is_some_and(|octet| is_blank(*octet))
+}
+
+fn is_bad_in_value(octet: u8) -> bool
+    ensures { result ≡ is_bad_in_value octet }
+{
+    octet == 0 || octet == b'\n' || octet == b'\r'
+}
+
+fn is_blank(octet: u8) -> bool
+    ensures { result ≡ is_blank octet }
+{
+    octet == b' ' || octet == b'\t'
+}
+
+const MAX_LENGTH: u64 = (1 << 63) - 1;
+
+/// The number that decimal digits say, without sign or leading zeros and below 2^63.
+pub fn length_in(value: &[u8]) -> Option<u64>
+    ensures { SomeIff result (IsTrue (is_length value.now)) (decimal value.now) }
+{
+    if value.is_empty() || begins_zero(value) {
+        return None;
+    }
+    decimal_in(value)
+}
+
+fn begins_zero(value: &[u8]) -> bool
+    ensures { result ≡ begins_zero value.now }
+{
+    value.len() > 1 && value[0] == b'0'
+}
+
+fn decimal_in(value: &[u8]) -> Option<u64>
+    ensures { SomeIff result (IsTrue (is_decimal value.now)) (decimal value.now) }
+{
+    let mut n = 0;
+    for octet in value {
+        n = with_digit(n, *octet)?;
+    }
+    Some(n)
+}
+
+// The number with one more digit, where that is a digit and the number below 2^63.
+fn with_digit(n: u64, octet: u8) -> Option<u64>
+    ensures { SomeIff result
+        (IsTrue (is_digit octet && nat_lt (with_digit n octet) (2 ^ 63))) (with_digit n octet) }
+{
+    if !is_digit(octet) {
+        return None;
+    }
+    let digit = u64::from(octet - b'0');
+    if n > (MAX_LENGTH - digit) / 10 {
+        return None;
+    }
+    Some(10 * n + digit)
+}
+
+/// The status that three digits from 100 to 999 say.
+pub fn status_in(value: &[u8]) -> Option<u16>
+    ensures { SomeIff result (IsTrue (is_status value.now)) (decimal value.now) }
+{
+    let [hundreds, tens, units] = value else {
+        return None;
+    };
+    three_digits(*hundreds, *tens, *units)
+}
+
+fn three_digits(hundreds: u8, tens: u8, units: u8) -> Option<u16>
+    ensures { let digits = hundreds ∷ tens ∷ units ∷ [] in
+        SomeIff result (IsTrue (is_status digits)) (decimal digits) }
+{
+    if hundreds == b'0' || !is_digit(hundreds) || !is_digit(tens) || !is_digit(units) {
+        return None;
+    }
+    Some(100 * u16::from(hundreds - b'0') + 10 * u16::from(tens - b'0') + u16::from(units - b'0'))
+}
+
+fn is_digit(octet: u8) -> bool
+    ensures { result ≡ is_digit octet }
+{
+    (b'0'..=b'9').contains(&octet)
+}
