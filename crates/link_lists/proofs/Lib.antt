@@ -1,0 +1,16 @@
+pub mod Shared
+pub mod Crosses
+pub mod Memory
+pub mod Changes
+pub mod Splits
+pub mod Edges
+pub mod Pushed
+pub mod Moved
+pub mod Beside
+pub mod Lone
+pub mod Fronts
+pub mod Opened
+pub mod Shut
+pub mod Swapped
+pub mod Stored
+pub mod Calls

@@ -1,0 +1,10 @@
+use denote.RattleType.{RattleType}
+use denote.Struct.Struct.{exits_of}
+use denote.Struct.Owning.{shape, fields, to}
+use denote.Param.Send.{IsSend, AllSend, owning_send, struct_send, sendable}
+use Rattle.std_alloc.proofs.SendSync.{quiet}
+use Rattle.link_lists.specs.contracts.note.Note as C
+
+pub send : (T : RattleType) → IsSend (C.the_row T)
+send T = let O = C.the_type T in let all : AllSend (fields O) = (search sendable, tt) in
+    owning_send O all (λ d. tt) (λ k. quiet (to O) (exits_of k (fields O)) ((struct_send (shape O) all).leaving k))

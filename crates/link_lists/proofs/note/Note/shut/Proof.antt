@@ -1,0 +1,52 @@
+-- `shut` notes one ring less.
+use Rattle.std.proofs.Common.{◌≡◌, ℕ, List, [], ◌∷◌, ◌++◌, sym, refl, subst}
+use mir.Syntax.{a_type, named}
+use mir.Val.{Val, vptr}
+use mir.MapTy.{inst_fn}
+use base.Logic.{SProp, ent, emp, id⊢}
+use base.Fml.{Lft, ftrue, flft}
+use types.Kit.{Item, ‵, raw, ◌⊛◌, ◌$◌, ◌∵◌, !, qed, by, move, keep, split, join, fsplit, fsplit3, fjoin, fjoin3, use0, feq_i, feq_l, suffices}
+use types.Run.{of_opd, returns, enter}
+use types.ByLocal.{alloc_all, pass_all, free_all, look_at, sets}
+use contract.Running.{tables}
+use contract.Monad.{fact, fact_i}
+use contract.BorrowLft.{◌⊑◌}
+use denote.RattleType.{RattleType, owns}
+use denote.Signature.{plain}
+use denote.Steps.{nothing, opens, closes}
+use denote.Param.{layouts}
+use denote.Ref.{MutRef}
+use denote.Triple.Walked.{Stays, stay_ref, walk_of, Goes-ref}
+use Rattle.atomic_table.proofs.Walks.{proved_at, leaves}
+use types.Run.{unit_lit}
+use denote.Param.{param}
+use mir.Val.{vunit}
+use Rattle.link_lists.specs.Notes.{ring_front}
+use Rattle.link_lists.specs.contracts.note.Note as note
+use Rattle.link_lists.specs.contracts.note.Note.shut.{ended, clauses}
+use Rattle.link_lists.specs.contracts.note.Note.shut.Key.{name as #self}
+use Rattle.link_lists.proofs.note.Note.shut.Statement.{statement}
+use Rattle.link_lists.proofs.note.Note.shut.Code as code
+
+pub shut_spec : {M : Type 1} → statement M
+shut_spec 𝓤 𝓛 𝓜 𝓡 wired X L =
+    let H = 𝓛.H in let 𝓣 = tables 𝓤 H 𝓜 𝓡 𝓡.env in let R : RattleType = param 0 X in let Nr : RattleType = note.the_row R in
+    let En = ended X in let inst = layouts (a_type ∷ []) (X, tt) in let fn = inst_fn inst code.function in let c = clauses X 𝓛 𝓜.mem 𝓡.returns in
+    let hs : Stays En.signature.params En.kept = (stay_ref (0 ∷ []) tt (plain (λ _. Nr)), tt) in
+    proved_at 𝓛 En hs c 𝓜 𝓡 (Goes-ref 𝓛 2 0 tt (plain (λ _. Nr)), tt) (#self inst) fn (code.unfolded 𝓤 H 𝓜 𝓡 wired (X, tt)) (λ z are.
+    let κs = z.0.0 in let qs = z.0.1 in let κ : Lft = κs.0 in let q = qs.0 in let t₀ : Item 𝓤 = ‵ (flft κ q) in let ts : Item 𝓤 = ‵ (flft κs.1.0 qs.1.0) ⊛ ‵ ftrue in
+    let Post : Val → SProp 𝓤 = (walk_of 𝓛 En hs c).post z in let Run : List Val → SProp 𝓤 = λ ws. prog.Wp.WpFn 𝓤 H 𝓣.C 𝓣.Λ fn ws Post in
+    let self = z.0.3.0 in let dn : Nr.Denot = self.now in let rb : ℕ = self.ref_ptr.0 in let ro : ℕ = self.ref_ptr.1 in
+    let more : Nr.Denot = record { mark = dn.mark; rings = ring_front dn.rings } in let Told : Type 0 = more.rings ≡ ring_front dn.rings in
+    qed 𝓛 (((t₀ ⊛ ts) ⊛ ‵ (owns (MutRef (named 0) κ Nr ∷ []) z.0.3 z.0.4)) ∷ raw (fact 𝓤 (κs.1.0 ⊑ X.lives)) ∷ ‵ ftrue ∷ []) ∵
+    split ! $ split ! $ move ! (2 ∷ []) $ fsplit ! $ fsplit3 ! $ feq_l ! (λ e0. move ! (2 ∷ []) $ keep ! (1 ∷ 2 ∷ 3 ∷ 4 ∷ []) $
+    let us : List Val = vptr rb ro ∷ [] in
+    suffices ! (Run us) (subst (λ (ws : List Val). ent 𝓤 (Run us) (Run ws)) (sym (λ i. e0 i ++ [])) (id⊢ 𝓤 (Run us))) $
+    enter ! 𝓣.C 𝓣.Λ fn us Post $ alloc_all ! (λ l. pass_all ! refl ((tt, tt), tt) $
+    opens ! tt Nr {h = dn} rb ro (λ vs. closes ! tt Nr more vs rb ro $
+    sets ! (of_opd ! (unit_lit !)) refl (tt, tt) $
+    returns ! (look_at ! 0 refl) $ free_all ! refl $
+    -- [obs; bor; t₀; ts]
+    feq_i ! (List Val) z.0.4.0 (vptr rb ro ∷ []) e0 $ fjoin3 ! $ nothing ! $ move ! (1 ∷ 0 ∷ []) $ fjoin ! $ move ! (1 ∷ 2 ∷ []) $ join ! $
+    use0 𝓛 (raw (fact 𝓤 Told)) (fact_i 𝓤 Told (emp 𝓤) refl) $
+    feq_i ! (List Val) (vunit ∷ []) (vunit ∷ []) refl $ keep ! (2 ∷ 3 ∷ 0 ∷ 1 ∷ []) $ by ! (leaves 𝓛 En hs c z vunit tt (more, tt) (tt, tt))))))

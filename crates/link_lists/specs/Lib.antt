@@ -1,0 +1,10 @@
+pub mod Places
+pub mod Lists
+pub mod Cells
+pub mod Ownership
+pub mod Lends
+pub mod Links
+pub mod Rings
+pub mod Notes
+pub mod Kept
+pub mod Seen
