@@ -14,3 +14,4 @@ pub mod Shut
 pub mod Swapped
 pub mod Stored
 pub mod Calls
+pub mod Facts

@@ -1,5 +1,5 @@
 -- Lists of nodes, each with a name and a value.
-use Rattle.std.specs.Prelude.{ℕ, zero, suc, Bool, true, false, cond, Option, None, Some, List, [], ◌∷◌, ◌++◌}
+use Rattle.std.specs.Prelude.{ℕ, zero, suc, Bool, true, false, cond, ◌||◌, IsTrue, Option, None, Some, List, [], ◌∷◌, ◌++◌}
 use denote.RawPtr.{Ptr}
 use Rattle.link_lists.specs.Places.{same_ptr}
 
@@ -69,3 +69,7 @@ module _ {T : Type 0} where
 pub record NodeLists (T : Type 0) : Type 0 where
   pub lists : List (List (NodeId × T))
   pub retired : List NodeId
+
+-- the node is in the lists, or was retired by them
+abbrev pub IsKnown : {T : Type 0} → NodeId → NodeLists T → Type 0
+IsKnown p s = IsTrue (has_node p s.lists || contains_id p s.retired)

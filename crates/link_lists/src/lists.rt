@@ -1,7 +1,7 @@
 //! Linked lists whose nodes are named by handles.
-ghost use Rattle.std.specs.Prelude.{◌≡◌, ◌≢◌, ℕ, ◌+◌, ◌<◌, ◌≤◌, List, [], ◌∷◌, ◌++◌, length, replicate, not, false, ⊤, ◌||◌, IfOk, IsTrue, MatchResult, MatchOption, Some, None};
+ghost use Rattle.std.specs.Prelude.{◌≡◌, ◌≢◌, ℕ, ◌+◌, ◌<◌, ◌≤◌, List, [], ◌∷◌, ◌++◌, length, replicate, not, false, ⊤, IfOk, IsTrue, MatchResult, MatchOption, Some, None};
 ghost use Rattle.std.specs.Option.{option_copied};
-ghost use Rattle.link_lists.specs.Lists.{NodeLists, push_at, pull_from, has_node, node_value, front_of, contains_id, without_id};
+ghost use Rattle.link_lists.specs.Lists.{NodeLists, push_at, pull_from, has_node, node_value, front_of, contains_id, without_id, IsKnown};
 
 use crate::heap::Place;
 use crate::rings::Rings;
@@ -132,7 +132,7 @@ impl<T: Drop> Lists<T> {
 
     /// Whether the node is in the lists, and `take_front` hasn't retired it. Asks that it is one of the two.
     pub fn is_in(&self, node: &Node) -> bool
-        requires { IsTrue (has_node node.now self.now.lists || contains_id node.now self.now.retired) }
+        requires { IsKnown node.now self.now }
         ensures listed { result ≡ has_node node.now self.now.lists }
         ensures retired { result ≡ not (contains_id node.now self.now.retired) }
     {
