@@ -2,18 +2,22 @@
 #![tactic(auto)]
 
 mod buffers;
+mod frames;
 mod stopwatch;
 
 use std::env;
 
-const USAGE: &str =
-    "usage: bench_main BENCH\n  buffer  octets through two watermark buffers, beside two plain copies\n";
+const USAGE: &str = "usage: bench_main BENCH
+  buffer  octets through two watermark buffers, beside two plain copies
+  frames  reading of frames
+";
 
 fn main(rt: HostRuntime) -> anyhow::Result<()> {
     let mut words = env::args(&rt)?;
     let _program = words.next();
     match words.next() {
         Some(word) if word.as_str() == "buffer" => buffers::run(&rt)?,
+        Some(word) if word.as_str() == "frames" => frames::run(&rt)?,
         Some(_) | None => rt.print(USAGE)?,
     }
     Ok(())

@@ -1,5 +1,5 @@
 // Lists of octets and of pressures, and the want of memory.
-ghost use Rattle.std.specs.Prelude.{◌≡◌, ◌==◌, ◌∷◌, List, ℕ, [], ◌++◌, length, IfOk, OnOk, OnErr};
+ghost use Rattle.std.specs.Prelude.{◌≡◌, ◌==◌, ◌∷◌, List, ℕ, [], ◌++◌, length, take, IfOk, OnOk, OnErr};
 
 use std::alloc::{AllocError, AllocFailed, Global};
 use std::marker::Model;
@@ -72,6 +72,13 @@ impl Octets {
         ensures { self.new ≡ [] }
     {
         self.bytes.clear();
+    }
+
+    /// Keeps the first octets, at most so many, and all the room.
+    pub fn truncate(&mut self, len: usize)
+        ensures { self.new ≡ take len self.old }
+    {
+        self.bytes.truncate(len);
     }
 
     pub fn as_slice(&self) -> &[u8]

@@ -1,0 +1,10 @@
+pub mod Body
+pub mod Decoding
+pub mod Fault
+pub mod Frame
+pub mod Frames
+pub mod Head
+pub mod Payload
+pub mod Reading
+pub mod Spelling
+pub mod View

@@ -1,0 +1,129 @@
+// Frames, with their payloads borrowed, and why none may stand somewhere.
+
+/// What a priority says (RFC 9113 section 6.3). The weight is the octet as it stands.
+#[derive(Clone, Copy, Debug, PartialEq, Eq)]
+pub struct Weighting {
+    pub exclusive: bool,
+    pub dependency: u32,
+    pub weight: u8,
+}
+
+/// A frame, with padding left off. `padded` counts the octets of padding, the one that tells its
+/// length included, and is 0 without the flag PADDED. Reserved bits, and flags that a type doesn't
+/// define, are left out.
+#[derive(Clone, Copy, Debug, PartialEq, Eq)]
+pub enum Frame<'a> {
+    DataFrame {
+        stream: u32,
+        last: bool,
+        padded: u32,
+        octets: &'a [u8],
+    },
+    Headers {
+        stream: u32,
+        last: bool,
+        end_headers: bool,
+        padded: u32,
+        priority: Option<Weighting>,
+        block: &'a [u8],
+    },
+    Priority {
+        stream: u32,
+        priority: Weighting,
+    },
+    Reset {
+        stream: u32,
+        code: u32,
+    },
+    /// The entries, of 6 octets each, as they stand.
+    Settings {
+        ack: bool,
+        entries: &'a [u8],
+    },
+    Push {
+        stream: u32,
+        end_headers: bool,
+        padded: u32,
+        promised: u32,
+        block: &'a [u8],
+    },
+    Ping {
+        ack: bool,
+        octets: [u8; 8],
+    },
+    GoAway {
+        last: u32,
+        code: u32,
+        debug: &'a [u8],
+    },
+    WindowUpdate {
+        stream: u32,
+        increment: u32,
+    },
+    Continuation {
+        stream: u32,
+        end_headers: bool,
+        block: &'a [u8],
+    },
+    /// A type above 9, with all its flags as they stand.
+    Unknown {
+        kind: u8,
+        flags: u8,
+        stream: u32,
+        octets: &'a [u8],
+    },
+}
+
+/// Why no frame can begin with some octets, in the order of the checks.
+#[derive(Clone, Copy, Debug, PartialEq, Eq)]
+pub enum FrameFault {
+    /// The payload is longer than the greatest that is taken.
+    TooLong,
+    /// The type forbids the stream number.
+    BadStream,
+    /// The type forbids the length, or what the flags announce doesn't fit.
+    BadSize,
+    /// The padding leaves no room.
+    BadPadding,
+}
+
+/// What stands at the front of some octets.
+#[derive(Clone, Copy, Debug, PartialEq, Eq)]
+pub enum ReadFrame<'a> {
+    /// No whole frame, and no fault yet.
+    Need,
+    /// A frame, and how many octets it takes.
+    Whole(Frame<'a>, u32),
+    /// No frame.
+    Bad(FrameFault),
+}
+
+pub const DATA: u8 = 0;
+
+pub const HEADERS: u8 = 1;
+
+pub const PRIORITY: u8 = 2;
+
+pub const RST_STREAM: u8 = 3;
+
+pub const SETTINGS: u8 = 4;
+
+pub const PUSH_PROMISE: u8 = 5;
+
+pub const PING: u8 = 6;
+
+pub const GOAWAY: u8 = 7;
+
+pub const WINDOW_UPDATE: u8 = 8;
+
+pub const CONTINUATION: u8 = 9;
+
+pub const END_STREAM: u8 = 0x1;
+
+pub const ACK: u8 = 0x1;
+
+pub const END_HEADERS: u8 = 0x4;
+
+pub const PADDED: u8 = 0x8;
+
+pub const WITH_PRIORITY: u8 = 0x20;
