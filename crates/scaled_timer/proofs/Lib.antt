@@ -1,0 +1,4 @@
+pub mod Sorting
+pub mod Sooner
+pub mod Listed
+pub mod Turning

@@ -1,0 +1,5 @@
+pub mod Due
+pub mod Order
+pub mod Timing
+pub mod Entries
+pub mod Fronts
