@@ -1,0 +1,35 @@
+//! Prints the configuration that each text of standard input is, or why it is none, and then that of `sample.toml` and the
+//! defaults. A text begins with a line `## NAME`. A line `#? AUTHORITY PATH` in it, with `-` for no authority, asks for the row
+//! of a request.
+#![tactic(auto)]
+
+mod cases;
+mod lists;
+mod show;
+
+use crate::cases::next_case;
+use crate::lists::show_list;
+use crate::show::{show_config, show_text};
+use proxy_config::Config;
+use std::fs;
+use std::io::Read;
+
+fn main(rt: HostRuntime) -> anyhow::Result<()> {
+    let mut text = Vec::new(rt.alloc());
+    rt.reader().read_to_end(&mut text)?;
+    let mut rest = text.as_slice();
+    while !rest.is_empty() {
+        let (case, others) = next_case(rest);
+        show_text(&rt, case)?;
+        rest = others;
+    }
+    let sample = fs::read(&rt, "sample.toml")?;
+    show_text(&rt, sample.as_slice())?;
+    println!(rt; "## the defaults")?;
+    let Ok(defaults) = Config::of_defaults(rt.alloc()) else {
+        println!(rt; "no memory")?;
+        return Ok(());
+    };
+    show_config(&rt, &defaults)?;
+    show_list(&rt)
+}
