@@ -100,8 +100,8 @@ pub fn run(rt: &(impl AllocGlobal + Print + CpuClock)) -> anyhow::Result<()> {
 fn report(rt: &(impl AllocGlobal + Print), moved: u64, copied: u64) -> anyhow::Result<()> {
     let hundredths = u128::from(moved) * 100 / u128::from(copied.max(1));
     let (whole, rest) = (hundredths / 100, hundredths % 100);
-    println!(rt; "two buffers: {moved} octets a second")?;
-    println!(rt; "two plain copies: {copied} octets a second")?;
+    println!(rt; "two buffers: {moved} octets in a second of processor time")?;
+    println!(rt; "two plain copies: {copied} octets in a second of processor time")?;
     println!(rt; "ratio: {whole}.{rest:02}")?;
     Ok(())
 }

@@ -7,7 +7,9 @@ use std::alloc::Global;
 use std::rt::Clock;
 
 const SMALL_PAIRS: u32 = 10_000;
+
 const LARGE_FRAMES: u32 = 64;
+
 const ROUNDS: u32 = 200;
 
 // WINDOW_UPDATE and HEADERS of 40 octets in turn.
@@ -58,7 +60,11 @@ fn read_all(octets: &[u8]) -> (u64, u64) {
     (frames, sum)
 }
 
-fn report(rt: &(impl Print + Clock + AllocGlobal), name: &str, octets: &[u8]) -> anyhow::Result<()> {
+fn report(
+    rt: &(impl Print + Clock + AllocGlobal),
+    name: &str,
+    octets: &[u8],
+) -> anyhow::Result<()> {
     let mut frames: u64 = 0;
     let mut sum: u64 = 0;
     let watch = Stopwatch::start(rt)?;
@@ -79,7 +85,9 @@ fn report(rt: &(impl Print + Clock + AllocGlobal), name: &str, octets: &[u8]) ->
     }
     let copied = u64::from(ROUNDS).wrapping_mul(octets.len() as u64);
     let copy_rate = per_second(copied, watch.nanos(rt)?);
-    println!(rt; "frames: {name}: {rate} frames a second (sum {sum}); a plain copy takes {copy_rate} octets a second")?;
+    println!(rt;
+        "frames: {name}: {rate} frames a second (sum {sum}); a plain copy takes {copy_rate} octets a second"
+    )?;
     Ok(())
 }
 
@@ -88,7 +96,11 @@ pub fn run(rt: &(impl Print + Clock + AllocGlobal)) -> anyhow::Result<()> {
     let Ok(small) = small_frames(rt.alloc()) else {
         bail!("no memory");
     };
-    report(rt, "WINDOW_UPDATE and HEADERS of 40 octets", small.as_slice())?;
+    report(
+        rt,
+        "WINDOW_UPDATE and HEADERS of 40 octets",
+        small.as_slice(),
+    )?;
     let Ok(large) = large_frames(rt.alloc()) else {
         bail!("no memory");
     };

@@ -1,5 +1,9 @@
 // Sources and sinks in memory, which fail at the calls that they are told.
-ghost use Rattle.std.specs.Prelude.{◌≡◌, ◌<◌, ◌≤◌, [], length, take, min, Some, IfOk};
+ghost use Rattle.std.specs.Prelude.{◌≡◌, ◌<◌, ◌≤◌, ◌+◌, ◌-◌, ◌^◌, ◌||◌, ◌++◌, [], length, take, drop, min, nat_lt, Some, is_err, IfOk, OnOk, OnErr};
+ghost use Rattle.std.specs.Io.{ReadsAtMost, WritesAtMost};
+ghost use Rattle.std.specs.Io.KnownBytes.{ReadConsumes, WriteAppends};
+ghost use Rattle.io_ports.specs.Faults.{FailsByFault, TakesNothingByFault};
+ghost use Rattle.io_ports.specs.Memory.{is_to_fail, counted, faults_after};
 
 use crate::{Failed, NoMemory, Sink, Source};
 use std::alloc::Global;
@@ -18,11 +22,11 @@ pub struct MemSource {
 
 impl Model for MemSource {
     ghost use Rattle.std.specs.Prelude.{◌<◌, ◌≤◌, length, drop};
-    ghost use Rattle.io_ports.specs.Memory.{Memory};
+    ghost use Rattle.io_ports.specs.Memory.{SourceMemory};
 
-    ghost Value = { Memory };
+    ghost Value = { SourceMemory };
 
-    ghost view = { λ s. record { octets = drop s.at s.octets.items; faults = s.faults } };
+    ghost view = { λ s. record { octets = drop s.at s.octets.items; calls = s.calls; faults = s.faults; failing = s.failing.items; most = s.most } };
 
     ghost invariant = { λ s. (s.at ≤ length s.octets.items) × (0 < s.most) };
 }
@@ -31,7 +35,10 @@ impl MemSource {
     /// Gives these octets. The reads whose numbers, counted from 0, are in `failing` fail.
     pub fn new(octets: Vec<u8>, failing: Vec<u64>) -> Self
         ensures octets { result.octets ≡ octets.items }
+        ensures calls { result.calls ≡ 0 }
         ensures faults { result.faults ≡ 0 }
+        ensures failing { result.failing ≡ failing.items }
+        ensures most { result.most ≡ usize.MAX }
     {
         MemSource {
             octets,
@@ -46,7 +53,7 @@ impl MemSource {
     /// From now on a read gives at most so many octets.
     pub fn give_at_most(&mut self, most: usize)
         requires { 0 < most }
-        ensures { self.new ≡ self.old }
+        ensures { self.new ≡ record self.old { most = most } }
     {
         self.most = most;
     }
@@ -67,7 +74,17 @@ impl Source for MemSource {
 
     ghost faults = { λ s. s.faults };
 
-    fn read(&mut self, into: &mut [u8]) -> Result<usize, Failed> {
+    fn read(&mut self, into: &mut [u8]) -> Result<usize, Failed>
+        ensures bound { ReadsAtMost result into.new }
+        ensures octets { ReadConsumes (Some self.old.octets) (Some self.new.octets) result into.new }
+        ensures cause { FailsByFault self.old.faults self.new.faults result }
+
+        // It fails exactly where it is to, and else gives as much as it may.
+        ensures fails { is_err result ≡ is_to_fail self.old.failing self.old.calls }
+        ensures count { IfOk result (λ n. n ≡ min (min (length into.old) (length self.old.octets)) self.old.most) }
+        ensures gave { IfOk result (λ n. self.new ≡ record self.old { octets = drop n self.old.octets; calls = counted self.old.calls }) }
+        ensures failed { OnErr result (self.new ≡ record self.old { calls = counted self.old.calls; faults = counted self.old.faults }) }
+    {
         let call = self.calls;
         self.calls = self.calls.saturating_add(1);
         if self.failing.contains(&call) {
@@ -93,11 +110,14 @@ pub struct MemSink {
 }
 
 impl Model for MemSink {
-    ghost use Rattle.io_ports.specs.Memory.{Memory};
+    ghost use Rattle.std.specs.Prelude.{◌≤◌, length, vec_capacity};
+    ghost use Rattle.io_ports.specs.Memory.{SinkMemory};
 
-    ghost Value = { Memory };
+    ghost Value = { SinkMemory };
 
-    ghost view = { λ s. record { octets = s.octets.items; faults = s.faults } };
+    ghost view = { λ s. record { octets = s.octets.items; room = s.room; calls = s.calls; faults = s.faults; failing = s.failing.items; most = s.most } };
+
+    ghost invariant = { λ s. (length s.octets.items ≤ s.room) × (s.room ≤ vec_capacity s.octets) };
 }
 
 impl MemSink {
@@ -105,7 +125,11 @@ impl MemSink {
     /// counted from 0, are in `failing` fail.
     pub fn new(alloc: Global, room: usize, failing: Vec<u64>) -> Result<Self, NoMemory>
         ensures octets { IfOk result (λ made. made.octets ≡ []) }
+        ensures room { IfOk result (λ made. made.room ≡ room) }
+        ensures calls { IfOk result (λ made. made.calls ≡ 0) }
         ensures faults { IfOk result (λ made. made.faults ≡ 0) }
+        ensures failing { IfOk result (λ made. made.failing ≡ failing.items) }
+        ensures most { IfOk result (λ made. made.most ≡ usize.MAX) }
     {
         Ok(MemSink {
             octets: Vec::with_capacity(alloc, room)?,
@@ -120,7 +144,7 @@ impl MemSink {
     /// From now on a write takes at most so many octets. With 0 each write takes nothing, which
     /// counts as a fault for a nonempty piece.
     pub fn take_at_most(&mut self, most: usize)
-        ensures { self.new ≡ self.old }
+        ensures { self.new ≡ record self.old { most = most } }
     {
         self.most = most;
     }
@@ -138,7 +162,18 @@ impl Sink for MemSink {
 
     ghost faults = { λ s. s.faults };
 
-    fn write(&mut self, piece: &[u8]) -> Result<usize, Failed> {
+    fn write(&mut self, piece: &[u8]) -> Result<usize, Failed>
+        ensures bound { WritesAtMost result piece.now }
+        ensures octets { WriteAppends (Some self.old.octets) (Some self.new.octets) result piece.now }
+        ensures cause { FailsByFault self.old.faults self.new.faults result }
+        ensures nothing { TakesNothingByFault self.old.faults self.new.faults result piece.now }
+
+        // It fails exactly where it is to or where there is no room, and else takes as much as it may.
+        ensures fails { is_err result ≡ (is_to_fail self.old.failing self.old.calls || nat_lt self.old.room (length self.old.octets + min (length piece.now) self.old.most)) }
+        ensures count { IfOk result (λ n. n ≡ min (length piece.now) self.old.most) }
+        ensures took { IfOk result (λ n. self.new ≡ record self.old { octets = self.old.octets ++ take n piece.now; calls = counted self.old.calls; faults = faults_after self.old.faults n piece.now }) }
+        ensures failed { OnErr result (self.new ≡ record self.old { calls = counted self.old.calls; faults = counted self.old.faults }) }
+    {
         let call = self.calls;
         self.calls = self.calls.saturating_add(1);
         let taken = &piece[..piece.len().min(self.most)];

@@ -12,7 +12,9 @@ use std::marker::Model;
 /// What one move did to the buffer that it took from, and to the one that it went to.
 #[derive(Clone, Copy, Debug, PartialEq, Eq)]
 pub struct Shifted {
+    /// Of the buffer that the octets left: low or nothing.
     pub from: Crossed,
+    /// Of the buffer that they went to: high or nothing.
     pub to: Crossed,
 }
 
@@ -62,7 +64,8 @@ impl WatermarkBuffer {
         self.store.reserve(missing)
     }
 
-    /// Appends a piece. Where there is room for it, it takes no memory.
+    /// Appends a piece, and answers high where this made the buffer above. Where there is room for the
+    /// piece, it takes no memory.
     pub fn add(&mut self, piece: &[u8]) -> Result<Crossed, NoMemory>
         ensures appends { OnOk result (AppendsOctets self.old self.new piece.now) }
         ensures crossed { IfOk result (λ crossed. crossed ≡ crossing self.old.above self.new.above) }
@@ -74,7 +77,8 @@ impl WatermarkBuffer {
         Ok(self.watermark.follow(self.store.len()))
     }
 
-    /// Drops the first n octets, and keeps their room.
+    /// Drops the first n octets, keeps their room, and answers low where the buffer was above and has
+    /// drained.
     pub fn take(&mut self, n: u32) -> Crossed
         requires { n ≤ length self.old.octets }
         ensures drops { DropsOctets self.old self.new n }
@@ -123,6 +127,7 @@ impl WatermarkBuffer {
         if front.is_empty() { back } else { front }
     }
 
+    /// The number of octets. With the room it is below 2^31.
     pub fn len(&self) -> u32
         ensures len { result ≡ length self.now.octets }
         ensures within { result + self.now.spare < 2 ^ 31 }
@@ -130,18 +135,21 @@ impl WatermarkBuffer {
         self.store.len() as u32
     }
 
+    /// Whether there are no octets.
     pub fn is_empty(&self) -> bool
         ensures { result ≡ (length self.now.octets == 0) }
     {
         self.store.len() == 0
     }
 
+    /// The high watermark. 0 is none.
     pub fn limit(&self) -> u32
         ensures { result ≡ self.now.limit }
     {
         self.watermark.limit
     }
 
+    /// Whether the octets have passed the limit and haven't drained to half of it since.
     pub fn is_above(&self) -> bool
         ensures above { result ≡ self.now.above }
         ensures marks { IsWithinMarks self.now }
