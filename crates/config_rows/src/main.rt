@@ -7,7 +7,7 @@ mod cases;
 mod lists;
 mod show;
 
-use crate::cases::next_case;
+use crate::cases::show_cases;
 use crate::lists::show_list;
 use crate::show::{show_config, show_text};
 use proxy_config::Config;
@@ -17,12 +17,7 @@ use std::io::Read;
 fn main(rt: HostRuntime) -> anyhow::Result<()> {
     let mut text = Vec::new(rt.alloc());
     rt.reader().read_to_end(&mut text)?;
-    let mut rest = text.as_slice();
-    while !rest.is_empty() {
-        let (case, others) = next_case(rest);
-        show_text(&rt, case)?;
-        rest = others;
-    }
+    show_cases(&rt, text.as_slice())?;
     let sample = fs::read(&rt, "sample.toml")?;
     show_text(&rt, sample.as_slice())?;
     println!(rt; "## the defaults")?;

@@ -53,18 +53,38 @@ fn show_fault<R: Print>(rt: &R, fault: &ConfigFault) -> Result<()> {
 /// Prints a configuration, each key in its place.
 pub fn show_config<R: Print>(rt: &R, config: &Config) -> Result<()> {
     let limits = &config.limits;
-    let (write, send, stream) = (limits.write_buffer, limits.send_buffer, limits.stream_window);
-    let (window, streams, fields) = (limits.connection_window, limits.max_streams, limits.field_list);
+    let (write, send, stream) = (
+        limits.write_buffer,
+        limits.send_buffer,
+        limits.stream_window,
+    );
+    let (window, streams, fields) = (
+        limits.connection_window,
+        limits.max_streams,
+        limits.field_list,
+    );
     print!(rt; "limits {write} {send} {stream} {window} {streams} {fields}")?;
-    let (control, empty, resets) = (limits.control_frames, limits.empty_frames, limits.peer_resets);
+    let (control, empty, resets) = (
+        limits.control_frames,
+        limits.empty_frames,
+        limits.peer_resets,
+    );
     let (quantum, frame, multiple) = (limits.quantum, limits.frame_size, limits.overflow_multiple);
     println!(rt; " {control} {empty} {resets} {quantum} {frame} {multiple}")?;
     let timeouts = &config.timeouts;
-    let (route, stream, connection) = (timeouts.route, timeouts.stream_idle, timeouts.connection_idle);
+    let (route, stream, connection) = (
+        timeouts.route,
+        timeouts.stream_idle,
+        timeouts.connection_idle,
+    );
     let (stream_min, connection_min) = (timeouts.stream_idle_min, timeouts.connection_idle_min);
     println!(rt; "timeouts {route} {stream} {connection} {stream_min} {connection_min}")?;
     for cluster in config.clusters.as_slice() {
-        println!(rt; "cluster {} {}", shown(cluster.name.as_slice()), or_dash(&cluster.address))?;
+        println!(rt;
+            "cluster {} {}",
+            shown(cluster.name.as_slice()),
+            or_dash(&cluster.address)
+        )?;
     }
     for route in config.routes.as_slice() {
         show_route(rt, route)?;
@@ -74,8 +94,15 @@ pub fn show_config<R: Print>(rt: &R, config: &Config) -> Result<()> {
 }
 
 fn show_route<R: Print>(rt: &R, route: &Route) -> Result<()> {
-    let (authority, path, prefix) = (or_dash(&route.authority), or_dash(&route.path), or_dash(&route.prefix));
-    print!(rt; "route {authority} {path} {prefix} {}", shown(route.cluster.as_slice()))?;
+    let (authority, path, prefix) = (
+        or_dash(&route.authority),
+        or_dash(&route.path),
+        or_dash(&route.prefix),
+    );
+    print!(rt;
+        "route {authority} {path} {prefix} {}",
+        shown(route.cluster.as_slice())
+    )?;
     let (hold, meter, rate) = (route.hold_limit, route.meter_limit, route.meter_rate);
     print!(rt; " {hold} {meter} {rate}")?;
     show_filters(rt, &route.request)?;
@@ -124,13 +151,20 @@ fn show_overload<R: Print>(rt: &R, overload: &OverloadKeys) -> Result<()> {
 fn show_form<R: Print>(rt: &R, form: &Form) -> Result<()> {
     match *form {
         Form::Threshold { value } => println!(rt; " {value}")?,
-        Form::Scaled { scaling, saturation } => println!(rt; " {scaling} {saturation}")?,
+        Form::Scaled {
+            scaling,
+            saturation,
+        } => println!(rt; " {scaling} {saturation}")?,
     }
     Ok(())
 }
 
 fn show_proxy<R: Print>(rt: &R, proxy: &ProxyKeys) -> Result<()> {
-    print!(rt; "proxy {} {}", shown(proxy.listen.as_slice()), or_dash(&proxy.journal))?;
+    print!(rt;
+        "proxy {} {}",
+        shown(proxy.listen.as_slice()),
+        or_dash(&proxy.journal)
+    )?;
     let (workers, connections, most) = (proxy.workers, proxy.connections, proxy.max_connections);
     let (rate, burst) = (proxy.accept_rate, proxy.accept_burst);
     println!(rt; " {workers} {connections} {most} {rate} {burst}")?;
@@ -140,17 +174,25 @@ fn show_proxy<R: Print>(rt: &R, proxy: &ProxyKeys) -> Result<()> {
 // Prints the row of each request that the text asks for.
 fn show_rows<R: Print>(rt: &R, config: &Config, text: &[u8]) -> Result<()> {
     for line in shown(text).lines() {
-        let Some(request) = line.strip_prefix("#? ") else {
-            continue;
-        };
-        let Some((authority, path)) = request.split_once(' ') else {
-            continue;
-        };
-        let asked = if authority == "-" { None } else { Some(authority.as_bytes()) };
-        match route(config, asked, path.as_bytes()) {
-            Some(row) => println!(rt; "row {row} of {authority} {path}")?,
-            None => println!(rt; "no row of {authority} {path}")?,
+        if let Some(request) = line.strip_prefix("#? ") {
+            show_row(rt, config, request)?;
         }
+    }
+    Ok(())
+}
+
+fn show_row<R: Print>(rt: &R, config: &Config, request: &str) -> Result<()> {
+    let Some((authority, path)) = request.split_once(' ') else {
+        return Ok(());
+    };
+    let asked = if authority == "-" {
+        None
+    } else {
+        Some(authority.as_bytes())
+    };
+    match route(config, asked, path.as_bytes()) {
+        Some(row) => println!(rt; "row {row} of {}", shown(request.as_bytes()))?,
+        None => println!(rt; "no row of {}", shown(request.as_bytes()))?,
     }
     Ok(())
 }
