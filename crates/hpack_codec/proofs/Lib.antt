@@ -1,0 +1,9 @@
+pub mod Blocks
+pub mod CollectedLemmas
+pub mod IntegerLemmas
+pub mod Kept
+pub mod OneInteger
+pub mod OneReading
+pub mod Readback
+pub mod Spellings
+pub mod StaticRows

@@ -1,0 +1,68 @@
+// The encoder of blocks.
+ghost use Rattle.std.specs.Prelude.{◌≡◌, ◌<◌, ◌≤◌, ◌^◌, ℕ, true, false, All, IfOk, OnOk, OnErr, if◌then◌else◌};
+ghost use Rattle.hpack_codec.specs.Encoding.{encode_block, HasSpelling};
+ghost use Rattle.hpack_codec.specs.Sections.{SpellsBlock};
+ghost use Rattle.hpack_codec.specs.Table.{Table, resized};
+
+use crate::fields::FieldList;
+use crate::spelling::push_field;
+use io_ports::{NoMemory, Octets};
+use std::alloc::Global;
+use std::marker::Model;
+
+/// Writes the blocks of one direction of a connection, in their order. It uses no dynamic table
+/// and no Huffman strings, so each list has one spelling.
+#[derive(Debug, Drop)]
+pub struct Encoder {
+    alloc: Global,
+    anew: bool,
+}
+
+impl Model for Encoder {
+    ghost use Rattle.std.specs.Prelude.{Bool};
+
+    ghost Value = { Bool };
+
+    ghost view = { λ e. e.anew };
+}
+
+impl Encoder {
+    /// An encoder whose next block begins with the size update 0. Takes no memory.
+    pub fn new(alloc: Global) -> Self
+        ensures { result ≡ true }
+    {
+        Encoder { alloc, anew: true }
+    }
+
+    /// The peer named a size for the table: the next block begins with the size update 0 again.
+    pub fn table_size_named(&mut self)
+        ensures { self.new ≡ true }
+    {
+        self.anew = true;
+    }
+
+    /// The block of a list: the size update 0 where one is due, and then the fields. A field of
+    /// the static table that isn't never-indexed is its lowest index; every other is a literal
+    /// without indexing, or never indexed, with the lowest index of its name or a plain string,
+    /// and a plain string as its value. After want of memory the encoder is as it was.
+    pub fn encode(&mut self, fields: &FieldList) -> Result<Octets, NoMemory>
+        requires { All HasSpelling fields.now }
+        ensures spelling { IfOk result (λ block. block ≡ encode_block self.old fields.now) }
+
+        // A decoder of any greatest size reads the same fields, whatever its table.
+        ensures read { IfOk result (λ block. (greatest : ℕ) (before : Table) →
+            SpellsBlock greatest block before fields.now (if self.old then resized 0 before else before)) }
+        ensures ok { OnOk result (self.new ≡ false) }
+        ensures err { OnErr result (self.new ≡ self.old) }
+    {
+        let mut out = Vec::with_capacity(self.alloc, fields.size().saturating_add(1))?;
+        if self.anew {
+            out.push(0x20)?;
+        }
+        for field in fields.as_slice() {
+            push_field(&mut out, field)?;
+        }
+        self.anew = false;
+        Ok(Octets::from_vec(out))
+    }
+}

@@ -1,0 +1,64 @@
+// Literals: names and values.
+ghost use Rattle.std.specs.Prelude.{◌≡◌, ◌≤◌, ◌<◌, length, IfOk, IfErr};
+ghost use Rattle.hpack_codec.specs.Faults.{OrNoMemory};
+ghost use Rattle.hpack_codec.specs.Sections.{BreaksLiteral, BreaksName, IsLiteral, IsName};
+
+use crate::fault::HpackFault;
+use crate::integers::read_integer;
+use crate::line::Line;
+use crate::strings::read_string;
+use crate::table::DynamicTable;
+use io_ports::Octets;
+use std::alloc::Global;
+
+/// Reads a name, whose index has a prefix of so many bits, and gives the rest.
+#[inline(always)]
+fn read_name<'a>(
+    alloc: Global,
+    table: &DynamicTable,
+    octets: &'a [u8],
+    prefix: u32,
+) -> Result<(Octets, &'a [u8]), HpackFault>
+    requires { prefix ≤ 8 }
+    ensures ok { IfOk result (λ x. IsName prefix table.now octets.now x.0 x.1.now) }
+    ensures err { IfErr result (λ e. OrNoMemory e (BreaksName prefix table.now octets.now e)) }
+    ensures shorter { IfOk result (λ x. length x.1.now < length octets.now) }
+{
+    let (index, rest) = match read_integer(octets, prefix) {
+        Ok(found) => found,
+        Err(fault) => return Err(fault),
+    };
+    if index == 0 {
+        return read_string(alloc, rest);
+    }
+    let Some(entry) = table.entry(index) else {
+        return Err(HpackFault::BadIndex);
+    };
+    match Octets::from_slice(alloc, entry.name) {
+        Ok(name) => Ok((name, rest)),
+        Err(_) => Err(HpackFault::NoMemory),
+    }
+}
+
+/// Reads a literal, whose index has a prefix of so many bits, and gives the rest.
+#[inline(always)]
+pub(crate) fn read_literal<'a>(
+    alloc: Global,
+    table: &DynamicTable,
+    octets: &'a [u8],
+    prefix: u32,
+) -> Result<(Line, &'a [u8]), HpackFault>
+    requires { prefix ≤ 8 }
+    ensures ok { IfOk result (λ x. IsLiteral prefix table.now octets.now x.0 x.1.now) }
+    ensures err { IfErr result (λ e. OrNoMemory e (BreaksLiteral prefix table.now octets.now e)) }
+    ensures shorter { IfOk result (λ x. length x.1.now < length octets.now) }
+{
+    let (name, behind) = match read_name(alloc, table, octets, prefix) {
+        Ok(found) => found,
+        Err(fault) => return Err(fault),
+    };
+    match read_string(alloc, behind) {
+        Ok((value, rest)) => Ok((Line { name, value }, rest)),
+        Err(fault) => Err(fault),
+    }
+}

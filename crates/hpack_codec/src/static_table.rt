@@ -1,0 +1,187 @@
+// The static table.
+ghost use Rattle.std.specs.Prelude.{◌≡◌, ◌<◌, ◌&&◌, [], Some, length, map, slice_get, slice_index_or};
+ghost use Rattle.std.specs.Str.{bytes_eq};
+ghost use Rattle.hpack_codec.specs.Table.{line, static_table};
+ghost use Rattle.hpack_codec.specs.Encoding.{index_from};
+
+use crate::line::Entry;
+
+/// The names of the static table, in the order of their indexes, which begin with 1
+/// (RFC 7541 Appendix A).
+static NAMES: [&str; 61] = [
+    ":authority",
+    ":method",
+    ":method",
+    ":path",
+    ":path",
+    ":scheme",
+    ":scheme",
+    ":status",
+    ":status",
+    ":status",
+    ":status",
+    ":status",
+    ":status",
+    ":status",
+    "accept-charset",
+    "accept-encoding",
+    "accept-language",
+    "accept-ranges",
+    "accept",
+    "access-control-allow-origin",
+    "age",
+    "allow",
+    "authorization",
+    "cache-control",
+    "content-disposition",
+    "content-encoding",
+    "content-language",
+    "content-length",
+    "content-location",
+    "content-range",
+    "content-type",
+    "cookie",
+    "date",
+    "etag",
+    "expect",
+    "expires",
+    "from",
+    "host",
+    "if-match",
+    "if-modified-since",
+    "if-none-match",
+    "if-range",
+    "if-unmodified-since",
+    "last-modified",
+    "link",
+    "location",
+    "max-forwards",
+    "proxy-authenticate",
+    "proxy-authorization",
+    "range",
+    "referer",
+    "refresh",
+    "retry-after",
+    "server",
+    "set-cookie",
+    "strict-transport-security",
+    "transfer-encoding",
+    "user-agent",
+    "vary",
+    "via",
+    "www-authenticate",
+];
+
+/// The values of the static table, in the same order.
+static VALUES: [&str; 61] = [
+    "",
+    "GET",
+    "POST",
+    "/",
+    "/index.html",
+    "http",
+    "https",
+    "200",
+    "204",
+    "206",
+    "304",
+    "400",
+    "404",
+    "500",
+    "",
+    "gzip, deflate",
+    "",
+    "",
+    "",
+    "",
+    "",
+    "",
+    "",
+    "",
+    "",
+    "",
+    "",
+    "",
+    "",
+    "",
+    "",
+    "",
+    "",
+    "",
+    "",
+    "",
+    "",
+    "",
+    "",
+    "",
+    "",
+    "",
+    "",
+    "",
+    "",
+    "",
+    "",
+    "",
+    "",
+    "",
+    "",
+    "",
+    "",
+    "",
+    "",
+    "",
+    "",
+    "",
+    "",
+    "",
+    "",
+];
+
+/// How many entries the static table has.
+pub(crate) const STATIC_LEN: usize = 61;
+
+/// The text at a place.
+fn text_at<'a>(texts: &[&'a str], place: usize) -> &'a str
+    requires { place < length texts.now }
+    ensures { result.now ≡ slice_index_or (map (λ t. t.now) texts.now) place [] }
+{
+    texts[place]
+}
+
+/// The entry at a place, counted from 0.
+pub(crate) fn static_entry(place: usize) -> Entry<'static>
+    requires { place < 61 }
+    ensures { slice_get static_table place ≡ Some (line result.name.now result.value.now) }
+{
+    let name = text_at(&NAMES, place);
+    let value = text_at(&VALUES, place);
+    Entry {
+        name: name.as_bytes(),
+        value: value.as_bytes(),
+    }
+}
+
+/// The lowest index of an entry with this name.
+pub(crate) fn index_of_name(name: &[u8]) -> Option<u32>
+    ensures { result ≡ index_from 1 (λ l. bytes_eq l.name name.now) static_table }
+{
+    for place in 0..STATIC_LEN {
+        if static_entry(place).name == name {
+            return Some(place as u32 + 1);
+        }
+    }
+    None
+}
+
+/// The lowest index of an entry with this name and this value.
+pub(crate) fn index_of_entry(name: &[u8], value: &[u8]) -> Option<u32>
+    ensures { result ≡ index_from 1 (λ l. bytes_eq l.name name.now && bytes_eq l.value value.now) static_table }
+{
+    for place in 0..STATIC_LEN {
+        let entry = static_entry(place);
+        if entry.name == name && entry.value == value {
+            return Some(place as u32 + 1);
+        }
+    }
+    None
+}
