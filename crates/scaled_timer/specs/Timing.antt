@@ -1,5 +1,6 @@
 -- What is seen of the timers.
 use Rattle.std.specs.Prelude.{◌≡◌, ℕ, ◌+◌, Bool, true, false, cond, ◌||◌, IsTrue, List, [], ◌∷◌, ◌++◌, map, length}
+use Rattle.std.specs.List.{AllByRecursion, IsDistinct}
 use Rattle.link_lists.specs.Places.{same_ptr}
 use Rattle.link_lists.specs.Lists.{NodeId, contains_id}
 use Rattle.scaled_timer.specs.declared.kinds.TimerKind.{TimerKind}
@@ -28,6 +29,11 @@ without_timer p (a ∷ rest) = cond (same_ptr p a.timer) rest (a ∷ without_tim
 -- the timer is armed, or has fired and isn't given back yet
 abbrev pub IsHeld : NodeId → Timing → Type 0
 IsHeld p t = IsTrue (has_timer p t.armed || contains_id p t.fired)
+
+-- timers of these names, no two the same, are held
+pub record AreHeld (ps : List NodeId) (t : Timing) : Type 0 where
+  pub each : AllByRecursion (λ p. IsHeld p t) ps
+  pub apart : IsDistinct same_ptr ps
 
 -- what a turn tells of a timer
 abbrev pub firing : Armed → Fired

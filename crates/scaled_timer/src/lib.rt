@@ -8,6 +8,8 @@ mod entries;
 mod fired;
 mod fronts;
 mod kinds;
+#[cfg(test)]
+mod tests;
 mod timers;
 
 pub use fired::{Fired, FiredList};

@@ -1,0 +1,10 @@
+use Rattle.std.proofs.Common.{◌≡◌, ◌≤◌, ◌<◌, length}
+use Rattle.scaled_timer.specs.Timing.{AreHeld}
+use Rattle.scaled_timer.proofs.tests.thirds.Given as goal
+
+abbrev pub invariant-loop-id : goal.invariant-loop-id
+invariant-loop-id g l = record {
+  held : AreHeld l.held.items l.timers;
+  kinds : length l.timers.kinds ≡ 1;
+  latest : l.timers.latest ≤ l.id;
+}
