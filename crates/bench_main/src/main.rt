@@ -2,6 +2,7 @@
 #![tactic(auto)]
 
 mod buffers;
+mod fields;
 mod frames;
 mod stopwatch;
 
@@ -9,6 +10,7 @@ use std::env;
 
 const USAGE: &str = "usage: bench_main BENCH
   buffer  octets through two watermark buffers, beside two plain copies
+  fields  blocks of request fields, decoded and encoded (fields blocks: prints them)
   frames  reading of frames
 ";
 
@@ -17,6 +19,7 @@ fn main(rt: HostRuntime) -> anyhow::Result<()> {
     let _program = words.next();
     match words.next() {
         Some(word) if word.as_str() == "buffer" => buffers::run(&rt)?,
+        Some(word) if word.as_str() == "fields" => fields::run(&rt, words.next().is_some())?,
         Some(word) if word.as_str() == "frames" => frames::run(&rt)?,
         Some(_) | None => rt.print(USAGE)?,
     }

@@ -1,0 +1,22 @@
+#!/bin/sh
+# Decodes the same blocks of request fields with hpack_codec and with libnghttp2, in one run.
+# Needs Debian's libnghttp2-dev and a C compiler; without them it says so and ends well.
+set -e
+cd "$(dirname "$0")/.."
+compiler=${CC:-cc}
+command -v "$compiler" >/dev/null 2>&1 || compiler=clang
+made=$(mktemp -d)
+trap 'rm -r "$made"' EXIT
+if ! printf '#include <nghttp2/nghttp2.h>\nint main(void) { return nghttp2_version(0) == 0; }\n' |
+    "$compiler" -x c -o "$made/probe" - -lnghttp2 2>/dev/null; then
+    echo "skipped: no libnghttp2 to compile against"
+    exit 0
+fi
+"$compiler" -O3 -o "$made/fields" bench/fields.c -lnghttp2
+cd crates/bench_main
+rt run >/dev/null
+for turn in 1 2 3; do
+    out/bench_main fields
+    # shellcheck disable=SC2046
+    "$made/fields" $(out/bench_main fields blocks)
+done
