@@ -2,7 +2,7 @@
 ghost use Rattle.std.specs.Prelude.{◌≡◌, ◌<◌, ◌≤◌, ◌^◌, length, vec_len};
 ghost use Rattle.scaled_timer.specs.Timing.{AreHeld};
 
-use crate::{Fired, TimerKind, Timer, Timers};
+use crate::{Fired, Timer, TimerKind, Timers};
 use link_lists::Steps;
 use std::alloc::Global;
 use std::marker::Brand;
@@ -188,7 +188,13 @@ fn the_others_fire_in_order(rt: HostRuntime) {
 #[test]
 fn delays_shrink_in_proportion(rt: HostRuntime) {
     let kind = pair(1000, 5000);
-    for (ppm, delay) in [(0, 5000), (250_000, 4000), (500_000, 3000), (999_999, 1000), (1_000_000, 1000)] {
+    for (ppm, delay) in [
+        (0, 5000),
+        (250_000, 4000),
+        (500_000, 3000),
+        (999_999, 1000),
+        (1_000_000, 1000),
+    ] {
         assert_eq!(rt; kind.delay(ppm), delay, "at {ppm}");
     }
 }
