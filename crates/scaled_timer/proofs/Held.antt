@@ -1,5 +1,5 @@
 -- Which timers are held after a call. The crates above cite these.
-use Rattle.std.proofs.Common.{◌≡◌, ℕ, ◌<◌, ◌≤◌, Bool, true, false, cond, true≢false, List, [], ◌∷◌, ◌++◌, map, refl, sym, ap, ◌∙◌, subst, append-nil}
+use Rattle.std.proofs.Common.{◌≡◌, ℕ, Bool, true, false, cond, true≢false, List, [], ◌∷◌, ◌++◌, refl, sym, ap, ◌∙◌, subst, append-nil}
 use Rattle.std.specs.Prelude.{◌||◌, not, filter, Result, Ok, Err, IfOk, OnErr}
 use Rattle.std.specs.List.{AllByRecursion, IsDistinct}
 use denote.RawPtr.{Ptr}
@@ -148,6 +148,14 @@ all-less old new p ps f h = record {
   each = each_other old new p ps f (subst (AllByRecursion (λ q. same_ptr p q ≡ false)) (append-nil ps) (differs ps p [] h.apart)) (all_left (λ q. IsHeld q old) ps (p ∷ []) h.each);
   apart = distinct_left same_ptr ps (p ∷ []) h.apart;
 }
+
+-- the first goes
+pub first_held : (old : Timing) (p : Ptr) (ps : List Ptr) → AreHeld (p ∷ ps) old → IsHeld p old
+first_held old p ps h = h.each.0
+
+pub all-behind : (old new : Timing) (p : Ptr) (ps : List Ptr) → ((q : Ptr) → same_ptr q p ≡ false → IsHeld q old → IsHeld q new) → AreHeld (p ∷ ps) old → AreHeld ps new
+unfolding IsDistinct
+all-behind old new p ps f h = record { each = each_other old new p ps f h.apart.0 h.each.1; apart = h.apart.1 }
 
 -- `disarm` leaves the kinds and the moment
 pub disarm-same : (p : Ptr) (old new : Timing) → IsHeld p old → (has_timer p old.armed ≡ true → new ≡ record old { armed = without_timer p old.armed }) → (contains_id p old.fired ≡ true → new ≡ record old { fired = without_id p old.fired })

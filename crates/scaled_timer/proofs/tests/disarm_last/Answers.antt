@@ -1,4 +1,4 @@
-use Rattle.std.proofs.Common.{◌≡◌, subst}
+use Rattle.std.proofs.Common.{subst}
 use Rattle.scaled_timer.specs.Timing.{AreHeld}
 use Rattle.scaled_timer.proofs.Held.{held-disarm, disarm-same, last_held, all-less}
 use Rattle.scaled_timer.proofs.tests.disarm_last.Goals as goal

@@ -1,4 +1,4 @@
-use Rattle.std.proofs.Common.{◌≡◌, ◌≤◌, ◌<◌, length}
+use Rattle.std.proofs.Common.{◌≡◌, ◌≤◌, length}
 use Rattle.scaled_timer.specs.Timing.{AreHeld}
 use Rattle.scaled_timer.proofs.tests.thirds.Given as goal
 
