@@ -1,6 +1,14 @@
-//! The flows and buffers of a worker, and who watches what.
+//! The flows and buffers of a worker, and who watches what: which flows are held back, and why.
 #![tactic(auto)]
 
+mod gate;
+mod gates;
 mod ids;
+mod line;
+#[cfg(test)]
+mod tests;
+mod watcher;
 
+pub use gates::Gates;
 pub use ids::{BufferId, FlowId};
+pub use line::Watchers;

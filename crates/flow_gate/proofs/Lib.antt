@@ -1,0 +1,16 @@
+pub mod Counting
+pub mod Places
+pub mod Reading
+pub mod SameIds
+pub mod Sound
+pub mod SoundEnds
+pub mod Steps
+pub mod StepsEnds
+pub mod Placed
+pub mod Calls
+pub mod Raising
+pub mod CallsEnds
+pub mod Stages
+pub mod Closing
+pub mod Leaving
+pub mod Watching

@@ -1,0 +1,166 @@
+-- What is seen of the gates, by the look-ups of their maps.
+use Rattle.flow_gate.proofs.Places.{eq_by_place}
+use Rattle.flow_gate.specs.Board.{count, is_known, is_marked, is_open, pending_on, watched_by, watchers_of}
+use Rattle.flow_gate.specs.Books.{Books}
+use Rattle.flow_gate.specs.Ids.{same_buffer, same_flow}
+use Rattle.flow_gate.specs.Line.{Line}
+use Rattle.flow_gate.specs.Parts.{Buffers, Flows, board_of, buffer_at, buffer_state, flow_at, flow_state, watched_in}
+use Rattle.flow_gate.specs.contracts.ids.BufferIdOrd.TheImpl as buffer_ord
+use Rattle.flow_gate.specs.contracts.ids.FlowIdOrd.TheImpl as flow_ord
+use Rattle.flow_gate.specs.declared.ids.BufferId.{BufferId}
+use Rattle.flow_gate.specs.declared.ids.BufferId.TheVariants as buffer
+use Rattle.flow_gate.specs.declared.ids.FlowId.{FlowId}
+use Rattle.std.proofs.Common.{ap, refl, sym, ◌∙◌}
+use Rattle.std.proofs.lemmas.Map.Made.{lookup-map_values}
+use Rattle.std.specs.BTreeMap.{is_at}
+use Rattle.std.specs.Map.{lookup, values_of}
+use Rattle.std.specs.Option.{option_map, option_map_or}
+use Rattle.std.specs.Ordering.{bool_cmp, is_eq, nat_cmp, ordering_then}
+use Rattle.std.specs.Prelude.{Bool, List, None, Option, Some, [], cond, false, if◌then◌else◌, is_some, not, true, ℕ, ◌&&◌, ◌==◌, ◌∷◌, ◌≡◌}
+use Rattle.std.specs.declared.cmp.Ordering.{Ordering}
+use Rattle.std.specs.declared.cmp.Ordering.TheVariants.{Equal, Greater, Less}
+
+-- ---- the orders of the maps' keys
+abbrev pub flow_cmp : FlowId → FlowId → Ordering
+flow_cmp = (flow_ord.ghosts).cmp
+
+abbrev pub buffer_cmp : BufferId → BufferId → Ordering
+buffer_cmp = (buffer_ord.ghosts).cmp
+
+is_eq-then : (o p : Ordering) → is_eq (ordering_then o p) ≡ (is_eq o && is_eq p)
+is_eq-then Less p = refl
+is_eq-then Equal p = refl
+is_eq-then Greater p = refl
+
+is_eq-bool : (a b : Bool) → is_eq (bool_cmp a b) ≡ (if a then b else not b)
+is_eq-bool true true = refl
+is_eq-bool true false = refl
+is_eq-bool false true = refl
+is_eq-bool false false = refl
+
+pub is_at-flow : (f g : FlowId) → is_at (flow_cmp f) g ≡ same_flow f g
+is_at-flow f g =
+    is_eq-then (nat_cmp f.exchange g.exchange) (bool_cmp f.back g.back)
+    ∙ (λ i. eq_by_place f.exchange g.exchange i && is_eq-bool f.back g.back i)
+
+pub is_at-buffer : (b c : BufferId) → is_at (buffer_cmp b) c ≡ same_buffer b c
+is_at-buffer (buffer.Recv f) (buffer.Recv g) = is_at-flow f g
+is_at-buffer (buffer.Stage f i) (buffer.Stage g j) =
+    is_eq-then (flow_cmp f g) (nat_cmp i j) ∙ (λ k. is_at-flow f g k && eq_by_place i j k)
+is_at-buffer (buffer.Send f) (buffer.Send g) = is_at-flow f g
+is_at-buffer (buffer.Write c) (buffer.Write d) = eq_by_place c d
+is_at-buffer _ _ = refl
+
+-- what a map's `get` finds at a key, and what a write at a key leaves at each
+abbrev pub FlowFound : {X : Type 0} → FlowId → Option X → List (FlowId × X) → Type 0
+FlowFound f o es = o ≡ lookup (is_at (flow_cmp f)) es
+
+abbrev pub FlowUpdated : {X : Type 0} → FlowId → Option X → List (FlowId × X) → List (FlowId × X) → Type 0
+FlowUpdated f w old new = (g : FlowId) → lookup (is_at (flow_cmp g)) new ≡ cond (is_at (flow_cmp f) g) w (lookup (is_at (flow_cmp g)) old)
+
+abbrev pub BufferFound : {X : Type 0} → BufferId → Option X → List (BufferId × X) → Type 0
+BufferFound b o es = o ≡ lookup (is_at (buffer_cmp b)) es
+
+abbrev pub BufferUpdated : {X : Type 0} → BufferId → Option X → List (BufferId × X) → List (BufferId × X) → Type 0
+BufferUpdated b w old new = (c : BufferId) → lookup (is_at (buffer_cmp c)) new ≡ cond (is_at (buffer_cmp b) c) w (lookup (is_at (buffer_cmp c)) old)
+
+module _ {X : Type 0} where
+  pub flow_get : (es : List (FlowId × X)) (f : FlowId) → lookup (is_at (flow_cmp f)) es ≡ lookup (same_flow f) es
+  flow_get es f = λ i. lookup (λ g. is_at-flow f g i) es
+
+  pub buffer_get : (es : List (BufferId × X)) (b : BufferId) → lookup (is_at (buffer_cmp b)) es ≡ lookup (same_buffer b) es
+  buffer_get es b = λ i. lookup (λ c. is_at-buffer b c i) es
+
+  -- what a change of a map says of its look-ups
+  pub flow_updates : (old new : List (FlowId × X)) (f : FlowId) (w : Option X) → FlowUpdated f w old new →
+    (g : FlowId) → lookup (same_flow g) new ≡ cond (same_flow f g) w (lookup (same_flow g) old)
+  flow_updates old new f w updates g = sym (flow_get new g) ∙ updates g ∙ (λ i. cond (is_at-flow f g i) w (flow_get old g i))
+
+  pub buffer_updates : (old new : List (BufferId × X)) (b : BufferId) (w : Option X) → BufferUpdated b w old new →
+    (c : BufferId) → lookup (same_buffer c) new ≡ cond (same_buffer b c) w (lookup (same_buffer c) old)
+  buffer_updates old new b w updates c = sym (buffer_get new c) ∙ updates c ∙ (λ i. cond (is_at-buffer b c i) w (buffer_get old c i))
+
+-- ---- what is seen
+option_map_or-map : {A B C : Type 0} (g : B → C) (f : A → B) (o : Option A) (d : C) → option_map_or g (option_map f o) d ≡ option_map_or (λ x. g (f x)) o d
+option_map_or-map g f None d = refl
+option_map_or-map g f (Some x) d = refl
+
+is_some-map : {A B : Type 0} (f : A → B) (o : Option A) → is_some (option_map f o) ≡ is_some o
+is_some-map f None = refl
+is_some-map f (Some x) = refl
+
+abbrev pub count_in : Option Books → ℕ
+count_in books = option_map_or (λ s. s.count) books 0
+
+abbrev pub watched_at : Option Books → List BufferId
+watched_at books = option_map_or (λ s. watched_in s.watches) books []
+
+abbrev pub above_in : Option Line → Bool
+above_in line = option_map_or (λ l. l.above) line false
+
+abbrev pub watchers_in : Option Line → List FlowId
+watchers_in line = option_map_or (λ l. values_of l.watchers) line []
+
+abbrev pub pending_in : Option Line → List FlowId
+pending_in line = option_map_or (λ l. values_of l.pending) line []
+
+module _ (flows : Flows) (buffers : Buffers) where
+  pub is_open-board : (f : FlowId) → is_open (board_of flows buffers) f ≡ is_some (flow_at flows f)
+  unfolding is_open
+  is_open-board f = ap is_some (lookup-map_values flow_state (same_flow f) flows) ∙ is_some-map flow_state (flow_at flows f)
+
+  pub count-board : (f : FlowId) → count (board_of flows buffers) f ≡ count_in (flow_at flows f)
+  unfolding count
+  count-board f = ap (λ o. option_map_or (λ s. s.count) o 0) (lookup-map_values flow_state (same_flow f) flows)
+      ∙ option_map_or-map (λ s. s.count) flow_state (flow_at flows f) 0
+
+  pub watched-board : (f : FlowId) → watched_by (board_of flows buffers) f ≡ watched_at (flow_at flows f)
+  unfolding watched_by
+  watched-board f = ap (λ o. option_map_or (λ s. s.watched) o []) (lookup-map_values flow_state (same_flow f) flows)
+      ∙ option_map_or-map (λ s. s.watched) flow_state (flow_at flows f) []
+
+  pub is_known-board : (b : BufferId) → is_known (board_of flows buffers) b ≡ is_some (buffer_at buffers b)
+  unfolding is_known
+  is_known-board b = ap is_some (lookup-map_values buffer_state (same_buffer b) buffers) ∙ is_some-map buffer_state (buffer_at buffers b)
+
+  pub is_marked-board : (b : BufferId) → is_marked (board_of flows buffers) b ≡ above_in (buffer_at buffers b)
+  unfolding is_marked
+  is_marked-board b = ap (λ o. option_map_or (λ s. s.above) o false) (lookup-map_values buffer_state (same_buffer b) buffers)
+      ∙ option_map_or-map (λ s. s.above) buffer_state (buffer_at buffers b) false
+
+  pub watchers-board : (b : BufferId) → watchers_of (board_of flows buffers) b ≡ watchers_in (buffer_at buffers b)
+  unfolding watchers_of
+  watchers-board b = ap (λ o. option_map_or (λ s. s.watchers) o []) (lookup-map_values buffer_state (same_buffer b) buffers)
+      ∙ option_map_or-map (λ s. s.watchers) buffer_state (buffer_at buffers b) []
+
+  pub pending-board : (b : BufferId) → pending_on (board_of flows buffers) b ≡ pending_in (buffer_at buffers b)
+  unfolding pending_on
+  pending-board b = ap (λ o. option_map_or (λ s. s.pending) o []) (lookup-map_values buffer_state (same_buffer b) buffers)
+      ∙ option_map_or-map (λ s. s.pending) buffer_state (buffer_at buffers b) []
+
+-- ---- by what a map's `get` found
+module _ (flows : Flows) (buffers : Buffers) where
+  pub open_found : (f : FlowId) (r : Bool) → r ≡ is_some (lookup (is_at (flow_cmp f)) flows) → r ≡ is_open (board_of flows buffers) f
+  open_found f r is = is ∙ ap is_some (flow_get flows f) ∙ sym (is_open-board flows buffers f)
+
+  pub count_found : (f : FlowId) (books : Option Books) → FlowFound f books flows → count_in books ≡ count (board_of flows buffers) f
+  count_found f books is = ap count_in (is ∙ flow_get flows f) ∙ sym (count-board flows buffers f)
+
+  pub watched_found : (f : FlowId) (books : Option Books) → FlowFound f books flows → watched_at books ≡ watched_by (board_of flows buffers) f
+  watched_found f books is = ap watched_at (is ∙ flow_get flows f) ∙ sym (watched-board flows buffers f)
+
+  pub known_found : (b : BufferId) (r : Bool) → r ≡ is_some (lookup (is_at (buffer_cmp b)) buffers) → r ≡ is_known (board_of flows buffers) b
+  known_found b r is = is ∙ ap is_some (buffer_get buffers b) ∙ sym (is_known-board flows buffers b)
+
+  pub marked_found : (b : BufferId) (line : Option Line) → BufferFound b line buffers → above_in line ≡ is_marked (board_of flows buffers) b
+  marked_found b line is = ap above_in (is ∙ buffer_get buffers b) ∙ sym (is_marked-board flows buffers b)
+
+  pub watchers_found : (b : BufferId) (line : Option Line) → BufferFound b line buffers → watchers_in line ≡ watchers_of (board_of flows buffers) b
+  watchers_found b line is = ap watchers_in (is ∙ buffer_get buffers b) ∙ sym (watchers-board flows buffers b)
+
+  pub pending_found : (b : BufferId) (line : Option Line) → BufferFound b line buffers → pending_in line ≡ pending_on (board_of flows buffers) b
+  pending_found b line is = ap pending_in (is ∙ buffer_get buffers b) ∙ sym (pending-board flows buffers b)
+
+pub values-nil : {K X : Type 0} (es : List (K × X)) → values_of es ≡ [] → es ≡ []
+values-nil [] e = refl
+values-nil (x ∷ es) e = cc

@@ -1,0 +1,103 @@
+-- The gates as they are kept: the books of each flow and the line of each buffer, and what is seen of them.
+use Rattle.flow_gate.specs.Board.{Board, BufferState, FlowState, IsSound, times, times_of_buffer}
+use Rattle.flow_gate.specs.Books.{Books}
+use Rattle.flow_gate.specs.Ids.{same_buffer, same_flow}
+use Rattle.flow_gate.specs.Line.{Line, Places, at_place}
+use Rattle.flow_gate.specs.declared.ids.BufferId.{BufferId}
+use Rattle.flow_gate.specs.declared.ids.FlowId.{FlowId}
+use Rattle.flow_gate.specs.declared.watcher.Watch.{Watch}
+use Rattle.std.specs.List.{AllByRecursion}
+use Rattle.std.specs.Map.{lookup, values_of}
+use Rattle.std.specs.Option.{option_map_or}
+use Rattle.std.specs.declared.ops.Bound.{Bound}
+use Rattle.std.specs.declared.ops.Bound.TheVariants.{Excluded, Included}
+use Rattle.std.specs.Prelude.{Bool, List, None, Option, Some, [], false, if◌then◌else◌, length, map, nat_lt, true, ℕ, ◌+◌, ◌<◌, ◌==◌, ◌≡◌, ◌≤◌, ◌^◌}
+use Rattle.flow_gate.specs.declared.ids.BufferId.TheVariants as buffer
+
+abbrev pub Flows : Type 0
+Flows = List (FlowId × Books)
+
+abbrev pub Buffers : Type 0
+Buffers = List (BufferId × Line)
+
+-- the books of a flow, and the line of a buffer
+abbrev pub flow_at : Flows → FlowId → Option Books
+flow_at flows f = lookup (same_flow f) flows
+
+abbrev pub buffer_at : Buffers → BufferId → Option Line
+buffer_at buffers b = lookup (same_buffer b) buffers
+
+-- ---- what is seen of them
+abbrev pub watched_in : List Watch → List BufferId
+watched_in = map (λ w. w.buffer)
+
+abbrev pub flow_state : Books → FlowState
+flow_state books = record { count = books.count; watched = watched_in books.watches }
+
+abbrev pub buffer_state : Line → BufferState
+buffer_state line = record { above = line.above; watchers = values_of line.watchers; pending = values_of line.pending }
+
+abbrev pub board_of : Flows → Buffers → Board
+board_of flows buffers = record {
+  flows = map (λ e. (e.0, flow_state e.1)) flows;
+  buffers = map (λ e. (e.0, buffer_state e.1)) buffers;
+}
+
+-- ---- what holds of them
+abbrev pub watches_at : Flows → FlowId → List Watch
+watches_at flows f = option_map_or (λ books. books.watches) (flow_at flows f) []
+
+abbrev pub line_at : Buffers → BufferId → Places
+line_at buffers b = option_map_or (λ line. line.watchers) (buffer_at buffers b) []
+
+-- the flow stands in each line where its watches say
+abbrev pub Stands : Buffers → FlowId → List Watch → Type 0
+Stands buffers f = AllByRecursion (λ w. at_place w.place (line_at buffers w.buffer) ≡ Some f)
+
+pub record AreGates (flows : Flows) (buffers : Buffers) : Type 0 where
+  pub sound : IsSound (board_of flows buffers)
+  pub placed : (f : FlowId) → Stands buffers f (watches_at flows f)
+  pub few : (f : FlowId) → length (watches_at flows f) ≤ 2 ^ 62
+
+-- ---- steps
+-- held back n times more
+abbrev pub raised : ℕ → Books → Books
+raised n books = record books { count = books.count + n }
+
+-- a line that nobody stands in goes
+abbrev pub kept : Option Line → Option Line
+kept None = None
+kept (Some line) = if length line.watchers == 0 then None else Some line
+
+abbrev pub is_stage : FlowId → BufferId → Bool
+is_stage f (buffer.Stage g i) = same_flow f g
+is_stage f other = false
+
+-- the stage comes after another, or is any where there is no other
+abbrev pub is_after : Option ℕ → ℕ → Bool
+is_after None stage = true
+is_after (Some other) stage = nat_lt other stage
+
+-- where the stages of a flow begin, or those after one
+abbrev pub bound_after : FlowId → Option ℕ → Bound BufferId
+bound_after f None = Included (buffer.Stage f 0)
+bound_after f (Some stage) = Excluded (buffer.Stage f stage)
+
+-- the number of a stage of the flow
+abbrev pub stage_of : FlowId → BufferId → Option ℕ
+stage_of f (buffer.Stage g stage) = if same_flow f g then Some stage else None
+stage_of f other = None
+
+-- these are the flow's watches, and no line has it elsewhere
+pub record AreWatches (f : FlowId) (watches : List Watch) (buffers : Buffers) : Type 0 where
+  pub placed : Stands buffers f watches
+  pub paired : (b : BufferId) → times f (values_of (line_at buffers b)) ≡ times_of_buffer b (watched_in watches)
+  pub once : (b : BufferId) → times f (values_of (line_at buffers b)) ≤ 1
+  pub pending : (b : BufferId) →
+    times f (values_of (option_map_or (λ line. line.pending) (buffer_at buffers b) [])) ≤ times f (values_of (line_at buffers b))
+
+-- the flow stands there, once
+pub record Leaves (f : FlowId) (watch : Watch) (line : Line) (buffers : Buffers) : Type 0 where
+  pub found : buffer_at buffers watch.buffer ≡ Some line
+  pub here : at_place watch.place line.watchers ≡ Some f
+  pub once : times f (values_of line.watchers) ≤ 1

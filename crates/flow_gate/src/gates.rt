@@ -1,0 +1,342 @@
+// The gates of a worker.
+ghost use Rattle.std.specs.Prelude.{◌≡◌, ◌+◌, ◌<◌, ◌^◌, ◌↔◌, ℕ, [], false, true, IfNone, IfOk, IfSome, None, Some, OnOk, OnErr, IsNone, IsSome, option_map, option_to_list, slice_get, if◌then◌else◌};
+ghost use Rattle.flow_gate.specs.Board.{IsSound, count, is_known, is_marked, is_open, pending_on, times, watchers_of};
+ghost use Rattle.flow_gate.specs.Changes.{Begins, Closes, Drains, Forgets, IsEmpty, Knows, Rises, Tells, Watches};
+ghost use Rattle.flow_gate.specs.Ids.{same_buffer};
+ghost use Rattle.flow_gate.specs.Line.{Line, left};
+ghost use Rattle.flow_gate.specs.Parts.{AreWatches, bound_after, buffer_at, flow_at, is_after, is_stage, kept, raised, stage_of, Leaves};
+ghost use Rattle.flow_gate.specs.declared.ids.BufferId.{BufferId};
+ghost use Rattle.flow_gate.specs.declared.ids.FlowId.{FlowId};
+
+use crate::gate::Gate;
+use crate::ids::{BufferId, FlowId};
+use crate::line::Watchers;
+use crate::watcher::{Watch, Watcher};
+use io_ports::NoMemory;
+use std::alloc::Global;
+use std::collections::BTreeMap;
+use std::marker::Model;
+use std::ops::Bound;
+
+/// Which flows watch which buffers, and how often each flow is held back: by each buffer above that it watches, and
+/// by each drain of which it has not been told yet. A call goes through no flows but the watchers of its buffer, and
+/// through no buffers but those of its flow.
+#[derive(Drop)]
+pub struct Gates {
+    alloc: Global,
+    flows: BTreeMap<FlowId, Watcher>,
+    buffers: BTreeMap<BufferId, Gate>,
+}
+
+impl Model for Gates {
+    ghost use Rattle.flow_gate.specs.Board.{Board};
+
+    ghost Value = { Board };
+
+    ghost use Rattle.flow_gate.specs.Parts.{AreGates, board_of};
+
+    ghost view = { λ a. board_of a.flows.entries a.buffers.entries };
+
+    ghost invariant = { λ a. AreGates a.flows.entries a.buffers.entries };
+}
+
+impl Gates {
+    /// No flows and no buffers. Takes no memory.
+    pub fn new(alloc: Global) -> Self
+        ensures empty { IsEmpty result }
+        ensures sound { IsSound result }
+    {
+        Gates {
+            alloc,
+            flows: BTreeMap::new(alloc),
+            buffers: BTreeMap::new(alloc),
+        }
+    }
+
+    /// Whether the flow is there.
+    pub fn is_open(&self, flow: FlowId) -> bool
+        ensures { result ≡ is_open self.now flow }
+    {
+        self.flows.contains_key(&flow)
+    }
+
+    /// Whether the buffer is known.
+    pub fn is_known(&self, buffer: BufferId) -> bool
+        ensures { result ≡ is_known self.now buffer }
+    {
+        self.buffers.contains_key(&buffer)
+    }
+
+    /// Whether the buffer is above. It is false of a buffer that is not known.
+    pub fn is_marked(&self, buffer: BufferId) -> bool
+        ensures { result ≡ is_marked self.now buffer }
+    {
+        match self.buffers.get(&buffer) {
+            Some(gate) => gate.is_above(),
+            None => false,
+        }
+    }
+
+    /// Whether some flow watches the buffer.
+    pub fn is_watched(&self, buffer: BufferId) -> bool
+        ensures { (result ≡ false) ↔ (watchers_of self.now buffer ≡ []) }
+    {
+        match self.buffers.get(&buffer) {
+            Some(gate) => gate.is_watched(),
+            None => false,
+        }
+    }
+
+    /// Whether some watcher of the buffer is still to be told that it drained.
+    pub fn has_pending(&self, buffer: BufferId) -> bool
+        ensures { (result ≡ false) ↔ (pending_on self.now buffer ≡ []) }
+    {
+        match self.buffers.get(&buffer) {
+            Some(gate) => gate.has_pending(),
+            None => false,
+        }
+    }
+
+    /// Whether the flow watches the buffer. Looks through what this flow watches.
+    pub fn is_watching(&self, flow: FlowId, buffer: BufferId) -> bool
+        ensures { (result ≡ false) ↔ (times flow (watchers_of self.now buffer) ≡ 0) }
+    {
+        match self.flows.get(&flow) {
+            Some(watcher) => watcher.watches().iter().any(|watch| watch.buffer == buffer),
+            None => false,
+        }
+    }
+
+    /// How often the flow is held back: it may be read where this is 0.
+    pub fn count(&self, flow: FlowId) -> u64
+        requires { is_open self.now flow ≡ true }
+        ensures { result ≡ count self.now flow }
+    {
+        match self.flows.get(&flow) {
+            Some(watcher) => watcher.count(),
+            None => 0,
+        }
+    }
+
+    /// The watchers of a buffer, in the order in which they began to watch.
+    pub fn watchers(&self, buffer: BufferId) -> Watchers<'_>
+        ensures { result ≡ watchers_of self.now buffer }
+    {
+        match self.buffers.get(&buffer) {
+            Some(gate) => gate.watchers(),
+            None => Watchers::none(),
+        }
+    }
+
+    /// The i-th watcher of a buffer, from 0. Goes through those before it: to see all, take `watchers`.
+    pub fn watcher(&self, buffer: BufferId, i: usize) -> Option<FlowId>
+        ensures { result ≡ slice_get (watchers_of self.now buffer) i }
+    {
+        self.watchers(buffer).nth(i)
+    }
+
+    /// Begins a flow, which watches nothing and has the count 0.
+    pub fn open_flow(&mut self, flow: FlowId) -> Result<(), NoMemory>
+        requires { is_open self.old flow ≡ false }
+        ensures ok { OnOk result (Begins flow self.old self.new) }
+        ensures err { OnErr result (self.new ≡ self.old) }
+        ensures sound { IsSound self.new }
+    {
+        self.flows.insert(flow, Watcher::new(self.alloc))?;
+        Ok(())
+    }
+
+    /// From now on the buffer is known, unmarked and without watchers.
+    pub fn open_buffer(&mut self, buffer: BufferId) -> Result<(), NoMemory>
+        requires { is_known self.old buffer ≡ false }
+        ensures ok { OnOk result (Knows buffer self.old self.new) }
+        ensures err { OnErr result (self.new ≡ self.old) }
+        ensures sound { IsSound self.new }
+    {
+        self.buffers.insert(buffer, Gate::new(self.alloc))?;
+        Ok(())
+    }
+
+    /// The buffer, which nobody watches, is no longer known.
+    pub fn close_buffer(&mut self, buffer: BufferId)
+        requires known { is_known self.old buffer ≡ true }
+        requires unwatched { watchers_of self.old buffer ≡ [] }
+        ensures closes { Closes buffer self.old self.new }
+        ensures sound { IsSound self.new }
+    {
+        let _ = self.buffers.remove(&buffer);
+    }
+
+    /// Adds the flow as the last watcher of the buffer. Where the buffer is above, the flow's count grows by 1, and
+    /// the answer is true. Takes the room of a pending low too.
+    pub fn watch(&mut self, flow: FlowId, buffer: BufferId) -> Result<bool, NoMemory>
+        requires known { is_known self.old buffer ≡ true }
+        requires open { is_open self.old flow ≡ true }
+        requires apart { times flow (watchers_of self.old buffer) ≡ 0 }
+        ensures answer { IfOk result (λ above. above ≡ is_marked self.old buffer) }
+        ensures ok { OnOk result (Watches flow buffer self.old self.new) }
+        ensures err { OnErr result (self.new ≡ self.old) }
+        ensures sound { IsSound self.new }
+    {
+        let Some(watcher) = self.flows.get_mut(&flow) else {
+            unreachable!()
+        };
+        let Some(gate) = self.buffers.get_mut(&buffer) else {
+            unreachable!()
+        };
+        watcher.make_room()?;
+        let place = gate.add(flow)?;
+        let above = gate.is_above();
+        watcher.add(Watch { buffer, place }, above);
+        Ok(above)
+    }
+
+    /// The buffer rose: it is marked, and the count of each of its watchers grows by 1.
+    pub fn high(&mut self, buffer: BufferId)
+        requires known { is_known self.old buffer ≡ true }
+        requires low { is_marked self.old buffer ≡ false }
+        ensures rises { Rises buffer self.old self.new }
+        ensures sound { IsSound self.new }
+    {
+        let Some(gate) = self.buffers.get_mut(&buffer) else {
+            unreachable!()
+        };
+        gate.rise();
+        raise_each(&mut self.flows, gate.watchers());
+    }
+
+    /// The buffer drained: it is no longer marked, and each of its watchers has a pending low, in order. No count
+    /// changes, since each watcher is now held back by its low.
+    pub fn begin_low(&mut self, buffer: BufferId)
+        requires high { is_marked self.old buffer ≡ true }
+        requires told { pending_on self.old buffer ≡ [] }
+        ensures drains { Drains buffer self.old self.new }
+        ensures sound { IsSound self.new }
+    {
+        let Some(gate) = self.buffers.get_mut(&buffer) else {
+            unreachable!()
+        };
+        gate.drain();
+    }
+
+    /// Takes the first pending low of the buffer, and lowers the count of its flow by 1. None exactly where no low is
+    /// pending on it.
+    pub fn next_low(&mut self, buffer: BufferId) -> Option<FlowId>
+        ensures none { IsNone result ↔ (pending_on self.old buffer ≡ []) }
+        ensures tells { Tells buffer (option_to_list result) self.old self.new }
+        ensures sound { IsSound self.new }
+    {
+        let flow = self.buffers.get_mut(&buffer)?.tell()?;
+        let Some(watcher) = self.flows.get_mut(&flow) else {
+            unreachable!()
+        };
+        watcher.lower();
+        Some(flow)
+    }
+
+    /// Ends a flow: its watches and its pending lows go with it, and so do its own receive, stage and send buffers
+    /// that nobody else watches.
+    pub fn forget(&mut self, flow: FlowId)
+        requires { is_open self.old flow ≡ true }
+        ensures forgets { Forgets flow self.old self.new }
+        ensures sound { IsSound self.new }
+    {
+        let Some(watcher) = self.flows.remove(&flow) else {
+            unreachable!()
+        };
+        leave_each(&mut self.buffers, watcher.watches());
+        close_unwatched(&mut self.buffers, BufferId::Recv(flow));
+        close_stages(&mut self.buffers, flow);
+        close_unwatched(&mut self.buffers, BufferId::Send(flow));
+    }
+}
+
+// Raises the count of each of these flows.
+fn raise_each(flows: &mut BTreeMap<FlowId, Watcher>, watchers: Watchers<'_>)
+    requires there { (f : FlowId) → 0 < times f watchers → IsSome (flow_at flows.old.entries f) }
+    requires fits { (f : FlowId) → (n : ℕ) → 0 < times f watchers → option_map (λ books. books.count) (flow_at flows.old.entries f) ≡ Some n → n + times f watchers < 2 ^ 64 }
+    ensures { (f : FlowId) → flow_at flows.new.entries f ≡ option_map (raised (times f watchers.entry)) (flow_at flows.old.entries f) }
+{
+    for flow in watchers {
+        let Some(watcher) = flows.get_mut(&flow) else {
+            unreachable!()
+        };
+        watcher.raise();
+    }
+}
+
+// A flow leaves the line of each buffer that it watches.
+fn leave_each(buffers: &mut BTreeMap<BufferId, Gate>, watches: &[Watch])
+    ensures { (f : FlowId) → AreWatches f watches.now buffers.old.entries → (b : BufferId) → buffer_at buffers.new.entries b ≡ option_map (left f) (buffer_at buffers.old.entries b) }
+{
+    for watch in watches {
+        leave(buffers, *watch);
+    }
+}
+
+// The flow at the place of a watch leaves that line.
+fn leave(buffers: &mut BTreeMap<BufferId, Gate>, watch: Watch)
+    ensures { (f : FlowId) (line : Line) → Leaves f watch line buffers.old.entries → (b : BufferId) → buffer_at buffers.new.entries b ≡ (if same_buffer watch.buffer b then Some (left f line) else buffer_at buffers.old.entries b) }
+{
+    if let Some(gate) = buffers.get_mut(&watch.buffer) {
+        gate.remove(watch.place);
+    }
+}
+
+// A buffer that nobody watches is no longer known.
+fn close_unwatched(buffers: &mut BTreeMap<BufferId, Gate>, buffer: BufferId)
+    ensures { (b : BufferId) → buffer_at buffers.new.entries b ≡ (if same_buffer buffer b then kept (buffer_at buffers.old.entries b) else buffer_at buffers.old.entries b) }
+{
+    if let Some(gate) = buffers.get(&buffer) {
+        if !gate.is_watched() {
+            let _ = buffers.remove(&buffer);
+        }
+    }
+}
+
+// The stages of a flow that nobody watches are no longer known.
+fn close_stages(buffers: &mut BTreeMap<BufferId, Gate>, flow: FlowId)
+    ensures { (b : BufferId) → buffer_at buffers.new.entries b ≡ (if is_stage flow b then kept (buffer_at buffers.old.entries b) else buffer_at buffers.old.entries b) }
+{
+    let mut after = None;
+    'stages: while let Some(stage) = stage_after(buffers, flow, after) {
+        close_unwatched(buffers, BufferId::Stage(flow, stage));
+        after = Some(stage);
+    }
+}
+
+// The first stage of a flow that is known, or the first one after another.
+fn stage_after(
+    buffers: &BTreeMap<BufferId, Gate>,
+    flow: FlowId,
+    after: Option<u32>,
+) -> Option<u32>
+    ensures later { IfSome result (λ i. is_after after i ≡ true) }
+    ensures first { IfSome result (λ i. (j : ℕ) → is_after after j ≡ true → j < i → buffer_at buffers.now.entries (BufferId.Stage flow j) ≡ None) }
+    ensures none { IfNone result ((j : ℕ) → is_after after j ≡ true → buffer_at buffers.now.entries (BufferId.Stage flow j) ≡ None) }
+{
+    let (&buffer, _) = buffers
+        .range((bound_after(flow, after), Bound::Unbounded))
+        .next()?;
+    stage_of(flow, buffer)
+}
+
+// Where the stages of a flow begin, or those after one.
+fn bound_after(flow: FlowId, after: Option<u32>) -> Bound<BufferId>
+    ensures { result ≡ bound_after flow after }
+{
+    match after {
+        None => Bound::Included(BufferId::Stage(flow, 0)),
+        Some(stage) => Bound::Excluded(BufferId::Stage(flow, stage)),
+    }
+}
+
+// The number of a stage of the flow.
+fn stage_of(flow: FlowId, buffer: BufferId) -> Option<u32>
+    ensures { result ≡ stage_of flow buffer }
+{
+    match buffer {
+        BufferId::Stage(owner, stage) if owner == flow => Some(stage),
+        _ => None,
+    }
+}
