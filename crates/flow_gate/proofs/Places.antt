@@ -1,12 +1,12 @@
 -- The line of a buffer's watchers: the next place is its end, a part of it between two places, and one that leaves it.
 use Rattle.flow_gate.proofs.Counting.{count-cons}
-use Rattle.flow_gate.proofs.SameIds.{same_flow-refl, same_flow_exact}
+use Rattle.flow_gate.proofs.SameIds.{same_flow-refl}
 use Rattle.flow_gate.specs.Board.{times}
 use Rattle.flow_gate.specs.Ids.{same_flow}
 use Rattle.flow_gate.specs.Line.{Places, at_place, between}
 use Rattle.flow_gate.specs.declared.ids.FlowId.{FlowId}
 use Rattle.std.proofs.Common.{ap, arith, inl, inr, refl, subst, sym, ◌∙◌}
-use Rattle.std.proofs.lemmas.Bool.{cases_Bool, cond_both, eqb-true, false_from_ne_true, false≢true, le-leb, leb-true, lt-ltb, ltb-true, ne_eqb}
+use Rattle.std.proofs.lemmas.Bool.{cases_Bool, cond_both, false_from_ne_true, false≢true, ne_eqb}
 use Rattle.std.proofs.lemmas.Bool.Decides.{nat_tests}
 use Rattle.std.proofs.lemmas.List.{append-nil}
 use Rattle.std.proofs.lemmas.List.Elements.{filter-append}
@@ -16,18 +16,15 @@ use Rattle.std.specs.BTreeMap.{insert_entry, is_at}
 use Rattle.std.specs.BTreeMap.Range.{range_contains}
 use Rattle.std.specs.List.{AllByRecursion}
 use Rattle.std.specs.List.Sorted.{IsStrictlySortedBy}
-use Rattle.std.specs.Map.{keys_of, lookup, remove_entry, values_of}
-use Rattle.std.specs.Ordering.{is_eq, is_le, match_ordering, nat_cmp}
-use Rattle.std.specs.Prelude.{Bool, List, None, Option, Some, [], cond, drop, false, filter, if◌then◌else◌, nat_eq, nat_le, nat_lt, not, suc, true, zero, ℕ, ◌&&◌, ◌++◌, ◌+◌, ◌<◌, ◌==◌, ◌∷◌, ◌≡◌, ◌≤◌}
-use Rattle.std.specs.declared.cmp.Ordering.TheVariants.{Equal, Greater, Less}
+use Rattle.std.specs.Map.{keys_of, remove_entry, values_of}
+use Rattle.std.specs.Ordering.{match_ordering, nat_cmp}
+use Rattle.std.specs.Prelude.{Bool, List, None, Some, [], cond, false, filter, nat_eq, not, true, ℕ, ◌++◌, ◌+◌, ◌<◌, ◌∷◌, ◌≡◌, ◌≤◌}
+use Rattle.std.specs.declared.cmp.Ordering.TheVariants.{Greater, Less}
 use Rattle.std.specs.declared.ops.Bound.TheVariants.{Excluded, Included}
 
 -- the place is from one to before another
 abbrev pub is_between : ℕ → ℕ → ℕ → Bool
 is_between from to = range_contains nat_cmp (Included from) (Excluded to)
-
-between_tests : (from to q : ℕ) → is_between from to q ≡ (nat_le from q && nat_lt q to)
-between_tests from to q = grind (arith, nat_tests)
 
 between_yes : (from to q : ℕ) → from ≤ q → q < to → is_between from to q ≡ true
 between_yes from to q low high = grind (arith, nat_tests)
@@ -118,66 +115,66 @@ pub others-none : (f : FlowId) (line : Places) → times f (values_of line) ≡ 
 others-none f [] none = refl
 others-none f (e ∷ line) none =
     let other : same_flow f e.1 ≡ false = false_from_ne_true (same_flow f e.1) (λ h.
-      let one : cond (same_flow f e.1) 1 0 ≡ 1 = ap {B = ℕ} (λ b. cond b 1 0) h in omega (arith, one, none, count-cons (same_flow f) e.1 (values_of line))) in
+    let one : cond (same_flow f e.1) 1 0 ≡ 1 = ap {B = ℕ} (λ b. cond b 1 0) h in omega (arith, one, none, count-cons (same_flow f) e.1 (values_of line))) in
     ap (λ b. cond (not b) (e ∷ others_of f line) (others_of f line)) other
     ∙ ap (λ es. e ∷ es) (others-none f line (omega (arith, none, count-cons (same_flow f) e.1 (values_of line))))
 
 some_times : (p : ℕ) (f : FlowId) (line : Places) → at_place p line ≡ Some f → 1 ≤ times f (values_of line)
 some_times p f [] at = absurd (none-some f at)
 some_times p f (e ∷ line) at = elim (cases_Bool (nat_eq p e.0)) [
-    inl here ↦
+  | inl here ↦
       let same : e.1 ≡ f = same_Some e.1 f (ap (λ b. cond b (Some e.1) (at_place p line)) (sym here) ∙ at) in
       let one : cond (same_flow f e.1) 1 0 ≡ 1 = ap {B = ℕ} (λ b. cond b 1 0) (subst (λ g. same_flow f g ≡ true) (sym same) (same_flow-refl f)) in
       omega (arith, one, count-cons (same_flow f) e.1 (values_of line))
-    | inr past ↦ omega (arith, some_times p f line (ap (λ b. cond b (Some e.1) (at_place p line)) (sym past) ∙ at), count-cons (same_flow f) e.1 (values_of line))
-  ]
+  | inr past ↦ omega (arith, some_times p f line (ap (λ b. cond b (Some e.1) (at_place p line)) (sym past) ∙ at), count-cons (same_flow f) e.1 (values_of line))
+]
 
 part-times : (test : ℕ → Bool) (f : FlowId) (line : Places) → times f (values_of (filter (λ e. test e.0) line)) ≤ times f (values_of line)
 part-times test f [] = omega arith
 part-times test f (e ∷ line) =
     let rest = part-times test f line in
     cond_both (test e.0) (e ∷ filter (λ d. test d.0) line) (filter (λ d. test d.0) line) (λ es. times f (values_of es) ≤ times f (values_of (e ∷ line)))
-      (λ h. omega (arith, rest, count-cons (same_flow f) e.1 (values_of line), count-cons (same_flow f) e.1 (values_of (filter (λ d. test d.0) line))))
-      (λ h. omega (arith, rest, count-cons (same_flow f) e.1 (values_of line)))
+    (λ h. omega (arith, rest, count-cons (same_flow f) e.1 (values_of line), count-cons (same_flow f) e.1 (values_of (filter (λ d. test d.0) line))))
+    (λ h. omega (arith, rest, count-cons (same_flow f) e.1 (values_of line)))
 
 -- of any part of the line, its flow's place is all that goes
 pub part-leaves : (test : ℕ → Bool) (p : ℕ) (f : FlowId) (line : Places) → at_place p line ≡ Some f → times f (values_of line) ≤ 1 →
-  filter (λ e. test e.0) (remove_entry (is_at (nat_cmp p)) line) ≡ others_of f (filter (λ e. test e.0) line)
+    filter (λ e. test e.0) (remove_entry (is_at (nat_cmp p)) line) ≡ others_of f (filter (λ e. test e.0) line)
 part-leaves test p f [] at once = refl
 part-leaves test p f (e ∷ line) at once =
     let part : Places = filter (λ d. test d.0) line in
     let left : Places = remove_entry (is_at (nat_cmp p)) line in
     elim (cases_Bool (nat_eq p e.0)) [
-      inl here ↦
-        let same : e.1 ≡ f = same_Some e.1 f (ap (λ b. cond b (Some e.1) (at_place p line)) (sym here) ∙ at) in
-        let itself : same_flow f e.1 ≡ true = subst (λ g. same_flow f g ≡ true) (sym same) (same_flow-refl f) in
-        let one : cond (same_flow f e.1) 1 0 ≡ 1 = ap {B = ℕ} (λ b. cond b 1 0) itself in
-        let none : times f (values_of part) ≡ 0 = omega (arith, one, once, count-cons (same_flow f) e.1 (values_of line), part-times test f line) in
-        let keeps : (t : Bool) → others_of f (cond t (e ∷ part) part) ≡ others_of f part =
+      | inl here ↦
+          let same : e.1 ≡ f = same_Some e.1 f (ap (λ b. cond b (Some e.1) (at_place p line)) (sym here) ∙ at) in
+          let itself : same_flow f e.1 ≡ true = subst (λ g. same_flow f g ≡ true) (sym same) (same_flow-refl f) in
+          let one : cond (same_flow f e.1) 1 0 ≡ 1 = ap {B = ℕ} (λ b. cond b 1 0) itself in
+          let none : times f (values_of part) ≡ 0 = omega (arith, one, once, count-cons (same_flow f) e.1 (values_of line), part-times test f line) in
+          let keeps : (t : Bool) → others_of f (cond t (e ∷ part) part) ≡ others_of f part =
           λ t. elim t as (λ b. others_of f (cond b (e ∷ part) part) ≡ others_of f part) [
-            true ↦ ap (λ b. cond (not b) (e ∷ others_of f part) (others_of f part)) itself
+            | true ↦ ap (λ b. cond (not b) (e ∷ others_of f part) (others_of f part)) itself
             | false ↦ refl
           ]
-        in
-        ap (λ b. filter (λ d. test d.0) (cond b line (e ∷ left))) (eq_by_place p e.0 ∙ here)
-        ∙ sym (others-none f part none) ∙ sym (keeps (test e.0))
+          in
+          ap (λ b. filter (λ d. test d.0) (cond b line (e ∷ left))) (eq_by_place p e.0 ∙ here)
+          ∙ sym (others-none f part none) ∙ sym (keeps (test e.0))
       | inr past ↦
-        let behind : at_place p line ≡ Some f = ap (λ b. cond b (Some e.1) (at_place p line)) (sym past) ∙ at in
-        let some = some_times p f line behind in
-        let other : same_flow f e.1 ≡ false = false_from_ne_true (same_flow f e.1) (λ same.
+          let behind : at_place p line ≡ Some f = ap (λ b. cond b (Some e.1) (at_place p line)) (sym past) ∙ at in
+          let some = some_times p f line behind in
+          let other : same_flow f e.1 ≡ false = false_from_ne_true (same_flow f e.1) (λ same.
           let one : cond (same_flow f e.1) 1 0 ≡ 1 = ap {B = ℕ} (λ b. cond b 1 0) same in omega (arith, one, some, once, count-cons (same_flow f) e.1 (values_of line))) in
-        let rest = part-leaves test p f line behind (omega (arith, once, count-cons (same_flow f) e.1 (values_of line))) in
-        let each : (t : Bool) → cond t (e ∷ filter (λ d. test d.0) left) (filter (λ d. test d.0) left) ≡ others_of f (cond t (e ∷ part) part) =
+          let rest = part-leaves test p f line behind (omega (arith, once, count-cons (same_flow f) e.1 (values_of line))) in
+          let each : (t : Bool) → cond t (e ∷ filter (λ d. test d.0) left) (filter (λ d. test d.0) left) ≡ others_of f (cond t (e ∷ part) part) =
           λ t. elim t as (λ b. cond b (e ∷ filter (λ d. test d.0) left) (filter (λ d. test d.0) left) ≡ others_of f (cond b (e ∷ part) part)) [
-            true ↦ ap (λ es. e ∷ es) rest ∙ sym (ap (λ b. cond (not b) (e ∷ others_of f part) (others_of f part)) other)
+            | true ↦ ap (λ es. e ∷ es) rest ∙ sym (ap (λ b. cond (not b) (e ∷ others_of f part) (others_of f part)) other)
             | false ↦ rest
           ]
-        in
-        ap (λ b. filter (λ d. test d.0) (cond b line (e ∷ left))) (eq_by_place p e.0 ∙ past) ∙ each (test e.0)
+          in
+          ap (λ b. filter (λ d. test d.0) (cond b line (e ∷ left))) (eq_by_place p e.0 ∙ past) ∙ each (test e.0)
     ]
 
 pub line-leaves : (p : ℕ) (f : FlowId) (line : Places) → at_place p line ≡ Some f → times f (values_of line) ≤ 1 →
-  remove_entry (is_at (nat_cmp p)) line ≡ others_of f line
+    remove_entry (is_at (nat_cmp p)) line ≡ others_of f line
 line-leaves p f line at once =
     sym (filter-true (remove_entry (is_at (nat_cmp p)) line)) ∙ part-leaves (λ q. true) p f line at once ∙ ap (others_of f) (filter-true line)
 
@@ -185,15 +182,15 @@ line-leaves p f line at once =
 passes_first : {X : Type 0} (test : X → Bool) (xs ys : List X) (y : X) → filter test xs ≡ y ∷ ys → test y ≡ true
 passes_first test [] ys y is = cc
 passes_first test (x ∷ xs) ys y is = elim (cases_Bool (test x)) [
-    inl passes ↦ (let same : x ∷ filter test xs ≡ y ∷ ys = ap (λ b. cond b (x ∷ filter test xs) (filter test xs)) (sym passes) ∙ is in let e : x ≡ y = cc in subst (λ z. test z ≡ true) e passes)
-    | inr fails ↦ passes_first test xs ys y (ap (λ b. cond b (x ∷ filter test xs) (filter test xs)) (sym fails) ∙ is)
-  ]
+  | inl passes ↦ (let same : x ∷ filter test xs ≡ y ∷ ys = ap (λ b. cond b (x ∷ filter test xs) (filter test xs)) (sym passes) ∙ is in let e : x ≡ y = cc in subst (λ z. test z ≡ true) e passes)
+  | inr fails ↦ passes_first test xs ys y (ap (λ b. cond b (x ∷ filter test xs) (filter test xs)) (sym fails) ∙ is)
+]
 
 pub between-rest : (told drained p : ℕ) (f : FlowId) (rest line : Places) → IsStrictlySortedBy nat_cmp (keys_of line) →
-  between told drained line ≡ (p, f) ∷ rest → between (p + 1) drained line ≡ rest
+    between told drained line ≡ (p, f) ∷ rest → between (p + 1) drained line ≡ rest
 between-rest told drained p f rest [] sorted is = cc
 between-rest told drained p f rest (e ∷ line) sorted is = elim (cases_Bool (is_between told drained e.0)) [
-    inl inside ↦
+  | inl inside ↦
       let same : e ∷ between told drained line ≡ (p, f) ∷ rest = ap (λ b. cond b (e ∷ between told drained line) (between told drained line)) (sym inside) ∙ is in
       let first : e ≡ (p, f) = cc in
       let others : between told drained line ≡ rest = cc in
@@ -201,14 +198,14 @@ between-rest told drained p f rest (e ∷ line) sorted is = elim (cases_Bool (is
       let low = between_low told drained e.0 inside in
       ap (λ b. cond b (e ∷ between (p + 1) drained line) (between (p + 1) drained line)) (between_below (p + 1) drained e.0 (omega (arith, place)))
       ∙ filter_same (λ d. is_between (p + 1) drained d.0) (λ d. is_between told drained d.0) line
-        (weaken_keys (λ q. nat_cmp e.0 q ≡ Less) (λ d. is_between (p + 1) drained d.0 ≡ is_between told drained d.0) line (λ d less. let above = less_cmp e.0 d.0 less in between_from (p + 1) told drained d.0 (omega (arith, above, place)) (omega (arith, above, low))) (sorted_head nat_cmp e.0 (keys_of line) sorted))
+      (weaken_keys (λ q. nat_cmp e.0 q ≡ Less) (λ d. is_between (p + 1) drained d.0 ≡ is_between told drained d.0) line (λ d less. let above = less_cmp e.0 d.0 less in between_from (p + 1) told drained d.0 (omega (arith, above, place)) (omega (arith, above, low))) (sorted_head nat_cmp e.0 (keys_of line) sorted))
       ∙ others
-    | inr outside ↦
+  | inr outside ↦
       let others : between told drained line ≡ (p, f) ∷ rest = ap (λ b. cond b (e ∷ between told drained line) (between told drained line)) (sym outside) ∙ is in
       let low = between_low told drained p (passes_first (λ d. is_between told drained d.0) line rest (p, f) others) in
       let out : is_between (p + 1) drained e.0 ≡ false = false_from_ne_true (is_between (p + 1) drained e.0) (λ h.
-        let a = between_low (p + 1) drained e.0 h in let b = between_high (p + 1) drained e.0 h in
-        false≢true (sym outside ∙ between_yes told drained e.0 (omega (arith, low, a)) b)) in
+      let a = between_low (p + 1) drained e.0 h in let b = between_high (p + 1) drained e.0 h in
+      false≢true (sym outside ∙ between_yes told drained e.0 (omega (arith, low, a)) b)) in
       ap (λ b. cond b (e ∷ between (p + 1) drained line) (between (p + 1) drained line)) out
       ∙ between-rest told drained p f rest line (sorted_tail nat_cmp e.0 (keys_of line) sorted) others
-  ]
+]

@@ -16,7 +16,7 @@ use Rattle.std.specs.BTreeMap.{is_at}
 use Rattle.std.specs.Map.{lookup, values_of}
 use Rattle.std.specs.Option.{option_map, option_map_or}
 use Rattle.std.specs.Ordering.{bool_cmp, is_eq, nat_cmp, ordering_then}
-use Rattle.std.specs.Prelude.{Bool, List, None, Option, Some, [], cond, false, if◌then◌else◌, is_some, not, true, ℕ, ◌&&◌, ◌==◌, ◌∷◌, ◌≡◌}
+use Rattle.std.specs.Prelude.{Bool, List, None, Option, Some, [], cond, false, if◌then◌else◌, is_some, not, true, ℕ, ◌&&◌, ◌∷◌, ◌≡◌}
 use Rattle.std.specs.declared.cmp.Ordering.{Ordering}
 use Rattle.std.specs.declared.cmp.Ordering.TheVariants.{Equal, Greater, Less}
 
@@ -73,11 +73,11 @@ module _ {X : Type 0} where
 
   -- what a change of a map says of its look-ups
   pub flow_updates : (old new : List (FlowId × X)) (f : FlowId) (w : Option X) → FlowUpdated f w old new →
-    (g : FlowId) → lookup (same_flow g) new ≡ cond (same_flow f g) w (lookup (same_flow g) old)
+      (g : FlowId) → lookup (same_flow g) new ≡ cond (same_flow f g) w (lookup (same_flow g) old)
   flow_updates old new f w updates g = sym (flow_get new g) ∙ updates g ∙ (λ i. cond (is_at-flow f g i) w (flow_get old g i))
 
   pub buffer_updates : (old new : List (BufferId × X)) (b : BufferId) (w : Option X) → BufferUpdated b w old new →
-    (c : BufferId) → lookup (same_buffer c) new ≡ cond (same_buffer b c) w (lookup (same_buffer c) old)
+      (c : BufferId) → lookup (same_buffer c) new ≡ cond (same_buffer b c) w (lookup (same_buffer c) old)
   buffer_updates old new b w updates c = sym (buffer_get new c) ∙ updates c ∙ (λ i. cond (is_at-buffer b c i) w (buffer_get old c i))
 
 -- ---- what is seen

@@ -3,8 +3,8 @@ use Rattle.flow_gate.specs.Ids.{same_buffer, same_flow}
 use Rattle.flow_gate.specs.declared.ids.BufferId.{BufferId}
 use Rattle.flow_gate.specs.declared.ids.FlowId.{FlowId}
 use Rattle.std.proofs.Common.{ap, refl, subst, sym, ◌∙◌}
-use Rattle.std.proofs.lemmas.Bool.{and_parts, cases_Bool, eq-eqb, eqb-true, false≢true, false_from_ne_true}
-use Rattle.std.specs.Prelude.{Bool, false, if◌then◌else◌, not, true, ℕ, ◌&&◌, ◌==◌, ◌≡◌, ◌≢◌}
+use Rattle.std.proofs.lemmas.Bool.{and_parts, eq-eqb, eqb-true, false≢true, false_from_ne_true}
+use Rattle.std.specs.Prelude.{Bool, false, if◌then◌else◌, not, true, ◌&&◌, ◌==◌, ◌≡◌}
 use Rattle.flow_gate.specs.declared.ids.BufferId.TheVariants as buffer
 
 same_back : (a b : Bool) → (if a then b else not b) ≡ true → a ≡ b
@@ -47,7 +47,7 @@ same_buffer_exact _ _ e = absurd (false≢true e)
 flips : {X : Type 0} (same : X → X → Bool) → ((x : X) → same x x ≡ true) → ((x y : X) → same x y ≡ true → x ≡ y) → (x y : X) → same x y ≡ same y x
 flips same self exact x y =
     let onward : (b : Bool) → same x y ≡ b → same x y ≡ same y x = λ b. elim b as (λ v. same x y ≡ v → same x y ≡ same y x) [
-      true ↦ λ e. e ∙ sym (subst (λ z. same z x ≡ true) (exact x y e) (self x))
+      | true ↦ λ e. e ∙ sym (subst (λ z. same z x ≡ true) (exact x y e) (self x))
       | false ↦ λ e. e ∙ sym (false_from_ne_true (same y x) (λ h. false≢true (sym e ∙ subst (λ z. same z y ≡ true) (exact y x h) (self y))))
     ] in onward (same x y) refl
 

@@ -4,7 +4,6 @@ use Rattle.flow_gate.proofs.SameIds.{same_flow-comm, same_flow-refl, same_flow_e
 use Rattle.flow_gate.specs.Ids.{same_flow}
 use Rattle.flow_gate.specs.Parts.{bound_after, is_after, stage_of}
 use Rattle.flow_gate.specs.contracts.ids.FlowIdOrd.TheImpl.Laws as flow_laws
-use Rattle.flow_gate.specs.contracts.ids.FlowIdPartialEq.TheImpl as flow_eq
 use Rattle.flow_gate.specs.declared.ids.BufferId.{BufferId}
 use Rattle.flow_gate.specs.declared.ids.BufferId.TheVariants as buffer
 use Rattle.flow_gate.specs.declared.ids.FlowId.{FlowId}
@@ -12,11 +11,11 @@ use Rattle.std.proofs.Common.{ap, arith, inl, inr, refl, subst, sym, ◌∙◌}
 use Rattle.std.proofs.lemmas.Bool.{cases_Bool, false≢true, ltb-true}
 use Rattle.std.proofs.lemmas.Bool.Decides.{nat_tests}
 use Rattle.std.proofs.lemmas.Option.{none-some}
-use Rattle.std.specs.BTreeMap.Range.{IsFromStart, IsInRange, IsLeBy}
+use Rattle.std.specs.BTreeMap.Range.{IsInRange, IsLeBy}
 use Rattle.std.specs.Cmp.{IsTotalOrder}
 use Rattle.std.specs.Option.{IfNone, IfSome, IsSome}
 use Rattle.std.specs.Ordering.{is_eq, is_gt, nat_cmp, ordering_reverse, ordering_then}
-use Rattle.std.specs.Prelude.{Bool, None, Option, Some, false, if◌then◌else◌, is_some, nat_lt, true, ℕ, ◌<◌, ◌≡◌, ◌≤◌}
+use Rattle.std.specs.Prelude.{Bool, None, Option, Some, false, if◌then◌else◌, nat_lt, true, ℕ, ◌<◌, ◌≡◌, ◌≤◌}
 use Rattle.std.specs.declared.cmp.Ordering.{Ordering}
 use Rattle.std.specs.declared.cmp.Ordering.TheVariants.{Equal, Greater, Less}
 use Rattle.std.specs.declared.ops.Bound.TheVariants.{Unbounded}
@@ -46,9 +45,6 @@ both_less f g o p other up down =
     let turned : Less ≡ Greater = sym onward ∙ flow_total.antisymm f g ∙ ap ordering_reverse back in
     cc
 
-less_not_gt : (o : Ordering) → o ≡ Less → is_gt o ≡ false
-less_not_gt o is = ap is_gt is
-
 -- ---- the stages of a flow
 pub stage_in_range : (f : FlowId) (after : Option ℕ) (j : ℕ) → is_after after j ≡ true → IsInRange buffer_cmp (bound_after f after) Unbounded (buffer.Stage f j)
 stage_in_range f None j later = (ap (λ o. is_gt (ordering_then o (nat_cmp 0 j))) (flow_itself f) ∙ from_zero j, tt)
@@ -74,10 +70,10 @@ stage_later f after (buffer.Write c) inside = tt
 stage_later f None (buffer.Stage g i) inside = elim (same_flow f g) as (λ t. IfSome (if t then Some i else None) (λ j. is_after None j ≡ true)) [ true ↦ refl | false ↦ tt ]
 stage_later f (Some k) (buffer.Stage g i) inside =
     let each : (t : Bool) → same_flow f g ≡ t → IfSome (if t then Some i else None) (λ j. nat_lt k j ≡ true) =
-      λ t. elim t as (λ u. same_flow f g ≡ u → IfSome (if u then Some i else None) (λ j. nat_lt k j ≡ true)) [
-        true ↦ λ same. above k i (sym (ap (λ o. ordering_then o (nat_cmp k i)) (flow_itself f)) ∙ ap (λ h. ordering_then (flow_cmp f h) (nat_cmp k i)) (same_flow_exact f g same) ∙ inside.0)
-        | false ↦ λ other. tt
-      ]
+    λ t. elim t as (λ u. same_flow f g ≡ u → IfSome (if u then Some i else None) (λ j. nat_lt k j ≡ true)) [
+      | true ↦ λ same. above k i (sym (ap (λ o. ordering_then o (nat_cmp k i)) (flow_itself f)) ∙ ap (λ h. ordering_then (flow_cmp f h) (nat_cmp k i)) (same_flow_exact f g same) ∙ inside.0)
+      | false ↦ λ other. tt
+    ]
     in each (same_flow f g) refl
   where
     above : (m n : ℕ) → nat_cmp m n ≡ Less → nat_lt m n ≡ true
@@ -85,19 +81,19 @@ stage_later f (Some k) (buffer.Stage g i) inside =
 
 -- no stage lies between another buffer that is known next
 pub no_stage_beyond : (f : FlowId) (after : Option ℕ) (b : BufferId) (j : ℕ) → IsInRange buffer_cmp (bound_after f after) Unbounded b → stage_of f b ≡ None →
-  IsLeBy buffer_cmp b (buffer.Stage f j) → ⊥
+    IsLeBy buffer_cmp b (buffer.Stage f j) → ⊥
 no_stage_beyond f None (buffer.Recv g) j inside none le = false≢true (sym inside.0)
 no_stage_beyond f (Some k) (buffer.Recv g) j inside none le = let e : Greater ≡ Less = inside.0 in cc
 no_stage_beyond f after (buffer.Send g) j inside none le = false≢true (sym le)
 no_stage_beyond f after (buffer.Write c) j inside none le = false≢true (sym le)
 no_stage_beyond f None (buffer.Stage g i) j inside none le = elim (cases_Bool (same_flow f g)) [
-    inl same ↦ none-some i (sym (ap (λ t. if t then Some i else None) (sym same) ∙ none))
-    | inr other ↦ both_less f g (nat_cmp 0 i) (nat_cmp i j) other inside.0 le
-  ]
+  | inl same ↦ none-some i (sym (ap (λ t. if t then Some i else None) (sym same) ∙ none))
+  | inr other ↦ both_less f g (nat_cmp 0 i) (nat_cmp i j) other inside.0 le
+]
 no_stage_beyond f (Some k) (buffer.Stage g i) j inside none le = elim (cases_Bool (same_flow f g)) [
-    inl same ↦ none-some i (sym (ap (λ t. if t then Some i else None) (sym same) ∙ none))
-    | inr other ↦ both_less f g (nat_cmp k i) (nat_cmp i j) other (ap is_gt inside.0) le
-  ]
+  | inl same ↦ none-some i (sym (ap (λ t. if t then Some i else None) (sym same) ∙ none))
+  | inr other ↦ both_less f g (nat_cmp k i) (nat_cmp i j) other (ap is_gt inside.0) le
+]
 
 none_unless : {X : Type 0} (o : Option X) → (IsSome o → ⊥) → o ≡ None
 none_unless None some = refl
@@ -105,29 +101,29 @@ none_unless (Some x) some = absurd (some refl)
 
 -- where b is the first buffer that is known from there on
 pub stages_before : {X : Type 0} (f : FlowId) (after : Option ℕ) (b : BufferId) (known : BufferId → Option X) →
-  ((c : BufferId) → IsInRange buffer_cmp (bound_after f after) Unbounded c → IsSome (known c) → IsLeBy buffer_cmp b c) →
-  IfSome (stage_of f b) (λ i. (j : ℕ) → is_after after j ≡ true → j < i → known (buffer.Stage f j) ≡ None)
+    ((c : BufferId) → IsInRange buffer_cmp (bound_after f after) Unbounded c → IsSome (known c) → IsLeBy buffer_cmp b c) →
+    IfSome (stage_of f b) (λ i. (j : ℕ) → is_after after j ≡ true → j < i → known (buffer.Stage f j) ≡ None)
 stages_before f after (buffer.Recv g) known first = tt
 stages_before f after (buffer.Send g) known first = tt
 stages_before f after (buffer.Write c) known first = tt
 stages_before {X} f after (buffer.Stage g i) known first =
     let each : (t : Bool) → same_flow f g ≡ t → IfSome (if t then Some i else None) (λ n. (j : ℕ) → is_after after j ≡ true → j < n → known (buffer.Stage f j) ≡ None) =
-      λ t. elim t as (λ u. same_flow f g ≡ u → IfSome (if u then Some i else None) (λ n. (j : ℕ) → is_after after j ≡ true → j < n → known (buffer.Stage f j) ≡ None)) [
-        true ↦ λ same j later less. none_unless (known (buffer.Stage f j)) (λ some.
+    λ t. elim t as (λ u. same_flow f g ≡ u → IfSome (if u then Some i else None) (λ n. (j : ℕ) → is_after after j ≡ true → j < n → known (buffer.Stage f j) ≡ None)) [
+      | true ↦ λ same j later less. none_unless (known (buffer.Stage f j)) (λ some.
           let upto : i ≤ j = stage_le f i j (subst (λ h. IsLeBy buffer_cmp (buffer.Stage h i) (buffer.Stage f j)) (sym (same_flow_exact f g same)) (first (buffer.Stage f j) (stage_in_range f after j later) some)) in
           omega (arith, upto, less))
-        | false ↦ λ other. tt
-      ]
+      | false ↦ λ other. tt
+    ]
     in each (same_flow f g) refl
 
 pub no_stages : {X : Type 0} (f : FlowId) (after : Option ℕ) (b : BufferId) (known : BufferId → Option X) →
-  IsInRange buffer_cmp (bound_after f after) Unbounded b →
-  ((c : BufferId) → IsInRange buffer_cmp (bound_after f after) Unbounded c → IsSome (known c) → IsLeBy buffer_cmp b c) →
-  IfNone (stage_of f b) ((j : ℕ) → is_after after j ≡ true → known (buffer.Stage f j) ≡ None)
+    IsInRange buffer_cmp (bound_after f after) Unbounded b →
+    ((c : BufferId) → IsInRange buffer_cmp (bound_after f after) Unbounded c → IsSome (known c) → IsLeBy buffer_cmp b c) →
+    IfNone (stage_of f b) ((j : ℕ) → is_after after j ≡ true → known (buffer.Stage f j) ≡ None)
 no_stages f after b known inside first =
     let each : (o : Option ℕ) → stage_of f b ≡ o → IfNone o ((j : ℕ) → is_after after j ≡ true → known (buffer.Stage f j) ≡ None) =
-      λ o. elim o as (λ v. stage_of f b ≡ v → IfNone v ((j : ℕ) → is_after after j ≡ true → known (buffer.Stage f j) ≡ None)) [
-        None ↦ λ none j later. none_unless (known (buffer.Stage f j)) (λ some. no_stage_beyond f after b j inside none (first (buffer.Stage f j) (stage_in_range f after j later) some))
-        | Some i ↦ λ is. tt
-      ]
+    λ o. elim o as (λ v. stage_of f b ≡ v → IfNone v ((j : ℕ) → is_after after j ≡ true → known (buffer.Stage f j) ≡ None)) [
+      | None ↦ λ none j later. none_unless (known (buffer.Stage f j)) (λ some. no_stage_beyond f after b j inside none (first (buffer.Stage f j) (stage_in_range f after j later) some))
+      | Some i ↦ λ is. tt
+    ]
     in each (stage_of f b) refl

@@ -1,22 +1,20 @@
 -- What the calls write into their maps makes the changes that are seen of the gates.
-use Rattle.flow_gate.proofs.Counting.{count-append}
 use Rattle.flow_gate.proofs.Reading.{above_in, count-board, count_in, is_known-board, is_marked-board, is_open-board, pending-board, pending_in, watched-board, watched_at, watchers-board, watchers_in}
 use Rattle.flow_gate.proofs.SameIds.{same_buffer_exact, same_flow-comm, same_flow_exact}
-use Rattle.flow_gate.specs.Board.{Board, count, is_known, is_marked, is_open, pending_on, times, watched_by, watchers_of}
+use Rattle.flow_gate.specs.Board.{count, is_known, is_marked, is_open, pending_on, times, watched_by, watchers_of}
 use Rattle.flow_gate.specs.Books.{Books}
-use Rattle.flow_gate.specs.Changes.{Begins, Closes, Drains, IsEmpty, Knows, Rises, Same, Tells, Watches}
+use Rattle.flow_gate.specs.Changes.{Begins, Closes, Drains, IsEmpty, Knows, Rises, Same, Tells}
 use Rattle.flow_gate.specs.Ids.{same_buffer, same_flow}
 use Rattle.flow_gate.specs.Line.{Line, Places}
 use Rattle.flow_gate.specs.Parts.{Buffers, Flows, board_of, buffer_at, flow_at, raised, watched_in}
 use Rattle.flow_gate.specs.declared.ids.BufferId.{BufferId}
 use Rattle.flow_gate.specs.declared.ids.FlowId.{FlowId}
-use Rattle.flow_gate.specs.declared.watcher.Watch.{Watch}
 use Rattle.std.proofs.Common.{ap, arith, inl, inr, refl, sym, ◌∙◌}
 use Rattle.std.proofs.lemmas.Bool.{cases_Bool}
 use Rattle.std.proofs.lemmas.List.{append-nil}
 use Rattle.std.specs.Map.{values_of}
-use Rattle.std.specs.Option.{option_map, option_map_or}
-use Rattle.std.specs.Prelude.{Bool, List, None, Option, Some, [], cond, drop, false, if◌then◌else◌, is_some, map, not, option_to_list, true, ℕ, ◌&&◌, ◌++◌, ◌+◌, ◌-◌, ◌<◌, ◌||◌, ◌∷◌, ◌≡◌, ◌⊎◌}
+use Rattle.std.specs.Option.{option_map}
+use Rattle.std.specs.Prelude.{Bool, List, None, Option, Some, [], cond, false, if◌then◌else◌, is_some, not, true, ℕ, ◌&&◌, ◌++◌, ◌+◌, ◌-◌, ◌<◌, ◌||◌, ◌∷◌, ◌≡◌, ◌⊎◌}
 
 -- the new books are the old ones, but for those of one flow
 abbrev pub FlowWrites : FlowId → Option Books → Flows → Flows → Type 0
@@ -29,18 +27,18 @@ BufferWrites b w old new = (c : BufferId) → buffer_at new c ≡ cond (same_buf
 -- ---- what is written and reads the same changes nothing
 module _ {Y : Type 0} where
   pub kept_flow : (read : Option Books → Y) (f : FlowId) (w : Option Books) (old new : Flows) → FlowWrites f w old new →
-    read w ≡ read (flow_at old f) → (g : FlowId) → read (flow_at new g) ≡ read (flow_at old g)
+      read w ≡ read (flow_at old f) → (g : FlowId) → read (flow_at new g) ≡ read (flow_at old g)
   kept_flow read f w old new writes same g = ap read (writes g) ∙ elim (cases_Bool (same_flow f g)) [
-      inl here ↦ ap (λ b. read (cond b w (flow_at old g))) here ∙ same ∙ ap (λ h. read (flow_at old h)) (same_flow_exact f g here)
-      | inr other ↦ ap (λ b. read (cond b w (flow_at old g))) other
-    ]
+    | inl here ↦ ap (λ b. read (cond b w (flow_at old g))) here ∙ same ∙ ap (λ h. read (flow_at old h)) (same_flow_exact f g here)
+    | inr other ↦ ap (λ b. read (cond b w (flow_at old g))) other
+  ]
 
   pub kept_buffer : (read : Option Line → Y) (b : BufferId) (w : Option Line) (old new : Buffers) → BufferWrites b w old new →
-    read w ≡ read (buffer_at old b) → (c : BufferId) → read (buffer_at new c) ≡ read (buffer_at old c)
+      read w ≡ read (buffer_at old b) → (c : BufferId) → read (buffer_at new c) ≡ read (buffer_at old c)
   kept_buffer read b w old new writes same c = ap read (writes c) ∙ elim (cases_Bool (same_buffer b c)) [
-      inl here ↦ ap (λ t. read (cond t w (buffer_at old c))) here ∙ same ∙ ap (λ d. read (buffer_at old d)) (same_buffer_exact b c here)
-      | inr other ↦ ap (λ t. read (cond t w (buffer_at old c))) other
-    ]
+    | inl here ↦ ap (λ t. read (cond t w (buffer_at old c))) here ∙ same ∙ ap (λ d. read (buffer_at old d)) (same_buffer_exact b c here)
+    | inr other ↦ ap (λ t. read (cond t w (buffer_at old c))) other
+  ]
 
 -- ---- what is seen of flows and of buffers, by their look-ups
 module _ (flows flows' : Flows) (buffers buffers' : Buffers) where
@@ -79,11 +77,11 @@ empty_board = record {
 
 -- ---- a flow begins, a buffer is known, a buffer is closed
 pub begins : (f : FlowId) (books : Books) (flows flows' : Flows) (buffers : Buffers) → flow_at flows f ≡ None → books.count ≡ 0 → books.watches ≡ [] →
-  FlowWrites f (Some books) flows flows' → Begins f (board_of flows buffers) (board_of flows' buffers)
+    FlowWrites f (Some books) flows flows' → Begins f (board_of flows buffers) (board_of flows' buffers)
 begins f books flows flows' buffers none zero empty writes = record {
   flows = λ g. is_open-board flows' buffers g ∙ ap is_some (writes g)
-    ∙ elim (same_flow f g) as (λ t. is_some (cond t (Some books) (flow_at flows g)) ≡ (t || is_some (flow_at flows g))) [ true ↦ refl | false ↦ refl ]
-    ∙ ap (λ t. same_flow f g || t) (sym (is_open-board flows buffers g));
+      ∙ elim (same_flow f g) as (λ t. is_some (cond t (Some books) (flow_at flows g)) ≡ (t || is_some (flow_at flows g))) [ true ↦ refl | false ↦ refl ]
+      ∙ ap (λ t. same_flow f g || t) (sym (is_open-board flows buffers g));
   counts = same_count flows flows' buffers buffers (kept_flow count_in f (Some books) flows flows' writes (zero ∙ sym (ap count_in none)));
   watched = same_watched flows flows' buffers buffers (kept_flow watched_at f (Some books) flows flows' writes (ap watched_in empty ∙ sym (ap watched_at none)));
   buffers = same_known flows flows' buffers buffers (λ b. refl);
@@ -93,14 +91,14 @@ begins f books flows flows' buffers none zero empty writes = record {
 }
 
 pub knows : (b : BufferId) (flows : Flows) (buffers buffers' : Buffers) → buffer_at buffers b ≡ None →
-  BufferWrites b (Some (record { above = false; watchers = []; pending = [] })) buffers buffers' → Knows b (board_of flows buffers) (board_of flows buffers')
+    BufferWrites b (Some (record { above = false; watchers = []; pending = [] })) buffers buffers' → Knows b (board_of flows buffers) (board_of flows buffers')
 knows b flows buffers buffers' none writes = record {
   flows = same_open flows flows buffers buffers' (λ f. refl);
   counts = same_count flows flows buffers buffers' (λ f. refl);
   watched = same_watched flows flows buffers buffers' (λ f. refl);
   buffers = λ c. is_known-board flows buffers' c ∙ ap is_some (writes c)
-    ∙ elim (same_buffer b c) as (λ t. is_some (cond t (Some fresh) (buffer_at buffers c)) ≡ (t || is_some (buffer_at buffers c))) [ true ↦ refl | false ↦ refl ]
-    ∙ ap (λ t. same_buffer b c || t) (sym (is_known-board flows buffers c));
+      ∙ elim (same_buffer b c) as (λ t. is_some (cond t (Some fresh) (buffer_at buffers c)) ≡ (t || is_some (buffer_at buffers c))) [ true ↦ refl | false ↦ refl ]
+      ∙ ap (λ t. same_buffer b c || t) (sym (is_known-board flows buffers c));
   marks = same_marked flows flows buffers buffers' (kept_buffer above_in b (Some fresh) buffers buffers' writes (sym (ap above_in none)));
   watchers = same_watchers flows flows buffers buffers' (kept_buffer watchers_in b (Some fresh) buffers buffers' writes (sym (ap watchers_in none)));
   pending = same_pending flows flows buffers buffers' (kept_buffer pending_in b (Some fresh) buffers buffers' writes (sym (ap pending_in none)));
@@ -110,17 +108,17 @@ knows b flows buffers buffers' none writes = record {
     fresh = record { above = false; watchers = []; pending = [] }
 
 pub closes : (b : BufferId) (flows : Flows) (buffers buffers' : Buffers) → watchers_in (buffer_at buffers b) ≡ [] → pending_in (buffer_at buffers b) ≡ [] →
-  BufferWrites b None buffers buffers' → Closes b (board_of flows buffers) (board_of flows buffers')
+    BufferWrites b None buffers buffers' → Closes b (board_of flows buffers) (board_of flows buffers')
 closes b flows buffers buffers' none silent writes = record {
   flows = same_open flows flows buffers buffers' (λ f. refl);
   counts = same_count flows flows buffers buffers' (λ f. refl);
   watched = same_watched flows flows buffers buffers' (λ f. refl);
   buffers = λ c. is_known-board flows buffers' c ∙ ap is_some (writes c)
-    ∙ elim (same_buffer b c) as (λ t. is_some (cond t None (buffer_at buffers c)) ≡ (not t && is_some (buffer_at buffers c))) [ true ↦ refl | false ↦ refl ]
-    ∙ ap (λ t. not (same_buffer b c) && t) (sym (is_known-board flows buffers c));
+      ∙ elim (same_buffer b c) as (λ t. is_some (cond t None (buffer_at buffers c)) ≡ (not t && is_some (buffer_at buffers c))) [ true ↦ refl | false ↦ refl ]
+      ∙ ap (λ t. not (same_buffer b c) && t) (sym (is_known-board flows buffers c));
   marks = λ c. is_marked-board flows buffers' c ∙ ap above_in (writes c)
-    ∙ elim (same_buffer b c) as (λ t. above_in (cond t None (buffer_at buffers c)) ≡ (not t && above_in (buffer_at buffers c))) [ true ↦ refl | false ↦ refl ]
-    ∙ ap (λ t. not (same_buffer b c) && t) (sym (is_marked-board flows buffers c));
+      ∙ elim (same_buffer b c) as (λ t. above_in (cond t None (buffer_at buffers c)) ≡ (not t && above_in (buffer_at buffers c))) [ true ↦ refl | false ↦ refl ]
+      ∙ ap (λ t. not (same_buffer b c) && t) (sym (is_marked-board flows buffers c));
   watchers = same_watchers flows flows buffers buffers' (kept_buffer watchers_in b None buffers buffers' writes (sym none));
   pending = same_pending flows flows buffers buffers' (kept_buffer pending_in b None buffers buffers' writes (sym silent));
 }
@@ -131,21 +129,21 @@ raised-count n None none = let zero : n ≡ 0 = none refl in omega (arith, zero)
 raised-count n (Some books) none = refl
 
 pub rises : (b : BufferId) (line : Line) (flows flows' : Flows) (buffers buffers' : Buffers) → buffer_at buffers b ≡ Some line →
-  ((f : FlowId) → flow_at flows f ≡ None → times f (values_of line.watchers) ≡ 0) →
-  BufferWrites b (Some (record line { above = true })) buffers buffers' →
-  ((f : FlowId) → flow_at flows' f ≡ option_map (raised (times f (values_of line.watchers))) (flow_at flows f)) →
-  Rises b (board_of flows buffers) (board_of flows' buffers')
+    ((f : FlowId) → flow_at flows f ≡ None → times f (values_of line.watchers) ≡ 0) →
+    BufferWrites b (Some (record line { above = true })) buffers buffers' →
+    ((f : FlowId) → flow_at flows' f ≡ option_map (raised (times f (values_of line.watchers))) (flow_at flows f)) →
+    Rises b (board_of flows buffers) (board_of flows' buffers')
 rises b line flows flows' buffers buffers' is none writes raises = record {
   flows = same_open flows flows' buffers buffers' (λ f. ap is_some (raises f)
-    ∙ elim (flow_at flows f) as (λ o. is_some (option_map (raised (times f (values_of line.watchers))) o) ≡ is_some o) [ None ↦ refl | Some x ↦ refl ]);
+      ∙ elim (flow_at flows f) as (λ o. is_some (option_map (raised (times f (values_of line.watchers))) o) ≡ is_some o) [ None ↦ refl | Some x ↦ refl ]);
   counts = λ f. count-board flows' buffers' f ∙ ap count_in (raises f) ∙ raised-count (times f (values_of line.watchers)) (flow_at flows f) (none f)
-    ∙ (λ i. sym (count-board flows buffers f) i + times f (sym (watchers-board flows buffers b ∙ ap watchers_in is) i));
+      ∙ (λ i. sym (count-board flows buffers f) i + times f (sym (watchers-board flows buffers b ∙ ap watchers_in is) i));
   watched = same_watched flows flows' buffers buffers' (λ f. ap watched_at (raises f)
-    ∙ elim (flow_at flows f) as (λ o. watched_at (option_map (raised (times f (values_of line.watchers))) o) ≡ watched_at o) [ None ↦ refl | Some x ↦ refl ]);
+      ∙ elim (flow_at flows f) as (λ o. watched_at (option_map (raised (times f (values_of line.watchers))) o) ≡ watched_at o) [ None ↦ refl | Some x ↦ refl ]);
   buffers = same_known flows flows' buffers buffers' (kept_buffer is_some b (Some above) buffers buffers' writes (sym (ap is_some is)));
   marks = λ c. is_marked-board flows' buffers' c ∙ ap above_in (writes c)
-    ∙ elim (same_buffer b c) as (λ t. above_in (cond t (Some above) (buffer_at buffers c)) ≡ (t || above_in (buffer_at buffers c))) [ true ↦ refl | false ↦ refl ]
-    ∙ ap (λ t. same_buffer b c || t) (sym (is_marked-board flows buffers c));
+      ∙ elim (same_buffer b c) as (λ t. above_in (cond t (Some above) (buffer_at buffers c)) ≡ (t || above_in (buffer_at buffers c))) [ true ↦ refl | false ↦ refl ]
+      ∙ ap (λ t. same_buffer b c || t) (sym (is_marked-board flows buffers c));
   watchers = same_watchers flows flows' buffers buffers' (kept_buffer watchers_in b (Some above) buffers buffers' writes (sym (ap watchers_in is)));
   pending = same_pending flows flows' buffers buffers' (kept_buffer pending_in b (Some above) buffers buffers' writes (sym (ap pending_in is)));
 }
@@ -154,42 +152,42 @@ rises b line flows flows' buffers buffers' is none writes raises = record {
     above = record line { above = true }
 
 pub drains : (b : BufferId) (line : Line) (flows : Flows) (buffers buffers' : Buffers) → buffer_at buffers b ≡ Some line → values_of line.pending ≡ [] →
-  BufferWrites b (Some (record { above = false; watchers = line.watchers; pending = line.watchers })) buffers buffers' →
-  Drains b (board_of flows buffers) (board_of flows buffers')
+    BufferWrites b (Some (record { above = false; watchers = line.watchers; pending = line.watchers })) buffers buffers' →
+    Drains b (board_of flows buffers) (board_of flows buffers')
 drains b line flows buffers buffers' is told writes = record {
   flows = same_open flows flows buffers buffers' (λ f. refl);
   counts = same_count flows flows buffers buffers' (λ f. refl);
   watched = same_watched flows flows buffers buffers' (λ f. refl);
   buffers = same_known flows flows buffers buffers' (kept_buffer is_some b (Some low) buffers buffers' writes (sym (ap is_some is)));
   marks = λ c. is_marked-board flows buffers' c ∙ ap above_in (writes c)
-    ∙ elim (same_buffer b c) as (λ t. above_in (cond t (Some low) (buffer_at buffers c)) ≡ (not t && above_in (buffer_at buffers c))) [ true ↦ refl | false ↦ refl ]
-    ∙ ap (λ t. not (same_buffer b c) && t) (sym (is_marked-board flows buffers c));
+      ∙ elim (same_buffer b c) as (λ t. above_in (cond t (Some low) (buffer_at buffers c)) ≡ (not t && above_in (buffer_at buffers c))) [ true ↦ refl | false ↦ refl ]
+      ∙ ap (λ t. not (same_buffer b c) && t) (sym (is_marked-board flows buffers c));
   watchers = same_watchers flows flows buffers buffers' (kept_buffer watchers_in b (Some low) buffers buffers' writes (sym (ap watchers_in is)));
   pending = λ c. pending-board flows buffers' c ∙ ap pending_in (writes c) ∙ added c (cases_Bool (same_buffer b c))
-    ∙ (λ i. sym (pending-board flows buffers c) i ++ (if same_buffer b c then sym (watchers-board flows buffers b ∙ ap watchers_in is) i else []));
+      ∙ (λ i. sym (pending-board flows buffers c) i ++ (if same_buffer b c then sym (watchers-board flows buffers b ∙ ap watchers_in is) i else []));
 }
   where
     low : Line
     low = record { above = false; watchers = line.watchers; pending = line.watchers }
 
     added : (c : BufferId) → (same_buffer b c ≡ true) ⊎ (same_buffer b c ≡ false) →
-      pending_in (cond (same_buffer b c) (Some low) (buffer_at buffers c)) ≡ pending_in (buffer_at buffers c) ++ (if same_buffer b c then values_of line.watchers else [])
+        pending_in (cond (same_buffer b c) (Some low) (buffer_at buffers c)) ≡ pending_in (buffer_at buffers c) ++ (if same_buffer b c then values_of line.watchers else [])
     added c (inl here) =
-      let none : pending_in (buffer_at buffers c) ≡ [] = ap (λ d. pending_in (buffer_at buffers d)) (sym (same_buffer_exact b c here)) ∙ ap pending_in is ∙ told in
-      ap (λ t. pending_in (cond t (Some low) (buffer_at buffers c))) here
-      ∙ sym (λ i. none i ++ (if here i then values_of line.watchers else []))
+        let none : pending_in (buffer_at buffers c) ≡ [] = ap (λ d. pending_in (buffer_at buffers d)) (sym (same_buffer_exact b c here)) ∙ ap pending_in is ∙ told in
+        ap (λ t. pending_in (cond t (Some low) (buffer_at buffers c))) here
+        ∙ sym (λ i. none i ++ (if here i then values_of line.watchers else []))
     added c (inr other) =
-      ap (λ t. pending_in (cond t (Some low) (buffer_at buffers c))) other
-      ∙ sym (append-nil (pending_in (buffer_at buffers c))) ∙ ap (λ t. pending_in (buffer_at buffers c) ++ (if t then values_of line.watchers else [])) (sym other)
+        ap (λ t. pending_in (cond t (Some low) (buffer_at buffers c))) other
+        ∙ sym (append-nil (pending_in (buffer_at buffers c))) ∙ ap (λ t. pending_in (buffer_at buffers c) ++ (if t then values_of line.watchers else [])) (sym other)
 
 -- the line with these lows pending
 abbrev pub with_pending : Line → Places → Line
 with_pending line pending = record { above = line.above; watchers = line.watchers; pending = pending }
 
 pub tells : (b : BufferId) (line : Line) (place : ℕ) (f : FlowId) (rest : Places) (books : Books) (flows flows' : Flows) (buffers buffers' : Buffers) →
-  buffer_at buffers b ≡ Some line → line.pending ≡ (place, f) ∷ rest → BufferWrites b (Some (with_pending line rest)) buffers buffers' →
-  flow_at flows f ≡ Some books → 0 < books.count → FlowWrites f (Some (record books { count = books.count - 1 })) flows flows' →
-  Tells b (f ∷ []) (board_of flows buffers) (board_of flows' buffers')
+    buffer_at buffers b ≡ Some line → line.pending ≡ (place, f) ∷ rest → BufferWrites b (Some (with_pending line rest)) buffers buffers' →
+    flow_at flows f ≡ Some books → 0 < books.count → FlowWrites f (Some (record books { count = books.count - 1 })) flows flows' →
+    Tells b (f ∷ []) (board_of flows buffers) (board_of flows' buffers')
 tells b line place f rest books flows flows' buffers buffers' is first writes there some lowers = record {
   flows = same_open flows flows' buffers buffers' (kept_flow is_some f (Some lower) flows flows' lowers (sym (ap is_some there)));
   counts = λ g. (λ i. (count-board flows' buffers' g ∙ ap count_in (lowers g)) i + times g (f ∷ [])) ∙ less g (cases_Bool (same_flow f g)) ∙ sym (count-board flows buffers g);
@@ -198,7 +196,7 @@ tells b line place f rest books flows flows' buffers buffers' is first writes th
   marks = same_marked flows flows' buffers buffers' (kept_buffer above_in b (Some shorter) buffers buffers' writes (sym (ap above_in is)));
   watchers = same_watchers flows flows' buffers buffers' (kept_buffer watchers_in b (Some shorter) buffers buffers' writes (sym (ap watchers_in is)));
   pending = λ c. pending-board flows buffers c ∙ taken c (cases_Bool (same_buffer b c))
-    ∙ (λ i. (if same_buffer b c then f ∷ [] else []) ++ sym (pending-board flows' buffers' c ∙ ap pending_in (writes c)) i);
+      ∙ (λ i. (if same_buffer b c then f ∷ [] else []) ++ sym (pending-board flows' buffers' c ∙ ap pending_in (writes c)) i);
 }
   where
     lower : Books
@@ -209,25 +207,25 @@ tells b line place f rest books flows flows' buffers buffers' is first writes th
 
     less : (g : FlowId) → (same_flow f g ≡ true) ⊎ (same_flow f g ≡ false) → count_in (cond (same_flow f g) (Some lower) (flow_at flows g)) + times g (f ∷ []) ≡ count_in (flow_at flows g)
     less g (inl here) =
-      let old : count_in (flow_at flows g) ≡ books.count = ap (λ h. count_in (flow_at flows h)) (sym (same_flow_exact f g here)) ∙ ap count_in there in
-      let new : count_in (cond (same_flow f g) (Some lower) (flow_at flows g)) ≡ books.count - 1 = ap (λ t. count_in (cond t (Some lower) (flow_at flows g))) here in
-      let one : times g (f ∷ []) ≡ 1 = ap {B = ℕ} (λ t. 0 + cond t 1 0) (same_flow-comm g f ∙ here) in
-      omega (arith, old, new, one, some)
+        let old : count_in (flow_at flows g) ≡ books.count = ap (λ h. count_in (flow_at flows h)) (sym (same_flow_exact f g here)) ∙ ap count_in there in
+        let new : count_in (cond (same_flow f g) (Some lower) (flow_at flows g)) ≡ books.count - 1 = ap (λ t. count_in (cond t (Some lower) (flow_at flows g))) here in
+        let one : times g (f ∷ []) ≡ 1 = ap {B = ℕ} (λ t. 0 + cond t 1 0) (same_flow-comm g f ∙ here) in
+        omega (arith, old, new, one, some)
     less g (inr other) =
-      let new : count_in (cond (same_flow f g) (Some lower) (flow_at flows g)) ≡ count_in (flow_at flows g) = ap (λ t. count_in (cond t (Some lower) (flow_at flows g))) other in
-      let none : times g (f ∷ []) ≡ 0 = ap {B = ℕ} (λ t. 0 + cond t 1 0) (same_flow-comm g f ∙ other) in
-      omega (arith, new, none)
+        let new : count_in (cond (same_flow f g) (Some lower) (flow_at flows g)) ≡ count_in (flow_at flows g) = ap (λ t. count_in (cond t (Some lower) (flow_at flows g))) other in
+        let none : times g (f ∷ []) ≡ 0 = ap {B = ℕ} (λ t. 0 + cond t 1 0) (same_flow-comm g f ∙ other) in
+        omega (arith, new, none)
 
     taken : (c : BufferId) → (same_buffer b c ≡ true) ⊎ (same_buffer b c ≡ false) →
-      pending_in (buffer_at buffers c) ≡ (if same_buffer b c then f ∷ [] else []) ++ pending_in (cond (same_buffer b c) (Some shorter) (buffer_at buffers c))
+        pending_in (buffer_at buffers c) ≡ (if same_buffer b c then f ∷ [] else []) ++ pending_in (cond (same_buffer b c) (Some shorter) (buffer_at buffers c))
     taken c (inl here) =
-      ap (λ d. pending_in (buffer_at buffers d)) (sym (same_buffer_exact b c here)) ∙ ap pending_in is ∙ ap values_of first
-      ∙ sym (λ i. (if here i then f ∷ [] else []) ++ pending_in (cond (here i) (Some shorter) (buffer_at buffers c)))
+        ap (λ d. pending_in (buffer_at buffers d)) (sym (same_buffer_exact b c here)) ∙ ap pending_in is ∙ ap values_of first
+        ∙ sym (λ i. (if here i then f ∷ [] else []) ++ pending_in (cond (here i) (Some shorter) (buffer_at buffers c)))
     taken c (inr other) = sym (λ i. (if other i then f ∷ [] else []) ++ pending_in (cond (other i) (Some shorter) (buffer_at buffers c)))
 
 -- the board is seen as before
 pub none_told : (b : BufferId) (line : Line) (flows : Flows) (buffers buffers' : Buffers) → buffer_at buffers b ≡ Some line →
-  BufferWrites b (Some line) buffers buffers' → Tells b [] (board_of flows buffers) (board_of flows buffers')
+    BufferWrites b (Some line) buffers buffers' → Tells b [] (board_of flows buffers) (board_of flows buffers')
 none_told b line flows buffers buffers' is writes = record {
   flows = same_open flows flows buffers buffers' (λ f. refl);
   counts = λ f. omega (arith, same_count flows flows buffers buffers' (λ g. refl) f);
@@ -236,7 +234,7 @@ none_told b line flows buffers buffers' is writes = record {
   marks = same_marked flows flows buffers buffers' (kept_buffer above_in b (Some line) buffers buffers' writes (sym (ap above_in is)));
   watchers = same_watchers flows flows buffers buffers' (kept_buffer watchers_in b (Some line) buffers buffers' writes (sym (ap watchers_in is)));
   pending = λ c. sym (same_pending flows flows buffers buffers' (kept_buffer pending_in b (Some line) buffers buffers' writes (sym (ap pending_in is))) c)
-    ∙ sym (ap (λ xs. xs ++ pending_on (board_of flows buffers') c) (nothing (same_buffer b c)));
+      ∙ sym (ap (λ xs. xs ++ pending_on (board_of flows buffers') c) (nothing (same_buffer b c)));
 }
   where
     nothing : (t : Bool) → ◌≡◌ {A = List FlowId} (if t then [] else []) []

@@ -4,7 +4,7 @@ use Rattle.flow_gate.proofs.Reading.{above_in, count-board, count_in, is_known-b
 use Rattle.flow_gate.proofs.SameIds.{same_buffer_exact, same_flow-refl, same_flow_exact}
 use Rattle.flow_gate.proofs.Sound.{times-without}
 use Rattle.flow_gate.proofs.Steps.{BufferWrites, FlowWrites, kept_buffer, kept_flow, same_known, same_marked, same_open, same_pending}
-use Rattle.flow_gate.specs.Board.{is_known, is_marked, times, watchers_of}
+use Rattle.flow_gate.specs.Board.{is_known, is_marked, times}
 use Rattle.flow_gate.specs.Books.{Books}
 use Rattle.flow_gate.specs.Changes.{Forgets, Watches, goes_with, without}
 use Rattle.flow_gate.specs.Ids.{is_own, same_buffer, same_flow}
@@ -13,12 +13,12 @@ use Rattle.flow_gate.specs.Parts.{Buffers, Flows, board_of, buffer_at, flow_at, 
 use Rattle.flow_gate.specs.declared.ids.BufferId.{BufferId}
 use Rattle.flow_gate.specs.declared.ids.FlowId.{FlowId}
 use Rattle.flow_gate.specs.declared.watcher.Watch.{Watch}
-use Rattle.std.proofs.Common.{ap, arith, inl, inr, refl, subst, sym, ◌∙◌}
+use Rattle.std.proofs.Common.{ap, arith, inl, inr, refl, sym, ◌∙◌}
 use Rattle.std.proofs.lemmas.Bool.{and_parts, cases_Bool, eqb-true}
 use Rattle.std.proofs.lemmas.List.{append-nil}
 use Rattle.std.specs.Map.{values_of}
-use Rattle.std.specs.Option.{option_map, option_map_or}
-use Rattle.std.specs.Prelude.{Bool, List, None, Option, Some, [], cond, count_by, false, filter, if◌then◌else◌, is_some, length, map, not, true, ℕ, ◌&&◌, ◌++◌, ◌+◌, ◌<◌, ◌==◌, ◌||◌, ◌∷◌, ◌≡◌, ◌≤◌, ◌⊎◌}
+use Rattle.std.specs.Option.{option_map}
+use Rattle.std.specs.Prelude.{Bool, List, None, Option, Some, [], cond, false, filter, if◌then◌else◌, is_some, length, map, not, true, ℕ, ◌&&◌, ◌++◌, ◌+◌, ◌<◌, ◌==◌, ◌∷◌, ◌≡◌, ◌≤◌, ◌⊎◌}
 
 map_push : {A B : Type 0} (f : A → B) (xs : List A) (x : A) → map f (xs ++ x ∷ []) ≡ map f xs ++ f x ∷ []
 map_push f [] x = refl
@@ -26,20 +26,20 @@ map_push f (y ∷ ys) x = ap (λ zs. f y ∷ zs) (map_push f ys x)
 
 -- ---- a flow begins to watch
 pub watches : (f : FlowId) (b : BufferId) (place : ℕ) (books books' : Books) (line : Line) (flows flows' : Flows) (buffers buffers' : Buffers) →
-  flow_at flows f ≡ Some books → buffer_at buffers b ≡ Some line →
-  books'.count ≡ books.count + (if line.above then 1 else 0) → books'.watches ≡ books.watches ++ (record { buffer = b; place = place }) ∷ [] →
-  FlowWrites f (Some books') flows flows' → BufferWrites b (Some (record line { watchers = line.watchers ++ (place, f) ∷ [] })) buffers buffers' →
-  Watches f b (board_of flows buffers) (board_of flows' buffers')
+    flow_at flows f ≡ Some books → buffer_at buffers b ≡ Some line →
+    books'.count ≡ books.count + (if line.above then 1 else 0) → books'.watches ≡ books.watches ++ (record { buffer = b; place = place }) ∷ [] →
+    FlowWrites f (Some books') flows flows' → BufferWrites b (Some (record line { watchers = line.watchers ++ (place, f) ∷ [] })) buffers buffers' →
+    Watches f b (board_of flows buffers) (board_of flows' buffers')
 watches f b place books books' line flows flows' buffers buffers' there is counts lists writes joins = record {
   flows = same_open flows flows' buffers buffers' (kept_flow is_some f (Some books') flows flows' writes (sym (ap is_some there)));
   counts = λ g. count-board flows' buffers' g ∙ ap count_in (writes g) ∙ more g (cases_Bool (same_flow f g))
-    ∙ (λ i. sym (count-board flows buffers g) i + (if same_flow f g && sym (is_marked-board flows buffers b ∙ ap above_in is) i then 1 else 0));
+      ∙ (λ i. sym (count-board flows buffers g) i + (if same_flow f g && sym (is_marked-board flows buffers b ∙ ap above_in is) i then 1 else 0));
   watched = λ g. watched-board flows' buffers' g ∙ ap watched_at (writes g) ∙ further g (cases_Bool (same_flow f g))
-    ∙ ap (λ xs. xs ++ (if same_flow f g then b ∷ [] else [])) (sym (watched-board flows buffers g));
+      ∙ ap (λ xs. xs ++ (if same_flow f g then b ∷ [] else [])) (sym (watched-board flows buffers g));
   buffers = same_known flows flows' buffers buffers' (kept_buffer is_some b (Some longer) buffers buffers' joins (sym (ap is_some is)));
   marks = same_marked flows flows' buffers buffers' (kept_buffer above_in b (Some longer) buffers buffers' joins (sym (ap above_in is)));
   watchers = λ c. watchers-board flows' buffers' c ∙ ap watchers_in (joins c) ∙ last c (cases_Bool (same_buffer b c))
-    ∙ ap (λ xs. xs ++ (if same_buffer b c then f ∷ [] else [])) (sym (watchers-board flows buffers c));
+      ∙ ap (λ xs. xs ++ (if same_buffer b c then f ∷ [] else [])) (sym (watchers-board flows buffers c));
   pending = same_pending flows flows' buffers buffers' (kept_buffer pending_in b (Some longer) buffers buffers' joins (sym (ap pending_in is)));
 }
   where
@@ -47,41 +47,41 @@ watches f b place books books' line flows flows' buffers buffers' there is count
     longer = record line { watchers = line.watchers ++ (place, f) ∷ [] }
 
     more : (g : FlowId) → (same_flow f g ≡ true) ⊎ (same_flow f g ≡ false) →
-      count_in (cond (same_flow f g) (Some books') (flow_at flows g)) ≡ count_in (flow_at flows g) + (if same_flow f g && line.above then 1 else 0)
+        count_in (cond (same_flow f g) (Some books') (flow_at flows g)) ≡ count_in (flow_at flows g) + (if same_flow f g && line.above then 1 else 0)
     more g (inl here) =
-      let old : count_in (flow_at flows g) ≡ books.count = ap (λ h. count_in (flow_at flows h)) (sym (same_flow_exact f g here)) ∙ ap count_in there in
-      ap (λ t. count_in (cond t (Some books') (flow_at flows g))) here ∙ counts
-      ∙ sym (λ i. old i + (if here i && line.above then 1 else 0))
+        let old : count_in (flow_at flows g) ≡ books.count = ap (λ h. count_in (flow_at flows h)) (sym (same_flow_exact f g here)) ∙ ap count_in there in
+        ap (λ t. count_in (cond t (Some books') (flow_at flows g))) here ∙ counts
+        ∙ sym (λ i. old i + (if here i && line.above then 1 else 0))
     more g (inr other) =
-      let none : (if same_flow f g && line.above then 1 else 0) ≡ 0 = ap {B = ℕ} (λ t. if t && line.above then 1 else 0) other in
-      let same : count_in (cond (same_flow f g) (Some books') (flow_at flows g)) ≡ count_in (flow_at flows g) = ap (λ t. count_in (cond t (Some books') (flow_at flows g))) other in
-      omega (arith, none, same)
+        let none : (if same_flow f g && line.above then 1 else 0) ≡ 0 = ap {B = ℕ} (λ t. if t && line.above then 1 else 0) other in
+        let same : count_in (cond (same_flow f g) (Some books') (flow_at flows g)) ≡ count_in (flow_at flows g) = ap (λ t. count_in (cond t (Some books') (flow_at flows g))) other in
+        omega (arith, none, same)
 
     further : (g : FlowId) → (same_flow f g ≡ true) ⊎ (same_flow f g ≡ false) →
-      watched_at (cond (same_flow f g) (Some books') (flow_at flows g)) ≡ watched_at (flow_at flows g) ++ (if same_flow f g then b ∷ [] else [])
+        watched_at (cond (same_flow f g) (Some books') (flow_at flows g)) ≡ watched_at (flow_at flows g) ++ (if same_flow f g then b ∷ [] else [])
     further g (inl here) =
-      let old : watched_at (flow_at flows g) ≡ watched_in books.watches = ap (λ h. watched_at (flow_at flows h)) (sym (same_flow_exact f g here)) ∙ ap watched_at there in
-      ap (λ t. watched_at (cond t (Some books') (flow_at flows g))) here ∙ ap watched_in lists ∙ map_push (λ (w : Watch). w.buffer) books.watches (record { buffer = b; place = place })
-      ∙ sym (λ i. old i ++ (if here i then b ∷ [] else []))
+        let old : watched_at (flow_at flows g) ≡ watched_in books.watches = ap (λ h. watched_at (flow_at flows h)) (sym (same_flow_exact f g here)) ∙ ap watched_at there in
+        ap (λ t. watched_at (cond t (Some books') (flow_at flows g))) here ∙ ap watched_in lists ∙ map_push (λ (w : Watch). w.buffer) books.watches (record { buffer = b; place = place })
+        ∙ sym (λ i. old i ++ (if here i then b ∷ [] else []))
     further g (inr other) =
-      ap (λ t. watched_at (cond t (Some books') (flow_at flows g))) other ∙ sym (append-nil (watched_at (flow_at flows g)))
-      ∙ ap (λ t. watched_at (flow_at flows g) ++ (if t then b ∷ [] else [])) (sym other)
+        ap (λ t. watched_at (cond t (Some books') (flow_at flows g))) other ∙ sym (append-nil (watched_at (flow_at flows g)))
+        ∙ ap (λ t. watched_at (flow_at flows g) ++ (if t then b ∷ [] else [])) (sym other)
 
     last : (c : BufferId) → (same_buffer b c ≡ true) ⊎ (same_buffer b c ≡ false) →
-      watchers_in (cond (same_buffer b c) (Some longer) (buffer_at buffers c)) ≡ watchers_in (buffer_at buffers c) ++ (if same_buffer b c then f ∷ [] else [])
+        watchers_in (cond (same_buffer b c) (Some longer) (buffer_at buffers c)) ≡ watchers_in (buffer_at buffers c) ++ (if same_buffer b c then f ∷ [] else [])
     last c (inl here) =
-      let old : watchers_in (buffer_at buffers c) ≡ values_of line.watchers = ap (λ d. watchers_in (buffer_at buffers d)) (sym (same_buffer_exact b c here)) ∙ ap watchers_in is in
-      ap (λ t. watchers_in (cond t (Some longer) (buffer_at buffers c))) here ∙ map_push (λ (e : ℕ × FlowId). e.1) line.watchers (place, f)
-      ∙ sym (λ i. old i ++ (if here i then f ∷ [] else []))
+        let old : watchers_in (buffer_at buffers c) ≡ values_of line.watchers = ap (λ d. watchers_in (buffer_at buffers d)) (sym (same_buffer_exact b c here)) ∙ ap watchers_in is in
+        ap (λ t. watchers_in (cond t (Some longer) (buffer_at buffers c))) here ∙ map_push (λ (e : ℕ × FlowId). e.1) line.watchers (place, f)
+        ∙ sym (λ i. old i ++ (if here i then f ∷ [] else []))
     last c (inr other) =
-      ap (λ t. watchers_in (cond t (Some longer) (buffer_at buffers c))) other ∙ sym (append-nil (watchers_in (buffer_at buffers c)))
-      ∙ ap (λ t. watchers_in (buffer_at buffers c) ++ (if t then f ∷ [] else [])) (sym other)
+        ap (λ t. watchers_in (cond t (Some longer) (buffer_at buffers c))) other ∙ sym (append-nil (watchers_in (buffer_at buffers c)))
+        ∙ ap (λ t. watchers_in (buffer_at buffers c) ++ (if t then f ∷ [] else [])) (sym other)
 
 -- ---- a flow is forgotten
 -- its own buffer, where nobody is left in its line, goes; any other loses the flow
 abbrev pub ForgetWrites : FlowId → Buffers → Buffers → Type 0
 ForgetWrites f old new = (c : BufferId) →
-  buffer_at new c ≡ cond (is_own f c) (kept (option_map (left f) (buffer_at old c))) (option_map (left f) (buffer_at old c))
+    buffer_at new c ≡ cond (is_own f c) (kept (option_map (left f) (buffer_at old c))) (option_map (left f) (buffer_at old c))
 
 -- what is left of a line
 abbrev pub forgotten : FlowId → Bool → Option Line → Option Line
@@ -94,9 +94,9 @@ goes f own o = own && (length (without f (watchers_in o)) == 0)
 pub values-without : (f : FlowId) (xs : Places) → values_of (filter (λ e. not (same_flow f e.1)) xs) ≡ without f (values_of xs)
 values-without f [] = refl
 values-without f (e ∷ xs) = elim (same_flow f e.1) as (λ t. values_of (cond (not t) (e ∷ filter (λ d. not (same_flow f d.1)) xs) (filter (λ d. not (same_flow f d.1)) xs)) ≡ cond (not t) (e.1 ∷ without f (values_of xs)) (without f (values_of xs))) [
-    true ↦ values-without f xs
-    | false ↦ ap (λ ys. e.1 ∷ ys) (values-without f xs)
-  ]
+  | true ↦ values-without f xs
+  | false ↦ ap (λ ys. e.1 ∷ ys) (values-without f xs)
+]
 
 length_of_values : (xs : Places) → length (values_of xs) ≡ length xs
 length_of_values [] = refl
@@ -112,7 +112,7 @@ no_length (x ∷ xs) e = absurd (let none : length (x ∷ xs) ≡ 0 = eqb-true (
 -- reads of what is left, which an empty line reads by default
 module _ {Y : Type 0} where
   read_forgotten : (f : FlowId) (read : Option Line → Y) (own : Bool) (o : Option Line) →
-    read (forgotten f own o) ≡ (if goes f own o then read None else read (option_map (left f) o))
+      read (forgotten f own o) ≡ (if goes f own o then read None else read (option_map (left f) o))
   read_forgotten f read own None = elim own as (λ t. read (cond t None None) ≡ (if t && (length (without f []) == 0) then read None else read None)) [ true ↦ refl | false ↦ refl ]
   read_forgotten f read false (Some line) = refl
   read_forgotten f read true (Some line) =
@@ -142,10 +142,10 @@ none_among f xs ys among none = each (without f xs) refl
     each : (zs : List FlowId) → without f xs ≡ zs → [] ≡ zs
     each [] is = refl
     each (z ∷ zs) is =
-      let here : times z (without f xs) ≡ times z (z ∷ zs) = ap (times z) is in
-      let one : ◌≡◌ {A = ℕ} (cond (same_flow z z) 1 0) 1 = ap {B = ℕ} (λ t. cond t 1 0) (same_flow-refl z) in
-      let gone : times z (without f ys) ≡ 0 = ap (times z) (sym (no_length (without f ys) none)) in
-      absurd (within (same_flow f z) (times z xs) (times z ys) (among z)
+        let here : times z (without f xs) ≡ times z (z ∷ zs) = ap (times z) is in
+        let one : ◌≡◌ {A = ℕ} (cond (same_flow z z) 1 0) 1 = ap {B = ℕ} (λ t. cond t 1 0) (same_flow-refl z) in
+        let gone : times z (without f ys) ≡ 0 = ap (times z) (sym (no_length (without f ys) none)) in
+        absurd (within (same_flow f z) (times z xs) (times z ys) (among z)
         (omega (arith, here, one, count-cons (same_flow z) z zs, times-without f z xs)) (omega (arith, gone, times-without f z ys)))
       where
         within : (t : Bool) (m n : ℕ) → m ≤ n → 0 < (if t then 0 else m) → (if t then 0 else n) ≡ 0 → ⊥
@@ -153,33 +153,33 @@ none_among f xs ys among none = each (without f xs) refl
         within false m n le some zero = omega (arith, le, some, zero)
 
 pub forgets : (f : FlowId) (flows flows' : Flows) (buffers buffers' : Buffers) →
-  ((g : FlowId) (c : BufferId) → times g (pending_in (buffer_at buffers c)) ≤ times g (watchers_in (buffer_at buffers c))) →
-  FlowWrites f None flows flows' → ForgetWrites f buffers buffers' →
-  Forgets f (board_of flows buffers) (board_of flows' buffers')
+    ((g : FlowId) (c : BufferId) → times g (pending_in (buffer_at buffers c)) ≤ times g (watchers_in (buffer_at buffers c))) →
+    FlowWrites f None flows flows' → ForgetWrites f buffers buffers' →
+    Forgets f (board_of flows buffers) (board_of flows' buffers')
 forgets f flows flows' buffers buffers' among writes leaves = record {
   flows = λ g. is_open-board flows' buffers' g ∙ ap is_some (writes g)
-    ∙ elim (same_flow f g) as (λ t. is_some (cond t None (flow_at flows g)) ≡ (not t && is_some (flow_at flows g))) [ true ↦ refl | false ↦ refl ]
-    ∙ ap (λ t. not (same_flow f g) && t) (sym (is_open-board flows buffers g));
+      ∙ elim (same_flow f g) as (λ t. is_some (cond t None (flow_at flows g)) ≡ (not t && is_some (flow_at flows g))) [ true ↦ refl | false ↦ refl ]
+      ∙ ap (λ t. not (same_flow f g) && t) (sym (is_open-board flows buffers g));
   counts = λ g. count-board flows' buffers' g ∙ ap count_in (writes g)
-    ∙ elim (same_flow f g) as (λ t. count_in (cond t None (flow_at flows g)) ≡ (if t then 0 else count_in (flow_at flows g))) [ true ↦ refl | false ↦ refl ]
-    ∙ ap (λ n. if same_flow f g then 0 else n) (sym (count-board flows buffers g));
+      ∙ elim (same_flow f g) as (λ t. count_in (cond t None (flow_at flows g)) ≡ (if t then 0 else count_in (flow_at flows g))) [ true ↦ refl | false ↦ refl ]
+      ∙ ap (λ n. if same_flow f g then 0 else n) (sym (count-board flows buffers g));
   watched = λ g. watched-board flows' buffers' g ∙ ap watched_at (writes g)
-    ∙ elim (same_flow f g) as (λ t. watched_at (cond t None (flow_at flows g)) ≡ (if t then [] else watched_at (flow_at flows g))) [ true ↦ refl | false ↦ refl ]
-    ∙ ap (λ xs. if same_flow f g then [] else xs) (sym (watched-board flows buffers g));
+      ∙ elim (same_flow f g) as (λ t. watched_at (cond t None (flow_at flows g)) ≡ (if t then [] else watched_at (flow_at flows g))) [ true ↦ refl | false ↦ refl ]
+      ∙ ap (λ xs. if same_flow f g then [] else xs) (sym (watched-board flows buffers g));
   buffers = λ c. is_known-board flows' buffers' c ∙ ap is_some (leaves c) ∙ read_forgotten f is_some (is_own f c) (buffer_at buffers c)
-    ∙ (λ i. if going c i then false else (known-left f (buffer_at buffers c) ∙ sym (is_known-board flows buffers c)) i)
-    ∙ flag (goes_with f (board_of flows buffers) c) (is_known (board_of flows buffers) c);
+      ∙ (λ i. if going c i then false else (known-left f (buffer_at buffers c) ∙ sym (is_known-board flows buffers c)) i)
+      ∙ flag (goes_with f (board_of flows buffers) c) (is_known (board_of flows buffers) c);
   marks = λ c. is_marked-board flows' buffers' c ∙ ap above_in (leaves c) ∙ read_forgotten f above_in (is_own f c) (buffer_at buffers c)
-    ∙ (λ i. if going c i then false else (above-left f (buffer_at buffers c) ∙ sym (is_marked-board flows buffers c)) i)
-    ∙ flag (goes_with f (board_of flows buffers) c) (is_marked (board_of flows buffers) c);
+      ∙ (λ i. if going c i then false else (above-left f (buffer_at buffers c) ∙ sym (is_marked-board flows buffers c)) i)
+      ∙ flag (goes_with f (board_of flows buffers) c) (is_marked (board_of flows buffers) c);
   watchers = λ c. watchers-board flows' buffers' c ∙ ap watchers_in (leaves c) ∙ read_forgotten f watchers_in (is_own f c) (buffer_at buffers c)
-    ∙ gone_list (goes f (is_own f c) (buffer_at buffers c)) (watchers_in (option_map (left f) (buffer_at buffers c))) (without f (watchers_in (buffer_at buffers c)))
+      ∙ gone_list (goes f (is_own f c) (buffer_at buffers c)) (watchers_in (option_map (left f) (buffer_at buffers c))) (without f (watchers_in (buffer_at buffers c)))
       (watchers-left f (buffer_at buffers c)) (λ h. no_length (without f (watchers_in (buffer_at buffers c))) (and_parts (is_own f c) (length (without f (watchers_in (buffer_at buffers c))) == 0) h).1)
-    ∙ ap (without f) (sym (watchers-board flows buffers c));
+      ∙ ap (without f) (sym (watchers-board flows buffers c));
   pending = λ c. pending-board flows' buffers' c ∙ ap pending_in (leaves c) ∙ read_forgotten f pending_in (is_own f c) (buffer_at buffers c)
-    ∙ gone_list (goes f (is_own f c) (buffer_at buffers c)) (pending_in (option_map (left f) (buffer_at buffers c))) (without f (pending_in (buffer_at buffers c)))
+      ∙ gone_list (goes f (is_own f c) (buffer_at buffers c)) (pending_in (option_map (left f) (buffer_at buffers c))) (without f (pending_in (buffer_at buffers c)))
       (pending-left f (buffer_at buffers c)) (λ h. none_among f (pending_in (buffer_at buffers c)) (watchers_in (buffer_at buffers c)) (λ g. among g c) (and_parts (is_own f c) (length (without f (watchers_in (buffer_at buffers c))) == 0) h).1)
-    ∙ ap (without f) (sym (pending-board flows buffers c));
+      ∙ ap (without f) (sym (pending-board flows buffers c));
 }
   where
     going : (c : BufferId) → goes f (is_own f c) (buffer_at buffers c) ≡ goes_with f (board_of flows buffers) c

@@ -6,7 +6,7 @@ use Rattle.flow_gate.proofs.SameIds.{same_buffer-comm}
 use Rattle.flow_gate.specs.Board.{times, times_of_buffer, watchers_of}
 use Rattle.flow_gate.specs.Books.{Books}
 use Rattle.flow_gate.specs.Ids.{same_buffer, same_flow}
-use Rattle.flow_gate.specs.Parts.{AreGates, Buffers, Flows, board_of, flow_at, watched_in}
+use Rattle.flow_gate.specs.Parts.{AreGates, Buffers, Flows, board_of, watched_in}
 use Rattle.flow_gate.specs.contracts.ids.BufferIdPartialEq.TheImpl as buffer_eq
 use Rattle.flow_gate.specs.contracts.ids.FlowIdPartialEq.TheImpl as flow_eq
 use Rattle.flow_gate.specs.declared.ids.BufferId.{BufferId}
@@ -17,7 +17,7 @@ use Rattle.std.proofs.Common.{ap, arith, refl, sym, ◌∙◌}
 use Rattle.std.proofs.lemmas.Bool.{lt-ltb, ltb-false}
 use Rattle.std.specs.Bool.{beq}
 use Rattle.std.specs.List.{list_any}
-use Rattle.std.specs.Prelude.{Bool, List, None, Option, Some, [], cond, false, if◌then◌else◌, nat_lt, not, true, ℕ, ◌&&◌, ◌+◌, ◌<◌, ◌==◌, ◌||◌, ◌∷◌, ◌≡◌, ◌≤◌, ◌↔◌}
+use Rattle.std.specs.Prelude.{Bool, List, None, Option, Some, [], cond, false, if◌then◌else◌, nat_lt, not, true, ℕ, ◌&&◌, ◌+◌, ◌==◌, ◌||◌, ◌∷◌, ◌≡◌, ◌≤◌, ◌↔◌}
 
 -- what `==` of two buffers answers
 abbrev pub eq_of : BufferId → BufferId → Bool
@@ -52,7 +52,7 @@ any_watch b (w ∷ ws) =
     either false n = ap (nat_lt 0) (omega arith)
 
 pub watching : (f : FlowId) (b : BufferId) (books : Option Books) (ws : List Watch) (flows : Flows) (buffers : Buffers) → FlowFound f books flows → watches_in books ≡ ws →
-  AreGates flows buffers → nat_lt 0 (times_of_buffer b (watched_in ws)) ≡ nat_lt 0 (times f (watchers_of (board_of flows buffers) b))
+    AreGates flows buffers → nat_lt 0 (times_of_buffer b (watched_in ws)) ≡ nat_lt 0 (times f (watchers_of (board_of flows buffers) b))
 watching f b books ws flows buffers found lists gates =
     ap (λ xs. nat_lt 0 (times_of_buffer b (watched_in xs))) (sym lists) ∙ ap (λ bs. nat_lt 0 (times_of_buffer b bs)) (watched books)
     ∙ ap (λ o. nat_lt 0 (times_of_buffer b (watched_at o))) (found ∙ flow_get flows f)

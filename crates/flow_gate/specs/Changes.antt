@@ -3,7 +3,7 @@ use Rattle.flow_gate.specs.Board.{Board, count, is_known, is_marked, is_open, pe
 use Rattle.flow_gate.specs.Ids.{is_own, same_buffer, same_flow}
 use Rattle.flow_gate.specs.declared.ids.BufferId.{BufferId}
 use Rattle.flow_gate.specs.declared.ids.FlowId.{FlowId}
-use Rattle.std.specs.Prelude.{Bool, List, [], false, filter, if◌then◌else◌, length, not, option_to_list, ℕ, ◌&&◌, ◌++◌, ◌+◌, ◌==◌, ◌||◌, ◌∷◌, ◌≡◌}
+use Rattle.std.specs.Prelude.{Bool, List, [], false, filter, if◌then◌else◌, length, not, ◌&&◌, ◌++◌, ◌+◌, ◌==◌, ◌||◌, ◌∷◌, ◌≡◌}
 
 -- it is seen as before, of each flow or buffer
 abbrev pub Same : {K X : Type 0} → (Board → K → X) → Board → Board → Type 0
@@ -78,7 +78,7 @@ pub record Drains (b : BufferId) (old new : Board) : Type 0 where
   pub marks : (c : BufferId) → is_marked new c ≡ (not (same_buffer b c) && is_marked old c)
   pub watchers : Same watchers_of old new
   pub pending : (c : BufferId) →
-    pending_on new c ≡ pending_on old c ++ (if same_buffer b c then watchers_of old b else [])
+      pending_on new c ≡ pending_on old c ++ (if same_buffer b c then watchers_of old b else [])
 
 -- the first pending low of the buffer is taken, and its flow is held back once less
 pub record Tells (b : BufferId) (told : List FlowId) (old new : Board) : Type 0 where

@@ -11,7 +11,7 @@ use Rattle.std.specs.Map.{lookup, values_of}
 use Rattle.std.specs.Option.{option_map_or}
 use Rattle.std.specs.declared.ops.Bound.{Bound}
 use Rattle.std.specs.declared.ops.Bound.TheVariants.{Excluded, Included}
-use Rattle.std.specs.Prelude.{Bool, List, None, Option, Some, [], false, if◌then◌else◌, length, map, nat_lt, true, ℕ, ◌+◌, ◌<◌, ◌==◌, ◌≡◌, ◌≤◌, ◌^◌}
+use Rattle.std.specs.Prelude.{Bool, List, None, Option, Some, [], false, if◌then◌else◌, length, map, nat_lt, true, ℕ, ◌+◌, ◌==◌, ◌≡◌, ◌≤◌, ◌^◌}
 use Rattle.flow_gate.specs.declared.ids.BufferId.TheVariants as buffer
 
 abbrev pub Flows : Type 0
@@ -94,7 +94,7 @@ pub record AreWatches (f : FlowId) (watches : List Watch) (buffers : Buffers) : 
   pub paired : (b : BufferId) → times f (values_of (line_at buffers b)) ≡ times_of_buffer b (watched_in watches)
   pub once : (b : BufferId) → times f (values_of (line_at buffers b)) ≤ 1
   pub pending : (b : BufferId) →
-    times f (values_of (option_map_or (λ line. line.pending) (buffer_at buffers b) [])) ≤ times f (values_of (line_at buffers b))
+      times f (values_of (option_map_or (λ line. line.pending) (buffer_at buffers b) [])) ≤ times f (values_of (line_at buffers b))
 
 -- the flow stands there, once
 pub record Leaves (f : FlowId) (watch : Watch) (line : Line) (buffers : Buffers) : Type 0 where

@@ -1,5 +1,5 @@
 // The gate of one buffer: whether the buffer is above, and which of its watchers are still to be told that it drained.
-ghost use Rattle.std.specs.Prelude.{◌≡◌, ◌==◌, ◌↔◌, ◌∷◌, ◌++◌, ◌≤◌, [], drop, false, true, IfOk, OnErr, IsTrue, None, Some, length, slice_get, option_map};
+ghost use Rattle.std.specs.Prelude.{◌≡◌, ◌↔◌, ◌∷◌, ◌++◌, ◌≤◌, [], drop, false, true, IfOk, OnErr, None, Some, slice_get, option_map};
 ghost use Rattle.std.specs.Map.{values_of};
 ghost use Rattle.flow_gate.specs.Board.{times};
 ghost use Rattle.flow_gate.specs.declared.ids.FlowId.{FlowId};

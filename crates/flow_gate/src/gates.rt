@@ -306,11 +306,7 @@ fn close_stages(buffers: &mut BTreeMap<BufferId, Gate>, flow: FlowId)
 }
 
 // The first stage of a flow that is known, or the first one after another.
-fn stage_after(
-    buffers: &BTreeMap<BufferId, Gate>,
-    flow: FlowId,
-    after: Option<u32>,
-) -> Option<u32>
+fn stage_after(buffers: &BTreeMap<BufferId, Gate>, flow: FlowId, after: Option<u32>) -> Option<u32>
     ensures later { IfSome result (λ i. is_after after i ≡ true) }
     ensures first { IfSome result (λ i. (j : ℕ) → is_after after j ≡ true → j < i → buffer_at buffers.now.entries (BufferId.Stage flow j) ≡ None) }
     ensures none { IfNone result ((j : ℕ) → is_after after j ≡ true → buffer_at buffers.now.entries (BufferId.Stage flow j) ≡ None) }

@@ -177,8 +177,18 @@ const OWN_BUFFERS: [Row; 11] = [
     (OpenBuffer(BufferId::Stage(SECOND, 1)), DONE, Some(0), None),
     (OpenBuffer(OWN), DONE, Some(0), None),
     (OpenFlow(SECOND), DONE, Some(0), Some(0)),
-    (Watch(FIRST, BufferId::Stage(FIRST, 1)), LOW, Some(0), Some(0)),
-    (Watch(SECOND, BufferId::Stage(FIRST, 4)), LOW, Some(0), Some(0)),
+    (
+        Watch(FIRST, BufferId::Stage(FIRST, 1)),
+        LOW,
+        Some(0),
+        Some(0),
+    ),
+    (
+        Watch(SECOND, BufferId::Stage(FIRST, 4)),
+        LOW,
+        Some(0),
+        Some(0),
+    ),
     (Watch(FIRST, OWN), LOW, Some(0), Some(0)),
     (Forget(FIRST), DONE, None, Some(0)),
 ];
@@ -239,37 +249,47 @@ fn watchers_stand_in_the_order_in_which_they_began(rt: HostRuntime) -> Result<()
     Ok(())
 }
 
+/// A flow by its exchange, with its send buffer.
+fn sending(exchange: u64) -> (FlowId, BufferId) {
+    let flow = FlowId {
+        exchange,
+        back: false,
+    };
+    (flow, BufferId::Send(flow))
+}
+
+/// Opens a flow that watches its send buffer.
+fn open(rt: &impl Abort, gates: &mut Gates, exchange: u64) -> Result<(), NoMemory> {
+    let (flow, buffer) = sending(exchange);
+    assert_eq!(rt; make(rt, gates, OpenFlow(flow))?, DONE);
+    assert_eq!(rt; make(rt, gates, OpenBuffer(buffer))?, DONE);
+    assert_eq!(rt; make(rt, gates, Watch(flow, buffer))?, LOW);
+    Ok(())
+}
+
+/// The send buffer of a flow rises and drains, and its flow alone is told.
+fn rise_and_drain(rt: &impl Abort, gates: &mut Gates, exchange: u64) -> Result<(), NoMemory> {
+    let (flow, buffer) = sending(exchange);
+    make(rt, gates, High(buffer))?;
+    assert_eq!(rt; count(gates, flow), Some(1));
+    make(rt, gates, BeginLow(buffer))?;
+    assert_eq!(rt; make(rt, gates, NextLow(buffer))?, Answer::Told(Some(flow)));
+    assert_eq!(rt; make(rt, gates, NextLow(buffer))?, NOBODY);
+    Ok(())
+}
+
 // 200,000 flows, each with a send buffer of its own: no call goes through them all.
 #[test]
 fn many_flows_cost_little(rt: HostRuntime) -> Result<(), Fail> {
     let mut gates = Gates::new(rt.alloc());
     for exchange in 1..=MANY {
-        let flow = FlowId {
-            exchange,
-            back: false,
-        };
-        let buffer = BufferId::Send(flow);
-        make(&rt, &mut gates, OpenFlow(flow))?;
-        make(&rt, &mut gates, OpenBuffer(buffer))?;
-        assert_eq!(rt; make(&rt, &mut gates, Watch(flow, buffer))?, LOW);
+        open(&rt, &mut gates, exchange)?;
     }
     for exchange in 1..=MANY {
-        let flow = FlowId {
-            exchange,
-            back: false,
-        };
-        let buffer = BufferId::Send(flow);
-        make(&rt, &mut gates, High(buffer))?;
-        assert_eq!(rt; count(&gates, flow), Some(1));
-        make(&rt, &mut gates, BeginLow(buffer))?;
-        assert_eq!(rt; make(&rt, &mut gates, NextLow(buffer))?, Answer::Told(Some(flow)));
-        assert_eq!(rt; make(&rt, &mut gates, NextLow(buffer))?, NOBODY);
+        rise_and_drain(&rt, &mut gates, exchange)?;
     }
     for exchange in 1..=MANY {
-        let flow = FlowId {
-            exchange,
-            back: false,
-        };
+        let (flow, _) = sending(exchange);
         assert_eq!(rt; count(&gates, flow), Some(0));
     }
     Ok(())

@@ -1,5 +1,5 @@
 // What one flow watches, and how often it is held back.
-ghost use Rattle.std.specs.Prelude.{◌≡◌, ◌∷◌, ◌++◌, ◌+◌, ◌-◌, ◌<◌, ◌≤◌, ◌^◌, [], OnErr, OnOk, length, if◌then◌else◌};
+ghost use Rattle.std.specs.Prelude.{◌≡◌, ◌∷◌, ◌++◌, ◌+◌, ◌-◌, ◌<◌, ◌^◌, [], OnOk, length, if◌then◌else◌};
 
 use crate::ids::BufferId;
 use io_ports::NoMemory;

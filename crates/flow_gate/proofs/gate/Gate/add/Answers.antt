@@ -15,9 +15,9 @@ pub returns-clause-last : goal.returns-clause-last
 returns-clause-last c =
     let line : Places = c.self.inside.line.entries in
     let longer : c.insert.new.self.entries ≡ line ++ (c.self.inside.next, c.args.flow) ∷ [] =
-      c.in_ok-insert.ensures.entries ∙ insert-next _ c.args.flow line c.self.invariant.below in
+    c.in_ok-insert.ensures.entries ∙ insert-next _ c.args.flow line c.self.invariant.below in
     let same : between c.self.inside.told c.self.inside.drained c.insert.new.self.entries ≡ between c.self.inside.told c.self.inside.drained line =
-      ap (between c.self.inside.told c.self.inside.drained) longer ∙ between-next _ _ _ c.args.flow line c.self.invariant.within in
+    ap (between c.self.inside.told c.self.inside.drained) longer ∙ between-next _ _ _ c.args.flow line c.self.invariant.within in
     rw (← c.self.view_is) (λ i. record { above = c.self.inside.above; watchers = longer i; pending = same i })
 
 pub returns-clause-new_place : goal.returns-clause-new_place

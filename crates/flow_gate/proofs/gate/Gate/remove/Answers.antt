@@ -16,6 +16,6 @@ returns c = rw (← c.self.view_is) (λ flow at once.
     let line : Places = c.self.inside.line.entries in
     let fewer : c.remove.new.self.entries ≡ others_of flow line = c.remove.ensures.entries ∙ line-leaves c.args.place flow line at once in
     let silent : between c.self.inside.told c.self.inside.drained c.remove.new.self.entries ≡ others_of flow (between c.self.inside.told c.self.inside.drained line) =
-      ap (between c.self.inside.told c.self.inside.drained) c.remove.ensures.entries
-      ∙ part-leaves (is_between c.self.inside.told c.self.inside.drained) c.args.place flow line at once in
+    ap (between c.self.inside.told c.self.inside.drained) c.remove.ensures.entries
+    ∙ part-leaves (is_between c.self.inside.told c.self.inside.drained) c.args.place flow line at once in
     λ i. record { above = c.self.inside.above; watchers = fewer i; pending = silent i })

@@ -1,6 +1,6 @@
 use Rattle.flow_gate.proofs.Reading.{count_found}
 use Rattle.flow_gate.proofs.gates.Gates.count.Goals as goal
-use Rattle.std.proofs.Common.{ap, sym, ◌∙◌}
+use Rattle.std.proofs.Common.{◌∙◌}
 use Rattle.std.specs.Prelude.{None, Some}
 
 pub returns-in-Some : goal.returns-in-Some

@@ -1,6 +1,5 @@
 use Rattle.flow_gate.proofs.CallsEnds.{are_watches, flow_forgotten, forget_writes}
 use Rattle.flow_gate.proofs.Reading.{open_found}
-use Rattle.flow_gate.proofs.StepsEnds.{ForgetWrites}
 use Rattle.flow_gate.proofs.gates.Gates.forget.Goals as goal
 use Rattle.flow_gate.specs.Parts.{AreWatches}
 use Rattle.std.proofs.Common.{ap, subst, sym, ◌∙◌}
@@ -14,20 +13,20 @@ unreachable-requires c = false≢true
 pub invariant_of-self : goal.invariant_of-self
 invariant_of-self c = (flow_forgotten c.args.flow c.self.inside.flows.entries _ c.self.inside.buffers.entries _ c.remove.ensures.updates.0
     (forget_writes c.args.flow c.self.inside.buffers.entries _ _ _ _
-      (c.leave_each.ensures c.args.flow (subst (λ ws. AreWatches c.args.flow ws c.self.inside.buffers.entries) (sym c.watches.ensures)
-        (are_watches c.args.flow c.in-Some.watcher c.self.inside.flows.entries c.self.inside.buffers.entries c.in-Some.ensures.value c.self.invariant)))
-      c.close_unwatched.ensures c.close_stages.ensures c.close_unwatched-2.ensures) c.self.invariant).1
+    (c.leave_each.ensures c.args.flow (subst (λ ws. AreWatches c.args.flow ws c.self.inside.buffers.entries) (sym c.watches.ensures)
+    (are_watches c.args.flow c.in-Some.watcher c.self.inside.flows.entries c.self.inside.buffers.entries c.in-Some.ensures.value c.self.invariant)))
+    c.close_unwatched.ensures c.close_stages.ensures c.close_unwatched-2.ensures) c.self.invariant).1
 
 pub returns-clause-forgets : goal.returns-clause-forgets
 returns-clause-forgets c = rw (← c.self.view_is) (flow_forgotten c.args.flow c.self.inside.flows.entries _ c.self.inside.buffers.entries _ c.remove.ensures.updates.0
     (forget_writes c.args.flow c.self.inside.buffers.entries _ _ _ _
-      (c.leave_each.ensures c.args.flow (subst (λ ws. AreWatches c.args.flow ws c.self.inside.buffers.entries) (sym c.watches.ensures)
-        (are_watches c.args.flow c.in-Some.watcher c.self.inside.flows.entries c.self.inside.buffers.entries c.in-Some.ensures.value c.self.invariant)))
-      c.close_unwatched.ensures c.close_stages.ensures c.close_unwatched-2.ensures) c.self.invariant).0
+    (c.leave_each.ensures c.args.flow (subst (λ ws. AreWatches c.args.flow ws c.self.inside.buffers.entries) (sym c.watches.ensures)
+    (are_watches c.args.flow c.in-Some.watcher c.self.inside.flows.entries c.self.inside.buffers.entries c.in-Some.ensures.value c.self.invariant)))
+    c.close_unwatched.ensures c.close_stages.ensures c.close_unwatched-2.ensures) c.self.invariant).0
 
 pub returns-clause-sound : goal.returns-clause-sound
 returns-clause-sound c = (flow_forgotten c.args.flow c.self.inside.flows.entries _ c.self.inside.buffers.entries _ c.remove.ensures.updates.0
     (forget_writes c.args.flow c.self.inside.buffers.entries _ _ _ _
-      (c.leave_each.ensures c.args.flow (subst (λ ws. AreWatches c.args.flow ws c.self.inside.buffers.entries) (sym c.watches.ensures)
-        (are_watches c.args.flow c.in-Some.watcher c.self.inside.flows.entries c.self.inside.buffers.entries c.in-Some.ensures.value c.self.invariant)))
-      c.close_unwatched.ensures c.close_stages.ensures c.close_unwatched-2.ensures) c.self.invariant).1.sound
+    (c.leave_each.ensures c.args.flow (subst (λ ws. AreWatches c.args.flow ws c.self.inside.buffers.entries) (sym c.watches.ensures)
+    (are_watches c.args.flow c.in-Some.watcher c.self.inside.flows.entries c.self.inside.buffers.entries c.in-Some.ensures.value c.self.invariant)))
+    c.close_unwatched.ensures c.close_stages.ensures c.close_unwatched-2.ensures) c.self.invariant).1.sound

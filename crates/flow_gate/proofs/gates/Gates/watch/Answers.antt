@@ -8,7 +8,7 @@ use Rattle.flow_gate.specs.Parts.{AreGates, board_of}
 use Rattle.std.proofs.Common.{ap, arith, refl, rules, sym, ◌∙◌}
 use Rattle.std.proofs.lemmas.Bool.{false≢true}
 use Rattle.std.specs.Option.{is_some, option_copied_mut}
-use Rattle.std.specs.Prelude.{None, Some, [], if◌then◌else◌, ◌++◌, ◌+◌, ◌∷◌, ◌≡◌}
+use Rattle.std.specs.Prelude.{Some, [], if◌then◌else◌, ◌++◌, ◌+◌, ◌∷◌, ◌≡◌}
 
 pub unreachable-requires : goal.unreachable-requires
 unreachable-requires c = false≢true
@@ -70,8 +70,8 @@ above : (c : After-self-3-1) → c.is_above-above.result ≡ c.in-Some-get_mut.g
 above c = c.is_above-above.ensures ∙ ap (λ l. l.above) c.in_ok-place.ensures.last
 
 done : (c : After-self-3-1) →
-  Watches c.args.flow c.args.buffer (board_of c.self.inside.flows.entries c.self.inside.buffers.entries) (board_of (c.get_mut.follows.lender c.add-2.new.self).entries (c.get_mut-2.follows.lender c.add.new.self).entries)
-  × AreGates (c.get_mut.follows.lender c.add-2.new.self).entries (c.get_mut-2.follows.lender c.add.new.self).entries
+    Watches c.args.flow c.args.buffer (board_of c.self.inside.flows.entries c.self.inside.buffers.entries) (board_of (c.get_mut.follows.lender c.add-2.new.self).entries (c.get_mut-2.follows.lender c.add.new.self).entries)
+    × AreGates (c.get_mut.follows.lender c.add-2.new.self).entries (c.get_mut-2.follows.lender c.add.new.self).entries
 done c = watch_begun c.args.flow c.args.buffer c.in_ok-place.place c.in-Some.watcher.now c.add-2.new.self c.in-Some-get_mut.gate.now c.add.new.self c.self.inside.flows.entries _ c.self.inside.buffers.entries _
     c.in-Some.ensures.value c.in-Some-get_mut.ensures.value c.in_ok-place.ensures.new_place (rw (← c.make_room.ensures.watches) c.in_ok-make_room.ensures.most)
     (c.add-2.ensures.count ∙ (λ i. c.make_room.ensures.count i + (if above c i then 1 else 0))) (c.add-2.ensures.watches ∙ ap (λ ws. ws ++ (record { buffer = c.args.buffer; place = c.in_ok-place.place }) ∷ []) c.make_room.ensures.watches)
