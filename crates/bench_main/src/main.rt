@@ -4,6 +4,7 @@
 mod buffers;
 mod fields;
 mod frames;
+mod gates;
 mod stopwatch;
 
 use std::env;
@@ -12,6 +13,7 @@ const USAGE: &str = "usage: bench_main BENCH
   buffer  octets through two watermark buffers, beside two plain copies
   fields  blocks of request fields, decoded and encoded (fields blocks: prints them)
   frames  reading of frames
+  gates   calls of the gates while few and while many flows are open
 ";
 
 fn main(rt: HostRuntime) -> anyhow::Result<()> {
@@ -21,6 +23,7 @@ fn main(rt: HostRuntime) -> anyhow::Result<()> {
         Some(word) if word.as_str() == "buffer" => buffers::run(&rt)?,
         Some(word) if word.as_str() == "fields" => fields::run(&rt, words.next().is_some())?,
         Some(word) if word.as_str() == "frames" => frames::run(&rt)?,
+        Some(word) if word.as_str() == "gates" => gates::run(&rt)?,
         Some(_) | None => rt.print(USAGE)?,
     }
     Ok(())
