@@ -1,0 +1,13 @@
+pub mod Accepts
+pub mod BlockEnds
+pub mod Calls
+pub mod Came
+pub mod Counts
+pub mod Entries
+pub mod Errors
+pub mod Frames
+pub mod Heads
+pub mod Opening
+pub mod Sizes
+pub mod Standing
+pub mod States

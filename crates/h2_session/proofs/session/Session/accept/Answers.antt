@@ -1,0 +1,25 @@
+use Rattle.std.proofs.Common.{subst, sym, ◌∙◌, ◌∷◌}
+use Rattle.h2_frames.specs.View.{view}
+use Rattle.h2_session.specs.Errors.{after}
+use Rattle.h2_session.specs.Happened.{Came}
+use Rattle.h2_session.specs.Summary.{StandsFor, Summary}
+use Rattle.h2_session.specs.contracts.session.Session.{the_view}
+use Rattle.h2_session.proofs.Accepts.{error_as, failed_stands, failed_with, took_stands}
+use Rattle.h2_session.proofs.Frames.{started}
+use Rattle.h2_session.proofs.session.Session.accept.Goals as goal
+
+pub returns-in-Some-clause-stands : goal.returns-in-Some-clause-stands
+returns-in-Some-clause-stands c = λ past h.
+    let v : Summary = c.args.self.now in
+    let frame = view c.args.frame.now in
+    let is = sym (error_as past v frame h) ∙ sym c.error.ensures ∙ c.in-Some.is in
+    subst (λ (x : Summary). StandsFor (after v.side frame past) (failed_with c.in-Some.code x)) (sym c.self.view_is) (failed_stands past v frame c.in-Some.code h is)
+
+pub returns-clause-stands : goal.returns-clause-stands
+returns-clause-stands c = λ past h.
+    let v : Summary = c.args.self.now in
+    let frame = view c.args.frame.now in
+    let none = sym (error_as past v frame h) ∙ sym c.error.ensures ∙ c.in_default.is in
+    let takes = c.in_ok-act.ensures.takes past h none in
+    let stands = subst (λ (x : Summary). StandsFor (Came frame ∷ past) (started x)) (sym c.self-2.view_is) takes.stands in
+    took_stands past v (started (the_view c.self-2.inside)) frame none stands

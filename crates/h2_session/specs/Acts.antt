@@ -1,0 +1,59 @@
+-- The one act of each frame, after what happened before it (RFC 9113 sections 5 and 6).
+use Rattle.h2_frames.specs.Frame.{DataFrame, Frame, GoAway, Ping, Reset, Settings, WindowUpdate}
+use Rattle.h2_session.specs.Blocks.{ended_block}
+use Rattle.h2_session.specs.Errors.{error_of, settings_of}
+use Rattle.h2_session.specs.Happened.{Happening, Side}
+use Rattle.h2_session.specs.Streams.{begins, has_room, opened, state_of}
+use Rattle.h2_session.specs.declared.act.Act.{Act}
+use Rattle.h2_session.specs.declared.act.Act.TheVariants as act
+use Rattle.h2_session.specs.declared.block.HeaderBlock.{HeaderBlock}
+use Rattle.h2_session.specs.declared.streams.Stream.{Stream}
+use Rattle.std.specs.Option.{option_map_or}
+use Rattle.std.specs.Prelude.{Bool, List, None, Option, Some, [], if◌then◌else◌, length, not, ℕ, ◌+◌, ◌==◌}
+
+-- a header block on a stream that is open, in this state, or isn't (sections 5.1 and 8.1)
+abbrev pub block_act : HeaderBlock → Option Stream → Act
+block_act b None = act.OldBlock b.octets
+block_act b (Some state) =
+    if state.peer_ended then act.StreamError b.stream 5 b.octets
+    else if not state.head then act.Head b.stream b.octets b.last
+    else if b.last then act.Trailers b.stream b.octets
+    else act.StreamError b.stream 1 b.octets
+
+-- a header block that begins a client's stream, with room for it or without (section 5.1.2)
+abbrev pub opening_act : HeaderBlock → Bool → Act
+opening_act b room = if room then act.Head b.stream b.octets b.last else act.StreamError b.stream 7 b.octets
+
+-- the act of a header block at its end
+abbrev pub ended_act : Side → HeaderBlock → List Happening → Act
+ended_act side b past =
+    if begins side b past then opening_act b (has_room side past (opened side past)) else block_act b (state_of side b.stream past)
+
+-- DATA on a stream that is open, in this state, or isn't (section 6.1)
+abbrev pub data_act : ℕ → Bool → ℕ → List ℕ → Option Stream → Act
+data_act s last padded octets None = act.Late s (padded + length octets)
+data_act s last padded octets (Some state) = if state.peer_ended then act.StreamError s 5 [] else act.Body s octets padded last
+
+-- RST_STREAM (section 6.4)
+abbrev pub reset_act : ℕ → ℕ → Option Stream → Act
+reset_act s code None = act.Ignore
+reset_act s code (Some state) = act.PeerReset s code
+
+-- WINDOW_UPDATE on a stream (section 6.9)
+abbrev pub update_act : ℕ → ℕ → Option Stream → Act
+update_act s n None = act.Ignore
+update_act s n (Some state) = if n == 0 then act.StreamError s 1 [] else act.WindowUp s n
+
+-- the act of a frame that is no connection error
+abbrev pub act_within : Side → Frame → List Happening → Act
+act_within side (DataFrame s last padded octets) past = data_act s last padded octets (state_of side s past)
+act_within side (Reset s code) past = reset_act s code (state_of side s past)
+act_within side (Settings ack entries) past = if ack then act.Ack else act.Settings (settings_of entries)
+act_within side (Ping ack octets) past = if ack then act.Ignore else act.Ping octets
+act_within side (GoAway last code debug) past = act.GoAway last code
+act_within side (WindowUpdate s n) past = if s == 0 then act.WindowUp 0 n else update_act s n (state_of side s past)
+act_within side frame past = option_map_or (λ b. ended_act side b past) (ended_block frame past) act.Ignore
+
+-- the act of a frame
+abbrev pub act_of : Side → Frame → List Happening → Act
+act_of side frame past = option_map_or (λ code. act.ConnError code) (error_of side frame past) (act_within side frame past)

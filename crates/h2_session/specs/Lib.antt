@@ -1,0 +1,9 @@
+pub mod Acts
+pub mod Blocks
+pub mod Errors
+pub mod Happened
+pub mod Kept
+pub mod Preface
+pub mod Streams
+pub mod Summary
+pub mod Table

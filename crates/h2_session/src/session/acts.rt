@@ -1,0 +1,201 @@
+// The one act of each frame.
+ghost use Rattle.std.specs.Prelude.{◌≡◌, ◌==◌, ◌<◌, ◌≤◌, ◌+◌, ◌-◌, ◌^◌, ◌&&◌, not, min, List, if◌then◌else◌, length, None, IfOk, OnOk, OnErr};
+ghost use Rattle.h2_frames.specs.Frame.{padding_of, DataFrame, Reset};
+ghost use Rattle.h2_frames.specs.Spelling.{IsWritable};
+ghost use Rattle.h2_frames.specs.View.{view};
+ghost use Rattle.h2_session.specs.Acts.{act_of, data_act, reset_act, update_act};
+ghost use Rattle.h2_session.specs.Errors.{after, error_of};
+ghost use Rattle.h2_session.specs.Happened.{Happening};
+ghost use Rattle.h2_session.specs.Table.{stream_at};
+ghost use Rattle.h2_session.specs.declared.act.Act.TheVariants as act;
+ghost use Rattle.h2_session.specs.Summary.{StandsFor, Takes};
+
+use super::Session;
+use crate::act::{Act, PROTOCOL_ERROR, STREAM_CLOSED};
+use crate::settings::read_settings;
+use crate::streams::Stream;
+use h2_frames::Frame;
+use io_ports::{NoMemory, Octets};
+use std::alloc::Global;
+
+impl Session {
+    /// What a frame means, after all that came before it. Once one was a connection error, each has
+    /// the same error again.
+    pub fn accept(&mut self, frame: &Frame) -> Result<Act, NoMemory>
+        requires writable { IsWritable (view frame.now) }
+        requires padding { padding_of (view frame.now) ≤ 256 }
+        ensures act { (past : List Happening) → StandsFor past self.old
+            → IfOk result (λ act. act ≡ act_of self.old.side (view frame.now) past) }
+        ensures stands { (past : List Happening) → StandsFor past self.old
+            → OnOk result (StandsFor (after self.old.side (view frame.now) past) self.new) }
+        ensures side { self.new.side ≡ self.old.side }
+        ensures err { OnErr result (self.new ≡ self.old) }
+    {
+        if let Some(code) = self.error(frame) {
+            self.failed = Some(code);
+            return Ok(Act::ConnError { code });
+        }
+        let act = self.take(frame)?;
+        self.started = true;
+        Ok(act)
+    }
+
+    // What a frame that is no connection error means.
+    fn take(&mut self, frame: &Frame) -> Result<Act, NoMemory>
+        requires writable { IsWritable (view frame.now) }
+        requires padding { padding_of (view frame.now) ≤ 256 }
+        ensures takes { (past : List Happening) → StandsFor past self.old → error_of self.old.side (view frame.now) past ≡ None
+            → IfOk result (λ act. Takes (view frame.now) self.old self.new act past) }
+        ensures side { self.new.side ≡ self.old.side }
+        ensures err { OnErr result (self.new ≡ self.old) }
+    {
+        match *frame {
+            Frame::DataFrame {
+                stream,
+                last,
+                padded,
+                octets,
+            } => self.take_data(stream, last, padded, octets),
+            Frame::Headers {
+                stream,
+                last,
+                end_headers,
+                block,
+                ..
+            } => self.take_headers(stream, last, end_headers, block),
+            Frame::Continuation {
+                stream,
+                end_headers,
+                block,
+            } => self.take_continuation(stream, end_headers, block),
+            Frame::Reset { stream, code } => Ok(self.take_reset(stream, code)),
+            Frame::Settings { ack: true, .. } => Ok(Act::Ack),
+            Frame::Settings {
+                ack: false,
+                entries,
+            } => {
+                let list = read_settings(self.alloc, entries)?;
+                Ok(Act::Settings { list })
+            }
+            Frame::Ping { ack: true, .. } => Ok(Act::Ignore),
+            Frame::Ping { ack: false, octets } => {
+                let octets = Octets::from_slice(self.alloc, &octets)?;
+                Ok(Act::Ping { octets })
+            }
+            Frame::GoAway { last, code, .. } => Ok(Act::GoAway { last, code }),
+            Frame::WindowUpdate { stream, increment } => Ok(self.window_update(stream, increment)),
+            Frame::Priority { .. } | Frame::Push { .. } | Frame::Unknown { .. } => Ok(Act::Ignore),
+        }
+    }
+}
+
+// What RST_STREAM means on a stream that is open, in a state, or isn't.
+fn reset_act(state: Option<Stream>, stream: u32, code: u32) -> Act
+    ensures { result ≡ reset_act stream code state }
+{
+    if state.is_some() {
+        Act::PeerReset { stream, code }
+    } else {
+        Act::Ignore
+    }
+}
+
+// The empty DATA frames in a row after one more DATA frame.
+fn run_after(run: u32, octets: &[u8], padded: u32, last: bool) -> u32
+    ensures { result ≡ (if (length octets.now == 0) && (padded == 0) && not last then min (run + 1) (2 ^ 32 - 1) else 0) }
+{
+    if octets.is_empty() && padded == 0 && !last {
+        run.saturating_add(1)
+    } else {
+        0
+    }
+}
+
+// What DATA means on a stream that is open, in a state, or isn't.
+fn data_act(
+    alloc: Global,
+    state: Option<Stream>,
+    stream: u32,
+    last: bool,
+    padded: u32,
+    octets: &[u8],
+) -> Result<Act, NoMemory>
+    requires { length octets.now + padded < 2 ^ 32 }
+    ensures { IfOk result (λ act. act ≡ data_act stream last padded octets.now state) }
+{
+    let Some(state) = state else {
+        let n = padded + octets.len() as u32;
+        return Ok(Act::Late { stream, n });
+    };
+    if state.peer_ended {
+        return Ok(Act::StreamError {
+            stream,
+            code: STREAM_CLOSED,
+            block: Octets::new(alloc),
+        });
+    }
+    Ok(Act::Body {
+        stream,
+        octets: Octets::from_slice(alloc, octets)?,
+        padded,
+        last,
+    })
+}
+
+impl Session {
+    fn take_data(
+        &mut self,
+        stream: u32,
+        last: bool,
+        padded: u32,
+        octets: &[u8],
+    ) -> Result<Act, NoMemory>
+        requires { length octets.now + padded < 2 ^ 32 }
+        ensures takes { (past : List Happening) → StandsFor past self.old
+            → error_of self.old.side (DataFrame stream last padded octets.now) past ≡ None
+            → IfOk result (λ act. Takes (DataFrame stream last padded octets.now) self.old self.new act past) }
+        ensures side { self.new.side ≡ self.old.side }
+        ensures err { OnErr result (self.new ≡ self.old) }
+    {
+        let act = data_act(
+            self.alloc,
+            self.streams.get(stream),
+            stream,
+            last,
+            padded,
+            octets,
+        )?;
+        self.streams.data_came(stream, last);
+        self.empties = run_after(self.empties, octets, padded, last);
+        Ok(act)
+    }
+
+    fn take_reset(&mut self, stream: u32, code: u32) -> Act
+        ensures takes { (past : List Happening) → StandsFor past self.old
+            → error_of self.old.side (Reset stream code) past ≡ None → Takes (Reset stream code) self.old self.new result past }
+        ensures side { self.new.side ≡ self.old.side }
+    {
+        let act = reset_act(self.streams.get(stream), stream, code);
+        self.streams.close(stream);
+        act
+    }
+
+    fn window_update(&self, stream: u32, n: u32) -> Act
+        ensures { result ≡ (if stream == 0 then act.WindowUp 0 n else update_act stream n (stream_at stream self.now.streams)) }
+    {
+        if stream == 0 {
+            return Act::WindowUp { stream, n };
+        }
+        if self.streams.get(stream).is_none() {
+            return Act::Ignore;
+        }
+        if n == 0 {
+            return Act::StreamError {
+                stream,
+                code: PROTOCOL_ERROR,
+                block: Octets::new(self.alloc),
+            };
+        }
+        Act::WindowUp { stream, n }
+    }
+}

@@ -1,0 +1,156 @@
+// The streams that are open, and how each moves (RFC 9113 section 5.1).
+//
+//                   a client's head, or open_stream
+//          idle ------------------------------------> open
+//            |                                        |  |
+//            | a greater number          END_STREAM   |  |   this side
+//            | is opened                 came         |  |   ended it
+//            v                                        v  v
+//          closed               half-closed (remote)    half-closed (local)
+//            ^                           |                      |
+//            |    this side ended it     |    END_STREAM came   |
+//            +---------------------------+----------------------+
+//            |
+//            +---- RST_STREAM came, or close_stream: from each of the three
+//
+// Only the three states on the right have an entry. A closed stream is known by not being idle and
+// having none.
+ghost use Rattle.std.specs.Prelude.{◌≡◌, Some, None, [], length, IsSome, IsNone, OnOk, OnErr};
+ghost use Rattle.h2_session.specs.Table.{Puts, after_block, after_data, after_end, after_interim, stream_at, unless_ended};
+
+use io_ports::NoMemory;
+use std::alloc::Global;
+use std::collections::BTreeMap;
+use std::marker::Model;
+
+/// What is known of an open stream.
+#[derive(Clone, Copy)]
+pub struct Stream {
+    /// The peer sent END_STREAM.
+    pub peer_ended: bool,
+    /// This side ended it.
+    pub ended: bool,
+    /// The peer's last header block was a whole head.
+    pub head: bool,
+}
+
+/// The open streams by number.
+#[derive(Drop)]
+pub struct Streams {
+    open: BTreeMap<u32, Stream>,
+}
+
+impl Model for Streams {
+    ghost use Rattle.std.specs.Prelude.{List, ℕ};
+    ghost use Rattle.h2_session.specs.declared.streams.Stream.{Stream};
+
+    ghost Value = { List (ℕ × Stream) };
+
+    ghost view = { λ a. a.open.entries };
+}
+
+impl Streams {
+    pub fn new(alloc: Global) -> Self
+        ensures { result ≡ [] }
+    {
+        Streams {
+            open: BTreeMap::new(alloc),
+        }
+    }
+
+    pub fn len(&self) -> usize
+        ensures { result ≡ length self.now }
+    {
+        self.open.len()
+    }
+
+    /// What is known of a stream, if it is open.
+    pub fn get(&self, stream: u32) -> Option<Stream>
+        ensures { result ≡ stream_at stream self.now }
+    {
+        self.open.get(&stream).copied()
+    }
+
+    /// Opens a stream. After want of memory nothing is changed.
+    pub fn open(&mut self, stream: u32, state: Stream) -> Result<(), NoMemory>
+        ensures ok { OnOk result (Puts stream (Some state) self.old self.new) }
+        ensures err { OnErr result (self.new ≡ self.old) }
+    {
+        self.open.insert(stream, state)?;
+        Ok(())
+    }
+
+    // Moves an open stream. It is closed once both sides have ended it.
+    fn set(&mut self, stream: u32, state: Stream)
+        requires { IsSome (stream_at stream self.old) }
+        ensures { Puts stream (unless_ended state) self.old self.new }
+    {
+        if state.peer_ended && state.ended {
+            self.open.remove(&stream);
+        } else if let Some(entry) = self.open.get_mut(&stream) {
+            *entry = state;
+        }
+    }
+
+    /// DATA came on a stream, its last one perhaps.
+    pub fn data_came(&mut self, stream: u32, last: bool)
+        ensures moves { Puts stream (after_data last (stream_at stream self.old)) self.old self.new }
+        ensures other { IsNone (stream_at stream self.old) → self.new ≡ self.old }
+    {
+        if let Some(state) = self.get(stream) {
+            let peer_ended = state.peer_ended || last;
+            self.set(
+                stream,
+                Stream {
+                    peer_ended,
+                    ..state
+                },
+            );
+        }
+    }
+
+    /// A header block came on a stream, its last one perhaps.
+    pub fn block_came(&mut self, stream: u32, last: bool)
+        ensures moves { Puts stream (after_block last (stream_at stream self.old)) self.old self.new }
+        ensures other { IsNone (stream_at stream self.old) → self.new ≡ self.old }
+    {
+        if let Some(state) = self.get(stream) {
+            let state = Stream {
+                peer_ended: state.peer_ended || last,
+                ended: state.ended,
+                head: true,
+            };
+            self.set(stream, state);
+        }
+    }
+
+    /// This side ended a stream.
+    pub fn end(&mut self, stream: u32)
+        ensures moves { Puts stream (after_end (stream_at stream self.old)) self.old self.new }
+        ensures other { IsNone (stream_at stream self.old) → self.new ≡ self.old }
+    {
+        if let Some(state) = self.get(stream) {
+            let ended = true;
+            self.set(stream, Stream { ended, ..state });
+        }
+    }
+
+    /// The last head on a stream was an interim one.
+    pub fn interim(&mut self, stream: u32)
+        ensures moves { Puts stream (after_interim (stream_at stream self.old)) self.old self.new }
+        ensures other { IsNone (stream_at stream self.old) → self.new ≡ self.old }
+    {
+        if let Some(state) = self.get(stream) {
+            let head = false;
+            self.set(stream, Stream { head, ..state });
+        }
+    }
+
+    /// A stream was reset or closed.
+    pub fn close(&mut self, stream: u32)
+        ensures moves { Puts stream None self.old self.new }
+        ensures other { IsNone (stream_at stream self.old) → self.new ≡ self.old }
+    {
+        self.open.remove(&stream);
+    }
+}
