@@ -189,7 +189,8 @@ impl Timers {
 
     /// Takes out the timers that are due, by due moment and then by arming, and leaves the others armed.
     ///
-    /// It costs what it takes out and the number of kinds, and nothing for a timer that stays armed.
+    /// It looks at the first timer of each kind once for each timer that it takes out, and once more; at no other timer that
+    /// stays armed.
     pub fn turn(&mut self, now: u64) -> Result<FiredList, NoMemory>
         requires later { self.old.latest ≤ now }
         requires now { now < 2 ^ 60 }
