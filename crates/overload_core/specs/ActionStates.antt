@@ -1,0 +1,24 @@
+-- The states of the overload actions.
+use Rattle.std.specs.Prelude.{ℕ, ◌==◌, List, [], ◌∷◌, map, filter, max, slice_index}
+use Rattle.proxy_config.specs.declared.overload.Trigger.{Trigger}
+use Rattle.overload_core.specs.declared.actions.Actions.{Actions}
+use Rattle.overload_core.specs.States.{state_of}
+
+-- the greatest of the numbers, 0 of none
+unfoldable pub greatest_of : List ℕ → ℕ
+greatest_of [] = 0
+greatest_of (x ∷ xs) = max x (greatest_of xs)
+
+-- the greatest state of the triggers of the action with this number
+abbrev pub action_state : List Trigger → List ℕ → ℕ → ℕ
+action_state triggers pressures action = greatest_of (map (λ (t : Trigger). state_of t.form (slice_index pressures t.resource)) (filter (λ (t : Trigger). t.action == action) triggers))
+
+abbrev pub actions_at : List Trigger → List ℕ → Actions
+actions_at triggers pressures = record {
+  stop_requests = action_state triggers pressures 0;
+  stop_accepting = action_state triggers pressures 1;
+  reject_incoming = action_state triggers pressures 2;
+  no_keepalive = action_state triggers pressures 3;
+  reduce_timeouts = action_state triggers pressures 4;
+  reset_streams = action_state triggers pressures 5;
+}

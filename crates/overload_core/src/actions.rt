@@ -1,0 +1,63 @@
+//! The states of the overload actions.
+ghost use Rattle.std.specs.Prelude.{◌≡◌, slice_index};
+ghost use Rattle.overload_core.specs.ActionStates.{action_state, actions_at};
+
+use crate::trigger::trigger_state;
+use proxy_config::{Config, Trigger};
+
+/// The states of the six overload actions, in parts per million: 0 is off, 1,000,000 saturated.
+#[derive(Clone, Copy, Debug, PartialEq, Eq)]
+pub struct Actions {
+    /// Requests are refused where saturated.
+    pub stop_requests: u32,
+    /// No connection is taken where saturated.
+    pub stop_accepting: u32,
+    /// Connections are closed as they come where saturated.
+    pub reject_incoming: u32,
+    /// Connections of clients are drained where saturated.
+    pub no_keepalive: u32,
+    /// Timers are scaled.
+    pub reduce_timeouts: u32,
+    /// Exchanges are reset, those that hold most first.
+    pub reset_streams: u32,
+}
+
+/// The states of the actions, each the greatest state of its triggers, and 0 where it has none.
+///
+/// There is one pressure for each resource of the configuration. A trigger of a resource with no pressure sees 0.
+pub fn action_states(config: &Config, pressures: &[u32]) -> Actions
+    ensures { result ≡ actions_at config.now.overload.triggers pressures.now }
+{
+    let triggers = config.overload.triggers.as_slice();
+    Actions {
+        stop_requests: greatest(triggers, pressures, 0),
+        stop_accepting: greatest(triggers, pressures, 1),
+        reject_incoming: greatest(triggers, pressures, 2),
+        no_keepalive: greatest(triggers, pressures, 3),
+        reduce_timeouts: greatest(triggers, pressures, 4),
+        reset_streams: greatest(triggers, pressures, 5),
+    }
+}
+
+/// The greatest state of the action's triggers.
+fn greatest(triggers: &[Trigger], pressures: &[u32], action: u32) -> u32
+    ensures { result ≡ action_state triggers.now pressures.now action }
+{
+    let mut most: u32 = 0;
+    for trigger in triggers {
+        if trigger.action == action {
+            most = most.max(trigger_state(trigger, pressure_of(pressures, trigger.resource)));
+        }
+    }
+    most
+}
+
+fn pressure_of(pressures: &[u32], resource: u32) -> u32
+    ensures { result ≡ slice_index pressures.now resource }
+{
+    if (resource as usize) < pressures.len() {
+        pressures[resource as usize]
+    } else {
+        0
+    }
+}
