@@ -1,0 +1,10 @@
+pub mod Changes
+pub mod Made
+pub mod Marks
+pub mod Outcomes
+pub mod Passing
+pub mod Readings
+pub mod Ready
+pub mod Refills
+pub mod Row
+pub mod Sound

@@ -1,0 +1,36 @@
+use Rattle.std.proofs.Common.{◌≡◌, ◌+◌, ◌-◌, ◌<◌, ◌≤◌, ◌∙◌, ◌==◌, ℕ, List, length, take, min, Bool, true, false, refl, sym, ap, subst, arith, All}
+use Rattle.std.proofs.lemmas.List.{length-map, with_items_is}
+use Rattle.std.specs.Vec.{with_items}
+use Rattle.std.specs.List.{list_all}
+use Rattle.std.specs.Option.{option_map_or}
+use Rattle.std.specs.Prelude.{OnOk, Ok, Option, Some}
+use Rattle.filter_chain.proofs.Changes.{AreSound}
+use Rattle.filter_chain.proofs.Made.{empty_sound}
+use Rattle.filter_chain.proofs.Outcomes.{both_ok, either_way}
+use Rattle.filter_chain.proofs.Readings.{at_place, has_none, hold_releases, hold_waits, holds_step, may_release_within, meter_releases, octets_is, send_releases, whole_is}
+use Rattle.filter_chain.proofs.Sound.{fed_sound, free_if_ok, loses_sound, passed_sound, places_sound, refilled_sound}
+use Rattle.filter_chain.specs.Chain.{Chain, EndsInSend, IsSound, empty_chain, kinds, octets_at, octets_in, place_at, stages}
+use Rattle.filter_chain.specs.Effects.{passed}
+use Rattle.filter_chain.specs.Place.{IsPlace, Place, is_source}
+use Rattle.filter_chain.specs.Release.{head_may_go, is_whole_at, may_release}
+use Rattle.filter_chain.specs.Stage.{IsReady, place_of, places_of}
+use Rattle.filter_chain.specs.View.{chain_of}
+use Rattle.proxy_config.specs.Ranges.{IsBetween}
+use Rattle.std.proofs.lemmas.Result.{on_ok_weaker}
+use Rattle.filter_chain.proofs.chain.Chain.frame.Goals as goal
+
+pub invariant_of-self : goal.invariant_of-self
+invariant_of-self c =
+    let was : AreSound (places_of c.deref_mut.result.now) =
+        subst (λ xs. AreSound (places_of xs)) (sym c.deref_mut.ensures.value) (places_sound (chain_of c.self.inside) c.self.invariant.sound) in
+    let moved : OnOk c.frame_last.result (AreSound (places_of c.frame_last.new.stages)) =
+        on_ok_weaker c.frame_last.result (λ loses. subst AreSound (sym loses) (loses_sound (places_of c.deref_mut.result.now) c.args.n was)) c.frame_last.ensures.loses in
+    let now : AreSound (places_of c.frame_last.new.stages) =
+        either_way c.frame_last.result moved c.frame_last.ensures.err (λ s. s) (λ e. subst (λ xs. AreSound (places_of xs)) (sym e.0) was) in
+    let whole : (with_items c.self.inside.stages c.frame_last.new.stages).items ≡ c.frame_last.new.stages = with_items_is c.self.inside.stages c.frame_last.new.stages (omega arith) in
+    let there : AreSound (places_of (with_items c.self.inside.stages c.frame_last.new.stages).items) = subst (λ xs. AreSound (places_of xs)) (sym whole) now in
+    record {
+      sound = record { order = there.order; few = there.few; each = there.each; quantum = c.self.invariant.sound.quantum; clock = c.self.invariant.sound.clock };
+      ready = subst (All (IsReady c.self.inside.quantum)) (sym whole)
+          (c.frame_last.ensures.ready c.self.inside.quantum (subst (All (IsReady c.self.inside.quantum)) (sym c.deref_mut.ensures.value) c.self.invariant.ready));
+    }
