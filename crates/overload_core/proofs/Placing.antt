@@ -1,16 +1,15 @@
 -- How the exchanges of the lists change with the lists.
-use Rattle.std.proofs.Common.{◌≡◌, ℕ, zero, suc, ◌+◌, ◌<◌, ◌≤◌, Bool, true, false, cond, List, [], ◌∷◌, ◌++◌, map, length, refl, sym, ap, ◌∙◌, subst, append_assoc, true≢false, arith}
+use Rattle.std.proofs.Common.{◌≡◌, ℕ, zero, suc, ◌+◌, ◌<◌, ◌≤◌, Bool, true, false, cond, List, [], ◌∷◌, ◌++◌, map, length, refl, sym, ap, ◌∙◌, append_assoc, true≢false, arith}
 use Rattle.std.specs.Prelude.{◌||◌, nat_eq, Option, None, Some}
 use Rattle.std.specs.Map.{lookup}
-use Rattle.std.specs.List.{AllByRecursion, IsDistinct, list_any}
+use Rattle.std.specs.List.{AllByRecursion, list_any}
 use Rattle.std.proofs.lemmas.List.{map-append}
 use Rattle.std.proofs.lemmas.Bool.{eqb-true, eq-eqb}
 use denote.RawPtr.{Ptr}
 use Rattle.link_lists.specs.Places.{same_ptr}
 use Rattle.link_lists.specs.Lists.{has, pull, value_in, has_node, pull_from, push_at, node_value}
 use Rattle.link_lists.proofs.Memory.{either, same_ptr_eq, same_ptr_refl}
-use Rattle.link_lists.proofs.Edges.{same_ptr_symm}
-use Rattle.link_lists.proofs.Splits.{all_left, all_right, all_both, all_unmap, distinct_differs, alike_cut}
+use Rattle.link_lists.proofs.Splits.{all_both}
 use Rattle.overload_core.specs.declared.classes.Standing.{Standing}
 use Rattle.overload_core.specs.Tied.{Placed, placed, all_placed}
 

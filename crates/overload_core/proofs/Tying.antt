@@ -1,5 +1,5 @@
 -- How the tie between the map and the lists is kept.
-use Rattle.std.proofs.Common.{◌≡◌, ℕ, zero, suc, ◌+◌, ◌-◌, ◌<◌, ◌≤◌, Bool, true, false, cond, List, [], ◌∷◌, ◌++◌, map, length, replicate, refl, sym, ap, ◌∙◌, subst, true≢false, arith}
+use Rattle.std.proofs.Common.{◌≡◌, ℕ, zero, suc, ◌+◌, ◌-◌, ◌<◌, ◌≤◌, true, false, cond, List, [], ◌∷◌, ◌++◌, map, length, replicate, refl, sym, ap, ◌∙◌, subst, arith}
 use Rattle.std.specs.Prelude.{nat_eq, Option, None, Some}
 use Rattle.std.specs.Map.{lookup}
 use Rattle.std.specs.List.{AllByRecursion, IsDistinct}
@@ -17,8 +17,8 @@ use Rattle.link_lists.proofs.Splits.{all_left, all_right, all_both, distinct_wit
 use Rattle.overload_core.specs.declared.classes.Standing.{Standing}
 use Rattle.link_lists.proofs.Facts.{length-pull_from, length-push_at}
 use Rattle.overload_core.specs.Accounts.{appended, entered, without, class_in}
-use Rattle.overload_core.specs.Tied.{Placed, placed, all_placed, classes_of, Tied, Kept}
-use Rattle.overload_core.proofs.Placing.{exchange_of, name_of, eqb_flips, Added, push-added, Gone, pull-gone, present, found, lookup-added, none-found, class-high, absent}
+use Rattle.overload_core.specs.Tied.{Placed, all_placed, classes_of, Tied, Kept}
+use Rattle.overload_core.proofs.Placing.{exchange_of, name_of, eqb_flips, push-added, pull-gone, present, found, lookup-added, none-found, class-high, absent}
 use Rattle.overload_core.proofs.Viewing.{Names, all-kept, classes-pull, classes-push, entered-is, class_at, class-found}
 
 abbrev Nodes : Type 0

@@ -1,6 +1,6 @@
 //! The state of one trigger.
 ghost use Rattle.std.specs.Prelude.{◌≡◌, ◌*◌, ◌/◌, ◌<◌, ◌≤◌};
-ghost use Rattle.overload_core.specs.States.{state_of, scaled_state, RisesAtOnce};
+ghost use Rattle.overload_core.specs.States.{state_of, threshold_state, scaled_state, RisesAtOnce};
 
 use proxy_config::{Form, Trigger};
 
@@ -15,12 +15,22 @@ pub fn trigger_state(trigger: &Trigger, pressure: u32) -> u32
     ensures rises { RisesAtOnce trigger.now.form pressure result }
 {
     match trigger.form {
-        Form::Threshold { value } => { if pressure >= value { 1_000_000 } else { 0 } }
+        Form::Threshold { value } => threshold(value, pressure),
         Form::Scaled {
             scaling,
             saturation,
         } => scaled(scaling, saturation, pressure),
     }
+}
+
+fn threshold(value: u32, pressure: u32) -> u32
+    ensures state { result ≡ threshold_state value pressure }
+    ensures most { result ≤ 1000000 }
+{
+    if pressure >= value {
+        return 1_000_000;
+    }
+    0
 }
 
 fn scaled(scaling: u32, saturation: u32, pressure: u32) -> u32

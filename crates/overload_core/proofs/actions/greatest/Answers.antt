@@ -1,4 +1,4 @@
-use Rattle.std.proofs.Common.{◌≡◌, sym, ap, ◌∙◌}
+use Rattle.std.proofs.Common.{ap, ◌∙◌}
 use Rattle.std.specs.Prelude.{max}
 use Rattle.overload_core.specs.States.{state_of}
 use Rattle.overload_core.proofs.Greatest.{after_own, after_foreign, at_end}

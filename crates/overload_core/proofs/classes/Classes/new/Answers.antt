@@ -1,10 +1,9 @@
-use Rattle.std.proofs.Common.{ℕ, sym, ap, subst, ◌∙◌, refl}
-use Rattle.std.specs.Prelude.{None, List}
+use Rattle.std.proofs.Common.{ℕ, sym, ap, subst, refl}
+use Rattle.std.specs.Prelude.{List}
 use Rattle.std.specs.Map.{lookup}
 use Rattle.std.specs.BTreeMap.{get, is_at}
 use Rattle.std.specs.Ordering.{nat_cmp}
 use Rattle.link_lists.specs.Lists.{NodeLists}
-use Rattle.overload_core.specs.declared.classes.Standing.{Standing}
 use Rattle.overload_core.specs.Tied.{Placed, Kept}
 use Rattle.overload_core.proofs.Tying.{tied-empty}
 use Rattle.overload_core.proofs.classes.Classes.new.Goals as goal

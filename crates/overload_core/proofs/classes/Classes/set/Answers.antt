@@ -1,5 +1,5 @@
-use Rattle.std.proofs.Common.{ℕ, List, ◌≡◌, sym, ap, ◌∙◌, subst}
-use Rattle.overload_core.specs.Accounts.{Accounts, class_in, entered, without, in_class}
+use Rattle.std.proofs.Common.{ℕ, List, sym, ap, ◌∙◌, subst}
+use Rattle.overload_core.specs.Accounts.{Accounts, entered, without}
 use Rattle.overload_core.specs.Class.{IsClassOf}
 use Rattle.overload_core.proofs.OneClass.{one_class}
 use Rattle.overload_core.proofs.Setting.{keeps, changes, without-same, on_ok}

@@ -1,5 +1,5 @@
-use Rattle.std.proofs.Common.{ℕ, List, ◌≡◌, ◌≤◌, ◌+◌, ◌-◌, sym, ap, ◌∙◌, subst, rules, arith}
-use Rattle.std.specs.Prelude.{None, Some, MatchOption}
+use Rattle.std.proofs.Common.{ℕ, List, ◌≡◌, ◌-◌, sym, ap, ◌∙◌, subst, rules, arith}
+use Rattle.std.specs.Prelude.{Some, MatchOption}
 use Rattle.std.specs.Option.{option_copied_mut}
 use Rattle.std.specs.BTreeMap.{get}
 use Rattle.std.specs.Ordering.{nat_cmp}

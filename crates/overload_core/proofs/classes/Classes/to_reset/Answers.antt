@@ -1,5 +1,4 @@
-use Rattle.std.proofs.Common.{◌≡◌, ℕ, ◌+◌, ◌-◌, ◌<◌, sym, ap, ◌∙◌, subst, arith}
-use Rattle.std.specs.Prelude.{None, Some}
+use Rattle.std.proofs.Common.{◌-◌, ◌<◌, sym, ap, ◌∙◌, subst, arith}
 use Rattle.link_lists.specs.Lists.{front_of}
 use Rattle.overload_core.specs.Accounts.{Accounts, first_of, cleared, next_reset}
 use Rattle.overload_core.specs.Tied.{classes_of}
