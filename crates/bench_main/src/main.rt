@@ -7,15 +7,20 @@ mod frames;
 mod gates;
 mod sessions;
 mod stopwatch;
+mod timers;
 
 use std::env;
 
 const USAGE: &str = "usage: bench_main BENCH
   buffer   octets through two watermark buffers, beside two plain copies
+  buffer   octets through two watermark buffers, beside two plain copies
   fields   blocks of request fields, decoded and encoded (fields blocks: prints them)
+  fields   blocks of request fields, decoded and encoded (fields blocks: prints them)
+  frames   reading of frames
   frames   reading of frames
   gates    calls of the gates while few and while many flows are open
   session  acts of frames, with 10 and with 1,000 open streams
+  timers   arming, moving and firing of timers
 ";
 
 fn main(rt: HostRuntime) -> anyhow::Result<()> {
@@ -27,6 +32,7 @@ fn main(rt: HostRuntime) -> anyhow::Result<()> {
         Some(word) if word.as_str() == "frames" => frames::run(&rt)?,
         Some(word) if word.as_str() == "gates" => gates::run(&rt)?,
         Some(word) if word.as_str() == "session" => sessions::run(&rt)?,
+        Some(word) if word.as_str() == "timers" => timers::run(&rt)?,
         Some(_) | None => rt.print(USAGE)?,
     }
     Ok(())
