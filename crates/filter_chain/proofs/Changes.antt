@@ -32,7 +32,7 @@ get-set_same (z ∷ xs) (suc i) x y e = get-set_same xs i x y e
 pub changed_is : (f : Place → Place) (places : List Place) (i : ℕ) (x : Place) → slice_get places i ≡ Some x → changed_at f (suc i) places ≡ set places i (f x)
 changed_is f places i x e = ap (λ (o : Option Place). option_map_or (λ place. slice_set places i (f place)) o places) e
 
-changed_none : (f : Place → Place) (places : List Place) (i : ℕ) → slice_get places i ≡ None → changed_at f (suc i) places ≡ places
+pub changed_none : (f : Place → Place) (places : List Place) (i : ℕ) → slice_get places i ≡ None → changed_at f (suc i) places ≡ places
 changed_none f places i e = ap (λ (o : Option Place). option_map_or (λ place. slice_set places i (f place)) o places) e
 
 -- the other places stay
@@ -81,4 +81,4 @@ changed_sound f keeps places (suc i) safe sound = sound_by f keeps places i (sli
 pub gaining_sound : (places : List Place) (p : ℕ) (octets : List ℕ) → overfills_in places p (length octets) ≡ false → AreSound places → AreSound (changed_at (gaining octets) p places)
 gaining_sound places p octets free sound =
     changed_sound (gaining octets) (λ x. refl) places p
-        (λ x e was. IsPlace-gaining octets x (sym (ap (λ (o : Option Place). option_map_or (is_overfilled_by (length octets)) o false) e) ∙ free) was) sound
+    (λ x e was. IsPlace-gaining octets x (sym (ap (λ (o : Option Place). option_map_or (is_overfilled_by (length octets)) o false) e) ∙ free) was) sound

@@ -1,6 +1,8 @@
 pub mod Changes
 pub mod Made
 pub mod Marks
+pub mod Moves
+pub mod Order
 pub mod Outcomes
 pub mod Passing
 pub mod Readings
@@ -8,3 +10,4 @@ pub mod Ready
 pub mod Refills
 pub mod Row
 pub mod Sound
+pub mod Ticks

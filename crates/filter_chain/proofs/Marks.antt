@@ -55,8 +55,8 @@ IsPlace-tokens tokens place few sound = record {
 pub IsPlace-losing : (n : ℕ) (place : Place) → IsPlace place → IsPlace (losing n place)
 IsPlace-losing n place sound =
     IsPlace-holding (drop n place.octets) place
-        (λ e. let within : length place.octets ≤ place.limit = hold_within place.kind place e sound.kind in
-              omega (arith, length-drop n place.octets)) sound
+    (λ e. let within : length place.octets ≤ place.limit = hold_within place.kind place e sound.kind in
+    omega (arith, length-drop n place.octets)) sound
 
 pub IsPlace-letting_go : (n : ℕ) (place : Place) → IsPlace place → IsPlace (letting_go n place)
 IsPlace-letting_go n place sound =
@@ -75,5 +75,5 @@ not_overfilled n place false free e = cc
 pub IsPlace-gaining : (octets : List ℕ) (place : Place) → is_overfilled_by (length octets) place ≡ false → IsPlace place → IsPlace (gaining octets place)
 IsPlace-gaining octets place free sound =
     IsPlace-holding (place.octets ++ octets) place
-        (λ e. let within : length place.octets + length octets ≤ place.limit = not_overfilled (length octets) place (is_hold place.kind) free e in
-              omega (arith, length-append place.octets octets)) sound
+    (λ e. let within : length place.octets + length octets ≤ place.limit = not_overfilled (length octets) place (is_hold place.kind) free e in
+    omega (arith, length-append place.octets octets)) sound

@@ -43,15 +43,15 @@ module _ (stages front back : List Stage) (p : ℕ) (d e s t : Stage) (f : front
       → places_of (set front (p - 1) s ++ set back 0 t) ≡ passed (places_of stages) p n
   parts_passed n lets gains =
       ap places_of stored_is ∙ passed_places stages p n d e s t first last
-          (lets ∙ ap (λ x. letting_go n (place_of x)) let_go_is)
-          (gains ∙ (ap (λ (x : Stage). gaining (take n x.buffer.octets) (place_of (get_or back 0 e))) let_go_is
-              ∙ ap (λ y. gaining (take n (get_or stages (p - 1) d).buffer.octets) (place_of y)) gains_is))
+      (lets ∙ ap (λ x. letting_go n (place_of x)) let_go_is)
+      (gains ∙ (ap (λ (x : Stage). gaining (take n x.buffer.octets) (place_of (get_or back 0 e))) let_go_is
+      ∙ ap (λ y. gaining (take n (get_or stages (p - 1) d).buffer.octets) (place_of y)) gains_is))
 
   pub parts_ready : (quantum : ℕ) → KeepsRoom (get_or front (p - 1) d) s → KeepsRoom (get_or back 0 e) t → p - 1 < length front → 0 < length back → All (IsReady quantum) stages → All (IsReady quantum) (set front (p - 1) s ++ set back 0 t)
   parts_ready quantum keeps keeps_next in_front in_back all =
       All-append (IsReady quantum) (set front (p - 1) s) (set back 0 t)
-          (ready_stored quantum front (p - 1) d s in_front keeps (subst (All (IsReady quantum)) (sym f) (All-take (IsReady quantum) p stages all)))
-          (ready_stored quantum back 0 e t in_back keeps_next (subst (All (IsReady quantum)) (sym b) (All-drop (IsReady quantum) p stages all)))
+      (ready_stored quantum front (p - 1) d s in_front keeps (subst (All (IsReady quantum)) (sym f) (All-take (IsReady quantum) p stages all)))
+      (ready_stored quantum back 0 e t in_back keeps_next (subst (All (IsReady quantum)) (sym b) (All-drop (IsReady quantum) p stages all)))
 
   -- the flags before and after
   pub above_before : above_in (places_of stages) p ≡ (get_or front (p - 1) d).buffer.above
@@ -68,7 +68,7 @@ module _ (stages front back : List Stage) (p : ℕ) (d e s t : Stage) (f : front
       let same : length (set (set stages (p - 1) s) p t) ≡ length stages = set_len in
       let apart : p - 1 ≡ p → ⊥ = λ h. absurd (omega arith) in
       let at : get_or (set (set stages (p - 1) s) p t) (p - 1) d ≡ s =
-          get_or-set_other (set stages (p - 1) s) p (p - 1) t d apart ∙ get_or-set_same stages (p - 1) s d (omega arith) in
+      get_or-set_other (set stages (p - 1) s) p (p - 1) t d apart ∙ get_or-set_same stages (p - 1) s d (omega arith) in
       ap (λ xs. above_in (places_of xs) p) stored_is
       ∙ (stage_above (set (set stages (p - 1) s) p t) (p - 1) p d (omega arith) (omega arith) ∙ ap (λ (x : Stage). x.buffer.above) at)
 

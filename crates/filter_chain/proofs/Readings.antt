@@ -60,12 +60,12 @@ empty_before_is : (chain : Chain) (stages : List Stage) (d : Stage) (i : ℕ) �
 empty_before_is chain stages d zero seen within = refl
 empty_before_is chain stages d (suc i) seen within =
     let at : octets_at chain (suc i) ≡ (get_or stages i d).buffer.octets =
-        ap (λ ps. octets_in ps (suc i)) (sym seen) ∙ stage_octets stages i (suc i) d (sym (add-one i)) (omega arith) in
+    ap (λ ps. octets_in ps (suc i)) (sym seen) ∙ stage_octets stages i (suc i) d (sym (add-one i)) (omega arith) in
     let one : is_empty_at chain (suc i) ≡ has_none (get_or stages i d) = ap (λ (octets : List ℕ). length octets == 0) at in
     let rest : empty_before chain (suc i) ≡ (chain.recv_empty && list_all has_none (take i stages)) =
-        empty_before_is chain stages d i seen (omega arith) in
+    empty_before_is chain stages d i seen (omega arith) in
     let more : list_all has_none (take (suc i) stages) ≡ (list_all has_none (take i stages) && has_none (get_or stages i d)) =
-        ap (λ k. list_all has_none (take k stages)) (sym (add-one i)) ∙ list_all_more has_none stages i d (omega arith) in
+    ap (λ k. list_all has_none (take k stages)) (sym (add-one i)) ∙ list_all_more has_none stages i d (omega arith) in
     ap (λ b. b && empty_before chain (suc i)) one
     ∙ (ap (λ b. has_none (get_or stages i d) && b) rest
     ∙ (turned chain.recv_empty (list_all has_none (take i stages)) (has_none (get_or stages i d)) ∙ ap (λ b. chain.recv_empty && b) (sym more)))
@@ -103,7 +103,7 @@ pub holds_step : (chain : Chain) (stages : List Stage) (i : ℕ) (d : Stage) →
 holds_step chain stages i d seen within =
     let len : length chain.places ≡ length stages = sym (ap length seen) ∙ length-map stages place_of in
     let at : get_or chain.places i (place_of d) ≡ place_of (get_or stages i d) =
-        ap (λ ps. get_or ps i (place_of d)) (sym seen) ∙ get_or-map place_of stages i d in
+    ap (λ ps. get_or ps i (place_of d)) (sym seen) ∙ get_or-map place_of stages i d in
     ap (holds_filled chain (i + 1)) (drop-cons chain.places i (place_of d) (omega arith))
     ∙ (ap (λ (x : Place). (not (is_hold x.kind) || is_whole_at chain (i + 1)) && holds_filled chain ((i + 1) + 1) (drop (suc i) chain.places)) at
     ∙ ap (λ k. (not (is_hold (get_or stages i d).kind) || is_whole_at chain (i + 1)) && holds_filled chain ((i + 1) + 1) (drop k chain.places)) (sym (add-one i)))

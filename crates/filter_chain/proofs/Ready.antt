@@ -57,4 +57,4 @@ hold_limited Send place within e = cc
 pub room_for : (quantum n : ℕ) (stage : Stage) → IsReady quantum stage → IsPlace (place_of stage) → is_overfilled_by n (place_of stage) ≡ false → has_room quantum n (place_of stage) ≡ true → n ≤ stage.buffer.spare
 room_for quantum n stage ready sound fits room =
     room_by stage.kind quantum n stage.buffer.limit (length stage.buffer.octets) stage.buffer.spare stage.buffer.above
-        ready fits sound.low (hold_limited stage.kind (place_of stage) sound.kind) room
+    ready fits sound.low (hold_limited stage.kind (place_of stage) sound.kind) room

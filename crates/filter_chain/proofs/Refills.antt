@@ -34,7 +34,7 @@ pub refill_step : (f : Place → Place) (first now : List Stage) (i : ℕ) (d ne
 refill_step f first now i d new same within is to =
     let len : length (places_of first) ≡ length first = length-map first place_of in
     let was : place_of (get_or now i d) ≡ get_or (places_of first) i (place_of d) =
-        sym (get_or-map place_of now i d) ∙ (ap (λ ps. get_or ps i (place_of d)) is ∙ get_or-partly f (places_of first) i (place_of d)) in
+    sym (get_or-map place_of now i d) ∙ (ap (λ ps. get_or ps i (place_of d)) is ∙ get_or-partly f (places_of first) i (place_of d)) in
     map-set place_of now i new
     ∙ (ap (set (places_of now) i) (to ∙ ap f was)
     ∙ (ap (λ ps. set ps i (f (get_or (places_of first) i (place_of d)))) is

@@ -43,10 +43,10 @@ two_stored stages front back p s t f b first last =
     let len : length front ≡ p = ap length f ∙ length-take-le p stages (omega arith) in
     let front_len : length (set front (p - 1) s) ≡ p = length-set front (p - 1) s ∙ len in
     let one : set stages (p - 1) s ≡ set front (p - 1) s ++ back =
-        ap (λ xs. set xs (p - 1) s) (sym whole) ∙ set-append_left front back (p - 1) s (omega arith) in
+    ap (λ xs. set xs (p - 1) s) (sym whole) ∙ set-append_left front back (p - 1) s (omega arith) in
     let zero_on : p - p ≡ 0 = omega arith in
     let two : set (set front (p - 1) s ++ back) p t ≡ set front (p - 1) s ++ set back 0 t =
-        set-append_right (set front (p - 1) s) back p p t front_len (omega arith) ∙ ap (λ k. set front (p - 1) s ++ set back k t) zero_on in
+    set-append_right (set front (p - 1) s) back p p t front_len (omega arith) ∙ ap (λ k. set front (p - 1) s ++ set back k t) zero_on in
     sym (ap (λ xs. set xs p t) one ∙ two)
 
 -- the stages of the two parts
@@ -66,16 +66,16 @@ pub passed_places : (stages : List Stage) (p n : ℕ) (d e s t : Stage) → 1 �
 passed_places stages p n d e s t first last let_go gains =
     let before : p ≡ (p - 1) + 1 = omega arith in
     let one : places_of (set stages (p - 1) s) ≡ changed_at (letting_go n) p (places_of stages) =
-        stage_changed (letting_go n) stages (p - 1) p d s before (omega arith) let_go in
+    stage_changed (letting_go n) stages (p - 1) p d s before (omega arith) let_go in
     let next : p + 1 ≡ suc p = add-one p in
     let apart : p + 1 ≡ p → ⊥ = λ h. absurd (omega arith) in
     let at : slice_get (changed_at (letting_go n) p (places_of stages)) p ≡ Some (place_of (get_or stages p e)) =
-        ap (place_at (changed_at (letting_go n) p (places_of stages))) (sym next)
-        ∙ (place_at-changed_other (letting_go n) (places_of stages) p (p + 1) apart ∙ stage_place stages p (p + 1) e refl last) in
+    ap (place_at (changed_at (letting_go n) p (places_of stages))) (sym next)
+    ∙ (place_at-changed_other (letting_go n) (places_of stages) p (p + 1) apart ∙ stage_place stages p (p + 1) e refl last) in
     let moved : take n (get_or stages (p - 1) d).buffer.octets ≡ take n (octets_in (places_of stages) p) =
-        ap (take n) (sym (stage_octets stages (p - 1) p d before (omega arith))) in
+    ap (take n) (sym (stage_octets stages (p - 1) p d before (omega arith))) in
     let gained : place_of t ≡ gaining (take n (octets_in (places_of stages) p)) (place_of (get_or stages p e)) =
-        gains ∙ ap (λ octets. gaining octets (place_of (get_or stages p e))) moved in
+    gains ∙ ap (λ octets. gaining octets (place_of (get_or stages p e))) moved in
     map-set place_of (set stages (p - 1) s) p t
     ∙ (ap (λ ps. set ps p (place_of t)) one
     ∙ changed_as (gaining (take n (octets_in (places_of stages) p))) (changed_at (letting_go n) p (places_of stages)) p (p + 1) (place_of (get_or stages p e)) (place_of t) refl at gained)

@@ -22,10 +22,10 @@ passed_sound places p n free few sound =
     let let_go : AreSound (changed_at (letting_go n) p places) = changed_sound (letting_go n) (λ x. refl) places p (λ x e. IsPlace-letting_go n x) sound in
     let apart : p + 1 ≡ p → ⊥ = λ h. absurd (omega arith) in
     let same : overfills_in (changed_at (letting_go n) p places) (p + 1) n ≡ overfills_in places (p + 1) n =
-        ap (λ (o : Option Place). option_map_or (is_overfilled_by n) o false) (place_at-changed_other (letting_go n) places p (p + 1) apart) in
+    ap (λ (o : Option Place). option_map_or (is_overfilled_by n) o false) (place_at-changed_other (letting_go n) places p (p + 1) apart) in
     let all : length (take n (octets_in places p)) ≡ n = length-take-le n (octets_in places p) few in
     gaining_sound (changed_at (letting_go n) p places) (p + 1) (take n (octets_in places p))
-        (ap (overfills_in (changed_at (letting_go n) p places) (p + 1)) all ∙ (same ∙ free)) let_go
+    (ap (overfills_in (changed_at (letting_go n) p places) (p + 1)) all ∙ (same ∙ free)) let_go
 
 pub fed_sound : (places : List Place) (octets : List ℕ) (n : ℕ) → n ≤ length octets → overfills_in places 1 n ≡ false → AreSound places → AreSound (changed_at (gaining (take n octets)) 1 places)
 fed_sound places octets n few free sound =

@@ -1,6 +1,6 @@
 -- What each change leaves of a chain.
 use Rattle.std.specs.Option.{option_map_or}
-use Rattle.std.specs.Prelude.{◌+◌, ◌-◌, ◌/◌, ℕ, suc, zero, List, length, take, map, slice_get, slice_set, Bool, true}
+use Rattle.std.specs.Prelude.{◌+◌, ◌-◌, ◌/◌, ℕ, suc, zero, List, length, take, map, slice_get, slice_set, Bool, true, [], ◌∷◌, ◌++◌}
 use Rattle.filter_chain.specs.Chain.{Chain, octets_in}
 use Rattle.filter_chain.specs.Place.{Place, gaining, losing, letting_go, refilled}
 
@@ -43,3 +43,8 @@ ticked chain now = record chain {
 -- the flow's end came, with the receive buffer empty or not
 abbrev pub finished : Chain → Bool → Chain
 finished chain recv_empty = record chain { ended = true; recv_empty = recv_empty }
+
+-- what lies at these places, in the order in which it goes
+abbrev pub on_the_way : List Place → List ℕ
+on_the_way [] = []
+on_the_way (place ∷ places) = on_the_way places ++ place.octets

@@ -3,10 +3,14 @@
 
 mod chain;
 mod fault;
+mod laws;
 mod meter;
 mod places;
 mod stage;
+#[cfg(test)]
+mod tests;
 
 pub use chain::Chain;
 pub use fault::OfferFault;
+pub use laws::{moves_leave_the_rest, octets_keep_their_order, one_place_changes, ticks_add_up};
 pub use stage::StageKind;

@@ -60,11 +60,7 @@ fn push_stage(
 }
 
 /// Moves the first n octets of a buffer into the first stage.
-pub fn feed(
-    stages: &mut [Stage],
-    from: &mut WatermarkBuffer,
-    n: u32,
-) -> Result<Shifted, OfferFault>
+pub fn feed(stages: &mut [Stage], from: &mut WatermarkBuffer, n: u32) -> Result<Shifted, OfferFault>
     requires some { 0 < length stages.old }
     requires octets { n ≤ length from.old.octets }
     ensures drops { OnOk result (DropsOctets from.old from.new n) }

@@ -74,12 +74,7 @@ impl Stage {
 
     /// An empty stage. A Meter begins with as many tokens as its rate. Where there is a limit, room is
     /// made for it, and but for a Hold for one move beyond it.
-    pub fn new(
-        alloc: Global,
-        kind: StageKind,
-        limit: u32,
-        quantum: u32,
-    ) -> Result<Self, NoMemory>
+    pub fn new(alloc: Global, kind: StageKind, limit: u32, quantum: u32) -> Result<Self, NoMemory>
         requires { limit + quantum < 2 ^ 31 }
         ensures place { IfOk result (λ stage. place_of stage ≡ empty_place kind limit) }
         ensures ready { IfOk result (IsReady quantum) }
@@ -111,7 +106,8 @@ impl Stage {
     pub fn is_overfilled_by(&self, n: u32) -> bool
         ensures { result ≡ is_overfilled_by n (place_of self.now) }
     {
-        self.kind.is_hold() && u64::from(self.buffer.limit()) < u64::from(self.buffer.len()) + u64::from(n)
+        self.kind.is_hold()
+            && u64::from(self.buffer.limit()) < u64::from(self.buffer.len()) + u64::from(n)
     }
 
     /// Takes the first n octets of a buffer.

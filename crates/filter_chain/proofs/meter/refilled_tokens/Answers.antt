@@ -13,5 +13,6 @@ some_steps rate (suc n) h = grind arith
 pub returns : goal.returns
 returns c =
     elim c.if-steps-eq0.branch [
-      then-steps-eq0 w ↦ let none : c.args.rate * c.args.steps ≡ 0 = no_step c.args.rate c.args.steps (omega arith) in omega arith
-    | else-steps-eq0 w ↦ let more : c.args.rate ≤ c.args.rate * c.args.steps = some_steps c.args.rate c.args.steps (omega arith) in omega arith ]
+      | then-steps-eq0 w ↦ let none : c.args.rate * c.args.steps ≡ 0 = no_step c.args.rate c.args.steps (omega arith) in omega arith
+      | else-steps-eq0 w ↦ let more : c.args.rate ≤ c.args.rate * c.args.steps = some_steps c.args.rate c.args.steps (omega arith) in omega arith
+    ]

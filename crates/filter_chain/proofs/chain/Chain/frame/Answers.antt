@@ -22,11 +22,11 @@ use Rattle.filter_chain.proofs.chain.Chain.frame.Goals as goal
 pub invariant_of-self : goal.invariant_of-self
 invariant_of-self c =
     let was : AreSound (places_of c.deref_mut.result.now) =
-        subst (λ xs. AreSound (places_of xs)) (sym c.deref_mut.ensures.value) (places_sound (chain_of c.self.inside) c.self.invariant.sound) in
+    subst (λ xs. AreSound (places_of xs)) (sym c.deref_mut.ensures.value) (places_sound (chain_of c.self.inside) c.self.invariant.sound) in
     let moved : OnOk c.frame_last.result (AreSound (places_of c.frame_last.new.stages)) =
-        on_ok_weaker c.frame_last.result (λ loses. subst AreSound (sym loses) (loses_sound (places_of c.deref_mut.result.now) c.args.n was)) c.frame_last.ensures.loses in
+    on_ok_weaker c.frame_last.result (λ loses. subst AreSound (sym loses) (loses_sound (places_of c.deref_mut.result.now) c.args.n was)) c.frame_last.ensures.loses in
     let now : AreSound (places_of c.frame_last.new.stages) =
-        either_way c.frame_last.result moved c.frame_last.ensures.err (λ s. s) (λ e. subst (λ xs. AreSound (places_of xs)) (sym e.0) was) in
+    either_way c.frame_last.result moved c.frame_last.ensures.err (λ s. s) (λ e. subst (λ xs. AreSound (places_of xs)) (sym e.0) was) in
     let whole : (with_items c.self.inside.stages c.frame_last.new.stages).items ≡ c.frame_last.new.stages = with_items_is c.self.inside.stages c.frame_last.new.stages (omega arith) in
     let there : AreSound (places_of (with_items c.self.inside.stages c.frame_last.new.stages).items) = subst (λ xs. AreSound (places_of xs)) (sym whole) now in
     record {

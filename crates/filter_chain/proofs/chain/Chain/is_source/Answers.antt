@@ -20,4 +20,4 @@ pub returns : goal.returns
 returns c =
     c.is_source.ensures
     ∙ sym (ap (λ (o : Option Place). option_map_or (λ place. is_source place.kind) o false)
-        (at_place c.args.self.now c.self.inside.stages.items c.args.place c.index.result.now (ap (λ (chain : Chain). chain.places) c.self.view_is) c.requires.first c.requires.last c.index.ensures))
+    (at_place c.args.self.now c.self.inside.stages.items c.args.place c.index.result.now (ap (λ (chain : Chain). chain.places) c.self.view_is) c.requires.first c.requires.last c.index.ensures))

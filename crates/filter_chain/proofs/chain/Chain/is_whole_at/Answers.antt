@@ -26,11 +26,12 @@ returns-then-self-2 c =
     let recv : c.self.inside.recv_empty ≡ c.args.self.now.recv_empty = ap (λ (chain : Chain). chain.recv_empty) c.self.view_is in
     let len : length c.args.self.now.places ≡ length c.self.inside.stages.items = sym (ap length seen) ∙ length-map c.self.inside.stages.items place_of in
     elim c.if-self.branch [
-      then-self w ↦
-        (c.all_empty.ensures ∙ ap (λ xs. list_all has_none (take c.args.index xs)) c.deref.ensures.value)
-        ∙ whole_is c.args.self.now c.self.inside.stages.items c.args.index seen (omega arith) (sym ended ∙ w.if-self.true) (sym recv ∙ (sym w.value-is ∙ c.if-self-2.true))
-    | else-self w ↦
-        let no : c.self.inside.ended ≡ false = w.if-self.false in
-        let is : c.if-self.value ≡ c.self.inside.ended = w.value-is in
-        let yes : c.if-self.value ≡ true = c.if-self-2.true in
-        absurd cc ]
+      | then-self w ↦
+          (c.all_empty.ensures ∙ ap (λ xs. list_all has_none (take c.args.index xs)) c.deref.ensures.value)
+          ∙ whole_is c.args.self.now c.self.inside.stages.items c.args.index seen (omega arith) (sym ended ∙ w.if-self.true) (sym recv ∙ (sym w.value-is ∙ c.if-self-2.true))
+      | else-self w ↦
+          let no : c.self.inside.ended ≡ false = w.if-self.false in
+          let is : c.if-self.value ≡ c.self.inside.ended = w.value-is in
+          let yes : c.if-self.value ≡ true = c.if-self-2.true in
+          absurd cc
+    ]

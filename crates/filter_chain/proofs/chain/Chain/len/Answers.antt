@@ -20,4 +20,4 @@ pub returns : goal.returns
 returns c =
     c.len.ensures
     ∙ sym (ap length (octets_is c.args.self.now c.args.place (place_of c.index.result.now)
-        (at_place c.args.self.now c.self.inside.stages.items c.args.place c.index.result.now (ap (λ (chain : Chain). chain.places) c.self.view_is) c.requires.first c.requires.last c.index.ensures)))
+    (at_place c.args.self.now c.self.inside.stages.items c.args.place c.index.result.now (ap (λ (chain : Chain). chain.places) c.self.view_is) c.requires.first c.requires.last c.index.ensures)))

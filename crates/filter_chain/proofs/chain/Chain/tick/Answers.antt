@@ -22,9 +22,9 @@ use Rattle.filter_chain.proofs.chain.Chain.tick.Goals as goal
 pub invariant_of-self : goal.invariant_of-self
 invariant_of-self c =
     let was : AreSound (places_of c.deref_mut.result.now) =
-        subst (λ xs. AreSound (places_of xs)) (sym c.deref_mut.ensures.value) (places_sound (chain_of c.self.inside) c.self.invariant.sound) in
+    subst (λ xs. AreSound (places_of xs)) (sym c.deref_mut.ensures.value) (places_sound (chain_of c.self.inside) c.self.invariant.sound) in
     let now : AreSound (places_of c.refill_all.new.stages) =
-        subst AreSound (sym c.refill_all.ensures.places) (refilled_sound c.go_on-steps.result (places_of c.deref_mut.result.now) was) in
+    subst AreSound (sym c.refill_all.ensures.places) (refilled_sound c.go_on-steps.result (places_of c.deref_mut.result.now) was) in
     let whole : (with_items c.self.inside.stages c.refill_all.new.stages).items ≡ c.refill_all.new.stages = with_items_is c.self.inside.stages c.refill_all.new.stages (omega arith) in
     let there : AreSound (places_of (with_items c.self.inside.stages c.refill_all.new.stages).items) = subst (λ xs. AreSound (places_of xs)) (sym whole) now in
     let time : c.self.inside.clock.time ≡ c.args.self.now.time = ap (λ (chain : Chain). chain.time) c.self.view_is in
