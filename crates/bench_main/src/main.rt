@@ -13,10 +13,7 @@ use std::env;
 
 const USAGE: &str = "usage: bench_main BENCH
   buffer   octets through two watermark buffers, beside two plain copies
-  buffer   octets through two watermark buffers, beside two plain copies
   fields   blocks of request fields, decoded and encoded (fields blocks: prints them)
-  fields   blocks of request fields, decoded and encoded (fields blocks: prints them)
-  frames   reading of frames
   frames   reading of frames
   gates    calls of the gates while few and while many flows are open
   session  acts of frames, with 10 and with 1,000 open streams

@@ -1,4 +1,5 @@
 pub mod Changes
+pub mod Heads
 pub mod Made
 pub mod Marks
 pub mod Moves

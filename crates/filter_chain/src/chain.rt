@@ -21,7 +21,7 @@ use wm_buffer::{Shifted, WatermarkBuffer};
 /// The stages of one flow, and its send buffer behind them.
 ///
 /// Its places are counted from 1: the stages, and then the send buffer. Place 0 is the flow's receive
-/// buffer, which stands outside.
+/// buffer, which stands outside. Octets leave a place at its front and come to the end of the next.
 #[derive(Debug, Drop)]
 pub struct Chain {
     flow: FlowId,
@@ -47,9 +47,10 @@ impl Model for Chain {
 impl Chain {
     /// The stages of a flow's filters and its send buffer, empty.
     ///
-    /// A Pass makes no stage. `send_limit` is in octets, 0 for none. The Meters start at `now`, in ms.
-    /// One move carries at most `quantum` octets. Each buffer with a limit gets its room here: a Hold
-    /// for its limit, a Meter and the send buffer for `quantum` more.
+    /// There are at most 8 filters, and a Pass makes no stage. `send_limit` is 0 to 16,777,216 octets,
+    /// 0 for none. The Meters start at `now`, in ms, with as many tokens as their rates. One move
+    /// carries at most `quantum` octets, 16,384 to 1,048,576. Each buffer with a limit gets its room
+    /// here: a Hold for its limit, a Meter and the send buffer for `quantum` more.
     pub fn new(
         alloc: Global,
         flow: FlowId,

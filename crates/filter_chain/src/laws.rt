@@ -1,9 +1,10 @@
 // What holds of chains, whatever is done to them.
-ghost use Rattle.std.specs.Prelude.{◌≡◌, ◌≢◌, ◌+◌, ◌≤◌, ◌<◌, ◌++◌, ◌==◌, ℕ, Bool, List, [], drop, length, map, take, if◌then◌else◌};
+ghost use Rattle.std.specs.Prelude.{◌≡◌, ◌≢◌, ◌+◌, ◌≤◌, ◌<◌, ◌++◌, ◌==◌, ℕ, Bool, List, [], drop, length, map, take, true, false, if◌then◌else◌};
 ghost use Rattle.std.specs.Option.{option_map};
 ghost use Rattle.filter_chain.specs.Chain.{Chain, octets_at, place_at, send_place};
 ghost use Rattle.filter_chain.specs.Effects.{changed_at, framed, offered, on_the_way, released, ticked};
-ghost use Rattle.filter_chain.specs.Place.{Place};
+ghost use Rattle.filter_chain.specs.Place.{Place, is_hold};
+ghost use Rattle.filter_chain.specs.Release.{head_may_go, is_whole_at};
 
 /// A change of one place leaves the others, and all places where they are.
 pub fn one_place_changes()
@@ -41,4 +42,13 @@ pub fn octets_keep_their_order()
 pub fn ticks_add_up()
     ensures { (chain : Chain) (now later : ℕ) → chain.started ≤ chain.time → chain.time ≤ now → now ≤ later
         → ticked (ticked chain now) later ≡ ticked chain later }
+{}
+
+/// A head waits exactly where there is a Hold to which the body hasn't come whole: the flow's end
+/// hasn't come, or a place before the Hold isn't empty.
+pub fn heads_wait_for_holds()
+    ensures waits { (chain : Chain) (p : ℕ) (place : Place) → place_at chain.places p ≡ Some place → is_hold place.kind ≡ true
+        → is_whole_at chain p ≡ false → head_may_go chain ≡ false }
+    ensures goes { (chain : Chain) → ((p : ℕ) (place : Place) → place_at chain.places p ≡ Some place → is_hold place.kind ≡ true
+        → is_whole_at chain p ≡ true) → head_may_go chain ≡ true }
 {}

@@ -6,11 +6,15 @@ mod fault;
 mod laws;
 mod meter;
 mod places;
+#[cfg(test)]
+mod sessions;
 mod stage;
 #[cfg(test)]
 mod tests;
 
 pub use chain::Chain;
 pub use fault::OfferFault;
-pub use laws::{moves_leave_the_rest, octets_keep_their_order, one_place_changes, ticks_add_up};
-pub use stage::StageKind;
+pub use laws::{
+    heads_wait_for_holds, moves_leave_the_rest, octets_keep_their_order, one_place_changes,
+    ticks_add_up,
+};
