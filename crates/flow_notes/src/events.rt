@@ -78,6 +78,17 @@ pub enum Event {
     Plain(PlainEvent),
 }
 
+impl Event {
+    ghost use Rattle.flow_notes.specs.Event as spec;
+
+    /// Whether the event belongs to a plain session.
+    pub fn is_plain(&self) -> bool
+        ensures { result ≡ spec.is_plain self.now }
+    {
+        matches!(self, Event::Plain(_))
+    }
+}
+
 /// A list of events.
 #[derive(Debug, Drop)]
 pub struct EventList {

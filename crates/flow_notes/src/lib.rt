@@ -2,7 +2,22 @@
 #![tactic(auto)]
 
 mod events;
+mod keywords;
+mod laws;
+mod names;
 mod notes;
+mod reading;
+mod writing;
+
+/// How many octets are spelled in hex at once, on the stack.
+const HEX_PIECE: usize = 256;
 
 pub use events::{Event, EventList, Job, PlainEvent};
+pub use laws::{one_event, one_note};
+pub use names::{NameRefusal, Names};
 pub use notes::{Cause, CloseCause, FireKind, Note, Notes};
+pub use reading::{read_event, read_note, read_numbers};
+pub use writing::{event_text, note_text};
+
+#[cfg(test)]
+mod tests;

@@ -1,0 +1,13 @@
+pub mod EventLines
+pub mod Extending
+pub mod Hex
+pub mod Lines
+pub mod NameLemmas
+pub mod NoEvent
+pub mod NoteLines
+pub mod NumberLines
+pub mod NumberLists
+pub mod Numbers
+pub mod Octets
+pub mod Splitting
+pub mod Words
