@@ -1,0 +1,61 @@
+-- Tapes that break one rule each, and aren't lawful.
+use Rattle.std.proofs.Common.{ap}
+use Rattle.std.specs.Prelude.{[], false, ◌∷◌}
+use Rattle.tape_rows.proofs.Tapes.{Whole, begun, eased, limits_10_19, limits_8_10, limits_8_30, moved, octets, paused, q1, q3, write}
+use Rattle.tape_rows.proofs.TwoStreams.{begun_while_above, limits_100_30, pair_ended, refilling}
+use Rattle.flow_gate.specs.declared.ids.BufferId.TheVariants as buffer
+use Rattle.flow_notes.specs.declared.events.Event.TheVariants as event
+use Rattle.flow_notes.specs.declared.notes.Note.TheVariants as note
+use Rattle.flow_notes.specs.declared.events.PlainEvent.TheVariants as plain
+
+-- the send buffer rose over its limit, and no pause stands
+pub pause_left_out : Whole limits_8_30 (note.Frame 0 q1 10 false ∷ moved) → ⊥
+pause_left_out w = let k = w.lawful.lawful.paused.0 in cc
+
+-- the write buffer drained, and no resume stands
+pub resume_left_out : Whole limits_8_10 eased → ⊥
+resume_left_out w = let k = w.quiet.told.0 in cc
+
+-- a frame while the write buffer is above
+pub frame_while_above : Whole limits_8_10 (note.Frame 0 q1 5 false ∷ note.Arrive q1 (octets 5) ∷ note.Turn 3 (event.Plain (plain.Body 1 (octets 5))) ∷ paused) → ⊥
+frame_while_above w = let k = w.lawful.lawful.allowed.0.write.low in cc
+
+-- ten octets came, and nine go on
+pub octet_lost : Whole limits_10_19 (note.Frame 0 q1 9 false ∷ note.Move q1 0 9 ∷ note.Arrive q1 (octets 9) ∷ note.Turn 2 (event.Plain (plain.Body 1 (octets 10))) ∷ begun) → ⊥
+octet_lost w = let k = w.lawful.lawful.answered.1.1.0 in cc
+
+-- a move out of the receive buffer of a flow that is paused
+pub moved_while_paused : Whole limits_8_10 (note.Move q1 0 5 ∷ note.Arrive q1 (octets 5) ∷ note.Turn 3 (event.Plain (plain.Body 1 (octets 5))) ∷ paused) → ⊥
+moved_while_paused w = let k = w.lawful.lawful.allowed.0.last in cc
+
+-- octets that have room stay
+pub room_unanswered : Whole limits_8_10 (note.Turn 3 (event.Plain (plain.Room 9)) ∷ paused) → ⊥
+room_unanswered w = let k = w.quiet.asked in cc
+
+-- a stream that is opened and not started
+pub open_unanswered : Whole limits_8_30 (note.Turn 1 (event.Plain (plain.Begin 1)) ∷ []) → ⊥
+open_unanswered w = let k = w.quiet.asked in cc
+
+-- a dispatch that ends with octets that may move
+pub left_over : Whole limits_8_30 (note.Arrive q1 (octets 10) ∷ note.Turn 2 (event.Plain (plain.Body 1 (octets 10))) ∷ begun) → ⊥
+left_over w = let k = w.quiet.still.0 in cc
+
+-- low as soon as the length is at most the limit
+pub low_at_the_limit : Whole limits_8_10 (note.Resume q1 write ∷ note.Out 0 9 ∷ note.Turn 3 (event.Plain (plain.Room 9)) ∷ paused) → ⊥
+low_at_the_limit w = w.lawful.lawful.paused.0.1
+
+-- above already at the limit
+pub above_at_the_limit : Whole limits_10_19 (note.Resume q1 (buffer.Send q1) ∷ note.Frame 0 q1 10 false ∷ note.Pause q1 (buffer.Send q1) ∷ moved) → ⊥
+above_at_the_limit w = w.lawful.lawful.paused.1.1.0
+
+-- a set of sources in place of a count: the rise during the second's own low is lost
+pub set_of_sources : Whole limits_100_30 (note.Resume q3 write ∷ note.Pause q1 write ∷ note.Frame 0 q1 22 false ∷ refilling) → ⊥
+set_of_sources w = let k = w.lawful.lawful.paused.0.0 in cc
+
+-- a doomed stream is told
+pub doomed_told : Whole limits_100_30 (note.Gone 3 ∷ note.Gone 1 ∷ note.Resume q3 write ∷ pair_ended) → ⊥
+doomed_told w = w.lawful.lawful.paused.1.1.0.1
+
+-- the watchers of a buffer are told in another order
+pub told_out_of_order : Whole limits_100_30 (note.Resume q1 write ∷ note.Resume q3 write ∷ note.Out 0 19 ∷ note.Turn 4 (event.Plain (plain.Room 19)) ∷ note.Pause q3 write ∷ begun_while_above) → ⊥
+told_out_of_order w = let k = ap (λ f. f.exchange) w.lawful.lawful.paused.1.0.1 in cc

@@ -1,0 +1,5 @@
+-- Whole tapes, judged by the definitions.
+pub mod Tapes
+pub mod OneStream
+pub mod TwoStreams
+pub mod Broken
