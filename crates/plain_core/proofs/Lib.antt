@@ -1,0 +1,14 @@
+pub mod Dispatching
+pub mod Events
+pub mod Flags
+pub mod Frames
+pub mod Greatest
+pub mod Keeping
+pub mod Lawful
+pub mod Leaves
+pub mod Moves
+pub mod Own
+pub mod Settled
+pub mod Showing
+pub mod Spelled
+pub mod Tellings
