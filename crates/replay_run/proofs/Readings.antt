@@ -1,0 +1,252 @@
+-- Lines that are read, and that are refused.
+use Rattle.flow_notes.specs.Event.{IsEvent, event_spelling, is_plain}
+use Rattle.flow_notes.specs.Fields.{Fits32, FitsEvent}
+use Rattle.flow_notes.specs.Line.{line_of}
+use Rattle.flow_notes.specs.declared.events.Event.{Event}
+use Rattle.flow_notes.specs.declared.events.PlainEvent.{PlainEvent}
+use Rattle.io_ports.specs.declared.octets.NoMemory.{NoMemory}
+use Rattle.replay_run.specs.Courses.{CoursesAre, Follows}
+use Rattle.replay_run.specs.Following.{may_follow}
+use Rattle.replay_run.specs.Grammar.{HasNoHeader, HasNoLimits, IsLimitsLine}
+use Rattle.replay_run.specs.Orders.{Accepts, OrderIs, ReadsAt, ReadsLine, StageIs}
+use Rattle.replay_run.specs.Reading.{EventAt, EventReadAt, FollowsRead, ReadsEvent, SpellsEvent}
+use Rattle.replay_run.specs.Seen.{EventOf, Headed, HeaderOf, Item, LimitsOf, Playing, Seen, Spells, Unread, are_limits, header_line, is_quantum, limit_numbers}
+use Rattle.replay_run.specs.declared.courses.Courses.{Courses}
+use Rattle.replay_run.specs.declared.order.Format.{Format}
+use Rattle.replay_run.specs.declared.order.LineRead.{LineRead}
+use Rattle.replay_run.specs.declared.order.Order.{Order}
+use Rattle.replay_run.specs.declared.order.Stage.{Stage}
+use Rattle.std.proofs.Common.{ap, arith, refl, subst, sym, ◌∙◌}
+use Rattle.std.proofs.lemmas.Bool.Decides.{nat_tests}
+use Rattle.std.specs.Fmt.{decimal}
+use Rattle.std.specs.List.{AllByRecursion}
+use Rattle.std.specs.Prelude.{Bool, Err, IfNone, IfSome, List, None, Ok, Option, Result, Some, [], codes, false, map, nat_le, true, ℕ, ◌&&◌, ◌<◌, ◌==◌, ◌^◌, ◌∷◌, ◌≡◌, ◌≤◌}
+use Rattle.tape_laws.specs.declared.limits.PlainLimits.{PlainLimits}
+use Rattle.flow_notes.specs.declared.events.Event.TheVariants as event
+use Rattle.replay_run.specs.declared.order.Format.TheVariants as format
+use Rattle.replay_run.specs.declared.order.LineRead.TheVariants as read
+use Rattle.replay_run.specs.declared.order.Stage.TheVariants as stage
+
+-- the ranges of limits, one by one
+pub record InRanges (f : Format) (l : PlainLimits) : Type 0 where
+  pub recv : l.recv ≤ 16777216
+  pub send : l.send ≤ 16777216
+  pub write : l.write ≤ 16777216
+  pub quantum : is_quantum f l.quantum ≡ true
+
+ranges_of : (r s w : ℕ) (q : Bool) → (nat_le 1 r && nat_le r 16777216 && nat_le s 16777216 && nat_le w 16777216 && q) ≡ true
+    → (r ≤ 16777216) × (s ≤ 16777216) × (w ≤ 16777216) × (q ≡ true)
+ranges_of r s w true e = grind (arith, nat_tests)
+ranges_of r s w false e = grind (arith, nat_tests)
+
+pub in_ranges : (f : Format) (l : PlainLimits) → are_limits f l ≡ true → InRanges f l
+in_ranges f l e = let k = ranges_of l.recv l.send l.write (is_quantum f l.quantum) e in record { recv = k.0; send = k.1; write = k.2; quantum = k.3 }
+
+one_quantum : (q : ℕ) → (q == 16384) ≡ true → q ≡ 16384
+one_quantum q e = grind (arith, nat_tests)
+
+two_quantum : (q : ℕ) → (nat_le 16384 q && nat_le q 1048576) ≡ true → q < 2 ^ 32
+two_quantum q e = grind (arith, nat_tests)
+
+numbers_fit : (f : Format) (l : PlainLimits) → InRanges f l → AllByRecursion Fits32 (limit_numbers f l)
+numbers_fit format.One l r = let a = r.recv in let b = r.send in let c = r.write in (omega (arith, a), (omega (arith, b), (omega (arith, c), tt)))
+numbers_fit format.Two l r =
+    let a = r.recv in let b = r.send in let c = r.write in let q = two_quantum l.quantum r.quantum in
+    (omega (arith, a), (omega (arith, b), (omega (arith, c), (omega (arith, q), tt))))
+
+same_limits : (f : Format) (l m : PlainLimits) → limit_numbers f l ≡ limit_numbers f m → is_quantum f l.quantum ≡ true → (f ≡ format.One → m.quantum ≡ 16384) → are_limits f l ≡ are_limits f m
+same_limits format.One l m e q n =
+    let ql : l.quantum ≡ 16384 = one_quantum l.quantum q in
+    let qm : m.quantum ≡ 16384 = n refl in
+    let a : l.recv ≡ m.recv = cc in let b : l.send ≡ m.send = cc in let c : l.write ≡ m.write = cc in
+    let d : l.quantum ≡ m.quantum = ql ∙ sym qm in
+    cc
+same_limits format.Two l m e q n =
+    let a : l.recv ≡ m.recv = cc in let b : l.send ≡ m.send = cc in let c : l.write ≡ m.write = cc in let d : l.quantum ≡ m.quantum = cc in
+    cc
+
+clash : (b : Bool) → b ≡ true → b ≡ false → ⊥
+clash b t f = cc
+
+-- a line of numbers that aren't in range spells no limits
+pub no_limits : (f : Format) (line ns : List ℕ) (m : PlainLimits)
+    → ((ms : List ℕ) → AllByRecursion Fits32 ms → line_of (codes "limits" ∷ map decimal ms) ≡ line → ms ≡ ns)
+    → limit_numbers f m ≡ ns → (f ≡ format.One → m.quantum ≡ 16384) → are_limits f m ≡ false → HasNoLimits f line
+no_limits f line ns m only is q bad = record {
+  none = λ l r e.
+      let k = in_ranges f l r in
+      let same : limit_numbers f l ≡ limit_numbers f m = only (limit_numbers f l) (numbers_fit f l k) e ∙ sym is in
+      clash (are_limits f m) (sym (same_limits f l m same k.quantum q) ∙ r) bad;
+}
+
+-- nor does a line of other numbers, or of none
+pub other_numbers : (f : Format) (line ns : List ℕ)
+    → ((ms : List ℕ) → AllByRecursion Fits32 ms → line_of (codes "limits" ∷ map decimal ms) ≡ line → ms ≡ ns)
+    → ((l : PlainLimits) → limit_numbers f l ≡ ns → ⊥) → HasNoLimits f line
+other_numbers f line ns only none = record { none = λ l r e. none l (only (limit_numbers f l) (numbers_fit f l (in_ranges f l r)) e) }
+
+pub no_numbers : (f : Format) (line : List ℕ) → ((ms : List ℕ) → AllByRecursion Fits32 ms → line_of (codes "limits" ∷ map decimal ms) ≡ line → ⊥) → HasNoLimits f line
+no_numbers f line none = record { none = λ l r e. none (limit_numbers f l) (numbers_fit f l (in_ranges f l r)) e }
+
+-- the header
+pub header_read : (old : Order) (line : List ℕ) (f : Format) → old.stage ≡ stage.Begins → header_line f ≡ line → ReadsLine old line (record old { stage = stage.Headed f }) (Ok read.Header)
+header_read old line f begins e = record { goes = λ seen o. at seen o.names (let P : Stage → Type 0 = λ v. StageIs v seen in subst P begins o.stage) }
+  where
+    at : (seen : Seen) → old.names ≡ [] → StageIs stage.Begins seen → ReadsAt seen line (record old { stage = stage.Headed f }) (Ok read.Header)
+    at Unread n s = record { item = HeaderOf f; spells = record { may = tt; is = e }; read = refl; order = record { names = n; stage = refl } }
+    at (Headed g) n s = absurd s
+    at (Playing g l es) n s = absurd s
+
+pub header_refused : (old : Order) (line : List ℕ) → old.stage ≡ stage.Begins → HasNoHeader line → ReadsLine old line old (Ok read.Refused)
+header_refused old line begins none = record { goes = λ seen o. at seen o (let P : Stage → Type 0 = λ v. StageIs v seen in subst P begins o.stage) }
+  where
+    no_item : (item : Item) → Spells Unread line item → ⊥
+    no_item (HeaderOf f) s = none.none f s.is
+    no_item (LimitsOf l) s = s.may
+    no_item (EventOf e) s = s.may
+
+    at : (seen : Seen) → OrderIs old seen → StageIs stage.Begins seen → ReadsAt seen line old (Ok read.Refused)
+    at Unread o s = record { none = no_item; order = o }
+    at (Headed g) o s = absurd s
+    at (Playing g l es) o s = absurd s
+
+-- the limits
+pub limits_read : (old : Order) (line : List ℕ) (f : Format) (l : PlainLimits) (courses : Courses) → old.stage ≡ stage.Headed f → IsLimitsLine f line l → CoursesAre courses []
+    → ReadsLine old line (record old { stage = stage.Plays courses }) (Ok (read.Limits l))
+limits_read old line f l courses headed is none = record { goes = λ seen o. at seen o.names (let P : Stage → Type 0 = λ v. StageIs v seen in subst P headed o.stage) }
+  where
+    at : (seen : Seen) → old.names ≡ [] → StageIs (stage.Headed f) seen → ReadsAt seen line (record old { stage = stage.Plays courses }) (Ok (read.Limits l))
+    at Unread n s = absurd s
+    at (Headed g) n s =
+        let P : Format → Type 0 = λ v. IsLimitsLine v line l in let k = subst P s is in
+        record { item = LimitsOf l; spells = record { may = k.ranges; is = k.is }; read = refl; order = record { names = n; stage = none } }
+    at (Playing g m es) n s = absurd s
+
+pub limits_refused : (old : Order) (line : List ℕ) (f : Format) → old.stage ≡ stage.Headed f → HasNoLimits f line → ReadsLine old line old (Ok read.Refused)
+limits_refused old line f headed none = record { goes = λ seen o. at seen o (let P : Stage → Type 0 = λ v. StageIs v seen in subst P headed o.stage) }
+  where
+    no_item : (g : Format) → f ≡ g → (item : Item) → Spells (Headed g) line item → ⊥
+    no_item g e (HeaderOf h) s = s.may
+    no_item g e (LimitsOf l) s = let P : Format → Type 0 = λ v. HasNoLimits v line in (subst P e none).none l s.may s.is
+    no_item g e (EventOf h) s = s.may
+
+    at : (seen : Seen) → OrderIs old seen → StageIs (stage.Headed f) seen → ReadsAt seen line old (Ok read.Refused)
+    at Unread o s = absurd s
+    at (Headed g) o s = record { none = no_item g s; order = o }
+    at (Playing g l es) o s = absurd s
+
+-- an event
+pub event_read : (old : Order) (line : List ℕ) (courses new : Courses) (result : Result LineRead NoMemory) → old.stage ≡ stage.Plays courses → ReadsEvent old.names courses line new result
+    → ReadsLine old line (record old { stage = stage.Plays new }) result
+event_read old line courses new result plays r = record { goes = λ seen o. at seen o.names (let P : Stage → Type 0 = λ v. StageIs v seen in subst P plays o.stage) }
+  where
+    no_item : (g : Format) (l : PlainLimits) (es : List Event) → old.names ≡ [] → ((e : PlainEvent) → SpellsEvent old.names es line e → ⊥) → (item : Item) → Spells (Playing g l es) line item → ⊥
+    no_item g l es n none (HeaderOf h) s = s.may
+    no_item g l es n none (LimitsOf m) s = s.may
+    no_item g l es n none (EventOf (event.Plain e)) s =
+        let P : List (List ℕ) → Type 0 = λ v. SpellsEvent v es line e in
+        none e (subst P (sym n) (record { in_range = s.may.0; fits = s.may.1; follows = s.may.2; is = s.is }))
+    no_item g l es n none (EventOf (event.Accept c)) s = s.may
+    no_item g l es n none (EventOf (event.Join c k)) s = s.may
+    no_item g l es n none (EventOf (event.Read c o)) s = s.may
+    no_item g l es n none (EventOf (event.Gone c)) s = s.may
+    no_item g l es n none (EventOf (event.Room c k)) s = s.may
+    no_item g l es n none (EventOf (event.Tick t)) s = s.may
+    no_item g l es n none (EventOf (event.Post p k j)) s = s.may
+    no_item g l es n none (EventOf (event.Obey v p)) s = s.may
+
+    one_event : (g : Format) (l : PlainLimits) (es : List Event) (e : Event) → old.names ≡ [] → EventAt old.names es line new e
+        → Accepts (Playing g l es) line (record old { stage = stage.Plays new }) (read.Event e)
+    one_event g l es (event.Plain e) n s =
+        let P : List (List ℕ) → Type 0 = λ v. SpellsEvent v es line e in let k = subst P n s.0 in
+        record { item = EventOf (event.Plain e); spells = record { may = (k.in_range, k.fits, k.follows); is = k.is }; read = refl; order = record { names = n; stage = s.1 } }
+    one_event g l es (event.Accept c) n s = absurd s
+    one_event g l es (event.Join c k) n s = absurd s
+    one_event g l es (event.Read c o) n s = absurd s
+    one_event g l es (event.Gone c) n s = absurd s
+    one_event g l es (event.Room c k) n s = absurd s
+    one_event g l es (event.Tick t) n s = absurd s
+    one_event g l es (event.Post p k j) n s = absurd s
+    one_event g l es (event.Obey v p) n s = absurd s
+
+    gives : (g : Format) (l : PlainLimits) (es : List Event) (answer : Result LineRead NoMemory) → old.names ≡ [] → EventReadAt old.names es line new answer
+        → ReadsAt (Playing g l es) line (record old { stage = stage.Plays new }) answer
+    gives g l es (Ok read.Header) n s = absurd s
+    gives g l es (Ok (read.Limits m)) n s = absurd s
+    gives g l es (Ok (read.Event e)) n s = one_event g l es e n s
+    gives g l es (Ok read.Refused) n s = record { none = no_item g l es n s.0; order = record { names = n; stage = s.1 } }
+    gives g l es (Err x) n s = record { names = n; stage = s }
+
+    at : (seen : Seen) → old.names ≡ [] → StageIs (stage.Plays courses) seen → ReadsAt seen line (record old { stage = stage.Plays new }) result
+    at Unread n s = absurd s
+    at (Headed g) n s = absurd s
+    at (Playing g l es) n s = gives g l es result n (r.goes es s)
+
+-- reading an event, once its spelling is known
+pub event_refused : (names : List (List ℕ)) (c : Courses) (line : List ℕ) → ((e : Event) → FitsEvent e → IsEvent names e → is_plain e ≡ true → event_spelling names e ≡ line → ⊥)
+    → ReadsEvent names c line c (Ok read.Refused)
+event_refused names c line none = record { goes = λ es a. ((λ e s. none (event.Plain e) s.fits s.in_range refl s.is), a) }
+
+pub event_followed : (names : List (List ℕ)) (old new : Courses) (line : List ℕ) (e : PlainEvent) → line ≡ event_spelling names (event.Plain e) → IsEvent names (event.Plain e) → FitsEvent (event.Plain e)
+    → Follows old e new (Ok true) → ReadsEvent names old line new (Ok (read.Event (event.Plain e)))
+event_followed names old new line e is range fits f = record {
+  goes = λ es a. let k = f.goes es a in (record { in_range = range; fits = fits; follows = k.0; is = sym is }, k.1);
+}
+
+pub event_out_of_order : (names : List (List ℕ)) (old new : Courses) (line : List ℕ) (e : PlainEvent)
+    → ((f : Event) → FitsEvent f → IsEvent names f → is_plain f ≡ true → event_spelling names f ≡ line → f ≡ event.Plain e)
+    → Follows old e new (Ok false) → ReadsEvent names old line new (Ok read.Refused)
+event_out_of_order names old new line e only f = record {
+  goes = λ es a. let k = f.goes es a in (
+    (λ g s.
+        let same : event.Plain g ≡ event.Plain e = only (event.Plain g) s.fits s.in_range refl s.is in
+        let eq : g ≡ e = cc in
+        clash (may_follow es e) (ap (may_follow es) (sym eq) ∙ s.follows) k.0),
+    k.1,
+  );
+}
+
+pub event_lost : (names : List (List ℕ)) (old new : Courses) (line : List ℕ) (e : PlainEvent) (x : NoMemory) → Follows old e new (Err x) → ReadsEvent names old line new (Err x)
+event_lost names old new line e x f = record { goes = λ es a. f.goes es a }
+
+-- an event of another kind isn't read from a plain line
+pub not_plain : (e : Event) → is_plain e ≡ true → ((p : PlainEvent) → e ≡ event.Plain p → ⊥) → ⊥
+not_plain (event.Plain p) e none = none p refl
+not_plain (event.Accept c) e none = cc
+not_plain (event.Join c k) e none = cc
+not_plain (event.Read c o) e none = cc
+not_plain (event.Gone c) e none = cc
+not_plain (event.Room c k) e none = cc
+not_plain (event.Tick t) e none = cc
+not_plain (event.Post p k j) e none = cc
+not_plain (event.Obey v p) e none = cc
+
+-- reading and following together
+pub followed_read : (names : List (List ℕ)) (old new : Courses) (line : List ℕ) (e : PlainEvent) (result : Result LineRead NoMemory)
+    → (line ≡ event_spelling names (event.Plain e)) × IsEvent names (event.Plain e) × FitsEvent (event.Plain e) × (is_plain (event.Plain e) ≡ true)
+    → ((f : Event) → FitsEvent f → IsEvent names f → is_plain f ≡ true → event_spelling names f ≡ line → f ≡ event.Plain e)
+    → FollowsRead old e new result → ReadsEvent names old line new result
+followed_read names old new line e (Ok read.Header) some only f = absurd f.as_read
+followed_read names old new line e (Ok (read.Limits m)) some only f = absurd f.as_read
+followed_read names old new line e (Ok (read.Event g)) some only f =
+    let P : Event → Type 0 = λ v. ReadsEvent names old line new (Ok (read.Event v)) in
+    subst P (sym f.as_read.0) (event_followed names old new line e some.0 some.1 some.2 f.as_read.1)
+followed_read names old new line e (Ok read.Refused) some only f = event_out_of_order names old new line e only f.as_read
+followed_read names old new line e (Err x) some only f = event_lost names old new line e x f.as_read
+
+-- what a search found, or not
+pub some_limits : (line : List ℕ) (f : Format) (l : PlainLimits) (found : Option PlainLimits) → found ≡ Some l → IfSome found (λ l. IsLimitsLine f line l) → IsLimitsLine f line l
+some_limits line f l found e k = let P : Option PlainLimits → Type 0 = λ v. IfSome v (λ l. IsLimitsLine f line l) in subst P e k
+
+pub no_event : (found : Option Event) (P : Type 0) → found ≡ None → IfNone found P → P
+no_event found P e k = let Q : Option Event → Type 0 = λ v. IfNone v P in subst Q e k
+
+pub an_event : (found : Option Event) (e : Event) (p : PlainEvent) (P : Event → Type 0) → found ≡ Some e → e ≡ event.Plain p → IfSome found P → P (event.Plain p)
+an_event found e p P s i k = let Q : Option Event → Type 0 = λ v. IfSome v P in subst P i (subst Q s k)
+
+-- an event that was read from its spelling
+abbrev pub IsRead : List (List ℕ) → List ℕ → Event → Type 0
+IsRead names line e = (line ≡ event_spelling names e) × IsEvent names e × FitsEvent e × (is_plain e ≡ true)
+
+abbrev pub IsOnly : List (List ℕ) → List ℕ → Event → Type 0
+IsOnly names line e = (f : Event) → FitsEvent f → IsEvent names f → is_plain f ≡ true → event_spelling names f ≡ line → f ≡ e

@@ -1,0 +1,168 @@
+-- The summary's text, from what the core and the log of pauses show.
+use Rattle.flow_notes.specs.Flow.{flow_word}
+use Rattle.flow_notes.specs.Line.{newline, spaced}
+use Rattle.flow_notes.specs.Buffer.{buffer_words}
+use Rattle.flow_gate.specs.declared.ids.BufferId.{BufferId}
+use Rattle.flow_gate.specs.declared.ids.FlowId.{FlowId}
+use Rattle.io_ports.specs.declared.octets.NoMemory.{NoMemory}
+use Rattle.plain_core.specs.Shows.{ShowsLimits, ShowsPeaks, ShowsStream, ShowsTurns}
+use Rattle.plain_core.specs.Stands.{Rests}
+use Rattle.plain_core.specs.declared.plain.Peaks.{Peaks}
+use Rattle.plain_core.specs.declared.plain.PlainCore.{PlainCore}
+use Rattle.replay_run.specs.Pausing.{LogIs, logged, place_cmp, resumed_at, told_pause}
+use Rattle.replay_run.specs.Summarizes.{Summarizes, flow_peak_lines, pause_lines, peak_lines, write_peak_line}
+use Rattle.replay_run.specs.declared.pauses.Pause.{Pause}
+use Rattle.replay_run.specs.declared.pauses.PauseLog.{PauseLog}
+use Rattle.std.proofs.Common.{ap, append_assoc, arith, refl, sym, ◌∙◌}
+use Rattle.std.proofs.lemmas.Grind.{common_steps}
+use Rattle.std.proofs.lemmas.List.{append-nil, map-append}
+use Rattle.std.specs.BTreeMap.{get}
+use Rattle.std.specs.Fmt.{decimal}
+use Rattle.std.specs.Prelude.{Err, List, None, Ok, OnOk, Option, Result, Some, [], codes, flat_map, length, map, ℕ, ◌++◌, ◌∷◌, ◌≡◌}
+use Rattle.tape_laws.specs.Connections.{connections}
+use Rattle.tape_laws.specs.Dispatches.{started, turns}
+use Rattle.tape_laws.specs.Flows.{request}
+use Rattle.tape_laws.specs.History.{History, Marked, NoMark, Noted}
+use Rattle.tape_laws.specs.Plain.{plain_setup}
+use Rattle.tape_laws.specs.Report.{flow_peaks, paused_line, peak_line, report_line, until_word, write_peak}
+use Rattle.tape_laws.specs.Summary.{Paused, all_flows, pause_turns, paused_in, paused_lines, peak}
+use Rattle.tape_laws.specs.declared.limits.PlainLimits.{PlainLimits}
+use Rattle.flow_gate.specs.declared.ids.BufferId.TheVariants as buffer
+use Rattle.flow_notes.specs.declared.notes.Note.TheVariants as note
+
+-- ---- pauses
+
+-- a pause with the resume that has its number
+abbrev with_resume : History NoMark → Pause → Paused
+with_resume whole p =
+    record { flow = p.place.spot.flow; buffer = p.place.spot.buffer; at = p.turn; until = resumed_at whole p.place }
+
+-- the pause of a note behind this history
+abbrev this : FlowId → BufferId → History NoMark → Pause
+this f b past = record { place = record { spot = record { flow = f; buffer = b }; number = length (pause_turns f b past) }; turn = turns past }
+
+paused_all : (whole h : History NoMark) → paused_in whole h ≡ map (with_resume whole) (logged h)
+paused_all whole [] = refl
+paused_all whole (Marked m ∷ past) = paused_all whole past
+paused_all whole (Noted (note.Pause f b) ∷ past) =
+    ap (λ (ps : List Paused). ps ++ with_resume whole (this f b past) ∷ []) (paused_all whole past)
+    ∙ sym (map-append (with_resume whole) (logged past) (this f b past ∷ []))
+paused_all whole (Noted (note.Turn k e) ∷ past) = paused_all whole past
+paused_all whole (Noted (note.Arrive f o) ∷ past) = paused_all whole past
+paused_all whole (Noted (note.Move f p n) ∷ past) = paused_all whole past
+paused_all whole (Noted (note.Frame c f n last) ∷ past) = paused_all whole past
+paused_all whole (Noted (note.Out c n) ∷ past) = paused_all whole past
+paused_all whole (Noted (note.Resume f b) ∷ past) = paused_all whole past
+paused_all whole (Noted (note.Credit c s n) ∷ past) = paused_all whole past
+paused_all whole (Noted (note.Head c s o) ∷ past) = paused_all whole past
+paused_all whole (Noted (note.Answer c o) ∷ past) = paused_all whole past
+paused_all whole (Noted (note.Waste c s n) ∷ past) = paused_all whole past
+paused_all whole (Noted (note.Start x c s d) ∷ past) = paused_all whole past
+paused_all whole (Noted (note.Doom x why) ∷ past) = paused_all whole past
+paused_all whole (Noted (note.Gone x) ∷ past) = paused_all whole past
+paused_all whole (Noted (note.Close c code why) ∷ past) = paused_all whole past
+paused_all whole (Noted (note.Fire kind id) ∷ past) = paused_all whole past
+
+pauses_told : (log : PauseLog) (h : History NoMark) → LogIs log h → (ps : List Pause) → pause_lines log ps ≡ flat_map paused_line (map (with_resume h) ps)
+pauses_told log h l [] = refl
+pauses_told log h l (p ∷ ps) =
+    ap (λ (o : Option ℕ). paused_line (record { flow = p.place.spot.flow; buffer = p.place.spot.buffer; at = p.turn; until = o }) ++ pause_lines log ps) (l.resumes p.place)
+    ∙ ap (λ (v : List ℕ). paused_line (with_resume h p) ++ v) (pauses_told log h l ps)
+
+pauses_are : (log : PauseLog) (h : History NoMark) → LogIs log h → pause_lines log log.pauses.items ≡ flat_map paused_line (paused_lines h)
+pauses_are log h l =
+    ap (pause_lines log) l.pauses ∙ pauses_told log h l (logged h) ∙ ap (flat_map paused_line) (sym (paused_all h h))
+
+-- ---- peaks
+
+flow_peaks_are : (core : PlainCore) (x : ℕ) (p : Peaks) (limits : PlainLimits) (h : History NoMark) → ShowsPeaks core p → Rests limits core h → started h ≡ x ∷ []
+    → flow_peak_lines x limits p ≡ flow_peaks (plain_setup limits) h (request x)
+flow_peaks_are core x p limits h s r b =
+    ap (λ n. peak_line (codes "recv" ∷ flow_word (request x) ∷ []) limits.recv n ++ peak_line (codes "send" ∷ flow_word (request x) ∷ []) limits.send p.send) (s.recv limits x h r b)
+    ∙ ap (λ n. peak_line (codes "recv" ∷ flow_word (request x) ∷ []) limits.recv (peak (plain_setup limits) (buffer.Recv (request x)) h) ++ peak_line (codes "send" ∷ flow_word (request x) ∷ []) limits.send n) (s.send limits x h r b)
+    ∙ unstaged (peak_line (codes "recv" ∷ flow_word (request x) ∷ []) limits.recv (peak (plain_setup limits) (buffer.Recv (request x)) h)) (peak_line (codes "send" ∷ flow_word (request x) ∷ []) limits.send (peak (plain_setup limits) (buffer.Send (request x)) h))
+  where
+    unstaged : (a s : List ℕ) → a ++ s ≡ a ++ [] ++ s
+    unstaged a s = grind (arith, common_steps)
+
+abbrev peaks_text : PlainLimits → History NoMark → List ℕ
+peaks_text limits h =
+    flat_map (flow_peaks (plain_setup limits) h) (all_flows (plain_setup limits) h) ++ flat_map (write_peak (plain_setup limits) h) (connections (plain_setup limits) h)
+
+-- the flows and the connections that there are
+split : (limits : PlainLimits) (h : History NoMark) (xs : List ℕ) → started h ≡ xs → connections (plain_setup limits) h ≡ 0 ∷ []
+    → peaks_text limits h ≡ flat_map (flow_peaks (plain_setup limits) h) (flat_map (λ x. request x ∷ []) xs) ++ flat_map (write_peak (plain_setup limits) h) (0 ∷ [])
+split limits h xs s c =
+    ap (λ (ys : List ℕ). flat_map (flow_peaks (plain_setup limits) h) (flat_map (λ x. request x ∷ []) ys) ++ flat_map (write_peak (plain_setup limits) h) (connections (plain_setup limits) h)) s
+    ∙ ap (λ (cs : List ℕ). flat_map (flow_peaks (plain_setup limits) h) (flat_map (λ x. request x ∷ []) xs) ++ flat_map (write_peak (plain_setup limits) h) cs) c
+
+write_is : (core : PlainCore) (p : Peaks) (limits : PlainLimits) (h : History NoMark) → ShowsPeaks core p → Rests limits core h → write_peak_line limits p ≡ write_peak (plain_setup limits) h 0
+write_is core p limits h s r = ap (λ n. peak_line (codes "write" ∷ decimal 0 ∷ []) limits.write n) (s.write limits h r)
+
+peaks_are : (core : PlainCore) (stream : Option ℕ) (p : Peaks) (limits : PlainLimits) (h : History NoMark) → ShowsStream core stream → ShowsPeaks core p → Rests limits core h
+    → peak_lines stream limits p ≡ peaks_text limits h
+peaks_are core None p limits h st s r =
+    write_is core p limits h s r ∙ sym (append-nil (write_peak (plain_setup limits) h 0)) ∙ sym (split limits h [] (st.started limits h r) (s.connection limits h r))
+peaks_are core (Some x) p limits h st s r =
+    let b : started h ≡ x ∷ [] = st.started limits h r in
+    let w = write_peak (plain_setup limits) h 0 in
+    ap (λ (v : List ℕ). v ++ write_peak_line limits p) (flow_peaks_are core x p limits h s r b)
+    ∙ ap (λ (v : List ℕ). flow_peaks (plain_setup limits) h (request x) ++ v) (write_is core p limits h s r)
+    ∙ ends (flow_peaks (plain_setup limits) h (request x)) w
+    ∙ sym (split limits h (x ∷ []) b (s.connection limits h r))
+  where
+    ends : (a w : List ℕ) → a ++ w ≡ (a ++ []) ++ (w ++ [])
+    ends a w = grind (arith, common_steps)
+
+-- ---- the whole
+
+pub summarizes : (core : PlainCore) (log : PauseLog) (stream : Option ℕ) (l : PlainLimits) (p : Peaks) (n : ℕ) (old new : List ℕ)
+    → ShowsStream core stream → ShowsLimits core l → ShowsPeaks core p → ShowsTurns core n
+    → new ≡ old ++ (peak_lines stream l p ++ (pause_lines log log.pauses.items ++ report_line (codes "done" ∷ decimal n ∷ [])))
+    → Summarizes core log old new
+summarizes core log stream l p n old new st sl sp sn e = record {
+  goes = λ limits h r g.
+      e ∙ ap (λ (v : List ℕ). old ++ v) (
+      ap (λ (m : PlainLimits). peak_lines stream m p ++ (pause_lines log log.pauses.items ++ report_line (codes "done" ∷ decimal n ∷ []))) (sl.are limits h r)
+      ∙ ap (λ (v : List ℕ). v ++ (pause_lines log log.pauses.items ++ report_line (codes "done" ∷ decimal n ∷ []))) (peaks_are core stream p limits h st sp r)
+      ∙ ap (λ (v : List ℕ). peaks_text limits h ++ (v ++ report_line (codes "done" ∷ decimal n ∷ []))) (pauses_are log h g)
+      ∙ ap (λ k. peaks_text limits h ++ (flat_map paused_line (paused_lines h) ++ report_line (codes "done" ∷ decimal k ∷ []))) (sn.turns limits h r)
+      ∙ append_assoc (flat_map (flow_peaks (plain_setup limits) h) (all_flows (plain_setup limits) h)) (flat_map (write_peak (plain_setup limits) h) (connections (plain_setup limits) h)) (flat_map paused_line (paused_lines h) ++ report_line (codes "done" ∷ decimal (turns h) ∷ [])));
+}
+
+-- ---- lines
+
+pub paused_spelled : (p : Paused) → codes "paused " ++ (flow_word p.flow ++ (spaced (buffer_words p.buffer) ++ (codes " " ++ (decimal p.at ++ (codes " " ++ (until_word p.until ++ newline)))))) ≡ paused_line p
+paused_spelled p = by p.buffer
+  where
+    by : (b : BufferId) → codes "paused " ++ (flow_word p.flow ++ (spaced (buffer_words b) ++ (codes " " ++ (decimal p.at ++ (codes " " ++ (until_word p.until ++ newline))))))
+        ≡ report_line (codes "paused" ∷ flow_word p.flow ∷ buffer_words b ++ decimal p.at ∷ until_word p.until ∷ [])
+    by (buffer.Recv f) = grind (arith, common_steps)
+    by (buffer.Stage f i) = grind (arith, common_steps)
+    by (buffer.Send f) = grind (arith, common_steps)
+    by (buffer.Write c) = grind (arith, common_steps)
+
+flat : (old a b c d e f g h : List ℕ) → (((((((old ++ a) ++ b) ++ c) ++ (d ++ e)) ++ f) ++ g) ++ h) ≡ old ++ (a ++ (b ++ (c ++ (d ++ (e ++ (f ++ (g ++ h)))))))
+flat old a b c d e f g h = grind (arith, common_steps)
+
+pub paused_ends : (log : PauseLog) (p : Pause) (old a b c d e f new : List ℕ) (r : Result (Unit {0}) NoMemory) (until : Option ℕ) → until ≡ get place_cmp log.resumes p.place
+    → a ≡ old ++ codes "paused " → b ≡ a ++ flow_word p.place.spot.flow → c ≡ b ++ spaced (buffer_words p.place.spot.buffer) → d ≡ c ++ (codes " " ++ decimal p.turn)
+    → e ≡ d ++ codes " " → f ≡ e ++ until_word until → OnOk r (new ≡ f ++ codes "\n")
+    → OnOk r (new ≡ old ++ paused_line (told_pause log p))
+paused_ends log p old a b c d e f new (Ok x) until eu ea eb ec ed ee ef en =
+    en ∙ ap (λ (v : List ℕ). v ++ newline) (ef ∙ ap (λ (v : List ℕ). v ++ until_word until) (ee ∙ ap (λ (v : List ℕ). v ++ codes " ") (ed ∙ ap (λ (v : List ℕ). v ++ (codes " " ++ decimal p.turn)) (ec ∙ ap (λ (v : List ℕ). v ++ spaced (buffer_words p.place.spot.buffer)) (eb ∙ ap (λ (v : List ℕ). v ++ flow_word p.place.spot.flow) ea)))))
+    ∙ flat old (codes "paused ") (flow_word p.place.spot.flow) (spaced (buffer_words p.place.spot.buffer)) (codes " ") (decimal p.turn) (codes " ") (until_word until) newline
+    ∙ ap (λ (o : Option ℕ). old ++ (codes "paused " ++ (flow_word p.place.spot.flow ++ (spaced (buffer_words p.place.spot.buffer) ++ (codes " " ++ (decimal p.turn ++ (codes " " ++ (until_word o ++ newline)))))))) eu
+    ∙ ap (λ (v : List ℕ). old ++ v) (paused_spelled (told_pause log p))
+paused_ends log p old a b c d e f new (Err x) until eu ea eb ec ed ee ef en = tt
+
+pub summary_ends : (core : PlainCore) (log : PauseLog) (stream : Option ℕ) (l : PlainLimits) (p : Peaks) (n : ℕ) (old t0 t1 t2 t3 new : List ℕ) (r : Result (Unit {0}) NoMemory)
+    → ShowsStream core stream → ShowsLimits core l → ShowsPeaks core p → ShowsTurns core n
+    → t0 ≡ [] → t1 ≡ t0 ++ peak_lines stream l p → t2 ≡ t1 ++ pause_lines log log.pauses.items → t3 ≡ t2 ++ report_line (codes "done" ∷ decimal n ∷ [])
+    → (slice : List ℕ) → slice ≡ t3 → OnOk r (new ≡ old ++ slice)
+    → OnOk r (Summarizes core log old new)
+summary_ends core log stream l p n old t0 t1 t2 t3 new (Ok x) st sl sp sn e0 e1 e2 e3 slice es en =
+    summarizes core log stream l p n old new st sl sp sn
+    (en ∙ ap (λ (v : List ℕ). old ++ v) (es ∙ e3 ∙ ap (λ (v : List ℕ). v ++ report_line (codes "done" ∷ decimal n ∷ [])) (e2 ∙ ap (λ (v : List ℕ). v ++ pause_lines log log.pauses.items) (e1 ∙ ap (λ (v : List ℕ). v ++ peak_lines stream l p) e0))
+    ∙ append_assoc (peak_lines stream l p) (pause_lines log log.pauses.items) (report_line (codes "done" ∷ decimal n ∷ []))))
+summary_ends core log stream l p n old t0 t1 t2 t3 new (Err x) st sl sp sn e0 e1 e2 e3 slice es en = tt

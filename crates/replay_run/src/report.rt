@@ -1,0 +1,74 @@
+// Lines of a summary, written behind what stands in a text. Want of memory may leave some of a line.
+ghost use Rattle.std.specs.Prelude.{◌≡◌, ◌++◌, ◌∷◌, [], codes, decimal, OnOk};
+ghost use Rattle.flow_notes.specs.Flow.{flow_word};
+ghost use Rattle.flow_notes.specs.Line.{newline};
+ghost use Rattle.replay_run.specs.Pausing.{told_pause};
+ghost use Rattle.tape_laws.specs.Report.{paused_line, peak_line, report_line};
+
+use crate::pauses::{Pause, PauseLog};
+use crate::words::{put_behind, put_buffer, put_flow, put_until};
+use flow_gate::FlowId;
+use io_ports::{NoMemory, Octets};
+
+/// Appends the line of a pause: the flow, the buffer, its dispatch, and that of its resume.
+pub fn put_paused(into: &mut Octets, log: &PauseLog, pause: Pause) -> Result<(), NoMemory>
+    ensures { OnOk result (into.new ≡ into.old ++ paused_line (told_pause log.now pause)) }
+{
+    let spot = pause.place.spot;
+    into.push_all(b"paused ")?;
+    put_flow(into, spot.flow)?;
+    put_buffer(into, spot.buffer)?;
+    put_behind(into, b" ", pause.turn)?;
+    into.push_all(b" ")?;
+    put_until(into, log.resume_of(pause.place))?;
+    into.push_all(b"\n")
+}
+
+/// Appends the line of a flow's buffer: its name, its limit and its peak; nothing where it never held
+/// an octet.
+pub fn put_flow_peak(
+    into: &mut Octets,
+    name: &[u8],
+    flow: FlowId,
+    limit: u32,
+    peak: u32,
+) -> Result<(), NoMemory>
+    ensures { OnOk result (into.new ≡ into.old ++ peak_line (name.now ∷ flow_word flow ∷ []) limit peak) }
+{
+    if peak == 0 {
+        return Ok(());
+    }
+    into.push_all(b"peak ")?;
+    into.push_all(name)?;
+    into.push_all(b" ")?;
+    put_flow(into, flow)?;
+    put_numbers(into, limit, peak)
+}
+
+/// The same of a connection's write buffer.
+pub fn put_write_peak(into: &mut Octets, conn: u32, limit: u32, peak: u32) -> Result<(), NoMemory>
+    ensures { OnOk result (into.new ≡ into.old ++ peak_line (codes "write" ∷ decimal conn ∷ []) limit peak) }
+{
+    if peak == 0 {
+        return Ok(());
+    }
+    put_behind(into, b"peak write ", u64::from(conn))?;
+    put_numbers(into, limit, peak)
+}
+
+// Appends a limit and a peak, and ends the line.
+fn put_numbers(into: &mut Octets, limit: u32, peak: u32) -> Result<(), NoMemory>
+    ensures { OnOk result (into.new ≡ into.old ++ (codes " " ++ (decimal limit ++ (codes " " ++ (decimal peak ++ newline))))) }
+{
+    put_behind(into, b" ", u64::from(limit))?;
+    put_behind(into, b" ", u64::from(peak))?;
+    into.push_all(b"\n")
+}
+
+/// Appends the last line: how many dispatches there were.
+pub fn put_done(into: &mut Octets, turns: u64) -> Result<(), NoMemory>
+    ensures { OnOk result (into.new ≡ into.old ++ report_line (codes "done" ∷ decimal turns ∷ [])) }
+{
+    put_behind(into, b"done ", turns)?;
+    into.push_all(b"\n")
+}

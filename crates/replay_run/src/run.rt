@@ -1,0 +1,194 @@
+// A session from its first octet to the end of its lines.
+ghost use Rattle.std.specs.Prelude.{◌≤◌, ◌+◌};
+
+use crate::lines::Lines;
+use crate::output::flush;
+use crate::play::{Play, Went};
+use crate::status::Status;
+use io_ports::{Failed, NoMemory, Sink, Source};
+
+/// How many octets a session has at most.
+const SESSION: usize = 67_108_864;
+
+/// How many octets a line has at most, without its newline.
+const LINE: usize = 40_000;
+
+/// The text is written as soon as it has so many octets, and before more is read.
+const PIECE: usize = 65_536;
+
+/// A session that is read, played and written piece by piece. What it holds doesn't grow with the
+/// session.
+#[derive(Drop)]
+pub struct Run {
+    pub lines: Lines,
+    pub play: Play,
+    /// How many octets the lines had that were played.
+    pub read: usize,
+    /// The number of the next line.
+    pub number: u32,
+    ghost within: { read ≤ 67108864 },
+    ghost counted: { number ≤ read + 1 },
+}
+
+impl Run {
+    ghost use Rattle.std.specs.Prelude.{◌≡◌, ◌<◌, ◌≤◌, [], ℕ, List, length, false, None, OnOk, Err};
+    ghost use Rattle.io_ports.specs.Faults.{Rose};
+    ghost use Rattle.replay_run.specs.Held.{held_of};
+    ghost use Rattle.replay_run.specs.Newlines.{BeginsWithLine, has_newline};
+    ghost use Rattle.replay_run.specs.Played.{Begins};
+    ghost use Rattle.replay_run.specs.Runs.{AtEnd, CausedBy, Judged, Refills, RunIs, Steps, TakesLine, Writes, to_go};
+
+    /// Before the first octet is read.
+    pub fn new(lines: Lines, play: Play) -> Self
+        requires lines { held_of lines ≡ [] }
+        requires play { Begins play }
+        ensures { RunIs result [] [] }
+    {
+        Run {
+            lines,
+            play,
+            read: 0,
+            number: 1,
+        }
+    }
+
+    /// Reads and plays lines until they end, and answers how.
+    pub fn play_all<S: Source, K: Sink>(&mut self, session: &mut S, out: &mut K) -> Status
+        requires run { (read : List ℕ) × (written : List ℕ) × RunIs self.old read written }
+        ensures steps { Steps self.old self.new (S.left session.old) (S.left session.new) (K.contents out.old) (K.contents out.new) (Err result) }
+        ensures caused { CausedBy (Rose (S.faults session.old) (S.faults session.new)) (Rose (K.faults out.old) (K.faults out.new)) (Err result) }
+        ensures out { K.faults out.old ≤ K.faults out.new }
+    {
+        loop {
+            if let Err(status) = self.step(session, out) {
+                return status;
+            }
+        }
+    }
+
+    // One line, or else one read.
+    fn step<S: Source, K: Sink>(&mut self, session: &mut S, out: &mut K) -> Result<(), Status>
+        requires run { (read : List ℕ) × (written : List ℕ) × RunIs self.old read written }
+        ensures steps { Steps self.old self.new (S.left session.old) (S.left session.new) (K.contents out.old) (K.contents out.new) result }
+        ensures caused { CausedBy (Rose (S.faults session.old) (S.faults session.new)) (Rose (K.faults out.old) (K.faults out.new)) result }
+        ensures session { S.faults session.old ≤ S.faults session.new }
+        ensures out { K.faults out.old ≤ K.faults out.new }
+        ensures less { OnOk result (to_go self.new < to_go self.old) }
+    {
+        match self.lines.line_len() {
+            Some(n) => {
+                self.take_line(n)?;
+                self.write_piece(out)
+            }
+            None => self.read_more(session, out),
+        }
+    }
+
+    // Plays the line that is held.
+    fn take_line(&mut self, n: usize) -> Result<(), Status>
+        requires line { BeginsWithLine (held_of self.old.lines) n }
+        requires run { (read : List ℕ) × (written : List ℕ) × RunIs self.old read written }
+        ensures takes { TakesLine self.old self.new result }
+        ensures less { OnOk result (to_go self.new < to_go self.old) }
+    {
+        if let Some(status) = self.judge(n, 1) {
+            return Err(status);
+        }
+        match self.play.line(&self.lines.held()[..n]) {
+            Ok(Went::On) => {}
+            Ok(Went::Refused) => return Err(Status::Session),
+            Ok(Went::NotBuilt) => return Err(Status::NotBuilt),
+            Err(NoMemory) => return Err(Status::Memory),
+        }
+        self.lines.skip(n + 1);
+        self.read += n + 1;
+        self.number += 1;
+        Ok(())
+    }
+
+    // Whether n octets, with so many newlines behind them, are too many for a line or for the session.
+    fn judge(&self, n: usize, newlines: usize) -> Option<Status>
+        requires held { n ≤ 131072 }
+        requires newlines { newlines ≤ 1 }
+        ensures { Judged self.now.read n newlines result }
+    {
+        if n > LINE && self.read + LINE < SESSION {
+            Some(Status::Session)
+        } else if self.read + n + newlines > SESSION {
+            Some(Status::TooLong)
+        } else {
+            None
+        }
+    }
+
+    // Writes the text where it is long enough.
+    fn write_piece<K: Sink>(&mut self, out: &mut K) -> Result<(), Status>
+        ensures writes { Writes self.old self.new (K.contents out.old) (K.contents out.new) result }
+        ensures caused { CausedBy ⊥ (Rose (K.faults out.old) (K.faults out.new)) result }
+        ensures out { K.faults out.old ≤ K.faults out.new }
+        ensures lines { self.new.lines ≡ self.old.lines }
+        ensures read { self.new.read ≡ self.old.read }
+    {
+        if self.play.text.len() < PIECE {
+            return Ok(());
+        }
+        self.write(out)
+    }
+
+    // Writes the text.
+    fn write<K: Sink>(&mut self, out: &mut K) -> Result<(), Status>
+        ensures writes { Writes self.old self.new (K.contents out.old) (K.contents out.new) result }
+        ensures caused { CausedBy ⊥ (Rose (K.faults out.old) (K.faults out.new)) result }
+        ensures out { K.faults out.old ≤ K.faults out.new }
+        ensures lines { self.new.lines ≡ self.old.lines }
+        ensures read { self.new.read ≡ self.old.read }
+    {
+        match flush(&mut self.play.text, out) {
+            Ok(()) => Ok(()),
+            Err(Failed) => Err(Status::WriteFault),
+        }
+    }
+
+    // Writes what there is, and then reads more.
+    fn read_more<S: Source, K: Sink>(&mut self, session: &mut S, out: &mut K) -> Result<(), Status>
+        requires whole { has_newline (held_of self.old.lines) ≡ false }
+        ensures steps { Steps self.old self.new (S.left session.old) (S.left session.new) (K.contents out.old) (K.contents out.new) result }
+        ensures caused { CausedBy (Rose (S.faults session.old) (S.faults session.new)) (Rose (K.faults out.old) (K.faults out.new)) result }
+        ensures session { S.faults session.old ≤ S.faults session.new }
+        ensures out { K.faults out.old ≤ K.faults out.new }
+        ensures less { OnOk result (to_go self.new < to_go self.old) }
+    {
+        if let Some(status) = self.judge(self.lines.held().len(), 0) {
+            return Err(status);
+        }
+        self.write(out)?;
+        self.refill(session)
+    }
+
+    // Reads more.
+    fn refill<S: Source>(&mut self, session: &mut S) -> Result<(), Status>
+        requires whole { has_newline (held_of self.old.lines) ≡ false }
+        requires short { Judged self.old.read (length (held_of self.old.lines)) 0 None }
+        ensures refills { Refills self.old self.new (S.left session.old) (S.left session.new) result }
+        ensures caused { CausedBy (Rose (S.faults session.old) (S.faults session.new)) ⊥ result }
+        ensures session { S.faults session.old ≤ S.faults session.new }
+        ensures less { OnOk result (to_go self.new < to_go self.old) }
+    {
+        match self.lines.fill(session) {
+            Ok(n) if n > 0 => Ok(()),
+            Ok(_) => Err(self.at_end()),
+            Err(Failed) => Err(Status::ReadFault),
+        }
+    }
+
+    // The status at the end of the session.
+    fn at_end(&self) -> Status
+        ensures { AtEnd self.now result }
+    {
+        if self.lines.held().is_empty() && self.play.order.is_playing() {
+            Status::Done
+        } else {
+            Status::Session
+        }
+    }
+}

@@ -1,0 +1,56 @@
+// Words of a summary, written behind what stands in a text. Want of memory may leave some of a word.
+ghost use Rattle.std.specs.Prelude.{◌≡◌, ◌++◌, decimal, OnOk};
+ghost use Rattle.flow_notes.specs.Buffer.{buffer_words};
+ghost use Rattle.flow_notes.specs.Flow.{flow_word};
+ghost use Rattle.flow_notes.specs.Line.{spaced};
+ghost use Rattle.tape_laws.specs.Report.{until_word};
+
+use flow_gate::{BufferId, FlowId};
+use io_ports::{NoMemory, Octets};
+use itoa::Buffer;
+
+/// Appends a number in decimal.
+pub fn put_number(into: &mut Octets, n: u64) -> Result<(), NoMemory>
+    ensures { OnOk result (into.new ≡ into.old ++ decimal n) }
+{
+    let mut digits = Buffer::new();
+    into.push_all(digits.format(n).as_bytes())
+}
+
+/// Appends a text and a number.
+pub fn put_behind(into: &mut Octets, text: &[u8], n: u64) -> Result<(), NoMemory>
+    ensures { OnOk result (into.new ≡ into.old ++ (text.now ++ decimal n)) }
+{
+    into.push_all(text)?;
+    put_number(into, n)
+}
+
+/// Appends a flow: its exchange, and q for the request or r for the response.
+pub fn put_flow(into: &mut Octets, flow: FlowId) -> Result<(), NoMemory>
+    ensures { OnOk result (into.new ≡ into.old ++ flow_word flow) }
+{
+    put_number(into, flow.exchange)?;
+    into.push_all(if flow.back { b"r" } else { b"q" })
+}
+
+/// Appends a buffer's words, each behind a space.
+pub fn put_buffer(into: &mut Octets, buffer: BufferId) -> Result<(), NoMemory>
+    ensures { OnOk result (into.new ≡ into.old ++ spaced (buffer_words buffer)) }
+{
+    match buffer {
+        BufferId::Recv(_) => Ok(()),
+        BufferId::Stage(_, place) => put_behind(into, b" stage ", u64::from(place)),
+        BufferId::Send(_) => into.push_all(b" send"),
+        BufferId::Write(conn) => put_behind(into, b" write ", u64::from(conn)),
+    }
+}
+
+/// Appends the dispatch of a resume, or a dash where there was none.
+pub fn put_until(into: &mut Octets, until: Option<u64>) -> Result<(), NoMemory>
+    ensures { OnOk result (into.new ≡ into.old ++ until_word until) }
+{
+    match until {
+        Some(turn) => put_number(into, turn),
+        None => into.push_all(b"-"),
+    }
+}
