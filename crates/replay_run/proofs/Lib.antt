@@ -1,4 +1,6 @@
+pub mod Carrying
 pub mod Coursing
+pub mod Headlines
 pub mod Holding
 pub mod Pausing
 pub mod Playing

@@ -90,7 +90,7 @@ places_equal k q =
     then_equal (spot_cmp k.spot q.spot) (nat_cmp k.number q.number)
     ∙ both (is_eq (spot_cmp k.spot q.spot)) (is_eq (nat_cmp k.number q.number)) (same_spot k.spot q.spot) (k.number == q.number) (spots_equal k.spot q.spot) (numbers_equal k.number q.number)
 
-number_is : (a b : ℕ) → (a == b) ≡ true → a ≡ b
+pub number_is : (a b : ℕ) → (a == b) ≡ true → a ≡ b
 number_is a b e = grind (arith, nat_tests)
 
 bool_is : (a b : Bool) → (if a then b else not b) ≡ true → a ≡ b
@@ -99,11 +99,11 @@ bool_is true false e = cc
 bool_is false true e = cc
 bool_is false false e = refl
 
-both_of : (a b : Bool) → (a && b) ≡ true → (a ≡ true) × (b ≡ true)
+pub both_of : (a b : Bool) → (a && b) ≡ true → (a ≡ true) × (b ≡ true)
 both_of true b e = (refl, e)
 both_of false b e = cc
 
-flow_is : (f g : FlowId) → same_flow f g ≡ true → f ≡ g
+pub flow_is : (f g : FlowId) → same_flow f g ≡ true → f ≡ g
 flow_is f g e =
     let k = both_of (f.exchange == g.exchange) (if f.back then g.back else not g.back) e in
     ap (λ (x : ℕ). let r : FlowId = record { exchange = x; back = f.back } in r) (number_is f.exchange g.exchange k.0)

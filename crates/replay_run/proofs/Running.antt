@@ -5,6 +5,7 @@ use Rattle.io_ports.specs.Faults.{Rose}
 use Rattle.io_ports.specs.declared.octets.NoMemory.{NoMemory}
 use Rattle.plain_core.specs.Stands.{Rests}
 use Rattle.plain_core.specs.declared.plain.PlainCore.{PlainCore}
+use Rattle.replay_run.proofs.Headlines.{headline_of}
 use Rattle.replay_run.specs.Ending.{Cut, EndsAs, HasLine, Long, SpellsNone, longest_line, most_octets}
 use Rattle.replay_run.specs.Ends.{AppendsFront, Fills}
 use Rattle.replay_run.specs.Held.{held_of}
@@ -284,6 +285,7 @@ write_failed old new out_old out_new a = record {
       rest = held_of old.lines;
       reads = k.reads ∙ ap (λ (v : List ℕ). v ++ held_of old.lines) k.played.read_is;
       tape = k.played.tape;
+      headline = headline_of k.played.limits k.played.history k.played.tape.whole;
       ends = tt;
       is = sym (append-nil (tape_text [] k.played.history));
     };
@@ -516,6 +518,7 @@ ends_added old how new e = record {
     rest = k.rest;
     reads = k.reads;
     tape = k.tape;
+    headline = headline_of k.limits k.history k.tape.whole;
     ends = k.ends;
     is = ap (λ (v : List ℕ). written ++ v) (e.goes k.seen k.limits k.history k.number k.rests k.logs) ∙ sym (append_assoc written old.play.text (last_text how k.seen k.limits k.history))
         ∙ ap (λ (v : List ℕ). v ++ last_text how k.seen k.limits k.history) k.text;
@@ -531,6 +534,7 @@ ends_lost old how new e = record {
     rest = k.rest;
     reads = k.reads;
     tape = k.tape;
+    headline = headline_of k.limits k.history k.tape.whole;
     ends = tt;
     is = ap (λ (v : List ℕ). written ++ v) e ∙ k.text ∙ sym (append-nil (tape_text [] k.history));
   };
@@ -614,7 +618,7 @@ replays_none play left out b = record {
   text = [];
   consumes = held_kept left;
   appends = known_kept out;
-  tells = record { seen = Unread; limits = b.played.limits; history = []; rest = []; reads = refl; tape = empty_tape; ends = tt; is = refl };
+  tells = record { seen = Unread; limits = b.played.limits; history = []; rest = []; reads = refl; tape = empty_tape; headline = headline_of b.played.limits [] empty_tape.whole; ends = tt; is = refl };
 }
   where
     empty_tape : IsTape Unread b.played.limits []

@@ -7,6 +7,7 @@ use Rattle.replay_run.specs.declared.status.Status.{Status}
 use Rattle.std.specs.Fmt.{decimal}
 use Rattle.std.specs.Io.KnownBytes.{Appends, Consumes}
 use Rattle.std.specs.Prelude.{List, Option, [], codes, suc, ℕ, ◌++◌, ◌∷◌, ◌≡◌}
+use Rattle.tape_laws.specs.Headline.{Headline}
 use Rattle.tape_laws.specs.History.{History, NoMark}
 use Rattle.tape_laws.specs.Plain.{plain_setup}
 use Rattle.tape_laws.specs.Report.{summary_text}
@@ -34,6 +35,8 @@ pub record Tells (status : Status) (read told : List ℕ) (left : Option (List �
   pub rest : List ℕ
   pub reads : read ≡ seen_text seen ++ rest
   pub tape : IsTape seen limits history
+  -- what it promises to an operator, for every flow and buffer
+  pub headline : Headline (plain_setup limits) history
   pub ends : EndsAs status seen limits history rest left
   pub is : told ≡ tape_text [] history ++ last_text status seen limits history
 
