@@ -5,6 +5,7 @@ mod buffers;
 mod fields;
 mod frames;
 mod gates;
+mod notes;
 mod sessions;
 mod stopwatch;
 mod timers;
@@ -16,6 +17,7 @@ const USAGE: &str = "usage: bench_main BENCH
   fields   blocks of request fields, decoded and encoded (fields blocks: prints them)
   frames   reading of frames
   gates    calls of the gates while few and while many flows are open
+  notes    lines of notes, written and read, beside a plain copy of the same text
   session  acts of frames, with 10 and with 1,000 open streams
   timers   arming, moving and firing of timers
 ";
@@ -28,6 +30,7 @@ fn main(rt: HostRuntime) -> anyhow::Result<()> {
         Some(word) if word.as_str() == "fields" => fields::run(&rt, words.next().is_some())?,
         Some(word) if word.as_str() == "frames" => frames::run(&rt)?,
         Some(word) if word.as_str() == "gates" => gates::run(&rt)?,
+        Some(word) if word.as_str() == "notes" => notes::run(&rt)?,
         Some(word) if word.as_str() == "session" => sessions::run(&rt)?,
         Some(word) if word.as_str() == "timers" => timers::run(&rt)?,
         Some(_) | None => rt.print(USAGE)?,
