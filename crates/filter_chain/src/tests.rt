@@ -1,6 +1,6 @@
 // The sessions, and octets and tokens beside them.
 ghost use Rattle.std.specs.Prelude.{◌≤◌, IfOk, IsTrue};
-ghost use Rattle.proxy_config.specs.Ranges.{AreFilters, IsBetween, most_octets};
+ghost use Rattle.proxy_config.specs.Ranges.{AreFilters, IsBetween, IsFilter, most_octets};
 
 use crate::sessions::Act::{self, Finish, Frame, Offer, Release, Tick};
 use crate::sessions::{Crossings, HOLD, METER, QUIET, SESSIONS, START, WIDE};
@@ -28,6 +28,16 @@ fn is_in_range(n: u32) -> bool
     1 <= n && n <= 16_777_216
 }
 
+fn is_filter(filter: Filter) -> bool
+    ensures { IsTrue result → IsFilter filter }
+{
+    match filter {
+        Filter::Pass => true,
+        Filter::Hold { limit } => is_in_range(limit),
+        Filter::Meter { limit, rate } => is_in_range(limit) && is_in_range(rate),
+    }
+}
+
 /// The filters of a flow, asserted to be in their ranges.
 fn list_of<R: AllocGlobal + Abort>(rt: &R, filters: &[Filter]) -> Result<FilterList, NoMemory>
     ensures { IfOk result AreFilters }
@@ -35,13 +45,7 @@ fn list_of<R: AllocGlobal + Abort>(rt: &R, filters: &[Filter]) -> Result<FilterL
     assert!(rt; filters.len() <= 8);
     let mut list = FilterList::new(rt.alloc());
     for filter in filters {
-        match *filter {
-            Filter::Pass => {}
-            Filter::Hold { limit } => assert!(rt; is_in_range(limit)),
-            Filter::Meter { limit, rate } => {
-                assert!(rt; is_in_range(limit) && is_in_range(rate));
-            }
-        }
+        assert!(rt; is_filter(*filter));
         list.push(*filter)?;
     }
     Ok(list)
