@@ -37,7 +37,7 @@ fn replayed(alloc: Global, session: &[u8], most: usize, out: &mut MemSink) -> Re
     let words = words(alloc, &["plain"])?;
     let mut config = source(alloc, b"", &[])?;
     let mut session = source(alloc, session, &[])?;
-    session.give_at_most(most);
+    session.give_at_most(most.max(1));
     out.take_at_most(most);
     Ok(replay(alloc, &words, &mut config, &mut session, out))
 }

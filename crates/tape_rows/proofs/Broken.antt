@@ -1,7 +1,9 @@
 -- Tapes that break one rule each, and aren't lawful.
 use Rattle.std.proofs.Common.{ap}
-use Rattle.std.specs.Prelude.{[], false, ◌∷◌}
-use Rattle.tape_rows.proofs.Tapes.{Whole, begun, eased, limits_10_19, limits_8_10, limits_8_30, moved, octets, paused, q1, q3, write}
+use Rattle.std.specs.Prelude.{[], false, replicate, ◌∷◌}
+use Rattle.tape_laws.specs.Headline.{Headline}
+use Rattle.tape_laws.specs.Plain.{plain_setup}
+use Rattle.tape_rows.proofs.Tapes.{Whole, begun, eased, limits_10_19, limits_8_10, limits_8_30, moved, noted, octets, paused, q1, q3, write}
 use Rattle.tape_rows.proofs.TwoStreams.{begun_while_above, limits_100_30, pair_ended, refilling}
 use Rattle.flow_gate.specs.declared.ids.BufferId.TheVariants as buffer
 use Rattle.flow_notes.specs.declared.events.Event.TheVariants as event
@@ -23,6 +25,10 @@ frame_while_above w = let k = w.lawful.lawful.allowed.0.write.low in cc
 -- ten octets came, and nine go on
 pub octet_lost : Whole limits_10_19 (note.Frame 0 q1 9 false ∷ note.Move q1 0 9 ∷ note.Arrive q1 (octets 9) ∷ note.Turn 2 (event.Plain (plain.Body 1 (octets 10))) ∷ begun) → ⊥
 octet_lost w = let k = w.lawful.lawful.answered.1.1.0 in cc
+
+-- ten octets came, and ten others go on
+pub octets_changed : Headline (plain_setup limits_10_19) (noted (note.Frame 0 q1 10 false ∷ note.Move q1 0 10 ∷ note.Arrive q1 (octets 10) ∷ note.Turn 2 (event.Plain (plain.Body 1 (replicate 10 0))) ∷ begun)) → ⊥
+octets_changed h = let k = h.sent.0 q1 in cc
 
 -- a move out of the receive buffer of a flow that is paused
 pub moved_while_paused : Whole limits_8_10 (note.Move q1 0 5 ∷ note.Arrive q1 (octets 5) ∷ note.Turn 3 (event.Plain (plain.Body 1 (octets 5))) ∷ paused) → ⊥

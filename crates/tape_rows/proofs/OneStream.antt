@@ -1,7 +1,9 @@
 -- Lawful tapes of one stream.
-use Rattle.std.proofs.Common.{lit<, lit≤}
-use Rattle.std.specs.Prelude.{[], false, ◌∷◌}
-use Rattle.tape_rows.proofs.Tapes.{Whole, begun, eased, limits_0_1, limits_10_19, limits_8_10, limits_8_30, moved, octets, q1, write}
+use Rattle.std.proofs.Common.{lit<, lit≤, refl}
+use Rattle.std.specs.Prelude.{[], false, ◌∷◌, ◌≡◌}
+use Rattle.tape_laws.specs.Plain.{plain_setup}
+use Rattle.tape_laws.specs.World.{sent}
+use Rattle.tape_rows.proofs.Tapes.{Whole, begun, eased, limits_0_1, limits_10_19, limits_8_10, limits_8_30, moved, noted, octets, q1, write}
 use Rattle.flow_gate.specs.declared.ids.BufferId.TheVariants as buffer
 use Rattle.flow_notes.specs.declared.events.Event.TheVariants as event
 use Rattle.flow_notes.specs.declared.notes.Note.TheVariants as note
@@ -16,6 +18,10 @@ begun_is_whole = search (lit≤)
 -- a rise and a drain in one dispatch
 pub rise_and_drain : Whole limits_8_30 (note.Resume q1 (buffer.Send q1) ∷ note.Frame 0 q1 10 false ∷ note.Pause q1 (buffer.Send q1) ∷ moved)
 rise_and_drain = search (lit≤, lit<)
+
+-- the ten octets that came were sent on
+pub all_sent : sent (plain_setup limits_8_30) q1 (noted (note.Resume q1 (buffer.Send q1) ∷ note.Frame 0 q1 10 false ∷ note.Pause q1 (buffer.Send q1) ∷ moved)) ≡ octets 10
+all_sent = refl
 
 -- the write buffer pauses the flow until it has drained to half its limit
 pub write_pauses : Whole limits_8_10 (note.Resume q1 write ∷ eased)
