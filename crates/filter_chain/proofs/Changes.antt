@@ -1,5 +1,5 @@
 -- What a change of one place leaves of the others, and of all.
-use Rattle.std.proofs.Common.{◌≡◌, ◌+◌, ◌<◌, ◌≤◌, ◌∙◌, ℕ, suc, zero, List, [], ◌∷◌, length, map, Bool, true, false, refl, sym, ap, subst, arith, All}
+use Rattle.std.proofs.Common.{◌≡◌, ◌∙◌, ℕ, suc, zero, List, [], ◌∷◌, length, false, refl, sym, ap, subst, All}
 use Rattle.std.proofs.Math.ListN.{get_or, set}
 use Rattle.std.proofs.Math.Seq.{map-set_same}
 use Rattle.std.proofs.lemmas.List.{length-set}
@@ -11,7 +11,6 @@ use Rattle.filter_chain.specs.Chain.{EndsInSend, kinds, place_at}
 use Rattle.filter_chain.specs.Effects.{changed_at}
 use Rattle.filter_chain.specs.Place.{IsPlace, Place, gaining}
 use Rattle.filter_chain.specs.Release.{is_overfilled_by, overfills_in}
-use Rattle.filter_chain.specs.declared.stage.StageKind.{StageKind}
 use Rattle.filter_chain.proofs.Marks.{IsPlace-gaining}
 use Rattle.proxy_config.specs.Ranges.{IsBetween}
 

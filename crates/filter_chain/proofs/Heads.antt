@@ -1,5 +1,5 @@
 -- A head waits exactly for the Holds to which the body hasn't come whole.
-use Rattle.std.proofs.Common.{◌≡◌, ◌+◌, ◌∙◌, ◌&&◌, ℕ, suc, zero, List, [], ◌∷◌, Bool, true, false, refl, sym, ap, subst, arith}
+use Rattle.std.proofs.Common.{◌≡◌, ◌+◌, ◌∙◌, ◌&&◌, ℕ, suc, zero, List, [], ◌∷◌, Bool, true, false, refl, sym, ap, arith}
 use Rattle.std.specs.Prelude.{Some, slice_get, not, ◌||◌}
 use Rattle.filter_chain.specs.Chain.{Chain, place_at}
 use Rattle.filter_chain.specs.Place.{Place, is_hold}

@@ -1,5 +1,5 @@
 -- A place keeps within its marks, its limit and its tokens.
-use Rattle.std.proofs.Common.{◌≡◌, ◌+◌, ◌-◌, ◌*◌, ◌/◌, ◌<◌, ◌≤◌, ◌++◌, ◌&&◌, ◌∙◌, ℕ, List, length, drop, Bool, true, false, min, refl, sym, ap, subst, arith, length-append, length-drop, nat_lt}
+use Rattle.std.proofs.Common.{◌≡◌, ◌+◌, ◌-◌, ◌*◌, ◌/◌, ◌<◌, ◌≤◌, ◌++◌, ◌&&◌, ◌∙◌, ℕ, List, length, drop, Bool, true, false, min, refl, ap, arith, length-append, length-drop, nat_lt}
 use Rattle.std.proofs.lemmas.Bool.Decides.{nat_tests}
 use Rattle.filter_chain.specs.Place.{IsPlace, IsWithinKind, Place, gaining, holding, is_hold, letting_go, losing, rate_of, refilled}
 use Rattle.filter_chain.specs.Release.{is_overfilled_by}

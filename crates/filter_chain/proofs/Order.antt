@@ -1,5 +1,5 @@
 -- No octet is lost, or overtakes another.
-use Rattle.std.proofs.Common.{◌≡◌, ◌≢◌, ◌+◌, ◌-◌, ◌<◌, ◌≤◌, ◌++◌, ◌∙◌, Bool, ℕ, suc, zero, List, [], ◌∷◌, drop, length, take, refl, sym, ap, subst, arith, append_assoc}
+use Rattle.std.proofs.Common.{◌≡◌, ◌≢◌, ◌<◌, ◌≤◌, ◌++◌, ◌∙◌, Bool, ℕ, suc, zero, List, [], ◌∷◌, drop, length, take, refl, sym, ap, arith, append_assoc}
 use Rattle.std.proofs.Math.ListN.{get_or, set}
 use Rattle.std.proofs.Math.Numerals.{add-one}
 use Rattle.std.proofs.lemmas.List.{take-append-drop}

@@ -1,11 +1,11 @@
 -- Two parts of a row, of which the last stage of the first lets octets go to the first stage of the second.
-use Rattle.std.proofs.Common.{◌≡◌, ◌+◌, ◌-◌, ◌<◌, ◌≤◌, ◌++◌, ◌∙◌, ℕ, List, length, take, drop, Bool, true, false, refl, sym, ap, subst, arith, All, IsTrue}
+use Rattle.std.proofs.Common.{◌≡◌, ◌+◌, ◌-◌, ◌<◌, ◌≤◌, ◌++◌, ◌∙◌, ℕ, List, length, take, drop, false, refl, sym, ap, subst, arith, All}
 use Rattle.std.proofs.Math.ListN.{get_or, get_or-map, set}
 use Rattle.std.proofs.lemmas.List.{get_or-set_other, get_or-set_same, length-set}
 use Rattle.std.proofs.lemmas.List.Elements.{All-append, All-drop, All-get_or, All-take}
 use Rattle.std.proofs.lemmas.List.{length-map}
 use Rattle.std.specs.Option.{option_map_or}
-use Rattle.std.specs.Prelude.{Option, Some}
+use Rattle.std.specs.Prelude.{Option}
 use Rattle.filter_chain.specs.Chain.{above_in}
 use Rattle.filter_chain.specs.Effects.{passed}
 use Rattle.filter_chain.specs.Place.{IsPlace, Place, gaining, letting_go}

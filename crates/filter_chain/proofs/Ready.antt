@@ -1,8 +1,8 @@
 -- The room that was made stays, and suffices for what may come.
-use Rattle.std.proofs.Common.{◌≡◌, ◌+◌, ◌-◌, ◌<◌, ◌≤◌, ◌&&◌, ◌||◌, ◌∙◌, ◌++◌, ℕ, List, length, take, drop, Bool, true, false, not, refl, sym, ap, subst, arith, All, nat_lt, nat_le}
+use Rattle.std.proofs.Common.{◌≡◌, ◌+◌, ◌<◌, ◌≤◌, ◌&&◌, ◌||◌, ℕ, List, length, Bool, true, false, not, refl, ap, arith, All, nat_lt, nat_le}
 use Rattle.std.proofs.Math.ListN.{get_or, set}
 use Rattle.std.proofs.lemmas.Bool.Decides.{nat_tests}
-use Rattle.std.proofs.lemmas.List.Elements.{All-append, All-drop, All-get_or, All-set, All-take}
+use Rattle.std.proofs.lemmas.List.Elements.{All-get_or, All-set}
 use Rattle.filter_chain.specs.Place.{IsPlace, Place, beyond, is_hold}
 use Rattle.filter_chain.specs.Release.{has_room, is_overfilled_by}
 use Rattle.filter_chain.specs.Stage.{IsReady, KeepsRoom, place_of}

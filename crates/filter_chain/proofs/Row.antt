@@ -1,11 +1,11 @@
 -- A row of stages, and the places that they are seen as.
-use Rattle.std.proofs.Common.{◌≡◌, ◌+◌, ◌-◌, ◌<◌, ◌≤◌, ◌++◌, ◌∙◌, ℕ, suc, zero, List, [], ◌∷◌, length, map, take, drop, Bool, true, false, refl, sym, ap, subst, arith, All}
+use Rattle.std.proofs.Common.{◌≡◌, ◌+◌, ◌-◌, ◌<◌, ◌≤◌, ◌++◌, ◌∙◌, ℕ, suc, List, [], length, take, drop, false, refl, sym, ap, arith}
 use Rattle.std.proofs.Math.ListN.{get_or, set}
 use Rattle.std.proofs.Math.Numerals.{add-one}
-use Rattle.std.proofs.lemmas.List.{get_or-drop, get_or-take, length-map, length-set, length-take-le, map-set, set-append_left, set-append_right, take-append-drop}
+use Rattle.std.proofs.lemmas.List.{get_or-drop, get_or-take, length-set, length-take-le, map-set, set-append_left, set-append_right, take-append-drop}
 use Rattle.std.proofs.lemmas.Option.{slice_get-get_or, slice_get-map}
 use Rattle.std.specs.Option.{option_map, option_map_or}
-use Rattle.std.specs.Prelude.{Option, Some, None, slice_get}
+use Rattle.std.specs.Prelude.{Option, Some, slice_get}
 use Rattle.filter_chain.specs.Chain.{above_in, octets_in, place_at}
 use Rattle.filter_chain.specs.Effects.{changed_at, passed}
 use Rattle.filter_chain.specs.Place.{Place, gaining, letting_go}

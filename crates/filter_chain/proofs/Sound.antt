@@ -1,9 +1,9 @@
 -- A chain stays as it should be, whatever is done to it.
-use Rattle.std.proofs.Common.{◌≡◌, ◌+◌, ◌<◌, ◌≤◌, ◌∙◌, ◌↔◌, ℕ, suc, List, [], ◌∷◌, length, map, take, Bool, true, false, refl, sym, ap, subst, arith, All, IsTrue}
+use Rattle.std.proofs.Common.{◌≡◌, ◌+◌, ◌≤◌, ◌∙◌, ◌↔◌, ℕ, List, [], ◌∷◌, length, map, take, Bool, true, false, refl, sym, ap, subst, arith, IsTrue}
 use Rattle.std.proofs.lemmas.List.{length-map, length-take-le}
 use Rattle.std.proofs.lemmas.List.Elements.{All-map, All-weaker}
 use Rattle.std.specs.Option.{option_map_or}
-use Rattle.std.specs.Prelude.{Err, Ok, OnErr, OnOk, Option, Result}
+use Rattle.std.specs.Prelude.{Err, Ok, OnOk, Option, Result}
 use Rattle.filter_chain.proofs.Changes.{AreSound, changed_sound, gaining_sound, place_at-changed_other}
 use Rattle.filter_chain.proofs.Marks.{IsPlace-letting_go, IsPlace-losing, IsPlace-refilled}
 use Rattle.filter_chain.specs.Chain.{Chain, EndsInSend, IsSound, kinds, octets_in}

@@ -1,5 +1,5 @@
 -- Two ticks do what the later one alone does.
-use Rattle.std.proofs.Common.{◌≡◌, ◌+◌, ◌-◌, ◌*◌, ◌/◌, ◌≤◌, ◌∙◌, ℕ, List, [], ◌∷◌, map, min, refl, sym, ap, arith}
+use Rattle.std.proofs.Common.{◌≡◌, ◌+◌, ◌-◌, ◌*◌, ◌≤◌, ◌∙◌, ℕ, List, [], ◌∷◌, map, min, refl, ap, arith}
 use Rattle.filter_chain.specs.Chain.{Chain}
 use Rattle.filter_chain.specs.Effects.{ticked, whole_steps}
 use Rattle.filter_chain.specs.Place.{Place, rate_of, refilled}

@@ -1,4 +1,4 @@
-use Rattle.std.proofs.Common.{◌≡◌, ◌+◌, ◌*◌, ◌≤◌, min, ℕ, suc, zero, arith, ap}
+use Rattle.std.proofs.Common.{◌≡◌, ◌*◌, ◌≤◌, ℕ, suc, zero, arith}
 use Rattle.filter_chain.proofs.meter.refilled_tokens.Goals as goal
 use Rattle.filter_chain.proofs.meter.refilled_tokens.Goals.{then-steps-eq0, else-steps-eq0}
 

@@ -1,5 +1,5 @@
-use Rattle.std.proofs.Common.{◌≡◌, ◌+◌, ◌-◌, ◌<◌, ◌≤◌, ◌++◌, ◌∙◌, ℕ, List, length, take, sym, ap, subst, arith}
-use Rattle.std.proofs.Math.ListN.{get_or, set}
+use Rattle.std.proofs.Common.{◌≡◌, ◌-◌, ◌≤◌, ◌++◌, ◌∙◌, length, take, sym, ap, subst, arith}
+use Rattle.std.proofs.Math.ListN.{set}
 use Rattle.std.proofs.lemmas.List.{get_or-set_same, length-map, length-set}
 use Rattle.std.proofs.lemmas.Result.{on_ok_weaker}
 use Rattle.filter_chain.proofs.Row.{stage_above, stage_changed, stage_octets}

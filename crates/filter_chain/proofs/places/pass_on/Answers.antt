@@ -1,8 +1,6 @@
-use Rattle.std.proofs.Common.{◌≡◌, ◌+◌, ◌-◌, ◌<◌, ◌≤◌, ◌∙◌, ℕ, refl, sym, ap, subst, arith, IsTrue}
-use Rattle.std.proofs.lemmas.Result.{IfOk-weaker}
+use Rattle.std.proofs.Common.{◌∙◌, sym, arith}
 use Rattle.filter_chain.proofs.Outcomes.{both_ok}
 use Rattle.filter_chain.proofs.Passing.{above_after_it, above_before, next_above_after, next_above_before, next_overfilled, next_ready, next_room, next_sound, parts_passed, parts_ready}
-use Rattle.wm_buffer.specs.Watermark.{crossing}
 use Rattle.filter_chain.proofs.places.pass_on.Goals as goal
 
 pub returns-clause-moves : goal.returns-clause-moves

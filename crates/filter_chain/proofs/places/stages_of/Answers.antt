@@ -1,11 +1,8 @@
-use Rattle.std.proofs.Common.{[], ◌∷◌, ◌++◌, ◌∙◌, ap, arith, sym, ◌≡◌}
-use Rattle.std.proofs.Math.ListN.{get_or}
+use Rattle.std.proofs.Common.{◌∙◌, arith}
 use Rattle.std.proofs.lemmas.List.Elements.{All-push}
 use Rattle.std.proofs.lemmas.Option.{slice_get-get_or}
 use Rattle.filter_chain.proofs.Made.{stages_more}
-use Rattle.filter_chain.specs.Chain.{stages}
 use Rattle.filter_chain.specs.Stage.{IsReady, places_of}
-use Rattle.proxy_config.specs.declared.routes.Filter.TheVariants.{Pass}
 use Rattle.filter_chain.proofs.places.stages_of.Goals as goal
 
 pub loop-filter-preserved : goal.loop-filter-preserved

@@ -1,21 +1,9 @@
-use Rattle.std.proofs.Common.{◌≡◌, ◌+◌, ◌-◌, ◌<◌, ◌≤◌, ◌∙◌, ◌==◌, ℕ, List, length, take, min, Bool, true, false, refl, sym, ap, subst, arith, All}
+use Rattle.std.proofs.Common.{◌≡◌, ◌∙◌, length, take, true, false, sym, ap, arith}
 use Rattle.std.proofs.lemmas.List.{length-map}
 use Rattle.std.specs.List.{list_all}
-use Rattle.std.specs.Option.{option_map_or}
-use Rattle.std.specs.Prelude.{OnOk, Ok, Option, Some}
-use Rattle.filter_chain.proofs.Changes.{AreSound}
-use Rattle.filter_chain.proofs.Made.{empty_sound}
-use Rattle.filter_chain.proofs.Outcomes.{both_ok, either_way}
-use Rattle.filter_chain.proofs.Readings.{at_place, has_none, hold_releases, hold_waits, holds_step, may_release_within, meter_releases, octets_is, send_releases, whole_is}
-use Rattle.filter_chain.proofs.Sound.{fed_sound, free_if_ok, loses_sound, passed_sound, places_sound, refilled_sound}
-use Rattle.filter_chain.specs.Chain.{Chain, EndsInSend, IsSound, empty_chain, kinds, octets_at, octets_in, place_at, stages}
-use Rattle.filter_chain.specs.Effects.{passed}
-use Rattle.filter_chain.specs.Place.{IsPlace, Place, is_source}
-use Rattle.filter_chain.specs.Release.{head_may_go, is_whole_at, may_release}
-use Rattle.filter_chain.specs.Stage.{IsReady, place_of, places_of}
-use Rattle.filter_chain.specs.View.{chain_of}
-use Rattle.proxy_config.specs.Ranges.{IsBetween}
-use Rattle.std.proofs.lemmas.Result.{on_ok_weaker}
+use Rattle.filter_chain.proofs.Readings.{has_none, whole_is}
+use Rattle.filter_chain.specs.Chain.{Chain}
+use Rattle.filter_chain.specs.Stage.{place_of, places_of}
 use Rattle.filter_chain.proofs.chain.Chain.is_whole_at.Goals as goal
 use Rattle.filter_chain.proofs.chain.Chain.is_whole_at.Goals.{then-self, else-self}
 
