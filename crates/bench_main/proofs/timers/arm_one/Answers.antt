@@ -1,4 +1,4 @@
-use Rattle.std.proofs.Common.{◌≡◌, ◌≤◌, false, sym, ap, ◌∙◌, subst, arith}
+use Rattle.std.proofs.Common.{◌≡◌, false, sym, ap, ◌∙◌, subst, arith}
 use Rattle.link_lists.specs.Places.{same_ptr}
 use Rattle.scaled_timer.specs.Due.{Armed}
 use Rattle.scaled_timer.specs.Timing.{IsHeld, AreHeld}

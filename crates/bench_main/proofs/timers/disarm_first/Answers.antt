@@ -1,4 +1,4 @@
-use Rattle.std.proofs.Common.{◌≡◌, subst}
+use Rattle.std.proofs.Common.{subst}
 use Rattle.scaled_timer.specs.Timing.{AreHeld}
 use Rattle.scaled_timer.proofs.Held.{held-disarm, disarm-same, first_held, all-behind}
 use Rattle.bench_main.proofs.timers.disarm_first.Goals as goal
