@@ -1,5 +1,5 @@
 -- The states of the overload actions.
-use Rattle.std.specs.Prelude.{ℕ, ◌==◌, List, [], ◌∷◌, map, filter, max, slice_index}
+use Rattle.std.specs.Prelude.{ℕ, ◌≤◌, ◌==◌, List, [], ◌∷◌, map, filter, max, slice_index}
 use Rattle.proxy_config.specs.declared.overload.Trigger.{Trigger}
 use Rattle.overload_core.specs.declared.actions.Actions.{Actions}
 use Rattle.overload_core.specs.States.{state_of}
@@ -22,3 +22,12 @@ actions_at triggers pressures = record {
   reduce_timeouts = action_state triggers pressures 4;
   reset_streams = action_state triggers pressures 5;
 }
+
+-- each is a state, in parts per million
+pub record AreStates (a : Actions) : Type 0 where
+  pub stop_requests : a.stop_requests ≤ 1000000
+  pub stop_accepting : a.stop_accepting ≤ 1000000
+  pub reject_incoming : a.reject_incoming ≤ 1000000
+  pub no_keepalive : a.no_keepalive ≤ 1000000
+  pub reduce_timeouts : a.reduce_timeouts ≤ 1000000
+  pub reset_streams : a.reset_streams ≤ 1000000

@@ -1,6 +1,6 @@
 //! The states of the overload actions.
-ghost use Rattle.std.specs.Prelude.{◌≡◌, slice_index};
-ghost use Rattle.overload_core.specs.ActionStates.{action_state, actions_at};
+ghost use Rattle.std.specs.Prelude.{◌≡◌, ◌≤◌, slice_index};
+ghost use Rattle.overload_core.specs.ActionStates.{action_state, actions_at, AreStates};
 
 use crate::trigger::trigger_state;
 use proxy_config::{Config, Trigger};
@@ -26,7 +26,8 @@ pub struct Actions {
 ///
 /// There is one pressure for each resource of the configuration. A trigger of a resource with no pressure sees 0.
 pub fn action_states(config: &Config, pressures: &[u32]) -> Actions
-    ensures { result ≡ actions_at config.now.overload.triggers pressures.now }
+    ensures states { result ≡ actions_at config.now.overload.triggers pressures.now }
+    ensures most { AreStates result }
 {
     let triggers = config.overload.triggers.as_slice();
     Actions {
@@ -41,7 +42,8 @@ pub fn action_states(config: &Config, pressures: &[u32]) -> Actions
 
 /// The greatest state of the action's triggers.
 fn greatest(triggers: &[Trigger], pressures: &[u32], action: u32) -> u32
-    ensures { result ≡ action_state triggers.now pressures.now action }
+    ensures state { result ≡ action_state triggers.now pressures.now action }
+    ensures most { result ≤ 1000000 }
 {
     let mut most: u32 = 0;
     for trigger in triggers {

@@ -157,12 +157,11 @@ impl Classes {
         self.drop_as::<Brand>(exchange, Blank::new(1));
     }
 
-    /// The exchange that is reset next under a state from 0 to 1,000,000: of the min(floor(8 × state / 1,000,000) + 1, 8)
+    /// The exchange that is reset next under a state, in parts per million: of the min(floor(8 × state / 1,000,000) + 1, 8)
     /// greatest classes, the first exchange of the greatest that isn't empty. None where the state is 0, or these are empty.
     ///
     /// State 1 clears class 8 alone, 500,000 the classes 4 to 8, 874,999 the classes 2 to 8, and 1,000,000 all.
     pub fn to_reset(&self, state: u32) -> Option<u64>
-        requires { state ≤ 1000000 }
         ensures { result ≡ next_reset state self.now.classes }
     {
         for i in 0..cleared(state) {
@@ -177,14 +176,13 @@ impl Classes {
 
 /// How many of the greatest classes a state clears.
 fn cleared(state: u32) -> u32
-    requires { state ≤ 1000000 }
     ensures cleared { result ≡ cleared state }
     ensures few { result ≤ 8 }
 {
     if state == 0 {
         return 0;
     }
-    (8 * state / 1_000_000 + 1).min(8)
+    (8 * u64::from(state) / 1_000_000 + 1).min(8) as u32
 }
 
 /// Gives every node back.
