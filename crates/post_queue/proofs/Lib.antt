@@ -1,0 +1,5 @@
+pub mod Totals
+pub mod Numbers
+pub mod Seats
+pub mod Steps
+pub mod Ended
