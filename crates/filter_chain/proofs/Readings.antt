@@ -9,7 +9,7 @@ use Rattle.std.specs.List.{list_all}
 use Rattle.std.specs.Option.{option_map_or}
 use Rattle.std.specs.Prelude.{None, Option, Some, if◌then◌else◌, not, ◌||◌}
 use Rattle.filter_chain.proofs.Row.{stage_octets, stage_place}
-use Rattle.filter_chain.specs.Chain.{Chain, octets_at, octets_in, place_at}
+use Rattle.filter_chain.specs.Chain.{Chain, limit_at, octets_at, octets_in, place_at}
 use Rattle.filter_chain.specs.Place.{Place, is_hold}
 use Rattle.filter_chain.specs.Release.{empty_before, holds_filled, is_empty_at, is_whole_at, let_go, may_release}
 use Rattle.filter_chain.specs.Stage.{place_of, places_of}
@@ -24,6 +24,9 @@ at_place chain stages p s seen first last is =
 
 pub octets_is : (chain : Chain) (p : ℕ) (x : Place) → place_at chain.places p ≡ Some x → octets_at chain p ≡ x.octets
 octets_is chain p x at = ap (λ (o : Option Place). option_map_or (λ place. place.octets) o []) at
+
+pub limit_is : (chain : Chain) (p : ℕ) (x : Place) → place_at chain.places p ≡ Some x → limit_at chain p ≡ x.limit
+limit_is chain p x at = ap (λ (o : Option Place). option_map_or (λ place. place.limit) o 0) at
 
 -- what a place of each kind may release
 may_be : (chain : Chain) (p : ℕ) (x : Place) (kind : StageKind) → place_at chain.places p ≡ Some x → x.kind ≡ kind → may_release chain p ≡ let_go chain p kind x

@@ -41,6 +41,10 @@ octets_at chain p = octets_in chain.places p
 abbrev pub above_at : Chain → ℕ → Bool
 above_at chain p = above_in chain.places p
 
+-- the limit of a place, 0 for none
+abbrev pub limit_at : Chain → ℕ → ℕ
+limit_at chain p = option_map_or (λ place. place.limit) (place_at chain.places p) 0
+
 -- the send buffer is the last place
 abbrev pub send_place : Chain → ℕ
 send_place chain = length chain.places

@@ -1,6 +1,6 @@
 // The chain of a flow's stages.
 ghost use Rattle.std.specs.Prelude.{◌≡◌, ◌≢◌, ◌↔◌, ◌+◌, ◌<◌, ◌≤◌, ◌++◌, ◌==◌, length, take, IsTrue, IsOk, OnOk, OnErr, IfOk};
-ghost use Rattle.filter_chain.specs.Chain.{IsSound, above_at, empty_chain, octets_at, send_place};
+ghost use Rattle.filter_chain.specs.Chain.{IsSound, above_at, empty_chain, limit_at, octets_at, send_place};
 ghost use Rattle.filter_chain.specs.Effects.{finished, framed, offered, released, ticked};
 ghost use Rattle.filter_chain.specs.Release.{has_room_at, head_may_go, is_source_at, is_whole_at, may_release, overfills};
 ghost use Rattle.proxy_config.specs.Ranges.{AreFilters, IsBetween, most_octets};
@@ -62,7 +62,8 @@ impl Chain {
         requires filters { AreFilters filters.now }
         requires send_limit { send_limit ≤ most_octets }
         requires quantum { IsBetween 16384 1048576 quantum }
-        ensures { IfOk result (λ chain. chain ≡ empty_chain flow filters.now send_limit now quantum) }
+        ensures made { IfOk result (λ chain. chain ≡ empty_chain flow filters.now send_limit now quantum) }
+        ensures sound { IfOk result IsSound }
     {
         let stages = stages_of(alloc, filters.as_slice(), send_limit, quantum)?;
         Ok(Chain {
@@ -115,6 +116,15 @@ impl Chain {
         self.stages[place as usize - 1].kind.is_source()
     }
 
+    /// The limit of a place in octets, 0 for none.
+    pub fn limit(&self, place: u32) -> u32
+        requires first { 1 ≤ place }
+        requires last { place ≤ send_place self.now }
+        ensures { result ≡ limit_at self.now place }
+    {
+        self.stages[place as usize - 1].limit()
+    }
+
     /// Moves the first n octets of the flow's receive buffer into place 1. Both buffers' crossings are
     /// answered. After a fault nothing has moved.
     ///
@@ -128,6 +138,7 @@ impl Chain {
         ensures to { IfOk result (λ shifted. shifted.to ≡ crossing (above_at self.old 1) (above_at self.new 1)) }
         ensures too_large { (result ≡ Err OfferFault.TooLarge) ↔ IsTrue (overfills self.old 1 n) }
         ensures ready { IsTrue (has_room_at self.old 1 n) → result ≢ Err OfferFault.NoMemory }
+        ensures sound { IsSound self.new }
         ensures err { OnErr result ((self.new ≡ self.old) × (from.new ≡ from.old)) }
     {
         let shifted = feed(&mut self.stages, from, n)?;
@@ -180,6 +191,7 @@ impl Chain {
         ensures to { IfOk result (λ shifted. shifted.to ≡ crossing (above_at self.old (place + 1)) (above_at self.new (place + 1))) }
         ensures too_large { (result ≡ Err OfferFault.TooLarge) ↔ IsTrue (overfills self.old (place + 1) n) }
         ensures ready { IsTrue (has_room_at self.old (place + 1) n) → result ≢ Err OfferFault.NoMemory }
+        ensures sound { IsSound self.new }
         ensures err { OnErr result (self.new ≡ self.old) }
     {
         pass_on(&mut self.stages, place as usize, n)
@@ -200,6 +212,7 @@ impl Chain {
         ensures from { IfOk result (λ shifted. shifted.from ≡ crossing (above_at self.old (send_place self.old)) (above_at self.new (send_place self.new))) }
         ensures to { IfOk result (λ shifted. shifted.to ≡ crossing out.old.above out.new.above) }
         ensures covered { length head.now + n ≤ out.old.spare → IsOk result }
+        ensures sound { IsSound self.new }
         ensures err { OnErr result ((self.new ≡ self.old) × (out.new ≡ out.old)) }
     {
         frame_last(&mut self.stages, out, head, n)
@@ -209,7 +222,8 @@ impl Chain {
     /// 50 ms since it started that ended since the last moment, and has at most that many.
     pub fn tick(&mut self, now: u64)
         requires { self.old.time ≤ now }
-        ensures { self.new ≡ ticked self.old now }
+        ensures ticked { self.new ≡ ticked self.old now }
+        ensures sound { IsSound self.new }
     {
         let steps = self.clock.go_on(now);
         refill_all(&mut self.stages, steps);
@@ -217,7 +231,8 @@ impl Chain {
 
     /// The flow's end came, when its receive buffer was empty or not.
     pub fn finish(&mut self, recv_empty: bool)
-        ensures { self.new ≡ finished self.old recv_empty }
+        ensures finished { self.new ≡ finished self.old recv_empty }
+        ensures sound { IsSound self.new }
     {
         self.ended = true;
         self.recv_empty = recv_empty;

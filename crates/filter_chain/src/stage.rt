@@ -96,6 +96,12 @@ impl Stage {
         self.buffer.len()
     }
 
+    pub fn limit(&self) -> u32
+        ensures { result ≡ self.now.buffer.limit }
+    {
+        self.buffer.limit()
+    }
+
     pub fn is_empty(&self) -> bool
         ensures { result ≡ (length self.now.buffer.octets == 0) }
     {

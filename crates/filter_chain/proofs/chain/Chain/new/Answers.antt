@@ -21,3 +21,6 @@ invariant_of-result c =
       sound = record { order = there.order; few = there.few; each = there.each; quantum = c.requires.quantum; clock = omega arith };
       ready = c.in_ok-stages.ensures.ready;
     }
+
+pub returns-clause-sound : goal.returns-clause-sound
+returns-clause-sound c = (invariant_of-result c).sound

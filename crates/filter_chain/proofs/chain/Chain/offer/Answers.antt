@@ -22,3 +22,6 @@ invariant_of-self-2 c =
       ready = subst (All (IsReady c.self.inside.quantum)) (sym whole)
           (c.in_ok-shifted.ensures.ready c.self.inside.quantum (subst (All (IsReady c.self.inside.quantum)) (sym c.deref_mut.ensures.value) c.self.invariant.ready));
     }
+
+pub returns-clause-sound : goal.returns-clause-sound
+returns-clause-sound c = (invariant_of-self-2 c).sound

@@ -23,3 +23,6 @@ invariant_of-self c =
       ready = subst (All (IsReady c.self.inside.quantum)) (sym whole)
           (c.refill_all.ensures.ready c.self.inside.quantum (subst (All (IsReady c.self.inside.quantum)) (sym c.deref_mut.ensures.value) c.self.invariant.ready));
     }
+
+pub returns-clause-sound : goal.returns-clause-sound
+returns-clause-sound c = (invariant_of-self c).sound

@@ -1,0 +1,64 @@
+-- A flow at a moment: what it knows already stays, and of two moments the later one counts.
+use Rattle.exchange_core.specs.Effects.{ticked}
+use Rattle.exchange_core.specs.Exchange.{at_moment, seen_at}
+use Rattle.exchange_core.specs.Flow.{Flow}
+use Rattle.exchange_core.specs.declared.exchange.Exchange.{Exchange}
+use Rattle.filter_chain.specs.Chain.{Chain}
+use Rattle.filter_chain.specs.Effects.{ticked as chain_ticked}
+use Rattle.std.proofs.Common.{ap, arith, inl, inr, refl, sym, ◌∙◌}
+use Rattle.std.proofs.lemmas.Bool.{cases_Bool, le-ltb, lt-ltb, ltb-false, ltb-true}
+use Rattle.std.specs.Prelude.{Bool, None, Option, Some, cond, false, nat_lt, option_map, true, ℕ, ◌<◌, ◌≡◌, ◌≤◌}
+
+-- the chain of a flow at a moment
+abbrev pub chain_at : ℕ → Chain → Chain
+chain_at now chain = cond (nat_lt chain.time now) (chain_ticked chain now) chain
+
+pub chain_known : (now : ℕ) (chain : Chain) → now ≤ chain.time → chain_at now chain ≡ chain
+chain_known now chain knows = ap (λ b. cond b (chain_ticked chain now) chain) (le-ltb chain.time now knows)
+
+pub chain_told : (now : ℕ) (chain : Chain) → chain.time < now → chain_at now chain ≡ chain_ticked chain now
+chain_told now chain later = ap (λ b. cond b (chain_ticked chain now) chain) (lt-ltb chain.time now later)
+
+-- ---- a flow
+pub known : (now : ℕ) (flow : Flow) → now ≤ flow.chain.time → at_moment now flow ≡ flow
+known now flow knows = ap (λ chain. record flow { chain = chain }) (chain_known now flow.chain knows)
+
+pub told : (now : ℕ) (flow : Flow) → now ≤ (at_moment now flow).chain.time
+told now flow = elim (cases_Bool (nat_lt flow.chain.time now)) [
+  | inl later ↦ omega (arith, ap (λ b. (cond b (chain_ticked flow.chain now) flow.chain).time) later)
+  | inr is ↦ omega (arith, ap (λ b. (cond b (chain_ticked flow.chain now) flow.chain).time) is, ltb-false flow.chain.time now is)
+]
+
+pub told_by : (now time : ℕ) (flow : Flow) → now ≤ time → flow.chain.time ≤ time → (at_moment now flow).chain.time ≤ time
+told_by now time flow first second = elim (cases_Bool (nat_lt flow.chain.time now)) [
+  | inl later ↦ omega (arith, ap (λ b. (cond b (chain_ticked flow.chain now) flow.chain).time) later)
+  | inr is ↦ omega (arith, ap (λ b. (cond b (chain_ticked flow.chain now) flow.chain).time) is)
+]
+
+-- what the time leaves of a chain
+pub chain_kept : {Y : Type 0} (read : Chain → Y) (now : ℕ) (chain : Chain) → read (chain_ticked chain now) ≡ read chain → read (chain_at now chain) ≡ read chain
+chain_kept read now chain same = elim (nat_lt chain.time now) as (λ b. read (cond b (chain_ticked chain now) chain) ≡ read chain) [ true ↦ same | false ↦ refl ]
+
+-- ---- two moments
+-- of a chain, two ticks do what the later one does
+abbrev pub AddUp : Type 0
+AddUp = (chain : Chain) (now later : ℕ) → chain.started ≤ chain.time → chain.time ≤ now → now ≤ later
+    → chain_ticked (chain_ticked chain now) later ≡ chain_ticked chain later
+
+chain_later : AddUp → (now later : ℕ) (chain : Chain) → now ≤ later → chain.started ≤ chain.time → chain_at later (chain_at now chain) ≡ chain_at later chain
+chain_later sums now later chain after clock = elim (cases_Bool (nat_lt chain.time now)) [
+  | inl is ↦
+      let first : chain.time < now = ltb-true chain.time now is in
+      ap (chain_at later) (chain_told now chain first) ∙ elim (cases_Bool (nat_lt now later)) [
+        | inl second ↦
+            let beyond : now < later = ltb-true now later second in
+            chain_told later (chain_ticked chain now) beyond ∙ sums chain now later clock (omega arith) (omega arith) ∙ sym (chain_told later chain (omega arith))
+        | inr last ↦
+            let same : now ≡ later = omega (arith, ltb-false now later last) in
+            chain_known later (chain_ticked chain now) (omega arith) ∙ ap (chain_ticked chain) same ∙ sym (chain_told later chain (omega arith))
+      ]
+  | inr is ↦ ap (chain_at later) (chain_known now chain (ltb-false chain.time now is))
+]
+
+pub flow_later : AddUp → (now later : ℕ) (flow : Flow) → now ≤ later → flow.chain.started ≤ flow.chain.time → at_moment later (at_moment now flow) ≡ at_moment later flow
+flow_later sums now later flow after clock = ap (λ chain. record flow { chain = chain }) (chain_later sums now later flow.chain after clock)

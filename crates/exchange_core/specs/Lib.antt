@@ -1,0 +1,15 @@
+pub mod Changes
+pub mod Effects
+pub mod Exchange
+pub mod Exchanges
+pub mod Flow
+pub mod Kept
+pub mod Lending
+pub mod Message
+pub mod Moves
+pub mod Numbers
+pub mod Plain
+pub mod Replies
+pub mod Seen
+pub mod Units
+pub mod View

@@ -1,0 +1,385 @@
+// One flow of an exchange.
+ghost use Rattle.std.specs.Prelude.{◌≡◌, ◌≢◌, ◌↔◌, ◌+◌, ◌<◌, ◌≤◌, ◌^◌, ◌++◌, false, true, IfOk, IfSome, IsOk, IsTrue, OnOk, OnErr, length, take};
+ghost use Rattle.std.specs.Option.{option_copied};
+ghost use Rattle.exchange_core.specs.Effects.{arrived, body_framed, finished, headed, list_framed, moved};
+ghost use Rattle.exchange_core.specs.Exchange.{at_moment, begun_flow};
+ghost use Rattle.exchange_core.specs.Flow.{IsSound, held_by, last_place, meters_hold, send};
+ghost use Rattle.exchange_core.specs.Message.{fields_of, head_waits};
+ghost use Rattle.exchange_core.specs.Moves.{has_room_ahead, is_held_at, is_target_above, last_free, lets_go, may_release, next_step, overflows, stepped};
+ghost use Rattle.exchange_core.specs.Units.{IsFrameable, carried, empty_before, ends_after, next_head, next_unit};
+ghost use Rattle.filter_chain.specs.Chain.{above_at};
+ghost use Rattle.filter_chain.specs.Release.{overfills, has_room_at};
+ghost use Rattle.flow_gate.specs.Board.{is_open};
+ghost use Rattle.proxy_config.specs.Ranges.{AreFilters, IsBetween, most_octets};
+ghost use Rattle.wm_buffer.specs.Buffer.{AppendsOctets};
+ghost use Rattle.wm_buffer.specs.Watermark.{crossing};
+
+use crate::message::Message;
+use crate::start::StartSpec;
+use crate::step::{Step, Unit};
+use filter_chain::{Chain, OfferFault};
+use flow_gate::{BufferId, FlowId, Gates};
+use hpack_codec::FieldList;
+use io_ports::NoMemory;
+use proxy_config::FilterList;
+use std::alloc::Global;
+use std::marker::Model;
+use wm_buffer::{Shifted, WatermarkBuffer};
+
+/// The octets of one flow on their way, and its message.
+///
+/// Its places are counted from 0: the receive buffer, the stages, the send buffer.
+#[derive(Debug, Drop)]
+pub(crate) struct Flow {
+    window: u32,
+    recv: WatermarkBuffer,
+    chain: Chain,
+    message: Message,
+    quantum: u32,
+    multiple: u32,
+}
+
+impl Model for Flow {
+    ghost use Rattle.exchange_core.specs.Flow.{Flow};
+
+    ghost Value = { Flow };
+
+    ghost use Rattle.exchange_core.specs.Kept.{flow_of, IsKeptFlow};
+
+    ghost view = { flow_of };
+
+    ghost invariant = { IsKeptFlow };
+}
+
+impl Flow {
+    /// An empty flow through the stages of these filters. Where `multiple` isn't 0, a buffer of its overflows beyond so
+    /// many times its limit. Each buffer with a limit gets its room here, and the receive buffer that for its window.
+    pub(crate) fn new(
+        alloc: Global,
+        id: FlowId,
+        filters: &FilterList,
+        spec: &StartSpec,
+        multiple: u32,
+    ) -> Result<Self, NoMemory>
+        requires filters { AreFilters filters.now }
+        requires recv { spec.now.recv ≤ most_octets }
+        requires send { spec.now.send ≤ most_octets }
+        requires quantum { IsBetween 16384 1048576 spec.now.quantum }
+        ensures begun { IfOk result (λ flow. flow ≡ begun_flow id filters.now spec.entry.now multiple) }
+        ensures sound { IfOk result IsSound }
+    {
+        let mut recv = WatermarkBuffer::new(alloc, 0);
+        recv.ready(spec.recv)?;
+        Ok(Flow {
+            window: spec.recv,
+            recv,
+            chain: Chain::new(alloc, id, filters, spec.send, spec.now, spec.quantum)?,
+            message: Message::new(),
+            quantum: spec.quantum,
+            multiple,
+        })
+    }
+
+    /// The Meters go on to the moment `now`, where that is later than the last one.
+    pub(crate) fn go_on(&mut self, now: u64)
+        ensures moment { self.new ≡ at_moment now self.old }
+        ensures sound { IsSound self.new }
+    {
+        if now > self.chain.time() {
+            self.chain.tick(now);
+        }
+    }
+
+    pub(crate) fn head(&mut self, fields: FieldList, last: bool)
+        requires goes_on { self.old.message.ended ≡ false }
+        requires alone { last ≡ true → held_by self.old ≡ 0 }
+        ensures headed { self.new ≡ headed fields last self.old }
+        ensures sound { IsSound self.new }
+    {
+        if last {
+            self.chain.finish(self.recv.is_empty());
+        }
+        self.message.begin(fields, last);
+    }
+
+    pub(crate) fn arrive(&mut self, octets: &[u8]) -> Result<(), NoMemory>
+        requires { self.old.message.ended ≡ false }
+        ensures ok { OnOk result (self.new ≡ arrived octets.now self.old) }
+        ensures sound { IsSound self.new }
+        ensures covered { length self.old.recv + length octets.now ≤ self.old.window → IsOk result }
+        ensures err { OnErr result (self.new ≡ self.old) }
+    {
+        self.recv.add(octets)?;
+        Ok(())
+    }
+
+    pub(crate) fn finish(&mut self, trailers: Option<FieldList>)
+        requires { self.old.message.ended ≡ false }
+        ensures finished { self.new ≡ finished trailers self.old }
+        ensures sound { IsSound self.new }
+    {
+        self.chain.finish(self.recv.is_empty());
+        self.message.finish(trailers);
+    }
+
+    /// One move from the last place that may release and has no later source above, towards a connection or none.
+    pub(crate) fn step(&mut self, to: Option<u32>, gates: &Gates) -> Result<Step, NoMemory>
+        requires { is_open gates.now self.old.chain.flow ≡ true }
+        ensures step { IfOk result (λ step. step ≡ next_step gates.now to self.old) }
+        ensures flow { OnOk result (self.new ≡ stepped gates.now to self.old) }
+        ensures covered { IsTrue (has_room_ahead gates.now to self.old) → IsOk result }
+        ensures sound { IsSound self.new }
+        ensures err { OnErr result (self.new ≡ self.old) }
+    {
+        let Some(place) = self.last_free(to, gates) else {
+            return Ok(Step::Still);
+        };
+        let n = self.may_release(place, gates);
+        match self.move_on(place, n) {
+            Ok(shifted) => Ok(Step::Moved {
+                place,
+                n,
+                shifted,
+                overflow: self.overflows(place + 1),
+            }),
+            Err(OfferFault::TooLarge) => Ok(Step::TooLarge),
+            Err(OfferFault::NoMemory) => Err(NoMemory),
+        }
+    }
+
+    /// The last place that may release and has no later source above. A source that is above holds all places before
+    /// it back.
+    fn last_free(&self, to: Option<u32>, gates: &Gates) -> Option<u32>
+        requires { is_open gates.now self.now.chain.flow ≡ true }
+        ensures place { result ≡ last_free gates.now to self.now }
+        ensures stage { IfSome result (λ p. p < last_place self.now) }
+        ensures some { IfSome result (λ p. 0 < may_release gates.now self.now p) }
+        ensures few { IfSome result (λ p. p < 9) }
+        ensures sound { IsSound self.now }
+    {
+        let mut place = self.chain.places();
+        if is_target_above(to, gates) {
+            return None;
+        }
+        while place > 0 {
+            if self.is_held_at(place, gates) {
+                return None;
+            }
+            place -= 1;
+            if self.may_release(place, gates) > 0 {
+                return Some(place);
+            }
+        }
+        None
+    }
+
+    /// Whether a place is a source that is above.
+    fn is_held_at(&self, place: u32, gates: &Gates) -> bool
+        requires first { 1 ≤ place }
+        requires last { place ≤ last_place self.now }
+        ensures { result ≡ is_held_at gates.now self.now place }
+    {
+        let flow = self.chain.flow();
+        if place == self.chain.places() {
+            return gates.is_marked(BufferId::Send(flow));
+        }
+        self.chain.is_source(place) && gates.is_marked(BufferId::Stage(flow, place))
+    }
+
+    /// How many octets a place before the send buffer may let go now.
+    fn may_release(&self, place: u32, gates: &Gates) -> u32
+        requires open { is_open gates.now self.now.chain.flow ≡ true }
+        requires stage { place < last_place self.now }
+        ensures released { result ≡ may_release gates.now self.now place }
+        ensures most { result ≤ lets_go self.now place }
+    {
+        if place > 0 {
+            self.chain.may_release(place)
+        } else if gates.count(self.chain.flow()) == 0 {
+            self.quantum.min(self.recv.len())
+        } else {
+            0
+        }
+    }
+
+    /// Moves the first n octets of a place to the next one.
+    fn move_on(&mut self, place: u32, n: u32) -> Result<Shifted, OfferFault>
+        requires stage { place < last_place self.old }
+        requires some { 1 ≤ n }
+        requires most { n ≤ lets_go self.old place }
+        ensures moves { OnOk result (self.new ≡ moved place n self.old) }
+        ensures from { IfOk result (λ shifted. shifted.from ≡ crossing (above_at self.old.chain place) (above_at self.new.chain place)) }
+        ensures to { IfOk result (λ shifted. shifted.to ≡ crossing (above_at self.old.chain (place + 1)) (above_at self.new.chain (place + 1))) }
+        ensures too_large { (result ≡ Err OfferFault.TooLarge) ↔ IsTrue (overfills self.old.chain (place + 1) n) }
+        ensures ready { IsTrue (has_room_at self.old.chain (place + 1) n) → result ≢ Err OfferFault.NoMemory }
+        ensures sound { IsSound self.new }
+        ensures err { OnErr result (self.new ≡ self.old) }
+    {
+        if place > 0 {
+            self.chain.release(place, n)
+        } else {
+            self.chain.offer(&mut self.recv, n)
+        }
+    }
+
+    /// Whether a Meter or the send buffer holds more than its multiple of its limit.
+    fn overflows(&self, place: u32) -> bool
+        requires first { 1 ≤ place }
+        requires last { place ≤ last_place self.now }
+        ensures { result ≡ overflows self.now place }
+    {
+        let most = u64::from(self.multiple) * u64::from(self.chain.limit(place));
+        self.chain.is_source(place) && 0 < most && most < u64::from(self.chain.len(place))
+    }
+
+    /// What goes next into the write buffer, where the windows let `room` octets go and the peer takes `frame` octets in
+    /// one frame.
+    pub(crate) fn next_unit(&self, room: i64, frame: u32) -> Unit
+        ensures unit { result ≡ next_unit room frame self.now }
+        ensures frameable { IsFrameable result self.now }
+    {
+        if self.message.head_waits() {
+            return self.next_head();
+        }
+        let n = self.carried(room, frame);
+        if n > 0 {
+            let last = self.ends_after(n) && !self.message.trailers_wait();
+            return Unit::Body { n, last };
+        }
+        if !self.ends_after(0) || self.message.end_framed {
+            return Unit::Nothing;
+        }
+        if self.message.trailers_wait() {
+            Unit::Trailers
+        } else {
+            Unit::Body { n: 0, last: true }
+        }
+    }
+
+    /// The head that waits, where it may go.
+    fn next_head(&self) -> Unit
+        ensures { result ≡ next_head self.now }
+    {
+        if self.chain.head_may_go() {
+            Unit::Head {
+                last: self.message.head_ends,
+            }
+        } else {
+            Unit::Nothing
+        }
+    }
+
+    /// How many octets a DATA frame carries now.
+    fn carried(&self, room: i64, frame: u32) -> u32
+        ensures carried { result ≡ carried room frame self.now }
+        ensures few { result ≤ length (send self.now) }
+    {
+        let sent = self.chain.len(self.chain.places());
+        let room = u32::try_from(room.max(0)).unwrap_or(u32::MAX);
+        self.quantum.min(frame).min(room.min(sent))
+    }
+
+    /// Whether the flow's end came, and nothing is left of its body but the first n octets of the send buffer.
+    fn ends_after(&self, n: u32) -> bool
+        ensures { result ≡ ends_after n self.now }
+    {
+        self.message.ended && self.is_all_in_send() && self.chain.len(self.chain.places()) == n
+    }
+
+    /// Whether every place before the send buffer is empty.
+    fn is_all_in_send(&self) -> bool
+        ensures { result ≡ empty_before self.now (last_place self.now) }
+    {
+        for place in 1..self.chain.places() {
+            if self.chain.len(place) > 0 {
+                return false;
+            }
+        }
+        self.recv.is_empty()
+    }
+
+    /// The head or the trailers that are framed next.
+    pub(crate) fn fields(&self) -> Option<&FieldList>
+        ensures { option_copied result ≡ fields_of self.now.message }
+    {
+        self.message.fields()
+    }
+
+    /// These were framed, and with them the flow's end where `last` holds.
+    pub(crate) fn list_framed(&mut self, last: bool)
+        ensures framed { self.new ≡ list_framed last self.old }
+        ensures sound { IsSound self.new }
+    {
+        self.message.list_framed(last);
+    }
+
+    /// Appends `head` and the first n octets of the send buffer to `out`.
+    pub(crate) fn frame_body(
+        &mut self,
+        out: &mut WatermarkBuffer,
+        head: &[u8],
+        n: u32,
+        last: bool,
+    ) -> Result<Shifted, NoMemory>
+        requires headed { head_waits self.old.message ≡ false }
+        requires octets { n ≤ length (send self.old) }
+        ensures frames { OnOk result (self.new ≡ body_framed n last self.old) }
+        ensures appends { OnOk result (AppendsOctets out.old out.new (head.now ++ take n (send self.old))) }
+        ensures from { IfOk result (λ shifted. shifted.from ≡ crossing (above_at self.old.chain (last_place self.old)) (above_at self.new.chain (last_place self.new))) }
+        ensures to { IfOk result (λ shifted. shifted.to ≡ crossing out.old.above out.new.above) }
+        ensures covered { length head.now + n ≤ out.old.spare → IsOk result }
+        ensures sound { IsSound self.new }
+        ensures err { OnErr result ((self.new ≡ self.old) × (out.new ≡ out.old)) }
+    {
+        let shifted = self.chain.frame(out, head, n)?;
+        self.message.body_framed(last);
+        Ok(shifted)
+    }
+
+    /// The octets in all places.
+    pub(crate) fn held(&self) -> u64
+        ensures held { result ≡ held_by self.now }
+        ensures bound { result < 2 ^ 36 }
+    {
+        let mut held = u64::from(self.recv.len());
+        for index in 0..self.chain.places() {
+            held += u64::from(self.chain.len(index + 1));
+        }
+        held
+    }
+
+    /// Whether some Meter holds octets.
+    pub(crate) fn meters_hold(&self) -> bool
+        ensures { result ≡ meters_hold self.now }
+    {
+        for place in 1..self.chain.places() {
+            if self.chain.is_source(place) && self.chain.len(place) > 0 {
+                return true;
+            }
+        }
+        false
+    }
+
+    /// The octets in the receive buffer.
+    pub(crate) fn left(&self) -> u32
+        ensures { result ≡ length self.now.recv }
+    {
+        self.recv.len()
+    }
+
+    pub(crate) fn message(&self) -> &Message
+        ensures { result.now ≡ self.now.message }
+    {
+        &self.message
+    }
+}
+
+/// Whether the write buffer of a connection, if there is one, is above.
+fn is_target_above(to: Option<u32>, gates: &Gates) -> bool
+    ensures { result ≡ is_target_above gates.now to }
+{
+    match to {
+        Some(conn) => gates.is_marked(BufferId::Write(conn)),
+        None => false,
+    }
+}

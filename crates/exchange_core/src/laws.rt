@@ -1,0 +1,22 @@
+// What holds of exchanges, whatever is done to them.
+ghost use Rattle.std.specs.Prelude.{◌≡◌, Bool, List, None, Some, ℕ, ℤ};
+ghost use Rattle.exchange_core.specs.Effects.{arrived, body_framed, finished};
+ghost use Rattle.exchange_core.specs.Exchange.{begun};
+ghost use Rattle.exchange_core.specs.Moves.{next_step, stepped};
+ghost use Rattle.exchange_core.specs.Plain.{Plain, plain_arrived, plain_begun, plain_exchange, plain_finished, plain_flow, plain_framed, plain_spec, plain_step, plain_stepped, plain_unit};
+ghost use Rattle.exchange_core.specs.Units.{carries_end, next_unit};
+ghost use Rattle.flow_gate.specs.Board.{Board};
+ghost use Rattle.proxy_config.specs.declared.config.Config.{Config};
+
+/// A stream of a plain session stays one, a receive buffer and a send buffer: what each call makes of it, what moves, and
+/// what is framed next.
+pub fn plain_streams()
+    ensures begins { (x window limit quantum now : ℕ) (config : Config)
+        → begun x (plain_spec x window limit quantum now) config ≡ plain_exchange x (plain_begun window limit quantum now) }
+    ensures arrives { (x : ℕ) (p : Plain) (octets : List ℕ) → arrived octets (plain_flow x p) ≡ plain_flow x (plain_arrived octets p) }
+    ensures finishes { (x : ℕ) (p : Plain) → finished None (plain_flow x p) ≡ plain_flow x (plain_finished p) }
+    ensures step { (board : Board) (x : ℕ) (p : Plain) → next_step board (Some 0) (plain_flow x p) ≡ plain_step board x p }
+    ensures steps { (board : Board) (x : ℕ) (p : Plain) → stepped board (Some 0) (plain_flow x p) ≡ plain_flow x (plain_stepped board x p) }
+    ensures unit { (x : ℕ) (room : ℤ) (frame : ℕ) (p : Plain) → next_unit room frame (plain_flow x p) ≡ plain_unit room frame p }
+    ensures frames { (x n : ℕ) (last : Bool) (p : Plain) → body_framed n last (plain_flow x p) ≡ plain_flow x (plain_framed n last p) }
+{}

@@ -1,0 +1,27 @@
+//! The life of exchanges: a request and its response, from their start to their doom, with the octets that are on
+//! their way, and the heads and trailers that wait to be framed.
+#![tactic(auto)]
+
+mod causes;
+mod exchange;
+mod exchanges;
+mod flow;
+mod laws;
+mod message;
+mod numbers;
+mod reply;
+#[cfg(test)]
+mod sessions;
+#[cfg(test)]
+mod stage;
+mod start;
+mod step;
+#[cfg(test)]
+mod tests;
+
+pub use exchange::Ends;
+pub use exchanges::Exchanges;
+pub use laws::plain_streams;
+pub use reply::{Doomed, Reply};
+pub use start::StartSpec;
+pub use step::{Step, Unit};

@@ -1,0 +1,97 @@
+// The head, the trailers and the end of one message.
+ghost use Rattle.std.specs.Prelude.{◌≡◌};
+ghost use Rattle.std.specs.Option.{option_copied};
+ghost use Rattle.exchange_core.specs.Message.{empty_message, fields_of, head_waits, headed, ended_with, list_framed, end_framed_if, trailers_wait};
+
+use hpack_codec::FieldList;
+
+/// What came of a message besides its body, and what of it was framed.
+#[derive(Debug, Drop)]
+pub(crate) struct Message {
+    /// The head that came and waits to be framed.
+    pub(crate) head: Option<FieldList>,
+    /// Whether the flow's end came with the head.
+    pub(crate) head_ends: bool,
+    pub(crate) head_framed: bool,
+    /// Whether the flow's end came.
+    pub(crate) ended: bool,
+    /// The trailers that came and wait to be framed.
+    pub(crate) trailers: Option<FieldList>,
+    pub(crate) end_framed: bool,
+}
+
+impl Message {
+    /// Nothing came yet.
+    pub(crate) fn new() -> Self
+        ensures { result ≡ empty_message }
+    {
+        Message {
+            head: None,
+            head_ends: false,
+            head_framed: false,
+            ended: false,
+            trailers: None,
+            end_framed: false,
+        }
+    }
+
+    pub(crate) fn head_waits(&self) -> bool
+        ensures { result ≡ head_waits self.now }
+    {
+        self.head.is_some()
+    }
+
+    pub(crate) fn trailers_wait(&self) -> bool
+        ensures { result ≡ trailers_wait self.now }
+    {
+        self.trailers.is_some()
+    }
+
+    /// The head came, with the flow's end where `last` holds.
+    pub(crate) fn begin(&mut self, fields: FieldList, last: bool)
+        ensures { self.new ≡ headed fields last self.old }
+    {
+        self.head = Some(fields);
+        self.head_ends = last;
+        self.ended = self.ended || last;
+    }
+
+    /// The flow's end came, after trailers or none.
+    pub(crate) fn finish(&mut self, trailers: Option<FieldList>)
+        ensures { self.new ≡ ended_with trailers self.old }
+    {
+        self.trailers = trailers;
+        self.ended = true;
+    }
+
+    /// The list that is framed next: the head, then the trailers.
+    pub(crate) fn fields(&self) -> Option<&FieldList>
+        ensures { option_copied result ≡ fields_of self.now }
+    {
+        if self.head.is_some() {
+            self.head.as_ref()
+        } else {
+            self.trailers.as_ref()
+        }
+    }
+
+    /// That list was framed.
+    pub(crate) fn list_framed(&mut self, last: bool)
+        ensures { self.new ≡ list_framed last self.old }
+    {
+        if self.head.is_some() {
+            self.head = None;
+            self.head_framed = true;
+        } else {
+            self.trailers = None;
+        }
+        self.end_framed = self.end_framed || last;
+    }
+
+    /// Some body was framed.
+    pub(crate) fn body_framed(&mut self, last: bool)
+        ensures { self.new ≡ end_framed_if last self.old }
+    {
+        self.end_framed = self.end_framed || last;
+    }
+}

@@ -1,0 +1,32 @@
+// What a flow does next.
+use wm_buffer::Shifted;
+
+/// What one step of a flow did.
+#[derive(Clone, Copy, Debug, PartialEq, Eq)]
+pub enum Step {
+    /// No place may let octets go.
+    Still,
+    /// `n` octets went from place `place` to the next one. `shifted` says what both buffers crossed, and `overflow`
+    /// that the buffer which they went to holds more than its multiple of its limit.
+    Moved {
+        place: u32,
+        n: u32,
+        shifted: Shifted,
+        overflow: bool,
+    },
+    /// The next place keeps a whole body, and the octets would pass its limit. Nothing moved.
+    TooLarge,
+}
+
+/// What of a flow goes next into the write buffer of its connection.
+#[derive(Clone, Copy, Debug, PartialEq, Eq)]
+pub enum Unit {
+    /// Nothing may go now.
+    Nothing,
+    /// Its head, with the flow's end where `last` holds.
+    Head { last: bool },
+    /// A DATA frame of `n` octets, with the flow's end where `last` holds.
+    Body { n: u32, last: bool },
+    /// Its trailers, with the flow's end.
+    Trailers,
+}
