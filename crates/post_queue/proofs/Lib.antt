@@ -3,3 +3,4 @@ pub mod Numbers
 pub mod Seats
 pub mod Steps
 pub mod Ended
+pub mod Places

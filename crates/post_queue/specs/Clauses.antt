@@ -1,5 +1,7 @@
 -- The words of the calls' clauses: whose pass it is, and what it tells.
 use Rattle.std.specs.Prelude.{◌≡◌, ℕ, ◌+◌, cond, nat_lt, List, length, vec_capacity}
+use mathlib.Core.Option.{some}
+use lib.ListN.{get_elem?}
 use Rattle.crossbeam_queue.specs.SegTies.{IsSegPassOf}
 use Rattle.flow_notes.specs.declared.events.Job.{Job}
 use Rattle.post_queue.specs.Pass.{view}
@@ -47,6 +49,10 @@ passes_in l = l.passes.items
 
 abbrev pub room_in : PosterPasses → ℕ
 room_in l = vec_capacity l.passes
+
+-- pass k of the list is that of poster k
+abbrev pub AreInPlace : List PosterPass → Type 0
+AreInPlace passes = (k : ℕ) (p : PosterPass) → get_elem? passes k ≡ some p → p.poster ≡ k
 
 -- the runner knows what this poster made in all
 abbrev pub KnowsOf : Hand → PosterPass → Type 0

@@ -5,7 +5,7 @@ ghost use Rattle.post_queue.specs.declared.posts.PostRefusal.TheVariants as refu
 ghost use Rattle.post_queue.specs.Pass.{view};
 ghost use Rattle.post_queue.specs.Posts.{AreNumbered, IsAllowed, IsAllowedJob};
 ghost use Rattle.post_queue.specs.Steps.{runner, poster};
-ghost use Rattle.post_queue.specs.Clauses.{IsPosterOf, IsRunnerOf, made_by, tries_of, ran_by, pops_of, drains_of, pops_for, passes_in, room_in};
+ghost use Rattle.post_queue.specs.Clauses.{IsPosterOf, IsRunnerOf, made_by, tries_of, ran_by, pops_of, drains_of, pops_for, passes_in, room_in, AreInPlace};
 
 use crate::hand::Hand;
 use crate::passes::{PosterPass, PosterPasses, RunnerPass};
@@ -63,6 +63,7 @@ fn enrol_all(
     ensures first { IfOk result (λ _. IsSegPassOf queue.now first.new × (view first.new ≡ record runner { count = posters })) }
     ensures len { IfOk result (λ v. vec_len v ≡ posters) }
     ensures each { IfOk result (λ v. All (λ p. IsSegPassOf queue.now p.pass × (view p.pass ≡ poster p.poster)) v.items) }
+    ensures places { IfOk result (λ v. AreInPlace v.items) }
 {
     let mut list = Vec::with_capacity(alloc, posters as usize)?;
     for number in 0..posters {
@@ -73,11 +74,13 @@ fn enrol_all(
 }
 
 impl PostBox {
-    /// A box with so many posters, numbered from 0. Nothing is posted yet, and nothing run.
+    /// A box with so many posters, numbered from 0. Their passes lie in the order of their numbers. Nothing is posted
+    /// yet, and nothing run.
     pub fn new(alloc: Global, posters: u32) -> Result<(PostBox, PosterPasses, RunnerPass), NoMemory>
         requires { 1 ≤ posters }
         ensures posters { IfOk result (λ b. (b.0.posters ≡ posters) × (length (passes_in b.1) ≡ posters) × (posters ≤ room_in b.1)) }
         ensures each { IfOk result (λ b. All (IsPosterOf b.0) (passes_in b.1)) }
+        ensures places { IfOk result (λ b. AreInPlace (passes_in b.1)) }
         ensures fresh { IfOk result (λ b. All (λ p. (made_by p ≡ []) × (tries_of p ≡ 0)) (passes_in b.1)) }
         ensures runner { IfOk result (λ b. IsRunnerOf b.0 b.2 × (ran_by b.2 ≡ []) × (pops_of b.2 ≡ 0) × (drains_of b.2 ≡ 0)) }
     {

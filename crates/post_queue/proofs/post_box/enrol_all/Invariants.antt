@@ -2,6 +2,7 @@ use Rattle.std.proofs.Common.{◌≡◌, ◌≤◌, true, All, vec_len, vec_capa
 use Rattle.crossbeam_queue.specs.SegTies.{IsSegPassOf}
 use Rattle.post_queue.specs.Pass.{view}
 use Rattle.post_queue.specs.Steps.{runner, poster}
+use Rattle.post_queue.specs.Clauses.{AreInPlace}
 use Rattle.post_queue.proofs.post_box.enrol_all.Given as goal
 
 abbrev pub invariant-loop-number : goal.invariant-loop-number
@@ -10,4 +11,5 @@ invariant-loop-number l = record {
   len : vec_len l.list ≡ l.number;
   room : l.posters ≤ vec_capacity l.list;
   each : All (λ p. IsSegPassOf l.queue p.pass × (view p.pass ≡ poster p.poster)) l.list.items;
+  places : AreInPlace l.list.items;
 }
