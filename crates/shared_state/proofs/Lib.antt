@@ -1,0 +1,4 @@
+pub mod Lending
+pub mod ListSteps
+pub mod PermitSteps
+pub mod VersionSteps

@@ -1,0 +1,139 @@
+// What a follower reads, learns and answers.
+ghost use Rattle.std.specs.Prelude.{◌≡◌, ◌≤◌, ◌<◌, ◌^◌, ◌⊎◌, Some, length, take, IfOk, IfSome, MatchResult, OnOk, OnErr};
+ghost use Rattle.left_right.specs.Sides.{view};
+ghost use Rattle.overload_core.specs.ActionStates.{actions_at};
+ghost use Rattle.shared_state.specs.Entries.{StartsWith};
+ghost use Rattle.shared_state.specs.Following.{seen, looks, IsSameEntry, IsSameFollower, newer, IsOf, triggers_of, resources_of};
+ghost use Rattle.shared_state.specs.Published.{IsLast, Shows};
+ghost use Rattle.shared_state.specs.Version.{looked};
+
+use crate::entry::Entry;
+use crate::follower::{Follower, Snapshot};
+use crate::one_list::{Eye, OneList, Seen, Sees};
+use crate::publisher::Told;
+use crate::version_word::{Looks, VersionView};
+use atomic_table::Seat;
+use io_ports::{NoMemory, PressureList};
+use left_right::reader::Reader;
+use overload_core::action_states;
+use std::alloc::Global;
+use std::sync::Wait;
+use std::thread;
+
+// The entry that is shown, or the reader alone where the publisher has ended.
+fn read(eye: Eye) -> Result<(Entry, Eye), Eye>
+    ensures { MatchResult result
+        (λ r. Shows (view eye.place) r.0 (view r.1.place))
+        (λ r. view r.place ≡ view eye.place) }
+{
+    let reading = eye.enter_as::<Sees>()?;
+    let entry = *reading.get();
+    Ok((entry, reading.leave()))
+}
+
+impl Follower {
+    // One look at what is shown. None where the publisher has ended.
+    fn glance(&mut self) -> Option<Entry>
+        ensures seen { StartsWith (seen self.new) (seen self.old) }
+        ensures last { IfSome result (λ e. IsLast e (seen self.new)) }
+        ensures same { IsSameFollower self.old self.new × (self.new.kept ≡ self.old.kept) }
+    {
+        let Some(eye) = self.eye.take() else {
+            unreachable!()
+        };
+        match read(eye) {
+            Ok((entry, eye)) => {
+                self.eye = Some(eye);
+                Some(entry)
+            }
+            Err(eye) => {
+                self.eye = Some(eye);
+                None
+            }
+        }
+    }
+
+    // Looks until what is shown is no older than the version found and than what is kept, and keeps it. Where the
+    // publisher has ended, what is kept serves, if it is no older than the version found.
+    fn renew<R: Wait>(&mut self, rt: &R, found: u64)
+        ensures found { found ≤ self.new.kept.version }
+        ensures rising { self.old.kept.version ≤ self.new.kept.version }
+        ensures published { IsLast self.new.kept (seen self.new) ⊎ (self.new.kept ≡ self.old.kept) }
+        ensures seen { StartsWith (seen self.new) (seen self.old) }
+        ensures same { IsSameFollower self.old self.new }
+    {
+        for _ in rt.forever() {
+            if let Some(entry) = self.glance() {
+                if found <= entry.version && self.kept.version <= entry.version {
+                    self.kept = entry;
+                    return;
+                }
+            } else if found <= self.kept.version {
+                return;
+            }
+            thread::yield_now();
+        }
+        unreachable!()
+    }
+
+    /// What is published now. Its memory is taken first, so after `NoMemory` nothing has changed. Then it loads the version
+    /// word, once, and reads what is shown until that is no older than the version found; the publisher shows a version
+    /// before it raises the word, so the first reading does where publisher and follower are of one `make_shared`. It is
+    /// never older than what this follower answered or learnt before. Where the publisher has ended, the newest entry that
+    /// this follower read or learnt is answered, and where that is too old, the call doesn't return.
+    pub fn current<R: Wait>(&mut self, rt: &R, alloc: Global) -> Result<Snapshot, NoMemory>
+        ensures snapshot { IfOk result (λ s. (s.version ≡ self.new.kept.version) × (s.pressures ≡ take (resources_of self.old) self.new.kept.pressures)) }
+        ensures number { IfOk result (λ s. s.version < 2 ^ 63) }
+        ensures len { IfOk result (λ s. length s.pressures ≡ resources_of self.old) }
+        ensures actions { IfOk result (λ s. s.actions ≡ actions_at (triggers_of self.old) s.pressures) }
+        ensures published { OnOk result (IsLast self.new.kept (seen self.new) ⊎ IsSameEntry self.old.kept self.new.kept) }
+        ensures rising { OnOk result (self.old.kept.version ≤ self.new.kept.version) }
+        ensures look { OnOk result ((looks self.new ≡ looked (looks self.old) (looks self.new).found) × ((looks self.old).found ≤ (looks self.new).found)) }
+        ensures fresh { IfOk result (λ s. (looks self.new).found ≤ s.version) }
+        ensures seen { StartsWith (seen self.new) (seen self.old) }
+        ensures same { (self.new.board ≡ self.old.board) × (self.new.seat.table_id ≡ self.old.seat.table_id) }
+        ensures err { OnErr result (self.new ≡ self.old) }
+    {
+        let resources = self.board.resources;
+        let mut pressures = Vec::from_slice(alloc, &self.kept.pressures[..resources])?;
+        let found = self.board.word.shared.load::<Looks>(&mut self.seat, 0);
+        self.renew(rt, found);
+        pressures
+            .as_mut_slice()
+            .copy_from_slice(&self.kept.pressures[..resources]);
+        let actions = action_states(&self.board.config, pressures.as_slice());
+        Ok(Snapshot {
+            version: self.kept.version,
+            pressures: PressureList::from_vec(pressures),
+            actions,
+        })
+    }
+
+    /// Learns what the publisher told: from now on it answers nothing older. Takes no memory.
+    pub fn learn(&mut self, told: Told)
+        requires { IsOf told self.old }
+        ensures kept { self.new.kept ≡ newer self.old.kept told.entry }
+        ensures same { IsSameFollower self.old self.new × (self.new.eye ≡ self.old.eye) }
+    {
+        if self.kept.version < told.entry.version {
+            self.kept = told.entry;
+        }
+    }
+
+    /// The seat at the version word. Its view has how often this follower looked, and what its last look found.
+    pub fn seat(&self) -> &Seat<(), VersionView>
+        ensures { result.now ≡ self.now.seat }
+    {
+        &self.seat
+    }
+
+    /// The reader of what is shown. Its view has the pressures of all versions from 1 on that it has seen, 16 of each.
+    pub fn reader(&self) -> &Reader<Entry, Seen, OneList>
+        ensures { self.now.eye ≡ Some result.now }
+    {
+        match &self.eye {
+            Some(eye) => eye,
+            None => unreachable!(),
+        }
+    }
+}
