@@ -20,8 +20,8 @@ type Example = (
     usize,
 );
 
-/// RFC 7541 Appendix C.2 to C.6.
-static EXAMPLES: [Example; 16] = [
+/// RFC 7541 Appendix C.2 to C.6, and the last line of the static table, which has an empty value.
+static EXAMPLES: [Example; 17] = [
     (
         "C.2.1",
         4096,
@@ -47,6 +47,14 @@ static EXAMPLES: [Example; 16] = [
         0,
     ),
     ("C.2.4", 4096, "82", ":method: GET\n", "", 0),
+    (
+        "the last static line",
+        4096,
+        "bd",
+        "www-authenticate: \n",
+        "",
+        0,
+    ),
     (
         "C.3.1",
         4096,

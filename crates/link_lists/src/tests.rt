@@ -12,6 +12,7 @@ use std::sync::ledger::{Blank, Ledger};
 #[derive(Clone, Copy, Debug)]
 enum Deed {
     Leave,
+    Read,
     Remove,
     MoveHere,
     MoveAway,
@@ -87,6 +88,16 @@ fn both(lists: &mut Lists<u32>) -> [[u32; 3]; 2]
     [first, second]
 }
 
+/// The front's value, the node's, and 1 where the node is in the lists.
+fn read(lists: &Lists<u32>, node: &Node) -> [u32; 3]
+    requires node { has_node node.now lists.now.lists ≡ true }
+    requires number { 0 < length lists.now.lists }
+{
+    let front = lists.front(0).copied().unwrap_or(0);
+    let value = *lists.value(node);
+    [front, value, u32::from(lists.is_in(node))]
+}
+
 fn at_the_node<L: Ledger>(
     lists: &mut Lists<u32>,
     node: Node,
@@ -98,6 +109,11 @@ fn at_the_node<L: Ledger>(
     ensures number { length lists.new.lists ≡ 2 }
     ensures others { (q : NodeId) → same_ptr q node ≡ false → IsKnown q lists.old → IsKnown q lists.new }
 {
+    if let Deed::Read = deed {
+        let values = read(lists, &node);
+        give_back(lists, node, steps);
+        return [values, [0; 3]];
+    }
     if let Deed::Remove = deed {
         take(lists, node, steps);
         return both(lists);
@@ -191,6 +207,18 @@ fn nodes_leave_and_move(rt: HostRuntime) {
                 [9, 1, 2],
                 [1, 9, 2],
                 [1, 2, 9],
+            ],
+            0,
+        ),
+        (
+            Deed::Read,
+            [
+                [9, 9, 1],
+                [9, 9, 1],
+                [1, 9, 1],
+                [9, 9, 1],
+                [1, 9, 1],
+                [1, 9, 1],
             ],
             0,
         ),

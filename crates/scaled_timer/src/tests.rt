@@ -1,21 +1,23 @@
 //! Rows whose answers come from outside.
-ghost use Rattle.std.specs.Prelude.{◌≡◌, ◌<◌, ◌≤◌, ◌^◌, length, vec_len};
+ghost use Rattle.std.specs.Prelude.{◌≡◌, ◌<◌, ◌≤◌, ◌^◌, length};
+ghost use Rattle.std.specs.VecDeque.{deque_len};
 ghost use Rattle.scaled_timer.specs.Timing.{AreHeld};
 
 use crate::{Fired, Timer, TimerKind, Timers};
 use link_lists::Steps;
 use std::alloc::Global;
+use std::collections::VecDeque;
 use std::marker::Brand;
 use std::sync::ledger::{Blank, Ledger};
 
-fn none_held(alloc: Global, timers: &Timers) -> Vec<Timer>
+fn none_held(alloc: Global, timers: &Timers) -> VecDeque<Timer>
     ensures { AreHeld result.items timers.now }
 {
     let _ = timers;
-    Vec::new(alloc)
+    VecDeque::new(alloc)
 }
 
-fn set_state(timers: &mut Timers, held: &Vec<Timer>, ppm: u32)
+fn set_state(timers: &mut Timers, held: &VecDeque<Timer>, ppm: u32)
     requires held { AreHeld held.now.items timers.old }
     requires ppm { ppm ≤ 1000000 }
     ensures held { AreHeld held.now.items timers.new }
@@ -25,10 +27,10 @@ fn set_state(timers: &mut Timers, held: &Vec<Timer>, ppm: u32)
     timers.set_state(ppm);
 }
 
-/// Arms a timer and keeps it with the others. False after want of memory.
+/// Arms a timer and keeps it behind the others. False after want of memory.
 fn arm<L: Ledger>(
     timers: &mut Timers,
-    held: &mut Vec<Timer>,
+    held: &mut VecDeque<Timer>,
     kind: u32,
     id: u64,
     now: u64,
@@ -45,7 +47,7 @@ fn arm<L: Ledger>(
     let Ok(timer) = timers.arm(kind, id, now) else {
         return false;
     };
-    match held.push(timer) {
+    match held.push_back(timer) {
         Ok(()) => true,
         Err(failed) => {
             timers.disarm(failed.value, steps);
@@ -54,30 +56,45 @@ fn arm<L: Ledger>(
     }
 }
 
-/// Takes back the timer that was armed last.
-fn disarm_last<L: Ledger>(timers: &mut Timers, held: &mut Vec<Timer>, steps: &mut Steps<L>)
+/// Takes back the first timer.
+fn disarm_first<L: Ledger>(timers: &mut Timers, held: &mut VecDeque<Timer>, steps: &mut Steps<L>)
     requires { AreHeld held.old.items timers.old }
     ensures held { AreHeld held.new.items timers.new }
     ensures kinds { timers.new.kinds ≡ timers.old.kinds }
     ensures latest { timers.new.latest ≡ timers.old.latest }
-    ensures fewer { 0 < vec_len held.old → vec_len held.new < vec_len held.old }
+    ensures fewer { 0 < deque_len held.old → deque_len held.new < deque_len held.old }
 {
-    if let Some(timer) = held.pop() {
+    if let Some(timer) = held.pop_front() {
         timers.disarm(timer, steps);
     }
 }
 
-fn give_back<L: Ledger>(timers: &mut Timers, mut held: Vec<Timer>, steps: &mut Steps<L>)
+/// Puts the first timer behind the others.
+fn pass_over<L: Ledger>(timers: &mut Timers, held: &mut VecDeque<Timer>, steps: &mut Steps<L>)
+    requires { AreHeld held.old.items timers.old }
+    ensures held { AreHeld held.new.items timers.new }
+    ensures kinds { timers.new.kinds ≡ timers.old.kinds }
+    ensures latest { timers.new.latest ≡ timers.old.latest }
+{
+    let Some(timer) = held.pop_front() else {
+        return;
+    };
+    if let Err(failed) = held.push_back(timer) {
+        timers.disarm(failed.value, steps);
+    }
+}
+
+fn give_back<L: Ledger>(timers: &mut Timers, mut held: VecDeque<Timer>, steps: &mut Steps<L>)
     requires { AreHeld held.items timers.old }
 {
     while !held.is_empty() {
-        disarm_last(timers, &mut held, steps);
+        disarm_first(timers, &mut held, steps);
     }
     held.destroy_empty();
 }
 
 /// The numbers of the timers that fire.
-fn turn(alloc: Global, timers: &mut Timers, held: &Vec<Timer>, now: u64) -> Option<Vec<Fired>>
+fn turn(alloc: Global, timers: &mut Timers, held: &VecDeque<Timer>, now: u64) -> Option<Vec<Fired>>
     requires held { AreHeld held.now.items timers.old }
     requires later { timers.old.latest ≤ now }
     requires now { now < 2 ^ 60 }
@@ -152,7 +169,7 @@ fn equal_moments_go_by_arming(rt: HostRuntime) {
     }
 }
 
-/// 10,000 timers of one kind, of which each third from the first is disarmed.
+/// 10,000 timers of one kind, of which each third from the first is disarmed once all are armed.
 fn thirds<L: Ledger>(alloc: Global, blank: Blank) -> Option<Vec<Fired>>
     requires { (blank.name ≡ L.name) × (blank.parts ≡ L.parts) × (0 < L.parts) }
 {
@@ -162,8 +179,12 @@ fn thirds<L: Ledger>(alloc: Global, blank: Blank) -> Option<Vec<Fired>>
     let mut armed = true;
     for id in 0..10_000 {
         armed &= arm(&mut timers, &mut held, 0, id, id, &mut steps);
+    }
+    for id in 0..10_000 {
         if id % 3 == 0 {
-            disarm_last(&mut timers, &mut held, &mut steps);
+            disarm_first(&mut timers, &mut held, &mut steps);
+        } else {
+            pass_over(&mut timers, &mut held, &mut steps);
         }
     }
     let fired = turn(alloc, &mut timers, &held, 20_000);

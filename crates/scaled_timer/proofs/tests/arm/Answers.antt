@@ -9,9 +9,9 @@ pub disarm-requires : goal.disarm-requires
 disarm-requires g c = let a : Armed = record { timer = c.in-Ok.timer; kind = c.args.kind; id = c.args.id; at = c.args.now } in
     subst (λ p. IsHeld p c.arm.new.self) (sym c.in-Err.ensures.value_returned) (held-new c.args.timers.now c.arm.new.self c.args.now a c.in-Ok.ensures.ok)
 
-pub returns-in-Ok-push-clause-held : goal.returns-in-Ok-push-clause-held
-returns-in-Ok-push-clause-held g c = let a : Armed = record { timer = c.in-Ok.timer; kind = c.args.kind; id = c.args.id; at = c.args.now } in
-    subst (λ l. AreHeld l c.arm.new.self) (sym c.in-Ok-push.ensures.items)
+pub returns-in-Ok-push_back-clause-held : goal.returns-in-Ok-push_back-clause-held
+returns-in-Ok-push_back-clause-held g c = let a : Armed = record { timer = c.in-Ok.timer; kind = c.args.kind; id = c.args.id; at = c.args.now } in
+    subst (λ l. AreHeld l c.arm.new.self) (sym c.in-Ok-push_back.ensures.items)
     (all-more c.args.timers.now c.arm.new.self c.in-Ok.timer c.args.held.now.items (λ q h. held-arm q c.args.timers.now h c.arm.new.self c.args.now a c.in-Ok.ensures.ok)
     (λ q h. held_differs q c.args.timers.now h c.in-Ok.timer c.in-Ok.ensures.fresh.0 c.in-Ok.ensures.fresh.1) (held-new c.args.timers.now c.arm.new.self c.args.now a c.in-Ok.ensures.ok) c.requires.held)
 

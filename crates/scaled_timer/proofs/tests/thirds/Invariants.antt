@@ -8,3 +8,6 @@ invariant-loop-id g l = record {
   kinds : length l.timers.kinds ≡ 1;
   latest : l.timers.latest ≤ l.id;
 }
+
+abbrev pub invariant-loop-id-2 : goal.invariant-loop-id-2
+invariant-loop-id-2 g l = record { held : AreHeld l.held.items l.timers; latest : l.timers.latest ≤ 10000 }
