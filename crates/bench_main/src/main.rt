@@ -6,6 +6,7 @@ mod fields;
 mod frames;
 mod gates;
 mod notes;
+mod posts;
 mod sessions;
 mod stopwatch;
 mod timers;
@@ -18,6 +19,7 @@ const USAGE: &str = "usage: bench_main BENCH
   frames   reading of frames
   gates    calls of the gates while few and while many flows are open
   notes    lines of notes, written and read, beside a plain copy of the same text
+  posts    posts of one and of three posters beside a draining runner, and a plain queue
   session  acts of frames, with 10 and with 1,000 open streams
   timers   arming, moving and firing of timers
 ";
@@ -31,6 +33,7 @@ fn main(rt: HostRuntime) -> anyhow::Result<()> {
         Some(word) if word.as_str() == "frames" => frames::run(&rt)?,
         Some(word) if word.as_str() == "gates" => gates::run(&rt)?,
         Some(word) if word.as_str() == "notes" => notes::run(&rt)?,
+        Some(word) if word.as_str() == "posts" => posts::run(&rt)?,
         Some(word) if word.as_str() == "session" => sessions::run(&rt)?,
         Some(word) if word.as_str() == "timers" => timers::run(&rt)?,
         Some(_) | None => rt.print(USAGE)?,
