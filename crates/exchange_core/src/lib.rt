@@ -10,14 +10,8 @@ mod laws;
 mod message;
 mod numbers;
 mod reply;
-#[cfg(test)]
-mod sessions;
-#[cfg(test)]
-mod stage;
 mod start;
 mod step;
-#[cfg(test)]
-mod tests;
 
 pub use exchange::Ends;
 pub use exchanges::Exchanges;

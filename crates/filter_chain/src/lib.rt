@@ -6,11 +6,7 @@ mod fault;
 mod laws;
 mod meter;
 mod places;
-#[cfg(test)]
-mod sessions;
 mod stage;
-#[cfg(test)]
-mod tests;
 
 pub use chain::Chain;
 pub use fault::OfferFault;

@@ -5,8 +5,6 @@ mod gate;
 mod gates;
 mod ids;
 mod line;
-#[cfg(test)]
-mod tests;
 mod watcher;
 
 pub use gates::Gates;

@@ -18,6 +18,3 @@ pub use names::{NameRefusal, Names};
 pub use notes::{Cause, CloseCause, FireKind, Note, Notes};
 pub use reading::{read_event, read_note, read_numbers};
 pub use writing::{event_text, note_text};
-
-#[cfg(test)]
-mod tests;

@@ -13,6 +13,3 @@ pub use laws::{cut_anywhere, one_fault, one_list, read_frames_are_writable, writ
 pub use reading::read_frame;
 pub use types::{Frame, FrameFault, ReadFrame, Weighting};
 pub use writing::{frame_head, write_frame};
-
-#[cfg(test)]
-mod tests;

@@ -8,8 +8,6 @@ mod lengths;
 mod malformed;
 mod names;
 mod rules;
-#[cfg(test)]
-mod tests;
 mod values;
 
 pub use heads::{RequestHead, ResponseHead, check_request, check_response, check_trailers};

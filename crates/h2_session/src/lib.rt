@@ -11,6 +11,3 @@ mod streams;
 pub use act::{Act, Setting, SettingList};
 pub use preface::Prefaced;
 pub use session::Session;
-
-#[cfg(test)]
-mod tests;

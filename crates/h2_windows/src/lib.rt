@@ -3,8 +3,6 @@
 
 mod recv_window;
 mod send_window;
-#[cfg(test)]
-mod tests;
 
 pub use recv_window::{Overrun, RecvWindow};
 pub use send_window::{MAX_WINDOW, Overflow, SendWindow, room_adds_up};

@@ -16,8 +16,6 @@ mod spelling;
 mod static_table;
 mod strings;
 mod table;
-#[cfg(test)]
-mod tests;
 
 pub use decoder::Decoder;
 pub use encoder::Encoder;

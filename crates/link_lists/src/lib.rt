@@ -10,8 +10,6 @@ mod member;
 mod note;
 mod rings;
 mod steps;
-#[cfg(test)]
-mod tests;
 
 pub use lists::{Lists, Node};
 pub use steps::Steps;

@@ -4,8 +4,6 @@
 mod actions;
 mod class;
 mod classes;
-#[cfg(test)]
-mod tests;
 mod trigger;
 
 pub use actions::{Actions, action_states};

@@ -4,8 +4,6 @@
 
 mod buffer;
 mod store;
-#[cfg(test)]
-mod tests;
 mod watermark;
 
 pub use buffer::{Shifted, WatermarkBuffer};

@@ -1,0 +1,296 @@
+// Gates by tables of calls. What each call answers, and the counts after it, were found by hand from the rules.
+use flow_gate::{BufferId, FlowId, Gates};
+use io_ports::NoMemory;
+use std::process::Abort;
+use std::test::Fail;
+
+const FIRST: FlowId = FlowId {
+    exchange: 1,
+    back: false,
+};
+
+const SECOND: FlowId = FlowId {
+    exchange: 1,
+    back: true,
+};
+
+const LEAST: FlowId = FlowId {
+    exchange: 0,
+    back: false,
+};
+
+const MANY: u64 = 200_000;
+
+const SHARED: BufferId = BufferId::Write(0);
+
+const OWN: BufferId = BufferId::Send(FIRST);
+
+#[derive(Clone, Copy, Debug)]
+enum Call {
+    OpenFlow(FlowId),
+    OpenBuffer(BufferId),
+    CloseBuffer(BufferId),
+    Watch(FlowId, BufferId),
+    High(BufferId),
+    BeginLow(BufferId),
+    NextLow(BufferId),
+    Forget(FlowId),
+}
+
+use Call::*;
+
+#[derive(Clone, Copy, Debug, PartialEq, Eq)]
+enum Answer {
+    Done,
+    Above(bool),
+    Told(Option<FlowId>),
+}
+
+const DONE: Answer = Answer::Done;
+
+const LOW: Answer = Answer::Above(false);
+
+const TOLD_FIRST: Answer = Answer::Told(Some(FIRST));
+
+const TOLD_SECOND: Answer = Answer::Told(Some(SECOND));
+
+const NOBODY: Answer = Answer::Told(None);
+
+/// Makes a call whose condition holds.
+fn make(rt: &impl Abort, gates: &mut Gates, call: Call) -> Result<Answer, NoMemory> {
+    match call {
+        Call::OpenFlow(flow) => {
+            assert!(rt; !gates.is_open(flow));
+            gates.open_flow(flow)?;
+        }
+        Call::OpenBuffer(buffer) => {
+            assert!(rt; !gates.is_known(buffer));
+            gates.open_buffer(buffer)?;
+        }
+        Call::CloseBuffer(buffer) => {
+            assert!(rt; gates.is_known(buffer));
+            assert!(rt; !gates.is_watched(buffer));
+            gates.close_buffer(buffer);
+        }
+        Call::Watch(flow, buffer) => {
+            assert!(rt; gates.is_known(buffer));
+            assert!(rt; gates.is_open(flow));
+            assert!(rt; !gates.is_watching(flow, buffer));
+            return Ok(Answer::Above(gates.watch(flow, buffer)?));
+        }
+        Call::High(buffer) => {
+            assert!(rt; gates.is_known(buffer));
+            assert!(rt; !gates.is_marked(buffer));
+            gates.high(buffer);
+        }
+        Call::BeginLow(buffer) => {
+            assert!(rt; gates.is_marked(buffer));
+            assert!(rt; !gates.has_pending(buffer));
+            gates.begin_low(buffer);
+        }
+        Call::NextLow(buffer) => return Ok(Answer::Told(gates.next_low(buffer))),
+        Call::Forget(flow) => {
+            assert!(rt; gates.is_open(flow));
+            gates.forget(flow);
+        }
+    }
+    Ok(Answer::Done)
+}
+
+/// A flow's count, where the flow is there.
+fn count(gates: &Gates, flow: FlowId) -> Option<u64> {
+    if gates.is_open(flow) {
+        Some(gates.count(flow))
+    } else {
+        None
+    }
+}
+
+type Row = (Call, Answer, Option<u64>, Option<u64>);
+
+// One flow with a send buffer: the count goes up with the buffer, and down when the flow is told.
+const ONE_FLOW: [Row; 9] = [
+    (OpenFlow(FIRST), DONE, Some(0), None),
+    (OpenBuffer(OWN), DONE, Some(0), None),
+    (Watch(FIRST, OWN), LOW, Some(0), None),
+    (High(OWN), DONE, Some(1), None),
+    (BeginLow(OWN), DONE, Some(1), None),
+    (NextLow(OWN), TOLD_FIRST, Some(0), None),
+    (NextLow(OWN), NOBODY, Some(0), None),
+    (Forget(FIRST), DONE, None, None),
+    (OpenBuffer(OWN), DONE, None, None),
+];
+
+// Two flows watch one buffer. The second, whose low is still pending when the buffer rises again, goes from 1 to 2 and
+// back to 1. A third watcher begins while the buffer is above, and is told last, though its name is the least.
+const TWO_FLOWS: [Row; 23] = [
+    (OpenBuffer(SHARED), DONE, None, None),
+    (OpenFlow(SECOND), DONE, None, Some(0)),
+    (OpenFlow(FIRST), DONE, Some(0), Some(0)),
+    (Watch(FIRST, SHARED), LOW, Some(0), Some(0)),
+    (Watch(SECOND, SHARED), LOW, Some(0), Some(0)),
+    (High(SHARED), DONE, Some(1), Some(1)),
+    (BeginLow(SHARED), DONE, Some(1), Some(1)),
+    (NextLow(SHARED), TOLD_FIRST, Some(0), Some(1)),
+    (High(SHARED), DONE, Some(1), Some(2)),
+    (NextLow(SHARED), TOLD_SECOND, Some(1), Some(1)),
+    (NextLow(SHARED), NOBODY, Some(1), Some(1)),
+    (OpenFlow(LEAST), DONE, Some(1), Some(1)),
+    (Watch(LEAST, SHARED), Answer::Above(true), Some(1), Some(1)),
+    (BeginLow(SHARED), DONE, Some(1), Some(1)),
+    (NextLow(SHARED), TOLD_FIRST, Some(0), Some(1)),
+    (NextLow(SHARED), TOLD_SECOND, Some(0), Some(0)),
+    (NextLow(SHARED), Answer::Told(Some(LEAST)), Some(0), Some(0)),
+    (NextLow(SHARED), NOBODY, Some(0), Some(0)),
+    (Forget(FIRST), DONE, None, Some(0)),
+    (Forget(SECOND), DONE, None, None),
+    (Forget(LEAST), DONE, None, None),
+    (CloseBuffer(SHARED), DONE, None, None),
+    (NextLow(SHARED), NOBODY, None, None),
+];
+
+// A flow that is forgotten takes its pending low along, and one that begins to watch has none.
+const FORGOTTEN: [Row; 15] = [
+    (OpenBuffer(SHARED), DONE, None, None),
+    (OpenFlow(FIRST), DONE, Some(0), None),
+    (Watch(FIRST, SHARED), LOW, Some(0), None),
+    (OpenFlow(SECOND), DONE, Some(0), Some(0)),
+    (Watch(SECOND, SHARED), LOW, Some(0), Some(0)),
+    (High(SHARED), DONE, Some(1), Some(1)),
+    (BeginLow(SHARED), DONE, Some(1), Some(1)),
+    (Forget(FIRST), DONE, None, Some(1)),
+    (OpenFlow(FIRST), DONE, Some(0), Some(1)),
+    (Watch(FIRST, SHARED), LOW, Some(0), Some(1)),
+    (NextLow(SHARED), TOLD_SECOND, Some(0), Some(0)),
+    (NextLow(SHARED), NOBODY, Some(0), Some(0)),
+    (High(SHARED), DONE, Some(1), Some(1)),
+    (Forget(SECOND), DONE, Some(1), None),
+    (BeginLow(SHARED), DONE, Some(1), None),
+];
+
+// The buffers of a flow go with it, but for the one that another flow watches.
+const OWN_BUFFERS: [Row; 11] = [
+    (OpenFlow(FIRST), DONE, Some(0), None),
+    (OpenBuffer(BufferId::Recv(FIRST)), DONE, Some(0), None),
+    (OpenBuffer(BufferId::Stage(FIRST, 1)), DONE, Some(0), None),
+    (OpenBuffer(BufferId::Stage(FIRST, 4)), DONE, Some(0), None),
+    (OpenBuffer(BufferId::Stage(SECOND, 1)), DONE, Some(0), None),
+    (OpenBuffer(OWN), DONE, Some(0), None),
+    (OpenFlow(SECOND), DONE, Some(0), Some(0)),
+    (
+        Watch(FIRST, BufferId::Stage(FIRST, 1)),
+        LOW,
+        Some(0),
+        Some(0),
+    ),
+    (
+        Watch(SECOND, BufferId::Stage(FIRST, 4)),
+        LOW,
+        Some(0),
+        Some(0),
+    ),
+    (Watch(FIRST, OWN), LOW, Some(0), Some(0)),
+    (Forget(FIRST), DONE, None, Some(0)),
+];
+
+// Which of them are known after that.
+const LEFT: [(BufferId, bool); 5] = [
+    (BufferId::Recv(FIRST), false),
+    (BufferId::Stage(FIRST, 1), false),
+    (BufferId::Stage(FIRST, 4), true),
+    (BufferId::Stage(SECOND, 1), true),
+    (OWN, false),
+];
+
+/// Makes the calls of a table, and compares.
+fn make_all(rt: &impl Abort, gates: &mut Gates, rows: &[Row]) -> Result<(), NoMemory> {
+    for (at, row) in rows.iter().enumerate() {
+        let (call, answer, first, second) = *row;
+        assert_eq!(rt; make(rt, gates, call)?, answer, "row {at}");
+        assert_eq!(rt; count(gates, FIRST), first, "row {at}");
+        assert_eq!(rt; count(gates, SECOND), second, "row {at}");
+    }
+    Ok(())
+}
+
+#[test]
+fn calls_answer_by_the_tables(rt: HostRuntime) -> Result<(), Fail> {
+    for rows in [
+        ONE_FLOW.as_slice(),
+        TWO_FLOWS.as_slice(),
+        FORGOTTEN.as_slice(),
+    ] {
+        make_all(&rt, &mut Gates::new(rt.alloc()), rows)?;
+    }
+    let mut gates = Gates::new(rt.alloc());
+    make_all(&rt, &mut gates, &OWN_BUFFERS)?;
+    for (buffer, known) in LEFT {
+        assert_eq!(rt; gates.is_known(buffer), known, "{buffer:?}");
+    }
+    Ok(())
+}
+
+#[test]
+fn watchers_stand_in_the_order_in_which_they_began(rt: HostRuntime) -> Result<(), Fail> {
+    let mut gates = Gates::new(rt.alloc());
+    make_all(&rt, &mut gates, &TWO_FLOWS[..13])?;
+    let watchers = [FIRST, SECOND, LEAST];
+    let mut seen = 0;
+    for watcher in gates.watchers(SHARED) {
+        assert_eq!(rt; watchers.get(seen).copied(), Some(watcher));
+        seen = seen.saturating_add(1);
+    }
+    assert_eq!(rt; seen, 3);
+    for (i, watcher) in watchers.iter().enumerate() {
+        assert_eq!(rt; gates.watcher(SHARED, i), Some(*watcher));
+    }
+    assert_eq!(rt; gates.watcher(SHARED, 3), None);
+    assert_eq!(rt; gates.watcher(OWN, 0), None);
+    Ok(())
+}
+
+/// A flow by its exchange, with its send buffer.
+fn sending(exchange: u64) -> (FlowId, BufferId) {
+    let flow = FlowId {
+        exchange,
+        back: false,
+    };
+    (flow, BufferId::Send(flow))
+}
+
+/// Opens a flow that watches its send buffer.
+fn open(rt: &impl Abort, gates: &mut Gates, exchange: u64) -> Result<(), NoMemory> {
+    let (flow, buffer) = sending(exchange);
+    assert_eq!(rt; make(rt, gates, OpenFlow(flow))?, DONE);
+    assert_eq!(rt; make(rt, gates, OpenBuffer(buffer))?, DONE);
+    assert_eq!(rt; make(rt, gates, Watch(flow, buffer))?, LOW);
+    Ok(())
+}
+
+/// The send buffer of a flow rises and drains, and its flow alone is told.
+fn rise_and_drain(rt: &impl Abort, gates: &mut Gates, exchange: u64) -> Result<(), NoMemory> {
+    let (flow, buffer) = sending(exchange);
+    make(rt, gates, High(buffer))?;
+    assert_eq!(rt; count(gates, flow), Some(1));
+    make(rt, gates, BeginLow(buffer))?;
+    assert_eq!(rt; make(rt, gates, NextLow(buffer))?, Answer::Told(Some(flow)));
+    assert_eq!(rt; make(rt, gates, NextLow(buffer))?, NOBODY);
+    Ok(())
+}
+
+// 200,000 flows, each with a send buffer of its own: no call goes through them all.
+#[test]
+fn many_flows_cost_little(rt: HostRuntime) -> Result<(), Fail> {
+    let mut gates = Gates::new(rt.alloc());
+    for exchange in 1..=MANY {
+        open(&rt, &mut gates, exchange)?;
+    }
+    for exchange in 1..=MANY {
+        rise_and_drain(&rt, &mut gates, exchange)?;
+    }
+    for exchange in 1..=MANY {
+        let (flow, _) = sending(exchange);
+        assert_eq!(rt; count(&gates, flow), Some(0));
+    }
+    Ok(())
+}

@@ -1,0 +1,226 @@
+// Lines that are read and written again, and lines that are no spelling.
+use super::some_names;
+use flow_notes::{event_text, note_text, read_event, read_note, read_numbers};
+use io_ports::Octets;
+use std::process::Abort;
+use std::test::Fail;
+
+const NOTES: [&str; 36] = [
+    "turn 1 open 1",
+    "turn 18446744073709551615 room 2147483647",
+    "turn 2 room 1 2147483647",
+    "turn 3 join 2 api-2_b",
+    "turn 4 obey 1 0 4294967295",
+    "in 1q aa01",
+    "in 3r 00",
+    "move 1q 0 16384",
+    "frame 2 1q 10 more",
+    "frame 2 1r 0 end",
+    "out 0 1",
+    "pause 1q send",
+    "pause 1q stage 1",
+    "resume 1r stage 4294967295",
+    "resume 1q write 0",
+    "credit 1 0 983041",
+    "head 2 1 83",
+    "answer 1 000000040100000000",
+    "waste 1 3 7",
+    "start 1 1 1 0",
+    "doom 1 done",
+    "doom 1 peer-reset 8",
+    "doom 1 stream-error 1",
+    "doom 1 too-large",
+    "doom 1 timeout route",
+    "doom 1 timeout connection-idle",
+    "doom 1 overload",
+    "doom 1 overflow",
+    "doom 1 conn-lost 4",
+    "doom 1 early-end",
+    "doom 1 posted 0 5",
+    "doom 1 refused 404",
+    "gone 1",
+    "close 1 0 drained",
+    "close 1 1 protocol",
+    "fire stream-idle 7",
+];
+
+const NO_NOTES: [&str; 36] = [
+    "",
+    " ",
+    "turn",
+    "turn 1",
+    "turn 0 open 1",
+    "turn 01 open 1",
+    "turn 1 open 01",
+    "turn +1 open 1",
+    "turn 18446744073709551616 open 1",
+    "turn 1  open 1",
+    "turn 1 open 1 ",
+    " turn 1 open 1",
+    "turn 1 join 2 nobody",
+    "in 1q AA01",
+    "in 1q aa0",
+    "in 1q ",
+    "in 1q",
+    "in 1 aa",
+    "in q aa",
+    "in 01q aa",
+    "in 1s aa",
+    "move 1q 4294967296 1",
+    "frame 2 1q 10 last",
+    "out 0 0",
+    "pause 1q recv",
+    "pause 1q send 3q",
+    "pause 1q stage 0",
+    "pause 1q write",
+    "credit 1 0",
+    "credit 1 0 1 1",
+    "doom 1 timeout",
+    "doom 1 peer-reset",
+    "doom 1 refused 65536",
+    "close 1 0 closed",
+    "fire route -7",
+    "Gone 1",
+];
+
+const WIRE: [&str; 12] = [
+    "accept 0",
+    "accept 4294967295",
+    "join 1 web",
+    "read 1 505249",
+    "gone 1",
+    "room 1 2147483647",
+    "tick 1152921504606846975",
+    "post 0 9223372036854775807 drain",
+    "post 1 0 cancel 9223372036854775807",
+    "post 4294967295 0 look",
+    "obey 1",
+    "obey 2 0 4294967295 1",
+];
+
+const NO_WIRE: [&str; 14] = [
+    "open 1",
+    "room 1",
+    "room 1 0",
+    "room 1 2147483648",
+    "accept 4294967296",
+    "accept",
+    "accept 1 2",
+    "tick 1152921504606846976",
+    "post 0 9223372036854775808 drain",
+    "post 0 0 cancel",
+    "post 0 0 drain 1",
+    "post 0 0 stop",
+    "obey 1 4294967296",
+    "obey 1 ",
+];
+
+const PLAIN: [&str; 6] = [
+    "open 2147483647",
+    "pair 1 3",
+    "in 1 ff00",
+    "end 1",
+    "reset 1",
+    "room 1",
+];
+
+const NO_PLAIN: [&str; 9] = [
+    "open 0",
+    "open 2147483648",
+    "pair 1",
+    "in 1 f",
+    "in 0 ff",
+    "accept 1",
+    "room 0",
+    "reset",
+    "end 1\n",
+];
+
+fn line_is_kept(rt: &impl Abort, line: &str, written: &Octets) -> Result<(), Fail> {
+    let (text, newline) = written.as_slice().split_at(line.len().min(written.len()));
+    assert_eq!(rt; text, line.as_bytes());
+    assert_eq!(rt; newline, b"\n".as_slice());
+    Ok(())
+}
+
+#[test]
+fn notes_are_read(rt: HostRuntime) -> Result<(), Fail> {
+    let alloc = rt.alloc();
+    let names = some_names(alloc)?;
+    for line in NOTES {
+        let mut written = Octets::new(alloc);
+        let Some(note) = read_note(alloc, line.as_bytes(), &names)? else {
+            assert!(rt; false, "{line}");
+            continue;
+        };
+        note_text(&note, &names, &mut written)?;
+        line_is_kept(&rt, line, &written)?;
+    }
+    for line in NO_NOTES {
+        assert!(rt;
+            read_note(alloc, line.as_bytes(), &names)?.is_none(),
+            "{line}"
+        );
+    }
+    Ok(())
+}
+
+#[test]
+fn events_are_read(rt: HostRuntime) -> Result<(), Fail> {
+    let alloc = rt.alloc();
+    let names = some_names(alloc)?;
+    for (lines, plain) in [(WIRE.as_slice(), false), (PLAIN.as_slice(), true)] {
+        for line in lines {
+            let mut written = Octets::new(alloc);
+            let Some(event) = read_event(alloc, line.as_bytes(), &names, plain)? else {
+                assert!(rt; false, "{line}");
+                continue;
+            };
+            assert!(rt; event.is_plain() == plain, "{line}");
+            event_text(&event, &names, &mut written)?;
+            line_is_kept(&rt, line, &written)?;
+        }
+    }
+    for line in NO_WIRE {
+        assert!(rt;
+            read_event(alloc, line.as_bytes(), &names, false)?.is_none(),
+            "{line}"
+        );
+    }
+    for line in NO_PLAIN {
+        assert!(rt;
+            read_event(alloc, line.as_bytes(), &names, true)?.is_none(),
+            "{line}"
+        );
+    }
+    Ok(())
+}
+
+#[test]
+fn numbers_are_read(rt: HostRuntime) -> Result<(), Fail> {
+    let alloc = rt.alloc();
+    let Some(numbers) = read_numbers(alloc, b"limits", b"limits 65535 0 4294967295")? else {
+        assert!(rt; false);
+        return Ok(());
+    };
+    assert_eq!(rt; numbers.as_slice(), [65535, 0, 4294967295].as_slice());
+    let Some(numbers) = read_numbers(alloc, b"limits", b"limits")? else {
+        assert!(rt; false);
+        return Ok(());
+    };
+    assert!(rt; numbers.is_empty());
+    for line in [
+        "limit 1",
+        "limits ",
+        "limits1",
+        "limits 1 ",
+        "limits  1",
+        "limits 4294967296",
+    ] {
+        assert!(rt;
+            read_numbers(alloc, b"limits", line.as_bytes())?.is_none(),
+            "{line}"
+        );
+    }
+    Ok(())
+}

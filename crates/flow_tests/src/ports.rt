@@ -1,0 +1,178 @@
+// Tables of reads and writes, with what each answers.
+ghost use Rattle.std.specs.Prelude.{◌≡◌};
+
+use io_ports::{
+    Failed, MemSink, MemSource, Octets, PressureList, Sink, Source, StdSink, StdSource,
+};
+use std::alloc::{AllocError, Global};
+use std::io::{self, ErrorKind, Read, Write};
+use std::test::*;
+
+type Answer = Result<usize, Failed>;
+
+/// Reads into a piece of `room` octets, as often as there are answers wanted. The octets that were
+/// given, where each read answered as wanted.
+fn reads<S: Source>(
+    alloc: Global,
+    source: &mut S,
+    room: usize,
+    wanted: &[Answer],
+) -> Result<Option<Vec<u8>>, AllocError> {
+    let mut into = vec![in alloc; 0u8; room]?;
+    let mut given = Vec::new(alloc);
+    for want in wanted {
+        let answer = source.read(&mut into);
+        if answer != *want {
+            return Ok(None);
+        }
+        if let Ok(n) = answer {
+            given.extend_from_slice(&into[..n])?;
+        }
+    }
+    Ok(Some(given))
+}
+
+/// Whether the writes of these pieces answer as wanted.
+fn writes<K: Sink>(sink: &mut K, pieces: &[(&[u8], Answer)]) -> bool {
+    for (piece, want) in pieces {
+        if sink.write(piece) != *want {
+            return false;
+        }
+    }
+    true
+}
+
+// A source of "abcdefgh": the calls that fail, the most that a call gives, the room that it is read
+// into, and what the calls answer.
+const READS: [(&[u64], usize, usize, &[Answer]); 4] = [
+    (&[], 100, 3, &[Ok(3), Ok(3), Ok(2), Ok(0), Ok(0)]),
+    (
+        &[1, 4],
+        3,
+        4,
+        &[Ok(3), Err(Failed), Ok(3), Ok(2), Err(Failed), Ok(0)],
+    ),
+    (&[0, 1], 100, 16, &[Err(Failed), Err(Failed), Ok(8), Ok(0)]),
+    (&[1], 1, 0, &[Ok(0), Err(Failed), Ok(0)]),
+];
+
+const ALL: &[u8] = b"abcdefgh";
+
+#[test]
+fn sources_give_their_octets_in_pieces(rt: HostRuntime) -> Result<(), Fail> {
+    let alloc = rt.alloc();
+    for (failing, most, room, wanted) in READS {
+        let mut source = MemSource::new(ALL.to_vec(alloc)?, failing.to_vec(alloc)?);
+        assert!(rt; 0 < most);
+        source.give_at_most(most);
+        let given = reads(alloc, &mut source, room, wanted)?;
+        let given = given.ok_or("other answers")?;
+        assert!(rt; room == 0 || given.as_slice() == ALL, "{failing:?}");
+    }
+    let mut source = StdSource::new(ALL);
+    let given = reads(alloc, &mut source, 3, &[Ok(3), Ok(3), Ok(2), Ok(0)])?;
+    assert!(rt; given.ok_or("other answers")?.as_slice() == ALL);
+    let mut source = StdSource::new(Broken);
+    assert!(rt; reads(alloc, &mut source, 3, &[Err(Failed), Err(Failed)])?.is_some());
+    Ok(())
+}
+
+// A sink: its room, the most that a call takes, the calls that fail, what the writes answer, and
+// what was written in the end.
+const WRITES: [(usize, usize, &[u64], &[(&[u8], Answer)], &[u8]); 6] = [
+    (
+        8,
+        100,
+        &[],
+        &[(b"abc", Ok(3)), (b"", Ok(0)), (b"def", Ok(3))],
+        b"abcdef",
+    ),
+    (
+        4,
+        100,
+        &[],
+        &[(b"abc", Ok(3)), (b"def", Err(Failed)), (b"g", Ok(1))],
+        b"abcg",
+    ),
+    (8, 2, &[], &[(b"abc", Ok(2)), (b"c", Ok(1))], b"abc"),
+    (8, 0, &[], &[(b"abc", Ok(0)), (b"", Ok(0))], b""),
+    (
+        8,
+        100,
+        &[1],
+        &[(b"ab", Ok(2)), (b"cd", Err(Failed)), (b"ef", Ok(2))],
+        b"abef",
+    ),
+    (0, 100, &[], &[(b"", Ok(0)), (b"a", Err(Failed))], b""),
+];
+
+#[test]
+fn sinks_take_pieces(rt: HostRuntime) -> Result<(), Fail> {
+    let alloc = rt.alloc();
+    for (room, most, failing, pieces, wanted) in WRITES {
+        let made = MemSink::new(alloc, room, failing.to_vec(alloc)?);
+        let mut sink = made.map_err(|_| "no memory")?;
+        sink.take_at_most(most);
+        assert!(rt; writes(&mut sink, pieces), "{wanted:?}");
+        assert!(rt; sink.octets() == wanted, "{wanted:?}");
+    }
+    let mut held = Vec::new(alloc);
+    assert!(rt;
+        writes(
+            &mut StdSink::new(&mut held),
+            &[(b"abc", Ok(3)), (b"d", Ok(1))]
+        )
+    );
+    assert!(rt; held.as_slice() == b"abcd".as_slice());
+    let mut block = [0u8; 4];
+    let pieces: [(&[u8], Answer); 3] = [(b"abc", Ok(3)), (b"def", Ok(1)), (b"e", Ok(0))];
+    assert!(rt; writes(&mut StdSink::new(block.as_mut_slice()), &pieces));
+    assert_eq!(rt; block, *b"abcd");
+    assert!(rt; writes(&mut StdSink::new(Broken), &[(b"abc", Err(Failed))]));
+    Ok(())
+}
+
+/// A reader and writer that always fails.
+#[derive(Drop)]
+struct Broken;
+
+impl Read for Broken {
+    fn read(&mut self, _into: &mut [u8]) -> io::Result<usize> {
+        Err(io::Error::from(ErrorKind::BrokenPipe))
+    }
+}
+
+impl Write for Broken {
+    fn write(&mut self, _piece: &[u8]) -> io::Result<usize> {
+        Err(io::Error::from(ErrorKind::BrokenPipe))
+    }
+
+    fn flush(&mut self) -> io::Result<()> {
+        Err(io::Error::from(ErrorKind::BrokenPipe))
+    }
+}
+
+#[test]
+fn lists_keep_what_is_appended(rt: HostRuntime) -> Result<(), Fail> {
+    let alloc = rt.alloc();
+    let mut octets = Octets::new(alloc);
+    assert!(rt; octets.is_empty());
+    assert_eq!(rt; octets.push_all(b"abc"), Ok(()));
+    assert_eq!(rt; octets.push_all(b"de"), Ok(()));
+    assert_eq!(rt; octets.len(), 5);
+    assert!(rt; octets.as_slice() == b"abcde".as_slice());
+    let copy = Octets::from_slice(alloc, octets.as_slice()).map_err(|_| "no memory")?;
+    octets.truncate(3);
+    assert!(rt; octets.as_slice() == b"abc".as_slice());
+    octets.clear();
+    assert!(rt; octets.is_empty());
+    let copy = Octets::from_vec(copy.into_vec());
+    assert!(rt; copy.as_slice() == b"abcde".as_slice());
+    let mut pressures = PressureList::from_vec(vec![in alloc; 1]?);
+    assert_eq!(rt; pressures.push(1_000_000), Ok(()));
+    assert_eq!(rt; pressures.len(), 2);
+    assert!(rt; pressures.as_slice() == [1, 1_000_000].as_slice());
+    assert!(rt; !pressures.is_empty());
+    assert!(rt; PressureList::new(alloc).into_vec().is_empty());
+    Ok(())
+}

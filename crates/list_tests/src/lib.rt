@@ -1,0 +1,7 @@
+//! What linked lists and the answers to load give, by tables with values from outside.
+#![tactic(auto)]
+
+#[cfg(test)]
+mod lists;
+#[cfg(test)]
+mod overload;

@@ -1,4 +1,0 @@
-use Rattle.overload_core.proofs.tests.a_change_of_class_puts_an_exchange_last.Given as goal
-
-abbrev pub ghosts-resets : goal.ghosts-resets
-ghosts-resets g a = record { name = a.blank.name; parts = a.blank.parts }
