@@ -7,6 +7,7 @@ ghost use Rattle.shared_state.specs.Following.{seen, looks, IsSameEntry, IsSameF
 ghost use Rattle.shared_state.specs.Published.{IsLast, Shows};
 ghost use Rattle.shared_state.specs.Version.{looked};
 
+use crate::board::Board;
 use crate::entry::Entry;
 use crate::follower::{Follower, Snapshot};
 use crate::one_list::{Eye, OneList, Seen, Sees};
@@ -29,6 +30,16 @@ fn read(eye: Eye) -> Result<(Entry, Eye), Eye>
     let reading = eye.enter_as::<Sees>()?;
     let entry = *reading.get();
     Ok((entry, reading.leave()))
+}
+
+// The version word at one load. It never falls.
+fn look(board: &Board, seat: &mut Seat<(), VersionView>) -> u64
+    requires { seat.old.table_id ≡ board.now.word.shared.table_id }
+    ensures view { seat.new.me.0 ≡ looked seat.old.me.0 result }
+    ensures rising { seat.old.me.0.found ≤ result }
+    ensures table { seat.new.table_id ≡ seat.old.table_id }
+{
+    board.word.shared.load::<Looks>(seat, 0)
 }
 
 impl Follower {
@@ -96,7 +107,7 @@ impl Follower {
     {
         let resources = self.board.resources;
         let mut pressures = Vec::from_slice(alloc, &self.kept.pressures[..resources])?;
-        let found = self.board.word.shared.load::<Looks>(&mut self.seat, 0);
+        let found = look(&self.board, &mut self.seat);
         self.renew(rt, found);
         pressures
             .as_mut_slice()
