@@ -147,12 +147,12 @@ has-append p [] ys = refl
 has-append p (x ∷ xs) ys = ap (λ b. cond (same_ptr p x.1.timer) true b) (has-append p xs ys)
     ∙ elim (same_ptr p x.1.timer) as (λ b. cond b true (has_timer p (map (λ a. a.1) xs) || has_timer p (map (λ a. a.1) ys)) ≡ (cond b true (has_timer p (map (λ a. a.1) xs)) || has_timer p (map (λ a. a.1) ys))) [ true ↦ refl | false ↦ refl ]
 
-has-list : (k : ℕ) (p : Ptr) (l : List (Ptr × Entry)) → has_timer p (map (λ a. a.1) (map (aged k) l)) ≡ has p l
+pub has-list : (k : ℕ) (p : Ptr) (l : List (Ptr × Entry)) → has_timer p (map (λ a. a.1) (map (aged k) l)) ≡ has p l
 unfolding has_timer has
 has-list k p [] = refl
 has-list k p (n ∷ l) = ap (λ b. cond (same_ptr p n.0) true b) (has-list k p l)
 
-has-all : (k : ℕ) (p : Ptr) (ls : List (List (Ptr × Entry))) → has_timer p (map (λ a. a.1) (all_from k ls)) ≡ has_node p ls
+pub has-all : (k : ℕ) (p : Ptr) (ls : List (List (Ptr × Entry))) → has_timer p (map (λ a. a.1) (all_from k ls)) ≡ has_node p ls
 unfolding has_timer has_node all_from
 has-all k p [] = refl
 has-all k p (l ∷ ls) = has-append p (map (aged k) l) (all_from (k + 1) ls) ∙ (λ i. has-list k p l i || has-all (k + 1) p ls i)

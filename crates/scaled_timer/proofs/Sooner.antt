@@ -1,6 +1,6 @@
 -- Which front fires first.
-use Rattle.std.proofs.Common.{◌≡◌, ℕ, zero, suc, false, cond, ◌+◌, ◌<◌, ◌≤◌, inl, inr, List, [], ◌∷◌, length, slice_index_or, refl, sym, ap, ◌∙◌, arith}
-use Rattle.std.specs.Prelude.{Option, None, Some, MatchOption, is_some, nat_le}
+use Rattle.std.proofs.Common.{◌≡◌, ℕ, zero, suc, cond, ◌+◌, ◌<◌, ◌≤◌, inl, inr, List, [], ◌∷◌, length, slice_index_or, refl, sym, ap, ◌∙◌, arith}
+use Rattle.std.specs.Prelude.{Option, None, Some, MatchOption, nat_le}
 use Rattle.std.proofs.lemmas.Bool.{le-leb, lt-leb}
 use denote.RawPtr.{Ptr}
 use Rattle.scaled_timer.specs.declared.entries.Entry.{Entry}
@@ -44,7 +44,3 @@ due-else now k d delay o n x e f g h =
     sym (ap (due_first now k d) e
     ∙ (λ i. cond (nat_le ((sym f i).at + g i) now) (Some (record { kind = k; due = (sym f i).at + g i; age = (sym f i).age })) None)
     ∙ ap (λ b. cond b (Some (record { kind = k; due = x.at + delay; age = x.age })) None) (lt-leb (x.at + delay) now h))
-
-pub none_is : {X : Type 0} (o : Option X) → is_some o ≡ false → o ≡ None
-none_is None h = refl
-none_is (Some x) h = cc

@@ -24,7 +24,7 @@ use Rattle.scaled_timer.proofs.Sorting.{in_order-first, all-in_order, length-in_
 use Rattle.scaled_timer.proofs.Listed.{Gone, eqb_flips, pull-gone, front-gone, armed-cut, all-kept}
 
 -- later by its moment, or at the same moment and armed later
-less : (a b : ℕ) → a ≤ b → nat_eq a b ≡ false → a < b
+pub less : (a b : ℕ) → a ≤ b → nat_eq a b ≡ false → a < b
 less a b h f = either (nat_lt a b) (λ t. ltb-true a b t) (λ g. let l = ltb-false a b g in let e : a ≡ b = omega (arith, h, l) in absurd (true≢false (sym (eq-eqb a b e) ∙ f)))
 
 sooner_or_same : (a b x y : ℕ) → a ≤ b → x < y → (a < b) ⊎ ((a ≡ b) × (x ≤ y))

@@ -3,3 +3,5 @@ pub mod Order
 pub mod Timing
 pub mod Entries
 pub mod Fronts
+pub mod Queue
+pub mod Merge

@@ -1,13 +1,15 @@
 //! Timers whose length shrinks as the load grows.
 //!
 //! Each kind of timer has a list of its own. Moments of arming never fall, so each list stands in the order in which its
-//! timers are due, under every state, and a turn looks at the fronts alone.
+//! timers are due, under every state, and a turn merges the lists by their fronts.
 #![tactic(auto)]
 
 mod entries;
 mod fired;
 mod fronts;
 mod kinds;
+mod merge;
+mod queue;
 #[cfg(test)]
 mod tests;
 mod timers;

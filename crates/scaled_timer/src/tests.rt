@@ -169,6 +169,44 @@ fn equal_moments_go_by_arming(rt: HostRuntime) {
     }
 }
 
+/// Timers of three kinds, of 30, 20 and 10 milliseconds, of which several of each kind are due at 36.
+fn merged<L: Ledger>(alloc: Global, blank: Blank) -> Option<Vec<Fired>>
+    requires { (blank.name ≡ L.name) × (blank.parts ≡ L.parts) × (0 < L.parts) }
+{
+    let mut steps = Steps::<L>::open(blank);
+    let mut timers = Timers::new(alloc, &[pair(30, 30), pair(20, 20), pair(10, 10)]).ok()?;
+    let mut held = none_held(alloc, &timers);
+    let mut armed = arm(&mut timers, &mut held, 0, 1, 0, &mut steps);
+    armed &= arm(&mut timers, &mut held, 1, 2, 2, &mut steps);
+    armed &= arm(&mut timers, &mut held, 2, 3, 4, &mut steps);
+    armed &= arm(&mut timers, &mut held, 0, 4, 6, &mut steps);
+    armed &= arm(&mut timers, &mut held, 1, 5, 8, &mut steps);
+    armed &= arm(&mut timers, &mut held, 2, 6, 10, &mut steps);
+    armed &= arm(&mut timers, &mut held, 0, 7, 12, &mut steps);
+    armed &= arm(&mut timers, &mut held, 2, 8, 20, &mut steps);
+    let fired = turn(alloc, &mut timers, &held, 36);
+    give_back(&mut timers, held, &mut steps);
+    if armed { fired } else { None }
+}
+
+#[test]
+fn kinds_are_merged(rt: HostRuntime) {
+    let got = merged::<Brand>(rt.alloc(), Blank::new(1));
+    assert!(rt; got.is_some());
+    if let Some(fired) = got {
+        let wanted = [
+            Fired { kind: 2, id: 3 },
+            Fired { kind: 2, id: 6 },
+            Fired { kind: 1, id: 2 },
+            Fired { kind: 1, id: 5 },
+            Fired { kind: 0, id: 1 },
+            Fired { kind: 2, id: 8 },
+            Fired { kind: 0, id: 4 },
+        ];
+        assert_eq!(rt; fired.as_slice(), wanted.as_slice());
+    }
+}
+
 /// 10,000 timers of one kind, of which each third from the first is disarmed once all are armed.
 fn thirds<L: Ledger>(alloc: Global, blank: Blank) -> Option<Vec<Fired>>
     requires { (blank.name ≡ L.name) × (blank.parts ≡ L.parts) × (0 < L.parts) }

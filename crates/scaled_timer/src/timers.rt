@@ -5,8 +5,9 @@ ghost use Rattle.link_lists.specs.Lists.{contains_id, without_id};
 
 use crate::entries::Entry;
 use crate::fired::{Fired, FiredList};
-use crate::fronts::earliest;
 use crate::kinds::TimerKind;
+use crate::merge::{due_fronts, fire_all};
+use crate::queue::FrontQueue;
 use io_ports::NoMemory;
 use link_lists::{Lists, Node, Steps};
 use std::alloc::Global;
@@ -61,7 +62,7 @@ impl Model for Timers {
 
 impl Timers {
     ghost use Rattle.scaled_timer.specs.Due.{Armed, due_timers, waiting_timers};
-    ghost use Rattle.scaled_timer.specs.Timing.{Timing, has_timer, without_timer, IsHeld, FiresFirst, firing, names_of};
+    ghost use Rattle.scaled_timer.specs.Timing.{Timing, has_timer, without_timer, IsHeld, firing, names_of};
 
     /// No armed timer, under the state 0.
     pub fn new(alloc: Global, kinds: &[TimerKind]) -> Result<Timers, NoMemory>
@@ -153,44 +154,22 @@ impl Timers {
         self.state = ppm;
     }
 
-    /// Whether a timer is due.
-    fn is_any_due(&self, now: u64) -> bool
-        ensures { result ≡ false → due_timers self.now.kinds self.now.state now self.now.armed ≡ [] }
-    {
-        earliest(&self.kinds, &self.lists, self.state, now).is_some()
-    }
-
-    /// Room for as many as may fire: none where no timer is due.
-    fn room(&self, now: u64) -> Result<Vec<Fired>, NoMemory>
+    /// Room for as many as may fire: none where no front is due.
+    fn room(&self, queue: &FrontQueue) -> Result<Vec<Fired>, NoMemory>
         ensures empty { IfOk result (λ fired. (fired.items ≡ []) × (vec_len fired ≡ 0)) }
-        ensures room { IfOk result (λ fired. (due_timers self.now.kinds self.now.state now self.now.armed ≡ []) ⊎ (length self.now.armed ≤ vec_capacity fired)) }
+        ensures room { IfOk result (λ fired. (queue.now.fronts ≡ []) ⊎ (length self.now.armed ≤ vec_capacity fired)) }
     {
-        if self.is_any_due(now) {
-            Ok(Vec::with_capacity(self.alloc, self.count)?)
-        } else {
+        if queue.is_empty() {
             Ok(Vec::new(self.alloc))
+        } else {
+            Ok(Vec::with_capacity(self.alloc, self.count)?)
         }
-    }
-
-    /// Fires the timer that is due first.
-    fn fire_first(&mut self, now: u64) -> Option<Fired>
-        ensures none { MatchOption result (due_timers self.old.kinds self.old.state now self.old.armed ≡ []) (λ _. ⊤) }
-        ensures kept { MatchOption result (self.new ≡ self.old) (λ _. ⊤) }
-        ensures some { MatchOption result ⊤ (λ f. FiresFirst f now self.old self.new) }
-    {
-        let front = earliest(&self.kinds, &self.lists, self.state, now)?;
-        let entry = self.lists.take_front(front.kind).unwrap();
-        self.count -= 1;
-        Some(Fired {
-            kind: front.kind,
-            id: entry.id,
-        })
     }
 
     /// Takes out the timers that are due, by due moment and then by arming, and leaves the others armed.
     ///
-    /// It looks at the first timer of each kind once for each timer that it takes out, and once more; at no other timer that
-    /// stays armed.
+    /// It looks at the first timer of each kind, and at the one behind each timer that it takes out; at no other timer that
+    /// stays armed. What it looks at goes through a heap, which has one timer of each kind at most.
     pub fn turn(&mut self, now: u64) -> Result<FiredList, NoMemory>
         requires later { self.old.latest ≤ now }
         requires now { now < 2 ^ 60 }
@@ -198,13 +177,11 @@ impl Timers {
         ensures left { IfOk result (λ _. self.new ≡ record self.old { latest = now; armed = waiting_timers self.old.kinds self.old.state now self.old.armed; fired = self.old.fired ++ names_of (due_timers self.old.kinds self.old.state now self.old.armed) }) }
         ensures err { OnErr result (self.new ≡ self.old) }
     {
-        let mut fired = self.room(now)?;
+        let queue = due_fronts(self.alloc, &self.kinds, &self.lists, self.state, now)?;
+        let room = self.room(&queue)?;
+        let fired = fire_all(queue, &self.kinds, &mut self.lists, self.state, now, room);
+        self.count -= fired.len();
         self.latest = now;
-        while let Some(next) = self.fire_first(now) {
-            if fired.push(next).is_err() {
-                unreachable!();
-            }
-        }
         Ok(FiredList::from_vec(fired))
     }
 }
