@@ -1,5 +1,6 @@
-// How many posts a second go from posters to a runner that drains beside them, and how many values a second
-// go through a queue without a rule in the same way.
+// How many posts a second go from posters to a runner that drains beside them, and how many values a second go through a
+// queue without a rule in the same way: on as many threads, carrying the same, and taken out in lists as long as those
+// of a drain, whose memory is taken first. Beside that stands the same queue emptied by bare pops.
 ghost use Rattle.std.specs.Prelude.{All, IfOk};
 ghost use Rattle.std.specs.Thread.{IsSync};
 ghost use Rattle.post_queue.specs.Clauses.{IsPosterOf, IsRunnerOf, passes_in};
@@ -8,21 +9,32 @@ use crate::stopwatch::{Stopwatch, per_second};
 use anyhow::{bail, ensure};
 use crossbeam_queue::SegQueue;
 use flow_notes::Job;
-use post_queue::{Post, PostBox, PosterPass, PosterPasses, RunnerPass};
-use std::alloc::Global;
+use post_queue::{BATCH, Post, PostBox, PosterPass, PosterPasses, RunnerPass};
+use std::alloc::{AllocError, Global};
 use std::rt::Clock;
 use std::sync::Wait;
 use std::thread;
 use std::thread::Threads;
 
 /// How many posts there are in one turn, of all posters together.
-const POSTS: u32 = 300_000;
+const POSTS: u32 = 900_000;
 
-/// How many turns there are. The best of them counts.
-const TURNS: u32 = 40;
+/// How many rounds there are. In each, each way has one turn, and its median counts.
+const ROUNDS: usize = 21;
 
 /// How often the runner looks for posts in a turn, at most.
 const LOOKS: u64 = 1_000_000_000;
+
+/// How values go from one thread to another.
+#[derive(Clone, Copy)]
+enum Way {
+    /// By `post` and `drain`.
+    Posts,
+    /// Through a plain queue, in lists.
+    PlainLists,
+    /// Through a plain queue, by bare pops.
+    PlainPops,
+}
 
 // Posts so many jobs.
 fn fill<R: Wait>(rt: &R, posts: &PostBox, mut pass: PosterPass, n: u32)
@@ -191,7 +203,39 @@ fn fill_plain<R: Wait>(rt: &R, queue: &SegQueue<Post>, poster: u32, n: u32) {
     }
 }
 
-fn empty_plain<R: Wait>(rt: &R, queue: &SegQueue<Post>) -> u64 {
+// At most as many values as a drain takes.
+fn take_list<R: Wait>(
+    rt: &R,
+    alloc: Global,
+    queue: &SegQueue<Post>,
+) -> Result<Vec<Post>, AllocError> {
+    let mut posts = Vec::with_capacity(alloc, BATCH)?;
+    for _ in 0..BATCH {
+        match queue.pop(rt) {
+            Some(post) => posts.push_reserved(post),
+            None => break,
+        }
+    }
+    Ok(posts)
+}
+
+fn empty_in_lists<R: Wait>(rt: &R, alloc: Global, queue: &SegQueue<Post>) -> u64 {
+    let mut taken: u64 = 0;
+    let mut sum: u64 = 0;
+    for _ in 0..LOOKS {
+        if taken >= u64::from(POSTS) {
+            break;
+        }
+        let Ok(list) = take_list(rt, alloc, queue) else {
+            break;
+        };
+        taken = taken.wrapping_add(list.len() as u64);
+        sum = add_all(sum, list.as_slice());
+    }
+    sum
+}
+
+fn empty_by_pops<R: Wait>(rt: &R, queue: &SegQueue<Post>) -> u64 {
     let mut taken: u64 = 0;
     let mut sum: u64 = 0;
     for _ in 0..LOOKS {
@@ -206,13 +250,27 @@ fn empty_plain<R: Wait>(rt: &R, queue: &SegQueue<Post>) -> u64 {
     sum
 }
 
-fn plain_turn_of_one<R: Threads + Wait + Sync>(rt: &R, queue: &SegQueue<Post>) -> u64 {
-    thread::join(
+fn empty_plain<R: Wait>(rt: &R, alloc: Global, queue: &SegQueue<Post>, in_lists: bool) -> u64 {
+    if in_lists {
+        empty_in_lists(rt, alloc, queue)
+    } else {
+        empty_by_pops(rt, queue)
+    }
+}
+
+fn plain_turn_of_one<R: Threads + Wait + Sync>(
+    rt: &R,
+    alloc: Global,
+    in_lists: bool,
+) -> anyhow::Result<u64> {
+    let queue = SegQueue::new(alloc)?;
+    let queue = &queue;
+    let (_, sum) = thread::join(
         rt,
         move || fill_plain(rt, queue, 0, POSTS),
-        move || empty_plain(rt, queue),
-    )
-    .1
+        move || empty_plain(rt, alloc, queue, in_lists),
+    );
+    Ok(sum)
 }
 
 fn fill_plain_by_three<R: Threads + Wait + Sync>(rt: &R, queue: &SegQueue<Post>) {
@@ -231,37 +289,59 @@ fn fill_plain_by_two<R: Threads + Wait + Sync>(rt: &R, queue: &SegQueue<Post>) {
     );
 }
 
-fn plain_turn_of_three<R: Threads + Wait + Sync>(rt: &R, queue: &SegQueue<Post>) -> u64 {
-    thread::join(
+fn plain_turn_of_three<R: Threads + Wait + Sync>(
+    rt: &R,
+    alloc: Global,
+    in_lists: bool,
+) -> anyhow::Result<u64> {
+    let queue = SegQueue::new(alloc)?;
+    let queue = &queue;
+    let (_, sum) = thread::join(
         rt,
         move || fill_plain_by_three(rt, queue),
-        move || empty_plain(rt, queue),
-    )
-    .1
+        move || empty_plain(rt, alloc, queue, in_lists),
+    );
+    Ok(sum)
 }
 
-// One turn of posts and one of the plain queue. The nanoseconds of both; they count the same.
-fn both_turns(
-    rt: &(impl Clock + AllocGlobal + Threads + Wait + Sync),
+fn turn(
+    rt: &(impl AllocGlobal + Threads + Wait + Sync),
+    way: Way,
     three: bool,
-) -> anyhow::Result<(u64, u64)> {
+) -> anyhow::Result<u64> {
+    match (way, three) {
+        (Way::Posts, false) => turn_of_one(rt, rt.alloc()),
+        (Way::Posts, true) => turn_of_three(rt, rt.alloc()),
+        (Way::PlainLists, false) => plain_turn_of_one(rt, rt.alloc(), true),
+        (Way::PlainLists, true) => plain_turn_of_three(rt, rt.alloc(), true),
+        (Way::PlainPops, false) => plain_turn_of_one(rt, rt.alloc(), false),
+        (Way::PlainPops, true) => plain_turn_of_three(rt, rt.alloc(), false),
+    }
+}
+
+// The nanoseconds of one turn, in which each value came through.
+fn timed(
+    rt: &(impl Clock + AllocGlobal + Threads + Wait + Sync),
+    way: Way,
+    three: bool,
+) -> anyhow::Result<u64> {
+    let posters: u64 = if three { 3 } else { 1 };
+    let each = u64::from(POSTS) / posters;
     let watch = Stopwatch::start(rt)?;
-    let ruled = if three {
-        turn_of_three(rt, rt.alloc())?
-    } else {
-        turn_of_one(rt, rt.alloc())?
-    };
-    let ruled_nanos = watch.nanos(rt)?;
-    let watch = Stopwatch::start(rt)?;
-    let queue = SegQueue::new(rt.alloc())?;
-    let plain = if three {
-        plain_turn_of_three(rt, &queue)
-    } else {
-        plain_turn_of_one(rt, &queue)
-    };
-    let plain_nanos = watch.nanos(rt)?;
-    ensure!(ruled == plain, "a post was lost");
-    Ok((ruled_nanos, plain_nanos))
+    let sum = turn(rt, way, three)?;
+    let nanos = watch.nanos(rt)?;
+    ensure!(sum == posters * (each * (each - 1) / 2), "a post was lost");
+    Ok(nanos)
+}
+
+// The median rate of so many turns.
+fn median_rate(mut nanos: [u64; ROUNDS]) -> u64 {
+    nanos.sort_unstable();
+    per_second(u64::from(POSTS), nanos[ROUNDS / 2].max(1))
+}
+
+fn percent(part: u64, whole: u64) -> u64 {
+    part.saturating_mul(100) / whole.max(1)
 }
 
 fn report(
@@ -269,17 +349,26 @@ fn report(
     name: &str,
     three: bool,
 ) -> anyhow::Result<()> {
-    let mut ruled = u64::MAX;
-    let mut plain = u64::MAX;
-    for _ in 0..TURNS {
-        let nanos = both_turns(rt, three)?;
-        ruled = ruled.min(nanos.0);
-        plain = plain.min(nanos.1);
+    let mut posts = [0; ROUNDS];
+    let mut lists = [0; ROUNDS];
+    let mut pops = [0; ROUNDS];
+    for round in 0..ROUNDS {
+        posts[round] = timed(rt, Way::Posts, three)?;
+        lists[round] = timed(rt, Way::PlainLists, three)?;
+        pops[round] = timed(rt, Way::PlainPops, three)?;
     }
-    let rate = per_second(u64::from(POSTS), ruled.max(1));
-    let plain_rate = per_second(u64::from(POSTS), plain.max(1));
-    let percent = rate.saturating_mul(100) / plain_rate.max(1);
-    println!(rt; "posts: {name}: {rate} posts a second; a plain queue {plain_rate}; {percent} %")?;
+    let rate = median_rate(posts);
+    let in_lists = median_rate(lists);
+    let by_pops = median_rate(pops);
+    println!(rt; "posts: {name}: {rate} posts a second")?;
+    println!(rt;
+        "  a plain queue in lists {in_lists}: {} %",
+        percent(rate, in_lists)
+    )?;
+    println!(rt;
+        "  a plain queue by bare pops {by_pops}: {} %",
+        percent(rate, by_pops)
+    )?;
     Ok(())
 }
 
