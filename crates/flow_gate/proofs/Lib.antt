@@ -8,7 +8,7 @@ pub mod Steps
 pub mod StepsEnds
 pub mod Placed
 pub mod Calls
-pub mod Raising
+pub mod Holding
 pub mod CallsEnds
 pub mod Stages
 pub mod Closing

@@ -6,21 +6,21 @@ use Rattle.flow_gate.specs.Ids.{same_flow}
 use Rattle.flow_gate.specs.Line.{Places, at_place, between}
 use Rattle.flow_gate.specs.declared.ids.FlowId.{FlowId}
 use Rattle.std.proofs.Common.{ap, arith, inl, inr, refl, subst, sym, ◌∙◌}
-use Rattle.std.proofs.lemmas.Bool.{cases_Bool, cond_both, false_from_ne_true, false≢true, ne_eqb}
+use Rattle.std.proofs.lemmas.Bool.{cases_Bool, cond_both, eqb-true, false_from_ne_true, false≢true, lt-ltb, ne_eqb}
 use Rattle.std.proofs.lemmas.Bool.Decides.{nat_tests}
 use Rattle.std.proofs.lemmas.List.{append-nil}
 use Rattle.std.proofs.lemmas.List.Elements.{filter-append}
 use Rattle.std.proofs.lemmas.Map.Keys.{sorted_head, sorted_tail}
 use Rattle.std.proofs.lemmas.Option.{same_Some, none-some}
 use Rattle.std.specs.BTreeMap.{insert_entry, is_at}
-use Rattle.std.specs.BTreeMap.Range.{range_contains}
+use Rattle.std.specs.BTreeMap.Range.{entries_between, range_contains}
 use Rattle.std.specs.List.{AllByRecursion}
 use Rattle.std.specs.List.Sorted.{IsStrictlySortedBy}
 use Rattle.std.specs.Map.{keys_of, remove_entry, values_of}
 use Rattle.std.specs.Ordering.{match_ordering, nat_cmp}
-use Rattle.std.specs.Prelude.{Bool, List, None, Some, [], cond, false, filter, nat_eq, not, true, ℕ, ◌++◌, ◌+◌, ◌<◌, ◌∷◌, ◌≡◌, ◌≤◌}
+use Rattle.std.specs.Prelude.{Bool, List, None, Some, [], cond, false, filter, is_some, nat_eq, nat_lt, not, slice_get, true, ℕ, ◌++◌, ◌+◌, ◌<◌, ◌∷◌, ◌≡◌, ◌≤◌}
 use Rattle.std.specs.declared.cmp.Ordering.TheVariants.{Greater, Less}
-use Rattle.std.specs.declared.ops.Bound.TheVariants.{Excluded, Included}
+use Rattle.std.specs.declared.ops.Bound.TheVariants.{Excluded, Included, Unbounded}
 
 -- the place is from one to before another
 abbrev pub is_between : ℕ → ℕ → ℕ → Bool
@@ -28,6 +28,9 @@ is_between from to = range_contains nat_cmp (Included from) (Excluded to)
 
 between_yes : (from to q : ℕ) → from ≤ q → q < to → is_between from to q ≡ true
 between_yes from to q low high = grind (arith, nat_tests)
+
+pub between_high_only : (from to q : ℕ) → from ≤ q → is_between from to q ≡ nat_lt q to
+between_high_only from to q low = grind (arith, nat_tests)
 
 between_low : (from to q : ℕ) → is_between from to q ≡ true → from ≤ q
 between_low from to q h = grind (arith, nat_tests)
@@ -38,7 +41,7 @@ between_high from to q h = grind (arith, nat_tests)
 between_no : (from to q : ℕ) → to ≤ q → is_between from to q ≡ false
 between_no from to q high = grind (arith, nat_tests)
 
-between_below : (from to q : ℕ) → q < from → is_between from to q ≡ false
+pub between_below : (from to q : ℕ) → q < from → is_between from to q ≡ false
 between_below from to q low = grind (arith, nat_tests)
 
 between_from : (a b to q : ℕ) → a ≤ q → b ≤ q → is_between a to q ≡ is_between b to q
@@ -173,6 +176,38 @@ part-leaves test p f (e ∷ line) at once =
           ap (λ b. filter (λ d. test d.0) (cond b line (e ∷ left))) (eq_by_place p e.0 ∙ past) ∙ each (test e.0)
     ]
 
+-- a part of the line has the flow at a place exactly where the place is in it
+pub part-held : (test : ℕ → Bool) (p : ℕ) (f : FlowId) (line : Places) → at_place p line ≡ Some f → times f (values_of line) ≤ 1 →
+    times f (values_of (filter (λ e. test e.0) line)) ≡ cond (test p) 1 0
+part-held test p f [] at once = absurd (none-some f at)
+part-held test p f (e ∷ line) at once =
+    let part : Places = filter (λ d. test d.0) line in
+    elim (cases_Bool (nat_eq p e.0)) [
+      | inl here ↦
+          let same : e.1 ≡ f = same_Some e.1 f (ap (λ b. cond b (Some e.1) (at_place p line)) (sym here) ∙ at) in
+          let one : ◌≡◌ {A = ℕ} (cond (same_flow f e.1) 1 0) 1 = ap {B = ℕ} (λ b. cond b 1 0) (subst (λ g. same_flow f g ≡ true) (sym same) (same_flow-refl f)) in
+          let none : times f (values_of part) ≡ 0 = omega (arith, one, once, count-cons (same_flow f) e.1 (values_of line), part-times test f line) in
+          let each : (t : Bool) → times f (values_of (cond t (e ∷ part) part)) ≡ cond t 1 0 =
+          λ t. elim t as (λ b. times f (values_of (cond b (e ∷ part) part)) ≡ cond b 1 0) [
+            | true ↦ omega (arith, one, none, count-cons (same_flow f) e.1 (values_of part))
+            | false ↦ none
+          ]
+          in
+          each (test e.0) ∙ ap {B = ℕ} (λ q. cond (test q) 1 0) (sym (eqb-true p e.0 here))
+      | inr past ↦
+          let behind : at_place p line ≡ Some f = ap (λ b. cond b (Some e.1) (at_place p line)) (sym past) ∙ at in
+          let some = some_times p f line behind in
+          let other : ◌≡◌ {A = ℕ} (cond (same_flow f e.1) 1 0) 0 = omega (arith, some, once, count-cons (same_flow f) e.1 (values_of line)) in
+          let rest = part-held test p f line behind (omega (arith, once, count-cons (same_flow f) e.1 (values_of line))) in
+          let each : (t : Bool) → times f (values_of (cond t (e ∷ part) part)) ≡ cond (test p) 1 0 =
+          λ t. elim t as (λ b. times f (values_of (cond b (e ∷ part) part)) ≡ cond (test p) 1 0) [
+            | true ↦ omega (arith, other, rest, count-cons (same_flow f) e.1 (values_of part))
+            | false ↦ rest
+          ]
+          in
+          each (test e.0)
+    ]
+
 pub line-leaves : (p : ℕ) (f : FlowId) (line : Places) → at_place p line ≡ Some f → times f (values_of line) ≤ 1 →
     remove_entry (is_at (nat_cmp p)) line ≡ others_of f line
 line-leaves p f line at once =
@@ -185,6 +220,66 @@ passes_first test (x ∷ xs) ys y is = elim (cases_Bool (test x)) [
   | inl passes ↦ (let same : x ∷ filter test xs ≡ y ∷ ys = ap (λ b. cond b (x ∷ filter test xs) (filter test xs)) (sym passes) ∙ is in let e : x ≡ y = cc in subst (λ z. test z ≡ true) e passes)
   | inr fails ↦ passes_first test xs ys y (ap (λ b. cond b (x ∷ filter test xs) (filter test xs)) (sym fails) ∙ is)
 ]
+
+-- the places from one on
+abbrev pub onward : ℕ → Places → Places
+onward from = entries_between nat_cmp (Included from) Unbounded
+
+abbrev is_onward : ℕ → ℕ → Bool
+is_onward from = range_contains nat_cmp (Included from) Unbounded
+
+onward_yes : (from to q : ℕ) → is_onward from q ≡ true → is_between from to q ≡ nat_lt q to
+onward_yes from to q h = grind (arith, nat_tests)
+
+onward_no : (from to q : ℕ) → is_onward from q ≡ false → is_between from to q ≡ false
+onward_no from to q h = grind (arith, nat_tests)
+
+filter_none : {X : Type 0} (test : X → Bool) (xs : List X) → AllByRecursion (λ x. test x ≡ false) xs → filter test xs ≡ []
+filter_none test [] none = refl
+filter_none test (x ∷ xs) none = ap (λ b. cond b (x ∷ filter test xs) (filter test xs)) none.0 ∙ filter_none test xs none.1
+
+-- what is pending is the front of that, up to the last drain
+onward-cut : (told drained : ℕ) (line : Places) → between told drained line ≡ filter (λ e. nat_lt e.0 drained) (onward told line)
+onward-cut told drained [] = refl
+onward-cut told drained (e ∷ line) = elim (cases_Bool (is_onward told e.0)) [
+  | inl inside ↦
+      ap (λ b. cond b (e ∷ between told drained line) (between told drained line)) (onward_yes told drained e.0 inside)
+      ∙ ap (λ es. cond (nat_lt e.0 drained) (e ∷ es) es) (onward-cut told drained line)
+      ∙ sym (ap (λ b. filter (λ d. nat_lt d.0 drained) (cond b (e ∷ onward told line) (onward told line))) inside)
+  | inr outside ↦
+      ap (λ b. cond b (e ∷ between told drained line) (between told drained line)) (onward_no told drained e.0 outside)
+      ∙ onward-cut told drained line
+      ∙ sym (ap (λ b. filter (λ d. nat_lt d.0 drained) (cond b (e ∷ onward told line) (onward told line))) outside)
+]
+
+pub first-nobody : (told drained : ℕ) (line : Places) → onward told line ≡ [] → between told drained line ≡ []
+first-nobody told drained line none = onward-cut told drained line ∙ ap (filter (λ e. nat_lt e.0 drained)) none
+
+pub first-pending : (told drained p : ℕ) (f : FlowId) (rest line : Places) → onward told line ≡ (p, f) ∷ rest → p < drained →
+    between told drained line ≡ (p, f) ∷ filter (λ e. nat_lt e.0 drained) rest
+first-pending told drained p f rest line is less = onward-cut told drained line ∙ ap (filter (λ e. nat_lt e.0 drained)) is
+    ∙ ap (λ b. cond b ((p, f) ∷ filter (λ e. nat_lt e.0 drained) rest) (filter (λ e. nat_lt e.0 drained) rest)) (lt-ltb p drained less)
+
+pub first-late : (told drained p : ℕ) (f : FlowId) (rest line : Places) → IsStrictlySortedBy nat_cmp (keys_of line) → onward told line ≡ (p, f) ∷ rest → drained ≤ p →
+    between told drained line ≡ []
+first-late told drained p f rest [] sorted is late = refl
+first-late told drained p f rest (e ∷ line) sorted is late = elim (cases_Bool (is_onward told e.0)) [
+  | inl inside ↦
+      let same : e ∷ onward told line ≡ (p, f) ∷ rest = ap (λ b. cond b (e ∷ onward told line) (onward told line)) (sym inside) ∙ is in
+      let first : e ≡ (p, f) = cc in
+      let place : e.0 ≡ p = ap (λ (d : ℕ × FlowId). d.0) first in
+      ap (λ b. cond b (e ∷ between told drained line) (between told drained line)) (between_no told drained e.0 (omega (arith, place, late)))
+      ∙ filter_none (λ d. is_between told drained d.0) line
+      (weaken_keys (λ q. nat_cmp e.0 q ≡ Less) (λ d. is_between told drained d.0 ≡ false) line (λ d less. let above = less_cmp e.0 d.0 less in between_no told drained d.0 (omega (arith, above, place, late))) (sorted_head nat_cmp e.0 (keys_of line) sorted))
+  | inr outside ↦
+      let others : onward told line ≡ (p, f) ∷ rest = ap (λ b. cond b (e ∷ onward told line) (onward told line)) (sym outside) ∙ is in
+      ap (λ b. cond b (e ∷ between told drained line) (between told drained line)) (onward_no told drained e.0 outside)
+      ∙ first-late told drained p f rest line (sorted_tail nat_cmp e.0 (keys_of line) sorted) others late
+]
+
+pub first_none : (es : Places) → is_some (slice_get es 0) ≡ false → es ≡ []
+first_none [] none = refl
+first_none (e ∷ es) none = absurd (false≢true (sym none))
 
 pub between-rest : (told drained p : ℕ) (f : FlowId) (rest line : Places) → IsStrictlySortedBy nat_cmp (keys_of line) →
     between told drained line ≡ (p, f) ∷ rest → between (p + 1) drained line ≡ rest

@@ -1,22 +1,24 @@
 -- What is seen of the gates, by the look-ups of their maps.
 use Rattle.flow_gate.proofs.Places.{eq_by_place}
-use Rattle.flow_gate.specs.Board.{count, is_known, is_marked, is_open, pending_on, watched_by, watchers_of}
+use Rattle.flow_gate.proofs.SameIds.{same_flow_exact}
+use Rattle.flow_gate.specs.Board.{count, is_known, is_marked, is_open, lows, pending_on, times, watched_by, watchers_of}
 use Rattle.flow_gate.specs.Books.{Books}
 use Rattle.flow_gate.specs.Ids.{same_buffer, same_flow}
 use Rattle.flow_gate.specs.Line.{Line}
-use Rattle.flow_gate.specs.Parts.{Buffers, Flows, board_of, buffer_at, buffer_state, flow_at, flow_state, watched_in}
+use Rattle.flow_gate.specs.Parts.{Buffers, Flows, board_of, buffer_at, buffer_state, flow_at, flow_state, held, watched_in}
 use Rattle.flow_gate.specs.contracts.ids.BufferIdOrd.TheImpl as buffer_ord
 use Rattle.flow_gate.specs.contracts.ids.FlowIdOrd.TheImpl as flow_ord
 use Rattle.flow_gate.specs.declared.ids.BufferId.{BufferId}
 use Rattle.flow_gate.specs.declared.ids.BufferId.TheVariants as buffer
 use Rattle.flow_gate.specs.declared.ids.FlowId.{FlowId}
-use Rattle.std.proofs.Common.{ap, refl, sym, ◌∙◌}
+use Rattle.std.proofs.Common.{ap, inl, inr, refl, sym, ◌∙◌}
+use Rattle.std.proofs.lemmas.Bool.{cases_Bool}
 use Rattle.std.proofs.lemmas.Map.Made.{lookup-map_values}
 use Rattle.std.specs.BTreeMap.{is_at}
 use Rattle.std.specs.Map.{lookup, values_of}
 use Rattle.std.specs.Option.{option_map, option_map_or}
 use Rattle.std.specs.Ordering.{bool_cmp, is_eq, nat_cmp, ordering_then}
-use Rattle.std.specs.Prelude.{Bool, List, None, Option, Some, [], cond, false, if◌then◌else◌, is_some, not, true, ℕ, ◌&&◌, ◌∷◌, ◌≡◌}
+use Rattle.std.specs.Prelude.{Bool, List, None, Option, Some, [], cond, count_by, false, if◌then◌else◌, is_some, map, not, sum_by, true, ◌&&◌, ◌+◌, ◌∷◌, ◌≡◌}
 use Rattle.std.specs.declared.cmp.Ordering.{Ordering}
 use Rattle.std.specs.declared.cmp.Ordering.TheVariants.{Equal, Greater, Less}
 
@@ -89,8 +91,20 @@ is_some-map : {A B : Type 0} (f : A → B) (o : Option A) → is_some (option_ma
 is_some-map f None = refl
 is_some-map f (Some x) = refl
 
-abbrev pub count_in : Option Books → ℕ
-count_in books = option_map_or (λ s. s.count) books 0
+-- a look-up over entries whose values are read with their keys
+lookup-keyed : {X Y : Type 0} (g : FlowId → X → Y) (f : FlowId) (es : List (FlowId × X)) →
+    lookup (same_flow f) (map {B = FlowId × Y} (λ e. (e.0, g e.0 e.1)) es) ≡ option_map (g f) (lookup (same_flow f) es)
+lookup-keyed g f [] = refl
+lookup-keyed {X} {Y} g f (e ∷ es) = elim (cases_Bool (same_flow f e.0)) [
+  | inl here ↦
+      ap (λ t. cond t (Some (g e.0 e.1)) (lookup (same_flow f) (map {B = FlowId × Y} (λ d. (d.0, g d.0 d.1)) es))) here
+      ∙ ap (λ h. Some (g h e.1)) (sym (same_flow_exact f e.0 here))
+      ∙ sym (ap (λ t. option_map (g f) (cond t (Some e.1) (lookup (same_flow f) es))) here)
+  | inr other ↦
+      ap (λ t. cond t (Some (g e.0 e.1)) (lookup (same_flow f) (map {B = FlowId × Y} (λ d. (d.0, g d.0 d.1)) es))) other
+      ∙ lookup-keyed g f es
+      ∙ sym (ap (λ t. option_map (g f) (cond t (Some e.1) (lookup (same_flow f) es))) other)
+]
 
 abbrev pub watched_at : Option Books → List BufferId
 watched_at books = option_map_or (λ s. watched_in s.watches) books []
@@ -107,17 +121,18 @@ pending_in line = option_map_or (λ l. values_of l.pending) line []
 module _ (flows : Flows) (buffers : Buffers) where
   pub is_open-board : (f : FlowId) → is_open (board_of flows buffers) f ≡ is_some (flow_at flows f)
   unfolding is_open
-  is_open-board f = ap is_some (lookup-map_values flow_state (same_flow f) flows) ∙ is_some-map flow_state (flow_at flows f)
+  is_open-board f = ap is_some (lookup-keyed (flow_state buffers) f flows) ∙ is_some-map (flow_state buffers f) (flow_at flows f)
 
-  pub count-board : (f : FlowId) → count (board_of flows buffers) f ≡ count_in (flow_at flows f)
+  pub count-board : (f : FlowId) → count (board_of flows buffers) f ≡ held buffers f (watched_at (flow_at flows f))
   unfolding count
-  count-board f = ap (λ o. option_map_or (λ s. s.count) o 0) (lookup-map_values flow_state (same_flow f) flows)
-      ∙ option_map_or-map (λ s. s.count) flow_state (flow_at flows f) 0
+  count-board f = ap (λ o. option_map_or (λ s. s.count) o 0) (lookup-keyed (flow_state buffers) f flows)
+      ∙ option_map_or-map (λ s. s.count) (flow_state buffers f) (flow_at flows f) 0
+      ∙ elim (flow_at flows f) as (λ o. option_map_or (λ s. held buffers f (watched_in s.watches)) o 0 ≡ held buffers f (watched_at o)) [ None ↦ refl | Some books ↦ refl ]
 
   pub watched-board : (f : FlowId) → watched_by (board_of flows buffers) f ≡ watched_at (flow_at flows f)
   unfolding watched_by
-  watched-board f = ap (λ o. option_map_or (λ s. s.watched) o []) (lookup-map_values flow_state (same_flow f) flows)
-      ∙ option_map_or-map (λ s. s.watched) flow_state (flow_at flows f) []
+  watched-board f = ap (λ o. option_map_or (λ s. s.watched) o []) (lookup-keyed (flow_state buffers) f flows)
+      ∙ option_map_or-map (λ s. s.watched) (flow_state buffers f) (flow_at flows f) []
 
   pub is_known-board : (b : BufferId) → is_known (board_of flows buffers) b ≡ is_some (buffer_at buffers b)
   unfolding is_known
@@ -138,13 +153,18 @@ module _ (flows : Flows) (buffers : Buffers) where
   pending-board b = ap (λ o. option_map_or (λ s. s.pending) o []) (lookup-map_values buffer_state (same_buffer b) buffers)
       ∙ option_map_or-map (λ s. s.pending) buffer_state (buffer_at buffers b) []
 
+  -- the law of the counts, which are computed by it
+  pub counted-board : (f : FlowId) → count (board_of flows buffers) f ≡ count_by (is_marked (board_of flows buffers)) (watched_by (board_of flows buffers) f) + lows (board_of flows buffers) f
+  counted-board f = count-board f
+      ∙ sym (λ i. count_by (λ b. is_marked-board b i) (watched-board f i) + sum_by (λ b. times f (pending-board b i)) (watched-board f i))
+
 -- ---- by what a map's `get` found
 module _ (flows : Flows) (buffers : Buffers) where
   pub open_found : (f : FlowId) (r : Bool) → r ≡ is_some (lookup (is_at (flow_cmp f)) flows) → r ≡ is_open (board_of flows buffers) f
   open_found f r is = is ∙ ap is_some (flow_get flows f) ∙ sym (is_open-board flows buffers f)
 
-  pub count_found : (f : FlowId) (books : Option Books) → FlowFound f books flows → count_in books ≡ count (board_of flows buffers) f
-  count_found f books is = ap count_in (is ∙ flow_get flows f) ∙ sym (count-board flows buffers f)
+  pub count_found : (f : FlowId) (books : Option Books) → FlowFound f books flows → held buffers f (watched_at books) ≡ count (board_of flows buffers) f
+  count_found f books is = ap (λ o. held buffers f (watched_at o)) (is ∙ flow_get flows f) ∙ sym (count-board flows buffers f)
 
   pub watched_found : (f : FlowId) (books : Option Books) → FlowFound f books flows → watched_at books ≡ watched_by (board_of flows buffers) f
   watched_found f books is = ap watched_at (is ∙ flow_get flows f) ∙ sym (watched-board flows buffers f)

@@ -1,4 +1,4 @@
--- Each change keeps what holds of the gates at all times.
+-- What each change does to the counts, by the law that they are computed by; and it keeps what holds of the gates at all times.
 use Rattle.flow_gate.proofs.Counting.{count-and_not, count-append, count-cons, count-or, sum-plus, sum-times}
 use Rattle.flow_gate.proofs.SameIds.{same_buffer-refl, same_buffer_exact, same_flow-comm, same_flow_exact}
 use Rattle.flow_gate.specs.Board.{Board, IsSound, count, is_marked, lows, pending_on, times, times_of_buffer, watched_by, watchers_of}
@@ -8,7 +8,7 @@ use Rattle.flow_gate.specs.declared.ids.BufferId.{BufferId}
 use Rattle.flow_gate.specs.declared.ids.FlowId.{FlowId}
 use Rattle.std.proofs.Common.{ap, arith, inl, inr, refl, subst, sym, ◌∙◌}
 use Rattle.std.proofs.lemmas.Bool.{cases_Bool}
-use Rattle.std.specs.Prelude.{Bool, List, [], cond, count_by, false, if◌then◌else◌, not, sum_by, suc, true, zero, ℕ, ◌+◌, ◌*◌, ◌∷◌, ◌≡◌, ◌≤◌}
+use Rattle.std.specs.Prelude.{Bool, List, [], cond, count_by, false, if◌then◌else◌, not, sum_by, suc, true, zero, ℕ, ◌&&◌, ◌++◌, ◌+◌, ◌*◌, ◌||◌, ◌∷◌, ◌≡◌, ◌≤◌}
 
 -- ---- parts
 pub times-if : (f : FlowId) (t : Bool) (xs : List FlowId) → times f (if t then xs else []) ≡ (if t then times f xs else 0)
@@ -36,70 +36,86 @@ times-without f g (x ∷ xs) =
     ]
     in each (same_flow f x) refl ∙ ap (λ n. if same_flow f g then 0 else n) (sym (count-cons (same_flow g) x xs))
 
+-- the law of the counts
+abbrev pub IsCounted : Board → Type 0
+IsCounted board = (f : FlowId) → count board f ≡ count_by (is_marked board) (watched_by board f) + lows board f
+
 -- the same is seen of all that counts depend on
-sound_same : (old new : Board) → Same count old new → Same is_marked old new → Same watched_by old new → Same watchers_of old new → Same pending_on old new → IsSound old → IsSound new
-sound_same old new counts marks watched watchers pending sound = record {
-  counted = λ f. counts f ∙ sound.counted f ∙ sym (λ i. count_by (λ b. marks b i) (watched f i) + sum_by (λ b. times f (pending b i)) (watched f i));
+pub same_counts : (old new : Board) → IsCounted old → IsCounted new → Same is_marked old new → Same watched_by old new → Same pending_on old new → Same count old new
+same_counts old new before after marks watched pending f =
+    after f ∙ (λ i. count_by (λ b. marks b i) (watched f i) + sum_by (λ b. times f (pending b i)) (watched f i)) ∙ sym (before f)
+
+-- nobody began to watch or left
+pub sound_same : (old new : Board) → IsCounted new → Same watched_by old new → Same watchers_of old new → Same pending_on old new → IsSound old → IsSound new
+sound_same old new counted watched watchers pending sound = record {
+  counted = counted;
   paired = λ f b. rw (watchers b, watched f) (sound.paired f b);
   once = λ f b. rw (watchers b) (sound.once f b);
   pending = λ f b. rw (watchers b, pending b) (sound.pending f b);
 }
 
-pub Begins-sound : (f : FlowId) (old new : Board) → Begins f old new → IsSound old → IsSound new
-Begins-sound f old new c = sound_same old new c.counts c.marks c.watched c.watchers c.pending
+pub Begins-sound : (f : FlowId) (old new : Board) → IsCounted new → Begins f old new → IsSound old → IsSound new
+Begins-sound f old new counted c = sound_same old new counted c.watched c.watchers c.pending
 
-pub Knows-sound : (b : BufferId) (old new : Board) → Knows b old new → IsSound old → IsSound new
-Knows-sound b old new c = sound_same old new c.counts c.marks c.watched c.watchers c.pending
+pub Knows-sound : (b : BufferId) (old new : Board) → IsCounted new → Knows b old new → IsSound old → IsSound new
+Knows-sound b old new counted c = sound_same old new counted c.watched c.watchers c.pending
 
 -- ---- a rise
-pub Rises-sound : (b : BufferId) (old new : Board) → is_marked old b ≡ false → Rises b old new → IsSound old → IsSound new
-Rises-sound b old new low change sound = record {
-  counted = λ f.
-      let bs : List BufferId = watched_by old f in
-      let marks : count_by (is_marked new) bs ≡ times_of_buffer b bs + count_by (is_marked old) bs =
-      (λ i. count_by (λ c. change.marks c i) bs)
-      ∙ count-or (same_buffer b) (is_marked old) (λ c e. subst (λ d. is_marked old d ≡ false) (same_buffer_exact b c e) low) bs
-      in
-      let pending : lows new f ≡ lows old f = λ i. sum_by (λ c. times f (change.pending c i)) (change.watched f i) in
-      let whole : count_by (is_marked new) (watched_by new f) ≡ count_by (is_marked new) bs = ap (count_by (is_marked new)) (change.watched f) in
-      omega (arith, change.counts f, sound.counted f, sound.paired f b, marks, pending, whole);
-  paired = λ f c. rw (change.watchers c, change.watched f) (sound.paired f c);
-  once = λ f c. rw (change.watchers c) (sound.once f c);
-  pending = λ f c. rw (change.watchers c, change.pending c) (sound.pending f c);
-}
+pub Rises-counts : (b : BufferId) (old new : Board) → is_marked old b ≡ false → IsCounted new → ((c : BufferId) → is_marked new c ≡ (same_buffer b c || is_marked old c)) →
+    Same watched_by old new → Same pending_on old new → IsSound old → (f : FlowId) → count new f ≡ count old f + times f (watchers_of old b)
+Rises-counts b old new low counted marked watched pending sound f =
+    let bs : List BufferId = watched_by old f in
+    let marks : count_by (is_marked new) bs ≡ times_of_buffer b bs + count_by (is_marked old) bs =
+    (λ i. count_by (λ c. marked c i) bs)
+    ∙ count-or (same_buffer b) (is_marked old) (λ c e. subst (λ d. is_marked old d ≡ false) (same_buffer_exact b c e) low) bs
+    in
+    let same : lows new f ≡ lows old f = λ i. sum_by (λ c. times f (pending c i)) (watched f i) in
+    let whole : count_by (is_marked new) (watched_by new f) ≡ count_by (is_marked new) bs = ap (count_by (is_marked new)) (watched f) in
+    omega (arith, counted f, sound.counted f, sound.paired f b, marks, same, whole)
+
+pub Rises-sound : (b : BufferId) (old new : Board) → IsCounted new → Rises b old new → IsSound old → IsSound new
+Rises-sound b old new counted change = sound_same old new counted change.watched change.watchers change.pending
 
 -- ---- a drain
 once_squared : (n : ℕ) → n ≤ 1 → n * n ≡ n
 once_squared zero small = refl
 once_squared (suc n) small = let none : n ≡ 0 = omega (arith, small) in subst (λ m. suc m * suc m ≡ suc m) (sym none) refl
 
-drained_times : (b : BufferId) (old new : Board) → Drains b old new → (f : FlowId) (c : BufferId) →
+-- each watcher of the buffer has one more low
+abbrev pub AddsLows : BufferId → Board → Board → Type 0
+AddsLows b old new = (c : BufferId) → pending_on new c ≡ pending_on old c ++ (if same_buffer b c then watchers_of old b else [])
+
+drained_times : (b : BufferId) (old new : Board) → AddsLows b old new → (f : FlowId) (c : BufferId) →
     times f (pending_on new c) ≡ times f (pending_on old c) + (if same_buffer b c then times f (watchers_of old b) else 0)
-drained_times b old new change f c =
-    ap (times f) (change.pending c) ∙ count-append (same_flow f) (pending_on old c) (if same_buffer b c then watchers_of old b else [])
+drained_times b old new lists f c =
+    ap (times f) (lists c) ∙ count-append (same_flow f) (pending_on old c) (if same_buffer b c then watchers_of old b else [])
     ∙ ap (λ n. times f (pending_on old c) + n) (times-if f (same_buffer b c) (watchers_of old b))
 
-pub Drains-sound : (b : BufferId) (old new : Board) → is_marked old b ≡ true → pending_on old b ≡ [] → Drains b old new → IsSound old → IsSound new
-Drains-sound b old new high none change sound = record {
-  counted = λ f.
-      let bs : List BufferId = watched_by old f in
-      let many : ℕ = times f (watchers_of old b) in
-      let marks : count_by (is_marked new) bs + times_of_buffer b bs ≡ count_by (is_marked old) bs =
-      ap (λ n. n + times_of_buffer b bs) (λ i. count_by (λ c. change.marks c i) bs)
-      ∙ count-and_not (same_buffer b) (is_marked old) (λ c e. subst (λ d. is_marked old d ≡ true) (same_buffer_exact b c e) high) bs
-      in
-      let pending : lows new f ≡ lows old f + times_of_buffer b bs * many =
-      (λ i. sum_by (λ c. drained_times b old new change f c i) (change.watched f i))
-      ∙ sum-plus (λ c. times f (pending_on old c)) (λ c. if same_buffer b c then many else 0) bs
-      ∙ ap (λ n. lows old f + n) (sum-times (same_buffer b) many bs)
-      in
-      let whole : count_by (is_marked new) (watched_by new f) ≡ count_by (is_marked new) bs = ap (count_by (is_marked new)) (change.watched f) in
-      let squared : times_of_buffer b bs * many ≡ many = ap (λ n. n * many) (sym (sound.paired f b)) ∙ once_squared many (sound.once f b) in
-      omega (arith, change.counts f, sound.counted f, sound.paired f b, marks, pending, whole, squared);
+pub Drains-counts : (b : BufferId) (old new : Board) → is_marked old b ≡ true → IsCounted new → ((c : BufferId) → is_marked new c ≡ (not (same_buffer b c) && is_marked old c)) →
+    Same watched_by old new → AddsLows b old new → IsSound old → Same count old new
+Drains-counts b old new high counted marked watched lists sound f =
+    let bs : List BufferId = watched_by old f in
+    let many : ℕ = times f (watchers_of old b) in
+    let marks : count_by (is_marked new) bs + times_of_buffer b bs ≡ count_by (is_marked old) bs =
+    ap (λ n. n + times_of_buffer b bs) (λ i. count_by (λ c. marked c i) bs)
+    ∙ count-and_not (same_buffer b) (is_marked old) (λ c e. subst (λ d. is_marked old d ≡ true) (same_buffer_exact b c e) high) bs
+    in
+    let pending : lows new f ≡ lows old f + times_of_buffer b bs * many =
+    (λ i. sum_by (λ c. drained_times b old new lists f c i) (watched f i))
+    ∙ sum-plus (λ c. times f (pending_on old c)) (λ c. if same_buffer b c then many else 0) bs
+    ∙ ap (λ n. lows old f + n) (sum-times (same_buffer b) many bs)
+    in
+    let whole : count_by (is_marked new) (watched_by new f) ≡ count_by (is_marked new) bs = ap (count_by (is_marked new)) (watched f) in
+    let squared : times_of_buffer b bs * many ≡ many = ap (λ n. n * many) (sym (sound.paired f b)) ∙ once_squared many (sound.once f b) in
+    omega (arith, counted f, sound.counted f, sound.paired f b, marks, pending, whole, squared)
+
+pub Drains-sound : (b : BufferId) (old new : Board) → pending_on old b ≡ [] → IsCounted new → Drains b old new → IsSound old → IsSound new
+Drains-sound b old new none counted change sound = record {
+  counted = counted;
   paired = λ f c. rw (change.watchers c, change.watched f) (sound.paired f c);
   once = λ f c. rw (change.watchers c) (sound.once f c);
   pending = λ f c.
-      let each = drained_times b old new change f c in
+      let each = drained_times b old new change.pending f c in
       let empty : times f (pending_on old b) ≡ 0 = ap (times f) none in
       let watchers : times f (watchers_of new c) ≡ times f (watchers_of old c) = ap (times f) (change.watchers c) in
       elim (cases_Bool (same_buffer b c)) [
@@ -116,38 +132,46 @@ Drains-sound b old new high none change sound = record {
 }
 
 -- ---- a low that is told
-told_times : (b : BufferId) (told : List FlowId) (old new : Board) → Tells b told old new → (f : FlowId) (c : BufferId) →
+-- the first lows of the buffer are taken
+abbrev pub TakesLows : BufferId → List FlowId → Board → Board → Type 0
+TakesLows b told old new = (c : BufferId) → pending_on old c ≡ (if same_buffer b c then told else []) ++ pending_on new c
+
+told_times : (b : BufferId) (told : List FlowId) (old new : Board) → TakesLows b told old new → (f : FlowId) (c : BufferId) →
     times f (pending_on old c) ≡ (if same_buffer b c then times f told else 0) + times f (pending_on new c)
-told_times b told old new change f c =
-    ap (times f) (change.pending c) ∙ count-append (same_flow f) (if same_buffer b c then told else []) (pending_on new c)
+told_times b told old new lists f c =
+    ap (times f) (lists c) ∙ count-append (same_flow f) (if same_buffer b c then told else []) (pending_on new c)
     ∙ ap (λ n. n + times f (pending_on new c)) (times-if f (same_buffer b c) told)
 
 once_times : (k t : ℕ) → t ≤ k → k ≤ 1 → k * t ≡ t
 once_times k zero le small = omega arith
 once_times k (suc t) le small = let one : k ≡ 1 = omega arith in ap (λ m. m * suc t) one ∙ omega arith
 
-pub Tells-sound : (b : BufferId) (told : List FlowId) (old new : Board) → Tells b told old new → IsSound old → IsSound new
-Tells-sound b told old new change sound = record {
-  counted = λ f.
-      let bs : List BufferId = watched_by old f in
-      let marks : count_by (is_marked new) (watched_by new f) ≡ count_by (is_marked old) bs = λ i. count_by (λ c. change.marks c i) (change.watched f i) in
-      let pending : lows old f ≡ times_of_buffer b bs * times f told + sum_by (λ c. times f (pending_on new c)) bs =
-      (λ i. sum_by (λ c. told_times b told old new change f c i) bs)
-      ∙ sum-plus (λ c. if same_buffer b c then times f told else 0) (λ c. times f (pending_on new c)) bs
-      ∙ ap (λ n. n + sum_by (λ c. times f (pending_on new c)) bs) (sum-times (same_buffer b) (times f told) bs)
-      in
-      let rest : lows new f ≡ sum_by (λ c. times f (pending_on new c)) bs = ap (sum_by (λ c. times f (pending_on new c))) (change.watched f) in
-      let front : times f (pending_on old b) ≡ times f told + times f (pending_on new b) =
-      told_times b told old new change f b ∙ ap (λ t. (if t then times f told else 0) + times f (pending_on new b)) (same_buffer-refl b)
-      in
-      let within : times f told ≤ times f (watchers_of old b) = omega (arith, front, sound.pending f b) in
-      let one : times_of_buffer b bs * times f told ≡ times f told =
-      ap (λ n. n * times f told) (sym (sound.paired f b)) ∙ once_times (times f (watchers_of old b)) (times f told) within (sound.once f b)
-      in
-      omega (arith, change.counts f, sound.counted f, marks, pending, rest, one);
+pub Tells-counts : (b : BufferId) (told : List FlowId) (old new : Board) → IsCounted new → Same is_marked old new → Same watched_by old new → TakesLows b told old new →
+    IsSound old → (f : FlowId) → count new f + times f told ≡ count old f
+Tells-counts b told old new counted marked watched lists sound f =
+    let bs : List BufferId = watched_by old f in
+    let marks : count_by (is_marked new) (watched_by new f) ≡ count_by (is_marked old) bs = λ i. count_by (λ c. marked c i) (watched f i) in
+    let pending : lows old f ≡ times_of_buffer b bs * times f told + sum_by (λ c. times f (pending_on new c)) bs =
+    (λ i. sum_by (λ c. told_times b told old new lists f c i) bs)
+    ∙ sum-plus (λ c. if same_buffer b c then times f told else 0) (λ c. times f (pending_on new c)) bs
+    ∙ ap (λ n. n + sum_by (λ c. times f (pending_on new c)) bs) (sum-times (same_buffer b) (times f told) bs)
+    in
+    let rest : lows new f ≡ sum_by (λ c. times f (pending_on new c)) bs = ap (sum_by (λ c. times f (pending_on new c))) (watched f) in
+    let front : times f (pending_on old b) ≡ times f told + times f (pending_on new b) =
+    told_times b told old new lists f b ∙ ap (λ t. (if t then times f told else 0) + times f (pending_on new b)) (same_buffer-refl b)
+    in
+    let within : times f told ≤ times f (watchers_of old b) = omega (arith, front, sound.pending f b) in
+    let one : times_of_buffer b bs * times f told ≡ times f told =
+    ap (λ n. n * times f told) (sym (sound.paired f b)) ∙ once_times (times f (watchers_of old b)) (times f told) within (sound.once f b)
+    in
+    omega (arith, counted f, sound.counted f, marks, pending, rest, one)
+
+pub Tells-sound : (b : BufferId) (told : List FlowId) (old new : Board) → IsCounted new → Tells b told old new → IsSound old → IsSound new
+Tells-sound b told old new counted change sound = record {
+  counted = counted;
   paired = λ f c. rw (change.watchers c, change.watched f) (sound.paired f c);
   once = λ f c. rw (change.watchers c) (sound.once f c);
   pending = λ f c.
       let watchers : times f (watchers_of new c) ≡ times f (watchers_of old c) = ap (times f) (change.watchers c) in
-      omega (arith, told_times b told old new change f c, watchers, sound.pending f c);
+      omega (arith, told_times b told old new change.pending f c, watchers, sound.pending f c);
 }

@@ -1,9 +1,10 @@
--- The changes by which a flow begins to watch, or is forgotten, keep what holds of the gates at all times.
+-- What the changes by which a buffer is closed, or a flow begins to watch or is forgotten, do to the counts; and they keep what holds of the gates
+-- at all times.
 use Rattle.flow_gate.proofs.Counting.{count-append, count-congr}
 use Rattle.flow_gate.proofs.SameIds.{same_buffer-comm, same_buffer-refl, same_buffer_exact, same_flow-comm, same_flow_exact}
-use Rattle.flow_gate.proofs.Sound.{times-without}
+use Rattle.flow_gate.proofs.Sound.{IsCounted, sound_same, times-without}
 use Rattle.flow_gate.specs.Board.{Board, IsSound, count, is_marked, lows, pending_on, times, times_of_buffer, watched_by, watchers_of}
-use Rattle.flow_gate.specs.Changes.{Closes, Forgets, Watches, without}
+use Rattle.flow_gate.specs.Changes.{Closes, Forgets, Same, Watches, goes_with, without}
 use Rattle.flow_gate.specs.Ids.{is_own, same_buffer, same_flow}
 use Rattle.flow_gate.specs.declared.ids.BufferId.{BufferId}
 use Rattle.flow_gate.specs.declared.ids.FlowId.{FlowId}
@@ -18,23 +19,22 @@ ends-count p xs t x = count-append p xs (if t then x ∷ [] else [])
     ∙ ap (λ n. count_by p xs + n) (elim t as (λ b. count_by p (if b then x ∷ [] else []) ≡ cond (b && p x) 1 0) [ true ↦ omega arith | false ↦ refl ])
 
 -- ---- a buffer that nobody watches is closed
-pub Closes-sound : (b : BufferId) (old new : Board) → watchers_of old b ≡ [] → Closes b old new → IsSound old → IsSound new
-Closes-sound b old new none change sound = record {
-  counted = λ f.
-      let bs : List BufferId = watched_by old f in
-      let marks : count_by (is_marked new) bs ≡ count_by (is_marked old) bs =
-      count-congr same_buffer same_buffer-refl (is_marked new) (is_marked old) bs (λ c some.
-      change.marks c ∙ ap (λ t. not t && is_marked old c) (false_from_ne_true (same_buffer b c) (λ e.
-      let empty : times f (watchers_of old c) ≡ 0 = ap (times f) (subst (λ d. watchers_of old d ≡ []) (same_buffer_exact b c e) none) in
-      absurd (omega (arith, some, empty, sound.paired f c)))))
-      in
-      let whole : count_by (is_marked new) (watched_by new f) ≡ count_by (is_marked new) bs = ap (count_by (is_marked new)) (change.watched f) in
-      let pending : lows new f ≡ lows old f = λ i. sum_by (λ c. times f (change.pending c i)) (change.watched f i) in
-      omega (arith, change.counts f, sound.counted f, marks, whole, pending);
-  paired = λ f c. rw (change.watchers c, change.watched f) (sound.paired f c);
-  once = λ f c. rw (change.watchers c) (sound.once f c);
-  pending = λ f c. rw (change.watchers c, change.pending c) (sound.pending f c);
-}
+pub Closes-counts : (b : BufferId) (old new : Board) → watchers_of old b ≡ [] → IsCounted new → ((c : BufferId) → is_marked new c ≡ (not (same_buffer b c) && is_marked old c)) →
+    Same watched_by old new → Same pending_on old new → IsSound old → Same count old new
+Closes-counts b old new none counted marked watched lists sound f =
+    let bs : List BufferId = watched_by old f in
+    let marks : count_by (is_marked new) bs ≡ count_by (is_marked old) bs =
+    count-congr same_buffer same_buffer-refl (is_marked new) (is_marked old) bs (λ c some.
+    marked c ∙ ap (λ t. not t && is_marked old c) (false_from_ne_true (same_buffer b c) (λ e.
+    let empty : times f (watchers_of old c) ≡ 0 = ap (times f) (subst (λ d. watchers_of old d ≡ []) (same_buffer_exact b c e) none) in
+    absurd (omega (arith, some, empty, sound.paired f c)))))
+    in
+    let whole : count_by (is_marked new) (watched_by new f) ≡ count_by (is_marked new) bs = ap (count_by (is_marked new)) (watched f) in
+    let pending : lows new f ≡ lows old f = λ i. sum_by (λ c. times f (lists c i)) (watched f i) in
+    omega (arith, counted f, sound.counted f, marks, whole, pending)
+
+pub Closes-sound : (b : BufferId) (old new : Board) → IsCounted new → Closes b old new → IsSound old → IsSound new
+Closes-sound b old new counted change = sound_same old new counted change.watched change.watchers change.pending
 
 -- ---- a flow begins to watch a buffer
 watched_times : (f : FlowId) (b : BufferId) (old new : Board) → Watches f b old new → (g : FlowId) (c : BufferId) →
@@ -48,23 +48,28 @@ unit-swap true false = refl
 unit-swap false true = refl
 unit-swap false false = refl
 
-pub Watches-sound : (f : FlowId) (b : BufferId) (old new : Board) → times f (watchers_of old b) ≡ 0 → Watches f b old new → IsSound old → IsSound new
-Watches-sound f b old new apart change sound = record {
-  counted = λ g.
-      let bs : List BufferId = watched_by old g in
-      let marks : count_by (is_marked new) (watched_by new g) ≡ count_by (is_marked old) bs + cond (same_flow f g && is_marked old b) 1 0 =
-      (λ i. count_by (λ c. change.marks c i) (change.watched g i)) ∙ ends-count (is_marked old) bs (same_flow f g) b
-      in
-      let pending : lows new g ≡ lows old g + (if same_flow f g then times g (pending_on old b) else 0) =
-      (λ i. sum_by (λ c. times g (change.pending c i)) (change.watched g i)) ∙ sum_by-append (λ c. times g (pending_on old c)) bs (if same_flow f g then b ∷ [] else [])
-      ∙ ap (λ n. lows old g + n) (elim (same_flow f g) as (λ t. sum_by (λ c. times g (pending_on old c)) (if t then b ∷ [] else []) ≡ (if t then times g (pending_on old b) else 0)) [ true ↦ omega arith | false ↦ refl ])
-      in
-      let none : (if same_flow f g then times g (pending_on old b) else 0) ≡ 0 = elim (cases_Bool (same_flow f g)) [
-        | inl same ↦ ap (λ t. if t then times g (pending_on old b) else 0) same
-            ∙ subst (λ h. times h (pending_on old b) ≡ 0) (same_flow_exact f g same) (omega (arith, apart, sound.pending f b))
-        | inr other ↦ ap (λ t. if t then times g (pending_on old b) else 0) other
-      ] in
-      omega (arith, change.counts g, sound.counted g, marks, pending, none);
+pub Watches-counts : (f : FlowId) (b : BufferId) (old new : Board) → times f (watchers_of old b) ≡ 0 → IsCounted new → Same is_marked old new →
+    ((g : FlowId) → watched_by new g ≡ watched_by old g ++ (if same_flow f g then b ∷ [] else [])) → Same pending_on old new → IsSound old →
+    (g : FlowId) → count new g ≡ count old g + (if same_flow f g && is_marked old b then 1 else 0)
+Watches-counts f b old new apart counted marked watched lists sound g =
+    let bs : List BufferId = watched_by old g in
+    let marks : count_by (is_marked new) (watched_by new g) ≡ count_by (is_marked old) bs + cond (same_flow f g && is_marked old b) 1 0 =
+    (λ i. count_by (λ c. marked c i) (watched g i)) ∙ ends-count (is_marked old) bs (same_flow f g) b
+    in
+    let pending : lows new g ≡ lows old g + (if same_flow f g then times g (pending_on old b) else 0) =
+    (λ i. sum_by (λ c. times g (lists c i)) (watched g i)) ∙ sum_by-append (λ c. times g (pending_on old c)) bs (if same_flow f g then b ∷ [] else [])
+    ∙ ap (λ n. lows old g + n) (elim (same_flow f g) as (λ t. sum_by (λ c. times g (pending_on old c)) (if t then b ∷ [] else []) ≡ (if t then times g (pending_on old b) else 0)) [ true ↦ omega arith | false ↦ refl ])
+    in
+    let none : (if same_flow f g then times g (pending_on old b) else 0) ≡ 0 = elim (cases_Bool (same_flow f g)) [
+      | inl same ↦ ap (λ t. if t then times g (pending_on old b) else 0) same
+          ∙ subst (λ h. times h (pending_on old b) ≡ 0) (same_flow_exact f g same) (omega (arith, apart, sound.pending f b))
+      | inr other ↦ ap (λ t. if t then times g (pending_on old b) else 0) other
+    ] in
+    omega (arith, counted g, sound.counted g, marks, pending, none)
+
+pub Watches-sound : (f : FlowId) (b : BufferId) (old new : Board) → times f (watchers_of old b) ≡ 0 → IsCounted new → Watches f b old new → IsSound old → IsSound new
+Watches-sound f b old new apart counted change sound = record {
+  counted = counted;
   paired = λ g c.
       let watched : times_of_buffer c (watched_by new g) ≡ times_of_buffer c (watched_by old g) + cond (same_flow f g && same_buffer c b) 1 0 =
       ap (times_of_buffer c) (change.watched g) ∙ ends-count (same_buffer c) (watched_by old g) (same_flow f g) b
@@ -102,30 +107,35 @@ both_cut : (t : Bool) (m n : ℕ) → m ≤ n → (if t then 0 else m) ≤ (if t
 both_cut true m n le = omega arith
 both_cut false m n le = le
 
-pub Forgets-sound : (f : FlowId) (old new : Board) → Forgets f old new → IsSound old → IsSound new
-Forgets-sound f old new change sound = record {
-  counted = λ g. elim (cases_Bool (same_flow f g)) [
-    | inl same ↦
-        let counts : count new g ≡ 0 = change.counts g ∙ ap (λ t. if t then 0 else count old g) same in
-        let none : watched_by new g ≡ [] = change.watched g ∙ ap (λ t. if t then [] else watched_by old g) same in
-        counts ∙ sym (λ i. count_by (is_marked new) (none i) + sum_by (λ c. times g (pending_on new c)) (none i))
-    | inr other ↦
-        let bs : List BufferId = watched_by old g in
-        let counts : count new g ≡ count old g = change.counts g ∙ ap (λ t. if t then 0 else count old g) other in
-        let watched : watched_by new g ≡ bs = change.watched g ∙ ap (λ t. if t then [] else watched_by old g) other in
-        let stays : (xs : List FlowId) → times g (without f xs) ≡ times g xs = λ xs. times-without f g xs ∙ ap (λ t. if t then 0 else times g xs) other in
-        let marks : count_by (is_marked new) bs ≡ count_by (is_marked old) bs =
-        count-congr same_buffer same_buffer-refl (is_marked new) (is_marked old) bs (λ c some.
-        let here : 0 < times g (without f (watchers_of old c)) = omega (arith, some, sound.paired g c, stays (watchers_of old c)) in
-        change.marks c ∙ ap (λ t. not (is_own f c && t) && is_marked old c) (some_left (same_flow g) (without f (watchers_of old c)) here)
-        ∙ ap (λ t. not t && is_marked old c) (and_right (is_own f c) false refl))
-        in
-        let whole : count_by (is_marked new) (watched_by new g) ≡ count_by (is_marked new) bs = ap (count_by (is_marked new)) watched in
-        let pending : lows new g ≡ lows old g =
-        (λ i. sum_by (λ c. times g (change.pending c i)) (watched i)) ∙ (λ i. sum_by (λ c. stays (pending_on old c) i) bs)
-        in
-        omega (arith, counts, sound.counted g, marks, whole, pending)
-  ];
+pub Forgets-counts : (f : FlowId) (old new : Board) → IsCounted new → ((b : BufferId) → is_marked new b ≡ (not (goes_with f old b) && is_marked old b)) →
+    ((g : FlowId) → watched_by new g ≡ (if same_flow f g then [] else watched_by old g)) → ((b : BufferId) → pending_on new b ≡ without f (pending_on old b)) →
+    IsSound old → (g : FlowId) → count new g ≡ (if same_flow f g then 0 else count old g)
+Forgets-counts f old new counted marked lists lowered sound g = elim (cases_Bool (same_flow f g)) [
+  | inl same ↦
+      let none : watched_by new g ≡ [] = lists g ∙ ap (λ t. if t then [] else watched_by old g) same in
+      counted g ∙ (λ i. count_by (is_marked new) (none i) + sum_by (λ c. times g (pending_on new c)) (none i))
+      ∙ sym (ap (λ t. if t then 0 else count old g) same)
+  | inr other ↦
+      let bs : List BufferId = watched_by old g in
+      let watched : watched_by new g ≡ bs = lists g ∙ ap (λ t. if t then [] else watched_by old g) other in
+      let stays : (xs : List FlowId) → times g (without f xs) ≡ times g xs = λ xs. times-without f g xs ∙ ap (λ t. if t then 0 else times g xs) other in
+      let marks : count_by (is_marked new) bs ≡ count_by (is_marked old) bs =
+      count-congr same_buffer same_buffer-refl (is_marked new) (is_marked old) bs (λ c some.
+      let here : 0 < times g (without f (watchers_of old c)) = omega (arith, some, sound.paired g c, stays (watchers_of old c)) in
+      marked c ∙ ap (λ t. not (is_own f c && t) && is_marked old c) (some_left (same_flow g) (without f (watchers_of old c)) here)
+      ∙ ap (λ t. not t && is_marked old c) (and_right (is_own f c) false refl))
+      in
+      let whole : count_by (is_marked new) (watched_by new g) ≡ count_by (is_marked new) bs = ap (count_by (is_marked new)) watched in
+      let pending : lows new g ≡ lows old g =
+      (λ i. sum_by (λ c. times g (lowered c i)) (watched i)) ∙ (λ i. sum_by (λ c. stays (pending_on old c) i) bs)
+      in
+      let cut : (if same_flow f g then 0 else count old g) ≡ count old g = ap (λ t. if t then 0 else count old g) other in
+      omega (arith, counted g, sound.counted g, marks, whole, pending, cut)
+]
+
+pub Forgets-sound : (f : FlowId) (old new : Board) → IsCounted new → Forgets f old new → IsSound old → IsSound new
+Forgets-sound f old new counted change sound = record {
+  counted = counted;
   paired = λ g c.
       let gone : times g (watchers_of new c) ≡ (if same_flow f g then 0 else times g (watchers_of old c)) = ap (times g) (change.watchers c) ∙ times-without f g (watchers_of old c) in
       let cut : times_of_buffer c (watched_by new g) ≡ (if same_flow f g then 0 else times_of_buffer c (watched_by old g)) =

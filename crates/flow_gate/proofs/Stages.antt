@@ -82,10 +82,11 @@ stage_later f (Some k) (buffer.Stage g i) inside =
 -- no stage lies between another buffer that is known next
 pub no_stage_beyond : (f : FlowId) (after : Option ℕ) (b : BufferId) (j : ℕ) → IsInRange buffer_cmp (bound_after f after) Unbounded b → stage_of f b ≡ None →
     IsLeBy buffer_cmp b (buffer.Stage f j) → ⊥
+no_stage_beyond f None (buffer.Write c) j inside none le = false≢true (sym inside.0)
+no_stage_beyond f (Some k) (buffer.Write c) j inside none le = let e : Greater ≡ Less = inside.0 in cc
 no_stage_beyond f None (buffer.Recv g) j inside none le = false≢true (sym inside.0)
 no_stage_beyond f (Some k) (buffer.Recv g) j inside none le = let e : Greater ≡ Less = inside.0 in cc
 no_stage_beyond f after (buffer.Send g) j inside none le = false≢true (sym le)
-no_stage_beyond f after (buffer.Write c) j inside none le = false≢true (sym le)
 no_stage_beyond f None (buffer.Stage g i) j inside none le = elim (cases_Bool (same_flow f g)) [
   | inl same ↦ none-some i (sym (ap (λ t. if t then Some i else None) (sym same) ∙ none))
   | inr other ↦ both_less f g (nat_cmp 0 i) (nat_cmp i j) other inside.0 le

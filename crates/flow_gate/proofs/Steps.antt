@@ -1,20 +1,21 @@
 -- What the calls write into their maps makes the changes that are seen of the gates.
-use Rattle.flow_gate.proofs.Reading.{above_in, count-board, count_in, is_known-board, is_marked-board, is_open-board, pending-board, pending_in, watched-board, watched_at, watchers-board, watchers_in}
-use Rattle.flow_gate.proofs.SameIds.{same_buffer_exact, same_flow-comm, same_flow_exact}
-use Rattle.flow_gate.specs.Board.{count, is_known, is_marked, is_open, pending_on, times, watched_by, watchers_of}
+use Rattle.flow_gate.proofs.Reading.{above_in, count-board, counted-board, is_known-board, is_marked-board, is_open-board, pending-board, pending_in, watched-board, watched_at, watchers-board, watchers_in}
+use Rattle.flow_gate.proofs.SameIds.{same_buffer_exact, same_flow_exact}
+use Rattle.flow_gate.proofs.Sound.{Drains-counts, Rises-counts, Tells-counts, same_counts}
+use Rattle.flow_gate.proofs.SoundEnds.{Closes-counts}
+use Rattle.flow_gate.specs.Board.{IsSound, count, is_known, is_marked, is_open, pending_on, watched_by, watchers_of}
 use Rattle.flow_gate.specs.Books.{Books}
 use Rattle.flow_gate.specs.Changes.{Begins, Closes, Drains, IsEmpty, Knows, Rises, Same, Tells}
 use Rattle.flow_gate.specs.Ids.{same_buffer, same_flow}
 use Rattle.flow_gate.specs.Line.{Line, Places}
-use Rattle.flow_gate.specs.Parts.{Buffers, Flows, board_of, buffer_at, flow_at, raised, watched_in}
+use Rattle.flow_gate.specs.Parts.{Buffers, Flows, board_of, buffer_at, flow_at, watched_in}
 use Rattle.flow_gate.specs.declared.ids.BufferId.{BufferId}
 use Rattle.flow_gate.specs.declared.ids.FlowId.{FlowId}
 use Rattle.std.proofs.Common.{ap, arith, inl, inr, refl, sym, ◌∙◌}
 use Rattle.std.proofs.lemmas.Bool.{cases_Bool}
 use Rattle.std.proofs.lemmas.List.{append-nil}
 use Rattle.std.specs.Map.{values_of}
-use Rattle.std.specs.Option.{option_map}
-use Rattle.std.specs.Prelude.{Bool, List, None, Option, Some, [], cond, false, if◌then◌else◌, is_some, not, true, ℕ, ◌&&◌, ◌++◌, ◌+◌, ◌-◌, ◌<◌, ◌||◌, ◌∷◌, ◌≡◌, ◌⊎◌}
+use Rattle.std.specs.Prelude.{Bool, List, None, Option, Some, [], cond, false, if◌then◌else◌, is_some, not, true, ℕ, ◌&&◌, ◌++◌, ◌||◌, ◌∷◌, ◌≡◌, ◌⊎◌}
 
 -- the new books are the old ones, but for those of one flow
 abbrev pub FlowWrites : FlowId → Option Books → Flows → Flows → Type 0
@@ -45,9 +46,6 @@ module _ (flows flows' : Flows) (buffers buffers' : Buffers) where
   pub same_open : ((f : FlowId) → is_some (flow_at flows' f) ≡ is_some (flow_at flows f)) → Same is_open (board_of flows buffers) (board_of flows' buffers')
   same_open same f = is_open-board flows' buffers' f ∙ same f ∙ sym (is_open-board flows buffers f)
 
-  pub same_count : ((f : FlowId) → count_in (flow_at flows' f) ≡ count_in (flow_at flows f)) → Same count (board_of flows buffers) (board_of flows' buffers')
-  same_count same f = count-board flows' buffers' f ∙ same f ∙ sym (count-board flows buffers f)
-
   pub same_watched : ((f : FlowId) → watched_at (flow_at flows' f) ≡ watched_at (flow_at flows f)) → Same watched_by (board_of flows buffers) (board_of flows' buffers')
   same_watched same f = watched-board flows' buffers' f ∙ same f ∙ sym (watched-board flows buffers f)
 
@@ -63,6 +61,10 @@ module _ (flows flows' : Flows) (buffers buffers' : Buffers) where
   pub same_pending : ((b : BufferId) → pending_in (buffer_at buffers' b) ≡ pending_in (buffer_at buffers b)) → Same pending_on (board_of flows buffers) (board_of flows' buffers')
   same_pending same b = pending-board flows' buffers' b ∙ same b ∙ sym (pending-board flows buffers b)
 
+  pub same_count : Same is_marked (board_of flows buffers) (board_of flows' buffers') → Same watched_by (board_of flows buffers) (board_of flows' buffers') →
+      Same pending_on (board_of flows buffers) (board_of flows' buffers') → Same count (board_of flows buffers) (board_of flows' buffers')
+  same_count = same_counts (board_of flows buffers) (board_of flows' buffers') (counted-board flows buffers) (counted-board flows' buffers')
+
 -- ---- nothing yet
 pub empty_board : IsEmpty (board_of [] [])
 empty_board = record {
@@ -76,95 +78,119 @@ empty_board = record {
 }
 
 -- ---- a flow begins, a buffer is known, a buffer is closed
-pub begins : (f : FlowId) (books : Books) (flows flows' : Flows) (buffers : Buffers) → flow_at flows f ≡ None → books.count ≡ 0 → books.watches ≡ [] →
+pub begins : (f : FlowId) (books : Books) (flows flows' : Flows) (buffers : Buffers) → flow_at flows f ≡ None → books.watches ≡ [] →
     FlowWrites f (Some books) flows flows' → Begins f (board_of flows buffers) (board_of flows' buffers)
-begins f books flows flows' buffers none zero empty writes = record {
+begins f books flows flows' buffers none empty writes = record {
   flows = λ g. is_open-board flows' buffers g ∙ ap is_some (writes g)
       ∙ elim (same_flow f g) as (λ t. is_some (cond t (Some books) (flow_at flows g)) ≡ (t || is_some (flow_at flows g))) [ true ↦ refl | false ↦ refl ]
       ∙ ap (λ t. same_flow f g || t) (sym (is_open-board flows buffers g));
-  counts = same_count flows flows' buffers buffers (kept_flow count_in f (Some books) flows flows' writes (zero ∙ sym (ap count_in none)));
-  watched = same_watched flows flows' buffers buffers (kept_flow watched_at f (Some books) flows flows' writes (ap watched_in empty ∙ sym (ap watched_at none)));
+  counts = same_count flows flows' buffers buffers marks watched pending;
+  watched = watched;
   buffers = same_known flows flows' buffers buffers (λ b. refl);
-  marks = same_marked flows flows' buffers buffers (λ b. refl);
+  marks = marks;
   watchers = same_watchers flows flows' buffers buffers (λ b. refl);
-  pending = same_pending flows flows' buffers buffers (λ b. refl);
+  pending = pending;
 }
+  where
+    marks : Same is_marked (board_of flows buffers) (board_of flows' buffers)
+    marks = same_marked flows flows' buffers buffers (λ b. refl)
+
+    watched : Same watched_by (board_of flows buffers) (board_of flows' buffers)
+    watched = same_watched flows flows' buffers buffers (kept_flow watched_at f (Some books) flows flows' writes (ap watched_in empty ∙ sym (ap watched_at none)))
+
+    pending : Same pending_on (board_of flows buffers) (board_of flows' buffers)
+    pending = same_pending flows flows' buffers buffers (λ b. refl)
 
 pub knows : (b : BufferId) (flows : Flows) (buffers buffers' : Buffers) → buffer_at buffers b ≡ None →
     BufferWrites b (Some (record { above = false; watchers = []; pending = [] })) buffers buffers' → Knows b (board_of flows buffers) (board_of flows buffers')
 knows b flows buffers buffers' none writes = record {
   flows = same_open flows flows buffers buffers' (λ f. refl);
-  counts = same_count flows flows buffers buffers' (λ f. refl);
-  watched = same_watched flows flows buffers buffers' (λ f. refl);
+  counts = same_count flows flows buffers buffers' marks watched pending;
+  watched = watched;
   buffers = λ c. is_known-board flows buffers' c ∙ ap is_some (writes c)
       ∙ elim (same_buffer b c) as (λ t. is_some (cond t (Some fresh) (buffer_at buffers c)) ≡ (t || is_some (buffer_at buffers c))) [ true ↦ refl | false ↦ refl ]
       ∙ ap (λ t. same_buffer b c || t) (sym (is_known-board flows buffers c));
-  marks = same_marked flows flows buffers buffers' (kept_buffer above_in b (Some fresh) buffers buffers' writes (sym (ap above_in none)));
+  marks = marks;
   watchers = same_watchers flows flows buffers buffers' (kept_buffer watchers_in b (Some fresh) buffers buffers' writes (sym (ap watchers_in none)));
-  pending = same_pending flows flows buffers buffers' (kept_buffer pending_in b (Some fresh) buffers buffers' writes (sym (ap pending_in none)));
+  pending = pending;
 }
   where
     fresh : Line
     fresh = record { above = false; watchers = []; pending = [] }
 
-pub closes : (b : BufferId) (flows : Flows) (buffers buffers' : Buffers) → watchers_in (buffer_at buffers b) ≡ [] → pending_in (buffer_at buffers b) ≡ [] →
-    BufferWrites b None buffers buffers' → Closes b (board_of flows buffers) (board_of flows buffers')
-closes b flows buffers buffers' none silent writes = record {
+    marks : Same is_marked (board_of flows buffers) (board_of flows buffers')
+    marks = same_marked flows flows buffers buffers' (kept_buffer above_in b (Some fresh) buffers buffers' writes (sym (ap above_in none)))
+
+    watched : Same watched_by (board_of flows buffers) (board_of flows buffers')
+    watched = same_watched flows flows buffers buffers' (λ f. refl)
+
+    pending : Same pending_on (board_of flows buffers) (board_of flows buffers')
+    pending = same_pending flows flows buffers buffers' (kept_buffer pending_in b (Some fresh) buffers buffers' writes (sym (ap pending_in none)))
+
+pub closes : (b : BufferId) (flows : Flows) (buffers buffers' : Buffers) → watchers_of (board_of flows buffers) b ≡ [] → pending_on (board_of flows buffers) b ≡ [] →
+    IsSound (board_of flows buffers) → BufferWrites b None buffers buffers' → Closes b (board_of flows buffers) (board_of flows buffers')
+closes b flows buffers buffers' none silent sound writes = record {
   flows = same_open flows flows buffers buffers' (λ f. refl);
-  counts = same_count flows flows buffers buffers' (λ f. refl);
-  watched = same_watched flows flows buffers buffers' (λ f. refl);
+  counts = Closes-counts b (board_of flows buffers) (board_of flows buffers') none (counted-board flows buffers') marks watched pending sound;
+  watched = watched;
   buffers = λ c. is_known-board flows buffers' c ∙ ap is_some (writes c)
       ∙ elim (same_buffer b c) as (λ t. is_some (cond t None (buffer_at buffers c)) ≡ (not t && is_some (buffer_at buffers c))) [ true ↦ refl | false ↦ refl ]
       ∙ ap (λ t. not (same_buffer b c) && t) (sym (is_known-board flows buffers c));
-  marks = λ c. is_marked-board flows buffers' c ∙ ap above_in (writes c)
-      ∙ elim (same_buffer b c) as (λ t. above_in (cond t None (buffer_at buffers c)) ≡ (not t && above_in (buffer_at buffers c))) [ true ↦ refl | false ↦ refl ]
-      ∙ ap (λ t. not (same_buffer b c) && t) (sym (is_marked-board flows buffers c));
-  watchers = same_watchers flows flows buffers buffers' (kept_buffer watchers_in b None buffers buffers' writes (sym none));
-  pending = same_pending flows flows buffers buffers' (kept_buffer pending_in b None buffers buffers' writes (sym silent));
+  marks = marks;
+  watchers = same_watchers flows flows buffers buffers' (kept_buffer watchers_in b None buffers buffers' writes (sym none ∙ watchers-board flows buffers b));
+  pending = pending;
 }
+  where
+    marks : (c : BufferId) → is_marked (board_of flows buffers') c ≡ (not (same_buffer b c) && is_marked (board_of flows buffers) c)
+    marks c = is_marked-board flows buffers' c ∙ ap above_in (writes c)
+        ∙ elim (same_buffer b c) as (λ t. above_in (cond t None (buffer_at buffers c)) ≡ (not t && above_in (buffer_at buffers c))) [ true ↦ refl | false ↦ refl ]
+        ∙ ap (λ t. not (same_buffer b c) && t) (sym (is_marked-board flows buffers c))
+
+    watched : Same watched_by (board_of flows buffers) (board_of flows buffers')
+    watched = same_watched flows flows buffers buffers' (λ f. refl)
+
+    pending : Same pending_on (board_of flows buffers) (board_of flows buffers')
+    pending = same_pending flows flows buffers buffers' (kept_buffer pending_in b None buffers buffers' writes (sym silent ∙ pending-board flows buffers b))
 
 -- ---- a rise, a drain, a low that is told
-raised-count : (n : ℕ) (o : Option Books) → (o ≡ None → n ≡ 0) → count_in (option_map (raised n) o) ≡ count_in o + n
-raised-count n None none = let zero : n ≡ 0 = none refl in omega (arith, zero)
-raised-count n (Some books) none = refl
-
-pub rises : (b : BufferId) (line : Line) (flows flows' : Flows) (buffers buffers' : Buffers) → buffer_at buffers b ≡ Some line →
-    ((f : FlowId) → flow_at flows f ≡ None → times f (values_of line.watchers) ≡ 0) →
-    BufferWrites b (Some (record line { above = true })) buffers buffers' →
-    ((f : FlowId) → flow_at flows' f ≡ option_map (raised (times f (values_of line.watchers))) (flow_at flows f)) →
-    Rises b (board_of flows buffers) (board_of flows' buffers')
-rises b line flows flows' buffers buffers' is none writes raises = record {
-  flows = same_open flows flows' buffers buffers' (λ f. ap is_some (raises f)
-      ∙ elim (flow_at flows f) as (λ o. is_some (option_map (raised (times f (values_of line.watchers))) o) ≡ is_some o) [ None ↦ refl | Some x ↦ refl ]);
-  counts = λ f. count-board flows' buffers' f ∙ ap count_in (raises f) ∙ raised-count (times f (values_of line.watchers)) (flow_at flows f) (none f)
-      ∙ (λ i. sym (count-board flows buffers f) i + times f (sym (watchers-board flows buffers b ∙ ap watchers_in is) i));
-  watched = same_watched flows flows' buffers buffers' (λ f. ap watched_at (raises f)
-      ∙ elim (flow_at flows f) as (λ o. watched_at (option_map (raised (times f (values_of line.watchers))) o) ≡ watched_at o) [ None ↦ refl | Some x ↦ refl ]);
-  buffers = same_known flows flows' buffers buffers' (kept_buffer is_some b (Some above) buffers buffers' writes (sym (ap is_some is)));
-  marks = λ c. is_marked-board flows' buffers' c ∙ ap above_in (writes c)
-      ∙ elim (same_buffer b c) as (λ t. above_in (cond t (Some above) (buffer_at buffers c)) ≡ (t || above_in (buffer_at buffers c))) [ true ↦ refl | false ↦ refl ]
-      ∙ ap (λ t. same_buffer b c || t) (sym (is_marked-board flows buffers c));
-  watchers = same_watchers flows flows' buffers buffers' (kept_buffer watchers_in b (Some above) buffers buffers' writes (sym (ap watchers_in is)));
-  pending = same_pending flows flows' buffers buffers' (kept_buffer pending_in b (Some above) buffers buffers' writes (sym (ap pending_in is)));
+pub rises : (b : BufferId) (line : Line) (flows : Flows) (buffers buffers' : Buffers) → buffer_at buffers b ≡ Some line → is_marked (board_of flows buffers) b ≡ false →
+    IsSound (board_of flows buffers) → BufferWrites b (Some (record line { above = true })) buffers buffers' → Rises b (board_of flows buffers) (board_of flows buffers')
+rises b line flows buffers buffers' is low sound writes = record {
+  flows = same_open flows flows buffers buffers' (λ f. refl);
+  counts = Rises-counts b (board_of flows buffers) (board_of flows buffers') low (counted-board flows buffers') marks watched pending sound;
+  watched = watched;
+  buffers = same_known flows flows buffers buffers' (kept_buffer is_some b (Some above) buffers buffers' writes (sym (ap is_some is)));
+  marks = marks;
+  watchers = same_watchers flows flows buffers buffers' (kept_buffer watchers_in b (Some above) buffers buffers' writes (sym (ap watchers_in is)));
+  pending = pending;
 }
   where
     above : Line
     above = record line { above = true }
 
+    marks : (c : BufferId) → is_marked (board_of flows buffers') c ≡ (same_buffer b c || is_marked (board_of flows buffers) c)
+    marks c = is_marked-board flows buffers' c ∙ ap above_in (writes c)
+        ∙ elim (same_buffer b c) as (λ t. above_in (cond t (Some above) (buffer_at buffers c)) ≡ (t || above_in (buffer_at buffers c))) [ true ↦ refl | false ↦ refl ]
+        ∙ ap (λ t. same_buffer b c || t) (sym (is_marked-board flows buffers c))
+
+    watched : Same watched_by (board_of flows buffers) (board_of flows buffers')
+    watched = same_watched flows flows buffers buffers' (λ f. refl)
+
+    pending : Same pending_on (board_of flows buffers) (board_of flows buffers')
+    pending = same_pending flows flows buffers buffers' (kept_buffer pending_in b (Some above) buffers buffers' writes (sym (ap pending_in is)))
+
 pub drains : (b : BufferId) (line : Line) (flows : Flows) (buffers buffers' : Buffers) → buffer_at buffers b ≡ Some line → values_of line.pending ≡ [] →
+    is_marked (board_of flows buffers) b ≡ true → IsSound (board_of flows buffers) →
     BufferWrites b (Some (record { above = false; watchers = line.watchers; pending = line.watchers })) buffers buffers' →
     Drains b (board_of flows buffers) (board_of flows buffers')
-drains b line flows buffers buffers' is told writes = record {
+drains b line flows buffers buffers' is told high sound writes = record {
   flows = same_open flows flows buffers buffers' (λ f. refl);
-  counts = same_count flows flows buffers buffers' (λ f. refl);
-  watched = same_watched flows flows buffers buffers' (λ f. refl);
+  counts = Drains-counts b (board_of flows buffers) (board_of flows buffers') high (counted-board flows buffers') marks watched pending sound;
+  watched = watched;
   buffers = same_known flows flows buffers buffers' (kept_buffer is_some b (Some low) buffers buffers' writes (sym (ap is_some is)));
-  marks = λ c. is_marked-board flows buffers' c ∙ ap above_in (writes c)
-      ∙ elim (same_buffer b c) as (λ t. above_in (cond t (Some low) (buffer_at buffers c)) ≡ (not t && above_in (buffer_at buffers c))) [ true ↦ refl | false ↦ refl ]
-      ∙ ap (λ t. not (same_buffer b c) && t) (sym (is_marked-board flows buffers c));
+  marks = marks;
   watchers = same_watchers flows flows buffers buffers' (kept_buffer watchers_in b (Some low) buffers buffers' writes (sym (ap watchers_in is)));
-  pending = λ c. pending-board flows buffers' c ∙ ap pending_in (writes c) ∙ added c (cases_Bool (same_buffer b c))
-      ∙ (λ i. sym (pending-board flows buffers c) i ++ (if same_buffer b c then sym (watchers-board flows buffers b ∙ ap watchers_in is) i else []));
+  pending = pending;
 }
   where
     low : Line
@@ -180,41 +206,37 @@ drains b line flows buffers buffers' is told writes = record {
         ap (λ t. pending_in (cond t (Some low) (buffer_at buffers c))) other
         ∙ sym (append-nil (pending_in (buffer_at buffers c))) ∙ ap (λ t. pending_in (buffer_at buffers c) ++ (if t then values_of line.watchers else [])) (sym other)
 
+    marks : (c : BufferId) → is_marked (board_of flows buffers') c ≡ (not (same_buffer b c) && is_marked (board_of flows buffers) c)
+    marks c = is_marked-board flows buffers' c ∙ ap above_in (writes c)
+        ∙ elim (same_buffer b c) as (λ t. above_in (cond t (Some low) (buffer_at buffers c)) ≡ (not t && above_in (buffer_at buffers c))) [ true ↦ refl | false ↦ refl ]
+        ∙ ap (λ t. not (same_buffer b c) && t) (sym (is_marked-board flows buffers c))
+
+    watched : Same watched_by (board_of flows buffers) (board_of flows buffers')
+    watched = same_watched flows flows buffers buffers' (λ f. refl)
+
+    pending : (c : BufferId) → pending_on (board_of flows buffers') c ≡ pending_on (board_of flows buffers) c ++ (if same_buffer b c then watchers_of (board_of flows buffers) b else [])
+    pending c = pending-board flows buffers' c ∙ ap pending_in (writes c) ∙ added c (cases_Bool (same_buffer b c))
+        ∙ (λ i. sym (pending-board flows buffers c) i ++ (if same_buffer b c then sym (watchers-board flows buffers b ∙ ap watchers_in is) i else []))
+
 -- the line with these lows pending
 abbrev pub with_pending : Line → Places → Line
 with_pending line pending = record { above = line.above; watchers = line.watchers; pending = pending }
 
-pub tells : (b : BufferId) (line : Line) (place : ℕ) (f : FlowId) (rest : Places) (books : Books) (flows flows' : Flows) (buffers buffers' : Buffers) →
-    buffer_at buffers b ≡ Some line → line.pending ≡ (place, f) ∷ rest → BufferWrites b (Some (with_pending line rest)) buffers buffers' →
-    flow_at flows f ≡ Some books → 0 < books.count → FlowWrites f (Some (record books { count = books.count - 1 })) flows flows' →
-    Tells b (f ∷ []) (board_of flows buffers) (board_of flows' buffers')
-tells b line place f rest books flows flows' buffers buffers' is first writes there some lowers = record {
-  flows = same_open flows flows' buffers buffers' (kept_flow is_some f (Some lower) flows flows' lowers (sym (ap is_some there)));
-  counts = λ g. (λ i. (count-board flows' buffers' g ∙ ap count_in (lowers g)) i + times g (f ∷ [])) ∙ less g (cases_Bool (same_flow f g)) ∙ sym (count-board flows buffers g);
-  watched = same_watched flows flows' buffers buffers' (kept_flow watched_at f (Some lower) flows flows' lowers (sym (ap watched_at there)));
-  buffers = same_known flows flows' buffers buffers' (kept_buffer is_some b (Some shorter) buffers buffers' writes (sym (ap is_some is)));
-  marks = same_marked flows flows' buffers buffers' (kept_buffer above_in b (Some shorter) buffers buffers' writes (sym (ap above_in is)));
-  watchers = same_watchers flows flows' buffers buffers' (kept_buffer watchers_in b (Some shorter) buffers buffers' writes (sym (ap watchers_in is)));
-  pending = λ c. pending-board flows buffers c ∙ taken c (cases_Bool (same_buffer b c))
-      ∙ (λ i. (if same_buffer b c then f ∷ [] else []) ++ sym (pending-board flows' buffers' c ∙ ap pending_in (writes c)) i);
+pub tells : (b : BufferId) (line : Line) (place : ℕ) (f : FlowId) (rest : Places) (flows : Flows) (buffers buffers' : Buffers) →
+    buffer_at buffers b ≡ Some line → line.pending ≡ (place, f) ∷ rest → IsSound (board_of flows buffers) → BufferWrites b (Some (with_pending line rest)) buffers buffers' →
+    Tells b (f ∷ []) (board_of flows buffers) (board_of flows buffers')
+tells b line place f rest flows buffers buffers' is first sound writes = record {
+  flows = same_open flows flows buffers buffers' (λ g. refl);
+  counts = Tells-counts b (f ∷ []) (board_of flows buffers) (board_of flows buffers') (counted-board flows buffers') marks watched pending sound;
+  watched = watched;
+  buffers = same_known flows flows buffers buffers' (kept_buffer is_some b (Some shorter) buffers buffers' writes (sym (ap is_some is)));
+  marks = marks;
+  watchers = same_watchers flows flows buffers buffers' (kept_buffer watchers_in b (Some shorter) buffers buffers' writes (sym (ap watchers_in is)));
+  pending = pending;
 }
   where
-    lower : Books
-    lower = record books { count = books.count - 1 }
-
     shorter : Line
     shorter = with_pending line rest
-
-    less : (g : FlowId) → (same_flow f g ≡ true) ⊎ (same_flow f g ≡ false) → count_in (cond (same_flow f g) (Some lower) (flow_at flows g)) + times g (f ∷ []) ≡ count_in (flow_at flows g)
-    less g (inl here) =
-        let old : count_in (flow_at flows g) ≡ books.count = ap (λ h. count_in (flow_at flows h)) (sym (same_flow_exact f g here)) ∙ ap count_in there in
-        let new : count_in (cond (same_flow f g) (Some lower) (flow_at flows g)) ≡ books.count - 1 = ap (λ t. count_in (cond t (Some lower) (flow_at flows g))) here in
-        let one : times g (f ∷ []) ≡ 1 = ap {B = ℕ} (λ t. 0 + cond t 1 0) (same_flow-comm g f ∙ here) in
-        omega (arith, old, new, one, some)
-    less g (inr other) =
-        let new : count_in (cond (same_flow f g) (Some lower) (flow_at flows g)) ≡ count_in (flow_at flows g) = ap (λ t. count_in (cond t (Some lower) (flow_at flows g))) other in
-        let none : times g (f ∷ []) ≡ 0 = ap {B = ℕ} (λ t. 0 + cond t 1 0) (same_flow-comm g f ∙ other) in
-        omega (arith, new, none)
 
     taken : (c : BufferId) → (same_buffer b c ≡ true) ⊎ (same_buffer b c ≡ false) →
         pending_in (buffer_at buffers c) ≡ (if same_buffer b c then f ∷ [] else []) ++ pending_in (cond (same_buffer b c) (Some shorter) (buffer_at buffers c))
@@ -223,20 +245,38 @@ tells b line place f rest books flows flows' buffers buffers' is first writes th
         ∙ sym (λ i. (if here i then f ∷ [] else []) ++ pending_in (cond (here i) (Some shorter) (buffer_at buffers c)))
     taken c (inr other) = sym (λ i. (if other i then f ∷ [] else []) ++ pending_in (cond (other i) (Some shorter) (buffer_at buffers c)))
 
+    marks : Same is_marked (board_of flows buffers) (board_of flows buffers')
+    marks = same_marked flows flows buffers buffers' (kept_buffer above_in b (Some shorter) buffers buffers' writes (sym (ap above_in is)))
+
+    watched : Same watched_by (board_of flows buffers) (board_of flows buffers')
+    watched = same_watched flows flows buffers buffers' (λ g. refl)
+
+    pending : (c : BufferId) → pending_on (board_of flows buffers) c ≡ (if same_buffer b c then f ∷ [] else []) ++ pending_on (board_of flows buffers') c
+    pending c = pending-board flows buffers c ∙ taken c (cases_Bool (same_buffer b c))
+        ∙ (λ i. (if same_buffer b c then f ∷ [] else []) ++ sym (pending-board flows buffers' c ∙ ap pending_in (writes c)) i)
+
 -- the board is seen as before
 pub none_told : (b : BufferId) (line : Line) (flows : Flows) (buffers buffers' : Buffers) → buffer_at buffers b ≡ Some line →
     BufferWrites b (Some line) buffers buffers' → Tells b [] (board_of flows buffers) (board_of flows buffers')
 none_told b line flows buffers buffers' is writes = record {
   flows = same_open flows flows buffers buffers' (λ f. refl);
-  counts = λ f. omega (arith, same_count flows flows buffers buffers' (λ g. refl) f);
-  watched = same_watched flows flows buffers buffers' (λ f. refl);
+  counts = λ f. omega (arith, same_count flows flows buffers buffers' marks watched pending f);
+  watched = watched;
   buffers = same_known flows flows buffers buffers' (kept_buffer is_some b (Some line) buffers buffers' writes (sym (ap is_some is)));
-  marks = same_marked flows flows buffers buffers' (kept_buffer above_in b (Some line) buffers buffers' writes (sym (ap above_in is)));
+  marks = marks;
   watchers = same_watchers flows flows buffers buffers' (kept_buffer watchers_in b (Some line) buffers buffers' writes (sym (ap watchers_in is)));
-  pending = λ c. sym (same_pending flows flows buffers buffers' (kept_buffer pending_in b (Some line) buffers buffers' writes (sym (ap pending_in is))) c)
-      ∙ sym (ap (λ xs. xs ++ pending_on (board_of flows buffers') c) (nothing (same_buffer b c)));
+  pending = λ c. sym (pending c) ∙ sym (ap (λ xs. xs ++ pending_on (board_of flows buffers') c) (nothing (same_buffer b c)));
 }
   where
     nothing : (t : Bool) → ◌≡◌ {A = List FlowId} (if t then [] else []) []
     nothing true = refl
     nothing false = refl
+
+    marks : Same is_marked (board_of flows buffers) (board_of flows buffers')
+    marks = same_marked flows flows buffers buffers' (kept_buffer above_in b (Some line) buffers buffers' writes (sym (ap above_in is)))
+
+    watched : Same watched_by (board_of flows buffers) (board_of flows buffers')
+    watched = same_watched flows flows buffers buffers' (λ f. refl)
+
+    pending : Same pending_on (board_of flows buffers) (board_of flows buffers')
+    pending = same_pending flows flows buffers buffers' (kept_buffer pending_in b (Some line) buffers buffers' writes (sym (ap pending_in is)))

@@ -1,12 +1,13 @@
 -- What `watch` and `forget` write into their maps makes the changes that are seen of the gates.
 use Rattle.flow_gate.proofs.Counting.{count-cons}
-use Rattle.flow_gate.proofs.Reading.{above_in, count-board, count_in, is_known-board, is_marked-board, is_open-board, pending-board, pending_in, watched-board, watched_at, watchers-board, watchers_in}
+use Rattle.flow_gate.proofs.Reading.{above_in, counted-board, is_known-board, is_marked-board, is_open-board, pending-board, pending_in, watched-board, watched_at, watchers-board, watchers_in}
 use Rattle.flow_gate.proofs.SameIds.{same_buffer_exact, same_flow-refl, same_flow_exact}
 use Rattle.flow_gate.proofs.Sound.{times-without}
+use Rattle.flow_gate.proofs.SoundEnds.{Forgets-counts, Watches-counts}
 use Rattle.flow_gate.proofs.Steps.{BufferWrites, FlowWrites, kept_buffer, kept_flow, same_known, same_marked, same_open, same_pending}
-use Rattle.flow_gate.specs.Board.{is_known, is_marked, times}
+use Rattle.flow_gate.specs.Board.{IsSound, is_known, is_marked, pending_on, times, watched_by, watchers_of}
 use Rattle.flow_gate.specs.Books.{Books}
-use Rattle.flow_gate.specs.Changes.{Forgets, Watches, goes_with, without}
+use Rattle.flow_gate.specs.Changes.{Forgets, Same, Watches, goes_with, without}
 use Rattle.flow_gate.specs.Ids.{is_own, same_buffer, same_flow}
 use Rattle.flow_gate.specs.Line.{Line, Places, left}
 use Rattle.flow_gate.specs.Parts.{Buffers, Flows, board_of, buffer_at, flow_at, kept, watched_in}
@@ -18,7 +19,7 @@ use Rattle.std.proofs.lemmas.Bool.{and_parts, cases_Bool, eqb-true}
 use Rattle.std.proofs.lemmas.List.{append-nil}
 use Rattle.std.specs.Map.{values_of}
 use Rattle.std.specs.Option.{option_map}
-use Rattle.std.specs.Prelude.{Bool, List, None, Option, Some, [], cond, false, filter, if◌then◌else◌, is_some, length, map, not, true, ℕ, ◌&&◌, ◌++◌, ◌+◌, ◌<◌, ◌==◌, ◌∷◌, ◌≡◌, ◌≤◌, ◌⊎◌}
+use Rattle.std.specs.Prelude.{Bool, List, None, Option, Some, [], cond, false, filter, if◌then◌else◌, is_some, length, map, not, true, ℕ, ◌&&◌, ◌++◌, ◌<◌, ◌==◌, ◌∷◌, ◌≡◌, ◌≤◌, ◌⊎◌}
 
 map_push : {A B : Type 0} (f : A → B) (xs : List A) (x : A) → map f (xs ++ x ∷ []) ≡ map f xs ++ f x ∷ []
 map_push f [] x = refl
@@ -26,36 +27,23 @@ map_push f (y ∷ ys) x = ap (λ zs. f y ∷ zs) (map_push f ys x)
 
 -- ---- a flow begins to watch
 pub watches : (f : FlowId) (b : BufferId) (place : ℕ) (books books' : Books) (line : Line) (flows flows' : Flows) (buffers buffers' : Buffers) →
-    flow_at flows f ≡ Some books → buffer_at buffers b ≡ Some line →
-    books'.count ≡ books.count + (if line.above then 1 else 0) → books'.watches ≡ books.watches ++ (record { buffer = b; place = place }) ∷ [] →
+    flow_at flows f ≡ Some books → buffer_at buffers b ≡ Some line → times f (watchers_of (board_of flows buffers) b) ≡ 0 → IsSound (board_of flows buffers) →
+    books'.watches ≡ books.watches ++ (record { buffer = b; place = place }) ∷ [] →
     FlowWrites f (Some books') flows flows' → BufferWrites b (Some (record line { watchers = line.watchers ++ (place, f) ∷ [] })) buffers buffers' →
     Watches f b (board_of flows buffers) (board_of flows' buffers')
-watches f b place books books' line flows flows' buffers buffers' there is counts lists writes joins = record {
+watches f b place books books' line flows flows' buffers buffers' there is apart sound lists writes joins = record {
   flows = same_open flows flows' buffers buffers' (kept_flow is_some f (Some books') flows flows' writes (sym (ap is_some there)));
-  counts = λ g. count-board flows' buffers' g ∙ ap count_in (writes g) ∙ more g (cases_Bool (same_flow f g))
-      ∙ (λ i. sym (count-board flows buffers g) i + (if same_flow f g && sym (is_marked-board flows buffers b ∙ ap above_in is) i then 1 else 0));
-  watched = λ g. watched-board flows' buffers' g ∙ ap watched_at (writes g) ∙ further g (cases_Bool (same_flow f g))
-      ∙ ap (λ xs. xs ++ (if same_flow f g then b ∷ [] else [])) (sym (watched-board flows buffers g));
+  counts = Watches-counts f b (board_of flows buffers) (board_of flows' buffers') apart (counted-board flows' buffers') marks watched pending sound;
+  watched = watched;
   buffers = same_known flows flows' buffers buffers' (kept_buffer is_some b (Some longer) buffers buffers' joins (sym (ap is_some is)));
-  marks = same_marked flows flows' buffers buffers' (kept_buffer above_in b (Some longer) buffers buffers' joins (sym (ap above_in is)));
+  marks = marks;
   watchers = λ c. watchers-board flows' buffers' c ∙ ap watchers_in (joins c) ∙ last c (cases_Bool (same_buffer b c))
       ∙ ap (λ xs. xs ++ (if same_buffer b c then f ∷ [] else [])) (sym (watchers-board flows buffers c));
-  pending = same_pending flows flows' buffers buffers' (kept_buffer pending_in b (Some longer) buffers buffers' joins (sym (ap pending_in is)));
+  pending = pending;
 }
   where
     longer : Line
     longer = record line { watchers = line.watchers ++ (place, f) ∷ [] }
-
-    more : (g : FlowId) → (same_flow f g ≡ true) ⊎ (same_flow f g ≡ false) →
-        count_in (cond (same_flow f g) (Some books') (flow_at flows g)) ≡ count_in (flow_at flows g) + (if same_flow f g && line.above then 1 else 0)
-    more g (inl here) =
-        let old : count_in (flow_at flows g) ≡ books.count = ap (λ h. count_in (flow_at flows h)) (sym (same_flow_exact f g here)) ∙ ap count_in there in
-        ap (λ t. count_in (cond t (Some books') (flow_at flows g))) here ∙ counts
-        ∙ sym (λ i. old i + (if here i && line.above then 1 else 0))
-    more g (inr other) =
-        let none : (if same_flow f g && line.above then 1 else 0) ≡ 0 = ap {B = ℕ} (λ t. if t && line.above then 1 else 0) other in
-        let same : count_in (cond (same_flow f g) (Some books') (flow_at flows g)) ≡ count_in (flow_at flows g) = ap (λ t. count_in (cond t (Some books') (flow_at flows g))) other in
-        omega (arith, none, same)
 
     further : (g : FlowId) → (same_flow f g ≡ true) ⊎ (same_flow f g ≡ false) →
         watched_at (cond (same_flow f g) (Some books') (flow_at flows g)) ≡ watched_at (flow_at flows g) ++ (if same_flow f g then b ∷ [] else [])
@@ -76,6 +64,16 @@ watches f b place books books' line flows flows' buffers buffers' there is count
     last c (inr other) =
         ap (λ t. watchers_in (cond t (Some longer) (buffer_at buffers c))) other ∙ sym (append-nil (watchers_in (buffer_at buffers c)))
         ∙ ap (λ t. watchers_in (buffer_at buffers c) ++ (if t then f ∷ [] else [])) (sym other)
+
+    marks : Same is_marked (board_of flows buffers) (board_of flows' buffers')
+    marks = same_marked flows flows' buffers buffers' (kept_buffer above_in b (Some longer) buffers buffers' joins (sym (ap above_in is)))
+
+    watched : (g : FlowId) → watched_by (board_of flows' buffers') g ≡ watched_by (board_of flows buffers) g ++ (if same_flow f g then b ∷ [] else [])
+    watched g = watched-board flows' buffers' g ∙ ap watched_at (writes g) ∙ further g (cases_Bool (same_flow f g))
+        ∙ ap (λ xs. xs ++ (if same_flow f g then b ∷ [] else [])) (sym (watched-board flows buffers g))
+
+    pending : Same pending_on (board_of flows buffers) (board_of flows' buffers')
+    pending = same_pending flows flows' buffers buffers' (kept_buffer pending_in b (Some longer) buffers buffers' joins (sym (ap pending_in is)))
 
 -- ---- a flow is forgotten
 -- its own buffer, where nobody is left in its line, goes; any other loses the flow
@@ -154,32 +152,23 @@ none_among f xs ys among none = each (without f xs) refl
 
 pub forgets : (f : FlowId) (flows flows' : Flows) (buffers buffers' : Buffers) →
     ((g : FlowId) (c : BufferId) → times g (pending_in (buffer_at buffers c)) ≤ times g (watchers_in (buffer_at buffers c))) →
-    FlowWrites f None flows flows' → ForgetWrites f buffers buffers' →
+    IsSound (board_of flows buffers) → FlowWrites f None flows flows' → ForgetWrites f buffers buffers' →
     Forgets f (board_of flows buffers) (board_of flows' buffers')
-forgets f flows flows' buffers buffers' among writes leaves = record {
+forgets f flows flows' buffers buffers' among sound writes leaves = record {
   flows = λ g. is_open-board flows' buffers' g ∙ ap is_some (writes g)
       ∙ elim (same_flow f g) as (λ t. is_some (cond t None (flow_at flows g)) ≡ (not t && is_some (flow_at flows g))) [ true ↦ refl | false ↦ refl ]
       ∙ ap (λ t. not (same_flow f g) && t) (sym (is_open-board flows buffers g));
-  counts = λ g. count-board flows' buffers' g ∙ ap count_in (writes g)
-      ∙ elim (same_flow f g) as (λ t. count_in (cond t None (flow_at flows g)) ≡ (if t then 0 else count_in (flow_at flows g))) [ true ↦ refl | false ↦ refl ]
-      ∙ ap (λ n. if same_flow f g then 0 else n) (sym (count-board flows buffers g));
-  watched = λ g. watched-board flows' buffers' g ∙ ap watched_at (writes g)
-      ∙ elim (same_flow f g) as (λ t. watched_at (cond t None (flow_at flows g)) ≡ (if t then [] else watched_at (flow_at flows g))) [ true ↦ refl | false ↦ refl ]
-      ∙ ap (λ xs. if same_flow f g then [] else xs) (sym (watched-board flows buffers g));
+  counts = Forgets-counts f (board_of flows buffers) (board_of flows' buffers') (counted-board flows' buffers') marks watched pending sound;
+  watched = watched;
   buffers = λ c. is_known-board flows' buffers' c ∙ ap is_some (leaves c) ∙ read_forgotten f is_some (is_own f c) (buffer_at buffers c)
       ∙ (λ i. if going c i then false else (known-left f (buffer_at buffers c) ∙ sym (is_known-board flows buffers c)) i)
       ∙ flag (goes_with f (board_of flows buffers) c) (is_known (board_of flows buffers) c);
-  marks = λ c. is_marked-board flows' buffers' c ∙ ap above_in (leaves c) ∙ read_forgotten f above_in (is_own f c) (buffer_at buffers c)
-      ∙ (λ i. if going c i then false else (above-left f (buffer_at buffers c) ∙ sym (is_marked-board flows buffers c)) i)
-      ∙ flag (goes_with f (board_of flows buffers) c) (is_marked (board_of flows buffers) c);
+  marks = marks;
   watchers = λ c. watchers-board flows' buffers' c ∙ ap watchers_in (leaves c) ∙ read_forgotten f watchers_in (is_own f c) (buffer_at buffers c)
       ∙ gone_list (goes f (is_own f c) (buffer_at buffers c)) (watchers_in (option_map (left f) (buffer_at buffers c))) (without f (watchers_in (buffer_at buffers c)))
       (watchers-left f (buffer_at buffers c)) (λ h. no_length (without f (watchers_in (buffer_at buffers c))) (and_parts (is_own f c) (length (without f (watchers_in (buffer_at buffers c))) == 0) h).1)
       ∙ ap (without f) (sym (watchers-board flows buffers c));
-  pending = λ c. pending-board flows' buffers' c ∙ ap pending_in (leaves c) ∙ read_forgotten f pending_in (is_own f c) (buffer_at buffers c)
-      ∙ gone_list (goes f (is_own f c) (buffer_at buffers c)) (pending_in (option_map (left f) (buffer_at buffers c))) (without f (pending_in (buffer_at buffers c)))
-      (pending-left f (buffer_at buffers c)) (λ h. none_among f (pending_in (buffer_at buffers c)) (watchers_in (buffer_at buffers c)) (λ g. among g c) (and_parts (is_own f c) (length (without f (watchers_in (buffer_at buffers c))) == 0) h).1)
-      ∙ ap (without f) (sym (pending-board flows buffers c));
+  pending = pending;
 }
   where
     going : (c : BufferId) → goes f (is_own f c) (buffer_at buffers c) ≡ goes_with f (board_of flows buffers) c
@@ -192,3 +181,19 @@ forgets f flows flows' buffers buffers' among writes leaves = record {
     gone_list : (t : Bool) (xs ys : List FlowId) → xs ≡ ys → (t ≡ true → [] ≡ ys) → (if t then [] else xs) ≡ ys
     gone_list true xs ys same none = none refl
     gone_list false xs ys same none = same
+
+    marks : (c : BufferId) → is_marked (board_of flows' buffers') c ≡ (not (goes_with f (board_of flows buffers) c) && is_marked (board_of flows buffers) c)
+    marks c = is_marked-board flows' buffers' c ∙ ap above_in (leaves c) ∙ read_forgotten f above_in (is_own f c) (buffer_at buffers c)
+        ∙ (λ i. if going c i then false else (above-left f (buffer_at buffers c) ∙ sym (is_marked-board flows buffers c)) i)
+        ∙ flag (goes_with f (board_of flows buffers) c) (is_marked (board_of flows buffers) c)
+
+    watched : (g : FlowId) → watched_by (board_of flows' buffers') g ≡ (if same_flow f g then [] else watched_by (board_of flows buffers) g)
+    watched g = watched-board flows' buffers' g ∙ ap watched_at (writes g)
+        ∙ elim (same_flow f g) as (λ t. watched_at (cond t None (flow_at flows g)) ≡ (if t then [] else watched_at (flow_at flows g))) [ true ↦ refl | false ↦ refl ]
+        ∙ ap (λ xs. if same_flow f g then [] else xs) (sym (watched-board flows buffers g))
+
+    pending : (c : BufferId) → pending_on (board_of flows' buffers') c ≡ without f (pending_on (board_of flows buffers) c)
+    pending c = pending-board flows' buffers' c ∙ ap pending_in (leaves c) ∙ read_forgotten f pending_in (is_own f c) (buffer_at buffers c)
+        ∙ gone_list (goes f (is_own f c) (buffer_at buffers c)) (pending_in (option_map (left f) (buffer_at buffers c))) (without f (pending_in (buffer_at buffers c)))
+        (pending-left f (buffer_at buffers c)) (λ h. none_among f (pending_in (buffer_at buffers c)) (watchers_in (buffer_at buffers c)) (λ g. among g c) (and_parts (is_own f c) (length (without f (watchers_in (buffer_at buffers c))) == 0) h).1)
+        ∙ ap (without f) (sym (pending-board flows buffers c))

@@ -1,11 +1,12 @@
 -- The gate of one buffer, with the place of each watcher in the line.
+use Rattle.flow_gate.specs.Board.{times}
 use Rattle.flow_gate.specs.Ids.{same_flow}
 use Rattle.flow_gate.specs.declared.ids.FlowId.{FlowId}
 use Rattle.std.specs.BTreeMap.Range.{entries_between}
 use Rattle.std.specs.List.{AllByRecursion}
-use Rattle.std.specs.Map.{lookup}
+use Rattle.std.specs.Map.{lookup, values_of}
 use Rattle.std.specs.Ordering.{nat_cmp}
-use Rattle.std.specs.Prelude.{Bool, List, Option, filter, nat_eq, not, ℕ, ◌<◌, ◌≤◌}
+use Rattle.std.specs.Prelude.{Bool, List, Option, filter, if◌then◌else◌, nat_eq, not, ℕ, ◌+◌, ◌<◌, ◌≤◌}
 use Rattle.std.specs.declared.ops.Bound.TheVariants.{Excluded, Included}
 
 -- the flows of a line, each at its place, in order
@@ -39,3 +40,7 @@ left flow line = record {
   watchers = filter (λ e. not (same_flow flow e.1)) line.watchers;
   pending = filter (λ e. not (same_flow flow e.1)) line.pending;
 }
+
+-- how often a buffer holds a flow back: while it is above, and while the flow is to be told
+abbrev pub held_in : FlowId → Line → ℕ
+held_in flow line = (if line.above then 1 else 0) + times flow (values_of line.pending)

@@ -11,7 +11,7 @@ use Rattle.std.specs.Map.{lookup, values_of}
 use Rattle.std.specs.Option.{option_map_or}
 use Rattle.std.specs.declared.ops.Bound.{Bound}
 use Rattle.std.specs.declared.ops.Bound.TheVariants.{Excluded, Included}
-use Rattle.std.specs.Prelude.{Bool, List, None, Option, Some, [], false, if◌then◌else◌, length, map, nat_lt, true, ℕ, ◌+◌, ◌==◌, ◌≡◌, ◌≤◌, ◌^◌}
+use Rattle.std.specs.Prelude.{Bool, List, None, Option, Some, [], count_by, false, if◌then◌else◌, length, map, nat_lt, sum_by, true, ℕ, ◌+◌, ◌==◌, ◌≡◌, ◌≤◌, ◌^◌}
 use Rattle.flow_gate.specs.declared.ids.BufferId.TheVariants as buffer
 
 abbrev pub Flows : Type 0
@@ -31,15 +31,26 @@ buffer_at buffers b = lookup (same_buffer b) buffers
 abbrev pub watched_in : List Watch → List BufferId
 watched_in = map (λ w. w.buffer)
 
-abbrev pub flow_state : Books → FlowState
-flow_state books = record { count = books.count; watched = watched_in books.watches }
+-- whether a buffer is above, and who is still to be told that it drained
+abbrev pub above_at : Buffers → BufferId → Bool
+above_at buffers b = option_map_or (λ line. line.above) (buffer_at buffers b) false
+
+abbrev pub pending_at : Buffers → BufferId → List FlowId
+pending_at buffers b = option_map_or (λ line. values_of line.pending) (buffer_at buffers b) []
+
+-- how often these buffers hold the flow back: each that is above, and each low of the flow that is pending
+abbrev pub held : Buffers → FlowId → List BufferId → ℕ
+held buffers f bs = count_by (above_at buffers) bs + sum_by (λ b. times f (pending_at buffers b)) bs
+
+abbrev pub flow_state : Buffers → FlowId → Books → FlowState
+flow_state buffers f books = record { count = held buffers f (watched_in books.watches); watched = watched_in books.watches }
 
 abbrev pub buffer_state : Line → BufferState
 buffer_state line = record { above = line.above; watchers = values_of line.watchers; pending = values_of line.pending }
 
 abbrev pub board_of : Flows → Buffers → Board
 board_of flows buffers = record {
-  flows = map (λ e. (e.0, flow_state e.1)) flows;
+  flows = map (λ e. (e.0, flow_state buffers e.0 e.1)) flows;
   buffers = map (λ e. (e.0, buffer_state e.1)) buffers;
 }
 
@@ -60,10 +71,6 @@ pub record AreGates (flows : Flows) (buffers : Buffers) : Type 0 where
   pub few : (f : FlowId) → length (watches_at flows f) ≤ 2 ^ 62
 
 -- ---- steps
--- held back n times more
-abbrev pub raised : ℕ → Books → Books
-raised n books = record books { count = books.count + n }
-
 -- a line that nobody stands in goes
 abbrev pub kept : Option Line → Option Line
 kept None = None
@@ -97,7 +104,7 @@ pub record AreWatches (f : FlowId) (watches : List Watch) (buffers : Buffers) : 
       times f (values_of (option_map_or (λ line. line.pending) (buffer_at buffers b) [])) ≤ times f (values_of (line_at buffers b))
 
 -- the flow stands there, once
-pub record Leaves (f : FlowId) (watch : Watch) (line : Line) (buffers : Buffers) : Type 0 where
+pub record StandsIn (f : FlowId) (watch : Watch) (line : Line) (buffers : Buffers) : Type 0 where
   pub found : buffer_at buffers watch.buffer ≡ Some line
   pub here : at_place watch.place line.watchers ≡ Some f
   pub once : times f (values_of line.watchers) ≤ 1

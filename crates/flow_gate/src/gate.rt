@@ -1,6 +1,7 @@
 // The gate of one buffer: whether the buffer is above, and which of its watchers are still to be told that it drained.
-ghost use Rattle.std.specs.Prelude.{◌≡◌, ◌↔◌, ◌∷◌, ◌++◌, ◌≤◌, [], drop, false, true, IfOk, OnErr, None, Some, slice_get, option_map};
+ghost use Rattle.std.specs.Prelude.{◌≡◌, ◌↔◌, ◌∷◌, ◌++◌, ◌+◌, ◌<◌, ◌≤◌, [], drop, false, true, IfOk, IfSome, OnErr, None, Some, slice_get, option_map};
 ghost use Rattle.std.specs.Map.{values_of};
+ghost use Rattle.flow_gate.specs.Line.{between};
 ghost use Rattle.flow_gate.specs.Board.{times};
 ghost use Rattle.flow_gate.specs.declared.ids.FlowId.{FlowId};
 
@@ -37,7 +38,7 @@ impl Model for Gate {
 }
 
 impl Gate {
-    ghost use Rattle.flow_gate.specs.Line.{at_place, left};
+    ghost use Rattle.flow_gate.specs.Line.{at_place, held_in, left};
 
     /// Not above, and without watchers. Takes no memory.
     pub(crate) fn new(alloc: Global) -> Self
@@ -67,7 +68,16 @@ impl Gate {
     pub(crate) fn has_pending(&self) -> bool
         ensures { (result ≡ false) ↔ (self.now.pending ≡ []) }
     {
-        self.line.range(self.told..self.drained).next().is_some()
+        first_between(&self.line, self.told, self.drained).is_some()
+    }
+
+    /// How often the flow at a place is held back: once while the buffer is above, and once while it is to be told.
+    pub(crate) fn held(&self, place: u64) -> u64
+        ensures held { (flow : FlowId) → at_place place self.now.watchers ≡ Some flow → times flow (values_of self.now.watchers) ≤ 1 → result ≡ held_in flow self.now }
+        ensures most { result ≤ 2 }
+    {
+        let pending = self.told <= place && place < self.drained;
+        u64::from(self.above) + u64::from(pending)
     }
 
     pub(crate) fn watchers(&self) -> Watchers<'_>
@@ -118,8 +128,22 @@ impl Gate {
         ensures first { result ≡ option_map (λ e. e.1) (slice_get self.old.pending 0) }
         ensures rest { self.new ≡ record self.old { pending = drop 1 self.old.pending } }
     {
-        let (&place, &flow) = self.line.range(self.told..self.drained).next()?;
+        let (place, flow) = first_between(&self.line, self.told, self.drained)?;
         self.told = place + 1;
         Some(flow)
+    }
+}
+
+// The first place in a line from one to before another, and the flow there.
+fn first_between(line: &BTreeMap<u64, FlowId>, from: u64, to: u64) -> Option<(u64, FlowId)>
+    ensures first { result ≡ slice_get (between from to line.now.entries) 0 }
+    ensures below { IfSome result (λ e. e.0 < to) }
+    ensures rest { IfSome result (λ e. between (e.0 + 1) to line.now.entries ≡ drop 1 (between from to line.now.entries)) }
+{
+    let (&place, &flow) = line.range(from..).next()?;
+    if place < to {
+        Some((place, flow))
+    } else {
+        None
     }
 }

@@ -1,10 +1,10 @@
 // The gates of a worker.
-ghost use Rattle.std.specs.Prelude.{◌≡◌, ◌+◌, ◌<◌, ◌^◌, ◌↔◌, ℕ, [], false, true, IfNone, IfOk, IfSome, None, Some, OnOk, OnErr, IsNone, IsSome, option_map, option_to_list, slice_get, if◌then◌else◌};
+ghost use Rattle.std.specs.Prelude.{◌≡◌, ◌<◌, ◌≤◌, ◌^◌, ◌↔◌, ℕ, [], false, true, IfNone, IfOk, IfSome, None, Some, OnOk, OnErr, IsNone, length, option_map, option_to_list, slice_get, if◌then◌else◌};
 ghost use Rattle.flow_gate.specs.Board.{IsSound, count, is_known, is_marked, is_open, pending_on, times, watchers_of};
 ghost use Rattle.flow_gate.specs.Changes.{Begins, Closes, Drains, Forgets, IsEmpty, Knows, Rises, Tells, Watches};
 ghost use Rattle.flow_gate.specs.Ids.{same_buffer};
-ghost use Rattle.flow_gate.specs.Line.{Line, left};
-ghost use Rattle.flow_gate.specs.Parts.{AreWatches, bound_after, buffer_at, flow_at, is_after, is_stage, kept, raised, stage_of, Leaves};
+ghost use Rattle.flow_gate.specs.Line.{Line, held_in, left};
+ghost use Rattle.flow_gate.specs.Parts.{AreWatches, StandsIn, bound_after, buffer_at, held, is_after, is_stage, kept, stage_of, watched_in};
 ghost use Rattle.flow_gate.specs.declared.ids.BufferId.{BufferId};
 ghost use Rattle.flow_gate.specs.declared.ids.FlowId.{FlowId};
 
@@ -19,8 +19,9 @@ use std::marker::Model;
 use std::ops::Bound;
 
 /// Which flows watch which buffers, and how often each flow is held back: by each buffer above that it watches, and
-/// by each drain of which it has not been told yet. A call goes through no flows but the watchers of its buffer, and
-/// through no buffers but those of its flow.
+/// by each drain of which it has not been told yet. No flow has a counter: its count is computed when it is asked for,
+/// so a rise, a drain and a low that is told touch one buffer and no flow. A call goes through no buffers but those of
+/// its flow.
 #[derive(Drop)]
 pub struct Gates {
     alloc: Global,
@@ -107,13 +108,13 @@ impl Gates {
         }
     }
 
-    /// How often the flow is held back: it may be read where this is 0.
+    /// How often the flow is held back: it may be read where this is 0. Looks through what this flow watches.
     pub fn count(&self, flow: FlowId) -> u64
         requires { is_open self.now flow ≡ true }
         ensures { result ≡ count self.now flow }
     {
         match self.flows.get(&flow) {
-            Some(watcher) => watcher.count(),
+            Some(watcher) => held_back(&self.buffers, watcher.watches()),
             None => 0,
         }
     }
@@ -186,9 +187,8 @@ impl Gates {
         };
         watcher.make_room()?;
         let place = gate.add(flow)?;
-        let above = gate.is_above();
-        watcher.add(Watch { buffer, place }, above);
-        Ok(above)
+        watcher.add(Watch { buffer, place });
+        Ok(gate.is_above())
     }
 
     /// The buffer rose: it is marked, and the count of each of its watchers grows by 1.
@@ -202,7 +202,6 @@ impl Gates {
             unreachable!()
         };
         gate.rise();
-        raise_each(&mut self.flows, gate.watchers());
     }
 
     /// The buffer drained: it is no longer marked, and each of its watchers has a pending low, in order. No count
@@ -226,12 +225,7 @@ impl Gates {
         ensures tells { Tells buffer (option_to_list result) self.old self.new }
         ensures sound { IsSound self.new }
     {
-        let flow = self.buffers.get_mut(&buffer)?.tell()?;
-        let Some(watcher) = self.flows.get_mut(&flow) else {
-            unreachable!()
-        };
-        watcher.lower();
-        Some(flow)
+        self.buffers.get_mut(&buffer)?.tell()
     }
 
     /// Ends a flow: its watches and its pending lows go with it, and so do its own receive, stage and send buffers
@@ -251,17 +245,26 @@ impl Gates {
     }
 }
 
-// Raises the count of each of these flows.
-fn raise_each(flows: &mut BTreeMap<FlowId, Watcher>, watchers: Watchers<'_>)
-    requires there { (f : FlowId) → 0 < times f watchers → IsSome (flow_at flows.old.entries f) }
-    requires fits { (f : FlowId) → (n : ℕ) → 0 < times f watchers → option_map (λ books. books.count) (flow_at flows.old.entries f) ≡ Some n → n + times f watchers < 2 ^ 64 }
-    ensures { (f : FlowId) → flow_at flows.new.entries f ≡ option_map (raised (times f watchers.entry)) (flow_at flows.old.entries f) }
+// How often a flow is held back by the buffers that it watches.
+fn held_back(buffers: &BTreeMap<BufferId, Gate>, watches: &[Watch]) -> u64
+    requires { length watches.now ≤ 2 ^ 62 }
+    ensures { (f : FlowId) → AreWatches f watches.now buffers.now.entries → result ≡ held buffers.now.entries f (watched_in watches.now) }
 {
-    for flow in watchers {
-        let Some(watcher) = flows.get_mut(&flow) else {
-            unreachable!()
-        };
-        watcher.raise();
+    let mut count = 0;
+    for watch in watches {
+        count += held_by(buffers, *watch);
+    }
+    count
+}
+
+// How often a flow is held back by a buffer that it watches.
+fn held_by(buffers: &BTreeMap<BufferId, Gate>, watch: Watch) -> u64
+    ensures held { (f : FlowId) (line : Line) → StandsIn f watch line buffers.now.entries → result ≡ held_in f line }
+    ensures most { result ≤ 2 }
+{
+    match buffers.get(&watch.buffer) {
+        Some(gate) => gate.held(watch.place),
+        None => 0,
     }
 }
 
@@ -276,7 +279,7 @@ fn leave_each(buffers: &mut BTreeMap<BufferId, Gate>, watches: &[Watch])
 
 // The flow at the place of a watch leaves that line.
 fn leave(buffers: &mut BTreeMap<BufferId, Gate>, watch: Watch)
-    ensures { (f : FlowId) (line : Line) → Leaves f watch line buffers.old.entries → (b : BufferId) → buffer_at buffers.new.entries b ≡ (if same_buffer watch.buffer b then Some (left f line) else buffer_at buffers.old.entries b) }
+    ensures { (f : FlowId) (line : Line) → StandsIn f watch line buffers.old.entries → (b : BufferId) → buffer_at buffers.new.entries b ≡ (if same_buffer watch.buffer b then Some (left f line) else buffer_at buffers.old.entries b) }
 {
     if let Some(gate) = buffers.get_mut(&watch.buffer) {
         gate.remove(watch.place);

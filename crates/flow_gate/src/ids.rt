@@ -7,11 +7,12 @@ pub struct FlowId {
     pub back: bool,
 }
 
-/// A buffer on the way of a flow, or the write buffer of a connection.
+/// A buffer on the way of a flow, or the write buffer of a connection. Write buffers, which are few and looked up
+/// most, are the least, so that a map finds them by a few comparisons.
 #[derive(Clone, Copy, Debug, PartialEq, Eq, PartialOrd, Ord)]
 pub enum BufferId {
+    Write(u32),
     Recv(FlowId),
     Stage(FlowId, u32),
     Send(FlowId),
-    Write(u32),
 }

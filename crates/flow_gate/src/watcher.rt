@@ -1,5 +1,5 @@
-// What one flow watches, and how often it is held back.
-ghost use Rattle.std.specs.Prelude.{◌≡◌, ◌∷◌, ◌++◌, ◌+◌, ◌-◌, ◌<◌, ◌^◌, [], OnOk, length, if◌then◌else◌};
+// What one flow watches.
+ghost use Rattle.std.specs.Prelude.{◌≡◌, ◌∷◌, ◌++◌, ◌<◌, ◌^◌, [], OnOk, length};
 
 use crate::ids::BufferId;
 use io_ports::NoMemory;
@@ -19,7 +19,6 @@ const MOST_WATCHES: usize = 1 << 62;
 /// The books of a flow.
 #[derive(Drop)]
 pub(crate) struct Watcher {
-    count: u64,
     watches: Vec<Watch>,
 }
 
@@ -29,25 +28,17 @@ impl Model for Watcher {
 
     ghost Value = { Books };
 
-    ghost view = { λ a. record { count = a.count; watches = a.watches.items; room = vec_capacity a.watches } };
+    ghost view = { λ a. record { watches = a.watches.items; room = vec_capacity a.watches } };
 }
 
 impl Watcher {
     /// Watches nothing. Takes no memory.
     pub(crate) fn new(alloc: Global) -> Self
-        ensures count { result.count ≡ 0 }
-        ensures watches { result.watches ≡ [] }
+        ensures { result.watches ≡ [] }
     {
         Watcher {
-            count: 0,
             watches: Vec::new(alloc),
         }
-    }
-
-    pub(crate) fn count(&self) -> u64
-        ensures { result ≡ self.now.count }
-    {
-        self.count
     }
 
     pub(crate) fn watches(&self) -> &[Watch]
@@ -60,7 +51,6 @@ impl Watcher {
     pub(crate) fn make_room(&mut self) -> Result<(), NoMemory>
         ensures room { OnOk result (length self.new.watches < self.new.room) }
         ensures most { OnOk result (length self.new.watches < 2 ^ 62) }
-        ensures count { self.new.count ≡ self.old.count }
         ensures watches { self.new.watches ≡ self.old.watches }
     {
         if self.watches.len() >= MOST_WATCHES {
@@ -70,32 +60,11 @@ impl Watcher {
         Ok(())
     }
 
-    /// Adds the last watch, for which there is room. Where its buffer is above, the flow is held back once more.
-    pub(crate) fn add(&mut self, watch: Watch, above: bool)
-        requires room { length self.old.watches < self.old.room }
-        requires fits { self.old.count + 1 < 2 ^ 64 }
-        ensures count { self.new.count ≡ self.old.count + (if above then 1 else 0) }
-        ensures watches { self.new.watches ≡ self.old.watches ++ watch ∷ [] }
+    /// Adds the last watch, for which there is room.
+    pub(crate) fn add(&mut self, watch: Watch)
+        requires { length self.old.watches < self.old.room }
+        ensures { self.new.watches ≡ self.old.watches ++ watch ∷ [] }
     {
         let _ = self.watches.push(watch);
-        if above {
-            self.raise();
-        }
-    }
-
-    /// The flow is held back once more.
-    pub(crate) fn raise(&mut self)
-        requires { self.old.count + 1 < 2 ^ 64 }
-        ensures { self.new ≡ record self.old { count = self.old.count + 1 } }
-    {
-        self.count += 1;
-    }
-
-    /// The flow is held back once less.
-    pub(crate) fn lower(&mut self)
-        requires { 0 < self.old.count }
-        ensures { self.new ≡ record self.old { count = self.old.count - 1 } }
-    {
-        self.count -= 1;
     }
 }

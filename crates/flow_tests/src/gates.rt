@@ -149,6 +149,24 @@ const TWO_FLOWS: [Row; 23] = [
     (NextLow(SHARED), NOBODY, None, None),
 ];
 
+// A flow is held back by each of two buffers, and by a low of one of them that rose again: three times at most here.
+const TWO_BUFFERS: [Row; 14] = [
+    (OpenFlow(FIRST), DONE, Some(0), None),
+    (OpenBuffer(OWN), DONE, Some(0), None),
+    (OpenBuffer(SHARED), DONE, Some(0), None),
+    (Watch(FIRST, OWN), LOW, Some(0), None),
+    (High(SHARED), DONE, Some(0), None),
+    (Watch(FIRST, SHARED), Answer::Above(true), Some(1), None),
+    (High(OWN), DONE, Some(2), None),
+    (BeginLow(OWN), DONE, Some(2), None),
+    (High(OWN), DONE, Some(3), None),
+    (BeginLow(SHARED), DONE, Some(3), None),
+    (NextLow(SHARED), TOLD_FIRST, Some(2), None),
+    (NextLow(OWN), TOLD_FIRST, Some(1), None),
+    (BeginLow(OWN), DONE, Some(1), None),
+    (NextLow(OWN), TOLD_FIRST, Some(0), None),
+];
+
 // A flow that is forgotten takes its pending low along, and one that begins to watch has none.
 const FORGOTTEN: [Row; 15] = [
     (OpenBuffer(SHARED), DONE, None, None),
@@ -218,6 +236,7 @@ fn calls_answer_by_the_tables(rt: HostRuntime) -> Result<(), Fail> {
     for rows in [
         ONE_FLOW.as_slice(),
         TWO_FLOWS.as_slice(),
+        TWO_BUFFERS.as_slice(),
         FORGOTTEN.as_slice(),
     ] {
         make_all(&rt, &mut Gates::new(rt.alloc()), rows)?;

@@ -1,14 +1,15 @@
-use Rattle.flow_gate.proofs.Places.{between-rest}
 use Rattle.flow_gate.proofs.gate.Gate.tell.Goals as goal
-use Rattle.flow_gate.specs.Line.{Places, between}
-use Rattle.std.proofs.Common.{ap, sym, ◌∙◌}
-use Rattle.std.specs.Prelude.{drop, ◌+◌, ◌∷◌, ◌≡◌}
+use Rattle.std.proofs.Common.{arith}
+
+pub overflow_add-self : goal.overflow_add-self
+overflow_add-self c = omega (arith, c.in_ok-place.ensures.below)
+
+pub invariant_of-self : goal.invariant_of-self
+invariant_of-self c = record {
+  below = c.self.invariant.below;
+  forward = omega (arith, c.in_ok-place.ensures.below);
+  within = c.self.invariant.within;
+}
 
 pub returns-clause-rest : goal.returns-clause-rest
-returns-clause-rest c =
-    let line : Places = c.self.inside.line.entries in
-    let pending : between c.self.inside.told c.self.inside.drained line ≡ (c.in_ok-place.field-0-0.now, c.in_ok-place.field-0-1.now) ∷ c.next.new.self =
-    sym (c.range.ensures.between tt) ∙ c.in_ok-place.ensures.steps in
-    let rest : between (c.in_ok-place.field-0-0.now + 1) c.self.inside.drained line ≡ drop 1 (between c.self.inside.told c.self.inside.drained line) =
-    between-rest _ _ _ _ _ line c.range.ensures.ordered pending ∙ sym (ap (drop 1) pending) in
-    rw (← c.self.view_is) (λ i. record { above = c.self.inside.above; watchers = line; pending = rest i })
+returns-clause-rest c = rw (← c.self.view_is) (λ i. record { above = c.self.inside.above; watchers = c.self.inside.line.entries; pending = c.in_ok-place.ensures.rest i })

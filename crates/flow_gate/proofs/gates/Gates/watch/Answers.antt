@@ -1,14 +1,14 @@
-use Rattle.flow_gate.proofs.Calls.{on_err, small_count}
+use Rattle.flow_gate.proofs.Calls.{on_err}
 use Rattle.flow_gate.proofs.CallsEnds.{watch_begun, watch_failed}
 use Rattle.flow_gate.proofs.Reading.{known_found, marked_found, open_found}
 use Rattle.flow_gate.proofs.gates.Gates.watch.Goals as goal
 use Rattle.flow_gate.proofs.gates.Gates.watch.Goals.{After-self-3-1}
 use Rattle.flow_gate.specs.Changes.{Watches}
 use Rattle.flow_gate.specs.Parts.{AreGates, board_of}
-use Rattle.std.proofs.Common.{ap, arith, refl, rules, sym, ◌∙◌}
+use Rattle.std.proofs.Common.{ap, refl, rules, sym, ◌∙◌}
 use Rattle.std.proofs.lemmas.Bool.{false≢true}
 use Rattle.std.specs.Option.{is_some, option_copied_mut}
-use Rattle.std.specs.Prelude.{Some, [], if◌then◌else◌, ◌++◌, ◌+◌, ◌∷◌, ◌≡◌}
+use Rattle.std.specs.Prelude.{Some, [], ◌++◌, ◌∷◌}
 
 pub unreachable-requires : goal.unreachable-requires
 unreachable-requires c = false≢true
@@ -21,21 +21,21 @@ unreachable-requires-in_default-get_mut c = false≢true
 -- no room in the flow's list
 pub invariant_of-self : goal.invariant_of-self
 invariant_of-self c = (watch_failed c.args.flow c.args.buffer c.in-Some.watcher.now c.make_room.new.self c.in-Some-get_mut.gate.now c.in-Some-get_mut.gate.now c.self.inside.flows.entries _ c.self.inside.buffers.entries _
-    c.in-Some.ensures.value c.make_room.ensures.count c.make_room.ensures.watches
+    c.in-Some.ensures.value c.make_room.ensures.watches
     (c.get_mut.follows.holds c.make_room.new.self).0 ((c.get_mut.follows.holds c.make_room.new.self).3 (search rules)).0
     c.in-Some-get_mut.ensures.value refl (c.get_mut-2.follows.holds c.in-Some-get_mut.gate.now).0 ((c.get_mut-2.follows.holds c.in-Some-get_mut.gate.now).3 (search rules)).0
     c.self.invariant).1
 
 pub returns-in_err-make_room-clause-err : goal.returns-in_err-make_room-clause-err
 returns-in_err-make_room-clause-err c = on_err c.from_residual.result _ (rw (← c.self.view_is) (watch_failed c.args.flow c.args.buffer c.in-Some.watcher.now c.make_room.new.self c.in-Some-get_mut.gate.now c.in-Some-get_mut.gate.now c.self.inside.flows.entries _ c.self.inside.buffers.entries _
-    c.in-Some.ensures.value c.make_room.ensures.count c.make_room.ensures.watches
+    c.in-Some.ensures.value c.make_room.ensures.watches
     (c.get_mut.follows.holds c.make_room.new.self).0 ((c.get_mut.follows.holds c.make_room.new.self).3 (search rules)).0
     c.in-Some-get_mut.ensures.value refl (c.get_mut-2.follows.holds c.in-Some-get_mut.gate.now).0 ((c.get_mut-2.follows.holds c.in-Some-get_mut.gate.now).3 (search rules)).0
     c.self.invariant).0)
 
 pub returns-in_err-make_room-clause-sound : goal.returns-in_err-make_room-clause-sound
 returns-in_err-make_room-clause-sound c = (watch_failed c.args.flow c.args.buffer c.in-Some.watcher.now c.make_room.new.self c.in-Some-get_mut.gate.now c.in-Some-get_mut.gate.now c.self.inside.flows.entries _ c.self.inside.buffers.entries _
-    c.in-Some.ensures.value c.make_room.ensures.count c.make_room.ensures.watches
+    c.in-Some.ensures.value c.make_room.ensures.watches
     (c.get_mut.follows.holds c.make_room.new.self).0 ((c.get_mut.follows.holds c.make_room.new.self).3 (search rules)).0
     c.in-Some-get_mut.ensures.value refl (c.get_mut-2.follows.holds c.in-Some-get_mut.gate.now).0 ((c.get_mut-2.follows.holds c.in-Some-get_mut.gate.now).3 (search rules)).0
     c.self.invariant).1.sound
@@ -43,38 +43,32 @@ returns-in_err-make_room-clause-sound c = (watch_failed c.args.flow c.args.buffe
 -- no room in the buffer's line
 pub invariant_of-self-in_err-place : goal.invariant_of-self-in_err-place
 invariant_of-self-in_err-place c = (watch_failed c.args.flow c.args.buffer c.in-Some.watcher.now c.make_room.new.self c.in-Some-get_mut.gate.now c.add.new.self c.self.inside.flows.entries _ c.self.inside.buffers.entries _
-    c.in-Some.ensures.value c.make_room.ensures.count c.make_room.ensures.watches
+    c.in-Some.ensures.value c.make_room.ensures.watches
     (c.get_mut.follows.holds c.make_room.new.self).0 ((c.get_mut.follows.holds c.make_room.new.self).3 (search rules)).0
     c.in-Some-get_mut.ensures.value c.in_err-place.ensures.err (c.get_mut-2.follows.holds c.add.new.self).0 ((c.get_mut-2.follows.holds c.add.new.self).3 (search rules)).0
     c.self.invariant).1
 
 pub returns-in_err-place-clause-err : goal.returns-in_err-place-clause-err
 returns-in_err-place-clause-err c = on_err c.from_residual-in_err-place.result _ (rw (← c.self.view_is) (watch_failed c.args.flow c.args.buffer c.in-Some.watcher.now c.make_room.new.self c.in-Some-get_mut.gate.now c.add.new.self c.self.inside.flows.entries _ c.self.inside.buffers.entries _
-    c.in-Some.ensures.value c.make_room.ensures.count c.make_room.ensures.watches
+    c.in-Some.ensures.value c.make_room.ensures.watches
     (c.get_mut.follows.holds c.make_room.new.self).0 ((c.get_mut.follows.holds c.make_room.new.self).3 (search rules)).0
     c.in-Some-get_mut.ensures.value c.in_err-place.ensures.err (c.get_mut-2.follows.holds c.add.new.self).0 ((c.get_mut-2.follows.holds c.add.new.self).3 (search rules)).0
     c.self.invariant).0)
 
 pub returns-in_err-place-clause-sound : goal.returns-in_err-place-clause-sound
 returns-in_err-place-clause-sound c = (watch_failed c.args.flow c.args.buffer c.in-Some.watcher.now c.make_room.new.self c.in-Some-get_mut.gate.now c.add.new.self c.self.inside.flows.entries _ c.self.inside.buffers.entries _
-    c.in-Some.ensures.value c.make_room.ensures.count c.make_room.ensures.watches
+    c.in-Some.ensures.value c.make_room.ensures.watches
     (c.get_mut.follows.holds c.make_room.new.self).0 ((c.get_mut.follows.holds c.make_room.new.self).3 (search rules)).0
     c.in-Some-get_mut.ensures.value c.in_err-place.ensures.err (c.get_mut-2.follows.holds c.add.new.self).0 ((c.get_mut-2.follows.holds c.add.new.self).3 (search rules)).0
     c.self.invariant).1.sound
 
 -- the flow watches the buffer
-pub add-requires-2-clause-fits : goal.add-requires-2-clause-fits
-add-requires-2-clause-fits c = omega (arith, c.make_room.ensures.count, small_count c.args.flow c.in-Some.watcher.now c.self.inside.flows.entries c.self.inside.buffers.entries c.in-Some.ensures.value c.self.invariant)
-
-above : (c : After-self-3-1) → c.is_above-above.result ≡ c.in-Some-get_mut.gate.now.above
-above c = c.is_above-above.ensures ∙ ap (λ l. l.above) c.in_ok-place.ensures.last
-
 done : (c : After-self-3-1) →
     Watches c.args.flow c.args.buffer (board_of c.self.inside.flows.entries c.self.inside.buffers.entries) (board_of (c.get_mut.follows.lender c.add-2.new.self).entries (c.get_mut-2.follows.lender c.add.new.self).entries)
     × AreGates (c.get_mut.follows.lender c.add-2.new.self).entries (c.get_mut-2.follows.lender c.add.new.self).entries
 done c = watch_begun c.args.flow c.args.buffer c.in_ok-place.place c.in-Some.watcher.now c.add-2.new.self c.in-Some-get_mut.gate.now c.add.new.self c.self.inside.flows.entries _ c.self.inside.buffers.entries _
     c.in-Some.ensures.value c.in-Some-get_mut.ensures.value c.in_ok-place.ensures.new_place (rw (← c.make_room.ensures.watches) c.in_ok-make_room.ensures.most)
-    (c.add-2.ensures.count ∙ (λ i. c.make_room.ensures.count i + (if above c i then 1 else 0))) (c.add-2.ensures.watches ∙ ap (λ ws. ws ++ (record { buffer = c.args.buffer; place = c.in_ok-place.place }) ∷ []) c.make_room.ensures.watches)
+    (c.add-2.ensures ∙ ap (λ ws. ws ++ (record { buffer = c.args.buffer; place = c.in_ok-place.place }) ∷ []) c.make_room.ensures.watches)
     ((c.get_mut.follows.holds c.add-2.new.self).3 (search rules)).0 c.in_ok-place.ensures.last ((c.get_mut-2.follows.holds c.add.new.self).3 (search rules)).0
     (rw (← c.self.view_is) at c.requires.apart) c.self.invariant
 
@@ -82,7 +76,7 @@ pub invariant_of-self-2 : goal.invariant_of-self-2
 invariant_of-self-2 c = (done c).1
 
 pub returns-clause-answer : goal.returns-clause-answer
-returns-clause-answer c = rw (← c.self.view_is) (above c ∙ marked_found c.self.inside.flows.entries c.self.inside.buffers.entries c.args.buffer (Some c.in-Some-get_mut.gate.now) c.in-Some-get_mut.ensures.value)
+returns-clause-answer c = rw (← c.self.view_is) (c.is_above.ensures ∙ ap (λ l. l.above) c.in_ok-place.ensures.last ∙ marked_found c.self.inside.flows.entries c.self.inside.buffers.entries c.args.buffer (Some c.in-Some-get_mut.gate.now) c.in-Some-get_mut.ensures.value)
 
 pub returns-clause-ok : goal.returns-clause-ok
 returns-clause-ok c = rw (← c.self.view_is) (done c).0

@@ -1,0 +1,11 @@
+use Rattle.flow_gate.proofs.gates.held_back.Given as goal
+use Rattle.flow_gate.specs.Parts.{AreWatches, held, watched_in}
+use Rattle.flow_gate.specs.declared.ids.FlowId.{FlowId}
+use Rattle.std.specs.Prelude.{take, ◌*◌, ◌≡◌, ◌≤◌}
+
+-- the count by the watches so far
+abbrev pub invariant-loop-watch : goal.invariant-loop-watch
+invariant-loop-watch l = record {
+  counted : (f : FlowId) → AreWatches f l.watches l.buffers.entries → l.count ≡ held l.buffers.entries f (watched_in (take l.watch-index l.watches));
+  small : l.count ≤ 2 * l.watch-index;
+}
