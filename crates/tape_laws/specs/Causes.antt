@@ -39,8 +39,13 @@ MayDoom setup x (cause.PeerReset code) past = IsTrue (is_cut x (this_event past)
 MayDoom setup x (cause.StreamError code) past = IsTrue (is_overrun setup x (this_event past) past) × (code ≡ 3)
 MayDoom setup x why past = ⊥
 
--- no connection is closed in a plain session
+-- in a plain session no connection is closed, and there are no heads, control frames, window updates and timers
 abbrev pub HasCause : {Mark : Type 0} → Setup Mark → Step Mark → History Mark → Type 0
 HasCause setup (Noted (note.Doom x why)) past = MayDoom setup x why past
 HasCause setup (Noted (note.Close c code why)) past = ⊥
+HasCause setup (Noted (note.Head c s octets)) past = ⊥
+HasCause setup (Noted (note.Answer c octets)) past = ⊥
+HasCause setup (Noted (note.Credit c s n)) past = ⊥
+HasCause setup (Noted (note.Waste c s n)) past = ⊥
+HasCause setup (Noted (note.Fire kind id)) past = ⊥
 HasCause setup step past = Unit {0}

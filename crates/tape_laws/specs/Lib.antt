@@ -6,6 +6,7 @@ pub mod Dispatches
 pub mod Doomed
 pub mod Ends
 pub mod Flows
+pub mod Following
 pub mod Headline
 pub mod History
 pub mod Lawful

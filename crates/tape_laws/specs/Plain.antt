@@ -1,9 +1,7 @@
 -- A plain session: streams of one connection, 0, that its events begin, feed and end.
 use Rattle.flow_notes.specs.declared.events.PlainEvent.{PlainEvent}
-use Rattle.std.specs.List.{list_any}
-use Rattle.std.specs.Prelude.{Bool, List, None, Some, [], false, if◌then◌else◌, length, nat_lt, ℕ, ◌++◌, ◌+◌, ◌==◌, ◌||◌, ◌∷◌}
+use Rattle.std.specs.Prelude.{Bool, List, None, Some, [], false, if◌then◌else◌, length, nat_lt, ℕ, ◌&&◌, ◌++◌, ◌+◌, ◌==◌, ◌||◌, ◌∷◌}
 use Rattle.tape_laws.specs.Dispatches.{has, live}
-use Rattle.tape_laws.specs.Ends.{end_framed}
 use Rattle.tape_laws.specs.Flows.{request}
 use Rattle.tape_laws.specs.History.{History, NoMark, Noted, Step}
 use Rattle.tape_laws.specs.Room.{room_demand}
@@ -81,9 +79,13 @@ abbrev pub plain_asked : {Mark : Type 0} → PlainLimits → Step Mark → Histo
 plain_asked limits (Noted (note.Turn k (event.Plain e))) past = plain_demand (plain_setup limits) e past
 plain_asked limits step past = Free
 
--- the end of a stream was framed, or that of one whose end dooms it
-abbrev pub plain_must_end : {Mark : Type 0} → PlainLimits → ℕ → History Mark → Bool
-plain_must_end limits x past = list_any (λ s. end_framed (plain_setup limits) (request s) past) (x ∷ paired_with x past)
+-- The stream's end was framed, or that of one whose end dooms it, where it was named as such by then: a pair that is
+-- named after the end of its first stream dooms nobody.
+abbrev pub plain_must_end : {Mark : Type 0} → ℕ → History Mark → Bool
+plain_must_end x [] = false
+plain_must_end x (Noted (note.Frame c f n last) ∷ past) =
+    (last && has (x ∷ paired_with x past) f.exchange) || plain_must_end x past
+plain_must_end x (step ∷ past) = plain_must_end x past
 
 abbrev pub plain_session : PlainLimits → Session NoMark
-plain_session limits = record { setup = plain_setup limits; asked = plain_asked limits; must_end = plain_must_end limits }
+plain_session limits = record { setup = plain_setup limits; asked = plain_asked limits; must_end = plain_must_end }

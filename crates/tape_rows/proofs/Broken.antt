@@ -1,11 +1,12 @@
 -- Tapes that break one rule each, and aren't lawful.
 use Rattle.std.proofs.Common.{ap}
-use Rattle.std.specs.Prelude.{[], false, replicate, ◌∷◌}
+use Rattle.std.specs.Prelude.{[], false, replicate, true, ◌∷◌}
 use Rattle.tape_laws.specs.Headline.{Headline}
 use Rattle.tape_laws.specs.Plain.{plain_setup}
 use Rattle.tape_rows.proofs.Tapes.{Whole, begun, eased, limits_10_19, limits_8_10, limits_8_30, moved, noted, octets, paused, q1, q3, write}
-use Rattle.tape_rows.proofs.TwoStreams.{begun_while_above, limits_100_30, pair_ended, refilling}
+use Rattle.tape_rows.proofs.TwoStreams.{begun_while_above, limits_100_30, pair_ended, pair_named_late, refilling}
 use Rattle.flow_gate.specs.declared.ids.BufferId.TheVariants as buffer
+use Rattle.flow_notes.specs.declared.notes.Cause.TheVariants as cause
 use Rattle.flow_notes.specs.declared.events.Event.TheVariants as event
 use Rattle.flow_notes.specs.declared.notes.Note.TheVariants as note
 use Rattle.flow_notes.specs.declared.events.PlainEvent.TheVariants as plain
@@ -65,3 +66,16 @@ doomed_told w = w.lawful.lawful.paused.1.1.0.1
 -- the watchers of a buffer are told in another order
 pub told_out_of_order : Whole limits_100_30 (note.Resume q1 write ∷ note.Resume q3 write ∷ note.Out 0 19 ∷ note.Turn 4 (event.Plain (plain.Room 19)) ∷ note.Pause q3 write ∷ begun_while_above) → ⊥
 told_out_of_order w = let k = ap (λ f. f.exchange) w.lawful.lawful.paused.1.0.1 in cc
+
+-- the second of a pair lives on after the end of the first
+pub pair_lives_on : Whole limits_100_30 (note.Gone 1 ∷ note.Doom 1 cause.Done ∷ note.Frame 0 q1 0 true ∷ note.Turn 4 (event.Plain (plain.Finish 1)) ∷ note.Turn 3 (event.Plain (plain.Pair 1 3))
+    ∷ note.Start 3 0 3 0 ∷ note.Turn 2 (event.Plain (plain.Begin 3)) ∷ begun) → ⊥
+pair_lives_on w = let k = w.quiet.ended.0 in cc
+
+-- the second of a pair is doomed that was named too late
+pub late_pair_doomed : Whole limits_100_30 (note.Gone 3 ∷ note.Doom 3 cause.EarlyEnd ∷ pair_named_late) → ⊥
+late_pair_doomed w = let k = w.lawful.caused.1.0 in cc
+
+-- a plain session frames no octets but those of its streams
+pub octets_from_nowhere : Whole limits_100_30 (note.Answer 0 (octets 9) ∷ begun) → ⊥
+octets_from_nowhere w = w.lawful.caused.0

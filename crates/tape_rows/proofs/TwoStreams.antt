@@ -140,3 +140,39 @@ paused_from_the_start = record {
   };
   quiet = search;
 }
+
+-- a pair that is named once the end of its first stream was framed dooms nobody
+abbrev pub pair_named_late : List Note
+pair_named_late =
+    note.Turn 5 (event.Plain (plain.Pair 1 3))
+    ∷ note.Gone 1
+    ∷ note.Doom 1 cause.Done
+    ∷ note.Frame 0 q1 0 true
+    ∷ note.Turn 4 (event.Plain (plain.Finish 1))
+    ∷ note.Start 3 0 3 0
+    ∷ note.Turn 3 (event.Plain (plain.Begin 3))
+    ∷ note.Start 1 0 1 0
+    ∷ note.Turn 2 (event.Plain (plain.Begin 1))
+    ∷ note.Turn 1 (event.Plain (plain.Room 9))
+    ∷ []
+
+pub late_pair : Whole limits_100_30 pair_named_late
+late_pair = record {
+  lawful = record {
+    lawful = record {
+      allowed = search (lit≤, lit<);
+      paused = search;
+      counted = search;
+      bounded = search (lit≤);
+      tied = search;
+      ends = search;
+      in_turn = search;
+      doomed = search;
+      answered = search;
+      only = search;
+      quiet = search;
+    };
+    caused = search;
+  };
+  quiet = search;
+}

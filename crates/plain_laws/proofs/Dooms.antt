@@ -1,0 +1,217 @@
+-- A stream is doomed.
+use Rattle.flow_gate.specs.declared.ids.FlowId.{FlowId}
+use Rattle.flow_notes.specs.declared.notes.Cause.{Cause}
+use Rattle.plain_laws.proofs.Extending.{MayAdd, counted_of, free_meets, regular_more}
+use Rattle.plain_laws.proofs.Leaving.{Leaves, flow_other, only_other, same_len_if, unborn_kept}
+use Rattle.plain_laws.proofs.Rising.{rising_filter}
+use Rattle.plain_laws.proofs.Streams.{apart_from, by_case, differs_back, has_left, has_lost, has_stays, not_both, number_is, or_left, or_right, same_number}
+use Rattle.plain_laws.proofs.Tellings.{told_without}
+use Rattle.plain_laws.specs.Owing.{OwesDoom, Owing, asking, nothing, overrun, owed_times, starts}
+use Rattle.plain_laws.specs.Regular.{Books, FlowBooks, IsLiveFlow, IsRising, Regular}
+use Rattle.std.proofs.Common.{ap, arith, inl, inr, refl, subst, sym, ◌∙◌}
+use Rattle.std.proofs.lemmas.Bool.Decides.{nat_tests}
+use Rattle.std.proofs.lemmas.List.{append-nil}
+use Rattle.std.specs.List.{AllByRecursion, list_any}
+use Rattle.std.specs.Prelude.{Bool, List, [], false, filter, if◌then◌else◌, length, map, max, nat_lt, not, true, ℕ, ◌&&◌, ◌+◌, ◌<◌, ◌==◌, ◌||◌, ◌∷◌, ◌≡◌, ◌⊎◌}
+use Rattle.tape_laws.specs.Causes.{MayDoom, end_framed_here}
+use Rattle.tape_laws.specs.Demands.{Meets, demand}
+use Rattle.tape_laws.specs.Dispatches.{before_dispatch, has, live, started}
+use Rattle.tape_laws.specs.Ends.{end_framed}
+use Rattle.tape_laws.specs.Flows.{request}
+use Rattle.tape_laws.specs.History.{History, NoMark, Noted, Step}
+use Rattle.tape_laws.specs.Pauses.{pending_lows}
+use Rattle.tape_laws.specs.Plain.{paired_with, plain_session, plain_setup}
+use Rattle.tape_laws.specs.Units.{Demand, Free, WantsDoom}
+use Rattle.tape_laws.specs.Watermark.{above}
+use Rattle.tape_laws.specs.World.{out, place}
+use Rattle.tape_laws.specs.declared.limits.PlainLimits.{PlainLimits}
+use Rattle.flow_gate.specs.declared.ids.BufferId.TheVariants as buffer
+use Rattle.flow_notes.specs.declared.events.Event.TheVariants as event
+use Rattle.flow_notes.specs.declared.events.PlainEvent.TheVariants as plain
+use Rattle.flow_notes.specs.declared.notes.Cause.TheVariants as cause
+use Rattle.flow_notes.specs.declared.notes.Note.TheVariants as note
+
+-- ---- lists without the flow of x
+
+abbrev pub without : ℕ → List FlowId → List FlowId
+without x fs = filter (λ (f : FlowId). not (f.exchange == x)) fs
+
+without_other : (x y : ℕ) → (x == y) ≡ false → without x (request y ∷ []) ≡ request y ∷ []
+without_other x y e = ap (λ b. if not b then request y ∷ [] else []) (differs_back x y e)
+
+without_own : (x : ℕ) → without x (request x ∷ []) ≡ []
+without_own x = ap (λ b. if not b then request x ∷ [] else []) (same_number x)
+
+without_exchanges : (x : ℕ) (fs : List FlowId) → map (λ (f : FlowId). f.exchange) (without x fs) ≡ filter (λ y. not (y == x)) (map (λ (f : FlowId). f.exchange) fs)
+without_exchanges x [] = refl
+without_exchanges x (f ∷ fs) = pick (not (f.exchange == x)) (without_exchanges x fs)
+  where
+    pick : (b : Bool) → map (λ (f : FlowId). f.exchange) (without x fs) ≡ filter (λ y. not (y == x)) (map (λ (f : FlowId). f.exchange) fs)
+        → map (λ (f : FlowId). f.exchange) (if b then f ∷ without x fs else without x fs)
+        ≡ (if b then f.exchange ∷ filter (λ y. not (y == x)) (map (λ (f : FlowId). f.exchange) fs) else filter (λ y. not (y == x)) (map (λ (f : FlowId). f.exchange) fs))
+    pick true e = ap (λ ys. f.exchange ∷ ys) e
+    pick false e = e
+
+pub without_live : (x : ℕ) (xs : List ℕ) (fs : List FlowId) → AllByRecursion (IsLiveFlow xs) fs → AllByRecursion (IsLiveFlow (filter (λ y. not (y == x)) xs)) (without x fs)
+without_live x xs [] a = tt
+without_live x xs (f ∷ fs) a = pick (f.exchange == x) refl (without_live x xs fs a.1)
+  where
+    pick : (b : Bool) → (f.exchange == x) ≡ b → AllByRecursion (IsLiveFlow (filter (λ y. not (y == x)) xs)) (without x fs)
+        → AllByRecursion (IsLiveFlow (filter (λ y. not (y == x)) xs)) (if not b then f ∷ without x fs else without x fs)
+    pick true e rest = rest
+    pick false e rest = (record { is = a.0.is; live = has_stays xs x f.exchange a.0.live (differs_back f.exchange x e) }, rest)
+
+-- ---- the other streams
+
+pub doom_leaves : (limits : PlainLimits) (x y : ℕ) (why : Cause) (h : History NoMark) → (x == y) ≡ false
+    → without x (pending_lows (plain_setup limits) (buffer.Send (request y)) h) ≡ pending_lows (plain_setup limits) (buffer.Send (request y)) h
+    → Leaves limits y (Noted (note.Doom x why)) h
+doom_leaves limits x y why h e el = record {
+  recv = rw (differs_back x y e) refl;
+  send = rw (differs_back x y e) refl;
+  send_lows = el;
+  paused = refl;
+  resumed = refl;
+  body = refl;
+  received = refl;
+  framed = refl;
+}
+
+-- its own lows aren't those of x
+pub lows_stay : (limits : PlainLimits) (o : Owing) (x y : ℕ) (h : History NoMark) → (x == y) ≡ false → FlowBooks limits o y h
+    → without x (pending_lows (plain_setup limits) (buffer.Send (request y)) h) ≡ pending_lows (plain_setup limits) (buffer.Send (request y)) h
+lows_stay limits o x y h d f = pick f.send_low
+  where
+    pick : (pending_lows (plain_setup limits) (buffer.Send (request y)) h ≡ [])
+        ⊎ ((pending_lows (plain_setup limits) (buffer.Send (request y)) h ≡ request y ∷ []) × (above (plain_setup limits) (buffer.Send (request y)) h ≡ false))
+        → without x (pending_lows (plain_setup limits) (buffer.Send (request y)) h) ≡ pending_lows (plain_setup limits) (buffer.Send (request y)) h
+    pick (inl e) = ap (without x) e ∙ sym e
+    pick (inr e) = ap (without x) e.0 ∙ without_other x y d ∙ sym e.0
+
+pub lows_vanish : (limits : PlainLimits) (o : Owing) (x : ℕ) (h : History NoMark) → FlowBooks limits o x h → without x (pending_lows (plain_setup limits) (buffer.Send (request x)) h) ≡ []
+lows_vanish limits o x h f = pick f.send_low
+  where
+    pick : (pending_lows (plain_setup limits) (buffer.Send (request x)) h ≡ [])
+        ⊎ ((pending_lows (plain_setup limits) (buffer.Send (request x)) h ≡ request x ∷ []) × (above (plain_setup limits) (buffer.Send (request x)) h ≡ false))
+        → without x (pending_lows (plain_setup limits) (buffer.Send (request x)) h) ≡ []
+    pick (inl e) = ap (without x) e
+    pick (inr e) = ap (without x) e.0 ∙ without_own x
+
+doom_may : (limits : PlainLimits) (o : Owing) (x : ℕ) (why : Cause) (h : History NoMark) → Books limits o h → OwesDoom x why h o → has (live h) x ≡ true
+    → MayDoom (plain_setup limits) x why h → MayAdd limits (note.Doom x why) h
+doom_may limits o x why h s ow is may = record {
+  allowed = tt;
+  paused = s.due ∙ ow.due;
+  counted = counted_of limits o h s ow.due;
+  ends = tt;
+  in_turn = tt;
+  doomed = is;
+  answered = meets ow.asks;
+  only = tt;
+  quiet = tt;
+  caused = may;
+}
+  where
+    meets : (o.asks ≡ Free) ⊎ (o.asks ≡ WantsDoom x why) → Meets {Mark = NoMark} (plain_setup limits) (demand (plain_session limits) h) (Noted (note.Doom x why))
+    meets (inl e) = free_meets limits _ (note.Doom x why) (s.asks ∙ e) tt
+    meets (inr e) = let P : Demand → Type 0 = λ d. Meets {Mark = NoMark} (plain_setup limits) d (Noted (note.Doom x why)) in subst P (sym (s.asks ∙ e)) refl
+
+doom_books : (limits : PlainLimits) (o : Owing) (x : ℕ) (why : Cause) (h : History NoMark) → Books limits o h → OwesDoom x why h o → has (live h) x ≡ true
+    → Books limits nothing (Noted (note.Doom x why) ∷ h)
+doom_books limits o x why h s ow is =
+    let step : Step NoMark = Noted (note.Doom x why) in
+    let out_same : out (plain_setup limits) 0 (step ∷ h) ≡ out (plain_setup limits) 0 h = append-nil (out (plain_setup limits) 0 h) in
+    record {
+      due = refl;
+      asks = refl;
+      opened = s.opened;
+      known = s.known;
+      unclosed = s.unclosed;
+      write_room = same_len_if (nat_lt 0 limits.write) _ _ (limits.write + max 65536 (limits.quantum + 9)) out_same s.write_room;
+      rising = rising_filter (λ y. not (y == x)) (live h) s.rising;
+      born = λ y e. s.born y (has_left (live h) x y e).0;
+      said = λ y. s.said y ∙ ap (λ b. b || has (started h) y) (unstarting y ow.asks);
+      each = λ y e. let k = has_left (live h) x y e in let f = s.each y k.0 in
+          flow_other limits o nothing y step h (doom_leaves limits x y why h k.1 (lows_stay limits o x y h k.1 f)) f out_same
+          (told_without x y (pending_lows (plain_setup limits) (buffer.Write 0) h) k.1) (sym (ap (owed_times y) ow.due)) (sym (ow.extra y k.0 k.1)) f.unframed;
+      unborn = λ y e. let d = apart_from (started h) x y (s.born x is) e in
+          let quiet = s.hushed y (never_live y e) in
+          unborn_kept limits y step h (doom_leaves limits x y why h d (ap (without x) quiet ∙ sym quiet)) (record { ended = refl; pairs = refl; must = refl }) (s.unborn y e);
+      owed = tt;
+      write_lows = without_live x (live h) _ s.write_lows;
+      write_once = subst IsRising (sym (without_exchanges x (pending_lows (plain_setup limits) (buffer.Write 0) h))) (rising_filter (λ y. not (y == x)) _ s.write_once);
+      hushed = λ y e. by_case (x == y)
+          (λ t. let P : ℕ → Type 0 = λ v. without x (pending_lows (plain_setup limits) (buffer.Send (request v)) h) ≡ [] in subst P (number_is x y t) (lows_vanish limits o x h (s.each x is)))
+          (λ d. ap (without x) (s.hushed y (has_lost (live h) x y e d)));
+    }
+  where
+    unstarting : (y : ℕ) → (o.asks ≡ Free) ⊎ (o.asks ≡ WantsDoom x why) → starts o.asks y ≡ false
+    unstarting y (inl e) = ap (λ d. starts d y) e
+    unstarting y (inr e) = ap (λ d. starts d y) e
+
+    never_live : (y : ℕ) → has (started h) y ≡ false → has (live h) y ≡ false
+    never_live y e = by_case (has (live h) y) (λ t. not_both (has (started h) y) (s.born y t) e) (λ f. f)
+
+pub doom_regular : (limits : PlainLimits) (owing : Owing) (x : ℕ) (why : Cause) (h : History NoMark) → Regular limits owing h → OwesDoom x why h owing → has (live h) x ≡ true
+    → MayDoom (plain_setup limits) x why h → Regular limits nothing (Noted (note.Doom x why) ∷ h)
+doom_regular limits owing x why h r o is may =
+    regular_more limits owing nothing (note.Doom x why) h r (doom_may limits owing x why h r.books o is may) (doom_books limits owing x why h r.books o is)
+
+pub asks_doom : (x : ℕ) (why : Cause) (h : History NoMark) → OwesDoom x why h (asking (WantsDoom x why))
+asks_doom x why h = record { due = refl; asks = inr refl; extra = λ y e d. refl }
+
+pub owes_none : (x : ℕ) (why : Cause) (h : History NoMark) → OwesDoom x why h nothing
+owes_none x why h = record { due = refl; asks = inl refl; extra = λ y e d. refl }
+
+-- the stream was reset
+pub doom_cut : (limits : PlainLimits) (k x : ℕ) (h : History NoMark) → Regular limits (asking (WantsDoom x (cause.PeerReset 8))) (Noted (note.Turn k (event.Plain (plain.Cut x))) ∷ h)
+    → has (live h) x ≡ true → Regular limits nothing (Noted (note.Doom x (cause.PeerReset 8)) ∷ Noted (note.Turn k (event.Plain (plain.Cut x))) ∷ h)
+doom_cut limits k x h r is =
+    let before = Noted (note.Turn k (event.Plain (plain.Cut x))) ∷ h in
+    doom_regular limits (asking (WantsDoom x (cause.PeerReset 8))) x (cause.PeerReset 8) before r (asks_doom x (cause.PeerReset 8) before) is (same_number x, refl)
+
+-- more came than it may hold
+pub doom_over : (limits : PlainLimits) (k x : ℕ) (octets : List ℕ) (h : History NoMark)
+    → Regular limits (overrun x octets) (Noted (note.Turn k (event.Plain (plain.Body x octets))) ∷ h) → has (live h) x ≡ true
+    → limits.recv < length (place (plain_setup limits) (request x) 0 h) + length octets
+    → Regular limits nothing (Noted (note.Doom x (cause.StreamError 3)) ∷ Noted (note.Turn k (event.Plain (plain.Body x octets))) ∷ h)
+doom_over limits k x octets h r is over =
+    let before = Noted (note.Turn k (event.Plain (plain.Body x octets))) ∷ h in
+    doom_regular limits (overrun x octets) x (cause.StreamError 3) before r (record { due = refl; asks = inr refl; extra = λ y e d. only_other x y octets d }) is
+    (both _ _ (same_number x) (passes _ _ over), refl)
+  where
+    both : (a b : Bool) → a ≡ true → b ≡ true → (a && b) ≡ true
+    both true b e f = f
+    both false b e f = cc
+
+    passes : (a b : ℕ) → a < b → nat_lt a b ≡ true
+    passes a b e = grind (arith, nat_tests)
+
+here : (a b : Bool) → a ≡ true → b ≡ false → (a && not b) ≡ true
+here true true e f = cc
+here true false e f = refl
+here false b e f = cc
+
+-- its end was framed
+pub doom_done : (limits : PlainLimits) (x : ℕ) (h : History NoMark) → Regular limits nothing h → has (live h) x ≡ true → end_framed (plain_setup limits) (request x) h ≡ true
+    → Regular limits nothing (Noted (note.Doom x cause.Done) ∷ h)
+doom_done limits x h r is e =
+    doom_regular limits nothing x cause.Done h r (owes_none x cause.Done h) is (here _ _ e (r.books.each x is).unframed)
+
+-- in this dispatch that of a stream was whose end dooms it
+pub doom_early : (limits : PlainLimits) (s x : ℕ) (h : History NoMark) → Regular limits nothing h → has (live h) x ≡ true → has (paired_with x h) s ≡ true
+    → end_framed (plain_setup limits) (request s) h ≡ true → end_framed (plain_setup limits) (request s) (before_dispatch h) ≡ false
+    → Regular limits nothing (Noted (note.Doom x cause.EarlyEnd) ∷ h)
+doom_early limits s x h r is pair e before =
+    doom_regular limits nothing x cause.EarlyEnd h r (owes_none x cause.EarlyEnd h) is
+    (some (λ y. end_framed_here (plain_setup limits) (request y) h) (paired_with x h) s pair (here _ _ e before))
+  where
+    later : (a b : Bool) → (a || b) ≡ true → a ≡ false → b ≡ true
+    later true b e f = cc
+    later false b e f = e
+
+    some : (p : ℕ → Bool) (xs : List ℕ) (s : ℕ) → has xs s ≡ true → p s ≡ true → list_any p xs ≡ true
+    some p [] s e t = cc
+    some p (y ∷ ys) s e t =
+        by_case (y == s) (λ u. let P : ℕ → Type 0 = λ v. p v ≡ true in or_left (p y) _ (subst P (sym (number_is y s u)) t))
+        (λ d. or_right (p y) _ (some p ys s (later (y == s) (has ys s) e d) t))

@@ -1,0 +1,119 @@
+-- One more note: what it needs of each law, and that the history with it is regular.
+use Rattle.flow_gate.specs.declared.ids.FlowId.{FlowId}
+use Rattle.flow_notes.specs.declared.notes.Note.{Note}
+use Rattle.plain_laws.proofs.Streams.{each_live}
+use Rattle.plain_laws.specs.Owing.{Owing, owed_times}
+use Rattle.plain_laws.specs.Regular.{Books, FlowBooks, Regular}
+use Rattle.std.proofs.Common.{ap, arith, subst, sym}
+use Rattle.std.proofs.Math.Seq.{take-append_seam}
+use Rattle.std.specs.Bool.{OnTrue}
+use Rattle.std.specs.List.{AllByRecursion}
+use Rattle.std.specs.Prelude.{Bool, List, [], false, length, max, nat_lt, true, ℕ, ◌++◌, ◌+◌, ◌-◌, ◌∷◌, ◌≡◌, ◌≤◌}
+use Rattle.tape_laws.specs.Bounds.{IsBounded, StagesBounded}
+use Rattle.tape_laws.specs.Causes.{HasCause}
+use Rattle.tape_laws.specs.Demands.{Answers, Meets, OnlyAsked}
+use Rattle.tape_laws.specs.Dispatches.{has, live}
+use Rattle.tape_laws.specs.Doomed.{LeavesDoomed}
+use Rattle.tape_laws.specs.Ends.{KeepsEnds}
+use Rattle.tape_laws.specs.Flows.{request}
+use Rattle.tape_laws.specs.History.{BeforeOthers, BeforeTurn, History, NoMark, Noted}
+use Rattle.tape_laws.specs.Order.{InTurn}
+use Rattle.tape_laws.specs.Pauses.{IsCounted, PausesInOrder, count, lows, pauses, resumes}
+use Rattle.tape_laws.specs.Plain.{plain_body, plain_session, plain_setup}
+use Rattle.tape_laws.specs.PlainTape.{IsPlainLawful}
+use Rattle.tape_laws.specs.Quiet.{IsQuiet}
+use Rattle.tape_laws.specs.Release.{MayStand}
+use Rattle.tape_laws.specs.Sources.{EachLive, disabled}
+use Rattle.tape_laws.specs.Tied.{IsFront, IsTied}
+use Rattle.tape_laws.specs.Units.{Demand, Free}
+use Rattle.tape_laws.specs.World.{out, received, recv, send}
+use Rattle.tape_laws.specs.declared.limits.PlainLimits.{PlainLimits}
+
+-- the note may stand here, by each law that looks at what stood before it
+pub record MayAdd (limits : PlainLimits) (n : Note) (h : History NoMark) : Type 0 where
+  pub allowed : MayStand (plain_setup limits) (Noted n) h
+  pub paused : PausesInOrder (plain_setup limits) (Noted n) h
+  pub counted : BeforeOthers (IsCounted (plain_setup limits)) (Noted n) h
+  pub ends : KeepsEnds (plain_setup limits) (Noted n) h
+  pub in_turn : InTurn (plain_setup limits) (Noted n) h
+  pub doomed : LeavesDoomed (Noted n) h
+  pub answered : Answers (plain_session limits) (Noted n) h
+  pub only : OnlyAsked (plain_session limits) (Noted n) h
+  pub quiet : BeforeTurn (IsQuiet (plain_session limits)) (Noted n) h
+  pub caused : HasCause (plain_setup limits) (Noted n) h
+
+lawful_more : (limits : PlainLimits) (n : Note) (h : History NoMark) → IsPlainLawful limits h → MayAdd limits n h
+    → IsBounded (plain_setup limits) (Noted n ∷ h) → IsTied (plain_setup limits) (Noted n ∷ h) → IsPlainLawful limits (Noted n ∷ h)
+lawful_more limits n h l m bounded tied = record {
+  lawful = record {
+    allowed = (m.allowed, l.lawful.allowed);
+    paused = (m.paused, l.lawful.paused);
+    counted = (m.counted, l.lawful.counted);
+    bounded = (bounded, l.lawful.bounded);
+    tied = (tied, l.lawful.tied);
+    ends = (m.ends, l.lawful.ends);
+    in_turn = (m.in_turn, l.lawful.in_turn);
+    doomed = (m.doomed, l.lawful.doomed);
+    answered = (m.answered, l.lawful.answered);
+    only = (m.only, l.lawful.only);
+    quiet = (m.quiet, l.lawful.quiet);
+  };
+  caused = (m.caused, l.caused);
+}
+
+-- a fact under a test follows from another
+pub under_test : (b : Bool) (A B : Type 0) → (A → B) → OnTrue b A → OnTrue b B
+under_test true A B f a = f a
+under_test false A B f a = tt
+
+pub unit_if : (b : Bool) → OnTrue b (Unit {0})
+unit_if true = tt
+unit_if false = tt
+
+-- a fact under a test may be asked of each
+each_under : (limits : PlainLimits) (b : Bool) (P : FlowId → Type 0) (h : History NoMark) → ((x : ℕ) → has (live h) x ≡ true → OnTrue b (P (request x)))
+    → OnTrue b (EachLive (plain_setup limits) P h)
+each_under limits true P h f = each_live limits P h f
+each_under limits false P h f = tt
+
+pub bounded_of : (limits : PlainLimits) (o : Owing) (h : History NoMark) → Books limits o h → IsBounded (plain_setup limits) h
+bounded_of limits o h s = record {
+  recv = each_live limits (λ g. length (recv (plain_setup limits) g h) ≤ limits.recv) h (λ x e. (s.each x e).recv_room);
+  stages = each_live limits (λ g. StagesBounded (plain_setup limits) g 1 [] h) h (λ x e. tt);
+  send = each_under limits (nat_lt 0 limits.send) (λ g. length (send (plain_setup limits) g h) ≤ limits.send + limits.quantum) h (λ x e. (s.each x e).send_room);
+  write = let P : List ℕ → Type 0 = AllByRecursion (λ c. length (out (plain_setup limits) c h) ≤ limits.write + max 65536 (limits.quantum + 9)) in
+      under_test (nat_lt 0 limits.write) _ _ (λ le. subst P (sym s.known) (le, tt)) s.write_room;
+  together = tt;
+}
+
+front_of : (xs ys zs : List ℕ) → ys ≡ xs ++ zs → IsFront xs ys
+front_of xs ys zs e = rw e (take-append_seam xs zs)
+
+pub tied_of : (limits : PlainLimits) (o : Owing) (h : History NoMark) → Books limits o h → IsTied (plain_setup limits) h
+tied_of limits o h s =
+    each_live limits (λ g. IsFront (received g h) (plain_body g.exchange h)) h (λ x e. front_of _ _ (o.extra x) (s.each x e).read)
+
+settled : (p r d l n : ℕ) → n ≡ 0 → p + n ≡ r + (d + l) → p - r ≡ d + l
+settled p r d l n e t = omega (arith, e, t)
+
+-- where no pause is due each count is that of its sources and lows
+pub count_is : (limits : PlainLimits) (o : Owing) (x : ℕ) (h : History NoMark) → FlowBooks limits o x h → o.due ≡ []
+    → count (request x) h ≡ disabled (plain_setup limits) (request x) h + lows (plain_setup limits) (request x) h
+count_is limits o x h f e =
+    settled (pauses (request x) h) (resumes (request x) h) (disabled (plain_setup limits) (request x) h) (lows (plain_setup limits) (request x) h)
+    (owed_times x o.due) (ap (owed_times x) e) f.tally
+
+pub counted_of : (limits : PlainLimits) (o : Owing) (h : History NoMark) → Books limits o h → o.due ≡ [] → IsCounted (plain_setup limits) h
+counted_of limits o h s e =
+    each_live limits (λ g. count g h ≡ disabled (plain_setup limits) g h + lows (plain_setup limits) g h) h (λ x is. count_is limits o x h (s.each x is) e)
+
+pub regular_more : (limits : PlainLimits) (o o' : Owing) (n : Note) (h : History NoMark) → Regular limits o h → MayAdd limits n h → Books limits o' (Noted n ∷ h)
+    → Regular limits o' (Noted n ∷ h)
+regular_more limits o o' n h r m s = record {
+  lawful = lawful_more limits n h r.lawful m (bounded_of limits o' (Noted n ∷ h) s) (tied_of limits o' (Noted n ∷ h) s);
+  books = s;
+}
+
+-- nothing that was asked for is met by any note
+pub free_meets : (limits : PlainLimits) (d : Demand) (n : Note) → d ≡ Free → Meets {Mark = NoMark} (plain_setup limits) Free (Noted n) → Meets {Mark = NoMark} (plain_setup limits) d (Noted n)
+free_meets limits d n e m = let P : Demand → Type 0 = λ v. Meets {Mark = NoMark} (plain_setup limits) v (Noted n) in subst P (sym e) m

@@ -1,0 +1,67 @@
+-- The flag of a buffer, step by step.
+use Rattle.flow_gate.specs.declared.ids.FlowId.{FlowId}
+use Rattle.std.proofs.Common.{ap, arith, ◌∙◌}
+use Rattle.std.proofs.lemmas.Bool.Decides.{nat_tests}
+use Rattle.std.specs.Prelude.{Bool, List, [], false, length, true, ℕ, ◌<◌, ◌∷◌, ◌≡◌, ◌≤◌}
+use Rattle.tape_laws.specs.History.{History, NoMark, Step}
+use Rattle.tape_laws.specs.Plain.{plain_setup}
+use Rattle.tape_laws.specs.Watermark.{above}
+use Rattle.tape_laws.specs.World.{len, out, place}
+use Rattle.tape_laws.specs.declared.limits.PlainLimits.{PlainLimits}
+use Rattle.wm_buffer.specs.Watermark.{above_after}
+use Rattle.flow_gate.specs.declared.ids.BufferId.TheVariants as buffer
+
+-- asked again at the same length, the flag stays
+above_again : (l : ℕ) (w : Bool) (n : ℕ) → above_after l (above_after l w n) n ≡ above_after l w n
+above_again l true n = grind (arith, nat_tests)
+above_again l false n = grind (arith, nat_tests)
+
+-- a buffer that isn't above holds at most its limit
+pub low_len : (l : ℕ) (w : Bool) (n : ℕ) → above_after l w n ≡ false → 0 < l → n ≤ l
+low_len l true n h p = grind (arith, nat_tests)
+low_len l false n h p = grind (arith, nat_tests)
+
+low_at_first : (l : ℕ) → above_after l false 0 ≡ false
+low_at_first l = grind (arith, nat_tests)
+
+-- an empty buffer isn't above
+pub low_empty : (l : ℕ) (w : Bool) → above_after l w 0 ≡ false
+low_empty l true = grind (arith, nat_tests)
+low_empty l false = grind (arith, nat_tests)
+
+-- a low buffer that loses octets stays low
+low_less : (l : ℕ) (w : Bool) (n k : ℕ) → above_after l w n ≡ false → k ≤ n → above_after l false k ≡ false
+low_less l true n k h le = grind (arith, nat_tests)
+low_less l false n k h le = grind (arith, nat_tests)
+
+-- the flag follows from itself and the length now
+pub send_now : (limits : PlainLimits) (f : FlowId) (h : History NoMark)
+    → above_after limits.send (above (plain_setup limits) (buffer.Send f) h) (len (plain_setup limits) (buffer.Send f) h) ≡ above (plain_setup limits) (buffer.Send f) h
+send_now limits f [] = low_at_first limits.send
+send_now limits f (step ∷ h) = above_again limits.send (above (plain_setup limits) (buffer.Send f) h) (len (plain_setup limits) (buffer.Send f) (step ∷ h))
+
+pub write_now : (limits : PlainLimits) (h : History NoMark)
+    → above_after limits.write (above (plain_setup limits) (buffer.Write 0) h) (len (plain_setup limits) (buffer.Write 0) h) ≡ above (plain_setup limits) (buffer.Write 0) h
+write_now limits [] = low_at_first limits.write
+write_now limits (step ∷ h) = above_again limits.write (above (plain_setup limits) (buffer.Write 0) h) (len (plain_setup limits) (buffer.Write 0) (step ∷ h))
+
+-- a step that keeps the contents keeps the flag
+pub send_same : (limits : PlainLimits) (f : FlowId) (step : Step NoMark) (h : History NoMark)
+    → place (plain_setup limits) f 1 (step ∷ h) ≡ place (plain_setup limits) f 1 h
+    → above (plain_setup limits) (buffer.Send f) (step ∷ h) ≡ above (plain_setup limits) (buffer.Send f) h
+send_same limits f step h e =
+    ap (λ (o : List ℕ). above_after limits.send (above (plain_setup limits) (buffer.Send f) h) (length o)) e ∙ send_now limits f h
+
+pub write_same : (limits : PlainLimits) (step : Step NoMark) (h : History NoMark)
+    → out (plain_setup limits) 0 (step ∷ h) ≡ out (plain_setup limits) 0 h
+    → above (plain_setup limits) (buffer.Write 0) (step ∷ h) ≡ above (plain_setup limits) (buffer.Write 0) h
+write_same limits step h e =
+    ap (λ (o : List ℕ). above_after limits.write (above (plain_setup limits) (buffer.Write 0) h) (length o)) e ∙ write_now limits h
+
+-- a buffer that a step changed keeps the flag of its history
+pub flag_is : (l : ℕ) (w w' a : Bool) (o o' : List ℕ) → a ≡ above_after l w (length o) → w ≡ w' → o ≡ o' → a ≡ above_after l w' (length o')
+flag_is l w w' a o o' e ew eo = e ∙ ap (λ v. above_after l v (length o)) ew ∙ ap (λ (v : List ℕ). above_after l w' (length v)) eo
+
+-- a step that makes a buffer shorter doesn't make it rise
+pub no_rise : (l : ℕ) (w : Bool) (n k : ℕ) → above_after l w n ≡ w → k ≤ n → w ≡ false → above_after l w k ≡ false
+no_rise l w n k now le low = ap (λ v. above_after l v k) low ∙ low_less l w n k (now ∙ low) le

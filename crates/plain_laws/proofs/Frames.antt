@@ -1,0 +1,313 @@
+-- A frame of the flow whose turn it is.
+use Rattle.flow_gate.specs.declared.ids.FlowId.{FlowId}
+use Rattle.plain_laws.proofs.Counting.{flow_tally, one_if, send_flag, send_left, told_of}
+use Rattle.plain_laws.proofs.Extending.{MayAdd, counted_of, free_meets, regular_more, under_test}
+use Rattle.plain_laws.proofs.Flags.{no_rise, send_now}
+use Rattle.plain_laws.proofs.Greatest.{dropped}
+use Rattle.plain_laws.proofs.Leaving.{Leaves, LeavesWords, flow_kept, same_len, unborn_kept}
+use Rattle.plain_laws.proofs.Moves.{where_limited, write_within}
+use Rattle.plain_laws.proofs.Outs.{drain_books}
+use Rattle.plain_laws.proofs.Rises.{low_rises, rise_due}
+use Rattle.plain_laws.proofs.Rotation.{IsBodyUnit, body_unit, carried_is, carries_is, next_is_unit, unit_is}
+use Rattle.plain_laws.proofs.Streams.{apart_from, by_case, differs_back, flow_is_live, not_both, own_or_other, same_number, same_request}
+use Rattle.plain_laws.proofs.Tellings.{live_owed, owed_if, told_append, told_own}
+use Rattle.plain_laws.proofs.Watching.{send_watchers, write_watchers}
+use Rattle.plain_laws.specs.Owing.{Owing, due_if, nothing, owed}
+use Rattle.plain_laws.specs.Regular.{Books, FlowBooks, IsLiveFlow, IsRising, Regular}
+use Rattle.std.proofs.Common.{ap, arith, inl, inr, length-append, length-drop, length-take, refl, subst, sym, ◌∙◌}
+use Rattle.std.proofs.lemmas.Bool.Decides.{nat_tests}
+use Rattle.std.proofs.lemmas.List.{append-nil}
+use Rattle.std.specs.List.{AllByRecursion}
+use Rattle.std.specs.Prelude.{Bool, List, [], drop, false, if◌then◌else◌, length, map, max, min, nat_lt, not, take, true, ℕ, ◌&&◌, ◌++◌, ◌+◌, ◌<◌, ◌==◌, ◌||◌, ◌∷◌, ◌≡◌, ◌≤◌, ◌⊎◌}
+use Rattle.tape_laws.specs.Dispatches.{has, live, started}
+use Rattle.tape_laws.specs.Ends.{BodyUnit, end_framed}
+use Rattle.tape_laws.specs.Flows.{request}
+use Rattle.tape_laws.specs.History.{History, NoMark, Noted, Step}
+use Rattle.tape_laws.specs.Order.{Flows, next_on}
+use Rattle.tape_laws.specs.Pauses.{pending_lows}
+use Rattle.tape_laws.specs.Plain.{paired_with, plain_ended, plain_must_end, plain_setup}
+use Rattle.tape_laws.specs.Sources.{watchers}
+use Rattle.tape_laws.specs.Watermark.{above}
+use Rattle.tape_laws.specs.World.{data_head, out, place}
+use Rattle.tape_laws.specs.declared.limits.PlainLimits.{PlainLimits}
+use Rattle.flow_gate.specs.declared.ids.BufferId.TheVariants as buffer
+use Rattle.flow_notes.specs.declared.notes.Note.TheVariants as note
+
+pub frame_leaves : (limits : PlainLimits) (x y n : ℕ) (last : Bool) (h : History NoMark) → (x == y) ≡ false → Leaves limits y (Noted (note.Frame 0 (request x) n last)) h
+frame_leaves limits x y n last h e = record {
+  recv = rw e refl;
+  send = rw e refl;
+  send_lows = rw (differs_back x y e) (append-nil (pending_lows (plain_setup limits) (buffer.Send (request y)) h));
+  paused = refl;
+  resumed = refl;
+  body = refl;
+  received = refl;
+  framed = rw e refl;
+}
+
+-- a stream that hasn't begun has no pair that might end it
+pub frame_words : (x y n : ℕ) (last : Bool) (h : History NoMark) → (x == y) ≡ false → paired_with y h ≡ [] → LeavesWords y (Noted (note.Frame 0 (request x) n last)) h
+frame_words x y n last h e alone = record {
+  ended = refl;
+  pairs = refl;
+  must = ap (λ ps. (last && has (y ∷ ps) x) || plain_must_end y h) alone ∙ neither last (y == x) (plain_must_end y h) (differs_back x y e);
+}
+  where
+    neither : (l d m : Bool) → d ≡ false → ((l && (d || false)) || m) ≡ m
+    neither l true m e = cc
+    neither true false m e = refl
+    neither false false m e = refl
+
+-- what the unit tells
+pub frame_unit : (limits : PlainLimits) (x n : ℕ) (last : Bool) (h : History NoMark) → next_on (plain_setup limits) 0 h ≡ Flows (request x) (BodyUnit n last)
+    → IsBodyUnit limits.quantum (plain_ended x h) (end_framed (plain_setup limits) (request x) h) (length (place (plain_setup limits) (request x) 0 h))
+    (length (place (plain_setup limits) (request x) 1 h)) n last
+frame_unit limits x n last h next =
+    body_unit _ _ _ n _ _ last (sym (unit_is limits x h) ∙ next_is_unit limits (request x) (BodyUnit n last) h next)
+
+-- no end was framed before
+pub frame_once : (limits : PlainLimits) (o : Owing) (x n : ℕ) (last : Bool) (h : History NoMark) → FlowBooks limits o x h → next_on (plain_setup limits) 0 h ≡ Flows (request x) (BodyUnit n last)
+    → end_framed (plain_setup limits) (request x) h ≡ false
+frame_once limits o x n last h f next =
+    let u = frame_unit limits x n last h next in
+    by_case (end_framed (plain_setup limits) (request x) h) (λ t. absurd (empty n limits.quantum _ (f.over t).1 u.all (u.again t))) (λ f. f)
+  where
+    empty : (n q : ℕ) (xs : List ℕ) → xs ≡ [] → n ≡ min q (length xs) → 0 < n → ⊥
+    empty n q xs e all some = let k : length xs ≡ 0 = ap length e in omega (arith, k, some, all)
+
+frame_may : (limits : PlainLimits) (x n : ℕ) (last : Bool) (h : History NoMark) → Books limits nothing h → has (live h) x ≡ true
+    → above (plain_setup limits) (buffer.Write 0) h ≡ false → next_on (plain_setup limits) 0 h ≡ Flows (request x) (BodyUnit n last)
+    → MayAdd limits (note.Frame 0 (request x) n last) h
+frame_may limits x n last h s is low next =
+    let u = frame_unit limits x n last h next in
+    record {
+      allowed = record {
+        live = flow_is_live limits x h is;
+        to = refl;
+        write = record { opened = ap (λ (cs : List ℕ). has cs 0) s.opened; low = low };
+        all = u.all ∙ sym (carried_is limits x h);
+        some = u.some;
+      };
+      paused = s.due;
+      counted = counted_of limits nothing h s refl;
+      ends = record { exactly = u.ends ∙ sym (carries_is limits x n h); once = frame_once limits nothing x n last h (s.each x is) next; after_head = refl };
+      in_turn = next;
+      doomed = is;
+      answered = free_meets limits _ (note.Frame 0 (request x) n last) s.asks tt;
+      only = tt;
+      quiet = tt;
+      caused = tt;
+    }
+
+-- the pauses of the write buffer
+abbrev after_frame : PlainLimits → ℕ → ℕ → Bool → History NoMark → Owing
+after_frame limits x n last h = owed (due_if (above (plain_setup limits) (buffer.Write 0) (Noted (note.Frame 0 (request x) n last) ∷ h)) (buffer.Write 0) (live h))
+
+send_is : (limits : PlainLimits) (x n : ℕ) (last : Bool) (h : History NoMark)
+    → place (plain_setup limits) (request x) 1 (Noted (note.Frame 0 (request x) n last) ∷ h) ≡ drop n (place (plain_setup limits) (request x) 1 h)
+send_is limits x n last h = rw (same_number x) refl
+
+pub send_less : (limits : PlainLimits) (x n : ℕ) (last : Bool) (h : History NoMark)
+    → length (place (plain_setup limits) (request x) 1 (Noted (note.Frame 0 (request x) n last) ∷ h)) ≤ length (place (plain_setup limits) (request x) 1 h)
+send_less limits x n last h = dropped n _ _ (send_is limits x n last h)
+
+pub frame_low : (limits : PlainLimits) (x n : ℕ) (last : Bool) (h : History NoMark) → above (plain_setup limits) (buffer.Send (request x)) h ≡ false
+    → above (plain_setup limits) (buffer.Send (request x)) (Noted (note.Frame 0 (request x) n last) ∷ h) ≡ false
+frame_low limits x n last h low = no_rise limits.send _ _ _ (send_now limits (request x) h) (send_less limits x n last h) low
+
+-- what the send buffer is to be told, where it had nothing to be told
+pub lows_after : (limits : PlainLimits) (x n : ℕ) (last : Bool) (h : History NoMark) → IsRising (live h) → has (live h) x ≡ true
+    → pending_lows (plain_setup limits) (buffer.Send (request x)) (Noted (note.Frame 0 (request x) n last) ∷ h)
+    ≡ pending_lows (plain_setup limits) (buffer.Send (request x)) h
+    ++ (if above (plain_setup limits) (buffer.Send (request x)) h && not (above (plain_setup limits) (buffer.Send (request x)) (Noted (note.Frame 0 (request x) n last) ∷ h)) then request x ∷ [] else [])
+lows_after limits x n last h r is =
+    told _ _ _ _ (same_request x) (send_watchers limits x h r is)
+  where
+    told : (same drained : Bool) (pending watching : List FlowId) → same ≡ true → watching ≡ request x ∷ []
+        → pending ++ (if (same || false) && drained then watching else []) ≡ pending ++ (if drained then request x ∷ [] else [])
+    told same true pending watching es ew = rw (es, ew) refl
+    told same false pending watching es ew = rw es refl
+
+-- a buffer that is above has nothing to be told
+pub high_untold : (limits : PlainLimits) (o : Owing) (x : ℕ) (h : History NoMark) → FlowBooks limits o x h → above (plain_setup limits) (buffer.Send (request x)) h ≡ true
+    → pending_lows (plain_setup limits) (buffer.Send (request x)) h ≡ []
+high_untold limits o x h f high = pick f.send_low
+  where
+    pick : (pending_lows (plain_setup limits) (buffer.Send (request x)) h ≡ [])
+        ⊎ ((pending_lows (plain_setup limits) (buffer.Send (request x)) h ≡ request x ∷ []) × (above (plain_setup limits) (buffer.Send (request x)) h ≡ false))
+        → pending_lows (plain_setup limits) (buffer.Send (request x)) h ≡ []
+    pick (inl e) = e
+    pick (inr e) = not_both (above (plain_setup limits) (buffer.Send (request x)) h) high e.1
+
+-- it is told at most once, and then it isn't above
+told_once : (limits : PlainLimits) (o : Owing) (x n : ℕ) (last : Bool) (h : History NoMark) → IsRising (live h) → has (live h) x ≡ true → FlowBooks limits o x h
+    → (pending_lows (plain_setup limits) (buffer.Send (request x)) (Noted (note.Frame 0 (request x) n last) ∷ h) ≡ [])
+    ⊎ ((pending_lows (plain_setup limits) (buffer.Send (request x)) (Noted (note.Frame 0 (request x) n last) ∷ h) ≡ request x ∷ [])
+    × (above (plain_setup limits) (buffer.Send (request x)) (Noted (note.Frame 0 (request x) n last) ∷ h) ≡ false))
+told_once limits o x n last h r is f =
+    by_case (above (plain_setup limits) (buffer.Send (request x)) h)
+    (λ t. was_high (above (plain_setup limits) (buffer.Send (request x)) (Noted (note.Frame 0 (request x) n last) ∷ h)) refl t (high_untold limits o x h f t))
+    (λ d. was_low d f.send_low)
+  where
+    was_high : (a : Bool) → above (plain_setup limits) (buffer.Send (request x)) (Noted (note.Frame 0 (request x) n last) ∷ h) ≡ a
+        → above (plain_setup limits) (buffer.Send (request x)) h ≡ true → pending_lows (plain_setup limits) (buffer.Send (request x)) h ≡ []
+        → (pending_lows (plain_setup limits) (buffer.Send (request x)) (Noted (note.Frame 0 (request x) n last) ∷ h) ≡ [])
+        ⊎ ((pending_lows (plain_setup limits) (buffer.Send (request x)) (Noted (note.Frame 0 (request x) n last) ∷ h) ≡ request x ∷ [])
+        × (above (plain_setup limits) (buffer.Send (request x)) (Noted (note.Frame 0 (request x) n last) ∷ h) ≡ false))
+    was_high true e t none = inl (lows_after limits x n last h r is ∙ ap (λ (fs : List FlowId). fs ++ (if above (plain_setup limits) (buffer.Send (request x)) h
+        && not (above (plain_setup limits) (buffer.Send (request x)) (Noted (note.Frame 0 (request x) n last) ∷ h)) then request x ∷ [] else [])) none
+        ∙ ap (λ b. if b && not (above (plain_setup limits) (buffer.Send (request x)) (Noted (note.Frame 0 (request x) n last) ∷ h)) then request x ∷ [] else []) t
+        ∙ ap (λ b. if not b then request x ∷ [] else []) e)
+    was_high false e t none = inr (
+      lows_after limits x n last h r is ∙ ap (λ (fs : List FlowId). fs ++ (if above (plain_setup limits) (buffer.Send (request x)) h
+          && not (above (plain_setup limits) (buffer.Send (request x)) (Noted (note.Frame 0 (request x) n last) ∷ h)) then request x ∷ [] else [])) none
+          ∙ ap (λ b. if b && not (above (plain_setup limits) (buffer.Send (request x)) (Noted (note.Frame 0 (request x) n last) ∷ h)) then request x ∷ [] else []) t
+          ∙ ap (λ b. if not b then request x ∷ [] else []) e,
+      e,
+    )
+
+    kept : above (plain_setup limits) (buffer.Send (request x)) h ≡ false
+        → pending_lows (plain_setup limits) (buffer.Send (request x)) (Noted (note.Frame 0 (request x) n last) ∷ h) ≡ pending_lows (plain_setup limits) (buffer.Send (request x)) h
+    kept d = lows_after limits x n last h r is
+        ∙ ap (λ b. pending_lows (plain_setup limits) (buffer.Send (request x)) h ++ (if b && not (above (plain_setup limits) (buffer.Send (request x)) (Noted (note.Frame 0 (request x) n last) ∷ h)) then request x ∷ [] else [])) d
+        ∙ append-nil (pending_lows (plain_setup limits) (buffer.Send (request x)) h)
+
+    was_low : above (plain_setup limits) (buffer.Send (request x)) h ≡ false
+        → (pending_lows (plain_setup limits) (buffer.Send (request x)) h ≡ [])
+        ⊎ ((pending_lows (plain_setup limits) (buffer.Send (request x)) h ≡ request x ∷ []) × (above (plain_setup limits) (buffer.Send (request x)) h ≡ false))
+        → (pending_lows (plain_setup limits) (buffer.Send (request x)) (Noted (note.Frame 0 (request x) n last) ∷ h) ≡ [])
+        ⊎ ((pending_lows (plain_setup limits) (buffer.Send (request x)) (Noted (note.Frame 0 (request x) n last) ∷ h) ≡ request x ∷ [])
+        × (above (plain_setup limits) (buffer.Send (request x)) (Noted (note.Frame 0 (request x) n last) ∷ h) ≡ false))
+    was_low d (inl e) = inl (kept d ∙ e)
+    was_low d (inr e) = inr (kept d ∙ e.0, frame_low limits x n last h d)
+
+-- how often the send buffer is to be told, and its flag, make one
+send_balance : (limits : PlainLimits) (x n : ℕ) (last : Bool) (h : History NoMark) → IsRising (live h) → has (live h) x ≡ true
+    → send_flag limits x (Noted (note.Frame 0 (request x) n last) ∷ h) + send_left limits x (Noted (note.Frame 0 (request x) n last) ∷ h) ≡ send_flag limits x h + send_left limits x h
+send_balance limits x n last h r is =
+    let w = above (plain_setup limits) (buffer.Send (request x)) h in
+    let a = above (plain_setup limits) (buffer.Send (request x)) (Noted (note.Frame 0 (request x) n last) ∷ h) in
+    sums _ _ _ _ _
+    (ap (told_of x) (lows_after limits x n last h r is)
+    ∙ told_append x (pending_lows (plain_setup limits) (buffer.Send (request x)) h) (if w && not a then request x ∷ [] else [])
+    ∙ ap (λ k. send_left limits x h + k) (once (w && not a)))
+    (drain_books w a (frame_low limits x n last h))
+  where
+    once : (b : Bool) → told_of x (if b then request x ∷ [] else []) ≡ one_if b
+    once true = told_own x []
+    once false = refl
+
+    sums : (a w s s' d : ℕ) → s' ≡ s + d → w ≡ a + d → a + s' ≡ w + s
+    sums a w s s' d e f = omega arith
+
+frame_own : (limits : PlainLimits) (x n : ℕ) (last : Bool) (h : History NoMark) → Books limits nothing h → has (live h) x ≡ true
+    → above (plain_setup limits) (buffer.Write 0) h ≡ false → next_on (plain_setup limits) 0 h ≡ Flows (request x) (BodyUnit n last)
+    → FlowBooks limits (after_frame limits x n last h) x (Noted (note.Frame 0 (request x) n last) ∷ h)
+frame_own limits x n last h s is low next =
+    let step : Step NoMark = Noted (note.Frame 0 (request x) n last) in
+    let f = s.each x is in
+    let u = frame_unit limits x n last h next in
+    let once = frame_once limits nothing x n last h f next in
+    let recv_is : place (plain_setup limits) (request x) 0 (step ∷ h) ≡ place (plain_setup limits) (request x) 0 h = rw (same_number x) refl in
+    let write_is : pending_lows (plain_setup limits) (buffer.Write 0) (step ∷ h) ≡ pending_lows (plain_setup limits) (buffer.Write 0) h = append-nil _ in
+    let framed_is : end_framed (plain_setup limits) (request x) (step ∷ h) ≡ (last || end_framed (plain_setup limits) (request x) h) = rw (same_number x) refl in
+    record {
+      tally = flow_tally limits [] (after_frame limits x n last h).due x step h
+          (balance _ _ _ _ _ _ _ _ _ _ _ (ap one_if low)
+          (owed_if (above (plain_setup limits) (buffer.Write 0) (step ∷ h)) (buffer.Write 0) (live h) x s.rising is) (ap (told_of x) write_is) (send_balance limits x n last h s.rising is)) f.tally;
+      send_low = told_once limits nothing x n last h s.rising is f;
+      recv_room = same_len _ _ limits.recv recv_is f.recv_room;
+      send_room = under_test (nat_lt 0 limits.send) _ _ (λ le. less _ _ _ (send_less limits x n last h) le) f.send_room;
+      read = f.read;
+      over = λ t.
+          let ended : last ≡ true = by_case last (λ t. t) (λ d. not_both (end_framed (plain_setup limits) (request x) h) (sym (ap (λ b. b || end_framed (plain_setup limits) (request x) h) d) ∙ sym framed_is ∙ t) once) in
+          let k = left_none _ _ _ (sym u.ends ∙ ended) in
+          (recv_is ∙ no_octets _ k.0, send_is limits x n last h ∙ dropped_all n _ k.1, refl);
+      unframed = f.unframed;
+    }
+  where
+    balance : (p r a w s m o' a' w' s' m' : ℕ) → w ≡ 0 → o' ≡ w' → m' ≡ m → a' + s' ≡ a + s
+        → (p + o') + (r + ((a + w) + (s + m))) ≡ (p + 0) + (r + ((a' + w') + (s' + m')))
+    balance p r a w s m o' a' w' s' m' ew eo em e = omega arith
+
+    less : (a b l : ℕ) → a ≤ b → b ≤ l → a ≤ l
+    less a b l e f = omega arith
+
+    zero_of : (a b : ℕ) → (a == b) ≡ true → a ≡ b
+    zero_of a b e = grind (arith, nat_tests)
+
+    both_true : (a b : Bool) → (a && b) ≡ true → (a ≡ true) × (b ≡ true)
+    both_true true b e = (refl, e)
+    both_true false b e = cc
+
+    left_none : (e : Bool) (r s : ℕ) → (e && ((r == 0) && (s == n))) ≡ true → (r ≡ 0) × (s ≡ n)
+    left_none e r s t = let k = both_true (r == 0) (s == n) (both_true e _ t).1 in (zero_of r 0 k.0, zero_of s n k.1)
+
+    no_octets : (xs : List ℕ) → length xs ≡ 0 → xs ≡ []
+    no_octets [] e = refl
+    no_octets (y ∷ ys) e = absurd (omega (arith, e))
+
+    dropped_all : (n : ℕ) (xs : List ℕ) → length xs ≡ n → drop n xs ≡ []
+    dropped_all n xs e = no_octets (drop n xs) (omega (arith, e, length-drop n xs))
+
+frame_books : (limits : PlainLimits) (x n : ℕ) (last : Bool) (h : History NoMark) → Books limits nothing h → has (live h) x ≡ true
+    → above (plain_setup limits) (buffer.Write 0) h ≡ false → next_on (plain_setup limits) 0 h ≡ Flows (request x) (BodyUnit n last)
+    → Books limits (after_frame limits x n last h) (Noted (note.Frame 0 (request x) n last) ∷ h)
+frame_books limits x n last h s is low next =
+    let step : Step NoMark = Noted (note.Frame 0 (request x) n last) in
+    let u = frame_unit limits x n last h next in
+    let a = above (plain_setup limits) (buffer.Write 0) (step ∷ h) in
+    let lows_same : pending_lows (plain_setup limits) (buffer.Write 0) (step ∷ h) ≡ pending_lows (plain_setup limits) (buffer.Write 0) h = append-nil _ in
+    record {
+      due = rise_due (buffer.Write 0) (not (above (plain_setup limits) (buffer.Write 0) h) && a) (λ b. watchers (plain_setup limits) b h) (live h) (write_watchers limits h)
+          ∙ ap (λ b. due_if b (buffer.Write 0) (live h)) (low_rises (above (plain_setup limits) (buffer.Write 0) h) a low);
+      asks = refl;
+      opened = s.opened;
+      known = s.known;
+      unclosed = s.unclosed;
+      write_room = where_limited limits.write _ (λ p. grown (out (plain_setup limits) 0 h) (place (plain_setup limits) (request x) 1 h) _ _ _ (write_within limits h low p) (few _ _ _ u.all));
+      rising = s.rising;
+      born = s.born;
+      said = s.said;
+      each = λ y e. own_or_other (λ z. FlowBooks limits (after_frame limits x n last h) z (step ∷ h)) x y (frame_own limits x n last h s is low next)
+          (λ d. flow_kept limits nothing (after_frame limits x n last h) y step h (frame_leaves limits x y n last h d) (s.each y e)
+          (risen _ _ _ _ _ (ap one_if low) (owed_if a (buffer.Write 0) (live h) y s.rising e) (ap (told_of y) lows_same)) refl (s.each y e).unframed);
+      unborn = λ y e. let d = apart_from (started h) x y (s.born x is) e in let v = s.unborn y e in
+          unborn_kept limits y step h (frame_leaves limits x y n last h d) (frame_words x y n last h d v.alone) v;
+      owed = live_owed a (buffer.Write 0) (live h) (live h) (λ y e. e);
+      write_lows = let P : List FlowId → Type 0 = AllByRecursion (IsLiveFlow (live h)) in subst P (sym lows_same) s.write_lows;
+      write_once = let P : List FlowId → Type 0 = λ fs. IsRising (map (λ f. f.exchange) fs) in subst P (sym lows_same) s.write_once;
+      hushed = λ y e. (frame_leaves limits x y n last h (apart_from (live h) x y is e)).send_lows ∙ s.hushed y e;
+    }
+  where
+    risen : (w m o' w' m' : ℕ) → w ≡ 0 → o' ≡ w' → m' ≡ m → o' + (w + m) ≡ 0 + (w' + m')
+    risen w m o' w' m' ew eo em = omega arith
+
+    few : (n q l : ℕ) → n ≡ min q l → n ≤ q
+    few n q l e = omega (arith, e)
+
+    grown : (xs ys : List ℕ) (n l q : ℕ) → length xs ≤ l → n ≤ q → length (xs ++ (data_head x n last ++ take n ys)) ≤ l + max 65536 (q + 9)
+    grown xs ys n l q le fits =
+        let k : length (xs ++ (data_head x n last ++ take n ys)) ≡ length xs + (9 + length (take n ys)) =
+        length-append xs (data_head x n last ++ take n ys) ∙ ap (λ m. length xs + m) (length-append (data_head x n last) (take n ys)) in
+        omega (arith, k, le, fits, length-take n ys)
+
+pub frame_regular : (limits : PlainLimits) (x n : ℕ) (last : Bool) (h : History NoMark) → Regular limits nothing h → has (live h) x ≡ true
+    → above (plain_setup limits) (buffer.Write 0) h ≡ false → next_on (plain_setup limits) 0 h ≡ Flows (request x) (BodyUnit n last)
+    → Regular limits (owed (due_if (above (plain_setup limits) (buffer.Write 0) (Noted (note.Frame 0 (request x) n last) ∷ h)) (buffer.Write 0) (live h)))
+    (Noted (note.Frame 0 (request x) n last) ∷ h)
+frame_regular limits x n last h r is low next =
+    regular_more limits nothing (after_frame limits x n last h) (note.Frame 0 (request x) n last) h r (frame_may limits x n last h r.books is low next) (frame_books limits x n last h r.books is low next)
+
+-- where its send buffer drains, it is to be told
+pub frame_lows : (limits : PlainLimits) (x n : ℕ) (last : Bool) (h : History NoMark) → Regular limits nothing h → has (live h) x ≡ true
+    → above (plain_setup limits) (buffer.Send (request x)) h ≡ true
+    → pending_lows (plain_setup limits) (buffer.Send (request x)) (Noted (note.Frame 0 (request x) n last) ∷ h)
+    ≡ (if above (plain_setup limits) (buffer.Send (request x)) (Noted (note.Frame 0 (request x) n last) ∷ h) then [] else request x ∷ [])
+frame_lows limits x n last h r is high =
+    lows_after limits x n last h r.books.rising is
+    ∙ drained _ _ _ (high_untold limits nothing x h (r.books.each x is) high) high
+  where
+    drained : (fs : List FlowId) (w a : Bool) → fs ≡ [] → w ≡ true → fs ++ (if w && not a then request x ∷ [] else []) ≡ (if a then [] else request x ∷ [])
+    drained fs w true e f = rw (e, f) refl
+    drained fs w false e f = rw (e, f) refl

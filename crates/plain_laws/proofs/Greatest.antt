@@ -1,0 +1,28 @@
+-- The greatest length of a buffer, step by step.
+use Rattle.flow_gate.specs.declared.ids.BufferId.{BufferId}
+use Rattle.std.proofs.Common.{ap, arith, length-drop, ◌∙◌}
+use Rattle.std.specs.Prelude.{List, [], drop, length, max, ℕ, ◌-◌, ◌∷◌, ◌≡◌, ◌≤◌}
+use Rattle.tape_laws.specs.History.{History, NoMark, Step}
+use Rattle.tape_laws.specs.Plain.{plain_setup}
+use Rattle.tape_laws.specs.Summary.{peak}
+use Rattle.tape_laws.specs.World.{len}
+use Rattle.tape_laws.specs.declared.limits.PlainLimits.{PlainLimits}
+
+-- the peak of a buffer that a step made no longer
+pub peak_same : (limits : PlainLimits) (b : BufferId) (step : Step NoMark) (h : History NoMark) → len (plain_setup limits) b (step ∷ h) ≤ len (plain_setup limits) b h
+    → len {Mark = NoMark} (plain_setup limits) b [] ≡ 0 → peak (plain_setup limits) b (step ∷ h) ≡ peak (plain_setup limits) b h
+peak_same limits b step [] le z = omega (arith, le, z)
+peak_same limits b step (first ∷ h) le z = omega (arith, le)
+
+pub peak_kept : (limits : PlainLimits) (b : BufferId) (step : Step NoMark) (h : History NoMark) → len (plain_setup limits) b (step ∷ h) ≡ len (plain_setup limits) b h
+    → len {Mark = NoMark} (plain_setup limits) b [] ≡ 0 → peak (plain_setup limits) b (step ∷ h) ≡ peak (plain_setup limits) b h
+peak_kept limits b step h e z = peak_same limits b step h (omega (arith, e)) z
+
+-- the peak that a longer buffer gives
+pub peak_grown : (limits : PlainLimits) (b : BufferId) (step : Step NoMark) (h : History NoMark) (old n new : ℕ) → old ≡ peak (plain_setup limits) b h → n ≡ len (plain_setup limits) b (step ∷ h) → new ≡ max old n
+    → new ≡ peak (plain_setup limits) b (step ∷ h)
+peak_grown limits b step h old n new eo en e = omega (arith, eo, en, e)
+
+-- a front that was dropped
+pub dropped : (n : ℕ) (xs ys : List ℕ) → xs ≡ drop n ys → length xs ≤ length ys
+dropped n xs ys e = let l : length xs ≡ length ys - n = ap length e ∙ length-drop n ys in omega (arith, l)

@@ -1,0 +1,112 @@
+-- What a step leaves of a stream that it isn't about.
+use Rattle.plain_laws.proofs.Counting.{flow_tally, one_if, told_of, write_flag, write_left}
+use Rattle.plain_laws.proofs.Extending.{under_test}
+use Rattle.plain_laws.proofs.Flags.{send_same, write_same}
+use Rattle.plain_laws.proofs.Greatest.{peak_kept}
+use Rattle.plain_laws.proofs.Streams.{same_number}
+use Rattle.plain_laws.specs.Owing.{Owing, only, owed_times}
+use Rattle.plain_laws.specs.Regular.{FlowBooks, IsUnborn}
+use Rattle.std.proofs.Common.{ap, arith, inl, inr, refl, subst, sym, ◌∙◌}
+use Rattle.std.specs.Bool.{OnTrue}
+use Rattle.std.specs.Prelude.{Bool, List, [], false, if◌then◌else◌, length, nat_lt, ℕ, ◌++◌, ◌+◌, ◌==◌, ◌∷◌, ◌≡◌, ◌≤◌, ◌⊎◌}
+use Rattle.tape_laws.specs.Dispatches.{before_dispatch}
+use Rattle.tape_laws.specs.Ends.{end_framed}
+use Rattle.tape_laws.specs.Flows.{request}
+use Rattle.tape_laws.specs.History.{History, NoMark, Step}
+use Rattle.tape_laws.specs.Pauses.{pauses, pending_lows, resumes}
+use Rattle.tape_laws.specs.Plain.{paired_with, plain_body, plain_ended, plain_must_end, plain_setup}
+use Rattle.tape_laws.specs.Watermark.{above}
+use Rattle.tape_laws.specs.World.{out, place, received}
+use Rattle.tape_laws.specs.declared.limits.PlainLimits.{PlainLimits}
+use Rattle.flow_gate.specs.declared.ids.BufferId.TheVariants as buffer
+
+pub record Leaves (limits : PlainLimits) (x : ℕ) (step : Step NoMark) (h : History NoMark) : Type 0 where
+  pub recv : place (plain_setup limits) (request x) 0 (step ∷ h) ≡ place (plain_setup limits) (request x) 0 h
+  pub send : place (plain_setup limits) (request x) 1 (step ∷ h) ≡ place (plain_setup limits) (request x) 1 h
+  pub send_lows : pending_lows (plain_setup limits) (buffer.Send (request x)) (step ∷ h) ≡ pending_lows (plain_setup limits) (buffer.Send (request x)) h
+  pub paused : pauses (request x) (step ∷ h) ≡ pauses (request x) h
+  pub resumed : resumes (request x) (step ∷ h) ≡ resumes (request x) h
+  pub body : plain_body x (step ∷ h) ≡ plain_body x h
+  pub received : received (request x) (step ∷ h) ≡ received (request x) h
+  pub framed : end_framed (plain_setup limits) (request x) (step ∷ h) ≡ end_framed (plain_setup limits) (request x) h
+
+-- and of what the events said of it
+pub record LeavesWords (x : ℕ) (step : Step NoMark) (h : History NoMark) : Type 0 where
+  pub ended : plain_ended x (step ∷ h) ≡ plain_ended x h
+  pub pairs : paired_with x (step ∷ h) ≡ paired_with x h
+  pub must : plain_must_end x (step ∷ h) ≡ plain_must_end x h
+
+pub unborn_kept : (limits : PlainLimits) (x : ℕ) (step : Step NoMark) (h : History NoMark) → Leaves limits x step h → LeavesWords x step h → IsUnborn limits x h → IsUnborn limits x (step ∷ h)
+unborn_kept limits x step h l w u = record {
+  recv = l.recv ∙ u.recv;
+  send = l.send ∙ u.send;
+  low = send_same limits (request x) step h l.send ∙ u.low;
+  paused = l.paused ∙ u.paused;
+  resumed = l.resumed ∙ u.resumed;
+  body = l.body ∙ u.body;
+  received = l.received ∙ u.received;
+  goes_on = w.ended ∙ u.goes_on;
+  alone = w.pairs ∙ u.alone;
+  unframed = l.framed ∙ u.unframed;
+  may_live = w.must ∙ u.may_live;
+  recv_peak = peak_kept limits (buffer.Recv (request x)) step h (ap length l.recv) refl ∙ u.recv_peak;
+  send_peak = peak_kept limits (buffer.Send (request x)) step h (ap length l.send) refl ∙ u.send_peak;
+}
+
+pub same_len : (xs ys : List ℕ) (n : ℕ) → xs ≡ ys → length ys ≤ n → length xs ≤ n
+same_len xs ys n e h = let P : List ℕ → Type 0 = λ v. length v ≤ n in subst P (sym e) h
+
+pub same_len_if : (b : Bool) (xs ys : List ℕ) (n : ℕ) → xs ≡ ys → OnTrue b (length ys ≤ n) → OnTrue b (length xs ≤ n)
+same_len_if b xs ys n e t = under_test b (length ys ≤ n) (length xs ≤ n) (λ le. same_len xs ys n e le) t
+
+-- a send buffer that stays as it was is still to be told at most once
+pub send_low_kept : (limits : PlainLimits) (x : ℕ) (step : Step NoMark) (h : History NoMark)
+    → place (plain_setup limits) (request x) 1 (step ∷ h) ≡ place (plain_setup limits) (request x) 1 h
+    → pending_lows (plain_setup limits) (buffer.Send (request x)) (step ∷ h) ≡ pending_lows (plain_setup limits) (buffer.Send (request x)) h
+    → (pending_lows (plain_setup limits) (buffer.Send (request x)) h ≡ [])
+    ⊎ ((pending_lows (plain_setup limits) (buffer.Send (request x)) h ≡ request x ∷ []) × (above (plain_setup limits) (buffer.Send (request x)) h ≡ false))
+    → (pending_lows (plain_setup limits) (buffer.Send (request x)) (step ∷ h) ≡ [])
+    ⊎ ((pending_lows (plain_setup limits) (buffer.Send (request x)) (step ∷ h) ≡ request x ∷ []) × (above (plain_setup limits) (buffer.Send (request x)) (step ∷ h) ≡ false))
+send_low_kept limits x step h es el (inl e) = inl (el ∙ e)
+send_low_kept limits x step h es el (inr e) = inr (el ∙ e.0, send_same limits (request x) step h es ∙ e.1)
+
+-- the books of a stream that the step isn't about: what the write buffer adds to its count is owed
+pub flow_kept : (limits : PlainLimits) (o o' : Owing) (x : ℕ) (step : Step NoMark) (h : History NoMark) → Leaves limits x step h → FlowBooks limits o x h
+    → owed_times x o'.due + (write_flag limits h + write_left limits x h) ≡ owed_times x o.due + (write_flag limits (step ∷ h) + write_left limits x (step ∷ h))
+    → o'.extra x ≡ o.extra x → end_framed (plain_setup limits) (request x) (before_dispatch (step ∷ h)) ≡ false → FlowBooks limits o' x (step ∷ h)
+flow_kept limits o o' x step h l f e extra before = record {
+  tally = flow_tally limits o.due o'.due x step h
+      (stepped _ _ _ _ _ _ _ _ _ _ _ _ _ _ l.paused l.resumed (ap one_if (send_same limits (request x) step h l.send)) (ap (told_of x) l.send_lows) e) f.tally;
+  send_low = send_low_kept limits x step h l.send l.send_lows f.send_low;
+  recv_room = same_len _ _ limits.recv l.recv f.recv_room;
+  send_room = same_len_if (nat_lt 0 limits.send) _ _ (limits.send + limits.quantum) l.send f.send_room;
+  read = l.body ∙ f.read ∙ rests (received (request x) h) _ _ _ l.received extra;
+  over = λ t. let k = f.over (sym l.framed ∙ t) in (l.recv ∙ k.0, l.send ∙ k.1, extra ∙ k.2);
+  unframed = before;
+}
+  where
+    stepped : (p o r a w s m p' o' r' a' w' s' m' : ℕ) → p' ≡ p → r' ≡ r → a' ≡ a → s' ≡ s → o' + (w + m) ≡ o + (w' + m')
+        → (p' + o') + (r + ((a + w) + (s + m))) ≡ (p + o) + (r' + ((a' + w') + (s' + m')))
+    stepped p o r a w s m p' o' r' a' w' s' m' ep er ea es e = omega arith
+
+    rests : (r e r' e' : List ℕ) → r' ≡ r → e' ≡ e → r ++ e ≡ r' ++ e'
+    rests r e r' e' er ee = rw (er, ee) refl
+
+-- where the write buffer stays as it was
+pub flow_other : (limits : PlainLimits) (o o' : Owing) (x : ℕ) (step : Step NoMark) (h : History NoMark) → Leaves limits x step h → FlowBooks limits o x h
+    → out (plain_setup limits) 0 (step ∷ h) ≡ out (plain_setup limits) 0 h → write_left limits x (step ∷ h) ≡ write_left limits x h
+    → owed_times x o'.due ≡ owed_times x o.due → o'.extra x ≡ o.extra x → end_framed (plain_setup limits) (request x) (before_dispatch (step ∷ h)) ≡ false
+    → FlowBooks limits o' x (step ∷ h)
+flow_other limits o o' x step h l f eo ew ed extra before =
+    flow_kept limits o o' x step h l f (same _ _ _ _ _ _ ed (ap one_if (write_same limits step h eo)) ew) extra before
+  where
+    same : (o w m o' w' m' : ℕ) → o' ≡ o → w' ≡ w → m' ≡ m → o' + (w + m) ≡ o + (w' + m')
+    same o w m o' w' m' eo ew em = omega arith
+
+-- ---- what came of a stream's body
+
+pub only_own : (s : ℕ) (octets : List ℕ) → only s octets s ≡ octets
+only_own s octets = ap (λ b. if b then octets else []) (same_number s)
+
+pub only_other : (s x : ℕ) (octets : List ℕ) → (s == x) ≡ false → only s octets x ≡ []
+only_other s x octets e = ap (λ b. if b then octets else []) e

@@ -1,0 +1,56 @@
+-- Notes one after the other.
+use Rattle.flow_notes.specs.declared.notes.Note.{Note}
+use Rattle.plain_laws.proofs.Tellings.{owed_cons}
+use Rattle.plain_laws.specs.Owing.{owed_times, pause_notes}
+use Rattle.std.proofs.Common.{arith, refl, subst}
+use Rattle.std.specs.Prelude.{List, [], ℕ, ◌++◌, ◌+◌, ◌∷◌, ◌≡◌}
+use Rattle.tape_laws.specs.Flows.{request}
+use Rattle.tape_laws.specs.History.{History, NoMark, Noted, onto}
+use Rattle.tape_laws.specs.Pauses.{Owed, pauses}
+use Rattle.tape_laws.specs.PlainTape.{IsPlainLawful}
+use Rattle.tape_laws.specs.declared.limits.PlainLimits.{PlainLimits}
+use Rattle.flow_notes.specs.declared.notes.Note.TheVariants as note
+
+pub onto_append : (ms ns : List Note) (h : History NoMark) → onto (ms ++ ns) h ≡ onto ns (onto ms h)
+onto_append [] ns h = refl
+onto_append (m ∷ ms) ns h = onto_append ms ns (Noted m ∷ h)
+
+-- what stood before a note of a lawful history is lawful
+pub tail_lawful : (limits : PlainLimits) (n : Note) (h : History NoMark) → IsPlainLawful limits (Noted n ∷ h) → IsPlainLawful limits h
+tail_lawful limits n h l = record {
+  lawful = record {
+    allowed = l.lawful.allowed.1;
+    paused = l.lawful.paused.1;
+    counted = l.lawful.counted.1;
+    bounded = l.lawful.bounded.1;
+    tied = l.lawful.tied.1;
+    ends = l.lawful.ends.1;
+    in_turn = l.lawful.in_turn.1;
+    doomed = l.lawful.doomed.1;
+    answered = l.lawful.answered.1;
+    only = l.lawful.only.1;
+    quiet = l.lawful.quiet.1;
+  };
+  caused = l.caused.1;
+}
+
+pub before_lawful : (limits : PlainLimits) (ns : List Note) (h : History NoMark) → IsPlainLawful limits (onto ns h) → IsPlainLawful limits h
+before_lawful limits [] h l = l
+before_lawful limits (n ∷ ns) h l = tail_lawful limits n h (before_lawful limits ns (Noted n ∷ h) l)
+
+-- notes that were cut short
+pub front_lawful : (limits : PlainLimits) (front rest : List Note) (h : History NoMark) → IsPlainLawful limits (onto (front ++ rest) h) → IsPlainLawful limits (onto front h)
+front_lawful limits front rest h l =
+    let P : History NoMark → Type 0 = IsPlainLawful limits in before_lawful limits rest (onto front h) (subst P (onto_append front rest h) l)
+
+-- how often a stream was paused once all pauses that were due are written
+pub pauses_written : (x : ℕ) (due : List Owed) (h : History NoMark) → pauses (request x) (onto (pause_notes due) h) ≡ owed_times x due + pauses (request x) h
+pauses_written x [] h = none (pauses (request x) h)
+  where
+    none : (n : ℕ) → n ≡ 0 + n
+    none n = omega arith
+pauses_written x (o ∷ due) h =
+    sums _ _ _ _ _ (pauses_written x due (Noted (note.Pause o.flow o.buffer) ∷ h)) (owed_cons x o due)
+  where
+    sums : (t d k s p : ℕ) → t ≡ d + (k + p) → s ≡ k + d → t ≡ s + p
+    sums t d k s p e f = omega arith

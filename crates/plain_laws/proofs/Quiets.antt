@@ -1,0 +1,141 @@
+-- When a dispatch is whole, and what follows from that.
+use Rattle.flow_gate.specs.declared.ids.FlowId.{FlowId}
+use Rattle.plain_laws.proofs.Counting.{lows_are, send_left, told_of, write_left}
+use Rattle.plain_laws.proofs.Extending.{count_is}
+use Rattle.plain_laws.proofs.Moves.{first_place, untold}
+use Rattle.plain_laws.proofs.Streams.{all_at, all_of, each_live, live_each}
+use Rattle.plain_laws.proofs.Tellings.{told_own}
+use Rattle.plain_laws.specs.Done.{IsDone}
+use Rattle.plain_laws.specs.Owing.{nothing}
+use Rattle.plain_laws.specs.Regular.{IsLiveFlow, Regular, Rests}
+use Rattle.std.proofs.Common.{ap, arith, refl, subst, sym, ◌∙◌}
+use Rattle.std.proofs.lemmas.Bool.Decides.{nat_tests}
+use Rattle.std.proofs.lemmas.List.{append-nil}
+use Rattle.std.specs.Bool.{OnFalse, OnTrue}
+use Rattle.std.specs.List.{AllByRecursion}
+use Rattle.std.specs.Prelude.{Bool, List, None, [], false, if◌then◌else◌, length, min, nat_lt, true, ℕ, ◌&&◌, ◌+◌, ◌<◌, ◌==◌, ◌∷◌, ◌≡◌}
+use Rattle.tape_laws.specs.Dispatches.{has, live}
+use Rattle.tape_laws.specs.Flows.{request}
+use Rattle.tape_laws.specs.History.{History, NoMark}
+use Rattle.tape_laws.specs.Order.{Nothing, next_on}
+use Rattle.tape_laws.specs.Pauses.{count, lows, pending_lows}
+use Rattle.tape_laws.specs.Plain.{plain_body, plain_must_end, plain_session, plain_setup}
+use Rattle.tape_laws.specs.Quiet.{EachPlace, IsQuiet}
+use Rattle.tape_laws.specs.Release.{last_free, may_release}
+use Rattle.tape_laws.specs.Sources.{disabled}
+use Rattle.tape_laws.specs.Watermark.{above}
+use Rattle.tape_laws.specs.World.{place, received}
+use Rattle.tape_laws.specs.declared.limits.PlainLimits.{PlainLimits}
+use Rattle.flow_gate.specs.declared.ids.BufferId.TheVariants as buffer
+
+release_none : (c q n : ℕ) → (c ≡ 0 → n ≡ 0) → (if c == 0 then min q n else 0) ≡ 0
+release_none c q n f = pick (c == 0) refl
+  where
+    zero_of : (c : ℕ) → (c == 0) ≡ true → c ≡ 0
+    zero_of c e = grind (arith, nat_tests)
+
+    least : (q n : ℕ) → n ≡ 0 → min q n ≡ 0
+    least q n e = omega (arith, e)
+
+    pick : (b : Bool) → (c == 0) ≡ b → (if b then min q n else 0) ≡ 0
+    pick true e = least q n (f (zero_of c e))
+    pick false e = refl
+
+-- what may not be released isn't free
+not_free : (r : ℕ) (b : Bool) → r ≡ 0 → first_place (nat_lt 0 r && b) ≡ None
+not_free r b e = ap (λ k. first_place (nat_lt 0 k && b)) e
+
+on_true : (b : Bool) (A : Type 0) → A → OnTrue b A
+on_true true A a = a
+on_true false A a = tt
+
+on_false : (b : Bool) (B : Type 0) → (b ≡ false → B) → OnFalse b B
+on_false true B g = tt
+on_false false B g = g refl
+
+sum_none : (l s m : ℕ) → l ≡ s + m → s ≡ 0 → m ≡ 0 → l ≡ 0
+sum_none l s m e es em = omega arith
+
+counted_alone : (c d l : ℕ) → c ≡ d + l → l ≡ 0 → c ≡ d
+counted_alone c d l e z = omega arith
+
+done_lows : (limits : PlainLimits) (x : ℕ) (h : History NoMark) → IsDone limits h → has (live h) x ≡ true → lows (plain_setup limits) (request x) h ≡ 0
+done_lows limits x h d e = sum_none _ _ _ (lows_are limits x h) (ap (told_of x) (d.send_told x e)) (ap (told_of x) d.write_told)
+
+done_still : (limits : PlainLimits) (x : ℕ) (h : History NoMark) → IsDone limits h → has (live h) x ≡ true → may_release (plain_setup limits) (request x) 0 h ≡ 0
+done_still limits x h d e = release_none (count (request x) h) limits.quantum (length (place (plain_setup limits) (request x) 0 h)) (λ z. ap length (d.moved x e z))
+
+done_quiet : (limits : PlainLimits) (h : History NoMark) → Regular limits nothing h → IsDone limits h → IsQuiet (plain_session limits) h
+done_quiet limits h r d =
+    let s = r.books in
+    record {
+      paused = s.due;
+      told = each_live limits (λ g. lows (plain_setup limits) g h ≡ 0) h (λ x e. done_lows limits x h d e);
+      counted = each_live limits (λ g. count g h ≡ disabled (plain_setup limits) g h) h (λ x e. counted_alone _ _ _ (count_is limits nothing x h (s.each x e) refl) (done_lows limits x h d e));
+      still = each_live limits (λ g. OnTrue (count g h == 0) (EachPlace (λ p. may_release (plain_setup limits) g p h ≡ 0) 0)) h (λ x e. on_true _ _ (done_still limits x h d e));
+      behind = each_live limits (λ g. last_free (plain_setup limits) g h ≡ None) h (λ x e. not_free _ _ (done_still limits x h d e));
+      framed = let P : List ℕ → Type 0 = AllByRecursion (λ c. OnFalse (above (plain_setup limits) (buffer.Write c) h) (next_on (plain_setup limits) c h ≡ Nothing)) in
+          subst P (sym s.opened) (on_false (above (plain_setup limits) (buffer.Write 0) h) _ d.framed, tt);
+      read = each_live limits (λ g. received g h ≡ plain_body g.exchange h) h (λ x e. sym ((s.each x e).read ∙ append-nil (received (request x) h)));
+      tamed = tt;
+      asked = s.asks;
+      ended = all_of (λ x. plain_must_end x h ≡ false) (live h) d.ended;
+      gone = d.gone;
+    }
+
+pub done_rests : (limits : PlainLimits) (h : History NoMark) → Regular limits nothing h → IsDone limits h → Rests limits h
+done_rests limits h r d = record { regular = r; quiet = done_quiet limits h r d }
+
+pub told_none : (limits : PlainLimits) (x : ℕ) (h : History NoMark) → IsQuiet (plain_session limits) h → has (live h) x ≡ true → (send_left limits x h ≡ 0) × (write_left limits x h ≡ 0)
+told_none limits x h q e = none _ _ _ (lows_are limits x h) (live_each limits (λ g. lows (plain_setup limits) g h ≡ 0) h x q.told e)
+  where
+    none : (l s m : ℕ) → l ≡ s + m → l ≡ 0 → (s ≡ 0) × (m ≡ 0)
+    none l s m e z = (omega arith, omega arith)
+
+-- at rest nobody is to be told of the write buffer
+pub rests_told : (limits : PlainLimits) (h : History NoMark) → Rests limits h → pending_lows (plain_setup limits) (buffer.Write 0) h ≡ []
+rests_told limits h r = nobody _ r.regular.books.write_lows (λ x e. (told_none limits x h r.quiet e).1)
+  where
+    one_isnt : (n m : ℕ) → n ≡ 1 + m → n ≡ 0 → ⊥
+    one_isnt n m e z = omega (arith, e, z)
+
+    nobody : (fs : List FlowId) → AllByRecursion (IsLiveFlow (live h)) fs → ((x : ℕ) → has (live h) x ≡ true → told_of x fs ≡ 0) → fs ≡ []
+    nobody [] a f = refl
+    nobody (g ∷ gs) a f =
+        let P : FlowId → Type 0 = λ v. told_of g.exchange (v ∷ gs) ≡ 0 in
+        absurd (one_isnt _ _ (told_own g.exchange gs) (subst P a.0.is (f g.exchange a.0.live)))
+
+pub rests_done : (limits : PlainLimits) (h : History NoMark) → 0 < limits.quantum → Rests limits h → IsDone limits h
+rests_done limits h carries r =
+    let q = r.quiet in
+    let s = r.regular.books in
+    record {
+      write_told = rests_told limits h r;
+      send_told = λ x e. untold limits nothing x h (s.each x e) (told_none limits x h q e).0;
+      moved = λ x e z. still_none _ _ _ carries z (live_each limits (λ g. OnTrue (count g h == 0) (EachPlace (λ p. may_release (plain_setup limits) g p h ≡ 0) 0)) h x q.still e);
+      framed = let P : List ℕ → Type 0 = AllByRecursion (λ c. OnFalse (above (plain_setup limits) (buffer.Write c) h) (next_on (plain_setup limits) c h ≡ Nothing)) in
+          under_false (above (plain_setup limits) (buffer.Write 0) h) _ (subst P s.opened q.framed).0;
+      ended = λ x e. all_at (λ y. plain_must_end y h ≡ false) (live h) x q.ended e;
+      gone = q.gone;
+    }
+  where
+    under_false : (b : Bool) (A : Type 0) → OnFalse b A → b ≡ false → A
+    under_false true A a e = cc
+    under_false false A a e = a
+
+    still_none : (c q : ℕ) (xs : List ℕ) → 0 < q → c ≡ 0 → OnTrue (c == 0) ((if c == 0 then min q (length xs) else 0) ≡ 0) → xs ≡ []
+    still_none c q xs some z t = empty xs (least q (length xs) some (at_zero (c == 0) (zero_is c z) t))
+      where
+        zero_is : (c : ℕ) → c ≡ 0 → (c == 0) ≡ true
+        zero_is c e = grind (arith, nat_tests)
+
+        at_zero : (b : Bool) → b ≡ true → OnTrue b ((if b then min q (length xs) else 0) ≡ 0) → min q (length xs) ≡ 0
+        at_zero true e t = t
+        at_zero false e t = cc
+
+        least : (q l : ℕ) → 0 < q → min q l ≡ 0 → l ≡ 0
+        least q l e f = omega arith
+
+        empty : (xs : List ℕ) → length xs ≡ 0 → xs ≡ []
+        empty [] e = refl
+        empty (y ∷ ys) e = absurd (omega (arith, e))

@@ -1,0 +1,269 @@
+-- Which flow is next on the connection.
+use Rattle.flow_gate.specs.declared.ids.FlowId.{FlowId}
+use Rattle.plain_laws.proofs.Streams.{all_at, by_case, not_both, number_is, or_left, or_right, same_number}
+use Rattle.plain_laws.specs.Next.{IsNextAbove, IsNextAround, is_ready, unit_of}
+use Rattle.plain_laws.specs.Regular.{IsRising}
+use Rattle.std.proofs.Common.{ap, arith, refl, subst, sym, ◌∙◌}
+use Rattle.std.proofs.lemmas.Bool.Decides.{nat_tests}
+use Rattle.std.specs.Prelude.{Bool, List, [], false, filter, flat_map, if◌then◌else◌, length, min, nat_le, nat_lt, not, true, ℕ, ◌&&◌, ◌++◌, ◌<◌, ◌==◌, ◌||◌, ◌∷◌, ◌≡◌, ◌≤◌}
+use Rattle.tape_laws.specs.Dispatches.{has, live}
+use Rattle.tape_laws.specs.Ends.{BodyUnit, FlowUnit, NoUnit, carried, carries_end, end_framed, next_unit}
+use Rattle.tape_laws.specs.Flows.{request}
+use Rattle.tape_laws.specs.History.{History, NoMark}
+use Rattle.tape_laws.specs.Order.{Flows, Nothing, first_flow, framed_last, is_unit, next_on}
+use Rattle.tape_laws.specs.Plain.{plain_ended, plain_setup}
+use Rattle.tape_laws.specs.World.{place}
+use Rattle.tape_laws.specs.declared.limits.PlainLimits.{PlainLimits}
+
+-- ---- the unit of a flow
+
+same_end : (e z s : Bool) → (e && ((z && true) && s) && true) ≡ (e && (z && s))
+same_end true true true = refl
+same_end true true false = refl
+same_end true false s = refl
+same_end false z s = refl
+
+same_unit : (c : ℕ) (e z s t fr : Bool)
+    → (if nat_lt 0 c then BodyUnit c (e && ((z && true) && s) && true) else if not (e && ((z && true) && t)) || fr then NoUnit else BodyUnit 0 true)
+    ≡ (if nat_lt 0 c then BodyUnit c (e && (z && s)) else if not (e && (z && t)) || fr then NoUnit else BodyUnit 0 true)
+same_unit c true true true t fr = refl
+same_unit c true true false t fr = refl
+same_unit c true false s t fr = refl
+same_unit c false z s t fr = refl
+
+pub carried_is : (limits : PlainLimits) (x : ℕ) (h : History NoMark) → carried (plain_setup limits) (request x) h ≡ min limits.quantum (length (place (plain_setup limits) (request x) 1 h))
+carried_is limits x h = twice limits.quantum (length (place (plain_setup limits) (request x) 1 h))
+  where
+    twice : (q s : ℕ) → min (min q q) s ≡ min q s
+    twice q s = omega arith
+
+pub carries_is : (limits : PlainLimits) (x n : ℕ) (h : History NoMark) → carries_end (plain_setup limits) (request x) n h
+    ≡ (plain_ended x h && ((length (place (plain_setup limits) (request x) 0 h) == 0) && (length (place (plain_setup limits) (request x) 1 h) == n)))
+carries_is limits x n h = same_end (plain_ended x h) (length (place (plain_setup limits) (request x) 0 h) == 0) (length (place (plain_setup limits) (request x) 1 h) == n)
+
+pub unit_is : (limits : PlainLimits) (x : ℕ) (h : History NoMark)
+    → next_unit (plain_setup limits) (request x) h
+    ≡ unit_of limits.quantum (plain_ended x h) (end_framed (plain_setup limits) (request x) h) (length (place (plain_setup limits) (request x) 0 h)) (length (place (plain_setup limits) (request x) 1 h))
+unit_is limits x h =
+    let e = plain_ended x h in
+    let r = length (place (plain_setup limits) (request x) 0 h) in
+    let s = length (place (plain_setup limits) (request x) 1 h) in
+    let fr = end_framed (plain_setup limits) (request x) h in
+    let c = carried (plain_setup limits) (request x) h in
+    same_unit c e (r == 0) (s == c) (s == 0) fr
+    ∙ ap (λ k. if nat_lt 0 k then BodyUnit k (e && ((r == 0) && (s == k))) else if not (e && ((r == 0) && (s == 0))) || fr then NoUnit else BodyUnit 0 true) (carried_is limits x h)
+
+-- what is told by a unit that is octets
+pub record IsBodyUnit (quantum : ℕ) (ended framed : Bool) (recv send n : ℕ) (last : Bool) : Type 0 where
+  pub all : n ≡ min quantum send
+  pub ends : last ≡ (ended && ((recv == 0) && (send == n)))
+  pub some : (nat_lt 0 n || last) ≡ true
+  pub again : framed ≡ true → 0 < n
+
+positive_of : (n : ℕ) → nat_lt 0 n ≡ true → 0 < n
+positive_of n e = grind (arith, nat_tests)
+
+none_of : (n : ℕ) → nat_lt 0 n ≡ false → n ≡ 0
+none_of n e = grind (arith, nat_tests)
+
+pub body_unit : (q r s n : ℕ) (e fr last : Bool) → unit_of q e fr r s ≡ BodyUnit n last → IsBodyUnit q e fr r s n last
+body_unit q r s n e fr last u = by_case (nat_lt 0 (min q s)) octets (λ f. empty f (not (e && ((r == 0) && (s == 0))) || fr) refl)
+  where
+    octets : nat_lt 0 (min q s) ≡ true → IsBodyUnit q e fr r s n last
+    octets t =
+        let v : BodyUnit (min q s) (e && ((r == 0) && (s == min q s))) ≡ BodyUnit n last =
+        sym (ap (λ b. if b then BodyUnit (min q s) (e && ((r == 0) && (s == min q s))) else if not (e && ((r == 0) && (s == 0))) || fr then NoUnit else BodyUnit 0 true) t) ∙ u in
+        let same : min q s ≡ n = cc in
+        let end : (e && ((r == 0) && (s == min q s))) ≡ last = cc in
+        let more : nat_lt 0 n ≡ true = ap (λ k. nat_lt 0 k) (sym same) ∙ t in
+        record { all = sym same; ends = sym end ∙ ap (λ k. e && ((r == 0) && (s == k))) same; some = or_left (nat_lt 0 n) last more; again = λ g. positive_of n more }
+
+    ended_of : (b fr : Bool) → (not b || fr) ≡ false → (b ≡ true) × (fr ≡ false)
+    ended_of true fr e = (refl, e)
+    ended_of false fr e = cc
+
+    empty : nat_lt 0 (min q s) ≡ false → (b : Bool) → (not (e && ((r == 0) && (s == 0))) || fr) ≡ b → IsBodyUnit q e fr r s n last
+    empty f true eb =
+        let v : NoUnit ≡ BodyUnit n last =
+        sym (ap (λ b. if b then BodyUnit (min q s) (e && ((r == 0) && (s == min q s))) else if not (e && ((r == 0) && (s == 0))) || fr then NoUnit else BodyUnit 0 true) f
+        ∙ ap (λ b. if b then NoUnit else BodyUnit 0 true) eb) ∙ u in
+        absurd (cc)
+    empty f false eb =
+        let v : BodyUnit 0 true ≡ BodyUnit n last =
+        sym (ap (λ b. if b then BodyUnit (min q s) (e && ((r == 0) && (s == min q s))) else if not (e && ((r == 0) && (s == 0))) || fr then NoUnit else BodyUnit 0 true) f
+        ∙ ap (λ b. if b then NoUnit else BodyUnit 0 true) eb) ∙ u in
+        let same : 0 ≡ n = cc in
+        let end : true ≡ last = cc in
+        let k = ended_of (e && ((r == 0) && (s == 0))) fr eb in
+        record {
+          all = sym same ∙ sym (none_of (min q s) f);
+          ends = sym end ∙ sym k.0 ∙ ap (λ m. e && ((r == 0) && (s == m))) same;
+          some = or_right (nat_lt 0 n) last (sym end);
+          again = λ g. not_both fr g k.1;
+        }
+
+-- ---- the first of those that are ready
+
+skip_first : (p q : FlowId → Bool) (f : FlowId) (fs : List FlowId) → (p f && q f) ≡ false → filter q (filter p (f ∷ fs)) ≡ filter q (filter p fs)
+skip_first p q f fs e = pick (p f) refl
+  where
+    and_false : (a b : Bool) → (a && b) ≡ false → a ≡ true → b ≡ false
+    and_false true b e f = e
+    and_false false b e f = cc
+
+    pick : (b : Bool) → p f ≡ b → filter q (if b then f ∷ filter p fs else filter p fs) ≡ filter q (filter p fs)
+    pick true t = ap (λ b. if b then f ∷ filter q (filter p fs) else filter q (filter p fs)) (and_false (p f) (q f) e t)
+    pick false t = refl
+
+take_first : (p q : FlowId → Bool) (f : FlowId) (fs : List FlowId) → p f ≡ true → q f ≡ true → filter q (filter p (f ∷ fs)) ≡ f ∷ filter q (filter p fs)
+take_first p q f fs ep eq =
+    ap (λ b. filter q (if b then f ∷ filter p fs else filter p fs)) ep ∙ ap (λ b. if b then f ∷ filter q (filter p fs) else filter q (filter p fs)) eq
+
+-- those that pass both tests begin with x, where it passes them and none before it does
+first_passing : (p q : FlowId → Bool) (xs : List ℕ) (x : ℕ) → IsRising xs → has xs x ≡ true → p (request x) ≡ true → q (request x) ≡ true
+    → ((y : ℕ) → has xs y ≡ true → p (request y) ≡ true → q (request y) ≡ true → x ≤ y)
+    → (rest : List FlowId) × (filter q (filter p (flat_map (λ y. request y ∷ []) xs)) ≡ request x ∷ rest)
+first_passing p q [] x r e ep eq least = cc
+first_passing p q (y ∷ ys) x r e ep eq least =
+    by_case (y == x) (λ t. own (number_is y x t)) (λ d. other (later (y == x) (has ys x) e d) (first_passing p q ys x r.1 (later (y == x) (has ys x) e d) ep eq (λ z ez. least z (or_right (y == z) (has ys z) ez))))
+  where
+    later : (a b : Bool) → (a || b) ≡ true → a ≡ false → b ≡ true
+    later true b e f = cc
+    later false b e f = e
+
+    own : y ≡ x → (rest : List FlowId) × (filter q (filter p (flat_map (λ z. request z ∷ []) (y ∷ ys))) ≡ request x ∷ rest)
+    own e =
+        let P : ℕ → Type 0 = λ v. (rest : List FlowId) × (filter q (filter p (flat_map (λ z. request z ∷ []) (v ∷ ys))) ≡ request x ∷ rest) in
+        subst P (sym e) (filter q (filter p (flat_map (λ z. request z ∷ []) ys)), take_first p q (request x) (flat_map (λ z. request z ∷ []) ys) ep eq)
+
+    and_true : (a b : Bool) → (a && b) ≡ true → (a ≡ true) × (b ≡ true)
+    and_true true b e = (refl, e)
+    and_true false b e = cc
+
+    greater : (a b : ℕ) → a < b → b ≤ a → ⊥
+    greater a b e f = omega arith
+
+    other : has ys x ≡ true → (rest : List FlowId) × (filter q (filter p (flat_map (λ z. request z ∷ []) ys)) ≡ request x ∷ rest)
+        → (rest : List FlowId) × (filter q (filter p (flat_map (λ z. request z ∷ []) (y ∷ ys))) ≡ request x ∷ rest)
+    other is k =
+        let no : (p (request y) && q (request y)) ≡ false =
+        by_case (p (request y) && q (request y))
+        (λ t. let b = and_true (p (request y)) (q (request y)) t in
+        absurd (greater y x (all_at (λ z. y < z) ys x r.0 is) (least y (or_left (y == y) (has ys y) (same_number y)) b.0 b.1)))
+        (λ f. f) in
+        (k.0, skip_first p q (request y) (flat_map (λ z. request z ∷ []) ys) no ∙ k.1)
+
+none_passing : (p q : FlowId → Bool) (xs : List ℕ) → ((y : ℕ) → has xs y ≡ true → (p (request y) && q (request y)) ≡ false)
+    → filter q (filter p (flat_map (λ y. request y ∷ []) xs)) ≡ []
+none_passing p q [] none = refl
+none_passing p q (y ∷ ys) none =
+    skip_first p q (request y) (flat_map (λ z. request z ∷ []) ys) (none y (or_left (y == y) (has ys y) (same_number y)))
+    ∙ none_passing p q ys (λ z e. none z (or_right (y == z) (has ys z) e))
+
+-- the flow has a unit
+abbrev ready_flow : PlainLimits → History NoMark → FlowId → Bool
+ready_flow limits h f = is_unit (next_unit (plain_setup limits) f h)
+
+abbrev beyond : ℕ → FlowId → Bool
+beyond last f = nat_lt last f.exchange
+
+abbrev within : ℕ → FlowId → Bool
+within last f = nat_le f.exchange last
+
+first_of_two : (limits : PlainLimits) (h : History NoMark) (f : FlowId) (ds bs cs : List FlowId) → ds ≡ f ∷ cs → first_flow (plain_setup limits) (ds ++ bs) h ≡ Flows f (next_unit (plain_setup limits) f h)
+first_of_two limits h f ds bs cs e = ap (λ (fs : List FlowId). first_flow (plain_setup limits) (fs ++ bs) h) e
+
+pub next_above : (limits : PlainLimits) (x : ℕ) (h : History NoMark) → IsRising (live h) → IsNextAbove limits x h
+    → next_on (plain_setup limits) 0 h ≡ Flows (request x) (next_unit (plain_setup limits) (request x) h)
+next_above limits x h r n =
+    let last = framed_last (plain_setup limits) 0 h in
+    let k = first_passing (ready_flow limits h) (beyond last) (live h) x r n.lives n.ready (beyond_is last x n.after) (λ y e ep eq. n.least y e ep (beyond_of last y eq)) in
+    first_of_two limits h (request x) _ _ k.0 k.1
+  where
+    beyond_is : (a b : ℕ) → a < b → nat_lt a b ≡ true
+    beyond_is a b e = grind (arith, nat_tests)
+
+    beyond_of : (a b : ℕ) → nat_lt a b ≡ true → a < b
+    beyond_of a b e = grind (arith, nat_tests)
+
+pub next_around : (limits : PlainLimits) (x : ℕ) (h : History NoMark) → IsRising (live h) → IsNextAround limits x h
+    → next_on (plain_setup limits) 0 h ≡ Flows (request x) (next_unit (plain_setup limits) (request x) h)
+next_around limits x h r n =
+    let last = framed_last (plain_setup limits) 0 h in
+    let k = first_passing (ready_flow limits h) (within last) (live h) x r n.lives n.ready (within_is x last (n.none x n.lives n.ready)) (λ y e ep eq. n.least y e ep) in
+    let z = none_passing (ready_flow limits h) (beyond last) (live h) (λ y e. not_beyond y last (ready_flow limits h (request y)) (n.none y e)) in
+    ap (λ (fs : List FlowId). first_flow (plain_setup limits) (fs ++ filter (within last) (filter (ready_flow limits h) (flat_map (λ y. request y ∷ []) (live h)))) h) z
+    ∙ ap (λ (fs : List FlowId). first_flow (plain_setup limits) fs h) k.1
+  where
+    within_is : (a b : ℕ) → a ≤ b → nat_le a b ≡ true
+    within_is a b e = grind (arith, nat_tests)
+
+    not_beyond : (y last : ℕ) (b : Bool) → (b ≡ true → y ≤ last) → (b && nat_lt last y) ≡ false
+    not_beyond y last true f = let k = f refl in past y last k
+      where
+        past : (y last : ℕ) → y ≤ last → nat_lt last y ≡ false
+        past y last e = grind (arith, nat_tests)
+    not_beyond y last false f = refl
+
+pub next_none : (limits : PlainLimits) (h : History NoMark) → ((x : ℕ) → has (live h) x ≡ true → is_ready limits x h ≡ false) → next_on (plain_setup limits) 0 h ≡ Nothing
+next_none limits h none =
+    let last = framed_last (plain_setup limits) 0 h in
+    let a = none_passing (ready_flow limits h) (beyond last) (live h) (λ y e. neither (ready_flow limits h (request y)) _ (none y e)) in
+    let b = none_passing (ready_flow limits h) (within last) (live h) (λ y e. neither (ready_flow limits h (request y)) _ (none y e)) in
+    ap (λ (fs : List FlowId). first_flow (plain_setup limits) (fs ++ filter (within last) (filter (ready_flow limits h) (flat_map (λ y. request y ∷ []) (live h)))) h) a
+    ∙ ap (λ (fs : List FlowId). first_flow (plain_setup limits) fs h) b
+  where
+    neither : (a b : Bool) → a ≡ false → (a && b) ≡ false
+    neither true b e = cc
+    neither false b e = refl
+
+no_first : (limits : PlainLimits) (h : History NoMark) (fs : List FlowId) → first_flow (plain_setup limits) fs h ≡ Nothing → fs ≡ []
+no_first limits h [] e = refl
+no_first limits h (f ∷ fs) e = absurd (cc)
+
+both_empty : (ds bs : List FlowId) → ds ++ bs ≡ [] → (ds ≡ []) × (bs ≡ [])
+both_empty [] bs e = (refl, e)
+both_empty (d ∷ ds) bs e = absurd (cc)
+
+not_passing : (p q : FlowId → Bool) (xs : List ℕ) (x : ℕ) → filter q (filter p (flat_map (λ y. request y ∷ []) xs)) ≡ [] → has xs x ≡ true → q (request x) ≡ true → p (request x) ≡ false
+not_passing p q [] x none e eq = cc
+not_passing p q (y ∷ ys) x none e eq =
+    by_case (y == x) (λ t. own (number_is y x t)) (λ d. not_passing p q ys x (rest_none (p (request y)) (q (request y)) refl refl) (later (y == x) (has ys x) e d) eq)
+  where
+    later : (a b : Bool) → (a || b) ≡ true → a ≡ false → b ≡ true
+    later true b e f = cc
+    later false b e f = e
+
+    some : (g : FlowId) (gs : List FlowId) → g ∷ gs ≡ [] → ⊥
+    some g gs e = cc
+
+    rest_none : (a b : Bool) → p (request y) ≡ a → q (request y) ≡ b → filter q (filter p (flat_map (λ z. request z ∷ []) ys)) ≡ []
+    rest_none true true ep eq = absurd (some _ _ (sym (take_first p q (request y) (flat_map (λ z. request z ∷ []) ys) ep eq) ∙ none))
+    rest_none true false ep eq = sym (skip_first p q (request y) (flat_map (λ z. request z ∷ []) ys) (ap (λ b. p (request y) && b) eq ∙ ap (λ b. b && false) ep)) ∙ none
+    rest_none false b ep eq = sym (skip_first p q (request y) (flat_map (λ z. request z ∷ []) ys) (ap (λ b. b && q (request y)) ep)) ∙ none
+
+    own : y ≡ x → p (request x) ≡ false
+    own e =
+        let P : ℕ → Type 0 = λ v. filter q (filter p (request v ∷ flat_map (λ z. request z ∷ []) ys)) ≡ [] in
+        by_case (p (request x)) (λ t. absurd (some _ _ (sym (take_first p q (request x) (flat_map (λ z. request z ∷ []) ys) t eq) ∙ subst P e none))) (λ f. f)
+
+pub none_next : (limits : PlainLimits) (x : ℕ) (h : History NoMark) → next_on (plain_setup limits) 0 h ≡ Nothing → has (live h) x ≡ true → is_ready limits x h ≡ false
+none_next limits x h none is =
+    let last = framed_last (plain_setup limits) 0 h in
+    let k = both_empty (filter (beyond last) (filter (ready_flow limits h) (flat_map (λ y. request y ∷ []) (live h)))) _ (no_first limits h _ none) in
+    by_case (nat_lt last x) (λ t. not_passing (ready_flow limits h) (beyond last) (live h) x k.0 is t)
+    (λ f. not_passing (ready_flow limits h) (within last) (live h) x k.1 is (then_within x last f))
+  where
+    then_within : (x last : ℕ) → nat_lt last x ≡ false → nat_le x last ≡ true
+    then_within x last e = grind (arith, nat_tests)
+
+-- the unit of the flow that is next
+pub next_is_unit : (limits : PlainLimits) (f : FlowId) (u : FlowUnit) (h : History NoMark) → next_on (plain_setup limits) 0 h ≡ Flows f u → next_unit (plain_setup limits) f h ≡ u
+next_is_unit limits f u h e = first _ e
+  where
+    first : (fs : List FlowId) → first_flow (plain_setup limits) fs h ≡ Flows f u → next_unit (plain_setup limits) f h ≡ u
+    first [] e = absurd (cc)
+    first (g ∷ gs) e =
+        let same : g ≡ f = cc in
+        let unit : next_unit (plain_setup limits) g h ≡ u = cc in
+        ap (λ (k : FlowId). next_unit (plain_setup limits) k h) (sym same) ∙ unit

@@ -1,0 +1,143 @@
+-- How often a stream stands among flows that are to be told, and among pauses that are due.
+use Rattle.flow_gate.specs.declared.ids.BufferId.{BufferId}
+use Rattle.flow_gate.specs.declared.ids.FlowId.{FlowId}
+use Rattle.plain_laws.proofs.Counting.{one_if, told_of}
+use Rattle.plain_laws.proofs.Rising.{rising_apart}
+use Rattle.plain_laws.proofs.Streams.{by_case, differs_back, has_one, not_both, number_is, or_left, or_right, same_number, same_request}
+use Rattle.plain_laws.specs.Owing.{due_if, owed_times, pauses_for}
+use Rattle.plain_laws.specs.Regular.{IsLiveFlow, IsRising}
+use Rattle.std.proofs.Common.{ap, arith, refl, subst, sym, ◌∙◌}
+use Rattle.std.proofs.lemmas.List.Sums.{sum_by-append, sum_by-cons}
+use Rattle.std.specs.List.{AllByRecursion}
+use Rattle.std.specs.Prelude.{Bool, List, [], drop, false, filter, if◌then◌else◌, map, not, suc, true, zero, ℕ, ◌&&◌, ◌++◌, ◌+◌, ◌==◌, ◌||◌, ◌∷◌, ◌≡◌}
+use Rattle.tape_laws.specs.Dispatches.{has}
+use Rattle.tape_laws.specs.Flows.{request, same_flow}
+use Rattle.tape_laws.specs.Pauses.{Owed}
+
+pub told_cons : (x : ℕ) (f : FlowId) (fs : List FlowId) → told_of x (f ∷ fs) ≡ one_if (same_flow (request x) f) + told_of x fs
+told_cons x f fs = sum_by-cons (λ (g : FlowId). one_if (same_flow (request x) g)) f fs
+
+pub told_append : (x : ℕ) (fs gs : List FlowId) → told_of x (fs ++ gs) ≡ told_of x fs + told_of x gs
+told_append x fs gs = sum_by-append (λ (g : FlowId). one_if (same_flow (request x) g)) fs gs
+
+pub one_other : (x y : ℕ) → (x == y) ≡ false → one_if (same_flow (request y) (request x)) ≡ 0
+one_other x y e = ap (λ b. one_if (b && true)) (differs_back x y e)
+
+pub one_own : (x : ℕ) → one_if (same_flow (request x) (request x)) ≡ 1
+one_own x = ap one_if (same_request x)
+
+pub told_own : (x : ℕ) (fs : List FlowId) → told_of x (request x ∷ fs) ≡ 1 + told_of x fs
+told_own x fs = told_cons x (request x) fs ∙ ap (λ n. n + told_of x fs) (one_own x)
+
+pub told_other : (x y : ℕ) (fs : List FlowId) → (x == y) ≡ false → told_of y (request x ∷ fs) ≡ told_of y fs
+told_other x y fs e = told_cons y (request x) fs ∙ ap (λ n. n + told_of y fs) (one_other x y e) ∙ none (told_of y fs)
+  where
+    none : (n : ℕ) → 0 + n ≡ n
+    none n = omega arith
+
+-- a stream that isn't live stands among no live flows
+pub told_absent : (x : ℕ) (xs : List ℕ) (fs : List FlowId) → AllByRecursion (IsLiveFlow xs) fs → has xs x ≡ false → told_of x fs ≡ 0
+told_absent x xs [] a e = refl
+told_absent x xs (f ∷ fs) a e =
+    let i = a.0 in
+    let away : (f.exchange == x) ≡ false = by_case (f.exchange == x) (λ t. let P : ℕ → Type 0 = λ v. has xs v ≡ true in not_both (has xs x) (subst P (number_is f.exchange x t) i.live) e) (λ d. d) in
+    told_cons x f fs ∙ both _ _ (ap (λ (g : FlowId). one_if (same_flow (request x) g)) i.is ∙ one_other f.exchange x away) (told_absent x xs fs a.1 e)
+  where
+    both : (a b : ℕ) → a ≡ 0 → b ≡ 0 → a + b ≡ 0
+    both a b e f = omega arith
+
+-- each stream of a rising list stands once among the flows of all
+pub told_all : (xs : List ℕ) (x : ℕ) → IsRising xs → told_of x (map request xs) ≡ one_if (has xs x)
+told_all [] x r = refl
+told_all (y ∷ ys) x r = by_case (y == x) (λ t. own (number_is y x t) (told_all ys y r.1)) (λ d. told_other y x (map request ys) d ∙ told_all ys x r.1 ∙ ap (λ b. one_if (b || has ys x)) (sym d))
+  where
+    more : (m : ℕ) → m ≡ 0 → 1 + m ≡ 1
+    more m e = omega (arith, e)
+
+    own : y ≡ x → told_of y (map request ys) ≡ one_if (has ys y) → told_of x (map request (y ∷ ys)) ≡ one_if (has (y ∷ ys) x)
+    own e later =
+        let P : ℕ → Type 0 = λ v. told_of v (map request (y ∷ ys)) ≡ one_if (has (y ∷ ys) v) in
+        subst P e (told_own y (map request ys) ∙ more _ (later ∙ ap one_if (rising_apart y ys r.0)) ∙ sym (ap (λ b. one_if (b || has ys y)) (same_number y)))
+
+-- without another stream
+pub told_without : (x y : ℕ) (fs : List FlowId) → (x == y) ≡ false → told_of y (filter (λ (f : FlowId). not (f.exchange == x)) fs) ≡ told_of y fs
+told_without x y [] e = refl
+told_without x y (f ∷ fs) e = pick (f.exchange == x) refl (told_without x y fs e)
+  where
+    none : (m n : ℕ) → m ≡ 0 → m + n ≡ n
+    none m n e = omega (arith, e)
+
+    away : (f.exchange == x) ≡ true → one_if (same_flow (request y) f) ≡ 0
+    away t = ap (λ b. one_if (b && (if false then f.back else not f.back))) (ap (λ v. y == v) (number_is f.exchange x t) ∙ differs_back x y e)
+
+    pick : (b : Bool) → (f.exchange == x) ≡ b → told_of y (filter (λ (g : FlowId). not (g.exchange == x)) fs) ≡ told_of y fs
+        → told_of y (if not b then f ∷ filter (λ (g : FlowId). not (g.exchange == x)) fs else filter (λ (g : FlowId). not (g.exchange == x)) fs) ≡ told_of y (f ∷ fs)
+    pick true t rest = rest ∙ sym (told_cons y f fs ∙ none _ _ (away t))
+    pick false t rest =
+        told_cons y f (filter (λ (g : FlowId). not (g.exchange == x)) fs) ∙ ap (λ n. one_if (same_flow (request y) f) + n) rest ∙ sym (told_cons y f fs)
+
+-- ---- the pauses
+
+pub owed_cons : (x : ℕ) (o : Owed) (due : List Owed) → owed_times x (o ∷ due) ≡ one_if (same_flow o.flow (request x)) + owed_times x due
+owed_cons x o due = sum_by-cons (λ (p : Owed). one_if (same_flow p.flow (request x))) o due
+
+-- each stream of a rising list is paused once
+pub owed_all : (b : BufferId) (xs : List ℕ) (x : ℕ) → IsRising xs → owed_times x (pauses_for b xs) ≡ one_if (has xs x)
+owed_all b [] x r = refl
+owed_all b (y ∷ ys) x r =
+    owed_cons x (record { flow = request y; buffer = b }) (pauses_for b ys) ∙ ap (λ n. one_if (same_flow (request y) (request x)) + n) (owed_all b ys x r.1)
+    ∙ by_case (y == x) (λ t. own (number_is y x t)) (λ d. other (y == x) (has ys x) d)
+  where
+    other : (c h : Bool) → c ≡ false → one_if (c && true) + one_if h ≡ one_if (c || h)
+    other true h e = cc
+    other false h e = none (one_if h)
+      where
+        none : (n : ℕ) → 0 + n ≡ n
+        none n = omega arith
+
+    whole : (c h : Bool) → c ≡ true → h ≡ false → one_if (c && true) + one_if h ≡ one_if (c || h)
+    whole true true e f = cc
+    whole true false e f = refl
+    whole false h e f = cc
+
+    own : y ≡ x → one_if (same_flow (request y) (request x)) + one_if (has ys x) ≡ one_if (has (y ∷ ys) x)
+    own e =
+        let P : ℕ → Type 0 = λ v. one_if (same_flow (request y) (request v)) + one_if (has ys v) ≡ one_if (has (y ∷ ys) v) in
+        subst P e (whole (y == y) (has ys y) (same_number y) (rising_apart y ys r.0))
+
+pub owed_if : (a : Bool) (b : BufferId) (xs : List ℕ) (x : ℕ) → IsRising xs → has xs x ≡ true → owed_times x (due_if a b xs) ≡ one_if a
+owed_if true b xs x r e = owed_all b xs x r ∙ ap one_if e
+owed_if false b xs x r e = refl
+
+pub owed_one : (a : Bool) (b : BufferId) (x : ℕ) → owed_times x (due_if a b (x ∷ [])) ≡ one_if a
+owed_one a b x = owed_if a b (x ∷ []) x (tt, tt) (has_one x x ∙ same_number x)
+
+pub owed_none : (a : Bool) (b : BufferId) (x y : ℕ) → (x == y) ≡ false → owed_times y (due_if a b (x ∷ [])) ≡ 0
+owed_none true b x y e = owed_all b (x ∷ []) y (tt, tt) ∙ ap one_if (has_one x y ∙ e)
+owed_none false b x y e = refl
+
+-- the pauses of live streams are of live flows
+pub all_owed : (b : BufferId) (xs ys : List ℕ) → ((x : ℕ) → has xs x ≡ true → has ys x ≡ true) → AllByRecursion (λ (o : Owed). IsLiveFlow ys o.flow) (pauses_for b xs)
+all_owed b [] ys f = tt
+all_owed b (x ∷ xs) ys f =
+    (record { is = refl; live = f x (or_left (x == x) (has xs x) (same_number x)) }, all_owed b xs ys (λ y e. f y (or_right (x == y) (has xs y) e)))
+
+pub live_owed : (a : Bool) (b : BufferId) (xs ys : List ℕ) → ((x : ℕ) → has xs x ≡ true → has ys x ≡ true) → AllByRecursion (λ (o : Owed). IsLiveFlow ys o.flow) (due_if a b xs)
+live_owed true b xs ys f = all_owed b xs ys f
+live_owed false b xs ys f = tt
+
+-- ---- flows that stay live
+
+pub live_flows_kept : (xs ys : List ℕ) (fs : List FlowId) → ((x : ℕ) → has xs x ≡ true → has ys x ≡ true) → AllByRecursion (IsLiveFlow xs) fs → AllByRecursion (IsLiveFlow ys) fs
+live_flows_kept xs ys [] f a = tt
+live_flows_kept xs ys (g ∷ gs) f a = (record { is = a.0.is; live = f g.exchange a.0.live }, live_flows_kept xs ys gs f a.1)
+
+pub live_flows_drop : (n : ℕ) (xs : List ℕ) (fs : List FlowId) → AllByRecursion (IsLiveFlow xs) fs → AllByRecursion (IsLiveFlow xs) (drop n fs)
+live_flows_drop zero xs fs a = a
+live_flows_drop (suc n) xs [] a = tt
+live_flows_drop (suc n) xs (f ∷ fs) a = live_flows_drop n xs fs a.1
+
+pub all_requests : (xs ys : List ℕ) → ((x : ℕ) → has xs x ≡ true → has ys x ≡ true) → AllByRecursion (IsLiveFlow ys) (map request xs)
+all_requests [] ys f = tt
+all_requests (x ∷ xs) ys f =
+    (record { is = refl; live = f x (or_left (x == x) (has xs x) (same_number x)) }, all_requests xs ys (λ y e. f y (or_right (x == y) (has xs y) e)))

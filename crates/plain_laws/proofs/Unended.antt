@@ -1,0 +1,51 @@
+-- A stream that need not end.
+use Rattle.flow_gate.specs.declared.ids.FlowId.{FlowId}
+use Rattle.plain_laws.proofs.Streams.{all_at, or_none}
+use Rattle.std.proofs.Common.{ap, arith, refl, ◌∙◌}
+use Rattle.std.proofs.lemmas.Bool.Decides.{nat_tests}
+use Rattle.std.specs.Prelude.{Bool, List, [], false, if◌then◌else◌, true, ℕ, ◌&&◌, ◌==◌, ◌||◌, ◌∷◌, ◌≡◌}
+use Rattle.tape_laws.specs.Dispatches.{has, live}
+use Rattle.tape_laws.specs.Ends.{end_framed}
+use Rattle.tape_laws.specs.Flows.{request, same_flow}
+use Rattle.tape_laws.specs.History.{History, NoMark, Noted}
+use Rattle.tape_laws.specs.Plain.{paired_with, plain_must_end, plain_session, plain_setup}
+use Rattle.tape_laws.specs.Quiet.{IsQuiet}
+use Rattle.tape_laws.specs.declared.limits.PlainLimits.{PlainLimits}
+use Rattle.flow_notes.specs.declared.notes.Note.TheVariants as note
+
+-- no end of it was framed
+pub unframed_of : (limits : PlainLimits) (x : ℕ) (h : History NoMark) → plain_must_end x h ≡ false → end_framed (plain_setup limits) (request x) h ≡ false
+unframed_of limits x [] e = refl
+unframed_of limits x (Noted (note.Frame c f n last) ∷ past) e =
+    let k = or_none (last && has (x ∷ paired_with x past) f.exchange) (plain_must_end x past) e in
+    both (same_flow f (request x) && last) _ (not_last f last (paired_with x past) k.0) (unframed_of limits x past k.1)
+  where
+    both : (a b : Bool) → a ≡ false → b ≡ false → (a || b) ≡ false
+    both true b e f = cc
+    both false b e f = f
+
+    none : (a b c l : Bool) → (l && (a || b)) ≡ false → ((a && c) && l) ≡ false
+    none true b c true e = cc
+    none true true c false e = refl' c
+      where
+        refl' : (c : Bool) → (c && false) ≡ false
+        refl' true = refl
+        refl' false = refl
+    none true false c false e = refl' c
+      where
+        refl' : (c : Bool) → (c && false) ≡ false
+        refl' true = refl
+        refl' false = refl
+    none false b c l e = refl
+
+    swapped : (a b : ℕ) → (a == b) ≡ (b == a)
+    swapped a b = grind (arith, nat_tests)
+
+    not_last : (f : FlowId) (last : Bool) (xs : List ℕ) → (last && has (x ∷ xs) f.exchange) ≡ false → (same_flow f (request x) && last) ≡ false
+    not_last f last xs e =
+        none (f.exchange == x) (has xs f.exchange) (if f.back then false else true) last (ap (λ b. last && (b || has xs f.exchange)) (swapped f.exchange x) ∙ e)
+unframed_of limits x (step ∷ past) e = unframed_of limits x past e
+
+-- at the end of a dispatch no live stream need end
+pub rests_unframed : (limits : PlainLimits) (x : ℕ) (h : History NoMark) → IsQuiet (plain_session limits) h → has (live h) x ≡ true → end_framed (plain_setup limits) (request x) h ≡ false
+rests_unframed limits x h q e = unframed_of limits x h (all_at (λ y. plain_must_end y h ≡ false) (live h) x q.ended e)

@@ -1,0 +1,56 @@
+-- Which flows watch a buffer.
+use Rattle.flow_gate.specs.declared.ids.FlowId.{FlowId}
+use Rattle.plain_laws.proofs.Rising.{rising_apart}
+use Rattle.plain_laws.proofs.Streams.{by_case, differs_back, number_is, or_none, same_number}
+use Rattle.plain_laws.specs.Regular.{IsRising}
+use Rattle.std.proofs.Common.{ap, refl, subst, ◌∙◌}
+use Rattle.std.specs.List.{list_any}
+use Rattle.std.specs.Prelude.{Bool, List, [], false, filter, flat_map, if◌then◌else◌, map, true, ℕ, ◌&&◌, ◌==◌, ◌||◌, ◌∷◌, ◌≡◌}
+use Rattle.tape_laws.specs.Dispatches.{has, live}
+use Rattle.tape_laws.specs.Flows.{request, same_buffer}
+use Rattle.tape_laws.specs.History.{History, NoMark}
+use Rattle.tape_laws.specs.Plain.{plain_setup}
+use Rattle.tape_laws.specs.Sources.{watchers}
+use Rattle.tape_laws.specs.declared.limits.PlainLimits.{PlainLimits}
+use Rattle.flow_gate.specs.declared.ids.BufferId.TheVariants as buffer
+
+pub write_watchers : (limits : PlainLimits) (h : History NoMark) → watchers (plain_setup limits) (buffer.Write 0) h ≡ map request (live h)
+write_watchers limits h = each (live h)
+  where
+    each : (xs : List ℕ) → filter (λ (f : FlowId). list_any (same_buffer (buffer.Write 0)) (buffer.Send f ∷ buffer.Write 0 ∷ [])) (flat_map (λ x. request x ∷ []) xs) ≡ map request xs
+    each [] = refl
+    each (x ∷ xs) = ap (λ (fs : List FlowId). request x ∷ fs) (each xs)
+
+-- the flows of these streams that watch the send buffer of x
+abbrev watching : ℕ → List ℕ → List FlowId
+watching x xs = filter (λ (f : FlowId). list_any (same_buffer (buffer.Send (request x))) (buffer.Send f ∷ buffer.Write 0 ∷ [])) (flat_map (λ y. request y ∷ []) xs)
+
+none_watching : (x : ℕ) (xs : List ℕ) → has xs x ≡ false → watching x xs ≡ []
+none_watching x [] e = refl
+none_watching x (y ∷ ys) e =
+    let k = or_none (y == x) (has ys x) e in
+    ap (λ b. if (b && true) || false then request y ∷ watching x ys else watching x ys) (differs_back y x k.0) ∙ none_watching x ys k.1
+
+one_watching : (x : ℕ) (xs : List ℕ) → IsRising xs → has xs x ≡ true → watching x xs ≡ request x ∷ []
+one_watching x [] r e = cc
+one_watching x (y ∷ ys) r e =
+    by_case (y == x)
+    (λ t. own (number_is y x t) (none_watching y ys (rising_apart y ys r.0)))
+    (λ d. ap (λ b. if (b && true) || false then request y ∷ watching x ys else watching x ys) (differs_back y x d)
+    ∙ one_watching x ys r.1 (has_was_tail (y == x) (has ys x) e d))
+  where
+    own : y ≡ x → watching y ys ≡ [] → watching x (y ∷ ys) ≡ request x ∷ []
+    own e none =
+        let P : ℕ → Type 0 = λ v. watching v (y ∷ ys) ≡ request v ∷ [] in
+        subst P e (ap (λ b. if (b && true) || false then request y ∷ watching y ys else watching y ys) (same_number y) ∙ ap (λ (fs : List FlowId). request y ∷ fs) none)
+
+    has_was_tail : (a b : Bool) → (a || b) ≡ true → a ≡ false → b ≡ true
+    has_was_tail true b e f = cc
+    has_was_tail false b e f = e
+
+pub send_watchers : (limits : PlainLimits) (x : ℕ) (h : History NoMark) → IsRising (live h) → has (live h) x ≡ true
+    → watchers (plain_setup limits) (buffer.Send (request x)) h ≡ request x ∷ []
+send_watchers limits x h r is = one_watching x (live h) r is
+
+pub send_unwatched : (limits : PlainLimits) (x : ℕ) (h : History NoMark) → has (live h) x ≡ false → watchers (plain_setup limits) (buffer.Send (request x)) h ≡ []
+send_unwatched limits x h is = none_watching x (live h) is

@@ -1,0 +1,13 @@
+// Laws of the tapes of plain sessions: they are told by contracts, and do nothing.
+ghost use Rattle.tape_laws.specs.Headline.{Headline};
+ghost use Rattle.tape_laws.specs.History.{History, NoMark};
+ghost use Rattle.tape_laws.specs.Plain.{plain_setup};
+ghost use Rattle.tape_laws.specs.PlainTape.{IsPlainWhole};
+ghost use Rattle.tape_laws.specs.declared.limits.PlainLimits.{PlainLimits};
+
+/// A lawful tape of whole dispatches, of any number of streams, keeps what is promised to an operator: what each
+/// flow sent on is a front of the body that was read for it, no buffer holds more than its bound, and after each
+/// dispatch the count of each live flow is the number of its sources that are above.
+pub fn whole_tapes_keep_the_headline()
+    ensures { (limits : PlainLimits) (h : History NoMark) → IsPlainWhole limits h → Headline (plain_setup limits) h }
+{}

@@ -1,0 +1,7 @@
+//! How the histories of plain sessions go on, note by note, for any number of streams: which note may
+//! follow a lawful history, and what the history is then. No core is named here.
+#![tactic(auto)]
+
+mod laws;
+
+pub use laws::whole_tapes_keep_the_headline;
