@@ -1,0 +1,11 @@
+use Rattle.std.proofs.Common.{refl}
+use Rattle.worker_core.proofs.FlowFounds.{founds}
+use Rattle.worker_core.proofs.flows.Flows.new.Goals as goal
+use Rattle.plain_laws.proofs.Founding.{none_regular}
+
+pub returns : goal.returns
+returns c = record {
+  stands = founds c.args.limits c.new.result c.new-gates.result c.open_buffer.new.self c.new-2.result c.requires c.new.ensures.live c.new.ensures.doomed c.new.ensures.last c.new.ensures.time c.new.ensures.sound
+      c.new-gates.ensures.empty (c.in_ok-open_buffer.ensures {u = tt}).ok c.open_buffer.ensures.sound c.new-2.ensures;
+  lawful = record { regular = none_regular c.args.limits; untold = λ x. refl };
+}

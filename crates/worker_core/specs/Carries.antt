@@ -1,0 +1,182 @@
+-- What each effect carries: from each history that the flows stood for to the one with the step's notes.
+use Rattle.exchange_core.specs.Exchanges.{flow_at}
+use Rattle.flow_gate.specs.declared.ids.FlowId.{FlowId}
+use Rattle.flow_notes.specs.declared.events.PlainEvent.{PlainEvent}
+use Rattle.flow_notes.specs.declared.notes.Cause.{Cause}
+use Rattle.plain_laws.specs.StepNotes.{begin_notes, body_notes, frame_notes, move_notes, room_notes}
+use Rattle.std.specs.Prelude.{Bool, List, None, Option, IfSome, Some, [], false, length, min, nat_lt, true, ℕ, ◌&&◌, ◌+◌, ◌<◌, ◌==◌, ◌∷◌, ◌≡◌, ◌≤◌, ◌⊎◌}
+use Rattle.tape_laws.specs.Dispatches.{has, live, started}
+use Rattle.tape_laws.specs.Doomed.{condemned}
+use Rattle.tape_laws.specs.Ends.{BodyUnit}
+use Rattle.tape_laws.specs.Flows.{request}
+use Rattle.tape_laws.specs.History.{History, NoMark, Noted, onto}
+use Rattle.tape_laws.specs.Order.{Flows as FlowsNext, Nothing, next_on}
+use Rattle.tape_laws.specs.Pauses.{count, pending_lows}
+use Rattle.tape_laws.specs.Plain.{plain_setup}
+use Rattle.tape_laws.specs.Watermark.{above, drains_at, rises_at}
+use Rattle.tape_laws.specs.World.{place}
+use Rattle.tape_laws.specs.declared.limits.PlainLimits.{PlainLimits}
+use Rattle.worker_core.specs.Flows.{FlowsStand, Settled}
+use Rattle.worker_core.specs.declared.flows.Flows.{Flows}
+use Rattle.worker_core.specs.declared.flows.Framed.{Framed}
+use Rattle.worker_core.specs.declared.flows.Moved.{Moved}
+use Rattle.worker_core.specs.declared.flows.NextFrame.{NextFrame}
+use Rattle.flow_gate.specs.declared.ids.BufferId.TheVariants as buffer
+use Rattle.flow_notes.specs.declared.events.Event.TheVariants as event
+use Rattle.flow_notes.specs.declared.events.PlainEvent.TheVariants as plain
+use Rattle.flow_notes.specs.declared.notes.Note.TheVariants as note
+
+-- ---- what is seen
+-- whether the stream is live
+pub record Lives (flows : Flows) (x : ℕ) (answer : Bool) : Type 0 where
+  pub goes : (limits : PlainLimits) (h : History NoMark) → Settled limits flows h → answer ≡ has (live h) x
+
+-- whether n more octets fit into its receive buffer
+pub record Fits (flows : Flows) (x n : ℕ) (answer : Bool) : Type 0 where
+  pub yes : (limits : PlainLimits) (h : History NoMark) → Settled limits flows h → has (live h) x ≡ true → answer ≡ true
+      → length (place (plain_setup limits) (request x) 0 h) + n ≤ limits.recv
+  pub no : (limits : PlainLimits) (h : History NoMark) → Settled limits flows h → has (live h) x ≡ true → answer ≡ false
+      → limits.recv < length (place (plain_setup limits) (request x) 0 h) + n
+
+-- the frame that goes next, where the write buffer isn't above
+pub record NextIs (next : NextFrame) (limits : PlainLimits) (h : History NoMark) : Type 0 where
+  pub live : has (live h) next.exchange ≡ true
+  pub low : above (plain_setup limits) (buffer.Write 0) h ≡ false
+  pub turn : next_on (plain_setup limits) 0 h ≡ FlowsNext (request next.exchange) (BodyUnit next.n next.last)
+
+pub record NoNext (limits : PlainLimits) (h : History NoMark) : Type 0 where
+  pub none : (above (plain_setup limits) (buffer.Write 0) h ≡ true) ⊎ (next_on (plain_setup limits) 0 h ≡ Nothing)
+
+abbrev pub NextAt : Option NextFrame → PlainLimits → History NoMark → Type 0
+NextAt (Some next) limits h = NextIs next limits h
+NextAt None limits h = NoNext limits h
+
+pub record IsNextFrame (flows : Flows) (next : Option NextFrame) : Type 0 where
+  pub goes : (limits : PlainLimits) (h : History NoMark) → Settled limits flows h → NextAt next limits h
+
+-- the same, but none where the connection is being drained
+abbrev pub IsNextUnless : Bool → Flows → Option NextFrame → Type 0
+IsNextUnless true flows next = next ≡ None
+IsNextUnless false flows next = IsNextFrame flows next
+
+-- ---- small steps
+-- octets of the stream may move: it isn't held back, and its receive buffer holds some
+abbrev pub may_move : PlainLimits → ℕ → History NoMark → Bool
+may_move limits x h = (count (request x) h == 0) && nat_lt 0 (length (place (plain_setup limits) (request x) 0 h))
+
+-- all that may move moves
+pub record MovesAt (x : ℕ) (m : Moved) (limits : PlainLimits) (new : Flows) (h : History NoMark) : Type 0 where
+  pub some : 0 < m.n
+  pub all : m.n ≡ min limits.quantum (length (place (plain_setup limits) (request x) 0 h))
+  pub free : count (request x) h ≡ 0
+  pub rises : m.rose ≡ rises_at (plain_setup limits) (buffer.Send (request x)) (Noted (note.Move (request x) 0 m.n)) h
+  pub stands : FlowsStand limits new (onto (move_notes limits x m.n h) h)
+
+pub record StaysAt (x : ℕ) (limits : PlainLimits) (new : Flows) (h : History NoMark) : Type 0 where
+  pub still : may_move limits x h ≡ false
+  pub stands : FlowsStand limits new h
+
+abbrev pub StepsAt : ℕ → Option Moved → PlainLimits → Flows → History NoMark → Type 0
+StepsAt x (Some m) limits new h = MovesAt x m limits new h
+StepsAt x None limits new h = StaysAt x limits new h
+
+pub record Steps (x : ℕ) (moved : Option Moved) (old new : Flows) : Type 0 where
+  pub goes : (limits : PlainLimits) (h : History NoMark) → Settled limits old h → has (live h) x ≡ true → StepsAt x moved limits new h
+
+-- a frame, the pauses of a rise, and the resume of its own low
+pub record FramesAt (next : NextFrame) (framed : Framed) (limits : PlainLimits) (new : Flows) (h : History NoMark) : Type 0 where
+  pub rises : framed.rose ≡ rises_at (plain_setup limits) (buffer.Write 0) (Noted (note.Frame 0 (request next.exchange) next.n next.last)) h
+  pub drains : framed.drained ≡ drains_at (plain_setup limits) (buffer.Send (request next.exchange)) (Noted (note.Frame 0 (request next.exchange) next.n next.last)) h
+  pub stands : FlowsStand limits new (onto (frame_notes limits next.exchange next.n next.last h) h)
+
+pub record Frames (next : NextFrame) (framed : Framed) (old new : Flows) : Type 0 where
+  pub goes : (limits : PlainLimits) (h : History NoMark) → Settled limits old h → NextIs next limits h → FramesAt next framed limits new h
+
+-- a watcher of the write buffer is told that it drained, where any is to be told
+pub record TellsAt (x : ℕ) (limits : PlainLimits) (new : Flows) (h : History NoMark) : Type 0 where
+  pub rest : List FlowId
+  pub first : pending_lows (plain_setup limits) (buffer.Write 0) h ≡ request x ∷ rest
+  pub stands : FlowsStand limits new (Noted (note.Resume (request x) (buffer.Write 0)) ∷ h)
+
+pub record ToldAll (limits : PlainLimits) (new : Flows) (h : History NoMark) : Type 0 where
+  pub none : pending_lows (plain_setup limits) (buffer.Write 0) h ≡ []
+  pub stands : FlowsStand limits new h
+
+abbrev pub TellsAs : Option FlowId → PlainLimits → Flows → History NoMark → Type 0
+TellsAs (Some f) limits new h = (f ≡ request f.exchange) × TellsAt f.exchange limits new h
+TellsAs None limits new h = ToldAll limits new h
+
+pub record Tells (told : Option FlowId) (old new : Flows) : Type 0 where
+  pub goes : (limits : PlainLimits) (h : History NoMark) → Settled limits old h → TellsAs told limits new h
+
+-- a live stream is doomed, by a step or by the event of a turn note
+pub record Dooms (x : ℕ) (why : Cause) (old new : Flows) : Type 0 where
+  pub goes : (limits : PlainLimits) (h : History NoMark) → Settled limits old h → has (live h) x ≡ true → FlowsStand limits new (Noted (note.Doom x why) ∷ h)
+  pub turned : (limits : PlainLimits) (k : ℕ) (e : PlainEvent) (h : History NoMark) → Settled limits old h → has (live h) x ≡ true
+      → FlowsStand limits old (Noted (note.Turn k (event.Plain e)) ∷ h) → FlowsStand limits new (Noted (note.Doom x why) ∷ Noted (note.Turn k (event.Plain e)) ∷ h)
+
+-- the first of the doomed is gone, where there is one
+pub record SweepsAt (x : ℕ) (limits : PlainLimits) (new : Flows) (h : History NoMark) : Type 0 where
+  pub rest : List ℕ
+  pub first : condemned h ≡ x ∷ rest
+  pub stands : FlowsStand limits new (Noted (note.Gone x) ∷ h)
+
+pub record NoneDoomed (limits : PlainLimits) (new : Flows) (h : History NoMark) : Type 0 where
+  pub none : condemned h ≡ []
+  pub stands : FlowsStand limits new h
+
+abbrev pub SweepsAs : Option ℕ → PlainLimits → Flows → History NoMark → Type 0
+SweepsAs (Some x) limits new h = SweepsAt x limits new h
+SweepsAs None limits new h = NoneDoomed limits new h
+
+pub record Sweeps (swept : Option ℕ) (old new : Flows) : Type 0 where
+  pub goes : (limits : PlainLimits) (h : History NoMark) → Settled limits old h → SweepsAs swept limits new h
+  pub less : IfSome swept (λ x. length new.exchanges.doomed < length old.exchanges.doomed)
+
+-- ---- what events do, with their turn note
+-- a stream starts, and is paused where the write buffer is above
+pub record BeginsAt (x : ℕ) (is_held : Bool) (limits : PlainLimits) (new : Flows) (k : ℕ) (h : History NoMark) : Type 0 where
+  pub held : is_held ≡ above (plain_setup limits) (buffer.Write 0) h
+  pub stands : FlowsStand limits new (onto (begin_notes limits k x h) h)
+
+pub record Begins (x : ℕ) (is_held : Bool) (old new : Flows) : Type 0 where
+  pub goes : (limits : PlainLimits) (k : ℕ) (h : History NoMark) → Settled limits old h → has (started h) x ≡ false → BeginsAt x is_held limits new k h
+  pub last : new.exchanges.last ≡ x
+
+-- octets arrive
+pub record Arrives (x : ℕ) (octets : List ℕ) (old new : Flows) : Type 0 where
+  pub goes : (limits : PlainLimits) (k : ℕ) (h : History NoMark) → Settled limits old h → has (live h) x ≡ true → FlowsStand limits new (onto (body_notes k x octets) h)
+
+-- the end of a live stream comes
+pub record Ends (x : ℕ) (old new : Flows) : Type 0 where
+  pub goes : (limits : PlainLimits) (k : ℕ) (h : History NoMark) → Settled limits old h → has (live h) x ≡ true
+      → FlowsStand limits new (Noted (note.Turn k (event.Plain (plain.Finish x))) ∷ h)
+
+-- n octets leave the write buffer
+pub record LeavesAt (n : ℕ) (low : Bool) (limits : PlainLimits) (new : Flows) (k m : ℕ) (h : History NoMark) : Type 0 where
+  pub drains : low ≡ drains_at (plain_setup limits) (buffer.Write 0) (Noted (note.Out 0 n)) h
+  pub stands : FlowsStand limits new (onto (room_notes k m n) h)
+
+pub record Leaves (n : ℕ) (low : Bool) (old new : Flows) : Type 0 where
+  pub goes : (limits : PlainLimits) (k m : ℕ) (h : History NoMark) → Settled limits old h → pending_lows (plain_setup limits) (buffer.Write 0) h ≡ [] → LeavesAt n low limits new k m h
+
+-- ---- others
+-- it is doomed where it is live
+abbrev pub GivesUpAs : ℕ → Cause → Flows → Bool → Flows → Type 0
+GivesUpAs x why old true new = Lives old x true × Dooms x why old new
+GivesUpAs x why old false new = Lives old x false × (new ≡ old)
+
+pub record GivesUp (x : ℕ) (why : Cause) (old : Flows) (was_live : Bool) (new : Flows) : Type 0 where
+  pub is : GivesUpAs x why old was_live new
+
+-- its end hasn't come
+abbrev pub GoesOn : Flows → ℕ → Type 0
+GoesOn flows x = IfSome (flow_at flows.exchanges (request x)) (λ f. f.message.ended ≡ false)
+
+-- the event brings more than the receive buffer has room for
+abbrev pub IsOverrunBy : Flows → ℕ → PlainEvent → Type 0
+IsOverrunBy flows x (plain.Body y octets) = (y ≡ x) × Fits flows x (length octets) false
+IsOverrunBy flows x e = ⊥
+
+pub record IsOverrun (flows : Flows) (x : ℕ) (e : PlainEvent) : Type 0 where
+  pub is : IsOverrunBy flows x e

@@ -1,0 +1,12 @@
+pub mod Agenda
+pub mod Carries
+pub mod Crossings
+pub mod Flows
+pub mod Measure
+pub mod Noting
+pub mod Progress
+pub mod Ready
+pub mod Runs
+pub mod Stands
+pub mod Tops
+pub mod UnitsOf

@@ -1,0 +1,53 @@
+-- How much is still to do: each octet has its way ahead, and each thing under way its weight. Every small step lessens it.
+use Rattle.exchange_core.specs.declared.exchange.Exchange.{Exchange}
+use Rattle.flow_gate.specs.Board.{pending_on}
+use Rattle.std.specs.List.{sum_by}
+use Rattle.std.specs.Prelude.{None, Option, Some, if◌then◌else◌, length, ℕ, ◌*◌, ◌+◌, ◌≤◌}
+use Rattle.worker_core.specs.declared.agenda.Task.{Task}
+use Rattle.worker_core.specs.declared.worker.Core.{Core}
+use Rattle.flow_gate.specs.declared.ids.FlowId.{FlowId}
+use Rattle.worker_core.specs.declared.flows.Flows.{Flows}
+use Rattle.worker_core.specs.declared.flows.Moved.{Moved}
+use Rattle.worker_core.specs.declared.flows.NextFrame.{NextFrame}
+use Rattle.exchange_core.specs.Flow.{send}
+use Rattle.flow_gate.specs.declared.ids.BufferId.TheVariants as buffer
+use Rattle.worker_core.specs.declared.agenda.Task.TheVariants as task
+
+-- the octets of an exchange, by the places that they have ahead, and its end
+abbrev pub way : Exchange → ℕ
+way e = 9 * length e.request.recv + (5 * length (send e.request) + (if e.request.message.end_framed then 0 else 7))
+
+abbrev pub ahead : Flows → ℕ
+ahead flows = sum_by (λ e. way e.1) flows.exchanges.live
+
+-- the flows that are still to be told
+abbrev pub untold : Flows → ℕ
+untold flows = 4 * length (pending_on flows.gates (buffer.Write 0))
+
+abbrev pub left_in : Flows → ℕ
+left_in flows = ahead flows + untold flows
+
+-- a move lets octets go one place on
+abbrev pub LessByMove : Option Moved → Flows → Flows → Type 0
+LessByMove (Some m) old new = left_in new + 4 ≤ left_in old
+LessByMove None old new = left_in new ≤ left_in old
+
+-- a frame lets some go, or the end
+abbrev pub of_frame : NextFrame → ℕ
+of_frame next = if next.last then 7 else 5
+
+-- one flow fewer is to be told
+abbrev pub LessByTelling : Option FlowId → Flows → Flows → Type 0
+LessByTelling (Some f) old new = left_in new + 4 ≤ left_in old
+LessByTelling None old new = left_in new ≤ left_in old
+
+abbrev pub weight : Task → ℕ
+weight task.Round = 1
+weight (task.Drain c) = 1
+weight (task.Tell c) = 1
+weight (task.Run f) = 1
+weight (task.End x) = 2
+weight (task.EarlyEnd x) = 1
+
+abbrev pub to_go : Core → ℕ
+to_go core = left_in core.flows + sum_by weight core.agenda
