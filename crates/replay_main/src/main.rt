@@ -1,5 +1,5 @@
-//! The program `h2replay`: replays the session on standard input and writes its tape to standard
-//! output.
+//! The program `h2replay`: replays the session on standard input, or a drill, and writes its tape or
+//! summary to standard output.
 #![tactic(auto)]
 
 use io_ports::{StdSink, StdSource};
@@ -8,8 +8,9 @@ use std::env;
 use std::io::{self, ErrorKind};
 use std::process::ExitCode;
 
-const USAGE: &str = "usage: h2replay plain
-  plain  reads a plain session from standard input, and writes its tape and summary
+const USAGE: &str = "usage: h2replay plain | h2replay drill N
+  plain    reads a plain session from standard input, and writes its tape and summary
+  drill N  runs a session of N streams, 1 to 1000, and writes what it came to
 ";
 
 fn main(rt: HostRuntime) -> ExitCode {

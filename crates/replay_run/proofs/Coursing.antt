@@ -1,7 +1,7 @@
 -- A stream that begins.
 use Rattle.flow_notes.specs.declared.events.Event.{Event}
 use Rattle.replay_run.specs.Courses.{Follows, IsFresh, course_of, greatest_of}
-use Rattle.replay_run.specs.Following.{begun, cut, finished, paired}
+use Rattle.tape_laws.specs.Following.{begun, cut, finished, paired}
 use Rattle.replay_run.specs.declared.courses.Courses.{Courses}
 use Rattle.std.proofs.Common.{ap, arith, refl, subst, sym, ◌∙◌}
 use Rattle.std.proofs.lemmas.Bool.Decides.{nat_tests}

@@ -40,7 +40,7 @@ then_equal Less b = refl
 then_equal Equal b = refl
 then_equal Greater b = refl
 
-numbers_equal : (a b : ℕ) → is_eq (nat_cmp a b) ≡ (a == b)
+pub numbers_equal : (a b : ℕ) → is_eq (nat_cmp a b) ≡ (a == b)
 numbers_equal a b = grind (arith, nat_tests)
 
 bools_equal : (a b : Bool) → is_eq (bool_cmp a b) ≡ (if a then b else not b)
@@ -166,7 +166,7 @@ last_at (x ∷ xs) t (suc n) = last_at xs t n ∙ ap (λ b. if b then Some t els
 pub logs_none : (log : PauseLog) → Logs log [] log
 logs_none log = record { goes = λ h a. a }
 
-onto_more : (ns ms : List Note) (h : History NoMark) → onto (ns ++ ms) h ≡ onto ms (onto ns h)
+pub onto_more : (ns ms : List Note) (h : History NoMark) → onto (ns ++ ms) h ≡ onto ms (onto ns h)
 onto_more [] ms h = refl
 onto_more (n ∷ ns) ms h = onto_more ns ms (Noted n ∷ h)
 

@@ -4,29 +4,34 @@ use Rattle.flow_notes.specs.Line.{newline}
 use Rattle.flow_notes.specs.declared.events.Event.{Event}
 use Rattle.flow_notes.specs.declared.notes.Note.{Note}
 use Rattle.io_ports.specs.declared.octets.NoMemory.{NoMemory}
-use Rattle.plain_core.specs.Runs.{Turns}
-use Rattle.plain_core.specs.Stands.{Rests}
-use Rattle.plain_core.specs.declared.plain.PlainCore.{PlainCore}
 use Rattle.replay_run.specs.Lawfully.{HasLimits, IsSeen}
+use Rattle.replay_run.specs.Logging.{TapeLogIs, TapeLogs}
 use Rattle.replay_run.specs.NotesText.{notes_text}
 use Rattle.replay_run.specs.Orders.{Accepts, OrderIs, ReadsLine, read_of}
-use Rattle.replay_run.specs.Pausing.{LogIs, Logs}
 use Rattle.replay_run.specs.Played.{Begins, DispatchedAs, Played, PlayedAs, PlaysEvent, PlaysLine}
-use Rattle.replay_run.specs.Seen.{EventOf, Headed, HeaderOf, Item, LimitsOf, Playing, Seen, Spells, Unread, event_lines, header_line, limits_line, seen_events, seen_more, seen_text}
+use Rattle.replay_run.specs.Seen.{EventOf, Headed, HeaderOf, Item, LimitsOf, Playing, Seen, Spells, Unread, are_limits, event_lines, header_line, is_quantum, limits_line, seen_events, seen_more, seen_text}
+use Rattle.replay_run.specs.declared.order.Format.{Format}
 use Rattle.replay_run.specs.declared.order.LineRead.{LineRead}
 use Rattle.replay_run.specs.declared.order.Order.{Order}
-use Rattle.replay_run.specs.declared.pauses.PauseLog.{PauseLog}
 use Rattle.replay_run.specs.declared.play.Play.{Play}
 use Rattle.replay_run.specs.declared.play.Went.{Went}
+use Rattle.replay_run.specs.declared.tape_log.TapeLog.{TapeLog}
 use Rattle.std.proofs.Common.{ap, append_assoc, arith, refl, subst, sym, ◌∙◌}
+use Rattle.std.proofs.lemmas.Bool.Decides.{nat_tests}
 use Rattle.std.proofs.lemmas.Grind.{common_steps}
 use Rattle.std.proofs.lemmas.List.{append-nil}
-use Rattle.std.specs.Prelude.{Err, List, Ok, Result, [], ℕ, ◌++◌, ◌∷◌, ◌≡◌}
+use Rattle.std.specs.Prelude.{Bool, Err, IsTrue, List, Ok, Result, [], false, nat_le, true, ℕ, ◌&&◌, ◌++◌, ◌∷◌, ◌≡◌, ◌≤◌}
 use Rattle.tape_laws.specs.Dispatches.{events_back}
+use Rattle.tape_laws.specs.Following.{MayFollowAll, MayFollowEvent}
 use Rattle.tape_laws.specs.History.{History, NoMark, Noted, onto}
 use Rattle.tape_laws.specs.PlainTape.{IsPlainWhole}
 use Rattle.tape_laws.specs.Text.{note_line, tape_text}
 use Rattle.tape_laws.specs.declared.limits.PlainLimits.{PlainLimits}
+use Rattle.worker_core.specs.Flows.{AreLimits}
+use Rattle.worker_core.specs.Runs.{Turns}
+use Rattle.worker_core.specs.Stands.{CanTake, Rests}
+use Rattle.worker_core.specs.declared.worker.Core.{Core}
+use Rattle.replay_run.specs.declared.order.Format.TheVariants as format
 use Rattle.replay_run.specs.declared.order.LineRead.TheVariants as read
 use Rattle.replay_run.specs.declared.play.Went.TheVariants as went
 
@@ -36,20 +41,20 @@ onto_text [] h = sym (append-nil (tape_text [] h))
 onto_text (n ∷ ns) h = onto_text ns (Noted n ∷ h) ∙ append_assoc (tape_text [] h) (note_line [] n) (notes_text ns)
 
 -- a lawful tape of a core that rests
-pub whole_of : (limits : PlainLimits) (core : PlainCore) (h : History NoMark) → Rests limits core h → IsPlainWhole limits h
-whole_of limits core h r = record { lawful = r.good.lawful; quiet = r.quiet }
+pub whole_of : (limits : PlainLimits) (core : Core) (h : History NoMark) → Rests limits core h → IsPlainWhole limits h
+whole_of limits core h r = r.whole
 
 -- an event that was dispatched
-pub event_played : (old : Play) (e : Event) (core : PlainCore) (log : PauseLog) (before notes : List Note) (new : Play) → before ≡ [] → Turns old.core before e core notes → Logs old.log notes log
+pub event_played : (old : Play) (e : Event) (core : Core) (log : TapeLog) (before notes : List Note) (new : Play) → before ≡ [] → Turns old.core before e core notes → TapeLogs old.log notes log
     → new.core ≡ core → new.log ≡ log → new.order ≡ old.order → new.text ≡ old.text ++ notes_text notes → PlaysEvent old e new (Ok went.On)
 event_played old e core log before notes new none t l ec el eo et =
     let P : List Note → Type 0 = λ v. Turns old.core v e core notes in let k = subst P none t in
     record {
-      goes = λ limits h r g. record {
+      goes = λ limits h r m g. record {
         history = onto notes h;
         added = notes_text notes;
-        rests = (let Q : PlainCore → Type 0 = λ v. Rests limits v (onto notes h) in subst Q (sym ec) (k.goes limits h r));
-        logs = (let R : PauseLog → Type 0 = λ v. LogIs v (onto notes h) in subst R (sym el) (l.goes h g));
+        rests = (let Q : Core → Type 0 = λ v. Rests limits v (onto notes h) in subst Q (sym ec) (k.goes limits h r m));
+        logs = (let R : TapeLog → Type 0 = λ v. TapeLogIs limits v (onto notes h) in subst R (sym el) (l.goes limits h (whole_of limits core (onto notes h) (k.goes limits h r m)).lawful g));
         events = k.shows h;
         tape = onto_text notes h;
         text = et;
@@ -114,8 +119,8 @@ event_next (Playing f l es) line (EventOf x) e limits h g s q i k =
 pub line_on : (old : Play) (line : List ℕ) (new : Play) (order : Order) (answer : LineRead)
     → ((seen : Seen) → OrderIs old.order seen → Accepts seen line order answer) → new.order ≡ order
     → ((seen : Seen) (item : Item) (limits : PlainLimits) (h : History NoMark) (written : List ℕ) → Spells seen line item → answer ≡ read_of item → IsSeen seen → HasLimits seen limits h
-    → Rests limits old.core h → LogIs old.log h → events_back h ≡ seen_events seen → written ++ old.text ≡ tape_text [] h
-    → (m : PlainLimits) × (g : History NoMark) × Rests m new.core g × LogIs new.log g × Next (seen_more seen item) m g (events_back g) × (written ++ new.text ≡ tape_text [] g))
+    → Rests limits old.core h → TapeLogIs limits old.log h → events_back h ≡ seen_events seen → written ++ old.text ≡ tape_text [] h
+    → (m : PlainLimits) × (g : History NoMark) × Rests m new.core g × TapeLogIs m new.log g × Next (seen_more seen item) m g (events_back g) × (written ++ new.text ≡ tape_text [] g))
     → PlaysLine old line new (Ok went.On)
 line_on old line new order answer reads eo next = record {
   goes = λ read written k.
@@ -143,26 +148,38 @@ pub header_line_played : (old : Play) (line : List ℕ) (order : Order) (new : P
     → PlaysLine old line new (Ok went.On)
 header_line_played old line order new r eo ec el et = line_on old line new order read.Header r.goes eo
     (λ seen item limits h written s q i k rests logs ev text.
-    let P : PlainCore → Type 0 = λ v. Rests limits v h in
+    let P : Core → Type 0 = λ v. Rests limits v h in
     let n = header_next seen line item limits h s q k in
-    let R : PauseLog → Type 0 = λ v. LogIs v h in
+    let R : TapeLog → Type 0 = λ v. TapeLogIs limits v h in
     (limits, h, subst P (sym ec) rests, subst R (sym el) logs, record { may = n.may; limited = n.limited; events = n.events ∙ sym ev }, ap (λ (v : List ℕ). written ++ v) et ∙ text))
 
 pub limits_line_played : (old : Play) (line : List ℕ) (order : Order) (l : PlainLimits) (new : Play) → ReadsLine old.order line order (Ok (read.Limits l)) → new.order ≡ order → Rests l new.core []
-    → new.log ≡ old.log → new.text ≡ old.text → PlaysLine old line new (Ok went.On)
-limits_line_played old line order l new r eo rests el et = line_on old line new order (read.Limits l) r.goes eo
+    → TapeLogIs l new.log [] → new.text ≡ old.text → PlaysLine old line new (Ok went.On)
+limits_line_played old line order l new r eo rests logged et = line_on old line new order (read.Limits l) r.goes eo
     (λ seen item limits h written s q i k was logs ev text.
     let n = limits_next seen line item l limits h s q k in
-    let R : PauseLog → Type 0 = λ v. LogIs v h in
-    let T : History NoMark → Type 0 = λ v. LogIs new.log v in
-    (l, [], rests, subst T n.1 (subst R (sym el) logs), record { may = n.0.may; limited = n.0.limited; events = n.0.events }, ap (λ (v : List ℕ). written ++ v) et ∙ text ∙ ap (tape_text []) n.1))
+    (l, [], rests, logged, record { may = n.0.may; limited = n.0.limited; events = n.0.events }, ap (λ (v : List ℕ). written ++ v) et ∙ text ∙ ap (tape_text []) n.1))
 
 joined : (written old new added : List ℕ) (a b : List ℕ) → new ≡ old ++ added → written ++ old ≡ a → b ≡ a ++ added → written ++ new ≡ b
 joined written old new added a b n o t = ap (λ (v : List ℕ). written ++ v) n ∙ sym (append_assoc written old added) ∙ ap (λ (v : List ℕ). v ++ added) o ∙ sym t
 
+-- an event that may come follows the events so far
+event_may : (seen : Seen) (line : List ℕ) (item : Item) (e : Event) → Spells seen line item → read.Event e ≡ read_of item → IsSeen seen → MayFollowAll (e ∷ seen_events seen)
+event_may seen line (HeaderOf f) e s q i = cc
+event_may seen line (LimitsOf l) e s q i = cc
+event_may Unread line (EventOf x) e s q i = absurd s.may
+event_may (Headed f) line (EventOf x) e s q i = absurd s.may
+event_may (Playing f l es) line (EventOf x) e s q i = let same : x ≡ e = cc in let P : Event → Type 0 = λ v. MayFollowEvent es v in (subst P same s.may, i.1)
+
+event_follows : (old : Play) (line : List ℕ) (e : Event) (order : Order) → ReadsLine old.order line order (Ok (read.Event e)) → {rd written : List ℕ} → (k : Played old rd written) → MayFollowAll (e ∷ events_back k.history)
+event_follows old line e order r k =
+    let a = r.goes k.seen k.order in
+    let P : List Event → Type 0 = λ v. MayFollowAll (e ∷ v) in
+    subst P (sym k.tape.events) (event_may k.seen line a.item e a.spells a.read k.tape.may)
+
 pub event_line_played : (old mid : Play) (line : List ℕ) (e : Event) (new : Play) (result : Result Went NoMemory) → ReadsLine old.order line mid.order (Ok (read.Event e)) → mid.core ≡ old.core → mid.log ≡ old.log → mid.text ≡ old.text
     → PlaysEvent mid e new result → PlaysLine old line new result
-event_line_played old mid line e new result r ec el et p = record { goes = λ rd written k. by rd written k result (p.goes k.limits k.history (let P : PlainCore → Type 0 = λ v. Rests k.limits v k.history in subst P (sym ec) k.rests) (let R : PauseLog → Type 0 = λ v. LogIs v k.history in subst R (sym el) k.logs)) }
+event_line_played old mid line e new result r ec el et p = record { goes = λ rd written k. by rd written k result (p.goes k.limits k.history (let P : Core → Type 0 = λ v. Rests k.limits v k.history in subst P (sym ec) k.rests) (event_follows old line e mid.order r k) (let R : TapeLog → Type 0 = λ v. TapeLogIs k.limits v k.history in subst R (sym el) k.logs)) }
   where
     by : (rd written : List ℕ) (k : Played old rd written) (result : Result Went NoMemory) → DispatchedAs mid e new k.limits k.history result → PlayedAs old new line rd written k result
     by rd written k (Ok went.On) d =
@@ -185,17 +202,58 @@ event_line_played old mid line e new result r ec el et p = record { goes = λ rd
           };
         }
     by rd written k (Ok went.Refused) d = absurd d
-    by rd written k (Ok went.NotBuilt) d =
-        let a = r.goes k.seen k.order in
-        let n = event_next k.seen line a.item e k.limits k.history k.history a.spells a.read k.tape.may k.tape.limited in
-        (record { event = e; spells = (let P : Item → Type 0 = λ v. Spells k.seen line v in subst P n.1 a.spells); unbuilt = d.0 }, d.1 ∙ et)
     by rd written k (Err x) d = d ∙ et
+
+-- the limits of a line that may come
+all_of : (a b c d e : Bool) → IsTrue (a && b && c && d && e) → (a ≡ true) × (b ≡ true) × (c ≡ true) × (d ≡ true) × (e ≡ true)
+all_of true true true true e t = (refl, refl, refl, refl, t)
+all_of true true true false e t = cc
+all_of true true false d e t = cc
+all_of true false c d e t = cc
+all_of false b c d e t = cc
+
+at_most : (a b : ℕ) → nat_le a b ≡ true → a ≤ b
+at_most a b e = grind (arith, nat_tests)
+
+quantum_range : (f : Format) (q : ℕ) → is_quantum f q ≡ true → (16384 ≤ q) × (q ≤ 1048576)
+quantum_range format.One q e = (let k : q ≡ 16384 = grind (arith, nat_tests) in (omega (arith, k), omega (arith, k)))
+quantum_range format.Two q e = (grind (arith, nat_tests), grind (arith, nat_tests))
+
+limits_fit : (f : Format) (l : PlainLimits) → IsTrue (are_limits f l) → AreLimits l
+limits_fit f l t =
+    let k = all_of (nat_le 1 l.recv) (nat_le l.recv 16777216) (nat_le l.send 16777216) (nat_le l.write 16777216) (is_quantum f l.quantum) t in
+    let q = quantum_range f l.quantum k.4 in
+    record {
+      recv = at_most l.recv 16777216 k.1;
+      send = at_most l.send 16777216 k.2;
+      write = at_most l.write 16777216 k.3;
+      quantum = q;
+    }
+
+pub limits_may : (seen : Seen) (line : List ℕ) (item : Item) (l : PlainLimits) → Spells seen line item → read.Limits l ≡ read_of item → AreLimits l
+limits_may seen line (HeaderOf f) l s q = cc
+limits_may Unread line (LimitsOf m) l s q = absurd s.may
+limits_may (Headed f) line (LimitsOf m) l s q = let same : m ≡ l = cc in let P : PlainLimits → Type 0 = λ v. AreLimits v in subst P same (limits_fit f m s.may)
+limits_may (Playing f n es) line (LimitsOf m) l s q = absurd s.may
+limits_may seen line (EventOf x) l s q = cc
+
+pub limits_taken : (old : Play) (line : List ℕ) (order : Order) (l : PlainLimits) → ReadsLine old.order line order (Ok (read.Limits l)) → (rd : List ℕ) × (written : List ℕ) × Played old rd written → AreLimits l
+limits_taken old line order l r k = let a = r.goes k.2.seen k.2.order in limits_may k.2.seen line a.item l a.spells a.read
+
+pub no_notes : (core : Core) (e : Event) (notes : List Note) → notes ≡ [] → CanTake core e [] → CanTake core e notes
+no_notes core e notes none k = let P : List Note → Type 0 = λ v. CanTake core e v in subst P (sym none) k
+
+-- so it may be dispatched
+pub event_taken : (old mid : Play) (line : List ℕ) (e : Event) → ReadsLine old.order line mid.order (Ok (read.Event e)) → mid.core ≡ old.core → (rd : List ℕ) × (written : List ℕ) × Played old rd written → CanTake mid.core e []
+event_taken old mid line e r ec k =
+    let C : Core → Type 0 = λ v. CanTake v e [] in
+    subst C (sym ec) (record { limits = k.2.limits; history = k.2.history; rests = k.2.rests; follows = event_follows old line e mid.order r k.2 })
 
 -- what a line was read as
 pub read_as : (old new : Order) (line : List ℕ) (found answer : LineRead) → found ≡ answer → ReadsLine old line new (Ok found) → ReadsLine old line new (Ok answer)
 read_as old new line found answer e r = let P : LineRead → Type 0 = λ v. ReadsLine old line new (Ok v) in subst P e r
 
-pub play_begun : (play : Play) (limits : PlainLimits) → OrderIs play.order Unread → Rests limits play.core [] → LogIs play.log [] → play.text ≡ [] → Begins play
+pub play_begun : (play : Play) (limits : PlainLimits) → OrderIs play.order Unread → Rests limits play.core [] → TapeLogIs limits play.log [] → play.text ≡ [] → Begins play
 play_begun play limits o r l t = record {
   played = record {
     seen = Unread;

@@ -6,7 +6,7 @@ use Rattle.flow_notes.specs.declared.events.Event.{Event}
 use Rattle.flow_notes.specs.declared.events.PlainEvent.{PlainEvent}
 use Rattle.io_ports.specs.declared.octets.NoMemory.{NoMemory}
 use Rattle.replay_run.specs.Courses.{CoursesAre, Follows}
-use Rattle.replay_run.specs.Following.{may_follow}
+use Rattle.tape_laws.specs.Following.{may_follow}
 use Rattle.replay_run.specs.Grammar.{HasNoHeader, HasNoLimits, IsLimitsLine}
 use Rattle.replay_run.specs.Orders.{Accepts, OrderIs, ReadsAt, ReadsLine, StageIs}
 use Rattle.replay_run.specs.Reading.{EventAt, EventReadAt, FollowsRead, ReadsEvent, SpellsEvent}
@@ -48,7 +48,7 @@ one_quantum q e = grind (arith, nat_tests)
 two_quantum : (q : ℕ) → (nat_le 16384 q && nat_le q 1048576) ≡ true → q < 2 ^ 32
 two_quantum q e = grind (arith, nat_tests)
 
-numbers_fit : (f : Format) (l : PlainLimits) → InRanges f l → AllByRecursion Fits32 (limit_numbers f l)
+pub numbers_fit : (f : Format) (l : PlainLimits) → InRanges f l → AllByRecursion Fits32 (limit_numbers f l)
 numbers_fit format.One l r = let a = r.recv in let b = r.send in let c = r.write in (omega (arith, a), (omega (arith, b), (omega (arith, c), tt)))
 numbers_fit format.Two l r =
     let a = r.recv in let b = r.send in let c = r.write in let q = two_quantum l.quantum r.quantum in

@@ -3,26 +3,28 @@ use Rattle.flow_notes.specs.Extends.{Extends}
 use Rattle.flow_notes.specs.Line.{newline}
 use Rattle.io_ports.specs.Faults.{Rose}
 use Rattle.io_ports.specs.declared.octets.NoMemory.{NoMemory}
-use Rattle.plain_core.specs.Stands.{Rests}
-use Rattle.plain_core.specs.declared.plain.PlainCore.{PlainCore}
-use Rattle.replay_run.proofs.Headlines.{headline_of}
+use Rattle.replay_run.proofs.Completing.{less_or_same}
+use Rattle.replay_run.proofs.Connected.{tape_connection}
+use Rattle.replay_run.proofs.Empty.{empty_whole}
+use Rattle.plain_laws.proofs.Headlines.{headline_of}
+use Rattle.replay_run.specs.Drill.{drill_limits}
 use Rattle.replay_run.specs.Ending.{Cut, EndsAs, HasLine, Long, SpellsNone, longest_line, most_octets}
 use Rattle.replay_run.specs.Ends.{AppendsFront, Fills}
 use Rattle.replay_run.specs.Held.{held_of}
 use Rattle.replay_run.specs.Lawfully.{IsTape}
+use Rattle.replay_run.specs.Logging.{TapeLogIs}
 use Rattle.replay_run.specs.Newlines.{BeginsWithLine, has_newline}
 use Rattle.replay_run.specs.Orders.{OrderIs, PlaysNow}
-use Rattle.replay_run.specs.Pausing.{LogIs}
 use Rattle.replay_run.specs.Played.{Begins, PlaysLine}
 use Rattle.replay_run.specs.Replays.{Replays, Tells, TellsAs, TellsFront, last_text, numbered_line}
 use Rattle.replay_run.specs.Runs.{Adds, AtEnd, CausedBy, EndsText, Finishes, Halts, HaltsAs, Judged, Refills, RunIs, Steps, TakesLine, Writes, to_go}
 use Rattle.replay_run.specs.Seen.{EventOf, Headed, HeaderOf, Item, LimitsOf, Playing, Seen, Spells, Unread, seen_lines, seen_more, seen_text}
 use Rattle.replay_run.specs.declared.order.Order.{Order}
-use Rattle.replay_run.specs.declared.pauses.PauseLog.{PauseLog}
 use Rattle.replay_run.specs.declared.play.Play.{Play}
 use Rattle.replay_run.specs.declared.play.Went.{Went}
 use Rattle.replay_run.specs.declared.run.Run.{Run}
 use Rattle.replay_run.specs.declared.status.Status.{Status}
+use Rattle.replay_run.specs.declared.tape_log.TapeLog.{TapeLog}
 use Rattle.std.proofs.Common.{Decides, ap, append_assoc, arith, inl, inr, length-append, length-drop, refl, subst, sym, ◌∙◌}
 use Rattle.std.proofs.Math.Seq.{take-append_seam, take-length}
 use Rattle.std.proofs.lemmas.Grind.{common_steps}
@@ -30,12 +32,14 @@ use Rattle.std.proofs.lemmas.List.{append-nil, length-take-le}
 use Rattle.std.proofs.lemmas.Slice.Eq.{bytes_eq-Decides}
 use Rattle.std.specs.Fmt.{decimal}
 use Rattle.std.specs.Io.KnownBytes.{Appends, Consumes, IsAtEnd}
-use Rattle.std.specs.Prelude.{Bool, Err, IsTrue, List, get_or, map, MatchResult, None, Ok, OnOk, Option, Result, Some, [], codes, drop, false, length, suc, take, true, zero, ℕ, ◌++◌, ◌+◌, ◌-◌, ◌<◌, ◌==◌, ◌^◌, ◌||◌, ◌↔◌, ◌∷◌, ◌≡◌, ◌≤◌, ◌⊎◌}
+use Rattle.std.specs.Prelude.{Bool, Err, IsTrue, List, get_or, map, MatchResult, None, Ok, OnOk, Option, Result, Some, [], codes, drop, false, length, suc, take, true, zero, ℕ, ◌++◌, ◌+◌, ◌-◌, ◌<◌, ◌==◌, ◌||◌, ◌↔◌, ◌∷◌, ◌≡◌, ◌≤◌, ◌⊎◌}
 use Rattle.std.specs.Str.{bytes_eq}
 use Rattle.tape_laws.specs.History.{History, NoMark}
 use Rattle.tape_laws.specs.Text.{tape_text}
 use Rattle.tape_laws.specs.World.{len, out}
 use Rattle.tape_laws.specs.declared.limits.PlainLimits.{PlainLimits}
+use Rattle.worker_core.specs.Stands.{Rests}
+use Rattle.worker_core.specs.declared.worker.Core.{Core}
 use Rattle.replay_run.specs.declared.status.Status.TheVariants as status
 use Rattle.replay_run.specs.declared.play.Went.TheVariants as went
 
@@ -109,8 +113,11 @@ line_taken old new n read written k begins plays held er en =
 
 -- ---- an end
 
+log_kept : (old new : TapeLog) (limits : PlainLimits) (h : History NoMark) → new ≡ old → TapeLogIs limits old h → TapeLogIs limits new h
+log_kept old new limits h e l = let P : TapeLog → Type 0 = λ v. TapeLogIs limits v h in subst P (sym e) l
+
 pub halted : (old new : Run) (how : Status) (read written : List ℕ) (left : Option (List ℕ)) (k : RunIs old read written) → EndsAs how k.played.seen k.played.limits k.played.history (held_of old.lines) left
-    → new.play.text ≡ old.play.text → new.number ≡ old.number → (how ≡ status.Done → (new.play.core ≡ old.play.core) × (new.play.log ≡ old.play.log)) → Halts new how read written left
+    → new.play.text ≡ old.play.text → new.number ≡ old.number → (how ≡ status.Done → new.play.log ≡ old.play.log) → Halts new how read written left
 halted old new how read written left k ends et en ec = record {
   seen = k.played.seen;
   limits = k.played.limits;
@@ -121,8 +128,7 @@ halted old new how read written left k ends et en ec = record {
   ends = ends;
   text = ap (λ (v : List ℕ). written ++ v) et ∙ k.played.text;
   number = en ∙ k.number;
-  rests = λ e. let P : PlainCore → Type 0 = λ v. Rests k.played.limits v k.played.history in subst P (sym (ec e).0) k.played.rests;
-  logs = λ e. let P : PauseLog → Type 0 = λ v. LogIs v k.played.history in subst P (sym (ec e).1) k.played.logs;
+  logs = λ e. log_kept old.play.log new.play.log k.played.limits k.played.history (ec e) k.played.logs;
 }
 
 counted : (old : Run) (read written : List ℕ) (k : RunIs old read written) → old.read ≡ length (seen_text k.played.seen)
@@ -135,7 +141,7 @@ judged run read written left k n newlines status.Session whole within one j =
     let er = counted run read written k in
     halted run run status.Session read written left k
     (Long (record { whole = unbroken_front (longest_line + 1) n (held_of run.lines) (omega (arith, j.0)) whole; within = omega (arith, j.0, within) }) (omega (arith, er, j.1)))
-    refl refl (λ e. (refl, refl))
+    refl refl (λ e. refl)
 judged run read written left k n newlines status.TooLong whole within one j =
     let er = counted run read written k in
     halted run run status.TooLong read written left k
@@ -144,13 +150,12 @@ judged run read written left k n newlines status.TooLong whole within one j =
       short = omega (arith, er, j.1);
       whole = unbroken_front (most_octets - length (seen_text k.played.seen)) n (held_of run.lines) (omega (arith, er, j.0, one)) whole;
     })
-    refl refl (λ e. (refl, refl))
+    refl refl (λ e. refl)
 judged run read written left k n newlines status.Done whole within one j = absurd j
 judged run read written left k n newlines status.Usage whole within one j = absurd j
 judged run read written left k n newlines status.ReadFault whole within one j = absurd j
 judged run read written left k n newlines status.WriteFault whole within one j = absurd j
 judged run read written left k n newlines status.Memory whole within one j = absurd j
-judged run read written left k n newlines status.NotBuilt whole within one j = absurd j
 
 judged_cause : (read n newlines : ℕ) (how : Status) → Judged read n newlines (Some how) → CausedBy ⊥ ⊥ (Err how)
 judged_cause read n newlines status.Session j = tt
@@ -160,7 +165,6 @@ judged_cause read n newlines status.Usage j = tt
 judged_cause read n newlines status.ReadFault j = absurd j
 judged_cause read n newlines status.WriteFault j = absurd j
 judged_cause read n newlines status.Memory j = tt
-judged_cause read n newlines status.NotBuilt j = tt
 
 pub line_judged : (run : Run) (n : ℕ) (found : Option Status) (how : Status) → BeginsWithLine (held_of run.lines) n → found ≡ Some how → Judged run.read n 1 found → TakesLine run run (Err how)
 line_judged run n found how begins e j =
@@ -185,18 +189,6 @@ line_refused old new n begins may plays en = record {
 }
   where
     none : status.Session ≡ status.Done → ⊥
-    none e = cc
-
-pub line_unbuilt : (old new : Run) (n : ℕ) → BeginsWithLine (held_of old.lines) n → (n ≤ longest_line) × (old.read + n < most_octets)
-    → PlaysLine old.play (take n (held_of old.lines)) new.play (Ok went.NotBuilt) → new.number ≡ old.number → TakesLine old new (Err status.NotBuilt)
-line_unbuilt old new n begins may plays en = record {
-  goes = λ read written left k.
-      let g = plays.goes k.consumed written k.played in
-      halted old new status.NotBuilt read written left k (record { len = n; line = has_line old read written k n begins may; unbuilt = g.0 }) g.1 en (λ e. absurd (none e));
-  caused = tt;
-}
-  where
-    none : status.NotBuilt ≡ status.Done → ⊥
     none e = cc
 
 pub line_lost : (old new : Run) (line : List ℕ) (x : NoMemory) → PlaysLine old.play line new.play (Err x) → new.number ≡ old.number → TakesLine old new (Err status.Memory)
@@ -226,11 +218,8 @@ line_less old new n lt room held er may =
 order_kept : (old new : Order) (seen : Seen) → new ≡ old → OrderIs old seen → OrderIs new seen
 order_kept old new seen e o = let P : Order → Type 0 = λ v. OrderIs v seen in subst P (sym e) o
 
-core_kept : (old new : PlainCore) (limits : PlainLimits) (h : History NoMark) → new ≡ old → Rests limits old h → Rests limits new h
-core_kept old new limits h e r = let P : PlainCore → Type 0 = λ v. Rests limits v h in subst P (sym e) r
-
-log_kept : (old new : PauseLog) (h : History NoMark) → new ≡ old → LogIs old h → LogIs new h
-log_kept old new h e l = let P : PauseLog → Type 0 = λ v. LogIs v h in subst P (sym e) l
+core_kept : (old new : Core) (limits : PlainLimits) (h : History NoMark) → new ≡ old → Rests limits old h → Rests limits new h
+core_kept old new limits h e r = let P : Core → Type 0 = λ v. Rests limits v h in subst P (sym e) r
 
 -- the play is as it was, but for its text
 replayed : (old new : Run) (read written wrote : List ℕ) → RunIs old read written → new.play.order ≡ old.play.order → new.play.core ≡ old.play.core → new.play.log ≡ old.play.log → wrote ++ new.play.text ≡ old.play.text
@@ -243,7 +232,7 @@ replayed old new read written wrote k eo ec eg et el er en = record {
     history = k.played.history;
     order = order_kept old.play.order new.play.order k.played.seen eo k.played.order;
     rests = core_kept old.play.core new.play.core k.played.limits k.played.history ec k.played.rests;
-    logs = log_kept old.play.log new.play.log k.played.history eg k.played.logs;
+    logs = log_kept old.play.log new.play.log k.played.limits k.played.history eg k.played.logs;
     tape = k.played.tape;
     read_is = k.played.read_is;
     text = append_assoc written wrote new.play.text ∙ ap (λ (v : List ℕ). written ++ v) et ∙ k.played.text;
@@ -305,7 +294,7 @@ more_held old new read written got k ep held er en = record {
     history = k.played.history;
     order = order_kept old.play.order new.play.order k.played.seen (ap (λ p. p.order) ep) k.played.order;
     rests = core_kept old.play.core new.play.core k.played.limits k.played.history (ap (λ p. p.core) ep) k.played.rests;
-    logs = log_kept old.play.log new.play.log k.played.history (ap (λ p. p.log) ep) k.played.logs;
+    logs = log_kept old.play.log new.play.log k.played.limits k.played.history (ap (λ p. p.log) ep) k.played.logs;
     tape = k.played.tape;
     read_is = k.played.read_is;
     text = ap (λ (p : Play). written ++ p.text) ep ∙ k.played.text;
@@ -369,7 +358,7 @@ playing false e = cc
 pub ended_done : (run : Run) → length (held_of run.lines) ≡ 0 → PlaysNow run.play.order true → AtEnd run status.Done
 ended_done run none p = record {
   goes = λ read written left k whole within ends.
-      halted run run status.Done read written left k (playing _ (sym (p.goes k.played.seen k.played.order)), no_octets (held_of run.lines) none, ends) refl refl (λ e. (refl, refl));
+      halted run run status.Done read written left k (playing _ (sym (p.goes k.played.seen k.played.order)), no_octets (held_of run.lines) none, ends) refl refl (λ e. refl);
   ends = tt;
 }
 
@@ -379,7 +368,7 @@ ended_cut run now p unended = record {
       let er = counted run read written k in
       halted run run status.Session read written left k
       (Cut whole (omega (arith, er, within)) (λ both. unended (ap length both.0) (p.goes k.played.seen k.played.order ∙ true_of _ both.1)) ends)
-      refl refl (λ e. (refl, refl));
+      refl refl (λ e. refl);
   ends = tt;
 }
   where
@@ -485,7 +474,6 @@ caused_more a b c d (Err status.Session) f g k = tt
 caused_more a b c d (Err status.ReadFault) f g k = f k
 caused_more a b c d (Err status.WriteFault) f g k = g k
 caused_more a b c d (Err status.Memory) f g k = tt
-caused_more a b c d (Err status.NotBuilt) f g k = tt
 caused_more a b c d (Err status.TooLong) f g k = tt
 
 pub rose_more : (a b c : ℕ) → a ≤ b → Rose b c → Rose a c
@@ -520,7 +508,7 @@ ends_added old how new e = record {
     tape = k.tape;
     headline = headline_of k.limits k.history k.tape.whole;
     ends = k.ends;
-    is = ap (λ (v : List ℕ). written ++ v) (e.goes k.seen k.limits k.history k.number k.rests k.logs) ∙ sym (append_assoc written old.play.text (last_text how k.seen k.limits k.history))
+    is = ap (λ (v : List ℕ). written ++ v) (e.goes k.seen k.limits k.history k.number k.logs (tape_connection k.seen k.limits k.limits k.history k.tape)) ∙ sym (append_assoc written old.play.text (last_text how k.seen k.limits k.history))
         ∙ ap (λ (v : List ℕ). v ++ last_text how k.seen k.limits k.history) k.text;
   };
 }
@@ -553,7 +541,6 @@ tells_as status.Session read text left t = t
 tells_as status.ReadFault read text left t = t
 tells_as status.WriteFault read text left t = absurd t.ends
 tells_as status.Memory read text left t = t
-tells_as status.NotBuilt read text left t = t
 tells_as status.TooLong read text left t = t
 
 halts_of : (old : Run) (how : Status) (read written : List ℕ) (left : Option (List ℕ)) → (how ≡ status.WriteFault → ⊥) → HaltsAs old how read written left → Halts old how read written left
@@ -563,7 +550,6 @@ halts_of old status.Session read written left n k = k
 halts_of old status.ReadFault read written left n k = k
 halts_of old status.WriteFault read written left n k = absurd (n refl)
 halts_of old status.Memory read written left n k = k
-halts_of old status.NotBuilt read written left n k = k
 halts_of old status.TooLong read written left n k = k
 
 pub finished : (old : Run) (how added : Status) (text : List ℕ) (out_old out_new : Option (List ℕ)) → (how ≡ status.WriteFault → ⊥) → Adds old text how added → Appends out_old out_new text → Finishes old how out_old out_new added
@@ -612,20 +598,17 @@ replays run new left_old left_new out_old out_mid out_new how result k s f = rec
 pub replays_nothing : (left out : Option (List ℕ)) → Replays left left out out status.Usage
 replays_nothing left out = record { read = []; text = []; consumes = held_kept left; appends = known_kept out; tells = (refl, refl) }
 
-pub replays_none : (play : Play) (left out : Option (List ℕ)) → Begins play → Replays left left out out status.Memory
-replays_none play left out b = record {
+pub replays_none : (left out : Option (List ℕ)) → Replays left left out out status.Memory
+replays_none left out = record {
   read = [];
   text = [];
   consumes = held_kept left;
   appends = known_kept out;
-  tells = record { seen = Unread; limits = b.played.limits; history = []; rest = []; reads = refl; tape = empty_tape; headline = headline_of b.played.limits [] empty_tape.whole; ends = tt; is = refl };
+  tells = record { seen = Unread; limits = drill_limits; history = []; rest = []; reads = refl; tape = empty_tape; headline = headline_of drill_limits [] (empty_whole drill_limits); ends = tt; is = refl };
 }
   where
-    empty_tape : IsTape Unread b.played.limits []
-    empty_tape =
-        let P : Seen → Type 0 = λ v. IsTape v b.played.limits b.played.history in
-        let t = subst P b.seen b.played.tape in
-        let Q : History NoMark → Type 0 = λ v. IsTape Unread b.played.limits v in subst Q t.limited t
+    empty_tape : IsTape Unread drill_limits []
+    empty_tape = record { may = tt; limited = refl; whole = empty_whole drill_limits; events = refl }
 
 -- causes of the whole
 cause_of : (a b : Type 0) (how : Status) → CausedBy a b (Err how) → how ≡ status.ReadFault → a
@@ -645,49 +628,43 @@ read_cause a b how result c (inr (inr e)) r = absurd (no e r)
     no : result ≡ status.WriteFault → result ≡ status.ReadFault → ⊥
     no e r = cc
 
-rose_less : (a b c : ℕ) → Rose a b → b ≤ c → c < 2 ^ 64 → Rose a c
-rose_less a b c (inl lt) le fits = inl (omega (arith, lt, le))
-rose_less a b c (inr e) le fits = inr (omega (arith, e, le, fits))
+rose_on : (a b c : ℕ) → Rose a b → a ≤ b → b ≤ c → Rose a c
+rose_on a b c (inl lt) p q = inl (omega (arith, lt, q))
+rose_on a b c (inr e) p q = by (less_or_same b c (omega (arith, q)))
+  where
+    by : (b < c) ⊎ (b ≡ c) → Rose a c
+    by (inl less) = inl (omega (arith, p, less))
+    by (inr same) = inr (sym same ∙ e)
 
-pub write_cause : (a : Type 0) (one two three : ℕ) (how result : Status) → CausedBy a (Rose one two) (Err how) → (how ≡ status.WriteFault) ⊎ Rose two three → one ≤ two → two ≤ three → three < 2 ^ 64 → Rose one three
-write_cause a one two three how result c (inl e) p q fits = rose_less one two three (sink_cause a (Rose one two) how c e) q fits
-write_cause a one two three how result c (inr r) p q fits = rose_more one two three p r
+pub write_cause : (source : Type 0) (one two three : ℕ) (how result : Status) → CausedBy source (Rose one two) (Err how) → one ≤ two → two ≤ three → (result ≡ status.WriteFault → (how ≡ status.WriteFault) ⊎ Rose two three)
+    → result ≡ status.WriteFault → Rose one three
+write_cause source one two three how result c p q cause e = by (cause e)
+  where
+    by : (how ≡ status.WriteFault) ⊎ Rose two three → Rose one three
+    by (inl was) = rose_on one two three (sink_cause source (Rose one two) how c was) p q
+    by (inr r) = rose_more one two three p r
 
 -- ---- the last line
 
 pub refused_spelled : (k : ℕ) → codes "refused line " ++ (decimal k ++ newline) ≡ numbered_line (codes "refused" ∷ codes "line" ∷ []) k
 refused_spelled k = refl
 
-pub unbuilt_spelled : (k : ℕ) → codes "not built line " ++ (decimal k ++ newline) ≡ numbered_line (codes "not" ∷ codes "built" ∷ codes "line" ∷ []) k
-unbuilt_spelled k = refl
-
 ended_as : (old : Run) (a how : Status) (new : List ℕ) → how ≡ a → EndsText old a new → EndsText old how new
 ended_as old a how new e k = let P : Status → Type 0 = λ v. EndsText old v new in subst P (sym e) k
 
 refused_text : (old : Run) (new : List ℕ) → new ≡ old.play.text ++ (codes "refused line " ++ (decimal old.number ++ newline)) → EndsText old status.Session new
 refused_text old new e = record {
-  goes = λ seen limits h n rests logs. e ∙ ap (λ k. old.play.text ++ (codes "refused line " ++ (decimal k ++ newline))) n
+  goes = λ seen limits h n logs known. e ∙ ap (λ k. old.play.text ++ (codes "refused line " ++ (decimal k ++ newline))) n
       ∙ ap (λ (v : List ℕ). old.play.text ++ v) (refused_spelled (suc (seen_lines seen)));
 }
 
-unbuilt_text : (old : Run) (new : List ℕ) → new ≡ old.play.text ++ (codes "not built line " ++ (decimal old.number ++ newline)) → EndsText old status.NotBuilt new
-unbuilt_text old new e = record {
-  goes = λ seen limits h n rests logs. e ∙ ap (λ k. old.play.text ++ (codes "not built line " ++ (decimal k ++ newline))) n
-      ∙ ap (λ (v : List ℕ). old.play.text ++ v) (unbuilt_spelled (suc (seen_lines seen)));
-}
-
 long_text : (old : Run) (new : List ℕ) → new ≡ old.play.text ++ codes "refused length session\n" → EndsText old status.TooLong new
-long_text old new e = record { goes = λ seen limits h n rests logs. e }
+long_text old new e = record { goes = λ seen limits h n logs known. e }
 
 pub refused_ends : (old : Run) (how : Status) (new : List ℕ) (r : Result (Unit {0}) NoMemory) → how ≡ status.Session → OnOk r (new ≡ old.play.text ++ (codes "refused line " ++ (decimal old.number ++ newline)))
     → OnOk r (EndsText old how new)
 refused_ends old how new (Ok x) e k = ended_as old status.Session how new e (refused_text old new k)
 refused_ends old how new (Err x) e k = tt
-
-pub unbuilt_ends : (old : Run) (how : Status) (new : List ℕ) (r : Result (Unit {0}) NoMemory) → how ≡ status.NotBuilt → OnOk r (new ≡ old.play.text ++ (codes "not built line " ++ (decimal old.number ++ newline)))
-    → OnOk r (EndsText old how new)
-unbuilt_ends old how new (Ok x) e k = ended_as old status.NotBuilt how new e (unbuilt_text old new k)
-unbuilt_ends old how new (Err x) e k = tt
 
 pub long_ends : (old : Run) (how : Status) (new : List ℕ) (r : Result (Unit {0}) NoMemory) → how ≡ status.TooLong → OnOk r (new ≡ old.play.text ++ codes "refused length session\n") → OnOk r (EndsText old how new)
 long_ends old how new (Ok x) e k = ended_as old status.TooLong how new e (long_text old new k)

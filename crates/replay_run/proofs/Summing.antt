@@ -1,24 +1,26 @@
--- The summary's text, from what the core and the log of pauses show.
+-- The summary's text, from what the log of the tape shows.
 use Rattle.flow_notes.specs.Flow.{flow_word}
 use Rattle.flow_notes.specs.Line.{newline, spaced}
 use Rattle.flow_notes.specs.Buffer.{buffer_words}
 use Rattle.flow_gate.specs.declared.ids.BufferId.{BufferId}
 use Rattle.flow_gate.specs.declared.ids.FlowId.{FlowId}
 use Rattle.io_ports.specs.declared.octets.NoMemory.{NoMemory}
-use Rattle.plain_core.specs.Shows.{ShowsLimits, ShowsPeaks, ShowsStream, ShowsTurns}
-use Rattle.plain_core.specs.Stands.{Rests}
-use Rattle.plain_core.specs.declared.plain.Peaks.{Peaks}
-use Rattle.plain_core.specs.declared.plain.PlainCore.{PlainCore}
 use Rattle.replay_run.specs.Pausing.{LogIs, logged, place_cmp, resumed_at, told_pause}
+use Rattle.replay_run.specs.Peaking.{PeaksAre, levels_of}
 use Rattle.replay_run.specs.Summarizes.{Summarizes, flow_peak_lines, pause_lines, peak_lines, write_peak_line}
+use Rattle.replay_run.specs.declared.level.Level.{Level}
 use Rattle.replay_run.specs.declared.pauses.Pause.{Pause}
 use Rattle.replay_run.specs.declared.pauses.PauseLog.{PauseLog}
+use Rattle.replay_run.specs.declared.peaks.FlowLevels.{FlowLevels}
+use Rattle.replay_run.specs.declared.peaks.PeakLog.{PeakLog}
+use Rattle.replay_run.specs.declared.tape_log.TapeLog.{TapeLog}
 use Rattle.std.proofs.Common.{ap, append_assoc, arith, refl, sym, ◌∙◌}
 use Rattle.std.proofs.lemmas.Grind.{common_steps}
 use Rattle.std.proofs.lemmas.List.{append-nil, map-append}
 use Rattle.std.specs.BTreeMap.{get}
 use Rattle.std.specs.Fmt.{decimal}
-use Rattle.std.specs.Prelude.{Err, List, None, Ok, OnOk, Option, Result, Some, [], codes, flat_map, length, map, ℕ, ◌++◌, ◌∷◌, ◌≡◌}
+use Rattle.std.specs.Ordering.{nat_cmp}
+use Rattle.std.specs.Prelude.{Err, List, Ok, OnOk, Option, Result, [], codes, flat_map, length, map, ℕ, ◌++◌, ◌∷◌, ◌≡◌}
 use Rattle.tape_laws.specs.Connections.{connections}
 use Rattle.tape_laws.specs.Dispatches.{started, turns}
 use Rattle.tape_laws.specs.Flows.{request}
@@ -75,58 +77,53 @@ pauses_are log h l =
 
 -- ---- peaks
 
-flow_peaks_are : (core : PlainCore) (x : ℕ) (p : Peaks) (limits : PlainLimits) (h : History NoMark) → ShowsPeaks core p → Rests limits core h → started h ≡ x ∷ []
-    → flow_peak_lines x limits p ≡ flow_peaks (plain_setup limits) h (request x)
-flow_peaks_are core x p limits h s r b =
-    ap (λ n. peak_line (codes "recv" ∷ flow_word (request x) ∷ []) limits.recv n ++ peak_line (codes "send" ∷ flow_word (request x) ∷ []) limits.send p.send) (s.recv limits x h r b)
-    ∙ ap (λ n. peak_line (codes "recv" ∷ flow_word (request x) ∷ []) limits.recv (peak (plain_setup limits) (buffer.Recv (request x)) h) ++ peak_line (codes "send" ∷ flow_word (request x) ∷ []) limits.send n) (s.send limits x h r b)
+-- the lines of a stream's buffers
+stream_lines : (log : PeakLog) (limits : PlainLimits) (h : History NoMark) (x : ℕ) → PeaksAre limits log h → flow_peak_lines log x ≡ flow_peaks (plain_setup limits) h (request x)
+stream_lines log limits h x p =
+    ap (λ (m : PlainLimits). peak_line (codes "recv" ∷ flow_word (request x) ∷ []) m.recv (levels_of (get nat_cmp log.flows x)).recv.most ++ peak_line (codes "send" ∷ flow_word (request x) ∷ []) m.send (levels_of (get nat_cmp log.flows x)).send.most) p.limits_are
+    ∙ ap (λ (l : FlowLevels). peak_line (codes "recv" ∷ flow_word (request x) ∷ []) limits.recv l.recv.most ++ peak_line (codes "send" ∷ flow_word (request x) ∷ []) limits.send l.send.most) (p.flows x)
     ∙ unstaged (peak_line (codes "recv" ∷ flow_word (request x) ∷ []) limits.recv (peak (plain_setup limits) (buffer.Recv (request x)) h)) (peak_line (codes "send" ∷ flow_word (request x) ∷ []) limits.send (peak (plain_setup limits) (buffer.Send (request x)) h))
   where
     unstaged : (a s : List ℕ) → a ++ s ≡ a ++ [] ++ s
     unstaged a s = grind (arith, common_steps)
 
+-- those of all streams
+streams_lines : (log : PeakLog) (limits : PlainLimits) (h : History NoMark) (xs : List ℕ) → PeaksAre limits log h
+    → flat_map (flow_peak_lines log) xs ≡ flat_map (flow_peaks (plain_setup limits) h) (flat_map (λ x. request x ∷ []) xs)
+streams_lines log limits h [] p = refl
+streams_lines log limits h (x ∷ xs) p =
+    ap (λ (v : List ℕ). v ++ flat_map (flow_peak_lines log) xs) (stream_lines log limits h x p)
+    ∙ ap (λ (v : List ℕ). flow_peaks (plain_setup limits) h (request x) ++ v) (streams_lines log limits h xs p)
+
 abbrev peaks_text : PlainLimits → History NoMark → List ℕ
 peaks_text limits h =
     flat_map (flow_peaks (plain_setup limits) h) (all_flows (plain_setup limits) h) ++ flat_map (write_peak (plain_setup limits) h) (connections (plain_setup limits) h)
 
--- the flows and the connections that there are
-split : (limits : PlainLimits) (h : History NoMark) (xs : List ℕ) → started h ≡ xs → connections (plain_setup limits) h ≡ 0 ∷ []
-    → peaks_text limits h ≡ flat_map (flow_peaks (plain_setup limits) h) (flat_map (λ x. request x ∷ []) xs) ++ flat_map (write_peak (plain_setup limits) h) (0 ∷ [])
-split limits h xs s c =
-    ap (λ (ys : List ℕ). flat_map (flow_peaks (plain_setup limits) h) (flat_map (λ x. request x ∷ []) ys) ++ flat_map (write_peak (plain_setup limits) h) (connections (plain_setup limits) h)) s
-    ∙ ap (λ (cs : List ℕ). flat_map (flow_peaks (plain_setup limits) h) (flat_map (λ x. request x ∷ []) xs) ++ flat_map (write_peak (plain_setup limits) h) cs) c
+write_line : (log : PeakLog) (limits : PlainLimits) (h : History NoMark) → PeaksAre limits log h → connections (plain_setup limits) h ≡ 0 ∷ []
+    → write_peak_line log ≡ flat_map (write_peak (plain_setup limits) h) (connections (plain_setup limits) h)
+write_line log limits h p c =
+    ap (λ (m : PlainLimits). peak_line (codes "write" ∷ decimal 0 ∷ []) m.write log.write.most) p.limits_are
+    ∙ ap (λ (l : Level). peak_line (codes "write" ∷ decimal 0 ∷ []) limits.write l.most) p.write
+    ∙ sym (append-nil (write_peak (plain_setup limits) h 0))
+    ∙ ap (flat_map (write_peak (plain_setup limits) h)) (sym c)
 
-write_is : (core : PlainCore) (p : Peaks) (limits : PlainLimits) (h : History NoMark) → ShowsPeaks core p → Rests limits core h → write_peak_line limits p ≡ write_peak (plain_setup limits) h 0
-write_is core p limits h s r = ap (λ n. peak_line (codes "write" ∷ decimal 0 ∷ []) limits.write n) (s.write limits h r)
-
-peaks_are : (core : PlainCore) (stream : Option ℕ) (p : Peaks) (limits : PlainLimits) (h : History NoMark) → ShowsStream core stream → ShowsPeaks core p → Rests limits core h
-    → peak_lines stream limits p ≡ peaks_text limits h
-peaks_are core None p limits h st s r =
-    write_is core p limits h s r ∙ sym (append-nil (write_peak (plain_setup limits) h 0)) ∙ sym (split limits h [] (st.started limits h r) (s.connection limits h r))
-peaks_are core (Some x) p limits h st s r =
-    let b : started h ≡ x ∷ [] = st.started limits h r in
-    let w = write_peak (plain_setup limits) h 0 in
-    ap (λ (v : List ℕ). v ++ write_peak_line limits p) (flow_peaks_are core x p limits h s r b)
-    ∙ ap (λ (v : List ℕ). flow_peaks (plain_setup limits) h (request x) ++ v) (write_is core p limits h s r)
-    ∙ ends (flow_peaks (plain_setup limits) h (request x)) w
-    ∙ sym (split limits h (x ∷ []) b (s.connection limits h r))
-  where
-    ends : (a w : List ℕ) → a ++ w ≡ (a ++ []) ++ (w ++ [])
-    ends a w = grind (arith, common_steps)
+peaks_are : (log : PeakLog) (limits : PlainLimits) (h : History NoMark) → PeaksAre limits log h → connections (plain_setup limits) h ≡ 0 ∷ [] → peak_lines log ≡ peaks_text limits h
+peaks_are log limits h p c =
+    ap (λ (xs : List ℕ). flat_map (flow_peak_lines log) xs ++ write_peak_line log) p.streams
+    ∙ ap (λ (v : List ℕ). v ++ write_peak_line log) (streams_lines log limits h (started h) p)
+    ∙ ap (λ (v : List ℕ). flat_map (flow_peaks (plain_setup limits) h) (all_flows (plain_setup limits) h) ++ v) (write_line log limits h p c)
 
 -- ---- the whole
 
-pub summarizes : (core : PlainCore) (log : PauseLog) (stream : Option ℕ) (l : PlainLimits) (p : Peaks) (n : ℕ) (old new : List ℕ)
-    → ShowsStream core stream → ShowsLimits core l → ShowsPeaks core p → ShowsTurns core n
-    → new ≡ old ++ (peak_lines stream l p ++ (pause_lines log log.pauses.items ++ report_line (codes "done" ∷ decimal n ∷ [])))
-    → Summarizes core log old new
-summarizes core log stream l p n old new st sl sp sn e = record {
-  goes = λ limits h r g.
+pub summarizes : (log : TapeLog) (n : ℕ) (old new : List ℕ) → n ≡ log.pauses.turn
+    → new ≡ old ++ (peak_lines log.peaks ++ (pause_lines log.pauses log.pauses.pauses.items ++ report_line (codes "done" ∷ decimal n ∷ [])))
+    → Summarizes log old new
+summarizes log n old new en e = record {
+  goes = λ limits h l c.
       e ∙ ap (λ (v : List ℕ). old ++ v) (
-      ap (λ (m : PlainLimits). peak_lines stream m p ++ (pause_lines log log.pauses.items ++ report_line (codes "done" ∷ decimal n ∷ []))) (sl.are limits h r)
-      ∙ ap (λ (v : List ℕ). v ++ (pause_lines log log.pauses.items ++ report_line (codes "done" ∷ decimal n ∷ []))) (peaks_are core stream p limits h st sp r)
-      ∙ ap (λ (v : List ℕ). peaks_text limits h ++ (v ++ report_line (codes "done" ∷ decimal n ∷ []))) (pauses_are log h g)
-      ∙ ap (λ k. peaks_text limits h ++ (flat_map paused_line (paused_lines h) ++ report_line (codes "done" ∷ decimal k ∷ []))) (sn.turns limits h r)
+      ap (λ (v : List ℕ). v ++ (pause_lines log.pauses log.pauses.pauses.items ++ report_line (codes "done" ∷ decimal n ∷ []))) (peaks_are log.peaks limits h l.peaks c)
+      ∙ ap (λ (v : List ℕ). peaks_text limits h ++ (v ++ report_line (codes "done" ∷ decimal n ∷ []))) (pauses_are log.pauses h l.pauses)
+      ∙ ap (λ k. peaks_text limits h ++ (flat_map paused_line (paused_lines h) ++ report_line (codes "done" ∷ decimal k ∷ []))) (en ∙ l.pauses.turn)
       ∙ append_assoc (flat_map (flow_peaks (plain_setup limits) h) (all_flows (plain_setup limits) h)) (flat_map (write_peak (plain_setup limits) h) (connections (plain_setup limits) h)) (flat_map paused_line (paused_lines h) ++ report_line (codes "done" ∷ decimal (turns h) ∷ [])));
 }
 
@@ -156,13 +153,18 @@ paused_ends log p old a b c d e f new (Ok x) until eu ea eb ec ed ee ef en =
     ∙ ap (λ (v : List ℕ). old ++ v) (paused_spelled (told_pause log p))
 paused_ends log p old a b c d e f new (Err x) until eu ea eb ec ed ee ef en = tt
 
-pub summary_ends : (core : PlainCore) (log : PauseLog) (stream : Option ℕ) (l : PlainLimits) (p : Peaks) (n : ℕ) (old t0 t1 t2 t3 new : List ℕ) (r : Result (Unit {0}) NoMemory)
-    → ShowsStream core stream → ShowsLimits core l → ShowsPeaks core p → ShowsTurns core n
-    → t0 ≡ [] → t1 ≡ t0 ++ peak_lines stream l p → t2 ≡ t1 ++ pause_lines log log.pauses.items → t3 ≡ t2 ++ report_line (codes "done" ∷ decimal n ∷ [])
+pub summary_ends : (log : TapeLog) (n : ℕ) (old t0 t1 t2 t3 new : List ℕ) (r : Result (Unit {0}) NoMemory) → n ≡ log.pauses.turn
+    → t0 ≡ [] → t1 ≡ t0 ++ peak_lines log.peaks → t2 ≡ t1 ++ pause_lines log.pauses log.pauses.pauses.items → t3 ≡ t2 ++ report_line (codes "done" ∷ decimal n ∷ [])
     → (slice : List ℕ) → slice ≡ t3 → OnOk r (new ≡ old ++ slice)
-    → OnOk r (Summarizes core log old new)
-summary_ends core log stream l p n old t0 t1 t2 t3 new (Ok x) st sl sp sn e0 e1 e2 e3 slice es en =
-    summarizes core log stream l p n old new st sl sp sn
-    (en ∙ ap (λ (v : List ℕ). old ++ v) (es ∙ e3 ∙ ap (λ (v : List ℕ). v ++ report_line (codes "done" ∷ decimal n ∷ [])) (e2 ∙ ap (λ (v : List ℕ). v ++ pause_lines log log.pauses.items) (e1 ∙ ap (λ (v : List ℕ). v ++ peak_lines stream l p) e0))
-    ∙ append_assoc (peak_lines stream l p) (pause_lines log log.pauses.items) (report_line (codes "done" ∷ decimal n ∷ []))))
-summary_ends core log stream l p n old t0 t1 t2 t3 new (Err x) st sl sp sn e0 e1 e2 e3 slice es en = tt
+    → OnOk r (Summarizes log old new)
+summary_ends log n old t0 t1 t2 t3 new (Ok x) tn e0 e1 e2 e3 slice es en =
+    summarizes log n old new tn
+    (en ∙ ap (λ (v : List ℕ). old ++ v) (es ∙ e3 ∙ ap (λ (v : List ℕ). v ++ report_line (codes "done" ∷ decimal n ∷ [])) (e2 ∙ ap (λ (v : List ℕ). v ++ pause_lines log.pauses log.pauses.pauses.items) (e1 ∙ ap (λ (v : List ℕ). v ++ peak_lines log.peaks) e0))
+    ∙ append_assoc (peak_lines log.peaks) (pause_lines log.pauses log.pauses.pauses.items) (report_line (codes "done" ∷ decimal n ∷ []))))
+summary_ends log n old t0 t1 t2 t3 new (Err x) tn e0 e1 e2 e3 slice es en = tt
+
+-- the streams so far and those that are left
+pub streams_left : (log : PeakLog) (into done : List ℕ) (x : ℕ) (rest after : List ℕ) (into2 : List ℕ) → rest ≡ x ∷ after → flat_map (flow_peak_lines log) log.started.items ≡ done ++ flat_map (flow_peak_lines log) rest
+    → flat_map (flow_peak_lines log) log.started.items ≡ (done ++ flow_peak_lines log x) ++ flat_map (flow_peak_lines log) after
+streams_left log into done x rest after into2 e k =
+    k ∙ ap (λ (v : List ℕ). done ++ flat_map (flow_peak_lines log) v) e ∙ sym (append_assoc done (flow_peak_lines log x) (flat_map (flow_peak_lines log) after))

@@ -10,5 +10,4 @@ status_code status.Session = 4
 status_code status.ReadFault = 5
 status_code status.WriteFault = 6
 status_code status.Memory = 7
-status_code status.NotBuilt = 8
 status_code status.TooLong = 9

@@ -2,7 +2,7 @@
 use Rattle.flow_notes.specs.declared.events.Event.{Event}
 use Rattle.flow_notes.specs.declared.events.PlainEvent.{PlainEvent}
 use Rattle.io_ports.specs.declared.octets.NoMemory.{NoMemory}
-use Rattle.replay_run.specs.Following.{begun, cut, finished, may_follow, paired}
+use Rattle.tape_laws.specs.Following.{begun, cut, finished, may_follow, paired}
 use Rattle.replay_run.specs.declared.courses.Course.{Course}
 use Rattle.replay_run.specs.declared.courses.Courses.{Courses}
 use Rattle.std.specs.BTreeMap.{get}

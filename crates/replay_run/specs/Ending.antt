@@ -1,6 +1,6 @@
 -- How a session ends, by what was read of it. The rest is what was read behind the lines that were played.
 use Rattle.replay_run.specs.Newlines.{BeginsWithLine, has_newline}
-use Rattle.replay_run.specs.Played.{IsUnbuilt, SpellsNothing}
+use Rattle.replay_run.specs.Played.{SpellsNothing}
 use Rattle.replay_run.specs.Seen.{Seen, is_playing, seen_text}
 use Rattle.replay_run.specs.declared.status.Status.{Status}
 use Rattle.std.specs.Io.KnownBytes.{IsAtEnd}
@@ -36,12 +36,6 @@ pub data IsRefused (seen : Seen) (rest : List ℕ) (left : Option (List ℕ)) : 
   -- the session ends without its newline, or before its limits
   Cut : has_newline rest ≡ false → length (seen_text seen) + length rest ≤ most_octets → ((rest ≡ []) × IsTrue (is_playing seen) → ⊥) → IsAtEnd left → IsRefused seen rest left
 
--- the next line spells an event that may come, and it isn't built
-pub record IsNotBuilt (seen : Seen) (limits : PlainLimits) (history : History NoMark) (rest : List ℕ) : Type 0 where
-  pub len : ℕ
-  pub line : HasLine seen rest len
-  pub unbuilt : IsUnbuilt seen limits history (take len rest)
-
 -- there is more than the session's most octets, and what stands within them behind the lines is neither a line nor
 -- too long for one
 pub record IsTooLong (seen : Seen) (rest : List ℕ) : Type 0 where
@@ -59,7 +53,6 @@ pub record IsWaiting (seen : Seen) (rest : List ℕ) : Type 0 where
 abbrev pub EndsAs : Status → Seen → PlainLimits → History NoMark → List ℕ → Option (List ℕ) → Type 0
 EndsAs status.Done seen limits history rest left = IsTrue (is_playing seen) × (rest ≡ []) × IsAtEnd left
 EndsAs status.Session seen limits history rest left = IsRefused seen rest left
-EndsAs status.NotBuilt seen limits history rest left = IsNotBuilt seen limits history rest
 EndsAs status.TooLong seen limits history rest left = IsTooLong seen rest
 EndsAs status.ReadFault seen limits history rest left = IsWaiting seen rest
 EndsAs status.Memory seen limits history rest left = Unit {0}

@@ -1,22 +1,16 @@
 -- Lines that may come, and a tape of their events.
-use Rattle.flow_notes.specs.declared.events.Event.{Event}
-use Rattle.replay_run.specs.Seen.{EventOf, Headed, MayCome, Playing, Seen, Unread, are_limits, seen_events}
-use Rattle.replay_run.specs.declared.order.Format.{Format}
-use Rattle.std.specs.Prelude.{IsTrue, List, [], ◌∷◌, ◌≡◌}
+use Rattle.tape_laws.specs.Following.{MayFollowAll}
+use Rattle.replay_run.specs.Seen.{Headed, Playing, Seen, Unread, are_limits, seen_events}
+use Rattle.std.specs.Prelude.{IsTrue, [], ◌≡◌}
 use Rattle.tape_laws.specs.Dispatches.{events_back}
 use Rattle.tape_laws.specs.History.{History, NoMark}
 use Rattle.tape_laws.specs.PlainTape.{IsPlainWhole}
 use Rattle.tape_laws.specs.declared.limits.PlainLimits.{PlainLimits}
 
--- each event may come after those before it
-abbrev pub MayFollowAll : Format → PlainLimits → List Event → Type 0
-MayFollowAll f l [] = Unit {0}
-MayFollowAll f l (e ∷ es) = MayCome (Playing f l es) (EventOf e) × MayFollowAll f l es
-
 abbrev pub IsSeen : Seen → Type 0
 IsSeen Unread = Unit {0}
 IsSeen (Headed f) = Unit {0}
-IsSeen (Playing f l es) = IsTrue (are_limits f l) × MayFollowAll f l es
+IsSeen (Playing f l es) = IsTrue (are_limits f l) × MayFollowAll es
 
 -- the limits are those of the limits line; before it the tape is empty, and the limits are any
 abbrev pub HasLimits : Seen → PlainLimits → History NoMark → Type 0

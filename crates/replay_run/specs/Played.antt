@@ -2,19 +2,19 @@
 use Rattle.flow_notes.specs.Line.{newline}
 use Rattle.flow_notes.specs.declared.events.Event.{Event}
 use Rattle.io_ports.specs.declared.octets.NoMemory.{NoMemory}
-use Rattle.plain_core.specs.Allowed.{IsBuilt}
-use Rattle.plain_core.specs.Stands.{Rests}
 use Rattle.replay_run.specs.Lawfully.{IsTape}
+use Rattle.replay_run.specs.Logging.{TapeLogIs}
 use Rattle.replay_run.specs.Orders.{OrderIs}
-use Rattle.replay_run.specs.Pausing.{LogIs}
-use Rattle.replay_run.specs.Seen.{EventOf, Item, Seen, Spells, Unread, seen_more, seen_text}
+use Rattle.replay_run.specs.Seen.{Item, Seen, Spells, Unread, seen_more, seen_text}
 use Rattle.replay_run.specs.declared.play.Play.{Play}
 use Rattle.replay_run.specs.declared.play.Went.{Went}
 use Rattle.std.specs.Prelude.{Err, List, Ok, Result, [], ℕ, ◌++◌, ◌∷◌, ◌≡◌}
 use Rattle.tape_laws.specs.Dispatches.{events_back}
+use Rattle.tape_laws.specs.Following.{MayFollowAll}
 use Rattle.tape_laws.specs.History.{History, NoMark}
 use Rattle.tape_laws.specs.Text.{tape_text}
 use Rattle.tape_laws.specs.declared.limits.PlainLimits.{PlainLimits}
+use Rattle.worker_core.specs.Stands.{Rests}
 use Rattle.replay_run.specs.declared.play.Went.TheVariants as went
 
 -- the lines were read, their events were dispatched, and of the tape this was written
@@ -24,7 +24,7 @@ pub record Played (play : Play) (read written : List ℕ) : Type 0 where
   pub history : History NoMark
   pub order : OrderIs play.order seen
   pub rests : Rests limits play.core history
-  pub logs : LogIs play.log history
+  pub logs : TapeLogIs limits play.log history
   pub tape : IsTape seen limits history
   pub read_is : read ≡ seen_text seen
   pub text : written ++ play.text ≡ tape_text [] history
@@ -36,12 +36,6 @@ pub record GoesOn (old new : Play) (line read written : List ℕ) (k : Played ol
   pub played : Played new (read ++ (line ++ newline)) written
   pub seen : played.seen ≡ seen_more k.seen item
 
--- the line spells an event that may come, and this event isn't built
-pub record IsUnbuilt (seen : Seen) (limits : PlainLimits) (history : History NoMark) (line : List ℕ) : Type 0 where
-  pub event : Event
-  pub spells : Spells seen line (EventOf event)
-  pub unbuilt : IsBuilt limits history event → ⊥
-
 abbrev pub SpellsNothing : Seen → List ℕ → Type 0
 SpellsNothing seen line = (item : Item) → Spells seen line item → ⊥
 
@@ -49,7 +43,6 @@ SpellsNothing seen line = (item : Item) → Spells seen line item → ⊥
 abbrev pub PlayedAs : (old new : Play) (line read written : List ℕ) → Played old read written → Result Went NoMemory → Type 0
 PlayedAs old new line read written k (Ok went.On) = GoesOn old new line read written k
 PlayedAs old new line read written k (Ok went.Refused) = SpellsNothing k.seen line × (new.text ≡ old.text)
-PlayedAs old new line read written k (Ok went.NotBuilt) = IsUnbuilt k.seen k.limits k.history line × (new.text ≡ old.text)
 PlayedAs old new line read written k (Err e) = new.text ≡ old.text
 
 pub record PlaysLine (old : Play) (line : List ℕ) (new : Play) (result : Result Went NoMemory) : Type 0 where
@@ -60,7 +53,7 @@ pub record Dispatched (old : Play) (e : Event) (new : Play) (limits : PlainLimit
   pub history : History NoMark
   pub added : List ℕ
   pub rests : Rests limits new.core history
-  pub logs : LogIs new.log history
+  pub logs : TapeLogIs limits new.log history
   pub events : events_back history ≡ e ∷ events_back h
   pub tape : tape_text [] history ≡ tape_text [] h ++ added
   pub text : new.text ≡ old.text ++ added
@@ -69,11 +62,10 @@ pub record Dispatched (old : Play) (e : Event) (new : Play) (limits : PlainLimit
 abbrev pub DispatchedAs : (old : Play) (e : Event) (new : Play) (limits : PlainLimits) (h : History NoMark) → Result Went NoMemory → Type 0
 DispatchedAs old e new limits h (Ok went.On) = Dispatched old e new limits h
 DispatchedAs old e new limits h (Ok went.Refused) = ⊥
-DispatchedAs old e new limits h (Ok went.NotBuilt) = (IsBuilt limits h e → ⊥) × (new.text ≡ old.text)
 DispatchedAs old e new limits h (Err x) = new.text ≡ old.text
 
 pub record PlaysEvent (old : Play) (e : Event) (new : Play) (result : Result Went NoMemory) : Type 0 where
-  pub goes : (limits : PlainLimits) (h : History NoMark) → Rests limits old.core h → LogIs old.log h → DispatchedAs old e new limits h result
+  pub goes : (limits : PlainLimits) (h : History NoMark) → Rests limits old.core h → MayFollowAll (e ∷ events_back h) → TapeLogIs limits old.log h → DispatchedAs old e new limits h result
 
 -- a play that begins
 pub record Begins (play : Play) : Type 0 where

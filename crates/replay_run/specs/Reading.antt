@@ -5,7 +5,7 @@ use Rattle.flow_notes.specs.declared.events.Event.{Event}
 use Rattle.flow_notes.specs.declared.events.PlainEvent.{PlainEvent}
 use Rattle.io_ports.specs.declared.octets.NoMemory.{NoMemory}
 use Rattle.replay_run.specs.Courses.{CoursesAre, Follows}
-use Rattle.replay_run.specs.Following.{may_follow}
+use Rattle.tape_laws.specs.Following.{may_follow}
 use Rattle.replay_run.specs.declared.courses.Courses.{Courses}
 use Rattle.replay_run.specs.declared.order.LineRead.{LineRead}
 use Rattle.std.specs.Prelude.{Err, List, Ok, Result, false, true, ℕ, ◌∷◌, ◌≡◌}

@@ -22,12 +22,11 @@ numbered_line words k = line_of (words ++ decimal k ∷ []) ++ newline
 abbrev pub last_text : Status → Seen → PlainLimits → History NoMark → List ℕ
 last_text status.Done seen limits history = summary_text (plain_setup limits) history
 last_text status.Session seen limits history = numbered_line (codes "refused" ∷ codes "line" ∷ []) (suc (seen_lines seen))
-last_text status.NotBuilt seen limits history = numbered_line (codes "not" ∷ codes "built" ∷ codes "line" ∷ []) (suc (seen_lines seen))
 last_text status.TooLong seen limits history = codes "refused length session" ++ newline
 last_text status seen limits history = []
 
--- the text is that of a lawful tape of the events of the lines that were read before the first one that was refused,
--- not built or not read, with the last line or lines of the status
+-- the text is that of a lawful tape of the events of the lines that were read before the first one that was refused
+-- or not read, with the last line or lines of the status
 pub record Tells (status : Status) (read told : List ℕ) (left : Option (List ℕ)) : Type 0 where
   pub seen : Seen
   pub limits : PlainLimits

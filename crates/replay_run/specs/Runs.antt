@@ -1,18 +1,19 @@
 -- What stands while a session is read, and when its lines have ended.
-use Rattle.plain_core.specs.Stands.{Rests}
 use Rattle.replay_run.specs.Ending.{EndsAs, longest_line, most_octets}
 use Rattle.replay_run.specs.Held.{held_of}
 use Rattle.replay_run.specs.Lawfully.{IsTape}
+use Rattle.replay_run.specs.Logging.{TapeLogIs}
 use Rattle.replay_run.specs.Newlines.{has_newline}
-use Rattle.replay_run.specs.Pausing.{LogIs}
 use Rattle.replay_run.specs.Played.{Played}
 use Rattle.replay_run.specs.Replays.{Tells, TellsAs, TellsFront, last_text}
 use Rattle.replay_run.specs.Seen.{Seen, seen_lines, seen_text}
 use Rattle.replay_run.specs.declared.run.Run.{Run}
 use Rattle.replay_run.specs.declared.status.Status.{Status}
 use Rattle.std.specs.Io.KnownBytes.{Appends, Consumes, IsAtEnd}
-use Rattle.std.specs.Prelude.{Err, List, MatchResult, None, Option, Result, Some, [], false, length, suc, ℕ, ◌*◌, ◌++◌, ◌+◌, ◌-◌, ◌<◌, ◌≡◌, ◌≤◌}
+use Rattle.std.specs.Prelude.{Err, List, MatchResult, None, Option, Result, Some, [], false, length, suc, ℕ, ◌*◌, ◌++◌, ◌+◌, ◌-◌, ◌<◌, ◌∷◌, ◌≡◌, ◌≤◌}
+use Rattle.tape_laws.specs.Connections.{connections}
 use Rattle.tape_laws.specs.History.{History, NoMark}
+use Rattle.tape_laws.specs.Plain.{plain_setup}
 use Rattle.tape_laws.specs.Text.{tape_text}
 use Rattle.tape_laws.specs.declared.limits.PlainLimits.{PlainLimits}
 use Rattle.replay_run.specs.declared.status.Status.TheVariants as status
@@ -36,8 +37,7 @@ pub record Halts (run : Run) (how : Status) (read written : List ℕ) (left : Op
   pub ends : EndsAs how seen limits history rest left
   pub text : written ++ run.play.text ≡ tape_text [] history
   pub number : run.number ≡ suc (seen_lines seen)
-  pub rests : how ≡ status.Done → Rests limits run.play.core history
-  pub logs : how ≡ status.Done → LogIs run.play.log history
+  pub logs : how ≡ status.Done → TapeLogIs limits run.play.log history
 
 abbrev pub HaltsAs : Run → Status → List ℕ → List ℕ → Option (List ℕ) → Type 0
 HaltsAs run status.WriteFault read written left = TellsFront read written left
@@ -96,8 +96,8 @@ pub record Steps (old new : Run) (left_old left_new out_old out_new : Option (Li
 
 -- the last line or lines stand behind the text, or nothing does
 pub record EndsText (old : Run) (how : Status) (new : List ℕ) : Type 0 where
-  pub goes : (seen : Seen) (limits : PlainLimits) (h : History NoMark) → old.number ≡ suc (seen_lines seen) → (how ≡ status.Done → Rests limits old.play.core h) → (how ≡ status.Done → LogIs old.play.log h)
-      → new ≡ old.play.text ++ last_text how seen limits h
+  pub goes : (seen : Seen) (limits : PlainLimits) (h : History NoMark) → old.number ≡ suc (seen_lines seen) → (how ≡ status.Done → TapeLogIs limits old.play.log h)
+      → connections (plain_setup limits) h ≡ 0 ∷ [] → new ≡ old.play.text ++ last_text how seen limits h
 
 -- the text then tells how the session ended
 pub record Adds (old : Run) (new : List ℕ) (how added : Status) : Type 0 where

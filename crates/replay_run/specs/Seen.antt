@@ -1,14 +1,12 @@
 -- The lines of a plain session so far, and what the next one may be.
-use Rattle.flow_notes.specs.Event.{IsEvent, event_spelling}
-use Rattle.flow_notes.specs.Fields.{FitsEvent}
+use Rattle.flow_notes.specs.Event.{event_spelling}
 use Rattle.flow_notes.specs.Line.{line_of, newline}
 use Rattle.flow_notes.specs.declared.events.Event.{Event}
-use Rattle.replay_run.specs.Following.{may_follow}
+use Rattle.tape_laws.specs.Following.{MayFollowEvent}
 use Rattle.replay_run.specs.declared.order.Format.{Format}
 use Rattle.std.specs.Fmt.{decimal}
 use Rattle.std.specs.Prelude.{Bool, IsTrue, List, [], codes, false, length, map, nat_le, true, ℕ, ◌&&◌, ◌++◌, ◌+◌, ◌==◌, ◌∷◌, ◌≡◌}
 use Rattle.tape_laws.specs.declared.limits.PlainLimits.{PlainLimits}
-use Rattle.flow_notes.specs.declared.events.Event.TheVariants as event
 use Rattle.replay_run.specs.declared.order.Format.TheVariants as format
 
 -- no line yet; the header; or header and limits, with the events of the lines behind them, newest first
@@ -48,7 +46,7 @@ are_limits f l =
 abbrev pub MayCome : Seen → Item → Type 0
 MayCome Unread (HeaderOf f) = Unit {0}
 MayCome (Headed f) (LimitsOf l) = IsTrue (are_limits f l)
-MayCome (Playing f l es) (EventOf (event.Plain e)) = IsEvent [] (event.Plain e) × FitsEvent (event.Plain e) × IsTrue (may_follow es e)
+MayCome (Playing f l es) (EventOf e) = MayFollowEvent es e
 MayCome seen item = ⊥
 
 abbrev pub item_line : Seen → Item → List ℕ

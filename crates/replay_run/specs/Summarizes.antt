@@ -1,13 +1,17 @@
 -- What writing a summary does to a text.
 use Rattle.flow_notes.specs.Flow.{flow_word}
-use Rattle.plain_core.specs.Stands.{Rests}
-use Rattle.plain_core.specs.declared.plain.Peaks.{Peaks}
-use Rattle.plain_core.specs.declared.plain.PlainCore.{PlainCore}
-use Rattle.replay_run.specs.Pausing.{LogIs, told_pause}
+use Rattle.replay_run.specs.Logging.{TapeLogIs}
+use Rattle.replay_run.specs.Pausing.{told_pause}
+use Rattle.replay_run.specs.Peaking.{levels_of}
 use Rattle.replay_run.specs.declared.pauses.Pause.{Pause}
 use Rattle.replay_run.specs.declared.pauses.PauseLog.{PauseLog}
+use Rattle.replay_run.specs.declared.peaks.PeakLog.{PeakLog}
+use Rattle.replay_run.specs.declared.tape_log.TapeLog.{TapeLog}
+use Rattle.std.specs.BTreeMap.{get}
 use Rattle.std.specs.Fmt.{decimal}
-use Rattle.std.specs.Prelude.{List, None, Option, Some, [], codes, flat_map, ℕ, ◌++◌, ◌∷◌, ◌≡◌}
+use Rattle.std.specs.Ordering.{nat_cmp}
+use Rattle.std.specs.Prelude.{List, [], codes, flat_map, ℕ, ◌++◌, ◌∷◌, ◌≡◌}
+use Rattle.tape_laws.specs.Connections.{connections}
 use Rattle.tape_laws.specs.Flows.{request}
 use Rattle.tape_laws.specs.History.{History, NoMark}
 use Rattle.tape_laws.specs.Plain.{plain_setup}
@@ -15,22 +19,23 @@ use Rattle.tape_laws.specs.Report.{paused_line, peak_line, summary_text}
 use Rattle.tape_laws.specs.declared.limits.PlainLimits.{PlainLimits}
 
 -- the lines of the peaks, each where its buffer ever held an octet
-abbrev pub flow_peak_lines : ℕ → PlainLimits → Peaks → List ℕ
-flow_peak_lines x limits peaks =
-    peak_line (codes "recv" ∷ flow_word (request x) ∷ []) limits.recv peaks.recv
-    ++ peak_line (codes "send" ∷ flow_word (request x) ∷ []) limits.send peaks.send
+abbrev pub flow_peak_lines : PeakLog → ℕ → List ℕ
+flow_peak_lines log x =
+    let levels = levels_of (get nat_cmp log.flows x) in
+    peak_line (codes "recv" ∷ flow_word (request x) ∷ []) log.limits.recv levels.recv.most
+    ++ peak_line (codes "send" ∷ flow_word (request x) ∷ []) log.limits.send levels.send.most
 
-abbrev pub write_peak_line : PlainLimits → Peaks → List ℕ
-write_peak_line limits peaks = peak_line (codes "write" ∷ decimal 0 ∷ []) limits.write peaks.write
+abbrev pub write_peak_line : PeakLog → List ℕ
+write_peak_line log = peak_line (codes "write" ∷ decimal 0 ∷ []) log.limits.write log.write.most
 
-abbrev pub peak_lines : Option ℕ → PlainLimits → Peaks → List ℕ
-peak_lines None limits peaks = write_peak_line limits peaks
-peak_lines (Some x) limits peaks = flow_peak_lines x limits peaks ++ write_peak_line limits peaks
+abbrev pub peak_lines : PeakLog → List ℕ
+peak_lines log = flat_map (flow_peak_lines log) log.started.items ++ write_peak_line log
 
 -- the lines of some pauses
 abbrev pub pause_lines : PauseLog → List Pause → List ℕ
 pause_lines log ps = flat_map (λ p. paused_line (told_pause log p)) ps
 
--- the summary of the history stands behind the text
-pub record Summarizes (core : PlainCore) (log : PauseLog) (old new : List ℕ) : Type 0 where
-  pub goes : (limits : PlainLimits) (h : History NoMark) → Rests limits core h → LogIs log h → new ≡ old ++ summary_text (plain_setup limits) h
+-- the summary of the history, of one connection, stands behind the text
+pub record Summarizes (log : TapeLog) (old new : List ℕ) : Type 0 where
+  pub goes : (limits : PlainLimits) (h : History NoMark) → TapeLogIs limits log h → connections (plain_setup limits) h ≡ 0 ∷ []
+      → new ≡ old ++ summary_text (plain_setup limits) h

@@ -78,9 +78,8 @@ impl Run {
         let play = &mut self.play;
         let text = &mut play.text;
         match status {
-            Status::Done => write_summary(play.alloc, &play.core, &play.log, text),
+            Status::Done => write_summary(play.alloc, &play.log, text),
             Status::Session => push_numbered(text, b"refused line ", self.number),
-            Status::NotBuilt => push_numbered(text, b"not built line ", self.number),
             Status::TooLong => text.push_all(b"refused length session\n"),
             _ => Ok(()),
         }

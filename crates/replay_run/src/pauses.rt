@@ -73,6 +73,13 @@ impl PauseLog {
         Ok(())
     }
 
+    /// How many dispatches there were.
+    pub fn turns(&self) -> u64
+        ensures { result ≡ self.now.turn }
+    {
+        self.turn
+    }
+
     /// The pauses, in the order of their notes.
     pub fn pauses(&self) -> &[Pause]
         ensures { result.now ≡ self.now.pauses.items }

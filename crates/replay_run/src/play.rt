@@ -5,14 +5,14 @@ ghost use Rattle.flow_notes.specs.Note.{IsNote};
 ghost use Rattle.replay_run.specs.NotesText.{notes_text};
 
 use crate::order::{LineRead, Order};
-use crate::pauses::PauseLog;
 use crate::session::read_session_line;
+use crate::tape_log::TapeLog;
 use crate::tell::tell;
 use flow_notes::{Event, Notes};
 use io_ports::{NoMemory, Octets};
-use plain_core::PlainCore;
 use std::alloc::Global;
 use tape_laws::PlainLimits;
+use worker_core::Core;
 
 /// The limits before any are read.
 const NO_LIMITS: PlainLimits = PlainLimits {
@@ -29,42 +29,39 @@ pub enum Went {
     On,
     /// It breaks the grammar or the order.
     Refused,
-    /// It may come, and it isn't built.
-    NotBuilt,
 }
 
-/// A session under way: what its lines say of the next one, the core, the pauses so far, and the text of
-/// the tape that isn't written yet.
+/// A session under way: what its lines say of the next one, the core, what the summary tells of the tape
+/// so far, and the text of the tape that isn't written yet.
 #[derive(Drop)]
 pub struct Play {
     pub alloc: Global,
     pub order: Order,
-    pub core: PlainCore,
-    pub log: PauseLog,
+    pub core: Core,
+    pub log: TapeLog,
     pub notes: Notes,
     pub text: Octets,
 }
 
 impl Play {
-    ghost use Rattle.std.specs.Prelude.{◌≡◌, ◌++◌, List, ℕ, [], OnOk, OnErr};
+    ghost use Rattle.std.specs.Prelude.{◌≡◌, ◌++◌, List, ℕ, [], IfOk, OnOk, OnErr};
     ghost use Rattle.flow_notes.specs.Event.{IsEvent};
-    ghost use Rattle.plain_core.specs.Allowed.{IsAllowed};
-    ghost use Rattle.plain_core.specs.Runs.{Turns};
+    ghost use Rattle.worker_core.specs.Stands.{CanTake};
     ghost use Rattle.replay_run.specs.NotesText.{notes_text};
     ghost use Rattle.replay_run.specs.Played.{Begins, Played, PlaysEvent, PlaysLine};
 
-    /// Before the first line. Takes no memory.
-    pub fn new(alloc: Global) -> Self
-        ensures { Begins result }
+    /// Before the first line.
+    pub fn new(alloc: Global) -> Result<Self, NoMemory>
+        ensures { IfOk result Begins }
     {
-        Play {
+        Ok(Play {
             alloc,
             order: Order::plain(alloc),
-            core: PlainCore::new(alloc, NO_LIMITS),
-            log: PauseLog::new(alloc),
+            core: Core::plain(alloc, NO_LIMITS)?,
+            log: TapeLog::new(alloc, NO_LIMITS),
             notes: Notes::new(alloc),
             text: Octets::new(alloc),
-        }
+        })
     }
 
     /// Reads a line, given without its newline, and dispatches its event. Where it doesn't go on, the
@@ -76,7 +73,8 @@ impl Play {
         match read_session_line(&mut self.order, line)? {
             LineRead::Header => Ok(Went::On),
             LineRead::Limits(limits) => {
-                self.core = PlainCore::new(self.alloc, limits);
+                self.core = Core::plain(self.alloc, limits)?;
+                self.log = TapeLog::new(self.alloc, limits);
                 Ok(Went::On)
             }
             LineRead::Event(event) => self.event(&event),
@@ -88,13 +86,13 @@ impl Play {
     fn event(&mut self, event: &Event) -> Result<Went, NoMemory>
         requires names { self.old.order.names ≡ [] }
         requires event { IsEvent [] event.now }
+        requires follows { CanTake self.old.core event.now [] }
         ensures { PlaysEvent self.old event.now self.new result }
     {
-        if !self.core.allows(event) {
-            return Ok(Went::NotBuilt);
-        }
         self.notes.clear();
-        self.core.dispatch(event, &mut self.notes)?;
+        let Ok(()) = self.core.dispatch(event, &mut self.notes) else {
+            return Err(NoMemory);
+        };
         self.log.note_all(&self.notes)?;
         append_notes(&self.notes, &self.order, &mut self.text)?;
         Ok(Went::On)

@@ -31,7 +31,7 @@ pub fn put_flow_peak(
     name: &[u8],
     flow: FlowId,
     limit: u32,
-    peak: u32,
+    peak: u64,
 ) -> Result<(), NoMemory>
     ensures { OnOk result (into.new ≡ into.old ++ peak_line (name.now ∷ flow_word flow ∷ []) limit peak) }
 {
@@ -46,7 +46,7 @@ pub fn put_flow_peak(
 }
 
 /// The same of a connection's write buffer.
-pub fn put_write_peak(into: &mut Octets, conn: u32, limit: u32, peak: u32) -> Result<(), NoMemory>
+pub fn put_write_peak(into: &mut Octets, conn: u32, limit: u32, peak: u64) -> Result<(), NoMemory>
     ensures { OnOk result (into.new ≡ into.old ++ peak_line (codes "write" ∷ decimal conn ∷ []) limit peak) }
 {
     if peak == 0 {
@@ -57,11 +57,11 @@ pub fn put_write_peak(into: &mut Octets, conn: u32, limit: u32, peak: u32) -> Re
 }
 
 // Appends a limit and a peak, and ends the line.
-fn put_numbers(into: &mut Octets, limit: u32, peak: u32) -> Result<(), NoMemory>
+fn put_numbers(into: &mut Octets, limit: u32, peak: u64) -> Result<(), NoMemory>
     ensures { OnOk result (into.new ≡ into.old ++ (codes " " ++ (decimal limit ++ (codes " " ++ (decimal peak ++ newline))))) }
 {
     put_behind(into, b" ", u64::from(limit))?;
-    put_behind(into, b" ", u64::from(peak))?;
+    put_behind(into, b" ", peak)?;
     into.push_all(b"\n")
 }
 

@@ -97,7 +97,6 @@ impl Run {
         match self.play.line(&self.lines.held()[..n]) {
             Ok(Went::On) => {}
             Ok(Went::Refused) => return Err(Status::Session),
-            Ok(Went::NotBuilt) => return Err(Status::NotBuilt),
             Err(NoMemory) => return Err(Status::Memory),
         }
         self.lines.skip(n + 1);

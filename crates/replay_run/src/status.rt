@@ -15,8 +15,6 @@ pub enum Status {
     WriteFault,
     /// Want of memory.
     Memory,
-    /// A line names an event that isn't built.
-    NotBuilt,
     /// The session is longer than 67,108,864 octets.
     TooLong,
 }
@@ -36,7 +34,6 @@ impl Status {
             Status::ReadFault => 5,
             Status::WriteFault => 6,
             Status::Memory => 7,
-            Status::NotBuilt => 8,
             Status::TooLong => 9,
         }
     }

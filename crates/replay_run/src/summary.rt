@@ -1,62 +1,58 @@
 // The summary of a session: peaks, pauses and the number of dispatches.
-ghost use Rattle.std.specs.Prelude.{◌≡◌, ◌++◌, OnOk, OnErr};
+ghost use Rattle.std.specs.Prelude.{◌≡◌, ◌++◌, OnOk, OnErr, flat_map};
 ghost use Rattle.replay_run.specs.Summarizes.{Summarizes, flow_peak_lines, pause_lines, peak_lines};
 
 use crate::pauses::PauseLog;
+use crate::peaks::PeakLog;
 use crate::report::{put_done, put_flow_peak, put_paused, put_write_peak};
+use crate::tape_log::TapeLog;
 use flow_gate::FlowId;
 use io_ports::{NoMemory, Octets};
-use plain_core::{Peaks, PlainCore};
 use std::alloc::Global;
-use tape_laws::PlainLimits;
 
-/// Appends the summary of the tape that a core and a log of its pauses stand for. After want of
-/// memory the text is as it was.
-pub fn write_summary(
-    alloc: Global,
-    core: &PlainCore,
-    log: &PauseLog,
-    into: &mut Octets,
-) -> Result<(), NoMemory>
-    ensures ok { OnOk result (Summarizes core.now log.now into.old into.new) }
+/// Appends the summary of the tape that a log stands for. After want of memory the text is as it was.
+pub fn write_summary(alloc: Global, log: &TapeLog, into: &mut Octets) -> Result<(), NoMemory>
+    ensures ok { OnOk result (Summarizes log.now into.old into.new) }
     ensures err { OnErr result (into.new ≡ into.old) }
 {
     let mut text = Octets::new(alloc);
-    put_peaks(&mut text, core.stream(), core.limits(), core.peaks())?;
-    put_pauses(&mut text, log)?;
-    put_done(&mut text, core.turns())?;
+    put_peaks(&mut text, &log.peaks)?;
+    put_pauses(&mut text, &log.pauses)?;
+    put_done(&mut text, log.pauses.turns())?;
     into.push_all(text.as_slice())
 }
 
-// Appends the peaks of the flow's buffers, where there is a flow, and of the write buffer.
-fn put_peaks(
-    into: &mut Octets,
-    stream: Option<u32>,
-    limits: PlainLimits,
-    peaks: Peaks,
-) -> Result<(), NoMemory>
-    ensures { OnOk result (into.new ≡ into.old ++ peak_lines stream limits peaks) }
+// Appends the peaks of each stream's buffers, and of the write buffer.
+fn put_peaks(into: &mut Octets, log: &PeakLog) -> Result<(), NoMemory>
+    ensures { OnOk result (into.new ≡ into.old ++ peak_lines log.now) }
 {
-    if let Some(x) = stream {
-        put_flow_peaks(into, x, limits, peaks)?;
-    }
-    put_write_peak(into, 0, limits.write, peaks.write)
+    put_streams(into, log)?;
+    put_write_peak(into, 0, log.limits().write, log.write().most)
 }
 
-fn put_flow_peaks(
-    into: &mut Octets,
-    x: u32,
-    limits: PlainLimits,
-    peaks: Peaks,
-) -> Result<(), NoMemory>
-    ensures { OnOk result (into.new ≡ into.old ++ flow_peak_lines x limits peaks) }
+// Appends the peaks of each stream's buffers.
+fn put_streams(into: &mut Octets, log: &PeakLog) -> Result<(), NoMemory>
+    ensures { OnOk result (into.new ≡ into.old ++ flat_map (flow_peak_lines log.now) log.now.started.items) }
+{
+    let mut rest = log.started();
+    while let Some((x, after)) = rest.split_first() {
+        put_stream(into, log, *x)?;
+        rest = after;
+    }
+    Ok(())
+}
+
+fn put_stream(into: &mut Octets, log: &PeakLog, x: u64) -> Result<(), NoMemory>
+    ensures { OnOk result (into.new ≡ into.old ++ flow_peak_lines log.now x) }
 {
     let flow = FlowId {
-        exchange: u64::from(x),
+        exchange: x,
         back: false,
     };
-    put_flow_peak(into, b"recv", flow, limits.recv, peaks.recv)?;
-    put_flow_peak(into, b"send", flow, limits.send, peaks.send)
+    let limits = log.limits();
+    let levels = log.flow(x);
+    put_flow_peak(into, b"recv", flow, limits.recv, levels.recv.most)?;
+    put_flow_peak(into, b"send", flow, limits.send, levels.send.most)
 }
 
 // Appends a line for each pause.

@@ -1,6 +1,7 @@
 // Words of a summary, written behind what stands in a text. Want of memory may leave some of a word.
-ghost use Rattle.std.specs.Prelude.{◌≡◌, ◌++◌, decimal, OnOk};
+ghost use Rattle.std.specs.Prelude.{◌≡◌, ◌++◌, decimal, OnOk, OnErr};
 ghost use Rattle.flow_notes.specs.Buffer.{buffer_words};
+ghost use Rattle.flow_notes.specs.Extends.{Extends};
 ghost use Rattle.flow_notes.specs.Flow.{flow_word};
 ghost use Rattle.flow_notes.specs.Line.{spaced};
 ghost use Rattle.tape_laws.specs.Report.{until_word};
@@ -11,7 +12,8 @@ use itoa::Buffer;
 
 /// Appends a number in decimal.
 pub fn put_number(into: &mut Octets, n: u64) -> Result<(), NoMemory>
-    ensures { OnOk result (into.new ≡ into.old ++ decimal n) }
+    ensures ok { OnOk result (into.new ≡ into.old ++ decimal n) }
+    ensures err { OnErr result (Extends into.old into.new) }
 {
     let mut digits = Buffer::new();
     into.push_all(digits.format(n).as_bytes())
@@ -19,7 +21,8 @@ pub fn put_number(into: &mut Octets, n: u64) -> Result<(), NoMemory>
 
 /// Appends a text and a number.
 pub fn put_behind(into: &mut Octets, text: &[u8], n: u64) -> Result<(), NoMemory>
-    ensures { OnOk result (into.new ≡ into.old ++ (text.now ++ decimal n)) }
+    ensures ok { OnOk result (into.new ≡ into.old ++ (text.now ++ decimal n)) }
+    ensures err { OnErr result (Extends into.old into.new) }
 {
     into.push_all(text)?;
     put_number(into, n)

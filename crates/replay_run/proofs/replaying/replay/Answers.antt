@@ -1,13 +1,11 @@
--- The words have a form, and what was played and written is told.
-use Rattle.replay_run.proofs.Running.{not_usage, other_result, replays}
+-- A drill was told, and words without a form ask for nothing.
+use Rattle.replay_run.proofs.Completing.{completes_words}
+use Rattle.replay_run.proofs.Wording.{drill_told, form_given}
 use Rattle.replay_run.proofs.replaying.replay.Goals as goal
 
-pub returns-clause-tape : goal.returns-clause-tape
-returns-clause-tape g c = replays _ _ _ _ _ _ _ _ _ c.new-run.ensures c.play_all-status.ensures.steps c.finish.ensures.finishes
+pub returns-in-Some-Drill-clause-tape : goal.returns-in-Some-Drill-clause-tape
+returns-in-Some-Drill-clause-tape g c =
+    drill_told _ c.in-Some-Drill.streams _ _ _ c.replay_drill.result (form_given _ _ _ c.in-Some-Drill.field-0-is c.in-Some-Drill.ensures.some) c.replay_drill.ensures.drills
 
-pub returns-clause-usage : goal.returns-clause-usage
-returns-clause-usage g c = (
-  λ e words. other_result c.play_all-status.result c.finish.result
-      (not_usage _ _ _ _ _ _ c.play_all-status.result c.new-run.ensures c.play_all-status.ensures.steps) c.finish.ensures.same e,
-  λ none. absurd (none (c.are_words.ensures.0 c.if-not-are_words.false)),
-)
+pub returns-in-None-clause-completes : goal.returns-in-None-clause-completes
+returns-in-None-clause-completes g c = completes_words _ _ c.in-None.ensures.none

@@ -1,16 +1,20 @@
 -- By what the line was read as.
 use Rattle.std.proofs.Common.{refl}
-use Rattle.replay_run.proofs.Playing.{event_line_played, header_line_played, limits_line_played, read_as}
+use Rattle.replay_run.proofs.Playing.{event_line_played, header_line_played, limits_line_played, limits_taken, read_as}
 use Rattle.replay_run.proofs.play.Play.line.Goals as goal
+
+pub plain-requires : goal.plain-requires
+plain-requires c = limits_taken c.args.self.now c.args.line.now c.read_session_line.new.state _
+    (read_as _ _ _ _ _ c.in-Limits.is c.in_ok-read_session_line.ensures) c.requires
 
 pub returns-in-Header : goal.returns-in-Header
 returns-in-Header c = header_line_played c.args.self.now c.args.line.now c.read_session_line.new.state _
     (read_as _ _ _ _ _ c.in-Header.is c.in_ok-read_session_line.ensures) refl refl refl refl
 
-pub returns-in-Limits : goal.returns-in-Limits
-returns-in-Limits c = limits_line_played c.args.self.now c.args.line.now c.read_session_line.new.state c.in-Limits.limits _
-    (read_as _ _ _ _ _ c.in-Limits.is c.in_ok-read_session_line.ensures) refl c.new.ensures refl refl
-
 pub returns-in-Event : goal.returns-in-Event
 returns-in-Event c = event_line_played c.args.self.now _ c.args.line.now c.in-Event.event c.event.new.self c.event.result
     (read_as _ _ _ _ _ c.in-Event.is c.in_ok-read_session_line.ensures) refl refl refl c.event.ensures
+
+pub returns-in_ok-self-in-Limits : goal.returns-in_ok-self-in-Limits
+returns-in_ok-self-in-Limits c = limits_line_played c.args.self.now c.args.line.now c.read_session_line.new.state _ _
+    (read_as _ _ _ _ _ c.in-Limits.is c.in_ok-read_session_line.ensures) refl c.in_ok-self-in-Limits.ensures c.new.ensures refl

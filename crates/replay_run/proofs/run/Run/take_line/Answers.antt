@@ -1,6 +1,6 @@
 -- By how the line went.
 use Rattle.std.proofs.Common.{refl}
-use Rattle.replay_run.proofs.Running.{line_as, line_judged, line_lost, line_on, line_refused, line_unbuilt, may_play}
+use Rattle.replay_run.proofs.Running.{line_as, line_judged, line_lost, line_on, line_refused, may_play}
 use Rattle.replay_run.proofs.run.Run.take_line.Goals as goal
 
 pub returns-in-Some-clause-takes : goal.returns-in-Some-clause-takes
@@ -9,10 +9,6 @@ returns-in-Some-clause-takes c = line_judged c.args.self.now c.args.n _ c.in-Som
 pub returns-in-Ok-Refused-clause-takes : goal.returns-in-Ok-Refused-clause-takes
 returns-in-Ok-Refused-clause-takes c = line_refused c.args.self.now _ c.args.n c.requires.line (may_play c.args.self.now.read c.args.n _ c.in_default.is c.judge.ensures)
     (line_as _ _ c.args.n _ _ _ _ c.held.ensures.held c.in-Ok-Refused.field-0-is c.in-Ok-Refused.ensures) refl
-
-pub returns-in-Ok-NotBuilt-clause-takes : goal.returns-in-Ok-NotBuilt-clause-takes
-returns-in-Ok-NotBuilt-clause-takes c = line_unbuilt c.args.self.now _ c.args.n c.requires.line (may_play c.args.self.now.read c.args.n _ c.in_default.is c.judge.ensures)
-    (line_as _ _ c.args.n _ _ _ _ c.held.ensures.held c.in-Ok-NotBuilt.field-0-is c.in-Ok-NotBuilt.ensures) refl
 
 pub returns-in-Err-clause-takes : goal.returns-in-Err-clause-takes
 returns-in-Err-clause-takes c = line_lost c.args.self.now _ _ c.in-Err.field-0 c.in-Err.ensures refl

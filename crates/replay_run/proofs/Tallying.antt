@@ -1,0 +1,172 @@
+-- A tally, note by note.
+use Rattle.flow_gate.specs.declared.ids.BufferId.{BufferId}
+use Rattle.flow_gate.specs.declared.ids.FlowId.{FlowId}
+use Rattle.flow_notes.specs.declared.notes.Cause.{Cause}
+use Rattle.flow_notes.specs.declared.notes.Note.{Note}
+use Rattle.replay_run.proofs.Levels.{lawful_back, unwritten_goes}
+use Rattle.replay_run.proofs.Pausing.{onto_more}
+use Rattle.replay_run.specs.Levels.{WriteGoes}
+use Rattle.replay_run.specs.Tally.{octets_framed, octets_in, pauses_in, resets_by, resets_in, short_summary, streams_in}
+use Rattle.replay_run.specs.Tallying.{Counted, TallyGoes, TallyIs, tally_text}
+use Rattle.replay_run.specs.declared.level.Level.{Level}
+use Rattle.replay_run.specs.declared.tally.Tally.{Tally}
+use Rattle.std.proofs.Common.{ap, arith, refl, subst, sym, ◌∙◌}
+use Rattle.std.proofs.lemmas.List.{append-nil}
+use Rattle.std.proofs.lemmas.List.Sums.{sum_by-cons}
+use Rattle.std.specs.List.{sum_by}
+use Rattle.std.specs.Prelude.{Bool, List, [], length, ℕ, ◌++◌, ◌+◌, ◌∷◌, ◌≡◌}
+use Rattle.tape_laws.specs.History.{History, NoMark, notes_of, onto}
+use Rattle.tape_laws.specs.PlainTape.{IsPlainLawful}
+use Rattle.tape_laws.specs.declared.limits.PlainLimits.{PlainLimits}
+use Rattle.flow_notes.specs.declared.notes.Note.TheVariants as note
+
+-- ---- one note
+
+one_more_of : (f : Note → ℕ) (n : Note) (ns : List Note) (old new : ℕ) → new ≡ old + f n → old ≡ sum_by f ns → new ≡ sum_by f (n ∷ ns)
+one_more_of f n ns old new e was = let c = sum_by-cons f n ns in omega (arith, e, was, c)
+
+pub counted_goes : (old new : Tally) (n : Note) → Counted old n new → TallyGoes old (n ∷ []) new
+counted_goes old new n c = record {
+  goes = λ limits h law t. record {
+    streams_are = one_more_of streams_in n (notes_of h) old.streams new.streams c.streams t.streams_are;
+    received_is = one_more_of octets_in n (notes_of h) old.received new.received c.received t.received_is;
+    sent_is = one_more_of octets_framed n (notes_of h) old.sent new.sent c.sent t.sent_is;
+    write_is = c.write.goes limits h law t.write_is;
+    pauses_are = one_more_of pauses_in n (notes_of h) old.pauses new.pauses c.pauses t.pauses_are;
+    resets_are = one_more_of resets_in n (notes_of h) old.resets new.resets c.resets t.resets_are;
+  };
+}
+
+no_more : (n : ℕ) → n ≡ n + 0
+no_more n = omega arith
+
+abbrev with_level : Tally → Level → Tally
+with_level t w = record t { write = w }
+
+counted_as : (old new : Tally) (m n : Note) → m ≡ n → Counted old n new → Counted old m new
+counted_as old new m n e k = let P : Note → Type 0 = λ v. Counted old v new in subst P (sym e) k
+
+written_as : (w v : Level) (m n : Note) → m ≡ n → WriteGoes w m v → WriteGoes w n v
+written_as w v m n e g = let P : Note → Type 0 = λ k. WriteGoes w k v in subst P e g
+
+-- a pause leaves the write buffer as it was
+pub pause_counted : (old : Tally) (m : Note) (f : FlowId) (b : BufferId) (v : ℕ) → m ≡ note.Pause f b → v ≡ old.pauses + 1 → Counted old m (record old { pauses = v })
+pause_counted old m f b v e ev = counted_as old (record old { pauses = v }) m (note.Pause f b) e (record {
+  streams = no_more old.streams;
+  received = no_more old.received;
+  sent = no_more old.sent;
+  pauses = ev;
+  resets = no_more old.resets;
+  write = unwritten_goes old.write (note.Pause f b) (λ c g k l q. cc) (λ c k q. cc);
+})
+
+pub resume_counted : (old : Tally) (m : Note) (f : FlowId) (b : BufferId) → m ≡ note.Resume f b → Counted old m old
+resume_counted old m f b e = counted_as old old m (note.Resume f b) e (record {
+  streams = no_more old.streams;
+  received = no_more old.received;
+  sent = no_more old.sent;
+  pauses = no_more old.pauses;
+  resets = no_more old.resets;
+  write = unwritten_goes old.write (note.Resume f b) (λ c g k l q. cc) (λ c k q. cc);
+})
+
+pub arrive_counted : (old : Tally) (w : Level) (m : Note) (f : FlowId) (o : List ℕ) (v : ℕ) → m ≡ note.Arrive f o → WriteGoes old.write m w → v ≡ old.received + length o
+    → Counted old m (record old { write = w; received = v })
+arrive_counted old w m f o v e g ev = counted_as old (record old { write = w; received = v }) m (note.Arrive f o) e (record {
+  streams = no_more old.streams;
+  received = ev;
+  sent = no_more old.sent;
+  pauses = no_more old.pauses;
+  resets = no_more old.resets;
+  write = written_as old.write w m (note.Arrive f o) e g;
+})
+
+pub frame_counted : (old : Tally) (w : Level) (m : Note) (c : ℕ) (f : FlowId) (n : ℕ) (last : Bool) (v k : ℕ) → m ≡ note.Frame c f n last → k ≡ n → WriteGoes old.write m w → v ≡ old.sent + k
+    → Counted old m (record old { write = w; sent = v })
+frame_counted old w m c f n last v k e ek g ev = counted_as old (record old { write = w; sent = v }) m (note.Frame c f n last) e (record {
+  streams = no_more old.streams;
+  received = no_more old.received;
+  sent = ev ∙ ap (λ (x : ℕ). old.sent + x) ek;
+  pauses = no_more old.pauses;
+  resets = no_more old.resets;
+  write = written_as old.write w m (note.Frame c f n last) e g;
+})
+
+pub start_counted : (old : Tally) (w : Level) (m : Note) (x c s d v : ℕ) → m ≡ note.Start x c s d → WriteGoes old.write m w → v ≡ old.streams + 1
+    → Counted old m (record old { write = w; streams = v })
+start_counted old w m x c s d v e g ev = counted_as old (record old { write = w; streams = v }) m (note.Start x c s d) e (record {
+  streams = ev;
+  received = no_more old.received;
+  sent = no_more old.sent;
+  pauses = no_more old.pauses;
+  resets = no_more old.resets;
+  write = written_as old.write w m (note.Start x c s d) e g;
+})
+
+pub doom_counted : (old : Tally) (w : Level) (m : Note) (x : ℕ) (why : Cause) (v k : ℕ) → m ≡ note.Doom x why → WriteGoes old.write m w → k ≡ resets_by why → v ≡ old.resets + k
+    → Counted old m (record old { write = w; resets = v })
+doom_counted old w m x why v k e g ek ev = counted_as old (record old { write = w; resets = v }) m (note.Doom x why) e (record {
+  streams = no_more old.streams;
+  received = no_more old.received;
+  sent = no_more old.sent;
+  pauses = no_more old.pauses;
+  resets = ev ∙ ap (λ (x : ℕ). old.resets + x) ek;
+  write = written_as old.write w m (note.Doom x why) e g;
+})
+
+-- a note that counts nothing
+nothing_counted : (old : Tally) (w : Level) (n : Note) → WriteGoes old.write n w → streams_in n ≡ 0 → octets_in n ≡ 0 → octets_framed n ≡ 0 → pauses_in n ≡ 0 → resets_in n ≡ 0
+    → Counted old n (with_level old w)
+nothing_counted old w n g es ei ef ep er = record {
+  streams = omega (arith, es);
+  received = omega (arith, ei);
+  sent = omega (arith, ef);
+  pauses = omega (arith, ep);
+  resets = omega (arith, er);
+  write = g;
+}
+
+pub other_counted : (old : Tally) (w : Level) (n : Note) → ((f : FlowId) (b : BufferId) → n ≡ note.Pause f b → ⊥) → WriteGoes old.write n w
+    → ((f : FlowId) (o : List ℕ) → n ≡ note.Arrive f o → ⊥) → ((c : ℕ) (f : FlowId) (k : ℕ) (last : Bool) → n ≡ note.Frame c f k last → ⊥)
+    → ((x c s d : ℕ) → n ≡ note.Start x c s d → ⊥) → ((x : ℕ) (why : Cause) → n ≡ note.Doom x why → ⊥) → Counted old n (with_level old w)
+other_counted old w (note.Pause f b) np g na nf ns nd = absurd (np f b refl)
+other_counted old w (note.Arrive f o) np g na nf ns nd = absurd (na f o refl)
+other_counted old w (note.Frame c f k last) np g na nf ns nd = absurd (nf c f k last refl)
+other_counted old w (note.Start x c s d) np g na nf ns nd = absurd (ns x c s d refl)
+other_counted old w (note.Doom x why) np g na nf ns nd = absurd (nd x why refl)
+other_counted old w (note.Turn k e) np g na nf ns nd = nothing_counted old w _ g refl refl refl refl refl
+other_counted old w (note.Move f p k) np g na nf ns nd = nothing_counted old w _ g refl refl refl refl refl
+other_counted old w (note.Out c k) np g na nf ns nd = nothing_counted old w _ g refl refl refl refl refl
+other_counted old w (note.Resume f b) np g na nf ns nd = nothing_counted old w _ g refl refl refl refl refl
+other_counted old w (note.Credit c s k) np g na nf ns nd = nothing_counted old w _ g refl refl refl refl refl
+other_counted old w (note.Head c s o) np g na nf ns nd = nothing_counted old w _ g refl refl refl refl refl
+other_counted old w (note.Answer c o) np g na nf ns nd = nothing_counted old w _ g refl refl refl refl refl
+other_counted old w (note.Waste c s k) np g na nf ns nd = nothing_counted old w _ g refl refl refl refl refl
+other_counted old w (note.Gone x) np g na nf ns nd = nothing_counted old w _ g refl refl refl refl refl
+other_counted old w (note.Close c code why) np g na nf ns nd = nothing_counted old w _ g refl refl refl refl refl
+other_counted old w (note.Fire kind id) np g na nf ns nd = nothing_counted old w _ g refl refl refl refl refl
+
+-- ---- note after note
+
+pub tally_none : (t : Tally) → TallyGoes t [] t
+tally_none t = record { goes = λ limits h l a. a }
+
+pub tally_more : (a b c : Tally) (ns : List Note) (n : Note) → TallyGoes a ns b → Counted b n c → TallyGoes a (ns ++ n ∷ []) c
+tally_more a b c ns n p k = record {
+  goes = λ limits h law l.
+      let q = counted_goes b c n k in
+      let P : History NoMark → Type 0 = λ v. TallyIs limits c v in
+      let L : History NoMark → Type 0 = λ v. IsPlainLawful limits v in
+      let law2 : IsPlainLawful limits (onto (n ∷ []) (onto ns h)) = subst L (onto_more ns (n ∷ []) h) law in
+      subst P (sym (onto_more ns (n ∷ []) h)) (q.goes limits (onto ns h) law2 (p.goes limits h (lawful_back limits (n ∷ []) (onto ns h) law2) l));
+}
+
+pub all_tallied : (a b : Tally) (notes done rest : List Note) → notes ≡ done ++ rest → rest ≡ [] → TallyGoes a done b → TallyGoes a notes b
+all_tallied a b notes done rest e none l =
+    let P : List Note → Type 0 = λ v. TallyGoes a v b in
+    subst P (sym (e ∙ ap (λ (v : List Note). done ++ v) none ∙ append-nil done)) l
+
+-- ---- the text
+
+pub tally_spelled : (limits : PlainLimits) (t : Tally) (h : History NoMark) → TallyIs limits t h → tally_text t ≡ short_summary limits h
+tally_spelled limits t h k = rw (k.streams_are, k.received_is, k.sent_is, k.write_is, k.pauses_are, k.resets_are) refl

@@ -1,0 +1,10 @@
+use Rattle.std.proofs.Common.{length}
+use Rattle.replay_run.specs.Drilling.{rest_of}
+use Rattle.replay_run.specs.Drills.{Drilled}
+use Rattle.replay_run.proofs.drill_run.run_drill.Given as goal
+
+abbrev pub invariant-events : goal.invariant-events
+invariant-events l = record { stands : Drilled l.streams l.core l.drill l.tally }
+
+abbrev pub decreases-events : goal.decreases-events
+decreases-events l = length (rest_of l.drill.streams l.drill.next)

@@ -1,0 +1,68 @@
+// What the words of a replay ask for.
+ghost use Rattle.std.specs.Prelude.{◌≡◌, ◌∷◌, [], codes, map, IfNone, IfSome};
+ghost use Rattle.std.specs.String.{string_bytes};
+ghost use Rattle.replay_run.specs.Forms.{HasNoForm, IsDrillWord, IsNoDrill, SpellsForm};
+
+use itoa::Buffer;
+
+/// The most streams that a drill has.
+const MOST_STREAMS: u32 = 1_000;
+
+/// What the words of a replay ask for.
+#[derive(Clone, Copy, Debug, PartialEq, Eq)]
+pub enum Form {
+    /// `plain`: a plain session that is read.
+    Plain,
+    /// `drill N`: the drill of N streams, 1 to 1,000.
+    Drill { streams: u32 },
+}
+
+/// The form of the words, if they have one.
+pub fn read_form(words: &[String]) -> Option<Form>
+    ensures some { IfSome result (SpellsForm (map string_bytes words.now)) }
+    ensures none { IfNone result (HasNoForm (map string_bytes words.now)) }
+{
+    match words {
+        [word] => plain_form(word.as_str()),
+        [word, number] => drill_form(word.as_str(), number.as_str()),
+        _ => None,
+    }
+}
+
+fn plain_form(word: &str) -> Option<Form>
+    ensures some { IfSome result (SpellsForm (word.now ∷ [])) }
+    ensures none { IfNone result (HasNoForm (word.now ∷ [])) }
+{
+    if word == "plain" {
+        Some(Form::Plain)
+    } else {
+        None
+    }
+}
+
+fn drill_form(word: &str, number: &str) -> Option<Form>
+    ensures some { IfSome result (SpellsForm (word.now ∷ number.now ∷ [])) }
+    ensures none { IfNone result (HasNoForm (word.now ∷ number.now ∷ [])) }
+{
+    if word != "drill" {
+        return None;
+    }
+    let streams = drill_streams(number)?;
+    Some(Form::Drill { streams })
+}
+
+// The number of streams that the word spells, 1 to 1,000, without leading zeros.
+fn drill_streams(word: &str) -> Option<u32>
+    ensures some { IfSome result (IsDrillWord word.now) }
+    ensures none { IfNone result (IsNoDrill word.now) }
+{
+    let Ok(n) = word.parse::<u32>() else {
+        return None;
+    };
+    let mut digits = Buffer::new();
+    if digits.format(n) == word && 1 <= n && n <= MOST_STREAMS {
+        Some(n)
+    } else {
+        None
+    }
+}

@@ -1,0 +1,116 @@
+// What the short summary of a drill tells.
+ghost use Rattle.std.specs.Prelude.{◌≡◌, ◌+◌, IfOk};
+ghost use Rattle.replay_run.specs.Tally.{resets_by as resets_of};
+
+use crate::level::{Level, write_after};
+use flow_notes::{Cause, Note, Notes};
+use io_ports::NoMemory;
+
+/// What the short summary tells of the tape of a plain session, kept note by note.
+#[derive(Clone, Copy, Debug, PartialEq, Eq)]
+pub struct Tally {
+    /// How many streams began.
+    pub streams: u64,
+    /// How many octets entered receive buffers, and were framed.
+    pub received: u64,
+    pub sent: u64,
+    /// The write buffer's level.
+    pub write: Level,
+    pub pauses: u64,
+    /// How many streams were doomed since their peer reset them.
+    pub resets: u64,
+}
+
+impl Tally {
+    ghost use Rattle.std.specs.Prelude.{◌≡◌, ◌∷◌, [], OnOk};
+    ghost use Rattle.flow_gate.specs.declared.ids.BufferId.{BufferId};
+    ghost use Rattle.flow_gate.specs.declared.ids.FlowId.{FlowId};
+    ghost use Rattle.tape_laws.specs.declared.limits.PlainLimits.{PlainLimits};
+    ghost use Rattle.replay_run.specs.Tallying.{Counted, TallyGoes, TallyIs};
+
+    /// The tally of an empty tape.
+    pub fn new() -> Self
+        ensures { (limits : PlainLimits) → TallyIs limits result [] }
+    {
+        Tally {
+            streams: 0,
+            received: 0,
+            sent: 0,
+            write: Level::none(),
+            pauses: 0,
+            resets: 0,
+        }
+    }
+
+    /// Takes up the notes that a tape goes on with. A count past the end of its type counts as want of
+    /// memory, after which the tally is to be let go.
+    pub fn note_all(&mut self, notes: &Notes) -> Result<(), NoMemory>
+        ensures { OnOk result (TallyGoes self.old notes.now self.new) }
+    {
+        let mut rest = notes.as_slice();
+        while let Some((note, after)) = rest.split_first() {
+            self.note(note)?;
+            rest = after;
+        }
+        Ok(())
+    }
+
+    // Most notes of a crowded session are pauses and resumes.
+    fn note(&mut self, note: &Note) -> Result<(), NoMemory>
+        ensures { OnOk result (Counted self.old note.now self.new) }
+    {
+        match note {
+            Note::Pause { .. } => {
+                self.pauses = add(self.pauses, 1)?;
+                Ok(())
+            }
+            Note::Resume { .. } => Ok(()),
+            _ => self.note_other(note),
+        }
+    }
+
+    fn note_other(&mut self, note: &Note) -> Result<(), NoMemory>
+        requires { (f : FlowId) (b : BufferId) → note.now ≡ Note.Pause f b → ⊥ }
+        ensures { OnOk result (Counted self.old note.now self.new) }
+    {
+        self.write = write_after(self.write, note)?;
+        match note {
+            Note::Arrive { octets, .. } => {
+                self.received = add(self.received, octets.len() as u64)?;
+                Ok(())
+            }
+            Note::Frame { n, .. } => {
+                self.sent = add(self.sent, u64::from(*n))?;
+                Ok(())
+            }
+            Note::Start { .. } => {
+                self.streams = add(self.streams, 1)?;
+                Ok(())
+            }
+            Note::Doom { cause, .. } => {
+                self.resets = add(self.resets, resets_by(*cause))?;
+                Ok(())
+            }
+            _ => Ok(()),
+        }
+    }
+}
+
+fn resets_by(cause: Cause) -> u64
+    ensures { result ≡ resets_of cause }
+{
+    match cause {
+        Cause::PeerReset { .. } => 1,
+        _ => 0,
+    }
+}
+
+// A sum past the end of its type counts as want of memory.
+fn add(a: u64, b: u64) -> Result<u64, NoMemory>
+    ensures { IfOk result (λ sum. sum ≡ a + b) }
+{
+    match a.checked_add(b) {
+        Some(sum) => Ok(sum),
+        None => Err(NoMemory),
+    }
+}
