@@ -124,14 +124,19 @@ impl Store {
         }
     }
 
-    /// Drops the first n octets.
+    /// Drops the first n octets. A ring that is emptied goes on at the place of its first octet, so that a buffer that is
+    /// filled and emptied in turn keeps to a few places.
     pub fn drop_front(&mut self, n: usize)
         requires { n ≤ length self.old.octets }
         ensures octets { self.new.octets ≡ drop n self.old.octets }
         ensures spare { self.new.spare ≡ self.old.spare + n }
     {
         if let Some(ring) = &mut self.ring {
-            ring.truncate_front(ring.len() - n);
+            if n == ring.len() {
+                ring.clear();
+            } else {
+                ring.truncate_front(ring.len() - n);
+            }
         }
     }
 }
