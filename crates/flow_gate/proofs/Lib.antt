@@ -4,6 +4,10 @@ pub mod Reading
 pub mod SameIds
 pub mod Sound
 pub mod SoundEnds
+pub mod Rising
+pub mod Live
+pub mod Gaps
+pub mod Parts
 pub mod Steps
 pub mod StepsEnds
 pub mod Placed

@@ -3,48 +3,42 @@ use Rattle.flow_gate.proofs.Counting.{count-cons}
 use Rattle.flow_gate.proofs.SameIds.{same_flow-refl}
 use Rattle.flow_gate.specs.Board.{times}
 use Rattle.flow_gate.specs.Ids.{same_flow}
-use Rattle.flow_gate.specs.Line.{Places, at_place, between}
+use Rattle.flow_gate.specs.Line.{Line, Places, at_place, between, is_between, left}
 use Rattle.flow_gate.specs.declared.ids.FlowId.{FlowId}
 use Rattle.std.proofs.Common.{ap, arith, inl, inr, refl, subst, sym, ◌∙◌}
-use Rattle.std.proofs.lemmas.Bool.{cases_Bool, cond_both, eqb-true, false_from_ne_true, false≢true, lt-ltb, ne_eqb}
+use Rattle.std.proofs.lemmas.Bool.{cases_Bool, cond_both, eqb-true, false_from_ne_true, false≢true, ne_eqb}
 use Rattle.std.proofs.lemmas.Bool.Decides.{nat_tests}
 use Rattle.std.proofs.lemmas.List.{append-nil}
 use Rattle.std.proofs.lemmas.List.Elements.{filter-append}
 use Rattle.std.proofs.lemmas.Map.Keys.{sorted_head, sorted_tail}
 use Rattle.std.proofs.lemmas.Option.{same_Some, none-some}
-use Rattle.std.specs.BTreeMap.{insert_entry, is_at}
-use Rattle.std.specs.BTreeMap.Range.{entries_between, range_contains}
+use Rattle.std.specs.BTreeMap.{is_at}
 use Rattle.std.specs.List.{AllByRecursion}
 use Rattle.std.specs.List.Sorted.{IsStrictlySortedBy}
 use Rattle.std.specs.Map.{keys_of, remove_entry, values_of}
-use Rattle.std.specs.Ordering.{match_ordering, nat_cmp}
-use Rattle.std.specs.Prelude.{Bool, List, None, Some, [], cond, false, filter, is_some, nat_eq, nat_lt, not, slice_get, true, ℕ, ◌++◌, ◌+◌, ◌<◌, ◌∷◌, ◌≡◌, ◌≤◌}
+use Rattle.std.specs.Ordering.{nat_cmp}
+use Rattle.std.specs.Prelude.{Bool, List, None, Some, [], cond, drop, false, filter, is_some, nat_eq, nat_lt, not, slice_get, true, ℕ, ◌++◌, ◌+◌, ◌<◌, ◌∷◌, ◌≡◌, ◌≤◌}
 use Rattle.std.specs.declared.cmp.Ordering.TheVariants.{Greater, Less}
-use Rattle.std.specs.declared.ops.Bound.TheVariants.{Excluded, Included, Unbounded}
 
--- the place is from one to before another
-abbrev pub is_between : ℕ → ℕ → ℕ → Bool
-is_between from to = range_contains nat_cmp (Included from) (Excluded to)
-
-between_yes : (from to q : ℕ) → from ≤ q → q < to → is_between from to q ≡ true
+pub between_yes : (from to q : ℕ) → from ≤ q → q < to → is_between from to q ≡ true
 between_yes from to q low high = grind (arith, nat_tests)
 
 pub between_high_only : (from to q : ℕ) → from ≤ q → is_between from to q ≡ nat_lt q to
 between_high_only from to q low = grind (arith, nat_tests)
 
-between_low : (from to q : ℕ) → is_between from to q ≡ true → from ≤ q
+pub between_low : (from to q : ℕ) → is_between from to q ≡ true → from ≤ q
 between_low from to q h = grind (arith, nat_tests)
 
-between_high : (from to q : ℕ) → is_between from to q ≡ true → q < to
+pub between_high : (from to q : ℕ) → is_between from to q ≡ true → q < to
 between_high from to q h = grind (arith, nat_tests)
 
-between_no : (from to q : ℕ) → to ≤ q → is_between from to q ≡ false
+pub between_no : (from to q : ℕ) → to ≤ q → is_between from to q ≡ false
 between_no from to q high = grind (arith, nat_tests)
 
 pub between_below : (from to q : ℕ) → q < from → is_between from to q ≡ false
 between_below from to q low = grind (arith, nat_tests)
 
-between_from : (a b to q : ℕ) → a ≤ q → b ≤ q → is_between a to q ≡ is_between b to q
+pub between_from : (a b to q : ℕ) → a ≤ q → b ≤ q → is_between a to q ≡ is_between b to q
 between_from a b to q low lower = grind (arith, nat_tests)
 
 pub eq_by_place : (p q : ℕ) → is_at (nat_cmp p) q ≡ nat_eq p q
@@ -53,19 +47,23 @@ eq_by_place p q = grind (arith, nat_tests)
 greater : (p q : ℕ) → q < p → nat_cmp p q ≡ Greater
 greater p q less = grind (arith, nat_tests)
 
-less_cmp : (p q : ℕ) → nat_cmp p q ≡ Less → p < q
+pub less_cmp : (p q : ℕ) → nat_cmp p q ≡ Less → p < q
 less_cmp p q is = grind (arith, nat_tests)
 
 -- ---- a filter
-filter_all : {X : Type 0} (test : X → Bool) (xs : List X) → AllByRecursion (λ x. test x ≡ true) xs → filter test xs ≡ xs
+pub filter_all : {X : Type 0} (test : X → Bool) (xs : List X) → AllByRecursion (λ x. test x ≡ true) xs → filter test xs ≡ xs
 filter_all test [] all = refl
 filter_all test (x ∷ xs) all = ap (λ b. cond b (x ∷ filter test xs) (filter test xs)) all.0 ∙ ap (λ ys. x ∷ ys) (filter_all test xs all.1)
+
+pub filter_none : {X : Type 0} (test : X → Bool) (xs : List X) → AllByRecursion (λ x. test x ≡ false) xs → filter test xs ≡ []
+filter_none test [] none = refl
+filter_none test (x ∷ xs) none = ap (λ b. cond b (x ∷ filter test xs) (filter test xs)) none.0 ∙ filter_none test xs none.1
 
 pub weaken : {X : Type 0} {P Q : X → Type 0} (xs : List X) → ((x : X) → P x → Q x) → AllByRecursion P xs → AllByRecursion Q xs
 weaken [] f all = tt
 weaken (x ∷ xs) f all = (f x all.0, weaken xs f all.1)
 
-filter_same : {X : Type 0} (s t : X → Bool) (xs : List X) → AllByRecursion (λ x. s x ≡ t x) xs → filter s xs ≡ filter t xs
+pub filter_same : {X : Type 0} (s t : X → Bool) (xs : List X) → AllByRecursion (λ x. s x ≡ t x) xs → filter s xs ≡ filter t xs
 filter_same s t [] same = refl
 filter_same s t (x ∷ xs) same = λ i. cond (same.0 i) (x ∷ filter_same s t xs same.1 i) (filter_same s t xs same.1 i)
 
@@ -82,16 +80,6 @@ weaken_keys P Q (e ∷ line) f all = (f e all.0, weaken_keys P Q line f all.1)
 pub between-all : (next : ℕ) (line : Places) → AllByRecursion (λ e. e.0 < next) line → between 0 next line ≡ line
 between-all next line below = filter_all (λ e. is_between 0 next e.0) line (weaken line (λ e h. between_yes 0 next e.0 (omega arith) h) below)
 
-pub insert-next : (next : ℕ) (flow : FlowId) (line : Places) → AllByRecursion (λ e. e.0 < next) line → insert_entry nat_cmp line next flow ≡ line ++ (next, flow) ∷ []
-insert-next next flow [] below = refl
-insert-next next flow (e ∷ line) below =
-    ap (λ o. match_ordering o ((next, flow) ∷ e ∷ line) ((e.0, flow) ∷ line) (e ∷ insert_entry nat_cmp line next flow)) (greater next e.0 below.0)
-    ∙ ap (λ es. e ∷ es) (insert-next next flow line below.1)
-
-pub before_next : (next : ℕ) (flow : FlowId) (line : Places) → AllByRecursion (λ e. e.0 < next) line → AllByRecursion (λ e. e.0 < next + 1) (line ++ (next, flow) ∷ [])
-before_next next flow [] below = (omega arith, tt)
-before_next next flow (e ∷ line) below = (omega (arith, below.0), before_next next flow line below.1)
-
 -- who comes at the next place has no pending low
 pub between-next : (told drained next : ℕ) (flow : FlowId) (line : Places) → drained ≤ next → between told drained (line ++ (next, flow) ∷ []) ≡ between told drained line
 between-next told drained next flow line within =
@@ -105,11 +93,6 @@ next-at_place next (e ∷ line) below =
     ap (λ b. cond b (Some e.1) (at_place next line)) (ne_eqb next e.0 (λ same. omega (arith, same, below.0))) ∙ next-at_place next line below.1
 
 -- ---- one leaves
-pub below-remove : (n : ℕ) (test : ℕ → Bool) (line : Places) → AllByRecursion (λ e. e.0 < n) line → AllByRecursion (λ e. e.0 < n) (remove_entry test line)
-below-remove n test [] below = tt
-below-remove n test (e ∷ line) below =
-    cond_both (test e.0) line (e ∷ remove_entry test line) (λ es. AllByRecursion (λ e'. e'.0 < n) es) (λ h. below.1) (λ h. (below.0, below-remove n test line below.1))
-
 -- the places of the others
 abbrev pub others_of : FlowId → Places → Places
 others_of f = filter (λ e. not (same_flow f e.1))
@@ -214,67 +197,11 @@ line-leaves p f line at once =
     sym (filter-true (remove_entry (is_at (nat_cmp p)) line)) ∙ part-leaves (λ q. true) p f line at once ∙ ap (others_of f) (filter-true line)
 
 -- ---- the first is told
-passes_first : {X : Type 0} (test : X → Bool) (xs ys : List X) (y : X) → filter test xs ≡ y ∷ ys → test y ≡ true
+pub passes_first : {X : Type 0} (test : X → Bool) (xs ys : List X) (y : X) → filter test xs ≡ y ∷ ys → test y ≡ true
 passes_first test [] ys y is = cc
 passes_first test (x ∷ xs) ys y is = elim (cases_Bool (test x)) [
   | inl passes ↦ (let same : x ∷ filter test xs ≡ y ∷ ys = ap (λ b. cond b (x ∷ filter test xs) (filter test xs)) (sym passes) ∙ is in let e : x ≡ y = cc in subst (λ z. test z ≡ true) e passes)
   | inr fails ↦ passes_first test xs ys y (ap (λ b. cond b (x ∷ filter test xs) (filter test xs)) (sym fails) ∙ is)
-]
-
--- the places from one on
-abbrev pub onward : ℕ → Places → Places
-onward from = entries_between nat_cmp (Included from) Unbounded
-
-abbrev is_onward : ℕ → ℕ → Bool
-is_onward from = range_contains nat_cmp (Included from) Unbounded
-
-onward_yes : (from to q : ℕ) → is_onward from q ≡ true → is_between from to q ≡ nat_lt q to
-onward_yes from to q h = grind (arith, nat_tests)
-
-onward_no : (from to q : ℕ) → is_onward from q ≡ false → is_between from to q ≡ false
-onward_no from to q h = grind (arith, nat_tests)
-
-filter_none : {X : Type 0} (test : X → Bool) (xs : List X) → AllByRecursion (λ x. test x ≡ false) xs → filter test xs ≡ []
-filter_none test [] none = refl
-filter_none test (x ∷ xs) none = ap (λ b. cond b (x ∷ filter test xs) (filter test xs)) none.0 ∙ filter_none test xs none.1
-
--- what is pending is the front of that, up to the last drain
-onward-cut : (told drained : ℕ) (line : Places) → between told drained line ≡ filter (λ e. nat_lt e.0 drained) (onward told line)
-onward-cut told drained [] = refl
-onward-cut told drained (e ∷ line) = elim (cases_Bool (is_onward told e.0)) [
-  | inl inside ↦
-      ap (λ b. cond b (e ∷ between told drained line) (between told drained line)) (onward_yes told drained e.0 inside)
-      ∙ ap (λ es. cond (nat_lt e.0 drained) (e ∷ es) es) (onward-cut told drained line)
-      ∙ sym (ap (λ b. filter (λ d. nat_lt d.0 drained) (cond b (e ∷ onward told line) (onward told line))) inside)
-  | inr outside ↦
-      ap (λ b. cond b (e ∷ between told drained line) (between told drained line)) (onward_no told drained e.0 outside)
-      ∙ onward-cut told drained line
-      ∙ sym (ap (λ b. filter (λ d. nat_lt d.0 drained) (cond b (e ∷ onward told line) (onward told line))) outside)
-]
-
-pub first-nobody : (told drained : ℕ) (line : Places) → onward told line ≡ [] → between told drained line ≡ []
-first-nobody told drained line none = onward-cut told drained line ∙ ap (filter (λ e. nat_lt e.0 drained)) none
-
-pub first-pending : (told drained p : ℕ) (f : FlowId) (rest line : Places) → onward told line ≡ (p, f) ∷ rest → p < drained →
-    between told drained line ≡ (p, f) ∷ filter (λ e. nat_lt e.0 drained) rest
-first-pending told drained p f rest line is less = onward-cut told drained line ∙ ap (filter (λ e. nat_lt e.0 drained)) is
-    ∙ ap (λ b. cond b ((p, f) ∷ filter (λ e. nat_lt e.0 drained) rest) (filter (λ e. nat_lt e.0 drained) rest)) (lt-ltb p drained less)
-
-pub first-late : (told drained p : ℕ) (f : FlowId) (rest line : Places) → IsStrictlySortedBy nat_cmp (keys_of line) → onward told line ≡ (p, f) ∷ rest → drained ≤ p →
-    between told drained line ≡ []
-first-late told drained p f rest [] sorted is late = refl
-first-late told drained p f rest (e ∷ line) sorted is late = elim (cases_Bool (is_onward told e.0)) [
-  | inl inside ↦
-      let same : e ∷ onward told line ≡ (p, f) ∷ rest = ap (λ b. cond b (e ∷ onward told line) (onward told line)) (sym inside) ∙ is in
-      let first : e ≡ (p, f) = cc in
-      let place : e.0 ≡ p = ap (λ (d : ℕ × FlowId). d.0) first in
-      ap (λ b. cond b (e ∷ between told drained line) (between told drained line)) (between_no told drained e.0 (omega (arith, place, late)))
-      ∙ filter_none (λ d. is_between told drained d.0) line
-      (weaken_keys (λ q. nat_cmp e.0 q ≡ Less) (λ d. is_between told drained d.0 ≡ false) line (λ d less. let above = less_cmp e.0 d.0 less in between_no told drained d.0 (omega (arith, above, place, late))) (sorted_head nat_cmp e.0 (keys_of line) sorted))
-  | inr outside ↦
-      let others : onward told line ≡ (p, f) ∷ rest = ap (λ b. cond b (e ∷ onward told line) (onward told line)) (sym outside) ∙ is in
-      ap (λ b. cond b (e ∷ between told drained line) (between told drained line)) (onward_no told drained e.0 outside)
-      ∙ first-late told drained p f rest line (sorted_tail nat_cmp e.0 (keys_of line) sorted) others late
 ]
 
 pub first_none : (es : Places) → is_some (slice_get es 0) ≡ false → es ≡ []
@@ -304,3 +231,24 @@ between-rest told drained p f rest (e ∷ line) sorted is = elim (cases_Bool (is
       ap (λ b. cond b (e ∷ between (p + 1) drained line) (between (p + 1) drained line)) out
       ∙ between-rest told drained p f rest line (sorted_tail nat_cmp e.0 (keys_of line) sorted) others
 ]
+
+-- the first of a list
+pub first_of : (es : Places) (e : ℕ × FlowId) → Some e ≡ slice_get es 0 → es ≡ e ∷ drop 1 es
+first_of [] e is = absurd (none-some e (sym is))
+first_of (d ∷ es) e is = ap (λ x. x ∷ es) (same_Some d e (sym is))
+
+pub first_high : (told drained : ℕ) (e : ℕ × FlowId) (rest line : Places) → between told drained line ≡ e ∷ rest → e.0 < drained
+first_high told drained e rest line is = between_high told drained e.0 (passes_first (λ d. is_between told drained d.0) line rest e is)
+
+pub no_first : (es : Places) → None ≡ slice_get es 0 → es ≡ []
+no_first [] is = refl
+no_first (e ∷ es) is = absurd (none-some e is)
+
+-- ---- what a buffer's line is after one left
+pub line_left : (told drained place : ℕ) (flow : FlowId) (above : Bool) (line new : Places) → new ≡ remove_entry (is_at (nat_cmp place)) line →
+    at_place place line ≡ Some flow → times flow (values_of line) ≤ 1 →
+    ◌≡◌ {A = Line} (record { above = above; watchers = new; pending = between told drained new }) (left flow (record { above = above; watchers = line; pending = between told drained line }))
+line_left told drained place flow above line new is at once =
+    let watchers : new ≡ others_of flow line = is ∙ line-leaves place flow line at once in
+    let pending : between told drained new ≡ others_of flow (between told drained line) = ap (between told drained) is ∙ part-leaves (is_between told drained) place flow line at once in
+    λ i. record { above = above; watchers = watchers i; pending = pending i }

@@ -7,15 +7,15 @@ use Rattle.flow_gate.specs.Board.{IsSound, count, is_known, is_marked, is_open, 
 use Rattle.flow_gate.specs.Books.{Books}
 use Rattle.flow_gate.specs.Changes.{Begins, Closes, Drains, IsEmpty, Knows, Rises, Same, Tells}
 use Rattle.flow_gate.specs.Ids.{same_buffer, same_flow}
-use Rattle.flow_gate.specs.Line.{Line, Places}
+use Rattle.flow_gate.specs.Line.{Line}
 use Rattle.flow_gate.specs.Parts.{Buffers, Flows, board_of, buffer_at, flow_at, watched_in}
 use Rattle.flow_gate.specs.declared.ids.BufferId.{BufferId}
 use Rattle.flow_gate.specs.declared.ids.FlowId.{FlowId}
-use Rattle.std.proofs.Common.{ap, arith, inl, inr, refl, sym, ◌∙◌}
+use Rattle.std.proofs.Common.{ap, inl, inr, refl, sym, ◌∙◌}
 use Rattle.std.proofs.lemmas.Bool.{cases_Bool}
 use Rattle.std.proofs.lemmas.List.{append-nil}
 use Rattle.std.specs.Map.{values_of}
-use Rattle.std.specs.Prelude.{Bool, List, None, Option, Some, [], cond, false, if◌then◌else◌, is_some, not, true, ℕ, ◌&&◌, ◌++◌, ◌||◌, ◌∷◌, ◌≡◌, ◌⊎◌}
+use Rattle.std.specs.Prelude.{List, None, Option, Some, [], cond, false, if◌then◌else◌, is_some, not, true, ◌&&◌, ◌++◌, ◌||◌, ◌≡◌, ◌⊎◌}
 
 -- the new books are the old ones, but for those of one flow
 abbrev pub FlowWrites : FlowId → Option Books → Flows → Flows → Type 0
@@ -218,65 +218,34 @@ drains b line flows buffers buffers' is told high sound writes = record {
     pending c = pending-board flows buffers' c ∙ ap pending_in (writes c) ∙ added c (cases_Bool (same_buffer b c))
         ∙ (λ i. sym (pending-board flows buffers c) i ++ (if same_buffer b c then sym (watchers-board flows buffers b ∙ ap watchers_in is) i else []))
 
--- the line with these lows pending
-abbrev pub with_pending : Line → Places → Line
-with_pending line pending = record { above = line.above; watchers = line.watchers; pending = pending }
-
-pub tells : (b : BufferId) (line : Line) (place : ℕ) (f : FlowId) (rest : Places) (flows : Flows) (buffers buffers' : Buffers) →
-    buffer_at buffers b ≡ Some line → line.pending ≡ (place, f) ∷ rest → IsSound (board_of flows buffers) → BufferWrites b (Some (with_pending line rest)) buffers buffers' →
-    Tells b (f ∷ []) (board_of flows buffers) (board_of flows buffers')
-tells b line place f rest flows buffers buffers' is first sound writes = record {
+-- the first lows of a buffer are told, and all else that is read of it stays
+pub tells : (b : BufferId) (w : Option Line) (first : List FlowId) (flows : Flows) (buffers buffers' : Buffers) →
+    is_some w ≡ is_some (buffer_at buffers b) → above_in w ≡ above_in (buffer_at buffers b) → watchers_in w ≡ watchers_in (buffer_at buffers b) →
+    pending_in (buffer_at buffers b) ≡ first ++ pending_in w → IsSound (board_of flows buffers) →
+    BufferWrites b w buffers buffers' → Tells b first (board_of flows buffers) (board_of flows buffers')
+tells b w first flows buffers buffers' known above watching front sound writes = record {
   flows = same_open flows flows buffers buffers' (λ g. refl);
-  counts = Tells-counts b (f ∷ []) (board_of flows buffers) (board_of flows buffers') (counted-board flows buffers') marks watched pending sound;
+  counts = Tells-counts b first (board_of flows buffers) (board_of flows buffers') (counted-board flows buffers') marks watched pending sound;
   watched = watched;
-  buffers = same_known flows flows buffers buffers' (kept_buffer is_some b (Some shorter) buffers buffers' writes (sym (ap is_some is)));
+  buffers = same_known flows flows buffers buffers' (kept_buffer is_some b w buffers buffers' writes known);
   marks = marks;
-  watchers = same_watchers flows flows buffers buffers' (kept_buffer watchers_in b (Some shorter) buffers buffers' writes (sym (ap watchers_in is)));
+  watchers = same_watchers flows flows buffers buffers' (kept_buffer watchers_in b w buffers buffers' writes watching);
   pending = pending;
 }
   where
-    shorter : Line
-    shorter = with_pending line rest
-
     taken : (c : BufferId) → (same_buffer b c ≡ true) ⊎ (same_buffer b c ≡ false) →
-        pending_in (buffer_at buffers c) ≡ (if same_buffer b c then f ∷ [] else []) ++ pending_in (cond (same_buffer b c) (Some shorter) (buffer_at buffers c))
+        pending_in (buffer_at buffers c) ≡ (if same_buffer b c then first else []) ++ pending_in (cond (same_buffer b c) w (buffer_at buffers c))
     taken c (inl here) =
-        ap (λ d. pending_in (buffer_at buffers d)) (sym (same_buffer_exact b c here)) ∙ ap pending_in is ∙ ap values_of first
-        ∙ sym (λ i. (if here i then f ∷ [] else []) ++ pending_in (cond (here i) (Some shorter) (buffer_at buffers c)))
-    taken c (inr other) = sym (λ i. (if other i then f ∷ [] else []) ++ pending_in (cond (other i) (Some shorter) (buffer_at buffers c)))
+        ap (λ d. pending_in (buffer_at buffers d)) (sym (same_buffer_exact b c here)) ∙ front
+        ∙ sym (λ i. (if here i then first else []) ++ pending_in (cond (here i) w (buffer_at buffers c)))
+    taken c (inr other) = sym (λ i. (if other i then first else []) ++ pending_in (cond (other i) w (buffer_at buffers c)))
 
     marks : Same is_marked (board_of flows buffers) (board_of flows buffers')
-    marks = same_marked flows flows buffers buffers' (kept_buffer above_in b (Some shorter) buffers buffers' writes (sym (ap above_in is)))
+    marks = same_marked flows flows buffers buffers' (kept_buffer above_in b w buffers buffers' writes above)
 
     watched : Same watched_by (board_of flows buffers) (board_of flows buffers')
     watched = same_watched flows flows buffers buffers' (λ g. refl)
 
-    pending : (c : BufferId) → pending_on (board_of flows buffers) c ≡ (if same_buffer b c then f ∷ [] else []) ++ pending_on (board_of flows buffers') c
+    pending : (c : BufferId) → pending_on (board_of flows buffers) c ≡ (if same_buffer b c then first else []) ++ pending_on (board_of flows buffers') c
     pending c = pending-board flows buffers c ∙ taken c (cases_Bool (same_buffer b c))
-        ∙ (λ i. (if same_buffer b c then f ∷ [] else []) ++ sym (pending-board flows buffers' c ∙ ap pending_in (writes c)) i)
-
--- the board is seen as before
-pub none_told : (b : BufferId) (line : Line) (flows : Flows) (buffers buffers' : Buffers) → buffer_at buffers b ≡ Some line →
-    BufferWrites b (Some line) buffers buffers' → Tells b [] (board_of flows buffers) (board_of flows buffers')
-none_told b line flows buffers buffers' is writes = record {
-  flows = same_open flows flows buffers buffers' (λ f. refl);
-  counts = λ f. omega (arith, same_count flows flows buffers buffers' marks watched pending f);
-  watched = watched;
-  buffers = same_known flows flows buffers buffers' (kept_buffer is_some b (Some line) buffers buffers' writes (sym (ap is_some is)));
-  marks = marks;
-  watchers = same_watchers flows flows buffers buffers' (kept_buffer watchers_in b (Some line) buffers buffers' writes (sym (ap watchers_in is)));
-  pending = λ c. sym (pending c) ∙ sym (ap (λ xs. xs ++ pending_on (board_of flows buffers') c) (nothing (same_buffer b c)));
-}
-  where
-    nothing : (t : Bool) → ◌≡◌ {A = List FlowId} (if t then [] else []) []
-    nothing true = refl
-    nothing false = refl
-
-    marks : Same is_marked (board_of flows buffers) (board_of flows buffers')
-    marks = same_marked flows flows buffers buffers' (kept_buffer above_in b (Some line) buffers buffers' writes (sym (ap above_in is)))
-
-    watched : Same watched_by (board_of flows buffers) (board_of flows buffers')
-    watched = same_watched flows flows buffers buffers' (λ f. refl)
-
-    pending : Same pending_on (board_of flows buffers) (board_of flows buffers')
-    pending = same_pending flows flows buffers buffers' (kept_buffer pending_in b (Some line) buffers buffers' writes (sym (ap pending_in is)))
+        ∙ (λ i. (if same_buffer b c then first else []) ++ sym (pending-board flows buffers' c ∙ ap pending_in (writes c)) i)

@@ -1,24 +1,26 @@
 // The gate of one buffer: whether the buffer is above, and which of its watchers are still to be told that it drained.
-ghost use Rattle.std.specs.Prelude.{◌≡◌, ◌↔◌, ◌∷◌, ◌++◌, ◌+◌, ◌<◌, ◌≤◌, [], drop, false, true, IfOk, IfSome, OnErr, None, Some, slice_get, option_map};
+ghost use Rattle.std.specs.Prelude.{◌≡◌, ◌↔◌, ◌∷◌, ◌++◌, ◌+◌, ◌≤◌, [], drop, false, true, IfOk, OnErr, None, Some, slice_get, option_map};
 ghost use Rattle.std.specs.Map.{values_of};
-ghost use Rattle.flow_gate.specs.Line.{between};
 ghost use Rattle.flow_gate.specs.Board.{times};
 ghost use Rattle.flow_gate.specs.declared.ids.FlowId.{FlowId};
 
 use crate::ids::FlowId;
 use crate::line::Watchers;
+use crate::stands::{Stand, between, close_up, first, leave, place_after};
 use io_ports::NoMemory;
 use std::alloc::Global;
-use std::collections::BTreeMap;
 use std::marker::Model;
 
 /// A buffer's mark and its watchers, each at a place in the line. Places rise, and none is used twice. The pending
 /// lows are the watchers at the places from `told` to before `drained`, so a drain takes no memory, a flow that
-/// leaves takes its low along, and one that comes later has none.
+/// leaves takes its low along, and one that comes later has none. A flow that leaves the line leaves a gap, and the
+/// gaps go once they are more than the flows.
 #[derive(Drop)]
 pub(crate) struct Gate {
     above: bool,
-    line: BTreeMap<u64, FlowId>,
+    line: Vec<Stand>,
+    /// How many flows stand in the line.
+    standing: usize,
     /// The place of the next watcher.
     next: u64,
     /// The place from which on the watchers were not told of the last drain.
@@ -28,17 +30,17 @@ pub(crate) struct Gate {
 }
 
 impl Model for Gate {
-    ghost use Rattle.flow_gate.specs.Line.{Line, IsInOrder, between};
+    ghost use Rattle.flow_gate.specs.Line.{Line, IsInOrder, between, live};
 
     ghost Value = { Line };
 
-    ghost view = { λ a. record { above = a.above; watchers = a.line.entries; pending = between a.told a.drained a.line.entries } };
+    ghost view = { λ a. record { above = a.above; watchers = live a.line.items; pending = between a.told a.drained (live a.line.items) } };
 
-    ghost invariant = { λ a. IsInOrder a.next a.told a.drained a.line.entries };
+    ghost invariant = { λ a. IsInOrder a.next a.told a.drained a.standing a.line.items };
 }
 
 impl Gate {
-    ghost use Rattle.flow_gate.specs.Line.{at_place, held_in, left};
+    ghost use Rattle.flow_gate.specs.Line.{at_place, held_in, left, told};
 
     /// Not above, and without watchers. Takes no memory.
     pub(crate) fn new(alloc: Global) -> Self
@@ -46,7 +48,8 @@ impl Gate {
     {
         Gate {
             above: false,
-            line: BTreeMap::new(alloc),
+            line: Vec::new(alloc),
+            standing: 0,
             next: 0,
             told: 0,
             drained: 0,
@@ -62,13 +65,13 @@ impl Gate {
     pub(crate) fn is_watched(&self) -> bool
         ensures { (result ≡ false) ↔ (self.now.watchers ≡ []) }
     {
-        !self.line.is_empty()
+        self.standing > 0
     }
 
     pub(crate) fn has_pending(&self) -> bool
         ensures { (result ≡ false) ↔ (self.now.pending ≡ []) }
     {
-        first_between(&self.line, self.told, self.drained).is_some()
+        first(between(self.line.as_slice(), self.told, self.drained)).is_some()
     }
 
     /// How often the flow at a place is held back: once while the buffer is above, and once while it is to be told.
@@ -83,7 +86,14 @@ impl Gate {
     pub(crate) fn watchers(&self) -> Watchers<'_>
         ensures { result ≡ values_of self.now.watchers }
     {
-        Watchers::of(&self.line)
+        Watchers::of(self.line.as_slice())
+    }
+
+    /// The watchers that are to be told.
+    pub(crate) fn lows(&self) -> Watchers<'_>
+        ensures { result ≡ values_of self.now.pending }
+    {
+        Watchers::of(between(self.line.as_slice(), self.told, self.drained))
     }
 
     /// Adds a flow at the end of the line, and answers its place.
@@ -96,7 +106,11 @@ impl Gate {
         if place == u64::MAX {
             return Err(NoMemory);
         }
-        self.line.insert(place, flow)?;
+        self.line.push(Stand {
+            place,
+            flow: Some(flow),
+        })?;
+        self.standing += 1;
         self.next = place + 1;
         Ok(place)
     }
@@ -105,7 +119,10 @@ impl Gate {
     pub(crate) fn remove(&mut self, place: u64)
         ensures { (flow : FlowId) → at_place place self.old.watchers ≡ Some flow → times flow (values_of self.old.watchers) ≤ 1 → self.new ≡ left flow self.old }
     {
-        let _ = self.line.remove(&place);
+        if leave(self.line.as_mut_slice(), place) {
+            self.standing -= 1;
+            close_up(&mut self.line, self.standing);
+        }
     }
 
     pub(crate) fn rise(&mut self)
@@ -128,22 +145,15 @@ impl Gate {
         ensures first { result ≡ option_map (λ e. e.1) (slice_get self.old.pending 0) }
         ensures rest { self.new ≡ record self.old { pending = drop 1 self.old.pending } }
     {
-        let (place, flow) = first_between(&self.line, self.told, self.drained)?;
+        let (place, flow) = first(between(self.line.as_slice(), self.told, self.drained))?;
         self.told = place + 1;
         Some(flow)
     }
-}
 
-// The first place in a line from one to before another, and the flow there.
-fn first_between(line: &BTreeMap<u64, FlowId>, from: u64, to: u64) -> Option<(u64, FlowId)>
-    ensures first { result ≡ slice_get (between from to line.now.entries) 0 }
-    ensures below { IfSome result (λ e. e.0 < to) }
-    ensures rest { IfSome result (λ e. between (e.0 + 1) to line.now.entries ≡ drop 1 (between from to line.now.entries)) }
-{
-    let (&place, &flow) = line.range(from..).next()?;
-    if place < to {
-        Some((place, flow))
-    } else {
-        None
+    /// The first n watchers that are to be told, or all where there are fewer, are told with this.
+    pub(crate) fn tell_first(&mut self, n: usize)
+        ensures { self.new ≡ told n self.old }
+    {
+        self.told = place_after(self.line.as_slice(), self.told, self.drained, n);
     }
 }

@@ -1,9 +1,9 @@
 // The gates of a worker.
-ghost use Rattle.std.specs.Prelude.{◌≡◌, ◌<◌, ◌≤◌, ◌^◌, ◌↔◌, ℕ, [], false, true, IfNone, IfOk, IfSome, None, Some, OnOk, OnErr, IsNone, length, option_map, option_to_list, slice_get, if◌then◌else◌};
+ghost use Rattle.std.specs.Prelude.{◌≡◌, ◌<◌, ◌≤◌, ◌^◌, ◌↔◌, ℕ, [], false, true, IfNone, IfOk, IfSome, None, Some, OnOk, OnErr, IsNone, length, option_map, option_to_list, slice_get, take, if◌then◌else◌};
 ghost use Rattle.flow_gate.specs.Board.{IsSound, count, is_known, is_marked, is_open, pending_on, times, watchers_of};
 ghost use Rattle.flow_gate.specs.Changes.{Begins, Closes, Drains, Forgets, IsEmpty, Knows, Rises, Tells, Watches};
 ghost use Rattle.flow_gate.specs.Ids.{same_buffer};
-ghost use Rattle.flow_gate.specs.Line.{Line, held_in, left};
+ghost use Rattle.flow_gate.specs.Line.{Line, held_in, left, told};
 ghost use Rattle.flow_gate.specs.Parts.{AreWatches, StandsIn, bound_after, buffer_at, held, is_after, is_stage, kept, stage_of, watched_in};
 ghost use Rattle.flow_gate.specs.declared.ids.BufferId.{BufferId};
 ghost use Rattle.flow_gate.specs.declared.ids.FlowId.{FlowId};
@@ -129,6 +129,16 @@ impl Gates {
         }
     }
 
+    /// The flows that are still to be told that the buffer drained, in order.
+    pub fn lows(&self, buffer: BufferId) -> Watchers<'_>
+        ensures { result ≡ pending_on self.now buffer }
+    {
+        match self.buffers.get(&buffer) {
+            Some(gate) => gate.lows(),
+            None => Watchers::none(),
+        }
+    }
+
     /// The i-th watcher of a buffer, from 0. Goes through those before it: to see all, take `watchers`.
     pub fn watcher(&self, buffer: BufferId, i: usize) -> Option<FlowId>
         ensures { result ≡ slice_get (watchers_of self.now buffer) i }
@@ -228,6 +238,15 @@ impl Gates {
         self.buffers.get_mut(&buffer)?.tell()
     }
 
+    /// Takes the first n pending lows of the buffer, or all where there are fewer, and lowers the count of each of their
+    /// flows by 1.
+    pub fn take_lows(&mut self, buffer: BufferId, n: usize)
+        ensures tells { Tells buffer (take n (pending_on self.old buffer)) self.old self.new }
+        ensures sound { IsSound self.new }
+    {
+        tell_first(&mut self.buffers, buffer, n);
+    }
+
     /// Ends a flow: its watches and its pending lows go with it, and so do its own receive, stage and send buffers
     /// that nobody else watches.
     pub fn forget(&mut self, flow: FlowId)
@@ -265,6 +284,15 @@ fn held_by(buffers: &BTreeMap<BufferId, Gate>, watch: Watch) -> u64
     match buffers.get(&watch.buffer) {
         Some(gate) => gate.held(watch.place),
         None => 0,
+    }
+}
+
+// The first watchers of a buffer that are to be told are told.
+fn tell_first(buffers: &mut BTreeMap<BufferId, Gate>, buffer: BufferId, n: usize)
+    ensures { (b : BufferId) → buffer_at buffers.new.entries b ≡ (if same_buffer buffer b then option_map (told n) (buffer_at buffers.old.entries b) else buffer_at buffers.old.entries b) }
+{
+    if let Some(gate) = buffers.get_mut(&buffer) {
+        gate.tell_first(n);
     }
 }
 

@@ -5,6 +5,7 @@ mod gate;
 mod gates;
 mod ids;
 mod line;
+mod stands;
 mod watcher;
 
 pub use gates::Gates;

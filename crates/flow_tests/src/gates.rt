@@ -268,6 +268,32 @@ fn watchers_stand_in_the_order_in_which_they_began(rt: HostRuntime) -> Result<()
     Ok(())
 }
 
+// Two of three watchers are told at once, and then the third.
+#[test]
+fn lows_are_told_together(rt: HostRuntime) -> Result<(), Fail> {
+    let mut gates = Gates::new(rt.alloc());
+    make_all(&rt, &mut gates, &TWO_FLOWS[..14])?;
+    let lows = [FIRST, SECOND, LEAST];
+    let mut seen = 0;
+    for low in gates.lows(SHARED) {
+        assert_eq!(rt; lows.get(seen).copied(), Some(low));
+        seen = seen.saturating_add(1);
+    }
+    assert_eq!(rt; seen, 3);
+    gates.take_lows(SHARED, 2);
+    for (flow, held) in [(FIRST, 0), (SECOND, 0), (LEAST, 1)] {
+        assert_eq!(rt; count(&gates, flow), Some(held));
+    }
+    assert_eq!(rt; gates.lows(SHARED).nth(0), Some(LEAST));
+    assert_eq!(rt; gates.lows(SHARED).nth(1), None);
+    gates.take_lows(SHARED, 2);
+    assert_eq!(rt; count(&gates, LEAST), Some(0));
+    assert_eq!(rt; gates.lows(SHARED).nth(0), None);
+    gates.take_lows(OWN, 1);
+    assert_eq!(rt; gates.lows(OWN).nth(0), None);
+    Ok(())
+}
+
 /// A flow by its exchange, with its send buffer.
 fn sending(exchange: u64) -> (FlowId, BufferId) {
     let flow = FlowId {
@@ -311,5 +337,41 @@ fn many_flows_cost_little(rt: HostRuntime) -> Result<(), Fail> {
         let (flow, _) = sending(exchange);
         assert_eq!(rt; count(&gates, flow), Some(0));
     }
+    Ok(())
+}
+
+// 200,000 flows watch one buffer. Those of even number leave while the others are told, and these leave last first: no
+// call goes through the whole line each time.
+#[test]
+fn many_watchers_cost_little(rt: HostRuntime) -> Result<(), Fail> {
+    let mut gates = Gates::new(rt.alloc());
+    make(&rt, &mut gates, OpenBuffer(SHARED))?;
+    for exchange in 1..=MANY {
+        let (flow, _) = sending(exchange);
+        make(&rt, &mut gates, OpenFlow(flow))?;
+        make(&rt, &mut gates, Watch(flow, SHARED))?;
+    }
+    make(&rt, &mut gates, High(SHARED))?;
+    make(&rt, &mut gates, BeginLow(SHARED))?;
+    for exchange in 1..=MANY {
+        let (flow, _) = sending(exchange);
+        if exchange % 2 == 0 {
+            make(&rt, &mut gates, Forget(flow))?;
+        } else {
+            assert_eq!(rt;
+                make(&rt, &mut gates, NextLow(SHARED))?,
+                Answer::Told(Some(flow))
+            );
+        }
+    }
+    assert_eq!(rt; make(&rt, &mut gates, NextLow(SHARED))?, NOBODY);
+    for gone in 0..MANY {
+        let exchange = MANY - gone;
+        let (flow, _) = sending(exchange);
+        if exchange % 2 == 1 {
+            make(&rt, &mut gates, Forget(flow))?;
+        }
+    }
+    assert!(rt; !gates.is_watched(SHARED));
     Ok(())
 }
