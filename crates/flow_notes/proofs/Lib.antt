@@ -9,5 +9,6 @@ pub mod NumberLines
 pub mod NumberLists
 pub mod Numbers
 pub mod Octets
+pub mod Rows
 pub mod Splitting
 pub mod Words

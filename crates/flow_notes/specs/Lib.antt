@@ -16,6 +16,8 @@ pub mod Name
 pub mod Note
 pub mod NoteOf
 pub mod Number
+pub mod Passages
+pub mod Rows
 pub mod Spells
 pub mod Split
 pub mod Word

@@ -6,6 +6,7 @@ mod keywords;
 mod laws;
 mod names;
 mod notes;
+mod passages;
 mod reading;
 mod writing;
 
@@ -16,5 +17,6 @@ pub use events::{Event, EventList, Job, PlainEvent};
 pub use laws::{one_event, one_note};
 pub use names::{NameRefusal, Names};
 pub use notes::{Cause, CloseCause, FireKind, Note, Notes};
+pub use passages::{Passage, Passages};
 pub use reading::{read_event, read_note, read_numbers};
 pub use writing::{event_text, note_text};

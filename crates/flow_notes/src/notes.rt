@@ -1,8 +1,12 @@
 // What a core did, note by note.
-ghost use Rattle.std.specs.Prelude.{◌≡◌, ◌==◌, ◌++◌, ◌∷◌, [], length, OnOk, OnErr};
+ghost use Rattle.std.specs.Iterator.{Drains, IsFinite};
+ghost use Rattle.std.specs.Prelude.{◌≡◌, ◌==◌, ◌++◌, ◌∷◌, ◌-◌, ◌<◌, ◌≤◌, List, [], length, map, take, IfOk, OnOk, OnErr};
+ghost use Rattle.flow_gate.specs.declared.ids.FlowId.{FlowId};
+ghost use Rattle.flow_notes.specs.Rows.{flows_in, with_row};
 
 use crate::Event;
-use flow_gate::{BufferId, FlowId};
+use crate::passages::{Item, Passages};
+use flow_gate::{BufferId, FlowId, Watchers};
 use io_ports::{NoMemory, Octets};
 use std::alloc::Global;
 use std::marker::Model;
@@ -147,10 +151,15 @@ pub enum Note {
     },
 }
 
-/// A list of notes.
+/// A list of notes. The pauses, or the resumes, of a row of flows for one buffer take the room of their
+/// flows alone.
 #[derive(Debug, Drop)]
 pub struct Notes {
-    notes: Vec<Note>,
+    items: Vec<Item>,
+    /// The flows of the rows, one row after the other.
+    flows: Vec<FlowId>,
+    /// How many notes stand alone.
+    alone: usize,
 }
 
 impl Model for Notes {
@@ -159,16 +168,24 @@ impl Model for Notes {
 
     ghost Value = { List Note };
 
-    ghost view = { λ a. a.notes.items };
+    ghost use Rattle.flow_notes.specs.Rows.{AreRows, all_notes};
+
+    ghost view = { λ a. all_notes a.items.items a.flows.items };
+
+    ghost invariant = { λ a. AreRows a.items.items a.flows.items a.alone };
 }
 
 impl Notes {
+    ghost use Rattle.std.specs.List.{AllByRecursion, flat_map};
+
     /// No notes. Takes no memory.
     pub fn new(alloc: Global) -> Self
         ensures { result ≡ [] }
     {
         Notes {
-            notes: Vec::new(alloc),
+            items: Vec::new(alloc),
+            flows: Vec::new(alloc),
+            alone: 0,
         }
     }
 
@@ -177,32 +194,99 @@ impl Notes {
         ensures ok { OnOk result (self.new ≡ self.old ++ note ∷ []) }
         ensures err { OnErr result (self.new ≡ self.old) }
     {
-        self.notes.push(note)?;
+        self.items.push(Item::One(note))?;
+        self.alone += 1;
         Ok(())
     }
 
-    pub fn as_slice(&self) -> &[Note]
-        ensures { result.now ≡ self.now }
+    /// Appends a pause of each flow for the buffer. After want of memory the list is as it was.
+    pub fn push_pauses(&mut self, flows: Watchers<'_>, buffer: BufferId) -> Result<(), NoMemory>
+        ensures ok { OnOk result (self.new ≡ self.old ++ map (λ f. Note.Pause f buffer) flows.entry) }
+        ensures err { OnErr result (self.new ≡ self.old) }
     {
-        self.notes.as_slice()
+        let count = append(&mut self.flows, flows)?;
+        let row = Item::Pauses { count, buffer };
+        end_row(&mut self.items, &mut self.flows, row)
+    }
+
+    /// Appends a resume of each of the first `n` flows for the buffer. After want of memory the list is
+    /// as it was.
+    pub fn push_resumes(
+        &mut self,
+        flows: Watchers<'_>,
+        n: usize,
+        buffer: BufferId,
+    ) -> Result<(), NoMemory>
+        ensures ok { OnOk result (self.new ≡ self.old ++ map (λ f. Note.Resume f buffer) (take n flows.entry)) }
+        ensures err { OnErr result (self.new ≡ self.old) }
+    {
+        let count = append(&mut self.flows, flows.take(n))?;
+        let row = Item::Resumes { count, buffer };
+        end_row(&mut self.items, &mut self.flows, row)
+    }
+
+    /// The notes in their order, in passages: a note that was pushed by itself, or a row of pauses or
+    /// resumes. No passage is empty. Takes no memory.
+    pub fn passages(&self) -> Passages<'_>
+        ensures full { AllByRecursion (λ notes. 0 < length notes) result }
+        ensures notes { flat_map (λ notes. notes) result ≡ self.now }
+    {
+        Passages::of(self.items.as_slice(), self.flows.as_slice())
     }
 
     pub fn len(&self) -> usize
         ensures { result ≡ length self.now }
     {
-        self.notes.len()
+        self.alone + self.flows.len()
     }
 
     pub fn is_empty(&self) -> bool
         ensures { result ≡ (length self.now == 0) }
     {
-        self.notes.is_empty()
+        self.len() == 0
     }
 
     /// Drops all notes, and keeps their room.
     pub fn clear(&mut self)
         ensures { self.new ≡ [] }
     {
-        self.notes.clear();
+        self.items.clear();
+        self.flows.clear();
+        self.alone = 0;
     }
+}
+
+// Appends the flows, and counts them. After want of memory the list is as it was.
+fn append<I: Iterator<Item = FlowId> + Drop>(
+    list: &mut Vec<FlowId>,
+    flows: I,
+) -> Result<usize, NoMemory>
+    requires can { I.can_next flows }
+    requires ends { IsFinite (I.remaining flows) }
+    ensures ok { IfOk result (λ count. (added : List FlowId) × Drains I.next_gives flows added
+        × (list.new.items ≡ list.old.items ++ added) × (count ≡ length added)) }
+    ensures err { OnErr result (list.new.items ≡ list.old.items) }
+{
+    let start = list.len();
+    if list.extend(flows).is_err() {
+        list.truncate(start);
+        return Err(NoMemory);
+    }
+    Ok(list.len() - start)
+}
+
+// Appends the row of the last flows, unless it is empty. After want of memory they are let go.
+fn end_row(items: &mut Vec<Item>, flows: &mut Vec<FlowId>, row: Item) -> Result<(), NoMemory>
+    requires { flows_in row ≤ length flows.old.items }
+    ensures ok { OnOk result ((flows.new.items ≡ flows.old.items)
+        × (items.new.items ≡ with_row items.old.items row)) }
+    ensures err { OnErr result ((items.new.items ≡ items.old.items)
+        × (flows.new.items ≡ take (length flows.old.items - flows_in row) flows.old.items)) }
+{
+    let count = row.count();
+    if count > 0 && items.push(row).is_err() {
+        flows.truncate(flows.len() - count);
+        return Err(NoMemory);
+    }
+    Ok(())
 }

@@ -1,4 +1,5 @@
 // Texts of events and notes, and names that are refused.
+mod passages;
 mod reading;
 
 use flow_gate::{BufferId, FlowId};

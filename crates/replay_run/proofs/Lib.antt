@@ -15,5 +15,6 @@ pub mod Running
 pub mod Spelled
 pub mod Summing
 pub mod Tallying
+pub mod Telling
 pub mod TwoFormats
 pub mod Wording

@@ -2,7 +2,9 @@
 use Rattle.flow_gate.specs.declared.ids.BufferId.{BufferId}
 use Rattle.flow_gate.specs.declared.ids.FlowId.{FlowId}
 use Rattle.flow_notes.specs.declared.events.Event.{Event}
+use Rattle.flow_notes.specs.Passages.{notes_of_passage}
 use Rattle.flow_notes.specs.declared.notes.Note.{Note}
+use Rattle.flow_notes.specs.declared.passages.Passage.{Passage}
 use Rattle.io_ports.specs.declared.octets.NoMemory.{NoMemory}
 use Rattle.replay_run.specs.Pausing.{LogIs, Logs, counted, counts_of, logged, place_cmp, resumed_at, spot_cmp}
 use Rattle.replay_run.specs.declared.pauses.Counts.{Counts}
@@ -14,6 +16,7 @@ use Rattle.std.proofs.Common.{ap, append_assoc, arith, length-append, refl, subs
 use Rattle.std.proofs.lemmas.Bool.Decides.{nat_tests}
 use Rattle.std.proofs.lemmas.List.{append-nil}
 use Rattle.std.specs.BTreeMap.{Updates, get}
+use Rattle.std.specs.List.{flat_map}
 use Rattle.std.specs.Ordering.{bool_cmp, is_eq, nat_cmp, ordering_then}
 use Rattle.std.specs.Prelude.{Bool, Err, List, None, Ok, OnOk, Option, Result, Some, [], false, if◌then◌else◌, length, not, slice_get, suc, true, zero, ℕ, ◌&&◌, ◌++◌, ◌+◌, ◌==◌, ◌∷◌, ◌≡◌}
 use Rattle.std.specs.declared.cmp.Ordering.{Ordering}
@@ -337,7 +340,20 @@ logged_as old new n m r e k = let P : Note → Type 0 = λ v. OnOk r (Logs old (
 pub one_more : (notes done after : List Note) (n : Note) → notes ≡ done ++ n ∷ after → notes ≡ (done ++ n ∷ []) ++ after
 one_more notes done after n e = e ∙ sym (append_assoc done (n ∷ []) after)
 
-pub none_left : (rest : List Note) → length rest ≡ 0 → rest ≡ []
+-- the notes of the passages that are left
+pub all_left : (notes : List Note) (all passages : List (List Note)) → all ≡ passages → flat_map (λ notes. notes) passages ≡ notes → notes ≡ flat_map (λ notes. notes) all
+all_left notes all passages e is = sym (ap (λ (v : List (List Note)). flat_map (λ notes. notes) v) e ∙ is)
+
+-- with those of one passage more
+pub passage_more : (notes done ns : List Note) (left after : List (List Note)) → notes ≡ done ++ flat_map (λ notes. notes) left → left ≡ ns ∷ after
+    → notes ≡ (done ++ ns) ++ flat_map (λ notes. notes) after
+passage_more notes done ns left after e is =
+    e ∙ ap (λ (v : List (List Note)). done ++ flat_map (λ notes. notes) v) is ∙ sym (append_assoc done ns (flat_map (λ notes. notes) after))
+
+pub no_passages : (left : List (List Note)) → left ≡ [] → flat_map (λ notes. notes) left ≡ []
+no_passages left e = ap (λ (v : List (List Note)). flat_map (λ notes. notes) v) e
+
+pub none_left : {A : Type 0} (rest : List A) → length rest ≡ 0 → rest ≡ []
 none_left [] e = refl
 none_left (n ∷ ns) e = absurd (omega (arith, e))
 
@@ -345,3 +361,6 @@ pub all_logged : (a b : PauseLog) (notes done rest : List Note) → notes ≡ do
 all_logged a b notes done rest e none l =
     let P : List Note → Type 0 = λ v. Logs a v b in
     subst P (sym (e ∙ ap (λ (v : List Note). done ++ v) none ∙ append-nil done)) l
+
+pub passage_logged : (a c : PauseLog) (p q : Passage) (r : Result (Unit {0}) NoMemory) → p ≡ q → OnOk r (Logs a (notes_of_passage q) c) → OnOk r (Logs a (notes_of_passage p) c)
+passage_logged a c p q r e k = let P : Passage → Type 0 = λ v. OnOk r (Logs a (notes_of_passage v) c) in subst P (sym e) k

@@ -1,21 +1,24 @@
 -- A log of lengths, note by note.
+use Rattle.flow_gate.specs.declared.ids.BufferId.{BufferId}
 use Rattle.flow_gate.specs.declared.ids.FlowId.{FlowId}
 use Rattle.flow_notes.specs.declared.notes.Cause.{Cause}
+use Rattle.flow_notes.specs.Passages.{notes_of_passage}
 use Rattle.flow_notes.specs.declared.notes.Note.{Note}
+use Rattle.flow_notes.specs.declared.passages.Passage.{Passage}
 use Rattle.io_ports.specs.declared.octets.NoMemory.{NoMemory}
-use Rattle.replay_run.proofs.Levels.{lawful_back, level_emptied, level_fallen, level_risen, level_same, live_request}
+use Rattle.replay_run.proofs.Levels.{lawful_back, level_emptied, level_fallen, level_risen, level_same, live_request, unwritten_goes}
 use Rattle.replay_run.proofs.Pausing.{number_is, numbers_equal, onto_more}
 use Rattle.replay_run.specs.Levels.{WriteGoes, level_of}
 use Rattle.replay_run.specs.Peaking.{PeaksAre, PeaksGo, Sets, arrived, dropped, flow_levels, framed, levels_of, shifted}
 use Rattle.replay_run.specs.declared.level.Level.{Level}
 use Rattle.replay_run.specs.declared.peaks.FlowLevels.{FlowLevels}
 use Rattle.replay_run.specs.declared.peaks.PeakLog.{PeakLog}
-use Rattle.std.proofs.Common.{ap, arith, length-append, length-drop, refl, subst, sym, ◌∙◌}
+use Rattle.std.proofs.Common.{Bor, ap, arith, length-append, length-drop, refl, subst, sym, ◌∙◌}
 use Rattle.std.proofs.lemmas.Bool.Decides.{nat_tests}
 use Rattle.std.proofs.lemmas.List.{append-nil, length-take-le}
 use Rattle.std.specs.BTreeMap.{Updates, get}
 use Rattle.std.specs.Ordering.{is_eq, nat_cmp}
-use Rattle.std.specs.Prelude.{Bool, Err, List, None, Ok, OnOk, Result, Some, [], drop, false, if◌then◌else◌, length, min, take, true, ℕ, ◌&&◌, ◌++◌, ◌+◌, ◌==◌, ◌∷◌, ◌≡◌, ◌≤◌}
+use Rattle.std.specs.Prelude.{Bool, Err, List, None, Ok, OnOk, Result, Some, [], drop, false, if◌then◌else◌, length, map, min, take, true, ℕ, ◌&&◌, ◌++◌, ◌+◌, ◌==◌, ◌∷◌, ◌≡◌, ◌≤◌}
 use Rattle.tape_laws.specs.Dispatches.{started}
 use Rattle.tape_laws.specs.Flows.{request, same_flow}
 use Rattle.tape_laws.specs.History.{History, NoMark, Noted, Step, onto}
@@ -27,6 +30,7 @@ use Rattle.tape_laws.specs.World.{len, place}
 use Rattle.tape_laws.specs.declared.limits.PlainLimits.{PlainLimits}
 use Rattle.flow_gate.specs.declared.ids.BufferId.TheVariants as buffer
 use Rattle.flow_notes.specs.declared.notes.Note.TheVariants as note
+use Rattle.flow_notes.specs.declared.passages.Passage.TheVariants as passage
 
 -- ---- the levels of one stream
 
@@ -317,3 +321,29 @@ pub all_peaks : (a b : PeakLog) (notes done rest : List Note) → notes ≡ done
 all_peaks a b notes done rest e none l =
     let P : List Note → Type 0 = λ v. PeaksGo a v b in
     subst P (sym (e ∙ ap (λ (v : List Note). done ++ v) none ∙ append-nil done)) l
+
+-- ---- rows
+
+pause_peak : (a : PeakLog) (f : FlowId) (b : BufferId) → PeaksGo a (note.Pause f b ∷ []) a
+pause_peak a f b = other_peak a a a.write (note.Pause f b) (unwritten_goes a.write (note.Pause f b) (λ c g k l q. cc) (λ c k q. cc)) refl refl refl (λ h e. e) refl (λ x p limits h. refl)
+
+resume_peak : (a : PeakLog) (f : FlowId) (b : BufferId) → PeaksGo a (note.Resume f b ∷ []) a
+resume_peak a f b = other_peak a a a.write (note.Resume f b) (unwritten_goes a.write (note.Resume f b) (λ c g k l q. cc) (λ c k q. cc)) refl refl refl (λ h e. e) refl (λ x p limits h. refl)
+
+pub pauses_peak : (a : PeakLog) (fs : List FlowId) (b : BufferId) → PeaksGo a (map (λ f. note.Pause f b) fs) a
+pauses_peak a [] b = peaks_none a
+pauses_peak a (f ∷ fs) b = peaks_more a a a (note.Pause f b ∷ []) (map (λ f. note.Pause f b) fs) (pause_peak a f b) (pauses_peak a fs b)
+
+pub resumes_peak : (a : PeakLog) (fs : List FlowId) (b : BufferId) → PeaksGo a (map (λ f. note.Resume f b) fs) a
+resumes_peak a [] b = peaks_none a
+resumes_peak a (f ∷ fs) b = peaks_more a a a (note.Resume f b ∷ []) (map (λ f. note.Resume f b) fs) (resume_peak a f b) (resumes_peak a fs b)
+
+-- ---- passages
+
+pub note_peak : (a c : PeakLog) (p : Passage) (n : Bor Note) (r : Result (Unit {0}) NoMemory) → p ≡ passage.One n → OnOk r (PeaksGo a (n.now ∷ []) c) → OnOk r (PeaksGo a (notes_of_passage p) c)
+note_peak a c p n r e k = let P : Passage → Type 0 = λ v. OnOk r (PeaksGo a (notes_of_passage v) c) in subst P (sym e) k
+
+pub row_peak : (a : PeakLog) (p : Passage) → ((n : Bor Note) → p ≡ passage.One n → ⊥) → PeaksGo a (notes_of_passage p) a
+row_peak a (passage.One n) other = absurd (other n refl)
+row_peak a (passage.Pauses fs b) other = pauses_peak a fs.now b
+row_peak a (passage.Resumes fs b) other = resumes_peak a fs.now b

@@ -2,7 +2,10 @@
 use Rattle.flow_gate.specs.declared.ids.BufferId.{BufferId}
 use Rattle.flow_gate.specs.declared.ids.FlowId.{FlowId}
 use Rattle.flow_notes.specs.declared.notes.Cause.{Cause}
+use Rattle.flow_notes.specs.Passages.{notes_of_passage}
 use Rattle.flow_notes.specs.declared.notes.Note.{Note}
+use Rattle.flow_notes.specs.declared.passages.Passage.{Passage}
+use Rattle.io_ports.specs.declared.octets.NoMemory.{NoMemory}
 use Rattle.replay_run.proofs.Levels.{lawful_back, unwritten_goes}
 use Rattle.replay_run.proofs.Pausing.{onto_more}
 use Rattle.replay_run.specs.Levels.{WriteGoes}
@@ -10,15 +13,17 @@ use Rattle.replay_run.specs.Tally.{octets_framed, octets_in, pauses_in, resets_b
 use Rattle.replay_run.specs.Tallying.{Counted, TallyGoes, TallyIs, tally_text}
 use Rattle.replay_run.specs.declared.level.Level.{Level}
 use Rattle.replay_run.specs.declared.tally.Tally.{Tally}
-use Rattle.std.proofs.Common.{ap, arith, refl, subst, sym, ◌∙◌}
+use Rattle.std.proofs.Common.{Bor, ap, arith, refl, subst, sym, ◌∙◌}
 use Rattle.std.proofs.lemmas.List.{append-nil}
 use Rattle.std.proofs.lemmas.List.Sums.{sum_by-cons}
+use Rattle.std.proofs.lemmas.Result.{on_ok_weaker}
 use Rattle.std.specs.List.{sum_by}
-use Rattle.std.specs.Prelude.{Bool, List, [], length, ℕ, ◌++◌, ◌+◌, ◌∷◌, ◌≡◌}
+use Rattle.std.specs.Prelude.{Bool, List, OnOk, Result, [], length, map, ℕ, ◌++◌, ◌+◌, ◌∷◌, ◌≡◌}
 use Rattle.tape_laws.specs.History.{History, NoMark, notes_of, onto}
 use Rattle.tape_laws.specs.PlainTape.{IsPlainLawful}
 use Rattle.tape_laws.specs.declared.limits.PlainLimits.{PlainLimits}
 use Rattle.flow_notes.specs.declared.notes.Note.TheVariants as note
+use Rattle.flow_notes.specs.declared.passages.Passage.TheVariants as passage
 
 -- ---- one note
 
@@ -151,20 +156,54 @@ other_counted old w (note.Fire kind id) np g na nf ns nd = nothing_counted old w
 pub tally_none : (t : Tally) → TallyGoes t [] t
 tally_none t = record { goes = λ limits h l a. a }
 
-pub tally_more : (a b c : Tally) (ns : List Note) (n : Note) → TallyGoes a ns b → Counted b n c → TallyGoes a (ns ++ n ∷ []) c
-tally_more a b c ns n p k = record {
+pub tally_more : (a b c : Tally) (ns ms : List Note) → TallyGoes a ns b → TallyGoes b ms c → TallyGoes a (ns ++ ms) c
+tally_more a b c ns ms p q = record {
   goes = λ limits h law l.
-      let q = counted_goes b c n k in
       let P : History NoMark → Type 0 = λ v. TallyIs limits c v in
       let L : History NoMark → Type 0 = λ v. IsPlainLawful limits v in
-      let law2 : IsPlainLawful limits (onto (n ∷ []) (onto ns h)) = subst L (onto_more ns (n ∷ []) h) law in
-      subst P (sym (onto_more ns (n ∷ []) h)) (q.goes limits (onto ns h) law2 (p.goes limits h (lawful_back limits (n ∷ []) (onto ns h) law2) l));
+      let law2 : IsPlainLawful limits (onto ms (onto ns h)) = subst L (onto_more ns ms h) law in
+      subst P (sym (onto_more ns ms h)) (q.goes limits (onto ns h) law2 (p.goes limits h (lawful_back limits ms (onto ns h) law2) l));
 }
 
 pub all_tallied : (a b : Tally) (notes done rest : List Note) → notes ≡ done ++ rest → rest ≡ [] → TallyGoes a done b → TallyGoes a notes b
 all_tallied a b notes done rest e none l =
     let P : List Note → Type 0 = λ v. TallyGoes a v b in
     subst P (sym (e ∙ ap (λ (v : List Note). done ++ v) none ∙ append-nil done)) l
+
+-- ---- rows
+
+abbrev with_pauses : Tally → ℕ → Tally
+with_pauses t n = record t { pauses = n }
+
+pub pauses_tallied : (a : Tally) (fs : List FlowId) (b : BufferId) (n : ℕ) → n ≡ a.pauses + length fs → TallyGoes a (map (λ f. note.Pause f b) fs) (with_pauses a n)
+pauses_tallied a [] b n e =
+    let same : a.pauses ≡ n = omega (arith, e) in
+    let P : ℕ → Type 0 = λ v. TallyGoes a [] (with_pauses a v) in
+    subst P same (tally_none a)
+pauses_tallied a (f ∷ fs) b n e =
+    let c = with_pauses a (a.pauses + 1) in
+    let rest : n ≡ c.pauses + length fs = omega (arith, e) in
+    tally_more a c (with_pauses a n) (note.Pause f b ∷ []) (map (λ f. note.Pause f b) fs) (counted_goes a c (note.Pause f b) (pause_counted a (note.Pause f b) f b (a.pauses + 1) refl refl)) (pauses_tallied c fs b n rest)
+
+pub resumes_tallied : (a : Tally) (fs : List FlowId) (b : BufferId) → TallyGoes a (map (λ f. note.Resume f b) fs) a
+resumes_tallied a [] b = tally_none a
+resumes_tallied a (f ∷ fs) b =
+    tally_more a a a (note.Resume f b ∷ []) (map (λ f. note.Resume f b) fs) (counted_goes a a (note.Resume f b) (resume_counted a (note.Resume f b) f b refl)) (resumes_tallied a fs b)
+
+-- ---- passages
+
+tally_as : (a c : Tally) (p q : Passage) → p ≡ q → TallyGoes a (notes_of_passage q) c → TallyGoes a (notes_of_passage p) c
+tally_as a c p q e g = let P : Passage → Type 0 = λ v. TallyGoes a (notes_of_passage v) c in subst P (sym e) g
+
+pub one_tallied : (a c : Tally) (p : Passage) (n : Bor Note) (r : Result (Unit {0}) NoMemory) → p ≡ passage.One n → OnOk r (Counted a n.now c) → OnOk r (TallyGoes a (notes_of_passage p) c)
+one_tallied a c p n r e k = on_ok_weaker r (λ q. tally_as a c p (passage.One n) e (counted_goes a c n.now q)) k
+
+pub pause_row_tallied : (a : Tally) (p : Passage) (fs : Bor (List FlowId)) (b : BufferId) (n : ℕ) → p ≡ passage.Pauses fs b → n ≡ a.pauses + length fs.now
+    → TallyGoes a (notes_of_passage p) (with_pauses a n)
+pause_row_tallied a p fs b n e sum = tally_as a (with_pauses a n) p (passage.Pauses fs b) e (pauses_tallied a fs.now b n sum)
+
+pub resume_row_tallied : (a : Tally) (p : Passage) (fs : Bor (List FlowId)) (b : BufferId) → p ≡ passage.Resumes fs b → TallyGoes a (notes_of_passage p) a
+resume_row_tallied a p fs b e = tally_as a a p (passage.Resumes fs b) e (resumes_tallied a fs.now b)
 
 -- ---- the text
 

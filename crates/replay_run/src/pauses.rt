@@ -2,7 +2,7 @@
 ghost use Rattle.std.specs.Prelude.{◌≡◌, ◌+◌, IfOk};
 
 use flow_gate::{BufferId, FlowId};
-use flow_notes::{Note, Notes};
+use flow_notes::{Note, Notes, Passage};
 use io_ports::NoMemory;
 use std::alloc::Global;
 use std::collections::BTreeMap;
@@ -45,8 +45,9 @@ pub struct PauseLog {
 }
 
 impl PauseLog {
-    ghost use Rattle.std.specs.Prelude.{◌≡◌, ◌∷◌, [], Some, OnOk};
+    ghost use Rattle.std.specs.Prelude.{◌≡◌, ◌∷◌, [], map, Some, OnOk};
     ghost use Rattle.std.specs.BTreeMap.{get, Updates};
+    ghost use Rattle.flow_notes.specs.Passages.{notes_of_passage};
     ghost use Rattle.replay_run.specs.Pausing.{LogIs, Logs, counts_of, place_cmp, spot_cmp};
 
     /// The log of an empty tape. Takes no memory.
@@ -65,10 +66,8 @@ impl PauseLog {
     pub fn note_all(&mut self, notes: &Notes) -> Result<(), NoMemory>
         ensures { OnOk result (Logs self.old notes.now self.new) }
     {
-        let mut rest = notes.as_slice();
-        while let Some((note, after)) = rest.split_first() {
-            self.note(note)?;
-            rest = after;
+        for passage in notes.passages() {
+            self.passage(passage)?;
         }
         Ok(())
     }
@@ -92,6 +91,44 @@ impl PauseLog {
         ensures { result ≡ get place_cmp self.now.resumes place }
     {
         self.resumes.get(&place).copied()
+    }
+
+    fn passage(&mut self, passage: Passage<'_>) -> Result<(), NoMemory>
+        ensures { OnOk result (Logs self.old (notes_of_passage passage.entry) self.new) }
+    {
+        match passage {
+            Passage::One(note) => self.note(note),
+            Passage::Pauses { flows, buffer } => self.pause_all(flows, buffer),
+            Passage::Resumes { flows, buffer } => self.resume_all(flows, buffer),
+        }
+    }
+
+    fn pause_all(&mut self, flows: &[FlowId], buffer: BufferId) -> Result<(), NoMemory>
+        ensures { OnOk result (Logs self.old (map (λ f. Note.Pause f buffer) flows.now) self.new) }
+    {
+        let mut rest = flows;
+        while let Some((flow, after)) = rest.split_first() {
+            self.pause(Spot {
+                flow: *flow,
+                buffer,
+            })?;
+            rest = after;
+        }
+        Ok(())
+    }
+
+    fn resume_all(&mut self, flows: &[FlowId], buffer: BufferId) -> Result<(), NoMemory>
+        ensures { OnOk result (Logs self.old (map (λ f. Note.Resume f buffer) flows.now) self.new) }
+    {
+        let mut rest = flows;
+        while let Some((flow, after)) = rest.split_first() {
+            self.resume(Spot {
+                flow: *flow,
+                buffer,
+            })?;
+            rest = after;
+        }
+        Ok(())
     }
 
     fn note(&mut self, note: &Note) -> Result<(), NoMemory>

@@ -2,7 +2,7 @@
 ghost use Rattle.std.specs.Prelude.{◌≡◌};
 
 use crate::level::{Level, write_after};
-use flow_notes::{Note, Notes};
+use flow_notes::{Note, Notes, Passage};
 use io_ports::NoMemory;
 use std::alloc::Global;
 use std::collections::BTreeMap;
@@ -29,6 +29,7 @@ impl PeakLog {
     ghost use Rattle.std.specs.Prelude.{◌≡◌, ◌∷◌, ◌++◌, [], Some, OnOk};
     ghost use Rattle.std.specs.BTreeMap.{get};
     ghost use Rattle.std.specs.Ordering.{nat_cmp};
+    ghost use Rattle.flow_notes.specs.Passages.{notes_of_passage};
     ghost use Rattle.replay_run.specs.Peaking.{PeaksAre, PeaksGo, Sets, arrived, dropped, framed, levels_of, shifted};
 
     /// The log of an empty tape. Takes no memory.
@@ -47,10 +48,8 @@ impl PeakLog {
     pub fn note_all(&mut self, notes: &Notes) -> Result<(), NoMemory>
         ensures { OnOk result (PeaksGo self.old notes.now self.new) }
     {
-        let mut rest = notes.as_slice();
-        while let Some((note, after)) = rest.split_first() {
-            self.note(note)?;
-            rest = after;
+        for passage in notes.passages() {
+            self.passage(passage)?;
         }
         Ok(())
     }
@@ -87,6 +86,16 @@ impl PeakLog {
         ensures { result ≡ self.now.write }
     {
         self.write
+    }
+
+    // Pauses and resumes leave each buffer as it was.
+    fn passage(&mut self, passage: Passage<'_>) -> Result<(), NoMemory>
+        ensures { OnOk result (PeaksGo self.old (notes_of_passage passage.entry) self.new) }
+    {
+        match passage {
+            Passage::One(note) => self.note(note),
+            _ => Ok(()),
+        }
     }
 
     fn note(&mut self, note: &Note) -> Result<(), NoMemory>

@@ -3,7 +3,7 @@ ghost use Rattle.std.specs.Prelude.{◌≡◌, ◌+◌, IfOk};
 ghost use Rattle.replay_run.specs.Tally.{resets_by as resets_of};
 
 use crate::level::{Level, write_after};
-use flow_notes::{Cause, Note, Notes};
+use flow_notes::{Cause, Note, Notes, Passage};
 use io_ports::NoMemory;
 
 /// What the short summary tells of the tape of a plain session, kept note by note.
@@ -26,6 +26,7 @@ impl Tally {
     ghost use Rattle.flow_gate.specs.declared.ids.BufferId.{BufferId};
     ghost use Rattle.flow_gate.specs.declared.ids.FlowId.{FlowId};
     ghost use Rattle.tape_laws.specs.declared.limits.PlainLimits.{PlainLimits};
+    ghost use Rattle.flow_notes.specs.Passages.{notes_of_passage};
     ghost use Rattle.replay_run.specs.Tallying.{Counted, TallyGoes, TallyIs};
 
     /// The tally of an empty tape.
@@ -47,12 +48,23 @@ impl Tally {
     pub fn note_all(&mut self, notes: &Notes) -> Result<(), NoMemory>
         ensures { OnOk result (TallyGoes self.old notes.now self.new) }
     {
-        let mut rest = notes.as_slice();
-        while let Some((note, after)) = rest.split_first() {
-            self.note(note)?;
-            rest = after;
+        for passage in notes.passages() {
+            self.passage(passage)?;
         }
         Ok(())
+    }
+
+    fn passage(&mut self, passage: Passage<'_>) -> Result<(), NoMemory>
+        ensures { OnOk result (TallyGoes self.old (notes_of_passage passage.entry) self.new) }
+    {
+        match passage {
+            Passage::One(note) => self.note(note),
+            Passage::Pauses { flows, .. } => {
+                self.pauses = add(self.pauses, flows.len() as u64)?;
+                Ok(())
+            }
+            Passage::Resumes { .. } => Ok(()),
+        }
     }
 
     // Most notes of a crowded session are pauses and resumes.

@@ -1,18 +1,18 @@
--- Note after note is taken up.
-use Rattle.std.proofs.Common.{◌++◌, ◌∷◌, [], ap, sym, ◌∙◌}
-use Rattle.replay_run.proofs.Pausing.{none_left, one_more}
+-- Passage after passage is taken up.
+use Rattle.std.proofs.Common.{◌++◌, []}
+use Rattle.replay_run.proofs.Pausing.{all_left, no_passages, passage_more}
 use Rattle.replay_run.proofs.Peaking.{all_peaks, peaks_more, peaks_none}
 use Rattle.replay_run.proofs.peaks.PeakLog.note_all.Goals as goal
 
-pub loop-note-init : goal.loop-note-init
-loop-note-init c = record { taken = ([], sym c.as_slice-rest.ensures, peaks_none _) }
+pub loop-passage-init : goal.loop-passage-init
+loop-passage-init c = record { taken = ([], all_left _ _ _ c.into_iter-passage-iterator.ensures.into_iter_gives c.passages-passage-items.ensures.notes, peaks_none _) }
 
-pub loop-note-preserved : goal.loop-note-preserved
-loop-note-preserved c =
-    let k = c.loop-note.invariant.taken in
-    record { taken = (k.0 ++ _ ∷ [], one_more _ k.0 _ _ (k.1 ∙ ap (λ v. k.0 ++ v) c.in-Some.ensures.cases.0), peaks_more _ _ _ k.0 _ k.2 c.in_ok-note.ensures) }
+pub loop-passage-preserved : goal.loop-passage-preserved
+loop-passage-preserved c =
+    let k = c.loop-passage.invariant.taken in
+    record { taken = (k.0 ++ _, passage_more _ k.0 _ _ _ k.1 c.in-Some.ensures.steps, peaks_more _ _ _ k.0 _ k.2 c.in_ok-passage.ensures) }
 
 pub returns : goal.returns
 returns c =
-    let k = c.loop-note.invariant.taken in
-    all_peaks _ _ _ k.0 _ k.1 (none_left _ c.in_default.ensures.cases) k.2
+    let k = c.loop-passage.invariant.taken in
+    all_peaks _ _ _ k.0 _ k.1 (no_passages _ c.in-None.ensures.steps.0) k.2

@@ -1,12 +1,10 @@
-use Rattle.std.proofs.Common.{◌≡◌, ◌++◌, List, length}
+use Rattle.std.proofs.Common.{◌≡◌, ◌++◌, List}
+use Rattle.std.specs.List.{flat_map}
 use Rattle.flow_notes.specs.declared.notes.Note.{Note}
 use Rattle.replay_run.specs.Peaking.{PeaksGo}
 use Rattle.replay_run.proofs.peaks.PeakLog.note_all.Given as goal
 
-abbrev pub invariant-loop-note : goal.invariant-loop-note
-invariant-loop-note l = record {
-  taken : (done : List Note) × (l.notes ≡ done ++ l.rest) × PeaksGo l.fn.self done l.self;
+abbrev pub invariant-loop-passage : goal.invariant-loop-passage
+invariant-loop-passage l = record {
+  taken : (done : List Note) × (l.notes ≡ done ++ flat_map (λ notes. notes) l.passage-iterator) × PeaksGo l.fn.self done l.self;
 }
-
-abbrev pub decreases-loop-note : goal.decreases-loop-note
-decreases-loop-note l = length l.rest

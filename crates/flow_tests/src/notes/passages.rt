@@ -1,0 +1,117 @@
+// Notes that were pushed one by one and in rows come back by passages, in their order.
+use super::{REQUEST, RESPONSE};
+use flow_gate::{BufferId, FlowId, Gates};
+use flow_notes::{Note, Notes, Passage};
+use std::alloc::Global;
+use std::process::Abort;
+use std::test::Fail;
+
+const WRITE: BufferId = BufferId::Write(2);
+
+const UNWATCHED: BufferId = BufferId::Write(3);
+
+/// What a passage is to be.
+#[derive(Clone, Copy, Debug)]
+enum Wanted<'a> {
+    Out(u32),
+    Pauses(&'a [FlowId]),
+    Resumes(&'a [FlowId]),
+}
+
+fn is_wanted(passage: Passage<'_>, wanted: Wanted<'_>) -> bool {
+    match (passage, wanted) {
+        (Passage::One(Note::Out { conn: 2, n }), Wanted::Out(k)) => *n == k,
+        (Passage::Pauses { flows, buffer }, Wanted::Pauses(row))
+        | (Passage::Resumes { flows, buffer }, Wanted::Resumes(row)) => {
+            flows == row && buffer == WRITE
+        }
+        _ => false,
+    }
+}
+
+fn is_at(wanted: &[Wanted<'_>], place: usize, passage: Passage<'_>) -> bool {
+    match wanted.get(place) {
+        Some(next) => is_wanted(passage, *next),
+        None => false,
+    }
+}
+
+fn assert_passages(rt: &impl Abort, notes: &Notes, wanted: &[Wanted<'_>]) {
+    let mut place = 0usize;
+    for passage in notes.passages() {
+        assert!(rt; is_at(wanted, place, passage), "passage {place} is another");
+        place = place.saturating_add(1);
+    }
+    assert_eq!(rt; place, wanted.len());
+}
+
+/// Gates where two flows watch a write buffer.
+fn watched(alloc: Global) -> Result<Gates, Fail> {
+    let mut gates = Gates::new(alloc);
+    for flow in [REQUEST, RESPONSE] {
+        if !gates.is_open(flow) {
+            gates.open_flow(flow)?;
+        }
+    }
+    if !gates.is_known(WRITE) {
+        gates.open_buffer(WRITE)?;
+    }
+    for flow in [REQUEST, RESPONSE] {
+        if gates.is_known(WRITE) && gates.is_open(flow) && !gates.is_watching(flow, WRITE) {
+            let _ = gates.watch(flow, WRITE)?;
+        }
+    }
+    Ok(gates)
+}
+
+#[test]
+fn rows_are_passages(rt: HostRuntime) -> Result<(), Fail> {
+    let alloc = rt.alloc();
+    let gates = watched(alloc)?;
+    let mut notes = Notes::new(alloc);
+    notes.push(Note::Out { conn: 2, n: 1 })?;
+    notes.push_pauses(gates.watchers(WRITE), WRITE)?;
+    notes.push_resumes(gates.watchers(WRITE), 1, WRITE)?;
+    notes.push(Note::Out { conn: 2, n: 2 })?;
+    notes.push(Note::Out { conn: 2, n: 3 })?;
+    notes.push_resumes(gates.watchers(WRITE), 9, WRITE)?;
+    let rows = [
+        Wanted::Out(1),
+        Wanted::Pauses(&[REQUEST, RESPONSE]),
+        Wanted::Resumes(&[REQUEST]),
+        Wanted::Out(2),
+        Wanted::Out(3),
+        Wanted::Resumes(&[REQUEST, RESPONSE]),
+    ];
+    assert_passages(&rt, &notes, &rows);
+    assert_eq!(rt; notes.len(), 8);
+    Ok(())
+}
+
+#[test]
+fn an_empty_row_is_no_passage(rt: HostRuntime) -> Result<(), Fail> {
+    let alloc = rt.alloc();
+    let gates = watched(alloc)?;
+    let mut notes = Notes::new(alloc);
+    notes.push_pauses(gates.watchers(UNWATCHED), UNWATCHED)?;
+    notes.push_resumes(gates.watchers(WRITE), 0, WRITE)?;
+    assert_passages(&rt, &notes, &[]);
+    assert!(rt; notes.is_empty());
+    Ok(())
+}
+
+#[test]
+fn cleared_notes_are_none(rt: HostRuntime) -> Result<(), Fail> {
+    let alloc = rt.alloc();
+    let gates = watched(alloc)?;
+    let mut notes = Notes::new(alloc);
+    notes.push(Note::Out { conn: 2, n: 1 })?;
+    notes.push_pauses(gates.watchers(WRITE), WRITE)?;
+    assert!(rt; !notes.is_empty());
+    notes.clear();
+    assert_passages(&rt, &notes, &[]);
+    assert_eq!(rt; notes.len(), 0);
+    notes.push_pauses(gates.watchers(WRITE), WRITE)?;
+    assert_passages(&rt, &notes, &[Wanted::Pauses(&[REQUEST, RESPONSE])]);
+    Ok(())
+}
