@@ -6,7 +6,7 @@ use Rattle.std.proofs.lemmas.List.Sums.{sum_by-cons}
 use Rattle.std.specs.BTreeMap.{get}
 use Rattle.std.specs.List.{AllByRecursion, list_any, slice_get, sum_by}
 use Rattle.std.specs.Ordering.{nat_cmp}
-use Rattle.std.specs.Prelude.{Bool, Some, [], drop, false, if◌then◌else◌, true, ℕ, ◌+◌, ◌==◌, ◌||◌, ◌∷◌, ◌≡◌, ◌≤◌}
+use Rattle.std.specs.Prelude.{Bool, None, Option, Some, [], drop, false, if◌then◌else◌, true, ℕ, ◌+◌, ◌==◌, ◌||◌, ◌∷◌, ◌≡◌, ◌≤◌}
 use Rattle.tape_laws.specs.Dispatches.{is_some_of}
 use Rattle.tape_laws.specs.Flows.{request, same_flow}
 use Rattle.tape_laws.specs.History.{History, NoMark}
@@ -19,9 +19,10 @@ use Rattle.worker_core.specs.declared.flows.Framed.{Framed}
 use Rattle.worker_core.specs.declared.flows.NextFrame.{NextFrame}
 use Rattle.worker_core.specs.declared.agenda.Task.TheVariants as task
 
--- a flow that was told is run, where the write buffer isn't above
-abbrev pub after_telling : Bool → FlowId → Agenda → Agenda
-after_telling is_above f agenda = if is_above then agenda else with_run f agenda
+-- a flow that was told and goes on is run, and the telling on top ends where there is none
+abbrev pub after_telling : Option FlowId → Agenda → Agenda
+after_telling (Some f) agenda = with_run f agenda
+after_telling None agenda = drop 1 agenda
 
 -- what is told and doomed goes on to be, and the round stays at the bottom
 pub record Holds (old new : Agenda) : Type 0 where
@@ -241,10 +242,6 @@ weight_rest (t ∷ ts) = let e = sum_by-cons weight t ts in omega (arith, e)
 pub weight_move : (is_all : Bool) (a : Agenda) → sum_by weight (after_move is_all a) ≤ 1 + sum_by weight a
 weight_move true a = let d = weight_drain 0 (drop 1 a) in let r = weight_rest a in omega (arith, d, r)
 weight_move false a = weight_drain 0 a
-
-pub weight_telling : (is_above : Bool) (f : FlowId) (a : Agenda) → sum_by weight (after_telling is_above f a) ≤ 1 + sum_by weight a
-weight_telling true f a = omega arith
-weight_telling false f a = weight_run f a
 
 pub weight_frame : (next : NextFrame) (framed : Framed) (a : Agenda) → sum_by weight (after_frame next framed a) ≤ (if next.last then 2 else 0) + (1 + sum_by weight a)
 weight_frame next framed a = by next.last framed.drained

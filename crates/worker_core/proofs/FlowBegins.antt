@@ -35,6 +35,7 @@ use Rattle.worker_core.specs.declared.conn.Connection.{Connection}
 use Rattle.worker_core.specs.declared.flows.Flows.{Flows}
 use Rattle.flow_gate.specs.declared.ids.BufferId.TheVariants as buffer
 use Rattle.worker_core.proofs.FlowStreams.{stream_kept}
+use Rattle.worker_core.proofs.FlowHolds.{holding_begun}
 use Rattle.worker_core.proofs.FlowParts.{quantum_some}
 use Rattle.plain_laws.proofs.Tellings.{told_all}
 use Rattle.proxy_config.specs.declared.config.Config.{Config}
@@ -258,6 +259,7 @@ begins x held old config ex b1 b2 b3 b4 rises small c sound c1 c2 c3 c4 counted 
           exchanges = begun_exchanges limits k x h config old ex st.limits_are st.exchanges u rises small c sound;
           gates = begun_gates limits k x h old.gates b1 b2 b3 b4 s.lawful st.gates new unstarted u c1 c2 c3 c4 counted;
           conn = begun_conn limits k x h old.conn st.conn (quantum_some limits st.ranges) new u;
+          holding = holding_begun limits k x old.holding h st.holding u;
         };
       };
   last = c.last;

@@ -17,21 +17,22 @@ use Rattle.plain_laws.specs.Next.{is_ready}
 use Rattle.plain_laws.specs.Regular.{IsLiveFlow}
 use Rattle.std.proofs.Common.{ap, arith, refl, subst, sym, ◌∙◌}
 use Rattle.std.proofs.lemmas.List.{append-nil}
-use Rattle.std.specs.BTreeSet.{contains}
+use Rattle.std.specs.BTreeSet.{BTreeSet, contains}
 use Rattle.std.specs.List.{AllByRecursion}
 use Rattle.std.specs.Option.{option_map_or}
 use Rattle.std.specs.Ordering.{nat_cmp}
-use Rattle.std.specs.Prelude.{Bool, IfSome, List, None, [], false, filter, if◌then◌else◌, length, map, not, true, ℕ, ◌&&◌, ◌*◌, ◌++◌, ◌+◌, ◌<◌, ◌==◌, ◌^◌, ◌∷◌, ◌≡◌, ◌≤◌}
+use Rattle.std.specs.Prelude.{Bool, IfSome, List, None, [], false, filter, if◌then◌else◌, length, map, nat_lt, not, true, ℕ, ◌&&◌, ◌*◌, ◌++◌, ◌+◌, ◌<◌, ◌==◌, ◌^◌, ◌∷◌, ◌≡◌, ◌≤◌}
 use Rattle.tape_laws.specs.Dispatches.{has, live, started}
 use Rattle.tape_laws.specs.Flows.{request, same_flow}
 use Rattle.tape_laws.specs.History.{History, NoMark, Noted}
 use Rattle.tape_laws.specs.Pauses.{pending_lows}
 use Rattle.tape_laws.specs.Plain.{plain_setup}
 use Rattle.tape_laws.specs.Watermark.{above}
+use Rattle.tape_laws.specs.World.{place}
 use Rattle.tape_laws.specs.declared.limits.PlainLimits.{PlainLimits}
 use Rattle.wm_buffer.specs.Buffer.{Buffer}
 use Rattle.worker_core.specs.Carries.{Dooms, Lives}
-use Rattle.worker_core.specs.Flows.{ConnectionIs, ExchangesAre, FlowsStand, GatesAre, IsSettled, StreamIs}
+use Rattle.worker_core.specs.Flows.{ConnectionIs, ExchangesAre, FlowsStand, GatesAre, HoldingIs, IsSettled, StreamIs}
 use Rattle.worker_core.specs.declared.conn.Connection.{Connection}
 use Rattle.worker_core.specs.declared.flows.Flows.{Flows}
 use Rattle.flow_gate.specs.declared.ids.BufferId.TheVariants as buffer
@@ -176,12 +177,25 @@ module _ (limits : PlainLimits) (x : ℕ) (why : Cause) (h : History NoMark) whe
         ∙ (ap (λ b. has (live h) y && b) (sym (keeps_ready limits y h after (others y d))) ∙ sym (ap (λ b. b && is_ready limits y after) (left_is (live h) x y ∙ ap (λ b. not b && has (live h) y) d))))));
   }
 
-  pub dooms_at : (old : Flows) (ex : Exchanges) (b : Board) (conn : Connection) → FlowsStand limits old h → has (live h) x ≡ true
+  pub doomed_holding : (old new : BTreeSet ℕ) → HoldingIs limits old h → ((y : ℕ) → contains nat_cmp new y ≡ (not (x == y) && contains nat_cmp old y))
+      → ((y : ℕ) → (x == y) ≡ false → KeepsStream limits y h after) → HoldingIs limits new after
+  doomed_holding old new k made others = record {
+    holds = λ y. made y ∙ (ap (λ b. not (x == y) && b) (k.holds y) ∙ (apart (x == y) (has (live h) y) _ _ (λ d. ap (λ (o : List ℕ). nat_lt 0 (length o)) (sym (others y d).recv))
+        ∙ sym (ap (λ b. b && nat_lt 0 (length (place (plain_setup limits) (request y) 0 after))) (left_is (live h) x y))));
+  }
+    where
+      apart : (a b c d : Bool) → (a ≡ false → c ≡ d) → (not a && (b && c)) ≡ ((not a && b) && d)
+      apart true b c d f = refl
+      apart false true c d f = f refl
+      apart false false c d f = refl
+
+  pub dooms_at : (old : Flows) (ex : Exchanges) (b : Board) (conn : Connection) (holding : BTreeSet ℕ) → FlowsStand limits old h → has (live h) x ≡ true
       → ((y : ℕ) → pending_lows (plain_setup limits) (buffer.Send (request y)) h ≡ []) → AllByRecursion (IsLiveFlow (live h)) (pending_lows (plain_setup limits) (buffer.Write 0) h)
       → DoomsExchange x old.exchanges ex → AreSoundExchanges ex → IfSome (exchange_at old.exchanges x) (λ e. ForgetsFlows x e old.gates b) → IsSoundBoard b
       → ((y : ℕ) → contains nat_cmp conn.ready y ≡ (not (x == y) && contains nat_cmp old.conn.ready y)) → conn.write ≡ old.conn.write → conn.framed_last ≡ old.conn.framed_last
-      → FlowsStand limits (record { limits = old.limits; exchanges = ex; gates = b; conn = conn }) after
-  dooms_at old ex b conn st is quiet lows c sound forgets counted made write last =
+      → ((y : ℕ) → contains nat_cmp holding y ≡ (not (x == y) && contains nat_cmp old.holding y))
+      → FlowsStand limits (record { limits = old.limits; exchanges = ex; gates = b; conn = conn; holding = holding }) after
+  dooms_at old ex b conn holding st is quiet lows c sound forgets counted made write last kept =
       let s = st.exchanges.there x is in
       let sides = at_found (λ (e : Exchange). ForgetsFlows x e old.gates b) (exchange_at old.exchanges x) (plain_exchange x s.plain) s.is forgets in
       let P : Board → Type 0 = Forgets (request x) old.gates in
@@ -194,19 +208,21 @@ module _ (limits : PlainLimits) (x : ℕ) (why : Cause) (h : History NoMark) whe
         exchanges = doomed_exchanges old.exchanges ex st.exchanges c sound others;
         gates = doomed_gates old.gates b st.gates forgot counted is others lows;
         conn = doomed_conn old.conn conn st.conn write last made others;
+        holding = doomed_holding old.holding holding st.holding kept others;
       }
 
-pub dooms : (x : ℕ) (why : Cause) (old : Flows) (ex : Exchanges) (b : Board) (conn : Connection) → DoomsExchange x old.exchanges ex → AreSoundExchanges ex
+pub dooms : (x : ℕ) (why : Cause) (old : Flows) (ex : Exchanges) (b : Board) (conn : Connection) (holding : BTreeSet ℕ) → DoomsExchange x old.exchanges ex → AreSoundExchanges ex
     → IfSome (exchange_at old.exchanges x) (λ e. ForgetsFlows x e old.gates b) → IsSoundBoard b
     → ((y : ℕ) → contains nat_cmp conn.ready y ≡ (not (x == y) && contains nat_cmp old.conn.ready y)) → conn.write ≡ old.conn.write → conn.framed_last ≡ old.conn.framed_last
-    → Dooms x why old (record { limits = old.limits; exchanges = ex; gates = b; conn = conn })
-dooms x why old ex b conn c sound forgets counted made write last = record {
-  goes = λ limits h s is. dooms_at limits x why h old ex b conn s.stands is s.lawful.untold s.lawful.regular.books.write_lows c sound forgets counted made write last;
+    → ((y : ℕ) → contains nat_cmp holding y ≡ (not (x == y) && contains nat_cmp old.holding y))
+    → Dooms x why old (record { limits = old.limits; exchanges = ex; gates = b; conn = conn; holding = holding })
+dooms x why old ex b conn holding c sound forgets counted made write last kept = record {
+  goes = λ limits h s is. dooms_at limits x why h old ex b conn holding s.stands is s.lawful.untold s.lawful.regular.books.write_lows c sound forgets counted made write last kept;
   turned = λ limits k e h s is st.
       let P : List FlowId → Type 0 = AllByRecursion (IsLiveFlow (live h)) in
-      dooms_at limits x why (Noted (note.Turn k (event.Plain e)) ∷ h) old ex b conn st is
+      dooms_at limits x why (Noted (note.Turn k (event.Plain e)) ∷ h) old ex b conn holding st is
       (λ y. append-nil _ ∙ s.lawful.untold y)
-      (subst P (sym (append-nil (pending_lows (plain_setup limits) (buffer.Write 0) h))) s.lawful.regular.books.write_lows) c sound forgets counted made write last;
+      (subst P (sym (append-nil (pending_lows (plain_setup limits) (buffer.Write 0) h))) s.lawful.regular.books.write_lows) c sound forgets counted made write last kept;
 }
 
 -- the gates know the flow of a live stream, which has no response
@@ -218,10 +234,10 @@ doom_known x flows settled lives =
     from_found (λ (e : Exchange). KnowsFlows x e flows.gates) (exchange_at flows.exchanges x) (plain_exchange x k.plain) k.is
     (s.gates.flows (request x) ∙ (is_live_is settled.limits (request x) settled.history ∙ is), λ some. cc)
 
-pub doom_less : (x : ℕ) (old : Flows) (ex : Exchanges) (b : Board) (conn : Connection) → AreSoundExchanges old.exchanges → DoomsExchange x old.exchanges ex → AreSoundExchanges ex
+pub doom_less : (x : ℕ) (old : Flows) (ex : Exchanges) (b : Board) (conn : Connection) (holding : BTreeSet ℕ) → AreSoundExchanges old.exchanges → DoomsExchange x old.exchanges ex → AreSoundExchanges ex
     → IsSettled old → Lives old x true → IfSome (exchange_at old.exchanges x) (λ e. ForgetsFlows x e old.gates b)
-    → left_in (record { limits = old.limits; exchanges = ex; gates = b; conn = conn }) ≤ left_in old
-doom_less x old ex b conn was c sound settled lives forgets =
+    → left_in (record { limits = old.limits; exchanges = ex; gates = b; conn = conn; holding = holding }) ≤ left_in old
+doom_less x old ex b conn holding was c sound settled lives forgets =
     let is = sym (lives.goes settled.limits settled.history settled.settled) in
     let s = settled.settled.stands.exchanges.there x is in
     let sides = at_found (λ (e : Exchange). ForgetsFlows x e old.gates b) (exchange_at old.exchanges x) (plain_exchange x s.plain) s.is forgets in

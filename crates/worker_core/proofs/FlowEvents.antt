@@ -17,7 +17,7 @@ use Rattle.plain_laws.specs.Keeping.{KeepsStream}
 use Rattle.plain_laws.specs.Next.{is_ready}
 use Rattle.plain_laws.specs.StepNotes.{body_notes}
 use Rattle.std.proofs.Common.{ap, refl, subst, sym, ◌∙◌}
-use Rattle.std.specs.BTreeSet.{contains}
+use Rattle.std.specs.BTreeSet.{BTreeSet, contains}
 use Rattle.std.specs.Option.{option_and_then}
 use Rattle.std.specs.Ordering.{nat_cmp}
 use Rattle.std.specs.Prelude.{Bool, List, None, Option, false, if◌then◌else◌, length, nat_lt, not, option_map, true, ℕ, ◌&&◌, ◌++◌, ◌<◌, ◌==◌, ◌||◌, ◌∷◌, ◌≡◌}
@@ -28,7 +28,7 @@ use Rattle.tape_laws.specs.Plain.{plain_ended, plain_setup}
 use Rattle.tape_laws.specs.Watermark.{above}
 use Rattle.tape_laws.specs.declared.limits.PlainLimits.{PlainLimits}
 use Rattle.worker_core.specs.Carries.{GoesOn}
-use Rattle.worker_core.specs.Flows.{ExchangesAre, FlowsStand, GatesAre, Settled, StreamIs}
+use Rattle.worker_core.specs.Flows.{ExchangesAre, FlowsStand, GatesAre, HoldingIs, Settled, StreamIs}
 use Rattle.worker_core.specs.UnitsOf.{has_unit}
 use Rattle.worker_core.specs.declared.flows.Flows.{Flows}
 use Rattle.flow_gate.specs.declared.ids.BufferId.TheVariants as buffer
@@ -37,6 +37,7 @@ use Rattle.flow_notes.specs.declared.events.PlainEvent.TheVariants as plain
 use Rattle.flow_notes.specs.declared.notes.Note.TheVariants as note
 use Rattle.worker_core.proofs.FlowStreams.{changed_exchanges, changed_plain}
 use Rattle.worker_core.proofs.FlowGates.{gates_kept}
+use Rattle.worker_core.proofs.FlowHolds.{holding_arrived, holding_kept}
 use Rattle.worker_core.proofs.FlowParts.{conn_kept, refreshed_conn, quantum_some}
 
 -- ---- octets arrive
@@ -54,9 +55,11 @@ arrive_ready limits k x octets h q goes =
     let h' = onto (body_notes k x octets) h in
     ready_is limits x h' q ∙ (unended _ _ _ _ goes ∙ (ap (λ (o : List ℕ). nat_lt 0 (length o)) (body_send limits k x octets h) ∙ sym (ready_is limits x h q ∙ unended _ _ _ _ goes)))
 
-pub arrives : (limits : PlainLimits) (k x : ℕ) (octets : List ℕ) (old : Flows) (ex : Exchanges) (h : History NoMark) → Settled limits old h → has (live h) x ≡ true → GoesOn old x
-    → ChangesFlow (request x) (arrived octets) old.exchanges ex → AreSoundExchanges ex → FlowsStand limits (record old { exchanges = ex }) (onto (body_notes k x octets) h)
-arrives limits k x octets old ex h settled is goes c sound =
+pub arrives : (limits : PlainLimits) (k x : ℕ) (octets : List ℕ) (old : Flows) (ex : Exchanges) (holding : BTreeSet ℕ) (h : History NoMark) → Settled limits old h → has (live h) x ≡ true → GoesOn old x
+    → ChangesFlow (request x) (arrived octets) old.exchanges ex → AreSoundExchanges ex
+    → ((y : ℕ) → contains nat_cmp holding y ≡ (((x == y) && nat_lt 0 (length octets)) || contains nat_cmp old.holding y))
+    → FlowsStand limits (record old { exchanges = ex; holding = holding }) (onto (body_notes k x octets) h)
+arrives limits k x octets old ex holding h settled is goes c sound made =
     let h' = onto (body_notes k x octets) h in
     let st = settled.stands in
     let s = st.exchanges.there x is in
@@ -88,6 +91,7 @@ arrives limits k x octets old ex h settled is goes c sound =
       conn = conn_kept limits old.conn h h' st.conn (body_keeps_write limits k x octets h) refl refl
           (λ y e. own_or_other (λ v. is_ready limits v h' ≡ is_ready limits v h) x y
           (arrive_ready limits k x octets h (quantum_some limits st.ranges) (goes_on limits old x h s goes)) (λ d. keeps_ready limits y h h' (body_keeps limits k x y octets h d)));
+      holding = holding_arrived limits k x octets old.holding holding h st.holding is made;
     }
 
 -- ---- the end of a stream comes
@@ -135,4 +139,5 @@ ends limits k x old new ex h settled is c sound rest made =
       conn = refreshed_conn limits x (record old { exchanges = ex }) new h (turn ∷ h) st.limits_are rest made
           (record { limit = st.conn.limit; octets = st.conn.octets ∙ sym w.octets; above = st.conn.above ∙ sym w.high; framed_last = st.conn.framed_last })
           (all.there x is) is refl (λ y d. end_keeps limits k x y h d) st.conn.ready;
+      holding = subst (λ (v : BTreeSet ℕ). HoldingIs limits v (turn ∷ h)) (sym (ap (λ (f : Flows). f.holding) rest)) (holding_kept limits old.holding h (turn ∷ h) st.holding refl (λ y. refl));
     }

@@ -22,7 +22,7 @@ flow_kept flows x s lives =
     let P : Option Flow → Type 0 = IsSome in subst P (sym (ap (option_and_then (flow_in false)) k.is)) refl
 
 -- what the receive buffer holds
-held_is : (limits : PlainLimits) (flows : Flows) (x held : ℕ) (h : History NoMark) → StreamIs limits x h (exchange_at flows.exchanges x)
+pub held_is : (limits : PlainLimits) (flows : Flows) (x held : ℕ) (h : History NoMark) → StreamIs limits x h (exchange_at flows.exchanges x)
     → Some held ≡ option_map (λ (f : Flow). length f.recv) (flow_at flows.exchanges (request x)) → held ≡ length (place (plain_setup limits) (request x) 0 h)
 held_is limits flows x held h s e =
     some_is _ _ (e ∙ ap (λ (o : Option Exchange). option_map (λ (f : Flow). length f.recv) (option_and_then (flow_in false) o)) s.is) ∙ ap (λ (o : List ℕ). length o) s.recv

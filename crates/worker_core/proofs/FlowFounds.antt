@@ -4,7 +4,9 @@ use Rattle.exchange_core.specs.declared.exchange.Exchange.{Exchange}
 use Rattle.flow_gate.specs.Board.{Board, IsSound as IsSoundBoard}
 use Rattle.flow_gate.specs.Changes.{Knows}
 use Rattle.std.proofs.Common.{ap, arith, inl, refl, subst, sym, ◌∙◌}
-use Rattle.std.specs.Prelude.{List, None, [], ℕ, ◌<◌, ◌^◌, ◌≡◌}
+use Rattle.std.specs.BTreeSet.{BTreeSet, contains}
+use Rattle.std.specs.Ordering.{nat_cmp}
+use Rattle.std.specs.Prelude.{List, None, [], false, ℕ, ◌<◌, ◌^◌, ◌≡◌}
 use Rattle.tape_laws.specs.Dispatches.{live}
 use Rattle.tape_laws.specs.Flows.{request}
 use Rattle.tape_laws.specs.declared.limits.PlainLimits.{PlainLimits}
@@ -57,12 +59,14 @@ first_conn limits conn c = record {
   ready = λ x. c.ready x;
 }
 
-pub founds : (limits : PlainLimits) (ex : Exchanges) (b b' : Board) (conn : Connection) → AreLimits limits → ex.live ≡ [] → ex.doomed ≡ [] → ex.last ≡ 0 → ex.time ≡ 0 → AreSoundExchanges ex
-    → IsEmpty b → Knows (buffer.Write 0) b b' → IsSoundBoard b' → IsNewConnection limits.write conn → FlowsStand limits (record { limits = limits; exchanges = ex; gates = b'; conn = conn }) []
-founds limits ex b b' conn l live doomed last time sound empty knows counted new = record {
+pub founds : (limits : PlainLimits) (ex : Exchanges) (b b' : Board) (conn : Connection) (holding : BTreeSet ℕ) → AreLimits limits → ex.live ≡ [] → ex.doomed ≡ [] → ex.last ≡ 0 → ex.time ≡ 0 → AreSoundExchanges ex
+    → IsEmpty b → Knows (buffer.Write 0) b b' → IsSoundBoard b' → IsNewConnection limits.write conn
+    → ((x : ℕ) → contains nat_cmp holding x ≡ false) → FlowsStand limits (record { limits = limits; exchanges = ex; gates = b'; conn = conn; holding = holding }) []
+founds limits ex b b' conn holding l live doomed last time sound empty knows counted new none = record {
   limits_are = refl;
   ranges = l;
   exchanges = no_exchanges limits ex live doomed last time sound;
   gates = first_gates limits b b' empty knows counted;
   conn = first_conn limits conn new;
+  holding = record { holds = none };
 }

@@ -21,7 +21,7 @@ use Rattle.plain_laws.specs.Settled.{Settled as IsSettledHistory}
 use Rattle.plain_laws.specs.StepNotes.{frame_notes}
 use Rattle.std.proofs.Common.{ap, arith, refl, subst, sym, ◌∙◌}
 use Rattle.std.proofs.lemmas.List.{append-nil}
-use Rattle.std.specs.BTreeSet.{contains}
+use Rattle.std.specs.BTreeSet.{BTreeSet, contains}
 use Rattle.std.specs.Option.{option_and_then, option_map_or}
 use Rattle.std.specs.Ordering.{nat_cmp}
 use Rattle.std.specs.Prelude.{Bool, IfSome, IsSome, List, Option, Some, [], drop, false, if◌then◌else◌, length, min, nat_lt, not, option_map, take, true, ℕ, ◌&&◌, ◌*◌, ◌++◌, ◌+◌, ◌-◌, ◌<◌, ◌==◌, ◌^◌, ◌||◌, ◌∷◌, ◌≡◌, ◌≤◌}
@@ -39,7 +39,7 @@ use Rattle.wm_buffer.specs.declared.buffer.Shifted.{Shifted}
 use Rattle.wm_buffer.specs.declared.watermark.Crossed.{Crossed}
 use Rattle.wm_buffer.specs.declared.watermark.Crossed.TheVariants as crossed
 use Rattle.worker_core.specs.Carries.{Frames, FramesAt, IsNextFrame, NextIs}
-use Rattle.worker_core.specs.Flows.{ConnectionIs, ExchangesAre, GatesAre, IsSettled, Settled, StreamIs}
+use Rattle.worker_core.specs.Flows.{ConnectionIs, ExchangesAre, GatesAre, HoldingIs, IsSettled, Settled, StreamIs}
 use Rattle.worker_core.specs.UnitsOf.{has_unit}
 use Rattle.worker_core.specs.declared.conn.Connection.{Connection}
 use Rattle.worker_core.specs.declared.flows.Flows.{Flows}
@@ -49,6 +49,7 @@ use Rattle.flow_notes.specs.declared.notes.Note.TheVariants as note
 use Rattle.worker_core.proofs.FlowStreams.{changed_exchanges, changed_plain}
 use Rattle.worker_core.proofs.FlowUnits.{refreshed}
 use Rattle.worker_core.proofs.FlowGates.{CountsAre, KeepsNames, gates_from}
+use Rattle.worker_core.proofs.FlowHolds.{holding_kept}
 use Rattle.worker_core.proofs.FlowParts.{WriteIs}
 use Rattle.plain_laws.proofs.Flags.{no_rise, send_now}
 use Rattle.plain_laws.proofs.Own.{out_frame}
@@ -60,7 +61,7 @@ use Rattle.worker_core.proofs.FlowMeasure.{ahead_changes}
 use Rattle.worker_core.specs.Measure.{ahead, left_in, way}
 use Rattle.filter_chain.specs.Chain.{above_at}
 use Rattle.exchange_core.specs.Flow.{last_place}
-use Rattle.worker_core.proofs.FlowTells.{times_one}
+use Rattle.worker_core.proofs.Tellings.{times_one}
 use Rattle.worker_core.specs.Crossings.{DrainsIf, MarksCrossed, RisesIf, is_high, is_low}
 
 -- ---- what each half does to the board
@@ -339,6 +340,9 @@ frames_at limits x n last rose drained shifted old new ex w mid b h settled next
               ready = refreshed limits (record old { exchanges = ex }) x h h' (contains nat_cmp old.conn.ready) (contains nat_cmp new.conn.ready) st.limits_are
                   (all.there x (ap (λ (xs : List ℕ). has xs x) lists.lives ∙ is)) is lists.lives (λ y d. frame_keeps limits x y n last h d) made st.conn.ready;
             };
+        holding = subst (λ (v : BTreeSet ℕ). HoldingIs limits v h') (sym (ap (λ (f : Flows). f.holding) rest))
+            (holding_kept limits old.holding h h' st.holding lists.lives (λ y. own_or_other (λ v. place (plain_setup limits) (request v) 0 h' ≡ place (plain_setup limits) (request v) 0 h) x y
+            (frame_recv limits x n last h) (λ d. (frame_keeps limits x y n last h d).recv)));
       };
     }
 

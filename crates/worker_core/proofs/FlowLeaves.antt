@@ -32,6 +32,7 @@ use Rattle.worker_core.proofs.FlowStreams.{same_exchanges}
 use Rattle.worker_core.proofs.FlowGates.{CountsAre, KeepsNames, gates_from}
 use Rattle.plain_laws.proofs.Flags.{no_rise, write_now}
 use Rattle.std.proofs.Common.{length-drop}
+use Rattle.worker_core.proofs.FlowHolds.{holding_kept}
 
 abbrev pub DrainsWrite : Bool → Board → Board → Type 0
 DrainsWrite true old new = Drains (buffer.Write 0) old new
@@ -130,6 +131,7 @@ leaves n low old w b d is change sound = record {
             framed_last = c.framed_last;
             ready = λ y. c.ready y ∙ ap (λ e. has (live h) y && e) (sym (keeps_ready limits y h h' (room_keeps limits k m n y h)));
           };
+          holding = holding_kept limits old.holding h h' st.holding refl (λ y. (room_keeps limits k m n y h).recv);
         };
       };
 }

@@ -20,7 +20,7 @@ use Rattle.plain_laws.specs.Keeping.{KeepsLists, KeepsWrite}
 use Rattle.plain_laws.specs.Settled.{Settled as IsSettledHistory}
 use Rattle.plain_laws.specs.StepNotes.{move_notes}
 use Rattle.std.proofs.Common.{ap, arith, refl, subst, sym, ◌∙◌}
-use Rattle.std.specs.BTreeSet.{contains}
+use Rattle.std.specs.BTreeSet.{BTreeSet, contains}
 use Rattle.std.specs.Option.{option_and_then, option_map_or}
 use Rattle.std.specs.Ordering.{nat_cmp}
 use Rattle.std.specs.Prelude.{Bool, List, None, Option, Some, [], drop, false, if◌then◌else◌, length, min, nat_lt, not, option_map, take, true, ℕ, ◌&&◌, ◌*◌, ◌++◌, ◌+◌, ◌-◌, ◌<◌, ◌==◌, ◌||◌, ◌∷◌, ◌≡◌, ◌≤◌}
@@ -35,20 +35,21 @@ use Rattle.tape_laws.specs.declared.limits.PlainLimits.{PlainLimits}
 use Rattle.wm_buffer.specs.Watermark.{above_after, crossing}
 use Rattle.wm_buffer.specs.declared.buffer.Shifted.{Shifted}
 use Rattle.worker_core.specs.Carries.{Lives, MovesAt, StaysAt, Steps}
-use Rattle.worker_core.specs.Flows.{ExchangesAre, GatesAre, IsSettled, Settled, StreamIs}
-use Rattle.worker_core.specs.UnitsOf.{has_unit}
+use Rattle.worker_core.specs.Flows.{ExchangesAre, GatesAre, HoldingIs, IsSettled, Settled, StreamIs}
+use Rattle.worker_core.specs.UnitsOf.{has_unit, is_emptied}
 use Rattle.worker_core.specs.declared.flows.Flows.{Flows}
 use Rattle.flow_gate.specs.declared.ids.BufferId.TheVariants as buffer
 use Rattle.flow_notes.specs.declared.notes.Note.TheVariants as note
 use Rattle.worker_core.proofs.FlowStreams.{changed_exchanges, changed_plain}
 use Rattle.worker_core.proofs.FlowGates.{CountsAre, KeepsNames, gates_from}
+use Rattle.worker_core.proofs.FlowHolds.{emptied_is, holding_moved, left_some, some_there}
 use Rattle.worker_core.proofs.FlowParts.{refreshed_conn, quantum_some}
 use Rattle.plain_laws.proofs.Own.{send_move}
 use Rattle.std.proofs.Common.{length-append, length-drop, length-take}
 use Rattle.std.proofs.lemmas.Bool.Decides.{nat_tests}
 use Rattle.worker_core.proofs.FlowLeaves.{flag_same}
 use Rattle.worker_core.proofs.FlowMeasure.{ahead_changes}
-use Rattle.worker_core.proofs.FlowTells.{times_one}
+use Rattle.worker_core.proofs.Tellings.{times_one}
 use Rattle.worker_core.specs.Crossings.{is_high}
 use Rattle.worker_core.specs.Measure.{ahead, left_in, way}
 
@@ -220,12 +221,13 @@ rose_is limits x n ex shifted b h s m =
     ap (λ (v : Shifted). is_high v.to) m.shift ∙ (high_of s.plain.above (plain_moved n s.plain).above
     ∙ (ap (λ a. not a && (plain_moved n s.plain).above) s.above ∙ (ap (λ a. not (above (plain_setup limits) (buffer.Send (request x)) h) && a) (moved_flag limits x n h s.plain s.limit s.above s.send s.recv) ∙ sym (rises_is limits x n h))))
 
-pub moves : (limits : PlainLimits) (x n : ℕ) (shifted : Shifted) (rose : Bool) (old new : Flows) (ex : Exchanges) (b : Board) (h : History NoMark) → Settled limits old h → has (live h) x ≡ true
+pub moves : (limits : PlainLimits) (x n : ℕ) (shifted : Shifted) (rose : Bool) (old new : Flows) (ex : Exchanges) (b : Board) (holding : BTreeSet ℕ) (h : History NoMark) → Settled limits old h → has (live h) x ≡ true
     → (s : StreamIs limits x h (exchange_at old.exchanges x)) → IsMove old.gates x s.plain n shifted → ChangesFlow (request x) (stepped old.gates (Some 0)) old.exchanges ex → AreSoundExchanges ex
-    → rose ≡ is_high shifted.to → RisesSend rose x old.gates b → IsSoundBoard b → new ≡ record old { exchanges = ex; gates = b; conn = record old.conn { ready = new.conn.ready } }
-    → ((y : ℕ) → contains nat_cmp new.conn.ready y ≡ (if x == y then has_unit (record old { exchanges = ex; gates = b }) x else contains nat_cmp old.conn.ready y))
+    → rose ≡ is_high shifted.to → RisesSend rose x old.gates b → IsSoundBoard b → new ≡ record old { exchanges = ex; gates = b; holding = holding; conn = record old.conn { ready = new.conn.ready } }
+    → ((y : ℕ) → contains nat_cmp new.conn.ready y ≡ (if x == y then has_unit (record old { exchanges = ex; gates = b; holding = holding }) x else contains nat_cmp old.conn.ready y))
+    → ((y : ℕ) → contains nat_cmp holding y ≡ (not ((x == y) && (nat_lt n old.limits.quantum || is_emptied (record old { exchanges = ex }) x)) && contains nat_cmp old.holding y))
     → MovesAt x (record { n = n; rose = rose }) limits new h
-moves limits x n shifted rose old new ex b h settled is s m c sound e change counted rest made =
+moves limits x n shifted rose old new ex b holding h settled is s m c sound e change counted rest made left =
     let st = settled.stands in
     let h' = onto (move_notes limits x n h) h in
     let go = may_go old.gates x s.plain n shifted m in
@@ -233,6 +235,8 @@ moves limits x n shifted rose old new ex b h settled is s m c sound e change cou
     let w = move_keeps_write limits x n h in
     let rises_here = e ∙ rose_is limits x n old.exchanges shifted old.gates h s m in
     let stepped_is = ap (λ t. if t then plain_moved (min s.plain.quantum (length s.plain.recv)) s.plain else s.plain) m.moves ∙ ap (λ k. plain_moved k s.plain) (sym m.all) in
+    let took : n ≡ min old.limits.quantum (length (place (plain_setup limits) (request x) 0 h)) =
+    m.all ∙ two_mins _ _ _ _ (s.quantum ∙ sym (ap (λ (v : PlainLimits). v.quantum) st.limits_are)) (ap (λ (o : List ℕ). length o) s.recv) in
     let all = changed_exchanges limits x (stepped old.gates (Some 0)) old.exchanges ex h h' st.exchanges c sound (record { lives = lists.lives; begun = lists.begun; doomed = lists.doomed })
     (λ y d. move_keeps limits x y n h d) (moved_stream limits x n h old.gates (exchange_at old.exchanges x) s stepped_is) in
     record {
@@ -246,7 +250,12 @@ moves limits x n shifted rose old new ex b h settled is s m c sound e change cou
         exchanges = subst (λ (v : Exchanges). ExchangesAre limits v h') (sym (ap (λ (f : Flows). f.exchanges) rest)) all;
         gates = subst (λ (v : Board). GatesAre limits v h') (sym (ap (λ (f : Flows). f.gates) rest))
             (gates_from limits old.gates b h h' st.gates counted (names_moved rose x old.gates b change) lists.lives (moved_counts limits x n h rose old.gates b settled.lawful st.gates is go change rises_here));
-        conn = refreshed_conn limits x (record old { exchanges = ex; gates = b }) new h h' st.limits_are rest made
+        holding = subst (λ (v : BTreeSet ℕ). HoldingIs limits v h') (sym (ap (λ (f : Flows). f.holding) rest))
+            (holding_moved limits x n (nat_lt n old.limits.quantum || is_emptied (record old { exchanges = ex }) x) old.holding holding h st.holding is
+            (some_there n old.limits.quantum _ go.some took)
+            (ap (λ t. not (nat_lt n old.limits.quantum || t)) (emptied_is limits (record old { exchanges = ex }) x h' (all.there x (ap (λ (xs : List ℕ). has xs x) lists.lives ∙ is)))
+            ∙ left_some n old.limits.quantum _ _ took (ap (λ (o : List ℕ). length o) (move_recv limits x n h) ∙ length-drop n (place (plain_setup limits) (request x) 0 h))) left);
+        conn = refreshed_conn limits x (record old { exchanges = ex; gates = b; holding = holding }) new h h' st.limits_are rest made
             (record { limit = st.conn.limit; octets = st.conn.octets ∙ sym w.octets; above = st.conn.above ∙ sym w.high; framed_last = st.conn.framed_last ∙ sym (move_framed_last limits x n h) })
             (all.there x (ap (λ (xs : List ℕ). has xs x) lists.lives ∙ is)) is lists.lives (λ y d. move_keeps limits x y n h d) st.conn.ready;
       };
@@ -286,6 +295,7 @@ stays limits x old ex h settled is s none c sound =
             });
         gates = st.gates;
         conn = st.conn;
+        holding = st.holding;
       };
     }
   where
@@ -328,12 +338,12 @@ untold_moved false x old new c = ap (λ (b : Board). pending_on b (buffer.Write 
 move_less_ways : (a b r s t d l n e u : ℕ) → a + (9 * r + (5 * s + e)) ≡ b + (9 * d + (5 * t + e)) → d ≡ r - n → t ≡ s + l → l ≡ min n r → n ≤ r → 0 < n → (a + 4 * u) + 4 ≤ b + 4 * u
 move_less_ways a b r s t d l n e u e1 e2 e3 e4 le p = omega (arith, e1, e2, e3, e4, le, p)
 
-pub move_less : (limits : PlainLimits) (x n : ℕ) (shifted : Shifted) (rose : Bool) (old new : Flows) (ex : Exchanges) (b : Board) (h : History NoMark)
+pub move_less : (limits : PlainLimits) (x n : ℕ) (shifted : Shifted) (rose : Bool) (old new : Flows) (ex : Exchanges) (b : Board) (holding : BTreeSet ℕ) (h : History NoMark)
     → (s : StreamIs limits x h (exchange_at old.exchanges x)) → IsMove old.gates x s.plain n shifted → ChangesFlow (request x) (stepped old.gates (Some 0)) old.exchanges ex
-    → AreSoundExchanges old.exchanges → AreSoundExchanges ex → RisesSend rose x old.gates b → new ≡ record old { exchanges = ex; gates = b; conn = record old.conn { ready = new.conn.ready } }
+    → AreSoundExchanges old.exchanges → AreSoundExchanges ex → RisesSend rose x old.gates b → new ≡ record old { exchanges = ex; gates = b; holding = holding; conn = record old.conn { ready = new.conn.ready } }
     → left_in new + 4 ≤ left_in old
 unfolding moved_stream
-move_less limits x n shifted rose old new ex b h s m c was sound change rest =
+move_less limits x n shifted rose old new ex b holding h s m c was sound change rest =
     let P : Flows → Type 0 = λ f. left_in f + 4 ≤ left_in old in
     let o = option_map (flow_changed (stepped old.gates (Some 0)) false) (exchange_at old.exchanges x) in
     let stepped_is = ap (λ t. if t then plain_moved (min s.plain.quantum (length s.plain.recv)) s.plain else s.plain) m.moves ∙ ap (λ k. plain_moved k s.plain) (sym m.all) in
@@ -385,25 +395,27 @@ stay_less_all x old ex st s lives none e c sound =
     stay_less s.limits x old ex s.history k (still_of old.gates x k.plain st none (step_is s.limits x old.exchanges old.gates st s.history k e)) (changed_by s.limits x old.exchanges ex old.gates s.history k c)
     s.settled.stands.exchanges.sound sound
 
-pub moves_all : (x from n : ℕ) (shifted : Shifted) (over rose : Bool) (old new : Flows) (ex : Exchanges) (b : Board)
+pub moves_all : (x from n : ℕ) (shifted : Shifted) (over rose : Bool) (old new : Flows) (ex : Exchanges) (b : Board) (holding : BTreeSet ℕ)
     → Some (step.Moved from n shifted over) ≡ option_map (next_step old.gates (target_of old.exchanges (request x))) (flow_at old.exchanges (request x))
     → ChangesFlow (request x) (stepped old.gates (target_of old.exchanges (request x))) old.exchanges ex → AreSoundExchanges ex
-    → rose ≡ is_high shifted.to → RisesSend rose x old.gates b → (IsSoundBoard old.gates → IsSoundBoard b) → new ≡ record old { exchanges = ex; gates = b; conn = record old.conn { ready = new.conn.ready } }
-    → ((y : ℕ) → contains nat_cmp new.conn.ready y ≡ (if x == y then has_unit (record old { exchanges = ex; gates = b }) x else contains nat_cmp old.conn.ready y))
+    → rose ≡ is_high shifted.to → RisesSend rose x old.gates b → (IsSoundBoard old.gates → IsSoundBoard b)
+    → new ≡ record old { exchanges = ex; gates = b; holding = holding; conn = record old.conn { ready = new.conn.ready } }
+    → ((y : ℕ) → contains nat_cmp new.conn.ready y ≡ (if x == y then has_unit (record old { exchanges = ex; gates = b; holding = holding }) x else contains nat_cmp old.conn.ready y))
+    → ((y : ℕ) → contains nat_cmp holding y ≡ (not ((x == y) && (nat_lt n old.limits.quantum || is_emptied (record old { exchanges = ex }) x)) && contains nat_cmp old.holding y))
     → Steps x (Some (record { n = n; rose = rose })) old new
-moves_all x from n shifted over rose old new ex b e c sound is rise counted rest made = record {
+moves_all x from n shifted over rose old new ex b holding e c sound is rise counted rest made left = record {
   goes = λ limits h s lives.
       let k = s.stands.exchanges.there x lives in
-      moves limits x n shifted rose old new ex b h s lives k (is_move old.gates x k.plain from n shifted over (step_is limits x old.exchanges old.gates (step.Moved from n shifted over) h k e))
-      (changed_by limits x old.exchanges ex old.gates h k c) sound is rise (counted s.stands.gates.sound) rest made;
+      moves limits x n shifted rose old new ex b holding h s lives k (is_move old.gates x k.plain from n shifted over (step_is limits x old.exchanges old.gates (step.Moved from n shifted over) h k e))
+      (changed_by limits x old.exchanges ex old.gates h k c) sound is rise (counted s.stands.gates.sound) rest made left;
 }
 
-pub moves_less_all : (x from n : ℕ) (shifted : Shifted) (over rose : Bool) (old new : Flows) (ex : Exchanges) (b : Board) → IsSettled old → Lives old x true
+pub moves_less_all : (x from n : ℕ) (shifted : Shifted) (over rose : Bool) (old new : Flows) (ex : Exchanges) (b : Board) (holding : BTreeSet ℕ) → IsSettled old → Lives old x true
     → Some (step.Moved from n shifted over) ≡ option_map (next_step old.gates (target_of old.exchanges (request x))) (flow_at old.exchanges (request x))
     → ChangesFlow (request x) (stepped old.gates (target_of old.exchanges (request x))) old.exchanges ex → AreSoundExchanges ex → RisesSend rose x old.gates b
-    → new ≡ record old { exchanges = ex; gates = b; conn = record old.conn { ready = new.conn.ready } } → left_in new + 4 ≤ left_in old
-moves_less_all x from n shifted over rose old new ex b s lives e c sound rise rest =
+    → new ≡ record old { exchanges = ex; gates = b; holding = holding; conn = record old.conn { ready = new.conn.ready } } → left_in new + 4 ≤ left_in old
+moves_less_all x from n shifted over rose old new ex b holding s lives e c sound rise rest =
     let h = s.history in
     let k = s.settled.stands.exchanges.there x (sym (lives.goes s.limits h s.settled)) in
-    move_less s.limits x n shifted rose old new ex b h k (is_move old.gates x k.plain from n shifted over (step_is s.limits x old.exchanges old.gates (step.Moved from n shifted over) h k e))
+    move_less s.limits x n shifted rose old new ex b holding h k (is_move old.gates x k.plain from n shifted over (step_is s.limits x old.exchanges old.gates (step.Moved from n shifted over) h k e))
     (changed_by s.limits x old.exchanges ex old.gates h k c) s.settled.stands.exchanges.sound sound rise rest

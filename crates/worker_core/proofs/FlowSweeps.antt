@@ -17,6 +17,7 @@ use Rattle.flow_notes.specs.declared.notes.Note.TheVariants as note
 use Rattle.worker_core.proofs.FlowStreams.{swept_exchanges}
 use Rattle.worker_core.proofs.FlowGates.{gates_kept}
 use Rattle.worker_core.proofs.FlowParts.{conn_kept}
+use Rattle.worker_core.proofs.FlowHolds.{holding_kept}
 
 sweep_gates : (limits : PlainLimits) (board : Board) (x : ℕ) (h : History NoMark) → GatesAre limits board h → GatesAre limits board (Noted (note.Gone x) ∷ h)
 sweep_gates limits board x h g =
@@ -37,6 +38,7 @@ sweeps_one limits x old ex h settled c sound =
         exchanges = swept_exchanges limits old.exchanges ex h (Noted (note.Gone x) ∷ h) st.exchanges sound c.live c.last c.time (sym (ap (λ (xs : List ℕ). drop 1 xs) first)) refl refl (λ y. gone_keeps limits x y h);
         gates = sweep_gates limits old.gates x h st.gates;
         conn = conn_kept limits old.conn h (Noted (note.Gone x) ∷ h) st.conn (gone_keeps_write limits x h) refl refl (λ y e. keeps_ready limits y h (Noted (note.Gone x) ∷ h) (gone_keeps limits x y h));
+        holding = holding_kept limits old.holding h (Noted (note.Gone x) ∷ h) st.holding refl (λ y. (gone_keeps limits x y h).recv);
       };
     }
 
@@ -55,6 +57,7 @@ sweeps_none limits old ex h settled c sound none =
         exchanges = swept_exchanges limits old.exchanges ex h h st.exchanges sound c.live c.last c.time (sym c.doomed ∙ st.exchanges.doomed) refl refl (λ y. itself limits y h);
         gates = st.gates;
         conn = st.conn;
+        holding = st.holding;
       };
     }
 

@@ -1,122 +1,98 @@
--- What the flows are after a watcher of the write buffer was told.
-use Rattle.flow_gate.specs.Board.{Board, IsSound as IsSoundBoard, pending_on, times}
-use Rattle.flow_gate.specs.Changes.{Tells as TellsFlow}
+-- What the flows are after watchers of the write buffer were told, and which of them go on.
+use Rattle.flow_gate.specs.Board.{Board, IsSound as IsSoundBoard, pending_on}
+use Rattle.flow_gate.specs.Changes.{Tells as TellsFlows}
 use Rattle.flow_gate.specs.declared.ids.FlowId.{FlowId}
-use Rattle.plain_laws.proofs.Counting.{one_if}
-use Rattle.plain_laws.proofs.Counts.{tell_count}
-use Rattle.plain_laws.proofs.Keepings.{resume_keeps, write_resume_high, write_resume_out}
 use Rattle.plain_laws.proofs.Readiness.{keeps_ready}
-use Rattle.plain_laws.specs.Regular.{IsLiveFlow}
-use Rattle.plain_laws.specs.Settled.{Settled as IsSettledHistory}
-use Rattle.std.proofs.Common.{ap, arith, refl, subst, sym, ◌∙◌}
-use Rattle.std.specs.List.{AllByRecursion}
-use Rattle.std.specs.Prelude.{Bool, IsNone, List, None, Option, Some, [], drop, false, if◌then◌else◌, option_to_list, true, ℕ, ◌&&◌, ◌+◌, ◌==◌, ◌∷◌, ◌≡◌, ◌↔◌}
+use Rattle.plain_laws.proofs.Rotation.{none_next}
+use Rattle.plain_laws.specs.Next.{is_ready}
+use Rattle.std.proofs.Common.{ap, arith, inl, inr, refl, subst, sym, ◌∙◌}
+use Rattle.std.specs.Prelude.{Bool, List, false, not, take, true, ℕ, ◌&&◌, ◌+◌, ◌≡◌}
 use Rattle.tape_laws.specs.Dispatches.{has, live}
 use Rattle.tape_laws.specs.Flows.{request}
-use Rattle.tape_laws.specs.History.{History, NoMark, Noted}
-use Rattle.tape_laws.specs.Pauses.{pending_lows}
-use Rattle.tape_laws.specs.Plain.{plain_setup}
+use Rattle.tape_laws.specs.History.{History, NoMark}
 use Rattle.tape_laws.specs.declared.limits.PlainLimits.{PlainLimits}
-use Rattle.worker_core.specs.Carries.{Tells, TellsAt, TellsAs, ToldAll}
-use Rattle.worker_core.specs.Flows.{ConnectionIs, GatesAre, Settled}
+use Rattle.worker_core.proofs.FlowHolds.{holding_kept}
+use Rattle.worker_core.proofs.FlowGates.{gates_from}
+use Rattle.worker_core.proofs.FlowStreams.{same_exchanges}
+use Rattle.worker_core.proofs.Tellings.{AreTold, are_told, with_all_told}
+use Rattle.worker_core.specs.Carries.{Holds, Tells, Wakes}
+use Rattle.worker_core.specs.Flows.{ConnectionIs, FlowsStand, GatesAre, Settled}
+use Rattle.worker_core.specs.Ready.{IsIdle}
 use Rattle.worker_core.specs.declared.conn.Connection.{Connection}
 use Rattle.worker_core.specs.declared.flows.Flows.{Flows}
 use Rattle.flow_gate.specs.declared.ids.BufferId.TheVariants as buffer
-use Rattle.flow_notes.specs.declared.notes.Note.TheVariants as note
-use Rattle.worker_core.proofs.FlowStreams.{same_exchanges}
-use Rattle.worker_core.proofs.FlowGates.{gates_from}
-use Rattle.std.proofs.lemmas.Bool.Decides.{nat_tests}
 
-pub times_one : (x y : ℕ) → times (request y) (request x ∷ []) ≡ one_if (x == y)
-times_one x y = pick (x == y) (y == x) (swapped x y)
-  where
-    swapped : (x y : ℕ) → (x == y) ≡ (y == x)
-    swapped x y = grind (arith, nat_tests)
-
-    pick : (a b : Bool) → a ≡ b → 0 + (if b && true then 1 else 0) ≡ (if a then 1 else 0)
-    pick true true e = refl
-    pick false false e = refl
-    pick true false e = cc
-    pick false true e = cc
-
-stream_of : (limits : PlainLimits) (f : FlowId) (rest : List FlowId) (h : History NoMark) → IsSettledHistory limits h → pending_lows (plain_setup limits) (buffer.Write 0) h ≡ f ∷ rest
-    → IsLiveFlow (live h) f
-stream_of limits f rest h s first = (let P : List FlowId → Type 0 = AllByRecursion (IsLiveFlow (live h)) in subst P first s.regular.books.write_lows).0
-
-told_gates : (limits : PlainLimits) (x : ℕ) (old new : Board) (h : History NoMark) → IsSettledHistory limits h → GatesAre limits old h → TellsFlow (buffer.Write 0) (request x ∷ []) old new → IsSoundBoard new
-    → GatesAre limits new (Noted (note.Resume (request x) (buffer.Write 0)) ∷ h)
-told_gates limits x old new h settled g t sound =
-    let h' = Noted (note.Resume (request x) (buffer.Write 0)) ∷ h in
-    let first : pending_lows (plain_setup limits) (buffer.Write 0) h ≡ request x ∷ pending_on new (buffer.Write 0) = sym g.write_pending ∙ t.pending (buffer.Write 0) in
-    gates_from limits old new h h' g sound (record { flows = t.flows; buffers = t.buffers; watchers = t.watchers }) refl (record {
-      counts = λ y is. fewer_by _ _ _ _ _ _ (t.counts (request y)) (times_one x y) (g.counts y is) (tell_count limits x y (pending_on new (buffer.Write 0)) h settled is first);
-      write_mark = t.marks (buffer.Write 0) ∙ (g.write_mark ∙ sym (write_resume_high limits (request x) h));
-      write_pending = sym (ap (λ (fs : List FlowId). drop 1 fs) first);
-      send_mark = λ y. t.marks (buffer.Send (request y)) ∙ (g.send_mark y ∙ sym (resume_keeps limits y (request x) (buffer.Write 0) h).high);
+told_gates : (limits : PlainLimits) (fs : List FlowId) (old new : Board) (h : History NoMark) → GatesAre limits old h → TellsFlows (buffer.Write 0) fs old new → IsSoundBoard new
+    → AreTold limits fs (pending_on new (buffer.Write 0)) h (with_all_told fs h) → GatesAre limits new (with_all_told fs h)
+told_gates limits fs old new h g t sound is =
+    gates_from limits old new h (with_all_told fs h) g sound (record { flows = t.flows; buffers = t.buffers; watchers = t.watchers }) is.lists.lives (record {
+      counts = λ y l. let was = sym (ap (λ (xs : List ℕ). has xs y) is.lists.lives) ∙ l in fewer_by _ _ _ _ _ (t.counts (request y)) (g.counts y was) (is.counts y was);
+      write_mark = t.marks (buffer.Write 0) ∙ (g.write_mark ∙ sym is.high);
+      write_pending = sym is.lows;
+      send_mark = λ y. t.marks (buffer.Send (request y)) ∙ (g.send_mark y ∙ sym (is.streams y).high);
       send_pending = λ y. sym (t.pending (buffer.Send (request y))) ∙ g.send_pending y;
     })
   where
-    fewer_by : (cn k co o ch ch' : ℕ) → cn + k ≡ co → k ≡ o → co ≡ ch → ch' + o ≡ ch → cn ≡ ch'
-    fewer_by cn k co o ch ch' e1 e2 e3 e4 = omega (arith, e1, e2, e3, e4)
+    fewer_by : (cn k co ch ch' : ℕ) → cn + k ≡ co → co ≡ ch → ch' + k ≡ ch → cn ≡ ch'
+    fewer_by cn k co ch ch' e1 e2 e3 = omega (arith, e1, e2, e3)
 
-told_conn : (limits : PlainLimits) (x : ℕ) (conn : Connection) (h : History NoMark) → ConnectionIs limits conn h → ConnectionIs limits conn (Noted (note.Resume (request x) (buffer.Write 0)) ∷ h)
-told_conn limits x conn h c = record {
+told_conn : (limits : PlainLimits) (fs rest : List FlowId) (conn : Connection) (h : History NoMark) → ConnectionIs limits conn h → AreTold limits fs rest h (with_all_told fs h)
+    → ConnectionIs limits conn (with_all_told fs h)
+told_conn limits fs rest conn h c is = record {
   limit = c.limit;
-  octets = c.octets ∙ sym (write_resume_out limits (request x) h);
-  above = c.above ∙ sym (write_resume_high limits (request x) h);
-  framed_last = c.framed_last;
-  ready = λ y. c.ready y ∙ ap (λ b. has (live h) y && b) (sym (keeps_ready limits y h (Noted (note.Resume (request x) (buffer.Write 0)) ∷ h) (resume_keeps limits y (request x) (buffer.Write 0) h)));
+  octets = c.octets ∙ sym is.octets;
+  above = c.above ∙ sym is.high;
+  framed_last = c.framed_last ∙ sym is.last;
+  ready = λ y. c.ready y ∙ (ap (λ b. has (live h) y && b) (sym (keeps_ready limits y h (with_all_told fs h) (is.streams y)))
+      ∙ ap (λ (xs : List ℕ). has xs y && is_ready limits y (with_all_told fs h)) (sym is.lists.lives));
 }
 
-tells_stream : (limits : PlainLimits) (x : ℕ) (old : Flows) (b : Board) (h : History NoMark) → Settled limits old h → TellsFlow (buffer.Write 0) (request x ∷ []) old.gates b → IsSoundBoard b
-    → TellsAt x limits (record old { gates = b }) h
-tells_stream limits x old b h settled t sound =
+told_stand : (limits : PlainLimits) (fs : List FlowId) (old : Flows) (b : Board) (h : History NoMark) → Settled limits old h → TellsFlows (buffer.Write 0) fs old.gates b → IsSoundBoard b
+    → FlowsStand limits (record old { gates = b }) (with_all_told fs h)
+told_stand limits fs old b h settled t sound =
     let st = settled.stands in
-    let h' = Noted (note.Resume (request x) (buffer.Write 0)) ∷ h in
+    let rest = pending_on b (buffer.Write 0) in
+    let is : AreTold limits fs rest h (with_all_told fs h) = are_told limits fs rest h settled.lawful (sym st.gates.write_pending ∙ t.pending (buffer.Write 0)) in
     record {
-      rest = pending_on b (buffer.Write 0);
-      first = sym st.gates.write_pending ∙ t.pending (buffer.Write 0);
-      stands = record {
-        limits_are = st.limits_are;
-        ranges = st.ranges;
-        exchanges = same_exchanges limits old.exchanges h h' st.exchanges (record { lives = refl; begun = refl; doomed = refl }) (λ y. resume_keeps limits y (request x) (buffer.Write 0) h);
-        gates = told_gates limits x old.gates b h settled.lawful st.gates t sound;
-        conn = told_conn limits x old.conn h st.conn;
-      };
+      limits_are = st.limits_are;
+      ranges = st.ranges;
+      exchanges = same_exchanges limits old.exchanges h (with_all_told fs h) st.exchanges (record { lives = is.lists.lives; begun = is.lists.begun; doomed = is.lists.doomed }) is.streams;
+      gates = told_gates limits fs old.gates b h st.gates t sound is;
+      conn = told_conn limits fs rest old.conn h st.conn is;
+      holding = holding_kept limits old.holding h (with_all_told fs h) st.holding is.lists.lives (λ y. (is.streams y).recv);
     }
 
-tells_one : (limits : PlainLimits) (f : FlowId) (old : Flows) (b : Board) (h : History NoMark) → Settled limits old h → TellsFlow (buffer.Write 0) (f ∷ []) old.gates b → IsSoundBoard b
-    → TellsAs (Some f) limits (record old { gates = b }) h
-tells_one limits f old b h settled t sound =
-    let is = (stream_of limits f (pending_on b (buffer.Write 0)) h settled.lawful (sym settled.stands.gates.write_pending ∙ t.pending (buffer.Write 0))).is in
-    (is, tells_stream limits f.exchange old b h settled (let P : FlowId → Type 0 = λ g. TellsFlow (buffer.Write 0) (g ∷ []) old.gates b in subst P is t) sound)
+pub tells : (n : ℕ) (old : Flows) (b : Board) → TellsFlows (buffer.Write 0) (take n (pending_on old.gates (buffer.Write 0))) old.gates b → IsSoundBoard b → Tells n old (record old { gates = b })
+tells n old b t sound = record {
+  goes = λ limits h s.
+      let P : List FlowId → Type 0 = λ fs. FlowsStand limits (record old { gates = b }) (with_all_told (take n fs) h) in
+      subst P s.stands.gates.write_pending (told_stand limits (take n (pending_on old.gates (buffer.Write 0))) old b h s t sound);
+}
 
-tells_none : (limits : PlainLimits) (old : Flows) (b : Board) (h : History NoMark) → Settled limits old h → TellsFlow (buffer.Write 0) [] old.gates b → IsSoundBoard b
-    → pending_on old.gates (buffer.Write 0) ≡ [] → ToldAll limits (record old { gates = b }) h
-tells_none limits old b h settled t sound none =
-    let st = settled.stands in
-    let g = st.gates in
-    record {
-      none = sym g.write_pending ∙ none;
-      stands = record {
-        limits_are = st.limits_are;
-        ranges = st.ranges;
-        exchanges = st.exchanges;
-        gates = gates_from limits old.gates b h h g sound (record { flows = t.flows; buffers = t.buffers; watchers = t.watchers }) refl (record {
-          counts = λ y is. as_before _ _ (t.counts (request y)) ∙ g.counts y is;
-          write_mark = t.marks (buffer.Write 0) ∙ g.write_mark;
-          write_pending = sym (t.pending (buffer.Write 0)) ∙ g.write_pending;
-          send_mark = λ y. t.marks (buffer.Send (request y)) ∙ g.send_mark y;
-          send_pending = λ y. sym (t.pending (buffer.Send (request y))) ∙ g.send_pending y;
-        });
-        conn = st.conn;
+-- ---- which go on
+pub wakes_above : (flows : Flows) (x : ℕ) → flows.conn.write.above ≡ true → Wakes flows x false
+wakes_above flows x high = record {
+  yes = λ limits h s lives e. cc;
+  no = λ limits h s lives e. record { still = inl (sym s.stands.conn.above ∙ high) };
+}
+
+pub wakes_ready : (flows : Flows) (x : ℕ) (idle : Bool) → flows.conn.write.above ≡ false → IsIdle flows.conn idle → idle ≡ false → Wakes flows x (not idle)
+wakes_ready flows x idle low is e =
+    let P : Bool → Type 0 = λ b. Wakes flows x (not b) in
+    subst P (sym e) (record {
+      yes = λ limits h s lives t. record {
+        low = sym s.stands.conn.above ∙ low;
+        some = inr (λ none. is.some e (λ y. s.stands.conn.ready y ∙ not_ready (has (live h) y) (is_ready limits y h) (λ l. none_next limits y h none l)));
       };
-    }
+      no = λ limits h s lives f. cc;
+    })
   where
-    as_before : (a b : ℕ) → a + 0 ≡ b → a ≡ b
-    as_before a b e = omega (arith, e)
+    not_ready : (a b : Bool) → (a ≡ true → b ≡ false) → (a && b) ≡ false
+    not_ready true b f = f refl
+    not_ready false b f = refl
 
-pub tells : (told : Option FlowId) (old : Flows) (b : Board) → (IsNone told ↔ (pending_on old.gates (buffer.Write 0) ≡ [])) → TellsFlow (buffer.Write 0) (option_to_list told) old.gates b
-    → IsSoundBoard b → Tells told old (record old { gates = b })
-tells None old b none t sound = record { goes = λ limits h s. tells_none limits old b h s t sound (none.0 refl) }
-tells (Some f) old b none t sound = record { goes = λ limits h s. tells_one limits f old b h s t sound }
+pub wakes_holds : (flows : Flows) (x : ℕ) (answer : Bool) → flows.conn.write.above ≡ false → Holds flows x answer → Wakes flows x answer
+wakes_holds flows x answer low holds = record {
+  yes = λ limits h s lives t. record { low = sym s.stands.conn.above ∙ low; some = inl (sym (holds.goes limits h s lives) ∙ t) };
+  no = λ limits h s lives f. record { still = inr (sym (holds.goes limits h s lives) ∙ f) };
+}

@@ -89,19 +89,24 @@ keeps_of old new before ns after e s =
       well = s.well;
     })
 
-pub cuts_front : (old new : Core) (before ns after : List Note) → AppendsSome before ns after → Stepped old ns new → Cuts old before after
-cuts_front old new before ns after a s =
+-- a front of notes that are lawful together
+pub cuts_lawful : (old : Core) (before ns after : List Note) → AppendsSome before ns after → AreSpelled ns → AllByRecursion NoTurn ns
+    → ((limits : PlainLimits) (h : History NoMark) → Good limits old h → IsPlainLawful limits (onto ns h)) → Cuts old before after
+cuts_lawful old before ns after a sp si lawful =
     let P : List Note → Type 0 = λ v. Cuts old before v in
-    let spelled : AreSpelled (a.front ++ a.rest) = let Q : List Note → Type 0 = AreSpelled in subst Q a.whole s.spelled in
-    let silent : AllByRecursion NoTurn (a.front ++ a.rest) = let Q : List Note → Type 0 = AllByRecursion NoTurn in subst Q a.whole s.silent in
+    let spelled : AreSpelled (a.front ++ a.rest) = let Q : List Note → Type 0 = AreSpelled in subst Q a.whole sp in
+    let silent : AllByRecursion NoTurn (a.front ++ a.rest) = let Q : List Note → Type 0 = AllByRecursion NoTurn in subst Q a.whole si in
     subst P (sym a.is) (record {
       spelled = λ b. spelled_both before a.front b (all_front (λ n. IsNote [] n) a.front a.rest spelled);
       events = λ h. ap events_back (onto_append before a.front h) ∙ events_same a.front (onto before h) (all_front NoTurn a.front a.rest silent);
       lawful = λ limits h g.
           let Q : History NoMark → Type 0 = λ v. IsPlainLawful limits v in
           let R : List Note → Type 0 = λ v. IsPlainLawful limits (onto v (onto before h)) in
-          subst Q (sym (onto_append before a.front h)) (front_lawful limits a.front a.rest (onto before h) (subst R a.whole (s.goes limits (onto before h) g).flows.lawful.regular.lawful));
+          subst Q (sym (onto_append before a.front h)) (front_lawful limits a.front a.rest (onto before h) (subst R a.whole (lawful limits (onto before h) g)));
     })
+
+pub cuts_front : (old new : Core) (before ns after : List Note) → AppendsSome before ns after → Stepped old ns new → Cuts old before after
+cuts_front old new before ns after a s = cuts_lawful old before ns after a s.spelled s.silent (λ limits h g. (s.goes limits h g).flows.lawful.regular.lawful)
 
 pub cuts_none : (old : Core) (before : List Note) → Cuts old before before
 cuts_none old before = record { spelled = λ b. b; events = λ h. refl; lawful = λ limits h g. g.flows.lawful.regular.lawful }

@@ -13,6 +13,7 @@ pub mod FlowFits
 pub mod FlowFounds
 pub mod FlowFrames
 pub mod FlowGates
+pub mod FlowHolds
 pub mod FlowLeaves
 pub mod FlowMarks
 pub mod FlowMeasure
@@ -26,6 +27,7 @@ pub mod FlowUnits
 pub mod Fronts
 pub mod Keeping
 pub mod Rested
+pub mod Resumes
 pub mod StepEnd
 pub mod StepFirst
 pub mod StepFrame
@@ -33,7 +35,9 @@ pub mod StepLoops
 pub mod StepRun
 pub mod StepSweep
 pub mod StepTell
+pub mod Tellings
 pub mod TurnStands
 pub mod UnderwayMoves
+pub mod UnderwayTells
 pub mod WholeResults
 pub mod Wholes

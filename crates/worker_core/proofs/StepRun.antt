@@ -25,6 +25,7 @@ use Rattle.worker_core.proofs.Fronts.{Stepped, cuts_result, keeps_of, keeps_resu
 use Rattle.worker_core.proofs.Keeping.{cuts_more, flows_are, good_of, keeps_then, only_moves, silent_rise, spelled_rise, with_flows}
 use Rattle.worker_core.proofs.StepSweep.{good_kept}
 use Rattle.worker_core.proofs.Rested.{may_not}
+use Rattle.worker_core.proofs.UnderwayTells.{still_above}
 use Rattle.worker_core.proofs.UnderwayMoves.{move_leaves_work, moves_after_move, rounded_at, rounded_top, underway_end_run, underway_kept, underway_of}
 use Rattle.worker_core.specs.Agenda.{Agenda, after_move, with_drain}
 use Rattle.worker_core.specs.Carries.{IsNextFrame, IsNextUnless, Lives, MovesAt, StaysAt, Steps, may_move}
@@ -99,6 +100,24 @@ idle_steps old new f e top a l = record {
       (idle_underway limits old f h top g (λ x is lx m. not_both (has (live h) f.exchange) (ap (λ (v : FlowId). has (live h) v.exchange) is ∙ lx) (sym (l.goes limits h g.flows))))) g;
   well = (only_moves old new old.flows e).well;
 }
+
+-- ---- a flow that the write buffer holds back
+held_steps : (old new : Core) (f : FlowId) (answer : Bool) → answer ≡ old.flows.conn.write.above → answer ≡ true → new ≡ record old { flows = old.flows; agenda = new.agenda }
+    → slice_get old.agenda 0 ≡ Some (task.Run f) → new.agenda ≡ drop 1 old.agenda → Stepped old [] new
+held_steps old new f answer held high e top a = record {
+  spelled = tt;
+  silent = tt;
+  goes = λ limits h g.
+      good_of limits old new h h (only_moves old new old.flows e) refl (λ x. refl)
+      (let P : Flows → Type 0 = λ v. FlowsStand limits v h in subst P (sym (flows_are old new old.flows e)) g.flows.stands) g.flows.lawful
+      (let P : Agenda → Type 0 = λ v. Underway limits old.pairs v h in subst P (sym a)
+      (idle_underway limits old f h top g (λ x is lx m. not_both (may_move limits x h) m (still_above limits x h g.flows.lawful lx (sym g.flows.stands.conn.above ∙ (sym held ∙ high)))))) g;
+  well = (only_moves old new old.flows e).well;
+}
+
+pub held_keeps : (old new : Core) (before : List Note) (f : FlowId) (answer : Bool) → answer ≡ old.flows.conn.write.above → answer ≡ true → new ≡ record old { flows = old.flows; agenda = new.agenda }
+    → slice_get old.agenda 0 ≡ Some (task.Run f) → new.agenda ≡ drop 1 old.agenda → Keeps old before new before
+held_keeps old new before f answer held high e top a = keeps_of old new before [] before (sym (append-nil before)) (held_steps old new f answer held high e top a)
 
 -- ---- a flow that may not move
 stays_at : (x : ℕ) (moved : Option Moved) (old new : Flows) → moved ≡ None → Steps x moved old new → Steps x None old new

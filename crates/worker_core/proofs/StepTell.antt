@@ -1,143 +1,144 @@
--- A telling: watchers are told until one is run, or all were told.
+-- A telling: watchers are told until one goes on, which is run, or all were told.
+use Rattle.flow_gate.specs.Board.{pending_on}
 use Rattle.flow_gate.specs.declared.ids.FlowId.{FlowId}
 use Rattle.flow_notes.specs.declared.notes.Note.{Note}
 use Rattle.io_ports.specs.declared.octets.NoMemory.{NoMemory}
-use Rattle.plain_laws.proofs.Steps.{tell_step}
+use Rattle.plain_laws.specs.Regular.{IsLiveFlow}
 use Rattle.std.proofs.Common.{ap, arith, refl, subst, sym, ◌∙◌}
-use Rattle.std.proofs.lemmas.List.{append-nil}
-use Rattle.std.specs.List.{slice_get, sum_by}
-use Rattle.std.specs.Prelude.{Bool, List, None, OnErr, OnOk, Option, Result, Some, ℕ, [], drop, false, true, ◌++◌, ◌+◌, ◌<◌, ◌∷◌, ◌≡◌, ◌≤◌}
-use Rattle.tape_laws.specs.Flows.{request}
-use Rattle.tape_laws.specs.History.{History, NoMark, Noted}
+use Rattle.std.proofs.Math.Seq.{take-append_seam}
+use Rattle.std.proofs.lemmas.List.{append-nil, length-append}
+use Rattle.std.specs.List.{AllByRecursion, slice_get, sum_by}
+use Rattle.std.specs.Prelude.{Err, List, None, Ok, OnOk, Option, Result, Some, [], drop, false, length, option_to_list, take, ℕ, ◌*◌, ◌++◌, ◌+◌, ◌<◌, ◌∷◌, ◌≡◌, ◌≤◌}
+use Rattle.tape_laws.specs.Dispatches.{live}
+use Rattle.tape_laws.specs.History.{History, NoMark}
+use Rattle.tape_laws.specs.Pauses.{pending_lows}
+use Rattle.tape_laws.specs.Plain.{plain_setup}
 use Rattle.tape_laws.specs.declared.limits.PlainLimits.{PlainLimits}
-use Rattle.worker_core.proofs.Agendas.{after_telling, top_is, weight_telling, weight_top}
-use Rattle.worker_core.proofs.Fronts.{Stepped, cuts_result, keeps_of, keeps_result, push_appends}
-use Rattle.worker_core.proofs.Keeping.{cuts_more, flows_are, good_of, keeps_more, keeps_then, only_moves, with_flows}
-use Rattle.worker_core.proofs.UnderwayMoves.{rounded_at, underway_end_tell, underway_tell}
+use Rattle.worker_core.proofs.Agendas.{after_telling, weight_run, weight_top}
+use Rattle.worker_core.proofs.Fronts.{NoTurn, Stepped, cuts_lawful, keeps_of}
+use Rattle.worker_core.proofs.Keeping.{flows_are, good_of, only_moves}
+use Rattle.worker_core.proofs.Tellings.{AreTold, are_told, with_all_told}
+use Rattle.worker_core.proofs.UnderwayMoves.{rounded_at}
+use Rattle.worker_core.proofs.UnderwayTells.{underway_telling}
 use Rattle.worker_core.specs.Agenda.{Agenda, with_run}
-use Rattle.worker_core.specs.Carries.{Tells, TellsAt, ToldAll}
-use Rattle.worker_core.specs.Flows.{FlowsStand}
-use Rattle.worker_core.specs.Measure.{LessByTelling, left_in, to_go, weight}
+use Rattle.worker_core.specs.Carries.{IsStill, Tells, Wakes}
+use Rattle.worker_core.specs.Flows.{FlowsStand, Settled}
+use Rattle.worker_core.specs.Measure.{left_in, to_go, weight}
+use Rattle.worker_core.specs.Noting.{AppendsSome, resumes_of}
 use Rattle.worker_core.specs.Progress.{Underway}
-use Rattle.worker_core.specs.Runs.{Cuts, Keeps}
-use Rattle.worker_core.specs.Stands.{Good}
-use Rattle.worker_core.specs.declared.agenda.Task.{Task}
+use Rattle.worker_core.specs.Runs.{AreSpelled, Cuts, Keeps}
+use Rattle.worker_core.specs.Telling.{TellsUpTo}
 use Rattle.worker_core.specs.declared.flows.Flows.{Flows}
+use Rattle.worker_core.specs.declared.noting.Told.{Told}
 use Rattle.worker_core.specs.declared.worker.Core.{Core}
 use Rattle.flow_gate.specs.declared.ids.BufferId.TheVariants as buffer
-use Rattle.flow_notes.specs.declared.notes.Note.TheVariants as note
 use Rattle.worker_core.specs.declared.agenda.Task.TheVariants as task
 
-tells_as : (told found : Option FlowId) (old new : Flows) → told ≡ found → Tells told old new → Tells found old new
-tells_as told found old new e t = let P : Option FlowId → Type 0 = λ v. Tells v old new in subst P e t
+spelled_resumes : (fs : List FlowId) → AreSpelled (resumes_of (buffer.Write 0) fs)
+spelled_resumes [] = tt
+spelled_resumes (f ∷ fs) = (tt, spelled_resumes fs)
 
--- ---- all were told
-told_steps : (old new : Core) (flows : Flows) (told : Option FlowId) (c : ℕ) → told ≡ None → new ≡ record old { flows = flows; agenda = new.agenda } → slice_get old.agenda 0 ≡ Some (task.Tell c)
-    → new.agenda ≡ drop 1 old.agenda → Tells told old.flows flows → Stepped old [] new
-told_steps old new flows told c none e top a t = record {
-  spelled = tt;
-  silent = tt;
-  goes = λ limits h g.
-      let all : ToldAll limits flows h = (tells_as told None old.flows flows none t).goes limits h g.flows in
-      good_of limits old new h h (only_moves old new flows e) refl (λ x. refl)
-      (let P : Flows → Type 0 = λ v. FlowsStand limits v h in subst P (sym (flows_are old new flows e)) all.stands) g.flows.lawful
-      (let P : Agenda → Type 0 = λ v. Underway limits old.pairs v h in
-      subst P (sym a) (underway_end_tell limits old.pairs c (drop 1 old.agenda) h all.none (subst P (top_is (task.Tell c) old.agenda top) g.underway))) g;
-  well = (only_moves old new flows e).well;
-}
+silent_resumes : (fs : List FlowId) → AllByRecursion NoTurn (resumes_of (buffer.Write 0) fs)
+silent_resumes [] = tt
+silent_resumes (f ∷ fs) = (record { events = λ h. refl }, silent_resumes fs)
 
-told_keeps : (old new : Core) (before : List Note) (flows : Flows) (told : Option FlowId) (c : ℕ) → told ≡ None → new ≡ record old { flows = flows; agenda = new.agenda } → slice_get old.agenda 0 ≡ Some (task.Tell c)
-    → new.agenda ≡ drop 1 old.agenda → Tells told old.flows flows → Keeps old before new before
-told_keeps old new before flows told c none e top a t = keeps_of old new before [] before (sym (append-nil before)) (told_steps old new flows told c none e top a t)
+-- the resumes of all that are to be told are lawful, and each front of them
+pub resumes_cut : (old : Core) (before after : List Note) → AppendsSome before (resumes_of (buffer.Write 0) (pending_on old.flows.gates (buffer.Write 0))) after → Cuts old before after
+resumes_cut old before after a =
+    let lows = pending_on old.flows.gates (buffer.Write 0) in
+    cuts_lawful old before (resumes_of (buffer.Write 0) lows) after a (spelled_resumes lows) (silent_resumes lows)
+    (λ limits h g. (are_told limits lows [] h g.flows.lawful (sym g.flows.stands.gates.write_pending ∙ sym (append-nil lows))).settled.regular.lawful)
 
-told_less : (old new : Core) (flows : Flows) (told : Option FlowId) (c : ℕ) → told ≡ None → new ≡ record old { flows = flows; agenda = new.agenda } → slice_get old.agenda 0 ≡ Some (task.Tell c)
-    → new.agenda ≡ drop 1 old.agenda → LessByTelling told old.flows flows → to_go new < to_go old
-told_less old new flows told c none e top a less =
-    let P : Option FlowId → Type 0 = λ v. LessByTelling v old.flows flows in
-    let n : left_in flows ≤ left_in old.flows = subst P none less in
-    let w = weight_top (task.Tell c) old.agenda top in
-    let b = ap (λ (v : Agenda). sum_by weight v) a in
-    let l = ap (λ (v : Flows). left_in v) (flows_are old new flows e) in
-    omega (arith, n, w, b, l)
+-- ---- who doesn't go on stays as it is
+still_of : (limits : PlainLimits) (flows : Flows) (fs : List FlowId) (h : History NoMark) → Settled limits flows h → AllByRecursion (IsLiveFlow (live h)) fs
+    → AllByRecursion (λ f. Wakes flows f.exchange false) fs → AllByRecursion (λ f. IsStill limits f.exchange h) fs
+still_of limits flows [] h s l w = tt
+still_of limits flows (f ∷ fs) h s l w = (w.0.no limits h s l.0.live refl, still_of limits flows fs h s l.1 w.1)
 
--- ---- the next one is told
-tell_good : (limits : PlainLimits) (old new : Core) (flows : Flows) (x c : ℕ) (h : History NoMark) → new ≡ record old { flows = flows; agenda = new.agenda } → slice_get old.agenda 0 ≡ Some (task.Tell c)
-    → new.agenda ≡ after_telling flows.conn.write.above (request x) old.agenda → Good limits old h → TellsAt x limits flows h → Good limits new (Noted (note.Resume (request x) (buffer.Write 0)) ∷ h)
-tell_good limits old new flows x c h e top a g t =
-    let k : History NoMark = Noted (note.Resume (request x) (buffer.Write 0)) ∷ h in
-    good_of limits old new h k (only_moves old new flows e) refl (λ y. refl)
-    (let P : Flows → Type 0 = λ v. FlowsStand limits v k in subst P (sym (flows_are old new flows e)) t.stands)
-    (tell_step limits x t.rest h g.flows.lawful t.first)
-    (let P : Agenda → Type 0 = λ v. Underway limits old.pairs v k in
-    subst P (sym a) (underway_tell limits old.pairs flows.conn.write.above old.agenda x t.rest h g.flows.lawful t.first (rounded_at limits old.pairs (task.Tell c) old.agenda h top g.underway)
-    t.stands.conn.above g.underway)) g
+front_live : (P : FlowId → Type 0) (fs gs rest : List FlowId) → AllByRecursion P ((fs ++ gs) ++ rest) → AllByRecursion P fs
+front_live P [] gs rest a = tt
+front_live P (f ∷ fs) gs rest a = (a.0, front_live P fs gs rest a.1)
 
-tell_steps : (old new : Core) (flows : Flows) (told : Option FlowId) (f : FlowId) (c : ℕ) → told ≡ Some f → new ≡ record old { flows = flows; agenda = new.agenda } → slice_get old.agenda 0 ≡ Some (task.Tell c)
-    → new.agenda ≡ after_telling flows.conn.write.above f old.agenda → Tells told old.flows flows → Stepped old (note.Resume f (buffer.Write 0) ∷ []) new
-tell_steps old new flows told f c some e top a t = record {
-  spelled = (tt, tt);
-  silent = (record { events = λ h. refl }, tt);
-  goes = λ limits h g.
-      let tells : (f ≡ request f.exchange) × TellsAt f.exchange limits flows h = (tells_as told (Some f) old.flows flows some t).goes limits h g.flows in
-      let P : FlowId → Type 0 = λ v. Good limits new (Noted (note.Resume v (buffer.Write 0)) ∷ h) in
-      subst P (sym tells.0) (tell_good limits old new flows f.exchange c h e top (a ∙ ap (λ (v : FlowId). after_telling flows.conn.write.above v old.agenda) tells.0) g tells.1);
-  well = (only_moves old new flows e).well;
-}
+-- ---- the step
+tell_steps : (old new : Core) (before after : List Note) (flows : Flows) (told : Told) (c : ℕ) → new ≡ record old { flows = flows; agenda = new.agenda } → slice_get old.agenda 0 ≡ Some (task.Tell c)
+    → new.agenda ≡ after_telling told.next old.agenda → Tells told.n old.flows flows → (u : TellsUpTo old.flows before told after)
+    → Stepped old (resumes_of (buffer.Write 0) (u.still ++ option_to_list told.next)) new
+tell_steps old new before after flows told c e top a tells u =
+    let fs = u.still ++ option_to_list told.next in
+    record {
+      spelled = spelled_resumes fs;
+      silent = silent_resumes fs;
+      goes = λ limits h g.
+          let lows : pending_lows (plain_setup limits) (buffer.Write 0) h ≡ fs ++ u.rest = sym g.flows.stands.gates.write_pending ∙ u.whole in
+          let is : AreTold limits fs u.rest h (with_all_told fs h) = are_told limits fs u.rest h g.flows.lawful lows in
+          let first : take told.n (pending_lows (plain_setup limits) (buffer.Write 0) h) ≡ fs =
+          ap (λ (v : List FlowId). take told.n v) lows ∙ ap (λ (n : ℕ). take n (fs ++ u.rest)) u.number ∙ take-append_seam fs u.rest in
+          let stands : FlowsStand limits flows (with_all_told fs h) =
+          (let P : List FlowId → Type 0 = λ v. FlowsStand limits flows (with_all_told v h) in subst P first (tells.goes limits h g.flows)) in
+          let live : AllByRecursion (IsLiveFlow (live h)) u.still =
+          (let P : List FlowId → Type 0 = AllByRecursion (IsLiveFlow (live h)) in front_live (IsLiveFlow (live h)) u.still (option_to_list told.next) u.rest (subst P lows g.flows.lawful.regular.books.write_lows)) in
+          good_of limits old new h (with_all_told fs h) (only_moves old new flows e) is.lists.numbers is.paired
+          (let P : Flows → Type 0 = λ v. FlowsStand limits v (with_all_told fs h) in subst P (sym (flows_are old new flows e)) stands)
+          is.settled
+          (let P : Agenda → Type 0 = λ v. Underway limits old.pairs v (with_all_told fs h) in
+          subst P (sym a) (underway_telling limits old.pairs c old.agenda u.still told.next u.rest h g.flows.lawful lows u.last top
+          (rounded_at limits old.pairs (task.Tell c) old.agenda h top g.underway) (still_of limits old.flows u.still h g.flows live u.stay) g.underway)) g;
+      well = (only_moves old new flows e).well;
+    }
 
--- the flow is run where the write buffer isn't above, and only told where it is
-pub told_run : (f : FlowId) (a b : Agenda) (is_above answer : Bool) → answer ≡ is_above → answer ≡ false → b ≡ with_run f a → b ≡ after_telling is_above f a
-told_run f a b is_above answer e low is = is ∙ ap (λ (v : Bool). after_telling v f a) (sym low ∙ e)
-
-told_only : (f : FlowId) (a : Agenda) (is_above answer : Bool) → answer ≡ is_above → answer ≡ true → a ≡ after_telling is_above f a
-told_only f a is_above answer e high = ap (λ (v : Bool). after_telling v f a) (sym high ∙ e)
-
--- ---- one after the other
--- the top of an agenda that stayed
-pub same_top : (a b : Agenda) (t : Task) → b ≡ a → slice_get a 0 ≡ Some t → slice_get b 0 ≡ Some t
-same_top a b t e top = ap (λ (v : Agenda). slice_get v 0) e ∙ top
-
-pub tell_more : (first old : Core) (start before after : List Note) (flows : Flows) (told : Option FlowId) (f : FlowId) (c : ℕ) (answer : Bool) → Keeps first start old before → told ≡ Some f
-    → slice_get old.agenda 0 ≡ Some (task.Tell c) → answer ≡ flows.conn.write.above → answer ≡ true → Tells told old.flows flows → after ≡ before ++ note.Resume f (buffer.Write 0) ∷ []
-    → Keeps first start (with_flows old flows) after
-tell_more first old start before after flows told f c answer k some top is high t e =
-    keeps_more first old (with_flows old flows) start before after k
-    (keeps_of old (with_flows old flows) before (note.Resume f (buffer.Write 0) ∷ []) after e
-    (tell_steps old (with_flows old flows) flows told f c some refl top (told_only f old.agenda flows.conn.write.above answer is high) t))
-
-pub tell_result : (first old new : Core) (start before after : List Note) (flows : Flows) (told : Option FlowId) (f : FlowId) (c : ℕ) (r : Result (Unit {0}) NoMemory) → Keeps first start old before
-    → told ≡ Some f → new ≡ record old { flows = flows; agenda = new.agenda } → slice_get old.agenda 0 ≡ Some (task.Tell c) → new.agenda ≡ after_telling flows.conn.write.above f old.agenda
-    → Tells told old.flows flows → OnOk r (after ≡ before ++ note.Resume f (buffer.Write 0) ∷ []) → OnErr r (after ≡ before) → OnOk r (Keeps first start new after) × Cuts first start after
-tell_result first old new start before after flows told f c r k some e top a t ok err =
-    let n = note.Resume f (buffer.Write 0) in
-    let all = push_appends before after n r ok err in
-    let st = tell_steps old new flows told f c some e top a t in
-    (keeps_then first old new start before after r k (keeps_result old new before (n ∷ []) after r all st), cuts_more first old start before after k (cuts_result old new before (n ∷ []) after r all st))
-
-pub all_told : (first old new : Core) (start before : List Note) (flows : Flows) (told : Option FlowId) (c : ℕ) → Keeps first start old before → told ≡ None
-    → new ≡ record old { flows = flows; agenda = new.agenda } → slice_get old.agenda 0 ≡ Some (task.Tell c) → new.agenda ≡ drop 1 old.agenda → Tells told old.flows flows → Keeps first start new before
-all_told first old new start before flows told c k none e top a t = keeps_more first old new start before before k (told_keeps old new before flows told c none e top a t)
+pub tell_keeps : (old new : Core) (before after : List Note) (flows : Flows) (told : Told) (c : ℕ) → new ≡ record old { flows = flows; agenda = new.agenda } → slice_get old.agenda 0 ≡ Some (task.Tell c)
+    → new.agenda ≡ after_telling told.next old.agenda → Tells told.n old.flows flows → TellsUpTo old.flows before told after → Keeps old before new after
+tell_keeps old new before after flows told c e top a tells u =
+    keeps_of old new before (resumes_of (buffer.Write 0) (u.still ++ option_to_list told.next)) after u.notes (tell_steps old new before after flows told c e top a tells u)
 
 -- ---- the measure
-pub tell_fewer : (old new : Flows) (told : Option FlowId) (f : FlowId) → told ≡ Some f → LessByTelling told old new → left_in new < left_in old
-tell_fewer old new told f some less =
-    let P : Option FlowId → Type 0 = λ v. LessByTelling v old new in
-    let n : left_in new + 4 ≤ left_in old = subst P some less in
-    omega (arith, n)
+-- so many as were told were to be
+told_first : (old : Flows) (before after : List Note) (told : Told) (u : TellsUpTo old before told after)
+    → length (take told.n (pending_on old.gates (buffer.Write 0))) ≡ length (u.still ++ option_to_list told.next)
+told_first old before after told u =
+    let fs = u.still ++ option_to_list told.next in
+    ap (λ (v : List FlowId). length (take told.n v)) u.whole ∙ ap (λ (n : ℕ). length (take n (fs ++ u.rest))) u.number ∙ ap (λ (v : List FlowId). length v) (take-append_seam fs u.rest)
 
-pub tell_less : (first old new : Core) (flows : Flows) (told : Option FlowId) (f : FlowId) → to_go old ≤ to_go first → told ≡ Some f → new ≡ record old { flows = flows; agenda = new.agenda }
-    → new.agenda ≡ after_telling flows.conn.write.above f old.agenda → LessByTelling told old.flows flows → to_go new < to_go first
-tell_less first old new flows told f le some e a less =
-    let P : Option FlowId → Type 0 = λ v. LessByTelling v old.flows flows in
-    let n : left_in flows + 4 ≤ left_in old.flows = subst P some less in
-    let w = weight_telling flows.conn.write.above f old.agenda in
-    let b = ap (λ (v : Agenda). sum_by weight v) a in
+told_some : (fs : List FlowId) (f : FlowId) → 1 ≤ length (fs ++ f ∷ [])
+told_some fs f = let n = length-append fs (f ∷ []) in omega (arith, n)
+
+tell_weight : (a b : Agenda) (c : ℕ) (next : Option FlowId) (fs : List FlowId) (l m : ℕ) → slice_get a 0 ≡ Some (task.Tell c) → b ≡ after_telling next a
+    → l + 4 * length (fs ++ option_to_list next) ≤ m → l + sum_by weight b < m + sum_by weight a
+tell_weight a b c (Some f) fs l m top e n =
+    let s = told_some fs f in
+    let w = weight_run f a in
+    let g = ap (λ (v : Agenda). sum_by weight v) e in
+    omega (arith, n, s, w, g)
+tell_weight a b c None fs l m top e n =
+    let w = weight_top (task.Tell c) a top in
+    let g = ap (λ (v : Agenda). sum_by weight v) e in
+    omega (arith, n, w, g)
+
+pub tell_less : (old new : Core) (before after : List Note) (flows : Flows) (told : Told) (c : ℕ) → new ≡ record old { flows = flows; agenda = new.agenda } → slice_get old.agenda 0 ≡ Some (task.Tell c)
+    → new.agenda ≡ after_telling told.next old.agenda → left_in flows + 4 * length (take told.n (pending_on old.flows.gates (buffer.Write 0))) ≤ left_in old.flows
+    → TellsUpTo old.flows before told after → to_go new < to_go old
+tell_less old new before after flows told c e top a n u =
+    let t = told_first old.flows before after told u in
+    let k : left_in flows + 4 * length (u.still ++ option_to_list told.next) ≤ left_in old.flows = (let P : ℕ → Type 0 = λ v. left_in flows + 4 * v ≤ left_in old.flows in subst P t n) in
+    let w = tell_weight old.agenda new.agenda c told.next u.still (left_in flows) (left_in old.flows) top a k in
     let l = ap (λ (v : Flows). left_in v) (flows_are old new flows e) in
-    omega (arith, le, n, w, b, l)
+    omega (arith, w, l)
 
-pub told_lessens : (first old : Core) (flows : Flows) (told : Option FlowId) (f : FlowId) → to_go old ≤ to_go first → told ≡ Some f → LessByTelling told old.flows flows
-    → to_go (with_flows old flows) ≤ to_go first
-told_lessens first old flows told f le some less = let n = tell_fewer old.flows flows told f some less in omega (arith, le, n)
+-- ---- the one that goes on is run, where memory isn't refused
+pub run_keeps : (old new : Core) (before after : List Note) (flows : Flows) (told : Told) (f : FlowId) (c : ℕ) (r : Result (Unit {0}) NoMemory) → new ≡ record old { flows = flows; agenda = new.agenda }
+    → slice_get old.agenda 0 ≡ Some (task.Tell c) → told.next ≡ Some f → OnOk r (new.agenda ≡ with_run f old.agenda) → Tells told.n old.flows flows → TellsUpTo old.flows before told after
+    → OnOk r (Keeps old before new after)
+run_keeps old new before after flows told f c (Ok k) e top some a tells u =
+    tell_keeps old new before after flows told c e top (a ∙ ap (λ (v : Option FlowId). after_telling v old.agenda) (sym some)) tells u
+run_keeps old new before after flows told f c (Err k) e top some a tells u = tt
 
-pub all_told_less : (first old new : Core) (flows : Flows) (told : Option FlowId) (c : ℕ) → to_go old ≤ to_go first → told ≡ None → new ≡ record old { flows = flows; agenda = new.agenda }
-    → slice_get old.agenda 0 ≡ Some (task.Tell c) → new.agenda ≡ drop 1 old.agenda → LessByTelling told old.flows flows → to_go new < to_go first
-all_told_less first old new flows told c le none e top a less = let l = told_less old new flows told c none e top a less in omega (arith, le, l)
+pub run_less : (old new : Core) (before after : List Note) (flows : Flows) (told : Told) (f : FlowId) (c : ℕ) (r : Result (Unit {0}) NoMemory) → new ≡ record old { flows = flows; agenda = new.agenda }
+    → slice_get old.agenda 0 ≡ Some (task.Tell c) → told.next ≡ Some f → OnOk r (new.agenda ≡ with_run f old.agenda)
+    → left_in flows + 4 * length (take told.n (pending_on old.flows.gates (buffer.Write 0))) ≤ left_in old.flows → TellsUpTo old.flows before told after → OnOk r (to_go new < to_go old)
+run_less old new before after flows told f c (Ok k) e top some a n u =
+    tell_less old new before after flows told c e top (a ∙ ap (λ (v : Option FlowId). after_telling v old.agenda) (sym some)) n u
+run_less old new before after flows told f c (Err k) e top some a n u = tt
+
+-- none is left to be told
+pub none_goes_on : (a b : Agenda) (next : Option FlowId) → next ≡ None → b ≡ drop 1 a → b ≡ after_telling next a
+none_goes_on a b next none e = e ∙ ap (λ (v : Option FlowId). after_telling v a) (sym none)

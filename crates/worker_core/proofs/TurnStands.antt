@@ -20,6 +20,7 @@ use Rattle.worker_core.specs.declared.flows.Flows.{Flows}
 use Rattle.flow_gate.specs.declared.ids.BufferId.TheVariants as buffer
 use Rattle.flow_notes.specs.declared.events.Event.TheVariants as event
 use Rattle.flow_notes.specs.declared.notes.Note.TheVariants as note
+use Rattle.worker_core.proofs.FlowHolds.{holding_kept}
 
 abbrev pub turned : ℕ → PlainEvent → Step NoMark
 turned k e = Noted (note.Turn k (event.Plain e))
@@ -96,4 +97,5 @@ turn_stands limits k e h flows same s = record {
   };
   gates = turn_gates limits k e h flows s.gates;
   conn = turn_conn limits k e h flows (some_quantum limits s.ranges) same s.conn;
+  holding = holding_kept limits flows.holding h (turned k e ∷ h) s.holding refl (λ x. refl);
 }

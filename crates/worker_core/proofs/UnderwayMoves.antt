@@ -1,11 +1,9 @@
 -- What is under way, from one history to the next.
 use Rattle.plain_laws.proofs.Changes.{frame_before, frame_end_framed, frame_here, frame_keeps, frame_keeps_lists, frame_must, frame_paired, frame_recv, frame_write_lows, move_before, move_end_framed, move_keeps, move_keeps_lists, move_keeps_write, move_must, move_paired, move_recv}
 use Rattle.plain_laws.proofs.Counting.{one_if}
-use Rattle.plain_laws.proofs.Counts.{frame_count, move_count, tell_count}
-use Rattle.plain_laws.proofs.Keepings.{resume_keeps, write_resume_lows}
+use Rattle.plain_laws.proofs.Counts.{frame_count, move_count}
 use Rattle.plain_laws.proofs.Pairing.{must_frame_is}
 use Rattle.plain_laws.proofs.Rotation.{next_is_unit, none_next}
-use Rattle.plain_laws.proofs.Steps.{settled_count, tell_step}
 use Rattle.plain_laws.proofs.Streams.{both_of, by_case, not_both, number_is, or_left, or_right, own_or_other}
 use Rattle.plain_laws.specs.Next.{is_ready}
 use Rattle.plain_laws.specs.Settled.{Settled}
@@ -26,8 +24,8 @@ use Rattle.tape_laws.specs.Plain.{paired_with, plain_must_end, plain_setup}
 use Rattle.tape_laws.specs.Watermark.{above, drains_at}
 use Rattle.tape_laws.specs.World.{place}
 use Rattle.tape_laws.specs.declared.limits.PlainLimits.{PlainLimits}
-use Rattle.worker_core.proofs.Agendas.{Grounds, Holds, Runs, after_telling, drained_runs, ended_dooms, frame_reasons, grounds_run, grounds_same, holds_end_drain, holds_end_run, holds_frame, holds_run, holds_same, run_is, runs_end_drain, runs_end_run, runs_frame, runs_run, top_is}
-use Rattle.worker_core.specs.Agenda.{Agenda, after_frame, is_rounded, is_run_of, is_telling, with_run}
+use Rattle.worker_core.proofs.Agendas.{Grounds, Holds, Runs, drained_runs, ended_dooms, frame_reasons, holds_end_drain, holds_end_run, holds_frame, runs_end_drain, runs_end_run, runs_frame, top_is}
+use Rattle.worker_core.specs.Agenda.{Agenda, after_frame, is_rounded, is_run_of, is_telling}
 use Rattle.worker_core.specs.Carries.{NextIs, NoNext, may_move}
 use Rattle.worker_core.specs.Progress.{EndedHere, HasFramed, HasReason, Pairs, Underway, will_doom}
 use Rattle.worker_core.specs.declared.agenda.Task.{Task}
@@ -197,7 +195,7 @@ move_leaves_work limits x n h = record {
 shorter : (xs ys : List ℕ) (n : ℕ) → xs ≡ drop n ys → length xs ≤ length ys
 shorter xs ys n e = let l = length-drop n ys in let m = ap length e in omega (arith, l, m)
 
-same_length : (xs ys : List ℕ) → xs ≡ ys → length xs ≤ length ys
+pub same_length : (xs ys : List ℕ) → xs ≡ ys → length xs ≤ length ys
 same_length xs ys e = let m = ap length e in omega (arith, m)
 
 was_none : (a b c : ℕ) → a ≡ c + b → a ≡ 0 → b ≡ 0
@@ -209,50 +207,6 @@ moves_after_move limits x y n h s l m =
     moves_back limits y h (onto (move_notes limits x n h) h) (λ e. was_none _ _ _ (move_count limits x y n h s l) e)
     (own_or_other (λ v. length (place (plain_setup limits) (request v) 0 (onto (move_notes limits x n h) h)) ≤ length (place (plain_setup limits) (request v) 0 h)) x y
     (shorter _ _ n (move_recv limits x n h)) (λ d. same_length _ _ (move_keeps limits x y n h d).recv)) m
-
--- ---- a telling
-pub tell_leaves_work : (limits : PlainLimits) (x : ℕ) (h : History NoMark) → LeavesWork limits h (Noted (note.Resume (request x) (buffer.Write 0)) ∷ h)
-tell_leaves_work limits x h = record {
-  lives = λ y l. l;
-  told = λ e. write_resume_lows limits (request x) h ∙ ap (λ (v : List FlowId). drop 1 v) e;
-  must = λ y l e. e;
-  ends = record { framed = λ y e. e; before = refl; paired = λ y. refl };
-}
-
-still_none : (a b : ℕ) (w : Bool) → a + one_if w ≡ b → w ≡ false → a ≡ 0 → b ≡ 0
-still_none a b true e f g = cc
-still_none a b false e f g = omega arith
-
--- where the write buffer is above each stream is held back
-some_count : (c a w m : ℕ) → c ≡ (a + w) + m → w ≡ 1 → 1 ≤ c
-some_count c a w m e f = omega (arith, e, f)
-
-not_zero : (n : ℕ) → 1 ≤ n → (n == 0) ≡ false
-not_zero n l = grind (arith, nat_tests)
-
-neither : (a b : Bool) → a ≡ false → (a && b) ≡ false
-neither true b e = cc
-neither false b e = refl
-
-pub still_above : (limits : PlainLimits) (x : ℕ) (h : History NoMark) → Settled limits h → has (live h) x ≡ true → above (plain_setup limits) (buffer.Write 0) h ≡ true → may_move limits x h ≡ false
-still_above limits x h s l e =
-    neither (count (request x) h == 0) (nat_lt 0 (length (place (plain_setup limits) (request x) 0 h)))
-    (not_zero (count (request x) h) (some_count _ _ _ _ (settled_count limits x h s l) (ap one_if e)))
-
-pub underway_tell : (limits : PlainLimits) (pairs : Pairs) (is_above : Bool) (a : Agenda) (x : ℕ) (rest : List FlowId) (h : History NoMark) → Settled limits h
-    → pending_lows (plain_setup limits) (buffer.Write 0) h ≡ request x ∷ rest → is_rounded a ≡ true
-    → is_above ≡ above (plain_setup limits) (buffer.Write 0) (Noted (note.Resume (request x) (buffer.Write 0)) ∷ h)
-    → Underway limits pairs a h → Underway limits pairs (after_telling is_above (request x) a) (Noted (note.Resume (request x) (buffer.Write 0)) ∷ h)
-underway_tell limits pairs true a x rest h s first r high u =
-    let k : History NoMark = Noted (note.Resume (request x) (buffer.Write 0)) ∷ h in
-    underway_of limits pairs a a h k (holds_same a) (grounds_same a) (tell_leaves_work limits x h) r
-    (λ y l m. not_both (may_move limits y k) m (still_above limits y k (tell_step limits x rest h s first) l (sym high))) u
-underway_tell limits pairs false a x rest h s first r high u =
-    underway_of limits pairs a (with_run (request x) a) h (Noted (note.Resume (request x) (buffer.Write 0)) ∷ h) (holds_run (request x) a) (grounds_run (request x) a) (tell_leaves_work limits x h) r
-    (λ y l m. by_case (x == y) (λ e. subst (λ (v : ℕ). list_any (is_run_of (request v)) (with_run (request x) a) ≡ true) (number_is x y e) (run_is x a))
-    (λ d. (runs_run (request x) a).runs (request y) (u.runs y l
-    (moves_back limits y h (Noted (note.Resume (request x) (buffer.Write 0)) ∷ h) (λ e. still_none _ _ _ (tell_count limits x y rest h s l first) d e)
-    (same_length _ _ (resume_keeps limits y (request x) (buffer.Write 0) h).recv) m)))) u
 
 -- ---- a frame
 frame_ended_kept : (limits : PlainLimits) (x y n : ℕ) (last : Bool) (h : History NoMark) → end_framed (plain_setup limits) (request y) h ≡ true

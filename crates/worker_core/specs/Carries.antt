@@ -4,7 +4,7 @@ use Rattle.flow_gate.specs.declared.ids.FlowId.{FlowId}
 use Rattle.flow_notes.specs.declared.events.PlainEvent.{PlainEvent}
 use Rattle.flow_notes.specs.declared.notes.Cause.{Cause}
 use Rattle.plain_laws.specs.StepNotes.{begin_notes, body_notes, frame_notes, move_notes, room_notes}
-use Rattle.std.specs.Prelude.{Bool, List, None, Option, IfSome, Some, [], false, length, min, nat_lt, true, ℕ, ◌&&◌, ◌+◌, ◌<◌, ◌==◌, ◌∷◌, ◌≡◌, ◌≤◌, ◌⊎◌}
+use Rattle.std.specs.Prelude.{Bool, List, None, Option, IfSome, Some, [], false, length, min, nat_lt, take, true, ℕ, ◌&&◌, ◌+◌, ◌<◌, ◌==◌, ◌∷◌, ◌≡◌, ◌≤◌, ◌⊎◌}
 use Rattle.tape_laws.specs.Dispatches.{has, live, started}
 use Rattle.tape_laws.specs.Doomed.{condemned}
 use Rattle.tape_laws.specs.Ends.{BodyUnit}
@@ -17,6 +17,7 @@ use Rattle.tape_laws.specs.Watermark.{above, drains_at, rises_at}
 use Rattle.tape_laws.specs.World.{place}
 use Rattle.tape_laws.specs.declared.limits.PlainLimits.{PlainLimits}
 use Rattle.worker_core.specs.Flows.{FlowsStand, Settled}
+use Rattle.worker_core.specs.Noting.{resumes_of}
 use Rattle.worker_core.specs.declared.flows.Flows.{Flows}
 use Rattle.worker_core.specs.declared.flows.Framed.{Framed}
 use Rattle.worker_core.specs.declared.flows.Moved.{Moved}
@@ -37,6 +38,24 @@ pub record Fits (flows : Flows) (x n : ℕ) (answer : Bool) : Type 0 where
       → length (place (plain_setup limits) (request x) 0 h) + n ≤ limits.recv
   pub no : (limits : PlainLimits) (h : History NoMark) → Settled limits flows h → has (live h) x ≡ true → answer ≡ false
       → limits.recv < length (place (plain_setup limits) (request x) 0 h) + n
+
+-- whether its receive buffer holds octets
+pub record Holds (flows : Flows) (x : ℕ) (answer : Bool) : Type 0 where
+  pub goes : (limits : PlainLimits) (h : History NoMark) → Settled limits flows h → has (live h) x ≡ true
+      → answer ≡ nat_lt 0 (length (place (plain_setup limits) (request x) 0 h))
+
+-- nothing of it moves when it is told that the write buffer drained: that is above, or its receive buffer is empty
+pub record IsStill (limits : PlainLimits) (x : ℕ) (h : History NoMark) : Type 0 where
+  pub still : (above (plain_setup limits) (buffer.Write 0) h ≡ true) ⊎ (nat_lt 0 (length (place (plain_setup limits) (request x) 0 h)) ≡ false)
+
+-- octets of it may move when it is told, or those of some stream may be framed
+pub record WakesAt (limits : PlainLimits) (x : ℕ) (h : History NoMark) : Type 0 where
+  pub low : above (plain_setup limits) (buffer.Write 0) h ≡ false
+  pub some : (nat_lt 0 (length (place (plain_setup limits) (request x) 0 h)) ≡ true) ⊎ (next_on (plain_setup limits) 0 h ≡ Nothing → ⊥)
+
+pub record Wakes (flows : Flows) (x : ℕ) (answer : Bool) : Type 0 where
+  pub yes : (limits : PlainLimits) (h : History NoMark) → Settled limits flows h → has (live h) x ≡ true → answer ≡ true → WakesAt limits x h
+  pub no : (limits : PlainLimits) (h : History NoMark) → Settled limits flows h → has (live h) x ≡ true → answer ≡ false → IsStill limits x h
 
 -- the frame that goes next, where the write buffer isn't above
 pub record NextIs (next : NextFrame) (limits : PlainLimits) (h : History NoMark) : Type 0 where
@@ -92,22 +111,10 @@ pub record FramesAt (next : NextFrame) (framed : Framed) (limits : PlainLimits) 
 pub record Frames (next : NextFrame) (framed : Framed) (old new : Flows) : Type 0 where
   pub goes : (limits : PlainLimits) (h : History NoMark) → Settled limits old h → NextIs next limits h → FramesAt next framed limits new h
 
--- a watcher of the write buffer is told that it drained, where any is to be told
-pub record TellsAt (x : ℕ) (limits : PlainLimits) (new : Flows) (h : History NoMark) : Type 0 where
-  pub rest : List FlowId
-  pub first : pending_lows (plain_setup limits) (buffer.Write 0) h ≡ request x ∷ rest
-  pub stands : FlowsStand limits new (Noted (note.Resume (request x) (buffer.Write 0)) ∷ h)
-
-pub record ToldAll (limits : PlainLimits) (new : Flows) (h : History NoMark) : Type 0 where
-  pub none : pending_lows (plain_setup limits) (buffer.Write 0) h ≡ []
-  pub stands : FlowsStand limits new h
-
-abbrev pub TellsAs : Option FlowId → PlainLimits → Flows → History NoMark → Type 0
-TellsAs (Some f) limits new h = (f ≡ request f.exchange) × TellsAt f.exchange limits new h
-TellsAs None limits new h = ToldAll limits new h
-
-pub record Tells (told : Option FlowId) (old new : Flows) : Type 0 where
-  pub goes : (limits : PlainLimits) (h : History NoMark) → Settled limits old h → TellsAs told limits new h
+-- the first n watchers of the write buffer that are to be told that it drained are told, or all where there are fewer
+pub record Tells (n : ℕ) (old new : Flows) : Type 0 where
+  pub goes : (limits : PlainLimits) (h : History NoMark) → Settled limits old h
+      → FlowsStand limits new (onto (resumes_of (buffer.Write 0) (take n (pending_lows (plain_setup limits) (buffer.Write 0) h))) h)
 
 -- a live stream is doomed, by a step or by the event of a turn note
 pub record Dooms (x : ℕ) (why : Cause) (old new : Flows) : Type 0 where

@@ -8,9 +8,9 @@ use Rattle.plain_laws.specs.Next.{is_ready}
 use Rattle.plain_laws.specs.Regular.{AtMost}
 use Rattle.plain_laws.specs.Settled.{Settled as IsSettledHistory}
 use Rattle.proxy_config.specs.Ranges.{IsBetween, most_octets}
-use Rattle.std.specs.BTreeSet.{contains}
+use Rattle.std.specs.BTreeSet.{BTreeSet, contains}
 use Rattle.std.specs.Ordering.{nat_cmp}
-use Rattle.std.specs.Prelude.{None, Option, Some, [], false, if◌then◌else◌, map, true, ℕ, ◌&&◌, ◌<◌, ◌^◌, ◌≡◌, ◌≤◌, ◌∷◌, ◌⊎◌}
+use Rattle.std.specs.Prelude.{None, Option, Some, [], false, if◌then◌else◌, length, map, nat_lt, true, ℕ, ◌&&◌, ◌<◌, ◌^◌, ◌≡◌, ◌≤◌, ◌∷◌, ◌⊎◌}
 use Rattle.tape_laws.specs.Dispatches.{has, live, started}
 use Rattle.tape_laws.specs.Doomed.{condemned}
 use Rattle.tape_laws.specs.Ends.{end_framed}
@@ -82,12 +82,17 @@ pub record ConnectionIs (limits : PlainLimits) (conn : Connection) (h : History 
   pub framed_last : conn.framed_last ≡ framed_last (plain_setup limits) 0 h
   pub ready : (x : ℕ) → contains nat_cmp conn.ready x ≡ (has (live h) x && is_ready limits x h)
 
+-- these are the live streams whose receive buffer holds octets
+pub record HoldingIs (limits : PlainLimits) (holding : BTreeSet ℕ) (h : History NoMark) : Type 0 where
+  pub holds : (x : ℕ) → contains nat_cmp holding x ≡ (has (live h) x && nat_lt 0 (length (place (plain_setup limits) (request x) 0 h)))
+
 pub record FlowsStand (limits : PlainLimits) (flows : Flows) (h : History NoMark) : Type 0 where
   pub limits_are : flows.limits ≡ limits
   pub ranges : AreLimits limits
   pub exchanges : ExchangesAre limits flows.exchanges h
   pub gates : GatesAre limits flows.gates h
   pub conn : ConnectionIs limits flows.conn h
+  pub holding : HoldingIs limits flows.holding h
 
 -- between two small steps
 pub record Settled (limits : PlainLimits) (flows : Flows) (h : History NoMark) : Type 0 where

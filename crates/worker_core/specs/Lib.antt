@@ -8,5 +8,6 @@ pub mod Progress
 pub mod Ready
 pub mod Runs
 pub mod Stands
+pub mod Telling
 pub mod Tops
 pub mod UnitsOf

@@ -5,7 +5,6 @@ use Rattle.std.specs.List.{sum_by}
 use Rattle.std.specs.Prelude.{None, Option, Some, if◌then◌else◌, length, ℕ, ◌*◌, ◌+◌, ◌≤◌}
 use Rattle.worker_core.specs.declared.agenda.Task.{Task}
 use Rattle.worker_core.specs.declared.worker.Core.{Core}
-use Rattle.flow_gate.specs.declared.ids.FlowId.{FlowId}
 use Rattle.worker_core.specs.declared.flows.Flows.{Flows}
 use Rattle.worker_core.specs.declared.flows.Moved.{Moved}
 use Rattle.worker_core.specs.declared.flows.NextFrame.{NextFrame}
@@ -35,11 +34,6 @@ LessByMove None old new = left_in new ≤ left_in old
 -- a frame lets some go, or the end
 abbrev pub of_frame : NextFrame → ℕ
 of_frame next = if next.last then 7 else 5
-
--- one flow fewer is to be told
-abbrev pub LessByTelling : Option FlowId → Flows → Flows → Type 0
-LessByTelling (Some f) old new = left_in new + 4 ≤ left_in old
-LessByTelling None old new = left_in new ≤ left_in old
 
 abbrev pub weight : Task → ℕ
 weight task.Round = 1

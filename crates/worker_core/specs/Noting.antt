@@ -18,6 +18,10 @@ pauses_of b fs = map (λ f. note.Pause f b) fs
 abbrev pub rise_of : Bool → BufferId → List FlowId → List Note
 rise_of rose b fs = if rose then pauses_of b fs else []
 
+-- a resume of each flow, where the buffer drained
+abbrev pub resumes_of : BufferId → List FlowId → List Note
+resumes_of b fs = map (λ f. note.Resume f b) fs
+
 -- the resume of a flow's send buffer, where it drained
 abbrev pub low_of : Bool → FlowId → List Note
 low_of drained f = if drained then note.Resume f (buffer.Send f) ∷ [] else []

@@ -1,7 +1,7 @@
 -- Which exchange of a connection has its turn.
 use Rattle.std.specs.BTreeSet.{contains}
 use Rattle.std.specs.Ordering.{nat_cmp}
-use Rattle.std.specs.Prelude.{None, Option, Some, false, true, ℕ, ◌≡◌, ◌≤◌, ◌<◌, ◌⊎◌}
+use Rattle.std.specs.Prelude.{Bool, None, Option, Some, false, true, ℕ, ◌≡◌, ◌≤◌, ◌<◌, ◌⊎◌}
 use Rattle.wm_buffer.specs.Buffer.{empty_buffer}
 use Rattle.worker_core.specs.declared.conn.Connection.{Connection}
 
@@ -13,6 +13,11 @@ pub record IsNewConnection (limit : ℕ) (conn : Connection) : Type 0 where
 -- the exchange is ready
 abbrev pub is_ready_on : Connection → ℕ → Type 0
 is_ready_on conn x = contains nat_cmp conn.ready x ≡ true
+
+-- whether none is ready
+pub record IsIdle (conn : Connection) (answer : Bool) : Type 0 where
+  pub none : answer ≡ true → (x : ℕ) → contains nat_cmp conn.ready x ≡ false
+  pub some : answer ≡ false → ((x : ℕ) → contains nat_cmp conn.ready x ≡ false) → ⊥
 
 -- the least of the ready ones above a number
 pub record IsLeastAbove (conn : Connection) (last x : ℕ) : Type 0 where

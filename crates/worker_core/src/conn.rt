@@ -3,7 +3,7 @@ ghost use Rattle.std.specs.Prelude.{◌≡◌, ◌==◌, ◌||◌, ◌&&◌, not
 ghost use Rattle.std.specs.BTreeSet.{contains};
 ghost use Rattle.std.specs.Ordering.{nat_cmp};
 ghost use Rattle.std.specs.Prelude.{ℕ};
-ghost use Rattle.worker_core.specs.Ready.{IsFirstAbove, IsFirst, IsNewConnection, IsNext};
+ghost use Rattle.worker_core.specs.Ready.{IsFirstAbove, IsFirst, IsIdle, IsNewConnection, IsNext};
 
 use io_ports::NoMemory;
 use std::alloc::Global;
@@ -32,6 +32,13 @@ impl Connection {
             framed_last: 0,
             ready: BTreeSet::new(alloc),
         }
+    }
+
+    /// Whether no exchange has a unit for this connection.
+    pub(crate) fn is_idle(&self) -> bool
+        ensures { IsIdle self.now result }
+    {
+        self.first().is_none()
     }
 
     /// The exchange whose turn is next: by number in rotation, after the one framed last.

@@ -11,7 +11,7 @@ ghost use Rattle.worker_core.specs.declared.agenda.Task.TheVariants as task;
 
 use crate::agenda::Task;
 use crate::flows::{Framed, NextFrame, request};
-use crate::noting::{note_and_rise, note_low};
+use crate::noting::{note_and_rise, note_low, note_resumes};
 use crate::worker::Core;
 use flow_gate::BufferId;
 use flow_notes::{Note, Notes};
@@ -115,8 +115,8 @@ impl Core {
         Ok(())
     }
 
-    // Tells the watchers of the write buffer that it drained, one after the other, until one of them is run; or ends
-    // the telling. While the write buffer is above, nothing of a flow that is told may go on.
+    // Tells the watchers of the write buffer that it drained, one after the other, until one of them goes on, which is
+    // run; or ends the telling.
     pub(crate) fn tell(&mut self, notes: &mut Notes) -> Result<(), NoMemory>
         requires good { IsGood self.old notes.old }
         requires top { IsTellTop self.old.agenda }
@@ -124,18 +124,14 @@ impl Core {
         ensures cut { Cuts self.old notes.old notes.new }
         ensures less { OnOk result (to_go self.new < to_go self.old) }
     {
-        while let Some(flow) = self.flows.tell() {
-            let resume = Note::Resume {
-                flow,
-                buffer: BufferId::Write(0),
-            };
-            if !self.flows.conn.write.is_above() {
-                self.begin_run(flow)?;
-                return notes.push(resume);
+        let told = note_resumes(&self.flows, notes)?;
+        self.flows.tell(told.n);
+        match told.next {
+            Some(flow) => self.begin_run(flow),
+            None => {
+                self.agenda.pop();
+                Ok(())
             }
-            notes.push(resume)?;
         }
-        self.agenda.pop();
-        Ok(())
     }
 }

@@ -1,27 +1,28 @@
 // The flows of a session, with the buffers that their octets lie in and the counts that hold them back.
-ghost use Rattle.std.specs.Prelude.{◌≡◌, ◌<◌, ◌≤◌, ◌+◌, ◌∷◌, [], ℕ, All, length, IfOk, IfSome, OnErr, OnOk, Some, IsTrue, true, false};
+ghost use Rattle.std.specs.Prelude.{◌≡◌, ◌<◌, ◌≤◌, ◌+◌, ◌*◌, ◌∷◌, [], ℕ, All, length, take, IfOk, IfSome, OnErr, OnOk, Some, IsTrue, true, false};
 ghost use Rattle.exchange_core.specs.Plain.{plain_spec};
 ghost use Rattle.exchange_core.specs.Exchanges.{IsLiveFlow};
 ghost use Rattle.std.specs.BTreeSet.{contains};
 ghost use Rattle.std.specs.Ordering.{nat_cmp};
-ghost use Rattle.std.specs.Prelude.{if◌then◌else◌, ◌==◌};
+ghost use Rattle.std.specs.Prelude.{if◌then◌else◌, nat_lt, not, ◌==◌, ◌&&◌, ◌||◌};
 ghost use Rattle.worker_core.specs.Crossings.{MarksCrossed};
-ghost use Rattle.worker_core.specs.Measure.{LessByMove, LessByTelling, left_in, of_frame};
-ghost use Rattle.worker_core.specs.UnitsOf.{has_unit, unit_at};
+ghost use Rattle.worker_core.specs.Measure.{LessByMove, left_in, of_frame};
+ghost use Rattle.worker_core.specs.UnitsOf.{has_unit, is_emptied, unit_at};
 ghost use Rattle.flow_gate.specs.Board.{IsSound as AreSoundGates, is_known, is_marked, pending_on, watchers_of};
 ghost use Rattle.proxy_config.specs.Ranges.{IsRoute};
 ghost use Rattle.tape_laws.specs.Flows.{request as flow_of};
-ghost use Rattle.worker_core.specs.Carries.{Arrives, Begins, Dooms, Ends, Fits, Frames, GoesOn, IsNextFrame, Leaves, Lives, Steps, Sweeps, Tells};
+ghost use Rattle.worker_core.specs.Carries.{Arrives, Begins, Dooms, Ends, Fits, Frames, GoesOn, Holds, IsNextFrame, Leaves, Lives, Steps, Sweeps, Tells, Wakes};
 ghost use Rattle.worker_core.specs.Flows.{AreLimits, IsSettled, Settled};
 
 use crate::conn::Connection;
 use crate::heads::data_head;
 use exchange_core::{Exchanges, StartSpec, Step, Unit};
-use flow_gate::{BufferId, FlowId, Gates};
+use flow_gate::{BufferId, FlowId, Gates, Watchers};
 use flow_notes::Cause;
 use io_ports::NoMemory;
 use proxy_config::Config;
 use std::alloc::Global;
+use std::collections::BTreeSet;
 use tape_laws::PlainLimits;
 use wm_buffer::{Crossed, Shifted};
 
@@ -57,6 +58,8 @@ pub struct Flows {
     pub(crate) exchanges: Exchanges,
     pub(crate) gates: Gates,
     pub(crate) conn: Connection,
+    /// The exchanges whose receive buffer holds octets.
+    pub(crate) holding: BTreeSet<u64>,
 }
 
 impl Flows {
@@ -72,6 +75,7 @@ impl Flows {
             exchanges: Exchanges::new(alloc),
             gates,
             conn: Connection::new(alloc, limits.write),
+            holding: BTreeSet::new(alloc),
         })
     }
 
@@ -125,6 +129,13 @@ impl Flows {
         n <= window && held <= window - n
     }
 
+    /// Whether the receive buffer of a live exchange holds octets.
+    pub(crate) fn holds(&self, exchange: u64) -> bool
+        ensures { Holds self.now exchange result }
+    {
+        self.holding.contains(&exchange)
+    }
+
     /// Octets arrive in the receive buffer of a live exchange.
     pub(crate) fn arrive(&mut self, exchange: u64, octets: &[u8]) -> Result<(), NoMemory>
         requires settled { IsSettled self.old }
@@ -132,7 +143,11 @@ impl Flows {
         requires goes_on { GoesOn self.old exchange }
         ensures { OnOk result (Arrives exchange octets.now self.old self.new) }
     {
-        self.exchanges.arrive(request(exchange), octets)
+        self.exchanges.arrive(request(exchange), octets)?;
+        if octets.is_empty() {
+            return Ok(());
+        }
+        self.hold(exchange)
     }
 
     /// The end of a live exchange came.
@@ -157,6 +172,7 @@ impl Flows {
         let Step::Moved { n, shifted, .. } = self.exchanges.step(flow, &self.gates)? else {
             return Ok(None);
         };
+        self.see_left(exchange, n);
         let rose = shifted.to == Crossed::High;
         if rose {
             self.gates.high(BufferId::Send(flow));
@@ -233,13 +249,32 @@ impl Flows {
         drained
     }
 
-    /// The next watcher of the write buffer that is to be told of its drain is told.
-    pub(crate) fn tell(&mut self) -> Option<FlowId>
-        requires { IsSettled self.old }
-        ensures tells { Tells result self.old self.new }
-        ensures less { LessByTelling result self.old self.new }
+    /// The flows that are still to be told that the write buffer drained, in order.
+    pub(crate) fn lows(&self) -> Watchers<'_>
+        ensures { result ≡ pending_on self.now.gates (BufferId.Write 0) }
     {
-        self.gates.next_low(BufferId::Write(0))
+        self.gates.lows(BufferId::Write(0))
+    }
+
+    /// The first n of those flows are told, or all where there are fewer.
+    pub(crate) fn tell(&mut self, n: usize)
+        ensures tells { Tells n self.old self.new }
+        ensures less { left_in self.new + 4 * length (take n (pending_on self.old.gates (BufferId.Write 0))) ≤ left_in self.old }
+    {
+        self.gates.take_lows(BufferId::Write(0), n);
+    }
+
+    /// Whether anything goes on once a live exchange is told that the write buffer drained: octets of it move, or some
+    /// unit is framed.
+    pub(crate) fn wakes(&self, exchange: u64) -> bool
+        requires settled { IsSettled self.now }
+        requires live { Lives self.now exchange true }
+        ensures { Wakes self.now exchange result }
+    {
+        if self.conn.write.is_above() {
+            return false;
+        }
+        !self.conn.is_idle() || self.holds(exchange)
     }
 
     /// A live exchange is doomed.
@@ -251,6 +286,7 @@ impl Flows {
     {
         let _replies = self.exchanges.doom(exchange, cause, false, &mut self.gates);
         self.conn.unready(exchange);
+        self.unhold(exchange);
     }
 
     /// The first of the doomed exchanges is gone.
@@ -258,6 +294,35 @@ impl Flows {
         ensures { Sweeps result self.old self.new }
     {
         self.exchanges.sweep()
+    }
+
+    // From now on the receive buffer of the exchange holds octets.
+    fn hold(&mut self, exchange: u64) -> Result<(), NoMemory>
+        ensures holding { OnOk result ((x : ℕ) → contains nat_cmp self.new.holding x ≡ ((exchange == x) || contains nat_cmp self.old.holding x)) }
+        ensures rest { self.new ≡ record self.old { holding = self.new.holding } }
+    {
+        self.holding.insert(exchange)?;
+        Ok(())
+    }
+
+    // From now on it holds none.
+    fn unhold(&mut self, exchange: u64)
+        ensures holding { (x : ℕ) → contains nat_cmp self.new.holding x ≡ (not (exchange == x) && contains nat_cmp self.old.holding x) }
+        ensures rest { self.new ≡ record self.old { holding = self.new.holding } }
+    {
+        self.holding.remove(&exchange);
+    }
+
+    // Says whether a move of n octets left any in the receive buffer of a live exchange: less than a quantum is all
+    // that was there.
+    fn see_left(&mut self, exchange: u64, n: u32)
+        requires { IsLiveFlow self.old.exchanges (flow_of exchange) }
+        ensures holding { (x : ℕ) → contains nat_cmp self.new.holding x ≡ (not ((exchange == x) && (nat_lt n self.old.limits.quantum || is_emptied self.old exchange)) && contains nat_cmp self.old.holding x) }
+        ensures rest { self.new ≡ record self.old { holding = self.new.holding } }
+    {
+        if n < self.limits.quantum || self.exchanges.received(request(exchange)) == 0 {
+            self.unhold(exchange);
+        }
     }
 
     // Says whether the flow of a live exchange has a unit now.

@@ -1,11 +1,22 @@
 // The notes of each small step. Where memory is refused, a front of them stands.
-ghost use Rattle.std.specs.Prelude.{◌≡◌, ◌∷◌, ◌++◌, []};
-ghost use Rattle.worker_core.specs.Noting.{AppendsNotes, low_of, pauses_of, rise_of};
-ghost use Rattle.flow_gate.specs.Board.{watchers_of};
+ghost use Rattle.std.specs.Prelude.{◌≡◌, ◌∷◌, ◌++◌, [], IfOk};
+ghost use Rattle.worker_core.specs.Flows.{IsSettled};
+ghost use Rattle.worker_core.specs.Noting.{AppendsNotes, AppendsSome, low_of, pauses_of, resumes_of, rise_of};
+ghost use Rattle.worker_core.specs.Telling.{IsToldNext, TellsUpTo};
+ghost use Rattle.flow_gate.specs.Board.{pending_on, watchers_of};
 
+use crate::flows::Flows;
 use flow_gate::{BufferId, FlowId, Gates};
 use flow_notes::{Note, Notes};
 use io_ports::NoMemory;
+
+/// The flows that were told that the write buffer drained.
+#[derive(Clone, Copy, Debug, PartialEq, Eq)]
+pub struct Told {
+    pub n: usize,
+    /// The last of them, where it goes on.
+    pub next: Option<FlowId>,
+}
 
 /// Writes a pause for each flow that watches the buffer, in the order in which they began to.
 pub(crate) fn note_pauses(
@@ -15,10 +26,7 @@ pub(crate) fn note_pauses(
 ) -> Result<(), NoMemory>
     ensures { AppendsNotes notes.old (pauses_of buffer (watchers_of gates.now buffer)) notes.new result }
 {
-    for flow in gates.watchers(buffer) {
-        notes.push(Note::Pause { flow, buffer })?;
-    }
-    Ok(())
+    notes.push_pauses(gates.watchers(buffer), buffer)
 }
 
 /// Writes a note and then, where its buffer rose, the pauses.
@@ -49,4 +57,35 @@ pub(crate) fn note_low(flow: FlowId, drained: bool, notes: &mut Notes) -> Result
         })?;
     }
     Ok(())
+}
+
+/// Writes a resume for each flow that is to be told that the write buffer drained, up to the first that goes on.
+pub(crate) fn note_resumes(flows: &Flows, notes: &mut Notes) -> Result<Told, NoMemory>
+    requires { IsSettled flows.now }
+    ensures told { IfOk result (λ told. TellsUpTo flows.now notes.old told notes.new) }
+    ensures front { AppendsSome notes.old (resumes_of (BufferId.Write 0) (pending_on flows.now.gates (BufferId.Write 0))) notes.new }
+{
+    let told = next_told(flows);
+    notes.push_resumes(flows.lows(), told.n, BufferId::Write(0))?;
+    Ok(told)
+}
+
+// How many flows are told next, up to the first that goes on, and that one.
+fn next_told(flows: &Flows) -> Told
+    requires { IsSettled flows.now }
+    ensures { IsToldNext flows.now result }
+{
+    let lows = flows.lows();
+    let _most = lows.most();
+    let mut n = 0;
+    for flow in lows {
+        n += 1;
+        if flows.wakes(flow.exchange) {
+            return Told {
+                n,
+                next: Some(flow),
+            };
+        }
+    }
+    Told { n, next: None }
 }

@@ -14,7 +14,7 @@ use io_ports::NoMemory;
 
 impl Core {
     // A move of the flow; or, where nothing may move, a drain of its connection; or, where nothing may be framed
-    // either, the end of its run.
+    // either, the end of its run. While the write buffer is above, it holds every flow back, and nothing may be framed.
     pub(crate) fn run(&mut self, flow: FlowId, notes: &mut Notes) -> Result<(), NoMemory>
         requires good { IsGood self.old notes.old }
         requires top { slice_get self.old.agenda 0 ≡ Some (task.Run flow) }
@@ -23,6 +23,10 @@ impl Core {
         ensures less { OnOk result (to_go self.new < to_go self.old) }
     {
         let exchange = flow.exchange;
+        if self.flows.conn.write.is_above() {
+            self.agenda.pop();
+            return Ok(());
+        }
         if !self.flows.is_live(exchange) {
             self.agenda.pop();
             return Ok(());

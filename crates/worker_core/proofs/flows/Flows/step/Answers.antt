@@ -50,21 +50,24 @@ returns-clause-steps c =
     let moved = ap (λ (v : MoveStep). Some v) (sym c.in-Moved.is) ∙ is in
     elim c.if-rose.branch [
       | then-rose w ↦
+          let mid = w.self-is ∙ ap (λ (f : Flows). record f { gates = w.high.new.self }) c.see_left.ensures.rest in
           let high : c.in-Moved.shifted.to ≡ crossed.High = search rules in
-          moves_all c.args.exchange c.in-Moved.place c.in-Moved.n c.in-Moved.shifted c.in-Moved.overflow c.eq-rose.result old c.refresh.new.self c.step.new.self w.high.new.self moved change c.step.ensures.sound
+          moves_all c.args.exchange c.in-Moved.place c.in-Moved.n c.in-Moved.shifted c.in-Moved.overflow c.eq-rose.result old c.refresh.new.self c.step.new.self w.high.new.self c.see_left.new.self.holding moved change c.step.ensures.sound
           (w.if-rose.true ∙ sym (ap is_high high))
-          (subst (λ r. RisesSend r c.args.exchange old.gates w.high.new.self) (sym w.if-rose.true) (subst (λ f. Rises (buffer.Send f) old.gates w.high.new.self) c.request-flow.ensures w.high.ensures.rises))
+          (subst (λ r. RisesSend r c.args.exchange old.gates w.high.new.self) (sym w.if-rose.true) (subst (λ f. Rises (buffer.Send f) old.gates w.high.new.self) c.request-flow.ensures
+          (subst (λ b. Rises (buffer.Send c.request-flow.result) b w.high.new.self) (ap (λ (f : Flows). f.gates) c.see_left.ensures.rest) w.high.ensures.rises)))
           (λ was. w.high.ensures.sound)
-          (c.refresh.ensures.rest ∙ ap (λ (f : Flows). record f { conn = record f.conn { ready = c.refresh.new.self.conn.ready } }) w.self-is)
-          (subst (λ (f : Flows). (y : ℕ) → contains nat_cmp c.refresh.new.self.conn.ready y ≡ (if c.args.exchange == y then has_unit f c.args.exchange else contains nat_cmp f.conn.ready y)) w.self-is (c.in_ok-refresh.ensures {u = tt}).ready)
+          (c.refresh.ensures.rest ∙ ap (λ (f : Flows). record f { conn = record f.conn { ready = c.refresh.new.self.conn.ready } }) mid)
+          (subst (λ (f : Flows). (y : ℕ) → contains nat_cmp c.refresh.new.self.conn.ready y ≡ (if c.args.exchange == y then has_unit f c.args.exchange else contains nat_cmp f.conn.ready y)) mid (c.in_ok-refresh.ensures {u = tt}).ready) c.see_left.ensures.holding
       | else-rose w ↦
+          let mid = w.self-is ∙ c.see_left.ensures.rest in
           let other : (c.in-Moved.shifted.to ≡ crossed.High → ⊥) = search rules in
-          moves_all c.args.exchange c.in-Moved.place c.in-Moved.n c.in-Moved.shifted c.in-Moved.overflow c.eq-rose.result old c.refresh.new.self c.step.new.self old.gates moved change c.step.ensures.sound
+          moves_all c.args.exchange c.in-Moved.place c.in-Moved.n c.in-Moved.shifted c.in-Moved.overflow c.eq-rose.result old c.refresh.new.self c.step.new.self old.gates c.see_left.new.self.holding moved change c.step.ensures.sound
           (w.if-rose.false ∙ sym (not_high c.in-Moved.shifted.to other))
           (subst (λ r. RisesSend r c.args.exchange old.gates old.gates) (sym w.if-rose.false) refl)
           (λ was. was)
-          (c.refresh.ensures.rest ∙ ap (λ (f : Flows). record f { conn = record f.conn { ready = c.refresh.new.self.conn.ready } }) w.self-is)
-          (subst (λ (f : Flows). (y : ℕ) → contains nat_cmp c.refresh.new.self.conn.ready y ≡ (if c.args.exchange == y then has_unit f c.args.exchange else contains nat_cmp f.conn.ready y)) w.self-is (c.in_ok-refresh.ensures {u = tt}).ready)
+          (c.refresh.ensures.rest ∙ ap (λ (f : Flows). record f { conn = record f.conn { ready = c.refresh.new.self.conn.ready } }) mid)
+          (subst (λ (f : Flows). (y : ℕ) → contains nat_cmp c.refresh.new.self.conn.ready y ≡ (if c.args.exchange == y then has_unit f c.args.exchange else contains nat_cmp f.conn.ready y)) mid (c.in_ok-refresh.ensures {u = tt}).ready) c.see_left.ensures.holding
     ]
 
 pub returns-clause-less : goal.returns-clause-less
@@ -75,10 +78,13 @@ returns-clause-less c =
     let moved = ap (λ (v : MoveStep). Some v) (sym c.in-Moved.is) ∙ is in
     elim c.if-rose.branch [
       | then-rose w ↦
-          moves_less_all c.args.exchange c.in-Moved.place c.in-Moved.n c.in-Moved.shifted c.in-Moved.overflow true old c.refresh.new.self c.step.new.self w.high.new.self c.requires.settled c.requires.live moved change
-          c.step.ensures.sound (subst (λ f. Rises (buffer.Send f) old.gates w.high.new.self) c.request-flow.ensures w.high.ensures.rises)
-          (c.refresh.ensures.rest ∙ ap (λ (f : Flows). record f { conn = record f.conn { ready = c.refresh.new.self.conn.ready } }) w.self-is)
+          let mid = w.self-is ∙ ap (λ (f : Flows). record f { gates = w.high.new.self }) c.see_left.ensures.rest in
+          moves_less_all c.args.exchange c.in-Moved.place c.in-Moved.n c.in-Moved.shifted c.in-Moved.overflow true old c.refresh.new.self c.step.new.self w.high.new.self c.see_left.new.self.holding c.requires.settled c.requires.live moved change
+          c.step.ensures.sound (subst (λ f. Rises (buffer.Send f) old.gates w.high.new.self) c.request-flow.ensures
+          (subst (λ b. Rises (buffer.Send c.request-flow.result) b w.high.new.self) (ap (λ (f : Flows). f.gates) c.see_left.ensures.rest) w.high.ensures.rises))
+          (c.refresh.ensures.rest ∙ ap (λ (f : Flows). record f { conn = record f.conn { ready = c.refresh.new.self.conn.ready } }) mid)
       | else-rose w ↦
-          moves_less_all c.args.exchange c.in-Moved.place c.in-Moved.n c.in-Moved.shifted c.in-Moved.overflow false old c.refresh.new.self c.step.new.self old.gates c.requires.settled c.requires.live moved change
-          c.step.ensures.sound refl (c.refresh.ensures.rest ∙ ap (λ (f : Flows). record f { conn = record f.conn { ready = c.refresh.new.self.conn.ready } }) w.self-is)
+          let mid = w.self-is ∙ c.see_left.ensures.rest in
+          moves_less_all c.args.exchange c.in-Moved.place c.in-Moved.n c.in-Moved.shifted c.in-Moved.overflow false old c.refresh.new.self c.step.new.self old.gates c.see_left.new.self.holding c.requires.settled c.requires.live moved change
+          c.step.ensures.sound refl (c.refresh.ensures.rest ∙ ap (λ (f : Flows). record f { conn = record f.conn { ready = c.refresh.new.self.conn.ready } }) mid)
     ]

@@ -1,12 +1,16 @@
 -- A run's step keeps what the core stands for.
 use Rattle.std.proofs.Common.{refl}
 use Rattle.worker_core.proofs.Keeping.{on_ok, with_flows}
-use Rattle.worker_core.proofs.StepRun.{idle_keeps, move_less, move_result, settled_of, stay_keeps, stay_less, still_cuts, still_good, still_less, still_then, undrained_next}
+use Rattle.worker_core.proofs.StepRun.{held_keeps, idle_keeps, move_less, move_result, settled_of, stay_keeps, stay_less, still_cuts, still_good, still_less, still_then, undrained_next}
 use Rattle.worker_core.proofs.worker.Core.run.Goals as goal
+
+pub returns-then-is_above-clause-ok : goal.returns-then-is_above-clause-ok
+returns-then-is_above-clause-ok c =
+    held_keeps c.args.self.now (record c.args.self.now { agenda = c.pop.new.self }) c.args.notes.now c.args.flow c.is_above.result c.is_above.ensures.above c.if-is_above.true refl c.requires.top c.pop.ensures
 
 pub returns-then-not-is_live-clause-ok : goal.returns-then-not-is_live-clause-ok
 returns-then-not-is_live-clause-ok c =
-    idle_keeps c.args.self.now (record c.args.self.now { agenda = c.pop.new.self }) c.args.notes.now c.args.flow c.is_live.result c.if-not-is_live.true refl c.requires.top c.pop.ensures c.is_live.ensures
+    idle_keeps c.args.self.now (record c.args.self.now { agenda = c.pop-then-not-is_live.new.self }) c.args.notes.now c.args.flow c.is_live.result c.if-not-is_live.true refl c.requires.top c.pop-then-not-is_live.ensures c.is_live.ensures
 
 pub undrained-requires : goal.undrained-requires
 undrained-requires c =
