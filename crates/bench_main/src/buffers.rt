@@ -21,7 +21,7 @@ const ROUNDS: u64 = 256;
 const OCTETS: u64 = PIECE as u64 * PIECES_A_ROUND * ROUNDS;
 
 /// A buffer with room for its limit and a piece.
-fn ready_buffer(alloc: Global) -> Result<WatermarkBuffer, NoMemory> {
+pub fn ready_buffer(alloc: Global) -> Result<WatermarkBuffer, NoMemory> {
     let mut buffer = WatermarkBuffer::new(alloc, LIMIT);
     buffer.ready(PIECE)?;
     Ok(buffer)
@@ -63,7 +63,7 @@ fn copy(from: &[u8], to: &mut [u8]) {
     to[..n].copy_from_slice(&from[..n]);
 }
 
-fn first_octet(octets: &[u8]) -> u64 {
+pub fn first_octet(octets: &[u8]) -> u64 {
     octets.first().map_or(0, |octet| u64::from(*octet))
 }
 

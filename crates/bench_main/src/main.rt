@@ -2,6 +2,7 @@
 #![tactic(auto)]
 
 mod buffers;
+mod drill;
 mod exchanges;
 mod fields;
 mod frames;
@@ -19,6 +20,7 @@ use std::env;
 
 const USAGE: &str = "usage: bench_main BENCH
   buffer     octets through two watermark buffers, beside two plain copies
+  drill      a drill from end to end, beside its octets through two buffers
   exchanges  starts, moves and dooms, with one and with 50,000 live exchanges
   fields     blocks of request fields, decoded and encoded (fields blocks: prints them)
   frames     reading of frames
@@ -36,6 +38,7 @@ fn main(rt: HostRuntime) -> anyhow::Result<()> {
     let _program = words.next();
     match words.next() {
         Some(word) if word.as_str() == "buffer" => buffers::run(&rt)?,
+        Some(word) if word.as_str() == "drill" => drill::run(&rt)?,
         Some(word) if word.as_str() == "exchanges" => exchanges::run(&rt)?,
         Some(word) if word.as_str() == "fields" => fields::run(&rt, words.next().is_some())?,
         Some(word) if word.as_str() == "frames" => frames::run(&rt)?,
