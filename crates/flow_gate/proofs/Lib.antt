@@ -18,3 +18,5 @@ pub mod Stages
 pub mod Closing
 pub mod Leaving
 pub mod Watching
+pub mod Full
+pub mod SideBySide

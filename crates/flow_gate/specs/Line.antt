@@ -51,14 +51,19 @@ pub record IsBefore (place n : ℕ) (stands : List Stand) : Type 0 where
   pub before : AllByRecursion (λ s. s.place < place) (take n stands)
   pub after : AllByRecursion (λ s. place ≤ s.place) (drop n stands)
 
--- the places rise and are below the next, the lows that are pending lie before it, and the flows are counted
-pub record IsInOrder (next told drained standing : ℕ) (stands : List Stand) : Type 0 where
+-- the flows of these stands side by side, if they are as many as the stands
+abbrev pub IsRow : List FlowId → List Stand → Type 0
+IsRow row stands = length row ≡ length stands → row ≡ values_of (live stands)
+
+-- the places rise and are below the next, the lows that are pending lie before it, the flows are counted, and the row has them
+pub record IsInOrder (next told drained standing : ℕ) (row : List FlowId) (stands : List Stand) : Type 0 where
   pub rising : IsStrictlySortedBy nat_cmp (places_of stands)
   pub below : AllByRecursion (λ p. p < next) (places_of stands)
   pub forward : told ≤ drained
   pub within : drained ≤ next
   pub counted : standing ≡ length (live stands)
   pub few : standing ≤ next
+  pub whole : IsRow row stands
 
 -- the line without a flow
 abbrev pub left : FlowId → Line → Line

@@ -6,7 +6,8 @@ ghost use Rattle.flow_gate.specs.declared.ids.FlowId.{FlowId};
 
 use crate::ids::FlowId;
 use crate::line::Watchers;
-use crate::stands::{Stand, between, close_up, first, leave, place_after};
+use crate::row::{add_last, make_whole};
+use crate::stands::{Stand, between, close_up, first, leave, place_after, span};
 use io_ports::NoMemory;
 use std::alloc::Global;
 use std::marker::Model;
@@ -17,16 +18,19 @@ use std::marker::Model;
 /// gaps go once they are more than the flows.
 #[derive(Drop)]
 pub(crate) struct Gate {
+    // What a count reads comes first, so that it lies together in memory.
     above: bool,
-    line: Vec<Stand>,
-    /// How many flows stand in the line.
-    standing: usize,
-    /// The place of the next watcher.
-    next: u64,
     /// The place from which on the watchers were not told of the last drain.
     told: u64,
     /// The place of the next watcher at the last drain.
     drained: u64,
+    /// The place of the next watcher.
+    next: u64,
+    /// How many flows stand in the line.
+    standing: usize,
+    line: Vec<Stand>,
+    /// The flows of the line side by side, where they are as many as the stands.
+    row: Vec<FlowId>,
 }
 
 impl Model for Gate {
@@ -36,7 +40,7 @@ impl Model for Gate {
 
     ghost view = { λ a. record { above = a.above; watchers = live a.line.items; pending = between a.told a.drained (live a.line.items) } };
 
-    ghost invariant = { λ a. IsInOrder a.next a.told a.drained a.standing a.line.items };
+    ghost invariant = { λ a. IsInOrder a.next a.told a.drained a.standing a.row.items a.line.items };
 }
 
 impl Gate {
@@ -49,6 +53,7 @@ impl Gate {
         Gate {
             above: false,
             line: Vec::new(alloc),
+            row: Vec::new(alloc),
             standing: 0,
             next: 0,
             told: 0,
@@ -86,6 +91,9 @@ impl Gate {
     pub(crate) fn watchers(&self) -> Watchers<'_>
         ensures { result ≡ values_of self.now.watchers }
     {
+        if self.row.len() == self.line.len() {
+            return Watchers::side_by_side(self.row.as_slice());
+        }
         Watchers::of(self.line.as_slice())
     }
 
@@ -93,6 +101,10 @@ impl Gate {
     pub(crate) fn lows(&self) -> Watchers<'_>
         ensures { result ≡ values_of self.now.pending }
     {
+        if self.row.len() == self.line.len() {
+            let (begin, len) = span(self.line.as_slice(), self.told, self.drained);
+            return Watchers::side_by_side(&self.row.as_slice()[begin..][..len]);
+        }
         Watchers::of(between(self.line.as_slice(), self.told, self.drained))
     }
 
@@ -110,6 +122,7 @@ impl Gate {
             place,
             flow: Some(flow),
         })?;
+        add_last(&mut self.row, flow, self.line.as_slice());
         self.standing += 1;
         self.next = place + 1;
         Ok(place)
@@ -119,6 +132,7 @@ impl Gate {
     pub(crate) fn remove(&mut self, place: u64)
         ensures { (flow : FlowId) → at_place place self.old.watchers ≡ Some flow → times flow (values_of self.old.watchers) ≤ 1 → self.new ≡ left flow self.old }
     {
+        self.row.clear();
         if leave(self.line.as_mut_slice(), place) {
             self.standing -= 1;
             close_up(&mut self.line, self.standing);
@@ -128,6 +142,7 @@ impl Gate {
     pub(crate) fn rise(&mut self)
         ensures { self.new ≡ record self.old { above = true } }
     {
+        make_whole(&mut self.row, &mut self.line);
         self.above = true;
     }
 
@@ -135,6 +150,7 @@ impl Gate {
     pub(crate) fn drain(&mut self)
         ensures { self.new ≡ record self.old { above = false; pending = self.old.watchers } }
     {
+        make_whole(&mut self.row, &mut self.line);
         self.above = false;
         self.told = 0;
         self.drained = self.next;
@@ -154,6 +170,12 @@ impl Gate {
     pub(crate) fn tell_first(&mut self, n: usize)
         ensures { self.new ≡ told n self.old }
     {
-        self.told = place_after(self.line.as_slice(), self.told, self.drained, n);
+        self.told = place_after(
+            self.line.as_slice(),
+            self.told,
+            self.drained,
+            n,
+            self.standing,
+        );
     }
 }

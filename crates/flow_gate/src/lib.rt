@@ -5,6 +5,7 @@ mod gate;
 mod gates;
 mod ids;
 mod line;
+mod row;
 mod stands;
 mod watcher;
 

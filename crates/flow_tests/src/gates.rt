@@ -1,5 +1,5 @@
 // Gates by tables of calls. What each call answers, and the counts after it, were found by hand from the rules.
-use flow_gate::{BufferId, FlowId, Gates};
+use flow_gate::{BufferId, FlowId, Gates, Watchers};
 use io_ports::NoMemory;
 use std::process::Abort;
 use std::test::Fail;
@@ -291,6 +291,43 @@ fn lows_are_told_together(rt: HostRuntime) -> Result<(), Fail> {
     assert_eq!(rt; gates.lows(SHARED).nth(0), None);
     gates.take_lows(OWN, 1);
     assert_eq!(rt; gates.lows(OWN).nth(0), None);
+    Ok(())
+}
+
+/// What a watchers' iterator, its length and its slice say agrees with these flows; whether there is a slice.
+fn are_all(rt: &impl Abort, mut watchers: Watchers<'_>, flows: &[FlowId]) -> bool {
+    assert_eq!(rt; watchers.len(), flows.len());
+    assert_eq!(rt; watchers.is_empty(), flows.is_empty());
+    let row = watchers.as_slice();
+    if let Some(row) = row {
+        assert!(rt; row == flows);
+    }
+    for flow in flows {
+        assert_eq!(rt; watchers.next(), Some(*flow));
+    }
+    assert_eq!(rt; watchers.next(), None);
+    row.is_some()
+}
+
+// The watchers lie side by side until one leaves, and again once the buffer rises or drains.
+#[test]
+fn watchers_lie_side_by_side(rt: HostRuntime) -> Result<(), Fail> {
+    let mut gates = Gates::new(rt.alloc());
+    make_all(&rt, &mut gates, &TWO_FLOWS[..13])?;
+    assert!(rt; are_all(&rt, gates.watchers(SHARED), &[FIRST, SECOND, LEAST]));
+    assert!(rt; are_all(&rt, gates.lows(SHARED), &[]));
+    make(&rt, &mut gates, BeginLow(SHARED))?;
+    make(&rt, &mut gates, NextLow(SHARED))?;
+    assert!(rt; are_all(&rt, gates.lows(SHARED), &[SECOND, LEAST]));
+    make(&rt, &mut gates, Forget(SECOND))?;
+    assert!(rt; !are_all(&rt, gates.watchers(SHARED), &[FIRST, LEAST]));
+    assert!(rt; !are_all(&rt, gates.lows(SHARED), &[LEAST]));
+    make(&rt, &mut gates, OpenFlow(SECOND))?;
+    make(&rt, &mut gates, Watch(SECOND, SHARED))?;
+    make(&rt, &mut gates, High(SHARED))?;
+    assert!(rt; are_all(&rt, gates.watchers(SHARED), &[FIRST, LEAST, SECOND]));
+    assert!(rt; are_all(&rt, gates.lows(SHARED), &[LEAST]));
+    assert!(rt; are_all(&rt, gates.watchers(OWN), &[]));
     Ok(())
 }
 

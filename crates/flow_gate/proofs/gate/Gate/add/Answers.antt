@@ -1,8 +1,8 @@
 use Rattle.flow_gate.proofs.Live.{Rises-push, below-push, live-all, live-push}
 use Rattle.flow_gate.proofs.Places.{between-next, next-at_place}
 use Rattle.flow_gate.proofs.gate.Gate.add.Goals as goal
-use Rattle.flow_gate.specs.Line.{between, live}
-use Rattle.std.proofs.Common.{ap, arith, ◌∙◌}
+use Rattle.flow_gate.specs.Line.{IsRow, between, live}
+use Rattle.std.proofs.Common.{ap, arith, subst, ◌∙◌}
 use Rattle.std.proofs.lemmas.List.{length_push}
 use Rattle.std.specs.Prelude.{Some, length, ◌+◌, ◌<◌, ◌≡◌}
 
@@ -17,6 +17,8 @@ invariant_of-self-2 c =
       within = omega arith;
       counted = omega (arith, more, c.self.invariant.counted);
       few = omega (arith, c.self.invariant.few);
+      whole = subst (IsRow c.add_last.new.row.items) c.as_slice.ensures.value
+          (c.add_last.ensures c.self.inside.next c.self.inside.line.items c.self.invariant.whole (c.as_slice.ensures.value ∙ c.in_ok-push.ensures.items));
     }
 
 pub returns-clause-last : goal.returns-clause-last

@@ -10,4 +10,5 @@ invariant_of-result c = rw c.new.ensures.items (record {
   within = omega arith;
   counted = refl;
   few = omega arith;
+  whole = λ same. c.new-2.ensures.items;
 })

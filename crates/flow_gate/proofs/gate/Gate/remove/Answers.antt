@@ -1,11 +1,12 @@
 use Rattle.flow_gate.proofs.Live.{Rises-closed, all-closed, live-closed}
 use Rattle.flow_gate.proofs.Places.{line_left}
 use Rattle.flow_gate.proofs.Rising.{Rises}
+use Rattle.flow_gate.proofs.SideBySide.{empty_row}
 use Rattle.flow_gate.proofs.gate.Gate.remove.Goals as goal
 use Rattle.flow_gate.proofs.gate.Gate.remove.Goals.{After-close_up, Else-leave}
 use Rattle.flow_gate.specs.Line.{live, places_of}
 use Rattle.flow_gate.specs.declared.stands.Stand.{Stand}
-use Rattle.std.proofs.Common.{Vec, ap, arith, subst, sym, ◌∙◌}
+use Rattle.std.proofs.Common.{Vec, ap, arith, rules, subst, sym, ◌∙◌}
 use Rattle.std.proofs.lemmas.List.{length-map, with_items_is}
 use Rattle.std.specs.BTreeMap.{is_at}
 use Rattle.std.specs.List.{AllByRecursion}
@@ -40,6 +41,7 @@ invariant_of-self c =
       within = c.self.invariant.within;
       counted = omega (arith, one, all, c.self.invariant.counted);
       few = omega (arith, c.self.invariant.few);
+      whole = search (rules, empty_row);
     }
 
 pub returns-then-leave : goal.returns-then-leave

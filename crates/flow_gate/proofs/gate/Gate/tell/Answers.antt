@@ -25,6 +25,7 @@ invariant_of-self c =
       within = c.self.invariant.within;
       counted = c.self.invariant.counted;
       few = c.self.invariant.few;
+      whole = c.self.invariant.whole;
     }
 
 pub returns-clause-first : goal.returns-clause-first

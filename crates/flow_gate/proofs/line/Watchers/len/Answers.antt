@@ -1,0 +1,19 @@
+use Rattle.flow_gate.proofs.Full.{few_live}
+use Rattle.flow_gate.proofs.line.Watchers.len.Goals as goal
+use Rattle.flow_gate.specs.Line.{live}
+use Rattle.flow_gate.specs.declared.ids.FlowId.{FlowId}
+use Rattle.std.proofs.Common.{arith}
+use Rattle.std.proofs.lemmas.List.{length-append, length-map}
+use Rattle.std.specs.Map.{values_of}
+use Rattle.std.specs.Prelude.{ℕ}
+
+pub returns : goal.returns
+returns c =
+    let flows = length-map (live c.self.inside.stands.now) (λ (e : ℕ × FlowId). e.1) in
+    let long = length-append c.self.inside.row.now (values_of (live c.self.inside.stands.now)) in
+    rw (← c.self.view_is) (omega (arith, c.count.ensures, flows, long))
+
+pub overflow_add-result : goal.overflow_add-result
+overflow_add-result c =
+    let few = few_live c.self.inside.stands.now in
+    omega (arith, few, c.count.ensures, c.self.told.0, c.self.told.1)
