@@ -13,7 +13,7 @@ use Rattle.std.proofs.lemmas.List.Sums.{sum_by-cons}
 use Rattle.std.proofs.lemmas.Result.{on_ok_weaker}
 use Rattle.std.specs.Iterator.{Drains}
 use Rattle.std.specs.List.{AllByRecursion, sum_by}
-use Rattle.std.specs.Prelude.{Bool, Err, List, Ok, OnErr, OnOk, Option, Result, [], drop, false, if◌then◌else◌, length, take, ℕ, ◌++◌, ◌+◌, ◌-◌, ◌<◌, ◌==◌, ◌≤◌, ◌∷◌, ◌≡◌}
+use Rattle.std.specs.Prelude.{Bool, Err, IfOk, List, Ok, OnErr, OnOk, Option, Result, [], drop, false, if◌then◌else◌, length, take, ℕ, ◌++◌, ◌+◌, ◌-◌, ◌<◌, ◌==◌, ◌≤◌, ◌∷◌, ◌≡◌}
 use Rattle.flow_notes.specs.declared.notes.Note.TheVariants as note
 use Rattle.flow_notes.specs.declared.passages.Item.TheVariants.{One, Pauses, Resumes}
 
@@ -111,16 +111,15 @@ row_more items fs (x ∷ gs) row a e g =
     ∙ item_more items fs (x ∷ gs) row e g
 
 -- what a row leaves, where there was memory
-pub row_pushed : (r : Result (Unit {0}) NoMemory) (items new : List Item) (fs both end added flows : List FlowId) (row : Item) (old : List Note)
-    → alone_in row ≡ 0 → sum_by flows_in items ≡ length fs → all_notes items fs ≡ old → both ≡ fs ++ added → added ≡ flows → length added ≡ flows_in row
-    → OnOk r ((end ≡ both) × (new ≡ with_row items row)) → OnOk r (all_notes new end ≡ old ++ notes_of row flows)
-row_pushed r items new fs both end added flows row old a e was b same g =
+pub row_pushed : (r : Result (Unit {0}) NoMemory) (items new : List Item) (fs both end added : List FlowId) (row : Item) (old : List Note)
+    → alone_in row ≡ 0 → sum_by flows_in items ≡ length fs → all_notes items fs ≡ old → both ≡ fs ++ added → length added ≡ flows_in row
+    → OnOk r ((end ≡ both) × (new ≡ with_row items row)) → OnOk r (all_notes new end ≡ old ++ notes_of row added)
+row_pushed r items new fs both end added row old a e was b g =
     on_ok_weaker r (λ k.
     ap (λ (v : List FlowId). all_notes new v) (k.0 ∙ b)
     ∙ ap (λ (v : List Item). all_notes v (fs ++ added)) k.1
     ∙ row_more items fs added row a e g
-    ∙ ap (λ (v : List Note). v ++ notes_of row added) was
-    ∙ ap (λ (v : List FlowId). old ++ notes_of row v) same)
+    ∙ ap (λ (v : List Note). v ++ notes_of row added) was)
 
 -- and where there was none
 front_again : (fs added both : List FlowId) (k : ℕ) → both ≡ fs ++ added → length added ≡ k → take (length both - k) both ≡ fs
@@ -140,8 +139,16 @@ row_unpushed (Err why) items new fs both end added row old was b g k =
 
 -- ---- the flows of an iterator
 
-pub all_drained : {S : Type 0} {steps : S → Option FlowId → S → Type 0} {s : S} (added all : List FlowId) → Drains steps s added → YieldsList steps (λ (f : FlowId). f) s all
+all_drained : {S : Type 0} {steps : S → Option FlowId → S → Type 0} {s : S} (added all : List FlowId) → Drains steps s added → YieldsList steps (λ (f : FlowId). f) s all
     → added ≡ all
 all_drained added all d road =
     let t = d.1.0 in
     sym (map-id added) ∙ items_from_drains added (t, d.1.1, λ _. (d.0, d.1.2)) road
+
+pub all_appended : {S : Type 0} {steps : S → Option FlowId → S → Type 0} {s : S} (r : Result ℕ NoMemory) (old new all : List FlowId)
+    → IfOk r (λ count. (added : List FlowId) × Drains steps s added × (new ≡ old ++ added) × (count ≡ length added)) → YieldsList steps (λ (f : FlowId). f) s all
+    → IfOk r (λ count. (new ≡ old ++ all) × (count ≡ length all))
+all_appended (Ok count) old new all a road =
+    let same = all_drained a.0 all a.1 road in
+    (a.2 ∙ ap (λ (v : List FlowId). old ++ v) same, a.3 ∙ ap (λ (v : List FlowId). length v) same)
+all_appended (Err why) old new all a road = tt

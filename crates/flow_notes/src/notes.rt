@@ -204,7 +204,7 @@ impl Notes {
         ensures ok { OnOk result (self.new ≡ self.old ++ map (λ f. Note.Pause f buffer) flows.entry) }
         ensures err { OnErr result (self.new ≡ self.old) }
     {
-        let count = append(&mut self.flows, flows)?;
+        let count = append_all(&mut self.flows, flows)?;
         let row = Item::Pauses { count, buffer };
         end_row(&mut self.items, &mut self.flows, row)
     }
@@ -220,7 +220,7 @@ impl Notes {
         ensures ok { OnOk result (self.new ≡ self.old ++ map (λ f. Note.Resume f buffer) (take n flows.entry)) }
         ensures err { OnErr result (self.new ≡ self.old) }
     {
-        let count = append(&mut self.flows, flows.take(n))?;
+        let count = append_first(&mut self.flows, flows, n)?;
         let row = Item::Resumes { count, buffer };
         end_row(&mut self.items, &mut self.flows, row)
     }
@@ -257,6 +257,40 @@ impl Notes {
 }
 
 // Appends the flows, and counts them. After want of memory the list is as it was.
+fn append_all(list: &mut Vec<FlowId>, flows: Watchers<'_>) -> Result<usize, NoMemory>
+    ensures ok { IfOk result (λ count. (list.new.items ≡ list.old.items ++ flows.entry)
+        × (count ≡ length flows.entry)) }
+    ensures err { OnErr result (list.new.items ≡ list.old.items) }
+{
+    match flows.as_slice() {
+        Some(row) => append_row(list, row),
+        None => append(list, flows),
+    }
+}
+
+// Appends the first `n` flows, and counts them. After want of memory the list is as it was.
+fn append_first(list: &mut Vec<FlowId>, flows: Watchers<'_>, n: usize) -> Result<usize, NoMemory>
+    ensures ok { IfOk result (λ count. (list.new.items ≡ list.old.items ++ take n flows.entry)
+        × (count ≡ length (take n flows.entry))) }
+    ensures err { OnErr result (list.new.items ≡ list.old.items) }
+{
+    match flows.as_slice() {
+        Some(row) => append_row(list, row.get(..n).unwrap_or(row)),
+        None => append(list, flows.take(n)),
+    }
+}
+
+// Appends a row of flows, and counts them. After want of memory the list is as it was.
+fn append_row(list: &mut Vec<FlowId>, row: &[FlowId]) -> Result<usize, NoMemory>
+    ensures ok { IfOk result (λ count. (list.new.items ≡ list.old.items ++ row.now)
+        × (count ≡ length row.now)) }
+    ensures err { OnErr result (list.new.items ≡ list.old.items) }
+{
+    list.extend_from_slice(row)?;
+    Ok(row.len())
+}
+
+// Appends the flows of an iterator, and counts them. After want of memory the list is as it was.
 fn append<I: Iterator<Item = FlowId> + Drop>(
     list: &mut Vec<FlowId>,
     flows: I,
