@@ -1,3 +1,4 @@
+pub mod Advancing
 pub mod Aging
 pub mod Before
 pub mod Dooming

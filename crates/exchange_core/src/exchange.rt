@@ -1,11 +1,12 @@
 // One exchange: a request and its response.
-ghost use Rattle.std.specs.Prelude.{◌≡◌, ◌<◌, ◌≤◌, ◌^◌, [], All, IfOk, IfSome, IsOk, IsSome, IsTrue, OnErr, OnOk, Some, false, is_some, length, option_map, true};
+ghost use Rattle.std.specs.Prelude.{◌≡◌, ◌-◌, ◌<◌, ◌≤◌, ◌^◌, [], All, IfOk, IfSome, IsNone, IsOk, IsSome, IsTrue, OnErr, OnOk, Some, false, is_some, length, option_map, true};
 ghost use Rattle.exchange_core.specs.Exchange.{IsSoundExchange, begun, begun_response, filters_of, multiple_of, side_filters, ends_of, flow_changed, flow_id, flow_in, goes_to, held_in, is_metered, seen_at};
 ghost use Rattle.exchange_core.specs.Moves.{has_room_ahead, next_step, stepped};
 ghost use Rattle.exchange_core.specs.Flow.{IsSound as IsSoundFlow};
 ghost use Rattle.exchange_core.specs.Changes.{ForgetsSides};
 ghost use Rattle.flow_gate.specs.Board.{IsSound as AreSoundGates, is_open};
 ghost use Rattle.exchange_core.specs.Replies.{head_framed};
+ghost use Rattle.exchange_core.specs.Units.{IsFrameable, next_unit};
 ghost use Rattle.exchange_core.specs.Lending.{LendsFlow, LendsTouched};
 ghost use Rattle.std.specs.Borrow.{sem};
 ghost use Rattle.std.specs.Option.{option_copied_mut};
@@ -14,7 +15,7 @@ ghost use Rattle.proxy_config.specs.Ranges.{AreFilters, IsBetween, IsRoute, most
 use crate::flow::Flow;
 use crate::message::Message;
 use crate::start::StartSpec;
-use crate::step::Step;
+use crate::step::{Advance, Step};
 use flow_gate::{FlowId, Gates};
 use io_ports::NoMemory;
 use proxy_config::{Config, FilterList};
@@ -124,7 +125,20 @@ impl Exchange {
         response
     }
 
-    /// The same, to change it, if it is there.
+    /// How many octets more the receive buffer of a flow takes, if it is there.
+    pub(crate) fn space(&self, back: bool) -> Option<u32>
+        ensures { result ≡ option_map (λ f. f.window - length f.recv) (flow_in back self.now) }
+    {
+        if !back {
+            return Some(self.request.space());
+        }
+        match &self.response {
+            Some(response) => Some(response.space()),
+            None => None,
+        }
+    }
+
+    /// A flow to change, if it is there.
     pub(crate) fn flow_mut(&mut self, back: bool) -> Option<&mut Flow>
         ensures* writes_back { sem 𝓛 (LendsFlow back self.entry result) }
         ensures value { option_copied_mut result ≡ flow_in back self.old }
@@ -160,6 +174,32 @@ impl Exchange {
             unreachable!()
         };
         flow.step(to, gates)
+    }
+
+    /// As `step`, and then what of the flow goes next, or None if it isn't there.
+    pub(crate) fn advance(
+        &mut self,
+        back: bool,
+        gates: &Gates,
+        now: u64,
+        room: i64,
+        frame: u32,
+    ) -> Result<Option<Advance>, NoMemory>
+        requires open { IfSome (flow_in back self.old) (λ f. is_open gates.now f.chain.flow ≡ true) }
+        ensures gone { IsNone (flow_in back self.old) → result ≡ Ok None }
+        ensures step { IfOk result (λ advance. option_map (λ a. a.step) advance ≡ option_map (next_step gates.now (goes_to back self.old)) (flow_in back (seen_at now self.old))) }
+        ensures unit { IfOk result (λ advance. option_map (λ a. a.unit) advance ≡ option_map (next_unit room frame) (flow_in back self.new)) }
+        ensures frameable { IfOk result (λ advance. IfSome advance (λ a. IfSome (flow_in back self.new) (λ f. IsFrameable a.unit f))) }
+        ensures exchange { OnOk result (self.new ≡ flow_changed (stepped gates.now (goes_to back self.old)) back (seen_at now self.old)) }
+        ensures covered { IfSome (flow_in back (seen_at now self.old)) (λ f. IsTrue (has_room_ahead gates.now (goes_to back self.old) f) → IsOk result) }
+        ensures sound { IfSome (flow_in back self.new) IsSoundFlow }
+        ensures err { OnErr result (self.new ≡ seen_at now self.old) }
+    {
+        let to = self.goes_to(back);
+        let Some(flow) = self.touch(back, now) else {
+            return Ok(None);
+        };
+        Ok(Some(flow.advance(to, gates, room, frame)?))
     }
 
     /// Whether some Meter of a flow holds octets.

@@ -1,22 +1,21 @@
 // One flow of an exchange.
-ghost use Rattle.std.specs.Prelude.{◌≡◌, ◌≢◌, ◌↔◌, ◌+◌, ◌<◌, ◌≤◌, ◌^◌, ◌++◌, false, true, IfOk, IfSome, IsOk, IsTrue, OnOk, OnErr, length, take};
-ghost use Rattle.std.specs.Option.{option_copied};
-ghost use Rattle.exchange_core.specs.Effects.{arrived, body_framed, finished, headed, list_framed, moved};
+ghost use Rattle.std.specs.Prelude.{◌≡◌, ◌≢◌, ◌↔◌, ◌+◌, ◌-◌, ◌<◌, ◌≤◌, ◌^◌, false, true, IfOk, IfSome, IsOk, IsTrue, OnOk, OnErr, length, option_map};
+ghost use Rattle.exchange_core.specs.Effects.{arrived, finished, headed, moved};
 ghost use Rattle.exchange_core.specs.Exchange.{at_moment, begun_flow};
-ghost use Rattle.exchange_core.specs.Flow.{IsSound, held_by, last_place, meters_hold, send};
-ghost use Rattle.exchange_core.specs.Message.{fields_of, head_waits};
+ghost use Rattle.exchange_core.specs.Flow.{IsSound, held_by, last_place, meters_hold};
 ghost use Rattle.exchange_core.specs.Moves.{has_room_ahead, is_held_at, is_target_above, last_free, lets_go, may_release, next_step, overflows, stepped};
-ghost use Rattle.exchange_core.specs.Units.{IsFrameable, carried, empty_before, ends_after, next_head, next_unit};
+ghost use Rattle.exchange_core.specs.Units.{IsFrameable, next_unit};
 ghost use Rattle.filter_chain.specs.Chain.{above_at};
 ghost use Rattle.filter_chain.specs.Release.{overfills, has_room_at};
 ghost use Rattle.flow_gate.specs.Board.{is_open};
 ghost use Rattle.proxy_config.specs.Ranges.{AreFilters, IsBetween, most_octets};
-ghost use Rattle.wm_buffer.specs.Buffer.{AppendsOctets};
 ghost use Rattle.wm_buffer.specs.Watermark.{crossing};
+
+mod units;
 
 use crate::message::Message;
 use crate::start::StartSpec;
-use crate::step::{Step, Unit};
+use crate::step::{Advance, Step};
 use filter_chain::{Chain, OfferFault};
 use flow_gate::{BufferId, FlowId, Gates};
 use hpack_codec::FieldList;
@@ -131,10 +130,9 @@ impl Flow {
         ensures sound { IsSound self.new }
         ensures err { OnErr result (self.new ≡ self.old) }
     {
-        let Some(place) = self.last_free(to, gates) else {
+        let Some((place, n)) = self.last_free(to, gates) else {
             return Ok(Step::Still);
         };
-        let n = self.may_release(place, gates);
         match self.move_on(place, n) {
             Ok(shifted) => Ok(Step::Moved {
                 place,
@@ -147,14 +145,38 @@ impl Flow {
         }
     }
 
-    /// The last place that may release and has no later source above. A source that is above holds all places before
-    /// it back.
-    fn last_free(&self, to: Option<u32>, gates: &Gates) -> Option<u32>
+    /// As `step`, and then what goes next.
+    pub(crate) fn advance(
+        &mut self,
+        to: Option<u32>,
+        gates: &Gates,
+        room: i64,
+        frame: u32,
+    ) -> Result<Advance, NoMemory>
+        requires { is_open gates.now self.old.chain.flow ≡ true }
+        ensures step { IfOk result (λ advance. advance.step ≡ next_step gates.now to self.old) }
+        ensures unit { IfOk result (λ advance. advance.unit ≡ next_unit room frame self.new) }
+        ensures frameable { IfOk result (λ advance. IsFrameable advance.unit self.new) }
+        ensures flow { OnOk result (self.new ≡ stepped gates.now to self.old) }
+        ensures covered { IsTrue (has_room_ahead gates.now to self.old) → IsOk result }
+        ensures sound { IsSound self.new }
+        ensures err { OnErr result (self.new ≡ self.old) }
+    {
+        let step = self.step(to, gates)?;
+        let unit = self.next_unit(room, frame);
+        Ok(Advance { step, unit })
+    }
+
+    /// The last place that may release and has no later source above, and how many octets it may let go. A source that
+    /// is above holds all places before it back.
+    fn last_free(&self, to: Option<u32>, gates: &Gates) -> Option<(u32, u32)>
         requires { is_open gates.now self.now.chain.flow ≡ true }
-        ensures place { result ≡ last_free gates.now to self.now }
-        ensures stage { IfSome result (λ p. p < last_place self.now) }
-        ensures some { IfSome result (λ p. 0 < may_release gates.now self.now p) }
-        ensures few { IfSome result (λ p. p < 9) }
+        ensures place { option_map (λ move. move.0) result ≡ last_free gates.now to self.now }
+        ensures octets { IfSome result (λ move. move.1 ≡ may_release gates.now self.now move.0) }
+        ensures stage { IfSome result (λ move. move.0 < last_place self.now) }
+        ensures some { IfSome result (λ move. 0 < move.1) }
+        ensures most { IfSome result (λ move. move.1 ≤ lets_go self.now move.0) }
+        ensures few { IfSome result (λ move. move.0 < 9) }
         ensures sound { IsSound self.now }
     {
         let mut place = self.chain.places();
@@ -166,8 +188,9 @@ impl Flow {
                 return None;
             }
             place -= 1;
-            if self.may_release(place, gates) > 0 {
-                return Some(place);
+            let n = self.may_release(place, gates);
+            if n > 0 {
+                return Some((place, n));
             }
         }
         None
@@ -232,110 +255,6 @@ impl Flow {
         self.chain.is_source(place) && 0 < most && most < u64::from(self.chain.len(place))
     }
 
-    /// What goes next into the write buffer, where the windows let `room` octets go and the peer takes `frame` octets in
-    /// one frame.
-    pub(crate) fn next_unit(&self, room: i64, frame: u32) -> Unit
-        ensures unit { result ≡ next_unit room frame self.now }
-        ensures frameable { IsFrameable result self.now }
-    {
-        if self.message.head_waits() {
-            return self.next_head();
-        }
-        let n = self.carried(room, frame);
-        if n > 0 {
-            let last = self.ends_after(n) && !self.message.trailers_wait();
-            return Unit::Body { n, last };
-        }
-        if !self.ends_after(0) || self.message.end_framed {
-            return Unit::Nothing;
-        }
-        if self.message.trailers_wait() {
-            Unit::Trailers
-        } else {
-            Unit::Body { n: 0, last: true }
-        }
-    }
-
-    /// The head that waits, where it may go.
-    fn next_head(&self) -> Unit
-        ensures { result ≡ next_head self.now }
-    {
-        if self.chain.head_may_go() {
-            Unit::Head {
-                last: self.message.head_ends,
-            }
-        } else {
-            Unit::Nothing
-        }
-    }
-
-    /// How many octets a DATA frame carries now.
-    fn carried(&self, room: i64, frame: u32) -> u32
-        ensures carried { result ≡ carried room frame self.now }
-        ensures few { result ≤ length (send self.now) }
-    {
-        let sent = self.chain.len(self.chain.places());
-        let room = u32::try_from(room.max(0)).unwrap_or(u32::MAX);
-        self.quantum.min(frame).min(room.min(sent))
-    }
-
-    /// Whether the flow's end came, and nothing is left of its body but the first n octets of the send buffer.
-    fn ends_after(&self, n: u32) -> bool
-        ensures { result ≡ ends_after n self.now }
-    {
-        self.message.ended && self.is_all_in_send() && self.chain.len(self.chain.places()) == n
-    }
-
-    /// Whether every place before the send buffer is empty.
-    fn is_all_in_send(&self) -> bool
-        ensures { result ≡ empty_before self.now (last_place self.now) }
-    {
-        for place in 1..self.chain.places() {
-            if self.chain.len(place) > 0 {
-                return false;
-            }
-        }
-        self.recv.is_empty()
-    }
-
-    /// The head or the trailers that are framed next.
-    pub(crate) fn fields(&self) -> Option<&FieldList>
-        ensures { option_copied result ≡ fields_of self.now.message }
-    {
-        self.message.fields()
-    }
-
-    /// These were framed, and with them the flow's end where `last` holds.
-    pub(crate) fn list_framed(&mut self, last: bool)
-        ensures framed { self.new ≡ list_framed last self.old }
-        ensures sound { IsSound self.new }
-    {
-        self.message.list_framed(last);
-    }
-
-    /// Appends `head` and the first n octets of the send buffer to `out`.
-    pub(crate) fn frame_body(
-        &mut self,
-        out: &mut WatermarkBuffer,
-        head: &[u8],
-        n: u32,
-        last: bool,
-    ) -> Result<Shifted, NoMemory>
-        requires headed { head_waits self.old.message ≡ false }
-        requires octets { n ≤ length (send self.old) }
-        ensures frames { OnOk result (self.new ≡ body_framed n last self.old) }
-        ensures appends { OnOk result (AppendsOctets out.old out.new (head.now ++ take n (send self.old))) }
-        ensures from { IfOk result (λ shifted. shifted.from ≡ crossing (above_at self.old.chain (last_place self.old)) (above_at self.new.chain (last_place self.new))) }
-        ensures to { IfOk result (λ shifted. shifted.to ≡ crossing out.old.above out.new.above) }
-        ensures covered { length head.now + n ≤ out.old.spare → IsOk result }
-        ensures sound { IsSound self.new }
-        ensures err { OnErr result ((self.new ≡ self.old) × (out.new ≡ out.old)) }
-    {
-        let shifted = self.chain.frame(out, head, n)?;
-        self.message.body_framed(last);
-        Ok(shifted)
-    }
-
     /// The octets in all places.
     pub(crate) fn held(&self) -> u64
         ensures held { result ≡ held_by self.now }
@@ -365,6 +284,13 @@ impl Flow {
         ensures { result ≡ length self.now.recv }
     {
         self.recv.len()
+    }
+
+    /// How many octets more the receive buffer takes within its window.
+    pub(crate) fn space(&self) -> u32
+        ensures { result ≡ self.now.window - length self.now.recv }
+    {
+        self.window.saturating_sub(self.recv.len())
     }
 
     pub(crate) fn message(&self) -> &Message

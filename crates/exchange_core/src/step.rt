@@ -30,3 +30,17 @@ pub enum Unit {
     /// Its trailers, with the flow's end.
     Trailers,
 }
+
+/// A DATA frame that is made: it carries the first `n` octets of a flow's send buffer, and the flow's end where `last` holds.
+#[derive(Clone, Copy, Debug, PartialEq, Eq)]
+pub struct Piece {
+    pub n: u32,
+    pub last: bool,
+}
+
+/// What one step of a flow did, and what of the flow goes next then.
+#[derive(Clone, Copy, Debug, PartialEq, Eq)]
+pub struct Advance {
+    pub step: Step,
+    pub unit: Unit,
+}

@@ -20,11 +20,13 @@ use std::test::*;
 fn first_odd(
     alloc: Global,
     (row, send, multiple, rows): Session,
+    joined: bool,
 ) -> Result<Option<(usize, Answer)>, NoMemory> {
     let Some(config) = config(alloc, multiple) else {
         return Ok(Some((0, Refused)));
     };
     let mut stage = Stage::new(alloc);
+    stage.joined = joined;
     let spec = StartSpec {
         row: Some(row),
         send,
@@ -45,7 +47,13 @@ fn first_odd(
 #[test]
 fn flows_go_on_by_the_tables(rt: HostRuntime) -> Result<(), Fail> {
     for (number, session) in SESSIONS.iter().enumerate() {
-        assert_eq!(rt; first_odd(rt.alloc(), *session)?, None, "session {number}");
+        for joined in [false, true] {
+            assert_eq!(rt;
+                first_odd(rt.alloc(), *session, joined)?,
+                None,
+                "session {number}, joined {joined}"
+            );
+        }
     }
     Ok(())
 }
@@ -241,6 +249,44 @@ fn a_tick_looks_at_filled_meters(rt: HostRuntime) -> Result<(), Fail> {
     assert!(rt; stage.doom(4, Cause::Done, false).is_some());
     assert_eq!(rt; stage.exchanges.metered(2), None);
     assert_eq!(rt; stage.exchanges.metered(0), Some(2));
+    Ok(())
+}
+
+#[test]
+fn only_live_flows_have_space_and_go_on(rt: HostRuntime) -> Result<(), Fail> {
+    let Some(config) = config(rt.alloc(), 0) else {
+        panic!(rt; "no configuration");
+    };
+    let mut stage = Stage::new(rt.alloc());
+    assert_eq!(rt; stage.exchanges.space(REQUEST), None);
+    assert!(rt; stage.is_gone(REQUEST)?);
+    assert_eq!(rt; stage.start(&SPEC, &config)?, Some(1));
+    assert_eq!(rt; stage.exchanges.space(REQUEST), Some(65_535));
+    let _ = stage.arrive(REQUEST, 10)?;
+    let _ = stage.arrive(RESPONSE, 65_535)?;
+    assert_eq!(rt; stage.exchanges.space(REQUEST), Some(65_525));
+    assert_eq!(rt; stage.exchanges.space(RESPONSE), Some(0));
+    let _ = stage.arrive(RESPONSE, 1)?;
+    assert_eq!(rt; stage.exchanges.space(RESPONSE), Some(0));
+    assert_eq!(rt; stage.step(RESPONSE, false)?, Moved(0, 16_384, QUIET));
+    assert_eq!(rt; stage.exchanges.space(RESPONSE), Some(16_383));
+    assert!(rt; stage.doom(1, Cause::Done, false).is_some());
+    assert_eq!(rt; stage.exchanges.space(RESPONSE), None);
+    assert!(rt; stage.is_gone(RESPONSE)?);
+    let plain = StartSpec {
+        plain: true,
+        from_conn: 0,
+        from_stream: 7,
+        to_conn: Some(0),
+        ..SPEC
+    };
+    assert_eq!(rt; stage.start(&plain, &config)?, Some(7));
+    let response = FlowId {
+        exchange: 7,
+        back: true,
+    };
+    assert_eq!(rt; stage.exchanges.space(response), None);
+    assert!(rt; stage.is_gone(response)?);
     Ok(())
 }
 

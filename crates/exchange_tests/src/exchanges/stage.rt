@@ -2,10 +2,10 @@
 ghost use Rattle.std.specs.Prelude.{◌≡◌, ◌<◌, ◌≤◌, All, IfSome, length, true};
 ghost use Rattle.proxy_config.specs.Ranges.{IsBetween, IsRoute, most_octets};
 
-use super::sessions::{Act, Answer, CLIENT, CLUSTER, step_answer, unit_answer};
+use super::sessions::{Act, Answer, CLIENT, CLUSTER, FRAME, WIDE, step_answer, unit_answer};
 use Act::{Arrive, Finish, Frame, Head, High, Low, Move, Next, Tell, Tick};
 use Answer::{Done, Refused};
-use exchange_core::{Doomed, Ends, Exchanges, StartSpec, Step, Unit};
+use exchange_core::{Doomed, Ends, Exchanges, Piece, StartSpec, Step, Unit};
 use flow_gate::{BufferId, FlowId, Gates};
 use flow_notes::Cause;
 use hpack_codec::{Field, FieldList};
@@ -122,6 +122,8 @@ pub(crate) struct Stage {
     pub(crate) exchanges: Exchanges,
     pub(crate) gates: Gates,
     out: WatermarkBuffer,
+    /// Whether steps and frames are made by the calls that also answer what goes next.
+    pub(crate) joined: bool,
 }
 
 impl Stage {
@@ -131,6 +133,7 @@ impl Stage {
             exchanges: Exchanges::new(alloc),
             gates: Gates::new(alloc),
             out: WatermarkBuffer::new(alloc, 0),
+            joined: false,
         }
     }
 
@@ -177,12 +180,37 @@ impl Stage {
         Ok(Some(exchange))
     }
 
+    /// One step. None where it may not be made, or where what is answered with it isn't what goes next.
+    fn step_of(&mut self, flow: FlowId) -> Result<Option<Step>, NoMemory> {
+        if !self.exchanges.has_flow(flow) || !self.gates.is_open(flow) {
+            return Ok(None);
+        }
+        if !self.joined {
+            return Ok(Some(self.exchanges.step(flow, &self.gates)?));
+        }
+        let Some(advance) = self.exchanges.advance(flow, &self.gates, WIDE, FRAME)? else {
+            return Ok(None);
+        };
+        if self.next(flow, WIDE, FRAME) != unit_answer(advance.unit) {
+            return Ok(None);
+        }
+        Ok(Some(advance.step))
+    }
+
+    /// Whether a flow isn't live, and a step answers so.
+    pub(crate) fn is_gone(&mut self, flow: FlowId) -> Result<bool, NoMemory> {
+        if self.exchanges.has_flow(flow) {
+            return Ok(false);
+        }
+        let advance = self.exchanges.advance(flow, &self.gates, WIDE, FRAME)?;
+        Ok(advance.is_none())
+    }
+
     /// Moves, and marks what the step crossed.
     pub(crate) fn step(&mut self, flow: FlowId, has_stage: bool) -> Result<Answer, NoMemory> {
-        if !self.exchanges.has_flow(flow) || !self.gates.is_open(flow) {
+        let Some(step) = self.step_of(flow)? else {
             return Ok(Refused);
-        }
-        let step = self.exchanges.step(flow, &self.gates)?;
+        };
         if let Step::Moved { place, shifted, .. } = step
             && place < 9
         {
@@ -218,6 +246,18 @@ impl Stage {
             Unit::Nothing => {}
             Unit::Head { last } => self.exchanges.framed(flow, last),
             Unit::Trailers => self.exchanges.framed(flow, true),
+            Unit::Body { n, last } if self.joined => {
+                let piece = Piece { n, last };
+                let (shifted, next) = self
+                    .exchanges
+                    .frame_unit(flow, &mut self.out, &[7; 9], piece, WIDE, FRAME)?;
+                if shifted.from == Crossed::Low {
+                    drain(&mut self.gates, BufferId::Send(flow));
+                }
+                if self.next(flow, WIDE, FRAME) != unit_answer(next) {
+                    return Ok(Refused);
+                }
+            }
             Unit::Body { n, last } => {
                 let shifted = self
                     .exchanges

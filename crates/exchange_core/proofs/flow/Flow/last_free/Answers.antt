@@ -23,12 +23,12 @@ returns-then-is_held_at-clause-place c =
     let held : is_held_at c.args.gates.now c.args.self.now c.loop-place.place ≡ true = sym c.is_held_at.ensures ∙ c.if-is_held_at.true in
     sym (c.loop-place.invariant.rest ∙ held_here c.args.gates.now c.args.to c.args.self.now c.loop-place.place (omega arith) c.loop-place.invariant.within held)
 
-pub returns-then-may_release-gt0-clause-place : goal.returns-then-may_release-gt0-clause-place
-returns-then-may_release-gt0-clause-place c =
+pub returns-then-n-gt0-clause-place : goal.returns-then-n-gt0-clause-place
+returns-then-n-gt0-clause-place c =
     let held : is_held_at c.args.gates.now c.args.self.now c.loop-place.place ≡ false = sym c.is_held_at.ensures ∙ c.if-is_held_at.false in
     let clear : later_above c.args.gates.now c.args.to c.args.self.now (c.loop-place.place - 1) ≡ false =
     clear_here c.args.gates.now c.args.to c.args.self.now c.loop-place.place (omega arith) c.loop-place.invariant.within held c.loop-place.invariant.clear in
-    let some : 0 < may_release c.args.gates.now c.args.self.now (c.loop-place.place - 1) = omega (arith, c.may_release.ensures.released) in
+    let some : 0 < may_release c.args.gates.now c.args.self.now (c.loop-place.place - 1) = omega (arith, c.may_release-n.ensures.released) in
     sym (c.loop-place.invariant.rest ∙ found_here c.args.gates.now c.args.to c.args.self.now c.loop-place.place (omega arith) some clear)
 
 pub loop-place-preserved : goal.loop-place-preserved
@@ -36,7 +36,7 @@ loop-place-preserved c =
     let held : is_held_at c.args.gates.now c.args.self.now c.loop-place.place ≡ false = sym c.is_held_at.ensures ∙ c.if-is_held_at.false in
     let clear : later_above c.args.gates.now c.args.to c.args.self.now (c.loop-place.place - 1) ≡ false =
     clear_here c.args.gates.now c.args.to c.args.self.now c.loop-place.place (omega arith) c.loop-place.invariant.within held c.loop-place.invariant.clear in
-    let none : may_release c.args.gates.now c.args.self.now (c.loop-place.place - 1) ≡ 0 = omega (arith, c.may_release.ensures.released) in
+    let none : may_release c.args.gates.now c.args.self.now (c.loop-place.place - 1) ≡ 0 = omega (arith, c.may_release-n.ensures.released) in
     record {
       within = omega arith;
       clear = clear;

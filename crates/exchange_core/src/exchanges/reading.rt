@@ -1,0 +1,93 @@
+// What exchanges answer, and leave as they are.
+ghost use Rattle.std.specs.Prelude.{◌≡◌, ◌↔◌, ◌-◌, IsTrue, Some, length, option_map, true};
+ghost use Rattle.exchange_core.specs.Exchange.{ends_of, held_in};
+ghost use Rattle.exchange_core.specs.Exchanges.{IsLiveFlow, IsNextMetered, IsSound, exchange_at, flow_at, is_live};
+
+use super::Exchanges;
+use crate::exchange::Ends;
+use flow_gate::FlowId;
+
+impl Exchanges {
+    /// The greatest number given so far, 0 before the first.
+    pub fn last(&self) -> u64
+        ensures { result ≡ self.now.last }
+    {
+        self.last
+    }
+
+    /// The last moment that it was told, in ms.
+    pub fn time(&self) -> u64
+        ensures { result ≡ self.now.time }
+    {
+        self.time
+    }
+
+    /// Whether an exchange is live.
+    pub fn is_live(&self, exchange: u64) -> bool
+        ensures { result ≡ is_live self.now exchange }
+    {
+        self.live.contains_key(&exchange)
+    }
+
+    /// Whether a flow is one of a live exchange: in a plain session there is no response.
+    pub fn has_flow(&self, flow: FlowId) -> bool
+        ensures { IsTrue result ↔ IsLiveFlow self.now flow }
+    {
+        match self.live.get(&flow.exchange) {
+            Some(exchange) => exchange.has_flow(flow.back),
+            None => false,
+        }
+    }
+
+    /// How many octets the receive buffer of a flow holds.
+    pub fn received(&self, flow: FlowId) -> u32
+        requires { IsLiveFlow self.now flow }
+        ensures { Some result ≡ option_map (λ f. length f.recv) (flow_at self.now flow) }
+    {
+        self.flow(flow).left()
+    }
+
+    /// How many octets more fit into the receive buffer of a flow within its window, 0 where it is full. None exactly
+    /// where the flow isn't live.
+    pub fn space(&self, flow: FlowId) -> Option<u32>
+        ensures { result ≡ option_map (λ f. f.window - length f.recv) (flow_at self.now flow) }
+    {
+        match self.live.get(&flow.exchange) {
+            Some(exchange) => exchange.space(flow.back),
+            None => None,
+        }
+    }
+
+    /// Whether the end of a flow came.
+    pub fn has_ended(&self, flow: FlowId) -> bool
+        requires { IsLiveFlow self.now flow }
+        ensures { Some result ≡ option_map (λ f. f.message.ended) (flow_at self.now flow) }
+    {
+        self.flow(flow).message().ended
+    }
+
+    /// Which ends of an exchange are framed.
+    pub fn ends(&self, exchange: u64) -> Ends
+        requires { is_live self.now exchange ≡ true }
+        ensures ends { Some result ≡ option_map ends_of (exchange_at self.now exchange) }
+        ensures sound { IsSound self.now }
+    {
+        self.exchange(exchange).ends()
+    }
+
+    /// The octets in all places of both flows of an exchange.
+    pub fn held(&self, exchange: u64) -> u64
+        requires { is_live self.now exchange ≡ true }
+        ensures { Some result ≡ option_map held_in (exchange_at self.now exchange) }
+    {
+        self.exchange(exchange).held()
+    }
+
+    /// The least number above `after` of a live exchange of which some Meter holds octets: after a tick only these may
+    /// have more to let go. None exactly where there is none.
+    pub fn metered(&self, after: u64) -> Option<u64>
+        ensures { IsNextMetered after result self.now }
+    {
+        self.metered.next_above(after)
+    }
+}
