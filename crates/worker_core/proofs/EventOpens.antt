@@ -1,6 +1,5 @@
 -- What an event does to a core beside its notes, and that the core is good then.
 use Rattle.flow_gate.specs.declared.ids.FlowId.{FlowId}
-use Rattle.flow_notes.specs.declared.events.Event.{Event}
 use Rattle.flow_notes.specs.declared.notes.Note.{Note}
 use Rattle.plain_laws.proofs.Streams.{not_both}
 use Rattle.plain_laws.specs.Settled.{Settled as IsSettledHistory}
@@ -21,7 +20,7 @@ use Rattle.worker_core.specs.Carries.{Fits, Lives, may_move}
 use Rattle.worker_core.specs.Flows.{FlowsStand, IsSettled}
 use Rattle.worker_core.specs.Progress.{HasReason, Pairs, Underway}
 use Rattle.worker_core.specs.Runs.{IsGood}
-use Rattle.worker_core.specs.Stands.{CanTake, Good, Rests}
+use Rattle.worker_core.specs.Stands.{Good, Rests}
 use Rattle.worker_core.specs.declared.flows.Flows.{Flows}
 use Rattle.worker_core.specs.declared.worker.Core.{Core}
 use Rattle.flow_gate.specs.declared.ids.BufferId.TheVariants as buffer
@@ -118,9 +117,6 @@ opened_given old mid new e nt na rest = record {
 }
 
 -- what an event function may ask of the flows
-pub settled_take : (core : Core) (e : Event) (notes : List Note) → CanTake core e notes → IsSettled core.flows
-settled_take core e notes t = record { limits = t.limits; history = onto notes t.history; settled = t.rests.good.flows }
-
 pub settled_good : (core : Core) (notes : List Note) → IsGood core notes → IsSettled core.flows
 settled_good core notes g = record { limits = g.limits; history = onto notes g.history; settled = g.good.flows }
 

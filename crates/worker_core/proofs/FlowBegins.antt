@@ -10,18 +10,18 @@ use Rattle.flow_gate.specs.declared.ids.FlowId.{FlowId}
 use Rattle.plain_laws.proofs.Counting.{one_if}
 use Rattle.plain_laws.proofs.Counts.{begin_count, begin_count_own, is_live_is}
 use Rattle.plain_laws.proofs.EventChanges.{begin_condemned, begin_framed_last, begin_keeps, begin_keeps_write, begin_live, begin_started}
-use Rattle.plain_laws.proofs.Readiness.{keeps_ready, ready_is, ready_of}
+use Rattle.plain_laws.proofs.Rotation.{unit_is}
 use Rattle.plain_laws.proofs.Streams.{by_case, has_last, has_more, has_not, has_was, not_both, own_or_other, same_number}
-use Rattle.plain_laws.specs.Next.{is_ready}
 use Rattle.plain_laws.specs.Regular.{IsUnborn}
 use Rattle.plain_laws.specs.Settled.{Settled as IsSettledHistory}
 use Rattle.plain_laws.specs.StepNotes.{begin_notes}
 use Rattle.std.proofs.Common.{ap, arith, inr, refl, subst, sym, ◌∙◌}
+use Rattle.std.proofs.lemmas.Bool.Decides.{nat_tests}
 use Rattle.std.proofs.lemmas.List.{append-nil}
 use Rattle.std.specs.Option.{option_map_or}
-use Rattle.std.specs.Prelude.{Bool, List, None, Option, Some, [], false, if◌then◌else◌, is_some, length, map, nat_lt, not, true, ℕ, ◌&&◌, ◌++◌, ◌+◌, ◌<◌, ◌==◌, ◌^◌, ◌||◌, ◌∷◌, ◌≡◌, ◌≤◌}
+use Rattle.std.specs.Prelude.{Bool, List, None, Option, Some, [], false, if◌then◌else◌, is_some, length, map, min, nat_lt, not, true, ℕ, ◌&&◌, ◌++◌, ◌+◌, ◌<◌, ◌==◌, ◌^◌, ◌||◌, ◌∷◌, ◌≡◌, ◌≤◌}
 use Rattle.tape_laws.specs.Dispatches.{has, live, started}
-use Rattle.tape_laws.specs.Ends.{end_framed}
+use Rattle.tape_laws.specs.Ends.{BodyUnit, NoUnit, end_framed}
 use Rattle.tape_laws.specs.Flows.{request, same_flow}
 use Rattle.tape_laws.specs.History.{History, NoMark, onto}
 use Rattle.tape_laws.specs.Pauses.{count}
@@ -30,13 +30,14 @@ use Rattle.tape_laws.specs.Watermark.{above}
 use Rattle.tape_laws.specs.World.{place}
 use Rattle.tape_laws.specs.declared.limits.PlainLimits.{PlainLimits}
 use Rattle.worker_core.specs.Carries.{Begins}
-use Rattle.worker_core.specs.Flows.{ConnectionIs, ExchangesAre, GatesAre, IsSettled, Settled, StreamIs}
+use Rattle.worker_core.specs.Flows.{ConnectionIs, ExchangesAre, GatesAre, IsSettled, Settled, StreamIs, next_piece, piece_of}
 use Rattle.worker_core.specs.declared.conn.Connection.{Connection}
+use Rattle.exchange_core.specs.declared.step.Piece.{Piece}
 use Rattle.worker_core.specs.declared.flows.Flows.{Flows}
 use Rattle.flow_gate.specs.declared.ids.BufferId.TheVariants as buffer
 use Rattle.worker_core.proofs.FlowStreams.{stream_kept}
 use Rattle.worker_core.proofs.FlowHolds.{holding_begun}
-use Rattle.worker_core.proofs.FlowParts.{quantum_some}
+use Rattle.worker_core.proofs.FlowUnits.{keeps_piece}
 use Rattle.plain_laws.proofs.Tellings.{told_all}
 use Rattle.proxy_config.specs.declared.config.Config.{Config}
 
@@ -124,31 +125,43 @@ module _ (limits : PlainLimits) (k x : ℕ) (h : History NoMark) where
       other_is y d = c.live y ∙ ap (λ b. if b then Some (begun x (plain_spec x old.limits.recv old.limits.send old.limits.quantum 0) config) else exchange_at old.exchanges y) d
 
   -- ---- the connection
-  begun_conn : (conn : Connection) → ConnectionIs limits conn h → 0 < limits.quantum → has (live h) x ≡ false → IsUnborn limits x h → ConnectionIs limits conn after
-  begun_conn conn c q new u = record {
+  begun_conn : (conn : Connection) → ConnectionIs limits conn h → has (live h) x ≡ false → IsUnborn limits x h → ConnectionIs limits conn after
+  begun_conn conn c new u = record {
     limit = c.limit;
     octets = c.octets ∙ sym (begin_keeps_write limits k x h).octets;
     above = c.above ∙ sym (begin_keeps_write limits k x h).high;
     framed_last = c.framed_last ∙ sym (begin_framed_last limits k x h);
-    ready = λ y. c.ready y ∙ (ap (λ b. has (live h) y && b) (sym (keeps_ready limits y h after (begin_keeps limits k x y h))) ∙ sym (ap (λ b. b && is_ready limits y after) (lives y)
-        ∙ own_or_other (λ v. ((has (live h) v || (x == v)) && is_ready limits v after) ≡ (has (live h) v && is_ready limits v after)) x y
-        (ap (λ b. (has (live h) x || (x == x)) && b) idle ∙ (none (has (live h) x || (x == x)) ∙ sym (ap (λ b. has (live h) x && b) idle ∙ none (has (live h) x))))
-        (λ d. ap (λ b. (has (live h) y || b) && is_ready limits y after) d ∙ ap (λ b. b && is_ready limits y after) (or_false (has (live h) y)))));
+    ready = λ y. c.ready y ∙ (ap (λ (p : Option Piece). if has (live h) y then p else None) (sym (keeps_piece limits y h after (begin_keeps limits k x y h)))
+        ∙ sym (ap (λ b. if b then next_piece limits y after else None) (lives y)
+        ∙ own_or_other (λ v. (if has (live h) v || (x == v) then next_piece limits v after else None) ≡ (if has (live h) v then next_piece limits v after else None)) x y
+        (none (has (live h) x || (x == x)) (has (live h) x) (next_piece limits x after) idle)
+        (λ d. ap (λ b. if has (live h) y || b then next_piece limits y after else None) d ∙ ap (λ b. if b then next_piece limits y after else None) (or_false (has (live h) y)))));
   }
     where
-      none : (b : Bool) → (b && false) ≡ false
-      none true = refl
-      none false = refl
+      none : (a b : Bool) (p : Option Piece) → p ≡ None → (if a then p else None) ≡ (if b then p else None)
+      none true true p e = refl
+      none true false p e = e
+      none false true p e = sym e
+      none false false p e = refl
 
       or_false : (b : Bool) → (b || false) ≡ b
       or_false true = refl
       or_false false = refl
 
-      idle : is_ready limits x after ≡ false
-      idle = keeps_ready limits x h after (begin_keeps limits k x x h)
-          ∙ (ready_is limits x h q
-          ∙ (ap (λ (o : List ℕ). ready_of (nat_lt 0 (length o)) (plain_ended x h) (end_framed (plain_setup limits) (request x) h) (length (place (plain_setup limits) (request x) 0 h))) u.send
-          ∙ ap (λ b. ready_of (nat_lt 0 (length {A = ℕ} [])) b (end_framed (plain_setup limits) (request x) h) (length (place (plain_setup limits) (request x) 0 h))) u.goes_on))
+      nothing : (b e fr c l : Bool) (n : ℕ) → b ≡ false → e ≡ false → piece_of (if b then BodyUnit n l else if not (e && c) || fr then NoUnit else BodyUnit 0 true) ≡ None
+      nothing false false fr c l n p q = refl
+      nothing true e fr c l n p q = cc
+      nothing false true fr c l n p q = cc
+
+      no_octets : (q s : ℕ) → s ≡ 0 → nat_lt 0 (min q s) ≡ false
+      no_octets q s e = grind (arith, nat_tests)
+
+      idle : next_piece limits x after ≡ None
+      idle =
+          let s = length (place (plain_setup limits) (request x) 1 h) in
+          keeps_piece limits x h after (begin_keeps limits k x x h)
+          ∙ (ap piece_of (unit_is limits x h)
+          ∙ nothing _ (plain_ended x h) (end_framed (plain_setup limits) (request x) h) _ _ (min limits.quantum s) (no_octets limits.quantum s (ap (λ (o : List ℕ). length o) u.send)) u.goes_on)
 
   -- ---- the gates
   or_true : (a b : Bool) → b ≡ true → (a || b) ≡ true
@@ -258,7 +271,7 @@ begins x held old config ex b1 b2 b3 b4 rises small c sound c1 c2 c3 c4 counted 
           ranges = st.ranges;
           exchanges = begun_exchanges limits k x h config old ex st.limits_are st.exchanges u rises small c sound;
           gates = begun_gates limits k x h old.gates b1 b2 b3 b4 s.lawful st.gates new unstarted u c1 c2 c3 c4 counted;
-          conn = begun_conn limits k x h old.conn st.conn (quantum_some limits st.ranges) new u;
+          conn = begun_conn limits k x h old.conn st.conn new u;
           holding = holding_begun limits k x old.holding h st.holding u;
         };
       };

@@ -10,18 +10,17 @@ use Rattle.flow_gate.specs.declared.ids.FlowId.{FlowId}
 use Rattle.flow_notes.specs.declared.notes.Cause.{Cause}
 use Rattle.plain_laws.proofs.Counts.{doom_low, is_live_is}
 use Rattle.plain_laws.proofs.Keepings.{doom_high, doom_out}
-use Rattle.plain_laws.proofs.Readiness.{keeps_ready}
 use Rattle.plain_laws.proofs.Streams.{by_case, has_left, has_lost, has_stays, not_both, own_or_other, same_number}
 use Rattle.plain_laws.specs.Keeping.{KeepsStream}
-use Rattle.plain_laws.specs.Next.{is_ready}
 use Rattle.plain_laws.specs.Regular.{IsLiveFlow}
 use Rattle.std.proofs.Common.{ap, arith, refl, subst, sym, ◌∙◌}
 use Rattle.std.proofs.lemmas.List.{append-nil}
+use Rattle.std.specs.BTreeMap.{get}
 use Rattle.std.specs.BTreeSet.{BTreeSet, contains}
 use Rattle.std.specs.List.{AllByRecursion}
 use Rattle.std.specs.Option.{option_map_or}
 use Rattle.std.specs.Ordering.{nat_cmp}
-use Rattle.std.specs.Prelude.{Bool, IfSome, List, None, [], false, filter, if◌then◌else◌, length, map, nat_lt, not, true, ℕ, ◌&&◌, ◌*◌, ◌++◌, ◌+◌, ◌<◌, ◌==◌, ◌^◌, ◌∷◌, ◌≡◌, ◌≤◌}
+use Rattle.std.specs.Prelude.{Bool, IfSome, List, None, Option, [], false, filter, if◌then◌else◌, length, map, nat_lt, not, true, ℕ, ◌&&◌, ◌*◌, ◌++◌, ◌+◌, ◌<◌, ◌==◌, ◌^◌, ◌∷◌, ◌≡◌, ◌≤◌}
 use Rattle.tape_laws.specs.Dispatches.{has, live, started}
 use Rattle.tape_laws.specs.Flows.{request, same_flow}
 use Rattle.tape_laws.specs.History.{History, NoMark, Noted}
@@ -32,7 +31,7 @@ use Rattle.tape_laws.specs.World.{place}
 use Rattle.tape_laws.specs.declared.limits.PlainLimits.{PlainLimits}
 use Rattle.wm_buffer.specs.Buffer.{Buffer}
 use Rattle.worker_core.specs.Carries.{Dooms, Lives}
-use Rattle.worker_core.specs.Flows.{ConnectionIs, ExchangesAre, FlowsStand, GatesAre, HoldingIs, IsSettled, StreamIs}
+use Rattle.worker_core.specs.Flows.{ConnectionIs, ExchangesAre, FlowsStand, GatesAre, HoldingIs, IsSettled, StreamIs, next_piece}
 use Rattle.worker_core.specs.declared.conn.Connection.{Connection}
 use Rattle.worker_core.specs.declared.flows.Flows.{Flows}
 use Rattle.flow_gate.specs.declared.ids.BufferId.TheVariants as buffer
@@ -44,6 +43,8 @@ use Rattle.plain_laws.proofs.Dooms.{doom_leaves, without}
 use Rattle.plain_laws.proofs.Keepings.{keeps_stream}
 use Rattle.std.proofs.lemmas.Bool.Decides.{nat_tests}
 use Rattle.worker_core.specs.Measure.{ahead, left_in, way}
+use Rattle.worker_core.proofs.FlowUnits.{keeps_piece}
+use Rattle.exchange_core.specs.declared.step.Piece.{Piece}
 
 -- ---- who is left
 swapped : (x y : ℕ) → (x == y) ≡ (y == x)
@@ -165,17 +166,20 @@ module _ (limits : PlainLimits) (x : ℕ) (why : Cause) (h : History NoMark) whe
 
   -- ---- the connection
   pub doomed_conn : (old new : Connection) → ConnectionIs limits old h → new.write ≡ old.write → new.framed_last ≡ old.framed_last
-      → ((y : ℕ) → contains nat_cmp new.ready y ≡ (not (x == y) && contains nat_cmp old.ready y)) → ((y : ℕ) → (x == y) ≡ false → KeepsStream limits y h after) → ConnectionIs limits new after
+      → ((y : ℕ) → get nat_cmp new.ready y ≡ (if x == y then None else get nat_cmp old.ready y)) → ((y : ℕ) → (x == y) ≡ false → KeepsStream limits y h after) → ConnectionIs limits new after
   doomed_conn old new c write last made others = record {
     limit = ap (λ (w : Buffer). w.limit) write ∙ c.limit;
     octets = ap (λ (w : Buffer). w.octets) write ∙ (c.octets ∙ sym (doom_out limits x why h));
     above = ap (λ (w : Buffer). w.above) write ∙ (c.above ∙ sym (doom_high limits x why h));
     framed_last = last ∙ c.framed_last;
-    ready = λ y. made y ∙ (ap (λ b. not (x == y) && b) (c.ready y) ∙ (by_case (x == y)
-        (λ t. ap (λ b. not b && (has (live h) y && is_ready limits y h)) t ∙ sym (ap (λ b. b && is_ready limits y after) (left_is (live h) x y ∙ ap (λ b. not b && has (live h) y) t)))
-        (λ d. ap (λ b. not b && (has (live h) y && is_ready limits y h)) d
-        ∙ (ap (λ b. has (live h) y && b) (sym (keeps_ready limits y h after (others y d))) ∙ sym (ap (λ b. b && is_ready limits y after) (left_is (live h) x y ∙ ap (λ b. not b && has (live h) y) d))))));
+    ready = λ y. made y ∙ (ap (λ (p : Option Piece). if x == y then None else p) (c.ready y) ∙ (apart (x == y) (has (live h) y) _ _ (λ d. sym (keeps_piece limits y h after (others y d)))
+        ∙ sym (ap (λ b. if b then next_piece limits y after else None) (left_is (live h) x y))));
   }
+    where
+      apart : (a b : Bool) (p q : Option Piece) → (a ≡ false → p ≡ q) → (if a then None else if b then p else None) ≡ (if not a && b then q else None)
+      apart true b p q f = refl
+      apart false true p q f = f refl
+      apart false false p q f = refl
 
   pub doomed_holding : (old new : BTreeSet ℕ) → HoldingIs limits old h → ((y : ℕ) → contains nat_cmp new y ≡ (not (x == y) && contains nat_cmp old y))
       → ((y : ℕ) → (x == y) ≡ false → KeepsStream limits y h after) → HoldingIs limits new after
@@ -192,7 +196,7 @@ module _ (limits : PlainLimits) (x : ℕ) (why : Cause) (h : History NoMark) whe
   pub dooms_at : (old : Flows) (ex : Exchanges) (b : Board) (conn : Connection) (holding : BTreeSet ℕ) → FlowsStand limits old h → has (live h) x ≡ true
       → ((y : ℕ) → pending_lows (plain_setup limits) (buffer.Send (request y)) h ≡ []) → AllByRecursion (IsLiveFlow (live h)) (pending_lows (plain_setup limits) (buffer.Write 0) h)
       → DoomsExchange x old.exchanges ex → AreSoundExchanges ex → IfSome (exchange_at old.exchanges x) (λ e. ForgetsFlows x e old.gates b) → IsSoundBoard b
-      → ((y : ℕ) → contains nat_cmp conn.ready y ≡ (not (x == y) && contains nat_cmp old.conn.ready y)) → conn.write ≡ old.conn.write → conn.framed_last ≡ old.conn.framed_last
+      → ((y : ℕ) → get nat_cmp conn.ready y ≡ (if x == y then None else get nat_cmp old.conn.ready y)) → conn.write ≡ old.conn.write → conn.framed_last ≡ old.conn.framed_last
       → ((y : ℕ) → contains nat_cmp holding y ≡ (not (x == y) && contains nat_cmp old.holding y))
       → FlowsStand limits (record { limits = old.limits; exchanges = ex; gates = b; conn = conn; holding = holding }) after
   dooms_at old ex b conn holding st is quiet lows c sound forgets counted made write last kept =
@@ -213,7 +217,7 @@ module _ (limits : PlainLimits) (x : ℕ) (why : Cause) (h : History NoMark) whe
 
 pub dooms : (x : ℕ) (why : Cause) (old : Flows) (ex : Exchanges) (b : Board) (conn : Connection) (holding : BTreeSet ℕ) → DoomsExchange x old.exchanges ex → AreSoundExchanges ex
     → IfSome (exchange_at old.exchanges x) (λ e. ForgetsFlows x e old.gates b) → IsSoundBoard b
-    → ((y : ℕ) → contains nat_cmp conn.ready y ≡ (not (x == y) && contains nat_cmp old.conn.ready y)) → conn.write ≡ old.conn.write → conn.framed_last ≡ old.conn.framed_last
+    → ((y : ℕ) → get nat_cmp conn.ready y ≡ (if x == y then None else get nat_cmp old.conn.ready y)) → conn.write ≡ old.conn.write → conn.framed_last ≡ old.conn.framed_last
     → ((y : ℕ) → contains nat_cmp holding y ≡ (not (x == y) && contains nat_cmp old.holding y))
     → Dooms x why old (record { limits = old.limits; exchanges = ex; gates = b; conn = conn; holding = holding })
 dooms x why old ex b conn holding c sound forgets counted made write last kept = record {

@@ -11,25 +11,27 @@ use Rattle.flow_gate.specs.Board.{Board}
 use Rattle.plain_laws.proofs.EventChanges.{body_high, body_keeps, body_keeps_write, body_recv, body_send}
 use Rattle.plain_laws.proofs.Flags.{send_same}
 use Rattle.plain_laws.proofs.Keepings.{turn_keeps, turn_keeps_write}
-use Rattle.plain_laws.proofs.Readiness.{keeps_ready, ready_is, ready_of}
+use Rattle.plain_laws.proofs.Rotation.{unit_is}
 use Rattle.plain_laws.proofs.Streams.{own_or_other, same_number}
 use Rattle.plain_laws.specs.Keeping.{KeepsStream}
-use Rattle.plain_laws.specs.Next.{is_ready}
+use Rattle.plain_laws.specs.Next.{unit_of}
 use Rattle.plain_laws.specs.StepNotes.{body_notes}
 use Rattle.std.proofs.Common.{ap, refl, subst, sym, ◌∙◌}
+use Rattle.std.specs.BTreeMap.{get}
 use Rattle.std.specs.BTreeSet.{BTreeSet, contains}
 use Rattle.std.specs.Option.{option_and_then}
 use Rattle.std.specs.Ordering.{nat_cmp}
-use Rattle.std.specs.Prelude.{Bool, List, None, Option, false, if◌then◌else◌, length, nat_lt, not, option_map, true, ℕ, ◌&&◌, ◌++◌, ◌<◌, ◌==◌, ◌||◌, ◌∷◌, ◌≡◌}
+use Rattle.std.specs.Prelude.{Bool, List, None, Option, false, if◌then◌else◌, length, nat_lt, option_map, true, ℕ, ◌&&◌, ◌++◌, ◌==◌, ◌||◌, ◌∷◌, ◌≡◌}
 use Rattle.tape_laws.specs.Dispatches.{has, live}
+use Rattle.tape_laws.specs.Ends.{end_framed}
 use Rattle.tape_laws.specs.Flows.{request}
 use Rattle.tape_laws.specs.History.{History, NoMark, Noted, Step, onto}
 use Rattle.tape_laws.specs.Plain.{plain_ended, plain_setup}
 use Rattle.tape_laws.specs.Watermark.{above}
 use Rattle.tape_laws.specs.declared.limits.PlainLimits.{PlainLimits}
 use Rattle.worker_core.specs.Carries.{GoesOn}
-use Rattle.worker_core.specs.Flows.{ExchangesAre, FlowsStand, GatesAre, HoldingIs, Settled, StreamIs}
-use Rattle.worker_core.specs.UnitsOf.{has_unit}
+use Rattle.worker_core.specs.Flows.{ExchangesAre, FlowsStand, GatesAre, HoldingIs, Settled, StreamIs, next_piece, piece_of}
+use Rattle.worker_core.specs.UnitsOf.{piece_at}
 use Rattle.worker_core.specs.declared.flows.Flows.{Flows}
 use Rattle.flow_gate.specs.declared.ids.BufferId.TheVariants as buffer
 use Rattle.flow_notes.specs.declared.events.Event.TheVariants as event
@@ -38,22 +40,22 @@ use Rattle.flow_notes.specs.declared.notes.Note.TheVariants as note
 use Rattle.worker_core.proofs.FlowStreams.{changed_exchanges, changed_plain}
 use Rattle.worker_core.proofs.FlowGates.{gates_kept}
 use Rattle.worker_core.proofs.FlowHolds.{holding_arrived, holding_kept}
-use Rattle.worker_core.proofs.FlowParts.{conn_kept, refreshed_conn, quantum_some}
+use Rattle.worker_core.proofs.FlowParts.{conn_kept, refreshed_conn}
+use Rattle.worker_core.proofs.FlowUnits.{keeps_piece}
 
 -- ---- octets arrive
-unended : (some ended framed : Bool) (recv : ℕ) → ended ≡ false → ready_of some ended framed recv ≡ some
-unended true ended framed recv e = refl
-unended false ended framed recv e = ap (λ b. (b && (recv == 0)) && not framed) e
+unended : (q : ℕ) (ended framed : Bool) (r s r' s' : ℕ) → ended ≡ false → s' ≡ s → unit_of q ended framed r' s' ≡ unit_of q ended framed r s
+unended q ended framed r s r' s' e f = rw (e, f) refl
 
 pub goes_on : (limits : PlainLimits) (flows : Flows) (x : ℕ) (h : History NoMark) → StreamIs limits x h (exchange_at flows.exchanges x) → GoesOn flows x → plain_ended x h ≡ false
 goes_on limits flows x h s goes =
     sym s.ended ∙ at_found (λ (f : Flow). f.message.ended ≡ false) (flow_at flows.exchanges (request x)) (plain_flow x s.plain) (ap (option_and_then (flow_in false)) s.is) goes
 
-arrive_ready : (limits : PlainLimits) (k x : ℕ) (octets : List ℕ) (h : History NoMark) → 0 < limits.quantum → plain_ended x h ≡ false
-    → is_ready limits x (onto (body_notes k x octets) h) ≡ is_ready limits x h
-arrive_ready limits k x octets h q goes =
-    let h' = onto (body_notes k x octets) h in
-    ready_is limits x h' q ∙ (unended _ _ _ _ goes ∙ (ap (λ (o : List ℕ). nat_lt 0 (length o)) (body_send limits k x octets h) ∙ sym (ready_is limits x h q ∙ unended _ _ _ _ goes)))
+arrive_piece : (limits : PlainLimits) (k x : ℕ) (octets : List ℕ) (h : History NoMark) → plain_ended x h ≡ false
+    → next_piece limits x (onto (body_notes k x octets) h) ≡ next_piece limits x h
+arrive_piece limits k x octets h goes =
+    ap piece_of (unit_is limits x (onto (body_notes k x octets) h)
+    ∙ (unended limits.quantum (plain_ended x h) (end_framed (plain_setup limits) (request x) h) _ _ _ _ goes (ap (λ (o : List ℕ). length o) (body_send limits k x octets h)) ∙ sym (unit_is limits x h)))
 
 pub arrives : (limits : PlainLimits) (k x : ℕ) (octets : List ℕ) (old : Flows) (ex : Exchanges) (holding : BTreeSet ℕ) (h : History NoMark) → Settled limits old h → has (live h) x ≡ true → GoesOn old x
     → ChangesFlow (request x) (arrived octets) old.exchanges ex → AreSoundExchanges ex
@@ -89,8 +91,8 @@ arrives limits k x octets old ex holding h settled is goes c sound made =
             (body_high limits k x octets h) (λ d. (body_keeps limits k x y octets h d).high);
       });
       conn = conn_kept limits old.conn h h' st.conn (body_keeps_write limits k x octets h) refl refl
-          (λ y e. own_or_other (λ v. is_ready limits v h' ≡ is_ready limits v h) x y
-          (arrive_ready limits k x octets h (quantum_some limits st.ranges) (goes_on limits old x h s goes)) (λ d. keeps_ready limits y h h' (body_keeps limits k x y octets h d)));
+          (λ y e. own_or_other (λ v. next_piece limits v h' ≡ next_piece limits v h) x y
+          (arrive_piece limits k x octets h (goes_on limits old x h s goes)) (λ d. keeps_piece limits y h h' (body_keeps limits k x y octets h d)));
       holding = holding_arrived limits k x octets old.holding holding h st.holding is made;
     }
 
@@ -117,7 +119,7 @@ ended_stream limits k x h found s = record {
 pub ends : (limits : PlainLimits) (k x : ℕ) (old new : Flows) (ex : Exchanges) (h : History NoMark) → Settled limits old h → has (live h) x ≡ true
     → ChangesFlow (request x) (finished None) old.exchanges ex → AreSoundExchanges ex
     → new ≡ record old { exchanges = ex; conn = record old.conn { ready = new.conn.ready } }
-    → ((y : ℕ) → contains nat_cmp new.conn.ready y ≡ (if x == y then has_unit (record old { exchanges = ex }) x else contains nat_cmp old.conn.ready y))
+    → ((y : ℕ) → get nat_cmp new.conn.ready y ≡ (if x == y then piece_at (record old { exchanges = ex }) x else get nat_cmp old.conn.ready y))
     → FlowsStand limits new (Noted (note.Turn k (event.Plain (plain.Finish x))) ∷ h)
 ends limits k x old new ex h settled is c sound rest made =
     let turn : Step NoMark = Noted (note.Turn k (event.Plain (plain.Finish x))) in

@@ -21,7 +21,8 @@ use Rattle.plain_laws.specs.Settled.{Settled as IsSettledHistory}
 use Rattle.plain_laws.specs.StepNotes.{frame_notes}
 use Rattle.std.proofs.Common.{ap, arith, refl, subst, sym, ◌∙◌}
 use Rattle.std.proofs.lemmas.List.{append-nil}
-use Rattle.std.specs.BTreeSet.{BTreeSet, contains}
+use Rattle.std.specs.BTreeMap.{get}
+use Rattle.std.specs.BTreeSet.{BTreeSet}
 use Rattle.std.specs.Option.{option_and_then, option_map_or}
 use Rattle.std.specs.Ordering.{nat_cmp}
 use Rattle.std.specs.Prelude.{Bool, IfSome, IsSome, List, Option, Some, [], drop, false, if◌then◌else◌, length, min, nat_lt, not, option_map, take, true, ℕ, ◌&&◌, ◌*◌, ◌++◌, ◌+◌, ◌-◌, ◌<◌, ◌==◌, ◌^◌, ◌||◌, ◌∷◌, ◌≡◌, ◌≤◌}
@@ -40,7 +41,7 @@ use Rattle.wm_buffer.specs.declared.watermark.Crossed.{Crossed}
 use Rattle.wm_buffer.specs.declared.watermark.Crossed.TheVariants as crossed
 use Rattle.worker_core.specs.Carries.{Frames, FramesAt, IsNextFrame, NextIs}
 use Rattle.worker_core.specs.Flows.{ConnectionIs, ExchangesAre, GatesAre, HoldingIs, IsSettled, Settled, StreamIs}
-use Rattle.worker_core.specs.UnitsOf.{has_unit}
+use Rattle.worker_core.specs.UnitsOf.{piece_at}
 use Rattle.worker_core.specs.declared.conn.Connection.{Connection}
 use Rattle.worker_core.specs.declared.flows.Flows.{Flows}
 use Rattle.worker_core.specs.declared.flows.Framed.{Framed}
@@ -305,7 +306,7 @@ pub frames_at : (limits : PlainLimits) (x n : ℕ) (last rose drained : Bool) (s
     → rose ≡ is_high shifted.to → drained ≡ is_low shifted.from → shifted.to ≡ crossing old.conn.write.above w.above
     → shifted.from ≡ crossing (is_send_above old.exchanges (request x)) (is_send_above ex (request x)) → RisesIf rose old.gates mid → DrainsIf drained (request x) mid b → IsSoundBoard b
     → new ≡ record old { exchanges = ex; gates = b; conn = record { write = w; framed_last = x; ready = new.conn.ready } }
-    → ((y : ℕ) → contains nat_cmp new.conn.ready y ≡ (if x == y then has_unit (record old { exchanges = ex }) x else contains nat_cmp old.conn.ready y))
+    → ((y : ℕ) → get nat_cmp new.conn.ready y ≡ (if x == y then piece_at (record old { exchanges = ex }) x else get nat_cmp old.conn.ready y))
     → FramesAt (record { exchange = x; n = n; last = last }) (record { rose = rose; drained = drained }) limits new h
 unfolding framed_stream
 frames_at limits x n last rose drained shifted old new ex w mid b h settled next s c sound appends er ed to from rise drain counted rest made =
@@ -337,7 +338,7 @@ frames_at limits x n last rose drained shifted old new ex w mid b h settled next
               octets = ap (λ (f : Flows). f.conn.write.octets) rest ∙ w'.octets;
               above = ap (λ (f : Flows). f.conn.write.above) rest ∙ w'.above;
               framed_last = ap (λ (f : Flows). f.conn.framed_last) rest ∙ w'.framed_last;
-              ready = refreshed limits (record old { exchanges = ex }) x h h' (contains nat_cmp old.conn.ready) (contains nat_cmp new.conn.ready) st.limits_are
+              ready = refreshed limits (record old { exchanges = ex }) x h h' (get nat_cmp old.conn.ready) (get nat_cmp new.conn.ready) st.limits_are
                   (all.there x (ap (λ (xs : List ℕ). has xs x) lists.lives ∙ is)) is lists.lives (λ y d. frame_keeps limits x y n last h d) made st.conn.ready;
             };
         holding = subst (λ (v : BTreeSet ℕ). HoldingIs limits v h') (sym (ap (λ (f : Flows). f.holding) rest))
@@ -383,7 +384,7 @@ pub frames_all : (x n : ℕ) (last : Bool) (framed : Framed) (shifted : Shifted)
     → shifted.to ≡ crossing old.conn.write.above w.above → shifted.from ≡ crossing (is_send_above old.exchanges (request x)) (is_send_above ex (request x))
     → MarksCrossed (request x) shifted old.gates framed new.gates → (IsSoundBoard old.gates → IsSoundBoard new.gates)
     → between ≡ record old { exchanges = ex; conn = record { write = w; framed_last = x; ready = between.conn.ready } }
-    → ((y : ℕ) → contains nat_cmp between.conn.ready y ≡ (if x == y then has_unit (record old { exchanges = ex }) x else contains nat_cmp old.conn.ready y))
+    → ((y : ℕ) → get nat_cmp between.conn.ready y ≡ (if x == y then piece_at (record old { exchanges = ex }) x else get nat_cmp old.conn.ready y))
     → new ≡ record between { gates = new.gates } → Frames (record { exchange = x; n = n; last = last }) framed old new
 frames_all x n last framed shifted old between new ex w head is c sound appends to from marks counted rest made kept = record {
   goes = λ limits h s next.
@@ -394,7 +395,7 @@ frames_all x n last framed shifted old between new ex w head is c sound appends 
       ∙ ap (λ r. record old { exchanges = ex; gates = new.gates; conn = record { write = w; framed_last = x; ready = r } }) (sym same)) in
       frames_at limits x n last framed.rose framed.drained shifted old new ex w marks.between new.gates h s next k c sound
       (subst (λ (v : List ℕ). AppendsOctets old.conn.write w (v ++ take n k.plain.send)) is found) marks.rose marks.drained to from marks.rises marks.drains (counted s.stands.gates.sound) all
-      (λ y. ap (λ r. contains nat_cmp r y) same ∙ made y);
+      (λ y. ap (λ r. get nat_cmp r y) same ∙ made y);
 }
 
 -- the end was not framed before, and a frame without it has octets

@@ -5,11 +5,10 @@ use Rattle.flow_gate.specs.declared.ids.FlowId.{FlowId}
 use Rattle.plain_laws.proofs.EventChanges.{room_high, room_keeps, room_out}
 use Rattle.plain_laws.proofs.Keepings.{turn_keeps_write}
 use Rattle.plain_laws.proofs.Outs.{out_lows}
-use Rattle.plain_laws.proofs.Readiness.{keeps_ready}
 use Rattle.plain_laws.specs.StepNotes.{room_notes}
 use Rattle.std.proofs.Common.{ap, arith, refl, sym, ◌∙◌}
 use Rattle.std.proofs.lemmas.List.{append-nil}
-use Rattle.std.specs.Prelude.{Bool, List, [], drop, false, if◌then◌else◌, length, map, not, true, ℕ, ◌&&◌, ◌++◌, ◌∷◌, ◌≡◌, ◌≤◌}
+use Rattle.std.specs.Prelude.{Bool, List, None, Option, [], drop, false, if◌then◌else◌, length, map, not, true, ℕ, ◌&&◌, ◌++◌, ◌∷◌, ◌≡◌, ◌≤◌}
 use Rattle.tape_laws.specs.Dispatches.{has, live}
 use Rattle.tape_laws.specs.Flows.{request}
 use Rattle.tape_laws.specs.History.{History, NoMark, Noted, Step, onto}
@@ -33,6 +32,8 @@ use Rattle.worker_core.proofs.FlowGates.{CountsAre, KeepsNames, gates_from}
 use Rattle.plain_laws.proofs.Flags.{no_rise, write_now}
 use Rattle.std.proofs.Common.{length-drop}
 use Rattle.worker_core.proofs.FlowHolds.{holding_kept}
+use Rattle.worker_core.proofs.FlowUnits.{keeps_piece}
+use Rattle.exchange_core.specs.declared.step.Piece.{Piece}
 
 abbrev pub DrainsWrite : Bool → Board → Board → Type 0
 DrainsWrite true old new = Drains (buffer.Write 0) old new
@@ -129,7 +130,7 @@ leaves n low old w b d is change sound = record {
             octets = d.octets ∙ (ap (λ (o : List ℕ). drop n o) c.octets ∙ sym (room_out limits k m n h));
             above = left_flag limits n old.conn w h c d ∙ sym (room_high limits k m n h);
             framed_last = c.framed_last;
-            ready = λ y. c.ready y ∙ ap (λ e. has (live h) y && e) (sym (keeps_ready limits y h h' (room_keeps limits k m n y h)));
+            ready = λ y. c.ready y ∙ ap (λ (p : Option Piece). if has (live h) y then p else None) (sym (keeps_piece limits y h h' (room_keeps limits k m n y h)));
           };
           holding = holding_kept limits old.holding h h' st.holding refl (λ y. (room_keeps limits k m n y h).recv);
         };

@@ -2,7 +2,8 @@
 use Rattle.exchange_core.proofs.PlainStreams.{left_are, steps_are}
 use Rattle.exchange_core.specs.Changes.{ChangesFlow}
 use Rattle.exchange_core.specs.Exchange.{flow_changed, flow_in, goes_to}
-use Rattle.exchange_core.specs.Exchanges.{Exchanges, IsSound as AreSoundExchanges, exchange_at, flow_at, target_of}
+use Rattle.exchange_core.specs.Exchanges.{Exchanges, IsLiveFlow, IsSound as AreSoundExchanges, exchange_at, flow_at, target_of}
+use Rattle.exchange_core.specs.Flow.{Flow}
 use Rattle.exchange_core.specs.Moves.{next_step, stepped}
 use Rattle.exchange_core.specs.Plain.{Plain, plain_crossed, plain_flow, plain_moved, plain_moves, plain_step, plain_stepped}
 use Rattle.exchange_core.specs.declared.exchange.Exchange.{Exchange}
@@ -20,10 +21,11 @@ use Rattle.plain_laws.specs.Keeping.{KeepsLists, KeepsWrite}
 use Rattle.plain_laws.specs.Settled.{Settled as IsSettledHistory}
 use Rattle.plain_laws.specs.StepNotes.{move_notes}
 use Rattle.std.proofs.Common.{ap, arith, refl, subst, sym, ◌∙◌}
+use Rattle.std.specs.BTreeMap.{get}
 use Rattle.std.specs.BTreeSet.{BTreeSet, contains}
 use Rattle.std.specs.Option.{option_and_then, option_map_or}
 use Rattle.std.specs.Ordering.{nat_cmp}
-use Rattle.std.specs.Prelude.{Bool, List, None, Option, Some, [], drop, false, if◌then◌else◌, length, min, nat_lt, not, option_map, take, true, ℕ, ◌&&◌, ◌*◌, ◌++◌, ◌+◌, ◌-◌, ◌<◌, ◌==◌, ◌||◌, ◌∷◌, ◌≡◌, ◌≤◌}
+use Rattle.std.specs.Prelude.{Bool, IsNone, IsSome, List, None, Option, Some, [], drop, false, if◌then◌else◌, length, min, nat_lt, not, option_map, take, true, ℕ, ◌&&◌, ◌*◌, ◌++◌, ◌+◌, ◌-◌, ◌<◌, ◌==◌, ◌||◌, ◌∷◌, ◌≡◌, ◌≤◌}
 use Rattle.tape_laws.specs.Dispatches.{has, live}
 use Rattle.tape_laws.specs.Flows.{request}
 use Rattle.tape_laws.specs.History.{History, NoMark, Noted, onto}
@@ -34,12 +36,13 @@ use Rattle.tape_laws.specs.World.{place}
 use Rattle.tape_laws.specs.declared.limits.PlainLimits.{PlainLimits}
 use Rattle.wm_buffer.specs.Watermark.{above_after, crossing}
 use Rattle.wm_buffer.specs.declared.buffer.Shifted.{Shifted}
-use Rattle.worker_core.specs.Carries.{Lives, MovesAt, StaysAt, Steps}
-use Rattle.worker_core.specs.Flows.{ExchangesAre, GatesAre, HoldingIs, IsSettled, Settled, StreamIs}
-use Rattle.worker_core.specs.UnitsOf.{has_unit, is_emptied}
+use Rattle.worker_core.specs.Carries.{MovesAt, StaysAt, Steps}
+use Rattle.worker_core.specs.Flows.{ExchangesAre, FlowsStand, GatesAre, HoldingIs, IsSettled, Settled, StreamIs}
+use Rattle.worker_core.specs.UnitsOf.{is_emptied, piece_at}
 use Rattle.worker_core.specs.declared.flows.Flows.{Flows}
 use Rattle.flow_gate.specs.declared.ids.BufferId.TheVariants as buffer
 use Rattle.flow_notes.specs.declared.notes.Note.TheVariants as note
+use Rattle.worker_core.specs.declared.flows.Outcome.TheVariants as outcome
 use Rattle.worker_core.proofs.FlowStreams.{changed_exchanges, changed_plain}
 use Rattle.worker_core.proofs.FlowGates.{CountsAre, KeepsNames, gates_from}
 use Rattle.worker_core.proofs.FlowHolds.{emptied_is, holding_moved, left_some, some_there}
@@ -224,7 +227,7 @@ rose_is limits x n ex shifted b h s m =
 pub moves : (limits : PlainLimits) (x n : ℕ) (shifted : Shifted) (rose : Bool) (old new : Flows) (ex : Exchanges) (b : Board) (holding : BTreeSet ℕ) (h : History NoMark) → Settled limits old h → has (live h) x ≡ true
     → (s : StreamIs limits x h (exchange_at old.exchanges x)) → IsMove old.gates x s.plain n shifted → ChangesFlow (request x) (stepped old.gates (Some 0)) old.exchanges ex → AreSoundExchanges ex
     → rose ≡ is_high shifted.to → RisesSend rose x old.gates b → IsSoundBoard b → new ≡ record old { exchanges = ex; gates = b; holding = holding; conn = record old.conn { ready = new.conn.ready } }
-    → ((y : ℕ) → contains nat_cmp new.conn.ready y ≡ (if x == y then has_unit (record old { exchanges = ex; gates = b; holding = holding }) x else contains nat_cmp old.conn.ready y))
+    → ((y : ℕ) → get nat_cmp new.conn.ready y ≡ (if x == y then piece_at (record old { exchanges = ex; gates = b; holding = holding }) x else get nat_cmp old.conn.ready y))
     → ((y : ℕ) → contains nat_cmp holding y ≡ (not ((x == y) && (nat_lt n old.limits.quantum || is_emptied (record old { exchanges = ex }) x)) && contains nat_cmp old.holding y))
     → MovesAt x (record { n = n; rose = rose }) limits new h
 moves limits x n shifted rose old new ex b holding h settled is s m c sound e change counted rest made left =
@@ -240,6 +243,7 @@ moves limits x n shifted rose old new ex b holding h settled is s m c sound e ch
     let all = changed_exchanges limits x (stepped old.gates (Some 0)) old.exchanges ex h h' st.exchanges c sound (record { lives = lists.lives; begun = lists.begun; doomed = lists.doomed })
     (λ y d. move_keeps limits x y n h d) (moved_stream limits x n h old.gates (exchange_at old.exchanges x) s stepped_is) in
     record {
+      live = is;
       some = go.some;
       all = m.all ∙ two_mins _ _ _ _ s.quantum (ap (λ (o : List ℕ). length o) s.recv);
       free = sym (st.gates.counts x is) ∙ go.free;
@@ -271,6 +275,7 @@ pub stays : (limits : PlainLimits) (x : ℕ) (old : Flows) (ex : Exchanges) (h :
 stays limits x old ex h settled is s none c sound =
     let st = settled.stands in
     record {
+      live = is;
       still = by_case (count (request x) h == 0)
           (λ t. ap (λ b. b && nat_lt 0 (length (place (plain_setup limits) (request x) 0 h))) t ∙ empty t)
           (λ f. ap (λ b. b && nat_lt 0 (length (place (plain_setup limits) (request x) 0 h))) f);
@@ -378,20 +383,59 @@ still_of b x p st none e = by_case (plain_moves b x p)
     (e ∙ ap (λ m. if m then step.Moved 0 (min p.quantum (length p.recv)) (plain_crossed (min p.quantum (length p.recv)) p) false else step.Still) t)))
     (λ f. f)
 
+-- a flow is there for each live stream, and for no other
+pub found_lives : (limits : PlainLimits) (x : ℕ) (ex : Exchanges) (h : History NoMark) → ExchangesAre limits ex h → IsLiveFlow ex (request x) → has (live h) x ≡ true
+found_lives limits x ex h s found = by_case (has (live h) x) (λ t. t) (λ f. absurd (none (flow_at ex (request x)) (ap (λ (o : Option Exchange). option_and_then (flow_in false) o) (s.gone x f)) found))
+  where
+    none : (o : Option Flow) → o ≡ None → IsSome o → ⊥
+    none None e f = cc
+    none (Some v) e f = cc
+
+unfound_dies : (limits : PlainLimits) (x : ℕ) (ex : Exchanges) (h : History NoMark) → ExchangesAre limits ex h → IsNone (flow_at ex (request x)) → has (live h) x ≡ false
+unfound_dies limits x ex h s none = by_case (has (live h) x) (λ t. absurd (some (flow_at ex (request x)) _ (ap (λ (o : Option Exchange). option_and_then (flow_in false) o) (s.there x t).is) none)) (λ f. f)
+  where
+    some : (o : Option Flow) (f : Flow) → o ≡ Some f → IsNone o → ⊥
+    some None f e n = cc
+    some (Some v) f e n = cc
+
+-- what came of a flow tells whether it was there
+pub step_found : {A : Type 0} (o : Option Flow) (g : Flow → A) (a : A) → Some a ≡ option_map g o → IsSome o
+step_found None g a e = cc
+step_found (Some f) g a e = refl
+
+pub no_step : {A : Type 0} (o : Option Flow) (g : Flow → A) → None ≡ option_map g o → IsNone o
+no_step None g e = refl
+no_step (Some f) g e = cc
+
+pub idles_all : (x : ℕ) (old : Flows) (ex : Exchanges) → IsNone (flow_at old.exchanges (request x)) → ex ≡ old.exchanges → Steps x outcome.NotLive old (record old { exchanges = ex })
+idles_all x old ex none same = record {
+  goes = λ limits h s. record {
+    dead = unfound_dies limits x old.exchanges h s.stands.exchanges none;
+    stands = let P : Exchanges → Type 0 = λ v. FlowsStand limits (record old { exchanges = v }) h in subst P (sym same) s.stands;
+  };
+}
+
+pub idle_less_all : (old : Flows) (ex : Exchanges) → ex ≡ old.exchanges → left_in (record old { exchanges = ex }) ≤ left_in old
+idle_less_all old ex same = let P : Exchanges → Type 0 = λ v. left_in (record old { exchanges = v }) ≤ left_in old in subst P (sym same) (itself (left_in old))
+  where
+    itself : (n : ℕ) → n ≤ n
+    itself n = omega arith
+
 pub stays_all : (x : ℕ) (old : Flows) (ex : Exchanges) (st : MoveStep) → ((from n : ℕ) (shifted : Shifted) (over : Bool) → st ≡ step.Moved from n shifted over → ⊥)
     → Some st ≡ option_map (next_step old.gates (target_of old.exchanges (request x))) (flow_at old.exchanges (request x))
-    → ChangesFlow (request x) (stepped old.gates (target_of old.exchanges (request x))) old.exchanges ex → AreSoundExchanges ex → Steps x None old (record old { exchanges = ex })
+    → ChangesFlow (request x) (stepped old.gates (target_of old.exchanges (request x))) old.exchanges ex → AreSoundExchanges ex → Steps x outcome.Still old (record old { exchanges = ex })
 stays_all x old ex st none e c sound = record {
-  goes = λ limits h s is.
+  goes = λ limits h s.
+      let is = found_lives limits x old.exchanges h s.stands.exchanges (step_found _ _ st e) in
       let k = s.stands.exchanges.there x is in
       stays limits x old ex h s is k (still_of old.gates x k.plain st none (step_is limits x old.exchanges old.gates st h k e)) (changed_by limits x old.exchanges ex old.gates h k c) sound;
 }
 
-pub stay_less_all : (x : ℕ) (old : Flows) (ex : Exchanges) (st : MoveStep) → IsSettled old → Lives old x true → ((from n : ℕ) (shifted : Shifted) (over : Bool) → st ≡ step.Moved from n shifted over → ⊥)
+pub stay_less_all : (x : ℕ) (old : Flows) (ex : Exchanges) (st : MoveStep) → IsSettled old → ((from n : ℕ) (shifted : Shifted) (over : Bool) → st ≡ step.Moved from n shifted over → ⊥)
     → Some st ≡ option_map (next_step old.gates (target_of old.exchanges (request x))) (flow_at old.exchanges (request x))
     → ChangesFlow (request x) (stepped old.gates (target_of old.exchanges (request x))) old.exchanges ex → AreSoundExchanges ex → left_in (record old { exchanges = ex }) ≤ left_in old
-stay_less_all x old ex st s lives none e c sound =
-    let k = s.settled.stands.exchanges.there x (sym (lives.goes s.limits s.history s.settled)) in
+stay_less_all x old ex st s none e c sound =
+    let k = s.settled.stands.exchanges.there x (found_lives s.limits x old.exchanges s.history s.settled.stands.exchanges (step_found _ _ st e)) in
     stay_less s.limits x old ex s.history k (still_of old.gates x k.plain st none (step_is s.limits x old.exchanges old.gates st s.history k e)) (changed_by s.limits x old.exchanges ex old.gates s.history k c)
     s.settled.stands.exchanges.sound sound
 
@@ -400,22 +444,35 @@ pub moves_all : (x from n : ℕ) (shifted : Shifted) (over rose : Bool) (old new
     → ChangesFlow (request x) (stepped old.gates (target_of old.exchanges (request x))) old.exchanges ex → AreSoundExchanges ex
     → rose ≡ is_high shifted.to → RisesSend rose x old.gates b → (IsSoundBoard old.gates → IsSoundBoard b)
     → new ≡ record old { exchanges = ex; gates = b; holding = holding; conn = record old.conn { ready = new.conn.ready } }
-    → ((y : ℕ) → contains nat_cmp new.conn.ready y ≡ (if x == y then has_unit (record old { exchanges = ex; gates = b; holding = holding }) x else contains nat_cmp old.conn.ready y))
+    → ((y : ℕ) → get nat_cmp new.conn.ready y ≡ (if x == y then piece_at (record old { exchanges = ex; gates = b; holding = holding }) x else get nat_cmp old.conn.ready y))
     → ((y : ℕ) → contains nat_cmp holding y ≡ (not ((x == y) && (nat_lt n old.limits.quantum || is_emptied (record old { exchanges = ex }) x)) && contains nat_cmp old.holding y))
-    → Steps x (Some (record { n = n; rose = rose })) old new
+    → Steps x (outcome.Moved (record { n = n; rose = rose })) old new
 moves_all x from n shifted over rose old new ex b holding e c sound is rise counted rest made left = record {
-  goes = λ limits h s lives.
+  goes = λ limits h s.
+      let lives = found_lives limits x old.exchanges h s.stands.exchanges (step_found _ _ (step.Moved from n shifted over) e) in
       let k = s.stands.exchanges.there x lives in
       moves limits x n shifted rose old new ex b holding h s lives k (is_move old.gates x k.plain from n shifted over (step_is limits x old.exchanges old.gates (step.Moved from n shifted over) h k e))
       (changed_by limits x old.exchanges ex old.gates h k c) sound is rise (counted s.stands.gates.sound) rest made left;
 }
 
-pub moves_less_all : (x from n : ℕ) (shifted : Shifted) (over rose : Bool) (old new : Flows) (ex : Exchanges) (b : Board) (holding : BTreeSet ℕ) → IsSettled old → Lives old x true
+pub moves_less_all : (x from n : ℕ) (shifted : Shifted) (over rose : Bool) (old new : Flows) (ex : Exchanges) (b : Board) (holding : BTreeSet ℕ) → IsSettled old
     → Some (step.Moved from n shifted over) ≡ option_map (next_step old.gates (target_of old.exchanges (request x))) (flow_at old.exchanges (request x))
     → ChangesFlow (request x) (stepped old.gates (target_of old.exchanges (request x))) old.exchanges ex → AreSoundExchanges ex → RisesSend rose x old.gates b
     → new ≡ record old { exchanges = ex; gates = b; holding = holding; conn = record old.conn { ready = new.conn.ready } } → left_in new + 4 ≤ left_in old
-moves_less_all x from n shifted over rose old new ex b holding s lives e c sound rise rest =
+moves_less_all x from n shifted over rose old new ex b holding s e c sound rise rest =
     let h = s.history in
-    let k = s.settled.stands.exchanges.there x (sym (lives.goes s.limits h s.settled)) in
+    let k = s.settled.stands.exchanges.there x (found_lives s.limits x old.exchanges h s.settled.stands.exchanges (step_found _ _ (step.Moved from n shifted over) e)) in
     move_less s.limits x n shifted rose old new ex b holding h k (is_move old.gates x k.plain from n shifted over (step_is s.limits x old.exchanges old.gates (step.Moved from n shifted over) h k e))
     (changed_by s.limits x old.exchanges ex old.gates h k c) s.settled.stands.exchanges.sound sound rise rest
+
+-- where octets moved, the send buffer may be marked
+pub high_allowed : (x from n : ℕ) (shifted : Shifted) (over : Bool) (old : Flows) → IsSettled old
+    → Some (step.Moved from n shifted over) ≡ option_map (next_step old.gates (target_of old.exchanges (request x))) (flow_at old.exchanges (request x))
+    → (is_known old.gates (buffer.Send (request x)) ≡ true) × (is_marked old.gates (buffer.Send (request x)) ≡ false)
+high_allowed x from n shifted over old s e =
+    let h = s.history in
+    let lives = found_lives s.limits x old.exchanges h s.settled.stands.exchanges (step_found _ _ (step.Moved from n shifted over) e) in
+    let k = s.settled.stands.exchanges.there x lives in (
+      s.settled.stands.gates.send_known x ∙ lives,
+      (may_go old.gates x k.plain n shifted (is_move old.gates x k.plain from n shifted over (step_is s.limits x old.exchanges old.gates (step.Moved from n shifted over) h k e))).send_low,
+    )

@@ -3,7 +3,6 @@ use Rattle.exchange_core.specs.Changes.{Sweeps as SweepsExchanges}
 use Rattle.exchange_core.specs.Exchanges.{Exchanges, IsSound as AreSoundExchanges}
 use Rattle.flow_gate.specs.Board.{Board}
 use Rattle.plain_laws.proofs.Keepings.{gone_keeps, gone_keeps_write}
-use Rattle.plain_laws.proofs.Readiness.{keeps_ready}
 use Rattle.plain_laws.specs.Keeping.{KeepsStream}
 use Rattle.std.proofs.Common.{ap, arith, refl, subst, sym, ◌∙◌}
 use Rattle.std.specs.Prelude.{IsNone, List, None, Option, Some, [], drop, length, ℕ, ◌<◌, ◌∷◌, ◌≡◌, ◌↔◌}
@@ -18,6 +17,7 @@ use Rattle.worker_core.proofs.FlowStreams.{swept_exchanges}
 use Rattle.worker_core.proofs.FlowGates.{gates_kept}
 use Rattle.worker_core.proofs.FlowParts.{conn_kept}
 use Rattle.worker_core.proofs.FlowHolds.{holding_kept}
+use Rattle.worker_core.proofs.FlowUnits.{keeps_piece}
 
 sweep_gates : (limits : PlainLimits) (board : Board) (x : ℕ) (h : History NoMark) → GatesAre limits board h → GatesAre limits board (Noted (note.Gone x) ∷ h)
 sweep_gates limits board x h g =
@@ -37,7 +37,7 @@ sweeps_one limits x old ex h settled c sound =
         ranges = st.ranges;
         exchanges = swept_exchanges limits old.exchanges ex h (Noted (note.Gone x) ∷ h) st.exchanges sound c.live c.last c.time (sym (ap (λ (xs : List ℕ). drop 1 xs) first)) refl refl (λ y. gone_keeps limits x y h);
         gates = sweep_gates limits old.gates x h st.gates;
-        conn = conn_kept limits old.conn h (Noted (note.Gone x) ∷ h) st.conn (gone_keeps_write limits x h) refl refl (λ y e. keeps_ready limits y h (Noted (note.Gone x) ∷ h) (gone_keeps limits x y h));
+        conn = conn_kept limits old.conn h (Noted (note.Gone x) ∷ h) st.conn (gone_keeps_write limits x h) refl refl (λ y e. keeps_piece limits y h (Noted (note.Gone x) ∷ h) (gone_keeps limits x y h));
         holding = holding_kept limits old.holding h (Noted (note.Gone x) ∷ h) st.holding refl (λ y. (gone_keeps limits x y h).recv);
       };
     }

@@ -2,11 +2,8 @@
 use Rattle.flow_gate.specs.Board.{Board, IsSound as IsSoundBoard, pending_on}
 use Rattle.flow_gate.specs.Changes.{Tells as TellsFlows}
 use Rattle.flow_gate.specs.declared.ids.FlowId.{FlowId}
-use Rattle.plain_laws.proofs.Readiness.{keeps_ready}
-use Rattle.plain_laws.proofs.Rotation.{none_next}
-use Rattle.plain_laws.specs.Next.{is_ready}
-use Rattle.std.proofs.Common.{ap, arith, inl, inr, refl, subst, sym, ◌∙◌}
-use Rattle.std.specs.Prelude.{Bool, List, false, not, take, true, ℕ, ◌&&◌, ◌+◌, ◌≡◌}
+use Rattle.std.proofs.Common.{ap, arith, inl, inr, subst, sym, ◌∙◌}
+use Rattle.std.specs.Prelude.{List, None, Option, false, if◌then◌else◌, take, true, ℕ, ◌+◌, ◌≡◌}
 use Rattle.tape_laws.specs.Dispatches.{has, live}
 use Rattle.tape_laws.specs.Flows.{request}
 use Rattle.tape_laws.specs.History.{History, NoMark}
@@ -16,11 +13,12 @@ use Rattle.worker_core.proofs.FlowGates.{gates_from}
 use Rattle.worker_core.proofs.FlowStreams.{same_exchanges}
 use Rattle.worker_core.proofs.Tellings.{AreTold, are_told, with_all_told}
 use Rattle.worker_core.specs.Carries.{Holds, Tells, Wakes}
-use Rattle.worker_core.specs.Flows.{ConnectionIs, FlowsStand, GatesAre, Settled}
-use Rattle.worker_core.specs.Ready.{IsIdle}
+use Rattle.worker_core.specs.Flows.{ConnectionIs, FlowsStand, GatesAre, Settled, next_piece}
 use Rattle.worker_core.specs.declared.conn.Connection.{Connection}
 use Rattle.worker_core.specs.declared.flows.Flows.{Flows}
 use Rattle.flow_gate.specs.declared.ids.BufferId.TheVariants as buffer
+use Rattle.worker_core.proofs.FlowUnits.{keeps_piece}
+use Rattle.exchange_core.specs.declared.step.Piece.{Piece}
 
 told_gates : (limits : PlainLimits) (fs : List FlowId) (old new : Board) (h : History NoMark) → GatesAre limits old h → TellsFlows (buffer.Write 0) fs old new → IsSoundBoard new
     → AreTold limits fs (pending_on new (buffer.Write 0)) h (with_all_told fs h) → GatesAre limits new (with_all_told fs h)
@@ -43,8 +41,8 @@ told_conn limits fs rest conn h c is = record {
   octets = c.octets ∙ sym is.octets;
   above = c.above ∙ sym is.high;
   framed_last = c.framed_last ∙ sym is.last;
-  ready = λ y. c.ready y ∙ (ap (λ b. has (live h) y && b) (sym (keeps_ready limits y h (with_all_told fs h) (is.streams y)))
-      ∙ ap (λ (xs : List ℕ). has xs y && is_ready limits y (with_all_told fs h)) (sym is.lists.lives));
+  ready = λ y. c.ready y ∙ (ap (λ (p : Option Piece). if has (live h) y then p else None) (sym (keeps_piece limits y h (with_all_told fs h) (is.streams y)))
+      ∙ ap (λ (xs : List ℕ). if has xs y then next_piece limits y (with_all_told fs h) else None) (sym is.lists.lives));
 }
 
 told_stand : (limits : PlainLimits) (fs : List FlowId) (old : Flows) (b : Board) (h : History NoMark) → Settled limits old h → TellsFlows (buffer.Write 0) fs old.gates b → IsSoundBoard b
@@ -76,23 +74,8 @@ wakes_above flows x high = record {
   no = λ limits h s lives e. record { still = inl (sym s.stands.conn.above ∙ high) };
 }
 
-pub wakes_ready : (flows : Flows) (x : ℕ) (idle : Bool) → flows.conn.write.above ≡ false → IsIdle flows.conn idle → idle ≡ false → Wakes flows x (not idle)
-wakes_ready flows x idle low is e =
-    let P : Bool → Type 0 = λ b. Wakes flows x (not b) in
-    subst P (sym e) (record {
-      yes = λ limits h s lives t. record {
-        low = sym s.stands.conn.above ∙ low;
-        some = inr (λ none. is.some e (λ y. s.stands.conn.ready y ∙ not_ready (has (live h) y) (is_ready limits y h) (λ l. none_next limits y h none l)));
-      };
-      no = λ limits h s lives f. cc;
-    })
-  where
-    not_ready : (a b : Bool) → (a ≡ true → b ≡ false) → (a && b) ≡ false
-    not_ready true b f = f refl
-    not_ready false b f = refl
-
-pub wakes_holds : (flows : Flows) (x : ℕ) (answer : Bool) → flows.conn.write.above ≡ false → Holds flows x answer → Wakes flows x answer
-wakes_holds flows x answer low holds = record {
-  yes = λ limits h s lives t. record { low = sym s.stands.conn.above ∙ low; some = inl (sym (holds.goes limits h s lives) ∙ t) };
-  no = λ limits h s lives f. record { still = inr (sym (holds.goes limits h s lives) ∙ f) };
+pub wakes_unheld : (flows : Flows) (x : ℕ) → Holds flows x false → Wakes flows x false
+wakes_unheld flows x holds = record {
+  yes = λ limits h s lives t. cc;
+  no = λ limits h s lives f. record { still = inr (sym (holds.goes limits h s lives)) };
 }

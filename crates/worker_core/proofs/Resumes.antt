@@ -3,14 +3,13 @@ use Rattle.flow_gate.specs.Board.{pending_on}
 use Rattle.flow_gate.specs.declared.ids.BufferId.{BufferId}
 use Rattle.flow_gate.specs.declared.ids.FlowId.{FlowId}
 use Rattle.flow_notes.specs.declared.notes.Note.{Note}
-use Rattle.plain_laws.specs.Regular.{IsLiveFlow}
-use Rattle.std.proofs.Common.{ap, append_assoc, arith, refl, subst, sym, ◌∙◌}
+use Rattle.std.proofs.Common.{ap, append_assoc, arith, refl, sym, ◌∙◌}
 use Rattle.std.proofs.Math.Seq.{take-append_seam}
 use Rattle.std.proofs.lemmas.List.{append-nil, length-append, take-append-drop}
 use Rattle.std.specs.List.{AllByRecursion}
 use Rattle.std.specs.Prelude.{List, None, Some, [], drop, false, length, option_to_list, take, true, ℕ, ◌++◌, ◌+◌, ◌∷◌, ◌≡◌, ◌≤◌}
-use Rattle.tape_laws.specs.Dispatches.{live}
-use Rattle.worker_core.specs.Carries.{Lives, Wakes}
+use Rattle.worker_core.proofs.FlowTells.{wakes_above}
+use Rattle.worker_core.specs.Carries.{Wakes}
 use Rattle.worker_core.specs.Noting.{AppendsSome, resumes_of}
 use Rattle.worker_core.specs.Telling.{IsToldNext, TellsUpTo}
 use Rattle.worker_core.specs.declared.flows.Flows.{Flows}
@@ -25,18 +24,6 @@ resumes_both b (f ∷ fs) gs = ap (λ (ns : List Note). note.Resume f b ∷ ns) 
 pub all_more : (P : FlowId → Type 0) (fs : List FlowId) (f : FlowId) → AllByRecursion P fs → P f → AllByRecursion P (fs ++ f ∷ [])
 all_more P [] f a p = (p, tt)
 all_more P (g ∷ fs) f a p = (a.0, all_more P fs f a.1 p)
-
-all_at : (P : FlowId → Type 0) (fs : List FlowId) (f : FlowId) (rest : List FlowId) → AllByRecursion P (fs ++ f ∷ rest) → P f
-all_at P [] f rest a = a.0
-all_at P (g ∷ fs) f rest a = all_at P fs f rest a.1
-
--- a flow that is to be told is live
-pub pending_lives : (flows : Flows) (fs : List FlowId) (f : FlowId) (rest : List FlowId) → fs ++ f ∷ rest ≡ pending_on flows.gates (buffer.Write 0) → Lives flows f.exchange true
-pending_lives flows fs f rest e = record {
-  goes = λ limits h s.
-      let P : List FlowId → Type 0 = AllByRecursion (IsLiveFlow (live h)) in
-      sym (all_at (IsLiveFlow (live h)) fs f rest (subst P (sym (e ∙ s.stands.gates.write_pending)) s.lawful.regular.books.write_lows)).live;
-}
 
 -- ---- who is told next
 pub next_wakes : (flows : Flows) (fs : List FlowId) (f : FlowId) (rest : List FlowId) (n : ℕ) → fs ++ f ∷ rest ≡ pending_on flows.gates (buffer.Write 0)
@@ -61,6 +48,11 @@ none_wakes flows fs rest n e none stay is = record {
   last = none;
 }
 
+-- while the write buffer is above, none goes on
+pub all_still : (flows : Flows) (fs : List FlowId) → flows.conn.write.above ≡ true → AllByRecursion (λ g. Wakes flows g.exchange false) fs
+all_still flows [] high = tt
+all_still flows (f ∷ fs) high = (wakes_above flows f.exchange high, all_still flows fs high)
+
 -- there is room for one more in the count
 pub next_fits : (fs : List FlowId) (f : FlowId) (rest lows : List FlowId) (n most : ℕ) → fs ++ f ∷ rest ≡ lows → length lows ≤ most → n ≡ length fs → n + 1 ≤ most
 next_fits fs f rest lows n most e few is =
@@ -78,12 +70,7 @@ told_are flows told t =
 pub told_noted : (flows : Flows) (told : Told) (lows : List FlowId) (old new : List Note) → lows ≡ pending_on flows.gates (buffer.Write 0) → IsToldNext flows told
     → new ≡ old ++ resumes_of (buffer.Write 0) (take told.n lows) → TellsUpTo flows old told new
 told_noted flows told lows old new e t is = record {
-  still = t.still;
-  rest = t.rest;
-  whole = t.whole;
-  number = t.number;
-  stay = t.stay;
-  last = t.last;
+  is = t;
   notes = is ∙ ap (λ (fs : List FlowId). old ++ resumes_of (buffer.Write 0) fs) (ap (λ (fs : List FlowId). take told.n fs) e ∙ told_are flows told t);
 }
 

@@ -62,42 +62,42 @@ front_live P (f ∷ fs) gs rest a = (a.0, front_live P fs gs rest a.1)
 -- ---- the step
 tell_steps : (old new : Core) (before after : List Note) (flows : Flows) (told : Told) (c : ℕ) → new ≡ record old { flows = flows; agenda = new.agenda } → slice_get old.agenda 0 ≡ Some (task.Tell c)
     → new.agenda ≡ after_telling told.next old.agenda → Tells told.n old.flows flows → (u : TellsUpTo old.flows before told after)
-    → Stepped old (resumes_of (buffer.Write 0) (u.still ++ option_to_list told.next)) new
+    → Stepped old (resumes_of (buffer.Write 0) (u.is.still ++ option_to_list told.next)) new
 tell_steps old new before after flows told c e top a tells u =
-    let fs = u.still ++ option_to_list told.next in
+    let fs = u.is.still ++ option_to_list told.next in
     record {
       spelled = spelled_resumes fs;
       silent = silent_resumes fs;
       goes = λ limits h g.
-          let lows : pending_lows (plain_setup limits) (buffer.Write 0) h ≡ fs ++ u.rest = sym g.flows.stands.gates.write_pending ∙ u.whole in
-          let is : AreTold limits fs u.rest h (with_all_told fs h) = are_told limits fs u.rest h g.flows.lawful lows in
+          let lows : pending_lows (plain_setup limits) (buffer.Write 0) h ≡ fs ++ u.is.rest = sym g.flows.stands.gates.write_pending ∙ u.is.whole in
+          let is : AreTold limits fs u.is.rest h (with_all_told fs h) = are_told limits fs u.is.rest h g.flows.lawful lows in
           let first : take told.n (pending_lows (plain_setup limits) (buffer.Write 0) h) ≡ fs =
-          ap (λ (v : List FlowId). take told.n v) lows ∙ ap (λ (n : ℕ). take n (fs ++ u.rest)) u.number ∙ take-append_seam fs u.rest in
+          ap (λ (v : List FlowId). take told.n v) lows ∙ ap (λ (n : ℕ). take n (fs ++ u.is.rest)) u.is.number ∙ take-append_seam fs u.is.rest in
           let stands : FlowsStand limits flows (with_all_told fs h) =
           (let P : List FlowId → Type 0 = λ v. FlowsStand limits flows (with_all_told v h) in subst P first (tells.goes limits h g.flows)) in
-          let live : AllByRecursion (IsLiveFlow (live h)) u.still =
-          (let P : List FlowId → Type 0 = AllByRecursion (IsLiveFlow (live h)) in front_live (IsLiveFlow (live h)) u.still (option_to_list told.next) u.rest (subst P lows g.flows.lawful.regular.books.write_lows)) in
+          let live : AllByRecursion (IsLiveFlow (live h)) u.is.still =
+          (let P : List FlowId → Type 0 = AllByRecursion (IsLiveFlow (live h)) in front_live (IsLiveFlow (live h)) u.is.still (option_to_list told.next) u.is.rest (subst P lows g.flows.lawful.regular.books.write_lows)) in
           good_of limits old new h (with_all_told fs h) (only_moves old new flows e) is.lists.numbers is.paired
           (let P : Flows → Type 0 = λ v. FlowsStand limits v (with_all_told fs h) in subst P (sym (flows_are old new flows e)) stands)
           is.settled
           (let P : Agenda → Type 0 = λ v. Underway limits old.pairs v (with_all_told fs h) in
-          subst P (sym a) (underway_telling limits old.pairs c old.agenda u.still told.next u.rest h g.flows.lawful lows u.last top
-          (rounded_at limits old.pairs (task.Tell c) old.agenda h top g.underway) (still_of limits old.flows u.still h g.flows live u.stay) g.underway)) g;
+          subst P (sym a) (underway_telling limits old.pairs c old.agenda u.is.still told.next u.is.rest h g.flows.lawful lows u.is.last top
+          (rounded_at limits old.pairs (task.Tell c) old.agenda h top g.underway) (still_of limits old.flows u.is.still h g.flows live u.is.stay) g.underway)) g;
       well = (only_moves old new flows e).well;
     }
 
 pub tell_keeps : (old new : Core) (before after : List Note) (flows : Flows) (told : Told) (c : ℕ) → new ≡ record old { flows = flows; agenda = new.agenda } → slice_get old.agenda 0 ≡ Some (task.Tell c)
     → new.agenda ≡ after_telling told.next old.agenda → Tells told.n old.flows flows → TellsUpTo old.flows before told after → Keeps old before new after
 tell_keeps old new before after flows told c e top a tells u =
-    keeps_of old new before (resumes_of (buffer.Write 0) (u.still ++ option_to_list told.next)) after u.notes (tell_steps old new before after flows told c e top a tells u)
+    keeps_of old new before (resumes_of (buffer.Write 0) (u.is.still ++ option_to_list told.next)) after u.notes (tell_steps old new before after flows told c e top a tells u)
 
 -- ---- the measure
 -- so many as were told were to be
 told_first : (old : Flows) (before after : List Note) (told : Told) (u : TellsUpTo old before told after)
-    → length (take told.n (pending_on old.gates (buffer.Write 0))) ≡ length (u.still ++ option_to_list told.next)
+    → length (take told.n (pending_on old.gates (buffer.Write 0))) ≡ length (u.is.still ++ option_to_list told.next)
 told_first old before after told u =
-    let fs = u.still ++ option_to_list told.next in
-    ap (λ (v : List FlowId). length (take told.n v)) u.whole ∙ ap (λ (n : ℕ). length (take n (fs ++ u.rest))) u.number ∙ ap (λ (v : List FlowId). length v) (take-append_seam fs u.rest)
+    let fs = u.is.still ++ option_to_list told.next in
+    ap (λ (v : List FlowId). length (take told.n v)) u.is.whole ∙ ap (λ (n : ℕ). length (take n (fs ++ u.is.rest))) u.is.number ∙ ap (λ (v : List FlowId). length v) (take-append_seam fs u.is.rest)
 
 told_some : (fs : List FlowId) (f : FlowId) → 1 ≤ length (fs ++ f ∷ [])
 told_some fs f = let n = length-append fs (f ∷ []) in omega (arith, n)
@@ -119,8 +119,8 @@ pub tell_less : (old new : Core) (before after : List Note) (flows : Flows) (tol
     → TellsUpTo old.flows before told after → to_go new < to_go old
 tell_less old new before after flows told c e top a n u =
     let t = told_first old.flows before after told u in
-    let k : left_in flows + 4 * length (u.still ++ option_to_list told.next) ≤ left_in old.flows = (let P : ℕ → Type 0 = λ v. left_in flows + 4 * v ≤ left_in old.flows in subst P t n) in
-    let w = tell_weight old.agenda new.agenda c told.next u.still (left_in flows) (left_in old.flows) top a k in
+    let k : left_in flows + 4 * length (u.is.still ++ option_to_list told.next) ≤ left_in old.flows = (let P : ℕ → Type 0 = λ v. left_in flows + 4 * v ≤ left_in old.flows in subst P t n) in
+    let w = tell_weight old.agenda new.agenda c told.next u.is.still (left_in flows) (left_in old.flows) top a k in
     let l = ap (λ (v : Flows). left_in v) (flows_are old new flows e) in
     omega (arith, w, l)
 

@@ -1,12 +1,12 @@
 -- Flows that a turn note leaves as they were.
 use Rattle.flow_notes.specs.declared.events.PlainEvent.{PlainEvent}
 use Rattle.plain_laws.proofs.Flags.{send_same, write_same}
-use Rattle.plain_laws.proofs.Readiness.{ready_is, ready_of}
-use Rattle.plain_laws.specs.Next.{is_ready}
+use Rattle.plain_laws.proofs.Rotation.{unit_is}
+use Rattle.plain_laws.specs.Next.{unit_of}
 use Rattle.exchange_core.specs.declared.exchange.Exchange.{Exchange}
-use Rattle.std.proofs.Common.{ap, arith, refl, sym, ◌∙◌}
+use Rattle.std.proofs.Common.{ap, refl, sym, ◌∙◌}
 use Rattle.std.proofs.lemmas.List.{append-nil}
-use Rattle.std.specs.Prelude.{Bool, Option, false, length, nat_lt, true, ℕ, ◌&&◌, ◌<◌, ◌∷◌, ◌≡◌}
+use Rattle.std.specs.Prelude.{Bool, None, Option, false, if◌then◌else◌, length, true, ℕ, ◌∷◌, ◌≡◌}
 use Rattle.tape_laws.specs.Dispatches.{has, live}
 use Rattle.tape_laws.specs.Ends.{end_framed}
 use Rattle.tape_laws.specs.Flows.{request}
@@ -15,7 +15,8 @@ use Rattle.tape_laws.specs.Pauses.{pending_lows}
 use Rattle.tape_laws.specs.Plain.{plain_ended, plain_setup}
 use Rattle.tape_laws.specs.World.{out, place}
 use Rattle.tape_laws.specs.declared.limits.PlainLimits.{PlainLimits}
-use Rattle.worker_core.specs.Flows.{AreLimits, ConnectionIs, FlowsStand, GatesAre, StreamIs}
+use Rattle.worker_core.specs.Flows.{ConnectionIs, FlowsStand, GatesAre, StreamIs, next_piece, piece_of}
+use Rattle.exchange_core.specs.declared.step.Piece.{Piece}
 use Rattle.worker_core.specs.declared.flows.Flows.{Flows}
 use Rattle.flow_gate.specs.declared.ids.BufferId.TheVariants as buffer
 use Rattle.flow_notes.specs.declared.events.Event.TheVariants as event
@@ -24,9 +25,6 @@ use Rattle.worker_core.proofs.FlowHolds.{holding_kept}
 
 abbrev pub turned : ℕ → PlainEvent → Step NoMark
 turned k e = Noted (note.Turn k (event.Plain e))
-
-pub some_quantum : (limits : PlainLimits) → AreLimits limits → 0 < limits.quantum
-some_quantum limits l = let q = l.quantum.0 in omega (arith, q)
 
 turn_stream : (limits : PlainLimits) (x k : ℕ) (e : PlainEvent) (h : History NoMark) (found : Option Exchange) → plain_ended x (turned k e ∷ h) ≡ plain_ended x h
     → StreamIs limits x h found → StreamIs limits x (turned k e ∷ h) found
@@ -44,25 +42,25 @@ turn_stream limits x k e h found same s = record {
   end_framed = s.end_framed;
 }
 
-turn_ready : (limits : PlainLimits) (x k : ℕ) (e : PlainEvent) (h : History NoMark) → 0 < limits.quantum → plain_ended x (turned k e ∷ h) ≡ plain_ended x h
-    → is_ready limits x (turned k e ∷ h) ≡ is_ready limits x h
-turn_ready limits x k e h q same =
-    ready_is limits x (turned k e ∷ h) q
-    ∙ ap (λ b. ready_of (nat_lt 0 (length (place (plain_setup limits) (request x) 1 h))) b (end_framed (plain_setup limits) (request x) h) (length (place (plain_setup limits) (request x) 0 h))) same
-    ∙ sym (ready_is limits x h q)
+turn_piece : (limits : PlainLimits) (x k : ℕ) (e : PlainEvent) (h : History NoMark) → plain_ended x (turned k e ∷ h) ≡ plain_ended x h
+    → next_piece limits x (turned k e ∷ h) ≡ next_piece limits x h
+turn_piece limits x k e h same =
+    ap piece_of (unit_is limits x (turned k e ∷ h)
+    ∙ (ap (λ b. unit_of limits.quantum b (end_framed (plain_setup limits) (request x) h) (length (place (plain_setup limits) (request x) 0 h)) (length (place (plain_setup limits) (request x) 1 h))) same
+    ∙ sym (unit_is limits x h)))
 
-live_and : (a b c : Bool) → (a ≡ true → b ≡ c) → (a && c) ≡ (a && b)
-live_and true b c f = sym (f refl)
-live_and false b c f = refl
+live_if : (a : Bool) (b c : Option Piece) → (a ≡ true → b ≡ c) → (if a then c else None) ≡ (if a then b else None)
+live_if true b c f = sym (f refl)
+live_if false b c f = refl
 
-turn_conn : (limits : PlainLimits) (k : ℕ) (e : PlainEvent) (h : History NoMark) (flows : Flows) → 0 < limits.quantum
+turn_conn : (limits : PlainLimits) (k : ℕ) (e : PlainEvent) (h : History NoMark) (flows : Flows)
     → ((x : ℕ) → has (live h) x ≡ true → plain_ended x (turned k e ∷ h) ≡ plain_ended x h) → ConnectionIs limits flows.conn h → ConnectionIs limits flows.conn (turned k e ∷ h)
-turn_conn limits k e h flows q same c = record {
+turn_conn limits k e h flows same c = record {
   limit = c.limit;
   octets = c.octets ∙ sym (append-nil (out (plain_setup limits) 0 h));
   above = c.above ∙ sym (write_same limits (turned k e) h (append-nil (out (plain_setup limits) 0 h)));
   framed_last = c.framed_last;
-  ready = λ x. c.ready x ∙ live_and (has (live h) x) (is_ready limits x (turned k e ∷ h)) (is_ready limits x h) (λ t. turn_ready limits x k e h q (same x t));
+  ready = λ x. c.ready x ∙ live_if (has (live h) x) (next_piece limits x (turned k e ∷ h)) (next_piece limits x h) (λ t. turn_piece limits x k e h (same x t));
 }
 
 turn_gates : (limits : PlainLimits) (k : ℕ) (e : PlainEvent) (h : History NoMark) (flows : Flows) → GatesAre limits flows.gates h → GatesAre limits flows.gates (turned k e ∷ h)
@@ -96,6 +94,6 @@ turn_stands limits k e h flows same s = record {
     gone = s.exchanges.gone;
   };
   gates = turn_gates limits k e h flows s.gates;
-  conn = turn_conn limits k e h flows (some_quantum limits s.ranges) same s.conn;
+  conn = turn_conn limits k e h flows same s.conn;
   holding = holding_kept limits flows.holding h (turned k e ∷ h) s.holding refl (λ x. refl);
 }

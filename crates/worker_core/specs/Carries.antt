@@ -1,10 +1,9 @@
 -- What each effect carries: from each history that the flows stood for to the one with the step's notes.
 use Rattle.exchange_core.specs.Exchanges.{flow_at}
-use Rattle.flow_gate.specs.declared.ids.FlowId.{FlowId}
 use Rattle.flow_notes.specs.declared.events.PlainEvent.{PlainEvent}
 use Rattle.flow_notes.specs.declared.notes.Cause.{Cause}
 use Rattle.plain_laws.specs.StepNotes.{begin_notes, body_notes, frame_notes, move_notes, room_notes}
-use Rattle.std.specs.Prelude.{Bool, List, None, Option, IfSome, Some, [], false, length, min, nat_lt, take, true, ℕ, ◌&&◌, ◌+◌, ◌<◌, ◌==◌, ◌∷◌, ◌≡◌, ◌≤◌, ◌⊎◌}
+use Rattle.std.specs.Prelude.{Bool, List, None, Option, IfSome, Some, [], false, is_some, length, min, nat_le, nat_lt, take, true, ℕ, ◌&&◌, ◌+◌, ◌<◌, ◌==◌, ◌∷◌, ◌≡◌, ◌≤◌, ◌⊎◌}
 use Rattle.tape_laws.specs.Dispatches.{has, live, started}
 use Rattle.tape_laws.specs.Doomed.{condemned}
 use Rattle.tape_laws.specs.Ends.{BodyUnit}
@@ -22,10 +21,12 @@ use Rattle.worker_core.specs.declared.flows.Flows.{Flows}
 use Rattle.worker_core.specs.declared.flows.Framed.{Framed}
 use Rattle.worker_core.specs.declared.flows.Moved.{Moved}
 use Rattle.worker_core.specs.declared.flows.NextFrame.{NextFrame}
+use Rattle.worker_core.specs.declared.flows.Outcome.{Outcome}
 use Rattle.flow_gate.specs.declared.ids.BufferId.TheVariants as buffer
 use Rattle.flow_notes.specs.declared.events.Event.TheVariants as event
 use Rattle.flow_notes.specs.declared.events.PlainEvent.TheVariants as plain
 use Rattle.flow_notes.specs.declared.notes.Note.TheVariants as note
+use Rattle.worker_core.specs.declared.flows.Outcome.TheVariants as outcome
 
 -- ---- what is seen
 -- whether the stream is live
@@ -38,6 +39,11 @@ pub record Fits (flows : Flows) (x n : ℕ) (answer : Bool) : Type 0 where
       → length (place (plain_setup limits) (request x) 0 h) + n ≤ limits.recv
   pub no : (limits : PlainLimits) (h : History NoMark) → Settled limits flows h → has (live h) x ≡ true → answer ≡ false
       → limits.recv < length (place (plain_setup limits) (request x) 0 h) + n
+
+-- how many more octets fit into it, where the stream is live
+pub record HasSpace (flows : Flows) (x : ℕ) (space : Option ℕ) : Type 0 where
+  pub lives : Lives flows x (is_some space)
+  pub fits : IfSome space (λ room. (n : ℕ) → Fits flows x n (nat_le n room))
 
 -- whether its receive buffer holds octets
 pub record Holds (flows : Flows) (x : ℕ) (answer : Bool) : Type 0 where
@@ -83,24 +89,33 @@ IsNextUnless false flows next = IsNextFrame flows next
 abbrev pub may_move : PlainLimits → ℕ → History NoMark → Bool
 may_move limits x h = (count (request x) h == 0) && nat_lt 0 (length (place (plain_setup limits) (request x) 0 h))
 
--- all that may move moves
+-- all that may move of a live stream moves
 pub record MovesAt (x : ℕ) (m : Moved) (limits : PlainLimits) (new : Flows) (h : History NoMark) : Type 0 where
+  pub live : has (live h) x ≡ true
   pub some : 0 < m.n
   pub all : m.n ≡ min limits.quantum (length (place (plain_setup limits) (request x) 0 h))
   pub free : count (request x) h ≡ 0
   pub rises : m.rose ≡ rises_at (plain_setup limits) (buffer.Send (request x)) (Noted (note.Move (request x) 0 m.n)) h
   pub stands : FlowsStand limits new (onto (move_notes limits x m.n h) h)
 
+-- nothing of a live stream may move
 pub record StaysAt (x : ℕ) (limits : PlainLimits) (new : Flows) (h : History NoMark) : Type 0 where
+  pub live : has (live h) x ≡ true
   pub still : may_move limits x h ≡ false
   pub stands : FlowsStand limits new h
 
-abbrev pub StepsAt : ℕ → Option Moved → PlainLimits → Flows → History NoMark → Type 0
-StepsAt x (Some m) limits new h = MovesAt x m limits new h
-StepsAt x None limits new h = StaysAt x limits new h
+-- the stream isn't live
+pub record IdlesAt (x : ℕ) (limits : PlainLimits) (new : Flows) (h : History NoMark) : Type 0 where
+  pub dead : has (live h) x ≡ false
+  pub stands : FlowsStand limits new h
 
-pub record Steps (x : ℕ) (moved : Option Moved) (old new : Flows) : Type 0 where
-  pub goes : (limits : PlainLimits) (h : History NoMark) → Settled limits old h → has (live h) x ≡ true → StepsAt x moved limits new h
+abbrev pub StepsAt : ℕ → Outcome → PlainLimits → Flows → History NoMark → Type 0
+StepsAt x (outcome.Moved m) limits new h = MovesAt x m limits new h
+StepsAt x outcome.Still limits new h = StaysAt x limits new h
+StepsAt x outcome.NotLive limits new h = IdlesAt x limits new h
+
+pub record Steps (x : ℕ) (o : Outcome) (old new : Flows) : Type 0 where
+  pub goes : (limits : PlainLimits) (h : History NoMark) → Settled limits old h → StepsAt x o limits new h
 
 -- a frame, the pauses of a rise, and the resume of its own low
 pub record FramesAt (next : NextFrame) (framed : Framed) (limits : PlainLimits) (new : Flows) (h : History NoMark) : Type 0 where

@@ -4,16 +4,16 @@ use Rattle.exchange_core.specs.Exchanges.{Exchanges, IsSound as AreSoundExchange
 use Rattle.exchange_core.specs.Plain.{Plain, plain_exchange}
 use Rattle.flow_gate.specs.Board.{Board, IsSound as IsSoundBoard, count as count_on, is_known, is_marked, is_open as is_there, pending_on, watchers_of}
 use Rattle.flow_gate.specs.declared.ids.FlowId.{FlowId}
-use Rattle.plain_laws.specs.Next.{is_ready}
 use Rattle.plain_laws.specs.Regular.{AtMost}
 use Rattle.plain_laws.specs.Settled.{Settled as IsSettledHistory}
 use Rattle.proxy_config.specs.Ranges.{IsBetween, most_octets}
+use Rattle.std.specs.BTreeMap.{get}
 use Rattle.std.specs.BTreeSet.{BTreeSet, contains}
 use Rattle.std.specs.Ordering.{nat_cmp}
 use Rattle.std.specs.Prelude.{None, Option, Some, [], false, if◌then◌else◌, length, map, nat_lt, true, ℕ, ◌&&◌, ◌<◌, ◌^◌, ◌≡◌, ◌≤◌, ◌∷◌, ◌⊎◌}
 use Rattle.tape_laws.specs.Dispatches.{has, live, started}
 use Rattle.tape_laws.specs.Doomed.{condemned}
-use Rattle.tape_laws.specs.Ends.{end_framed}
+use Rattle.tape_laws.specs.Ends.{BodyUnit, FlowUnit, end_framed, next_unit}
 use Rattle.tape_laws.specs.Flows.{request}
 use Rattle.tape_laws.specs.History.{History, NoMark}
 use Rattle.tape_laws.specs.Order.{framed_last}
@@ -24,6 +24,7 @@ use Rattle.tape_laws.specs.Watermark.{above}
 use Rattle.tape_laws.specs.World.{out, place}
 use Rattle.tape_laws.specs.declared.limits.PlainLimits.{PlainLimits}
 use Rattle.worker_core.specs.declared.conn.Connection.{Connection}
+use Rattle.exchange_core.specs.declared.step.Piece.{Piece}
 use Rattle.worker_core.specs.declared.flows.Flows.{Flows}
 use Rattle.flow_gate.specs.declared.ids.BufferId.TheVariants as buffer
 
@@ -74,13 +75,21 @@ pub record GatesAre (limits : PlainLimits) (board : Board) (h : History NoMark) 
   pub send_watchers : (x : ℕ) → watchers_of board (buffer.Send (request x)) ≡ (if has (live h) x then request x ∷ [] else [])
   pub send_pending : (x : ℕ) → pending_on board (buffer.Send (request x)) ≡ []
 
--- the connection has the octets of its write buffer, and the streams that have a unit
+-- a unit that is a piece of a body
+abbrev pub piece_of : FlowUnit → Option Piece
+piece_of (BodyUnit n last) = Some (record { n = n; last = last })
+piece_of u = None
+
+abbrev pub next_piece : PlainLimits → ℕ → History NoMark → Option Piece
+next_piece limits x h = piece_of (next_unit (plain_setup limits) (request x) h)
+
+-- the connection has the octets of its write buffer, and the next units of the live streams
 pub record ConnectionIs (limits : PlainLimits) (conn : Connection) (h : History NoMark) : Type 0 where
   pub limit : conn.write.limit ≡ limits.write
   pub octets : conn.write.octets ≡ out (plain_setup limits) 0 h
   pub above : conn.write.above ≡ above (plain_setup limits) (buffer.Write 0) h
   pub framed_last : conn.framed_last ≡ framed_last (plain_setup limits) 0 h
-  pub ready : (x : ℕ) → contains nat_cmp conn.ready x ≡ (has (live h) x && is_ready limits x h)
+  pub ready : (x : ℕ) → get nat_cmp conn.ready x ≡ (if has (live h) x then next_piece limits x h else None)
 
 -- these are the live streams whose receive buffer holds octets
 pub record HoldingIs (limits : PlainLimits) (holding : BTreeSet ℕ) (h : History NoMark) : Type 0 where

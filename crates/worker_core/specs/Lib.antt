@@ -2,6 +2,7 @@ pub mod Agenda
 pub mod Carries
 pub mod Crossings
 pub mod Flows
+pub mod Gaps
 pub mod Measure
 pub mod Noting
 pub mod Progress

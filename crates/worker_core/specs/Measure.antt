@@ -2,15 +2,16 @@
 use Rattle.exchange_core.specs.declared.exchange.Exchange.{Exchange}
 use Rattle.flow_gate.specs.Board.{pending_on}
 use Rattle.std.specs.List.{sum_by}
-use Rattle.std.specs.Prelude.{None, Option, Some, if◌then◌else◌, length, ℕ, ◌*◌, ◌+◌, ◌≤◌}
+use Rattle.std.specs.Prelude.{if◌then◌else◌, length, ℕ, ◌*◌, ◌+◌, ◌≤◌}
 use Rattle.worker_core.specs.declared.agenda.Task.{Task}
 use Rattle.worker_core.specs.declared.worker.Core.{Core}
 use Rattle.worker_core.specs.declared.flows.Flows.{Flows}
-use Rattle.worker_core.specs.declared.flows.Moved.{Moved}
 use Rattle.worker_core.specs.declared.flows.NextFrame.{NextFrame}
+use Rattle.worker_core.specs.declared.flows.Outcome.{Outcome}
 use Rattle.exchange_core.specs.Flow.{send}
 use Rattle.flow_gate.specs.declared.ids.BufferId.TheVariants as buffer
 use Rattle.worker_core.specs.declared.agenda.Task.TheVariants as task
+use Rattle.worker_core.specs.declared.flows.Outcome.TheVariants as outcome
 
 -- the octets of an exchange, by the places that they have ahead, and its end
 abbrev pub way : Exchange → ℕ
@@ -27,9 +28,9 @@ abbrev pub left_in : Flows → ℕ
 left_in flows = ahead flows + untold flows
 
 -- a move lets octets go one place on
-abbrev pub LessByMove : Option Moved → Flows → Flows → Type 0
-LessByMove (Some m) old new = left_in new + 4 ≤ left_in old
-LessByMove None old new = left_in new ≤ left_in old
+abbrev pub LessByStep : Outcome → Flows → Flows → Type 0
+LessByStep (outcome.Moved m) old new = left_in new + 4 ≤ left_in old
+LessByStep o old new = left_in new ≤ left_in old
 
 -- a frame lets some go, or the end
 abbrev pub of_frame : NextFrame → ℕ

@@ -3,7 +3,7 @@ use Rattle.flow_gate.specs.Board.{pending_on}
 use Rattle.flow_gate.specs.declared.ids.FlowId.{FlowId}
 use Rattle.flow_notes.specs.declared.notes.Note.{Note}
 use Rattle.std.specs.List.{AllByRecursion}
-use Rattle.std.specs.Prelude.{List, [], IfNone, false, length, option_to_list, ◌++◌, ◌≡◌, ℕ}
+use Rattle.std.specs.Prelude.{List, [], IfNone, false, length, option_to_list, ◌++◌, ◌≡◌}
 use Rattle.worker_core.specs.Carries.{Wakes}
 use Rattle.worker_core.specs.Noting.{resumes_of}
 use Rattle.worker_core.specs.declared.flows.Flows.{Flows}
@@ -21,10 +21,5 @@ pub record IsToldNext (flows : Flows) (told : Told) : Type 0 where
 
 -- and their resumes were written
 pub record TellsUpTo (flows : Flows) (old : List Note) (told : Told) (new : List Note) : Type 0 where
-  pub still : List FlowId
-  pub rest : List FlowId
-  pub whole : pending_on flows.gates (buffer.Write 0) ≡ (still ++ option_to_list told.next) ++ rest
-  pub number : told.n ≡ length (still ++ option_to_list told.next)
-  pub stay : AllByRecursion (λ f. Wakes flows f.exchange false) still
-  pub last : IfNone told.next (rest ≡ [])
-  pub notes : new ≡ old ++ resumes_of (buffer.Write 0) (still ++ option_to_list told.next)
+  pub is : IsToldNext flows told
+  pub notes : new ≡ old ++ resumes_of (buffer.Write 0) (is.still ++ option_to_list told.next)

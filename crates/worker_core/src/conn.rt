@@ -1,13 +1,15 @@
-// A connection: its write buffer, and which exchanges have something for it.
-ghost use Rattle.std.specs.Prelude.{◌≡◌, ◌==◌, ◌||◌, ◌&&◌, not, OnOk};
-ghost use Rattle.std.specs.BTreeSet.{contains};
+// A connection: its write buffer, and what exchanges have for it.
+ghost use Rattle.std.specs.Prelude.{◌≡◌, ◌==◌, if◌then◌else◌, None, OnOk, Some};
+ghost use Rattle.std.specs.BTreeMap.{get};
 ghost use Rattle.std.specs.Ordering.{nat_cmp};
 ghost use Rattle.std.specs.Prelude.{ℕ};
 ghost use Rattle.worker_core.specs.Ready.{IsFirstAbove, IsFirst, IsIdle, IsNewConnection, IsNext};
 
+use crate::flows::NextFrame;
+use exchange_core::Piece;
 use io_ports::NoMemory;
 use std::alloc::Global;
-use std::collections::BTreeSet;
+use std::collections::BTreeMap;
 use std::ops::Bound;
 use wm_buffer::WatermarkBuffer;
 
@@ -17,8 +19,8 @@ pub struct Connection {
     pub(crate) write: WatermarkBuffer,
     /// The exchange of which a unit was framed last, 0 at first.
     pub(crate) framed_last: u64,
-    /// The exchanges with a flow that has a unit for this connection.
-    pub(crate) ready: BTreeSet<u64>,
+    /// The exchanges with a flow that has a unit for this connection, each with it.
+    pub(crate) ready: BTreeMap<u64, Piece>,
 }
 
 impl Connection {
@@ -30,7 +32,7 @@ impl Connection {
         Connection {
             write: WatermarkBuffer::new(alloc, limit),
             framed_last: 0,
-            ready: BTreeSet::new(alloc),
+            ready: BTreeMap::new(alloc),
         }
     }
 
@@ -41,44 +43,46 @@ impl Connection {
         self.first().is_none()
     }
 
-    /// The exchange whose turn is next: by number in rotation, after the one framed last.
-    pub(crate) fn next(&self) -> Option<u64>
+    /// The unit of the exchange whose turn is next: by number in rotation, after the one framed last.
+    pub(crate) fn next(&self) -> Option<NextFrame>
         ensures { IsNext self.now result }
     {
         match self.first_above(self.framed_last) {
-            Some(exchange) => Some(exchange),
+            Some(next) => Some(next),
             None => self.first(),
         }
     }
 
-    fn first_above(&self, last: u64) -> Option<u64>
+    fn first_above(&self, last: u64) -> Option<NextFrame>
         ensures { IsFirstAbove self.now last result }
     {
-        self.ready
+        let (&exchange, &Piece { n, last }) = self
+            .ready
             .range((Bound::Excluded(last), Bound::Unbounded))
-            .next()
-            .copied()
+            .next()?;
+        Some(NextFrame { exchange, n, last })
     }
 
-    fn first(&self) -> Option<u64>
+    fn first(&self) -> Option<NextFrame>
         ensures { IsFirst self.now result }
     {
-        self.ready.first().copied()
+        let (&exchange, &Piece { n, last }) = self.ready.first_key_value()?;
+        Some(NextFrame { exchange, n, last })
     }
 
-    /// From now on the exchange has a unit for this connection.
-    pub(crate) fn make_ready(&mut self, exchange: u64) -> Result<(), NoMemory>
-        ensures ready { OnOk result ((x : ℕ) → contains nat_cmp self.new.ready x ≡ ((exchange == x) || contains nat_cmp self.old.ready x)) }
+    /// From now on the exchange has this unit for the connection.
+    pub(crate) fn make_ready(&mut self, exchange: u64, piece: Piece) -> Result<(), NoMemory>
+        ensures ready { OnOk result ((x : ℕ) → get nat_cmp self.new.ready x ≡ (if exchange == x then Some piece else get nat_cmp self.old.ready x)) }
         ensures write { self.new.write ≡ self.old.write }
         ensures framed_last { self.new.framed_last ≡ self.old.framed_last }
     {
-        self.ready.insert(exchange)?;
+        self.ready.insert(exchange, piece)?;
         Ok(())
     }
 
     /// From now on it has none.
     pub(crate) fn unready(&mut self, exchange: u64)
-        ensures ready { (x : ℕ) → contains nat_cmp self.new.ready x ≡ (not (exchange == x) && contains nat_cmp self.old.ready x) }
+        ensures ready { (x : ℕ) → get nat_cmp self.new.ready x ≡ (if exchange == x then None else get nat_cmp self.old.ready x) }
         ensures write { self.new.write ≡ self.old.write }
         ensures framed_last { self.new.framed_last ≡ self.old.framed_last }
     {

@@ -76,11 +76,11 @@ impl Core {
             octets: Octets::from_slice(self.alloc, octets.as_slice())?,
         };
         let exchange = u64::from(stream);
-        if !self.flows.is_live(exchange) {
+        let Some(space) = self.flows.space(exchange) else {
             let number = self.open_turn()?;
             return note_turn(number, event, notes);
-        }
-        if self.flows.fits(exchange, octets.len()) {
+        };
+        if octets.len() <= space as usize {
             self.arrive(exchange, event, octets, notes)
         } else {
             self.overrun(exchange, event, notes)

@@ -2,21 +2,22 @@
 ghost use Rattle.std.specs.Prelude.{◌≡◌, ◌<◌, ◌≤◌, ◌+◌, ◌*◌, ◌∷◌, [], ℕ, All, length, take, IfOk, IfSome, OnErr, OnOk, Some, IsTrue, true, false};
 ghost use Rattle.exchange_core.specs.Plain.{plain_spec};
 ghost use Rattle.exchange_core.specs.Exchanges.{IsLiveFlow};
+ghost use Rattle.std.specs.BTreeMap.{get};
 ghost use Rattle.std.specs.BTreeSet.{contains};
 ghost use Rattle.std.specs.Ordering.{nat_cmp};
 ghost use Rattle.std.specs.Prelude.{if◌then◌else◌, nat_lt, not, ◌==◌, ◌&&◌, ◌||◌};
 ghost use Rattle.worker_core.specs.Crossings.{MarksCrossed};
-ghost use Rattle.worker_core.specs.Measure.{LessByMove, left_in, of_frame};
-ghost use Rattle.worker_core.specs.UnitsOf.{has_unit, is_emptied, unit_at};
+ghost use Rattle.worker_core.specs.Measure.{LessByStep, left_in, of_frame};
+ghost use Rattle.worker_core.specs.UnitsOf.{as_piece, is_emptied, piece_at, unit_at};
 ghost use Rattle.flow_gate.specs.Board.{IsSound as AreSoundGates, is_known, is_marked, pending_on, watchers_of};
 ghost use Rattle.proxy_config.specs.Ranges.{IsRoute};
 ghost use Rattle.tape_laws.specs.Flows.{request as flow_of};
-ghost use Rattle.worker_core.specs.Carries.{Arrives, Begins, Dooms, Ends, Fits, Frames, GoesOn, Holds, IsNextFrame, Leaves, Lives, Steps, Sweeps, Tells, Wakes};
+ghost use Rattle.worker_core.specs.Carries.{Arrives, Begins, Dooms, Ends, Frames, GoesOn, HasSpace, IsNextFrame, Leaves, Lives, Steps, Sweeps, Tells};
 ghost use Rattle.worker_core.specs.Flows.{AreLimits, IsSettled, Settled};
 
 use crate::conn::Connection;
 use crate::heads::data_head;
-use exchange_core::{Exchanges, StartSpec, Step, Unit};
+use exchange_core::{Advance, Exchanges, Piece, StartSpec, Step, Unit};
 use flow_gate::{BufferId, FlowId, Gates, Watchers};
 use flow_notes::Cause;
 use io_ports::NoMemory;
@@ -32,6 +33,17 @@ pub struct Moved {
     pub n: u32,
     /// The send buffer became above.
     pub rose: bool,
+}
+
+/// What a step of an exchange did.
+#[derive(Clone, Copy, Debug, PartialEq, Eq)]
+pub enum Outcome {
+    /// It isn't live.
+    NotLive,
+    /// Nothing of it may move.
+    Still,
+    /// All that may move did.
+    Moved(Moved),
 }
 
 /// A DATA frame that goes next.
@@ -118,22 +130,18 @@ impl Flows {
         }
     }
 
-    /// Whether so many octets fit into the receive buffer of a live exchange.
-    pub(crate) fn fits(&self, exchange: u64, n: usize) -> bool
-        requires settled { IsSettled self.now }
-        requires live { Lives self.now exchange true }
-        ensures { Fits self.now exchange n result }
+    /// How many more octets the receive buffer of the exchange has room for, where it is live.
+    pub(crate) fn space(&self, exchange: u64) -> Option<u32>
+        ensures { HasSpace self.now exchange result }
     {
-        let window = self.limits.recv as usize;
-        let held = self.exchanges.received(request(exchange)) as usize;
-        n <= window && held <= window - n
+        self.exchanges.space(request(exchange))
     }
 
-    /// Whether the receive buffer of a live exchange holds octets.
-    pub(crate) fn holds(&self, exchange: u64) -> bool
-        ensures { Holds self.now exchange result }
+    /// Whether the write buffer is above.
+    pub(crate) fn is_above(&self) -> bool
+        ensures { result ≡ self.now.conn.write.above }
     {
-        self.holding.contains(&exchange)
+        self.conn.write.is_above()
     }
 
     /// Octets arrive in the receive buffer of a live exchange.
@@ -161,24 +169,30 @@ impl Flows {
         self.refresh(exchange)
     }
 
-    /// Octets of a live exchange move, where any may.
-    pub(crate) fn step(&mut self, exchange: u64) -> Result<Option<Moved>, NoMemory>
-        requires settled { IsSettled self.old }
-        requires live { Lives self.old exchange true }
-        ensures steps { IfOk result (λ moved. Steps exchange moved self.old self.new) }
-        ensures less { IfOk result (λ moved. LessByMove moved self.old self.new) }
+    /// Octets of an exchange move, where it is live and any may.
+    pub(crate) fn step(&mut self, exchange: u64) -> Result<Outcome, NoMemory>
+        requires { IsSettled self.old }
+        ensures steps { IfOk result (λ outcome. Steps exchange outcome self.old self.new) }
+        ensures less { IfOk result (λ outcome. LessByStep outcome self.old self.new) }
     {
         let flow = request(exchange);
-        let Step::Moved { n, shifted, .. } = self.exchanges.step(flow, &self.gates)? else {
-            return Ok(None);
+        let most = self.limits.quantum;
+        let Some(Advance { step, unit }) = self
+            .exchanges
+            .advance(flow, &self.gates, i64::from(most), most)?
+        else {
+            return Ok(Outcome::NotLive);
+        };
+        let Step::Moved { n, shifted, .. } = step else {
+            return Ok(Outcome::Still);
         };
         self.see_left(exchange, n);
         let rose = shifted.to == Crossed::High;
         if rose {
             self.gates.high(BufferId::Send(flow));
         }
-        self.refresh(exchange)?;
-        Ok(Some(Moved { n, rose }))
+        self.see_unit(exchange, unit)?;
+        Ok(Outcome::Moved(Moved { n, rose }))
     }
 
     /// The frame that goes next, where the write buffer may take one.
@@ -189,11 +203,7 @@ impl Flows {
         if self.conn.write.is_above() {
             return None;
         }
-        let exchange = self.conn.next()?;
-        match self.unit(exchange) {
-            Unit::Body { n, last } => Some(NextFrame { exchange, n, last }),
-            Unit::Nothing | Unit::Head { .. } | Unit::Trailers => unreachable!(),
-        }
+        self.conn.next()
     }
 
     /// Frames it: the write buffer may rise, and the send buffer may drain, which its flow is told.
@@ -206,11 +216,17 @@ impl Flows {
         let NextFrame { exchange, n, last } = next;
         let flow = request(exchange);
         let head = data_head(exchange as u32, n, last);
-        let shifted = self
-            .exchanges
-            .frame_body(flow, &mut self.conn.write, &head, n, last)?;
+        let most = self.limits.quantum;
+        let (shifted, unit) = self.exchanges.frame_unit(
+            flow,
+            &mut self.conn.write,
+            &head,
+            Piece { n, last },
+            i64::from(most),
+            most,
+        )?;
         self.conn.framed_last = exchange;
-        self.refresh(exchange)?;
+        self.see_unit(exchange, unit)?;
         Ok(self.mark_crossed(flow, shifted))
     }
 
@@ -264,19 +280,6 @@ impl Flows {
         self.gates.take_lows(BufferId::Write(0), n);
     }
 
-    /// Whether anything goes on once a live exchange is told that the write buffer drained: octets of it move, or some
-    /// unit is framed.
-    pub(crate) fn wakes(&self, exchange: u64) -> bool
-        requires settled { IsSettled self.now }
-        requires live { Lives self.now exchange true }
-        ensures { Wakes self.now exchange result }
-    {
-        if self.conn.write.is_above() {
-            return false;
-        }
-        !self.conn.is_idle() || self.holds(exchange)
-    }
-
     /// A live exchange is doomed.
     pub(crate) fn doom(&mut self, exchange: u64, cause: Cause)
         requires settled { IsSettled self.old }
@@ -325,17 +328,26 @@ impl Flows {
         }
     }
 
-    // Says whether the flow of a live exchange has a unit now.
+    // Says what unit the flow of a live exchange has now.
     fn refresh(&mut self, exchange: u64) -> Result<(), NoMemory>
         requires { IsLiveFlow self.old.exchanges (flow_of exchange) }
-        ensures ready { OnOk result ((x : ℕ) → contains nat_cmp self.new.conn.ready x ≡ (if exchange == x then has_unit self.old exchange else contains nat_cmp self.old.conn.ready x)) }
+        ensures ready { OnOk result ((x : ℕ) → get nat_cmp self.new.conn.ready x ≡ (if exchange == x then piece_at self.old exchange else get nat_cmp self.old.conn.ready x)) }
         ensures rest { self.new ≡ record self.old { conn = record self.old.conn { ready = self.new.conn.ready } } }
     {
-        if self.unit(exchange) == Unit::Nothing {
-            self.conn.unready(exchange);
-            return Ok(());
+        let unit = self.unit(exchange);
+        self.see_unit(exchange, unit)
+    }
+
+    // Says that this unit of an exchange goes next.
+    fn see_unit(&mut self, exchange: u64, unit: Unit) -> Result<(), NoMemory>
+        ensures ready { OnOk result ((x : ℕ) → get nat_cmp self.new.conn.ready x ≡ (if exchange == x then as_piece unit else get nat_cmp self.old.conn.ready x)) }
+        ensures rest { self.new ≡ record self.old { conn = record self.old.conn { ready = self.new.conn.ready } } }
+    {
+        if let Unit::Body { n, last } = unit {
+            return self.conn.make_ready(exchange, Piece { n, last });
         }
-        self.conn.make_ready(exchange)
+        self.conn.unready(exchange);
+        Ok(())
     }
 
     // The next unit of a live exchange.

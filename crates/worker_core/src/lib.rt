@@ -8,6 +8,7 @@ mod drains;
 mod events;
 mod fault;
 mod flows;
+mod gaps;
 mod heads;
 mod noting;
 mod runs;

@@ -1,11 +1,12 @@
 // The notes of each small step. Where memory is refused, a front of them stands.
-ghost use Rattle.std.specs.Prelude.{◌≡◌, ◌∷◌, ◌++◌, [], IfOk};
+ghost use Rattle.std.specs.Prelude.{◌≡◌, ◌∷◌, ◌++◌, [], IfOk, true};
 ghost use Rattle.worker_core.specs.Flows.{IsSettled};
 ghost use Rattle.worker_core.specs.Noting.{AppendsNotes, AppendsSome, low_of, pauses_of, resumes_of, rise_of};
 ghost use Rattle.worker_core.specs.Telling.{IsToldNext, TellsUpTo};
 ghost use Rattle.flow_gate.specs.Board.{pending_on, watchers_of};
 
 use crate::flows::Flows;
+use crate::gaps::Gap;
 use flow_gate::{BufferId, FlowId, Gates};
 use flow_notes::{Note, Notes};
 use io_ports::NoMemory;
@@ -70,17 +71,54 @@ pub(crate) fn note_resumes(flows: &Flows, notes: &mut Notes) -> Result<Told, NoM
     Ok(told)
 }
 
-// How many flows are told next, up to the first that goes on, and that one.
+// How many flows are told next, up to the first that goes on, and that one: none while the write buffer is above,
+// else the first of all where some unit is ready, and else the first whose receive buffer holds octets.
 fn next_told(flows: &Flows) -> Told
+    requires { IsSettled flows.now }
+    ensures { IsToldNext flows.now result }
+{
+    if flows.is_above() {
+        return all_told(flows);
+    }
+    if flows.conn.is_idle() {
+        return told_to_holder(flows);
+    }
+    first_told(flows)
+}
+
+fn all_told(flows: &Flows) -> Told
+    requires { flows.now.conn.write.above ≡ true }
+    ensures { IsToldNext flows.now result }
+{
+    Told {
+        n: flows.lows().len(),
+        next: None,
+    }
+}
+
+fn first_told(flows: &Flows) -> Told
+    ensures { IsToldNext flows.now result }
+{
+    match flows.lows().next() {
+        Some(flow) => Told {
+            n: 1,
+            next: Some(flow),
+        },
+        None => Told { n: 0, next: None },
+    }
+}
+
+fn told_to_holder(flows: &Flows) -> Told
     requires { IsSettled flows.now }
     ensures { IsToldNext flows.now result }
 {
     let lows = flows.lows();
     let _most = lows.most();
+    let mut gap = Gap { from: 0, to: 0 };
     let mut n = 0;
     for flow in lows {
         n += 1;
-        if flows.wakes(flow.exchange) {
+        if flows.holds_past(&mut gap, flow.exchange) {
             return Told {
                 n,
                 next: Some(flow),

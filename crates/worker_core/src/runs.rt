@@ -5,7 +5,7 @@ ghost use Rattle.worker_core.specs.Measure.{to_go};
 ghost use Rattle.worker_core.specs.Runs.{Cuts, IsGood, Keeps};
 ghost use Rattle.worker_core.specs.declared.agenda.Task.TheVariants as task;
 
-use crate::flows::request;
+use crate::flows::{Outcome, request};
 use crate::noting::note_and_rise;
 use crate::worker::Core;
 use flow_gate::{BufferId, FlowId};
@@ -15,6 +15,7 @@ use io_ports::NoMemory;
 impl Core {
     // A move of the flow; or, where nothing may move, a drain of its connection; or, where nothing may be framed
     // either, the end of its run. While the write buffer is above, it holds every flow back, and nothing may be framed.
+    // Nor does anything of an exchange that isn't live go on.
     pub(crate) fn run(&mut self, flow: FlowId, notes: &mut Notes) -> Result<(), NoMemory>
         requires good { IsGood self.old notes.old }
         requires top { slice_get self.old.agenda 0 ≡ Some (task.Run flow) }
@@ -27,16 +28,19 @@ impl Core {
             self.agenda.pop();
             return Ok(());
         }
-        if !self.flows.is_live(exchange) {
-            self.agenda.pop();
-            return Ok(());
-        }
-        let Some(moved) = self.flows.step(exchange)? else {
-            let Some(next) = self.undrained() else {
+        let moved = match self.flows.step(exchange)? {
+            Outcome::Moved(moved) => moved,
+            Outcome::Still => {
+                let Some(next) = self.undrained() else {
+                    self.agenda.pop();
+                    return Ok(());
+                };
+                return self.drain_from(next, notes);
+            }
+            Outcome::NotLive => {
                 self.agenda.pop();
                 return Ok(());
-            };
-            return self.drain_from(next, notes);
+            }
         };
         self.go_on(moved.n)?;
         let flow = request(exchange);
