@@ -20,10 +20,18 @@ const ROUNDS: u64 = 256;
 
 const OCTETS: u64 = PIECE as u64 * PIECES_A_ROUND * ROUNDS;
 
-/// A buffer with room for its limit and a piece.
-pub fn ready_buffer(alloc: Global) -> Result<WatermarkBuffer, NoMemory> {
+/// An empty buffer with room for its limit and a piece.
+pub(crate) fn ready_buffer(alloc: Global) -> Result<WatermarkBuffer, NoMemory> {
     let mut buffer = WatermarkBuffer::new(alloc, LIMIT);
     buffer.ready(PIECE)?;
+    Ok(buffer)
+}
+
+/// The same with an octet that is kept back: a ring that is emptied goes on where it begins, and one
+/// that never is has its seam wander.
+fn wandering_buffer(alloc: Global) -> Result<WatermarkBuffer, NoMemory> {
+    let mut buffer = ready_buffer(alloc)?;
+    buffer.add(&[7])?;
     Ok(buffer)
 }
 
@@ -36,10 +44,10 @@ fn move_round(
     let mut sum = 0u64;
     for _piece in 0..PIECES_A_ROUND {
         first.add(piece)?;
-        let n = first.len();
+        let n = first.len().min(PIECE);
         first.move_to(second, &[], n)?;
         sum = sum.wrapping_add(first_octet(second.front()));
-        let n = second.len();
+        let n = second.len().min(PIECE);
         second.take(n);
     }
     Ok(sum)
@@ -63,7 +71,7 @@ fn copy(from: &[u8], to: &mut [u8]) {
     to[..n].copy_from_slice(&from[..n]);
 }
 
-pub fn first_octet(octets: &[u8]) -> u64 {
+pub(crate) fn first_octet(octets: &[u8]) -> u64 {
     octets.first().map_or(0, |octet| u64::from(*octet))
 }
 
@@ -75,8 +83,8 @@ fn block(alloc: Global, octet: u8) -> Result<Vec<u8>, AllocError> {
 pub fn run(rt: &(impl AllocGlobal + Print + CpuClock)) -> anyhow::Result<()> {
     let no_memory = |_: NoMemory| anyhow!("out of memory");
     let piece = block(rt.alloc(), 7)?;
-    let mut first = ready_buffer(rt.alloc()).map_err(no_memory)?;
-    let mut second = ready_buffer(rt.alloc()).map_err(no_memory)?;
+    let mut first = wandering_buffer(rt.alloc()).map_err(no_memory)?;
+    let mut second = wandering_buffer(rt.alloc()).map_err(no_memory)?;
     let mut first_block = block(rt.alloc(), 0)?;
     let mut second_block = block(rt.alloc(), 0)?;
     let mut moving = 0u64;

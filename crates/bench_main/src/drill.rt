@@ -135,11 +135,11 @@ fn report(
         "drill {STREAMS}: {events} events with {octets} octets in {drill} ns, {a_second} events a second"
     )?;
     println!(rt;
-        "the same bodies through two buffers: {bodies} ns, a {}th",
+        "the same bodies through two buffers: {bodies} ns, the drill takes {} times that",
         drill / bodies.max(1)
     )?;
     println!(rt;
-        "as many octets in pieces of {PIECE}: {pieces} ns, a {}th",
+        "as many octets in pieces of {PIECE}: {pieces} ns, the drill takes {} times that",
         drill / pieces.max(1)
     )?;
     Ok(())
