@@ -28,10 +28,10 @@ impl Run {
     ghost use Rattle.io_ports.specs.Faults.{Rose};
     ghost use Rattle.replay_run.specs.Runs.{Adds, EndsText, Finishes};
 
-    /// Writes what isn't written yet, with the last line or lines of the status, and answers how the
-    /// replay ends.
-    pub fn finish<K: Sink>(&mut self, status: Status, out: &mut K) -> Status
-        ensures finishes { Finishes self.old status (K.contents out.old) (K.contents out.new) result }
+    /// Ends the run: writes what isn't written yet, with the last line or lines of the status, and answers
+    /// how the replay ends.
+    pub fn finish<K: Sink>(mut self, status: Status, out: &mut K) -> Status
+        ensures finishes { Finishes self status (K.contents out.old) (K.contents out.new) result }
         ensures cause { result ≡ Status.WriteFault → (status ≡ Status.WriteFault) ⊎ Rose (K.faults out.old) (K.faults out.new) }
         ensures same { (result ≡ status) ⊎ (result ≡ Status.Memory) ⊎ (result ≡ Status.WriteFault) }
         ensures out { K.faults out.old ≤ K.faults out.new }
