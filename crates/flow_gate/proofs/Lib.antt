@@ -20,3 +20,4 @@ pub mod Leaving
 pub mod Watching
 pub mod Full
 pub mod SideBySide
+pub mod Clear

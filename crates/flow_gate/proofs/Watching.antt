@@ -1,12 +1,12 @@
 -- Whether a flow watches a buffer, by what the flow's books say.
-use Rattle.flow_gate.proofs.Counting.{count-cons}
+use Rattle.flow_gate.proofs.Counting.{count-cons, sum-member}
 use Rattle.flow_gate.proofs.Placed.{watches_in}
 use Rattle.flow_gate.proofs.Reading.{FlowFound, flow_get, watched-board, watched_at}
-use Rattle.flow_gate.proofs.SameIds.{same_buffer-comm}
+use Rattle.flow_gate.proofs.SameIds.{same_buffer-comm, same_buffer_exact}
 use Rattle.flow_gate.specs.Board.{times, times_of_buffer, watchers_of}
 use Rattle.flow_gate.specs.Books.{Books}
 use Rattle.flow_gate.specs.Ids.{same_buffer, same_flow}
-use Rattle.flow_gate.specs.Parts.{AreGates, Buffers, Flows, board_of, watched_in}
+use Rattle.flow_gate.specs.Parts.{AreGates, Buffers, Flows, above_at, board_of, watched_in}
 use Rattle.flow_gate.specs.contracts.ids.BufferIdPartialEq.TheImpl as buffer_eq
 use Rattle.flow_gate.specs.contracts.ids.FlowIdPartialEq.TheImpl as flow_eq
 use Rattle.flow_gate.specs.declared.ids.BufferId.{BufferId}
@@ -14,10 +14,10 @@ use Rattle.flow_gate.specs.declared.ids.BufferId.TheVariants as buffer
 use Rattle.flow_gate.specs.declared.ids.FlowId.{FlowId}
 use Rattle.flow_gate.specs.declared.watcher.Watch.{Watch}
 use Rattle.std.proofs.Common.{ap, arith, refl, sym, ◌∙◌}
-use Rattle.std.proofs.lemmas.Bool.{lt-ltb, ltb-false}
+use Rattle.std.proofs.lemmas.Bool.{lt-ltb, ltb-false, ltb-true}
 use Rattle.std.specs.Bool.{beq}
 use Rattle.std.specs.List.{list_any}
-use Rattle.std.specs.Prelude.{Bool, List, None, Option, Some, [], cond, false, if◌then◌else◌, nat_lt, not, true, ℕ, ◌&&◌, ◌+◌, ◌==◌, ◌||◌, ◌∷◌, ◌≡◌, ◌≤◌, ◌↔◌}
+use Rattle.std.specs.Prelude.{Bool, List, None, Option, Some, [], cond, count_by, false, if◌then◌else◌, nat_lt, not, true, ℕ, ◌&&◌, ◌+◌, ◌==◌, ◌||◌, ◌∷◌, ◌≡◌, ◌≤◌, ◌↔◌}
 
 -- what `==` of two buffers answers
 abbrev pub eq_of : BufferId → BufferId → Bool
@@ -68,3 +68,11 @@ apart r n is = (λ e. none (ltb-false 0 n (sym is ∙ e)), λ e. is ∙ ap (nat_
   where
     none : {m : ℕ} → m ≤ 0 → m ≡ 0
     none le = omega arith
+
+-- where none of these buffers is above, one that is among them isn't
+pub low_among : (b : BufferId) (bs : List BufferId) (buffers : Buffers) → count_by (above_at buffers) bs ≡ 0 → nat_lt 0 (times_of_buffer b bs) ≡ true → true ≡ not (above_at buffers b)
+low_among b bs buffers none some = low (above_at buffers b) (omega (arith, none, sum-member same_buffer same_buffer_exact (λ c. cond (above_at buffers c) 1 0) b bs (ltb-true 0 (times_of_buffer b bs) some)))
+  where
+    low : (a : Bool) → cond a 1 0 ≤ 0 → true ≡ not a
+    low true le = absurd (omega (arith, le))
+    low false le = refl

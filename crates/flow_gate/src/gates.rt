@@ -1,10 +1,10 @@
 // The gates of a worker.
-ghost use Rattle.std.specs.Prelude.{◌≡◌, ◌<◌, ◌≤◌, ◌^◌, ◌↔◌, ℕ, [], false, true, IfNone, IfOk, IfSome, None, Some, OnOk, OnErr, IsNone, length, option_map, option_to_list, slice_get, take, if◌then◌else◌};
+ghost use Rattle.std.specs.Prelude.{◌≡◌, ◌==◌, ◌&&◌, ◌<◌, ◌≤◌, ◌^◌, ◌↔◌, ℕ, [], false, true, IfNone, IfOk, IfSome, None, Some, OnOk, OnErr, IsNone, count_by, length, not, option_map, option_to_list, slice_get, take, if◌then◌else◌};
 ghost use Rattle.flow_gate.specs.Board.{IsSound, count, is_known, is_marked, is_open, pending_on, times, watchers_of};
 ghost use Rattle.flow_gate.specs.Changes.{Begins, Closes, Drains, Forgets, IsEmpty, Knows, Rises, Tells, Watches};
 ghost use Rattle.flow_gate.specs.Ids.{same_buffer};
 ghost use Rattle.flow_gate.specs.Line.{Line, held_in, left, told};
-ghost use Rattle.flow_gate.specs.Parts.{AreWatches, StandsIn, bound_after, buffer_at, held, is_after, is_stage, kept, stage_of, watched_in};
+ghost use Rattle.flow_gate.specs.Parts.{AreWatches, StandsIn, above_at, bound_after, buffer_at, held, is_after, is_stage, kept, stage_of, watched_in};
 ghost use Rattle.flow_gate.specs.declared.ids.BufferId.{BufferId};
 ghost use Rattle.flow_gate.specs.declared.ids.FlowId.{FlowId};
 
@@ -72,10 +72,7 @@ impl Gates {
     pub fn is_marked(&self, buffer: BufferId) -> bool
         ensures { result ≡ is_marked self.now buffer }
     {
-        match self.buffers.get(&buffer) {
-            Some(gate) => gate.is_above(),
-            None => false,
-        }
+        is_above(&self.buffers, buffer)
     }
 
     /// Whether some flow watches the buffer.
@@ -117,6 +114,22 @@ impl Gates {
             Some(watcher) => held_back(&self.buffers, watcher.watches()),
             None => 0,
         }
+    }
+
+    /// Whether nothing holds the flow back and neither of two buffers is above: what `count` and `is_marked` say, with one
+    /// look-up of the flow and one of each buffer. Looks through what this flow watches.
+    pub fn is_clear(&self, flow: FlowId, first: BufferId, second: BufferId) -> bool
+        requires { is_open self.now flow ≡ true }
+        ensures { result ≡ ((count self.now flow == 0) && (not (is_marked self.now first) && not (is_marked self.now second))) }
+    {
+        let Some(watcher) = self.flows.get(&flow) else {
+            unreachable!()
+        };
+        let watches = watcher.watches();
+        if held_back(&self.buffers, watches) > 0 {
+            return false;
+        }
+        is_low(&self.buffers, watches, first) && is_low(&self.buffers, watches, second)
     }
 
     /// The watchers of a buffer, in the order in which they began to watch.
@@ -284,6 +297,23 @@ fn held_by(buffers: &BTreeMap<BufferId, Gate>, watch: Watch) -> u64
     match buffers.get(&watch.buffer) {
         Some(gate) => gate.held(watch.place),
         None => 0,
+    }
+}
+
+// Whether a buffer isn't above, where none of these watches is of a buffer that is: it is looked up only where it isn't
+// among them.
+fn is_low(buffers: &BTreeMap<BufferId, Gate>, watches: &[Watch], buffer: BufferId) -> bool
+    ensures { count_by (above_at buffers.now.entries) (watched_in watches.now) ≡ 0 → result ≡ not (above_at buffers.now.entries buffer) }
+{
+    watches.iter().any(|watch| watch.buffer == buffer) || !is_above(buffers, buffer)
+}
+
+fn is_above(buffers: &BTreeMap<BufferId, Gate>, buffer: BufferId) -> bool
+    ensures { result ≡ above_at buffers.now.entries buffer }
+{
+    match buffers.get(&buffer) {
+        Some(gate) => gate.is_above(),
+        None => false,
     }
 }
 

@@ -16,19 +16,27 @@ pub(crate) struct Watch {
 /// The most buffers that a flow watches, so that its count stays below 2^64.
 const MOST_WATCHES: usize = 1 << 62;
 
-/// The books of a flow.
+/// How many watches stand in the books themselves.
+const FEW: usize = 2;
+
+/// The books of a flow. As most flows watch two buffers, the first two watches stand in the books, where they are found
+/// with the flow; once there are more, all stand in a block of their own.
 #[derive(Drop)]
 pub(crate) struct Watcher {
-    watches: Vec<Watch>,
+    len: usize,
+    few: [Watch; 2],
+    many: Vec<Watch>,
 }
 
 impl Model for Watcher {
-    ghost use Rattle.flow_gate.specs.Books.{Books};
+    ghost use Rattle.flow_gate.specs.Books.{AreBooks, Books, books_of};
     ghost use Rattle.std.specs.Prelude.{vec_capacity};
 
     ghost Value = { Books };
 
-    ghost view = { λ a. record { watches = a.watches.items; room = vec_capacity a.watches } };
+    ghost view = { λ a. books_of a.len a.few a.many.items (vec_capacity a.many) };
+
+    ghost invariant = { λ a. AreBooks a.len a.few a.many.items };
 }
 
 impl Watcher {
@@ -36,15 +44,25 @@ impl Watcher {
     pub(crate) fn new(alloc: Global) -> Self
         ensures { result.watches ≡ [] }
     {
+        let nothing = Watch {
+            buffer: BufferId::Write(0),
+            place: 0,
+        };
         Watcher {
-            watches: Vec::new(alloc),
+            len: 0,
+            few: [nothing; 2],
+            many: Vec::new(alloc),
         }
     }
 
     pub(crate) fn watches(&self) -> &[Watch]
         ensures { result.now ≡ self.now.watches }
     {
-        self.watches.as_slice()
+        if self.len <= FEW {
+            &self.few[..self.len]
+        } else {
+            self.many.as_slice()
+        }
     }
 
     /// Makes room for one more watch.
@@ -53,10 +71,14 @@ impl Watcher {
         ensures most { OnOk result (length self.new.watches < 2 ^ 62) }
         ensures watches { self.new.watches ≡ self.old.watches }
     {
-        if self.watches.len() >= MOST_WATCHES {
+        if self.len >= MOST_WATCHES {
             return Err(NoMemory);
         }
-        self.watches.reserve(1)?;
+        if self.len == FEW {
+            self.many.reserve(FEW + 1)?;
+        } else if self.len > FEW {
+            self.many.reserve(1)?;
+        }
         Ok(())
     }
 
@@ -65,6 +87,15 @@ impl Watcher {
         requires { length self.old.watches < self.old.room }
         ensures { self.new.watches ≡ self.old.watches ++ watch ∷ [] }
     {
-        let _ = self.watches.push(watch);
+        if self.len < FEW {
+            self.few[self.len] = watch;
+        } else {
+            if self.len == FEW {
+                let _ = self.many.push(self.few[0]);
+                let _ = self.many.push(self.few[1]);
+            }
+            let _ = self.many.push(watch);
+        }
+        self.len += 1;
     }
 }

@@ -294,6 +294,35 @@ fn lows_are_told_together(rt: HostRuntime) -> Result<(), Fail> {
     Ok(())
 }
 
+// A flow that nothing holds back is clear while neither of two buffers is above, be they watched or not.
+#[test]
+fn a_flow_is_clear_where_no_buffer_is_above(rt: HostRuntime) -> Result<(), Fail> {
+    let mut gates = Gates::new(rt.alloc());
+    make_all(&rt, &mut gates, &TWO_BUFFERS[..4])?;
+    assert!(rt; gates.is_open(FIRST));
+    assert!(rt; gates.is_clear(FIRST, OWN, SHARED));
+    make_all(&rt, &mut gates, &TWO_BUFFERS[4..5])?;
+    assert!(rt; gates.is_open(FIRST));
+    assert!(rt; gates.is_clear(FIRST, OWN, OWN));
+    assert!(rt; !gates.is_clear(FIRST, OWN, SHARED));
+    Ok(())
+}
+
+// Each of the buffers that a flow watches counts, be they few or many.
+#[test]
+fn each_buffer_counts(rt: HostRuntime) -> Result<(), Fail> {
+    let mut gates = Gates::new(rt.alloc());
+    make(&rt, &mut gates, OpenFlow(FIRST))?;
+    for n in 1..=4 {
+        let buffer = BufferId::Write(n);
+        for call in [OpenBuffer(buffer), Watch(FIRST, buffer), High(buffer)] {
+            make(&rt, &mut gates, call)?;
+        }
+        assert_eq!(rt; count(&gates, FIRST), Some(u64::from(n)));
+    }
+    Ok(())
+}
+
 /// What a watchers' iterator, its length and its slice say agrees with these flows; whether there is a slice.
 fn are_all(rt: &impl Abort, mut watchers: Watchers<'_>, flows: &[FlowId]) -> bool {
     assert_eq!(rt; watchers.len(), flows.len());

@@ -1,10 +1,6 @@
-use Rattle.flow_gate.proofs.Reading.{marked_found}
+use Rattle.flow_gate.proofs.Reading.{is_marked-board}
 use Rattle.flow_gate.proofs.gates.Gates.is_marked.Goals as goal
-use Rattle.std.proofs.Common.{◌∙◌}
-use Rattle.std.specs.Prelude.{None, Some}
+use Rattle.std.proofs.Common.{sym, ◌∙◌}
 
-pub returns-in-Some : goal.returns-in-Some
-returns-in-Some c = rw (← c.self.view_is) (c.is_above.ensures ∙ marked_found c.self.inside.flows.entries c.self.inside.buffers.entries c.args.buffer (Some c.in-Some.gate.now) c.in-Some.ensures.value)
-
-pub returns-in-None : goal.returns-in-None
-returns-in-None c = rw (← c.self.view_is) (marked_found c.self.inside.flows.entries c.self.inside.buffers.entries c.args.buffer None c.in-None.ensures.value)
+pub returns : goal.returns
+returns c = rw (← c.self.view_is) (c.is_above.ensures ∙ sym (is_marked-board c.self.inside.flows.entries c.self.inside.buffers.entries c.args.buffer))
