@@ -1,5 +1,6 @@
 pub mod Advancing
 pub mod Aging
+pub mod Alone
 pub mod Before
 pub mod Dooming
 pub mod Finding
@@ -16,6 +17,7 @@ pub mod Moments
 pub mod Moving
 pub mod Outcomes
 pub mod PlainStreams
+pub mod Receiving
 pub mod Refilled
 pub mod Rising
 pub mod Seeing

@@ -1,5 +1,5 @@
 -- Changes of a flow leave its name and what it was told of the time, and all but a step leave what its Meters hold.
-use Rattle.exchange_core.specs.Effects.{arrived, body_framed, finished, headed, list_framed, moved}
+use Rattle.exchange_core.specs.Effects.{arrived, body_framed, finished, headed, list_framed, moved, received}
 use Rattle.exchange_core.specs.Flow.{Flow, is_filled_meter, is_meter, meters_hold}
 use Rattle.exchange_core.specs.Moves.{left_from, stepped, may_release, last_free}
 use Rattle.filter_chain.specs.Chain.{EndsInSend, kinds}
@@ -8,12 +8,11 @@ use Rattle.filter_chain.specs.Place.{Place, losing}
 use Rattle.filter_chain.specs.Release.{overfills}
 use Rattle.filter_chain.specs.declared.stage.StageKind.TheVariants.{Send}
 use Rattle.flow_gate.specs.Board.{Board}
-use Rattle.flow_gate.specs.declared.ids.FlowId.{FlowId}
 use Rattle.hpack_codec.specs.declared.fields.Field.{Field}
 use Rattle.std.proofs.Common.{ap, arith, refl, sym, ◌∙◌}
 use Rattle.std.specs.List.{list_any}
 use Rattle.std.specs.Option.{option_map_or}
-use Rattle.std.specs.Prelude.{Bool, List, None, Option, Some, [], false, if◌then◌else◌, length, map, nat_lt, slice_get, slice_set, suc, true, zero, ℕ, ◌&&◌, ◌+◌, ◌||◌, ◌∷◌, ◌≡◌}
+use Rattle.std.specs.Prelude.{Bool, List, None, Option, Some, [], false, if◌then◌else◌, length, nat_le, nat_lt, slice_get, slice_set, suc, true, zero, ℕ, ◌&&◌, ◌+◌, ◌||◌, ◌∷◌, ◌≡◌}
 
 -- a change of a flow that leaves its name and what it was told
 pub record IsSteady (change : Flow → Flow) : Type 0 where
@@ -29,6 +28,12 @@ steady_headed fields false = record { own = λ flow. refl; time = λ flow. refl 
 
 pub steady_arrived : (octets : List ℕ) → IsSteady (arrived octets)
 steady_arrived octets = record { own = λ flow. refl; time = λ flow. refl }
+
+pub steady_received : (octets : List ℕ) → IsSteady (received octets)
+steady_received octets = record {
+  own = λ flow. elim (nat_le (length flow.recv + length octets) flow.window) as (λ b. (if b then arrived octets flow else flow).chain.flow ≡ flow.chain.flow) [ true ↦ refl | false ↦ refl ];
+  time = λ flow. elim (nat_le (length flow.recv + length octets) flow.window) as (λ b. (if b then arrived octets flow else flow).chain.time ≡ flow.chain.time) [ true ↦ refl | false ↦ refl ];
+}
 
 pub steady_finished : (trailers : Option (List Field)) → IsSteady (finished trailers)
 steady_finished trailers = record { own = λ flow. refl; time = λ flow. refl }
@@ -69,6 +74,9 @@ steady_stepped board to = record {
     by_time flow (Some p) = left_time p (may_release board flow p) flow
 
 -- ---- what the Meters hold
+pub calm_received : (octets : List ℕ) (flow : Flow) → meters_hold (received octets flow) ≡ meters_hold flow
+calm_received octets flow = elim (nat_le (length flow.recv + length octets) flow.window) as (λ b. meters_hold (if b then arrived octets flow else flow) ≡ meters_hold flow) [ true ↦ refl | false ↦ refl ]
+
 pub calm_headed : (fields : List Field) (last : Bool) (flow : Flow) → meters_hold (headed fields last flow) ≡ meters_hold flow
 calm_headed fields true flow = refl
 calm_headed fields false flow = refl

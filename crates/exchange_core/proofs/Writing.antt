@@ -22,10 +22,10 @@ use Rattle.std.proofs.lemmas.Option.{none-some, same_Some}
 use Rattle.std.specs.BTreeMap.{BTreeMap, WritesThrough, is_at}
 use Rattle.std.specs.List.{AllByRecursion}
 use Rattle.std.specs.List.Sorted.{IsStrictlySortedBy}
-use Rattle.std.specs.Map.{keys_of, lookup, set_value}
+use Rattle.std.specs.Map.{keys_of, lookup}
 use Rattle.std.specs.Option.{option_and_then, option_map_or}
 use Rattle.std.specs.Ordering.{nat_cmp}
-use Rattle.std.specs.Prelude.{Bool, IfSome, IsSome, List, None, Option, Some, [], cond, false, length, map, nat_eq, option_map, true, ℕ, ◌+◌, ◌<◌, ◌||◌, ◌∷◌, ◌≡◌, ◌≤◌}
+use Rattle.std.specs.Prelude.{Bool, IfSome, IsSome, List, None, Option, Some, [], cond, false, length, nat_eq, option_map, true, ℕ, ◌+◌, ◌<◌, ◌||◌, ◌∷◌, ◌≡◌, ◌≤◌}
 
 -- ---- one exchange
 -- its flows know this moment
@@ -270,6 +270,20 @@ module _ (c : Inside) (lent : BTreeMap ℕ Exchange) (f : FlowId) (found : Excha
         change_none c lent c.metered f (λ g. g) found (with_flow f.back written (seen_at c.ticked found)) kept steady_same found_is e ok through (unchanged f.back (seen_at c.ticked found)),
         (flow_done (λ g. g) steady_same is refl).1,
       )
+
+-- the exchange was touched, and hasn't the flow
+pub touched_alone : (c : Inside) (lent : BTreeMap ℕ Exchange) (f : FlowId) (found written : Exchange) → IsKept c → Some found ≡ lookup (is_at (nat_cmp f.exchange)) c.live.entries →
+    None ≡ flow_in f.back (seen_at c.ticked found) → written ≡ seen_at c.ticked found → WritesThrough nat_cmp (nat_cmp f.exchange) c.live written lent →
+    (exchanges_of (record c { live = lent }) ≡ exchanges_of c) × IsKept (record c { live = lent })
+touched_alone c lent f found written kept found_is gone is through =
+    let e : written ≡ flow_changed (λ (g : Flow). g) f.back (seen_at c.ticked found) = is ∙ sym (unchanged f.back (seen_at c.ticked found)) in
+    let ok : IfSome (flow_in f.back (seen_at c.ticked found)) (λ (g : Flow). IsSoundFlow g) = subst (λ o. IfSome o (λ (g : Flow). IsSoundFlow g)) gone tt in
+    let calm : IfSome (flow_in f.back (seen_at c.ticked found)) (λ (g : Flow). meters_hold g ≡ meters_hold g) =
+    subst (λ o. IfSome o (λ (g : Flow). meters_hold g ≡ meters_hold g)) gone tt in (
+      change_none c lent c.metered f (λ (g : Flow). g) found written kept steady_same found_is e ok through (unchanged f.back (seen_at c.ticked found)),
+      change_kept c lent c.metered f (λ (g : Flow). g) found written kept steady_same found_is e ok through
+          (not_marked c lent c.metered f (λ (g : Flow). g) found written kept steady_same found_is e ok through calm),
+    )
 
 -- what was found is sound
 pub found_sound : (c : Inside) (f : FlowId) (found : Exchange) (flow : Flow) → IsKept c → Some found ≡ lookup (is_at (nat_cmp f.exchange)) c.live.entries →

@@ -1,9 +1,11 @@
 -- What each call makes of the flow that it names.
 use Rattle.exchange_core.specs.Flow.{Flow}
 use Rattle.exchange_core.specs.Message.{end_framed_if, ended_with, headed as message_headed, list_framed as message_list_framed}
+use Rattle.exchange_core.specs.declared.step.Received.{Received}
+use Rattle.exchange_core.specs.declared.step.Received.TheVariants.{Arrived, NotLive, TooMany}
 use Rattle.filter_chain.specs.Effects.{finished as chain_finished, framed, offered, released, ticked as chain_ticked}
 use Rattle.hpack_codec.specs.declared.fields.Field.{Field}
-use Rattle.std.specs.Prelude.{Bool, List, Option, drop, if◌then◌else◌, length, suc, take, zero, ℕ, ◌++◌, ◌==◌}
+use Rattle.std.specs.Prelude.{Bool, List, None, Option, Some, drop, if◌then◌else◌, length, nat_le, suc, take, zero, ℕ, ◌+◌, ◌++◌, ◌==◌}
 
 -- the stages are told of the end, with the receive buffer empty or not
 abbrev pub end_came : Flow → Flow
@@ -18,6 +20,15 @@ headed fields last flow =
 -- octets came into the receive buffer
 abbrev pub arrived : List ℕ → Flow → Flow
 arrived octets flow = record flow { recv = flow.recv ++ octets }
+
+-- what becomes of n octets that come for a flow
+abbrev pub received_by : ℕ → Option Flow → Received
+received_by n None = NotLive
+received_by n (Some flow) = if nat_le (length flow.recv + n) flow.window then Arrived else TooMany
+
+-- and what they make of the flow
+abbrev pub received : List ℕ → Flow → Flow
+received octets flow = if nat_le (length flow.recv + length octets) flow.window then arrived octets flow else flow
 
 -- the flow's end came, with trailers or without
 abbrev pub finished : Option (List Field) → Flow → Flow

@@ -1,7 +1,7 @@
 // The exchanges of a worker.
 ghost use Rattle.std.specs.Prelude.{◌≡◌, ◌↔◌, ◌+◌, ◌<◌, ◌≤◌, [], All, IfOk, IfSome, IsNone, IsOk, OnErr, OnOk, Some, false, length, option_map, true};
 ghost use Rattle.exchange_core.specs.Changes.{ChangesFlow, Dooms, ForgetsFlows, KnowsFlows, Starts, Sweeps, Ticks, number_for};
-ghost use Rattle.exchange_core.specs.Effects.{arrived, finished, headed};
+ghost use Rattle.exchange_core.specs.Effects.{arrived, finished, headed, received, received_by};
 ghost use Rattle.exchange_core.specs.Exchanges.{IsLiveFlow, IsSound, exchange_at, flow_at, is_live};
 ghost use Rattle.exchange_core.specs.Flow.{held_by};
 ghost use Rattle.exchange_core.specs.Replies.{reckoning};
@@ -17,6 +17,7 @@ use crate::flow::Flow;
 use crate::numbers::Numbers;
 use crate::reply::Doomed;
 use crate::start::StartSpec;
+use crate::step::Received;
 use filter_chain::ticks_add_up;
 use flow_gate::{FlowId, Gates};
 use flow_notes::Cause;
@@ -140,6 +141,25 @@ impl Exchanges {
             unreachable!()
         };
         flow.arrive(octets)
+    }
+
+    /// Octets came for a flow, whose end hasn't come where it is live. Where it is, and they fit into its receive buffer
+    /// within its window, they are there, as by `arrive`; else nothing has changed. The exchange is looked up once. Takes no
+    /// memory.
+    pub fn receive(&mut self, flow: FlowId, octets: &[u8]) -> Received
+        requires goes_on { IfSome (flow_at self.old flow) (λ f. f.message.ended ≡ false) }
+        ensures answer { result ≡ received_by (length octets.now) (flow_at self.old flow) }
+        ensures flow { IsLiveFlow self.old flow → ChangesFlow flow (received octets.now) self.old self.new }
+        ensures same { (result ≡ Received.Arrived → ⊥) → self.new ≡ self.old }
+        ensures sound { IsSound self.new }
+    {
+        let Some(exchange) = self.live.get_mut(&flow.exchange) else {
+            return Received::NotLive;
+        };
+        let Some(flow) = exchange.touch(flow.back, self.ticked) else {
+            return Received::NotLive;
+        };
+        flow.receive(octets)
     }
 
     /// The end of a flow came, with trailers or none. They wait to be framed.

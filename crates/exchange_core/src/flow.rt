@@ -1,6 +1,6 @@
 // One flow of an exchange.
-ghost use Rattle.std.specs.Prelude.{◌≡◌, ◌≢◌, ◌↔◌, ◌+◌, ◌-◌, ◌<◌, ◌≤◌, ◌^◌, false, true, IfOk, IfSome, IsOk, IsTrue, OnOk, OnErr, length, option_map};
-ghost use Rattle.exchange_core.specs.Effects.{arrived, finished, headed, moved};
+ghost use Rattle.std.specs.Prelude.{◌≡◌, ◌≢◌, ◌↔◌, ◌+◌, ◌-◌, ◌<◌, ◌≤◌, ◌^◌, false, true, IfOk, IfSome, IsOk, IsTrue, OnOk, OnErr, length, nat_le, option_map, Some};
+ghost use Rattle.exchange_core.specs.Effects.{arrived, finished, headed, moved, received, received_by};
 ghost use Rattle.exchange_core.specs.Exchange.{at_moment, begun_flow};
 ghost use Rattle.exchange_core.specs.Flow.{IsSound, held_by, last_place, meters_hold};
 ghost use Rattle.exchange_core.specs.Moves.{has_room_ahead, is_held_at, is_target_above, last_free, lets_go, may_release, next_step, overflows, stepped};
@@ -15,7 +15,7 @@ mod units;
 
 use crate::message::Message;
 use crate::start::StartSpec;
-use crate::step::{Advance, Step};
+use crate::step::{Advance, Received, Step};
 use filter_chain::{Chain, OfferFault};
 use flow_gate::{BufferId, FlowId, Gates};
 use hpack_codec::FieldList;
@@ -112,6 +112,31 @@ impl Flow {
         Ok(())
     }
 
+    /// As `arrive`, where the octets fit within the window.
+    pub(crate) fn receive(&mut self, octets: &[u8]) -> Received
+        requires { self.old.message.ended ≡ false }
+        ensures answer { result ≡ received_by (length octets.now) (Some self.old) }
+        ensures flow { self.new ≡ received octets.now self.old }
+        ensures sound { IsSound self.new }
+    {
+        if !self.fits(octets.len()) {
+            return Received::TooMany;
+        }
+        match self.arrive(octets) {
+            Ok(()) => Received::Arrived,
+            Err(NoMemory) => unreachable!(),
+        }
+    }
+
+    /// Whether the receive buffer takes so many more octets within its window.
+    fn fits(&self, n: usize) -> bool
+        ensures fits { result ≡ nat_le (length self.now.recv + n) self.now.window }
+        ensures sound { IsSound self.now }
+    {
+        let most = self.window as usize;
+        n <= most && self.recv.len() as usize <= most - n
+    }
+
     pub(crate) fn finish(&mut self, trailers: Option<FieldList>)
         requires { self.old.message.ended ≡ false }
         ensures finished { self.new ≡ finished trailers self.old }
@@ -180,6 +205,9 @@ impl Flow {
         ensures sound { IsSound self.now }
     {
         let mut place = self.chain.places();
+        if place == 1 {
+            return self.all_free(to, gates);
+        }
         if is_target_above(to, gates) {
             return None;
         }
@@ -194,6 +222,29 @@ impl Flow {
             }
         }
         None
+    }
+
+    /// As `last_free`, where the send buffer is the only place behind the receive buffer.
+    fn all_free(&self, to: Option<u32>, gates: &Gates) -> Option<(u32, u32)>
+        requires open { is_open gates.now self.now.chain.flow ≡ true }
+        requires alone { last_place self.now ≡ 1 }
+        ensures place { option_map (λ move. move.0) result ≡ last_free gates.now to self.now }
+        ensures octets { IfSome result (λ move. move.1 ≡ may_release gates.now self.now move.0) }
+        ensures first { IfSome result (λ move. move.0 ≡ 0) }
+        ensures some { IfSome result (λ move. 0 < move.1) }
+        ensures most { IfSome result (λ move. move.1 ≤ lets_go self.now move.0) }
+    {
+        let n = self.quantum.min(self.recv.len());
+        let send = BufferId::Send(self.chain.flow());
+        let target = match to {
+            Some(conn) => BufferId::Write(conn),
+            None => send,
+        };
+        if n > 0 && gates.is_clear(self.chain.flow(), send, target) {
+            Some((0, n))
+        } else {
+            None
+        }
     }
 
     /// Whether a place is a source that is above.

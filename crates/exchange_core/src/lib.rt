@@ -18,4 +18,4 @@ pub use exchanges::Exchanges;
 pub use laws::plain_streams;
 pub use reply::{Doomed, Reply};
 pub use start::StartSpec;
-pub use step::{Advance, Piece, Step, Unit};
+pub use step::{Advance, Piece, Received, Step, Unit};

@@ -44,3 +44,14 @@ pub struct Advance {
     pub step: Step,
     pub unit: Unit,
 }
+
+/// What became of octets that came for a flow.
+#[derive(Clone, Copy, Debug, PartialEq, Eq)]
+pub enum Received {
+    /// The flow isn't live.
+    NotLive,
+    /// They are more than its receive buffer has room for within its window.
+    TooMany,
+    /// They are in its receive buffer.
+    Arrived,
+}

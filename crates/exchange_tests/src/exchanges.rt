@@ -3,7 +3,7 @@ mod sessions;
 mod stage;
 
 use Answer::{Body, Done, Moved, Refused};
-use exchange_core::{Doomed, Ends, Reply, StartSpec};
+use exchange_core::{Doomed, Ends, Received, Reply, StartSpec};
 use flow_gate::FlowId;
 use flow_notes::{Cause, FireKind};
 use io_ports::NoMemory;
@@ -286,7 +286,35 @@ fn only_live_flows_have_space_and_go_on(rt: HostRuntime) -> Result<(), Fail> {
         back: true,
     };
     assert_eq!(rt; stage.exchanges.space(response), None);
+    assert_eq!(rt; stage.receive(response, 1)?, Some(Received::NotLive));
     assert!(rt; stage.is_gone(response)?);
+    Ok(())
+}
+
+#[test]
+fn octets_arrive_within_the_window_of_a_live_flow(rt: HostRuntime) -> Result<(), Fail> {
+    let Some(config) = config(rt.alloc(), 0) else {
+        panic!(rt; "no configuration");
+    };
+    let mut stage = Stage::new(rt.alloc());
+    assert_eq!(rt; stage.receive(RESPONSE, 1)?, Some(Received::NotLive));
+    assert_eq!(rt; stage.start(&SPEC, &config)?, Some(1));
+    for (n, became, space) in [
+        (65_536, Received::TooMany, 65_535),
+        (65_534, Received::Arrived, 1),
+        (2, Received::TooMany, 1),
+        (1, Received::Arrived, 0),
+        (1, Received::TooMany, 0),
+        (0, Received::Arrived, 0),
+    ] {
+        assert_eq!(rt; stage.receive(RESPONSE, n)?, Some(became), "{n} octets");
+        assert_eq!(rt; stage.exchanges.space(RESPONSE), Some(space));
+        assert_eq!(rt; stage.exchanges.space(REQUEST), Some(65_535));
+    }
+    assert_eq!(rt; stage.step(RESPONSE, false)?, Moved(0, 16_384, QUIET));
+    assert_eq!(rt; stage.receive(RESPONSE, 16_384)?, Some(Received::Arrived));
+    assert!(rt; stage.doom(1, Cause::Done, false).is_some());
+    assert_eq!(rt; stage.receive(RESPONSE, 1)?, Some(Received::NotLive));
     Ok(())
 }
 

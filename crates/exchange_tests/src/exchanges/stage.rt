@@ -5,7 +5,7 @@ ghost use Rattle.proxy_config.specs.Ranges.{IsBetween, IsRoute, most_octets};
 use super::sessions::{Act, Answer, CLIENT, CLUSTER, FRAME, WIDE, step_answer, unit_answer};
 use Act::{Arrive, Finish, Frame, Head, High, Low, Move, Next, Tell, Tick};
 use Answer::{Done, Refused};
-use exchange_core::{Doomed, Ends, Exchanges, Piece, StartSpec, Step, Unit};
+use exchange_core::{Doomed, Ends, Exchanges, Piece, Received, StartSpec, Step, Unit};
 use flow_gate::{BufferId, FlowId, Gates};
 use flow_notes::Cause;
 use hpack_codec::{Field, FieldList};
@@ -289,6 +289,15 @@ impl Stage {
         let octets = octets(self.alloc, n)?;
         self.exchanges.arrive(flow, octets.as_slice())?;
         Ok(Done)
+    }
+
+    /// What became of octets that came for a flow, None if its end came before.
+    pub(crate) fn receive(&mut self, flow: FlowId, n: u32) -> Result<Option<Received>, NoMemory> {
+        if self.exchanges.has_flow(flow) && self.exchanges.has_ended(flow) {
+            return Ok(None);
+        }
+        let octets = octets(self.alloc, n)?;
+        Ok(Some(self.exchanges.receive(flow, octets.as_slice())))
     }
 
     pub(crate) fn finish(&mut self, flow: FlowId, with_trailers: bool) -> Result<Answer, NoMemory> {
