@@ -53,10 +53,14 @@ goes_on_at limits flows x h s is e =
     let P : Option Exchange → Type 0 = λ v. IfSome (option_and_then (flow_in false) v) (λ f. f.message.ended ≡ false) in
     subst P (sym i.is) (i.ended ∙ e)
 
-pub body_goes_on : (limits : PlainLimits) (core : Core) (x : ℕ) (octets : List ℕ) (h : History NoMark) → Rests limits core h → Lives core.flows x true
+-- the end of a stream hasn't come where octets may, if it is live
+pub body_goes_on : (limits : PlainLimits) (core : Core) (x : ℕ) (octets : List ℕ) (h : History NoMark) → Rests limits core h
     → MayFollowEvent (events_back h) (event.Plain (plain.Body x octets)) → GoesOn core.flows x
-body_goes_on limits core x octets h r l m =
-    goes_on_at limits core.flows x h r.good.flows (lives_at limits core.flows x h l r.good.flows) (body_flowing limits x octets h r.good.flows.lawful.regular m.2).goes_on
+body_goes_on limits core x octets h r m =
+    let P : Option Exchange → Type 0 = λ v. IfSome (option_and_then (flow_in false) v) (λ f. f.message.ended ≡ false) in
+    by_case (has (live h) x)
+    (λ is. goes_on_at limits core.flows x h r.good.flows is (body_flowing limits x octets h r.good.flows.lawful.regular m.2).goes_on)
+    (λ d. subst P (sym (r.good.flows.stands.exchanges.gone x d)) tt)
 
 pub finish_goes_on : (limits : PlainLimits) (core : Core) (x : ℕ) (h : History NoMark) → Rests limits core h → Lives core.flows x true
     → MayFollowEvent (events_back h) (event.Plain (plain.Finish x)) → GoesOn core.flows x

@@ -16,7 +16,7 @@ use Rattle.tape_laws.specs.Pauses.{pending_lows}
 use Rattle.tape_laws.specs.Plain.{paired_with, plain_must_end, plain_setup}
 use Rattle.tape_laws.specs.declared.limits.PlainLimits.{PlainLimits}
 use Rattle.worker_core.specs.Agenda.{Agenda, is_rounded, is_run_of, is_telling, with_run}
-use Rattle.worker_core.specs.Carries.{Fits, Lives, may_move}
+use Rattle.worker_core.specs.Carries.{Lives, may_move}
 use Rattle.worker_core.specs.Flows.{FlowsStand, IsSettled}
 use Rattle.worker_core.specs.Progress.{HasReason, Pairs, Underway}
 use Rattle.worker_core.specs.Runs.{IsGood}
@@ -122,9 +122,6 @@ settled_good core notes g = record { limits = g.limits; history = onto notes g.h
 
 pub lives_is : (flows : Flows) (x : ℕ) (b v : Bool) → b ≡ v → Lives flows x b → Lives flows x v
 lives_is flows x b v e l = let P : Bool → Type 0 = λ w. Lives flows x w in subst P e l
-
-pub fits_is : (flows : Flows) (x n : ℕ) (b v : Bool) → b ≡ v → Fits flows x n b → Fits flows x n v
-fits_is flows x n b v e l = let P : Bool → Type 0 = λ w. Fits flows x n w in subst P e l
 
 pub number_given : (old mid : Core) (k : ℕ) → mid ≡ record old { flows = mid.flows } → k ≡ mid.turn + 1 → k ≡ old.turn + 1
 number_given old mid k e ek = ek ∙ ap (λ (v : Core). v.turn + 1) e

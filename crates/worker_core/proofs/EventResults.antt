@@ -4,19 +4,20 @@ use Rattle.flow_notes.specs.declared.events.PlainEvent.{PlainEvent}
 use Rattle.flow_notes.specs.declared.notes.Note.{Note}
 use Rattle.io_ports.specs.declared.octets.NoMemory.{NoMemory}
 use Rattle.std.proofs.Common.{ap, subst, sym, ◌∙◌}
-use Rattle.std.specs.Prelude.{Bool, List, OnOk, Result, [], length, true, ℕ, ◌++◌, ◌+◌, ◌∷◌, ◌≡◌}
+use Rattle.std.specs.Prelude.{Bool, List, OnOk, Result, [], true, ℕ, ◌++◌, ◌+◌, ◌∷◌, ◌≡◌}
 use Rattle.tape_laws.specs.Flows.{request}
 use Rattle.worker_core.proofs.EventBody.{arrive_opened, finish_opened}
 use Rattle.worker_core.proofs.EventOpens.{IsOpened, opened_more}
 use Rattle.worker_core.proofs.EventRoom.{with_telling}
 use Rattle.worker_core.proofs.Fronts.{Opened, event_is, opens_after, turn_after}
 use Rattle.worker_core.specs.Agenda.{Agenda, with_run}
-use Rattle.worker_core.specs.Carries.{Arrives, Ends, Fits, Lives}
+use Rattle.worker_core.specs.Carries.{Ends, Lives, ReceivesAs}
 use Rattle.worker_core.specs.Noting.{AppendsNotes, turn_note}
 use Rattle.worker_core.specs.Progress.{Pairs}
 use Rattle.worker_core.specs.Runs.{CutsTurn, Opens}
 use Rattle.worker_core.specs.declared.flows.Flows.{Flows}
 use Rattle.worker_core.specs.declared.worker.Core.{Core}
+use Rattle.exchange_core.specs.declared.step.Received.TheVariants as received
 use Rattle.flow_notes.specs.declared.events.Event.TheVariants as event
 use Rattle.flow_notes.specs.declared.events.PlainEvent.TheVariants as plain
 use Rattle.flow_notes.specs.declared.notes.Note.TheVariants as note
@@ -29,14 +30,15 @@ event_result old new before mid after k e ns r eq a o = (opens_after old new bef
 
 -- the same octets, flow and event by other names
 pub arrive_named : (old new : Core) (x k : ℕ) (e : PlainEvent) (octets o p : List ℕ) (g : FlowId) (f : Flows) → o ≡ octets → p ≡ octets → g ≡ request x → e ≡ plain.Body x octets
-    → IsOpened old f old.pairs (with_run g (task.Round ∷ old.agenda)) new → Lives old.flows x true → Fits old.flows x (length octets) true → Arrives x p old.flows f → k ≡ old.turn + 1
+    → IsOpened old f old.pairs (with_run g (task.Round ∷ old.agenda)) new → ReceivesAs x p received.Arrived old.flows f → k ≡ old.turn + 1
     → Opened old k e (note.Arrive g o ∷ []) new
-arrive_named old new x k e octets o p g f eo ep eg ee op l fits a ek =
+arrive_named old new x k e octets o p g f eo ep eg ee op came ek =
     let A : FlowId → Type 0 = λ v. IsOpened old f old.pairs (with_run v (task.Round ∷ old.agenda)) new in
-    let P : List ℕ → Type 0 = λ v. Arrives x v old.flows f in
+    let P : List ℕ → Type 0 = λ v. ReceivesAs x v received.Arrived old.flows f in
+    let all = subst P ep came in
     let N : FlowId → Type 0 = λ v. Opened old k e (note.Arrive v o ∷ []) new in
     let O : List ℕ → Type 0 = λ v. Opened old k e (note.Arrive (request x) v ∷ []) new in
-    subst N (sym eg) (subst O (sym eo) (event_is old new k (plain.Body x octets) e (note.Arrive (request x) octets ∷ []) (sym ee) (arrive_opened old new x k octets f (subst A eg op) l fits (subst P ep a) ek)))
+    subst N (sym eg) (subst O (sym eo) (event_is old new k (plain.Body x octets) e (note.Arrive (request x) octets ∷ []) (sym ee) (arrive_opened old new x k octets f (subst A eg op) all.0 all.1 all.2 ek)))
 
 -- the telling is begun
 pub opened_telling : (old mid new : Core) (f : Flows) (p : Pairs) (a : Agenda) (low : Bool) → IsOpened old f p a mid → new.agenda ≡ with_telling low mid.agenda → new ≡ record mid { agenda = new.agenda }

@@ -1,9 +1,10 @@
 -- What each effect carries: from each history that the flows stood for to the one with the step's notes.
 use Rattle.exchange_core.specs.Exchanges.{flow_at}
+use Rattle.exchange_core.specs.declared.step.Received.{Received}
 use Rattle.flow_notes.specs.declared.events.PlainEvent.{PlainEvent}
 use Rattle.flow_notes.specs.declared.notes.Cause.{Cause}
 use Rattle.plain_laws.specs.StepNotes.{begin_notes, body_notes, frame_notes, move_notes, room_notes}
-use Rattle.std.specs.Prelude.{Bool, List, None, Option, IfSome, Some, [], false, is_some, length, min, nat_le, nat_lt, take, true, ℕ, ◌&&◌, ◌+◌, ◌<◌, ◌==◌, ◌∷◌, ◌≡◌, ◌≤◌, ◌⊎◌}
+use Rattle.std.specs.Prelude.{Bool, List, None, Option, IfSome, Some, [], false, length, min, nat_lt, take, true, ℕ, ◌&&◌, ◌+◌, ◌<◌, ◌==◌, ◌∷◌, ◌≡◌, ◌≤◌, ◌⊎◌}
 use Rattle.tape_laws.specs.Dispatches.{has, live, started}
 use Rattle.tape_laws.specs.Doomed.{condemned}
 use Rattle.tape_laws.specs.Ends.{BodyUnit}
@@ -22,6 +23,7 @@ use Rattle.worker_core.specs.declared.flows.Framed.{Framed}
 use Rattle.worker_core.specs.declared.flows.Moved.{Moved}
 use Rattle.worker_core.specs.declared.flows.NextFrame.{NextFrame}
 use Rattle.worker_core.specs.declared.flows.Outcome.{Outcome}
+use Rattle.exchange_core.specs.declared.step.Received.TheVariants as received
 use Rattle.flow_gate.specs.declared.ids.BufferId.TheVariants as buffer
 use Rattle.flow_notes.specs.declared.events.Event.TheVariants as event
 use Rattle.flow_notes.specs.declared.events.PlainEvent.TheVariants as plain
@@ -39,11 +41,6 @@ pub record Fits (flows : Flows) (x n : ℕ) (answer : Bool) : Type 0 where
       → length (place (plain_setup limits) (request x) 0 h) + n ≤ limits.recv
   pub no : (limits : PlainLimits) (h : History NoMark) → Settled limits flows h → has (live h) x ≡ true → answer ≡ false
       → limits.recv < length (place (plain_setup limits) (request x) 0 h) + n
-
--- how many more octets fit into it, where the stream is live
-pub record HasSpace (flows : Flows) (x : ℕ) (space : Option ℕ) : Type 0 where
-  pub lives : Lives flows x (is_some space)
-  pub fits : IfSome space (λ room. (n : ℕ) → Fits flows x n (nat_le n room))
 
 -- whether its receive buffer holds octets
 pub record Holds (flows : Flows) (x : ℕ) (answer : Bool) : Type 0 where
@@ -190,6 +187,15 @@ GivesUpAs x why old false new = Lives old x false × (new ≡ old)
 
 pub record GivesUp (x : ℕ) (why : Cause) (old : Flows) (was_live : Bool) (new : Flows) : Type 0 where
   pub is : GivesUpAs x why old was_live new
+
+-- what became of octets that came for the exchange
+abbrev pub ReceivesAs : ℕ → List ℕ → Received → Flows → Flows → Type 0
+ReceivesAs x octets received.NotLive old new = Lives old x false × (new ≡ old)
+ReceivesAs x octets received.TooMany old new = Lives old x true × Fits old x (length octets) false × (new ≡ old)
+ReceivesAs x octets received.Arrived old new = Lives old x true × Fits old x (length octets) true × Arrives x octets old new
+
+pub record Receives (x : ℕ) (octets : List ℕ) (answer : Received) (old new : Flows) : Type 0 where
+  pub is : ReceivesAs x octets answer old new
 
 -- its end hasn't come
 abbrev pub GoesOn : Flows → ℕ → Type 0

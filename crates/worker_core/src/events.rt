@@ -1,7 +1,6 @@
 // Events: what each does before anything is run.
-ghost use Rattle.std.specs.Prelude.{◌≡◌, ◌+◌, ◌∷◌, ◌++◌, [], if◌then◌else◌, IfOk, OnErr, OnOk, Some, true, false};
-ghost use Rattle.std.specs.Prelude.{length};
-ghost use Rattle.worker_core.specs.Carries.{Fits, IsOverrun, Lives};
+ghost use Rattle.std.specs.Prelude.{◌≡◌, ◌+◌, ◌∷◌, ◌++◌, [], if◌then◌else◌, IfOk, OnOk, true};
+ghost use Rattle.worker_core.specs.Carries.{IsOverrun, Lives};
 ghost use Rattle.worker_core.specs.Noting.{AppendsNotes, begin_notes, turn_note};
 ghost use Rattle.worker_core.specs.Runs.{CutsTurn, Opens};
 ghost use Rattle.worker_core.specs.Stands.{CanTake};
@@ -11,6 +10,7 @@ use crate::agenda::Task;
 use crate::dooms::note_doom;
 use crate::flows::request;
 use crate::worker::Core;
+use exchange_core::Received;
 use flow_gate::BufferId;
 use flow_notes::{Cause, Event, Note, Notes, PlainEvent};
 use io_ports::{NoMemory, Octets};
@@ -76,39 +76,21 @@ impl Core {
             octets: Octets::from_slice(self.alloc, octets.as_slice())?,
         };
         let exchange = u64::from(stream);
-        let Some(space) = self.flows.space(exchange) else {
-            let number = self.open_turn()?;
-            return note_turn(number, event, notes);
-        };
-        if octets.len() <= space as usize {
-            self.arrive(exchange, event, octets, notes)
-        } else {
-            self.overrun(exchange, event, notes)
+        match self.flows.receive(exchange, octets.as_slice())? {
+            Received::Arrived => {
+                let flow = request(exchange);
+                let octets = Octets::from_slice(self.alloc, octets.as_slice())?;
+                let number = self.open_turn()?;
+                self.begin_run(flow)?;
+                note_turn(number, event, notes)?;
+                notes.push(Note::Arrive { flow, octets })
+            }
+            Received::TooMany => self.overrun(exchange, event, notes),
+            Received::NotLive => {
+                let number = self.open_turn()?;
+                note_turn(number, event, notes)
+            }
         }
-    }
-
-    // Octets arrive.
-    fn arrive(
-        &mut self,
-        exchange: u64,
-        event: PlainEvent,
-        octets: &Octets,
-        notes: &mut Notes,
-    ) -> Result<(), NoMemory>
-        requires take { CanTake self.old (Event.Plain event) notes.old }
-        requires event { event ≡ PlainEvent.Body exchange octets.now }
-        requires lives { Lives self.old.flows exchange true }
-        requires fits { Fits self.old.flows exchange (length octets.now) true }
-        ensures ok { OnOk result (Opens self.old notes.old (Event.Plain event) self.new notes.new) }
-        ensures cut { CutsTurn self.old notes.old (Event.Plain event) notes.new }
-    {
-        let flow = request(exchange);
-        let octets = Octets::from_slice(self.alloc, octets.as_slice())?;
-        self.flows.arrive(exchange, octets.as_slice())?;
-        let number = self.open_turn()?;
-        self.begin_run(flow)?;
-        note_turn(number, event, notes)?;
-        notes.push(Note::Arrive { flow, octets })
     }
 
     // More came than the receive buffer has room for.

@@ -12,12 +12,12 @@ ghost use Rattle.worker_core.specs.UnitsOf.{as_piece, is_emptied, piece_at, unit
 ghost use Rattle.flow_gate.specs.Board.{IsSound as AreSoundGates, is_known, is_marked, pending_on, watchers_of};
 ghost use Rattle.proxy_config.specs.Ranges.{IsRoute};
 ghost use Rattle.tape_laws.specs.Flows.{request as flow_of};
-ghost use Rattle.worker_core.specs.Carries.{Arrives, Begins, Dooms, Ends, Frames, GoesOn, HasSpace, IsNextFrame, Leaves, Lives, Steps, Sweeps, Tells};
+ghost use Rattle.worker_core.specs.Carries.{Begins, Dooms, Ends, Frames, GoesOn, IsNextFrame, Leaves, Lives, Receives, Steps, Sweeps, Tells};
 ghost use Rattle.worker_core.specs.Flows.{AreLimits, IsSettled, Settled};
 
 use crate::conn::Connection;
 use crate::heads::data_head;
-use exchange_core::{Advance, Exchanges, Piece, StartSpec, Step, Unit};
+use exchange_core::{Advance, Exchanges, Piece, Received, StartSpec, Step, Unit};
 use flow_gate::{BufferId, FlowId, Gates, Watchers};
 use flow_notes::Cause;
 use io_ports::NoMemory;
@@ -130,13 +130,6 @@ impl Flows {
         }
     }
 
-    /// How many more octets the receive buffer of the exchange has room for, where it is live.
-    pub(crate) fn space(&self, exchange: u64) -> Option<u32>
-        ensures { HasSpace self.now exchange result }
-    {
-        self.exchanges.space(request(exchange))
-    }
-
     /// Whether the write buffer is above.
     pub(crate) fn is_above(&self) -> bool
         ensures { result ≡ self.now.conn.write.above }
@@ -144,18 +137,17 @@ impl Flows {
         self.conn.write.is_above()
     }
 
-    /// Octets arrive in the receive buffer of a live exchange.
-    pub(crate) fn arrive(&mut self, exchange: u64, octets: &[u8]) -> Result<(), NoMemory>
+    /// Octets come for an exchange, and are in its receive buffer where it is live and has room for them.
+    pub(crate) fn receive(&mut self, exchange: u64, octets: &[u8]) -> Result<Received, NoMemory>
         requires settled { IsSettled self.old }
-        requires live { Lives self.old exchange true }
         requires goes_on { GoesOn self.old exchange }
-        ensures { OnOk result (Arrives exchange octets.now self.old self.new) }
+        ensures { IfOk result (λ received. Receives exchange octets.now received self.old self.new) }
     {
-        self.exchanges.arrive(request(exchange), octets)?;
-        if octets.is_empty() {
-            return Ok(());
+        let received = self.exchanges.receive(request(exchange), octets);
+        if received == Received::Arrived && !octets.is_empty() {
+            self.hold(exchange)?;
         }
-        self.hold(exchange)
+        Ok(received)
     }
 
     /// The end of a live exchange came.
