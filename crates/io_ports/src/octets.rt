@@ -136,6 +136,15 @@ impl PressureList {
         PressureList { pressures }
     }
 
+    /// A copy of the pressures of a slice.
+    pub fn from_slice(alloc: Global, pressures: &[u32]) -> Result<Self, NoMemory>
+        ensures { IfOk result (λ made. made ≡ pressures.now) }
+    {
+        Ok(PressureList {
+            pressures: Vec::from_slice(alloc, pressures)?,
+        })
+    }
+
     /// Appends a pressure. After want of memory the list is as it was.
     pub fn push(&mut self, pressure: u32) -> Result<(), NoMemory>
         ensures ok { OnOk result (self.new ≡ self.old ++ pressure ∷ []) }
