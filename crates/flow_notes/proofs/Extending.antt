@@ -1,10 +1,6 @@
 -- What was there before stays in front.
-use Rattle.std.proofs.Common.{◌≡◌, ℕ, List, [], ◌++◌, ap, sym, ◌∙◌, append_assoc}
-use Rattle.std.proofs.lemmas.List.{append-nil}
+use Rattle.std.proofs.Common.{◌≡◌, ℕ, List, ◌++◌, ap, ◌∙◌, append_assoc}
 use Rattle.flow_notes.specs.Extends.{Extends}
-
-pub extends_same : (old new : List ℕ) → new ≡ old → Extends old new
-extends_same old new e = record { added = []; is = e ∙ sym (append-nil old) }
 
 pub extends_by : (old new added : List ℕ) → new ≡ old ++ added → Extends old new
 extends_by old new added e = record { added = added; is = e }

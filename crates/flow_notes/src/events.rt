@@ -1,5 +1,5 @@
 // What happens to a core.
-ghost use Rattle.std.specs.Prelude.{◌≡◌, ◌==◌, ◌++◌, ◌∷◌, [], length, OnOk, OnErr};
+ghost use Rattle.std.specs.Prelude.{◌≡◌, ◌==◌, ◌++◌, ◌∷◌, [], length, IfOk, OnOk, OnErr};
 
 use io_ports::{NoMemory, Octets, PressureList};
 use std::alloc::Global;
@@ -20,6 +20,28 @@ pub enum PlainEvent {
     Cut { stream: u32 },
     /// Up to `n` octets leave the write buffer.
     Room { n: u32 },
+}
+
+impl PlainEvent {
+    /// The same event once more. Octets are copied as a slice.
+    pub fn copied(&self, alloc: Global) -> Result<PlainEvent, NoMemory>
+        ensures { IfOk result (λ made. made ≡ self.now) }
+    {
+        Ok(match self {
+            PlainEvent::Begin { stream } => PlainEvent::Begin { stream: *stream },
+            PlainEvent::Pair { first, second } => PlainEvent::Pair {
+                first: *first,
+                second: *second,
+            },
+            PlainEvent::Body { stream, octets } => PlainEvent::Body {
+                stream: *stream,
+                octets: Octets::from_slice(alloc, octets.as_slice())?,
+            },
+            PlainEvent::Finish { stream } => PlainEvent::Finish { stream: *stream },
+            PlainEvent::Cut { stream } => PlainEvent::Cut { stream: *stream },
+            PlainEvent::Room { n } => PlainEvent::Room { n: *n },
+        })
+    }
 }
 
 /// What a posted callback asks for.
@@ -86,6 +108,40 @@ impl Event {
         ensures { result ≡ spec.is_plain self.now }
     {
         matches!(self, Event::Plain(_))
+    }
+
+    /// The same event once more. Octets and pressures are copied as slices.
+    pub fn copied(&self, alloc: Global) -> Result<Event, NoMemory>
+        ensures { IfOk result (λ made. made ≡ self.now) }
+    {
+        Ok(match self {
+            Event::Accept { conn } => Event::Accept { conn: *conn },
+            Event::Join { conn, cluster } => Event::Join {
+                conn: *conn,
+                cluster: *cluster,
+            },
+            Event::Read { conn, octets } => Event::Read {
+                conn: *conn,
+                octets: Octets::from_slice(alloc, octets.as_slice())?,
+            },
+            Event::Gone { conn } => Event::Gone { conn: *conn },
+            Event::Room { conn, n } => Event::Room { conn: *conn, n: *n },
+            Event::Tick { now } => Event::Tick { now: *now },
+            Event::Post {
+                poster,
+                number,
+                job,
+            } => Event::Post {
+                poster: *poster,
+                number: *number,
+                job: *job,
+            },
+            Event::Obey { version, pressures } => Event::Obey {
+                version: *version,
+                pressures: PressureList::from_slice(alloc, pressures.as_slice())?,
+            },
+            Event::Plain(event) => Event::Plain(event.copied(alloc)?),
+        })
     }
 }
 
