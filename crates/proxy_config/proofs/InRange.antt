@@ -7,15 +7,19 @@ use Rattle.std.specs.Option.{option_and_then}
 use Rattle.std.specs.Str.{bytes_eq}
 use Rattle.toml.specs.Data.{Data, Members, no_members, as_table, as_str, as_integer, get_member}
 use Rattle.proxy_config.specs.Answers.{Checks}
+use Rattle.proxy_config.specs.Clusters.{is_taken, IsListed}
+use Rattle.proxy_config.specs.declared.config.Cluster.{Cluster}
 use Rattle.proxy_config.specs.declared.config.Config.{Config}
-use Rattle.proxy_config.specs.Keys.{Key, number, text, texts, key_faults, keys_faults, number_at, are_names_up_to, any_text, words_up_to}
+use Rattle.proxy_config.specs.Keys.{Key, number, text, texts, key_faults, keys_faults, unknown_faults, number_at, are_names_up_to, any_text, words_up_to}
 use Rattle.proxy_config.specs.Ranges.{IsBetween, AreLimits, AreTimeouts, IsFilter, AreFilters, IsRoute, IsForm, IsTrigger, IsShedRow, IsOverload, IsProxy, IsInRange, most_octets, day, million}
-use Rattle.proxy_config.specs.Reading.{made_row, rows_of, row_place, table_row_faults, row_faults, rows_faults, overload_faults, overload_of, config_faults, config_made, limits_faults, timeouts_faults, clusters_key, clusters_faults, routes_key, routes_faults, overload_key, resource_names, triggers_faults, shed_faults}
+use Rattle.proxy_config.specs.Reading.{made_row, rows_of, row_place, table_row_faults, row_faults, rows_faults, overload_faults, overload_of, config_faults, config_made, limits_faults, timeouts_faults, clusters_key, clusters_faults, routes_key, routes_faults, overload_key, resource_names, triggers_faults, shed_faults, stray_fault, stray_faults, proxy_faults, top_keys}
 use Rattle.proxy_config.specs.Tables.{limits_of, timeouts_of, proxy_of, stream_idle, connection_idle, route_keys, route_of, filter_of, filter_words, is_scaled, scaling, saturation, value, trigger_keys, trigger_of, shed_keys, shed_row_of, actions, needed, optional, target_key, resource, resources, class_start, triggers, shed, place_at, points}
 use Rattle.proxy_config.specs.Texts.{is_among, is_name}
 use Rattle.proxy_config.specs.Values.{strings_at, list_at, table_at, text_at}
 use Rattle.proxy_config.specs.declared.overload.Form.TheVariants.{Threshold, Scaled}
 use Rattle.proxy_config.specs.declared.fault.ConfigFault.{ConfigFault}
+use Rattle.proxy_config.specs.declared.fault.ConfigFault.TheVariants.{UnknownCluster}
+use Rattle.proxy_config.specs.declared.routes.Route.{Route}
 use Rattle.proxy_config.proofs.Fits.{no_parts, number_between, fits_between, needed_fits, judged_some, strings_pass, rows_pass}
 use Rattle.proxy_config.proofs.Lists.{length-map}
 
@@ -190,6 +194,20 @@ overload_in_range place ms h =
           (rows_in_range (IsShedRow (length names)) (codes "overload.shed") (shed_keys names) (shed_row_of names) (shed_row_in_range names) [] (list_at (codes "shed") ms) shed_rows.0);
     }
 
+-- the cluster of each route, where none is a stray
+listed_one : (clusters : List Cluster) (i : ℕ) (name : List ℕ) → stray_fault clusters i name ≡ [] → is_taken clusters name ≡ true
+listed_one clusters i name h =
+    elim (cases_Bool (is_taken clusters name)) [
+      | inl taken ↦ taken
+      | inr stray ↦ absurd (let fault : UnknownCluster (row_place (codes "routes") i ++ codes "cluster") ∷ [] ≡ [] = rw stray at h in cc)
+    ]
+
+all_listed : (clusters : List Cluster) (i : ℕ) (routes : List Route) → stray_faults clusters i routes ≡ [] → AllByRecursion (IsListed clusters) routes
+all_listed clusters i [] h = tt
+all_listed clusters i (r ∷ rs) h =
+    let parts = no_parts (stray_fault clusters i r.cluster) _ h in
+    (listed_one clusters i r.cluster parts.0, all_listed clusters (i + 1) rs parts.1)
+
 -- the configuration of a document without faults
 pub config_in_range : (top : Members) → config_faults top ≡ [] → IsInRange (config_made top)
 config_in_range top h =
@@ -200,10 +218,15 @@ config_in_range top h =
     let overload = no_parts (keys_faults [] top (overload_key ∷ []) ++ overload_faults (codes "overload.") (table_at (codes "overload") top)) _ routes.1 in
     let route_rows = (no_parts (keys_faults [] top (routes_key ∷ [])) _ routes.0).1 in
     let overload_keys = (no_parts (keys_faults [] top (overload_key ∷ [])) _ overload.0).1 in
+    let proxy = no_parts (proxy_faults top) _ overload.1 in
+    let unknown = no_parts (unknown_faults [] top top_keys) _ proxy.1 in
+    let made = config_made top in
+    let strays = no_parts (stray_faults made.clusters 0 made.routes) _ unknown.1 in
     record {
       limits = limits_in_range (table_at (codes "limits") top);
       timeouts = timeouts_in_range (table_at (codes "timeouts") top);
       routes = All-from_recursion IsRoute _ (rows_in_range IsRoute (codes "routes") route_keys route_of route_in_range [] (list_at (codes "routes") top) route_rows);
+      listed = All-from_recursion (IsListed made.clusters) _ (all_listed made.clusters 0 made.routes strays.0);
       overload = overload_in_range (codes "overload.") (table_at (codes "overload") top) overload_keys;
       proxy = proxy_in_range (table_at (codes "proxy") top);
     }

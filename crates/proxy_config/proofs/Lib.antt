@@ -2,4 +2,5 @@ pub mod Faults
 pub mod Fits
 pub mod InRange
 pub mod Least
+pub mod Listed
 pub mod Lists

@@ -1,3 +1,4 @@
+pub mod Clusters
 pub mod Answers
 pub mod Defaults
 pub mod Keys

@@ -1,5 +1,6 @@
 -- The ranges in which the numbers of a configuration are.
 use Rattle.std.specs.Prelude.{ℕ, ◌<◌, ◌≤◌, All, List, length}
+use Rattle.proxy_config.specs.Clusters.{IsListed}
 use Rattle.proxy_config.specs.declared.config.Config.{Config}
 use Rattle.proxy_config.specs.declared.config.LimitKeys.{LimitKeys}
 use Rattle.proxy_config.specs.declared.config.ProxyKeys.{ProxyKeys}
@@ -93,10 +94,11 @@ pub record IsProxy (p : ProxyKeys) : Type 0 where
   pub accept_rate : p.accept_rate ≤ 1000000
   pub accept_burst : IsBetween 1 1000000 p.accept_burst
 
--- each number is in its range
+-- each number is in its range, and each route goes to a cluster of the list
 pub record IsInRange (c : Config) : Type 0 where
   pub limits : AreLimits c.limits
   pub timeouts : AreTimeouts c.timeouts
   pub routes : All IsRoute c.routes
+  pub listed : All (IsListed c.clusters) c.routes
   pub overload : IsOverload c.overload
   pub proxy : IsProxy c.proxy

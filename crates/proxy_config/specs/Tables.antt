@@ -1,8 +1,8 @@
 -- The keys of each table, and what the configuration has of them.
 use Rattle.std.specs.Prelude.{ℕ, ◌+◌, Bool, true, false, ◌&&◌, ◌||◌, not, nat_le, List, [], ◌∷◌, Option, map, codes, if◌then◌else◌, position, unwrap_or}
-use Rattle.std.specs.List.{list_any}
 use Rattle.std.specs.Str.{bytes_eq}
 use Rattle.toml.specs.Data.{Members}
+pub use Rattle.proxy_config.specs.Clusters.{is_taken}
 use Rattle.proxy_config.specs.Defaults.{default_limits, default_timeouts, default_proxy}
 use Rattle.proxy_config.specs.Keys.{Key, Kind, number, text, tables, texts, any_text, are_names_up_to, words_up_to, number_at}
 use Rattle.proxy_config.specs.Ranges.{most_octets, day, million}
@@ -99,10 +99,6 @@ timeouts_made _ = default_timeouts
 
 abbrev pub timeouts_of : Members → TimeoutKeys
 timeouts_of ms = timeouts_made (numbers_at (timeout_keys ms) ms)
-
--- a cluster has this name
-abbrev pub is_taken : List Cluster → List ℕ → Bool
-is_taken clusters name = list_any (λ c. bytes_eq name c.name) clusters
 
 -- a row of clusters, after these clusters
 abbrev pub cluster_name : List Cluster → Key

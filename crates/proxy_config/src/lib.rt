@@ -21,9 +21,10 @@ mod tables;
 mod words;
 
 pub use config::{Cluster, ClusterList, Config, LimitKeys, ProxyKeys, TimeoutKeys};
+pub use defaults::defaults_are_of_empty_text;
 pub use document::read_config;
 pub use fault::ConfigFault;
 pub use overload::{Form, NameList, OverloadKeys, Point, ShedList, ShedRow, Trigger, TriggerList};
 pub use routes::{Filter, FilterList, Route, RouteList};
-pub use routing::route;
+pub use routing::{cluster_of, route};
 pub use rows::Rows;
