@@ -1,7 +1,11 @@
+pub mod Falling
+pub mod Following
 pub mod Greatest
 pub mod OneClass
 pub mod Placing
 pub mod Viewing
+pub mod Members
+pub mod Turning
 pub mod Tying
 pub mod Resets
 pub mod Setting

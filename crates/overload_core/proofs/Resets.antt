@@ -1,5 +1,5 @@
 -- Which exchange is reset next.
-use Rattle.std.proofs.Common.{◌≡◌, ℕ, zero, suc, ◌+◌, ◌-◌, ◌<◌, ◌≤◌, List, [], ◌∷◌, ◌++◌, map, length, take, drop, get_or, refl, ap, ◌∙◌, add-one, drop-cons, arith}
+use Rattle.std.proofs.Common.{◌≡◌, ℕ, zero, suc, ◌+◌, ◌-◌, ◌<◌, List, [], ◌∷◌, ◌++◌, map, length, take, drop, get_or, refl, ap, ◌∙◌, add-one, drop-cons, arith}
 use Rattle.std.specs.Prelude.{Option, None, Some, MatchOption, reverse}
 use Rattle.std.specs.Borrow.{Bor}
 use Rattle.std.specs.Option.{option_copied}
@@ -45,9 +45,6 @@ behind c i cs = joined (take (c - i) (drop i (reverse cs)))
 
 pub behind-none : (c : ℕ) (cs : List (List ℕ)) → behind c 0 cs ≡ joined (take c (reverse cs))
 behind-none c cs = let n : c - 0 ≡ c = omega arith in ap (λ m. joined (take m (reverse cs))) n
-
-pub behind-all : (c i : ℕ) (cs : List (List ℕ)) → c ≤ i → behind c i cs ≡ []
-behind-all c i cs h = let n : c - i ≡ 0 = omega arith in ap (λ m. joined (take m (drop i (reverse cs)))) n
 
 length-classes : (ls : List Nodes) → length (classes_of ls) ≡ length ls
 length-classes [] = refl

@@ -164,10 +164,6 @@ unfolding all_placed
 all-empty k zero = refl
 all-empty k (suc n) = all-empty (k + 1) n
 
-pub classes-empty : (n : ℕ) → classes_of (replicate n []) ≡ replicate n []
-classes-empty zero = refl
-classes-empty (suc n) = ap (λ r. [] ∷ r) (classes-empty n)
-
 pub tied-empty : (find : ℕ → Option Standing) (n : ℕ) → ((q : ℕ) → find q ≡ None) → Tied find (replicate n [])
 unfolding IsDistinct
 tied-empty find n h = record {

@@ -1,5 +1,5 @@
 -- The states of the overload actions.
-use Rattle.std.specs.Prelude.{ℕ, ◌≤◌, ◌==◌, List, [], ◌∷◌, map, filter, max, slice_index}
+use Rattle.std.specs.Prelude.{ℕ, Bool, ◌≤◌, ◌==◌, List, [], ◌∷◌, map, filter, max, slice_index}
 use Rattle.proxy_config.specs.declared.overload.Trigger.{Trigger}
 use Rattle.overload_core.specs.declared.actions.Actions.{Actions}
 use Rattle.overload_core.specs.States.{state_of}
@@ -22,6 +22,14 @@ actions_at triggers pressures = record {
   reduce_timeouts = action_state triggers pressures 4;
   reset_streams = action_state triggers pressures 5;
 }
+
+-- every action is off
+abbrev pub all_off : Actions
+all_off = record { stop_requests = 0; stop_accepting = 0; reject_incoming = 0; no_keepalive = 0; reduce_timeouts = 0; reset_streams = 0 }
+
+-- an action with this state is saturated
+abbrev pub is_saturated : ℕ → Bool
+is_saturated state = state == 1000000
 
 -- each is a state, in parts per million
 pub record AreStates (a : Actions) : Type 0 where

@@ -1,6 +1,6 @@
 //! The states of the overload actions.
 ghost use Rattle.std.specs.Prelude.{◌≡◌, ◌≤◌, slice_index};
-ghost use Rattle.overload_core.specs.ActionStates.{action_state, actions_at, AreStates};
+ghost use Rattle.overload_core.specs.ActionStates.{action_state, actions_at, all_off, is_saturated, AreStates};
 
 use crate::trigger::trigger_state;
 use proxy_config::{Config, Trigger};
@@ -20,6 +20,30 @@ pub struct Actions {
     pub reduce_timeouts: u32,
     /// Exchanges are reset, those that hold most first.
     pub reset_streams: u32,
+}
+
+impl Actions {
+    /// Each action off: its state is 0. So they stand until a first state is published.
+    pub fn off() -> Actions
+        ensures off { result ≡ all_off }
+        ensures most { AreStates result }
+    {
+        Actions {
+            stop_requests: 0,
+            stop_accepting: 0,
+            reject_incoming: 0,
+            no_keepalive: 0,
+            reduce_timeouts: 0,
+            reset_streams: 0,
+        }
+    }
+}
+
+/// Whether an action with this state, in parts per million, is saturated.
+pub fn is_saturated(state: u32) -> bool
+    ensures { result ≡ is_saturated state }
+{
+    state == 1_000_000
 }
 
 /// The states of the actions, each the greatest state of its triggers, and 0 where it has none.
