@@ -18,7 +18,7 @@ of_kind k h = record { len = h.len; kind = k; flags = h.flags; stream = h.stream
 at_kind : {A : Type 0} (test : Head → A) (value : A) (h : Head) (k : ℕ) → h.kind ≡ k → test (of_kind k h) ≡ value → test h ≡ value
 at_kind test value h k e t = subst (λ (j : ℕ). test (of_kind j h) ≡ value) (sym e) t
 
-nonzero : (s : ℕ) → 0 < s → eqb s 0 ≡ false
+pub nonzero : (s : ℕ) → 0 < s → eqb s 0 ≡ false
 nonzero zero h = absurd (omega arith)
 nonzero (suc s) h = search (rules, tests)
 

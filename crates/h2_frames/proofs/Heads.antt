@@ -19,19 +19,19 @@ number_once a b x y below other e = (
   ap (drop 4) e,
 )
 
-same_numbers : (p q : Bool) (a b : ℕ) → a < 2 ^ 31 → b < 2 ^ 31 → cond p (2 ^ 31) 0 + a ≡ cond q (2 ^ 31) 0 + b → (p ≡ q) × (a ≡ b)
+same_numbers : (p q : Bool) (a b : ℕ) → a < 2 ^ 31 → b < 2 ^ 31 → cond p (2 ^ 31 + a) a ≡ cond q (2 ^ 31 + b) b → (p ≡ q) × (a ≡ b)
 same_numbers true true a b h i e = (refl, omega arith)
 same_numbers true false a b h i e = absurd (omega arith)
 same_numbers false true a b h i e = absurd (omega arith)
 same_numbers false false a b h i e = (refl, omega arith)
 
-below_32 : (p : Bool) (a : ℕ) → a < 2 ^ 31 → cond p (2 ^ 31) 0 + a < 2 ^ 32
+below_32 : (p : Bool) (a : ℕ) → a < 2 ^ 31 → cond p (2 ^ 31 + a) a < 2 ^ 32
 below_32 true a h = omega arith
 below_32 false a h = omega arith
 
 pub word_once : (p q : Bool) (a b : ℕ) (x y : List ℕ) → a < 2 ^ 31 → b < 2 ^ 31 → word p a ++ x ≡ word q b ++ y → (p ≡ q) × (a ≡ b) × (x ≡ y)
 word_once p q a b x y h i e =
-    let both = number_once (cond p (2 ^ 31) 0 + a) (cond q (2 ^ 31) 0 + b) x y (below_32 p a h) (below_32 q b i) e in
+    let both = number_once (cond p (2 ^ 31 + a) a) (cond q (2 ^ 31 + b) b) x y (below_32 p a h) (below_32 q b i) e in
     let numbers = same_numbers p q a b h i both.0 in
     (numbers.0, numbers.1, both.1)
 

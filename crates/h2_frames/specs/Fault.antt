@@ -1,4 +1,5 @@
 -- The first fault of a frame, from what of it is there (RFC 9113 sections 4.2 and 6).
+use Rattle.h2_frames.specs.declared.codes.TheConstants.{FRAME_SIZE_ERROR, PROTOCOL_ERROR}
 use Rattle.h2_frames.specs.Head.{Head, acknowledges, tells_padding, tells_priority}
 use Rattle.h2_frames.specs.declared.types.FrameFault.{FrameFault}
 use Rattle.h2_frames.specs.declared.types.FrameFault.TheVariants as fault
@@ -60,9 +61,9 @@ abbrev pub first_fault : ℕ → Head → List ℕ → Option FrameFault
 first_fault max head came =
     first_of (head_fault max head) (if nat_lt (length came) head.len then None else payload_fault head (take head.len came))
 
--- the code of the connection error that a fault is (section 7): FRAME_SIZE_ERROR or PROTOCOL_ERROR
+-- the code of the connection error that a fault is (section 7)
 abbrev pub fault_code : FrameFault → ℕ
-fault_code fault.TooLong = 6
-fault_code fault.BadSize = 6
-fault_code fault.BadStream = 1
-fault_code fault.BadPadding = 1
+fault_code fault.TooLong = FRAME_SIZE_ERROR
+fault_code fault.BadSize = FRAME_SIZE_ERROR
+fault_code fault.BadStream = PROTOCOL_ERROR
+fault_code fault.BadPadding = PROTOCOL_ERROR

@@ -1,6 +1,6 @@
 -- The frames of HTTP/2, with padding left off (RFC 9113 section 6).
 use Rattle.h2_frames.specs.declared.types.Weighting.{Weighting}
-use Rattle.std.specs.Prelude.{Bool, List, Option, ℕ}
+use Rattle.std.specs.Prelude.{Bool, List, Option, length, ℕ, ◌+◌}
 
 -- padded counts the octets of padding, the one that tells its length included
 pub data Frame : Type 0 where
@@ -29,3 +29,8 @@ unpadded (DataFrame stream last padded octets) = DataFrame stream last 0 octets
 unpadded (Headers stream last end_headers padded priority block) = Headers stream last end_headers 0 priority block
 unpadded (Push stream end_headers padded promised block) = Push stream end_headers 0 promised block
 unpadded frame = frame
+
+-- the octets that count against windows: the whole payload of DATA, padding included (sections 6.1 and 6.9.1)
+abbrev pub content_of : Frame → ℕ
+content_of (DataFrame stream last padded octets) = padded + length octets
+content_of frame = 0

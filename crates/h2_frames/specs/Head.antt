@@ -1,6 +1,6 @@
 -- The nine octets at the front of a frame (RFC 9113 section 4.1).
 use Rattle.std.specs.Int.{to_be_bytes, w32}
-use Rattle.std.specs.Prelude.{Bool, List, drop, if◌then◌else◌, ℕ, ◌%◌, ◌++◌, ◌+◌, ◌/◌, ◌<◌, ◌==◌, ◌^◌, ◌∷◌}
+use Rattle.std.specs.Prelude.{Bool, List, drop, false, if◌then◌else◌, ℕ, ◌%◌, ◌++◌, ◌+◌, ◌/◌, ◌<◌, ◌==◌, ◌^◌, ◌∷◌}
 
 -- Length of the payload, Type, Flags and Stream Identifier
 pub record Head : Type 0 where
@@ -18,12 +18,20 @@ pub record FitsHead (head : Head) : Type 0 where
 
 -- a bit and a number of 31 bits in four octets
 abbrev pub word : Bool → ℕ → List ℕ
-word bit n = to_be_bytes w32 ((if bit then 2 ^ 31 else 0) + n)
+word bit n = to_be_bytes w32 (if bit then 2 ^ 31 + n else n)
 
 -- the nine octets, with the reserved bit as given
 abbrev pub head_octets : Bool → Head → List ℕ
 head_octets reserved head =
     drop 1 (to_be_bytes w32 head.len) ++ (head.kind ∷ head.flags ∷ word reserved head.stream)
+
+-- the nine octets with the reserved bit 0, by Length, Type, Flags and Stream Identifier
+abbrev pub frame_head : ℕ → ℕ → ℕ → ℕ → List ℕ
+frame_head len kind flags stream = head_octets false (record { len = len; kind = kind; flags = flags; stream = stream })
+
+-- those of a DATA frame with n octets and no padding: END_STREAM is flag 1 (section 6.1)
+abbrev pub data_head : ℕ → ℕ → Bool → List ℕ
+data_head stream n last = frame_head n 0x0 (if last then 0x1 else 0) stream
 
 -- the flag of this value is set (the values of section 6)
 abbrev pub has_flag : ℕ → Head → Bool

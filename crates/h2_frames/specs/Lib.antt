@@ -1,3 +1,4 @@
+pub mod Blocks
 pub mod Body
 pub mod Decoding
 pub mod Fault

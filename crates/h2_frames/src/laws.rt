@@ -1,7 +1,11 @@
 // What holds of frames and octets, whoever reads and writes them.
-ghost use Rattle.std.specs.Prelude.{◌≡◌, ◌≤◌, ◌++◌, ◌∷◌, [], List, ℕ, length};
-ghost use Rattle.h2_frames.specs.Frame.{Frame, padding_of, unpadded};
+ghost use Rattle.std.specs.Prelude.{◌≡◌, ◌≤◌, ◌<◌, ◌^◌, ◌*◌, ◌+◌, ◌++◌, ◌∷◌, [], Bool, List, ℕ, length};
+ghost use Rattle.std.specs.Int.{to_be_bytes, w32};
+ghost use Rattle.std.specs.List.{flat_map};
+ghost use Rattle.h2_frames.specs.Blocks.{block_frames, spellings};
+ghost use Rattle.h2_frames.specs.Frame.{DataFrame, Frame, WindowUpdate, padding_of, unpadded};
 ghost use Rattle.h2_frames.specs.Frames.{AreFrames, BeginsNoFrame, IsReading, Shows, SpellsFrame};
+ghost use Rattle.h2_frames.specs.Head.{data_head, frame_head};
 ghost use Rattle.h2_frames.specs.Spelling.{IsWritable, payload_of, spelling};
 ghost use Rattle.h2_frames.specs.declared.types.FrameFault.{FrameFault};
 
@@ -41,4 +45,24 @@ pub fn written_is_read()
 pub fn read_frames_are_writable()
     ensures writable { (max : ℕ) (octets : List ℕ) (frame : Frame) → SpellsFrame max octets frame → IsWritable frame }
     ensures padding { (max : ℕ) (octets : List ℕ) (frame : Frame) → SpellsFrame max octets frame → padding_of frame ≤ 256 }
+{}
+
+/// The frames of a field block hold the whole block and nothing else, are read as they were written,
+/// and are few: one for each 16,384 octets, and one more at most, with nine octets each beside the
+/// block.
+pub fn blocks_are_whole()
+    ensures whole { (stream : ℕ) (last : Bool) (block : List ℕ) → flat_map payload_of (block_frames stream last block) ≡ block }
+    ensures read { (stream : ℕ) (last : Bool) (block more : List ℕ) → 0 < stream → stream < 2 ^ 31
+        → AreFrames 16384 (spellings (block_frames stream last block) ++ more) (block_frames stream last block) more }
+    ensures few { (stream : ℕ) (last : Bool) (block : List ℕ) → 16384 * length (block_frames stream last block) ≤ length block + 16384 }
+    ensures len { (stream : ℕ) (last : Bool) (block : List ℕ)
+        → length (spellings (block_frames stream last block)) ≡ length block + 9 * length (block_frames stream last block) }
+{}
+
+/// The frames of flow control, octet by octet: DATA is its head and then its content, and
+/// WINDOW_UPDATE its head and then the increment.
+pub fn flow_frames()
+    ensures data { (stream padded : ℕ) (last : Bool) (octets : List ℕ)
+        → spelling (DataFrame stream last padded octets) ≡ data_head stream (length octets) last ++ octets }
+    ensures update { (stream n : ℕ) → spelling (WindowUpdate stream n) ≡ frame_head 4 8 0 stream ++ to_be_bytes w32 n }
 {}

@@ -1,6 +1,8 @@
 //! Frames of HTTP/2, both ways (RFC 9113 sections 4 and 6).
 #![tactic(auto)]
 
+mod blocks;
+pub mod codes;
 mod head;
 mod laws;
 mod numbers;
@@ -9,7 +11,11 @@ mod reading;
 mod types;
 mod writing;
 
-pub use laws::{cut_anywhere, one_fault, one_list, read_frames_are_writable, written_is_read};
+pub use blocks::block_frames;
+pub use laws::{
+    blocks_are_whole, cut_anywhere, flow_frames, one_fault, one_list, read_frames_are_writable,
+    written_is_read,
+};
 pub use reading::read_frame;
 pub use types::{Frame, FrameFault, ReadFrame, Weighting};
-pub use writing::{frame_head, write_frame};
+pub use writing::{data_head, frame_head, write_frame};

@@ -1,4 +1,11 @@
 // Frames, with their payloads borrowed, and why none may stand somewhere.
+ghost use Rattle.std.specs.Prelude.{◌≡◌, ◌≤◌};
+ghost use Rattle.h2_frames.specs.Fault.{fault_code};
+ghost use Rattle.h2_frames.specs.Frame.{content_of, padding_of};
+ghost use Rattle.h2_frames.specs.Spelling.{IsWritable};
+ghost use Rattle.h2_frames.specs.View.{view};
+
+use crate::codes::{FRAME_SIZE_ERROR, PROTOCOL_ERROR};
 
 /// What a priority says (RFC 9113 section 6.3). The weight is the octet as it stands.
 #[derive(Clone, Copy, Debug, PartialEq, Eq)]
@@ -74,6 +81,22 @@ pub enum Frame<'a> {
     },
 }
 
+impl Frame<'_> {
+    /// The octets that count against the windows of the stream and of the connection: of DATA the
+    /// whole payload, its padding and the octet that tells how long it is included, and 0 of every
+    /// other type.
+    pub fn content(&self) -> u32
+        requires writable { IsWritable (view self.now) }
+        requires padding { padding_of (view self.now) ≤ 256 }
+        ensures { result ≡ content_of (view self.now) }
+    {
+        match *self {
+            Frame::DataFrame { padded, octets, .. } => padded + octets.len() as u32,
+            _ => 0,
+        }
+    }
+}
+
 /// Why no frame can begin with some octets, in the order of the checks.
 #[derive(Clone, Copy, Debug, PartialEq, Eq)]
 pub enum FrameFault {
@@ -85,6 +108,18 @@ pub enum FrameFault {
     BadSize,
     /// The padding leaves no room.
     BadPadding,
+}
+
+impl FrameFault {
+    /// The code of the connection error that the fault is.
+    pub fn code(&self) -> u32
+        ensures { result ≡ fault_code self.now }
+    {
+        match self {
+            FrameFault::TooLong | FrameFault::BadSize => FRAME_SIZE_ERROR,
+            FrameFault::BadStream | FrameFault::BadPadding => PROTOCOL_ERROR,
+        }
+    }
 }
 
 /// What stands at the front of some octets.

@@ -1,7 +1,7 @@
 // The one spelling of a frame without padding.
 ghost use Rattle.std.specs.Prelude.{◌≡◌, ◌++◌, ◌+◌, ◌<◌, ◌^◌, false, length, take, OnOk, OnErr, IfSome};
 ghost use Rattle.std.specs.Int.{to_be_bytes, w32};
-ghost use Rattle.h2_frames.specs.Head.{head_octets, word};
+ghost use Rattle.h2_frames.specs.Head.{data_head, frame_head, head_octets, word};
 ghost use Rattle.h2_frames.specs.Payload.{weighting_octets};
 ghost use Rattle.h2_frames.specs.Spelling.{IsWritable, flag_when, priority_octets, spelling};
 ghost use Rattle.h2_frames.specs.View.{view};
@@ -13,12 +13,33 @@ use io_ports::{NoMemory, Octets};
 pub fn frame_head(len: u32, kind: u8, flags: u8, stream: u32) -> [u8; 9]
     requires len { len < 2 ^ 24 }
     requires stream { stream < 2 ^ 31 }
-    ensures { result ≡ head_octets false (record { len = len; kind = kind; flags = flags; stream = stream }) }
+    ensures { result ≡ frame_head len kind flags stream }
 {
     let length = len.to_be_bytes();
     let number = stream.to_be_bytes();
     [
         length[1], length[2], length[3], kind, flags, number[0], number[1], number[2], number[3],
+    ]
+}
+
+/// The nine octets of the head of a DATA frame with `n` octets and no padding. Of a stream above
+/// 2^31 - 1 they show the reserved bit too.
+pub fn data_head(stream: u32, n: u32, last: bool) -> [u8; 9]
+    requires { n < 2 ^ 24 }
+    ensures { result ≡ data_head stream n last }
+{
+    let length = n.to_be_bytes();
+    let number = stream.to_be_bytes();
+    [
+        length[1],
+        length[2],
+        length[3],
+        DATA,
+        flag_when(END_STREAM, last),
+        number[0],
+        number[1],
+        number[2],
+        number[3],
     ]
 }
 
@@ -33,8 +54,8 @@ fn word_octets(bit: bool, n: u32) -> [u8; 4]
     requires { n < 2 ^ 31 }
     ensures { result ≡ word bit n }
 {
-    let high = if bit { 0x8000_0000 } else { 0 };
-    (high + n).to_be_bytes()
+    let number = if bit { 0x8000_0000 + n } else { n };
+    number.to_be_bytes()
 }
 
 // A frame with this head, whose payload is the front and the rest. After want of memory the octets

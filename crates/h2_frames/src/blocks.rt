@@ -1,0 +1,74 @@
+// A field block in HEADERS and CONTINUATION frames.
+ghost use Rattle.std.specs.Prelude.{◌≡◌, ◌++◌, ◌<◌, ◌≤◌, ◌^◌, length, take, OnErr, OnOk};
+ghost use Rattle.h2_frames.specs.Blocks.{block_frames, continued, pieces, spellings};
+
+use crate::types::Frame;
+use crate::writing::write_frame;
+use io_ports::{NoMemory, Octets};
+
+// The greatest payload that every peer takes (RFC 9113 section 4.2).
+const PIECE: usize = 16_384;
+
+/// Appends the frames of a field block on a stream: HEADERS, with END_STREAM where it is the last
+/// of the stream, and CONTINUATION. Each has 16,384 octets of the block but the last one, which has
+/// what is left and END_HEADERS. None has padding or a priority. After want of memory the octets are
+/// as they were.
+pub fn block_frames(
+    stream: u32,
+    last: bool,
+    block: &[u8],
+    into: &mut Octets,
+) -> Result<(), NoMemory>
+    requires on_stream { 0 < stream }
+    requires fits { stream < 2 ^ 31 }
+    ensures ok { OnOk result (into.new ≡ into.old ++ spellings (block_frames stream last block.now)) }
+    ensures err { OnErr result (into.new ≡ into.old) }
+{
+    let before = into.len();
+    let written = put_block(stream, last, block, into);
+    if written.is_err() {
+        into.truncate(before);
+    }
+    written
+}
+
+// After want of memory some frames may stand behind what was there.
+fn put_block(stream: u32, last: bool, block: &[u8], into: &mut Octets) -> Result<(), NoMemory>
+    requires on_stream { 0 < stream }
+    requires fits { stream < 2 ^ 31 }
+    ensures ok { OnOk result (into.new ≡ into.old ++ spellings (block_frames stream last block.now)) }
+    ensures err { OnErr result (take (length into.old) into.new ≡ into.old) }
+{
+    let (piece, rest) = block.split_at(block.len().min(PIECE));
+    let headers = Frame::Headers {
+        stream,
+        last,
+        end_headers: rest.is_empty(),
+        padded: 0,
+        priority: None,
+        block: piece,
+    };
+    write_frame(&headers, into)?;
+    put_rest(stream, rest, into)
+}
+
+// The pieces behind the first.
+fn put_rest(stream: u32, octets: &[u8], into: &mut Octets) -> Result<(), NoMemory>
+    requires on_stream { 0 < stream }
+    requires fits { stream < 2 ^ 31 }
+    ensures ok { OnOk result (into.new ≡ into.old ++ spellings (continued (pieces octets.now) stream octets.now)) }
+    ensures err { OnErr result (take (length into.old) into.new ≡ into.old) }
+{
+    let mut rest = octets;
+    while !rest.is_empty() {
+        let (piece, behind) = rest.split_at(rest.len().min(PIECE));
+        let continuation = Frame::Continuation {
+            stream,
+            end_headers: behind.is_empty(),
+            block: piece,
+        };
+        write_frame(&continuation, into)?;
+        rest = behind;
+    }
+    Ok(())
+}
