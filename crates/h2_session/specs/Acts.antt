@@ -1,4 +1,5 @@
 -- The one act of each frame, after what happened before it (RFC 9113 sections 5 and 6).
+use Rattle.h2_frames.specs.declared.codes.TheConstants.{PROTOCOL_ERROR, REFUSED_STREAM, STREAM_CLOSED}
 use Rattle.h2_frames.specs.Frame.{DataFrame, Frame, GoAway, Ping, Reset, Settings, WindowUpdate}
 use Rattle.h2_session.specs.Blocks.{ended_block}
 use Rattle.h2_session.specs.Errors.{error_of, settings_of}
@@ -15,14 +16,14 @@ use Rattle.std.specs.Prelude.{Bool, List, None, Option, Some, [], if◌then◌el
 abbrev pub block_act : HeaderBlock → Option Stream → Act
 block_act b None = act.OldBlock b.octets
 block_act b (Some state) =
-    if state.peer_ended then act.StreamError b.stream 5 b.octets
+    if state.peer_ended then act.StreamError b.stream STREAM_CLOSED b.octets
     else if not state.head then act.Head b.stream b.octets b.last
     else if b.last then act.Trailers b.stream b.octets
-    else act.StreamError b.stream 1 b.octets
+    else act.StreamError b.stream PROTOCOL_ERROR b.octets
 
 -- a header block that begins a client's stream, with room for it or without (section 5.1.2)
 abbrev pub opening_act : HeaderBlock → Bool → Act
-opening_act b room = if room then act.Head b.stream b.octets b.last else act.StreamError b.stream 7 b.octets
+opening_act b room = if room then act.Head b.stream b.octets b.last else act.StreamError b.stream REFUSED_STREAM b.octets
 
 -- the act of a header block at its end
 abbrev pub ended_act : Side → HeaderBlock → List Happening → Act
@@ -32,7 +33,7 @@ ended_act side b past =
 -- DATA on a stream that is open, in this state, or isn't (section 6.1)
 abbrev pub data_act : ℕ → Bool → ℕ → List ℕ → Option Stream → Act
 data_act s last padded octets None = act.Late s (padded + length octets)
-data_act s last padded octets (Some state) = if state.peer_ended then act.StreamError s 5 [] else act.Body s octets padded last
+data_act s last padded octets (Some state) = if state.peer_ended then act.StreamError s STREAM_CLOSED [] else act.Body s octets padded last
 
 -- RST_STREAM (section 6.4)
 abbrev pub reset_act : ℕ → ℕ → Option Stream → Act
@@ -42,7 +43,7 @@ reset_act s code (Some state) = act.PeerReset s code
 -- WINDOW_UPDATE on a stream (section 6.9)
 abbrev pub update_act : ℕ → ℕ → Option Stream → Act
 update_act s n None = act.Ignore
-update_act s n (Some state) = if n == 0 then act.StreamError s 1 [] else act.WindowUp s n
+update_act s n (Some state) = if n == 0 then act.StreamError s PROTOCOL_ERROR [] else act.WindowUp s n
 
 -- the act of a frame that is no connection error
 abbrev pub act_within : Side → Frame → List Happening → Act
@@ -57,3 +58,15 @@ act_within side frame past = option_map_or (λ b. ended_act side b past) (ended_
 -- the act of a frame
 abbrev pub act_of : Side → Frame → List Happening → Act
 act_of side frame past = option_map_or (λ code. act.ConnError code) (error_of side frame past) (act_within side frame past)
+
+-- the stream that an act is about, 0 for the connection and for none
+abbrev pub stream_of : Act → ℕ
+stream_of (act.Body s octets padded last) = s
+stream_of (act.Late s n) = s
+stream_of (act.Head s block last) = s
+stream_of (act.Trailers s block) = s
+stream_of (act.WindowUp s n) = s
+stream_of (act.PeerReset s code) = s
+stream_of (act.GoAway last code) = last
+stream_of (act.StreamError s code block) = s
+stream_of given = 0

@@ -31,6 +31,10 @@ open_block [] = None
 open_block (Came frame ∷ past) = let before = open_block past in if ends_block frame then None else block_with frame before
 open_block (happening ∷ past) = open_block past
 
+-- the stream of a header block that is open, 0 where none is
+abbrev pub block_stream : Option HeaderBlock → ℕ
+block_stream o = option_map_or (λ b. b.stream) o 0
+
 -- the header block that a frame ends
 abbrev pub ended_block : Frame → List Happening → Option HeaderBlock
 ended_block frame past = if ends_block frame then block_with frame (open_block past) else None

@@ -1,4 +1,5 @@
 -- Connection errors, in the order of the protocol's rules (RFC 9113 sections 3.4, 4.3, 5.1, 5.4.1, 6).
+use Rattle.h2_frames.specs.declared.codes.TheConstants.{ENHANCE_YOUR_CALM, FLOW_CONTROL_ERROR, PROTOCOL_ERROR}
 use Rattle.h2_frames.specs.Frame.{Continuation, DataFrame, Frame, Headers, Push, Reset, Settings, WindowUpdate}
 use Rattle.h2_session.specs.Blocks.{block_with, open_block}
 use Rattle.h2_session.specs.Happened.{Came, Failed, Happening, Side, failure, none_came}
@@ -68,8 +69,9 @@ uses_idle side frame past = not (may_open side frame) && option_map_or (λ s. is
 abbrev pub settings_error : Bool → Frame → Option ℕ
 settings_error client_side (Settings ack entries) =
     let settings = settings_of entries in
-    first_of (code_when (names_outside 2 0 (if client_side then 0 else 1) settings) 1)
-    (first_of (code_when (names_outside 4 0 (2 ^ 31 - 1) settings) 3) (code_when (names_outside 5 16384 16777215 settings) 1))
+    first_of (code_when (names_outside 2 0 (if client_side then 0 else 1) settings) PROTOCOL_ERROR)
+    (first_of (code_when (names_outside 4 0 (2 ^ 31 - 1) settings) FLOW_CONTROL_ERROR)
+    (code_when (names_outside 5 16384 16777215 settings) PROTOCOL_ERROR))
 settings_error client_side frame = None
 
 abbrev pub is_zero_update : Frame → Bool
@@ -97,17 +99,18 @@ empty_run (happening ∷ past) = empty_run past
 abbrev pub value_error : Side → Frame → ℕ → Option ℕ
 value_error side frame run =
     first_of (settings_error side.client_side frame)
-    (first_of (code_when (is_zero_update frame) 1) (code_when (is_empty_data frame && nat_le side.empty_frames run) 11))
+    (first_of (code_when (is_zero_update frame) PROTOCOL_ERROR)
+    (code_when (is_empty_data frame && nat_le side.empty_frames run) ENHANCE_YOUR_CALM))
 
 -- The code of the first connection error of a frame, from what is known of those before it: whether it is the first,
 -- the open block, whether it uses an idle stream, and the empty DATA frames before it.
 abbrev pub error_by : Side → Frame → Bool → Option HeaderBlock → Bool → ℕ → Option ℕ
 error_by side frame is_first block idle run =
-    first_of (code_when (is_first && not (is_settings frame)) 1)
-    (first_of (code_when (breaks_block frame block) 1)
-    (first_of (code_when (is_great (block_with frame block)) 11)
-    (first_of (code_when (is_push frame) 1)
-    (first_of (code_when idle 1) (value_error side frame run)))))
+    first_of (code_when (is_first && not (is_settings frame)) PROTOCOL_ERROR)
+    (first_of (code_when (breaks_block frame block) PROTOCOL_ERROR)
+    (first_of (code_when (is_great (block_with frame block)) ENHANCE_YOUR_CALM)
+    (first_of (code_when (is_push frame) PROTOCOL_ERROR)
+    (first_of (code_when idle PROTOCOL_ERROR) (value_error side frame run)))))
 
 -- once a connection error came, each further frame has it again
 abbrev pub error_of : Side → Frame → List Happening → Option ℕ

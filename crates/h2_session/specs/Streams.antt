@@ -87,3 +87,7 @@ state_of side s past =
 -- how many streams are open
 abbrev pub open_count : Side → List Happening → ℕ
 open_count side past = count_of past (opened side past)
+
+-- the greatest stream that the peer opened, 0 where there is none (section 6.8): towards a cluster it opens none
+abbrev pub greatest_of_peer : Side → List Happening → ℕ
+greatest_of_peer side past = if side.client_side then 0 else greatest past

@@ -137,6 +137,7 @@ pub enum Act {
         code: u32,
     },
     /// A stream error, with the field block that the decoder still needs: none where the frame ends none.
+    /// The content of a DATA frame counts against the windows here too: `Frame::content` tells how much.
     StreamError {
         stream: u32,
         code: u32,
@@ -147,14 +148,3 @@ pub enum Act {
         code: u32,
     },
 }
-
-/// The error codes that acts carry (RFC 9113 section 7).
-pub const PROTOCOL_ERROR: u32 = 1;
-
-pub const FLOW_CONTROL_ERROR: u32 = 3;
-
-pub const STREAM_CLOSED: u32 = 5;
-
-pub const REFUSED_STREAM: u32 = 7;
-
-pub const ENHANCE_YOUR_CALM: u32 = 11;

@@ -1,8 +1,8 @@
 // What is kept of a connection.
-ghost use Rattle.std.specs.Prelude.{◌≡◌, ◌+◌, ◌∷◌, [], List, length, Some, None, IfOk, OnErr, IfSome, IfNone, IsNone, MatchOption};
+ghost use Rattle.std.specs.Prelude.{◌≡◌, ◌+◌, ◌∷◌, [], List, if◌then◌else◌, is_some, length, Some, None, IfOk, OnErr, IfSome, IfNone, IsNone, MatchOption};
 ghost use Rattle.h2_session.specs.Happened.{Happening, Opened, Ended, Closed, Interim, Side, next_stream};
 ghost use Rattle.h2_session.specs.Preface.{Begins};
-ghost use Rattle.h2_session.specs.Streams.{open_count};
+ghost use Rattle.h2_session.specs.Streams.{greatest_of_peer, is_open, open_count};
 ghost use Rattle.h2_session.specs.Summary.{StandsFor, noted};
 ghost use Rattle.h2_session.specs.Table.{stream_at};
 
@@ -93,6 +93,24 @@ impl Session {
         ensures { (past : List Happening) → StandsFor past self.now → result ≡ open_count self.now.side past }
     {
         self.streams.len() as u32
+    }
+
+    /// Whether a stream is open, half-closed too. It isn't where it is idle or closed: on such a stream
+    /// nothing is answered.
+    pub fn is_open(&self, stream: u32) -> bool
+        ensures open { (past : List Happening) → StandsFor past self.now → result ≡ is_open self.now.side stream past }
+        ensures kept { result ≡ is_some (stream_at stream self.now.streams) }
+    {
+        self.streams.get(stream).is_some()
+    }
+
+    /// The greatest stream that the peer opened, also one that was refused, and 0 where it opened
+    /// none: the number of a GOAWAY. Towards a cluster it is 0.
+    pub fn greatest(&self) -> u32
+        ensures greatest { (past : List Happening) → StandsFor past self.now → result ≡ greatest_of_peer self.now.side past }
+        ensures kept { result ≡ (if self.now.side.client_side then 0 else self.now.greatest) }
+    {
+        if self.client_side { 0 } else { self.greatest }
     }
 
     /// Opens the next stream of this side: 1, 3, 5 and so on, and none where 2^31 - 1 was given. On

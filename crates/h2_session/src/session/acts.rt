@@ -1,26 +1,28 @@
 // The one act of each frame.
-ghost use Rattle.std.specs.Prelude.{◌≡◌, ◌==◌, ◌<◌, ◌≤◌, ◌+◌, ◌-◌, ◌^◌, ◌&&◌, not, min, List, if◌then◌else◌, length, None, IfOk, OnOk, OnErr};
+ghost use Rattle.std.specs.Prelude.{◌≡◌, ◌==◌, ◌<◌, ◌≤◌, ◌+◌, ◌-◌, ◌^◌, ◌&&◌, false, not, min, List, if◌then◌else◌, length, None, IfOk, OnOk, OnErr};
 ghost use Rattle.h2_frames.specs.Frame.{padding_of, DataFrame, Reset};
 ghost use Rattle.h2_frames.specs.Spelling.{IsWritable};
 ghost use Rattle.h2_frames.specs.View.{view};
-ghost use Rattle.h2_session.specs.Acts.{act_of, data_act, reset_act, update_act};
-ghost use Rattle.h2_session.specs.Errors.{after, error_of};
+ghost use Rattle.h2_session.specs.Acts.{act_of, data_act, reset_act, stream_of, update_act};
+ghost use Rattle.h2_session.specs.Errors.{after, breaks_block, error_of};
 ghost use Rattle.h2_session.specs.Happened.{Happening};
 ghost use Rattle.h2_session.specs.Table.{stream_at};
 ghost use Rattle.h2_session.specs.declared.act.Act.TheVariants as act;
 ghost use Rattle.h2_session.specs.Summary.{StandsFor, Takes};
 
 use super::Session;
-use crate::act::{Act, PROTOCOL_ERROR, STREAM_CLOSED};
+use crate::act::Act;
 use crate::settings::read_settings;
 use crate::streams::Stream;
 use h2_frames::Frame;
+use h2_frames::codes::{PROTOCOL_ERROR, STREAM_CLOSED};
 use io_ports::{NoMemory, Octets};
 use std::alloc::Global;
 
 impl Session {
     /// What a frame means, after all that came before it. Once one was a connection error, each has
-    /// the same error again.
+    /// the same error again. The streams of acts are numbers of 31 bits. After want of memory the
+    /// session is as it was, and the frame may be given again.
     pub fn accept(&mut self, frame: &Frame) -> Result<Act, NoMemory>
         requires writable { IsWritable (view frame.now) }
         requires padding { padding_of (view frame.now) ≤ 256 }
@@ -29,6 +31,7 @@ impl Session {
         ensures stands { (past : List Happening) → StandsFor past self.old
             → OnOk result (StandsFor (after self.old.side (view frame.now) past) self.new) }
         ensures side { self.new.side ≡ self.old.side }
+        ensures numbered { IfOk result (λ act. stream_of act < 2 ^ 31) }
         ensures err { OnErr result (self.new ≡ self.old) }
     {
         if let Some(code) = self.error(frame) {
@@ -47,6 +50,7 @@ impl Session {
         ensures takes { (past : List Happening) → StandsFor past self.old → error_of self.old.side (view frame.now) past ≡ None
             → IfOk result (λ act. Takes (view frame.now) self.old self.new act past) }
         ensures side { self.new.side ≡ self.old.side }
+        ensures numbered { breaks_block (view frame.now) self.old.block ≡ false → IfOk result (λ act. stream_of act < 2 ^ 31) }
         ensures err { OnErr result (self.new ≡ self.old) }
     {
         match *frame {
@@ -155,6 +159,7 @@ impl Session {
             → error_of self.old.side (DataFrame stream last padded octets.now) past ≡ None
             → IfOk result (λ act. Takes (DataFrame stream last padded octets.now) self.old self.new act past) }
         ensures side { self.new.side ≡ self.old.side }
+        ensures of { IfOk result (λ act. stream_of act ≤ stream) }
         ensures err { OnErr result (self.new ≡ self.old) }
     {
         let act = data_act(
@@ -174,6 +179,7 @@ impl Session {
         ensures takes { (past : List Happening) → StandsFor past self.old
             → error_of self.old.side (Reset stream code) past ≡ None → Takes (Reset stream code) self.old self.new result past }
         ensures side { self.new.side ≡ self.old.side }
+        ensures of { stream_of result ≤ stream }
     {
         let act = reset_act(self.streams.get(stream), stream, code);
         self.streams.close(stream);

@@ -6,10 +6,10 @@ ghost use Rattle.h2_session.specs.Errors.{breaks_block, error_by, first_of, is_e
 ghost use Rattle.h2_session.specs.Summary.{is_idle_in, uses_idle_in};
 
 use super::Session;
-use crate::act::{ENHANCE_YOUR_CALM, FLOW_CONTROL_ERROR, PROTOCOL_ERROR};
 use crate::block::HeaderBlock;
 use crate::settings::{ENABLE_PUSH, INITIAL_WINDOW_SIZE, MAX_FRAME_SIZE, names_outside};
 use h2_frames::Frame;
+use h2_frames::codes::{ENHANCE_YOUR_CALM, FLOW_CONTROL_ERROR, PROTOCOL_ERROR};
 
 // The most that a header block may have, in octets and in frames.
 const MOST_OCTETS: usize = 65_536;

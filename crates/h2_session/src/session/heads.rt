@@ -1,17 +1,18 @@
 // Header blocks: HEADERS and CONTINUATION frames (RFC 9113 sections 4.3, 6.2 and 6.10).
-ghost use Rattle.std.specs.Prelude.{◌≡◌, ◌<◌, ◌++◌, ℕ, false, List, Option, None, option_map, IfOk, OnOk, OnErr};
+ghost use Rattle.std.specs.Prelude.{◌≡◌, ◌<◌, ◌≤◌, ◌++◌, ℕ, false, List, Option, None, option_map, IfOk, OnOk, OnErr};
 ghost use Rattle.h2_frames.specs.Frame.{Continuation, Headers};
 ghost use Rattle.h2_frames.specs.declared.types.Weighting.{Weighting};
-ghost use Rattle.h2_session.specs.Acts.{block_act};
-ghost use Rattle.h2_session.specs.Blocks.{grown_in};
+ghost use Rattle.h2_session.specs.Acts.{block_act, stream_of};
+ghost use Rattle.h2_session.specs.Blocks.{block_stream, grown_in};
 ghost use Rattle.h2_session.specs.Errors.{error_of};
 ghost use Rattle.h2_session.specs.Happened.{Happening};
 ghost use Rattle.h2_session.specs.Summary.{EndsBlock, FinishesBlock, StandsFor, Takes};
 
 use super::Session;
-use crate::act::{Act, PROTOCOL_ERROR, REFUSED_STREAM, STREAM_CLOSED};
+use crate::act::Act;
 use crate::block::HeaderBlock;
 use crate::streams::Stream;
+use h2_frames::codes::{PROTOCOL_ERROR, REFUSED_STREAM, STREAM_CLOSED};
 use io_ports::{NoMemory, Octets};
 
 // What a whole block means on a stream that is open, in a state, or isn't.
@@ -102,6 +103,7 @@ impl Session {
             → error_of self.old.side (Headers stream last end_headers padded priority block.now) past ≡ None
             → IfOk result (λ act. Takes (Headers stream last end_headers padded priority block.now) self.old self.new act past) }
         ensures side { self.new.side ≡ self.old.side }
+        ensures of { IfOk result (λ act. stream_of act ≤ stream) }
         ensures err { OnErr result (self.new ≡ self.old) }
     {
         let octets = Octets::from_slice(self.alloc, block)?;
@@ -130,6 +132,7 @@ impl Session {
             → error_of self.old.side (Continuation stream end_headers block.now) past ≡ None
             → IfOk result (λ act. Takes (Continuation stream end_headers block.now) self.old self.new act past) }
         ensures side { self.new.side ≡ self.old.side }
+        ensures of { IfOk result (λ act. stream_of act ≤ block_stream self.old.block) }
         ensures err { OnErr result (self.new ≡ self.old) }
     {
         if end_headers {
@@ -156,6 +159,7 @@ impl Session {
     // The open block ends with these octets.
     fn finish_block(&mut self, block: &[u8]) -> Result<Act, NoMemory>
         ensures ends { IfOk result (λ act. FinishesBlock block.now self.old self.new act) }
+        ensures of { IfOk result (λ act. stream_of act ≤ block_stream self.old.block) }
         ensures err { OnErr result (self.new ≡ self.old) }
     {
         let Some(begun) = self.block.take() else {

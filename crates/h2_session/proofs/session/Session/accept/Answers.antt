@@ -1,9 +1,11 @@
 use Rattle.std.proofs.Common.{subst, sym, ◌∙◌, ◌∷◌}
+use Rattle.std.specs.Prelude.{not}
 use Rattle.h2_frames.specs.View.{view}
 use Rattle.h2_session.specs.Errors.{after}
 use Rattle.h2_session.specs.Happened.{Came}
-use Rattle.h2_session.specs.Summary.{StandsFor, Summary}
+use Rattle.h2_session.specs.Summary.{StandsFor, Summary, uses_idle_in}
 use Rattle.h2_session.specs.contracts.session.Session.{the_view}
+use Rattle.h2_session.proofs.Errors.{not_broken}
 use Rattle.h2_session.proofs.Accepts.{error_as, failed_stands, failed_with, took_stands}
 use Rattle.h2_session.proofs.Frames.{started}
 use Rattle.h2_session.proofs.session.Session.accept.Goals as goal
@@ -23,3 +25,9 @@ returns-clause-stands c = λ past h.
     let takes = c.in_ok-act.ensures.takes past h none in
     let stands = subst (λ (x : Summary). StandsFor (Came frame ∷ past) (started x)) (sym c.self-2.view_is) takes.stands in
     took_stands past v (started (the_view c.self-2.inside)) frame none stands
+
+pub returns-clause-numbered : goal.returns-clause-numbered
+returns-clause-numbered c =
+    let v : Summary = c.args.self.now in
+    let frame = view c.args.frame.now in
+    c.in_ok-act.ensures.numbered (not_broken v.side frame (not v.started) v.block (uses_idle_in v frame) v.empties v.failed (sym c.error.ensures ∙ c.in_default.is))
