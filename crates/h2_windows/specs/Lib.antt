@@ -1,2 +1,3 @@
+pub mod InitialWindows
 pub mod RecvWindow
 pub mod SendWindow

@@ -5,4 +5,4 @@ mod recv_window;
 mod send_window;
 
 pub use recv_window::{Overrun, RecvWindow};
-pub use send_window::{MAX_WINDOW, Overflow, SendWindow, room_adds_up};
+pub use send_window::{MAX_WINDOW, Overflow, SendWindow, greatest_then_last, room_adds_up};

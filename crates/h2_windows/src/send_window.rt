@@ -1,6 +1,7 @@
 // The window that the peer grants to this side.
-ghost use Rattle.std.specs.Prelude.{◌≡◌, ◌≤◌, ◌+ℤ◌, ◌-ℤ◌, ◌≤ℤ◌, ◌↔◌, List, ℕ, pos, IsOk, OnOk, OnErr};
-ghost use Rattle.h2_windows.specs.SendWindow.{Change, Spend, Widen, Shift, after, begun, changed, shifts, spent, widened};
+ghost use Rattle.std.specs.Prelude.{◌≡◌, ◌≤◌, ◌+ℤ◌, ◌-ℤ◌, ◌≤ℤ◌, ◌↔◌, ◌∷◌, [], List, ℕ, pos, IsOk, MatchResult, None, OnOk, OnErr, Some};
+ghost use Rattle.h2_windows.specs.InitialWindows.{greatest, last, moved_through, moved_to};
+ghost use Rattle.h2_windows.specs.SendWindow.{Change, Sending, Spend, Widen, Shift, after, begun, changed, shifts, spent, widened};
 
 use std::marker::Model;
 
@@ -88,6 +89,7 @@ impl SendWindow {
         requires old_fits { old ≤ MAX_WINDOW }
         requires new_fits { new ≤ MAX_WINDOW }
         ensures fits { IsOk result ↔ ((self.old.room +ℤ (pos new -ℤ pos old)) ≤ℤ pos MAX_WINDOW) }
+        ensures moves { MatchResult result (λ _. moved_to new self.old ≡ Some self.new) (λ _. moved_to new self.old ≡ None) }
         ensures ok { OnOk result (self.new ≡ changed (Shift old new) self.old) }
         ensures err { OnErr result (self.new ≡ self.old) }
     {
@@ -107,4 +109,13 @@ pub fn room_adds_up()
     ensures { (initial : ℕ) (changes : List Change)
         → (after initial changes).room
         ≡ (((pos initial +ℤ pos (widened changes)) +ℤ shifts changes) -ℤ pos (spent changes)) }
+{}
+
+/// The law of several new initial windows, one after another: the greatest of them decides whether
+/// the room passes the largest window, and the last one what it is then. So a shift to the greatest
+/// and one to the last do what all of them do.
+pub fn greatest_then_last()
+    ensures { (first : ℕ) (later : List ℕ) (w : Sending)
+        → moved_through (first ∷ later) w
+        ≡ moved_through (greatest first later ∷ last first later ∷ []) w }
 {}
