@@ -5,11 +5,20 @@ use Rattle.std.proofs.lemmas.Option.{slice_get_past, slice_get_read}
 use Rattle.std.specs.Option.{IfSome, option_or}
 use Rattle.std.specs.Prelude.{codes, if◌then◌else◌}
 use Rattle.hpack_codec.specs.declared.fields.Field.{Field}
-use Rattle.h2_heads.specs.Malformed.{IsSound, length_fault, length_fault_at}
+use Rattle.h2_heads.specs.Malformed.{IsSound, kinds, length_fault, length_fault_at, lowest}
 use Rattle.h2_heads.specs.Named.{is_named, value_of}
 use Rattle.h2_heads.specs.Numbers.{is_length}
-use Rattle.h2_heads.specs.Rules.{is_bad_length}
+use Rattle.h2_heads.specs.Rules.{breaks, is_bad_length}
+use Rattle.h2_heads.specs.declared.malformed.Kind.{Kind}
 use Rattle.h2_heads.specs.declared.malformed.Kind.TheVariants.{BadLength}
+use Rattle.h2_heads.specs.declared.malformed.Message.{Message}
+use Rattle.h2_heads.proofs.Found.{find_none}
+
+-- a field that breaks no rule breaks that for content-length neither
+pub good_length : (message : Message) (before : List Field) (field : Field) (first : Option (List ℕ)) → lowest message before field ≡ None → first ≡ value_of (codes "content-length") before → is_bad_length first field ≡ false
+good_length message before field first none at =
+    ap (λ (o : Option (List ℕ)). is_bad_length o field) at
+    ∙ find_none (λ (kind : Kind). breaks message kind before field) kinds 8 BadLength none (omega arith)
 
 pub length_fault_at_field : (fields : List Field) (i : ℕ) (field : Field) → i < length fields → field ≡ get_or fields i field → length_fault_at fields i ≡ length_fault (take i fields) (Some field)
 length_fault_at_field fields i field within same =

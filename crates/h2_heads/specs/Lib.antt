@@ -3,4 +3,5 @@ pub mod Kinds
 pub mod Malformed
 pub mod Named
 pub mod Numbers
+pub mod Replies
 pub mod Rules

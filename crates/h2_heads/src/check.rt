@@ -1,16 +1,20 @@
 // The check of a whole list.
-ghost use Rattle.std.specs.Prelude.{◌≡◌, ◌^◌, ◌<◌, is_err, length, IfErr, OnOk};
+ghost use Rattle.std.specs.Prelude.{◌≡◌, ◌^◌, ◌<◌, is_err, length, IfErr, IfOk, OnOk};
+ghost use Rattle.h2_heads.specs.Heads.{length_of};
 ghost use Rattle.h2_heads.specs.Malformed.{fault_at, is_malformed, IsFirst, IsSound};
 
 use crate::lengths::first_length;
 use crate::malformed::{Kind, Malformed, Message};
 use crate::rules::{lacks, lowest};
+use crate::values::length_in;
 use hpack_codec::Field;
 
-/// Goes once through the list, and stops at the first field that breaks a rule.
-pub fn check(message: Message, fields: &[Field]) -> Result<(), Malformed>
+/// Goes once through the list, and stops at the first field that breaks a rule. Gives the
+/// content-length that the list names.
+pub fn check(message: Message, fields: &[Field]) -> Result<Option<u64>, Malformed>
     requires { length fields.now < 2 ^ 32 }
     ensures sound { OnOk result (IsSound (fault_at message fields.now)) }
+    ensures length { IfOk result (λ named. named ≡ length_of fields.now) }
     ensures fault { IfErr result (IsFirst (fault_at message fields.now)) }
     ensures malformed { is_err result ≡ is_malformed message fields.now }
 {
@@ -24,5 +28,5 @@ pub fn check(message: Message, fields: &[Field]) -> Result<(), Malformed>
     if lacks(message, fields) {
         return Err(Malformed::at(fields.len(), Kind::Missing));
     }
-    Ok(())
+    Ok(length.and_then(length_in))
 }

@@ -2,7 +2,7 @@
 ghost use Rattle.std.specs.Prelude.{◌≡◌, ◌^◌, ◌<◌, ◌≤◌, codes, if◌then◌else◌, is_err, length, IfErr, IfOk, IfSome, IsSome, IsTrue, OnOk};
 ghost use Rattle.std.specs.Bool.{OnFalse};
 ghost use Rattle.std.specs.Option.{SomeIff};
-ghost use Rattle.h2_heads.specs.Heads.{is_malformed_request, is_malformed_response, is_malformed_trailers, request_head, status_of};
+ghost use Rattle.h2_heads.specs.Heads.{is_head, is_malformed_request, is_malformed_response, is_malformed_trailers, length_of, request_head, status_of};
 ghost use Rattle.h2_heads.specs.Malformed.{fault_at, is_connect, message_of_request, IsFirst, IsSound};
 ghost use Rattle.h2_heads.specs.Named.{StandsAt, value_of};
 ghost use Rattle.h2_heads.specs.Numbers.{decimal, is_status};
@@ -14,19 +14,23 @@ use crate::names::{place_of, value_of};
 use crate::values::status_in;
 use hpack_codec::{Field, FieldList};
 
-/// What the head of a request says: whether its method is CONNECT, and at which places of the
-/// list its `:authority` and `:path` stand.
+/// What the head of a request says: whether its method is CONNECT or HEAD, at which places of the
+/// list its `:authority` and `:path` stand, and the content-length that it names, below 2^63.
 #[derive(Clone, Copy, Debug, PartialEq, Eq)]
 pub struct RequestHead {
     pub connect: bool,
+    pub head: bool,
     pub authority: Option<u32>,
     pub path: Option<u32>,
+    pub content_length: Option<u64>,
 }
 
-/// What the head of a response says: its status, from 100 to 999.
+/// What the head of a response says: its status, from 100 to 999, and the content-length that it
+/// names, below 2^63.
 #[derive(Clone, Copy, Debug, PartialEq, Eq)]
 pub struct ResponseHead {
     pub status: u16,
+    pub content_length: Option<u64>,
 }
 
 /// Checks the fields of a request's head (RFC 9113 section 8.3.1).
@@ -37,16 +41,19 @@ pub fn check_request(fields: &FieldList) -> Result<RequestHead, Malformed>
     ensures authority { IfOk result (λ head. StandsAt (codes ":authority") fields.now head.authority) }
     ensures path { IfOk result (λ head. StandsAt (codes ":path") fields.now head.path) }
     ensures path_needed { IfOk result (λ head. OnFalse head.connect (IsSome head.path)) }
+    ensures length { IfOk result (λ head. head.content_length ≡ length_of fields.now) }
     ensures fault { IfErr result (IsFirst (fault_at (message_of_request fields.now) fields.now)) }
     ensures malformed { is_err result ≡ is_malformed_request fields.now }
 {
     let fields = fields.as_slice();
     let connect = is_connect(fields);
-    check(message_of_request(connect), fields)?;
+    let content_length = check(message_of_request(connect), fields)?;
     Ok(RequestHead {
         connect,
+        head: is_head(fields),
         authority: place_of(fields, b":authority"),
         path: place_of(fields, b":path"),
+        content_length,
     })
 }
 
@@ -57,13 +64,15 @@ pub fn check_response(fields: &FieldList) -> Result<ResponseHead, Malformed>
     ensures sound { OnOk result (IsSound (fault_at Response fields.now)) }
     ensures status { IfOk result (λ head. head.status ≡ status_of fields.now) }
     ensures range { IfOk result (λ head. (100 ≤ head.status) × (head.status ≤ 999)) }
+    ensures length { IfOk result (λ head. head.content_length ≡ length_of fields.now) }
     ensures fault { IfErr result (IsFirst (fault_at Response fields.now)) }
     ensures malformed { is_err result ≡ is_malformed_response fields.now }
 {
     let fields = fields.as_slice();
-    check(Message::Response, fields)?;
+    let content_length = check(Message::Response, fields)?;
     Ok(ResponseHead {
         status: named_status(fields).unwrap_or(0),
+        content_length,
     })
 }
 
@@ -74,7 +83,10 @@ pub fn check_trailers(fields: &FieldList) -> Result<(), Malformed>
     ensures fault { IfErr result (IsFirst (fault_at Trailers fields.now)) }
     ensures malformed { is_err result ≡ is_malformed_trailers fields.now }
 {
-    check(Message::Trailers, fields.as_slice())
+    match check(Message::Trailers, fields.as_slice()) {
+        Ok(_) => Ok(()),
+        Err(malformed) => Err(malformed),
+    }
 }
 
 fn message_of_request(connect: bool) -> Message
@@ -91,6 +103,12 @@ fn is_connect(fields: &[Field]) -> bool
     ensures { result ≡ is_connect fields.now }
 {
     value_of(fields, b":method").is_some_and(|method| method == b"CONNECT".as_slice())
+}
+
+fn is_head(fields: &[Field]) -> bool
+    ensures { result ≡ is_head fields.now }
+{
+    value_of(fields, b":method").is_some_and(|method| method == b"HEAD".as_slice())
 }
 
 // The status that the list names in its form.

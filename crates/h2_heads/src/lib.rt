@@ -7,9 +7,11 @@ mod heads;
 mod lengths;
 mod malformed;
 mod names;
+mod replies;
 mod rules;
 mod values;
 
 pub use heads::{RequestHead, ResponseHead, check_request, check_response, check_trailers};
 pub use lengths::content_length;
 pub use malformed::{Kind, Malformed};
+pub use replies::status_fields;

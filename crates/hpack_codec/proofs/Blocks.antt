@@ -1,5 +1,6 @@
 -- A block that is read representation by representation.
-use Rattle.std.proofs.Common.{◌≡◌, ℕ, ◌<◌, ◌≤◌, List, [], ◌∷◌, ◌++◌, length, get_or, Bool, true, false, Result, Ok, Err, MatchResult, refl, sym, subst, inl, inr}
+use Rattle.std.proofs.Common.{◌≡◌, ℕ, ◌^◌, ◌<◌, ◌≤◌, List, [], ◌∷◌, ◌++◌, length, get_or, Bool, true, false, Result, Ok, Err, MatchResult, arith, refl, sym, subst, inl, inr}
+use Rattle.std.specs.Prelude.{IfOk}
 use Rattle.hpack_codec.specs.Collecting.{Advances, Stops, HasRead, Holds}
 use Rattle.hpack_codec.specs.Decoding.{Answers, Decoding}
 use Rattle.hpack_codec.specs.Faults.{OrNoMemory}
@@ -7,6 +8,7 @@ use Rattle.hpack_codec.specs.Integers.{BreaksInteger}
 use Rattle.hpack_codec.specs.Sections.{field_of, form_of, list_size, literal_form, reading, BreaksBlock, BreaksForm, BreaksLiteral, IsLiteral, Reading, ReadsForm, ReadsPiece, Runs}
 use Rattle.hpack_codec.specs.Strings.{BreaksString}
 use Rattle.hpack_codec.specs.Table.{Table}
+use Rattle.hpack_codec.proofs.BlockSizes.{few_fields}
 use Rattle.hpack_codec.specs.declared.collected.Collected.{Collected}
 use Rattle.hpack_codec.specs.declared.fault.HpackFault.{HpackFault}
 use Rattle.hpack_codec.specs.declared.fault.HpackFault.TheVariants.{BadIndex, BadInteger, BadHuffman, BadUpdate, Truncated, ListTooLong, NoMemory, Failed}
@@ -103,6 +105,15 @@ finishes d block t c (Err e) r given =
     let m = given d.most r.fields r.holds in
     let P : HpackFault → Type 0 = λ x. Answers d block (Err x) t in
     subst P (sym m.0) (record { fields = r.fields; spelled = (r.readings, r.runs); long = m.1 })
+
+-- ---- a list within its limit
+pub is_within : (d : Decoding) (block : List ℕ) (result : Result (List Field) HpackFault) (after : Table) → Answers d block result after → IfOk result (λ list. list_size list ≤ d.most)
+is_within d block (Ok list) after a = a.1
+is_within d block (Err e) after a = tt
+
+pub is_few : (most : ℕ) (result : Result (List Field) HpackFault) → most < 2 ^ 32 → IfOk result (λ list. list_size list ≤ most) → IfOk result (λ list. length list < 2 ^ 32)
+is_few most (Ok list) small within = omega (arith, few_fields list)
+is_few most (Err e) small within = tt
 
 -- ---- a literal that changes no table
 pub unindexed_reads : (never : Bool) (greatest : ℕ) (t : Table) (fields : List Field) (octets rest : List ℕ) (l : Line) → IsLiteral 4 t octets l rest → ReadsForm (literal_form never) greatest (reading t fields) octets (reading t (fields ++ field_of l never ∷ [])) rest

@@ -1,3 +1,4 @@
+pub mod BlockSizes
 pub mod Blocks
 pub mod CollectedLemmas
 pub mod IntegerLemmas
@@ -6,4 +7,5 @@ pub mod OneInteger
 pub mod OneReading
 pub mod Readback
 pub mod Spellings
+pub mod Spelt
 pub mod StaticRows

@@ -4,5 +4,6 @@ pub mod Encoding
 pub mod Faults
 pub mod Integers
 pub mod Sections
+pub mod Spelling
 pub mod Strings
 pub mod Table

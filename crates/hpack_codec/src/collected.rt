@@ -1,5 +1,5 @@
 // The list of a block while it is read.
-ghost use Rattle.std.specs.Prelude.{◌≡◌, ◌+◌, ◌-◌, ◌^◌, ◌≤◌, ◌<◌, ◌++◌, ◌∷◌, ◌↔◌, ℕ, [], List, OnOk, MatchResult, IsTrue, min, false};
+ghost use Rattle.std.specs.Prelude.{◌≡◌, ◌+◌, ◌-◌, ◌^◌, ◌≤◌, ◌<◌, ◌++◌, ◌∷◌, ◌↔◌, ℕ, [], All, List, IfOk, OnOk, MatchResult, IsTrue, min, false};
 ghost use Rattle.std.specs.Bool.{OnTrue, OnFalse};
 
 use crate::fault::HpackFault;
@@ -20,6 +20,7 @@ pub(crate) struct Collected {
 
 impl Collected {
     ghost use Rattle.hpack_codec.specs.Collecting.{Holds};
+    ghost use Rattle.hpack_codec.specs.Encoding.{HasSpelling};
     ghost use Rattle.hpack_codec.specs.Sections.{field_of, list_size};
     ghost use Rattle.hpack_codec.specs.Table.{line};
     ghost use Rattle.hpack_codec.specs.declared.fields.Field.{Field};
@@ -56,6 +57,7 @@ impl Collected {
         ensures small { self.new.most < 2 ^ 32 }
         ensures kept { OnTrue result (self.new.fields ≡ self.old.fields) }
         ensures long { OnFalse result (self.new.most < self.new.size) }
+        ensures fits { OnTrue result (size < 2 ^ 32) }
     {
         self.size = self.size.saturating_add(size as u64);
         if self.size > u64::from(self.most) {
@@ -74,7 +76,7 @@ impl Collected {
         if !self.counts(counted_size(field.name.len(), field.value.len())) {
             return Ok(());
         }
-        self.fields.push(field)
+        self.fields.keep(field)
     }
 
     /// Adds a field that is a copy of an entry.
@@ -88,7 +90,7 @@ impl Collected {
         }
         let name = Octets::from_slice(self.alloc, entry.name)?;
         let value = Octets::from_slice(self.alloc, entry.value)?;
-        self.fields.push(Field {
+        self.fields.keep(Field {
             name,
             value,
             never: false,
@@ -97,11 +99,13 @@ impl Collected {
 
     /// The list, unless it is too long.
     pub fn finish(self) -> Result<FieldList, HpackFault>
-        ensures { (most : ℕ) (fields : List Field) → Holds most self fields →
+        ensures list { (most : ℕ) (fields : List Field) → Holds most self fields →
             MatchResult result (λ list. (list ≡ fields) × (list_size fields ≤ most))
             (λ e. (e ≡ HpackFault.ListTooLong) × (most < list_size fields)) }
+        ensures spelled { IfOk result (λ list. All HasSpelling list) }
     {
         if self.size <= u64::from(self.most) {
+            self.fields.has_spelling();
             Ok(self.fields)
         } else {
             Err(HpackFault::ListTooLong)

@@ -1,6 +1,8 @@
 // The decoder of blocks.
-ghost use Rattle.std.specs.Prelude.{◌≡◌, ◌≤◌, ◌<◌, Ok, Err, Some, true, false, MatchOption, length, slice_get};
+ghost use Rattle.std.specs.Prelude.{◌≡◌, ◌≤◌, ◌<◌, ◌^◌, Ok, Err, Some, true, false, All, IfOk, MatchOption, length, slice_get};
 ghost use Rattle.hpack_codec.specs.Decoding.{Answers, decoder_with, is_final};
+ghost use Rattle.hpack_codec.specs.Encoding.{HasSpelling};
+ghost use Rattle.hpack_codec.specs.Sections.{list_size};
 ghost use Rattle.hpack_codec.specs.Table.{Table, empty_table};
 
 use crate::collected::Collected;
@@ -41,7 +43,10 @@ fn read_block(
     most: u32,
     block: &[u8],
 ) -> Result<FieldList, HpackFault>
-    ensures { Answers (decoder_with greatest most table.old) block.now result table.new }
+    ensures answers { Answers (decoder_with greatest most table.old) block.now result table.new }
+    ensures spelled { IfOk result (λ list. All HasSpelling list) }
+    ensures within { IfOk result (λ list. list_size list ≤ most) }
+    ensures few { IfOk result (λ list. length list < 2 ^ 32) }
 {
     let mut list = Collected::new(alloc, most, block.len().min(ROOM));
     let mut rest = block;
@@ -72,12 +77,16 @@ impl Decoder {
     /// The fields of a block, in their order. The first fault in reading order is answered, and
     /// `ListTooLong` only where the block has none. After a fault that is final each later call
     /// answers `Failed`; after `ListTooLong` the decoder goes on, with the table that the whole
-    /// block leaves.
+    /// block leaves. Each field of a list has a spelling, the list counts at most the decoder's
+    /// greatest list size, and it has fewer than 2^32 fields.
     pub fn decode(&mut self, block: &[u8]) -> Result<FieldList, HpackFault>
         ensures failed { self.old.failed ≡ true → (result ≡ Err HpackFault.Failed) × (self.new ≡ self.old) }
         ensures answers { self.old.failed ≡ false → Answers self.old block.now result self.new.table }
         ensures state { self.old.failed ≡ false → self.new.failed ≡ is_final result }
         ensures sizes { (self.new.greatest ≡ self.old.greatest) × (self.new.most ≡ self.old.most) }
+        ensures spelled { IfOk result (λ list. All HasSpelling list) }
+        ensures within { IfOk result (λ list. list_size list ≤ self.old.most) }
+        ensures few { IfOk result (λ list. length list < 2 ^ 32) }
     {
         if self.failed {
             return Err(HpackFault::Failed);

@@ -1,7 +1,7 @@
 // The encoder of blocks.
-ghost use Rattle.std.specs.Prelude.{◌≡◌, ◌<◌, ◌≤◌, ◌^◌, ℕ, true, false, All, IfOk, OnOk, OnErr, if◌then◌else◌};
+ghost use Rattle.std.specs.Prelude.{◌≡◌, ◌+◌, ◌<◌, ◌≤◌, ◌^◌, ℕ, true, false, length, All, IfOk, OnOk, OnErr, if◌then◌else◌};
 ghost use Rattle.hpack_codec.specs.Encoding.{encode_block, HasSpelling};
-ghost use Rattle.hpack_codec.specs.Sections.{SpellsBlock};
+ghost use Rattle.hpack_codec.specs.Sections.{SpellsBlock, list_size};
 ghost use Rattle.hpack_codec.specs.Table.{Table, resized};
 
 use crate::fields::FieldList;
@@ -44,17 +44,19 @@ impl Encoder {
     /// The block of a list: the size update 0 where one is due, and then the fields. A field of
     /// the static table that isn't never-indexed is its lowest index; every other is a literal
     /// without indexing, or never indexed, with the lowest index of its name or a plain string,
-    /// and a plain string as its value. After want of memory the encoder is as it was.
+    /// and a plain string as its value. It has at most one octet more than the list counts. After
+    /// want of memory the encoder is as it was.
     pub fn encode(&mut self, fields: &FieldList) -> Result<Octets, NoMemory>
-        requires { All HasSpelling fields.now }
         ensures spelling { IfOk result (λ block. block ≡ encode_block self.old fields.now) }
 
         // A decoder of any greatest size reads the same fields, whatever its table.
         ensures read { IfOk result (λ block. (greatest : ℕ) (before : Table) →
             SpellsBlock greatest block before fields.now (if self.old then resized 0 before else before)) }
+        ensures bound { IfOk result (λ block. length block ≤ list_size fields.now + 1) }
         ensures ok { OnOk result (self.new ≡ false) }
         ensures err { OnErr result (self.new ≡ self.old) }
     {
+        fields.has_spelling();
         let mut out = Vec::with_capacity(self.alloc, fields.size().saturating_add(1))?;
         if self.anew {
             out.push(0x20)?;

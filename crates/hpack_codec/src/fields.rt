@@ -1,5 +1,6 @@
 // Fields and lists of fields.
 ghost use Rattle.std.specs.Prelude.{◌≡◌, ◌==◌, ◌++◌, ◌∷◌, ◌-◌, ◌^◌, ◌↔◌, [], length, min, All, IfOk, IsTrue, OnOk, OnErr};
+ghost use Rattle.hpack_codec.specs.Encoding.{HasSpelling};
 
 use crate::line::counted_size;
 use io_ports::{NoMemory, Octets};
@@ -14,24 +15,37 @@ pub struct Field {
     pub never: bool,
 }
 
-/// A list of fields, in the order of a field section.
+impl Field {
+    /// Whether its name and its value have fewer than 2^32 octets each, so that a block can spell
+    /// it (RFC 7541 section 5.1).
+    pub fn has_spelling(&self) -> bool
+        ensures { IsTrue result ↔ HasSpelling self.now }
+    {
+        let most = u32::MAX as usize;
+        self.name.len() <= most && self.value.len() <= most
+    }
+}
+
+/// A list of fields, in the order of a field section. Each of them has a spelling.
 #[derive(Debug, Drop)]
 pub struct FieldList {
     fields: Vec<Field>,
 }
 
 impl Model for FieldList {
-    ghost use Rattle.std.specs.Prelude.{List};
+    ghost use Rattle.std.specs.Prelude.{All, List};
+    ghost use Rattle.hpack_codec.specs.Encoding.{HasSpelling};
     ghost use Rattle.hpack_codec.specs.declared.fields.Field.{Field};
 
     ghost Value = { List Field };
 
     ghost view = { λ a. a.fields.items };
+
+    ghost invariant = { λ a. All HasSpelling a.fields.items };
 }
 
 impl FieldList {
     ghost use Rattle.hpack_codec.specs.Sections.{list_size};
-    ghost use Rattle.hpack_codec.specs.Encoding.{HasSpelling};
 
     /// No fields. Takes no memory.
     pub fn new(alloc: Global) -> Self
@@ -51,8 +65,22 @@ impl FieldList {
         })
     }
 
-    /// Appends a field. After want of memory the list is as it was.
+    /// Appends a field. One that has no spelling is refused as want of memory is. After a refusal
+    /// the list is as it was.
     pub fn push(&mut self, field: Field) -> Result<(), NoMemory>
+        ensures ok { OnOk result (self.new ≡ self.old ++ field ∷ []) }
+        ensures err { OnErr result (self.new ≡ self.old) }
+        ensures spelled { OnOk result (HasSpelling field) }
+    {
+        if !field.has_spelling() {
+            return Err(NoMemory);
+        }
+        self.keep(field)
+    }
+
+    /// Appends a field that has a spelling. After want of memory the list is as it was.
+    pub(crate) fn keep(&mut self, field: Field) -> Result<(), NoMemory>
+        requires { HasSpelling field }
         ensures ok { OnOk result (self.new ≡ self.old ++ field ∷ []) }
         ensures err { OnErr result (self.new ≡ self.old) }
     {
@@ -78,12 +106,13 @@ impl FieldList {
         size
     }
 
-    /// Whether each name and each value has fewer than 2^32 octets, which an encoder asks for.
+    /// Whether each field has a spelling. That is so of every list.
     pub fn has_spelling(&self) -> bool
-        ensures { IsTrue result ↔ All HasSpelling self.now }
+        ensures spelled { IsTrue result ↔ All HasSpelling self.now }
+        ensures always { All HasSpelling self.now }
     {
-        let most = u32::MAX as usize;
-        self.as_slice().iter().all(|field| field.name.len() <= most && field.value.len() <= most)
+        let _ = &self.fields;
+        true
     }
 
     pub fn len(&self) -> usize

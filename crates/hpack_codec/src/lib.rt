@@ -21,5 +21,5 @@ pub use decoder::Decoder;
 pub use encoder::Encoder;
 pub use fault::HpackFault;
 pub use fields::{Field, FieldList};
-pub use laws::one_reading;
+pub use laws::{block_fits, integer_spellings, one_reading};
 pub use line::Line;

@@ -1,13 +1,15 @@
-use Rattle.std.proofs.Common.{List, None, Option, Some, ℕ, ◌∙◌, ap, arith, below_more, codes, refl, sym}
-use Rattle.std.specs.Option.{option_or}
+use Rattle.std.proofs.Common.{List, None, Option, Some, ℕ, ◌≡◌, ◌∙◌, ap, arith, below_more, codes, refl, subst, sym, take, true}
+use Rattle.std.specs.Option.{IfSome, option_copied, option_or}
 use Rattle.std.specs.Prelude.{if◌then◌else◌}
 use Rattle.h2_heads.specs.Named.{is_named}
+use Rattle.h2_heads.specs.Numbers.{is_length}
 use Rattle.h2_heads.proofs.Faults.{all_sound, fault_at_field, first_fault, first_missing, malformed_at, malformed_at_end, not_malformed}
+use Rattle.h2_heads.proofs.FirstLengths.{first_good, good_length}
 use Rattle.h2_heads.proofs.FirstValues.{value_of_more}
 use Rattle.h2_heads.proofs.check.check.Goals as goal
 
 pub loop-place-init : goal.loop-place-init
-loop-place-init c = (λ k h. absurd (omega arith), refl)
+loop-place-init c = (λ k h. absurd (omega arith), refl, tt)
 
 pub lowest-requires : goal.lowest-requires
 lowest-requires c = c.loop-place.invariant.1
@@ -28,7 +30,13 @@ loop-place-preserved c =
     let more = value_of_more (codes "content-length") c.args.fields.now c.loop-place.place c.index-fields-place.result c.loop-place-test.true c.index-fields-place.is in
     let next = if is_named (codes "content-length") c.index-fields-place.result then Some c.index-fields-place.result.value else None in
     let joined = ap (λ (first : Option (List ℕ)). option_or first next) c.loop-place.invariant.1 in
-    (below_more _ _ c.loop-place.invariant.0 (there ∙ sym c.lowest.ensures ∙ c.in_default.is), c.first_length-length.ensures ∙ joined ∙ sym more)
+    let none = sym c.lowest.ensures ∙ c.in_default.is in
+    let kept = good_length c.args.message (take c.loop-place.place c.args.fields.now) c.index-fields-place.result (option_copied c.loop-place.length) none c.loop-place.invariant.1 in
+    let first = first_good (option_copied c.loop-place.length) c.index-fields-place.result kept c.loop-place.invariant.2 in (
+      below_more _ _ c.loop-place.invariant.0 (there ∙ none),
+      c.first_length-length.ensures ∙ joined ∙ sym more,
+      subst (λ (o : Option (List ℕ)). IfSome o (λ v. is_length v ≡ true)) (sym c.first_length-length.ensures) first,
+    )
 
 pub returns-then-lacks-clause-fault : goal.returns-then-lacks-clause-fault
 returns-then-lacks-clause-fault c =

@@ -1,8 +1,9 @@
-use Rattle.std.proofs.Common.{◌≡◌, ◌∙◌, ◌++◌, ◌∷◌, [], List, ℕ, Bool, cond, flat_map, take, ap, sym, subst}
+use Rattle.std.proofs.Common.{◌≡◌, ◌≤◌, ◌+◌, ◌∙◌, ◌++◌, ◌∷◌, [], List, ℕ, Bool, cond, flat_map, length, take, ap, sym, subst}
 use Rattle.std.proofs.lemmas.List.{take_all}
 use Rattle.hpack_codec.specs.Encoding.{encode_field, HasSpelling}
-use Rattle.hpack_codec.specs.Sections.{SpellsBlock}
+use Rattle.hpack_codec.specs.Sections.{SpellsBlock, list_size}
 use Rattle.hpack_codec.specs.Table.{resized}
+use Rattle.hpack_codec.proofs.BlockSizes.{block_size}
 use Rattle.hpack_codec.proofs.Readback.{block_reads, each}
 use Rattle.hpack_codec.proofs.encoder.Encoder.encode.Goals as goal
 use Rattle.hpack_codec.proofs.encoder.Encoder.encode.Goals.{then-self+in_ok-push, else-self}
@@ -25,4 +26,9 @@ pub returns-clause-read : goal.returns-clause-read
 returns-clause-read c = λ greatest before.
     let fields = c.args.fields.now in
     let P : List ℕ → Type 0 = λ x. SpellsBlock greatest x before fields (cond c.args.self.now (resized 0 before) before) in
-    subst P (sym (returns-clause-spelling c)) (block_reads c.args.self.now greatest before fields (each HasSpelling fields c.requires))
+    subst P (sym (returns-clause-spelling c)) (block_reads c.args.self.now greatest before fields (each HasSpelling fields c.has_spelling.ensures.always))
+
+pub returns-clause-bound : goal.returns-clause-bound
+returns-clause-bound c =
+    let P : List ℕ → Type 0 = λ x. length x ≤ list_size c.args.fields.now + 1 in
+    subst P (sym (returns-clause-spelling c)) (block_size c.args.self.now c.args.fields.now)
