@@ -15,6 +15,7 @@ pub mod Metered
 pub mod Meters
 pub mod Moments
 pub mod Moving
+pub mod Narrow
 pub mod Outcomes
 pub mod PlainStreams
 pub mod Receiving

@@ -1,14 +1,14 @@
 -- What new tokens leave of places.
 use Rattle.exchange_core.specs.Flow.{is_filled_meter}
 use Rattle.filter_chain.specs.Chain.{kinds}
-use Rattle.filter_chain.specs.Place.{IsPlace, IsWithinKind, Place, refilled}
+use Rattle.filter_chain.specs.Place.{IsPlace, IsWithinKind, Place, is_source, refilled}
 use Rattle.filter_chain.specs.declared.stage.StageKind.{StageKind}
 use Rattle.filter_chain.specs.declared.stage.StageKind.TheVariants.{Hold, Meter, Send}
 use Rattle.std.proofs.Common.{ap, arith, refl, sym, ◌∙◌}
 use Rattle.std.proofs.lemmas.List.Sums.{sum_by-cons}
 use Rattle.std.specs.List.{list_any}
 use Rattle.std.specs.Option.{option_map_or}
-use Rattle.std.specs.Prelude.{List, None, Option, Some, [], length, map, slice_get, suc, sum_by, zero, ℕ, ◌+◌, ◌||◌, ◌∷◌, ◌≡◌}
+use Rattle.std.specs.Prelude.{List, None, Option, Some, [], false, length, map, slice_get, suc, sum_by, zero, ℕ, ◌+◌, ◌||◌, ◌∷◌, ◌≡◌}
 
 refilled_within : (n : ℕ) (kind : StageKind) (place : Place) → IsWithinKind kind place → IsWithinKind kind (refilled n place)
 refilled_within n Hold place is = is
@@ -31,6 +31,12 @@ pub refilled_octets : (n : ℕ) (places : List Place) (i : ℕ) →
 refilled_octets n [] i = refl
 refilled_octets n (place ∷ places) zero = refl
 refilled_octets n (place ∷ places) (suc i) = refilled_octets n places i
+
+pub refilled_source : (n : ℕ) (places : List Place) (i : ℕ) →
+    option_map_or (λ place. is_source place.kind) (slice_get (map (refilled n) places) i) false ≡ option_map_or (λ place. is_source place.kind) (slice_get places i) false
+refilled_source n [] i = refl
+refilled_source n (place ∷ places) zero = refl
+refilled_source n (place ∷ places) (suc i) = refilled_source n places i
 
 pub refilled_sum : (n : ℕ) (places : List Place) → sum_by (λ place. length place.octets) (map (refilled n) places) ≡ sum_by (λ place. length place.octets) places
 refilled_sum n [] = refl

@@ -1,11 +1,12 @@
 -- What the time leaves of a flow and of an exchange: all but the tokens of Meters.
 use Rattle.exchange_core.proofs.Moments.{chain_kept}
-use Rattle.exchange_core.proofs.Refilled.{refilled_length, refilled_octets, refilled_sum}
+use Rattle.exchange_core.proofs.Refilled.{refilled_length, refilled_octets, refilled_source, refilled_sum}
 use Rattle.exchange_core.specs.Exchange.{at_moment, ends_of, flow_in, goes_to, held_in, seen_at}
-use Rattle.exchange_core.specs.Flow.{Flow, held_by, last_place, octets_in, send}
+use Rattle.exchange_core.specs.Flow.{Flow, held_by, last_place, octets_in, send, stages_of}
 use Rattle.exchange_core.specs.Message.{head_waits, trailers_wait}
 use Rattle.exchange_core.specs.Replies.{Side, Word, answer, reckoning, reply_down, reply_up, row, said, side_of_cause}
 use Rattle.exchange_core.specs.Replies.Word.{Code, CodeUnlessEnded, ReplyOnly, ReplyOr, Silence}
+use Rattle.exchange_core.specs.Seen.{IsFoundAs}
 use Rattle.exchange_core.specs.Units.{IsFrameable, empty_before, ends_after, next_unit, octets_of}
 use Rattle.exchange_core.specs.declared.exchange.Exchange.{Exchange}
 use Rattle.exchange_core.specs.declared.message.Message.{Message}
@@ -16,12 +17,12 @@ use Rattle.exchange_core.specs.declared.step.Unit.{Unit as NextUnit}
 use Rattle.filter_chain.specs.Chain.{Chain, octets_at}
 use Rattle.filter_chain.specs.Effects.{ticked as chain_ticked}
 use Rattle.filter_chain.specs.Place.{Place, is_hold, refilled}
-use Rattle.filter_chain.specs.Release.{empty_before as chain_empty_before, head_may_go, holds_filled, is_whole_at}
+use Rattle.filter_chain.specs.Release.{empty_before as chain_empty_before, head_may_go, holds_filled, is_source_at, is_whole_at}
 use Rattle.flow_notes.specs.declared.notes.Cause.{Cause}
 use Rattle.flow_notes.specs.declared.notes.Cause.TheVariants.{ConnLost}
 use Rattle.std.proofs.Common.{ap, refl, subst, sym, ◌∙◌}
 use Rattle.std.specs.Option.{option_map_or}
-use Rattle.std.specs.Prelude.{Bool, List, None, Option, Some, [], false, if◌then◌else◌, is_some, length, map, min, nat_lt, not, option_map, slice_get, suc, sum_by, true, zero, ℕ, ℤ, ◌&&◌, ◌+◌, ◌==◌, ◌||◌, ◌∷◌, ◌≡◌, ◌≤◌}
+use Rattle.std.specs.Prelude.{Bool, List, None, Option, Some, [], false, if◌then◌else◌, is_some, length, map, min, nat_lt, not, option_map, slice_get, suc, sum_by, true, zero, ℕ, ℤ, ◌&&◌, ◌+◌, ◌-◌, ◌==◌, ◌||◌, ◌∷◌, ◌≡◌, ◌≤◌}
 
 -- ---- a chain
 octets_ticked : (now : ℕ) (chain : Chain) (p : ℕ) → octets_at (chain_ticked chain now) p ≡ octets_at chain p
@@ -103,6 +104,32 @@ module _ (now : ℕ) (flow : Flow) where
 
   pub held_seen : held_by (at_moment now flow) ≡ held_by flow
   held_seen = chain_kept (λ chain. held_by (record flow { chain = chain })) now flow.chain (ap (λ m. length flow.recv + m) (refilled_sum _ flow.chain.places))
+
+pub stages_seen : (now : ℕ) (flow : Flow) → stages_of (at_moment now flow) ≡ stages_of flow
+stages_seen now flow = chain_kept (λ chain. stages_of (record flow { chain = chain })) now flow.chain (ap (λ m. m - 1) (places_later now flow))
+
+source_later : (now : ℕ) (chain : Chain) (p : ℕ) → is_source_at (chain_ticked chain now) p ≡ is_source_at chain p
+source_later now chain zero = refl
+source_later now chain (suc i) = refilled_source _ chain.places i
+
+pub source_seen : (p now : ℕ) (flow : Flow) → is_source_at (at_moment now flow).chain p ≡ is_source_at flow.chain p
+source_seen p now flow = chain_kept (λ chain. is_source_at chain p) now flow.chain (source_later now flow.chain p)
+
+-- ---- a flow that was found, read where the moment leaves it as it is
+module _ {X : Type 0} (read : Flow → X) (kept : (now : ℕ) (flow : Flow) → read (at_moment now flow) ≡ read flow) where
+  pub read_some : (found seen : Option Flow) → IsFoundAs found seen → option_map read seen ≡ option_map read found
+  read_some found seen is = ap (option_map read) is.same ∙ by found
+    where
+      by : (o : Option Flow) → option_map read (option_map (at_moment is.now) o) ≡ option_map read o
+      by None = refl
+      by (Some flow) = ap (λ x. Some x) (kept is.now flow)
+
+  pub read_or : (other : X) (found seen : Option Flow) → IsFoundAs found seen → option_map_or read seen other ≡ option_map_or read found other
+  read_or other found seen is = ap (λ o. option_map_or read o other) is.same ∙ by found
+    where
+      by : (o : Option Flow) → option_map_or read (option_map (at_moment is.now) o) other ≡ option_map_or read o other
+      by None = refl
+      by (Some flow) = kept is.now flow
 
 -- ---- an exchange
 response_held : (now : ℕ) (response : Option Flow) → option_map_or held_by (option_map (at_moment now) response) 0 ≡ option_map_or held_by response 0

@@ -6,7 +6,7 @@ use Rattle.filter_chain.specs.Place.{Place}
 use Rattle.filter_chain.specs.declared.stage.StageKind.{StageKind}
 use Rattle.filter_chain.specs.declared.stage.StageKind.TheVariants.{Hold, Meter, Send}
 use Rattle.std.specs.List.{list_any}
-use Rattle.std.specs.Prelude.{Bool, IsSome, List, None, [], false, length, nat_lt, suc, sum_by, true, zero, ℕ, ◌&&◌, ◌+◌, ◌==◌, ◌≡◌}
+use Rattle.std.specs.Prelude.{Bool, IsSome, List, None, [], false, length, nat_lt, suc, sum_by, true, zero, ℕ, ◌&&◌, ◌+◌, ◌-◌, ◌==◌, ◌≡◌}
 
 pub record Flow : Type 0 where
   -- for how many octets its receive buffer has room, and what it holds: this is place 0
@@ -26,6 +26,10 @@ octets_in flow (suc p) = octets_at flow.chain (suc p)
 -- the send buffer is the last place
 abbrev pub last_place : Flow → ℕ
 last_place flow = send_place flow.chain
+
+-- how many stages are before it
+abbrev pub stages_of : Flow → ℕ
+stages_of flow = last_place flow - 1
 
 abbrev pub send : Flow → List ℕ
 send flow = octets_in flow (last_place flow)

@@ -20,6 +20,10 @@ head_waits m = is_some m.head
 abbrev pub trailers_wait : Message → Bool
 trailers_wait m = is_some m.trailers
 
+-- its head came: it waits, or was framed
+abbrev pub head_came : Message → Bool
+head_came m = head_waits m || m.head_framed
+
 -- the list that is framed next: the head, then the trailers
 abbrev pub fields_of : Message → Option (List Field)
 fields_of m = if head_waits m then m.head else m.trailers

@@ -4,7 +4,7 @@ use Rattle.exchange_core.specs.Message.{fields_of, head_waits, trailers_wait}
 use Rattle.exchange_core.specs.declared.step.Unit.{Unit as NextUnit}
 use Rattle.exchange_core.specs.declared.step.Unit.TheVariants.{Nothing, Head, Body, Trailers}
 use Rattle.filter_chain.specs.Release.{head_may_go}
-use Rattle.std.specs.Prelude.{Bool, IsSome, IsTrue, false, if◌then◌else◌, length, min, nat_lt, negsuc, not, pos, suc, true, zero, ℕ, ℤ, ◌&&◌, ◌==◌, ◌||◌, ◌≡◌, ◌≤◌}
+use Rattle.std.specs.Prelude.{Bool, IsSome, IsTrue, false, if◌then◌else◌, length, min, nat_le, nat_lt, negsuc, not, pos, suc, true, zero, ℕ, ℤ, ◌&&◌, ◌==◌, ◌||◌, ◌≡◌, ◌≤◌}
 
 -- every place before p is empty
 abbrev pub empty_before : Flow → ℕ → Bool
@@ -48,6 +48,14 @@ next_unit room frame flow =
     else if not (ends_after 0 flow) || flow.message.end_framed then Nothing
     else if trailers_wait flow.message then Trailers
     else Body 0 true
+
+-- the unit where at most so many octets may go: a DATA frame carries no more, and the end only where all of its own go; where
+-- it has some and none may go, there is none. A head, trailers and an empty frame stay.
+abbrev pub narrowed : ℕ → NextUnit → NextUnit
+narrowed most Nothing = Nothing
+narrowed most (Head last) = Head last
+narrowed most (Body n last) = if nat_lt 0 n && (most == 0) then Nothing else Body (min n most) (last && nat_le n most)
+narrowed most Trailers = Trailers
 
 -- it may be framed as it stands: a list that came, or octets that lie in the send buffer, with the end only where nothing
 -- is left

@@ -9,7 +9,7 @@ ghost use Rattle.exchange_core.specs.Replies.{head_framed};
 ghost use Rattle.exchange_core.specs.Units.{IsFrameable, next_unit};
 ghost use Rattle.exchange_core.specs.Lending.{LendsFlow, LendsTouched};
 ghost use Rattle.std.specs.Borrow.{sem};
-ghost use Rattle.std.specs.Option.{option_copied_mut};
+ghost use Rattle.std.specs.Option.{option_copied, option_copied_mut};
 ghost use Rattle.proxy_config.specs.Ranges.{AreFilters, IsBetween, IsRoute, most_octets};
 
 use crate::flow::Flow;
@@ -123,6 +123,17 @@ impl Exchange {
             unreachable!()
         };
         response
+    }
+
+    /// The request flow, or the response flow, if it is there.
+    pub(crate) fn find(&self, back: bool) -> Option<&Flow>
+        ensures { option_copied result ≡ flow_in back self.now }
+    {
+        if back {
+            self.response.as_ref()
+        } else {
+            Some(&self.request)
+        }
     }
 
     /// How many octets more the receive buffer of a flow takes, if it is there.

@@ -5,7 +5,8 @@ ghost use Rattle.exchange_core.specs.Effects.{arrived, finished, headed, receive
 ghost use Rattle.exchange_core.specs.Exchanges.{IsLiveFlow, IsSound, exchange_at, flow_at, is_live};
 ghost use Rattle.exchange_core.specs.Flow.{held_by};
 ghost use Rattle.exchange_core.specs.Replies.{reckoning};
-ghost use Rattle.exchange_core.specs.Seen.{IsFlowSeenAs, IsSeenAs};
+ghost use Rattle.exchange_core.specs.Seen.{IsFlowSeenAs, IsFoundAs, IsSeenAs};
+ghost use Rattle.std.specs.Option.{option_copied};
 ghost use Rattle.flow_gate.specs.Board.{IsSound as AreSoundGates};
 ghost use Rattle.proxy_config.specs.Ranges.{IsBetween, IsRoute, most_octets};
 
@@ -242,5 +243,15 @@ impl Exchanges {
         ensures { IsFlowSeenAs result.now (flow_at self.now flow) }
     {
         self.exchange(flow.exchange).flow(flow.back)
+    }
+
+    /// A flow, if it is live.
+    fn find(&self, flow: FlowId) -> Option<&Flow>
+        ensures { IsFoundAs (option_copied result) (flow_at self.now flow) }
+    {
+        let Some(exchange) = self.live.get(&flow.exchange) else {
+            return None;
+        };
+        exchange.find(flow.back)
     }
 }

@@ -2,11 +2,11 @@
 ghost use Rattle.std.specs.Prelude.{◌≡◌, ◌≢◌, ◌↔◌, ◌+◌, ◌-◌, ◌<◌, ◌≤◌, ◌^◌, false, true, IfOk, IfSome, IsOk, IsTrue, OnOk, OnErr, length, nat_le, option_map, Some};
 ghost use Rattle.exchange_core.specs.Effects.{arrived, finished, headed, moved, received, received_by};
 ghost use Rattle.exchange_core.specs.Exchange.{at_moment, begun_flow};
-ghost use Rattle.exchange_core.specs.Flow.{IsSound, held_by, last_place, meters_hold};
+ghost use Rattle.exchange_core.specs.Flow.{IsSound, held_by, last_place, meters_hold, stages_of};
 ghost use Rattle.exchange_core.specs.Moves.{has_room_ahead, is_held_at, is_target_above, last_free, lets_go, may_release, next_step, overflows, stepped};
 ghost use Rattle.exchange_core.specs.Units.{IsFrameable, next_unit};
 ghost use Rattle.filter_chain.specs.Chain.{above_at};
-ghost use Rattle.filter_chain.specs.Release.{overfills, has_room_at};
+ghost use Rattle.filter_chain.specs.Release.{overfills, has_room_at, is_source_at};
 ghost use Rattle.flow_gate.specs.Board.{is_open};
 ghost use Rattle.proxy_config.specs.Ranges.{AreFilters, IsBetween, most_octets};
 ghost use Rattle.wm_buffer.specs.Watermark.{crossing};
@@ -342,6 +342,20 @@ impl Flow {
         ensures { result ≡ self.now.window - length self.now.recv }
     {
         self.window.saturating_sub(self.recv.len())
+    }
+
+    /// The number of its stages.
+    pub(crate) fn stages(&self) -> u32
+        ensures { result ≡ stages_of self.now }
+    {
+        self.chain.places() - 1
+    }
+
+    /// Whether a place pauses the flow while it is above: a Meter and the send buffer do, and no place that isn't there.
+    pub(crate) fn is_source(&self, place: u32) -> bool
+        ensures { result ≡ is_source_at self.now.chain place }
+    {
+        0 < place && place <= self.chain.places() && self.chain.is_source(place)
     }
 
     pub(crate) fn message(&self) -> &Message

@@ -1,10 +1,13 @@
 // What holds of exchanges, whatever is done to them.
-ghost use Rattle.std.specs.Prelude.{◌≡◌, Bool, List, None, Some, ℕ, ℤ};
+ghost use Rattle.std.specs.Int.{int_min};
+ghost use Rattle.std.specs.Prelude.{◌≡◌, Bool, List, None, Some, min, ℕ, ℤ};
 ghost use Rattle.exchange_core.specs.Effects.{arrived, body_framed, finished};
 ghost use Rattle.exchange_core.specs.Exchange.{begun};
 ghost use Rattle.exchange_core.specs.Moves.{next_step, stepped};
 ghost use Rattle.exchange_core.specs.Plain.{Plain, plain_arrived, plain_begun, plain_exchange, plain_finished, plain_flow, plain_framed, plain_spec, plain_step, plain_stepped, plain_unit};
-ghost use Rattle.exchange_core.specs.Units.{carries_end, next_unit};
+ghost use Rattle.exchange_core.specs.Units.{IsFrameable, narrowed, next_unit, octets_of};
+ghost use Rattle.exchange_core.specs.declared.step.Unit.{Unit as NextUnit};
+ghost use Rattle.exchange_core.specs.Flow.{Flow};
 ghost use Rattle.flow_gate.specs.Board.{Board};
 ghost use Rattle.proxy_config.specs.declared.config.Config.{Config};
 
@@ -19,4 +22,13 @@ pub fn plain_streams()
     ensures steps { (board : Board) (x : ℕ) (p : Plain) → stepped board (Some 0) (plain_flow x p) ≡ plain_flow x (plain_stepped board x p) }
     ensures unit { (x : ℕ) (room : ℤ) (frame : ℕ) (p : Plain) → next_unit room frame (plain_flow x p) ≡ plain_unit room frame p }
     ensures frames { (x n : ℕ) (last : Bool) (p : Plain) → body_framed n last (plain_flow x p) ≡ plain_flow x (plain_framed n last p) }
+{}
+
+/// The next unit where less room is left is the one for more room, narrowed to what is left; so it is of the greatest frame
+/// that the peer takes. What may be framed as it stands may also be framed narrowed. So a caller that kept what goes next
+/// under one bound may frame it under a smaller one.
+pub fn units_narrow()
+    ensures room { (a b : ℤ) (frame : ℕ) (flow : Flow) → next_unit (int_min a b) frame flow ≡ narrowed (octets_of b) (next_unit a frame flow) }
+    ensures frame { (room : ℤ) (a b : ℕ) (flow : Flow) → next_unit room (min a b) flow ≡ narrowed b (next_unit room a flow) }
+    ensures frameable { (most : ℕ) (unit : NextUnit) (flow : Flow) → IsFrameable unit flow → IsFrameable (narrowed most unit) flow }
 {}

@@ -15,7 +15,7 @@ mod step;
 
 pub use exchange::Ends;
 pub use exchanges::Exchanges;
-pub use laws::plain_streams;
+pub use laws::{plain_streams, units_narrow};
 pub use reply::{Doomed, Reply};
 pub use start::StartSpec;
 pub use step::{Advance, Piece, Received, Step, Unit};

@@ -1,7 +1,7 @@
 // The head, the trailers and the end of one message.
 ghost use Rattle.std.specs.Prelude.{◌≡◌};
 ghost use Rattle.std.specs.Option.{option_copied};
-ghost use Rattle.exchange_core.specs.Message.{empty_message, fields_of, head_waits, headed, ended_with, list_framed, end_framed_if, trailers_wait};
+ghost use Rattle.exchange_core.specs.Message.{empty_message, fields_of, head_came, head_waits, headed, ended_with, list_framed, end_framed_if, trailers_wait};
 
 use hpack_codec::FieldList;
 
@@ -39,6 +39,13 @@ impl Message {
         ensures { result ≡ head_waits self.now }
     {
         self.head.is_some()
+    }
+
+    /// Whether the head came.
+    pub(crate) fn head_came(&self) -> bool
+        ensures { result ≡ head_came self.now }
+    {
+        self.head.is_some() || self.head_framed
     }
 
     pub(crate) fn trailers_wait(&self) -> bool

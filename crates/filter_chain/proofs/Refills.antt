@@ -1,5 +1,5 @@
 -- A row of which the first stages are refilled.
-use Rattle.std.proofs.Common.{◌≡◌, ◌+◌, ◌<◌, ◌≤◌, ◌++◌, ◌∙◌, ℕ, suc, zero, List, [], ◌∷◌, length, map, take, drop, refl, sym, ap, arith}
+use Rattle.std.proofs.Common.{◌≡◌, ◌+◌, ◌<◌, ◌++◌, ◌∙◌, ℕ, suc, zero, List, [], ◌∷◌, length, map, take, drop, refl, sym, ap, arith}
 use Rattle.std.proofs.Math.ListN.{get_or, get_or-map, set}
 use Rattle.std.proofs.Math.Numerals.{add-one}
 use Rattle.std.proofs.lemmas.List.{length-map, map-set}
@@ -20,12 +20,6 @@ get_or-partly f [] zero d = refl
 get_or-partly f [] (suc i) d = refl
 get_or-partly f (x ∷ places) zero d = refl
 get_or-partly f (x ∷ places) (suc i) d = get_or-partly f places i d
-
-pub partly-all : (f : Place → Place) (places : List Place) (i : ℕ) → length places ≤ i → partly f i places ≡ map f places
-partly-all f [] zero h = refl
-partly-all f [] (suc i) h = refl
-partly-all f (x ∷ places) zero h = absurd (omega arith)
-partly-all f (x ∷ places) (suc i) h = ap (λ ps. f x ∷ ps) (partly-all f places i (omega arith))
 
 -- one more stage
 pub refill_step : (f : Place → Place) (first now : List Stage) (i : ℕ) (d new : Stage) → length now ≡ length first → i < length now

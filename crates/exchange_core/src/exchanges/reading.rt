@@ -1,7 +1,11 @@
 // What exchanges answer, and leave as they are.
-ghost use Rattle.std.specs.Prelude.{◌≡◌, ◌↔◌, ◌-◌, IsTrue, Some, length, option_map, true};
+ghost use Rattle.std.specs.Prelude.{◌≡◌, ◌↔◌, ◌-◌, IsTrue, Some, false, length, option_map, true};
+ghost use Rattle.std.specs.Option.{option_map_or};
 ghost use Rattle.exchange_core.specs.Exchange.{ends_of, held_in};
 ghost use Rattle.exchange_core.specs.Exchanges.{IsLiveFlow, IsNextMetered, IsSound, exchange_at, flow_at, is_live};
+ghost use Rattle.exchange_core.specs.Flow.{stages_of};
+ghost use Rattle.exchange_core.specs.Message.{head_came};
+ghost use Rattle.filter_chain.specs.Release.{is_source_at};
 
 use super::Exchanges;
 use crate::exchange::Ends;
@@ -64,6 +68,38 @@ impl Exchanges {
         ensures { Some result ≡ option_map (λ f. f.message.ended) (flow_at self.now flow) }
     {
         self.flow(flow).message().ended
+    }
+
+    /// Whether the head of a flow came: it waits to be framed, or was framed. False where the flow isn't live.
+    pub fn head_came(&self, flow: FlowId) -> bool
+        ensures { result ≡ option_map_or (λ f. head_came f.message) (flow_at self.now flow) false }
+    {
+        match self.find(flow) {
+            Some(flow) => flow.message().head_came(),
+            None => false,
+        }
+    }
+
+    /// How many stages a flow has, 0 to 8: its places 1 to that number, and the send buffer is the next one. None exactly
+    /// where the flow isn't live.
+    pub fn stages(&self, flow: FlowId) -> Option<u32>
+        ensures { result ≡ option_map stages_of (flow_at self.now flow) }
+    {
+        match self.find(flow) {
+            Some(flow) => Some(flow.stages()),
+            None => None,
+        }
+    }
+
+    /// Whether a place pauses its flow while it is above: a Meter and the send buffer do. False where the flow isn't live or
+    /// has no such place, and for the receive buffer, which is place 0.
+    pub fn is_source(&self, flow: FlowId, place: u32) -> bool
+        ensures { result ≡ option_map_or (λ f. is_source_at f.chain place) (flow_at self.now flow) false }
+    {
+        match self.find(flow) {
+            Some(flow) => flow.is_source(place),
+            None => false,
+        }
     }
 
     /// Which ends of an exchange are framed.
