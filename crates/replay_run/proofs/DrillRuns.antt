@@ -19,10 +19,10 @@ use Rattle.tape_laws.specs.Dispatches.{events_back}
 use Rattle.tape_laws.specs.Following.{MayFollowAll}
 use Rattle.tape_laws.specs.History.{onto}
 use Rattle.tape_laws.specs.declared.limits.PlainLimits.{PlainLimits}
-use Rattle.worker_core.specs.Flows.{AreLimits}
-use Rattle.worker_core.specs.Runs.{Turns}
-use Rattle.worker_core.specs.Stands.{CanTake, Rests}
-use Rattle.worker_core.specs.declared.worker.Core.{Core}
+use Rattle.plain_core.specs.Flows.{AreLimits}
+use Rattle.plain_core.specs.Runs.{Turns}
+use Rattle.plain_core.specs.Stands.{CanTake, Rests}
+use Rattle.plain_core.specs.declared.worker.Core.{Core}
 
 pub drilled_none : (n : ℕ) (core : Core) (d : Drill) (t : Tally) → n ≤ 1000 → Rests drill_limits core [] → DrillIs d (drill n) → ((limits : PlainLimits) → TallyIs limits t []) → Drilled n core d t
 drilled_none n core d t few r k tally = record {

@@ -27,10 +27,10 @@ use Rattle.tape_laws.specs.History.{History, NoMark, Noted, onto}
 use Rattle.tape_laws.specs.PlainTape.{IsPlainWhole}
 use Rattle.tape_laws.specs.Text.{note_line, tape_text}
 use Rattle.tape_laws.specs.declared.limits.PlainLimits.{PlainLimits}
-use Rattle.worker_core.specs.Flows.{AreLimits}
-use Rattle.worker_core.specs.Runs.{Turns}
-use Rattle.worker_core.specs.Stands.{CanTake, Rests}
-use Rattle.worker_core.specs.declared.worker.Core.{Core}
+use Rattle.plain_core.specs.Flows.{AreLimits}
+use Rattle.plain_core.specs.Runs.{Turns}
+use Rattle.plain_core.specs.Stands.{CanTake, Rests}
+use Rattle.plain_core.specs.declared.worker.Core.{Core}
 use Rattle.replay_run.specs.declared.order.Format.TheVariants as format
 use Rattle.replay_run.specs.declared.order.LineRead.TheVariants as read
 use Rattle.replay_run.specs.declared.play.Went.TheVariants as went

@@ -38,8 +38,8 @@ use Rattle.tape_laws.specs.History.{History, NoMark}
 use Rattle.tape_laws.specs.Text.{tape_text}
 use Rattle.tape_laws.specs.World.{len, out}
 use Rattle.tape_laws.specs.declared.limits.PlainLimits.{PlainLimits}
-use Rattle.worker_core.specs.Stands.{Rests}
-use Rattle.worker_core.specs.declared.worker.Core.{Core}
+use Rattle.plain_core.specs.Stands.{Rests}
+use Rattle.plain_core.specs.declared.worker.Core.{Core}
 use Rattle.replay_run.specs.declared.status.Status.TheVariants as status
 use Rattle.replay_run.specs.declared.play.Went.TheVariants as went
 

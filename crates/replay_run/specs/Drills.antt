@@ -17,9 +17,9 @@ use Rattle.tape_laws.specs.Headline.{Headline}
 use Rattle.tape_laws.specs.History.{History, NoMark}
 use Rattle.tape_laws.specs.Plain.{plain_setup}
 use Rattle.tape_laws.specs.PlainTape.{IsPlainWhole}
-use Rattle.worker_core.specs.Runs.{Turns}
-use Rattle.worker_core.specs.Stands.{Rests}
-use Rattle.worker_core.specs.declared.worker.Core.{Core}
+use Rattle.plain_core.specs.Runs.{Turns}
+use Rattle.plain_core.specs.Stands.{Rests}
+use Rattle.plain_core.specs.declared.worker.Core.{Core}
 use Rattle.replay_run.specs.declared.status.Status.TheVariants as status
 
 -- a lawful tape of the drill of n streams, one whole dispatch for each of its events

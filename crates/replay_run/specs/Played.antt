@@ -14,7 +14,7 @@ use Rattle.tape_laws.specs.Following.{MayFollowAll}
 use Rattle.tape_laws.specs.History.{History, NoMark}
 use Rattle.tape_laws.specs.Text.{tape_text}
 use Rattle.tape_laws.specs.declared.limits.PlainLimits.{PlainLimits}
-use Rattle.worker_core.specs.Stands.{Rests}
+use Rattle.plain_core.specs.Stands.{Rests}
 use Rattle.replay_run.specs.declared.play.Went.TheVariants as went
 
 -- the lines were read, their events were dispatched, and of the tape this was written

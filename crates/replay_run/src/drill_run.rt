@@ -2,7 +2,7 @@
 ghost use Rattle.std.specs.Prelude.{◌≡◌, ◌<◌, ◌≤◌, [], IfOk, OnOk};
 ghost use Rattle.io_ports.specs.Faults.{Rose};
 ghost use Rattle.replay_run.specs.Drills.{CountsEvent, DrillsAs, IsDrillSummary, TalliesDrill};
-ghost use Rattle.worker_core.specs.Stands.{CanTake};
+ghost use Rattle.plain_core.specs.Stands.{CanTake};
 
 use crate::drill::Drill;
 use crate::output::write_all;
@@ -13,7 +13,7 @@ use flow_notes::{Event, Notes};
 use io_ports::{Failed, NoMemory, Octets, Sink};
 use std::alloc::Global;
 use tape_laws::PlainLimits;
-use worker_core::Core;
+use plain_core::Core;
 
 /// The limits of a drill, in octets.
 const LIMITS: PlainLimits = PlainLimits {

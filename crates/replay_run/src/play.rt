@@ -12,7 +12,7 @@ use flow_notes::{Event, Notes};
 use io_ports::{NoMemory, Octets};
 use std::alloc::Global;
 use tape_laws::PlainLimits;
-use worker_core::Core;
+use plain_core::Core;
 
 /// The limits before any are read.
 const NO_LIMITS: PlainLimits = PlainLimits {
@@ -46,7 +46,7 @@ pub struct Play {
 impl Play {
     ghost use Rattle.std.specs.Prelude.{◌≡◌, ◌++◌, List, ℕ, [], IfOk, OnOk, OnErr};
     ghost use Rattle.flow_notes.specs.Event.{IsEvent};
-    ghost use Rattle.worker_core.specs.Stands.{CanTake};
+    ghost use Rattle.plain_core.specs.Stands.{CanTake};
     ghost use Rattle.replay_run.specs.NotesText.{notes_text};
     ghost use Rattle.replay_run.specs.Played.{Begins, Played, PlaysEvent, PlaysLine};
 

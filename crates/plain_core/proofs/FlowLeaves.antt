@@ -1,0 +1,138 @@
+-- What the flows are after octets left the write buffer.
+use Rattle.flow_gate.specs.Board.{Board, IsSound as IsSoundBoard, count as count_on, is_known, is_marked, is_open as is_there, pending_on, watchers_of}
+use Rattle.flow_gate.specs.Changes.{Drains}
+use Rattle.flow_gate.specs.declared.ids.FlowId.{FlowId}
+use Rattle.plain_laws.proofs.EventChanges.{room_high, room_keeps, room_out}
+use Rattle.plain_laws.proofs.Keepings.{turn_keeps_write}
+use Rattle.plain_laws.proofs.Outs.{out_lows}
+use Rattle.plain_laws.specs.StepNotes.{room_notes}
+use Rattle.std.proofs.Common.{ap, arith, refl, sym, ◌∙◌}
+use Rattle.std.proofs.lemmas.List.{append-nil}
+use Rattle.std.specs.Prelude.{Bool, List, None, Option, [], drop, false, if◌then◌else◌, length, map, not, true, ℕ, ◌&&◌, ◌++◌, ◌∷◌, ◌≡◌, ◌≤◌}
+use Rattle.tape_laws.specs.Dispatches.{has, live}
+use Rattle.tape_laws.specs.Flows.{request}
+use Rattle.tape_laws.specs.History.{History, NoMark, Noted, Step, onto}
+use Rattle.tape_laws.specs.Pauses.{pending_lows}
+use Rattle.tape_laws.specs.Plain.{plain_setup}
+use Rattle.tape_laws.specs.Watermark.{above, drains_at}
+use Rattle.tape_laws.specs.World.{out}
+use Rattle.tape_laws.specs.declared.limits.PlainLimits.{PlainLimits}
+use Rattle.wm_buffer.specs.Buffer.{Buffer, DropsOctets}
+use Rattle.wm_buffer.specs.Watermark.{above_after}
+use Rattle.plain_core.specs.Carries.{Leaves}
+use Rattle.plain_core.specs.Flows.{ConnectionIs, GatesAre}
+use Rattle.plain_core.specs.declared.conn.Connection.{Connection}
+use Rattle.plain_core.specs.declared.flows.Flows.{Flows}
+use Rattle.flow_gate.specs.declared.ids.BufferId.TheVariants as buffer
+use Rattle.flow_notes.specs.declared.events.Event.TheVariants as event
+use Rattle.flow_notes.specs.declared.events.PlainEvent.TheVariants as plain
+use Rattle.flow_notes.specs.declared.notes.Note.TheVariants as note
+use Rattle.plain_core.proofs.FlowStreams.{same_exchanges}
+use Rattle.plain_core.proofs.FlowGates.{CountsAre, KeepsNames, gates_from}
+use Rattle.plain_laws.proofs.Flags.{no_rise, write_now}
+use Rattle.std.proofs.Common.{length-drop}
+use Rattle.plain_core.proofs.FlowHolds.{holding_kept}
+use Rattle.plain_core.proofs.FlowUnits.{keeps_piece}
+use Rattle.exchange_core.specs.declared.step.Piece.{Piece}
+
+abbrev pub DrainsWrite : Bool → Board → Board → Type 0
+DrainsWrite true old new = Drains (buffer.Write 0) old new
+DrainsWrite false old new = new ≡ old
+
+pub flag_same : (l l' : ℕ) (a a' : Bool) (o o' : List ℕ) → l ≡ l' → a ≡ a' → o ≡ o' → above_after l a (length o) ≡ above_after l' a' (length o')
+flag_same l l' a a' o o' e f g = rw (e, f, g) refl
+
+-- the flag of the write buffer, and whether it drains
+left_flag : (limits : PlainLimits) (n : ℕ) (conn : Connection) (w : Buffer) (h : History NoMark) → ConnectionIs limits conn h → DropsOctets conn.write w n
+    → w.above ≡ above_after limits.write (above (plain_setup limits) (buffer.Write 0) h) (length (drop n (out (plain_setup limits) 0 h)))
+left_flag limits n conn w h c d = d.above ∙ flag_same _ _ _ _ _ _ c.limit c.above (d.octets ∙ ap (λ (o : List ℕ). drop n o) c.octets)
+
+drains_is : (limits : PlainLimits) (n : ℕ) (low : Bool) (conn : Connection) (w : Buffer) (h : History NoMark) → ConnectionIs limits conn h → DropsOctets conn.write w n
+    → low ≡ (conn.write.above && not w.above) → low ≡ drains_at (plain_setup limits) (buffer.Write 0) (Noted (note.Out 0 n)) h
+drains_is limits n low conn w h c d is = is ∙ (ap (λ b. b && not w.above) c.above ∙ ap (λ b. above (plain_setup limits) (buffer.Write 0) h && not b) (left_flag limits n conn w h c d))
+
+module _ (limits : PlainLimits) (k m n : ℕ) (h : History NoMark) where
+  abbrev after : History NoMark
+  after = onto (room_notes k m n) h
+
+  -- where it doesn't drain its flag stays
+  flag_stays : drains_at (plain_setup limits) (buffer.Write 0) (Noted (note.Out 0 n)) h ≡ false
+      → above (plain_setup limits) (buffer.Write 0) h ≡ above (plain_setup limits) (buffer.Write 0) after
+  flag_stays none = pick (above (plain_setup limits) (buffer.Write 0) h) refl none ∙ sym (room_high limits k m n h)
+    where
+      pick : (a : Bool) → above (plain_setup limits) (buffer.Write 0) h ≡ a → (a && not (above_after limits.write (above (plain_setup limits) (buffer.Write 0) h) (length (drop n (out (plain_setup limits) 0 h))))) ≡ false
+          → a ≡ above_after limits.write (above (plain_setup limits) (buffer.Write 0) h) (length (drop n (out (plain_setup limits) 0 h)))
+      pick true e none = sym (is_true _ none)
+        where
+          is_true : (b : Bool) → not b ≡ false → b ≡ true
+          is_true true e = refl
+          is_true false e = sym e
+      pick false e none = sym (no_rise limits.write _ (length (out (plain_setup limits) 0 h)) _ (write_now limits h) (shorter n (out (plain_setup limits) 0 h)) e)
+        where
+          shorter : (n : ℕ) (o : List ℕ) → length (drop n o) ≤ length o
+          shorter n o = omega (arith, length-drop n o)
+
+  lows_after : pending_lows (plain_setup limits) (buffer.Write 0) h ≡ []
+      → pending_lows (plain_setup limits) (buffer.Write 0) after ≡ (if drains_at (plain_setup limits) (buffer.Write 0) (Noted (note.Out 0 n)) h then map request (live h) else [])
+  lows_after none =
+      let turn : Step NoMark = Noted (note.Turn k (event.Plain (plain.Room m))) in
+      let w = turn_keeps_write limits k (plain.Room m) h in
+      out_lows limits n (turn ∷ h) (w.lows ∙ none)
+      ∙ (ap (λ b. if b && not (above (plain_setup limits) (buffer.Write 0) after) then map request (live h) else []) w.high
+      ∙ ap (λ b. if above (plain_setup limits) (buffer.Write 0) h && not b then map request (live h) else []) (room_high limits k m n h))
+
+  left_counts : (low : Bool) (old new : Board) → low ≡ drains_at (plain_setup limits) (buffer.Write 0) (Noted (note.Out 0 n)) h → GatesAre limits old h → DrainsWrite low old new
+      → pending_lows (plain_setup limits) (buffer.Write 0) h ≡ [] → CountsAre limits new after
+  left_counts true old new is g d none = record {
+    counts = λ y e. d.counts (request y) ∙ g.counts y e;
+    write_mark = d.marks (buffer.Write 0) ∙ sym (room_high limits k m n h ∙ drained _ _ (sym is));
+    write_pending = d.pending (buffer.Write 0) ∙ (joined _ _ _ (g.write_pending ∙ none) g.write_watchers ∙ sym (lows_after none ∙ ap (λ b. if b then map request (live h) else []) (sym is)));
+    send_mark = λ y. d.marks (buffer.Send (request y)) ∙ (g.send_mark y ∙ sym (room_keeps limits k m n y h).high);
+    send_pending = λ y. d.pending (buffer.Send (request y)) ∙ (append-nil _ ∙ g.send_pending y);
+  }
+    where
+      drained : (a b : Bool) → (a && not b) ≡ true → b ≡ false
+      drained true false e = refl
+      drained true true e = sym e
+      drained false b e = cc
+
+      joined : (a b d : List FlowId) → a ≡ [] → b ≡ d → a ++ b ≡ d
+      joined a b d e f = rw (e, f) refl
+  left_counts false old new is g d none = record {
+    counts = λ y e. ap (λ (b : Board). count_on b (request y)) d ∙ g.counts y e;
+    write_mark = ap (λ (b : Board). is_marked b (buffer.Write 0)) d ∙ (g.write_mark ∙ flag_stays (sym is));
+    write_pending = ap (λ (b : Board). pending_on b (buffer.Write 0)) d ∙ (g.write_pending ∙ (none ∙ sym (lows_after none ∙ ap (λ b. if b then map request (live h) else []) (sym is))));
+    send_mark = λ y. ap (λ (b : Board). is_marked b (buffer.Send (request y))) d ∙ (g.send_mark y ∙ sym (room_keeps limits k m n y h).high);
+    send_pending = λ y. ap (λ (b : Board). pending_on b (buffer.Send (request y))) d ∙ g.send_pending y;
+  }
+
+names_left : (low : Bool) (old new : Board) → DrainsWrite low old new → KeepsNames old new
+names_left true old new d = record { flows = d.flows; buffers = d.buffers; watchers = d.watchers }
+names_left false old new d = record { flows = λ f. ap (λ (b : Board). is_there b f) d; buffers = λ c. ap (λ (b : Board). is_known b c) d; watchers = λ c. ap (λ (b : Board). watchers_of b c) d }
+
+pub leaves : (n : ℕ) (low : Bool) (old : Flows) (w : Buffer) (b : Board) → DropsOctets old.conn.write w n → low ≡ (old.conn.write.above && not w.above) → DrainsWrite low old.gates b → IsSoundBoard b
+    → Leaves n low old (record old { gates = b; conn = record old.conn { write = w } })
+leaves n low old w b d is change sound = record {
+  goes = λ limits k m h settled none.
+      let st = settled.stands in
+      let c = st.conn in
+      let h' = onto (room_notes k m n) h in
+      let drains = drains_is limits n low old.conn w h c d is in
+      record {
+        drains = drains;
+        stands = record {
+          limits_are = st.limits_are;
+          ranges = st.ranges;
+          exchanges = same_exchanges limits old.exchanges h h' st.exchanges (record { lives = refl; begun = refl; doomed = refl }) (λ y. room_keeps limits k m n y h);
+          gates = gates_from limits old.gates b h h' st.gates sound (names_left low old.gates b change) refl (left_counts limits k m n h low old.gates b drains st.gates change none);
+          conn = record {
+            limit = d.limit ∙ c.limit;
+            octets = d.octets ∙ (ap (λ (o : List ℕ). drop n o) c.octets ∙ sym (room_out limits k m n h));
+            above = left_flag limits n old.conn w h c d ∙ sym (room_high limits k m n h);
+            framed_last = c.framed_last;
+            ready = λ y. c.ready y ∙ ap (λ (p : Option Piece). if has (live h) y then p else None) (sym (keeps_piece limits y h h' (room_keeps limits k m n y h)));
+          };
+          holding = holding_kept limits old.holding h h' st.holding refl (λ y. (room_keeps limits k m n y h).recv);
+        };
+      };
+}

@@ -1,0 +1,207 @@
+-- Notes that are written after others, and fronts of them.
+use Rattle.flow_notes.specs.Event.{IsEvent}
+use Rattle.flow_notes.specs.Note.{IsNote}
+use Rattle.flow_notes.specs.declared.events.Event.{Event}
+use Rattle.flow_notes.specs.declared.events.PlainEvent.{PlainEvent}
+use Rattle.flow_notes.specs.declared.notes.Note.{Note}
+use Rattle.io_ports.specs.declared.octets.NoMemory.{NoMemory}
+use Rattle.plain_laws.proofs.Ontos.{front_lawful, onto_append}
+use Rattle.std.proofs.Common.{ap, append_assoc, inl, inr, refl, subst, sym, ◌∙◌}
+use Rattle.std.proofs.lemmas.List.{append-nil}
+use Rattle.std.specs.List.{AllByRecursion}
+use Rattle.std.specs.Prelude.{Err, List, Ok, OnErr, OnOk, Result, [], ℕ, ◌++◌, ◌∷◌, ◌≡◌, ◌≤◌, ◌⊎◌}
+use Rattle.tape_laws.specs.Dispatches.{events_back}
+use Rattle.tape_laws.specs.Following.{MayFollowEvent}
+use Rattle.tape_laws.specs.History.{History, NoMark, Noted, onto}
+use Rattle.tape_laws.specs.PlainTape.{IsPlainLawful}
+use Rattle.tape_laws.specs.declared.limits.PlainLimits.{PlainLimits}
+use Rattle.plain_core.specs.Noting.{AppendsNotes, AppendsSome, turn_note}
+use Rattle.plain_core.specs.Runs.{AreSpelled, Cuts, CutsTurn, Keeps, Opens}
+use Rattle.plain_core.specs.Stands.{Good, Rests}
+use Rattle.plain_core.specs.declared.worker.Core.{Core}
+use Rattle.flow_notes.specs.declared.events.Event.TheVariants as event
+
+-- the note begins no dispatch
+pub record NoTurn (n : Note) : Type 0 where
+  pub events : (h : History NoMark) → events_back (Noted n ∷ h) ≡ events_back h
+
+pub spelled_both : (xs ys : List Note) → AreSpelled xs → AreSpelled ys → AreSpelled (xs ++ ys)
+spelled_both [] ys a b = b
+spelled_both (x ∷ xs) ys a b = (a.0, spelled_both xs ys a.1 b)
+
+pub all_both : (P : Note → Type 0) (xs ys : List Note) → AllByRecursion P xs → AllByRecursion P ys → AllByRecursion P (xs ++ ys)
+all_both P [] ys a b = b
+all_both P (x ∷ xs) ys a b = (a.0, all_both P xs ys a.1 b)
+
+pub all_front : (P : Note → Type 0) (front rest : List Note) → AllByRecursion P (front ++ rest) → AllByRecursion P front
+all_front P [] rest a = tt
+all_front P (n ∷ front) rest a = (a.0, all_front P front rest a.1)
+
+pub events_same : (ns : List Note) (h : History NoMark) → AllByRecursion NoTurn ns → events_back (onto ns h) ≡ events_back h
+events_same [] h a = refl
+events_same (n ∷ ns) h a = events_same ns (Noted n ∷ h) a.1 ∙ a.0.events h
+
+-- ---- fronts
+pub front_more : (before ms ns after : List Note) → AppendsSome before ms after → AppendsSome before (ms ++ ns) after
+front_more before ms ns after a = record {
+  front = a.front;
+  rest = a.rest ++ ns;
+  whole = ap (λ (v : List Note). v ++ ns) a.whole ∙ append_assoc a.front a.rest ns;
+  is = a.is;
+}
+
+pub front_after : (before ms ns mid after : List Note) → mid ≡ before ++ ms → AppendsSome mid ns after → AppendsSome before (ms ++ ns) after
+front_after before ms ns mid after e a = record {
+  front = ms ++ a.front;
+  rest = a.rest;
+  whole = ap (λ (v : List Note). ms ++ v) a.whole ∙ sym (append_assoc ms a.front a.rest);
+  is = a.is ∙ ap (λ (v : List Note). v ++ a.front) e ∙ append_assoc before ms a.front;
+}
+
+pub whole_after : (before ms ns mid after : List Note) → mid ≡ before ++ ms → after ≡ mid ++ ns → after ≡ before ++ (ms ++ ns)
+whole_after before ms ns mid after e a = a ∙ ap (λ (v : List Note). v ++ ns) e ∙ append_assoc before ms ns
+
+-- some notes, and then others
+pub appends_both : (before ms ns mid after : List Note) (r : Result (Unit {0}) NoMemory) → mid ≡ before ++ ms → AppendsNotes mid ns after r → AppendsNotes before (ms ++ ns) after r
+appends_both before ms ns mid after (Ok u) e a = whole_after before ms ns mid after e a
+appends_both before ms ns mid after (Err f) e a = front_after before ms ns mid after e a
+
+-- a push
+pub push_appends : (before after : List Note) (n : Note) (r : Result (Unit {0}) NoMemory) → OnOk r (after ≡ before ++ n ∷ []) → OnErr r (after ≡ before) → AppendsNotes before (n ∷ []) after r
+push_appends before after n (Ok u) e f = e
+push_appends before after n (Err x) e f = record { front = []; rest = n ∷ []; whole = refl; is = f ∙ sym (append-nil before) }
+
+-- ---- small steps
+-- a small step of a core, with its notes
+pub record Stepped (old : Core) (ns : List Note) (new : Core) : Type 0 where
+  pub spelled : AreSpelled ns
+  pub silent : AllByRecursion NoTurn ns
+  pub goes : (limits : PlainLimits) (h : History NoMark) → Good limits old h → Good limits new (onto ns h)
+  pub well : new.failed ≡ old.failed
+
+pub keeps_of : (old new : Core) (before ns after : List Note) → after ≡ before ++ ns → Stepped old ns new → Keeps old before new after
+keeps_of old new before ns after e s =
+    let P : List Note → Type 0 = λ v. Keeps old before new v in
+    subst P (sym e) (record {
+      spelled = λ b. spelled_both before ns b s.spelled;
+      events = λ h. ap events_back (onto_append before ns h) ∙ events_same ns (onto before h) s.silent;
+      goes = λ limits h g. let Q : History NoMark → Type 0 = λ v. Good limits new v in subst Q (sym (onto_append before ns h)) (s.goes limits (onto before h) g);
+      well = s.well;
+    })
+
+-- a front of notes that are lawful together
+pub cuts_lawful : (old : Core) (before ns after : List Note) → AppendsSome before ns after → AreSpelled ns → AllByRecursion NoTurn ns
+    → ((limits : PlainLimits) (h : History NoMark) → Good limits old h → IsPlainLawful limits (onto ns h)) → Cuts old before after
+cuts_lawful old before ns after a sp si lawful =
+    let P : List Note → Type 0 = λ v. Cuts old before v in
+    let spelled : AreSpelled (a.front ++ a.rest) = let Q : List Note → Type 0 = AreSpelled in subst Q a.whole sp in
+    let silent : AllByRecursion NoTurn (a.front ++ a.rest) = let Q : List Note → Type 0 = AllByRecursion NoTurn in subst Q a.whole si in
+    subst P (sym a.is) (record {
+      spelled = λ b. spelled_both before a.front b (all_front (λ n. IsNote [] n) a.front a.rest spelled);
+      events = λ h. ap events_back (onto_append before a.front h) ∙ events_same a.front (onto before h) (all_front NoTurn a.front a.rest silent);
+      lawful = λ limits h g.
+          let Q : History NoMark → Type 0 = λ v. IsPlainLawful limits v in
+          let R : List Note → Type 0 = λ v. IsPlainLawful limits (onto v (onto before h)) in
+          subst Q (sym (onto_append before a.front h)) (front_lawful limits a.front a.rest (onto before h) (subst R a.whole (lawful limits (onto before h) g)));
+    })
+
+pub cuts_front : (old new : Core) (before ns after : List Note) → AppendsSome before ns after → Stepped old ns new → Cuts old before after
+cuts_front old new before ns after a s = cuts_lawful old before ns after a s.spelled s.silent (λ limits h g. (s.goes limits h g).flows.lawful.regular.lawful)
+
+pub cuts_none : (old : Core) (before : List Note) → Cuts old before before
+cuts_none old before = record { spelled = λ b. b; events = λ h. refl; lawful = λ limits h g. g.flows.lawful.regular.lawful }
+
+pub cuts_keeps : (old new : Core) (before after : List Note) → Keeps old before new after → Cuts old before after
+cuts_keeps old new before after k = record { spelled = k.spelled; events = k.events; lawful = λ limits h g. (k.goes limits h g).flows.lawful.regular.lawful }
+
+pub keeps_result : (old new : Core) (before ns after : List Note) (r : Result (Unit {0}) NoMemory) → AppendsNotes before ns after r → Stepped old ns new → OnOk r (Keeps old before new after)
+keeps_result old new before ns after (Ok u) a s = keeps_of old new before ns after a s
+keeps_result old new before ns after (Err f) a s = tt
+
+pub cuts_result : (old new : Core) (before ns after : List Note) (r : Result (Unit {0}) NoMemory) → AppendsNotes before ns after r → Stepped old ns new → Cuts old before after
+cuts_result old new before ns after (Ok u) a s = cuts_keeps old new before after (keeps_of old new before ns after a s)
+cuts_result old new before ns after (Err f) a s = cuts_front old new before ns after a s
+
+-- ---- events
+-- an event's own effect, with its turn note and others
+pub record Opened (old : Core) (k : ℕ) (e : PlainEvent) (ns : List Note) (new : Core) : Type 0 where
+  pub number : 1 ≤ k
+  pub spelled : IsEvent [] (event.Plain e) → AreSpelled ns
+  pub silent : AllByRecursion NoTurn ns
+  pub goes : (limits : PlainLimits) (h : History NoMark) → Rests limits old h → MayFollowEvent (events_back h) (event.Plain e) → Good limits new (onto (turn_note k e ∷ ns) h)
+  pub well : new.failed ≡ old.failed
+
+pub opens_of : (old new : Core) (before after : List Note) (k : ℕ) (e : PlainEvent) (ns : List Note) → after ≡ before ++ turn_note k e ∷ ns → Opened old k e ns new
+    → Opens old before (event.Plain e) new after
+opens_of old new before after k e ns eq o =
+    let P : List Note → Type 0 = λ v. Opens old before (event.Plain e) new v in
+    subst P (sym eq) (record {
+      spelled = λ i b. spelled_both before (turn_note k e ∷ ns) b ((o.number, i), o.spelled i);
+      shows = λ h. ap events_back (onto_append before (turn_note k e ∷ ns) h) ∙ events_same ns (Noted (turn_note k e) ∷ onto before h) o.silent;
+      goes = λ limits h g m.
+          let Q : History NoMark → Type 0 = λ v. Good limits new v in
+          subst Q (sym (onto_append before (turn_note k e ∷ ns) h)) (o.goes limits (onto before h) g m.0);
+      well = o.well;
+    })
+
+-- a dispatch that was cut before its first note
+pub no_turn : (old : Core) (before : List Note) (e : Event) → CutsTurn old before e before
+no_turn old before e = record { spelled = λ i b. b; shows = λ h. inl refl; lawful = λ limits h r m. r.good.flows.lawful.regular.lawful }
+
+front_shows : (front rest : List Note) (k : ℕ) (e : PlainEvent) (ns : List Note) (h : History NoMark) → turn_note k e ∷ ns ≡ front ++ rest → AllByRecursion NoTurn ns
+    → (events_back (onto front h) ≡ events_back h) ⊎ (events_back (onto front h) ≡ event.Plain e ∷ events_back h)
+front_shows [] rest k e ns h w s = inl refl
+front_shows (n ∷ front) rest k e ns h w s =
+    let first : turn_note k e ≡ n = cc in
+    let others : ns ≡ front ++ rest = cc in
+    let Q : List Note → Type 0 = AllByRecursion NoTurn in
+    inr (events_same front (Noted n ∷ h) (all_front NoTurn front rest (subst Q others s)) ∙ ap (λ (m : Note). events_back (Noted m ∷ h)) (sym first))
+
+front_spelled : (front rest : List Note) (k : ℕ) (e : PlainEvent) (ns : List Note) → turn_note k e ∷ ns ≡ front ++ rest → AreSpelled (turn_note k e ∷ ns) → AreSpelled front
+front_spelled front rest k e ns w s = let Q : List Note → Type 0 = AreSpelled in all_front (λ n. IsNote [] n) front rest (subst Q w s)
+
+pub turn_front : (old new : Core) (before after : List Note) (k : ℕ) (e : PlainEvent) (ns : List Note) → AppendsSome before (turn_note k e ∷ ns) after → Opened old k e ns new
+    → CutsTurn old before (event.Plain e) after
+turn_front old new before after k e ns a o =
+    let P : List Note → Type 0 = λ v. CutsTurn old before (event.Plain e) v in
+    subst P (sym a.is) (record {
+      spelled = λ i b. spelled_both before a.front b (front_spelled a.front a.rest k e ns a.whole ((o.number, i), o.spelled i));
+      shows = λ h.
+          let E : History NoMark → Type 0 = λ v. (events_back v ≡ events_back (onto before h)) ⊎ (events_back v ≡ event.Plain e ∷ events_back (onto before h)) in
+          subst E (sym (onto_append before a.front h)) (front_shows a.front a.rest k e ns (onto before h) a.whole o.silent);
+      lawful = λ limits h g m.
+          let Q : History NoMark → Type 0 = λ v. IsPlainLawful limits v in
+          let R : List Note → Type 0 = λ v. IsPlainLawful limits (onto v (onto before h)) in
+          subst Q (sym (onto_append before a.front h)) (front_lawful limits a.front a.rest (onto before h) (subst R a.whole (o.goes limits (onto before h) g m.0).flows.lawful.regular.lawful));
+    })
+
+pub cuts_opens : (old new : Core) (before after : List Note) (e : Event) → Opens old before e new after → CutsTurn old before e after
+cuts_opens old new before after e o = record { spelled = o.spelled; shows = λ h. inr (o.shows h); lawful = λ limits h r m. (o.goes limits h r m).flows.lawful.regular.lawful }
+
+pub opens_result : (old new : Core) (before after : List Note) (k : ℕ) (e : PlainEvent) (ns : List Note) (r : Result (Unit {0}) NoMemory)
+    → AppendsNotes before (turn_note k e ∷ ns) after r → Opened old k e ns new → OnOk r (Opens old before (event.Plain e) new after)
+opens_result old new before after k e ns (Ok u) a o = opens_of old new before after k e ns a o
+opens_result old new before after k e ns (Err f) a o = tt
+
+pub turn_result : (old new : Core) (before after : List Note) (k : ℕ) (e : PlainEvent) (ns : List Note) (r : Result (Unit {0}) NoMemory)
+    → AppendsNotes before (turn_note k e ∷ ns) after r → Opened old k e ns new → CutsTurn old before (event.Plain e) after
+turn_result old new before after k e ns (Ok u) a o = cuts_opens old new before after (event.Plain e) (opens_of old new before after k e ns a o)
+turn_result old new before after k e ns (Err f) a o = turn_front old new before after k e ns a o
+
+-- the same event
+pub event_is : (old new : Core) (k : ℕ) (e said : PlainEvent) (ns : List Note) → e ≡ said → Opened old k e ns new → Opened old k said ns new
+event_is old new k e said ns eq o = let P : PlainEvent → Type 0 = λ v. Opened old k v ns new in subst P eq o
+
+-- the turn note, and then others
+pub opens_after : (old new : Core) (before mid after : List Note) (k : ℕ) (e : PlainEvent) (ns : List Note) (r : Result (Unit {0}) NoMemory) → mid ≡ before ++ turn_note k e ∷ []
+    → AppendsNotes mid ns after r → Opened old k e ns new → OnOk r (Opens old before (event.Plain e) new after)
+opens_after old new before mid after k e ns r eq a o = opens_result old new before after k e ns r (appends_both before (turn_note k e ∷ []) ns mid after r eq a) o
+
+pub turn_after : (old new : Core) (before mid after : List Note) (k : ℕ) (e : PlainEvent) (ns : List Note) (r : Result (Unit {0}) NoMemory) → mid ≡ before ++ turn_note k e ∷ []
+    → AppendsNotes mid ns after r → Opened old k e ns new → CutsTurn old before (event.Plain e) after
+turn_after old new before mid after k e ns r eq a o = turn_result old new before after k e ns r (appends_both before (turn_note k e ∷ []) ns mid after r eq a) o
+
+-- the turn note is refused, or not
+pub turn_refused : (old new : Core) (before after : List Note) (k : ℕ) (e : PlainEvent) (ns : List Note) → AppendsSome before (turn_note k e ∷ []) after → Opened old k e ns new
+    → CutsTurn old before (event.Plain e) after
+turn_refused old new before after k e ns a o = turn_front old new before after k e ns (front_more before (turn_note k e ∷ []) ns after a) o

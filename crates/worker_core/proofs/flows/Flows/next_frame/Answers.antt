@@ -1,6 +1,0 @@
-use Rattle.std.proofs.Common.{sym, ◌∙◌}
-use Rattle.worker_core.proofs.FlowNexts.{next_is}
-use Rattle.worker_core.proofs.flows.Flows.next_frame.Goals as goal
-
-pub returns : goal.returns
-returns c = next_is c.args.self.now c.next.result (sym c.is_above.ensures.above ∙ c.if-is_above.false) c.next.ensures

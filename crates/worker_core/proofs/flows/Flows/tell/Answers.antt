@@ -1,5 +1,0 @@
-use Rattle.worker_core.proofs.FlowTells.{tells}
-use Rattle.worker_core.proofs.flows.Flows.tell.Goals as goal
-
-pub returns-clause-tells : goal.returns-clause-tells
-returns-clause-tells c = tells c.args.n c.args.self.now c.take_lows.new.self c.take_lows.ensures.tells c.take_lows.ensures.sound
