@@ -10,7 +10,6 @@ use Rattle.plain_laws.proofs.Quiets.{rests_told}
 use Rattle.plain_laws.proofs.Streams.{apart_from, by_case, differs_back, has_left, not_both, or_left, same_request}
 use Rattle.std.proofs.Common.{ap, arith, inl, refl, subst, sym, ◌∙◌}
 use Rattle.std.proofs.lemmas.Bool.Decides.{nat_tests}
-use Rattle.std.proofs.lemmas.List.{append-nil}
 use Rattle.std.specs.List.{list_any}
 use Rattle.std.specs.Option.{option_and_then}
 use Rattle.std.specs.Prelude.{Bool, IfSome, List, Option, [], false, length, true, ℕ, ◌+◌, ◌==◌, ◌||◌, ◌∷◌, ◌≡◌}
@@ -31,7 +30,7 @@ use Rattle.plain_core.specs.Flows.{FlowsStand, Settled}
 use Rattle.plain_core.specs.Noting.{doom_of}
 use Rattle.plain_core.specs.Stands.{Rests}
 use Rattle.plain_core.specs.declared.flows.Flows.{Flows}
-use Rattle.plain_core.specs.declared.worker.Core.{Core}
+use Rattle.plain_core.specs.declared.plain.PlainCore.{PlainCore}
 use Rattle.flow_gate.specs.declared.ids.BufferId.TheVariants as buffer
 use Rattle.flow_notes.specs.declared.events.Event.TheVariants as event
 use Rattle.flow_notes.specs.declared.events.PlainEvent.TheVariants as plain
@@ -54,7 +53,7 @@ goes_on_at limits flows x h s is e =
     subst P (sym i.is) (i.ended ∙ e)
 
 -- the end of a stream hasn't come where octets may, if it is live
-pub body_goes_on : (limits : PlainLimits) (core : Core) (x : ℕ) (octets : List ℕ) (h : History NoMark) → Rests limits core h
+pub body_goes_on : (limits : PlainLimits) (core : PlainCore) (x : ℕ) (octets : List ℕ) (h : History NoMark) → Rests limits core h
     → MayFollowEvent (events_back h) (event.Plain (plain.Body x octets)) → GoesOn core.flows x
 body_goes_on limits core x octets h r m =
     let P : Option Exchange → Type 0 = λ v. IfSome (option_and_then (flow_in false) v) (λ f. f.message.ended ≡ false) in
@@ -62,18 +61,18 @@ body_goes_on limits core x octets h r m =
     (λ is. goes_on_at limits core.flows x h r.good.flows is (body_flowing limits x octets h r.good.flows.lawful.regular m.2).goes_on)
     (λ d. subst P (sym (r.good.flows.stands.exchanges.gone x d)) tt)
 
-pub finish_goes_on : (limits : PlainLimits) (core : Core) (x : ℕ) (h : History NoMark) → Rests limits core h → Lives core.flows x true
+pub finish_goes_on : (limits : PlainLimits) (core : PlainCore) (x : ℕ) (h : History NoMark) → Rests limits core h → Lives core.flows x true
     → MayFollowEvent (events_back h) (event.Plain (plain.Finish x)) → GoesOn core.flows x
 finish_goes_on limits core x h r l m =
     goes_on_at limits core.flows x h r.good.flows (lives_at limits core.flows x h l r.good.flows) (finish_flowing limits x h r.good.flows.lawful.regular m.2).goes_on
 
 -- ---- a turn note alone
 -- nothing is told after a turn note at rest
-told_none : (limits : PlainLimits) (core : Core) (k : ℕ) (e : PlainEvent) (h : History NoMark) → Rests limits core h
+told_none : (limits : PlainLimits) (core : PlainCore) (k : ℕ) (e : PlainEvent) (h : History NoMark) → Rests limits core h
     → pending_lows (plain_setup limits) (buffer.Write 0) (turned k e ∷ h) ≡ []
-told_none limits core k e h r = append-nil (pending_lows (plain_setup limits) (buffer.Write 0) h) ∙ rests_told limits h (at_rest limits core h r)
+told_none limits core k e h r = rests_told limits h (at_rest limits core h r)
 
-pub late_opened : (old new : Core) (x k : ℕ) (octets : List ℕ) → IsOpened old old.flows old.pairs (task.Round ∷ old.agenda) new → Lives old.flows x false → k ≡ old.turn + 1
+pub late_opened : (old new : PlainCore) (x k : ℕ) (octets : List ℕ) → IsOpened old old.flows old.pairs (task.Round ∷ old.agenda) new → Lives old.flows x false → k ≡ old.turn + 1
     → Opened old k (plain.Body x octets) [] new
 late_opened old new x k octets o l ek = record {
   number = omega (arith, ek);
@@ -84,12 +83,12 @@ late_opened old new x k octets o l ek = record {
       good_of limits old new old.flows old.pairs (task.Round ∷ old.agenda) (task.Round ∷ []) h (turned k (plain.Body x octets) ∷ h) o r (λ e. ap (λ v. task.Round ∷ v) e)
       (turn_stands limits k (plain.Body x octets) h old.flows (λ y e. refl) r.good.flows.stands)
       (body_late_step limits k x octets h (at_rest limits old h r) (turn_number limits old k h r ek) m.2 is) refl (pairs_kept limits old h (turned k (plain.Body x octets) ∷ h) r (λ y. refl))
-      (underway_round limits old.pairs _ (λ y e. rest_still limits old y h r e) (told_none limits old k (plain.Body x octets) h r) (λ y e. rest_unended limits old y h r e));
+      (underway_round limits old.pairs _ (λ y e. rest_still limits old y h r e) (told_none limits old k (plain.Body x octets) h r) (λ y e. rest_unended limits old y h r e) refl);
   well = o.failed;
 }
 
 -- the end of a stream that isn't live any more
-pub late_finished : (old new : Core) (x k : ℕ) → IsOpened old old.flows old.pairs (task.Round ∷ old.agenda) new → Lives old.flows x false → k ≡ old.turn + 1 → Opened old k (plain.Finish x) [] new
+pub late_finished : (old new : PlainCore) (x k : ℕ) → IsOpened old old.flows old.pairs (task.Round ∷ old.agenda) new → Lives old.flows x false → k ≡ old.turn + 1 → Opened old k (plain.Finish x) [] new
 late_finished old new x k o l ek = record {
   number = omega (arith, ek);
   spelled = λ i. tt;
@@ -99,7 +98,7 @@ late_finished old new x k o l ek = record {
       good_of limits old new old.flows old.pairs (task.Round ∷ old.agenda) (task.Round ∷ []) h (turned k (plain.Finish x) ∷ h) o r (λ e. ap (λ v. task.Round ∷ v) e)
       (turn_stands limits k (plain.Finish x) h old.flows (λ y e. ap (λ b. b || plain_ended y h) (differs_back y x (apart_from (live h) y x e is))) r.good.flows.stands)
       (finish_step limits k x h (at_rest limits old h r) (turn_number limits old k h r ek) m.2) refl (pairs_kept limits old h (turned k (plain.Finish x) ∷ h) r (λ y. refl))
-      (underway_round limits old.pairs _ (λ y e. rest_still limits old y h r e) (told_none limits old k (plain.Finish x) h r) (λ y e. rest_unended limits old y h r e));
+      (underway_round limits old.pairs _ (λ y e. rest_still limits old y h r e) (told_none limits old k (plain.Finish x) h r) (λ y e. rest_unended limits old y h r e) refl);
   well = o.failed;
 }
 
@@ -107,7 +106,7 @@ late_finished old new x k o l ek = record {
 run_own : (x : ℕ) → list_any (is_run_of (request x)) (task.Run (request x) ∷ task.Round ∷ []) ≡ true
 run_own x = or_left (same_flow (request x) (request x)) false (same_request x)
 
-pub arrive_opened : (old new : Core) (x k : ℕ) (octets : List ℕ) (f : Flows) → IsOpened old f old.pairs (with_run (request x) (task.Round ∷ old.agenda)) new → Lives old.flows x true
+pub arrive_opened : (old new : PlainCore) (x k : ℕ) (octets : List ℕ) (f : Flows) → IsOpened old f old.pairs (with_run (request x) (task.Round ∷ old.agenda)) new → Lives old.flows x true
     → Fits old.flows x (length octets) true → Arrives x octets old.flows f → k ≡ old.turn + 1 → Opened old k (plain.Body x octets) (note.Arrive (request x) octets ∷ []) new
 arrive_opened old new x k octets f o l fits a ek = record {
   number = omega (arith, ek);
@@ -124,14 +123,14 @@ arrive_opened old new x k octets f o l fits a ek = record {
       (underway_of limits old.pairs agenda _
       (λ y e t. by_case (x == y) (λ s. let P : ℕ → Type 0 = λ v. list_any (is_run_of (request v)) agenda ≡ true in subst P (eq_of x y s) (run_own x))
       (λ d. not_both _ t (may_same limits y h (Noted (note.Arrive (request x) octets) ∷ turned k (plain.Body x octets) ∷ h) refl (body_keeps limits k x y octets h d).recv ∙ rest_still limits old y h r e)))
-      (inl ((body_keeps_write limits k x octets h).lows ∙ rests_told limits h rest)) (λ y e. rest_unended limits old y h r e) (tt, (tt, tt)) refl);
+      (inl ((body_keeps_write limits k x octets h).lows ∙ rests_told limits h rest)) (λ y e. rest_unended limits old y h r e) (tt, (tt, tt)) refl refl);
   well = o.failed;
 }
   where
     eq_of : (a b : ℕ) → (a == b) ≡ true → a ≡ b
     eq_of a b e = grind (arith, nat_tests)
 
-pub finish_opened : (old new : Core) (x k : ℕ) (f : Flows) → IsOpened old f old.pairs (with_run (request x) (task.Round ∷ old.agenda)) new → Lives old.flows x true
+pub finish_opened : (old new : PlainCore) (x k : ℕ) (f : Flows) → IsOpened old f old.pairs (with_run (request x) (task.Round ∷ old.agenda)) new → Lives old.flows x true
     → Ends x old.flows f → k ≡ old.turn + 1 → Opened old k (plain.Finish x) [] new
 finish_opened old new x k f o l a ek = record {
   number = omega (arith, ek);
@@ -144,12 +143,12 @@ finish_opened old new x k f o l a ek = record {
       (a.goes limits k h r.good.flows is)
       (finish_step limits k x h (at_rest limits old h r) (turn_number limits old k h r ek) m.2) refl (pairs_kept limits old h (turned k (plain.Finish x) ∷ h) r (λ y. refl))
       (underway_of limits old.pairs agenda _ (λ y e t. not_both _ t (rest_still limits old y h r e)) (inl (told_none limits old k (plain.Finish x) h r)) (λ y e. rest_unended limits old y h r e)
-      (tt, (tt, tt)) refl);
+      (tt, (tt, tt)) refl refl);
   well = o.failed;
 }
 
 -- ---- it is doomed
-pub over_opened : (old new : Core) (x k : ℕ) (octets : List ℕ) (b : Bool) (f : Flows) → IsOpened old f old.pairs (task.Round ∷ old.agenda) new → Lives old.flows x true
+pub over_opened : (old new : PlainCore) (x k : ℕ) (octets : List ℕ) (b : Bool) (f : Flows) → IsOpened old f old.pairs (task.Round ∷ old.agenda) new → Lives old.flows x true
     → Fits old.flows x (length octets) false → GivesUp x (cause.StreamError 3) old.flows b f → k ≡ old.turn + 1 → Opened old k (plain.Body x octets) (doom_of b x (cause.StreamError 3)) new
 over_opened old new x k octets false f o l fits g ek = record {
   number = omega (arith, ek);
@@ -171,11 +170,11 @@ over_opened old new x k octets true f o l fits g ek = record {
       (underway_round limits old.pairs _
       (λ y t. let k2 = has_left (live h) x y t in may_same limits y h (Noted (note.Doom x (cause.StreamError 3)) ∷ turned k e ∷ h) refl (over_keeps limits k x y octets h r.good.flows.lawful k2.1).recv
       ∙ rest_still limits old y h r k2.0)
-      (ap (without x) (told_none limits old k e h r)) (λ y t. rest_unended limits old y h r (has_left (live h) x y t).0));
+      (ap (without x) (told_none limits old k e h r)) (λ y t. rest_unended limits old y h r (has_left (live h) x y t).0) refl);
   well = o.failed;
 }
 
-pub over_any : (old new : Core) (x k : ℕ) (e : PlainEvent) (b : Bool) (f : Flows) → IsOpened old f old.pairs (task.Round ∷ old.agenda) new → Lives old.flows x true → IsOverrunBy old.flows x e
+pub over_any : (old new : PlainCore) (x k : ℕ) (e : PlainEvent) (b : Bool) (f : Flows) → IsOpened old f old.pairs (task.Round ∷ old.agenda) new → Lives old.flows x true → IsOverrunBy old.flows x e
     → GivesUp x (cause.StreamError 3) old.flows b f → k ≡ old.turn + 1 → Opened old k e (doom_of b x (cause.StreamError 3)) new
 over_any old new x k (plain.Body y octets) b f o l over g ek =
     let P : ℕ → Type 0 = λ v. Opened old k (plain.Body v octets) (doom_of b x (cause.StreamError 3)) new in
@@ -186,7 +185,7 @@ over_any old new x k (plain.Finish y) b f o l over g ek = absurd over
 over_any old new x k (plain.Cut y) b f o l over g ek = absurd over
 over_any old new x k (plain.Room n) b f o l over g ek = absurd over
 
-pub cut_opened : (old new : Core) (x k : ℕ) (b : Bool) (f : Flows) → IsOpened old f old.pairs (task.Round ∷ old.agenda) new → GivesUp x (cause.PeerReset 8) old.flows b f → k ≡ old.turn + 1
+pub cut_opened : (old new : PlainCore) (x k : ℕ) (b : Bool) (f : Flows) → IsOpened old f old.pairs (task.Round ∷ old.agenda) new → GivesUp x (cause.PeerReset 8) old.flows b f → k ≡ old.turn + 1
     → Opened old k (plain.Cut x) (doom_of b x (cause.PeerReset 8)) new
 cut_opened old new x k false f o g ek = record {
   number = omega (arith, ek);
@@ -198,7 +197,7 @@ cut_opened old new x k false f o g ek = record {
       good_of limits old new f old.pairs (task.Round ∷ old.agenda) (task.Round ∷ []) h (turned k (plain.Cut x) ∷ h) o r (λ e. ap (λ v. task.Round ∷ v) e)
       (subst F (sym g.is.1) (turn_stands limits k (plain.Cut x) h old.flows (λ y e. refl) r.good.flows.stands))
       (cut_late_step limits k x h (at_rest limits old h r) (turn_number limits old k h r ek) is) refl (pairs_kept limits old h (turned k (plain.Cut x) ∷ h) r (λ y. refl))
-      (underway_round limits old.pairs _ (λ y e. rest_still limits old y h r e) (told_none limits old k (plain.Cut x) h r) (λ y e. rest_unended limits old y h r e));
+      (underway_round limits old.pairs _ (λ y e. rest_still limits old y h r e) (told_none limits old k (plain.Cut x) h r) (λ y e. rest_unended limits old y h r e) refl);
   well = o.failed;
 }
 cut_opened old new x k true f o g ek = record {
@@ -214,6 +213,6 @@ cut_opened old new x k true f o g ek = record {
       (underway_round limits old.pairs _
       (λ y t. let k2 = has_left (live h) x y t in may_same limits y h (Noted (note.Doom x (cause.PeerReset 8)) ∷ turned k e ∷ h) refl (cut_keeps limits k x y h r.good.flows.lawful k2.1).recv
       ∙ rest_still limits old y h r k2.0)
-      (ap (without x) (told_none limits old k e h r)) (λ y t. rest_unended limits old y h r (has_left (live h) x y t).0));
+      (ap (without x) (told_none limits old k e h r)) (λ y t. rest_unended limits old y h r (has_left (live h) x y t).0) refl);
   well = o.failed;
 }

@@ -17,7 +17,7 @@ use Rattle.plain_core.specs.Noting.{AppendsNotes, turn_note}
 use Rattle.plain_core.specs.Runs.{CutsTurn, Opens}
 use Rattle.plain_core.specs.Stands.{CanTake}
 use Rattle.plain_core.specs.declared.flows.Flows.{Flows}
-use Rattle.plain_core.specs.declared.worker.Core.{Core}
+use Rattle.plain_core.specs.declared.plain.PlainCore.{PlainCore}
 use denote.Enum.Declared.{tag_of}
 use Rattle.flow_notes.specs.contracts.events.Event.{the_type}
 use Rattle.exchange_core.specs.declared.step.Received.TheVariants as received
@@ -26,14 +26,14 @@ use Rattle.flow_notes.specs.declared.events.PlainEvent.TheVariants as plain
 use Rattle.plain_core.specs.declared.agenda.Task.TheVariants as task
 
 -- ---- the event
-pub take_named : (core : Core) (notes : List Note) (e said : Event) → e ≡ said → CanTake core said notes → CanTake core e notes
+pub take_named : (core : PlainCore) (notes : List Note) (e said : Event) → e ≡ said → CanTake core said notes → CanTake core e notes
 take_named core notes e said eq t = let P : Event → Type 0 = λ v. CanTake core v notes in subst P (sym eq) t
 
-pub opens_named : (old new : Core) (before after : List Note) (e said : Event) (r : Result (Unit {0}) NoMemory) → e ≡ said → OnOk r (Opens old before e new after)
+pub opens_named : (old new : PlainCore) (before after : List Note) (e said : Event) (r : Result (Unit {0}) NoMemory) → e ≡ said → OnOk r (Opens old before e new after)
     → OnOk r (Opens old before said new after)
 opens_named old new before after e said r eq o = let P : Event → Type 0 = λ v. OnOk r (Opens old before v new after) in subst P eq o
 
-pub cut_named : (old : Core) (before after : List Note) (e said : Event) → e ≡ said → CutsTurn old before e after → CutsTurn old before said after
+pub cut_named : (old : PlainCore) (before after : List Note) (e said : Event) → e ≡ said → CutsTurn old before e after → CutsTurn old before said after
 cut_named old before after e said eq o = let P : Event → Type 0 = λ v. CutsTurn old before v after in subst P eq o
 
 -- octets of a stream, by another number and kept apart
@@ -47,7 +47,7 @@ pub plain_is : (e : Event) (p said : PlainEvent) → e ≡ event.Plain p → p �
 plain_is e p said ep es = sym (ep ∙ ap event.Plain es)
 
 -- no other event may be taken
-pub plain_alone : (core : Core) (e : Event) (notes : List Note) → CanTake core e notes → (tag_of the_type e ≡ 8 → ⊥) → ⊥
+pub plain_alone : (core : PlainCore) (e : Event) (notes : List Note) → CanTake core e notes → (tag_of the_type e ≡ 8 → ⊥) → ⊥
 plain_alone core e notes t none = alone (events_back (onto notes t.history)) e t.follows.0 none
   where
     alone : (es : List Event) (e : Event) → MayFollowEvent es e → (tag_of the_type e ≡ 8 → ⊥) → ⊥
@@ -63,12 +63,12 @@ plain_alone core e notes t none = alone (events_back (onto notes t.history)) e t
 
 -- ---- the flows
 -- the end of a live stream hasn't come
-pub finish_goes : (core : Core) (notes : List Note) (s x : ℕ) (b : Bool) → x ≡ s → b ≡ true → Lives core.flows x b → CanTake core (event.Plain (plain.Finish s)) notes → GoesOn core.flows x
+pub finish_goes : (core : PlainCore) (notes : List Note) (s x : ℕ) (b : Bool) → x ≡ s → b ≡ true → Lives core.flows x b → CanTake core (event.Plain (plain.Finish s)) notes → GoesOn core.flows x
 finish_goes core notes s x b es eb l t =
     let P : ℕ → Type 0 = λ v. MayFollowEvent (events_back (onto notes t.history)) (event.Plain (plain.Finish v)) in
     finish_goes_on t.limits core x (onto notes t.history) t.rests (lives_is core.flows x b true eb l) (subst P (sym es) t.follows.0)
 
-pub body_goes : (core : Core) (notes : List Note) (s x : ℕ) (octets : List ℕ) → x ≡ s → CanTake core (event.Plain (plain.Body s octets)) notes → GoesOn core.flows x
+pub body_goes : (core : PlainCore) (notes : List Note) (s x : ℕ) (octets : List ℕ) → x ≡ s → CanTake core (event.Plain (plain.Body s octets)) notes → GoesOn core.flows x
 body_goes core notes s x octets es t =
     let P : ℕ → Type 0 = λ v. MayFollowEvent (events_back (onto notes t.history)) (event.Plain (plain.Body v octets)) in
     body_goes_on t.limits core x octets (onto notes t.history) t.rests (subst P (sym es) t.follows.0)
@@ -88,21 +88,21 @@ over_named old new s x o p octets es eo ep r =
     record { is = (sym es, subst Q (sym r.2) (subst P (ep ∙ sym eo) r.1)) }
 
 -- ---- a core whose flows are as they were
-core_same : (old : Core) (f : Flows) → f ≡ old.flows → record old { flows = f } ≡ old
+core_same : (old : PlainCore) (f : Flows) → f ≡ old.flows → record old { flows = f } ≡ old
 core_same old f e = ap (λ (v : Flows). record old { flows = v }) e
 
-pub take_same : (old : Core) (f : Flows) (e : Event) (notes : List Note) → f ≡ old.flows → CanTake old e notes → CanTake (record old { flows = f }) e notes
-take_same old f e notes eq t = let P : Core → Type 0 = λ v. CanTake v e notes in subst P (sym (core_same old f eq)) t
+pub take_same : (old : PlainCore) (f : Flows) (e : Event) (notes : List Note) → f ≡ old.flows → CanTake old e notes → CanTake (record old { flows = f }) e notes
+take_same old f e notes eq t = let P : PlainCore → Type 0 = λ v. CanTake v e notes in subst P (sym (core_same old f eq)) t
 
-pub opens_same : (old new : Core) (f : Flows) (before after : List Note) (e : Event) (r : Result (Unit {0}) NoMemory) → f ≡ old.flows
+pub opens_same : (old new : PlainCore) (f : Flows) (before after : List Note) (e : Event) (r : Result (Unit {0}) NoMemory) → f ≡ old.flows
     → OnOk r (Opens (record old { flows = f }) before e new after) → OnOk r (Opens old before e new after)
-opens_same old new f before after e r eq o = let P : Core → Type 0 = λ v. OnOk r (Opens v before e new after) in subst P (core_same old f eq) o
+opens_same old new f before after e r eq o = let P : PlainCore → Type 0 = λ v. OnOk r (Opens v before e new after) in subst P (core_same old f eq) o
 
-pub cut_same : (old : Core) (f : Flows) (before after : List Note) (e : Event) → f ≡ old.flows → CutsTurn (record old { flows = f }) before e after → CutsTurn old before e after
-cut_same old f before after e eq o = let P : Core → Type 0 = λ v. CutsTurn v before e after in subst P (core_same old f eq) o
+pub cut_same : (old : PlainCore) (f : Flows) (before after : List Note) (e : Event) → f ≡ old.flows → CutsTurn (record old { flows = f }) before e after → CutsTurn old before e after
+cut_same old f before after e eq o = let P : PlainCore → Type 0 = λ v. CutsTurn v before e after in subst P (core_same old f eq) o
 
 -- ---- octets of a stream that isn't live any more
-pub late_result : (old new : Core) (f : Flows) (before after : List Note) (s x k : ℕ) (o octets : List ℕ) (r : Result (Unit {0}) NoMemory) → x ≡ s → o ≡ octets
+pub late_result : (old new : PlainCore) (f : Flows) (before after : List Note) (s x k : ℕ) (o octets : List ℕ) (r : Result (Unit {0}) NoMemory) → x ≡ s → o ≡ octets
     → AppendsNotes before (turn_note k (plain.Body s o) ∷ []) after r → IsOpened old f old.pairs (task.Round ∷ old.agenda) new → (Lives old.flows x false × (f ≡ old.flows)) → k ≡ old.turn + 1
     → (OnOk r (Opens old before (event.Plain (plain.Body s octets)) new after)) × CutsTurn old before (event.Plain (plain.Body s octets)) after
 late_result old new f before after s x k o octets r es eo a op l ek =

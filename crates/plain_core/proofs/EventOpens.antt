@@ -1,33 +1,33 @@
 -- What an event does to a core beside its notes, and that the core is good then.
+use Rattle.tape_laws.specs.Doomed.{is_swept}
 use Rattle.flow_gate.specs.declared.ids.FlowId.{FlowId}
-use Rattle.flow_notes.specs.declared.notes.Note.{Note}
 use Rattle.plain_laws.proofs.Streams.{not_both}
 use Rattle.plain_laws.specs.Settled.{Settled as IsSettledHistory}
 use Rattle.proxy_config.specs.Ranges.{IsRoute}
-use Rattle.std.proofs.Common.{ap, inl, refl, subst, sym, ◌∙◌}
+use Rattle.std.proofs.Common.{ap, inl, inr, refl, subst, sym, ◌∙◌}
 use Rattle.std.specs.BTreeMap.{get}
 use Rattle.std.specs.List.{AllByRecursion, list_any}
 use Rattle.std.specs.Ordering.{nat_cmp}
 use Rattle.std.specs.Prelude.{All, Bool, List, [], false, true, ℕ, ◌+◌, ◌∷◌, ◌≡◌, ◌⊎◌}
 use Rattle.tape_laws.specs.Dispatches.{has, is_some_of, live, turns}
 use Rattle.tape_laws.specs.Flows.{request}
-use Rattle.tape_laws.specs.History.{History, NoMark, onto}
+use Rattle.tape_laws.specs.History.{History, NoMark}
 use Rattle.tape_laws.specs.Pauses.{pending_lows}
-use Rattle.tape_laws.specs.Plain.{paired_with, plain_must_end, plain_setup}
+use Rattle.tape_laws.specs.Plain.{paired_with, plain_setup}
+use Rattle.tape_laws.specs.PlainSession.{plain_must_end}
 use Rattle.tape_laws.specs.declared.limits.PlainLimits.{PlainLimits}
 use Rattle.plain_core.specs.Agenda.{Agenda, is_rounded, is_run_of, is_telling, with_run}
 use Rattle.plain_core.specs.Carries.{Lives, may_move}
-use Rattle.plain_core.specs.Flows.{FlowsStand, IsSettled}
+use Rattle.plain_core.specs.Flows.{FlowsStand}
 use Rattle.plain_core.specs.Progress.{HasReason, Pairs, Underway}
-use Rattle.plain_core.specs.Runs.{IsGood}
 use Rattle.plain_core.specs.Stands.{Good, Rests}
 use Rattle.plain_core.specs.declared.flows.Flows.{Flows}
-use Rattle.plain_core.specs.declared.worker.Core.{Core}
+use Rattle.plain_core.specs.declared.plain.PlainCore.{PlainCore}
 use Rattle.flow_gate.specs.declared.ids.BufferId.TheVariants as buffer
 use Rattle.plain_core.specs.declared.agenda.Task.TheVariants as task
 
 -- the flows, pairs and agenda are these, and one more dispatch began
-pub record IsOpened (old : Core) (f : Flows) (p : Pairs) (a : Agenda) (new : Core) : Type 0 where
+pub record IsOpened (old : PlainCore) (f : Flows) (p : Pairs) (a : Agenda) (new : PlainCore) : Type 0 where
   pub turn : new.turn ≡ old.turn + 1
   pub flows : new.flows ≡ f
   pub pairs : new.pairs ≡ p
@@ -35,37 +35,37 @@ pub record IsOpened (old : Core) (f : Flows) (p : Pairs) (a : Agenda) (new : Cor
   pub routes : new.config.routes ≡ old.config.routes
   pub failed : new.failed ≡ old.failed
 
-pub opened_turn : (old mid new : Core) → mid.turn ≡ old.turn → mid.agenda ≡ old.agenda → mid.config.routes ≡ old.config.routes → mid.failed ≡ old.failed → new.turn ≡ mid.turn + 1
+pub opened_turn : (old mid new : PlainCore) → mid.turn ≡ old.turn → mid.agenda ≡ old.agenda → mid.config.routes ≡ old.config.routes → mid.failed ≡ old.failed → new.turn ≡ mid.turn + 1
     → new.agenda ≡ task.Round ∷ mid.agenda → new ≡ record mid { turn = new.turn; agenda = new.agenda } → IsOpened old mid.flows mid.pairs (task.Round ∷ old.agenda) new
 opened_turn old mid new et ea ec ef nt na rest = record {
   turn = nt ∙ ap (λ n. n + 1) et;
-  flows = ap (λ (v : Core). v.flows) rest;
-  pairs = ap (λ (v : Core). v.pairs) rest;
+  flows = ap (λ (v : PlainCore). v.flows) rest;
+  pairs = ap (λ (v : PlainCore). v.pairs) rest;
   agenda = na ∙ ap (λ (v : Agenda). task.Round ∷ v) ea;
-  routes = ap (λ (v : Core). v.config.routes) rest ∙ ec;
-  failed = ap (λ (v : Core). v.failed) rest ∙ ef;
+  routes = ap (λ (v : PlainCore). v.config.routes) rest ∙ ec;
+  failed = ap (λ (v : PlainCore). v.failed) rest ∙ ef;
 }
 
 -- and more was begun
-pub opened_more : (old mid new : Core) (f : Flows) (p : Pairs) (a b : Agenda) → IsOpened old f p a mid → (mid.agenda ≡ a → new.agenda ≡ b) → new ≡ record mid { agenda = new.agenda } → IsOpened old f p b new
+pub opened_more : (old mid new : PlainCore) (f : Flows) (p : Pairs) (a b : Agenda) → IsOpened old f p a mid → (mid.agenda ≡ a → new.agenda ≡ b) → new ≡ record mid { agenda = new.agenda } → IsOpened old f p b new
 opened_more old mid new f p a b o na rest = record {
-  turn = ap (λ (v : Core). v.turn) rest ∙ o.turn;
-  flows = ap (λ (v : Core). v.flows) rest ∙ o.flows;
-  pairs = ap (λ (v : Core). v.pairs) rest ∙ o.pairs;
+  turn = ap (λ (v : PlainCore). v.turn) rest ∙ o.turn;
+  flows = ap (λ (v : PlainCore). v.flows) rest ∙ o.flows;
+  pairs = ap (λ (v : PlainCore). v.pairs) rest ∙ o.pairs;
   agenda = na o.agenda;
-  routes = ap (λ (v : Core). v.config.routes) rest ∙ o.routes;
-  failed = ap (λ (v : Core). v.failed) rest ∙ o.failed;
+  routes = ap (λ (v : PlainCore). v.config.routes) rest ∙ o.routes;
+  failed = ap (λ (v : PlainCore). v.failed) rest ∙ o.failed;
 }
 
-pub opened_run : (old mid new : Core) (f : Flows) (p : Pairs) (a : Agenda) (g : FlowId) → IsOpened old f p a mid → new.agenda ≡ with_run g mid.agenda → new ≡ record mid { agenda = new.agenda }
+pub opened_run : (old mid new : PlainCore) (f : Flows) (p : Pairs) (a : Agenda) (g : FlowId) → IsOpened old f p a mid → new.agenda ≡ with_run g mid.agenda → new ≡ record mid { agenda = new.agenda }
     → IsOpened old f p (with_run g a) new
 opened_run old mid new f p a g o na rest = opened_more old mid new f p a (with_run g a) o (λ e. na ∙ ap (with_run g) e) rest
 
 -- the number of the turn note
-pub turn_number : (limits : PlainLimits) (core : Core) (k : ℕ) (h : History NoMark) → Rests limits core h → k ≡ core.turn + 1 → k ≡ turns h + 1
+pub turn_number : (limits : PlainLimits) (core : PlainCore) (k : ℕ) (h : History NoMark) → Rests limits core h → k ≡ core.turn + 1 → k ≡ turns h + 1
 turn_number limits core k h r ek = ek ∙ ap (λ n. n + 1) r.good.books.turn
 
-pub good_of : (limits : PlainLimits) (old new : Core) (f : Flows) (p : Pairs) (a b : Agenda) (h new_h : History NoMark) → IsOpened old f p a new → Rests limits old h → (old.agenda ≡ [] → a ≡ b)
+pub good_of : (limits : PlainLimits) (old new : PlainCore) (f : Flows) (p : Pairs) (a b : Agenda) (h new_h : History NoMark) → IsOpened old f p a new → Rests limits old h → (old.agenda ≡ [] → a ≡ b)
     → FlowsStand limits f new_h → IsSettledHistory limits new_h → turns new_h ≡ turns h + 1 → ((s x : ℕ) → has (paired_with x new_h) s ≡ is_some_of (get nat_cmp p s) x)
     → Underway limits p b new_h → Good limits new new_h
 good_of limits old new f p a b h new_h o r ea st law et ep u =
@@ -83,45 +83,43 @@ good_of limits old new f p a b h new_h o r ea st law et ep u =
     }
 
 -- where the pairs stay as they were
-pub pairs_kept : (limits : PlainLimits) (core : Core) (h new_h : History NoMark) → Rests limits core h → ((x : ℕ) → paired_with x new_h ≡ paired_with x h)
+pub pairs_kept : (limits : PlainLimits) (core : PlainCore) (h new_h : History NoMark) → Rests limits core h → ((x : ℕ) → paired_with x new_h ≡ paired_with x h)
     → (s x : ℕ) → has (paired_with x new_h) s ≡ is_some_of (get nat_cmp core.pairs s) x
 pairs_kept limits core h new_h r e s x = ap (λ (v : List ℕ). has v s) (e x) ∙ r.good.books.pairs s x
 
 pub underway_of : (limits : PlainLimits) (p : Pairs) (a : Agenda) (h : History NoMark)
     → ((x : ℕ) → has (live h) x ≡ true → may_move limits x h ≡ true → list_any (is_run_of (request x)) a ≡ true)
     → ((pending_lows (plain_setup limits) (buffer.Write 0) h ≡ []) ⊎ (list_any (is_telling 0) a ≡ true))
-    → ((x : ℕ) → has (live h) x ≡ true → plain_must_end x h ≡ false) → AllByRecursion (HasReason limits h) a → is_rounded a ≡ true → Underway limits p a h
-underway_of limits p a h runs tells ends reasons rounded = record {
+    → ((x : ℕ) → has (live h) x ≡ true → plain_must_end x h ≡ false) → AllByRecursion (HasReason limits h) a → is_rounded a ≡ true → is_swept h ≡ false → Underway limits p a h
+underway_of limits p a h runs tells ends reasons rounded fresh = record {
   runs = runs;
   tells = tells;
   ends = λ x is t. not_both _ t (ends x is);
   reasons = reasons;
+  unswept = inr fresh;
   rested = inl rounded;
 }
 
 -- only the round is begun, and nothing may move
 pub underway_round : (limits : PlainLimits) (p : Pairs) (h : History NoMark) → ((x : ℕ) → has (live h) x ≡ true → may_move limits x h ≡ false)
-    → pending_lows (plain_setup limits) (buffer.Write 0) h ≡ [] → ((x : ℕ) → has (live h) x ≡ true → plain_must_end x h ≡ false) → Underway limits p (task.Round ∷ []) h
-underway_round limits p h still told unended = underway_of limits p (task.Round ∷ []) h (λ x is t. not_both _ t (still x is)) (inl told) unended (tt, tt) refl
+    → pending_lows (plain_setup limits) (buffer.Write 0) h ≡ [] → ((x : ℕ) → has (live h) x ≡ true → plain_must_end x h ≡ false) → is_swept h ≡ false
+    → Underway limits p (task.Round ∷ []) h
+underway_round limits p h still told unended fresh = underway_of limits p (task.Round ∷ []) h (λ x is t. not_both _ t (still x is)) (inl told) unended (tt, tt) refl fresh
 
 -- over a core whose flows alone changed
-pub opened_given : (old mid new : Core) → mid ≡ record old { flows = mid.flows } → new.turn ≡ mid.turn + 1 → new.agenda ≡ task.Round ∷ mid.agenda
+pub opened_given : (old mid new : PlainCore) → mid ≡ record old { flows = mid.flows } → new.turn ≡ mid.turn + 1 → new.agenda ≡ task.Round ∷ mid.agenda
     → new ≡ record mid { turn = new.turn; agenda = new.agenda } → IsOpened old mid.flows old.pairs (task.Round ∷ old.agenda) new
 opened_given old mid new e nt na rest = record {
-  turn = nt ∙ ap (λ (v : Core). v.turn + 1) e;
-  flows = ap (λ (v : Core). v.flows) rest;
-  pairs = ap (λ (v : Core). v.pairs) rest ∙ ap (λ (v : Core). v.pairs) e;
-  agenda = na ∙ ap (λ (v : Core). task.Round ∷ v.agenda) e;
-  routes = ap (λ (v : Core). v.config.routes) rest ∙ ap (λ (v : Core). v.config.routes) e;
-  failed = ap (λ (v : Core). v.failed) rest ∙ ap (λ (v : Core). v.failed) e;
+  turn = nt ∙ ap (λ (v : PlainCore). v.turn + 1) e;
+  flows = ap (λ (v : PlainCore). v.flows) rest;
+  pairs = ap (λ (v : PlainCore). v.pairs) rest ∙ ap (λ (v : PlainCore). v.pairs) e;
+  agenda = na ∙ ap (λ (v : PlainCore). task.Round ∷ v.agenda) e;
+  routes = ap (λ (v : PlainCore). v.config.routes) rest ∙ ap (λ (v : PlainCore). v.config.routes) e;
+  failed = ap (λ (v : PlainCore). v.failed) rest ∙ ap (λ (v : PlainCore). v.failed) e;
 }
-
--- what an event function may ask of the flows
-pub settled_good : (core : Core) (notes : List Note) → IsGood core notes → IsSettled core.flows
-settled_good core notes g = record { limits = g.limits; history = onto notes g.history; settled = g.good.flows }
 
 pub lives_is : (flows : Flows) (x : ℕ) (b v : Bool) → b ≡ v → Lives flows x b → Lives flows x v
 lives_is flows x b v e l = let P : Bool → Type 0 = λ w. Lives flows x w in subst P e l
 
-pub number_given : (old mid : Core) (k : ℕ) → mid ≡ record old { flows = mid.flows } → k ≡ mid.turn + 1 → k ≡ old.turn + 1
-number_given old mid k e ek = ek ∙ ap (λ (v : Core). v.turn + 1) e
+pub number_given : (old mid : PlainCore) (k : ℕ) → mid ≡ record old { flows = mid.flows } → k ≡ mid.turn + 1 → k ≡ old.turn + 1
+number_given old mid k e ek = ek ∙ ap (λ (v : PlainCore). v.turn + 1) e

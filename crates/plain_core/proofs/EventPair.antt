@@ -7,21 +7,18 @@ use Rattle.plain_laws.proofs.Streams.{by_case, or_left, same_number}
 use Rattle.plain_laws.specs.Pairs.{seconds}
 use Rattle.std.proofs.Common.{Equal, Greater, Less, ap, arith, refl, subst, sym, ◌∙◌}
 use Rattle.std.proofs.lemmas.Bool.Decides.{nat_tests}
-use Rattle.std.proofs.lemmas.List.{append-nil}
 use Rattle.std.specs.BTreeMap.{Updates, get, is_at}
 use Rattle.std.specs.Ordering.{is_eq, nat_cmp}
 use Rattle.std.specs.Prelude.{Bool, List, Option, Some, [], cond, false, if◌then◌else◌, nat_lt, true, ℕ, ◌++◌, ◌+◌, ◌==◌, ◌||◌, ◌∷◌, ◌≡◌}
 use Rattle.tape_laws.specs.Dispatches.{has, is_some_of}
 use Rattle.tape_laws.specs.History.{History, NoMark}
-use Rattle.tape_laws.specs.Pauses.{pending_lows}
-use Rattle.tape_laws.specs.Plain.{paired_with, plain_setup}
+use Rattle.tape_laws.specs.Plain.{paired_with}
 use Rattle.plain_core.proofs.EventOpens.{IsOpened, good_of, turn_number, underway_round}
 use Rattle.plain_core.proofs.Fronts.{Opened}
 use Rattle.plain_core.proofs.Rested.{at_rest, rest_still, rest_unended}
 use Rattle.plain_core.proofs.TurnStands.{turn_stands, turned}
 use Rattle.plain_core.specs.Progress.{Pairs}
-use Rattle.plain_core.specs.declared.worker.Core.{Core}
-use Rattle.flow_gate.specs.declared.ids.BufferId.TheVariants as buffer
+use Rattle.plain_core.specs.declared.plain.PlainCore.{PlainCore}
 use Rattle.flow_notes.specs.declared.events.PlainEvent.TheVariants as plain
 use Rattle.plain_core.specs.declared.agenda.Task.TheVariants as task
 
@@ -55,7 +52,7 @@ pair_books old new first second k h books u none s x =
     own = own_pair first second x (paired_with x h) (second == x) (sym (pairs_agree first x h) ∙ ap (λ (v : List ℕ). has v x) none)
         ∙ ap (λ (v : Option ℕ). is_some_of v x) (sym u.1)
 
-pair_named : (old new : Core) (first second k : ℕ) (p : Pairs) → IsOpened old old.flows p (task.Round ∷ old.agenda) new → Updates nat_cmp old.pairs p first (Some second) → k ≡ old.turn + 1
+pair_named : (old new : PlainCore) (first second k : ℕ) (p : Pairs) → IsOpened old old.flows p (task.Round ∷ old.agenda) new → Updates nat_cmp old.pairs p first (Some second) → k ≡ old.turn + 1
     → Opened old k (plain.Pair first second) [] new
 pair_named old new first second k p o u ek = record {
   number = omega (arith, ek);
@@ -69,11 +66,11 @@ pair_named old new first second k p o u ek = record {
       (pair_step limits k first second h rest n m.2) refl
       (pair_books old.pairs p first second k h r.good.books.pairs u (pair_may limits first second h rest.regular m.2).none)
       (underway_round limits p (turned k (plain.Pair first second) ∷ h) (λ x is. rest_still limits old x h r is)
-      (append-nil (pending_lows (plain_setup limits) (buffer.Write 0) h) ∙ rests_told limits h rest) (λ x is. rest_unended limits old x h r is));
+      (rests_told limits h rest) (λ x is. rest_unended limits old x h r is) refl);
   well = o.failed;
 }
 
-pub pair_opened : (old new : Core) (a b first second k : ℕ) (p : Pairs) → a ≡ first → b ≡ second → IsOpened old old.flows p (task.Round ∷ old.agenda) new → Updates nat_cmp old.pairs p a (Some b)
+pub pair_opened : (old new : PlainCore) (a b first second k : ℕ) (p : Pairs) → a ≡ first → b ≡ second → IsOpened old old.flows p (task.Round ∷ old.agenda) new → Updates nat_cmp old.pairs p a (Some b)
     → k ≡ old.turn + 1 → Opened old k (plain.Pair first second) [] new
 pair_opened old new a b first second k p ea eb o u ek =
     let P : ℕ → Type 0 = λ v. Updates nat_cmp old.pairs p v (Some b) in

@@ -16,7 +16,7 @@ use Rattle.plain_core.specs.Noting.{AppendsNotes, turn_note}
 use Rattle.plain_core.specs.Progress.{Pairs}
 use Rattle.plain_core.specs.Runs.{CutsTurn, Opens}
 use Rattle.plain_core.specs.declared.flows.Flows.{Flows}
-use Rattle.plain_core.specs.declared.worker.Core.{Core}
+use Rattle.plain_core.specs.declared.plain.PlainCore.{PlainCore}
 use Rattle.exchange_core.specs.declared.step.Received.TheVariants as received
 use Rattle.flow_notes.specs.declared.events.Event.TheVariants as event
 use Rattle.flow_notes.specs.declared.events.PlainEvent.TheVariants as plain
@@ -24,12 +24,12 @@ use Rattle.flow_notes.specs.declared.notes.Note.TheVariants as note
 use Rattle.plain_core.specs.declared.agenda.Task.TheVariants as task
 
 -- the turn note and then others
-pub event_result : (old new : Core) (before mid after : List Note) (k : ℕ) (e : PlainEvent) (ns : List Note) (r : Result (Unit {0}) NoMemory) → mid ≡ before ++ turn_note k e ∷ []
+pub event_result : (old new : PlainCore) (before mid after : List Note) (k : ℕ) (e : PlainEvent) (ns : List Note) (r : Result (Unit {0}) NoMemory) → mid ≡ before ++ turn_note k e ∷ []
     → AppendsNotes mid ns after r → Opened old k e ns new → (OnOk r (Opens old before (event.Plain e) new after)) × CutsTurn old before (event.Plain e) after
 event_result old new before mid after k e ns r eq a o = (opens_after old new before mid after k e ns r eq a o, turn_after old new before mid after k e ns r eq a o)
 
 -- the same octets, flow and event by other names
-pub arrive_named : (old new : Core) (x k : ℕ) (e : PlainEvent) (octets o p : List ℕ) (g : FlowId) (f : Flows) → o ≡ octets → p ≡ octets → g ≡ request x → e ≡ plain.Body x octets
+pub arrive_named : (old new : PlainCore) (x k : ℕ) (e : PlainEvent) (octets o p : List ℕ) (g : FlowId) (f : Flows) → o ≡ octets → p ≡ octets → g ≡ request x → e ≡ plain.Body x octets
     → IsOpened old f old.pairs (with_run g (task.Round ∷ old.agenda)) new → ReceivesAs x p received.Arrived old.flows f → k ≡ old.turn + 1
     → Opened old k e (note.Arrive g o ∷ []) new
 arrive_named old new x k e octets o p g f eo ep eg ee op came ek =
@@ -41,11 +41,11 @@ arrive_named old new x k e octets o p g f eo ep eg ee op came ek =
     subst N (sym eg) (subst O (sym eo) (event_is old new k (plain.Body x octets) e (note.Arrive (request x) octets ∷ []) (sym ee) (arrive_opened old new x k octets f (subst A eg op) all.0 all.1 all.2 ek)))
 
 -- the telling is begun
-pub opened_telling : (old mid new : Core) (f : Flows) (p : Pairs) (a : Agenda) (low : Bool) → IsOpened old f p a mid → new.agenda ≡ with_telling low mid.agenda → new ≡ record mid { agenda = new.agenda }
+pub opened_telling : (old mid new : PlainCore) (f : Flows) (p : Pairs) (a : Agenda) (low : Bool) → IsOpened old f p a mid → new.agenda ≡ with_telling low mid.agenda → new ≡ record mid { agenda = new.agenda }
     → IsOpened old f p (with_telling low a) new
 opened_telling old mid new f p a low o na rest = opened_more old mid new f p a (with_telling low a) o (λ e. na ∙ ap (λ (v : Agenda). with_telling low v) e) rest
 
-pub finish_named : (old new : Core) (x s k : ℕ) (g : FlowId) (f : Flows) → x ≡ s → g ≡ request x → IsOpened old f old.pairs (with_run g (task.Round ∷ old.agenda)) new → Lives old.flows x true
+pub finish_named : (old new : PlainCore) (x s k : ℕ) (g : FlowId) (f : Flows) → x ≡ s → g ≡ request x → IsOpened old f old.pairs (with_run g (task.Round ∷ old.agenda)) new → Lives old.flows x true
     → Ends x old.flows f → k ≡ old.turn + 1 → Opened old k (plain.Finish s) [] new
 finish_named old new x s k g f es eg op l a ek =
     let A : FlowId → Type 0 = λ v. IsOpened old f old.pairs (with_run v (task.Round ∷ old.agenda)) new in

@@ -5,18 +5,15 @@ use Rattle.plain_laws.proofs.EventSteps.{room_none_step, room_step}
 use Rattle.plain_laws.proofs.Quiets.{rests_told}
 use Rattle.plain_laws.proofs.Streams.{not_both}
 use Rattle.std.proofs.Common.{ap, arith, inl, inr, refl, sym, ◌∙◌}
-use Rattle.std.proofs.lemmas.List.{append-nil}
 use Rattle.std.specs.List.{AllByRecursion, list_any}
 use Rattle.std.specs.Prelude.{Bool, List, [], false, if◌then◌else◌, length, map, min, not, true, ℕ, ◌&&◌, ◌+◌, ◌<◌, ◌∷◌, ◌≡◌, ◌⊎◌}
 use Rattle.tape_laws.specs.Dispatches.{live}
 use Rattle.tape_laws.specs.Flows.{request}
 use Rattle.tape_laws.specs.History.{History, NoMark, Noted}
-use Rattle.tape_laws.specs.Pauses.{pending_lows}
 use Rattle.tape_laws.specs.Plain.{plain_setup}
 use Rattle.tape_laws.specs.Watermark.{above}
 use Rattle.tape_laws.specs.World.{out}
 use Rattle.tape_laws.specs.declared.limits.PlainLimits.{PlainLimits}
-use Rattle.flow_gate.specs.Board.{pending_on}
 use Rattle.plain_core.proofs.EventOpens.{IsOpened, good_of, pairs_kept, turn_number, underway_of, underway_round}
 use Rattle.plain_core.proofs.Fronts.{Opened}
 use Rattle.plain_core.proofs.Rested.{at_rest, may_same, rest_still, rest_unended}
@@ -26,17 +23,13 @@ use Rattle.plain_core.specs.Carries.{Leaves}
 use Rattle.plain_core.specs.Progress.{HasReason}
 use Rattle.plain_core.specs.Stands.{Rests}
 use Rattle.plain_core.specs.declared.flows.Flows.{Flows}
-use Rattle.plain_core.specs.declared.worker.Core.{Core}
+use Rattle.plain_core.specs.declared.plain.PlainCore.{PlainCore}
 use Rattle.flow_gate.specs.declared.ids.BufferId.TheVariants as buffer
 use Rattle.flow_notes.specs.declared.events.PlainEvent.TheVariants as plain
 use Rattle.flow_notes.specs.declared.notes.Note.TheVariants as note
 use Rattle.plain_core.specs.declared.agenda.Task.TheVariants as task
 
--- nobody is to be told of the write buffer at rest
-pub room_told : (limits : PlainLimits) (core : Core) (h : History NoMark) → Rests limits core h → pending_on core.flows.gates (buffer.Write 0) ≡ []
-room_told limits core h r = r.good.flows.stands.gates.write_pending ∙ rests_told limits h (at_rest limits core h r)
-
-octets_of : (limits : PlainLimits) (core : Core) (h : History NoMark) → Rests limits core h → length core.flows.conn.write.octets ≡ length (out (plain_setup limits) 0 h)
+octets_of : (limits : PlainLimits) (core : PlainCore) (h : History NoMark) → Rests limits core h → length core.flows.conn.write.octets ≡ length (out (plain_setup limits) 0 h)
 octets_of limits core h r = ap length r.good.flows.stands.conn.octets
 
 least_of : (a n b c : ℕ) → a ≡ min n b → b ≡ c → a ≡ min n c
@@ -46,7 +39,7 @@ none_least : (n b c : ℕ) → min n b ≡ 0 → b ≡ c → min n c ≡ 0
 none_least n b c e f = sym (ap (λ v. min n v) f) ∙ e
 
 -- nothing may leave
-pub none_opened : (old new : Core) (n k : ℕ) → IsOpened old old.flows old.pairs (task.Round ∷ old.agenda) new → min n (length old.flows.conn.write.octets) ≡ 0 → k ≡ old.turn + 1
+pub none_opened : (old new : PlainCore) (n k : ℕ) → IsOpened old old.flows old.pairs (task.Round ∷ old.agenda) new → min n (length old.flows.conn.write.octets) ≡ 0 → k ≡ old.turn + 1
     → Opened old k (plain.Room n) [] new
 none_opened old new n k o none ek = record {
   number = omega (arith, ek);
@@ -57,8 +50,8 @@ none_opened old new n k o none ek = record {
       good_of limits old new old.flows old.pairs (task.Round ∷ old.agenda) (task.Round ∷ []) h (turned k (plain.Room n) ∷ h) o r (λ e. ap (λ v. task.Round ∷ v) e)
       (turn_stands limits k (plain.Room n) h old.flows (λ y e. refl) r.good.flows.stands)
       (room_none_step limits k n h rest (turn_number limits old k h r ek) (none_least n _ _ none (octets_of limits old h r))) refl (pairs_kept limits old h (turned k (plain.Room n) ∷ h) r (λ y. refl))
-      (underway_round limits old.pairs _ (λ y e. rest_still limits old y h r e) (append-nil (pending_lows (plain_setup limits) (buffer.Write 0) h) ∙ rests_told limits h rest)
-      (λ y e. rest_unended limits old y h r e));
+      (underway_round limits old.pairs _ (λ y e. rest_still limits old y h r e) (rests_told limits h rest)
+      (λ y e. rest_unended limits old y h r e) refl);
   well = o.failed;
 }
 
@@ -78,7 +71,7 @@ telling_rounded : (low : Bool) → is_rounded (with_telling low (task.Round ∷ 
 telling_rounded true = refl
 telling_rounded false = refl
 
-pub room_opened : (old new : Core) (n m k : ℕ) (low : Bool) (f : Flows) → IsOpened old f old.pairs (with_telling low (task.Round ∷ old.agenda)) new → Leaves m low old.flows f
+pub room_opened : (old new : PlainCore) (n m k : ℕ) (low : Bool) (f : Flows) → IsOpened old f old.pairs (with_telling low (task.Round ∷ old.agenda)) new → Leaves m low old.flows f
     → m ≡ min n (length old.flows.conn.write.octets) → 0 < m → k ≡ old.turn + 1 → Opened old k (plain.Room n) (note.Out 0 m ∷ []) new
 room_opened old new n m k low f o l em some ek = record {
   number = omega (arith, ek);
@@ -95,6 +88,6 @@ room_opened old new n m k low f o l em some ek = record {
       (underway_of limits old.pairs (with_telling low (task.Round ∷ [])) new_h
       (λ y e t. not_both _ t (may_same limits y h new_h refl (room_keeps limits k n m y h).recv ∙ rest_still limits old y h r e))
       (telling_told low (map request (live h)) _ (room_lows limits k n m h rest ∙ ap (λ v. if v then map request (live h) else []) (sym drained)))
-      (λ y e. rest_unended limits old y h r e) (telling_reasons limits new_h low) (telling_rounded low));
+      (λ y e. rest_unended limits old y h r e) (telling_reasons limits new_h low) (telling_rounded low) refl);
   well = o.failed;
 }

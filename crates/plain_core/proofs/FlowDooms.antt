@@ -14,7 +14,6 @@ use Rattle.plain_laws.proofs.Streams.{by_case, has_left, has_lost, has_stays, no
 use Rattle.plain_laws.specs.Keeping.{KeepsStream}
 use Rattle.plain_laws.specs.Regular.{IsLiveFlow}
 use Rattle.std.proofs.Common.{ap, arith, refl, subst, sym, ◌∙◌}
-use Rattle.std.proofs.lemmas.List.{append-nil}
 use Rattle.std.specs.BTreeMap.{get}
 use Rattle.std.specs.BTreeSet.{BTreeSet, contains}
 use Rattle.std.specs.List.{AllByRecursion}
@@ -223,10 +222,8 @@ pub dooms : (x : ℕ) (why : Cause) (old : Flows) (ex : Exchanges) (b : Board) (
 dooms x why old ex b conn holding c sound forgets counted made write last kept = record {
   goes = λ limits h s is. dooms_at limits x why h old ex b conn holding s.stands is s.lawful.untold s.lawful.regular.books.write_lows c sound forgets counted made write last kept;
   turned = λ limits k e h s is st.
-      let P : List FlowId → Type 0 = AllByRecursion (IsLiveFlow (live h)) in
       dooms_at limits x why (Noted (note.Turn k (event.Plain e)) ∷ h) old ex b conn holding st is
-      (λ y. append-nil _ ∙ s.lawful.untold y)
-      (subst P (sym (append-nil (pending_lows (plain_setup limits) (buffer.Write 0) h))) s.lawful.regular.books.write_lows) c sound forgets counted made write last kept;
+      s.lawful.untold s.lawful.regular.books.write_lows c sound forgets counted made write last kept;
 }
 
 -- the gates know the flow of a live stream, which has no response

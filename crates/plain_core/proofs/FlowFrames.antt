@@ -1,4 +1,5 @@
 -- What the flows are after a frame.
+use Rattle.h2_frames.specs.Head.{data_head}
 use Rattle.exchange_core.proofs.Outcomes.{at_found, from_found}
 use Rattle.exchange_core.specs.Changes.{ChangesFlow}
 use Rattle.exchange_core.specs.Effects.{body_framed}
@@ -32,7 +33,7 @@ use Rattle.tape_laws.specs.Flows.{request}
 use Rattle.tape_laws.specs.History.{History, NoMark, Noted, Step, onto}
 use Rattle.tape_laws.specs.Plain.{plain_ended, plain_setup}
 use Rattle.tape_laws.specs.Watermark.{above, drains_at, rises_at}
-use Rattle.tape_laws.specs.World.{data_head, out, place}
+use Rattle.tape_laws.specs.World.{out, place}
 use Rattle.tape_laws.specs.declared.limits.PlainLimits.{PlainLimits}
 use Rattle.wm_buffer.specs.Buffer.{AppendsOctets, Buffer}
 use Rattle.wm_buffer.specs.Watermark.{above_after, crossing}

@@ -103,6 +103,3 @@ next_nothing flows is = record {
 pub next_is : (flows : Flows) (next : Option NextFrame) → flows.conn.write.above ≡ false → IsNext flows.conn next → IsNextFrame flows next
 next_is flows None low is = next_nothing flows is
 next_is flows (Some next) low is = next_some flows next low is
-
-pub next_above_none : (flows : Flows) → flows.conn.write.above ≡ true → IsNextFrame flows None
-next_above_none flows high = record { goes = λ limits h s. record { none = inl (sym s.stands.conn.above ∙ high) } }

@@ -1,4 +1,5 @@
 -- What the flows are after watchers of the write buffer were told, and which of them go on.
+use Rattle.tape_laws.specs.Doomed.{is_swept}
 use Rattle.flow_gate.specs.Board.{Board, IsSound as IsSoundBoard, pending_on}
 use Rattle.flow_gate.specs.Changes.{Tells as TellsFlows}
 use Rattle.flow_gate.specs.declared.ids.FlowId.{FlowId}
@@ -45,12 +46,12 @@ told_conn limits fs rest conn h c is = record {
       ∙ ap (λ (xs : List ℕ). if has xs y then next_piece limits y (with_all_told fs h) else None) (sym is.lists.lives));
 }
 
-told_stand : (limits : PlainLimits) (fs : List FlowId) (old : Flows) (b : Board) (h : History NoMark) → Settled limits old h → TellsFlows (buffer.Write 0) fs old.gates b → IsSoundBoard b
+told_stand : (limits : PlainLimits) (fs : List FlowId) (old : Flows) (b : Board) (h : History NoMark) → Settled limits old h → is_swept h ≡ false → TellsFlows (buffer.Write 0) fs old.gates b → IsSoundBoard b
     → FlowsStand limits (record old { gates = b }) (with_all_told fs h)
-told_stand limits fs old b h settled t sound =
+told_stand limits fs old b h settled fresh t sound =
     let st = settled.stands in
     let rest = pending_on b (buffer.Write 0) in
-    let is : AreTold limits fs rest h (with_all_told fs h) = are_told limits fs rest h settled.lawful (sym st.gates.write_pending ∙ t.pending (buffer.Write 0)) in
+    let is : AreTold limits fs rest h (with_all_told fs h) = are_told limits fs rest h settled.lawful fresh (sym st.gates.write_pending ∙ t.pending (buffer.Write 0)) in
     record {
       limits_are = st.limits_are;
       ranges = st.ranges;
@@ -62,9 +63,9 @@ told_stand limits fs old b h settled t sound =
 
 pub tells : (n : ℕ) (old : Flows) (b : Board) → TellsFlows (buffer.Write 0) (take n (pending_on old.gates (buffer.Write 0))) old.gates b → IsSoundBoard b → Tells n old (record old { gates = b })
 tells n old b t sound = record {
-  goes = λ limits h s.
+  goes = λ limits h s fresh.
       let P : List FlowId → Type 0 = λ fs. FlowsStand limits (record old { gates = b }) (with_all_told (take n fs) h) in
-      subst P s.stands.gates.write_pending (told_stand limits (take n (pending_on old.gates (buffer.Write 0))) old b h s t sound);
+      subst P s.stands.gates.write_pending (told_stand limits (take n (pending_on old.gates (buffer.Write 0))) old b h s fresh t sound);
 }
 
 -- ---- which go on

@@ -16,10 +16,11 @@ use Rattle.tape_laws.specs.History.{History, NoMark, Noted, onto}
 use Rattle.tape_laws.specs.PlainTape.{IsPlainLawful}
 use Rattle.tape_laws.specs.declared.limits.PlainLimits.{PlainLimits}
 use Rattle.plain_core.specs.Noting.{AppendsNotes, AppendsSome, turn_note}
-use Rattle.plain_core.specs.Runs.{AreSpelled, Cuts, CutsTurn, Keeps, Opens}
+use Rattle.plain_core.specs.Runs.{Appends, AppendsTurn, AreSpelled, Cuts, CutsTurn, Keeps, Opens}
 use Rattle.plain_core.specs.Stands.{Good, Rests}
-use Rattle.plain_core.specs.declared.worker.Core.{Core}
+use Rattle.plain_core.specs.declared.plain.PlainCore.{PlainCore}
 use Rattle.flow_notes.specs.declared.events.Event.TheVariants as event
+use Rattle.flow_notes.specs.declared.notes.Note.TheVariants as note
 
 -- the note begins no dispatch
 pub record NoTurn (n : Note) : Type 0 where
@@ -71,18 +72,32 @@ pub push_appends : (before after : List Note) (n : Note) (r : Result (Unit {0}) 
 push_appends before after n (Ok u) e f = e
 push_appends before after n (Err x) e f = record { front = []; rest = n ∷ []; whole = refl; is = f ∙ sym (append-nil before) }
 
+pub appends_none : (before : List Note) → Appends before before
+appends_none before = record { added = []; is = sym (append-nil before) }
+
+pub appends_more : (k l m : List Note) → Appends k l → Appends l m → Appends k m
+appends_more k l m p q = record { added = p.added ++ q.added; is = whole_after k p.added q.added l m p.is q.is }
+
+pub turn_appended : (before : List Note) (e : Event) (after : List Note) → AppendsTurn before e after → Appends before after
+turn_appended before e after a = record { added = note.Turn a.number e ∷ a.added; is = a.is }
+
+pub turn_more : (before : List Note) (e : Event) (mid after : List Note) → AppendsTurn before e mid → Appends mid after → AppendsTurn before e after
+turn_more before e mid after a b =
+    record { number = a.number; added = a.added ++ b.added; is = whole_after before (note.Turn a.number e ∷ a.added) b.added mid after a.is b.is }
+
 -- ---- small steps
 -- a small step of a core, with its notes
-pub record Stepped (old : Core) (ns : List Note) (new : Core) : Type 0 where
+pub record Stepped (old : PlainCore) (ns : List Note) (new : PlainCore) : Type 0 where
   pub spelled : AreSpelled ns
   pub silent : AllByRecursion NoTurn ns
   pub goes : (limits : PlainLimits) (h : History NoMark) → Good limits old h → Good limits new (onto ns h)
   pub well : new.failed ≡ old.failed
 
-pub keeps_of : (old new : Core) (before ns after : List Note) → after ≡ before ++ ns → Stepped old ns new → Keeps old before new after
+pub keeps_of : (old new : PlainCore) (before ns after : List Note) → after ≡ before ++ ns → Stepped old ns new → Keeps old before new after
 keeps_of old new before ns after e s =
     let P : List Note → Type 0 = λ v. Keeps old before new v in
     subst P (sym e) (record {
+      appends = record { added = ns; is = refl };
       spelled = λ b. spelled_both before ns b s.spelled;
       events = λ h. ap events_back (onto_append before ns h) ∙ events_same ns (onto before h) s.silent;
       goes = λ limits h g. let Q : History NoMark → Type 0 = λ v. Good limits new v in subst Q (sym (onto_append before ns h)) (s.goes limits (onto before h) g);
@@ -90,13 +105,14 @@ keeps_of old new before ns after e s =
     })
 
 -- a front of notes that are lawful together
-pub cuts_lawful : (old : Core) (before ns after : List Note) → AppendsSome before ns after → AreSpelled ns → AllByRecursion NoTurn ns
+pub cuts_lawful : (old : PlainCore) (before ns after : List Note) → AppendsSome before ns after → AreSpelled ns → AllByRecursion NoTurn ns
     → ((limits : PlainLimits) (h : History NoMark) → Good limits old h → IsPlainLawful limits (onto ns h)) → Cuts old before after
 cuts_lawful old before ns after a sp si lawful =
     let P : List Note → Type 0 = λ v. Cuts old before v in
     let spelled : AreSpelled (a.front ++ a.rest) = let Q : List Note → Type 0 = AreSpelled in subst Q a.whole sp in
     let silent : AllByRecursion NoTurn (a.front ++ a.rest) = let Q : List Note → Type 0 = AllByRecursion NoTurn in subst Q a.whole si in
     subst P (sym a.is) (record {
+      appends = record { added = a.front; is = refl };
       spelled = λ b. spelled_both before a.front b (all_front (λ n. IsNote [] n) a.front a.rest spelled);
       events = λ h. ap events_back (onto_append before a.front h) ∙ events_same a.front (onto before h) (all_front NoTurn a.front a.rest silent);
       lawful = λ limits h g.
@@ -105,37 +121,38 @@ cuts_lawful old before ns after a sp si lawful =
           subst Q (sym (onto_append before a.front h)) (front_lawful limits a.front a.rest (onto before h) (subst R a.whole (lawful limits (onto before h) g)));
     })
 
-pub cuts_front : (old new : Core) (before ns after : List Note) → AppendsSome before ns after → Stepped old ns new → Cuts old before after
+pub cuts_front : (old new : PlainCore) (before ns after : List Note) → AppendsSome before ns after → Stepped old ns new → Cuts old before after
 cuts_front old new before ns after a s = cuts_lawful old before ns after a s.spelled s.silent (λ limits h g. (s.goes limits h g).flows.lawful.regular.lawful)
 
-pub cuts_none : (old : Core) (before : List Note) → Cuts old before before
-cuts_none old before = record { spelled = λ b. b; events = λ h. refl; lawful = λ limits h g. g.flows.lawful.regular.lawful }
+pub cuts_none : (old : PlainCore) (before : List Note) → Cuts old before before
+cuts_none old before = record { appends = appends_none before; spelled = λ b. b; events = λ h. refl; lawful = λ limits h g. g.flows.lawful.regular.lawful }
 
-pub cuts_keeps : (old new : Core) (before after : List Note) → Keeps old before new after → Cuts old before after
-cuts_keeps old new before after k = record { spelled = k.spelled; events = k.events; lawful = λ limits h g. (k.goes limits h g).flows.lawful.regular.lawful }
+pub cuts_keeps : (old new : PlainCore) (before after : List Note) → Keeps old before new after → Cuts old before after
+cuts_keeps old new before after k = record { appends = k.appends; spelled = k.spelled; events = k.events; lawful = λ limits h g. (k.goes limits h g).flows.lawful.regular.lawful }
 
-pub keeps_result : (old new : Core) (before ns after : List Note) (r : Result (Unit {0}) NoMemory) → AppendsNotes before ns after r → Stepped old ns new → OnOk r (Keeps old before new after)
+pub keeps_result : (old new : PlainCore) (before ns after : List Note) (r : Result (Unit {0}) NoMemory) → AppendsNotes before ns after r → Stepped old ns new → OnOk r (Keeps old before new after)
 keeps_result old new before ns after (Ok u) a s = keeps_of old new before ns after a s
 keeps_result old new before ns after (Err f) a s = tt
 
-pub cuts_result : (old new : Core) (before ns after : List Note) (r : Result (Unit {0}) NoMemory) → AppendsNotes before ns after r → Stepped old ns new → Cuts old before after
+pub cuts_result : (old new : PlainCore) (before ns after : List Note) (r : Result (Unit {0}) NoMemory) → AppendsNotes before ns after r → Stepped old ns new → Cuts old before after
 cuts_result old new before ns after (Ok u) a s = cuts_keeps old new before after (keeps_of old new before ns after a s)
 cuts_result old new before ns after (Err f) a s = cuts_front old new before ns after a s
 
 -- ---- events
 -- an event's own effect, with its turn note and others
-pub record Opened (old : Core) (k : ℕ) (e : PlainEvent) (ns : List Note) (new : Core) : Type 0 where
+pub record Opened (old : PlainCore) (k : ℕ) (e : PlainEvent) (ns : List Note) (new : PlainCore) : Type 0 where
   pub number : 1 ≤ k
   pub spelled : IsEvent [] (event.Plain e) → AreSpelled ns
   pub silent : AllByRecursion NoTurn ns
   pub goes : (limits : PlainLimits) (h : History NoMark) → Rests limits old h → MayFollowEvent (events_back h) (event.Plain e) → Good limits new (onto (turn_note k e ∷ ns) h)
   pub well : new.failed ≡ old.failed
 
-pub opens_of : (old new : Core) (before after : List Note) (k : ℕ) (e : PlainEvent) (ns : List Note) → after ≡ before ++ turn_note k e ∷ ns → Opened old k e ns new
+pub opens_of : (old new : PlainCore) (before after : List Note) (k : ℕ) (e : PlainEvent) (ns : List Note) → after ≡ before ++ turn_note k e ∷ ns → Opened old k e ns new
     → Opens old before (event.Plain e) new after
 opens_of old new before after k e ns eq o =
     let P : List Note → Type 0 = λ v. Opens old before (event.Plain e) new v in
     subst P (sym eq) (record {
+      appends = record { number = k; added = ns; is = refl };
       spelled = λ i b. spelled_both before (turn_note k e ∷ ns) b ((o.number, i), o.spelled i);
       shows = λ h. ap events_back (onto_append before (turn_note k e ∷ ns) h) ∙ events_same ns (Noted (turn_note k e) ∷ onto before h) o.silent;
       goes = λ limits h g m.
@@ -145,8 +162,8 @@ opens_of old new before after k e ns eq o =
     })
 
 -- a dispatch that was cut before its first note
-pub no_turn : (old : Core) (before : List Note) (e : Event) → CutsTurn old before e before
-no_turn old before e = record { spelled = λ i b. b; shows = λ h. inl refl; lawful = λ limits h r m. r.good.flows.lawful.regular.lawful }
+pub no_turn : (old : PlainCore) (before : List Note) (e : Event) → CutsTurn old before e before
+no_turn old before e = record { appends = appends_none before; spelled = λ i b. b; shows = λ h. inl refl; lawful = λ limits h r m. r.good.flows.lawful.regular.lawful }
 
 front_shows : (front rest : List Note) (k : ℕ) (e : PlainEvent) (ns : List Note) (h : History NoMark) → turn_note k e ∷ ns ≡ front ++ rest → AllByRecursion NoTurn ns
     → (events_back (onto front h) ≡ events_back h) ⊎ (events_back (onto front h) ≡ event.Plain e ∷ events_back h)
@@ -160,11 +177,12 @@ front_shows (n ∷ front) rest k e ns h w s =
 front_spelled : (front rest : List Note) (k : ℕ) (e : PlainEvent) (ns : List Note) → turn_note k e ∷ ns ≡ front ++ rest → AreSpelled (turn_note k e ∷ ns) → AreSpelled front
 front_spelled front rest k e ns w s = let Q : List Note → Type 0 = AreSpelled in all_front (λ n. IsNote [] n) front rest (subst Q w s)
 
-pub turn_front : (old new : Core) (before after : List Note) (k : ℕ) (e : PlainEvent) (ns : List Note) → AppendsSome before (turn_note k e ∷ ns) after → Opened old k e ns new
+pub turn_front : (old new : PlainCore) (before after : List Note) (k : ℕ) (e : PlainEvent) (ns : List Note) → AppendsSome before (turn_note k e ∷ ns) after → Opened old k e ns new
     → CutsTurn old before (event.Plain e) after
 turn_front old new before after k e ns a o =
     let P : List Note → Type 0 = λ v. CutsTurn old before (event.Plain e) v in
     subst P (sym a.is) (record {
+      appends = record { added = a.front; is = refl };
       spelled = λ i b. spelled_both before a.front b (front_spelled a.front a.rest k e ns a.whole ((o.number, i), o.spelled i));
       shows = λ h.
           let E : History NoMark → Type 0 = λ v. (events_back v ≡ events_back (onto before h)) ⊎ (events_back v ≡ event.Plain e ∷ events_back (onto before h)) in
@@ -175,33 +193,33 @@ turn_front old new before after k e ns a o =
           subst Q (sym (onto_append before a.front h)) (front_lawful limits a.front a.rest (onto before h) (subst R a.whole (o.goes limits (onto before h) g m.0).flows.lawful.regular.lawful));
     })
 
-pub cuts_opens : (old new : Core) (before after : List Note) (e : Event) → Opens old before e new after → CutsTurn old before e after
-cuts_opens old new before after e o = record { spelled = o.spelled; shows = λ h. inr (o.shows h); lawful = λ limits h r m. (o.goes limits h r m).flows.lawful.regular.lawful }
+pub cuts_opens : (old new : PlainCore) (before after : List Note) (e : Event) → Opens old before e new after → CutsTurn old before e after
+cuts_opens old new before after e o = record { appends = turn_appended before e after o.appends; spelled = o.spelled; shows = λ h. inr (o.shows h); lawful = λ limits h r m. (o.goes limits h r m).flows.lawful.regular.lawful }
 
-pub opens_result : (old new : Core) (before after : List Note) (k : ℕ) (e : PlainEvent) (ns : List Note) (r : Result (Unit {0}) NoMemory)
+pub opens_result : (old new : PlainCore) (before after : List Note) (k : ℕ) (e : PlainEvent) (ns : List Note) (r : Result (Unit {0}) NoMemory)
     → AppendsNotes before (turn_note k e ∷ ns) after r → Opened old k e ns new → OnOk r (Opens old before (event.Plain e) new after)
 opens_result old new before after k e ns (Ok u) a o = opens_of old new before after k e ns a o
 opens_result old new before after k e ns (Err f) a o = tt
 
-pub turn_result : (old new : Core) (before after : List Note) (k : ℕ) (e : PlainEvent) (ns : List Note) (r : Result (Unit {0}) NoMemory)
+pub turn_result : (old new : PlainCore) (before after : List Note) (k : ℕ) (e : PlainEvent) (ns : List Note) (r : Result (Unit {0}) NoMemory)
     → AppendsNotes before (turn_note k e ∷ ns) after r → Opened old k e ns new → CutsTurn old before (event.Plain e) after
 turn_result old new before after k e ns (Ok u) a o = cuts_opens old new before after (event.Plain e) (opens_of old new before after k e ns a o)
 turn_result old new before after k e ns (Err f) a o = turn_front old new before after k e ns a o
 
 -- the same event
-pub event_is : (old new : Core) (k : ℕ) (e said : PlainEvent) (ns : List Note) → e ≡ said → Opened old k e ns new → Opened old k said ns new
+pub event_is : (old new : PlainCore) (k : ℕ) (e said : PlainEvent) (ns : List Note) → e ≡ said → Opened old k e ns new → Opened old k said ns new
 event_is old new k e said ns eq o = let P : PlainEvent → Type 0 = λ v. Opened old k v ns new in subst P eq o
 
 -- the turn note, and then others
-pub opens_after : (old new : Core) (before mid after : List Note) (k : ℕ) (e : PlainEvent) (ns : List Note) (r : Result (Unit {0}) NoMemory) → mid ≡ before ++ turn_note k e ∷ []
+pub opens_after : (old new : PlainCore) (before mid after : List Note) (k : ℕ) (e : PlainEvent) (ns : List Note) (r : Result (Unit {0}) NoMemory) → mid ≡ before ++ turn_note k e ∷ []
     → AppendsNotes mid ns after r → Opened old k e ns new → OnOk r (Opens old before (event.Plain e) new after)
 opens_after old new before mid after k e ns r eq a o = opens_result old new before after k e ns r (appends_both before (turn_note k e ∷ []) ns mid after r eq a) o
 
-pub turn_after : (old new : Core) (before mid after : List Note) (k : ℕ) (e : PlainEvent) (ns : List Note) (r : Result (Unit {0}) NoMemory) → mid ≡ before ++ turn_note k e ∷ []
+pub turn_after : (old new : PlainCore) (before mid after : List Note) (k : ℕ) (e : PlainEvent) (ns : List Note) (r : Result (Unit {0}) NoMemory) → mid ≡ before ++ turn_note k e ∷ []
     → AppendsNotes mid ns after r → Opened old k e ns new → CutsTurn old before (event.Plain e) after
 turn_after old new before mid after k e ns r eq a o = turn_result old new before after k e ns r (appends_both before (turn_note k e ∷ []) ns mid after r eq a) o
 
 -- the turn note is refused, or not
-pub turn_refused : (old new : Core) (before after : List Note) (k : ℕ) (e : PlainEvent) (ns : List Note) → AppendsSome before (turn_note k e ∷ []) after → Opened old k e ns new
+pub turn_refused : (old new : PlainCore) (before after : List Note) (k : ℕ) (e : PlainEvent) (ns : List Note) → AppendsSome before (turn_note k e ∷ []) after → Opened old k e ns new
     → CutsTurn old before (event.Plain e) after
 turn_refused old new before after k e ns a o = turn_front old new before after k e ns (front_more before (turn_note k e ∷ []) ns after a) o

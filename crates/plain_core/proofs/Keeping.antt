@@ -16,23 +16,23 @@ use Rattle.tape_laws.specs.Dispatches.{has, is_some_of, turns}
 use Rattle.tape_laws.specs.History.{History, NoMark}
 use Rattle.tape_laws.specs.Plain.{paired_with}
 use Rattle.tape_laws.specs.declared.limits.PlainLimits.{PlainLimits}
-use Rattle.plain_core.proofs.Fronts.{NoTurn}
+use Rattle.plain_core.proofs.Fronts.{NoTurn, appends_more}
 use Rattle.plain_core.specs.Flows.{FlowsStand}
 use Rattle.plain_core.specs.Noting.{pauses_of, rise_of}
 use Rattle.plain_core.specs.Progress.{Pairs, Underway}
 use Rattle.plain_core.specs.Runs.{AreSpelled, Cuts, Keeps}
 use Rattle.plain_core.specs.Stands.{BooksAre, Good}
 use Rattle.plain_core.specs.declared.flows.Flows.{Flows}
-use Rattle.plain_core.specs.declared.worker.Core.{Core}
+use Rattle.plain_core.specs.declared.plain.PlainCore.{PlainCore}
 
 -- flows and agenda alone differ
-pub record OnlyMoves (old new : Core) : Type 0 where
+pub record OnlyMoves (old new : PlainCore) : Type 0 where
   pub config : new.config ≡ old.config
   pub turn : new.turn ≡ old.turn
   pub pairs : new.pairs ≡ old.pairs
   pub well : new.failed ≡ old.failed
 
-pub books_kept : (old new : Core) (h k : History NoMark) → OnlyMoves old new → turns k ≡ turns h → ((x : ℕ) → paired_with x k ≡ paired_with x h) → BooksAre old h → BooksAre new k
+pub books_kept : (old new : PlainCore) (h k : History NoMark) → OnlyMoves old new → turns k ≡ turns h → ((x : ℕ) → paired_with x k ≡ paired_with x h) → BooksAre old h → BooksAre new k
 books_kept old new h k o t p b = record {
   turn = o.turn ∙ b.turn ∙ sym t;
   pairs = λ s x. ap (λ (v : List ℕ). has v s) (p x) ∙ b.pairs s x ∙ ap (λ (v : Pairs). is_some_of (get nat_cmp v s) x) (sym o.pairs);
@@ -40,19 +40,19 @@ books_kept old new h k o t p b = record {
 }
 
 -- a core with other flows and another agenda
-pub only_moves : (old new : Core) (flows : Flows) → new ≡ record old { flows = flows; agenda = new.agenda } → OnlyMoves old new
+pub only_moves : (old new : PlainCore) (flows : Flows) → new ≡ record old { flows = flows; agenda = new.agenda } → OnlyMoves old new
 only_moves old new flows e = record {
-  config = ap (λ (c : Core). c.config) e;
-  turn = ap (λ (c : Core). c.turn) e;
-  pairs = ap (λ (c : Core). c.pairs) e;
-  well = ap (λ (c : Core). c.failed) e;
+  config = ap (λ (c : PlainCore). c.config) e;
+  turn = ap (λ (c : PlainCore). c.turn) e;
+  pairs = ap (λ (c : PlainCore). c.pairs) e;
+  well = ap (λ (c : PlainCore). c.failed) e;
 }
 
-pub flows_are : (old new : Core) (flows : Flows) → new ≡ record old { flows = flows; agenda = new.agenda } → new.flows ≡ flows
-flows_are old new flows e = ap (λ (c : Core). c.flows) e
+pub flows_are : (old new : PlainCore) (flows : Flows) → new ≡ record old { flows = flows; agenda = new.agenda } → new.flows ≡ flows
+flows_are old new flows e = ap (λ (c : PlainCore). c.flows) e
 
 -- the core with other flows
-abbrev pub with_flows : Core → Flows → Core
+abbrev pub with_flows : PlainCore → Flows → PlainCore
 with_flows core flows = record core { flows = flows }
 
 pub on_ok : {A : Type 0} (r : Result (Unit {0}) NoMemory) → A → OnOk r A
@@ -60,7 +60,7 @@ on_ok (Ok u) a = a
 on_ok (Err e) a = tt
 
 -- a core stands after a step that is no turn
-pub good_of : (limits : PlainLimits) (old new : Core) (h k : History NoMark) → OnlyMoves old new → turns k ≡ turns h → ((x : ℕ) → paired_with x k ≡ paired_with x h)
+pub good_of : (limits : PlainLimits) (old new : PlainCore) (h k : History NoMark) → OnlyMoves old new → turns k ≡ turns h → ((x : ℕ) → paired_with x k ≡ paired_with x h)
     → FlowsStand limits new.flows k → IsSettledHistory limits k → Underway limits old.pairs new.agenda k → Good limits old h → Good limits new k
 good_of limits old new h k o t p f s u g = record {
   flows = record { stands = f; lawful = s };
@@ -69,20 +69,22 @@ good_of limits old new h k o t p f s u g = record {
 }
 
 -- ---- one step after the other
-pub keeps_more : (a b c : Core) (k l m : List Note) → Keeps a k b l → Keeps b l c m → Keeps a k c m
+pub keeps_more : (a b c : PlainCore) (k l m : List Note) → Keeps a k b l → Keeps b l c m → Keeps a k c m
 keeps_more a b c k l m p q = record {
+  appends = appends_more k l m p.appends q.appends;
   spelled = λ s. q.spelled (p.spelled s);
   events = λ h. q.events h ∙ p.events h;
   goes = λ limits h g. q.goes limits h (p.goes limits h g);
   well = q.well ∙ p.well;
 }
 
-pub keeps_then : (a b c : Core) (k l m : List Note) (r : Result (Unit {0}) NoMemory) → Keeps a k b l → OnOk r (Keeps b l c m) → OnOk r (Keeps a k c m)
+pub keeps_then : (a b c : PlainCore) (k l m : List Note) (r : Result (Unit {0}) NoMemory) → Keeps a k b l → OnOk r (Keeps b l c m) → OnOk r (Keeps a k c m)
 keeps_then a b c k l m (Ok u) p q = keeps_more a b c k l m p q
 keeps_then a b c k l m (Err e) p q = tt
 
-pub cuts_more : (a b : Core) (k l m : List Note) → Keeps a k b l → Cuts b l m → Cuts a k m
+pub cuts_more : (a b : PlainCore) (k l m : List Note) → Keeps a k b l → Cuts b l m → Cuts a k m
 cuts_more a b k l m p q = record {
+  appends = appends_more k l m p.appends q.appends;
   spelled = λ s. q.spelled (p.spelled s);
   events = λ h. q.events h ∙ p.events h;
   lawful = λ limits h g. q.lawful limits h (p.goes limits h g);

@@ -1,7 +1,6 @@
 -- What a core at rest stands for.
 use Rattle.plain_laws.proofs.Streams.{by_case, not_both}
-use Rattle.plain_laws.specs.Regular.{Regular, Rests as IsAtRest}
-use Rattle.plain_laws.specs.Owing.{nothing}
+use Rattle.plain_laws.specs.Regular.{Rests as IsAtRest}
 use Rattle.std.proofs.Common.{ap, refl, ◌∙◌}
 use Rattle.std.specs.List.{list_any}
 use Rattle.std.specs.Prelude.{Bool, [], false, length, nat_lt, true, ℕ, ◌&&◌, ◌==◌, ◌≡◌}
@@ -9,31 +8,29 @@ use Rattle.tape_laws.specs.Dispatches.{has, live}
 use Rattle.tape_laws.specs.Flows.{request}
 use Rattle.tape_laws.specs.History.{History, NoMark}
 use Rattle.tape_laws.specs.Pauses.{count}
-use Rattle.tape_laws.specs.Plain.{plain_must_end, plain_setup}
+use Rattle.tape_laws.specs.Plain.{plain_setup}
+use Rattle.tape_laws.specs.PlainSession.{plain_must_end}
 use Rattle.tape_laws.specs.World.{place}
 use Rattle.tape_laws.specs.declared.limits.PlainLimits.{PlainLimits}
 use Rattle.plain_core.specs.Agenda.{Agenda}
 use Rattle.plain_core.specs.Carries.{may_move}
 use Rattle.plain_core.specs.Stands.{Rests}
 use Rattle.plain_core.specs.declared.agenda.Task.{Task}
-use Rattle.plain_core.specs.declared.worker.Core.{Core}
+use Rattle.plain_core.specs.declared.plain.PlainCore.{PlainCore}
 
-pub at_rest : (limits : PlainLimits) (core : Core) (h : History NoMark) → Rests limits core h → IsAtRest limits h
+pub at_rest : (limits : PlainLimits) (core : PlainCore) (h : History NoMark) → Rests limits core h → IsAtRest limits h
 at_rest limits core h r = record { regular = r.good.flows.lawful.regular; quiet = r.whole.quiet }
-
-pub regular_of : (limits : PlainLimits) (core : Core) (h : History NoMark) → Rests limits core h → Regular limits nothing h
-regular_of limits core h r = r.good.flows.lawful.regular
 
 -- of an agenda that is empty
 pub no_task : (p : Task → Bool) (agenda : Agenda) → agenda ≡ [] → list_any p agenda ≡ false
 no_task p agenda e = ap (list_any p) e
 
 -- no octets may move
-pub rest_still : (limits : PlainLimits) (core : Core) (x : ℕ) (h : History NoMark) → Rests limits core h → has (live h) x ≡ true → may_move limits x h ≡ false
+pub rest_still : (limits : PlainLimits) (core : PlainCore) (x : ℕ) (h : History NoMark) → Rests limits core h → has (live h) x ≡ true → may_move limits x h ≡ false
 rest_still limits core x h r is = by_case (may_move limits x h) (λ t. not_both _ (r.good.underway.runs x is t) (no_task _ core.agenda r.idle)) (λ f. f)
 
 -- no stream has to end
-pub rest_unended : (limits : PlainLimits) (core : Core) (x : ℕ) (h : History NoMark) → Rests limits core h → has (live h) x ≡ true → plain_must_end x h ≡ false
+pub rest_unended : (limits : PlainLimits) (core : PlainCore) (x : ℕ) (h : History NoMark) → Rests limits core h → has (live h) x ≡ true → plain_must_end x h ≡ false
 rest_unended limits core x h r is = by_case (plain_must_end x h) (λ t. not_both _ (r.good.underway.ends x is t) (no_task _ core.agenda r.idle)) (λ f. f)
 
 -- what keeps a stream's count and its receive buffer

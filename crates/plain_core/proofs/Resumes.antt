@@ -1,25 +1,19 @@
 -- The resumes of flows that are told that the write buffer drained.
 use Rattle.flow_gate.specs.Board.{pending_on}
-use Rattle.flow_gate.specs.declared.ids.BufferId.{BufferId}
 use Rattle.flow_gate.specs.declared.ids.FlowId.{FlowId}
 use Rattle.flow_notes.specs.declared.notes.Note.{Note}
-use Rattle.std.proofs.Common.{ap, append_assoc, arith, refl, sym, ◌∙◌}
+use Rattle.std.proofs.Common.{ap, append_assoc, arith, sym, ◌∙◌}
 use Rattle.std.proofs.Math.Seq.{take-append_seam}
-use Rattle.std.proofs.lemmas.List.{append-nil, length-append, take-append-drop}
+use Rattle.std.proofs.lemmas.List.{append-nil, length-append}
 use Rattle.std.specs.List.{AllByRecursion}
-use Rattle.std.specs.Prelude.{List, None, Some, [], drop, false, length, option_to_list, take, true, ℕ, ◌++◌, ◌+◌, ◌∷◌, ◌≡◌, ◌≤◌}
+use Rattle.std.specs.Prelude.{List, None, Some, [], false, length, option_to_list, take, true, ℕ, ◌++◌, ◌+◌, ◌∷◌, ◌≡◌}
 use Rattle.plain_core.proofs.FlowTells.{wakes_above}
 use Rattle.plain_core.specs.Carries.{Wakes}
-use Rattle.plain_core.specs.Noting.{AppendsSome, resumes_of}
+use Rattle.plain_core.specs.Noting.{resumes_of}
 use Rattle.plain_core.specs.Telling.{IsToldNext, TellsUpTo}
 use Rattle.plain_core.specs.declared.flows.Flows.{Flows}
-use Rattle.plain_core.specs.declared.noting.Told.{Told}
+use Rattle.plain_core.specs.declared.telling.Told.{Told}
 use Rattle.flow_gate.specs.declared.ids.BufferId.TheVariants as buffer
-use Rattle.flow_notes.specs.declared.notes.Note.TheVariants as note
-
-pub resumes_both : (b : BufferId) (fs gs : List FlowId) → resumes_of b (fs ++ gs) ≡ resumes_of b fs ++ resumes_of b gs
-resumes_both b [] gs = refl
-resumes_both b (f ∷ fs) gs = ap (λ (ns : List Note). note.Resume f b ∷ ns) (resumes_both b fs gs)
 
 pub all_more : (P : FlowId → Type 0) (fs : List FlowId) (f : FlowId) → AllByRecursion P fs → P f → AllByRecursion P (fs ++ f ∷ [])
 all_more P [] f a p = (p, tt)
@@ -53,13 +47,6 @@ pub all_still : (flows : Flows) (fs : List FlowId) → flows.conn.write.above �
 all_still flows [] high = tt
 all_still flows (f ∷ fs) high = (wakes_above flows f.exchange high, all_still flows fs high)
 
--- there is room for one more in the count
-pub next_fits : (fs : List FlowId) (f : FlowId) (rest lows : List FlowId) (n most : ℕ) → fs ++ f ∷ rest ≡ lows → length lows ≤ most → n ≡ length fs → n + 1 ≤ most
-next_fits fs f rest lows n most e few is =
-    let l = ap (λ (gs : List FlowId). length gs) e in
-    let m = length-append fs (f ∷ rest) in
-    omega (arith, few, is, l, m)
-
 -- ---- their resumes
 -- the first so many are those that are told
 told_are : (flows : Flows) (told : Told) → (t : IsToldNext flows told) → take told.n (pending_on flows.gates (buffer.Write 0)) ≡ t.still ++ option_to_list told.next
@@ -73,15 +60,3 @@ told_noted flows told lows old new e t is = record {
   is = t;
   notes = is ∙ ap (λ (fs : List FlowId). old ++ resumes_of (buffer.Write 0) fs) (ap (λ (fs : List FlowId). take told.n fs) e ∙ told_are flows told t);
 }
-
--- the resumes of the first n are a front of all
-pub noted_front : (b : BufferId) (n : ℕ) (old new : List Note) (lows : List FlowId) → new ≡ old ++ resumes_of b (take n lows) → AppendsSome old (resumes_of b lows) new
-noted_front b n old new lows is = record {
-  front = resumes_of b (take n lows);
-  rest = resumes_of b (drop n lows);
-  whole = ap (λ (fs : List FlowId). resumes_of b fs) (sym (take-append-drop n lows)) ∙ resumes_both b (take n lows) (drop n lows);
-  is = is;
-}
-
-pub none_noted : (ns old new : List Note) → new ≡ old → AppendsSome old ns new
-none_noted ns old new is = record { front = []; rest = ns; whole = refl; is = is ∙ sym (append-nil old) }

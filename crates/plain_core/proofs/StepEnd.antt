@@ -22,7 +22,7 @@ use Rattle.plain_core.proofs.Agendas.{top_is, weight_top}
 use Rattle.plain_core.proofs.Fronts.{NoTurn, Stepped, cuts_result, keeps_result}
 use Rattle.plain_core.proofs.Keeping.{flows_are, good_of, only_moves}
 use Rattle.plain_core.proofs.Rested.{may_same}
-use Rattle.plain_core.proofs.UnderwayMoves.{LeavesWork, leaves_same, reasons_kept, rounded_top}
+use Rattle.plain_core.proofs.UnderwayMoves.{LeavesWork, leaves_same, reasons_kept, rounded_top, unswept_at}
 use Rattle.plain_core.specs.Agenda.{Agenda, after_end, is_telling}
 use Rattle.plain_core.specs.Carries.{GivesUp, may_move}
 use Rattle.plain_core.specs.Flows.{FlowsStand}
@@ -32,7 +32,7 @@ use Rattle.plain_core.specs.Progress.{EndedHere, PairEndedHere, Pairs, Underway,
 use Rattle.plain_core.specs.Runs.{AreSpelled, Cuts, Keeps}
 use Rattle.plain_core.specs.Stands.{BooksAre, Good}
 use Rattle.plain_core.specs.declared.flows.Flows.{Flows}
-use Rattle.plain_core.specs.declared.worker.Core.{Core}
+use Rattle.plain_core.specs.declared.plain.PlainCore.{PlainCore}
 use Rattle.flow_gate.specs.declared.ids.BufferId.TheVariants as buffer
 use Rattle.flow_notes.specs.declared.notes.Cause.TheVariants as cause
 use Rattle.flow_notes.specs.declared.notes.Note.TheVariants as note
@@ -42,6 +42,7 @@ use Rattle.plain_core.specs.declared.agenda.Task.TheVariants as task
 pub doom_leaves_work : (limits : PlainLimits) (x : ℕ) (why : Cause) (h : History NoMark) → LeavesWork limits h (Noted (note.Doom x why) ∷ h)
 doom_leaves_work limits x why h = record {
   lives = λ y l. (has_left (live h) x y l).0;
+  unswept = λ e. refl;
   told = λ e. ap (without x) e;
   must = λ y l e. e;
   ends = record { framed = λ y e. e; before = refl; paired = λ y. refl };
@@ -84,6 +85,7 @@ underway_ended limits pairs x None a h k ep w apart moves named u = record {
   ends = λ y l e.
       rest_of (x == y) (is_some_of (get nat_cmp pairs x) y) (list_any (will_doom pairs y) a) (u.ends y (w.lives y l) (w.must y l e)) (apart y l) (ap (λ (v : Option ℕ). is_some_of v y) ep);
   reasons = reasons_kept limits a h k w.ends u.reasons.1;
+  unswept = inr (w.unswept (unswept_at (task.End x ∷ a) (task.End x) h refl u.unswept));
   rested = inl (rounded_top limits pairs (task.End x) a h u);
 }
 underway_ended limits pairs x (Some z) a h k ep w apart moves named u = record {
@@ -93,6 +95,7 @@ underway_ended limits pairs x (Some z) a h k ep w apart moves named u = record {
       sym (ap (λ (v : Option ℕ). is_some_of v y || list_any (will_doom pairs y) a) ep)
       ∙ pair_of (x == y) (is_some_of (get nat_cmp pairs x) y) (list_any (will_doom pairs y) a) (u.ends y (w.lives y l) (w.must y l e)) (apart y l);
   reasons = (named z (same_number z), reasons_kept limits a h k w.ends u.reasons.1);
+  unswept = inr (w.unswept (unswept_at (task.End x ∷ a) (task.End x) h refl u.unswept));
   rested = inl (rounded_top limits pairs (task.End x) a h u);
 }
 
@@ -104,11 +107,12 @@ underway_early limits pairs x a h k w apart moves u = record {
   tells = told_as limits a h k w u.tells;
   ends = λ y l e. other_of (x == y) (list_any (will_doom pairs y) a) (u.ends y (w.lives y l) (w.must y l e)) (apart y l);
   reasons = reasons_kept limits a h k w.ends u.reasons.1;
+  unswept = inr (w.unswept (unswept_at (task.EarlyEnd x ∷ a) (task.EarlyEnd x) h refl u.unswept));
   rested = inl (rounded_top limits pairs (task.EarlyEnd x) a h u);
 }
 
 -- the streams that the end of x dooms have their reason
-pair_ended : (limits : PlainLimits) (core : Core) (x y : ℕ) (h k : History NoMark) → BooksAre core h → LeavesWork limits h k → EndedHere limits x h
+pair_ended : (limits : PlainLimits) (core : PlainCore) (x y : ℕ) (h k : History NoMark) → BooksAre core h → LeavesWork limits h k → EndedHere limits x h
     → is_some_of (get nat_cmp core.pairs x) y ≡ true → PairEndedHere limits y k
 pair_ended limits core x y h k b w e s = record {
   first = x;
@@ -132,7 +136,7 @@ doom_silent false x why = tt
 not_live : (xs : List ℕ) (x y : ℕ) → has xs x ≡ false → has xs y ≡ true → (x == y) ≡ false
 not_live xs x y dead is = differs_back y x (apart_from xs y x is dead)
 
-end_good : (limits : PlainLimits) (old new : Core) (x : ℕ) (b : Bool) (flows : Flows) (h : History NoMark) → new ≡ record old { flows = flows; agenda = new.agenda }
+end_good : (limits : PlainLimits) (old new : PlainCore) (x : ℕ) (b : Bool) (flows : Flows) (h : History NoMark) → new ≡ record old { flows = flows; agenda = new.agenda }
     → slice_get old.agenda 0 ≡ Some (task.End x) → new.agenda ≡ after_end (get nat_cmp old.pairs x) old.agenda → GivesUp x cause.Done old.flows b flows → Good limits old h
     → Good limits new (onto (doom_of b x cause.Done) h)
 end_good limits old new x true flows h e top ea gives g =
@@ -144,7 +148,7 @@ end_good limits old new x true flows h e top ea gives g =
     let w = doom_leaves_work limits x cause.Done h in
     let B : Agenda → Type 0 = λ v. Underway limits old.pairs v k in
     good_of limits old new h k (only_moves old new flows e) refl (λ y. refl) (subst F (sym (flows_are old new flows e)) (gives.is.1.goes limits h g.flows is))
-    (done_step limits x h g.flows.lawful is u.reasons.0.framed)
+    (done_step limits x h g.flows.lawful (unswept_at old.agenda (task.End x) h top g.underway.unswept) is u.reasons.0.framed)
     (subst B (sym (ea ∙ after_is (get nat_cmp old.pairs x) old.agenda))
     (underway_ended limits old.pairs x (get nat_cmp old.pairs x) (drop 1 old.agenda) h k refl w (λ y l. (has_left (live h) x y l).1) (λ y l m. doom_moves limits x y cause.Done h g.flows.lawful l m)
     (λ y s. pair_ended limits old x y h k g.books w u.reasons.0 s) u)) g
@@ -159,16 +163,16 @@ end_good limits old new x false flows h e top ea gives g =
     (underway_ended limits old.pairs x (get nat_cmp old.pairs x) (drop 1 old.agenda) h h refl w (λ y l. not_live (live h) x y dead l) (λ y l m. m)
     (λ y s. pair_ended limits old x y h h g.books w u.reasons.0 s) u)) g
 
-pub end_steps : (old new : Core) (x : ℕ) (b : Bool) (flows : Flows) → new ≡ record old { flows = flows; agenda = new.agenda } → slice_get old.agenda 0 ≡ Some (task.End x)
+pub end_steps : (old new : PlainCore) (x : ℕ) (b : Bool) (flows : Flows) → new ≡ record old { flows = flows; agenda = new.agenda } → slice_get old.agenda 0 ≡ Some (task.End x)
     → new.agenda ≡ after_end (get nat_cmp old.pairs x) old.agenda → GivesUp x cause.Done old.flows b flows → Stepped old (doom_of b x cause.Done) new
 end_steps old new x b flows e top ea gives = record {
   spelled = doom_spelled b x cause.Done;
   silent = doom_silent b x cause.Done;
   goes = λ limits h g. end_good limits old new x b flows h e top ea gives g;
-  well = ap (λ (v : Core). v.failed) e;
+  well = ap (λ (v : PlainCore). v.failed) e;
 }
 
-early_good : (limits : PlainLimits) (old new : Core) (x : ℕ) (b : Bool) (flows : Flows) (h : History NoMark) → new ≡ record old { flows = flows; agenda = new.agenda }
+early_good : (limits : PlainLimits) (old new : PlainCore) (x : ℕ) (b : Bool) (flows : Flows) (h : History NoMark) → new ≡ record old { flows = flows; agenda = new.agenda }
     → slice_get old.agenda 0 ≡ Some (task.EarlyEnd x) → new.agenda ≡ drop 1 old.agenda → GivesUp x cause.EarlyEnd old.flows b flows → Good limits old h
     → Good limits new (onto (doom_of b x cause.EarlyEnd) h)
 early_good limits old new x true flows h e top ea gives g =
@@ -180,7 +184,7 @@ early_good limits old new x true flows h e top ea gives g =
     let B : Agenda → Type 0 = λ v. Underway limits old.pairs v k in
     let why = u.reasons.0 in
     good_of limits old new h k (only_moves old new flows e) refl (λ y. refl) (subst F (sym (flows_are old new flows e)) (gives.is.1.goes limits h g.flows is))
-    (early_pair_step limits why.first x h g.flows.lawful is why.paired why.ended.framed why.ended.here)
+    (early_pair_step limits why.first x h g.flows.lawful (unswept_at old.agenda (task.EarlyEnd x) h top g.underway.unswept) is why.paired why.ended.framed why.ended.here)
     (subst B (sym ea) (underway_early limits old.pairs x (drop 1 old.agenda) h k (doom_leaves_work limits x cause.EarlyEnd h) (λ y l. (has_left (live h) x y l).1)
     (λ y l m. doom_moves limits x y cause.EarlyEnd h g.flows.lawful l m) u)) g
 early_good limits old new x false flows h e top ea gives g =
@@ -191,13 +195,13 @@ early_good limits old new x false flows h e top ea gives g =
     good_of limits old new h h (only_moves old new flows e) refl (λ y. refl) (subst F (sym (flows_are old new flows e ∙ gives.is.1)) g.flows.stands) g.flows.lawful
     (subst A (sym ea) (underway_early limits old.pairs x (drop 1 old.agenda) h h (leaves_same limits h) (λ y l. not_live (live h) x y dead l) (λ y l m. m) u)) g
 
-pub early_steps : (old new : Core) (x : ℕ) (b : Bool) (flows : Flows) → new ≡ record old { flows = flows; agenda = new.agenda } → slice_get old.agenda 0 ≡ Some (task.EarlyEnd x)
+pub early_steps : (old new : PlainCore) (x : ℕ) (b : Bool) (flows : Flows) → new ≡ record old { flows = flows; agenda = new.agenda } → slice_get old.agenda 0 ≡ Some (task.EarlyEnd x)
     → new.agenda ≡ drop 1 old.agenda → GivesUp x cause.EarlyEnd old.flows b flows → Stepped old (doom_of b x cause.EarlyEnd) new
 early_steps old new x b flows e top ea gives = record {
   spelled = doom_spelled b x cause.EarlyEnd;
   silent = doom_silent b x cause.EarlyEnd;
   goes = λ limits h g. early_good limits old new x b flows h e top ea gives g;
-  well = ap (λ (v : Core). v.failed) e;
+  well = ap (λ (v : PlainCore). v.failed) e;
 }
 
 -- ---- the measure
@@ -205,7 +209,7 @@ next_weight : (p : Option ℕ) (a : Agenda) → sum_by weight (pair_next p a) �
 next_weight None a = omega arith
 next_weight (Some y) a = let e = sum_by-cons weight (task.EarlyEnd y) a in omega (arith, e)
 
-pub end_less : (old new : Core) (x : ℕ) (flows : Flows) → new ≡ record old { flows = flows; agenda = new.agenda } → slice_get old.agenda 0 ≡ Some (task.End x)
+pub end_less : (old new : PlainCore) (x : ℕ) (flows : Flows) → new ≡ record old { flows = flows; agenda = new.agenda } → slice_get old.agenda 0 ≡ Some (task.End x)
     → new.agenda ≡ after_end (get nat_cmp old.pairs x) old.agenda → left_in flows ≤ left_in old.flows → to_go new < to_go old
 end_less old new x flows e top ea n =
     let w = weight_top (task.End x) old.agenda top in
@@ -214,7 +218,7 @@ end_less old new x flows e top ea n =
     let l = ap (λ (v : Flows). left_in v) (flows_are old new flows e) in
     omega (arith, n, w, b, t, l)
 
-pub early_less : (old new : Core) (x : ℕ) (flows : Flows) → new ≡ record old { flows = flows; agenda = new.agenda } → slice_get old.agenda 0 ≡ Some (task.EarlyEnd x)
+pub early_less : (old new : PlainCore) (x : ℕ) (flows : Flows) → new ≡ record old { flows = flows; agenda = new.agenda } → slice_get old.agenda 0 ≡ Some (task.EarlyEnd x)
     → new.agenda ≡ drop 1 old.agenda → left_in flows ≤ left_in old.flows → to_go new < to_go old
 early_less old new x flows e top ea n =
     let w = weight_top (task.EarlyEnd x) old.agenda top in
@@ -223,24 +227,24 @@ early_less old new x flows e top ea n =
     omega (arith, n, w, b, l)
 
 -- ---- what the functions answer
-flows_agenda : (old mid new : Core) → mid ≡ record old { flows = mid.flows } → new ≡ record mid { agenda = new.agenda } → new ≡ record old { flows = mid.flows; agenda = new.agenda }
-flows_agenda old mid new e f = f ∙ ap (λ (v : Core). record v { agenda = new.agenda }) e
+flows_agenda : (old mid new : PlainCore) → mid ≡ record old { flows = mid.flows } → new ≡ record mid { agenda = new.agenda } → new ≡ record old { flows = mid.flows; agenda = new.agenda }
+flows_agenda old mid new e f = f ∙ ap (λ (v : PlainCore). record v { agenda = new.agenda }) e
 
-pub end_result : (old mid new : Core) (before after : List Note) (x : ℕ) (b : Bool) (r : Result (Unit {0}) NoMemory) → mid ≡ record old { flows = mid.flows } → new ≡ record mid { agenda = new.agenda }
+pub end_result : (old mid new : PlainCore) (before after : List Note) (x : ℕ) (b : Bool) (r : Result (Unit {0}) NoMemory) → mid ≡ record old { flows = mid.flows } → new ≡ record mid { agenda = new.agenda }
     → new.agenda ≡ after_end (get nat_cmp mid.pairs x) mid.agenda → slice_get old.agenda 0 ≡ Some (task.End x) → GivesUp x cause.Done old.flows b mid.flows → left_in mid.flows ≤ left_in old.flows
     → AppendsNotes before (doom_of b x cause.Done) after r → (OnOk r (Keeps old before new after)) × Cuts old before after × (to_go new < to_go old)
 end_result old mid new before after x b r e f na top gives n a =
     let all = flows_agenda old mid new e f in
-    let agenda = na ∙ ap (λ (v : Core). after_end (get nat_cmp v.pairs x) v.agenda) e in
+    let agenda = na ∙ ap (λ (v : PlainCore). after_end (get nat_cmp v.pairs x) v.agenda) e in
     let s = end_steps old new x b mid.flows all top agenda gives in
     (keeps_result old new before (doom_of b x cause.Done) after r a s, cuts_result old new before (doom_of b x cause.Done) after r a s, end_less old new x mid.flows all top agenda n)
 
-pub early_result : (old mid new : Core) (before after : List Note) (x : ℕ) (b : Bool) (r : Result (Unit {0}) NoMemory) → mid ≡ record old { flows = mid.flows } → new ≡ record mid { agenda = new.agenda }
+pub early_result : (old mid new : PlainCore) (before after : List Note) (x : ℕ) (b : Bool) (r : Result (Unit {0}) NoMemory) → mid ≡ record old { flows = mid.flows } → new ≡ record mid { agenda = new.agenda }
     → new.agenda ≡ drop 1 mid.agenda → slice_get old.agenda 0 ≡ Some (task.EarlyEnd x) → GivesUp x cause.EarlyEnd old.flows b mid.flows → left_in mid.flows ≤ left_in old.flows
     → AppendsNotes before (doom_of b x cause.EarlyEnd) after r → (OnOk r (Keeps old before new after)) × Cuts old before after × (to_go new < to_go old)
 early_result old mid new before after x b r e f na top gives n a =
     let all = flows_agenda old mid new e f in
-    let agenda = na ∙ ap (λ (v : Core). drop 1 v.agenda) e in
+    let agenda = na ∙ ap (λ (v : PlainCore). drop 1 v.agenda) e in
     let s = early_steps old new x b mid.flows all top agenda gives in
     (keeps_result old new before (doom_of b x cause.EarlyEnd) after r a s, cuts_result old new before (doom_of b x cause.EarlyEnd) after r a s, early_less old new x mid.flows all top agenda n)
 

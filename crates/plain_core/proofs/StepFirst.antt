@@ -12,12 +12,12 @@ use Rattle.plain_core.specs.Agenda.{Agenda}
 use Rattle.plain_core.specs.Flows.{Settled}
 use Rattle.plain_core.specs.Progress.{Pairs, Underway}
 use Rattle.plain_core.specs.Stands.{BooksAre, Rests}
-use Rattle.plain_core.specs.declared.worker.Core.{Core}
+use Rattle.plain_core.specs.declared.plain.PlainCore.{PlainCore}
 
 none_there : (pairs : Pairs) (s x : ℕ) → pairs.entries ≡ [] → is_some_of (get nat_cmp pairs s) x ≡ false
 none_there pairs s x e = ap (λ (es : List (ℕ × ℕ)). is_some_of (lookup (is_at (nat_cmp s)) es) x) e
 
-first_books : (core : Core) → core.turn ≡ 0 → core.pairs.entries ≡ [] → All IsRoute core.config.routes → BooksAre core []
+first_books : (core : PlainCore) → core.turn ≡ 0 → core.pairs.entries ≡ [] → All IsRoute core.config.routes → BooksAre core []
 first_books core turn pairs routes = record { turn = turn; pairs = λ s x. sym (none_there core.pairs s x pairs); routes = routes }
 
 first_underway : (limits : PlainLimits) (pairs : Pairs) → Underway limits pairs [] []
@@ -26,10 +26,11 @@ first_underway limits pairs = record {
   tells = inl refl;
   ends = λ x is e. absurd (cc);
   reasons = tt;
+  unswept = inl refl;
   rested = inr (refl, record { none = inr (λ x is. absurd (cc)) });
 }
 
-pub core_rests : (limits : PlainLimits) (core : Core) → Settled limits core.flows [] → core.turn ≡ 0 → core.pairs.entries ≡ [] → All IsRoute core.config.routes → core.agenda ≡ []
+pub core_rests : (limits : PlainLimits) (core : PlainCore) → Settled limits core.flows [] → core.turn ≡ 0 → core.pairs.entries ≡ [] → All IsRoute core.config.routes → core.agenda ≡ []
     → core.failed ≡ false → Rests limits core []
 core_rests limits core flows turn pairs routes idle well =
     let A : Agenda → Type 0 = λ v. Underway limits core.pairs v [] in

@@ -19,7 +19,7 @@ use Rattle.tape_laws.specs.declared.limits.PlainLimits.{PlainLimits}
 use Rattle.plain_core.proofs.Agendas.{grounds_push_drain, holds_push, runs_push, top_is, weight_frame, weight_top}
 use Rattle.plain_core.proofs.Fronts.{NoTurn, Stepped, all_both, appends_both, cuts_front, cuts_result, front_more, keeps_of, keeps_result, spelled_both}
 use Rattle.plain_core.proofs.Keeping.{cuts_more, flows_are, good_of, keeps_then, only_moves, silent_rise, spelled_rise}
-use Rattle.plain_core.proofs.UnderwayMoves.{rounded_next, underway_end_drain, underway_end_round, underway_frame, underway_same}
+use Rattle.plain_core.proofs.UnderwayMoves.{rounded_next, underway_end_drain, underway_end_round, underway_frame, underway_same, unswept_rounded}
 use Rattle.plain_core.specs.Agenda.{Agenda, after_frame}
 use Rattle.plain_core.specs.Carries.{Frames, FramesAt, IsNextFrame, NextIs, NoNext}
 use Rattle.plain_core.specs.Flows.{FlowsStand}
@@ -32,7 +32,7 @@ use Rattle.plain_core.specs.declared.agenda.Task.{Task}
 use Rattle.plain_core.specs.declared.flows.Flows.{Flows}
 use Rattle.plain_core.specs.declared.flows.Framed.{Framed}
 use Rattle.plain_core.specs.declared.flows.NextFrame.{NextFrame}
-use Rattle.plain_core.specs.declared.worker.Core.{Core}
+use Rattle.plain_core.specs.declared.plain.PlainCore.{PlainCore}
 use Rattle.flow_gate.specs.declared.ids.BufferId.TheVariants as buffer
 use Rattle.flow_notes.specs.declared.notes.Note.TheVariants as note
 use Rattle.plain_core.specs.declared.agenda.Task.TheVariants as task
@@ -82,7 +82,7 @@ frame_noted limits next framed flows h s =
     ∙ ap (λ (ns : List Note). first ∷ (rise_notes limits next.exchange next.n next.last h ++ ns)) (low_is limits next framed flows h s)
 
 -- ---- a frame
-frame_good : (limits : PlainLimits) (old new : Core) (flows : Flows) (next : NextFrame) (framed : Framed) (h : History NoMark) → new ≡ record old { flows = flows; agenda = new.agenda }
+frame_good : (limits : PlainLimits) (old new : PlainCore) (flows : Flows) (next : NextFrame) (framed : Framed) (h : History NoMark) → new ≡ record old { flows = flows; agenda = new.agenda }
     → new.agenda ≡ after_frame next framed old.agenda → Good limits old h → NextIs next limits h → FramesAt next framed limits flows h
     → Good limits new (onto (frame_notes limits next.exchange next.n next.last h) h)
 frame_good limits old new flows next framed h e a g i s =
@@ -90,11 +90,11 @@ frame_good limits old new flows next framed h e a g i s =
     let k = onto (frame_notes limits x next.n next.last h) h in
     good_of limits old new h k (only_moves old new flows e) (frame_keeps_lists limits x next.n next.last h).numbers (λ y. frame_paired limits x y next.n next.last h)
     (let P : Flows → Type 0 = λ v. FlowsStand limits v k in subst P (sym (flows_are old new flows e)) s.stands)
-    (frame_step limits x next.n next.last h g.flows.lawful i.live i.low i.turn)
+    (frame_step limits x next.n next.last h g.flows.lawful (unswept_rounded old.agenda h (rounded_next limits old.pairs old.agenda next h i g.underway) g.underway.unswept) i.live i.low i.turn)
     (let P : Agenda → Type 0 = λ v. Underway limits old.pairs v k in
     subst P (sym a) (underway_frame limits old.pairs old.agenda next framed h g.flows.lawful i s.drains g.books.pairs g.underway)) g
 
-pub frame_steps : (old new : Core) (flows : Flows) (next : NextFrame) (framed : Framed) → new ≡ record old { flows = flows; agenda = new.agenda }
+pub frame_steps : (old new : PlainCore) (flows : Flows) (next : NextFrame) (framed : Framed) → new ≡ record old { flows = flows; agenda = new.agenda }
     → new.agenda ≡ after_frame next framed old.agenda → IsNextFrame old.flows (Some next) → Frames next framed old.flows flows → Stepped old (noted_frame next framed flows) new
 frame_steps old new flows next framed e a i s = record {
   spelled = spelled_both (noted_rise next framed flows) (low_of framed.drained (request next.exchange))
@@ -119,7 +119,7 @@ rise_appends before after next framed flows f r e a =
     let P : FlowId → Type 0 = λ v. AppendsNotes before (note.Frame 0 v next.n next.last ∷ rise_of framed.rose (buffer.Write 0) (watchers_of flows.gates (buffer.Write 0))) after r in
     subst P e a
 
-pub frame_result : (old new : Core) (before mid after : List Note) (flows : Flows) (next : NextFrame) (framed : Framed) (f : FlowId) (r : Result (Unit {0}) NoMemory) → f ≡ request next.exchange
+pub frame_result : (old new : PlainCore) (before mid after : List Note) (flows : Flows) (next : NextFrame) (framed : Framed) (f : FlowId) (r : Result (Unit {0}) NoMemory) → f ≡ request next.exchange
     → new ≡ record old { flows = flows; agenda = new.agenda } → new.agenda ≡ after_frame next framed old.agenda → IsNextFrame old.flows (Some next) → Frames next framed old.flows flows
     → mid ≡ before ++ (note.Frame 0 f next.n next.last ∷ rise_of framed.rose (buffer.Write 0) (watchers_of new.flows.gates (buffer.Write 0)))
     → AppendsNotes mid (low_of framed.drained f) after r → OnOk r (Keeps old before new after) × Cuts old before after
@@ -131,7 +131,7 @@ frame_result old new before mid after flows next framed f r is e a i s m n =
     let st = frame_steps old new flows next framed e a i s in
     (keeps_result old new before (noted_frame next framed flows) after r all st, cuts_result old new before (noted_frame next framed flows) after r all st)
 
-pub frame_cuts : (old new : Core) (before after : List Note) (flows : Flows) (next : NextFrame) (framed : Framed) (f : FlowId) → f ≡ request next.exchange
+pub frame_cuts : (old new : PlainCore) (before after : List Note) (flows : Flows) (next : NextFrame) (framed : Framed) (f : FlowId) → f ≡ request next.exchange
     → new ≡ record old { flows = flows; agenda = new.agenda } → new.agenda ≡ after_frame next framed old.agenda → IsNextFrame old.flows (Some next) → Frames next framed old.flows flows
     → AppendsSome before (note.Frame 0 f next.n next.last ∷ rise_of framed.rose (buffer.Write 0) (watchers_of new.flows.gates (buffer.Write 0))) after → Cuts old before after
 frame_cuts old new before after flows next framed f is e a i s n =
@@ -144,7 +144,7 @@ frame_sums : (last : Bool) (a b w v : ℕ) → a + (if last then 7 else 5) ≤ b
 frame_sums true a b w v e f = omega arith
 frame_sums false a b w v e f = omega arith
 
-pub frame_less : (old new : Core) (flows : Flows) (next : NextFrame) (framed : Framed) → new ≡ record old { flows = flows; agenda = new.agenda }
+pub frame_less : (old new : PlainCore) (flows : Flows) (next : NextFrame) (framed : Framed) → new ≡ record old { flows = flows; agenda = new.agenda }
     → new.agenda ≡ after_frame next framed old.agenda → left_in flows + of_frame next ≤ left_in old.flows → to_go new + 2 ≤ to_go old
 frame_less old new flows next framed e a less =
     let b = ap (λ (v : Agenda). sum_by weight v) a in
@@ -153,17 +153,17 @@ frame_less old new flows next framed e a less =
     omega (arith, b, l, s)
 
 -- ---- nothing to frame
-no_next : (old : Core) (next : Option NextFrame) (limits : PlainLimits) (h : History NoMark) → next ≡ None → IsNextFrame old.flows next → Good limits old h → NoNext limits h
+no_next : (old : PlainCore) (next : Option NextFrame) (limits : PlainLimits) (h : History NoMark) → next ≡ None → IsNextFrame old.flows next → Good limits old h → NoNext limits h
 no_next old next limits h e i g =
     let P : Option NextFrame → Type 0 = λ v. IsNextFrame old.flows v in
     let j : IsNextFrame old.flows None = subst P e i in
     j.goes limits h g.flows
 
-pub some_next : (old : Core) (next : NextFrame) (found : Option NextFrame) → found ≡ Some next → IsNextFrame old.flows found → IsNextFrame old.flows (Some next)
+pub some_next : (old : PlainCore) (next : NextFrame) (found : Option NextFrame) → found ≡ Some next → IsNextFrame old.flows found → IsNextFrame old.flows (Some next)
 some_next old next found e i = let P : Option NextFrame → Type 0 = λ v. IsNextFrame old.flows v in subst P e i
 
 -- the task on top ends, and all else stays
-pub end_steps : (old new : Core) (t : Task) → new ≡ record old { flows = old.flows; agenda = new.agenda } → slice_get old.agenda 0 ≡ Some t → new.agenda ≡ drop 1 old.agenda
+pub end_steps : (old new : PlainCore) (t : Task) → new ≡ record old { flows = old.flows; agenda = new.agenda } → slice_get old.agenda 0 ≡ Some t → new.agenda ≡ drop 1 old.agenda
     → ((limits : PlainLimits) (h : History NoMark) → Good limits old h → Underway limits old.pairs (t ∷ drop 1 old.agenda) h → Underway limits old.pairs (drop 1 old.agenda) h) → Stepped old [] new
 end_steps old new t e top a ends = record {
   spelled = tt;
@@ -176,15 +176,15 @@ end_steps old new t e top a ends = record {
   well = (only_moves old new old.flows e).well;
 }
 
-keeps_silent : (old new : Core) (before : List Note) → Stepped old [] new → Keeps old before new before
+keeps_silent : (old new : PlainCore) (before : List Note) → Stepped old [] new → Keeps old before new before
 keeps_silent old new before s = keeps_of old new before [] before (sym (append-nil before)) s
 
-pub round_ends : (old new : Core) (before : List Note) (next : Option NextFrame) → next ≡ None → IsNextFrame old.flows next → new ≡ record old { flows = old.flows; agenda = new.agenda }
+pub round_ends : (old new : PlainCore) (before : List Note) (next : Option NextFrame) → next ≡ None → IsNextFrame old.flows next → new ≡ record old { flows = old.flows; agenda = new.agenda }
     → slice_get old.agenda 0 ≡ Some task.Round → new.agenda ≡ drop 1 old.agenda → Keeps old before new before
 round_ends old new before next none i e top a =
     keeps_silent old new before (end_steps old new task.Round e top a (λ limits h g u. underway_end_round limits old.pairs (drop 1 old.agenda) h (no_next old next limits h none i g) u))
 
-pub drain_ends : (old new : Core) (before : List Note) (c : ℕ) → new ≡ record old { flows = old.flows; agenda = new.agenda }
+pub drain_ends : (old new : PlainCore) (before : List Note) (c : ℕ) → new ≡ record old { flows = old.flows; agenda = new.agenda }
     → slice_get old.agenda 0 ≡ Some (task.Drain c) → new.agenda ≡ drop 1 old.agenda → Keeps old before new before
 drain_ends old new before c e top a =
     keeps_silent old new before (end_steps old new (task.Drain c) e top a (λ limits h g u. underway_end_drain limits old.pairs c (drop 1 old.agenda) h u))
@@ -192,7 +192,7 @@ drain_ends old new before c e top a =
 one_weight : (t : Task) (a : Agenda) → slice_get a 0 ≡ Some t → 1 ≤ weight t → sum_by weight (drop 1 a) < sum_by weight a
 one_weight t a top o = let w = weight_top t a top in omega (arith, w, o)
 
-pub end_less : (old new : Core) (t : Task) → new ≡ record old { flows = old.flows; agenda = new.agenda } → slice_get old.agenda 0 ≡ Some t → new.agenda ≡ drop 1 old.agenda → 1 ≤ weight t
+pub end_less : (old new : PlainCore) (t : Task) → new ≡ record old { flows = old.flows; agenda = new.agenda } → slice_get old.agenda 0 ≡ Some t → new.agenda ≡ drop 1 old.agenda → 1 ≤ weight t
     → to_go new < to_go old
 end_less old new t e top a o =
     let w = one_weight t old.agenda top o in
@@ -202,10 +202,10 @@ end_less old new t e top a o =
 
 -- ---- a connection is drained
 -- the core whose agenda has a drain on top
-abbrev pub draining : Core → Core
+abbrev pub draining : PlainCore → PlainCore
 draining old = record old { agenda = task.Drain 0 ∷ old.agenda }
 
-drain_good : (limits : PlainLimits) (old : Core) (next : NextFrame) (h : History NoMark) → IsNextFrame old.flows (Some next) → Good limits old h → Good limits (draining old) h
+drain_good : (limits : PlainLimits) (old : PlainCore) (next : NextFrame) (h : History NoMark) → IsNextFrame old.flows (Some next) → Good limits old h → Good limits (draining old) h
 drain_good limits old next h i g = record {
   flows = g.flows;
   books = record { turn = g.books.turn; pairs = g.books.pairs; routes = g.books.routes };
@@ -216,31 +216,31 @@ drain_good limits old next h i g = record {
 }
 
 -- the same of an agenda that was pushed onto
-abbrev pub pushed : Core → Agenda → Core
+abbrev pub pushed : PlainCore → Agenda → PlainCore
 pushed old a = record old { agenda = a }
 
-pub drain_is_good : (old : Core) (a : Agenda) (next : NextFrame) (before : List Note) → a ≡ task.Drain 0 ∷ old.agenda → IsNextFrame old.flows (Some next) → IsGood old before → IsGood (pushed old a) before
+pub drain_is_good : (old : PlainCore) (a : Agenda) (next : NextFrame) (before : List Note) → a ≡ task.Drain 0 ∷ old.agenda → IsNextFrame old.flows (Some next) → IsGood old before → IsGood (pushed old a) before
 drain_is_good old a next before e i g =
     let P : Agenda → Type 0 = λ v. IsGood (pushed old v) before in
     subst P (sym e) (record { limits = g.limits; history = g.history; good = drain_good g.limits old next (onto before g.history) i g.good })
 
-drain_keeps : (old : Core) (a : Agenda) (next : NextFrame) (before : List Note) → a ≡ task.Drain 0 ∷ old.agenda → IsNextFrame old.flows (Some next) → Keeps old before (pushed old a) before
+drain_keeps : (old : PlainCore) (a : Agenda) (next : NextFrame) (before : List Note) → a ≡ task.Drain 0 ∷ old.agenda → IsNextFrame old.flows (Some next) → Keeps old before (pushed old a) before
 drain_keeps old a next before e i =
     let P : Agenda → Type 0 = λ v. Keeps old before (pushed old v) before in
     subst P (sym e) (keeps_silent old (draining old) before (record { spelled = tt; silent = tt; goes = λ limits h g. drain_good limits old next h i g; well = refl }))
 
-pub drain_from_keeps : (old new : Core) (a : Agenda) (next : NextFrame) (before after : List Note) (r : Result (Unit {0}) NoMemory) → a ≡ task.Drain 0 ∷ old.agenda → IsNextFrame old.flows (Some next)
+pub drain_from_keeps : (old new : PlainCore) (a : Agenda) (next : NextFrame) (before after : List Note) (r : Result (Unit {0}) NoMemory) → a ≡ task.Drain 0 ∷ old.agenda → IsNextFrame old.flows (Some next)
     → OnOk r (Keeps (pushed old a) before new after) → OnOk r (Keeps old before new after)
 drain_from_keeps old new a next before after r e i k = keeps_then old (pushed old a) new before before after r (drain_keeps old a next before e i) k
 
-pub drain_from_cuts : (old : Core) (a : Agenda) (next : NextFrame) (before after : List Note) → a ≡ task.Drain 0 ∷ old.agenda → IsNextFrame old.flows (Some next) → Cuts (pushed old a) before after
+pub drain_from_cuts : (old : PlainCore) (a : Agenda) (next : NextFrame) (before after : List Note) → a ≡ task.Drain 0 ∷ old.agenda → IsNextFrame old.flows (Some next) → Cuts (pushed old a) before after
     → Cuts old before after
 drain_from_cuts old a next before after e i k = cuts_more old (pushed old a) before before after (drain_keeps old a next before e i) k
 
-pub drain_from_less : (old new : Core) (a : Agenda) (r : Result (Unit {0}) NoMemory) → a ≡ task.Drain 0 ∷ old.agenda → OnOk r (to_go new + 2 ≤ to_go (pushed old a)) → OnOk r (to_go new < to_go old)
+pub drain_from_less : (old new : PlainCore) (a : Agenda) (r : Result (Unit {0}) NoMemory) → a ≡ task.Drain 0 ∷ old.agenda → OnOk r (to_go new + 2 ≤ to_go (pushed old a)) → OnOk r (to_go new < to_go old)
 drain_from_less old new a (Ok u) e l = let b = ap (λ (v : Agenda). sum_by weight v) e in let w = sum_by-cons weight (task.Drain 0) old.agenda in omega (arith, l, b, w)
 drain_from_less old new a (Err x) e l = tt
 
-pub drain_less : (old new : Core) (r : Result (Unit {0}) NoMemory) → OnOk r (to_go new + 2 ≤ to_go old) → OnOk r (to_go new < to_go old)
+pub drain_less : (old new : PlainCore) (r : Result (Unit {0}) NoMemory) → OnOk r (to_go new + 2 ≤ to_go old) → OnOk r (to_go new < to_go old)
 drain_less old new (Ok u) l = omega (arith, l)
 drain_less old new (Err e) l = tt

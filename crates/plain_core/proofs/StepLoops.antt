@@ -5,7 +5,7 @@ use Rattle.std.proofs.Common.{refl, subst, sym}
 use Rattle.std.proofs.lemmas.List.{append-nil}
 use Rattle.std.specs.List.{slice_get}
 use Rattle.std.specs.Prelude.{List, None, Option, Some, [], length, ℕ, ◌++◌, ◌<◌, ◌∷◌, ◌≡◌}
-use Rattle.plain_core.proofs.Fronts.{cuts_keeps, keeps_of}
+use Rattle.plain_core.proofs.Fronts.{appends_none, cuts_keeps, keeps_of}
 use Rattle.plain_core.proofs.Keeping.{keeps_more, with_flows}
 use Rattle.plain_core.proofs.StepSweep.{good_kept, none_doomed, none_steps, sweep_steps}
 use Rattle.plain_core.specs.Agenda.{Agenda}
@@ -13,17 +13,17 @@ use Rattle.plain_core.specs.Carries.{Sweeps}
 use Rattle.plain_core.specs.Runs.{Cuts, IsGood, Keeps, Opens}
 use Rattle.plain_core.specs.Stands.{CanTake}
 use Rattle.plain_core.specs.declared.flows.Flows.{Flows}
-use Rattle.plain_core.specs.declared.worker.Core.{Core}
+use Rattle.plain_core.specs.declared.plain.PlainCore.{PlainCore}
 use Rattle.flow_notes.specs.declared.notes.Note.TheVariants as note
 
 -- ---- no step, and an event's effect
-pub keeps_none : (core : Core) (notes : List Note) → Keeps core notes core notes
-keeps_none core notes = record { spelled = λ s. s; events = λ h. refl; goes = λ limits h g. g; well = refl }
+pub keeps_none : (core : PlainCore) (notes : List Note) → Keeps core notes core notes
+keeps_none core notes = record { appends = appends_none notes; spelled = λ s. s; events = λ h. refl; goes = λ limits h g. g; well = refl }
 
-pub cuts_same : (first old : Core) (start before after : List Note) → Keeps first start old before → after ≡ before → Cuts first start after
+pub cuts_same : (first old : PlainCore) (start before after : List Note) → Keeps first start old before → after ≡ before → Cuts first start after
 cuts_same first old start before after k e = let P : List Note → Type 0 = λ v. Cuts first start v in subst P (sym e) (cuts_keeps first old start before k)
 
-pub opened_good : (old new : Core) (before after : List Note) (e : Event) → CanTake old e before → Opens old before e new after → IsGood new after
+pub opened_good : (old new : PlainCore) (before after : List Note) (e : Event) → CanTake old e before → Opens old before e new after → IsGood new after
 opened_good old new before after e c o = record { limits = c.limits; history = c.history; good = o.goes c.limits c.history c.rests c.follows }
 
 -- nothing is on top of an empty agenda alone
@@ -32,19 +32,19 @@ none_top [] e = refl
 none_top (t ∷ ts) e = absurd (cc)
 
 -- ---- the sweep
-pub gone_keeps : (first old : Core) (start before after : List Note) (x : ℕ) (flows : Flows) (swept : Option ℕ) → Keeps first start old before → swept ≡ Some x → old.agenda ≡ []
+pub gone_keeps : (first old : PlainCore) (start before after : List Note) (x : ℕ) (flows : Flows) (swept : Option ℕ) → Keeps first start old before → swept ≡ Some x → old.agenda ≡ []
     → Sweeps swept old.flows flows → after ≡ before ++ note.Gone x ∷ [] → Keeps first start (with_flows old flows) after
 gone_keeps first old start before after x flows swept k some idle s is =
     keeps_more first old (with_flows old flows) start before after k
     (keeps_of old (with_flows old flows) before (note.Gone x ∷ []) after is (sweep_steps old (with_flows old flows) x flows swept some refl refl idle s))
 
-pub none_keeps : (first old : Core) (start before : List Note) (flows : Flows) (swept : Option ℕ) → Keeps first start old before → swept ≡ None → Sweeps swept old.flows flows
+pub none_keeps : (first old : PlainCore) (start before : List Note) (flows : Flows) (swept : Option ℕ) → Keeps first start old before → swept ≡ None → Sweeps swept old.flows flows
     → Keeps first start (with_flows old flows) before
 none_keeps first old start before flows swept k none s =
     keeps_more first old (with_flows old flows) start before before k
     (keeps_of old (with_flows old flows) before [] before (sym (append-nil before)) (none_steps old (with_flows old flows) flows swept none refl refl s))
 
-pub all_gone : (first old : Core) (start before : List Note) (flows : Flows) (swept : Option ℕ) → IsGood first start → Keeps first start old before → swept ≡ None → Sweeps swept old.flows flows
+pub all_gone : (first old : PlainCore) (start before : List Note) (flows : Flows) (swept : Option ℕ) → IsGood first start → Keeps first start old before → swept ≡ None → Sweeps swept old.flows flows
     → flows.exchanges.doomed ≡ []
 all_gone first old start before flows swept g k none s = none_doomed old before flows swept none (good_kept first old start before g k) s
 

@@ -26,7 +26,7 @@ use Rattle.plain_core.proofs.Keeping.{cuts_more, flows_are, good_of, keeps_then,
 use Rattle.plain_core.proofs.StepSweep.{good_kept}
 use Rattle.plain_core.proofs.Rested.{may_not}
 use Rattle.plain_core.proofs.UnderwayTells.{still_above}
-use Rattle.plain_core.proofs.UnderwayMoves.{move_leaves_work, moves_after_move, rounded_at, rounded_top, underway_end_run, underway_kept, underway_of}
+use Rattle.plain_core.proofs.UnderwayMoves.{move_leaves_work, moves_after_move, rounded_at, rounded_top, underway_end_run, underway_kept, underway_of, unswept_at}
 use Rattle.plain_core.specs.Agenda.{Agenda, after_move, with_drain}
 use Rattle.plain_core.specs.Carries.{IdlesAt, IsNextFrame, IsNextUnless, MovesAt, StaysAt, Steps, may_move}
 use Rattle.plain_core.specs.Flows.{FlowsStand, IsSettled}
@@ -40,7 +40,7 @@ use Rattle.plain_core.specs.declared.flows.Flows.{Flows}
 use Rattle.plain_core.specs.declared.flows.Moved.{Moved}
 use Rattle.plain_core.specs.declared.flows.NextFrame.{NextFrame}
 use Rattle.plain_core.specs.declared.flows.Outcome.{Outcome}
-use Rattle.plain_core.specs.declared.worker.Core.{Core}
+use Rattle.plain_core.specs.declared.plain.PlainCore.{PlainCore}
 use Rattle.flow_gate.specs.declared.ids.BufferId.TheVariants as buffer
 use Rattle.flow_notes.specs.declared.notes.Note.TheVariants as note
 use Rattle.plain_core.specs.declared.agenda.Task.TheVariants as task
@@ -85,7 +85,7 @@ move_underway limits pairs f n a h true s top still u =
     (v.runs y was (moves_after_move limits x y n h s was m)))) v
 
 -- ---- a flow that isn't live
-idle_underway : (limits : PlainLimits) (old : Core) (f : FlowId) (h : History NoMark) → slice_get old.agenda 0 ≡ Some (task.Run f) → Good limits old h
+idle_underway : (limits : PlainLimits) (old : PlainCore) (f : FlowId) (h : History NoMark) → slice_get old.agenda 0 ≡ Some (task.Run f) → Good limits old h
     → ((x : ℕ) → f ≡ request x → has (live h) x ≡ true → may_move limits x h ≡ true → ⊥) → Underway limits old.pairs (drop 1 old.agenda) h
 idle_underway limits old f h top g still =
     underway_end_run limits old.pairs f (drop 1 old.agenda) h still (at_top limits old.pairs (task.Run f) old.agenda h top g.underway)
@@ -94,7 +94,7 @@ idle_underway limits old f h top g still =
 steps_as : (x : ℕ) (did known : Outcome) (old new : Flows) → did ≡ known → Steps x did old new → Steps x known old new
 steps_as x did known old new e s = let P : Outcome → Type 0 = λ v. Steps x v old new in subst P e s
 
-idle_steps : (old new : Core) (flows : Flows) (f : FlowId) → new ≡ record old { flows = flows; agenda = new.agenda } → slice_get old.agenda 0 ≡ Some (task.Run f) → new.agenda ≡ drop 1 old.agenda
+idle_steps : (old new : PlainCore) (flows : Flows) (f : FlowId) → new ≡ record old { flows = flows; agenda = new.agenda } → slice_get old.agenda 0 ≡ Some (task.Run f) → new.agenda ≡ drop 1 old.agenda
     → Steps f.exchange outcome.NotLive old.flows flows → Stepped old [] new
 idle_steps old new flows f e top a s = record {
   spelled = tt;
@@ -108,13 +108,13 @@ idle_steps old new flows f e top a s = record {
   well = (only_moves old new flows e).well;
 }
 
-pub idle_keeps : (old new : Core) (before : List Note) (flows : Flows) (f : FlowId) (did : Outcome) → did ≡ outcome.NotLive → new ≡ record old { flows = flows; agenda = new.agenda }
+pub idle_keeps : (old new : PlainCore) (before : List Note) (flows : Flows) (f : FlowId) (did : Outcome) → did ≡ outcome.NotLive → new ≡ record old { flows = flows; agenda = new.agenda }
     → slice_get old.agenda 0 ≡ Some (task.Run f) → new.agenda ≡ drop 1 old.agenda → Steps f.exchange did old.flows flows → Keeps old before new before
 idle_keeps old new before flows f did gone e top a s =
     keeps_of old new before [] before (sym (append-nil before)) (idle_steps old new flows f e top a (steps_as f.exchange did outcome.NotLive old.flows flows gone s))
 
 -- ---- a flow that the write buffer holds back
-held_steps : (old new : Core) (f : FlowId) (answer : Bool) → answer ≡ old.flows.conn.write.above → answer ≡ true → new ≡ record old { flows = old.flows; agenda = new.agenda }
+held_steps : (old new : PlainCore) (f : FlowId) (answer : Bool) → answer ≡ old.flows.conn.write.above → answer ≡ true → new ≡ record old { flows = old.flows; agenda = new.agenda }
     → slice_get old.agenda 0 ≡ Some (task.Run f) → new.agenda ≡ drop 1 old.agenda → Stepped old [] new
 held_steps old new f answer held high e top a = record {
   spelled = tt;
@@ -127,17 +127,17 @@ held_steps old new f answer held high e top a = record {
   well = (only_moves old new old.flows e).well;
 }
 
-pub held_keeps : (old new : Core) (before : List Note) (f : FlowId) (answer : Bool) → answer ≡ old.flows.conn.write.above → answer ≡ true → new ≡ record old { flows = old.flows; agenda = new.agenda }
+pub held_keeps : (old new : PlainCore) (before : List Note) (f : FlowId) (answer : Bool) → answer ≡ old.flows.conn.write.above → answer ≡ true → new ≡ record old { flows = old.flows; agenda = new.agenda }
     → slice_get old.agenda 0 ≡ Some (task.Run f) → new.agenda ≡ drop 1 old.agenda → Keeps old before new before
 held_keeps old new before f answer held high e top a = keeps_of old new before [] before (sym (append-nil before)) (held_steps old new f answer held high e top a)
 
 -- ---- a flow that may not move
-stay_underway : (limits : PlainLimits) (old : Core) (f : FlowId) (h : History NoMark) → slice_get old.agenda 0 ≡ Some (task.Run f) → Good limits old h → may_move limits f.exchange h ≡ false
+stay_underway : (limits : PlainLimits) (old : PlainCore) (f : FlowId) (h : History NoMark) → slice_get old.agenda 0 ≡ Some (task.Run f) → Good limits old h → may_move limits f.exchange h ≡ false
     → Underway limits old.pairs (drop 1 old.agenda) h
 stay_underway limits old f h top g still =
     idle_underway limits old f h top g (λ x is lx m. not_both (may_move limits f.exchange h) (ap (λ (v : FlowId). may_move limits v.exchange h) is ∙ m) still)
 
-stay_steps : (old new : Core) (flows : Flows) (f : FlowId) → new ≡ record old { flows = flows; agenda = new.agenda } → slice_get old.agenda 0 ≡ Some (task.Run f)
+stay_steps : (old new : PlainCore) (flows : Flows) (f : FlowId) → new ≡ record old { flows = flows; agenda = new.agenda } → slice_get old.agenda 0 ≡ Some (task.Run f)
     → new.agenda ≡ drop 1 old.agenda → Steps f.exchange outcome.Still old.flows flows → Stepped old [] new
 stay_steps old new flows f e top a s = record {
   spelled = tt;
@@ -150,13 +150,13 @@ stay_steps old new flows f e top a s = record {
   well = (only_moves old new flows e).well;
 }
 
-pub stay_keeps : (old new : Core) (before : List Note) (flows : Flows) (f : FlowId) (did : Outcome) → did ≡ outcome.Still → new ≡ record old { flows = flows; agenda = new.agenda }
+pub stay_keeps : (old new : PlainCore) (before : List Note) (flows : Flows) (f : FlowId) (did : Outcome) → did ≡ outcome.Still → new ≡ record old { flows = flows; agenda = new.agenda }
     → slice_get old.agenda 0 ≡ Some (task.Run f) → new.agenda ≡ drop 1 old.agenda → Steps f.exchange did old.flows flows → Keeps old before new before
 stay_keeps old new before flows f did still e top a s =
     keeps_of old new before [] before (sym (append-nil before)) (stay_steps old new flows f e top a (steps_as f.exchange did outcome.Still old.flows flows still s))
 
 -- ---- a flow that may not move, while its run goes on
-still_steps : (old : Core) (flows : Flows) (x : ℕ) → Steps x outcome.Still old.flows flows → Stepped old [] (with_flows old flows)
+still_steps : (old : PlainCore) (flows : Flows) (x : ℕ) → Steps x outcome.Still old.flows flows → Stepped old [] (with_flows old flows)
 still_steps old flows x s = record {
   spelled = tt;
   silent = tt;
@@ -166,21 +166,21 @@ still_steps old flows x s = record {
   well = refl;
 }
 
-still_keeps : (old : Core) (before : List Note) (flows : Flows) (x : ℕ) (did : Outcome) → did ≡ outcome.Still → Steps x did old.flows flows → Keeps old before (with_flows old flows) before
+still_keeps : (old : PlainCore) (before : List Note) (flows : Flows) (x : ℕ) (did : Outcome) → did ≡ outcome.Still → Steps x did old.flows flows → Keeps old before (with_flows old flows) before
 still_keeps old before flows x did still s =
     keeps_of old (with_flows old flows) before [] before (sym (append-nil before)) (still_steps old flows x (steps_as x did outcome.Still old.flows flows still s))
 
-pub still_good : (old : Core) (before : List Note) (flows : Flows) (x : ℕ) (did : Outcome) → did ≡ outcome.Still → Steps x did old.flows flows → IsGood old before → IsGood (with_flows old flows) before
+pub still_good : (old : PlainCore) (before : List Note) (flows : Flows) (x : ℕ) (did : Outcome) → did ≡ outcome.Still → Steps x did old.flows flows → IsGood old before → IsGood (with_flows old flows) before
 still_good old before flows x did still s g = good_kept old (with_flows old flows) before before g (still_keeps old before flows x did still s)
 
-pub still_then : (old new : Core) (before after : List Note) (flows : Flows) (x : ℕ) (did : Outcome) (r : Result (Unit {0}) NoMemory) → did ≡ outcome.Still → Steps x did old.flows flows
+pub still_then : (old new : PlainCore) (before after : List Note) (flows : Flows) (x : ℕ) (did : Outcome) (r : Result (Unit {0}) NoMemory) → did ≡ outcome.Still → Steps x did old.flows flows
     → OnOk r (Keeps (with_flows old flows) before new after) → OnOk r (Keeps old before new after)
 still_then old new before after flows x did r still s k = keeps_then old (with_flows old flows) new before before after r (still_keeps old before flows x did still s) k
 
-pub still_cuts : (old : Core) (before after : List Note) (flows : Flows) (x : ℕ) (did : Outcome) → did ≡ outcome.Still → Steps x did old.flows flows → Cuts (with_flows old flows) before after → Cuts old before after
+pub still_cuts : (old : PlainCore) (before after : List Note) (flows : Flows) (x : ℕ) (did : Outcome) → did ≡ outcome.Still → Steps x did old.flows flows → Cuts (with_flows old flows) before after → Cuts old before after
 still_cuts old before after flows x did still s k = cuts_more old (with_flows old flows) before before after (still_keeps old before flows x did still s) k
 
-pub settled_of : (core : Core) (notes : List Note) → IsGood core notes → IsSettled core.flows
+pub settled_of : (core : PlainCore) (notes : List Note) → IsGood core notes → IsSettled core.flows
 settled_of core notes g = record { limits = g.limits; history = onto notes g.history; settled = g.good.flows }
 
 -- a frame goes next where the connection isn't drained
@@ -188,7 +188,7 @@ pub undrained_next : (is_drained : Bool) (flows : Flows) (next : NextFrame) (fou
 undrained_next true flows next found e i = cc
 undrained_next false flows next found e i = let P : Option NextFrame → Type 0 = λ v. IsNextFrame flows v in subst P e i
 
-pub still_less : (old new : Core) (flows : Flows) (did : Outcome) (r : Result (Unit {0}) NoMemory) → did ≡ outcome.Still → LessByStep did old.flows flows
+pub still_less : (old new : PlainCore) (flows : Flows) (did : Outcome) (r : Result (Unit {0}) NoMemory) → did ≡ outcome.Still → LessByStep did old.flows flows
     → OnOk r (to_go new < to_go (with_flows old flows)) → OnOk r (to_go new < to_go old)
 still_less old new flows did (Err x) still less l = tt
 still_less old new flows did (Ok u) still less l =
@@ -215,7 +215,7 @@ move_noted limits x m flows h s =
     ap (λ (fs : List FlowId). note.Move (request x) 0 m.n ∷ rise_of m.rose (buffer.Send (request x)) fs) (move_watched limits x m flows h s)
     ∙ ap (λ (b : Bool). note.Move (request x) 0 m.n ∷ (if b then note.Pause (request x) (buffer.Send (request x)) ∷ [] else [])) s.rises
 
-move_good : (limits : PlainLimits) (old new : Core) (flows : Flows) (f : FlowId) (m : Moved) (h : History NoMark) → new ≡ record old { flows = flows; agenda = new.agenda }
+move_good : (limits : PlainLimits) (old new : PlainCore) (flows : Flows) (f : FlowId) (m : Moved) (h : History NoMark) → new ≡ record old { flows = flows; agenda = new.agenda }
     → slice_get old.agenda 0 ≡ Some (task.Run f) → new.agenda ≡ after_move (nat_lt m.n flows.limits.quantum) old.agenda
     → Good limits old h → MovesAt f.exchange m limits flows h → Good limits new (onto (move_notes limits f.exchange m.n h) h)
 move_good limits old new flows f m h e top a g s =
@@ -223,11 +223,11 @@ move_good limits old new flows f m h e top a g s =
     let k = onto (move_notes limits x m.n h) h in
     good_of limits old new h k (only_moves old new flows e) (move_keeps_lists limits x m.n h).numbers (λ y. move_paired limits x y m.n h)
     (let P : Flows → Type 0 = λ v. FlowsStand limits v k in subst P (sym (flows_are old new flows e)) s.stands)
-    (move_step limits x m.n h g.flows.lawful s.live s.free s.some s.all)
+    (move_step limits x m.n h g.flows.lawful (unswept_at old.agenda (task.Run f) h top g.underway.unswept) s.live s.free s.some s.all)
     (let P : Agenda → Type 0 = λ v. Underway limits old.pairs v k in subst P (sym a) (move_underway limits old.pairs f m.n old.agenda h (nat_lt m.n flows.limits.quantum) g.flows.lawful top
     (λ t. all_moved limits x m.n h s.all (ap (λ (v : PlainLimits). nat_lt m.n v.quantum) (sym s.stands.limits_are) ∙ t)) g.underway)) g
 
-pub move_steps : (old new : Core) (before : List Note) (flows : Flows) (f : FlowId) (m : Moved) → new ≡ record old { flows = flows; agenda = new.agenda }
+pub move_steps : (old new : PlainCore) (before : List Note) (flows : Flows) (f : FlowId) (m : Moved) → new ≡ record old { flows = flows; agenda = new.agenda }
     → slice_get old.agenda 0 ≡ Some (task.Run f) → new.agenda ≡ after_move (nat_lt m.n flows.limits.quantum) old.agenda
     → Steps f.exchange (outcome.Moved m) old.flows flows → IsGood old before → Stepped old (noted_move f.exchange m flows) new
 move_steps old new before flows f m e top a s good = record {
@@ -255,7 +255,7 @@ move_appends before after x g m flows r e a =
 
 -- ---- the measure
 -- the run ends, and nothing is more
-rest_less : (old new : Core) (flows : Flows) (f : FlowId) → left_in flows ≤ left_in old.flows → new ≡ record old { flows = flows; agenda = new.agenda }
+rest_less : (old new : PlainCore) (flows : Flows) (f : FlowId) → left_in flows ≤ left_in old.flows → new ≡ record old { flows = flows; agenda = new.agenda }
     → slice_get old.agenda 0 ≡ Some (task.Run f) → new.agenda ≡ drop 1 old.agenda → to_go new < to_go old
 rest_less old new flows f n e top a =
     let w = weight_top (task.Run f) old.agenda top in
@@ -263,15 +263,15 @@ rest_less old new flows f n e top a =
     let l = ap (λ (v : Flows). left_in v) (flows_are old new flows e) in
     omega (arith, n, w, b, l)
 
-pub idle_less : (old new : Core) (flows : Flows) (f : FlowId) (did : Outcome) → did ≡ outcome.NotLive → new ≡ record old { flows = flows; agenda = new.agenda }
+pub idle_less : (old new : PlainCore) (flows : Flows) (f : FlowId) (did : Outcome) → did ≡ outcome.NotLive → new ≡ record old { flows = flows; agenda = new.agenda }
     → slice_get old.agenda 0 ≡ Some (task.Run f) → new.agenda ≡ drop 1 old.agenda → LessByStep did old.flows flows → to_go new < to_go old
 idle_less old new flows f did gone e top a less = let P : Outcome → Type 0 = λ v. LessByStep v old.flows flows in rest_less old new flows f (subst P gone less) e top a
 
-pub stay_less : (old new : Core) (flows : Flows) (f : FlowId) (did : Outcome) → did ≡ outcome.Still → new ≡ record old { flows = flows; agenda = new.agenda }
+pub stay_less : (old new : PlainCore) (flows : Flows) (f : FlowId) (did : Outcome) → did ≡ outcome.Still → new ≡ record old { flows = flows; agenda = new.agenda }
     → slice_get old.agenda 0 ≡ Some (task.Run f) → new.agenda ≡ drop 1 old.agenda → LessByStep did old.flows flows → to_go new < to_go old
 stay_less old new flows f did still e top a less = let P : Outcome → Type 0 = λ v. LessByStep v old.flows flows in rest_less old new flows f (subst P still less) e top a
 
-pub move_less : (old new : Core) (flows : Flows) (did : Outcome) (m : Moved) → did ≡ outcome.Moved m → new ≡ record old { flows = flows; agenda = new.agenda }
+pub move_less : (old new : PlainCore) (flows : Flows) (did : Outcome) (m : Moved) → did ≡ outcome.Moved m → new ≡ record old { flows = flows; agenda = new.agenda }
     → new.agenda ≡ after_move (nat_lt m.n flows.limits.quantum) old.agenda → LessByStep did old.flows flows → to_go new < to_go old
 move_less old new flows did m some e a less =
     let P : Outcome → Type 0 = λ v. LessByStep v old.flows flows in
@@ -281,7 +281,7 @@ move_less old new flows did m some e a less =
     let l = ap (λ (v : Flows). left_in v) (flows_are old new flows e) in
     omega (arith, n, t, b, l)
 
-pub move_result : (old new : Core) (before after : List Note) (flows : Flows) (f g : FlowId) (did : Outcome) (m : Moved) (r : Result (Unit {0}) NoMemory) → g ≡ request f.exchange
+pub move_result : (old new : PlainCore) (before after : List Note) (flows : Flows) (f g : FlowId) (did : Outcome) (m : Moved) (r : Result (Unit {0}) NoMemory) → g ≡ request f.exchange
     → did ≡ outcome.Moved m → new ≡ record old { flows = flows; agenda = new.agenda } → slice_get old.agenda 0 ≡ Some (task.Run f)
     → new.agenda ≡ after_move (nat_lt m.n flows.limits.quantum) old.agenda → Steps f.exchange did old.flows flows → IsGood old before
     → AppendsNotes before (note.Move g 0 m.n ∷ rise_of m.rose (buffer.Send g) (watchers_of new.flows.gates (buffer.Send g))) after r

@@ -4,7 +4,6 @@ use Rattle.plain_laws.proofs.Keepings.{gone_keeps, gone_keeps_write}
 use Rattle.plain_laws.proofs.Readiness.{keeps_ready}
 use Rattle.plain_laws.proofs.Steps.{gone_step}
 use Rattle.std.proofs.Common.{ap, inl, inr, refl, subst, sym, ◌∙◌}
-use Rattle.std.proofs.lemmas.List.{append-nil}
 use Rattle.std.specs.List.{list_any}
 use Rattle.std.specs.Prelude.{List, None, Option, Some, [], false, true, ℕ, ◌∷◌, ◌≡◌, ◌⊎◌}
 use Rattle.plain_laws.specs.Next.{is_ready}
@@ -22,7 +21,7 @@ use Rattle.plain_core.specs.Flows.{FlowsStand}
 use Rattle.plain_core.specs.Progress.{HasFramed, Pairs, Underway}
 use Rattle.plain_core.specs.Runs.{IsGood, Keeps}
 use Rattle.plain_core.specs.declared.flows.Flows.{Flows}
-use Rattle.plain_core.specs.declared.worker.Core.{Core}
+use Rattle.plain_core.specs.declared.plain.PlainCore.{PlainCore}
 use Rattle.flow_gate.specs.declared.ids.BufferId.TheVariants as buffer
 use Rattle.flow_notes.specs.declared.notes.Note.TheVariants as note
 
@@ -37,7 +36,7 @@ told_gone : (limits : PlainLimits) (x : ℕ) (a : Agenda) (h : History NoMark) �
     → (pending_lows (plain_setup limits) (buffer.Write 0) (Noted (note.Gone x) ∷ h) ≡ []) ⊎ (list_any (is_telling 0) a ≡ true)
 told_gone limits x a h t =
     elim t as (λ s. (pending_lows (plain_setup limits) (buffer.Write 0) (Noted (note.Gone x) ∷ h) ≡ []) ⊎ (list_any (is_telling 0) a ≡ true))
-    [ inl e ↦ inl (append-nil (pending_lows (plain_setup limits) (buffer.Write 0) h) ∙ e) | inr e ↦ inr e ]
+    [ inl e ↦ inl e | inr e ↦ inr e ]
 
 rested_gone : (limits : PlainLimits) (x : ℕ) (a : Agenda) (h : History NoMark) → (is_rounded a ≡ true) ⊎ ((a ≡ []) × HasFramed limits h)
     → (is_rounded a ≡ true) ⊎ ((a ≡ []) × HasFramed limits (Noted (note.Gone x) ∷ h))
@@ -51,13 +50,14 @@ underway_gone limits pairs x h u = record {
   tells = told_gone limits x [] h u.tells;
   ends = λ y l e. u.ends y l e;
   reasons = tt;
+  unswept = inl refl;
   rested = rested_gone limits x [] h u.rested;
 }
 
 sweeps_at : (x : ℕ) (swept : Option ℕ) (old new : Flows) (limits : PlainLimits) (h : History NoMark) → swept ≡ Some x → SweepsAs swept limits new h → SweepsAt x limits new h
 sweeps_at x swept old new limits h e s = let P : Option ℕ → Type 0 = λ v. SweepsAs v limits new h in subst P e s
 
-pub sweep_steps : (old new : Core) (x : ℕ) (flows : Flows) (swept : Option ℕ) → swept ≡ Some x → new ≡ record old { flows = flows; agenda = new.agenda } → new.agenda ≡ old.agenda → old.agenda ≡ []
+pub sweep_steps : (old new : PlainCore) (x : ℕ) (flows : Flows) (swept : Option ℕ) → swept ≡ Some x → new ≡ record old { flows = flows; agenda = new.agenda } → new.agenda ≡ old.agenda → old.agenda ≡ []
     → Sweeps swept old.flows flows → Stepped old (note.Gone x ∷ []) new
 sweep_steps old new x flows swept some e same idle sweeps = record {
   spelled = (tt, tt);
@@ -68,21 +68,21 @@ sweep_steps old new x flows swept some e same idle sweeps = record {
       let F : Flows → Type 0 = λ v. FlowsStand limits v k in
       let A : Agenda → Type 0 = λ v. Underway limits old.pairs v h in
       let B : Agenda → Type 0 = λ v. Underway limits old.pairs v k in
-      good_of limits old new h k (only_moves old new flows e) refl (λ y. refl) (subst F (sym (ap (λ (v : Core). v.flows) e)) s.stands) (gone_step limits x s.rest h g.flows.lawful s.first)
+      good_of limits old new h k (only_moves old new flows e) refl (λ y. refl) (subst F (sym (ap (λ (v : PlainCore). v.flows) e)) s.stands) (gone_step limits x s.rest h g.flows.lawful s.first)
       (subst B (sym (same ∙ idle)) (underway_gone limits old.pairs x h (subst A idle g.underway))) g;
-  well = ap (λ (v : Core). v.failed) e;
+  well = ap (λ (v : PlainCore). v.failed) e;
 }
 
 -- nothing is doomed any more
 none_at : (swept : Option ℕ) (old new : Flows) (limits : PlainLimits) (h : History NoMark) → swept ≡ None → SweepsAs swept limits new h → NoneDoomed limits new h
 none_at swept old new limits h e s = let P : Option ℕ → Type 0 = λ v. SweepsAs v limits new h in subst P e s
 
-pub none_doomed : (core : Core) (notes : List Note) (flows : Flows) (swept : Option ℕ) → swept ≡ None → IsGood core notes → Sweeps swept core.flows flows → flows.exchanges.doomed ≡ []
+pub none_doomed : (core : PlainCore) (notes : List Note) (flows : Flows) (swept : Option ℕ) → swept ≡ None → IsGood core notes → Sweeps swept core.flows flows → flows.exchanges.doomed ≡ []
 none_doomed core notes flows swept none g s =
     let n = none_at swept core.flows flows g.limits (onto notes g.history) none (s.goes g.limits (onto notes g.history) g.good.flows) in n.stands.exchanges.doomed ∙ n.none
 
 -- and the flows stand as they did
-pub none_steps : (old new : Core) (flows : Flows) (swept : Option ℕ) → swept ≡ None → new ≡ record old { flows = flows; agenda = new.agenda } → new.agenda ≡ old.agenda
+pub none_steps : (old new : PlainCore) (flows : Flows) (swept : Option ℕ) → swept ≡ None → new ≡ record old { flows = flows; agenda = new.agenda } → new.agenda ≡ old.agenda
     → Sweeps swept old.flows flows → Stepped old [] new
 none_steps old new flows swept none e same sweeps = record {
   spelled = tt;
@@ -91,10 +91,10 @@ none_steps old new flows swept none e same sweeps = record {
       let n = none_at swept old.flows flows limits h none (sweeps.goes limits h g.flows) in
       let F : Flows → Type 0 = λ v. FlowsStand limits v h in
       let A : Agenda → Type 0 = λ v. Underway limits old.pairs v h in
-      good_of limits old new h h (only_moves old new flows e) refl (λ y. refl) (subst F (sym (ap (λ (v : Core). v.flows) e)) n.stands) g.flows.lawful (subst A (sym same) g.underway) g;
-  well = ap (λ (v : Core). v.failed) e;
+      good_of limits old new h h (only_moves old new flows e) refl (λ y. refl) (subst F (sym (ap (λ (v : PlainCore). v.flows) e)) n.stands) g.flows.lawful (subst A (sym same) g.underway) g;
+  well = ap (λ (v : PlainCore). v.failed) e;
 }
 
 -- a core that goes on is still good
-pub good_kept : (old new : Core) (before after : List Note) → IsGood old before → Keeps old before new after → IsGood new after
+pub good_kept : (old new : PlainCore) (before after : List Note) → IsGood old before → Keeps old before new after → IsGood new after
 good_kept old new before after g k = record { limits = g.limits; history = g.history; good = k.goes g.limits g.history g.good }

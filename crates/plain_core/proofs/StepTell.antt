@@ -18,7 +18,7 @@ use Rattle.plain_core.proofs.Agendas.{after_telling, weight_run, weight_top}
 use Rattle.plain_core.proofs.Fronts.{NoTurn, Stepped, cuts_lawful, keeps_of}
 use Rattle.plain_core.proofs.Keeping.{flows_are, good_of, only_moves}
 use Rattle.plain_core.proofs.Tellings.{AreTold, are_told, with_all_told}
-use Rattle.plain_core.proofs.UnderwayMoves.{rounded_at}
+use Rattle.plain_core.proofs.UnderwayMoves.{rounded_at, unswept_at}
 use Rattle.plain_core.proofs.UnderwayTells.{underway_telling}
 use Rattle.plain_core.specs.Agenda.{Agenda, with_run}
 use Rattle.plain_core.specs.Carries.{IsStill, Tells, Wakes}
@@ -29,8 +29,9 @@ use Rattle.plain_core.specs.Progress.{Underway}
 use Rattle.plain_core.specs.Runs.{AreSpelled, Cuts, Keeps}
 use Rattle.plain_core.specs.Telling.{TellsUpTo}
 use Rattle.plain_core.specs.declared.flows.Flows.{Flows}
-use Rattle.plain_core.specs.declared.noting.Told.{Told}
-use Rattle.plain_core.specs.declared.worker.Core.{Core}
+use Rattle.plain_core.specs.declared.agenda.Task.{Task}
+use Rattle.plain_core.specs.declared.telling.Told.{Told}
+use Rattle.plain_core.specs.declared.plain.PlainCore.{PlainCore}
 use Rattle.flow_gate.specs.declared.ids.BufferId.TheVariants as buffer
 use Rattle.plain_core.specs.declared.agenda.Task.TheVariants as task
 
@@ -43,11 +44,11 @@ silent_resumes [] = tt
 silent_resumes (f ∷ fs) = (record { events = λ h. refl }, silent_resumes fs)
 
 -- the resumes of all that are to be told are lawful, and each front of them
-pub resumes_cut : (old : Core) (before after : List Note) → AppendsSome before (resumes_of (buffer.Write 0) (pending_on old.flows.gates (buffer.Write 0))) after → Cuts old before after
-resumes_cut old before after a =
+pub resumes_cut : (old : PlainCore) (before after : List Note) (t : Task) → slice_get old.agenda 0 ≡ Some t → AppendsSome before (resumes_of (buffer.Write 0) (pending_on old.flows.gates (buffer.Write 0))) after → Cuts old before after
+resumes_cut old before after t top a =
     let lows = pending_on old.flows.gates (buffer.Write 0) in
     cuts_lawful old before (resumes_of (buffer.Write 0) lows) after a (spelled_resumes lows) (silent_resumes lows)
-    (λ limits h g. (are_told limits lows [] h g.flows.lawful (sym g.flows.stands.gates.write_pending ∙ sym (append-nil lows))).settled.regular.lawful)
+    (λ limits h g. (are_told limits lows [] h g.flows.lawful (unswept_at old.agenda t h top g.underway.unswept) (sym g.flows.stands.gates.write_pending ∙ sym (append-nil lows))).settled.regular.lawful)
 
 -- ---- who doesn't go on stays as it is
 still_of : (limits : PlainLimits) (flows : Flows) (fs : List FlowId) (h : History NoMark) → Settled limits flows h → AllByRecursion (IsLiveFlow (live h)) fs
@@ -60,7 +61,7 @@ front_live P [] gs rest a = tt
 front_live P (f ∷ fs) gs rest a = (a.0, front_live P fs gs rest a.1)
 
 -- ---- the step
-tell_steps : (old new : Core) (before after : List Note) (flows : Flows) (told : Told) (c : ℕ) → new ≡ record old { flows = flows; agenda = new.agenda } → slice_get old.agenda 0 ≡ Some (task.Tell c)
+tell_steps : (old new : PlainCore) (before after : List Note) (flows : Flows) (told : Told) (c : ℕ) → new ≡ record old { flows = flows; agenda = new.agenda } → slice_get old.agenda 0 ≡ Some (task.Tell c)
     → new.agenda ≡ after_telling told.next old.agenda → Tells told.n old.flows flows → (u : TellsUpTo old.flows before told after)
     → Stepped old (resumes_of (buffer.Write 0) (u.is.still ++ option_to_list told.next)) new
 tell_steps old new before after flows told c e top a tells u =
@@ -69,12 +70,13 @@ tell_steps old new before after flows told c e top a tells u =
       spelled = spelled_resumes fs;
       silent = silent_resumes fs;
       goes = λ limits h g.
+          let fresh = unswept_at old.agenda (task.Tell c) h top g.underway.unswept in
           let lows : pending_lows (plain_setup limits) (buffer.Write 0) h ≡ fs ++ u.is.rest = sym g.flows.stands.gates.write_pending ∙ u.is.whole in
-          let is : AreTold limits fs u.is.rest h (with_all_told fs h) = are_told limits fs u.is.rest h g.flows.lawful lows in
+          let is : AreTold limits fs u.is.rest h (with_all_told fs h) = are_told limits fs u.is.rest h g.flows.lawful fresh lows in
           let first : take told.n (pending_lows (plain_setup limits) (buffer.Write 0) h) ≡ fs =
           ap (λ (v : List FlowId). take told.n v) lows ∙ ap (λ (n : ℕ). take n (fs ++ u.is.rest)) u.is.number ∙ take-append_seam fs u.is.rest in
           let stands : FlowsStand limits flows (with_all_told fs h) =
-          (let P : List FlowId → Type 0 = λ v. FlowsStand limits flows (with_all_told v h) in subst P first (tells.goes limits h g.flows)) in
+          (let P : List FlowId → Type 0 = λ v. FlowsStand limits flows (with_all_told v h) in subst P first (tells.goes limits h g.flows fresh)) in
           let live : AllByRecursion (IsLiveFlow (live h)) u.is.still =
           (let P : List FlowId → Type 0 = AllByRecursion (IsLiveFlow (live h)) in front_live (IsLiveFlow (live h)) u.is.still (option_to_list told.next) u.is.rest (subst P lows g.flows.lawful.regular.books.write_lows)) in
           good_of limits old new h (with_all_told fs h) (only_moves old new flows e) is.lists.numbers is.paired
@@ -86,7 +88,7 @@ tell_steps old new before after flows told c e top a tells u =
       well = (only_moves old new flows e).well;
     }
 
-pub tell_keeps : (old new : Core) (before after : List Note) (flows : Flows) (told : Told) (c : ℕ) → new ≡ record old { flows = flows; agenda = new.agenda } → slice_get old.agenda 0 ≡ Some (task.Tell c)
+pub tell_keeps : (old new : PlainCore) (before after : List Note) (flows : Flows) (told : Told) (c : ℕ) → new ≡ record old { flows = flows; agenda = new.agenda } → slice_get old.agenda 0 ≡ Some (task.Tell c)
     → new.agenda ≡ after_telling told.next old.agenda → Tells told.n old.flows flows → TellsUpTo old.flows before told after → Keeps old before new after
 tell_keeps old new before after flows told c e top a tells u =
     keeps_of old new before (resumes_of (buffer.Write 0) (u.is.still ++ option_to_list told.next)) after u.notes (tell_steps old new before after flows told c e top a tells u)
@@ -114,7 +116,7 @@ tell_weight a b c None fs l m top e n =
     let g = ap (λ (v : Agenda). sum_by weight v) e in
     omega (arith, n, w, g)
 
-pub tell_less : (old new : Core) (before after : List Note) (flows : Flows) (told : Told) (c : ℕ) → new ≡ record old { flows = flows; agenda = new.agenda } → slice_get old.agenda 0 ≡ Some (task.Tell c)
+pub tell_less : (old new : PlainCore) (before after : List Note) (flows : Flows) (told : Told) (c : ℕ) → new ≡ record old { flows = flows; agenda = new.agenda } → slice_get old.agenda 0 ≡ Some (task.Tell c)
     → new.agenda ≡ after_telling told.next old.agenda → left_in flows + 4 * length (take told.n (pending_on old.flows.gates (buffer.Write 0))) ≤ left_in old.flows
     → TellsUpTo old.flows before told after → to_go new < to_go old
 tell_less old new before after flows told c e top a n u =
@@ -125,14 +127,14 @@ tell_less old new before after flows told c e top a n u =
     omega (arith, w, l)
 
 -- ---- the one that goes on is run, where memory isn't refused
-pub run_keeps : (old new : Core) (before after : List Note) (flows : Flows) (told : Told) (f : FlowId) (c : ℕ) (r : Result (Unit {0}) NoMemory) → new ≡ record old { flows = flows; agenda = new.agenda }
+pub run_keeps : (old new : PlainCore) (before after : List Note) (flows : Flows) (told : Told) (f : FlowId) (c : ℕ) (r : Result (Unit {0}) NoMemory) → new ≡ record old { flows = flows; agenda = new.agenda }
     → slice_get old.agenda 0 ≡ Some (task.Tell c) → told.next ≡ Some f → OnOk r (new.agenda ≡ with_run f old.agenda) → Tells told.n old.flows flows → TellsUpTo old.flows before told after
     → OnOk r (Keeps old before new after)
 run_keeps old new before after flows told f c (Ok k) e top some a tells u =
     tell_keeps old new before after flows told c e top (a ∙ ap (λ (v : Option FlowId). after_telling v old.agenda) (sym some)) tells u
 run_keeps old new before after flows told f c (Err k) e top some a tells u = tt
 
-pub run_less : (old new : Core) (before after : List Note) (flows : Flows) (told : Told) (f : FlowId) (c : ℕ) (r : Result (Unit {0}) NoMemory) → new ≡ record old { flows = flows; agenda = new.agenda }
+pub run_less : (old new : PlainCore) (before after : List Note) (flows : Flows) (told : Told) (f : FlowId) (c : ℕ) (r : Result (Unit {0}) NoMemory) → new ≡ record old { flows = flows; agenda = new.agenda }
     → slice_get old.agenda 0 ≡ Some (task.Tell c) → told.next ≡ Some f → OnOk r (new.agenda ≡ with_run f old.agenda)
     → left_in flows + 4 * length (take told.n (pending_on old.flows.gates (buffer.Write 0))) ≤ left_in old.flows → TellsUpTo old.flows before told after → OnOk r (to_go new < to_go old)
 run_less old new before after flows told f c (Ok k) e top some a n u =

@@ -1,4 +1,5 @@
 -- Histories in which flows are told that the write buffer drained, one after the other.
+use Rattle.tape_laws.specs.Doomed.{is_swept}
 use Rattle.flow_gate.specs.Board.{times}
 use Rattle.flow_gate.specs.declared.ids.FlowId.{FlowId}
 use Rattle.plain_laws.proofs.Counting.{one_if}
@@ -39,12 +40,12 @@ pub first_is : (limits : PlainLimits) (f : FlowId) (rest : List FlowId) (h : His
     → IsLiveFlow (live h) f
 first_is limits f rest h s first = (let P : List FlowId → Type 0 = AllByRecursion (IsLiveFlow (live h)) in subst P first s.regular.books.write_lows).0
 
-pub tell_settled : (limits : PlainLimits) (f : FlowId) (rest : List FlowId) (h : History NoMark) → Settled limits h → pending_lows (plain_setup limits) (buffer.Write 0) h ≡ f ∷ rest
-    → Settled limits (with_told f h)
-tell_settled limits f rest h s first =
+pub tell_settled : (limits : PlainLimits) (f : FlowId) (rest : List FlowId) (h : History NoMark) → Settled limits h → is_swept h ≡ false
+    → pending_lows (plain_setup limits) (buffer.Write 0) h ≡ f ∷ rest → Settled limits (with_told f h)
+tell_settled limits f rest h s fresh first =
     let is = (first_is limits f rest h s first).is in
     let P : FlowId → Type 0 = λ g. Settled limits (with_told g h) in
-    subst P (sym is) (tell_step limits f.exchange rest h s (first ∙ ap (λ (g : FlowId). g ∷ rest) is))
+    subst P (sym is) (tell_step limits f.exchange rest h s fresh (first ∙ ap (λ (g : FlowId). g ∷ rest) is))
 
 -- what stays, and what is told of
 pub record AreTold (limits : PlainLimits) (fs rest : List FlowId) (h k : History NoMark) : Type 0 where
@@ -110,13 +111,13 @@ more_told limits x fs rest h k s first t = record {
     both_fewer : (k t o a b h : ℕ) → t ≡ o + a → k + a ≡ b → b + o ≡ h → k + t ≡ h
     both_fewer k t o a b h e1 e2 e3 = omega (arith, e1, e2, e3)
 
-pub are_told : (limits : PlainLimits) (fs rest : List FlowId) (h : History NoMark) → Settled limits h → pending_lows (plain_setup limits) (buffer.Write 0) h ≡ fs ++ rest
-    → AreTold limits fs rest h (with_all_told fs h)
-are_told limits [] rest h s e = none_told limits rest h s e
-are_told limits (f ∷ fs) rest h s e =
+pub are_told : (limits : PlainLimits) (fs rest : List FlowId) (h : History NoMark) → Settled limits h → is_swept h ≡ false
+    → pending_lows (plain_setup limits) (buffer.Write 0) h ≡ fs ++ rest → AreTold limits fs rest h (with_all_told fs h)
+are_told limits [] rest h s fresh e = none_told limits rest h s e
+are_told limits (f ∷ fs) rest h s fresh e =
     let is = (first_is limits f (fs ++ rest) h s e).is in
-    let next : Settled limits (with_told f h) = tell_settled limits f (fs ++ rest) h s e in
-    let all : AreTold limits fs rest (with_told f h) (with_all_told fs (with_told f h)) = are_told limits fs rest (with_told f h) next (ap (λ (v : List FlowId). drop 1 v) e) in
+    let next : Settled limits (with_told f h) = tell_settled limits f (fs ++ rest) h s fresh e in
+    let all : AreTold limits fs rest (with_told f h) (with_all_told fs (with_told f h)) = are_told limits fs rest (with_told f h) next refl (ap (λ (v : List FlowId). drop 1 v) e) in
     let P : FlowId → Type 0 = λ g. AreTold limits fs rest (with_told g h) (with_all_told fs (with_told f h)) in
     let Q : FlowId → Type 0 = λ g. AreTold limits (g ∷ fs) rest h (with_all_told fs (with_told f h)) in
     subst Q (sym is) (more_told limits f.exchange fs rest h (with_all_told fs (with_told f h)) s (e ∙ ap (λ (g : FlowId). g ∷ (fs ++ rest)) is) (subst P is all))

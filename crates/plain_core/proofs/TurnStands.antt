@@ -5,20 +5,17 @@ use Rattle.plain_laws.proofs.Rotation.{unit_is}
 use Rattle.plain_laws.specs.Next.{unit_of}
 use Rattle.exchange_core.specs.declared.exchange.Exchange.{Exchange}
 use Rattle.std.proofs.Common.{ap, refl, sym, ◌∙◌}
-use Rattle.std.proofs.lemmas.List.{append-nil}
 use Rattle.std.specs.Prelude.{Bool, None, Option, false, if◌then◌else◌, length, true, ℕ, ◌∷◌, ◌≡◌}
 use Rattle.tape_laws.specs.Dispatches.{has, live}
 use Rattle.tape_laws.specs.Ends.{end_framed}
 use Rattle.tape_laws.specs.Flows.{request}
 use Rattle.tape_laws.specs.History.{History, NoMark, Noted, Step}
-use Rattle.tape_laws.specs.Pauses.{pending_lows}
 use Rattle.tape_laws.specs.Plain.{plain_ended, plain_setup}
-use Rattle.tape_laws.specs.World.{out, place}
+use Rattle.tape_laws.specs.World.{place}
 use Rattle.tape_laws.specs.declared.limits.PlainLimits.{PlainLimits}
 use Rattle.plain_core.specs.Flows.{ConnectionIs, FlowsStand, GatesAre, StreamIs, next_piece, piece_of}
 use Rattle.exchange_core.specs.declared.step.Piece.{Piece}
 use Rattle.plain_core.specs.declared.flows.Flows.{Flows}
-use Rattle.flow_gate.specs.declared.ids.BufferId.TheVariants as buffer
 use Rattle.flow_notes.specs.declared.events.Event.TheVariants as event
 use Rattle.flow_notes.specs.declared.notes.Note.TheVariants as note
 use Rattle.plain_core.proofs.FlowHolds.{holding_kept}
@@ -57,8 +54,8 @@ turn_conn : (limits : PlainLimits) (k : ℕ) (e : PlainEvent) (h : History NoMar
     → ((x : ℕ) → has (live h) x ≡ true → plain_ended x (turned k e ∷ h) ≡ plain_ended x h) → ConnectionIs limits flows.conn h → ConnectionIs limits flows.conn (turned k e ∷ h)
 turn_conn limits k e h flows same c = record {
   limit = c.limit;
-  octets = c.octets ∙ sym (append-nil (out (plain_setup limits) 0 h));
-  above = c.above ∙ sym (write_same limits (turned k e) h (append-nil (out (plain_setup limits) 0 h)));
+  octets = c.octets;
+  above = c.above ∙ sym (write_same limits (turned k e) h refl);
   framed_last = c.framed_last;
   ready = λ x. c.ready x ∙ live_if (has (live h) x) (next_piece limits x (turned k e ∷ h)) (next_piece limits x h) (λ t. turn_piece limits x k e h (same x t));
 }
@@ -69,9 +66,9 @@ turn_gates limits k e h flows g = record {
   flows = g.flows;
   counts = g.counts;
   write_known = g.write_known;
-  write_mark = g.write_mark ∙ sym (write_same limits (turned k e) h (append-nil (out (plain_setup limits) 0 h)));
+  write_mark = g.write_mark ∙ sym (write_same limits (turned k e) h refl);
   write_watchers = g.write_watchers;
-  write_pending = g.write_pending ∙ sym (append-nil (pending_lows (plain_setup limits) (buffer.Write 0) h));
+  write_pending = g.write_pending;
   send_known = g.send_known;
   send_mark = λ x. g.send_mark x ∙ sym (send_same limits (request x) (turned k e) h refl);
   send_watchers = g.send_watchers;

@@ -1,4 +1,6 @@
 -- What is under way, from one history to the next.
+use Rattle.plain_laws.proofs.Unswept.{frame_unswept, move_unswept}
+use Rattle.tape_laws.specs.Doomed.{is_swept}
 use Rattle.plain_laws.proofs.Changes.{frame_before, frame_end_framed, frame_here, frame_keeps, frame_keeps_lists, frame_must, frame_paired, frame_recv, frame_write_lows, move_before, move_end_framed, move_keeps, move_keeps_lists, move_keeps_write, move_must, move_paired, move_recv}
 use Rattle.plain_laws.proofs.Counting.{one_if}
 use Rattle.plain_laws.proofs.Counts.{frame_count, move_count}
@@ -20,7 +22,8 @@ use Rattle.tape_laws.specs.Ends.{BodyUnit, end_framed}
 use Rattle.tape_laws.specs.Flows.{request}
 use Rattle.tape_laws.specs.History.{History, NoMark, Noted, onto}
 use Rattle.tape_laws.specs.Pauses.{count, pending_lows}
-use Rattle.tape_laws.specs.Plain.{paired_with, plain_must_end, plain_setup}
+use Rattle.tape_laws.specs.Plain.{paired_with, plain_setup}
+use Rattle.tape_laws.specs.PlainSession.{plain_must_end}
 use Rattle.tape_laws.specs.Watermark.{above, drains_at}
 use Rattle.tape_laws.specs.World.{place}
 use Rattle.tape_laws.specs.declared.limits.PlainLimits.{PlainLimits}
@@ -72,12 +75,24 @@ pub record LeavesWork (limits : PlainLimits) (old new : History NoMark) : Type 0
   pub told : pending_lows (plain_setup limits) (buffer.Write 0) old ≡ [] → pending_lows (plain_setup limits) (buffer.Write 0) new ≡ []
   pub must : (x : ℕ) → has (live new) x ≡ true → plain_must_end x new ≡ true → plain_must_end x old ≡ true
   pub ends : KeepsEnds limits old new
+  pub unswept : is_swept old ≡ false → is_swept new ≡ false
 
 pub keeps_ends_same : (limits : PlainLimits) (h : History NoMark) → KeepsEnds limits h h
 keeps_ends_same limits h = record { framed = λ x e. e; before = refl; paired = λ x. refl }
 
 pub leaves_same : (limits : PlainLimits) (h : History NoMark) → LeavesWork limits h h
-leaves_same limits h = record { lives = λ x e. e; told = λ e. e; must = λ x l e. e; ends = keeps_ends_same limits h }
+leaves_same limits h = record { lives = λ x e. e; told = λ e. e; must = λ x l e. e; ends = keeps_ends_same limits h; unswept = λ e. e }
+
+-- what is under way isn't the sweep
+pub unswept_at : (a : Agenda) (t : Task) (h : History NoMark) → slice_get a 0 ≡ Some t → (a ≡ []) ⊎ (is_swept h ≡ false) → is_swept h ≡ false
+unswept_at [] t h top u = cc
+unswept_at (s ∷ ss) t h top (inl e) = cc
+unswept_at (s ∷ ss) t h top (inr e) = e
+
+pub unswept_rounded : (a : Agenda) (h : History NoMark) → is_rounded a ≡ true → (a ≡ []) ⊎ (is_swept h ≡ false) → is_swept h ≡ false
+unswept_rounded [] h r u = cc
+unswept_rounded (s ∷ ss) h r (inl e) = cc
+unswept_rounded (s ∷ ss) h r (inr e) = e
 
 -- ---- from one agenda to the next
 pub told_kept : (limits : PlainLimits) (a b : Agenda) (h k : History NoMark) → Holds a b → LeavesWork limits h k
@@ -94,6 +109,7 @@ underway_of limits pairs a b h k c g w r runs u = record {
   tells = told_kept limits a b h k c w u.tells;
   ends = λ x l e. c.dooms pairs x (u.ends x (w.lives x l) (w.must x l e));
   reasons = g.reasons limits k (reasons_kept limits a h k w.ends u.reasons);
+  unswept = inr (w.unswept (unswept_rounded a h r u.unswept));
   rested = inl (c.rounds r);
 }
 
@@ -136,6 +152,7 @@ underway_end_round limits pairs a h n u = record {
   tells = u.tells;
   ends = u.ends;
   reasons = u.reasons.1;
+  unswept = inr (unswept_at (task.Round ∷ a) task.Round h refl u.unswept);
   rested = rest a (rounded_top limits pairs task.Round a h u);
 }
   where
@@ -151,6 +168,7 @@ underway_end_tell limits pairs c a h none u = record {
   tells = inl none;
   ends = u.ends;
   reasons = u.reasons.1;
+  unswept = inr (unswept_at (task.Tell c ∷ a) (task.Tell c) h refl u.unswept);
   rested = inl (rounded_top limits pairs (task.Tell c) a h u);
 }
 
@@ -173,9 +191,6 @@ moves_back limits x h k c l m =
     both (count (request x) h == 0) (nat_lt 0 (length (place (plain_setup limits) (request x) 0 h))) (is_zero (count (request x) h) (c (number_is (count (request x) k) 0 p.0)))
     (some_more _ _ l p.1)
 
-pub may_move_of : (limits : PlainLimits) (x : ℕ) (h : History NoMark) → count (request x) h ≡ 0 → nat_lt 0 (length (place (plain_setup limits) (request x) 0 h)) ≡ true → may_move limits x h ≡ true
-may_move_of limits x h c l = both (count (request x) h == 0) (nat_lt 0 (length (place (plain_setup limits) (request x) 0 h))) (is_zero (count (request x) h) c) l
-
 -- ---- a move
 live_of : (h k : History NoMark) (x : ℕ) → live k ≡ live h → has (live k) x ≡ true → has (live h) x ≡ true
 live_of h k x e l = ap (λ (v : List ℕ). has v x) (sym e) ∙ l
@@ -183,6 +198,7 @@ live_of h k x e l = ap (λ (v : List ℕ). has v x) (sym e) ∙ l
 pub move_leaves_work : (limits : PlainLimits) (x n : ℕ) (h : History NoMark) → LeavesWork limits h (onto (move_notes limits x n h) h)
 move_leaves_work limits x n h = record {
   lives = λ y l. live_of h (onto (move_notes limits x n h) h) y (move_keeps_lists limits x n h).lives l;
+  unswept = λ e. move_unswept limits x n h;
   told = λ e. (move_keeps_write limits x n h).lows ∙ e;
   must = λ y l e. sym (move_must limits x y n h) ∙ e;
   ends = record {
@@ -302,6 +318,7 @@ underway_frame limits pairs a next framed h s i drained books u =
       ends = λ y l e. frame_ends limits pairs a next framed y h books (lives y l) u e;
       reasons = frame_reasons next framed a limits k (λ last. ended_now limits x next.n next.last h s i.live last)
           (reasons_kept limits a h k (frame_keeps_ends limits x next.n next.last h) u.reasons);
+      unswept = inr (frame_unswept limits x next.n next.last h);
       rested = inl ((holds_frame next framed a).rounds (rounded_next limits pairs a next h i u));
     }
   where

@@ -20,7 +20,7 @@ use Rattle.tape_laws.specs.World.{place}
 use Rattle.tape_laws.specs.declared.limits.PlainLimits.{PlainLimits}
 use Rattle.plain_core.proofs.Agendas.{after_telling, grounds_run, grounds_same, holds_run, holds_same, run_is, runs_run, top_is}
 use Rattle.plain_core.proofs.Tellings.{first_is, tell_settled, with_all_told, with_told}
-use Rattle.plain_core.proofs.UnderwayMoves.{LeavesWork, moves_back, same_length, underway_end_tell, underway_of}
+use Rattle.plain_core.proofs.UnderwayMoves.{LeavesWork, moves_back, same_length, underway_end_tell, underway_of, unswept_rounded}
 use Rattle.plain_core.specs.Agenda.{Agenda, is_rounded, is_run_of, with_run}
 use Rattle.plain_core.specs.Carries.{IsStill, may_move}
 use Rattle.plain_core.specs.Progress.{Pairs, Underway}
@@ -31,6 +31,7 @@ use Rattle.plain_core.specs.declared.agenda.Task.TheVariants as task
 pub tell_leaves_work : (limits : PlainLimits) (x : ℕ) (h : History NoMark) → LeavesWork limits h (Noted (note.Resume (request x) (buffer.Write 0)) ∷ h)
 tell_leaves_work limits x h = record {
   lives = λ y l. l;
+  unswept = λ e. refl;
   told = λ e. write_resume_lows limits (request x) h ∙ ap (λ (v : List FlowId). drop 1 v) e;
   must = λ y l e. e;
   ends = record { framed = λ y e. e; before = refl; paired = λ y. refl };
@@ -90,7 +91,7 @@ underway_told limits pairs a x rest h s first r still u =
     let k : History NoMark = with_told (request x) h in
     let at : (y : ℕ) → (x == y) ≡ true → IsStill limits y k = λ y e. (let P : ℕ → Type 0 = λ v. IsStill limits v k in subst P (number_is x y e) (still_told limits (request x) x h still)) in
     underway_of limits pairs a a h k (holds_same a) (grounds_same a) (tell_leaves_work limits x h) r
-    (λ y l m. by_case (x == y) (λ e. not_both (may_move limits y k) m (still_stays limits y k (tell_step limits x rest h s first) l (at y e)))
+    (λ y l m. by_case (x == y) (λ e. not_both (may_move limits y k) m (still_stays limits y k (tell_step limits x rest h s (unswept_rounded a h r u.unswept) first) l (at y e)))
     (λ d. u.runs y l (told_moves limits x y rest h s first l d m))) u
 
 underway_woken : (limits : PlainLimits) (pairs : Pairs) (a : Agenda) (x : ℕ) (rest : List FlowId) (h : History NoMark) → Settled limits h
@@ -119,4 +120,4 @@ underway_telling limits pairs c a (f ∷ fs) next rest h s lows last top r still
     let P : FlowId → Type 0 = λ g. Underway limits pairs a (with_told g h) in
     let one : Underway limits pairs a (with_told f h) =
     subst P (sym is) (underway_told limits pairs a f.exchange more h s (lows ∙ ap (λ (g : FlowId). g ∷ more) is) r still.0 u) in
-    underway_telling limits pairs c a fs next rest (with_told f h) (tell_settled limits f more h s lows) (ap (λ (v : List FlowId). drop 1 v) lows) last top r (all_still_told limits f fs h still.1) one
+    underway_telling limits pairs c a fs next rest (with_told f h) (tell_settled limits f more h s (unswept_rounded a h r u.unswept) lows) (ap (λ (v : List FlowId). drop 1 v) lows) last top r (all_still_told limits f fs h still.1) one

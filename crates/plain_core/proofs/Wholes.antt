@@ -12,18 +12,20 @@ use Rattle.tape_laws.specs.Flows.{request}
 use Rattle.tape_laws.specs.History.{History, NoMark}
 use Rattle.tape_laws.specs.Order.{Nothing, next_on}
 use Rattle.tape_laws.specs.Pauses.{count, pending_lows}
-use Rattle.tape_laws.specs.Plain.{plain_must_end, plain_setup}
+use Rattle.tape_laws.specs.Plain.{plain_setup}
+use Rattle.tape_laws.specs.PlainSession.{plain_must_end}
 use Rattle.tape_laws.specs.PlainTape.{IsPlainWhole}
 use Rattle.tape_laws.specs.Watermark.{above}
 use Rattle.tape_laws.specs.World.{place}
 use Rattle.tape_laws.specs.declared.limits.PlainLimits.{PlainLimits}
+use Rattle.plain_core.proofs.Fronts.{appends_more, turn_appended, turn_more}
 use Rattle.plain_core.proofs.Rested.{no_task}
 use Rattle.plain_core.specs.Agenda.{is_rounded, is_run_of, is_telling}
 use Rattle.plain_core.specs.Carries.{may_move}
 use Rattle.plain_core.specs.Progress.{will_doom}
 use Rattle.plain_core.specs.Runs.{Cuts, CutsTurn, Keeps, Opens, Turns}
 use Rattle.plain_core.specs.Stands.{Good}
-use Rattle.plain_core.specs.declared.worker.Core.{Core}
+use Rattle.plain_core.specs.declared.plain.PlainCore.{PlainCore}
 use Rattle.flow_gate.specs.declared.ids.BufferId.TheVariants as buffer
 
 some_test : (c n : ℕ) → c ≡ 0 → 0 < n → ((c == 0) && nat_lt 0 n) ≡ true
@@ -34,7 +36,7 @@ nothing_left c [] e z = refl
 nothing_left c (y ∷ ys) e z = not_both _ (some_test c (length (y ∷ ys)) z (omega arith)) e
 
 -- where nothing is under way and nothing doomed nothing is left to do
-whole_of : (limits : PlainLimits) (core : Core) (h : History NoMark) → Good limits core h → core.agenda ≡ [] → core.flows.exchanges.doomed ≡ [] → IsPlainWhole limits h
+whole_of : (limits : PlainLimits) (core : PlainCore) (h : History NoMark) → Good limits core h → core.agenda ≡ [] → core.flows.exchanges.doomed ≡ [] → IsPlainWhole limits h
 whole_of limits core h g idle swept =
     let u = g.underway in
     let told : pending_lows (plain_setup limits) (buffer.Write 0) h ≡ [] =
@@ -55,9 +57,10 @@ whole_of limits core h g idle swept =
     }
 
 -- an event's effect, the small steps, and the sweep
-pub turns_of : (old a b new : Core) (before m n after : List Note) (e : Event) → Opens old before e a m → Keeps a m b n → Keeps b n new after → new.agenda ≡ [] → new.flows.exchanges.doomed ≡ []
+pub turns_of : (old a b new : PlainCore) (before m n after : List Note) (e : Event) → Opens old before e a m → Keeps a m b n → Keeps b n new after → new.agenda ≡ [] → new.flows.exchanges.doomed ≡ []
     → Turns old before e new after
 turns_of old a b new before m n after e o k l idle swept = record {
+  appends = turn_more before e n after (turn_more before e m n o.appends k.appends) l.appends;
   spelled = λ i s. l.spelled (k.spelled (o.spelled i s));
   shows = λ h. l.events h ∙ k.events h ∙ o.shows h;
   goes = λ limits h r f.
@@ -65,12 +68,10 @@ turns_of old a b new before m n after e o k l idle swept = record {
       record { good = g; whole = whole_of limits new _ g idle swept; idle = idle; well = l.well ∙ k.well ∙ o.well ∙ r.well };
 }
 
-pub cuts_of : (old a : Core) (before m after : List Note) (e : Event) → Opens old before e a m → Cuts a m after → CutsTurn old before e after
+pub cuts_of : (old a : PlainCore) (before m after : List Note) (e : Event) → Opens old before e a m → Cuts a m after → CutsTurn old before e after
 cuts_of old a before m after e o c = record {
+  appends = appends_more before m after (turn_appended before e m o.appends) c.appends;
   spelled = λ i s. c.spelled (o.spelled i s);
   shows = λ h. inr (c.events h ∙ o.shows h);
   lawful = λ limits h r f. c.lawful limits h (o.goes limits h r f);
 }
-
-pub cuts_turns : (old new : Core) (before after : List Note) (e : Event) → Turns old before e new after → CutsTurn old before e after
-cuts_turns old new before after e t = record { spelled = t.spelled; shows = λ h. inr (t.shows h); lawful = λ limits h r f. (t.goes limits h r f).whole.lawful }

@@ -6,7 +6,7 @@ use Rattle.flow_notes.specs.declared.notes.Cause.{Cause}
 use Rattle.plain_laws.specs.StepNotes.{begin_notes, body_notes, frame_notes, move_notes, room_notes}
 use Rattle.std.specs.Prelude.{Bool, List, None, Option, IfSome, Some, [], false, length, min, nat_lt, take, true, ℕ, ◌&&◌, ◌+◌, ◌<◌, ◌==◌, ◌∷◌, ◌≡◌, ◌≤◌, ◌⊎◌}
 use Rattle.tape_laws.specs.Dispatches.{has, live, started}
-use Rattle.tape_laws.specs.Doomed.{condemned}
+use Rattle.tape_laws.specs.Doomed.{condemned, is_swept}
 use Rattle.tape_laws.specs.Ends.{BodyUnit}
 use Rattle.tape_laws.specs.Flows.{request}
 use Rattle.tape_laws.specs.History.{History, NoMark, Noted, onto}
@@ -125,7 +125,7 @@ pub record Frames (next : NextFrame) (framed : Framed) (old new : Flows) : Type 
 
 -- the first n watchers of the write buffer that are to be told that it drained are told, or all where there are fewer
 pub record Tells (n : ℕ) (old new : Flows) : Type 0 where
-  pub goes : (limits : PlainLimits) (h : History NoMark) → Settled limits old h
+  pub goes : (limits : PlainLimits) (h : History NoMark) → Settled limits old h → is_swept h ≡ false
       → FlowsStand limits new (onto (resumes_of (buffer.Write 0) (take n (pending_lows (plain_setup limits) (buffer.Write 0) h))) h)
 
 -- a live stream is doomed, by a step or by the event of a turn note

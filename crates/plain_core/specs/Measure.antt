@@ -4,7 +4,7 @@ use Rattle.flow_gate.specs.Board.{pending_on}
 use Rattle.std.specs.List.{sum_by}
 use Rattle.std.specs.Prelude.{if◌then◌else◌, length, ℕ, ◌*◌, ◌+◌, ◌≤◌}
 use Rattle.plain_core.specs.declared.agenda.Task.{Task}
-use Rattle.plain_core.specs.declared.worker.Core.{Core}
+use Rattle.plain_core.specs.declared.plain.PlainCore.{PlainCore}
 use Rattle.plain_core.specs.declared.flows.Flows.{Flows}
 use Rattle.plain_core.specs.declared.flows.NextFrame.{NextFrame}
 use Rattle.plain_core.specs.declared.flows.Outcome.{Outcome}
@@ -44,5 +44,5 @@ weight (task.Run f) = 1
 weight (task.End x) = 2
 weight (task.EarlyEnd x) = 1
 
-abbrev pub to_go : Core → ℕ
+abbrev pub to_go : PlainCore → ℕ
 to_go core = left_in core.flows + sum_by weight core.agenda

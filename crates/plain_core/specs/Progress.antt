@@ -5,11 +5,13 @@ use Rattle.std.specs.List.{AllByRecursion, list_any}
 use Rattle.std.specs.Ordering.{nat_cmp}
 use Rattle.std.specs.Prelude.{Bool, [], false, true, ℕ, ◌==◌, ◌||◌, ◌≡◌, ◌⊎◌}
 use Rattle.tape_laws.specs.Dispatches.{before_dispatch, has, is_some_of, live}
+use Rattle.tape_laws.specs.Doomed.{is_swept}
 use Rattle.tape_laws.specs.Ends.{end_framed}
 use Rattle.tape_laws.specs.Flows.{request}
 use Rattle.tape_laws.specs.History.{History, NoMark}
 use Rattle.tape_laws.specs.Pauses.{pending_lows}
-use Rattle.tape_laws.specs.Plain.{paired_with, plain_must_end, plain_setup}
+use Rattle.tape_laws.specs.Plain.{paired_with, plain_setup}
+use Rattle.tape_laws.specs.PlainSession.{plain_must_end}
 use Rattle.tape_laws.specs.Watermark.{above}
 use Rattle.tape_laws.specs.declared.limits.PlainLimits.{PlainLimits}
 use Rattle.plain_core.specs.Agenda.{Agenda, is_rounded, is_run_of, is_telling}
@@ -57,5 +59,7 @@ pub record Underway (limits : PlainLimits) (pairs : Pairs) (agenda : Agenda) (h 
   -- each stream that has to end is about to be doomed
   pub ends : (x : ℕ) → has (live h) x ≡ true → plain_must_end x h ≡ true → list_any (will_doom pairs x) agenda ≡ true
   pub reasons : AllByRecursion (HasReason limits h) agenda
+  -- no exchange is swept before that
+  pub unswept : (agenda ≡ []) ⊎ (is_swept h ≡ false)
   -- the round comes last, and it found nothing to frame
   pub rested : (is_rounded agenda ≡ true) ⊎ ((agenda ≡ []) × HasFramed limits h)

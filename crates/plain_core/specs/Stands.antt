@@ -13,34 +13,34 @@ use Rattle.tape_laws.specs.PlainTape.{IsPlainWhole}
 use Rattle.tape_laws.specs.declared.limits.PlainLimits.{PlainLimits}
 use Rattle.plain_core.specs.Flows.{Settled}
 use Rattle.plain_core.specs.Progress.{Underway}
-use Rattle.plain_core.specs.declared.worker.Core.{Core}
+use Rattle.plain_core.specs.declared.plain.PlainCore.{PlainCore}
 
 -- the pairs and the dispatches
-pub record BooksAre (core : Core) (h : History NoMark) : Type 0 where
+pub record BooksAre (core : PlainCore) (h : History NoMark) : Type 0 where
   pub turn : core.turn ≡ turns h
   pub pairs : (s x : ℕ) → has (paired_with x h) s ≡ is_some_of (get nat_cmp core.pairs s) x
   pub routes : All IsRoute core.config.routes
 
 -- between two small steps
-pub record Good (limits : PlainLimits) (core : Core) (h : History NoMark) : Type 0 where
+pub record Good (limits : PlainLimits) (core : PlainCore) (h : History NoMark) : Type 0 where
   pub flows : Settled limits core.flows h
   pub books : BooksAre core h
   pub underway : Underway limits core.pairs core.agenda h
 
 -- between dispatches: nothing is under way, and nothing is left to do
-pub record Rests (limits : PlainLimits) (core : Core) (h : History NoMark) : Type 0 where
+pub record Rests (limits : PlainLimits) (core : PlainCore) (h : History NoMark) : Type 0 where
   pub good : Good limits core h
   pub whole : IsPlainWhole limits h
   pub idle : core.agenda ≡ []
   pub well : core.failed ≡ false
 
 -- there is a history at which the core rests, and after which the event may follow
-pub record CanTake (core : Core) (e : Event) (notes : List Note) : Type 0 where
+pub record CanTake (core : PlainCore) (e : Event) (notes : List Note) : Type 0 where
   pub limits : PlainLimits
   pub history : History NoMark
   pub rests : Rests limits core (onto notes history)
   pub follows : MayFollowAll (e ∷ events_back (onto notes history))
 
 -- the core met want of memory, or not
-abbrev pub HasFailed : Core → Bool → Type 0
+abbrev pub HasFailed : PlainCore → Bool → Type 0
 HasFailed core failed = core.failed ≡ failed

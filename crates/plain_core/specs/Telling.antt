@@ -7,7 +7,7 @@ use Rattle.std.specs.Prelude.{List, [], IfNone, false, length, option_to_list, â
 use Rattle.plain_core.specs.Carries.{Wakes}
 use Rattle.plain_core.specs.Noting.{resumes_of}
 use Rattle.plain_core.specs.declared.flows.Flows.{Flows}
-use Rattle.plain_core.specs.declared.noting.Told.{Told}
+use Rattle.plain_core.specs.declared.telling.Told.{Told}
 use Rattle.flow_gate.specs.declared.ids.BufferId.TheVariants as buffer
 
 -- how many are told, and which of them goes on

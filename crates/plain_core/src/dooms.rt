@@ -11,11 +11,11 @@ ghost use Rattle.plain_core.specs.Runs.{Cuts, IsGood, Keeps};
 ghost use Rattle.plain_core.specs.declared.agenda.Task.TheVariants as task;
 
 use crate::agenda::Task;
-use crate::worker::Core;
+use crate::plain::PlainCore;
 use flow_notes::{Cause, Note, Notes};
 use io_ports::NoMemory;
 
-impl Core {
+impl PlainCore {
     // The exchange's end was framed: it is done, and then its pair is to be doomed.
     pub(crate) fn end(&mut self, exchange: u64, notes: &mut Notes) -> Result<(), NoMemory>
         requires good { IsGood self.old notes.old }

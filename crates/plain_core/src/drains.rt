@@ -12,12 +12,12 @@ ghost use Rattle.plain_core.specs.declared.agenda.Task.TheVariants as task;
 use crate::agenda::Task;
 use crate::flows::{Framed, NextFrame, request};
 use crate::noting::{note_and_rise, note_low, note_resumes};
-use crate::worker::Core;
+use crate::plain::PlainCore;
 use flow_gate::BufferId;
 use flow_notes::{Note, Notes};
 use io_ports::NoMemory;
 
-impl Core {
+impl PlainCore {
     // A round over the connections: one that may frame is drained, and a round that finds none is the last.
     pub(crate) fn round(&mut self, notes: &mut Notes) -> Result<(), NoMemory>
         requires good { IsGood self.old notes.old }

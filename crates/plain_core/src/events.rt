@@ -9,7 +9,7 @@ ghost use Rattle.plain_core.specs.declared.agenda.Task.TheVariants as task;
 use crate::agenda::Task;
 use crate::dooms::note_doom;
 use crate::flows::request;
-use crate::worker::Core;
+use crate::plain::PlainCore;
 use exchange_core::Received;
 use flow_gate::BufferId;
 use flow_notes::{Cause, Event, Note, Notes, PlainEvent};
@@ -24,7 +24,7 @@ const FLOW_CONTROL_ERROR: u32 = 3;
 /// A peer needs its stream no more (RFC 9113 section 7).
 const CANCEL: u32 = 8;
 
-impl Core {
+impl PlainCore {
     // The event's own effect, with its notes.
     pub(crate) fn take_event(&mut self, event: &Event, notes: &mut Notes) -> Result<(), NoMemory>
         requires { CanTake self.old event.now notes.old }

@@ -16,10 +16,10 @@ ghost use Rattle.plain_core.specs.Carries.{Begins, Dooms, Ends, Frames, GoesOn, 
 ghost use Rattle.plain_core.specs.Flows.{AreLimits, IsSettled, Settled};
 
 use crate::conn::Connection;
-use crate::heads::data_head;
 use exchange_core::{Advance, Exchanges, Piece, Received, StartSpec, Step, Unit};
 use flow_gate::{BufferId, FlowId, Gates, Watchers};
 use flow_notes::Cause;
+use h2_frames::data_head;
 use io_ports::NoMemory;
 use proxy_config::Config;
 use std::alloc::Global;
@@ -42,7 +42,7 @@ pub enum Outcome {
     NotLive,
     /// Nothing of it may move.
     Still,
-    /// All that may move did.
+    /// Octets moved from its receive buffer to its send buffer: as many as one move carries, or all that were there.
     Moved(Moved),
 }
 
@@ -178,12 +178,12 @@ impl Flows {
         let Step::Moved { n, shifted, .. } = step else {
             return Ok(Outcome::Still);
         };
-        self.see_left(exchange, n);
+        self.record_left(exchange, n);
         let rose = shifted.to == Crossed::High;
         if rose {
             self.gates.high(BufferId::Send(flow));
         }
-        self.see_unit(exchange, unit)?;
+        self.record_unit(exchange, unit)?;
         Ok(Outcome::Moved(Moved { n, rose }))
     }
 
@@ -218,7 +218,7 @@ impl Flows {
             most,
         )?;
         self.conn.framed_last = exchange;
-        self.see_unit(exchange, unit)?;
+        self.record_unit(exchange, unit)?;
         Ok(self.mark_crossed(flow, shifted))
     }
 
@@ -308,9 +308,9 @@ impl Flows {
         self.holding.remove(&exchange);
     }
 
-    // Says whether a move of n octets left any in the receive buffer of a live exchange: less than a quantum is all
+    // Records whether a move of n octets left any in the receive buffer of a live exchange: less than a quantum is all
     // that was there.
-    fn see_left(&mut self, exchange: u64, n: u32)
+    fn record_left(&mut self, exchange: u64, n: u32)
         requires { IsLiveFlow self.old.exchanges (flow_of exchange) }
         ensures holding { (x : ℕ) → contains nat_cmp self.new.holding x ≡ (not ((exchange == x) && (nat_lt n self.old.limits.quantum || is_emptied self.old exchange)) && contains nat_cmp self.old.holding x) }
         ensures rest { self.new ≡ record self.old { holding = self.new.holding } }
@@ -320,18 +320,18 @@ impl Flows {
         }
     }
 
-    // Says what unit the flow of a live exchange has now.
+    // Records what unit the flow of a live exchange has now.
     fn refresh(&mut self, exchange: u64) -> Result<(), NoMemory>
         requires { IsLiveFlow self.old.exchanges (flow_of exchange) }
         ensures ready { OnOk result ((x : ℕ) → get nat_cmp self.new.conn.ready x ≡ (if exchange == x then piece_at self.old exchange else get nat_cmp self.old.conn.ready x)) }
         ensures rest { self.new ≡ record self.old { conn = record self.old.conn { ready = self.new.conn.ready } } }
     {
         let unit = self.unit(exchange);
-        self.see_unit(exchange, unit)
+        self.record_unit(exchange, unit)
     }
 
-    // Says that this unit of an exchange goes next.
-    fn see_unit(&mut self, exchange: u64, unit: Unit) -> Result<(), NoMemory>
+    // Records the unit of an exchange that goes next, if it is a DATA frame.
+    fn record_unit(&mut self, exchange: u64, unit: Unit) -> Result<(), NoMemory>
         ensures ready { OnOk result ((x : ℕ) → get nat_cmp self.new.conn.ready x ≡ (if exchange == x then as_piece unit else get nat_cmp self.old.conn.ready x)) }
         ensures rest { self.new ≡ record self.old { conn = record self.old.conn { ready = self.new.conn.ready } } }
     {

@@ -1,4 +1,4 @@
-//! The core of a worker: one dispatch an event, each carried to its end by small steps.
+//! The core of plain sessions: one dispatch an event, each carried to its end by small steps.
 #![tactic(auto)]
 
 mod agenda;
@@ -9,10 +9,10 @@ mod events;
 mod fault;
 mod flows;
 mod gaps;
-mod heads;
 mod noting;
+mod plain;
 mod runs;
-mod worker;
+mod telling;
 
 pub use crate::fault::CoreFault;
-pub use crate::worker::Core;
+pub use crate::plain::PlainCore;

@@ -7,12 +7,12 @@ ghost use Rattle.plain_core.specs.declared.agenda.Task.TheVariants as task;
 
 use crate::flows::{Outcome, request};
 use crate::noting::note_and_rise;
-use crate::worker::Core;
+use crate::plain::PlainCore;
 use flow_gate::{BufferId, FlowId};
 use flow_notes::{Note, Notes};
 use io_ports::NoMemory;
 
-impl Core {
+impl PlainCore {
     // A move of the flow; or, where nothing may move, a drain of its connection; or, where nothing may be framed
     // either, the end of its run. While the write buffer is above, it holds every flow back, and nothing may be framed.
     // Nor does anything of an exchange that isn't live go on.

@@ -1,7 +1,8 @@
 -- Octets arrive in a receive buffer.
+use Rattle.tape_laws.specs.Doomed.{is_swept}
 use Rattle.flow_gate.specs.declared.ids.FlowId.{FlowId}
 use Rattle.plain_laws.proofs.Counting.{flow_tally, one_if, told_of}
-use Rattle.plain_laws.proofs.Extending.{MayAdd, counted_of, regular_more}
+use Rattle.plain_laws.proofs.Extending.{MayAdd, counted_of, one_owed, regular_more}
 use Rattle.plain_laws.proofs.Flags.{send_same, write_same}
 use Rattle.plain_laws.proofs.Leaving.{Leaves, flow_other, only_other, only_own, same_len_if, send_low_kept, unborn_kept}
 use Rattle.plain_laws.proofs.Streams.{apart_from, flow_is_live, own_or_other, same_number}
@@ -11,7 +12,7 @@ use Rattle.std.proofs.Common.{ap, arith, length-append, refl, subst, sym, ◌∙
 use Rattle.std.proofs.lemmas.List.{append-nil}
 use Rattle.std.specs.List.{AllByRecursion}
 use Rattle.std.specs.Prelude.{List, [], false, length, map, max, nat_lt, true, ℕ, ◌++◌, ◌+◌, ◌<◌, ◌==◌, ◌∷◌, ◌≡◌, ◌≤◌}
-use Rattle.tape_laws.specs.Demands.{Meets}
+use Rattle.tape_laws.specs.Demands.{MeetsFirst}
 use Rattle.tape_laws.specs.Dispatches.{has, live, started}
 use Rattle.tape_laws.specs.Flows.{request}
 use Rattle.tape_laws.specs.History.{History, NoMark, Noted, Step}
@@ -27,7 +28,7 @@ pub arrive_leaves : (limits : PlainLimits) (x y : ℕ) (octets : List ℕ) (h : 
 arrive_leaves limits x y octets h e = record {
   recv = rw e (append-nil (place (plain_setup limits) (request y) 0 h));
   send = rw e (append-nil (place (plain_setup limits) (request y) 1 h));
-  send_lows = append-nil (pending_lows (plain_setup limits) (buffer.Send (request y)) h);
+  send_lows = refl;
   paused = refl;
   resumed = refl;
   body = refl;
@@ -36,19 +37,20 @@ arrive_leaves limits x y octets h e = record {
 }
 
 -- what it is asked for
-arrive_may : (limits : PlainLimits) (x : ℕ) (octets : List ℕ) (h : History NoMark) → Books limits (arriving x octets) h → has (live h) x ≡ true → 0 < length octets
+arrive_may : (limits : PlainLimits) (x : ℕ) (octets : List ℕ) (h : History NoMark) → Books limits (arriving x octets) h → is_swept h ≡ false → has (live h) x ≡ true → 0 < length octets
     → MayAdd limits (note.Arrive (request x) octets) h
-arrive_may limits x octets h s is some = record {
+arrive_may limits x octets h s fresh is some = record {
   allowed = (flow_is_live limits x h is, some);
   paused = s.due;
   counted = counted_of limits (arriving x octets) h s refl;
   ends = tt;
   in_turn = tt;
   doomed = is;
-  answered = let P : Demand → Type 0 = λ d. Meets {Mark = NoMark} (plain_setup limits) d (Noted (note.Arrive (request x) octets)) in subst P (sym s.asks) refl;
+  swept = fresh;
+  answered = let P : List Demand → Type 0 = λ ds. MeetsFirst {Mark = NoMark} (plain_setup limits) ds (Noted (note.Arrive (request x) octets)) in subst P (sym s.asks) refl;
   only = tt;
   quiet = tt;
-  caused = tt;
+  licensed = tt;
 }
 
 -- the stream's own books
@@ -60,11 +62,11 @@ arrive_own limits x octets h f some room =
     let send_is : place (plain_setup limits) (request x) 1 (step ∷ h) ≡ place (plain_setup limits) (request x) 1 h =
     rw (same_number x) (append-nil (place (plain_setup limits) (request x) 1 h)) in
     let received_is : received (request x) (step ∷ h) ≡ received (request x) h ++ octets = rw (same_number x) refl in
-    let lows_is : pending_lows (plain_setup limits) (buffer.Send (request x)) (step ∷ h) ≡ pending_lows (plain_setup limits) (buffer.Send (request x)) h = append-nil _ in
-    let write_is : pending_lows (plain_setup limits) (buffer.Write 0) (step ∷ h) ≡ pending_lows (plain_setup limits) (buffer.Write 0) h = append-nil _ in
+    let lows_is : pending_lows (plain_setup limits) (buffer.Send (request x)) (step ∷ h) ≡ pending_lows (plain_setup limits) (buffer.Send (request x)) h = refl in
+    let write_is : pending_lows (plain_setup limits) (buffer.Write 0) (step ∷ h) ≡ pending_lows (plain_setup limits) (buffer.Write 0) h = refl in
     record {
       tally = flow_tally limits [] [] x step h
-          (same _ _ _ _ _ _ _ _ _ _ _ (ap one_if (send_same limits (request x) step h send_is)) (ap one_if (write_same limits step h (append-nil (out (plain_setup limits) 0 h))))
+          (same _ _ _ _ _ _ _ _ _ _ _ (ap one_if (send_same limits (request x) step h send_is)) (ap one_if (write_same limits step h refl))
           (ap (told_of x) lows_is) (ap (told_of x) write_is)) f.tally;
       send_low = send_low_kept limits x step h send_is lows_is f.send_low;
       recv_room = fits _ _ _ _ recv_is room;
@@ -88,11 +90,11 @@ arrive_books : (limits : PlainLimits) (x : ℕ) (octets : List ℕ) (h : History
     → length (place (plain_setup limits) (request x) 0 h) + length octets ≤ limits.recv → Books limits nothing (Noted (note.Arrive (request x) octets) ∷ h)
 arrive_books limits x octets h s is some room =
     let step : Step NoMark = Noted (note.Arrive (request x) octets) in
-    let out_same : out (plain_setup limits) 0 (step ∷ h) ≡ out (plain_setup limits) 0 h = append-nil (out (plain_setup limits) 0 h) in
-    let lows_same : pending_lows (plain_setup limits) (buffer.Write 0) (step ∷ h) ≡ pending_lows (plain_setup limits) (buffer.Write 0) h = append-nil _ in
+    let out_same : out (plain_setup limits) 0 (step ∷ h) ≡ out (plain_setup limits) 0 h = refl in
+    let lows_same : pending_lows (plain_setup limits) (buffer.Write 0) (step ∷ h) ≡ pending_lows (plain_setup limits) (buffer.Write 0) h = refl in
     record {
       due = refl;
-      asks = refl;
+      asks = one_owed _ _ s.asks;
       opened = s.opened;
       known = s.known;
       unclosed = s.unclosed;
@@ -108,12 +110,12 @@ arrive_books limits x octets h s is some room =
       owed = tt;
       write_lows = let P : List FlowId → Type 0 = AllByRecursion (IsLiveFlow (live h)) in subst P (sym lows_same) s.write_lows;
       write_once = let P : List FlowId → Type 0 = λ fs. IsRising (map (λ f. f.exchange) fs) in subst P (sym lows_same) s.write_once;
-      hushed = λ y e. append-nil (pending_lows (plain_setup limits) (buffer.Send (request y)) h) ∙ s.hushed y e;
+      hushed = λ y e. s.hushed y e;
     }
 
-pub arrive_regular : (limits : PlainLimits) (x : ℕ) (octets : List ℕ) (h : History NoMark) → Regular limits (arriving x octets) h → has (live h) x ≡ true → 0 < length octets
+pub arrive_regular : (limits : PlainLimits) (x : ℕ) (octets : List ℕ) (h : History NoMark) → Regular limits (arriving x octets) h → is_swept h ≡ false → has (live h) x ≡ true → 0 < length octets
     → length (place (plain_setup limits) (request x) 0 h) + length octets ≤ limits.recv
     → Regular limits nothing (Noted (note.Arrive (request x) octets) ∷ h)
-arrive_regular limits x octets h r is some room =
-    regular_more limits (arriving x octets) nothing (note.Arrive (request x) octets) h r (arrive_may limits x octets h r.books is some)
+arrive_regular limits x octets h r fresh is some room =
+    regular_more limits (arriving x octets) nothing (note.Arrive (request x) octets) h r (arrive_may limits x octets h r.books fresh is some)
     (arrive_books limits x octets h r.books is some room)

@@ -1,4 +1,5 @@
 -- What the steps of a core change, and what they keep.
+use Rattle.h2_frames.specs.Head.{data_head}
 use Rattle.flow_gate.specs.declared.ids.BufferId.{BufferId}
 use Rattle.flow_gate.specs.declared.ids.FlowId.{FlowId}
 use Rattle.flow_notes.specs.declared.notes.Note.{Note}
@@ -15,7 +16,6 @@ use Rattle.plain_laws.proofs.Streams.{number_is}
 use Rattle.plain_laws.proofs.Tellings.{owed_if, owed_none, owed_one}
 use Rattle.plain_laws.specs.Keeping.{KeepsLists, KeepsStream, KeepsWrite}
 use Rattle.plain_laws.specs.Owing.{due_if, owed_times, pause_notes}
-use Rattle.plain_laws.specs.Pairs.{seconds}
 use Rattle.plain_laws.specs.Regular.{IsRising}
 use Rattle.plain_laws.specs.Settled.{Settled}
 use Rattle.plain_laws.specs.StepNotes.{drain_notes, frame_notes, move_notes, rise_notes}
@@ -29,9 +29,10 @@ use Rattle.tape_laws.specs.Flows.{request}
 use Rattle.tape_laws.specs.History.{History, NoMark, Noted, Step, onto}
 use Rattle.tape_laws.specs.Order.{framed_last}
 use Rattle.tape_laws.specs.Pauses.{Owed, pauses, pending_lows, resumes}
-use Rattle.tape_laws.specs.Plain.{paired_with, plain_ended, plain_must_end, plain_setup}
+use Rattle.tape_laws.specs.Plain.{paired_with, plain_ended, plain_setup}
+use Rattle.tape_laws.specs.PlainSession.{plain_must_end}
 use Rattle.tape_laws.specs.Watermark.{above, drains_at, rises_at}
-use Rattle.tape_laws.specs.World.{data_head, out, place}
+use Rattle.tape_laws.specs.World.{out, place}
 use Rattle.tape_laws.specs.declared.limits.PlainLimits.{PlainLimits}
 use Rattle.wm_buffer.specs.Watermark.{above_after}
 use Rattle.flow_gate.specs.declared.ids.BufferId.TheVariants as buffer
@@ -81,7 +82,7 @@ move_keeps limits x y n h d =
 pub move_keeps_write : (limits : PlainLimits) (x n : ℕ) (h : History NoMark) → KeepsWrite limits h (onto (move_notes limits x n h) h)
 move_keeps_write limits x n h =
     moved limits x n h (λ v. KeepsWrite limits h v)
-    (write_more limits h (Noted (note.Move (request x) 0 n) ∷ h) _ (keeps_write limits (Noted (note.Move (request x) 0 n)) h (append-nil (out (plain_setup limits) 0 h)) (append-nil _))
+    (write_more limits h (Noted (note.Move (request x) 0 n) ∷ h) _ (keeps_write limits (Noted (note.Move (request x) 0 n)) h refl (append-nil _))
     (pauses_keep_write limits (move_due limits x n h) (Noted (note.Move (request x) 0 n) ∷ h)))
 
 pub move_keeps_lists : (limits : PlainLimits) (x n : ℕ) (h : History NoMark) → KeepsLists h (onto (move_notes limits x n h) h)
@@ -102,9 +103,6 @@ move_ended limits x y n h = move_same (λ v. plain_ended y v) (λ f b v. refl) l
 pub move_end_framed : (limits : PlainLimits) (x y n : ℕ) (h : History NoMark)
     → end_framed (plain_setup limits) (request y) (onto (move_notes limits x n h) h) ≡ end_framed (plain_setup limits) (request y) h
 move_end_framed limits x y n h = move_same (λ v. end_framed (plain_setup limits) (request y) v) (λ f b v. refl) limits x n h refl
-
-pub move_seconds : (limits : PlainLimits) (x y n : ℕ) (h : History NoMark) → seconds y (onto (move_notes limits x n h) h) ≡ seconds y h
-move_seconds limits x y n h = move_same (λ v. seconds y v) (λ f b v. refl) limits x n h refl
 
 pub move_must : (limits : PlainLimits) (x y n : ℕ) (h : History NoMark) → plain_must_end y (onto (move_notes limits x n h) h) ≡ plain_must_end y h
 move_must limits x y n h = move_same (λ v. plain_must_end y v) (λ f b v. refl) limits x n h refl
@@ -179,19 +177,19 @@ frame_high limits x n last h =
 pub frame_out : (limits : PlainLimits) (x n : ℕ) (last : Bool) (h : History NoMark) → out (plain_setup limits) 0 (onto (frame_notes limits x n last h) h)
     ≡ out (plain_setup limits) 0 h ++ (data_head x n last ++ take n (place (plain_setup limits) (request x) 1 h))
 frame_out limits x n last h =
-    frame_same (λ v. out (plain_setup limits) 0 v) (λ f b v. append-nil (out (plain_setup limits) 0 v)) (λ f g v. append-nil (out (plain_setup limits) 0 v)) limits x n last h
+    frame_same (λ v. out (plain_setup limits) 0 v) (λ f b v. refl) (λ f g v. refl) limits x n last h
 
 pub frame_write_high : (limits : PlainLimits) (x n : ℕ) (last : Bool) (h : History NoMark) → above (plain_setup limits) (buffer.Write 0) (onto (frame_notes limits x n last h) h)
     ≡ above_after limits.write (above (plain_setup limits) (buffer.Write 0) h)
     (length (out (plain_setup limits) 0 h ++ (data_head x n last ++ take n (place (plain_setup limits) (request x) 1 h))))
 frame_write_high limits x n last h =
-    frame_same (λ v. above (plain_setup limits) (buffer.Write 0) v) (λ f b v. write_same limits (Noted (note.Pause f b)) v (append-nil (out (plain_setup limits) 0 v)))
-    (λ f g v. write_same limits (Noted (note.Resume f (buffer.Send g))) v (append-nil (out (plain_setup limits) 0 v))) limits x n last h
+    frame_same (λ v. above (plain_setup limits) (buffer.Write 0) v) (λ f b v. write_same limits (Noted (note.Pause f b)) v refl)
+    (λ f g v. write_same limits (Noted (note.Resume f (buffer.Send g))) v refl) limits x n last h
 
 pub frame_write_lows : (limits : PlainLimits) (x n : ℕ) (last : Bool) (h : History NoMark)
     → pending_lows (plain_setup limits) (buffer.Write 0) (onto (frame_notes limits x n last h) h) ≡ pending_lows (plain_setup limits) (buffer.Write 0) h
 frame_write_lows limits x n last h =
-    frame_same (λ v. pending_lows (plain_setup limits) (buffer.Write 0) v) (λ f b v. append-nil (pending_lows (plain_setup limits) (buffer.Write 0) v)) (λ f g v. refl) limits x n last h
+    frame_same (λ v. pending_lows (plain_setup limits) (buffer.Write 0) v) (λ f b v. refl) (λ f g v. refl) limits x n last h
     ∙ append-nil (pending_lows (plain_setup limits) (buffer.Write 0) h)
 
 pub frame_keeps : (limits : PlainLimits) (x y n : ℕ) (last : Bool) (h : History NoMark) → (x == y) ≡ false → KeepsStream limits y h (onto (frame_notes limits x n last h) h)
@@ -221,9 +219,6 @@ frame_framed_last limits x n last h = frame_same (λ v. framed_last (plain_setup
 
 pub frame_ended : (limits : PlainLimits) (x y n : ℕ) (last : Bool) (h : History NoMark) → plain_ended y (onto (frame_notes limits x n last h) h) ≡ plain_ended y h
 frame_ended limits x y n last h = frame_same (λ v. plain_ended y v) (λ f b v. refl) (λ f g v. refl) limits x n last h
-
-pub frame_seconds : (limits : PlainLimits) (x y n : ℕ) (last : Bool) (h : History NoMark) → seconds y (onto (frame_notes limits x n last h) h) ≡ seconds y h
-frame_seconds limits x y n last h = frame_same (λ v. seconds y v) (λ f b v. refl) (λ f g v. refl) limits x n last h
 
 pub frame_paired : (limits : PlainLimits) (x y n : ℕ) (last : Bool) (h : History NoMark) → paired_with y (onto (frame_notes limits x n last h) h) ≡ paired_with y h
 frame_paired limits x y n last h = frame_same (λ v. paired_with y v) (λ f b v. refl) (λ f g v. refl) limits x n last h
@@ -275,6 +270,3 @@ frame_resumed limits x y n last h =
 pub frame_here : (limits : PlainLimits) (x n : ℕ) (last : Bool) (h : History NoMark) → Settled limits h → has (live h) x ≡ true
     → end_framed (plain_setup limits) (request x) (before_dispatch (onto (frame_notes limits x n last h) h)) ≡ false
 frame_here limits x n last h s is = ap (λ (v : History NoMark). end_framed (plain_setup limits) (request x) v) (frame_before limits x n last h) ∙ (s.regular.books.each x is).unframed
-
-pub frame_is_end : (limits : PlainLimits) (x n : ℕ) (h : History NoMark) → end_framed (plain_setup limits) (request x) (onto (frame_notes limits x n true h) h) ≡ true
-frame_is_end limits x n h = frame_end_framed limits x n true h

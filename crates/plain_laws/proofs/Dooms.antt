@@ -1,29 +1,30 @@
 -- A stream is doomed.
+use Rattle.tape_laws.specs.Doomed.{is_swept}
 use Rattle.flow_gate.specs.declared.ids.FlowId.{FlowId}
 use Rattle.flow_notes.specs.declared.notes.Cause.{Cause}
-use Rattle.plain_laws.proofs.Extending.{MayAdd, counted_of, free_meets, regular_more}
+use Rattle.plain_laws.proofs.Extending.{MayAdd, counted_of, free_meets, nothing_owed, one_owed, regular_more}
 use Rattle.plain_laws.proofs.Leaving.{Leaves, flow_other, only_other, same_len_if, unborn_kept}
 use Rattle.plain_laws.proofs.Rising.{rising_filter}
 use Rattle.plain_laws.proofs.Streams.{apart_from, by_case, differs_back, has_left, has_lost, has_stays, not_both, number_is, or_left, or_right, same_number}
 use Rattle.plain_laws.proofs.Tellings.{told_without}
 use Rattle.plain_laws.specs.Owing.{OwesDoom, Owing, asking, nothing, overrun, owed_times, starts}
 use Rattle.plain_laws.specs.Regular.{Books, FlowBooks, IsLiveFlow, IsRising, Regular}
-use Rattle.std.proofs.Common.{ap, arith, inl, inr, refl, subst, sym, ◌∙◌}
-use Rattle.std.proofs.lemmas.Bool.Decides.{nat_tests}
-use Rattle.std.proofs.lemmas.List.{append-nil}
+use Rattle.std.proofs.Common.{ap, inl, inr, refl, subst, sym, ◌∙◌}
+use Rattle.std.specs.Bool.{OnTrue}
 use Rattle.std.specs.List.{AllByRecursion, list_any}
-use Rattle.std.specs.Prelude.{Bool, List, [], false, filter, if◌then◌else◌, length, map, max, nat_lt, not, true, ℕ, ◌&&◌, ◌+◌, ◌<◌, ◌==◌, ◌||◌, ◌∷◌, ◌≡◌, ◌⊎◌}
+use Rattle.std.specs.Prelude.{Bool, List, [], drop, false, filter, if◌then◌else◌, map, max, nat_lt, not, true, ℕ, ◌&&◌, ◌+◌, ◌==◌, ◌||◌, ◌∷◌, ◌≡◌, ◌⊎◌}
 use Rattle.tape_laws.specs.Causes.{MayDoom, end_framed_here}
-use Rattle.tape_laws.specs.Demands.{Meets, demand}
+use Rattle.tape_laws.specs.Demands.{MeetsFirst, is_at_once, obligations}
 use Rattle.tape_laws.specs.Dispatches.{before_dispatch, has, live, started}
 use Rattle.tape_laws.specs.Ends.{end_framed}
 use Rattle.tape_laws.specs.Flows.{request}
 use Rattle.tape_laws.specs.History.{History, NoMark, Noted, Step}
-use Rattle.tape_laws.specs.Pauses.{pending_lows}
-use Rattle.tape_laws.specs.Plain.{paired_with, plain_session, plain_setup}
-use Rattle.tape_laws.specs.Units.{Demand, Free, WantsDoom}
+use Rattle.tape_laws.specs.Pauses.{Heads, pending_lows}
+use Rattle.tape_laws.specs.Plain.{paired_with, plain_setup}
+use Rattle.tape_laws.specs.PlainSession.{plain_session}
+use Rattle.tape_laws.specs.Units.{Demand, WantsDoom}
 use Rattle.tape_laws.specs.Watermark.{above}
-use Rattle.tape_laws.specs.World.{out, place}
+use Rattle.tape_laws.specs.World.{out}
 use Rattle.tape_laws.specs.declared.limits.PlainLimits.{PlainLimits}
 use Rattle.flow_gate.specs.declared.ids.BufferId.TheVariants as buffer
 use Rattle.flow_notes.specs.declared.events.Event.TheVariants as event
@@ -97,33 +98,48 @@ lows_vanish limits o x h f = pick f.send_low
     pick (inl e) = ap (without x) e
     pick (inr e) = ap (without x) e.0 ∙ without_own x
 
-doom_may : (limits : PlainLimits) (o : Owing) (x : ℕ) (why : Cause) (h : History NoMark) → Books limits o h → OwesDoom x why h o → has (live h) x ≡ true
+doom_may : (limits : PlainLimits) (o : Owing) (x : ℕ) (why : Cause) (h : History NoMark) → Books limits o h → is_swept h ≡ false → OwesDoom x why h o → has (live h) x ≡ true
     → MayDoom (plain_setup limits) x why h → MayAdd limits (note.Doom x why) h
-doom_may limits o x why h s ow is may = record {
+doom_may limits o x why h s fresh ow is may = record {
   allowed = tt;
   paused = s.due ∙ ow.due;
   counted = counted_of limits o h s ow.due;
   ends = tt;
   in_turn = tt;
   doomed = is;
+  swept = fresh;
   answered = meets ow.asks;
-  only = tt;
+  only = asked ow.asks;
   quiet = tt;
-  caused = may;
+  licensed = may;
 }
   where
-    meets : (o.asks ≡ Free) ⊎ (o.asks ≡ WantsDoom x why) → Meets {Mark = NoMark} (plain_setup limits) (demand (plain_session limits) h) (Noted (note.Doom x why))
-    meets (inl e) = free_meets limits _ (note.Doom x why) (s.asks ∙ e) tt
-    meets (inr e) = let P : Demand → Type 0 = λ d. Meets {Mark = NoMark} (plain_setup limits) d (Noted (note.Doom x why)) in subst P (sym (s.asks ∙ e)) refl
+    meets : ((o.asks ≡ []) × (is_at_once why ≡ false)) ⊎ (o.asks ≡ WantsDoom x why ∷ [])
+        → MeetsFirst {Mark = NoMark} (plain_setup limits) (obligations (plain_session limits) h) (Noted (note.Doom x why))
+    meets (inl e) = free_meets limits _ (note.Doom x why) (s.asks ∙ e.0) tt
+    meets (inr e) = let P : List Demand → Type 0 = λ ds. MeetsFirst {Mark = NoMark} (plain_setup limits) ds (Noted (note.Doom x why)) in subst P (sym (s.asks ∙ e)) refl
+
+    under : (b : Bool) (A : Type 0) → A → OnTrue b A
+    under true A a = a
+    under false A a = tt
+
+    never : (b : Bool) (A : Type 0) → b ≡ false → OnTrue b A
+    never true A e = cc
+    never false A e = tt
+
+    asked : ((o.asks ≡ []) × (is_at_once why ≡ false)) ⊎ (o.asks ≡ WantsDoom x why ∷ [])
+        → OnTrue (is_at_once why) (Heads (WantsDoom x why) (obligations (plain_session limits) h))
+    asked (inl e) = never (is_at_once why) _ e.1
+    asked (inr e) = let P : List Demand → Type 0 = Heads (WantsDoom x why) in under (is_at_once why) _ (subst P (sym (s.asks ∙ e)) refl)
 
 doom_books : (limits : PlainLimits) (o : Owing) (x : ℕ) (why : Cause) (h : History NoMark) → Books limits o h → OwesDoom x why h o → has (live h) x ≡ true
     → Books limits nothing (Noted (note.Doom x why) ∷ h)
 doom_books limits o x why h s ow is =
     let step : Step NoMark = Noted (note.Doom x why) in
-    let out_same : out (plain_setup limits) 0 (step ∷ h) ≡ out (plain_setup limits) 0 h = append-nil (out (plain_setup limits) 0 h) in
+    let out_same : out (plain_setup limits) 0 (step ∷ h) ≡ out (plain_setup limits) 0 h = refl in
     record {
       due = refl;
-      asks = refl;
+      asks = met ow.asks;
       opened = s.opened;
       known = s.known;
       unclosed = s.unclosed;
@@ -145,47 +161,42 @@ doom_books limits o x why h s ow is =
           (λ d. ap (without x) (s.hushed y (has_lost (live h) x y e d)));
     }
   where
-    unstarting : (y : ℕ) → (o.asks ≡ Free) ⊎ (o.asks ≡ WantsDoom x why) → starts o.asks y ≡ false
-    unstarting y (inl e) = ap (λ d. starts d y) e
+    met : ((o.asks ≡ []) × (is_at_once why ≡ false)) ⊎ (o.asks ≡ WantsDoom x why ∷ []) → drop 1 (obligations (plain_session limits) h) ≡ []
+    met (inl e) = nothing_owed _ (s.asks ∙ e.0)
+    met (inr e) = one_owed _ _ (s.asks ∙ e)
+
+    unstarting : (y : ℕ) → ((o.asks ≡ []) × (is_at_once why ≡ false)) ⊎ (o.asks ≡ WantsDoom x why ∷ []) → starts o.asks y ≡ false
+    unstarting y (inl e) = ap (λ d. starts d y) e.0
     unstarting y (inr e) = ap (λ d. starts d y) e
 
     never_live : (y : ℕ) → has (started h) y ≡ false → has (live h) y ≡ false
     never_live y e = by_case (has (live h) y) (λ t. not_both (has (started h) y) (s.born y t) e) (λ f. f)
 
-pub doom_regular : (limits : PlainLimits) (owing : Owing) (x : ℕ) (why : Cause) (h : History NoMark) → Regular limits owing h → OwesDoom x why h owing → has (live h) x ≡ true
+pub doom_regular : (limits : PlainLimits) (owing : Owing) (x : ℕ) (why : Cause) (h : History NoMark) → Regular limits owing h → is_swept h ≡ false → OwesDoom x why h owing → has (live h) x ≡ true
     → MayDoom (plain_setup limits) x why h → Regular limits nothing (Noted (note.Doom x why) ∷ h)
-doom_regular limits owing x why h r o is may =
-    regular_more limits owing nothing (note.Doom x why) h r (doom_may limits owing x why h r.books o is may) (doom_books limits owing x why h r.books o is)
+doom_regular limits owing x why h r fresh o is may =
+    regular_more limits owing nothing (note.Doom x why) h r (doom_may limits owing x why h r.books fresh o is may) (doom_books limits owing x why h r.books o is)
 
-pub asks_doom : (x : ℕ) (why : Cause) (h : History NoMark) → OwesDoom x why h (asking (WantsDoom x why))
+pub asks_doom : (x : ℕ) (why : Cause) (h : History NoMark) → OwesDoom x why h (asking (WantsDoom x why ∷ []))
 asks_doom x why h = record { due = refl; asks = inr refl; extra = λ y e d. refl }
 
-pub owes_none : (x : ℕ) (why : Cause) (h : History NoMark) → OwesDoom x why h nothing
-owes_none x why h = record { due = refl; asks = inl refl; extra = λ y e d. refl }
+pub owes_none : (x : ℕ) (why : Cause) (h : History NoMark) → is_at_once why ≡ false → OwesDoom x why h nothing
+owes_none x why h e = record { due = refl; asks = inl (refl, e); extra = λ y e d. refl }
 
 -- the stream was reset
-pub doom_cut : (limits : PlainLimits) (k x : ℕ) (h : History NoMark) → Regular limits (asking (WantsDoom x (cause.PeerReset 8))) (Noted (note.Turn k (event.Plain (plain.Cut x))) ∷ h)
+pub doom_cut : (limits : PlainLimits) (k x : ℕ) (h : History NoMark) → Regular limits (asking (WantsDoom x (cause.PeerReset 8) ∷ [])) (Noted (note.Turn k (event.Plain (plain.Cut x))) ∷ h)
     → has (live h) x ≡ true → Regular limits nothing (Noted (note.Doom x (cause.PeerReset 8)) ∷ Noted (note.Turn k (event.Plain (plain.Cut x))) ∷ h)
 doom_cut limits k x h r is =
     let before = Noted (note.Turn k (event.Plain (plain.Cut x))) ∷ h in
-    doom_regular limits (asking (WantsDoom x (cause.PeerReset 8))) x (cause.PeerReset 8) before r (asks_doom x (cause.PeerReset 8) before) is (same_number x, refl)
+    doom_regular limits (asking (WantsDoom x (cause.PeerReset 8) ∷ [])) x (cause.PeerReset 8) before r refl (asks_doom x (cause.PeerReset 8) before) is tt
 
 -- more came than it may hold
 pub doom_over : (limits : PlainLimits) (k x : ℕ) (octets : List ℕ) (h : History NoMark)
     → Regular limits (overrun x octets) (Noted (note.Turn k (event.Plain (plain.Body x octets))) ∷ h) → has (live h) x ≡ true
-    → limits.recv < length (place (plain_setup limits) (request x) 0 h) + length octets
     → Regular limits nothing (Noted (note.Doom x (cause.StreamError 3)) ∷ Noted (note.Turn k (event.Plain (plain.Body x octets))) ∷ h)
-doom_over limits k x octets h r is over =
+doom_over limits k x octets h r is =
     let before = Noted (note.Turn k (event.Plain (plain.Body x octets))) ∷ h in
-    doom_regular limits (overrun x octets) x (cause.StreamError 3) before r (record { due = refl; asks = inr refl; extra = λ y e d. only_other x y octets d }) is
-    (both _ _ (same_number x) (passes _ _ over), refl)
-  where
-    both : (a b : Bool) → a ≡ true → b ≡ true → (a && b) ≡ true
-    both true b e f = f
-    both false b e f = cc
-
-    passes : (a b : ℕ) → a < b → nat_lt a b ≡ true
-    passes a b e = grind (arith, nat_tests)
+    doom_regular limits (overrun x octets) x (cause.StreamError 3) before r refl (record { due = refl; asks = inr refl; extra = λ y e d. only_other x y octets d }) is tt
 
 here : (a b : Bool) → a ≡ true → b ≡ false → (a && not b) ≡ true
 here true true e f = cc
@@ -193,17 +204,17 @@ here true false e f = refl
 here false b e f = cc
 
 -- its end was framed
-pub doom_done : (limits : PlainLimits) (x : ℕ) (h : History NoMark) → Regular limits nothing h → has (live h) x ≡ true → end_framed (plain_setup limits) (request x) h ≡ true
+pub doom_done : (limits : PlainLimits) (x : ℕ) (h : History NoMark) → Regular limits nothing h → is_swept h ≡ false → has (live h) x ≡ true → end_framed (plain_setup limits) (request x) h ≡ true
     → Regular limits nothing (Noted (note.Doom x cause.Done) ∷ h)
-doom_done limits x h r is e =
-    doom_regular limits nothing x cause.Done h r (owes_none x cause.Done h) is (here _ _ e (r.books.each x is).unframed)
+doom_done limits x h r fresh is e =
+    doom_regular limits nothing x cause.Done h r fresh (owes_none x cause.Done h refl) is (here _ _ e (r.books.each x is).unframed)
 
 -- in this dispatch that of a stream was whose end dooms it
-pub doom_early : (limits : PlainLimits) (s x : ℕ) (h : History NoMark) → Regular limits nothing h → has (live h) x ≡ true → has (paired_with x h) s ≡ true
+pub doom_early : (limits : PlainLimits) (s x : ℕ) (h : History NoMark) → Regular limits nothing h → is_swept h ≡ false → has (live h) x ≡ true → has (paired_with x h) s ≡ true
     → end_framed (plain_setup limits) (request s) h ≡ true → end_framed (plain_setup limits) (request s) (before_dispatch h) ≡ false
     → Regular limits nothing (Noted (note.Doom x cause.EarlyEnd) ∷ h)
-doom_early limits s x h r is pair e before =
-    doom_regular limits nothing x cause.EarlyEnd h r (owes_none x cause.EarlyEnd h) is
+doom_early limits s x h r fresh is pair e before =
+    doom_regular limits nothing x cause.EarlyEnd h r fresh (owes_none x cause.EarlyEnd h refl) is
     (some (λ y. end_framed_here (plain_setup limits) (request y) h) (paired_with x h) s pair (here _ _ e before))
   where
     later : (a b : Bool) → (a || b) ≡ true → a ≡ false → b ≡ true

@@ -23,15 +23,15 @@ use Rattle.plain_laws.specs.Regular.{Rests}
 use Rattle.plain_laws.specs.Settled.{Settled}
 use Rattle.plain_laws.specs.StepNotes.{begin_notes, body_notes, cut_notes, over_notes, room_notes}
 use Rattle.std.proofs.Common.{ap, refl, subst, sym, ◌∙◌}
-use Rattle.std.proofs.lemmas.List.{append-nil}
 use Rattle.std.specs.Prelude.{Bool, List, [], drop, false, if◌then◌else◌, length, map, not, true, ℕ, ◌&&◌, ◌++◌, ◌+◌, ◌==◌, ◌∷◌, ◌≡◌}
-use Rattle.tape_laws.specs.Dispatches.{events_back, live, started, turns}
+use Rattle.tape_laws.specs.Dispatches.{live, started, turns}
 use Rattle.tape_laws.specs.Doomed.{condemned}
 use Rattle.tape_laws.specs.Flows.{request}
 use Rattle.tape_laws.specs.History.{History, NoMark, Noted, Step, onto}
 use Rattle.tape_laws.specs.Order.{framed_last}
 use Rattle.tape_laws.specs.Pauses.{Owed, pauses, pending_lows, resumes}
-use Rattle.tape_laws.specs.Plain.{paired_with, plain_ended, plain_must_end, plain_setup}
+use Rattle.tape_laws.specs.Plain.{paired_with, plain_ended, plain_setup}
+use Rattle.tape_laws.specs.PlainSession.{plain_must_end}
 use Rattle.tape_laws.specs.Watermark.{above}
 use Rattle.tape_laws.specs.World.{out, place}
 use Rattle.tape_laws.specs.declared.limits.PlainLimits.{PlainLimits}
@@ -91,9 +91,6 @@ begin_condemned limits k x h = begin_same (λ v. condemned v) (λ f b v. refl) l
 pub begin_turns : (limits : PlainLimits) (k x : ℕ) (h : History NoMark) → turns (onto (begin_notes limits k x h) h) ≡ turns h + 1
 begin_turns limits k x h = begin_same (λ v. turns v) (λ f b v. refl) limits k x h
 
-pub begin_events : (limits : PlainLimits) (k x : ℕ) (h : History NoMark) → events_back (onto (begin_notes limits k x h) h) ≡ event.Plain (plain.Begin x) ∷ events_back h
-begin_events limits k x h = begin_same (λ v. events_back v) (λ f b v. refl) limits k x h
-
 pub begin_framed_last : (limits : PlainLimits) (k x : ℕ) (h : History NoMark) → framed_last (plain_setup limits) 0 (onto (begin_notes limits k x h) h) ≡ framed_last (plain_setup limits) 0 h
 begin_framed_last limits k x h = begin_same (λ v. framed_last (plain_setup limits) 0 v) (λ f b v. refl) limits k x h
 
@@ -151,7 +148,7 @@ doomed_keeps : (limits : PlainLimits) (k x y : ℕ) (e : PlainEvent) (why : Caus
     → KeepsStream limits y h (Noted (note.Doom x why) ∷ Noted (note.Turn k (event.Plain e)) ∷ h)
 doomed_keeps limits k x y e why h s d ended pairs =
     let turn : Step NoMark = Noted (note.Turn k (event.Plain e)) in
-    let quiet : pending_lows (plain_setup limits) (buffer.Send (request y)) (turn ∷ h) ≡ [] = append-nil (pending_lows (plain_setup limits) (buffer.Send (request y)) h) ∙ s.untold y in
+    let quiet : pending_lows (plain_setup limits) (buffer.Send (request y)) (turn ∷ h) ≡ [] = s.untold y in
     stream_more limits y h (turn ∷ h) (Noted (note.Doom x why) ∷ turn ∷ h) (turn_keeps limits y k e h ended pairs)
     (keeps_stream limits y (Noted (note.Doom x why)) (turn ∷ h) (doom_leaves limits x y why (turn ∷ h) d (ap (without x) quiet ∙ sym quiet)) refl refl)
 
@@ -164,7 +161,7 @@ cut_keeps limits k x y h s d = doomed_keeps limits k x y (plain.Cut x) (cause.Pe
 -- ---- octets leave
 
 pub room_out : (limits : PlainLimits) (k n m : ℕ) (h : History NoMark) → out (plain_setup limits) 0 (onto (room_notes k n m) h) ≡ drop m (out (plain_setup limits) 0 h)
-room_out limits k n m h = ap (λ (o : List ℕ). drop m o) (append-nil (out (plain_setup limits) 0 h))
+room_out limits k n m h = refl
 
 pub room_high : (limits : PlainLimits) (k n m : ℕ) (h : History NoMark) → above (plain_setup limits) (buffer.Write 0) (onto (room_notes k n m) h)
     ≡ above_after limits.write (above (plain_setup limits) (buffer.Write 0) h) (length (drop m (out (plain_setup limits) 0 h)))

@@ -33,7 +33,7 @@ use Rattle.flow_notes.specs.declared.notes.Note.TheVariants as note
 
 turn_untold : (limits : PlainLimits) (k x : ℕ) (e : PlainEvent) (h : History NoMark) → Settled limits h
     → pending_lows (plain_setup limits) (buffer.Send (request x)) (Noted (note.Turn k (event.Plain e)) ∷ h) ≡ []
-turn_untold limits k x e h s = append-nil (pending_lows (plain_setup limits) (buffer.Send (request x)) h) ∙ s.untold x
+turn_untold limits k x e h s = s.untold x
 
 -- a turn note alone
 turn_settled : (limits : PlainLimits) (k : ℕ) (e : PlainEvent) (h : History NoMark) → Rests limits h → Regular limits nothing (Noted (note.Turn k (event.Plain e)) ∷ h)
@@ -47,14 +47,14 @@ begin_step limits k x h r ek some m =
     let turn : Step NoMark = Noted (note.Turn k (event.Plain (plain.Begin x))) in
     let start : Step NoMark = Noted (note.Start x 0 x 0) in
     let high = above (plain_setup limits) (buffer.Write 0) h in
-    let same : above (plain_setup limits) (buffer.Write 0) (turn ∷ h) ≡ high = write_same limits turn h (append-nil (out (plain_setup limits) 0 h)) in
+    let same : above (plain_setup limits) (buffer.Write 0) (turn ∷ h) ≡ high = write_same limits turn h refl in
     let P : List Note → Type 0 = λ ns. Settled limits (onto ns (start ∷ turn ∷ h)) in
     let Q : Bool → Type 0 = λ b. Regular limits (owed (due_if b (buffer.Write 0) (x ∷ []))) (start ∷ turn ∷ h) in
     let most = begin_most limits x h r.regular m in
-    let s = start_regular limits x (x - 1) (turn ∷ h) (turn_begin limits k x h r ek) most (less x some) in
+    let s = start_regular limits x (x - 1) (turn ∷ h) (turn_begin limits k x h r ek) refl most (less x some) in
     subst P (sym (one_pause (buffer.Write 0) x high high refl))
-    (pauses_settled limits _ (start ∷ turn ∷ h) (subst Q same s)
-    (λ y. append-nil (pending_lows (plain_setup limits) (buffer.Send (request y)) (turn ∷ h)) ∙ turn_untold limits k y (plain.Begin x) h (rests_settled limits h r)))
+    (pauses_settled limits _ (start ∷ turn ∷ h) (subst Q same s) refl
+    (λ y. turn_untold limits k y (plain.Begin x) h (rests_settled limits h r)))
   where
     less : (a : ℕ) → 0 < a → a - 1 < a
     less a e = omega arith
@@ -73,14 +73,14 @@ pub body_step : (limits : PlainLimits) (k x : ℕ) (octets : List ℕ) (h : Hist
 body_step limits k x octets h r ek is some room =
     let turn : Step NoMark = Noted (note.Turn k (event.Plain (plain.Body x octets))) in
     record {
-      regular = arrive_regular limits x octets (turn ∷ h) (turn_body limits k x octets h r ek is room) is some room;
-      untold = λ y. append-nil (pending_lows (plain_setup limits) (buffer.Send (request y)) (turn ∷ h)) ∙ turn_untold limits k y (plain.Body x octets) h (rests_settled limits h r);
+      regular = arrive_regular limits x octets (turn ∷ h) (turn_body limits k x octets h r ek is room) refl is some room;
+      untold = λ y. turn_untold limits k y (plain.Body x octets) h (rests_settled limits h r);
     }
 
 pub over_step : (limits : PlainLimits) (k x : ℕ) (octets : List ℕ) (h : History NoMark) → Rests limits h → k ≡ turns h + 1 → has (live h) x ≡ true
     → limits.recv < length (place (plain_setup limits) (request x) 0 h) + length octets → Settled limits (onto (over_notes k x octets) h)
 over_step limits k x octets h r ek is over = record {
-  regular = doom_over limits k x octets h (turn_body_over limits k x octets h r ek is over) is over;
+  regular = doom_over limits k x octets h (turn_body_over limits k x octets h r ek is over) is;
   untold = λ y. ap (without x) (turn_untold limits k y (plain.Body x octets) h (rests_settled limits h r));
 }
 
@@ -105,8 +105,7 @@ pub room_step : (limits : PlainLimits) (k n m : ℕ) (h : History NoMark) → Re
 room_step limits k n m h r ek em some =
     let turn : Step NoMark = Noted (note.Turn k (event.Plain (plain.Room n))) in
     record {
-      regular = out_regular limits m (turn ∷ h) (turn_room limits k n m h r ek em some)
-          (append-nil (pending_lows (plain_setup limits) (buffer.Write 0) h) ∙ rests_told limits h r);
+      regular = out_regular limits m (turn ∷ h) (turn_room limits k n m h r ek em some) refl (rests_told limits h r);
       untold = λ y. append-nil (pending_lows (plain_setup limits) (buffer.Send (request y)) (turn ∷ h)) ∙ turn_untold limits k y (plain.Room n) h (rests_settled limits h r);
     }
 

@@ -8,24 +8,25 @@ use Rattle.std.proofs.Common.{ap, arith, subst, sym}
 use Rattle.std.proofs.Math.Seq.{take-append_seam}
 use Rattle.std.specs.Bool.{OnTrue}
 use Rattle.std.specs.List.{AllByRecursion}
-use Rattle.std.specs.Prelude.{Bool, List, [], false, length, max, nat_lt, true, ℕ, ◌++◌, ◌+◌, ◌-◌, ◌∷◌, ◌≡◌, ◌≤◌}
+use Rattle.std.specs.Prelude.{Bool, List, [], drop, false, length, max, nat_lt, true, ℕ, ◌++◌, ◌+◌, ◌-◌, ◌∷◌, ◌≡◌, ◌≤◌}
 use Rattle.tape_laws.specs.Bounds.{IsBounded, StagesBounded}
 use Rattle.tape_laws.specs.Causes.{HasCause}
-use Rattle.tape_laws.specs.Demands.{Answers, Meets, OnlyAsked}
+use Rattle.tape_laws.specs.Demands.{Answers, MeetsFirst, OnlyAsked}
 use Rattle.tape_laws.specs.Dispatches.{has, live}
-use Rattle.tape_laws.specs.Doomed.{LeavesDoomed}
+use Rattle.tape_laws.specs.Doomed.{LeavesDoomed, SweepsLast}
 use Rattle.tape_laws.specs.Ends.{KeepsEnds}
 use Rattle.tape_laws.specs.Flows.{request}
 use Rattle.tape_laws.specs.History.{BeforeOthers, BeforeTurn, History, NoMark, Noted}
 use Rattle.tape_laws.specs.Order.{InTurn}
 use Rattle.tape_laws.specs.Pauses.{IsCounted, PausesInOrder, count, lows, pauses, resumes}
-use Rattle.tape_laws.specs.Plain.{plain_body, plain_session, plain_setup}
+use Rattle.tape_laws.specs.Plain.{plain_body, plain_setup}
+use Rattle.tape_laws.specs.PlainSession.{plain_session}
 use Rattle.tape_laws.specs.PlainTape.{IsPlainLawful}
 use Rattle.tape_laws.specs.Quiet.{IsQuiet}
 use Rattle.tape_laws.specs.Release.{MayStand}
 use Rattle.tape_laws.specs.Sources.{EachLive, disabled}
 use Rattle.tape_laws.specs.Tied.{IsFront, IsTied}
-use Rattle.tape_laws.specs.Units.{Demand, Free}
+use Rattle.tape_laws.specs.Units.{Demand}
 use Rattle.tape_laws.specs.World.{out, received, recv, send}
 use Rattle.tape_laws.specs.declared.limits.PlainLimits.{PlainLimits}
 
@@ -37,38 +38,35 @@ pub record MayAdd (limits : PlainLimits) (n : Note) (h : History NoMark) : Type 
   pub ends : KeepsEnds (plain_setup limits) (Noted n) h
   pub in_turn : InTurn (plain_setup limits) (Noted n) h
   pub doomed : LeavesDoomed (Noted n) h
+  pub swept : SweepsLast (Noted n) h
   pub answered : Answers (plain_session limits) (Noted n) h
   pub only : OnlyAsked (plain_session limits) (Noted n) h
   pub quiet : BeforeTurn (IsQuiet (plain_session limits)) (Noted n) h
-  pub caused : HasCause (plain_setup limits) (Noted n) h
+  pub licensed : HasCause (plain_setup limits) (Noted n) h
 
 lawful_more : (limits : PlainLimits) (n : Note) (h : History NoMark) → IsPlainLawful limits h → MayAdd limits n h
     → IsBounded (plain_setup limits) (Noted n ∷ h) → IsTied (plain_setup limits) (Noted n ∷ h) → IsPlainLawful limits (Noted n ∷ h)
 lawful_more limits n h l m bounded tied = record {
-  lawful = record {
-    allowed = (m.allowed, l.lawful.allowed);
-    paused = (m.paused, l.lawful.paused);
-    counted = (m.counted, l.lawful.counted);
-    bounded = (bounded, l.lawful.bounded);
-    tied = (tied, l.lawful.tied);
-    ends = (m.ends, l.lawful.ends);
-    in_turn = (m.in_turn, l.lawful.in_turn);
-    doomed = (m.doomed, l.lawful.doomed);
-    answered = (m.answered, l.lawful.answered);
-    only = (m.only, l.lawful.only);
-    quiet = (m.quiet, l.lawful.quiet);
-  };
-  caused = (m.caused, l.caused);
+  allowed = (m.allowed, l.allowed);
+  paused = (m.paused, l.paused);
+  counted = (m.counted, l.counted);
+  bounded = (bounded, l.bounded);
+  tied = (tied, l.tied);
+  ends = (m.ends, l.ends);
+  in_turn = (m.in_turn, l.in_turn);
+  doomed = (m.doomed, l.doomed);
+  swept = (m.swept, l.swept);
+  answered = (m.answered, l.answered);
+  only = (m.only, l.only);
+  licensed = (m.licensed, l.licensed);
+  may = (tt, l.may);
+  quiet = (m.quiet, l.quiet);
 }
 
 -- a fact under a test follows from another
 pub under_test : (b : Bool) (A B : Type 0) → (A → B) → OnTrue b A → OnTrue b B
 under_test true A B f a = f a
 under_test false A B f a = tt
-
-pub unit_if : (b : Bool) → OnTrue b (Unit {0})
-unit_if true = tt
-unit_if false = tt
 
 -- a fact under a test may be asked of each
 each_under : (limits : PlainLimits) (b : Bool) (P : FlowId → Type 0) (h : History NoMark) → ((x : ℕ) → has (live h) x ≡ true → OnTrue b (P (request x)))
@@ -114,6 +112,14 @@ regular_more limits o o' n h r m s = record {
   books = s;
 }
 
--- nothing that was asked for is met by any note
-pub free_meets : (limits : PlainLimits) (d : Demand) (n : Note) → d ≡ Free → Meets {Mark = NoMark} (plain_setup limits) Free (Noted n) → Meets {Mark = NoMark} (plain_setup limits) d (Noted n)
-free_meets limits d n e m = let P : Demand → Type 0 = λ v. Meets {Mark = NoMark} (plain_setup limits) v (Noted n) in subst P (sym e) m
+-- where nothing is owed any note may stand
+pub free_meets : (limits : PlainLimits) (ds : List Demand) (n : Note) → ds ≡ [] → MeetsFirst {Mark = NoMark} (plain_setup limits) [] (Noted n)
+    → MeetsFirst {Mark = NoMark} (plain_setup limits) ds (Noted n)
+free_meets limits ds n e m = let P : List Demand → Type 0 = λ v. MeetsFirst {Mark = NoMark} (plain_setup limits) v (Noted n) in subst P (sym e) m
+
+-- what met the first that was owed leaves the rest, and asks for nothing
+pub nothing_owed : (ds : List Demand) → ds ≡ [] → drop 1 ds ≡ []
+nothing_owed ds e = ap (drop 1) e
+
+pub one_owed : (d : Demand) (ds : List Demand) → ds ≡ d ∷ [] → drop 1 ds ≡ []
+one_owed d ds e = ap (drop 1) e

@@ -58,10 +58,6 @@ pub write_same : (limits : PlainLimits) (step : Step NoMark) (h : History NoMark
 write_same limits step h e =
     ap (λ (o : List ℕ). above_after limits.write (above (plain_setup limits) (buffer.Write 0) h) (length o)) e ∙ write_now limits h
 
--- a buffer that a step changed keeps the flag of its history
-pub flag_is : (l : ℕ) (w w' a : Bool) (o o' : List ℕ) → a ≡ above_after l w (length o) → w ≡ w' → o ≡ o' → a ≡ above_after l w' (length o')
-flag_is l w w' a o o' e ew eo = e ∙ ap (λ v. above_after l v (length o)) ew ∙ ap (λ (v : List ℕ). above_after l w' (length v)) eo
-
 -- a step that makes a buffer shorter doesn't make it rise
 pub no_rise : (l : ℕ) (w : Bool) (n k : ℕ) → above_after l w n ≡ w → k ≤ n → w ≡ false → above_after l w k ≡ false
 no_rise l w n k now le low = ap (λ v. above_after l v k) low ∙ low_less l w n k (now ∙ low) le

@@ -84,9 +84,6 @@ body_flowing limits s octets h r m = flowing limits s h r m
 pub finish_flowing : (limits : PlainLimits) (s : ℕ) (h : History NoMark) → Regular limits nothing h → may_follow (events_back h) (plain.Finish s) ≡ true → Flowing s h
 finish_flowing limits s h r m = flowing limits s h r m
 
-pub cut_was : (limits : PlainLimits) (s : ℕ) (h : History NoMark) → Regular limits nothing h → may_follow (events_back h) (plain.Cut s) ≡ true → has (started h) s ≡ true
-cut_was limits s h r m = sym (begun_is limits s h r) ∙ (both_of (has (begun (events_back h)) s) _ m).0
-
 -- a pair is of two streams that were started, the first of which has no second yet
 pub record Pairable (s t : ℕ) (h : History NoMark) : Type 0 where
   pub first : has (started h) s ≡ true

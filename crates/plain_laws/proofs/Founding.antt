@@ -47,20 +47,20 @@ none_books limits = record {
 pub none_regular : (limits : PlainLimits) → Regular limits nothing []
 none_regular limits = record {
   lawful = record {
-    lawful = record {
-      allowed = tt;
-      paused = tt;
-      counted = tt;
-      bounded = bounded_of limits nothing [] (none_books limits);
-      tied = tied_of limits nothing [] (none_books limits);
-      ends = tt;
-      in_turn = tt;
-      doomed = tt;
-      answered = tt;
-      only = tt;
-      quiet = tt;
-    };
-    caused = tt;
+    allowed = tt;
+    paused = tt;
+    counted = tt;
+    bounded = bounded_of limits nothing [] (none_books limits);
+    tied = tied_of limits nothing [] (none_books limits);
+    ends = tt;
+    in_turn = tt;
+    doomed = tt;
+    swept = tt;
+    answered = tt;
+    only = tt;
+    licensed = tt;
+    may = tt;
+    quiet = tt;
   };
   books = none_books limits;
 }
@@ -80,5 +80,6 @@ none_rests limits = record {
     asked = refl;
     ended = tt;
     gone = refl;
+    leaves = tt;
   };
 }

@@ -1,7 +1,9 @@
 -- A frame of the flow whose turn it is.
+use Rattle.h2_frames.specs.Head.{data_head}
+use Rattle.tape_laws.specs.Doomed.{is_swept}
 use Rattle.flow_gate.specs.declared.ids.FlowId.{FlowId}
 use Rattle.plain_laws.proofs.Counting.{flow_tally, one_if, send_flag, send_left, told_of}
-use Rattle.plain_laws.proofs.Extending.{MayAdd, counted_of, free_meets, regular_more, under_test}
+use Rattle.plain_laws.proofs.Extending.{MayAdd, counted_of, free_meets, nothing_owed, regular_more, under_test}
 use Rattle.plain_laws.proofs.Flags.{no_rise, send_now}
 use Rattle.plain_laws.proofs.Greatest.{dropped}
 use Rattle.plain_laws.proofs.Leaving.{Leaves, LeavesWords, flow_kept, same_len, unborn_kept}
@@ -25,10 +27,11 @@ use Rattle.tape_laws.specs.Flows.{request}
 use Rattle.tape_laws.specs.History.{History, NoMark, Noted, Step}
 use Rattle.tape_laws.specs.Order.{Flows, next_on}
 use Rattle.tape_laws.specs.Pauses.{pending_lows}
-use Rattle.tape_laws.specs.Plain.{paired_with, plain_ended, plain_must_end, plain_setup}
+use Rattle.tape_laws.specs.Plain.{paired_with, plain_ended, plain_setup}
+use Rattle.tape_laws.specs.PlainSession.{plain_must_end}
 use Rattle.tape_laws.specs.Sources.{watchers}
 use Rattle.tape_laws.specs.Watermark.{above}
-use Rattle.tape_laws.specs.World.{data_head, out, place}
+use Rattle.tape_laws.specs.World.{out, place}
 use Rattle.tape_laws.specs.declared.limits.PlainLimits.{PlainLimits}
 use Rattle.flow_gate.specs.declared.ids.BufferId.TheVariants as buffer
 use Rattle.flow_notes.specs.declared.notes.Note.TheVariants as note
@@ -75,10 +78,10 @@ frame_once limits o x n last h f next =
     empty : (n q : ℕ) (xs : List ℕ) → xs ≡ [] → n ≡ min q (length xs) → 0 < n → ⊥
     empty n q xs e all some = let k : length xs ≡ 0 = ap length e in omega (arith, k, some, all)
 
-frame_may : (limits : PlainLimits) (x n : ℕ) (last : Bool) (h : History NoMark) → Books limits nothing h → has (live h) x ≡ true
+frame_may : (limits : PlainLimits) (x n : ℕ) (last : Bool) (h : History NoMark) → Books limits nothing h → is_swept h ≡ false → has (live h) x ≡ true
     → above (plain_setup limits) (buffer.Write 0) h ≡ false → next_on (plain_setup limits) 0 h ≡ Flows (request x) (BodyUnit n last)
     → MayAdd limits (note.Frame 0 (request x) n last) h
-frame_may limits x n last h s is low next =
+frame_may limits x n last h s fresh is low next =
     let u = frame_unit limits x n last h next in
     record {
       allowed = record {
@@ -93,10 +96,11 @@ frame_may limits x n last h s is low next =
       ends = record { exactly = u.ends ∙ sym (carries_is limits x n h); once = frame_once limits nothing x n last h (s.each x is) next; after_head = refl };
       in_turn = next;
       doomed = is;
+      swept = fresh;
       answered = free_meets limits _ (note.Frame 0 (request x) n last) s.asks tt;
       only = tt;
       quiet = tt;
-      caused = tt;
+      licensed = tt;
     }
 
 -- the pauses of the write buffer
@@ -124,7 +128,7 @@ lows_after limits x n last h r is =
     told _ _ _ _ (same_request x) (send_watchers limits x h r is)
   where
     told : (same drained : Bool) (pending watching : List FlowId) → same ≡ true → watching ≡ request x ∷ []
-        → pending ++ (if (same || false) && drained then watching else []) ≡ pending ++ (if drained then request x ∷ [] else [])
+        → pending ++ (if same && drained then watching else []) ≡ pending ++ (if drained then request x ∷ [] else [])
     told same true pending watching es ew = rw (es, ew) refl
     told same false pending watching es ew = rw es refl
 
@@ -261,7 +265,7 @@ frame_books limits x n last h s is low next =
     record {
       due = rise_due (buffer.Write 0) (not (above (plain_setup limits) (buffer.Write 0) h) && a) (λ b. watchers (plain_setup limits) b h) (live h) (write_watchers limits h)
           ∙ ap (λ b. due_if b (buffer.Write 0) (live h)) (low_rises (above (plain_setup limits) (buffer.Write 0) h) a low);
-      asks = refl;
+      asks = nothing_owed _ s.asks;
       opened = s.opened;
       known = s.known;
       unclosed = s.unclosed;
@@ -292,22 +296,9 @@ frame_books limits x n last h s is low next =
         length-append xs (data_head x n last ++ take n ys) ∙ ap (λ m. length xs + m) (length-append (data_head x n last) (take n ys)) in
         omega (arith, k, le, fits, length-take n ys)
 
-pub frame_regular : (limits : PlainLimits) (x n : ℕ) (last : Bool) (h : History NoMark) → Regular limits nothing h → has (live h) x ≡ true
+pub frame_regular : (limits : PlainLimits) (x n : ℕ) (last : Bool) (h : History NoMark) → Regular limits nothing h → is_swept h ≡ false → has (live h) x ≡ true
     → above (plain_setup limits) (buffer.Write 0) h ≡ false → next_on (plain_setup limits) 0 h ≡ Flows (request x) (BodyUnit n last)
     → Regular limits (owed (due_if (above (plain_setup limits) (buffer.Write 0) (Noted (note.Frame 0 (request x) n last) ∷ h)) (buffer.Write 0) (live h)))
     (Noted (note.Frame 0 (request x) n last) ∷ h)
-frame_regular limits x n last h r is low next =
-    regular_more limits nothing (after_frame limits x n last h) (note.Frame 0 (request x) n last) h r (frame_may limits x n last h r.books is low next) (frame_books limits x n last h r.books is low next)
-
--- where its send buffer drains, it is to be told
-pub frame_lows : (limits : PlainLimits) (x n : ℕ) (last : Bool) (h : History NoMark) → Regular limits nothing h → has (live h) x ≡ true
-    → above (plain_setup limits) (buffer.Send (request x)) h ≡ true
-    → pending_lows (plain_setup limits) (buffer.Send (request x)) (Noted (note.Frame 0 (request x) n last) ∷ h)
-    ≡ (if above (plain_setup limits) (buffer.Send (request x)) (Noted (note.Frame 0 (request x) n last) ∷ h) then [] else request x ∷ [])
-frame_lows limits x n last h r is high =
-    lows_after limits x n last h r.books.rising is
-    ∙ drained _ _ _ (high_untold limits nothing x h (r.books.each x is) high) high
-  where
-    drained : (fs : List FlowId) (w a : Bool) → fs ≡ [] → w ≡ true → fs ++ (if w && not a then request x ∷ [] else []) ≡ (if a then [] else request x ∷ [])
-    drained fs w true e f = rw (e, f) refl
-    drained fs w false e f = rw (e, f) refl
+frame_regular limits x n last h r fresh is low next =
+    regular_more limits nothing (after_frame limits x n last h) (note.Frame 0 (request x) n last) h r (frame_may limits x n last h r.books fresh is low next) (frame_books limits x n last h r.books is low next)

@@ -1,17 +1,15 @@
 -- A doomed stream is gone.
 use Rattle.flow_gate.specs.declared.ids.FlowId.{FlowId}
 use Rattle.plain_laws.proofs.Counting.{told_of}
-use Rattle.plain_laws.proofs.Extending.{MayAdd, counted_of, free_meets, regular_more}
+use Rattle.plain_laws.proofs.Extending.{MayAdd, counted_of, free_meets, nothing_owed, regular_more}
 use Rattle.plain_laws.proofs.Leaving.{Leaves, flow_other, same_len_if, unborn_kept}
 use Rattle.plain_laws.specs.Owing.{nothing}
 use Rattle.plain_laws.specs.Regular.{Books, IsLiveFlow, IsRising, Regular}
-use Rattle.std.proofs.Common.{ap, refl, subst, sym, ◌∙◌}
-use Rattle.std.proofs.lemmas.List.{append-nil}
+use Rattle.std.proofs.Common.{ap, refl, subst, sym}
 use Rattle.std.specs.List.{AllByRecursion}
 use Rattle.std.specs.Prelude.{List, map, max, nat_lt, ℕ, ◌+◌, ◌∷◌, ◌≡◌}
 use Rattle.tape_laws.specs.Dispatches.{live}
 use Rattle.tape_laws.specs.Doomed.{condemned}
-use Rattle.tape_laws.specs.Flows.{request}
 use Rattle.tape_laws.specs.History.{History, NoMark, Noted, Step}
 use Rattle.tape_laws.specs.Pauses.{Heads, pending_lows}
 use Rattle.tape_laws.specs.Plain.{plain_setup}
@@ -24,7 +22,7 @@ pub gone_leaves : (limits : PlainLimits) (x y : ℕ) (h : History NoMark) → Le
 gone_leaves limits x y h = record {
   recv = refl;
   send = refl;
-  send_lows = append-nil (pending_lows (plain_setup limits) (buffer.Send (request y)) h);
+  send_lows = refl;
   paused = refl;
   resumed = refl;
   body = refl;
@@ -40,20 +38,21 @@ gone_may limits x rest h s e = record {
   ends = tt;
   in_turn = tt;
   doomed = let P : List ℕ → Type 0 = Heads x in subst P (sym e) refl;
+  swept = tt;
   answered = free_meets limits _ (note.Gone x) s.asks tt;
   only = tt;
   quiet = tt;
-  caused = tt;
+  licensed = tt;
 }
 
 gone_books : (limits : PlainLimits) (x : ℕ) (h : History NoMark) → Books limits nothing h → Books limits nothing (Noted (note.Gone x) ∷ h)
 gone_books limits x h s =
     let step : Step NoMark = Noted (note.Gone x) in
-    let out_same : out (plain_setup limits) 0 (step ∷ h) ≡ out (plain_setup limits) 0 h = append-nil (out (plain_setup limits) 0 h) in
-    let lows_same : pending_lows (plain_setup limits) (buffer.Write 0) (step ∷ h) ≡ pending_lows (plain_setup limits) (buffer.Write 0) h = append-nil _ in
+    let out_same : out (plain_setup limits) 0 (step ∷ h) ≡ out (plain_setup limits) 0 h = refl in
+    let lows_same : pending_lows (plain_setup limits) (buffer.Write 0) (step ∷ h) ≡ pending_lows (plain_setup limits) (buffer.Write 0) h = refl in
     record {
       due = refl;
-      asks = refl;
+      asks = nothing_owed _ s.asks;
       opened = s.opened;
       known = s.known;
       unclosed = s.unclosed;
@@ -66,7 +65,7 @@ gone_books limits x h s =
       owed = tt;
       write_lows = let P : List FlowId → Type 0 = AllByRecursion (IsLiveFlow (live h)) in subst P (sym lows_same) s.write_lows;
       write_once = let P : List FlowId → Type 0 = λ fs. IsRising (map (λ f. f.exchange) fs) in subst P (sym lows_same) s.write_once;
-      hushed = λ y e. append-nil (pending_lows (plain_setup limits) (buffer.Send (request y)) h) ∙ s.hushed y e;
+      hushed = λ y e. s.hushed y e;
     }
 
 pub gone_regular : (limits : PlainLimits) (x : ℕ) (rest : List ℕ) (h : History NoMark) → Regular limits nothing h → condemned h ≡ x ∷ rest

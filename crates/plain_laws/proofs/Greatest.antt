@@ -1,7 +1,7 @@
 -- The greatest length of a buffer, step by step.
 use Rattle.flow_gate.specs.declared.ids.BufferId.{BufferId}
 use Rattle.std.proofs.Common.{ap, arith, length-drop, ◌∙◌}
-use Rattle.std.specs.Prelude.{List, [], drop, length, max, ℕ, ◌-◌, ◌∷◌, ◌≡◌, ◌≤◌}
+use Rattle.std.specs.Prelude.{List, [], drop, length, ℕ, ◌-◌, ◌∷◌, ◌≡◌, ◌≤◌}
 use Rattle.tape_laws.specs.History.{History, NoMark, Step}
 use Rattle.tape_laws.specs.Plain.{plain_setup}
 use Rattle.tape_laws.specs.Summary.{peak}
@@ -17,11 +17,6 @@ peak_same limits b step (first ∷ h) le z = omega (arith, le)
 pub peak_kept : (limits : PlainLimits) (b : BufferId) (step : Step NoMark) (h : History NoMark) → len (plain_setup limits) b (step ∷ h) ≡ len (plain_setup limits) b h
     → len {Mark = NoMark} (plain_setup limits) b [] ≡ 0 → peak (plain_setup limits) b (step ∷ h) ≡ peak (plain_setup limits) b h
 peak_kept limits b step h e z = peak_same limits b step h (omega (arith, e)) z
-
--- the peak that a longer buffer gives
-pub peak_grown : (limits : PlainLimits) (b : BufferId) (step : Step NoMark) (h : History NoMark) (old n new : ℕ) → old ≡ peak (plain_setup limits) b h → n ≡ len (plain_setup limits) b (step ∷ h) → new ≡ max old n
-    → new ≡ peak (plain_setup limits) b (step ∷ h)
-peak_grown limits b step h old n new eo en e = omega (arith, eo, en, e)
 
 -- a front that was dropped
 pub dropped : (n : ℕ) (xs ys : List ℕ) → xs ≡ drop n ys → length xs ≤ length ys

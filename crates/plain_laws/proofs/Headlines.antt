@@ -13,7 +13,8 @@ use Rattle.tape_laws.specs.Flows.{same_flow}
 use Rattle.tape_laws.specs.Following.{begun}
 use Rattle.tape_laws.specs.Headline.{CountsItsSources, Headline, SendsItsBody}
 use Rattle.tape_laws.specs.History.{AtEachMoment, BeforeTurn, EachFollows, History, Marked, NoMark, Noted, Step}
-use Rattle.tape_laws.specs.Plain.{plain_body, plain_session, plain_setup}
+use Rattle.tape_laws.specs.Plain.{plain_body, plain_setup}
+use Rattle.tape_laws.specs.PlainSession.{plain_session}
 use Rattle.tape_laws.specs.PlainTape.{IsPlainWhole}
 use Rattle.tape_laws.specs.Quiet.{IsQuiet}
 use Rattle.tape_laws.specs.Release.{MayStand, is_free}
@@ -192,7 +193,7 @@ counts_always limits (step ∷ past) q = (quiet_counts limits step past q.0, cou
 
 pub headline_of : (limits : PlainLimits) (h : History NoMark) → IsPlainWhole limits h → Headline (plain_setup limits) h
 headline_of limits h w =
-    let l = w.lawful.lawful in
+    let l = w.lawful in
     record {
       sent = sends_always limits h l.allowed l.doomed l.tied;
       bounded = l.bounded;

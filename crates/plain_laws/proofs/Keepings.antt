@@ -18,8 +18,7 @@ use Rattle.plain_laws.specs.Owing.{pause_notes}
 use Rattle.plain_laws.specs.Pairs.{seconds}
 use Rattle.plain_laws.specs.Settled.{Settled}
 use Rattle.std.proofs.Common.{ap, refl, sym, ◌∙◌}
-use Rattle.std.proofs.lemmas.List.{append-nil}
-use Rattle.std.specs.Prelude.{List, [], drop, false, filter, not, ℕ, ◌==◌, ◌∷◌, ◌≡◌}
+use Rattle.std.specs.Prelude.{List, [], drop, false, ℕ, ◌==◌, ◌∷◌, ◌≡◌}
 use Rattle.tape_laws.specs.Flows.{request}
 use Rattle.tape_laws.specs.History.{History, NoMark, Noted, Step, onto}
 use Rattle.tape_laws.specs.Pauses.{Owed, pending_lows}
@@ -113,13 +112,9 @@ resume_keeps limits x f b h = record {
 pub resume_keeps_lists : (f : FlowId) (b : BufferId) (h : History NoMark) → KeepsLists h (Noted (note.Resume f b) ∷ h)
 resume_keeps_lists f b h = record { lives = refl; begun = refl; doomed = refl; numbers = refl; events = refl }
 
--- a resume of a send buffer
-pub send_resume_keeps_write : (limits : PlainLimits) (f g : FlowId) (h : History NoMark) → KeepsWrite limits h (Noted (note.Resume f (buffer.Send g)) ∷ h)
-send_resume_keeps_write limits f g h = keeps_write limits (Noted (note.Resume f (buffer.Send g))) h (append-nil (out (plain_setup limits) 0 h)) refl
-
 -- of the write buffer: its octets and flag stay, and the first that waits has been told
 pub write_resume_out : (limits : PlainLimits) (f : FlowId) (h : History NoMark) → out (plain_setup limits) 0 (Noted (note.Resume f (buffer.Write 0)) ∷ h) ≡ out (plain_setup limits) 0 h
-write_resume_out limits f h = append-nil (out (plain_setup limits) 0 h)
+write_resume_out limits f h = refl
 
 pub write_resume_high : (limits : PlainLimits) (f : FlowId) (h : History NoMark)
     → above (plain_setup limits) (buffer.Write 0) (Noted (note.Resume f (buffer.Write 0)) ∷ h) ≡ above (plain_setup limits) (buffer.Write 0) h
@@ -145,19 +140,19 @@ turn_keeps limits x k e h ended pairs = record {
 }
 
 pub turn_keeps_write : (limits : PlainLimits) (k : ℕ) (e : PlainEvent) (h : History NoMark) → KeepsWrite limits h (Noted (note.Turn k (event.Plain e)) ∷ h)
-turn_keeps_write limits k e h = keeps_write limits (Noted (note.Turn k (event.Plain e))) h (append-nil (out (plain_setup limits) 0 h)) (append-nil _)
+turn_keeps_write limits k e h = keeps_write limits (Noted (note.Turn k (event.Plain e))) h refl refl
 
 pub arrive_keeps : (limits : PlainLimits) (x y : ℕ) (octets : List ℕ) (h : History NoMark) → (x == y) ≡ false → KeepsStream limits y h (Noted (note.Arrive (request x) octets) ∷ h)
 arrive_keeps limits x y octets h d = keeps_stream limits y (Noted (note.Arrive (request x) octets)) h (arrive_leaves limits x y octets h d) refl refl
 
 pub arrive_keeps_write : (limits : PlainLimits) (x : ℕ) (octets : List ℕ) (h : History NoMark) → KeepsWrite limits h (Noted (note.Arrive (request x) octets) ∷ h)
-arrive_keeps_write limits x octets h = keeps_write limits (Noted (note.Arrive (request x) octets)) h (append-nil (out (plain_setup limits) 0 h)) (append-nil _)
+arrive_keeps_write limits x octets h = keeps_write limits (Noted (note.Arrive (request x) octets)) h refl refl
 
 pub start_keeps : (limits : PlainLimits) (x y : ℕ) (h : History NoMark) → KeepsStream limits y h (Noted (note.Start x 0 x 0) ∷ h)
 start_keeps limits x y h = keeps_stream limits y (Noted (note.Start x 0 x 0)) h (start_leaves limits x y h) refl refl
 
 pub start_keeps_write : (limits : PlainLimits) (x : ℕ) (h : History NoMark) → KeepsWrite limits h (Noted (note.Start x 0 x 0) ∷ h)
-start_keeps_write limits x h = keeps_write limits (Noted (note.Start x 0 x 0)) h (append-nil (out (plain_setup limits) 0 h)) (append-nil _)
+start_keeps_write limits x h = keeps_write limits (Noted (note.Start x 0 x 0)) h refl refl
 
 pub out_keeps : (limits : PlainLimits) (n x : ℕ) (h : History NoMark) → KeepsStream limits x h (Noted (note.Out 0 n) ∷ h)
 out_keeps limits n x h = keeps_stream limits x (Noted (note.Out 0 n)) h (out_leaves limits n x h) refl refl
@@ -166,7 +161,7 @@ pub gone_keeps : (limits : PlainLimits) (x y : ℕ) (h : History NoMark) → Kee
 gone_keeps limits x y h = keeps_stream limits y (Noted (note.Gone x)) h (gone_leaves limits x y h) refl refl
 
 pub gone_keeps_write : (limits : PlainLimits) (x : ℕ) (h : History NoMark) → KeepsWrite limits h (Noted (note.Gone x) ∷ h)
-gone_keeps_write limits x h = keeps_write limits (Noted (note.Gone x)) h (append-nil (out (plain_setup limits) 0 h)) (append-nil _)
+gone_keeps_write limits x h = keeps_write limits (Noted (note.Gone x)) h refl refl
 
 -- another stream than the doomed one, whose send buffer's low isn't pending
 pub doom_keeps : (limits : PlainLimits) (x y : ℕ) (why : Cause) (h : History NoMark) → Settled limits h → (x == y) ≡ false → KeepsStream limits y h (Noted (note.Doom x why) ∷ h)
@@ -174,13 +169,8 @@ doom_keeps limits x y why h s d =
     keeps_stream limits y (Noted (note.Doom x why)) h (doom_leaves limits x y why h d (ap (without x) (s.untold y) ∙ sym (s.untold y))) refl refl
 
 pub doom_out : (limits : PlainLimits) (x : ℕ) (why : Cause) (h : History NoMark) → out (plain_setup limits) 0 (Noted (note.Doom x why) ∷ h) ≡ out (plain_setup limits) 0 h
-doom_out limits x why h = append-nil (out (plain_setup limits) 0 h)
+doom_out limits x why h = refl
 
 pub doom_high : (limits : PlainLimits) (x : ℕ) (why : Cause) (h : History NoMark)
     → above (plain_setup limits) (buffer.Write 0) (Noted (note.Doom x why) ∷ h) ≡ above (plain_setup limits) (buffer.Write 0) h
 doom_high limits x why h = write_same limits (Noted (note.Doom x why)) h (doom_out limits x why h)
-
--- the lows of the write buffer without that of the doomed stream
-pub doom_lows : (limits : PlainLimits) (x : ℕ) (why : Cause) (h : History NoMark)
-    → pending_lows (plain_setup limits) (buffer.Write 0) (Noted (note.Doom x why) ∷ h) ≡ filter (λ (f : FlowId). not (f.exchange == x)) (pending_lows (plain_setup limits) (buffer.Write 0) h)
-doom_lows limits x why h = refl

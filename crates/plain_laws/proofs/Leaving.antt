@@ -14,7 +14,8 @@ use Rattle.tape_laws.specs.Ends.{end_framed}
 use Rattle.tape_laws.specs.Flows.{request}
 use Rattle.tape_laws.specs.History.{History, NoMark, Step}
 use Rattle.tape_laws.specs.Pauses.{pauses, pending_lows, resumes}
-use Rattle.tape_laws.specs.Plain.{paired_with, plain_body, plain_ended, plain_must_end, plain_setup}
+use Rattle.tape_laws.specs.Plain.{paired_with, plain_body, plain_ended, plain_setup}
+use Rattle.tape_laws.specs.PlainSession.{plain_must_end}
 use Rattle.tape_laws.specs.Watermark.{above}
 use Rattle.tape_laws.specs.World.{out, place, received}
 use Rattle.tape_laws.specs.declared.limits.PlainLimits.{PlainLimits}

@@ -1,3 +1,4 @@
+pub mod Above
 pub mod Arrivals
 pub mod Carrying
 pub mod Changes
@@ -36,4 +37,5 @@ pub mod Streams
 pub mod Tellings
 pub mod Turns
 pub mod Unended
+pub mod Unswept
 pub mod Watching

@@ -1,7 +1,8 @@
 -- A readable flow moves what its receive buffer may release.
+use Rattle.tape_laws.specs.Doomed.{is_swept}
 use Rattle.flow_gate.specs.declared.ids.FlowId.{FlowId}
 use Rattle.plain_laws.proofs.Counting.{disabled_is, flow_tally, lows_are, one_if, send_left, told_of, write_left}
-use Rattle.plain_laws.proofs.Extending.{MayAdd, count_is, counted_of, free_meets, regular_more}
+use Rattle.plain_laws.proofs.Extending.{MayAdd, count_is, counted_of, free_meets, nothing_owed, regular_more}
 use Rattle.plain_laws.proofs.Flags.{low_len, send_now, write_now, write_same}
 use Rattle.plain_laws.proofs.Leaving.{Leaves, flow_other, same_len_if, unborn_kept}
 use Rattle.plain_laws.proofs.Rises.{low_rises, rise_due}
@@ -70,9 +71,9 @@ first_place b = if b then Some 0 else None
 positive : (n : ℕ) → 0 < n → nat_lt 0 n ≡ true
 positive n e = grind (arith, nat_tests)
 
-move_may : (limits : PlainLimits) (x n : ℕ) (h : History NoMark) → Books limits nothing h → has (live h) x ≡ true → count (request x) h ≡ 0
+move_may : (limits : PlainLimits) (x n : ℕ) (h : History NoMark) → Books limits nothing h → is_swept h ≡ false → has (live h) x ≡ true → count (request x) h ≡ 0
     → 0 < n → n ≡ min limits.quantum (length (place (plain_setup limits) (request x) 0 h)) → MayAdd limits (note.Move (request x) 0 n) h
-move_may limits x n h s is readable some all =
+move_may limits x n h s fresh is readable some all =
     let k = readable_none limits x h (s.each x is) readable in
     record {
       allowed = record {
@@ -85,10 +86,11 @@ move_may limits x n h s is readable some all =
       ends = tt;
       in_turn = tt;
       doomed = is;
+      swept = fresh;
       answered = free_meets limits _ (note.Move (request x) 0 n) s.asks tt;
       only = tt;
       quiet = tt;
-      caused = tt;
+      licensed = tt;
     }
   where
     free_first : (c n : ℕ) (a w : Bool) → c ≡ 0 → 0 < n → a ≡ false → w ≡ false
@@ -144,7 +146,7 @@ move_own limits x n h f readable some all =
     record {
       tally = flow_tally limits [] (after_move limits x n h).due x step h
           (grown _ _ _ _ _ _ _ _ _ _ _ (ap one_if k.0) (owed_one (above (plain_setup limits) (buffer.Send (request x)) (step ∷ h)) (buffer.Send (request x)) x)
-          (ap one_if (write_same limits step h (append-nil (out (plain_setup limits) 0 h)))) (ap (told_of x) lows_is) (ap (told_of x) write_is)) f.tally;
+          (ap one_if (write_same limits step h refl)) (ap (told_of x) lows_is) (ap (told_of x) write_is)) f.tally;
       send_low = inl (lows_is ∙ untold limits nothing x h f k.2);
       recv_room = less _ _ _ n recv_is f.recv_room;
       send_room = where_limited limits.send _ (λ p. more _ _ _ n limits.send limits.quantum send_is (send_within limits x h k.0 p) (few _ _ _ all));
@@ -175,13 +177,13 @@ move_books limits x n h s is readable some all =
     let step : Step NoMark = Noted (note.Move (request x) 0 n) in
     let k = readable_none limits x h (s.each x is) readable in
     let a = above (plain_setup limits) (buffer.Send (request x)) (step ∷ h) in
-    let out_same : out (plain_setup limits) 0 (step ∷ h) ≡ out (plain_setup limits) 0 h = append-nil (out (plain_setup limits) 0 h) in
+    let out_same : out (plain_setup limits) 0 (step ∷ h) ≡ out (plain_setup limits) 0 h = refl in
     let lows_same : pending_lows (plain_setup limits) (buffer.Write 0) (step ∷ h) ≡ pending_lows (plain_setup limits) (buffer.Write 0) h = append-nil _ in
     record {
       due = rise_due (buffer.Send (request x)) (not (above (plain_setup limits) (buffer.Send (request x)) h) && a) (λ b. watchers (plain_setup limits) b h) (x ∷ [])
           (send_watchers limits x h s.rising is)
           ∙ ap (λ b. due_if b (buffer.Send (request x)) (x ∷ [])) (low_rises (above (plain_setup limits) (buffer.Send (request x)) h) a k.0);
-      asks = refl;
+      asks = nothing_owed _ s.asks;
       opened = s.opened;
       known = s.known;
       unclosed = s.unclosed;
@@ -200,9 +202,9 @@ move_books limits x n h s is readable some all =
       hushed = λ y e. append-nil (pending_lows (plain_setup limits) (buffer.Send (request y)) h) ∙ s.hushed y e;
     }
 
-pub move_regular : (limits : PlainLimits) (x n : ℕ) (h : History NoMark) → Regular limits nothing h → has (live h) x ≡ true → count (request x) h ≡ 0
+pub move_regular : (limits : PlainLimits) (x n : ℕ) (h : History NoMark) → Regular limits nothing h → is_swept h ≡ false → has (live h) x ≡ true → count (request x) h ≡ 0
     → 0 < n → n ≡ min limits.quantum (length (place (plain_setup limits) (request x) 0 h))
     → Regular limits (owed (due_if (above (plain_setup limits) (buffer.Send (request x)) (Noted (note.Move (request x) 0 n) ∷ h)) (buffer.Send (request x)) (x ∷ [])))
     (Noted (note.Move (request x) 0 n) ∷ h)
-move_regular limits x n h r is readable some all =
-    regular_more limits nothing (after_move limits x n h) (note.Move (request x) 0 n) h r (move_may limits x n h r.books is readable some all) (move_books limits x n h r.books is readable some all)
+move_regular limits x n h r fresh is readable some all =
+    regular_more limits nothing (after_move limits x n h) (note.Move (request x) 0 n) h r (move_may limits x n h r.books fresh is readable some all) (move_books limits x n h r.books is readable some all)

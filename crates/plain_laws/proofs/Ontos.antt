@@ -18,20 +18,20 @@ onto_append (m ∷ ms) ns h = onto_append ms ns (Noted m ∷ h)
 -- what stood before a note of a lawful history is lawful
 pub tail_lawful : (limits : PlainLimits) (n : Note) (h : History NoMark) → IsPlainLawful limits (Noted n ∷ h) → IsPlainLawful limits h
 tail_lawful limits n h l = record {
-  lawful = record {
-    allowed = l.lawful.allowed.1;
-    paused = l.lawful.paused.1;
-    counted = l.lawful.counted.1;
-    bounded = l.lawful.bounded.1;
-    tied = l.lawful.tied.1;
-    ends = l.lawful.ends.1;
-    in_turn = l.lawful.in_turn.1;
-    doomed = l.lawful.doomed.1;
-    answered = l.lawful.answered.1;
-    only = l.lawful.only.1;
-    quiet = l.lawful.quiet.1;
-  };
-  caused = l.caused.1;
+  allowed = l.allowed.1;
+  paused = l.paused.1;
+  counted = l.counted.1;
+  bounded = l.bounded.1;
+  tied = l.tied.1;
+  ends = l.ends.1;
+  in_turn = l.in_turn.1;
+  doomed = l.doomed.1;
+  swept = l.swept.1;
+  answered = l.answered.1;
+  only = l.only.1;
+  licensed = l.licensed.1;
+  may = l.may.1;
+  quiet = l.quiet.1;
 }
 
 pub before_lawful : (limits : PlainLimits) (ns : List Note) (h : History NoMark) → IsPlainLawful limits (onto ns h) → IsPlainLawful limits h

@@ -1,7 +1,8 @@
 -- Octets leave the write buffer.
+use Rattle.tape_laws.specs.Doomed.{is_swept}
 use Rattle.flow_gate.specs.declared.ids.FlowId.{FlowId}
 use Rattle.plain_laws.proofs.Counting.{one_if, told_of, write_left}
-use Rattle.plain_laws.proofs.Extending.{MayAdd, counted_of, regular_more, under_test}
+use Rattle.plain_laws.proofs.Extending.{MayAdd, counted_of, one_owed, regular_more, under_test}
 use Rattle.plain_laws.proofs.Flags.{no_rise, write_now}
 use Rattle.plain_laws.proofs.Leaving.{Leaves, flow_kept, unborn_kept}
 use Rattle.plain_laws.proofs.Tellings.{all_requests, told_all}
@@ -12,11 +13,11 @@ use Rattle.std.proofs.Common.{ap, arith, length-drop, refl, subst, sym, ◌∙�
 use Rattle.std.proofs.lemmas.List.{append-nil}
 use Rattle.std.specs.List.{AllByRecursion}
 use Rattle.std.specs.Prelude.{Bool, List, [], drop, false, if◌then◌else◌, length, map, nat_lt, not, true, ℕ, ◌&&◌, ◌++◌, ◌+◌, ◌∷◌, ◌≡◌, ◌≤◌}
-use Rattle.tape_laws.specs.Demands.{Meets}
+use Rattle.tape_laws.specs.Demands.{MeetsFirst}
 use Rattle.tape_laws.specs.Dispatches.{has, live}
 use Rattle.tape_laws.specs.Flows.{request}
 use Rattle.tape_laws.specs.History.{History, NoMark, Noted, Step}
-use Rattle.tape_laws.specs.Pauses.{pending_lows}
+use Rattle.tape_laws.specs.Pauses.{Heads, pending_lows}
 use Rattle.tape_laws.specs.Plain.{plain_setup}
 use Rattle.tape_laws.specs.Units.{Demand, WantsOut}
 use Rattle.tape_laws.specs.Watermark.{above}
@@ -48,18 +49,19 @@ out_leaves limits n x h = record {
   framed = refl;
 }
 
-out_may : (limits : PlainLimits) (n : ℕ) (h : History NoMark) → Books limits (asking (WantsOut 0 n)) h → MayAdd limits (note.Out 0 n) h
-out_may limits n h s = record {
+out_may : (limits : PlainLimits) (n : ℕ) (h : History NoMark) → Books limits (asking (WantsOut 0 n ∷ [])) h → is_swept h ≡ false → MayAdd limits (note.Out 0 n) h
+out_may limits n h s fresh = record {
   allowed = tt;
   paused = s.due;
-  counted = counted_of limits (asking (WantsOut 0 n)) h s refl;
+  counted = counted_of limits (asking (WantsOut 0 n ∷ [])) h s refl;
   ends = tt;
   in_turn = tt;
   doomed = tt;
-  answered = let P : Demand → Type 0 = λ d. Meets {Mark = NoMark} (plain_setup limits) d (Noted (note.Out 0 n)) in subst P (sym s.asks) refl;
-  only = s.asks;
+  swept = fresh;
+  answered = let P : List Demand → Type 0 = λ ds. MeetsFirst {Mark = NoMark} (plain_setup limits) ds (Noted (note.Out 0 n)) in subst P (sym s.asks) refl;
+  only = let P : List Demand → Type 0 = Heads (WantsOut 0 n) in subst P (sym s.asks) refl;
   quiet = tt;
-  caused = tt;
+  licensed = tt;
 }
 
 pub out_less : (limits : PlainLimits) (n : ℕ) (h : History NoMark) → length (out (plain_setup limits) 0 (Noted (note.Out 0 n) ∷ h)) ≤ length (out (plain_setup limits) 0 h)
@@ -90,14 +92,14 @@ out_left limits n x h r is none =
     all_if true = told_all (live h) x r ∙ ap one_if is
     all_if false = refl
 
-out_books : (limits : PlainLimits) (n : ℕ) (h : History NoMark) → Books limits (asking (WantsOut 0 n)) h → pending_lows (plain_setup limits) (buffer.Write 0) h ≡ []
+out_books : (limits : PlainLimits) (n : ℕ) (h : History NoMark) → Books limits (asking (WantsOut 0 n ∷ [])) h → pending_lows (plain_setup limits) (buffer.Write 0) h ≡ []
     → Books limits nothing (Noted (note.Out 0 n) ∷ h)
 out_books limits n h s none =
     let step : Step NoMark = Noted (note.Out 0 n) in
     let drained = above (plain_setup limits) (buffer.Write 0) h && not (above (plain_setup limits) (buffer.Write 0) (step ∷ h)) in
     record {
       due = refl;
-      asks = refl;
+      asks = one_owed _ _ s.asks;
       opened = s.opened;
       known = s.known;
       unclosed = s.unclosed;
@@ -105,7 +107,7 @@ out_books limits n h s none =
       rising = s.rising;
       born = s.born;
       said = s.said;
-      each = λ x e. flow_kept limits (asking (WantsOut 0 n)) nothing x step h (out_leaves limits n x h) (s.each x e)
+      each = λ x e. flow_kept limits (asking (WantsOut 0 n ∷ [])) nothing x step h (out_leaves limits n x h) (s.each x e)
           (same _ _ _ _ _ (drain_books _ _ (out_low limits n h)) (ap (told_of x) none) (out_left limits n x h s.rising e none)) refl (s.each x e).unframed;
       unborn = λ x e. unborn_kept limits x step h (out_leaves limits n x h) (record { ended = refl; pairs = refl; must = refl }) (s.unborn x e);
       owed = tt;
@@ -132,7 +134,7 @@ out_books limits n h s none =
     once_if true = subst IsRising (sym (exchanges (live h))) s.rising
     once_if false = tt
 
-pub out_regular : (limits : PlainLimits) (n : ℕ) (h : History NoMark) → Regular limits (asking (WantsOut 0 n)) h → pending_lows (plain_setup limits) (buffer.Write 0) h ≡ []
+pub out_regular : (limits : PlainLimits) (n : ℕ) (h : History NoMark) → Regular limits (asking (WantsOut 0 n ∷ [])) h → is_swept h ≡ false → pending_lows (plain_setup limits) (buffer.Write 0) h ≡ []
     → Regular limits nothing (Noted (note.Out 0 n) ∷ h)
-out_regular limits n h r none =
-    regular_more limits (asking (WantsOut 0 n)) nothing (note.Out 0 n) h r (out_may limits n h r.books) (out_books limits n h r.books none)
+out_regular limits n h r fresh none =
+    regular_more limits (asking (WantsOut 0 n ∷ [])) nothing (note.Out 0 n) h r (out_may limits n h r.books fresh) (out_books limits n h r.books none)

@@ -1,4 +1,5 @@
 -- What each note does to the octets of its own stream.
+use Rattle.h2_frames.specs.Head.{data_head}
 use Rattle.flow_notes.specs.declared.notes.Cause.{Cause}
 use Rattle.plain_laws.proofs.Flags.{send_same}
 use Rattle.plain_laws.proofs.Greatest.{peak_kept}
@@ -13,7 +14,7 @@ use Rattle.tape_laws.specs.History.{History, NoMark, Noted, Step}
 use Rattle.tape_laws.specs.Plain.{plain_setup}
 use Rattle.tape_laws.specs.Summary.{peak}
 use Rattle.tape_laws.specs.Watermark.{above}
-use Rattle.tape_laws.specs.World.{data_head, out, place}
+use Rattle.tape_laws.specs.World.{out, place}
 use Rattle.tape_laws.specs.declared.limits.PlainLimits.{PlainLimits}
 use Rattle.flow_gate.specs.declared.ids.BufferId.TheVariants as buffer
 use Rattle.flow_notes.specs.declared.notes.Note.TheVariants as note
@@ -51,12 +52,6 @@ pub out_frame : (limits : PlainLimits) (x n : ℕ) (last : Bool) (h : History No
     → out (plain_setup limits) 0 (Noted (note.Frame 0 (request x) n last) ∷ h)
     ≡ out (plain_setup limits) 0 h ++ (data_head x n last ++ take n (place (plain_setup limits) (request x) 1 h))
 out_frame limits x n last h = refl
-
-pub out_out : (limits : PlainLimits) (n : ℕ) (h : History NoMark) → out (plain_setup limits) 0 (Noted (note.Out 0 n) ∷ h) ≡ drop n (out (plain_setup limits) 0 h)
-out_out limits n h = refl
-
-pub recv_doom : (limits : PlainLimits) (x : ℕ) (why : Cause) (h : History NoMark) → place (plain_setup limits) (request x) 0 (Noted (note.Doom x why) ∷ h) ≡ []
-recv_doom limits x why h = rw (same_number x) refl
 
 pub send_doom : (limits : PlainLimits) (x : ℕ) (why : Cause) (h : History NoMark) → place (plain_setup limits) (request x) 1 (Noted (note.Doom x why) ∷ h) ≡ []
 send_doom limits x why h = rw (same_number x) refl

@@ -1,4 +1,5 @@
 -- The next pause that is due is written.
+use Rattle.tape_laws.specs.Doomed.{is_swept}
 use Rattle.flow_gate.specs.declared.ids.BufferId.{BufferId}
 use Rattle.flow_gate.specs.declared.ids.FlowId.{FlowId}
 use Rattle.plain_laws.proofs.Counting.{flow_tally, one_if, told_of}
@@ -10,9 +11,8 @@ use Rattle.plain_laws.proofs.Tellings.{owed_cons}
 use Rattle.plain_laws.specs.Owing.{Owing, nothing, owed, owed_times, pause_notes}
 use Rattle.plain_laws.specs.Regular.{Books, FlowBooks, IsLiveFlow, IsRising, Regular}
 use Rattle.std.proofs.Common.{ap, arith, refl, subst, sym, ◌∙◌}
-use Rattle.std.proofs.lemmas.List.{append-nil}
 use Rattle.std.specs.List.{AllByRecursion}
-use Rattle.std.specs.Prelude.{List, [], drop, false, if◌then◌else◌, map, max, nat_lt, true, ℕ, ◌&&◌, ◌++◌, ◌+◌, ◌==◌, ◌∷◌, ◌≡◌}
+use Rattle.std.specs.Prelude.{List, [], drop, false, if◌then◌else◌, map, max, nat_lt, true, ℕ, ◌&&◌, ◌+◌, ◌==◌, ◌∷◌, ◌≡◌}
 use Rattle.tape_laws.specs.Dispatches.{has, live, started}
 use Rattle.tape_laws.specs.Flows.{request, same_flow}
 use Rattle.tape_laws.specs.History.{History, NoMark, Noted, Step, onto}
@@ -23,19 +23,20 @@ use Rattle.tape_laws.specs.declared.limits.PlainLimits.{PlainLimits}
 use Rattle.flow_gate.specs.declared.ids.BufferId.TheVariants as buffer
 use Rattle.flow_notes.specs.declared.notes.Note.TheVariants as note
 
-pause_may : (limits : PlainLimits) (owing : Owing) (f : FlowId) (b : BufferId) (rest : List Owed) (h : History NoMark) → Books limits owing h
+pause_may : (limits : PlainLimits) (owing : Owing) (f : FlowId) (b : BufferId) (rest : List Owed) (h : History NoMark) → Books limits owing h → is_swept h ≡ false
     → owing.due ≡ record { flow = f; buffer = b } ∷ rest → has (live h) f.exchange ≡ true → MayAdd limits (note.Pause f b) h
-pause_may limits owing f b rest h s e is = record {
+pause_may limits owing f b rest h s fresh e is = record {
   allowed = tt;
   paused = let P : List Owed → Type 0 = Heads (record { flow = f; buffer = b }) in subst P (sym (s.due ∙ e)) refl;
   counted = tt;
   ends = tt;
   in_turn = tt;
   doomed = is;
+  swept = fresh;
   answered = tt;
   only = tt;
   quiet = tt;
-  caused = tt;
+  licensed = tt;
 }
 
 -- the books of each stream: what is owed becomes what was paused
@@ -43,12 +44,12 @@ pause_flow : (limits : PlainLimits) (owing : Owing) (f : FlowId) (b : BufferId) 
     → owing.due ≡ record { flow = f; buffer = b } ∷ rest → FlowBooks limits (record owing { due = rest }) x (Noted (note.Pause f b) ∷ h)
 pause_flow limits owing f b rest x h s e =
     let step : Step NoMark = Noted (note.Pause f b) in
-    let lows_is : pending_lows (plain_setup limits) (buffer.Send (request x)) (step ∷ h) ≡ pending_lows (plain_setup limits) (buffer.Send (request x)) h = append-nil _ in
-    let write_is : pending_lows (plain_setup limits) (buffer.Write 0) (step ∷ h) ≡ pending_lows (plain_setup limits) (buffer.Write 0) h = append-nil _ in
+    let lows_is : pending_lows (plain_setup limits) (buffer.Send (request x)) (step ∷ h) ≡ pending_lows (plain_setup limits) (buffer.Send (request x)) h = refl in
+    let write_is : pending_lows (plain_setup limits) (buffer.Write 0) (step ∷ h) ≡ pending_lows (plain_setup limits) (buffer.Write 0) h = refl in
     record {
       tally = flow_tally limits owing.due rest x step h
           (written _ _ _ _ _ _ _ _ _ _ _ _ (one_if (same_flow f (request x))) (ap (owed_times x) e ∙ owed_cons x (record { flow = f; buffer = b }) rest)
-          (ap one_if (send_same limits (request x) step h refl)) (ap one_if (write_same limits step h (append-nil (out (plain_setup limits) 0 h)))) (ap (told_of x) lows_is) (ap (told_of x) write_is)) s.tally;
+          (ap one_if (send_same limits (request x) step h refl)) (ap one_if (write_same limits step h refl)) (ap (told_of x) lows_is) (ap (told_of x) write_is)) s.tally;
       send_low = send_low_kept limits x step h refl lows_is s.send_low;
       recv_room = s.recv_room;
       send_room = s.send_room;
@@ -65,7 +66,7 @@ pub pause_leaves : (limits : PlainLimits) (f : FlowId) (b : BufferId) (x : ℕ) 
 pause_leaves limits f b x h e = record {
   recv = refl;
   send = refl;
-  send_lows = append-nil (pending_lows (plain_setup limits) (buffer.Send (request x)) h);
+  send_lows = refl;
   paused = ap (λ c. one_if (c && (if f.back then false else true)) + pauses (request x) h) e ∙ none (pauses (request x) h);
   resumed = refl;
   body = refl;
@@ -81,8 +82,8 @@ pause_books : (limits : PlainLimits) (owing : Owing) (f : FlowId) (b : BufferId)
     → Books limits (record owing { due = rest }) (Noted (note.Pause f b) ∷ h)
 pause_books limits owing f b rest h s e l =
     let step : Step NoMark = Noted (note.Pause f b) in
-    let out_same : out (plain_setup limits) 0 (step ∷ h) ≡ out (plain_setup limits) 0 h = append-nil (out (plain_setup limits) 0 h) in
-    let lows_same : pending_lows (plain_setup limits) (buffer.Write 0) (step ∷ h) ≡ pending_lows (plain_setup limits) (buffer.Write 0) h = append-nil _ in
+    let out_same : out (plain_setup limits) 0 (step ∷ h) ≡ out (plain_setup limits) 0 h = refl in
+    let lows_same : pending_lows (plain_setup limits) (buffer.Write 0) (step ∷ h) ≡ pending_lows (plain_setup limits) (buffer.Write 0) h = refl in
     record {
       due = ap (drop 1) (s.due ∙ e);
       asks = s.asks;
@@ -99,24 +100,18 @@ pause_books limits owing f b rest h s e l =
       owed = l.1;
       write_lows = let P : List FlowId → Type 0 = AllByRecursion (IsLiveFlow (live h)) in subst P (sym lows_same) s.write_lows;
       write_once = let P : List FlowId → Type 0 = λ fs. IsRising (map (λ f. f.exchange) fs) in subst P (sym lows_same) s.write_once;
-      hushed = λ y is. append-nil (pending_lows (plain_setup limits) (buffer.Send (request y)) h) ∙ s.hushed y is;
+      hushed = λ y is. s.hushed y is;
     }
 
-pub pause_regular : (limits : PlainLimits) (owing : Owing) (f : FlowId) (b : BufferId) (rest : List Owed) (h : History NoMark) → Regular limits owing h
+pub pause_regular : (limits : PlainLimits) (owing : Owing) (f : FlowId) (b : BufferId) (rest : List Owed) (h : History NoMark) → Regular limits owing h → is_swept h ≡ false
     → owing.due ≡ record { flow = f; buffer = b } ∷ rest → Regular limits (record owing { due = rest }) (Noted (note.Pause f b) ∷ h)
-pause_regular limits owing f b rest h r e =
+pause_regular limits owing f b rest h r fresh e =
     let P : List Owed → Type 0 = AllByRecursion (λ (o : Owed). IsLiveFlow (live h) o.flow) in
     let l = subst P e r.books.owed in
-    regular_more limits owing (record owing { due = rest }) (note.Pause f b) h r (pause_may limits owing f b rest h r.books e l.0.live) (pause_books limits owing f b rest h r.books e l)
+    regular_more limits owing (record owing { due = rest }) (note.Pause f b) h r (pause_may limits owing f b rest h r.books fresh e l.0.live) (pause_books limits owing f b rest h r.books e l)
 
 -- all that are due
-pub pauses_regular : (limits : PlainLimits) (due : List Owed) (h : History NoMark) → Regular limits (owed due) h → Regular limits nothing (onto (pause_notes due) h)
-pauses_regular limits [] h r = r
-pauses_regular limits (o ∷ due) h r = pauses_regular limits due (Noted (note.Pause o.flow o.buffer) ∷ h) (pause_regular limits (owed (o ∷ due)) o.flow o.buffer due h r refl)
-
--- some of them
-pub some_pauses_regular : (limits : PlainLimits) (due rest : List Owed) (h : History NoMark) → Regular limits (owed (due ++ rest)) h
-    → Regular limits (owed rest) (onto (pause_notes due) h)
-some_pauses_regular limits [] rest h r = r
-some_pauses_regular limits (o ∷ due) rest h r =
-    some_pauses_regular limits due rest (Noted (note.Pause o.flow o.buffer) ∷ h) (pause_regular limits (owed (o ∷ (due ++ rest))) o.flow o.buffer (due ++ rest) h r refl)
+pub pauses_regular : (limits : PlainLimits) (due : List Owed) (h : History NoMark) → Regular limits (owed due) h → is_swept h ≡ false → Regular limits nothing (onto (pause_notes due) h)
+pauses_regular limits [] h r fresh = r
+pauses_regular limits (o ∷ due) h r fresh =
+    pauses_regular limits due (Noted (note.Pause o.flow o.buffer) ∷ h) (pause_regular limits (owed (o ∷ due)) o.flow o.buffer due h r fresh refl) refl

@@ -2,8 +2,8 @@
 use Rattle.flow_gate.specs.declared.ids.FlowId.{FlowId}
 use Rattle.plain_laws.proofs.Counting.{lows_are, send_left, told_of, write_left}
 use Rattle.plain_laws.proofs.Extending.{count_is}
-use Rattle.plain_laws.proofs.Moves.{first_place, untold}
-use Rattle.plain_laws.proofs.Streams.{all_at, all_of, each_live, live_each}
+use Rattle.plain_laws.proofs.Moves.{first_place}
+use Rattle.plain_laws.proofs.Streams.{all_of, each_live, live_each}
 use Rattle.plain_laws.proofs.Tellings.{told_own}
 use Rattle.plain_laws.specs.Done.{IsDone}
 use Rattle.plain_laws.specs.Owing.{nothing}
@@ -13,13 +13,14 @@ use Rattle.std.proofs.lemmas.Bool.Decides.{nat_tests}
 use Rattle.std.proofs.lemmas.List.{append-nil}
 use Rattle.std.specs.Bool.{OnFalse, OnTrue}
 use Rattle.std.specs.List.{AllByRecursion}
-use Rattle.std.specs.Prelude.{Bool, List, None, [], false, if◌then◌else◌, length, min, nat_lt, true, ℕ, ◌&&◌, ◌+◌, ◌<◌, ◌==◌, ◌∷◌, ◌≡◌}
+use Rattle.std.specs.Prelude.{Bool, List, None, [], false, if◌then◌else◌, length, min, nat_lt, true, ℕ, ◌&&◌, ◌+◌, ◌==◌, ◌∷◌, ◌≡◌}
 use Rattle.tape_laws.specs.Dispatches.{has, live}
 use Rattle.tape_laws.specs.Flows.{request}
 use Rattle.tape_laws.specs.History.{History, NoMark}
 use Rattle.tape_laws.specs.Order.{Nothing, next_on}
 use Rattle.tape_laws.specs.Pauses.{count, lows, pending_lows}
-use Rattle.tape_laws.specs.Plain.{plain_body, plain_must_end, plain_session, plain_setup}
+use Rattle.tape_laws.specs.Plain.{plain_body, plain_setup}
+use Rattle.tape_laws.specs.PlainSession.{plain_must_end, plain_session}
 use Rattle.tape_laws.specs.Quiet.{EachPlace, IsQuiet}
 use Rattle.tape_laws.specs.Release.{last_free, may_release}
 use Rattle.tape_laws.specs.Sources.{disabled}
@@ -81,6 +82,7 @@ done_quiet limits h r d =
       asked = s.asks;
       ended = all_of (λ x. plain_must_end x h ≡ false) (live h) d.ended;
       gone = d.gone;
+      leaves = tt;
     }
 
 pub done_rests : (limits : PlainLimits) (h : History NoMark) → Regular limits nothing h → IsDone limits h → Rests limits h
@@ -104,38 +106,3 @@ rests_told limits h r = nobody _ r.regular.books.write_lows (λ x e. (told_none 
     nobody (g ∷ gs) a f =
         let P : FlowId → Type 0 = λ v. told_of g.exchange (v ∷ gs) ≡ 0 in
         absurd (one_isnt _ _ (told_own g.exchange gs) (subst P a.0.is (f g.exchange a.0.live)))
-
-pub rests_done : (limits : PlainLimits) (h : History NoMark) → 0 < limits.quantum → Rests limits h → IsDone limits h
-rests_done limits h carries r =
-    let q = r.quiet in
-    let s = r.regular.books in
-    record {
-      write_told = rests_told limits h r;
-      send_told = λ x e. untold limits nothing x h (s.each x e) (told_none limits x h q e).0;
-      moved = λ x e z. still_none _ _ _ carries z (live_each limits (λ g. OnTrue (count g h == 0) (EachPlace (λ p. may_release (plain_setup limits) g p h ≡ 0) 0)) h x q.still e);
-      framed = let P : List ℕ → Type 0 = AllByRecursion (λ c. OnFalse (above (plain_setup limits) (buffer.Write c) h) (next_on (plain_setup limits) c h ≡ Nothing)) in
-          under_false (above (plain_setup limits) (buffer.Write 0) h) _ (subst P s.opened q.framed).0;
-      ended = λ x e. all_at (λ y. plain_must_end y h ≡ false) (live h) x q.ended e;
-      gone = q.gone;
-    }
-  where
-    under_false : (b : Bool) (A : Type 0) → OnFalse b A → b ≡ false → A
-    under_false true A a e = cc
-    under_false false A a e = a
-
-    still_none : (c q : ℕ) (xs : List ℕ) → 0 < q → c ≡ 0 → OnTrue (c == 0) ((if c == 0 then min q (length xs) else 0) ≡ 0) → xs ≡ []
-    still_none c q xs some z t = empty xs (least q (length xs) some (at_zero (c == 0) (zero_is c z) t))
-      where
-        zero_is : (c : ℕ) → c ≡ 0 → (c == 0) ≡ true
-        zero_is c e = grind (arith, nat_tests)
-
-        at_zero : (b : Bool) → b ≡ true → OnTrue b ((if b then min q (length xs) else 0) ≡ 0) → min q (length xs) ≡ 0
-        at_zero true e t = t
-        at_zero false e t = cc
-
-        least : (q l : ℕ) → 0 < q → min q l ≡ 0 → l ≡ 0
-        least q l e f = omega arith
-
-        empty : (xs : List ℕ) → length xs ≡ 0 → xs ≡ []
-        empty [] e = refl
-        empty (y ∷ ys) e = absurd (omega (arith, e))

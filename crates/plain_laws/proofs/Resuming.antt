@@ -1,8 +1,9 @@
 -- The next flow that is pending on a buffer is told of its drain.
+use Rattle.tape_laws.specs.Doomed.{is_swept}
 use Rattle.flow_gate.specs.declared.ids.BufferId.{BufferId}
 use Rattle.flow_gate.specs.declared.ids.FlowId.{FlowId}
 use Rattle.plain_laws.proofs.Counting.{flow_tally, one_if, send_flag, told_of, write_flag}
-use Rattle.plain_laws.proofs.Extending.{MayAdd, counted_of, free_meets, regular_more}
+use Rattle.plain_laws.proofs.Extending.{MayAdd, counted_of, free_meets, nothing_owed, regular_more}
 use Rattle.plain_laws.proofs.Flags.{send_same, write_same}
 use Rattle.plain_laws.proofs.Leaving.{Leaves, flow_other, same_len_if, send_low_kept, unborn_kept}
 use Rattle.plain_laws.proofs.Streams.{apart_from, own_or_other, same_number}
@@ -11,7 +12,6 @@ use Rattle.plain_laws.specs.Owing.{nothing}
 use Rattle.plain_laws.specs.Regular.{Books, FlowBooks, IsLiveFlow, IsRising, Regular}
 use Rattle.std.proofs.Common.{ap, arith, inl, refl, subst, sym, ◌∙◌}
 use Rattle.std.proofs.lemmas.Bool.Decides.{nat_tests}
-use Rattle.std.proofs.lemmas.List.{append-nil}
 use Rattle.std.specs.List.{AllByRecursion}
 use Rattle.std.specs.Prelude.{List, [], drop, false, if◌then◌else◌, map, max, nat_lt, true, ℕ, ◌&&◌, ◌+◌, ◌==◌, ◌∷◌, ◌≡◌}
 use Rattle.tape_laws.specs.Dispatches.{has, live, started}
@@ -46,7 +46,7 @@ same_flags : (limits : PlainLimits) (x y : ℕ) (b : BufferId) (h : History NoMa
 same_flags limits x y b h = ap one_if (send_same limits (request y) (Noted (note.Resume (request x) b)) h refl)
 
 same_out : (limits : PlainLimits) (x : ℕ) (b : BufferId) (h : History NoMark) → out (plain_setup limits) 0 (Noted (note.Resume (request x) b) ∷ h) ≡ out (plain_setup limits) 0 h
-same_out limits x b h = append-nil (out (plain_setup limits) 0 h)
+same_out limits x b h = refl
 
 same_write : (limits : PlainLimits) (x : ℕ) (b : BufferId) (h : History NoMark) → write_flag limits (Noted (note.Resume (request x) b) ∷ h) ≡ write_flag limits h
 same_write limits x b h = ap one_if (write_same limits (Noted (note.Resume (request x) b)) h (same_out limits x b h))
@@ -55,19 +55,20 @@ told : (p r a w s m a' w' s' m' k : ℕ) → a' ≡ a → w' ≡ w → s + m ≡
     → (p + 0) + (r + ((a + w) + (s + m))) ≡ (p + 0) + ((k + r) + ((a' + w') + (s' + m')))
 told p r a w s m a' w' s' m' k ea ew e = omega arith
 
-resume_may : (limits : PlainLimits) (x : ℕ) (b : BufferId) (h : History NoMark) → Books limits nothing h → has (live h) x ≡ true
+resume_may : (limits : PlainLimits) (x : ℕ) (b : BufferId) (h : History NoMark) → Books limits nothing h → is_swept h ≡ false → has (live h) x ≡ true
     → Heads (request x) (pending_lows (plain_setup limits) b h) → is_silent b h ≡ false → MayAdd limits (note.Resume (request x) b) h
-resume_may limits x b h s is first loud = record {
+resume_may limits x b h s fresh is first loud = record {
   allowed = tt;
   paused = (s.due, first, loud);
   counted = counted_of limits nothing h s refl;
   ends = tt;
   in_turn = tt;
   doomed = is;
+  swept = fresh;
   answered = free_meets limits _ (note.Resume (request x) b) s.asks tt;
   only = tt;
   quiet = tt;
-  caused = tt;
+  licensed = tt;
 }
 
 -- ---- of the send buffer
@@ -107,7 +108,7 @@ send_books limits x h s is e =
     let step : Step NoMark = Noted (note.Resume (request x) b) in
     record {
       due = refl;
-      asks = refl;
+      asks = nothing_owed _ s.asks;
       opened = s.opened;
       known = s.known;
       unclosed = s.unclosed;
@@ -125,12 +126,12 @@ send_books limits x h s is e =
       hushed = λ y ey. let d = apart_from (live h) x y is ey in other_lows limits x y h d ∙ s.hushed y ey;
     }
 
-pub resume_send_regular : (limits : PlainLimits) (x : ℕ) (h : History NoMark) → Regular limits nothing h → has (live h) x ≡ true
+pub resume_send_regular : (limits : PlainLimits) (x : ℕ) (h : History NoMark) → Regular limits nothing h → is_swept h ≡ false → has (live h) x ≡ true
     → pending_lows (plain_setup limits) (buffer.Send (request x)) h ≡ request x ∷ []
     → Regular limits nothing (Noted (note.Resume (request x) (buffer.Send (request x))) ∷ h)
-resume_send_regular limits x h r is e =
+resume_send_regular limits x h r fresh is e =
     let P : List FlowId → Type 0 = Heads (request x) in
-    regular_more limits nothing nothing (note.Resume (request x) (buffer.Send (request x))) h r (resume_may limits x (buffer.Send (request x)) h r.books is (subst P (sym e) refl) refl)
+    regular_more limits nothing nothing (note.Resume (request x) (buffer.Send (request x))) h r (resume_may limits x (buffer.Send (request x)) h r.books fresh is (subst P (sym e) refl) refl)
     (send_books limits x h r.books is e)
 
 -- ---- of the write buffer
@@ -168,7 +169,7 @@ write_books limits x rest h s is e =
     let step : Step NoMark = Noted (note.Resume (request x) b) in
     record {
       due = refl;
-      asks = refl;
+      asks = nothing_owed _ s.asks;
       opened = s.opened;
       known = s.known;
       unclosed = s.unclosed;
@@ -185,11 +186,11 @@ write_books limits x rest h s is e =
       hushed = s.hushed;
     }
 
-pub resume_write_regular : (limits : PlainLimits) (x : ℕ) (rest : List FlowId) (h : History NoMark) → Regular limits nothing h
+pub resume_write_regular : (limits : PlainLimits) (x : ℕ) (rest : List FlowId) (h : History NoMark) → Regular limits nothing h → is_swept h ≡ false
     → pending_lows (plain_setup limits) (buffer.Write 0) h ≡ request x ∷ rest → Regular limits nothing (Noted (note.Resume (request x) (buffer.Write 0)) ∷ h)
-resume_write_regular limits x rest h r e =
+resume_write_regular limits x rest h r fresh e =
     let P : List FlowId → Type 0 = Heads (request x) in
     let Q : List FlowId → Type 0 = AllByRecursion (IsLiveFlow (live h)) in
     let is : has (live h) x ≡ true = (subst Q e r.books.write_lows).0.live in
-    regular_more limits nothing nothing (note.Resume (request x) (buffer.Write 0)) h r (resume_may limits x (buffer.Write 0) h r.books is (subst P (sym e) refl) r.books.unclosed)
+    regular_more limits nothing nothing (note.Resume (request x) (buffer.Write 0)) h r (resume_may limits x (buffer.Write 0) h r.books fresh is (subst P (sym e) refl) r.books.unclosed)
     (write_books limits x rest h r.books is e)

@@ -3,7 +3,7 @@ use Rattle.plain_laws.specs.Regular.{IsRising}
 use Rattle.std.proofs.Common.{arith, refl}
 use Rattle.std.proofs.lemmas.Bool.Decides.{nat_tests}
 use Rattle.std.specs.List.{AllByRecursion}
-use Rattle.std.specs.Prelude.{Bool, List, [], drop, false, filter, if◌then◌else◌, suc, true, zero, ℕ, ◌++◌, ◌<◌, ◌==◌, ◌∷◌, ◌≡◌}
+use Rattle.std.specs.Prelude.{Bool, List, [], false, filter, if◌then◌else◌, true, ℕ, ◌++◌, ◌<◌, ◌==◌, ◌∷◌, ◌≡◌}
 use Rattle.tape_laws.specs.Dispatches.{has}
 
 pub rising_more : (xs : List ℕ) (x : ℕ) → IsRising xs → AllByRecursion (λ y. y < x) xs → IsRising (xs ++ x ∷ [])
@@ -29,11 +29,6 @@ rising_filter p (x ∷ xs) r = pick (p x) (rising_filter p xs r.1)
     pick : (b : Bool) → IsRising (filter p xs) → IsRising (if b then x ∷ filter p xs else filter p xs)
     pick true rest = (all_filter (λ y. x < y) p xs r.0, rest)
     pick false rest = rest
-
-pub rising_drop : (n : ℕ) (xs : List ℕ) → IsRising xs → IsRising (drop n xs)
-rising_drop zero xs r = r
-rising_drop (suc n) [] r = tt
-rising_drop (suc n) (x ∷ xs) r = rising_drop n xs r.1
 
 -- the first of a rising list is in it once
 pub rising_apart : (x : ℕ) (xs : List ℕ) → AllByRecursion (λ y. x < y) xs → has xs x ≡ false

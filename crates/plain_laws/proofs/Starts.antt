@@ -1,8 +1,9 @@
 -- A stream starts, above every number before it.
+use Rattle.tape_laws.specs.Doomed.{is_swept}
 use Rattle.flow_gate.specs.declared.ids.BufferId.{BufferId}
 use Rattle.flow_gate.specs.declared.ids.FlowId.{FlowId}
 use Rattle.plain_laws.proofs.Counting.{disabled_is, lows_are, one_if, told_of}
-use Rattle.plain_laws.proofs.Extending.{MayAdd, counted_of, regular_more}
+use Rattle.plain_laws.proofs.Extending.{MayAdd, counted_of, one_owed, regular_more}
 use Rattle.plain_laws.proofs.Flags.{send_same, write_same}
 use Rattle.plain_laws.proofs.Leaving.{Leaves, flow_other, same_len, same_len_if, unborn_kept}
 use Rattle.plain_laws.proofs.Moves.{where_limited}
@@ -12,15 +13,14 @@ use Rattle.plain_laws.proofs.Tellings.{live_flows_kept, live_owed, owed_none, ow
 use Rattle.plain_laws.specs.Owing.{Owing, asking, due_if, owed}
 use Rattle.plain_laws.specs.Regular.{AtMost, Books, FlowBooks, IsLiveFlow, IsRising, Regular}
 use Rattle.std.proofs.Common.{ap, arith, inl, refl, subst, sym, ◌∙◌}
-use Rattle.std.proofs.lemmas.List.{append-nil}
 use Rattle.std.specs.List.{AllByRecursion}
 use Rattle.std.specs.Prelude.{Bool, List, [], false, if◌then◌else◌, map, max, nat_lt, true, ℕ, ◌&&◌, ◌++◌, ◌+◌, ◌<◌, ◌==◌, ◌||◌, ◌∷◌, ◌≡◌, ◌≤◌}
-use Rattle.tape_laws.specs.Demands.{Meets}
+use Rattle.tape_laws.specs.Demands.{MeetsFirst}
 use Rattle.tape_laws.specs.Dispatches.{before_dispatch, has, live, started}
 use Rattle.tape_laws.specs.Ends.{end_framed}
 use Rattle.tape_laws.specs.Flows.{request, same_flow}
 use Rattle.tape_laws.specs.History.{History, NoMark, Noted, Step}
-use Rattle.tape_laws.specs.Pauses.{Owed, pending_lows}
+use Rattle.tape_laws.specs.Pauses.{Heads, Owed, pending_lows}
 use Rattle.tape_laws.specs.Plain.{plain_setup}
 use Rattle.tape_laws.specs.Units.{Demand, WantsStart}
 use Rattle.tape_laws.specs.Watermark.{above}
@@ -28,16 +28,6 @@ use Rattle.tape_laws.specs.World.{out}
 use Rattle.tape_laws.specs.declared.limits.PlainLimits.{PlainLimits}
 use Rattle.flow_gate.specs.declared.ids.BufferId.TheVariants as buffer
 use Rattle.flow_notes.specs.declared.notes.Note.TheVariants as note
-
--- then it is the greatest
-pub start_most : (x last : ℕ) (h : History NoMark) → AtMost last (started h) → last < x → AtMost x (started (Noted (note.Start x 0 x 0) ∷ h))
-start_most x last h most less = record { most = λ y e. by_case (x == y) (λ t. same _ _ (number_is x y t)) (λ d. below _ _ _ (most.most y (has_was (started h) x y e d)) less) }
-  where
-    same : (a b : ℕ) → a ≡ b → b ≤ a
-    same a b e = omega (arith, e)
-
-    below : (a b c : ℕ) → a ≤ b → b < c → a ≤ c
-    below a b c e f = omega arith
 
 pub unstarted : (x last : ℕ) (h : History NoMark) → AtMost last (started h) → last < x → has (started h) x ≡ false
 unstarted x last h most less = by_case (has (started h) x) (λ t. absurd (above_all x last (most.most x t) less)) (λ f. f)
@@ -49,7 +39,7 @@ pub start_leaves : (limits : PlainLimits) (x y : ℕ) (h : History NoMark) → L
 start_leaves limits x y h = record {
   recv = refl;
   send = refl;
-  send_lows = append-nil (pending_lows (plain_setup limits) (buffer.Send (request y)) h);
+  send_lows = refl;
   paused = refl;
   resumed = refl;
   body = refl;
@@ -57,18 +47,19 @@ start_leaves limits x y h = record {
   framed = refl;
 }
 
-start_may : (limits : PlainLimits) (x : ℕ) (h : History NoMark) → Books limits (asking (WantsStart x 0 x 0)) h → has (started h) x ≡ false → MayAdd limits (note.Start x 0 x 0) h
-start_may limits x h s new = record {
+start_may : (limits : PlainLimits) (x : ℕ) (h : History NoMark) → Books limits (asking (WantsStart x 0 x 0 ∷ [])) h → is_swept h ≡ false → has (started h) x ≡ false → MayAdd limits (note.Start x 0 x 0) h
+start_may limits x h s fresh new = record {
   allowed = tt;
   paused = s.due;
-  counted = counted_of limits (asking (WantsStart x 0 x 0)) h s refl;
+  counted = counted_of limits (asking (WantsStart x 0 x 0 ∷ [])) h s refl;
   ends = tt;
   in_turn = tt;
   doomed = new;
-  answered = let P : Demand → Type 0 = λ d. Meets {Mark = NoMark} (plain_setup limits) d (Noted (note.Start x 0 x 0)) in subst P (sym s.asks) refl;
-  only = s.asks;
+  swept = fresh;
+  answered = let P : List Demand → Type 0 = λ ds. MeetsFirst {Mark = NoMark} (plain_setup limits) ds (Noted (note.Start x 0 x 0)) in subst P (sym s.asks) refl;
+  only = let P : List Demand → Type 0 = Heads (WantsStart x 0 x 0) in subst P (sym s.asks) refl;
   quiet = tt;
-  caused = tt;
+  licensed = tt;
 }
 
 -- the pause of a stream that starts while the write buffer is above
@@ -91,17 +82,17 @@ unframed_before limits f (Noted (note.Turn k ev) ∷ h) e = e
 unframed_before limits f (Noted (note.Frame c g n last) ∷ h) e = unframed_before limits f h (or_none (same_flow g f && last) (end_framed (plain_setup limits) f h) e).1
 unframed_before limits f (step ∷ h) e = unframed_before limits f h e
 
-start_own : (limits : PlainLimits) (x : ℕ) (h : History NoMark) → Books limits (asking (WantsStart x 0 x 0)) h → has (started h) x ≡ false
+start_own : (limits : PlainLimits) (x : ℕ) (h : History NoMark) → Books limits (asking (WantsStart x 0 x 0 ∷ [])) h → has (started h) x ≡ false
     → FlowBooks limits (after_start limits x h) x (Noted (note.Start x 0 x 0) ∷ h)
 start_own limits x h s new =
     let step : Step NoMark = Noted (note.Start x 0 x 0) in
     let u = s.unborn x new in
     let dead : has (live h) x ≡ false = by_case (has (live h) x) (λ t. not_both (has (started h) x) (s.born x t) new) (λ f. f) in
-    let lows_is : pending_lows (plain_setup limits) (buffer.Send (request x)) (step ∷ h) ≡ pending_lows (plain_setup limits) (buffer.Send (request x)) h = append-nil _ in
-    let write_is : pending_lows (plain_setup limits) (buffer.Write 0) (step ∷ h) ≡ pending_lows (plain_setup limits) (buffer.Write 0) h = append-nil _ in
+    let lows_is : pending_lows (plain_setup limits) (buffer.Send (request x)) (step ∷ h) ≡ pending_lows (plain_setup limits) (buffer.Send (request x)) h = refl in
+    let write_is : pending_lows (plain_setup limits) (buffer.Write 0) (step ∷ h) ≡ pending_lows (plain_setup limits) (buffer.Write 0) h = refl in
     record {
       tally = balance _ _ _ _ _ _ _ _ _ (disabled_is limits x (step ∷ h)) (lows_are limits x (step ∷ h)) u.paused u.resumed
-          (owed_one (above (plain_setup limits) (buffer.Write 0) h) (buffer.Write 0) x ∙ sym (ap one_if (write_same limits step h (append-nil (out (plain_setup limits) 0 h)))))
+          (owed_one (above (plain_setup limits) (buffer.Write 0) h) (buffer.Write 0) x ∙ sym (ap one_if (write_same limits step h refl)))
           (ap one_if (send_same limits (request x) step h refl ∙ u.low)) (ap (told_of x) (lows_is ∙ s.hushed x dead))
           (ap (told_of x) write_is ∙ told_absent x (live h) _ s.write_lows dead);
       send_low = inl (lows_is ∙ s.hushed x dead);
@@ -118,17 +109,17 @@ start_own limits x h s new =
     none : (n : ℕ) → 0 ≤ n
     none n = omega arith
 
-start_books : (limits : PlainLimits) (x last : ℕ) (h : History NoMark) → Books limits (asking (WantsStart x 0 x 0)) h → AtMost last (started h) → last < x
+start_books : (limits : PlainLimits) (x last : ℕ) (h : History NoMark) → Books limits (asking (WantsStart x 0 x 0 ∷ [])) h → AtMost last (started h) → last < x
     → Books limits (after_start limits x h) (Noted (note.Start x 0 x 0) ∷ h)
 start_books limits x last h s most less =
     let step : Step NoMark = Noted (note.Start x 0 x 0) in
     let new = unstarted x last h most less in
     let b = above (plain_setup limits) (buffer.Write 0) h in
-    let out_same : out (plain_setup limits) 0 (step ∷ h) ≡ out (plain_setup limits) 0 h = append-nil (out (plain_setup limits) 0 h) in
-    let lows_same : pending_lows (plain_setup limits) (buffer.Write 0) (step ∷ h) ≡ pending_lows (plain_setup limits) (buffer.Write 0) h = append-nil _ in
+    let out_same : out (plain_setup limits) 0 (step ∷ h) ≡ out (plain_setup limits) 0 h = refl in
+    let lows_same : pending_lows (plain_setup limits) (buffer.Write 0) (step ∷ h) ≡ pending_lows (plain_setup limits) (buffer.Write 0) h = refl in
     record {
       due = start_due x _ _ b (send_same limits (request x) step h refl ∙ (s.unborn x new).low) (write_same limits step h out_same);
-      asks = refl;
+      asks = one_owed _ _ s.asks;
       opened = s.opened;
       known = s.known;
       unclosed = s.unclosed;
@@ -139,7 +130,7 @@ start_books limits x last h s most less =
       said = λ y. s.said y ∙ swapped (x == y) (has (started h) y) ∙ sym (has_more (started h) x y);
       each = λ y e. own_or_other (λ z. FlowBooks limits (after_start limits x h) z (step ∷ h)) x y (start_own limits x h s new)
           (λ d. let f = s.each y (has_was (live h) x y e d) in
-          flow_other limits (asking (WantsStart x 0 x 0)) (after_start limits x h) y step h (start_leaves limits x y h) f out_same (ap (told_of y) lows_same)
+          flow_other limits (asking (WantsStart x 0 x 0 ∷ [])) (after_start limits x h) y step h (start_leaves limits x y h) f out_same (ap (told_of y) lows_same)
           (owed_none b (buffer.Write 0) x y d) refl f.unframed);
       unborn = λ y e. unborn_kept limits y step h (start_leaves limits x y h) (record { ended = refl; pairs = refl; must = refl }) (s.unborn y (has_not (started h) x y e).0);
       owed = live_owed b (buffer.Write 0) (x ∷ []) (live h ++ x ∷ [])
@@ -147,7 +138,7 @@ start_books limits x last h s most less =
       write_lows = let P : List FlowId → Type 0 = AllByRecursion (IsLiveFlow (live h ++ x ∷ [])) in
           subst P (sym lows_same) (live_flows_kept (live h) (live h ++ x ∷ []) _ (λ y e. has_kept (live h) x y e) s.write_lows);
       write_once = let P : List FlowId → Type 0 = λ fs. IsRising (map (λ f. f.exchange) fs) in subst P (sym lows_same) s.write_once;
-      hushed = λ y e. append-nil (pending_lows (plain_setup limits) (buffer.Send (request y)) h) ∙ s.hushed y (has_not (live h) x y e).0;
+      hushed = λ y e. s.hushed y (has_not (live h) x y e).0;
     }
   where
     swapped : (a b : Bool) → (a || b) ≡ (b || a)
@@ -159,8 +150,8 @@ start_books limits x last h s most less =
     under : (a b c : ℕ) → a ≤ b → b < c → a < c
     under a b c e f = omega arith
 
-pub start_regular : (limits : PlainLimits) (x last : ℕ) (h : History NoMark) → Regular limits (asking (WantsStart x 0 x 0)) h → AtMost last (started h) → last < x
+pub start_regular : (limits : PlainLimits) (x last : ℕ) (h : History NoMark) → Regular limits (asking (WantsStart x 0 x 0 ∷ [])) h → is_swept h ≡ false → AtMost last (started h) → last < x
     → Regular limits (owed (due_if (above (plain_setup limits) (buffer.Write 0) h) (buffer.Write 0) (x ∷ []))) (Noted (note.Start x 0 x 0) ∷ h)
-start_regular limits x last h r most less =
-    regular_more limits (asking (WantsStart x 0 x 0)) (after_start limits x h) (note.Start x 0 x 0) h r (start_may limits x h r.books (unstarted x last h most less))
+start_regular limits x last h r fresh most less =
+    regular_more limits (asking (WantsStart x 0 x 0 ∷ [])) (after_start limits x h) (note.Start x 0 x 0) h r (start_may limits x h r.books fresh (unstarted x last h most less))
     (start_books limits x last h r.books most less)

@@ -4,36 +4,35 @@ use Rattle.flow_gate.specs.declared.ids.FlowId.{FlowId}
 use Rattle.flow_notes.specs.declared.notes.Cause.{Cause}
 use Rattle.flow_notes.specs.declared.notes.Note.{Note}
 use Rattle.plain_laws.proofs.Counting.{disabled_is, lows_are, send_flag, told_of, write_flag, write_left}
-use Rattle.plain_laws.proofs.Dooms.{doom_done, doom_early, doom_regular, owes_none, without}
+use Rattle.plain_laws.proofs.Dooms.{doom_done, doom_early, without}
 use Rattle.plain_laws.proofs.Extending.{count_is}
 use Rattle.plain_laws.proofs.Frames.{frame_leaves, frame_regular, lows_after}
 use Rattle.plain_laws.proofs.Gones.{gone_regular}
 use Rattle.plain_laws.proofs.Moves.{move_regular, readable_low, untold}
 use Rattle.plain_laws.proofs.Onto.{pauses_live, pauses_lows}
 use Rattle.plain_laws.proofs.Ontos.{onto_append}
-use Rattle.plain_laws.proofs.Pairing.{pairs_agree}
 use Rattle.plain_laws.proofs.Pausing.{pauses_regular}
 use Rattle.plain_laws.proofs.Quiets.{done_rests, told_none}
 use Rattle.plain_laws.proofs.Resuming.{other_lows, own_lows, resume_send_regular, resume_write_regular}
 use Rattle.plain_laws.proofs.Rises.{low_rises}
 use Rattle.plain_laws.proofs.Streams.{by_case, own_or_other, same_number}
+use Rattle.plain_laws.proofs.Unswept.{pauses_unswept}
 use Rattle.plain_laws.specs.Owing.{due_if, nothing, owed, pause_notes, pauses_for}
-use Rattle.plain_laws.specs.Pairs.{seconds}
 use Rattle.plain_laws.specs.Regular.{Regular, Rests}
 use Rattle.plain_laws.specs.Settled.{Settled}
 use Rattle.plain_laws.specs.StepNotes.{drain_notes, frame_notes, move_notes, rise_notes}
 use Rattle.std.proofs.Common.{ap, arith, refl, subst, sym, ◌∙◌}
 use Rattle.std.proofs.lemmas.List.{append-nil}
 use Rattle.std.specs.Prelude.{Bool, List, [], false, if◌then◌else◌, length, map, min, true, ℕ, ◌&&◌, ◌++◌, ◌+◌, ◌<◌, ◌==◌, ◌∷◌, ◌≡◌}
-use Rattle.tape_laws.specs.Causes.{MayDoom}
 use Rattle.tape_laws.specs.Dispatches.{before_dispatch, has, live}
-use Rattle.tape_laws.specs.Doomed.{condemned}
+use Rattle.tape_laws.specs.Doomed.{condemned, is_swept}
 use Rattle.tape_laws.specs.Ends.{BodyUnit, end_framed}
 use Rattle.tape_laws.specs.Flows.{request}
 use Rattle.tape_laws.specs.History.{History, NoMark, Noted, Step, onto}
 use Rattle.tape_laws.specs.Order.{Flows, Nothing, next_on}
 use Rattle.tape_laws.specs.Pauses.{Owed, count, pending_lows}
-use Rattle.tape_laws.specs.Plain.{paired_with, plain_must_end, plain_setup}
+use Rattle.tape_laws.specs.Plain.{paired_with, plain_setup}
+use Rattle.tape_laws.specs.PlainSession.{plain_must_end}
 use Rattle.tape_laws.specs.Watermark.{above, drains_at}
 use Rattle.tape_laws.specs.World.{gone, place}
 use Rattle.tape_laws.specs.declared.limits.PlainLimits.{PlainLimits}
@@ -65,10 +64,10 @@ many_pauses b xs false true e = cc
 many_pauses b xs false false e = refl
 
 -- the pauses that are due leave nothing to be told of the send buffers
-pub pauses_settled : (limits : PlainLimits) (due : List Owed) (h : History NoMark) → Regular limits (owed due) h
+pub pauses_settled : (limits : PlainLimits) (due : List Owed) (h : History NoMark) → Regular limits (owed due) h → is_swept h ≡ false
     → ((x : ℕ) → pending_lows (plain_setup limits) (buffer.Send (request x)) h ≡ []) → Settled limits (onto (pause_notes due) h)
-pauses_settled limits due h r none = record {
-  regular = pauses_regular limits due h r;
+pauses_settled limits due h r fresh none = record {
+  regular = pauses_regular limits due h r fresh;
   untold = λ x. pauses_lows limits (buffer.Send (request x)) due h ∙ none x;
 }
 
@@ -79,14 +78,14 @@ pub move_pauses : (limits : PlainLimits) (x n : ℕ) (h : History NoMark) → ab
 move_pauses limits x n h low =
     ap (λ (ns : List Note). note.Move (request x) 0 n ∷ ns) (one_pause (buffer.Send (request x)) x _ _ (low_rises _ (above (plain_setup limits) (buffer.Send (request x)) (Noted (note.Move (request x) 0 n) ∷ h)) low))
 
-pub move_step : (limits : PlainLimits) (x n : ℕ) (h : History NoMark) → Settled limits h → has (live h) x ≡ true → count (request x) h ≡ 0
+pub move_step : (limits : PlainLimits) (x n : ℕ) (h : History NoMark) → Settled limits h → is_swept h ≡ false → has (live h) x ≡ true → count (request x) h ≡ 0
     → 0 < n → n ≡ min limits.quantum (length (place (plain_setup limits) (request x) 0 h)) → Settled limits (onto (move_notes limits x n h) h)
-move_step limits x n h s is readable some all =
+move_step limits x n h s fresh is readable some all =
     let step : Step NoMark = Noted (note.Move (request x) 0 n) in
     let low = (readable_low limits x h s.regular is readable).0 in
     let P : List Note → Type 0 = λ ns. Settled limits (onto ns h) in
     subst P (sym (move_pauses limits x n h low))
-    (pauses_settled limits _ (step ∷ h) (move_regular limits x n h s.regular is readable some all)
+    (pauses_settled limits _ (step ∷ h) (move_regular limits x n h s.regular fresh is readable some all) refl
     (λ y. append-nil (pending_lows (plain_setup limits) (buffer.Send (request y)) h) ∙ s.untold y))
 
 pub rise_pauses : (limits : PlainLimits) (x n : ℕ) (last : Bool) (h : History NoMark) → above (plain_setup limits) (buffer.Write 0) h ≡ false
@@ -105,68 +104,54 @@ frame_pending limits x y n last h s is =
     ∙ sym (ap (λ b. if b && drains then request x ∷ [] else []) (same_number x)))
     (λ d. (frame_leaves limits x y n last h d).send_lows ∙ s.untold y ∙ sym (ap (λ b. if b && drains then request x ∷ [] else []) d))
 
-drain_settled : (limits : PlainLimits) (x : ℕ) (drains : Bool) (h : History NoMark) → Regular limits nothing h → has (live h) x ≡ true
+drain_settled : (limits : PlainLimits) (x : ℕ) (drains : Bool) (h : History NoMark) → Regular limits nothing h → is_swept h ≡ false → has (live h) x ≡ true
     → ((y : ℕ) → pending_lows (plain_setup limits) (buffer.Send (request y)) h ≡ (if (x == y) && drains then request x ∷ [] else []))
     → Settled limits (onto (if drains then note.Resume (request x) (buffer.Send (request x)) ∷ [] else []) h)
-drain_settled limits x true h r is pend =
+drain_settled limits x true h r fresh is pend =
     let own : pending_lows (plain_setup limits) (buffer.Send (request x)) h ≡ request x ∷ [] = pend x ∙ ap (λ b. if b && true then request x ∷ [] else []) (same_number x) in
     record {
-      regular = resume_send_regular limits x h r is own;
+      regular = resume_send_regular limits x h r fresh is own;
       untold = λ y. own_or_other (λ z. pending_lows (plain_setup limits) (buffer.Send (request z)) (Noted (note.Resume (request x) (buffer.Send (request x))) ∷ h) ≡ []) x y
           (own_lows limits x h own) (λ d. other_lows limits x y h d ∙ pend y ∙ ap (λ b. if b && true then request x ∷ [] else []) d);
     }
-drain_settled limits x false h r is pend = record { regular = r; untold = λ y. pend y ∙ none (x == y) }
+drain_settled limits x false h r fresh is pend = record { regular = r; untold = λ y. pend y ∙ none (x == y) }
   where
     none : (b : Bool) → (if b && false then request x ∷ [] else []) ≡ []
     none true = refl
     none false = refl
 
-pub frame_step : (limits : PlainLimits) (x n : ℕ) (last : Bool) (h : History NoMark) → Settled limits h → has (live h) x ≡ true
+pub frame_step : (limits : PlainLimits) (x n : ℕ) (last : Bool) (h : History NoMark) → Settled limits h → is_swept h ≡ false → has (live h) x ≡ true
     → above (plain_setup limits) (buffer.Write 0) h ≡ false → next_on (plain_setup limits) 0 h ≡ Flows (request x) (BodyUnit n last)
     → Settled limits (onto (frame_notes limits x n last h) h)
-frame_step limits x n last h s is low next =
+frame_step limits x n last h s fresh is low next =
     let step : Step NoMark = Noted (note.Frame 0 (request x) n last) in
     let due = due_if (above (plain_setup limits) (buffer.Write 0) (step ∷ h)) (buffer.Write 0) (live h) in
     let h' = onto (pause_notes due) (step ∷ h) in
-    let r = pauses_regular limits due (step ∷ h) (frame_regular limits x n last h s.regular is low next) in
+    let r = pauses_regular limits due (step ∷ h) (frame_regular limits x n last h s.regular fresh is low next) refl in
     let P : History NoMark → Type 0 = Settled limits in
     let lives : has (live h') x ≡ true = ap (λ (xs : List ℕ). has xs x) (pauses_live due (step ∷ h)) ∙ is in
     subst P (sym (onto_append (rise_notes limits x n last h) (drain_notes limits x n last h) (step ∷ h)
     ∙ ap (λ (ns : List Note). onto (drain_notes limits x n last h) (onto ns (step ∷ h))) (rise_pauses limits x n last h low)))
-    (drain_settled limits x (drains_at (plain_setup limits) (buffer.Send (request x)) step h) h' r lives (λ y. pauses_lows limits (buffer.Send (request y)) due (step ∷ h) ∙ frame_pending limits x y n last h s is))
+    (drain_settled limits x (drains_at (plain_setup limits) (buffer.Send (request x)) step h) h' r (pauses_unswept due (step ∷ h) refl) lives (λ y. pauses_lows limits (buffer.Send (request y)) due (step ∷ h) ∙ frame_pending limits x y n last h s is))
 
 -- the next stream that waits for the write buffer's low is told
-pub tell_step : (limits : PlainLimits) (x : ℕ) (rest : List FlowId) (h : History NoMark) → Settled limits h → pending_lows (plain_setup limits) (buffer.Write 0) h ≡ request x ∷ rest
+pub tell_step : (limits : PlainLimits) (x : ℕ) (rest : List FlowId) (h : History NoMark) → Settled limits h → is_swept h ≡ false
+    → pending_lows (plain_setup limits) (buffer.Write 0) h ≡ request x ∷ rest
     → Settled limits (Noted (note.Resume (request x) (buffer.Write 0)) ∷ h)
-tell_step limits x rest h s e = record { regular = resume_write_regular limits x rest h s.regular e; untold = s.untold }
+tell_step limits x rest h s fresh e = record { regular = resume_write_regular limits x rest h s.regular fresh e; untold = s.untold }
 
 doom_untold : (limits : PlainLimits) (x y : ℕ) (why : Cause) (h : History NoMark) → Settled limits h
     → pending_lows (plain_setup limits) (buffer.Send (request y)) (Noted (note.Doom x why) ∷ h) ≡ []
 doom_untold limits x y why h s = ap (without x) (s.untold y)
 
-pub doom_step : (limits : PlainLimits) (x : ℕ) (why : Cause) (h : History NoMark) → Settled limits h → has (live h) x ≡ true → MayDoom (plain_setup limits) x why h
-    → Settled limits (Noted (note.Doom x why) ∷ h)
-doom_step limits x why h s is may = record {
-  regular = doom_regular limits nothing x why h s.regular (owes_none x why h) is may;
-  untold = λ y. doom_untold limits x y why h s;
-}
-
-pub done_step : (limits : PlainLimits) (x : ℕ) (h : History NoMark) → Settled limits h → has (live h) x ≡ true → end_framed (plain_setup limits) (request x) h ≡ true
+pub done_step : (limits : PlainLimits) (x : ℕ) (h : History NoMark) → Settled limits h → is_swept h ≡ false → has (live h) x ≡ true → end_framed (plain_setup limits) (request x) h ≡ true
     → Settled limits (Noted (note.Doom x cause.Done) ∷ h)
-done_step limits x h s is e = record { regular = doom_done limits x h s.regular is e; untold = λ y. doom_untold limits x y cause.Done h s }
+done_step limits x h s fresh is e = record { regular = doom_done limits x h s.regular fresh is e; untold = λ y. doom_untold limits x y cause.Done h s }
 
-pub early_step : (limits : PlainLimits) (s x : ℕ) (h : History NoMark) → Settled limits h → has (live h) x ≡ true → has (seconds s h) x ≡ true
+pub early_pair_step : (limits : PlainLimits) (s x : ℕ) (h : History NoMark) → Settled limits h → is_swept h ≡ false → has (live h) x ≡ true → has (paired_with x h) s ≡ true
     → end_framed (plain_setup limits) (request s) h ≡ true → end_framed (plain_setup limits) (request s) (before_dispatch h) ≡ false
     → Settled limits (Noted (note.Doom x cause.EarlyEnd) ∷ h)
-early_step limits s x h t is pair e before = record {
-  regular = doom_early limits s x h t.regular is (sym (pairs_agree s x h) ∙ pair) e before;
-  untold = λ y. doom_untold limits x y cause.EarlyEnd h t;
-}
-
-pub early_pair_step : (limits : PlainLimits) (s x : ℕ) (h : History NoMark) → Settled limits h → has (live h) x ≡ true → has (paired_with x h) s ≡ true
-    → end_framed (plain_setup limits) (request s) h ≡ true → end_framed (plain_setup limits) (request s) (before_dispatch h) ≡ false
-    → Settled limits (Noted (note.Doom x cause.EarlyEnd) ∷ h)
-early_pair_step limits s x h t is pair e before = record { regular = doom_early limits s x h t.regular is pair e before; untold = λ y. doom_untold limits x y cause.EarlyEnd h t }
+early_pair_step limits s x h t fresh is pair e before = record { regular = doom_early limits s x h t.regular fresh is pair e before; untold = λ y. doom_untold limits x y cause.EarlyEnd h t }
 
 -- between steps the count of a live stream is that of its two flags, and of its low of the write buffer
 pub settled_count : (limits : PlainLimits) (x : ℕ) (h : History NoMark) → Settled limits h → has (live h) x ≡ true
@@ -180,7 +165,7 @@ settled_count limits x h s is =
 pub gone_step : (limits : PlainLimits) (x : ℕ) (rest : List ℕ) (h : History NoMark) → Settled limits h → condemned h ≡ x ∷ rest → Settled limits (Noted (note.Gone x) ∷ h)
 gone_step limits x rest h s e = record {
   regular = gone_regular limits x rest h s.regular e;
-  untold = λ y. append-nil (pending_lows (plain_setup limits) (buffer.Send (request y)) h) ∙ s.untold y;
+  untold = s.untold;
 }
 
 pub settled_done : (limits : PlainLimits) (h : History NoMark) → Settled limits h → pending_lows (plain_setup limits) (buffer.Write 0) h ≡ []

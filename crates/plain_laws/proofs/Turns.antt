@@ -2,7 +2,7 @@
 use Rattle.flow_gate.specs.declared.ids.FlowId.{FlowId}
 use Rattle.flow_notes.specs.declared.events.PlainEvent.{PlainEvent}
 use Rattle.plain_laws.proofs.Counting.{flow_tally, one_if, told_of}
-use Rattle.plain_laws.proofs.Extending.{MayAdd, counted_of, free_meets, regular_more}
+use Rattle.plain_laws.proofs.Extending.{MayAdd, counted_of, free_meets, nothing_owed, regular_more}
 use Rattle.plain_laws.proofs.Flags.{send_same, write_same}
 use Rattle.plain_laws.proofs.Leaving.{Leaves, LeavesWords, flow_other, only_other, only_own, same_len_if, send_low_kept, unborn_kept}
 use Rattle.plain_laws.proofs.Streams.{apart_from, by_case, not_both, number_is, same_number}
@@ -20,8 +20,9 @@ use Rattle.tape_laws.specs.Flows.{request}
 use Rattle.tape_laws.specs.Following.{begun}
 use Rattle.tape_laws.specs.History.{History, NoMark, Noted, Step}
 use Rattle.tape_laws.specs.Pauses.{Owed, pending_lows}
-use Rattle.tape_laws.specs.Plain.{ask_if, paired_with, plain_body, plain_demand, plain_ended, plain_setup}
-use Rattle.tape_laws.specs.Units.{Demand, Free, WantsArrive, WantsDoom, WantsOut, WantsStart}
+use Rattle.tape_laws.specs.Plain.{paired_with, plain_body, plain_ended, plain_setup}
+use Rattle.tape_laws.specs.PlainSession.{ask_if, plain_demand}
+use Rattle.tape_laws.specs.Units.{Demand, WantsArrive, WantsDoom, WantsOut, WantsStart}
 use Rattle.tape_laws.specs.World.{out, place, received, recv}
 use Rattle.tape_laws.specs.declared.limits.PlainLimits.{PlainLimits}
 use Rattle.flow_gate.specs.declared.ids.BufferId.TheVariants as buffer
@@ -35,7 +36,7 @@ pub turn_leaves : (limits : PlainLimits) (x k : ℕ) (e : PlainEvent) (h : Histo
 turn_leaves limits x k e h eb = record {
   recv = refl;
   send = refl;
-  send_lows = append-nil (pending_lows (plain_setup limits) (buffer.Send (request x)) h);
+  send_lows = refl;
   paused = refl;
   resumed = refl;
   body = eb;
@@ -44,11 +45,11 @@ turn_leaves limits x k e h eb = record {
 }
 
 same_out : (limits : PlainLimits) (k : ℕ) (e : PlainEvent) (h : History NoMark) → out (plain_setup limits) 0 (Noted (note.Turn k (event.Plain e)) ∷ h) ≡ out (plain_setup limits) 0 h
-same_out limits k e h = append-nil (out (plain_setup limits) 0 h)
+same_out limits k e h = refl
 
 same_lows : (limits : PlainLimits) (k : ℕ) (e : PlainEvent) (h : History NoMark)
     → pending_lows (plain_setup limits) (buffer.Write 0) (Noted (note.Turn k (event.Plain e)) ∷ h) ≡ pending_lows (plain_setup limits) (buffer.Write 0) h
-same_lows limits k e h = append-nil (pending_lows (plain_setup limits) (buffer.Write 0) h)
+same_lows limits k e h = refl
 
 -- a stream of which the event brings no octets
 turn_flow : (limits : PlainLimits) (o : Owing) (x k : ℕ) (e : PlainEvent) (h : History NoMark) → Rests limits h → has (live h) x ≡ true
@@ -68,10 +69,11 @@ turn_may limits k e h r ek =
       ends = tt;
       in_turn = tt;
       doomed = r.quiet.gone;
+      swept = tt;
       answered = free_meets limits _ (note.Turn k (event.Plain e)) s.asks tt;
       only = tt;
       quiet = r.quiet;
-      caused = tt;
+      licensed = tt;
     }
 
 -- what is left of all streams, where each live one's books are those of the event
@@ -85,7 +87,7 @@ turn_books limits o k e h r d ed said each unborn =
     let lows_same = same_lows limits k e h in
     record {
       due = sym ed;
-      asks = d;
+      asks = ap (λ (ds : List Demand). plain_demand (plain_setup limits) e h ++ ds) (nothing_owed _ s.asks) ∙ append-nil _ ∙ d;
       opened = s.opened;
       known = s.known;
       unclosed = s.unclosed;
@@ -98,7 +100,7 @@ turn_books limits o k e h r d ed said each unborn =
       owed = let P : List Owed → Type 0 = AllByRecursion (λ o. IsLiveFlow (live h) o.flow) in subst P (sym ed) tt;
       write_lows = let P : List FlowId → Type 0 = AllByRecursion (IsLiveFlow (live h)) in subst P (sym lows_same) s.write_lows;
       write_once = let P : List FlowId → Type 0 = λ fs. IsRising (map (λ f. f.exchange) fs) in subst P (sym lows_same) s.write_once;
-      hushed = λ x is. append-nil (pending_lows (plain_setup limits) (buffer.Send (request x)) h) ∙ s.hushed x is;
+      hushed = λ x is. s.hushed x is;
     }
 
 turn_regular : (limits : PlainLimits) (o : Owing) (k : ℕ) (e : PlainEvent) (h : History NoMark) → Rests limits h → k ≡ turns h + 1 → plain_demand (plain_setup limits) e h ≡ o.asks → o.due ≡ []
@@ -115,65 +117,65 @@ turn_unborn : (limits : PlainLimits) (x k : ℕ) (e : PlainEvent) (h : History N
 turn_unborn limits x k e h r is eb w = unborn_kept limits x (Noted (note.Turn k (event.Plain e))) h (turn_leaves limits x k e h eb) w (r.regular.books.unborn x is)
 
 -- an event without a body
-turn_bare : (limits : PlainLimits) (d : Demand) (k : ℕ) (e : PlainEvent) (h : History NoMark) → Rests limits h → k ≡ turns h + 1 → plain_demand (plain_setup limits) e h ≡ d
-    → ((x : ℕ) → has (begun (event.Plain e ∷ events_back h)) x ≡ (starts d x || has (started h) x))
+turn_bare : (limits : PlainLimits) (ds : List Demand) (k : ℕ) (e : PlainEvent) (h : History NoMark) → Rests limits h → k ≡ turns h + 1 → plain_demand (plain_setup limits) e h ≡ ds
+    → ((x : ℕ) → has (begun (event.Plain e ∷ events_back h)) x ≡ (starts ds x || has (started h) x))
     → ((x : ℕ) → plain_body x (Noted (note.Turn k (event.Plain e)) ∷ h) ≡ plain_body x h)
-    → ((x : ℕ) → has (started h) x ≡ false → LeavesWords x (Noted (note.Turn k (event.Plain e))) h) → Regular limits (asking d) (Noted (note.Turn k (event.Plain e)) ∷ h)
-turn_bare limits d k e h r ek ed said eb w =
-    turn_regular limits (asking d) k e h r ek ed refl said (λ x is. turn_flow limits (asking d) x k e h r is (eb x) refl refl) (λ x is. turn_unborn limits x k e h r is (eb x) (w x is))
+    → ((x : ℕ) → has (started h) x ≡ false → LeavesWords x (Noted (note.Turn k (event.Plain e))) h) → Regular limits (asking ds) (Noted (note.Turn k (event.Plain e)) ∷ h)
+turn_bare limits ds k e h r ek ed said eb w =
+    turn_regular limits (asking ds) k e h r ek ed refl said (λ x is. turn_flow limits (asking ds) x k e h r is (eb x) refl refl) (λ x is. turn_unborn limits x k e h r is (eb x) (w x is))
 
 pub turn_begin : (limits : PlainLimits) (k s : ℕ) (h : History NoMark) → Rests limits h → k ≡ turns h + 1
-    → Regular limits (asking (WantsStart s 0 s 0)) (Noted (note.Turn k (event.Plain (plain.Begin s))) ∷ h)
+    → Regular limits (asking (WantsStart s 0 s 0 ∷ [])) (Noted (note.Turn k (event.Plain (plain.Begin s))) ∷ h)
 turn_begin limits k s h r e =
-    turn_bare limits (WantsStart s 0 s 0) k (plain.Begin s) h r e refl (λ x. ap (λ b. (s == x) || b) (r.regular.books.said x)) (λ x. refl) (λ x is. record { ended = refl; pairs = refl; must = refl })
+    turn_bare limits (WantsStart s 0 s 0 ∷ []) k (plain.Begin s) h r e refl (λ x. ap (λ b. (s == x) || b) (r.regular.books.said x)) (λ x. refl) (λ x is. record { ended = refl; pairs = refl; must = refl })
 
 -- the stream that the pair may end was started
 pub turn_pair : (limits : PlainLimits) (k s t : ℕ) (h : History NoMark) → Rests limits h → k ≡ turns h + 1 → has (started h) t ≡ true
     → Regular limits nothing (Noted (note.Turn k (event.Plain (plain.Pair s t))) ∷ h)
 turn_pair limits k s t h r e is =
-    turn_bare limits Free k (plain.Pair s t) h r e refl r.regular.books.said (λ x. refl)
+    turn_bare limits [] k (plain.Pair s t) h r e refl r.regular.books.said (λ x. refl)
     (λ x new. record { ended = refl; pairs = ap (λ b. (if b then s ∷ [] else []) ++ paired_with x h) (apart_from (started h) t x is new); must = refl })
 
 pub turn_finish : (limits : PlainLimits) (k s : ℕ) (h : History NoMark) → Rests limits h → k ≡ turns h + 1 → has (started h) s ≡ true
     → Regular limits nothing (Noted (note.Turn k (event.Plain (plain.Finish s))) ∷ h)
 turn_finish limits k s h r e is =
-    turn_bare limits Free k (plain.Finish s) h r e refl r.regular.books.said (λ x. refl)
+    turn_bare limits [] k (plain.Finish s) h r e refl r.regular.books.said (λ x. refl)
     (λ x new. record { ended = ap (λ b. b || plain_ended x h) (apart_from (started h) s x is new); pairs = refl; must = refl })
 
 -- a live stream is reset
 pub turn_cut : (limits : PlainLimits) (k s : ℕ) (h : History NoMark) → Rests limits h → k ≡ turns h + 1 → has (live h) s ≡ true
-    → Regular limits (asking (WantsDoom s (cause.PeerReset 8))) (Noted (note.Turn k (event.Plain (plain.Cut s))) ∷ h)
+    → Regular limits (asking (WantsDoom s (cause.PeerReset 8) ∷ [])) (Noted (note.Turn k (event.Plain (plain.Cut s))) ∷ h)
 turn_cut limits k s h r e is =
-    turn_bare limits (WantsDoom s (cause.PeerReset 8)) k (plain.Cut s) h r e (ap (λ b. ask_if b (WantsDoom s (cause.PeerReset 8))) is) r.regular.books.said (λ x. refl) (λ x new. record { ended = refl; pairs = refl; must = refl })
+    turn_bare limits (WantsDoom s (cause.PeerReset 8) ∷ []) k (plain.Cut s) h r e (ap (λ b. ask_if b (WantsDoom s (cause.PeerReset 8))) is) r.regular.books.said (λ x. refl) (λ x new. record { ended = refl; pairs = refl; must = refl })
 
 -- a stream that isn't live is
 pub turn_cut_late : (limits : PlainLimits) (k s : ℕ) (h : History NoMark) → Rests limits h → k ≡ turns h + 1 → has (live h) s ≡ false
     → Regular limits nothing (Noted (note.Turn k (event.Plain (plain.Cut s))) ∷ h)
 turn_cut_late limits k s h r e is =
-    turn_bare limits Free k (plain.Cut s) h r e (ap (λ b. ask_if b (WantsDoom s (cause.PeerReset 8))) is) r.regular.books.said (λ x. refl) (λ x new. record { ended = refl; pairs = refl; must = refl })
+    turn_bare limits [] k (plain.Cut s) h r e (ap (λ b. ask_if b (WantsDoom s (cause.PeerReset 8))) is) r.regular.books.said (λ x. refl) (λ x new. record { ended = refl; pairs = refl; must = refl })
 
 -- octets leave
 pub turn_room : (limits : PlainLimits) (k n m : ℕ) (h : History NoMark) → Rests limits h → k ≡ turns h + 1 → m ≡ min n (length (out (plain_setup limits) 0 h)) → 0 < m
-    → Regular limits (asking (WantsOut 0 m)) (Noted (note.Turn k (event.Plain (plain.Room n))) ∷ h)
+    → Regular limits (asking (WantsOut 0 m ∷ [])) (Noted (note.Turn k (event.Plain (plain.Room n))) ∷ h)
 turn_room limits k n m h r e is some =
-    turn_bare limits (WantsOut 0 m) k (plain.Room n) h r e (asks m (min n (length (out (plain_setup limits) 0 h))) is some) r.regular.books.said (λ x. refl) (λ x new. record { ended = refl; pairs = refl; must = refl })
+    turn_bare limits (WantsOut 0 m ∷ []) k (plain.Room n) h r e (asks m (min n (length (out (plain_setup limits) 0 h))) is some) r.regular.books.said (λ x. refl) (λ x new. record { ended = refl; pairs = refl; must = refl })
   where
     positive : (m : ℕ) → 0 < m → nat_lt 0 m ≡ true
     positive m e = grind (arith, nat_tests)
 
-    asks : (m l : ℕ) → m ≡ l → 0 < m → (if nat_lt 0 l then WantsOut 0 l else Free) ≡ WantsOut 0 m
-    asks m l e some = rw (← e) (ap (λ b. if b then WantsOut 0 m else Free) (positive m some))
+    asks : (m l : ℕ) → m ≡ l → 0 < m → (if nat_lt 0 l then WantsOut 0 l ∷ [] else []) ≡ WantsOut 0 m ∷ []
+    asks m l e some = rw (← e) (ap (λ b. if b then WantsOut 0 m ∷ [] else []) (positive m some))
 
 -- there is nothing that might leave
 pub turn_room_none : (limits : PlainLimits) (k n : ℕ) (h : History NoMark) → Rests limits h → k ≡ turns h + 1 → min n (length (out (plain_setup limits) 0 h)) ≡ 0
     → Regular limits nothing (Noted (note.Turn k (event.Plain (plain.Room n))) ∷ h)
 turn_room_none limits k n h r e none =
-    turn_bare limits Free k (plain.Room n) h r e (ap (λ l. if nat_lt 0 l then WantsOut 0 l else Free) none) r.regular.books.said (λ x. refl) (λ x new. record { ended = refl; pairs = refl; must = refl })
+    turn_bare limits [] k (plain.Room n) h r e (ap (λ l. if nat_lt 0 l then WantsOut 0 l ∷ [] else []) none) r.regular.books.said (λ x. refl) (λ x new. record { ended = refl; pairs = refl; must = refl })
 
 -- what is asked for where octets of a live stream come
 body_asks : (limits : PlainLimits) (s : ℕ) (octets : List ℕ) (h : History NoMark) (over : Bool) → has (live h) s ≡ true
     → nat_lt limits.recv (length (place (plain_setup limits) (request s) 0 h) + length octets) ≡ over
-    → plain_demand (plain_setup limits) (plain.Body s octets) h ≡ (if over then WantsDoom s (cause.StreamError 3) else WantsArrive (request s) octets)
+    → plain_demand (plain_setup limits) (plain.Body s octets) h ≡ (if over then WantsDoom s (cause.StreamError 3) else WantsArrive (request s) octets) ∷ []
 body_asks limits s octets h over is e = rw (is, e) refl
 
 body_other : (k s x : ℕ) (octets : List ℕ) (h : History NoMark) → (s == x) ≡ false → plain_body x (Noted (note.Turn k (event.Plain (plain.Body s octets))) ∷ h) ≡ plain_body x h
@@ -186,7 +188,7 @@ body_own limits o k s octets h r is ed ex =
     let f = r.regular.books.each s is in
     let step : Step NoMark = Noted (note.Turn k (event.Plain (plain.Body s octets))) in
     let ends_not = rests_unframed limits s h r.quiet is in
-    let lows_same = append-nil (pending_lows (plain_setup limits) (buffer.Send (request s)) h) in
+    let lows_same = refl in
     record {
       tally = flow_tally limits [] o.due s step h
           (same _ _ _ _ _ _ _ _ _ _ _ _ (ap (owed_times s) ed) (ap one_if (send_same limits (request s) step h refl)) (ap one_if (write_same limits step h (same_out limits k (plain.Body s octets) h)))
@@ -249,6 +251,6 @@ turn_body_late limits k s octets h r e was is =
     body_regular limits nothing k s octets h r e (late (has (live h) s) is) refl (λ x. refl) was (λ l. not_both (has (live h) s) l is) (λ x f. refl)
   where
     late : (b : Bool) → b ≡ false → ask_if b (if nat_lt limits.recv (length (recv (plain_setup limits) (request s) h) + length octets) then WantsDoom s (cause.StreamError 3)
-        else WantsArrive (request s) octets) ≡ Free
+        else WantsArrive (request s) octets) ≡ []
     late true e = cc
     late false e = refl

@@ -8,7 +8,8 @@ use Rattle.tape_laws.specs.Dispatches.{has, live}
 use Rattle.tape_laws.specs.Ends.{end_framed}
 use Rattle.tape_laws.specs.Flows.{request, same_flow}
 use Rattle.tape_laws.specs.History.{History, NoMark, Noted}
-use Rattle.tape_laws.specs.Plain.{paired_with, plain_must_end, plain_session, plain_setup}
+use Rattle.tape_laws.specs.Plain.{paired_with, plain_setup}
+use Rattle.tape_laws.specs.PlainSession.{plain_must_end, plain_session}
 use Rattle.tape_laws.specs.Quiet.{IsQuiet}
 use Rattle.tape_laws.specs.declared.limits.PlainLimits.{PlainLimits}
 use Rattle.flow_notes.specs.declared.notes.Note.TheVariants as note

@@ -51,6 +51,3 @@ one_watching x (y ∷ ys) r e =
 pub send_watchers : (limits : PlainLimits) (x : ℕ) (h : History NoMark) → IsRising (live h) → has (live h) x ≡ true
     → watchers (plain_setup limits) (buffer.Send (request x)) h ≡ request x ∷ []
 send_watchers limits x h r is = one_watching x (live h) r is
-
-pub send_unwatched : (limits : PlainLimits) (x : ℕ) (h : History NoMark) → has (live h) x ≡ false → watchers (plain_setup limits) (buffer.Send (request x)) h ≡ []
-send_unwatched limits x h is = none_watching x (live h) is

@@ -6,7 +6,8 @@ use Rattle.tape_laws.specs.Flows.{request}
 use Rattle.tape_laws.specs.History.{History, NoMark}
 use Rattle.tape_laws.specs.Order.{Nothing, next_on}
 use Rattle.tape_laws.specs.Pauses.{count, pending_lows}
-use Rattle.tape_laws.specs.Plain.{plain_must_end, plain_setup}
+use Rattle.tape_laws.specs.Plain.{plain_setup}
+use Rattle.tape_laws.specs.PlainSession.{plain_must_end}
 use Rattle.tape_laws.specs.Watermark.{above}
 use Rattle.tape_laws.specs.World.{place}
 use Rattle.tape_laws.specs.declared.limits.PlainLimits.{PlainLimits}

@@ -5,14 +5,15 @@ use Rattle.std.specs.Bool.{OnTrue}
 use Rattle.std.specs.List.{AllByRecursion}
 use Rattle.std.specs.Prelude.{List, [], false, length, map, max, nat_lt, true, ℕ, ◌++◌, ◌+◌, ◌<◌, ◌||◌, ◌∷◌, ◌≡◌, ◌≤◌, ◌⊎◌}
 use Rattle.tape_laws.specs.Connections.{connections, open_connections, was_closed}
-use Rattle.tape_laws.specs.Demands.{demand}
+use Rattle.tape_laws.specs.Demands.{obligations}
 use Rattle.tape_laws.specs.Dispatches.{before_dispatch, events_back, has, live, started}
 use Rattle.tape_laws.specs.Ends.{end_framed}
 use Rattle.tape_laws.specs.Flows.{request}
 use Rattle.tape_laws.specs.Following.{begun}
 use Rattle.tape_laws.specs.History.{History, NoMark}
 use Rattle.tape_laws.specs.Pauses.{due_pauses, lows, pauses, pending_lows, resumes}
-use Rattle.tape_laws.specs.Plain.{paired_with, plain_body, plain_ended, plain_must_end, plain_session, plain_setup}
+use Rattle.tape_laws.specs.Plain.{paired_with, plain_body, plain_ended, plain_setup}
+use Rattle.tape_laws.specs.PlainSession.{plain_must_end, plain_session}
 use Rattle.tape_laws.specs.PlainTape.{IsPlainLawful}
 use Rattle.tape_laws.specs.Quiet.{IsQuiet}
 use Rattle.tape_laws.specs.Sources.{disabled}
@@ -72,7 +73,7 @@ pub record IsUnborn (limits : PlainLimits) (x : ℕ) (h : History NoMark) : Type
 -- the books of all streams and of their connection
 pub record Books (limits : PlainLimits) (owing : Owing) (h : History NoMark) : Type 0 where
   pub due : due_pauses (plain_setup limits) h ≡ owing.due
-  pub asks : demand (plain_session limits) h ≡ owing.asks
+  pub asks : obligations (plain_session limits) h ≡ owing.asks
   pub opened : open_connections (plain_setup limits) h ≡ 0 ∷ []
   pub known : connections (plain_setup limits) h ≡ 0 ∷ []
   pub unclosed : was_closed 0 h ≡ false

@@ -4,4 +4,4 @@
 
 mod laws;
 
-pub use laws::whole_tapes_keep_the_headline;
+pub use laws::{above_by_the_past, whole_tapes_keep_the_headline};

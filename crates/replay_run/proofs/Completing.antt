@@ -97,16 +97,16 @@ event_spelled es (event.Tick now) m = absurd m
 event_spelled es (event.Post poster number job) m = absurd m
 event_spelled es (event.Obey version pressures) m = absurd m
 
-header_whole : (f : Format) → IsWhole (header_line f)
+pub header_whole : (f : Format) → IsWhole (header_line f)
 header_whole format.One = refl
 header_whole format.Two = refl
 
-limits_whole : (f : Format) (l : PlainLimits) → IsTrue (are_limits f l) → IsWhole (limits_line f l)
+pub limits_whole : (f : Format) (l : PlainLimits) → IsTrue (are_limits f l) → IsWhole (limits_line f l)
 limits_whole f l may = line_whole (codes "limits" ∷ map decimal (limit_numbers f l)) (refl, numbers_whole (limit_numbers f l) (numbers_fit f l (in_ranges f l may)))
 
 -- ---- a text falls into lines in one way
 
-same_line : (a b x y : List ℕ) → IsWhole a → IsWhole b → a ++ 10 ∷ x ≡ b ++ 10 ∷ y → (a ≡ b) × (x ≡ y)
+pub same_line : (a b x y : List ℕ) → IsWhole a → IsWhole b → a ++ 10 ∷ x ≡ b ++ 10 ∷ y → (a ≡ b) × (x ≡ y)
 same_line [] [] x y p q e = (refl, (let k : x ≡ y = cc in k))
 same_line [] (c ∷ b) x y p q e =
     let is : c ≡ 10 = cc in
@@ -130,7 +130,7 @@ no_names = record { few = omega arith; each = λ k d lt. absurd (omega (arith, l
 one_more : (l s t : List ℕ) → (l ++ (s ++ newline)) ++ t ≡ l ++ (s ++ 10 ∷ t)
 one_more l s t = append_assoc l (s ++ newline) t ∙ ap (λ (v : List ℕ). l ++ v) (append_assoc s newline t)
 
-same_events : (ds es : List Event) (x y : List ℕ) → length ds ≡ length es → MayFollowAll ds → MayFollowAll es → event_lines ds ++ x ≡ event_lines es ++ y → (ds ≡ es) × (x ≡ y)
+pub same_events : (ds es : List Event) (x y : List ℕ) → length ds ≡ length es → MayFollowAll ds → MayFollowAll es → event_lines ds ++ x ≡ event_lines es ++ y → (ds ≡ es) × (x ≡ y)
 same_events [] [] x y n a b e = (refl, e)
 same_events [] (f ∷ es) x y n a b e = absurd (omega (arith, n))
 same_events (d ∷ ds) [] x y n a b e = absurd (omega (arith, n))
@@ -144,11 +144,11 @@ same_events (d ∷ ds) (f ∷ es) x y n a b e =
     (ap (λ (v : List Event). d ∷ v) k.0 ∙ ap (λ (v : Event). v ∷ es) i, l.1)
 
 -- the event of the next line
-record NextEvent (ds : List Event) (x : List ℕ) : Type 0 where
-  next : Event
-  more : List ℕ
-  may : MayFollowEvent ds next
-  is : x ≡ event_spelling [] next ++ 10 ∷ more
+pub record NextEvent (ds : List Event) (x : List ℕ) : Type 0 where
+  pub next : Event
+  pub more : List ℕ
+  pub may : MayFollowEvent ds next
+  pub is : x ≡ event_spelling [] next ++ 10 ∷ more
 
 pub less_or_same : (m n : ℕ) → m < suc n → (m < n) ⊎ (m ≡ n)
 less_or_same zero zero lt = inr refl
@@ -168,13 +168,13 @@ next_of ds es f x y a b earlier e (inr same) =
     let P : List Event → Type 0 = λ v. MayFollowEvent v f in
     record { next = f; more = y; may = subst P (sym k.0) b.0; is = k.1 }
 
-next_event : (ds es : List Event) (x y : List ℕ) → length ds < length es → MayFollowAll ds → MayFollowAll es → event_lines ds ++ x ≡ event_lines es ++ y → NextEvent ds x
+pub next_event : (ds es : List Event) (x y : List ℕ) → length ds < length es → MayFollowAll ds → MayFollowAll es → event_lines ds ++ x ≡ event_lines es ++ y → NextEvent ds x
 next_event ds [] x y n a b e = absurd (omega (arith, n))
 next_event ds (f ∷ es) x y n a b e =
     let split = e ∙ one_more (event_lines es) (event_spelling [] f) y in
     next_of ds es f x y a b (λ less. next_event ds es x (event_spelling [] f ++ 10 ∷ y) less a b.1 split) split (less_or_same (length ds) (length es) (omega (arith, n)))
 
-nothing_more : (xs ys : List ℕ) → [] ≡ xs ++ 10 ∷ ys → ⊥
+pub nothing_more : (xs ys : List ℕ) → [] ≡ xs ++ 10 ∷ ys → ⊥
 nothing_more [] ys e = cc
 nothing_more (x ∷ xs) ys e = cc
 
@@ -190,19 +190,19 @@ record NextLine (seen : Seen) (rest : List ℕ) : Type 0 where
 abbrev GoesOnAt : Seen → List ℕ → Type 0
 GoesOnAt seen rest = ((rest ≡ []) × IsTrue (is_playing seen)) ⊎ NextLine seen rest
 
-same_header : (g f : Format) → header_line g ≡ header_line f → g ≡ f
+pub same_header : (g f : Format) → header_line g ≡ header_line f → g ≡ f
 same_header format.One format.One e = refl
 same_header format.One format.Two e = let k : 49 ≡ 50 = ap (λ (v : List ℕ). get_or v 17 0) e in absurd (omega (arith, k))
 same_header format.Two format.One e = let k : 50 ≡ 49 = ap (λ (v : List ℕ). get_or v 17 0) e in absurd (omega (arith, k))
 same_header format.Two format.Two e = refl
 
-opened : (h l v : List ℕ) → (h ++ newline) ++ (l ++ newline) ++ v ≡ h ++ 10 ∷ (l ++ 10 ∷ v)
+pub opened : (h l v : List ℕ) → (h ++ newline) ++ (l ++ newline) ++ v ≡ h ++ 10 ∷ (l ++ 10 ∷ v)
 opened h l v = grind (arith, common_steps)
 
 grouped : (h l v t : List ℕ) → ((h ++ newline) ++ (l ++ newline) ++ v) ++ t ≡ h ++ 10 ∷ (l ++ 10 ∷ (v ++ t))
 grouped h l v t = grind (arith, common_steps)
 
-compare : (m n : ℕ) → (m < n) ⊎ ((m ≡ n) ⊎ (n < m))
+pub compare : (m n : ℕ) → (m < n) ⊎ ((m ≡ n) ⊎ (n < m))
 compare zero zero = inr (inl refl)
 compare zero (suc n) = inl (omega arith)
 compare (suc m) zero = inr (inr (omega arith))

@@ -26,10 +26,6 @@ follows_both : (xs ys es : List Event) → MayGoOn es xs → MayGoOn (back xs es
 follows_both [] ys es p q = q
 follows_both (x ∷ xs) ys es p q = (p.0, follows_both xs ys (x ∷ es) p.1 q)
 
-back_both : (xs ys es : List Event) → back (xs ++ ys) es ≡ back ys (back xs es)
-back_both [] ys es = refl
-back_both (x ∷ xs) ys es = back_both xs ys (x ∷ es)
-
 -- ---- the streams of a drill
 
 -- the first i streams, the last of them first

@@ -22,9 +22,9 @@ use Rattle.tape_laws.specs.declared.limits.PlainLimits.{PlainLimits}
 use Rattle.plain_core.specs.Flows.{AreLimits}
 use Rattle.plain_core.specs.Runs.{Turns}
 use Rattle.plain_core.specs.Stands.{CanTake, Rests}
-use Rattle.plain_core.specs.declared.worker.Core.{Core}
+use Rattle.plain_core.specs.declared.plain.PlainCore.{PlainCore}
 
-pub drilled_none : (n : ℕ) (core : Core) (d : Drill) (t : Tally) → n ≤ 1000 → Rests drill_limits core [] → DrillIs d (drill n) → ((limits : PlainLimits) → TallyIs limits t []) → Drilled n core d t
+pub drilled_none : (n : ℕ) (core : PlainCore) (d : Drill) (t : Tally) → n ≤ 1000 → Rests drill_limits core [] → DrillIs d (drill n) → ((limits : PlainLimits) → TallyIs limits t []) → Drilled n core d t
 drilled_none n core d t few r k tally = record {
   history = [];
   later = drill n;
@@ -37,7 +37,7 @@ drilled_none n core d t few r k tally = record {
 }
 
 -- the event that comes next may be taken
-pub may_take : (n : ℕ) (core : Core) (old new : Drill) (t : Tally) (e : Event) → Drilled n core old t → Yields old (Some e) new → CanTake core e []
+pub may_take : (n : ℕ) (core : PlainCore) (old new : Drill) (t : Tally) (e : Event) → Drilled n core old t → Yields old (Some e) new → CanTake core e []
 may_take n core old new t e k y =
     let g = y.goes k.later k.left in
     let P : List Event → Type 0 = λ v. MayGoOn (events_back k.history) v in
@@ -45,14 +45,14 @@ may_take n core old new t e k y =
     record { limits = drill_limits; history = k.history; rests = k.rests; follows = (may.0, k.before) }
 
 -- it was dispatched, and its notes were counted
-pub event_counted : (core after : Core) (t counted : Tally) (e : Event) (before notes : List Note) (r : Result (Unit {0}) NoMemory) → before ≡ [] → Turns core before e after notes → OnOk r (TallyGoes t notes counted)
+pub event_counted : (core after : PlainCore) (t counted : Tally) (e : Event) (before notes : List Note) (r : Result (Unit {0}) NoMemory) → before ≡ [] → Turns core before e after notes → OnOk r (TallyGoes t notes counted)
     → OnOk r (CountsEvent core t e after counted)
 event_counted core after t counted e before notes (Ok done) none turns tallied =
     let P : List Note → Type 0 = λ v. Turns core v e after notes in
     record { notes = notes; turns = subst P none turns; tally = tallied }
 event_counted core after t counted e before notes (Err x) none turns tallied = tt
 
-pub drilled_more : (n : ℕ) (core after : Core) (old new : Drill) (t counted : Tally) (e : Event) → Drilled n core old t → Yields old (Some e) new → CountsEvent core t e after counted → Drilled n after new counted
+pub drilled_more : (n : ℕ) (core after : PlainCore) (old new : Drill) (t counted : Tally) (e : Event) → Drilled n core old t → Yields old (Some e) new → CountsEvent core t e after counted → Drilled n after new counted
 drilled_more n core after old new t counted e k y c =
     let g = y.goes k.later k.left in
     let notes = c.notes in
@@ -81,7 +81,7 @@ drilled_more n core after old new t counted e k y c =
 reversed : (xs ys : List Event) → reverse xs ≡ ys → xs ≡ reverse ys
 reversed xs ys e = sym (reverse-reverse xs) ∙ ap reverse e
 
-pub drill_tallied : (n : ℕ) (core : Core) (old new : Drill) (t : Tally) → Drilled n core old t → Yields old None new → TalliesDrill n t
+pub drill_tallied : (n : ℕ) (core : PlainCore) (old new : Drill) (t : Tally) → Drilled n core old t → Yields old None new → TalliesDrill n t
 drill_tallied n core old new t k y =
     let g = y.goes k.later k.left in
     record {
@@ -116,6 +116,3 @@ given_none old new (Some e) y none = absurd (none e refl)
 
 pub drill_fits : AreLimits drill_limits
 drill_fits = record { recv = omega arith; send = omega arith; write = omega arith; quantum = (omega arith, omega arith) }
-
-pub first_fits : AreLimits (record { recv = 1; send = 0; write = 0; quantum = 16384 })
-first_fits = record { recv = omega arith; send = omega arith; write = omega arith; quantum = (omega arith, omega arith) }

@@ -4,7 +4,8 @@ use Rattle.std.specs.Bool.{OnTrue}
 use Rattle.std.specs.Prelude.{Bool, [], false, max, nat_lt, true, ◌+◌, ◌≤◌}
 use Rattle.tape_laws.specs.Bounds.{IsBounded}
 use Rattle.tape_laws.specs.History.{NoMark}
-use Rattle.tape_laws.specs.Plain.{plain_session, plain_setup}
+use Rattle.tape_laws.specs.Plain.{plain_setup}
+use Rattle.tape_laws.specs.PlainSession.{plain_session}
 use Rattle.tape_laws.specs.PlainTape.{IsPlainWhole}
 use Rattle.tape_laws.specs.Quiet.{IsQuiet}
 use Rattle.tape_laws.specs.declared.limits.PlainLimits.{PlainLimits}
@@ -35,25 +36,26 @@ nothing_quiet limits = record {
   asked = refl;
   ended = tt;
   gone = refl;
+  leaves = tt;
 }
 
 pub empty_whole : (limits : PlainLimits) → IsPlainWhole limits []
 empty_whole limits = record {
   lawful = record {
-    lawful = record {
-      allowed = tt;
-      paused = tt;
-      counted = tt;
-      bounded = nothing_bounded limits;
-      tied = tt;
-      ends = tt;
-      in_turn = tt;
-      doomed = tt;
-      answered = tt;
-      only = tt;
-      quiet = tt;
-    };
-    caused = tt;
+    allowed = tt;
+    paused = tt;
+    counted = tt;
+    bounded = nothing_bounded limits;
+    tied = tt;
+    ends = tt;
+    in_turn = tt;
+    doomed = tt;
+    swept = tt;
+    answered = tt;
+    only = tt;
+    licensed = tt;
+    may = tt;
+    quiet = tt;
   };
   quiet = nothing_quiet limits;
 }

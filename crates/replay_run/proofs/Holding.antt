@@ -2,11 +2,11 @@
 use Rattle.std.specs.Io.KnownBytes.{Keeps}
 use Rattle.memchr.specs.Find.{IsFirstByte, is_byte}
 use Rattle.replay_run.specs.Newlines.{BeginsWithLine, has_newline}
-use Rattle.std.proofs.Common.{ap, arith, length-drop, refl, subst, sym, ◌∙◌}
+use Rattle.std.proofs.Common.{ap, arith, refl, subst, sym, ◌∙◌}
 use Rattle.std.proofs.Math.Seq.{take-add, take-length}
 use Rattle.std.proofs.lemmas.Bool.Decides.{nat_tests}
 use Rattle.std.proofs.lemmas.Grind.{common_steps}
-use Rattle.std.proofs.lemmas.List.{append-nil, drop-take, take-append-le}
+use Rattle.std.proofs.lemmas.List.{append-nil, drop-take}
 use Rattle.std.specs.Io.KnownBytes.{Consumes}
 use Rattle.std.specs.Prelude.{Bool, IfNone, IfSome, List, None, Option, Some, [], drop, false, length, slice_index, suc, take, true, zero, ℕ, ◌++◌, ◌+◌, ◌-◌, ◌<◌, ◌==◌, ◌∷◌, ◌≡◌, ◌≤◌}
 
@@ -18,10 +18,6 @@ skipped n s e xs le =
   where
     drop-drop : (n s : ℕ) (xs : List ℕ) → drop n (drop s xs) ≡ drop (s + n) xs
     drop-drop n s xs = grind (arith, common_steps)
-
--- rotating to the front keeps what is held
-pub rotated : (s e : ℕ) (xs : List ℕ) → s ≤ e → e ≤ length xs → take (e - s) (drop s xs ++ take s xs) ≡ take (e - s) (drop s xs)
-rotated s e xs le within = take-append-le (e - s) (drop s xs) (take s xs) (omega (arith, length-drop s xs))
 
 -- what was read stands behind what was held
 held_more : (h n : ℕ) (old new : List ℕ) → take h new ≡ take h old → take (h + n) new ≡ take h old ++ take n (drop h new)

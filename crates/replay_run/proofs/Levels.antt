@@ -1,4 +1,5 @@
 -- The levels of a plain session's buffers, note by note.
+use Rattle.h2_frames.specs.Head.{data_head}
 use Rattle.flow_gate.specs.declared.ids.BufferId.{BufferId}
 use Rattle.flow_gate.specs.declared.ids.FlowId.{FlowId}
 use Rattle.flow_notes.specs.declared.notes.Note.{Note}
@@ -19,7 +20,7 @@ use Rattle.tape_laws.specs.Plain.{plain_setup}
 use Rattle.tape_laws.specs.PlainTape.{IsPlainLawful}
 use Rattle.tape_laws.specs.Sources.{is_live}
 use Rattle.tape_laws.specs.Summary.{peak}
-use Rattle.tape_laws.specs.World.{data_head, len, out, send}
+use Rattle.tape_laws.specs.World.{len, out, send}
 use Rattle.tape_laws.specs.declared.limits.PlainLimits.{PlainLimits}
 use Rattle.flow_gate.specs.declared.ids.BufferId.TheVariants as buffer
 use Rattle.flow_notes.specs.declared.events.Event.TheVariants as event
@@ -63,20 +64,20 @@ level_emptied limits b step h e = level_is _ _ _ _ (sym e) (omega (arith, e))
 -- what stood before is lawful
 lawful_before : (limits : PlainLimits) (step : Step NoMark) (h : History NoMark) → IsPlainLawful limits (step ∷ h) → IsPlainLawful limits h
 lawful_before limits step h l = record {
-  lawful = record {
-    allowed = l.lawful.allowed.1;
-    paused = l.lawful.paused.1;
-    counted = l.lawful.counted.1;
-    bounded = l.lawful.bounded.1;
-    tied = l.lawful.tied.1;
-    ends = l.lawful.ends.1;
-    in_turn = l.lawful.in_turn.1;
-    doomed = l.lawful.doomed.1;
-    answered = l.lawful.answered.1;
-    only = l.lawful.only.1;
-    quiet = l.lawful.quiet.1;
-  };
-  caused = l.caused.1;
+  allowed = l.allowed.1;
+  paused = l.paused.1;
+  counted = l.counted.1;
+  bounded = l.bounded.1;
+  tied = l.tied.1;
+  ends = l.ends.1;
+  in_turn = l.in_turn.1;
+  doomed = l.doomed.1;
+  swept = l.swept.1;
+  answered = l.answered.1;
+  only = l.only.1;
+  licensed = l.licensed.1;
+  may = l.may.1;
+  quiet = l.quiet.1;
 }
 
 pub lawful_back : (limits : PlainLimits) (ns : List Note) (h : History NoMark) → IsPlainLawful limits (onto ns h) → IsPlainLawful limits h
@@ -124,9 +125,6 @@ longer_if : (xs ys : List ℕ) (b : Bool) (n : ℕ) → length ys ≡ n → leng
 longer_if xs ys true n e = length-append xs ys ∙ ap (λ m. length xs + m) e
 longer_if xs ys false n e = length-append xs []
 
-as_long : (xs : List ℕ) → length (xs ++ []) ≡ length xs
-as_long xs = ap length (append-nil xs)
-
 frame_length : (stream n : ℕ) (last : Bool) (held : List ℕ) → n ≤ length held → length (data_head stream n last ++ take n held) ≡ 9 + n
 frame_length stream n last held le =
     let t : length (take n held) ≡ n = length-take-le n held le in
@@ -135,7 +133,7 @@ frame_length stream n last held le =
 pub frame_written : (write : Level) (limits : PlainLimits) (c : ℕ) (f : FlowId) (n : ℕ) (last : Bool) (h : History NoMark) → IsPlainLawful limits (Noted (note.Frame c f n last) ∷ h)
     → write ≡ level_of limits (buffer.Write 0) h → risen write (on_first c (9 + n)) ≡ level_of limits (buffer.Write 0) (Noted (note.Frame c f n last) ∷ h)
 frame_written write limits c f n last h l e =
-    let there : n ≤ length (send (plain_setup limits) f h) = (let all = l.lawful.allowed.0.all in omega (arith, all)) in
+    let there : n ≤ length (send (plain_setup limits) f h) = (let all = l.allowed.0.all in omega (arith, all)) in
     ap (λ (v : Level). risen v (on_first c (9 + n))) e
     ∙ level_risen limits (buffer.Write 0) (Noted (note.Frame c f n last)) h (on_first c (9 + n))
     (longer_if (out (plain_setup limits) 0 h) (data_head f.exchange n last ++ take n (send (plain_setup limits) f h)) (c == 0) (9 + n) (frame_length f.exchange n last (send (plain_setup limits) f h) there))
@@ -158,30 +156,30 @@ and_false false c xs e = refl
 
 pub unwritten_goes : (write : Level) (n : Note) → ((c : ℕ) (f : FlowId) (k : ℕ) (last : Bool) → n ≡ note.Frame c f k last → ⊥) → ((c k : ℕ) → n ≡ note.Out c k → ⊥) → WriteGoes write n write
 unwritten_goes write (note.Frame c f k last) nf nt = absurd (nf c f k last refl)
-unwritten_goes write (note.Head c s o) nf nt = record { goes = λ limits h l e. absurd l.caused.0 }
-unwritten_goes write (note.Answer c o) nf nt = record { goes = λ limits h l e. absurd l.caused.0 }
-unwritten_goes write (note.Credit c s k) nf nt = record { goes = λ limits h l e. absurd l.caused.0 }
+unwritten_goes write (note.Head c s o) nf nt = record { goes = λ limits h l e. absurd l.licensed.0 }
+unwritten_goes write (note.Answer c o) nf nt = record { goes = λ limits h l e. absurd l.licensed.0 }
+unwritten_goes write (note.Credit c s k) nf nt = record { goes = λ limits h l e. absurd l.licensed.0 }
 unwritten_goes write (note.Out c k) nf nt = absurd (nt c k refl)
 unwritten_goes write (note.Turn k (event.Gone d)) nf nt =
-    record { goes = λ limits h l e. same_write write limits (Noted (note.Turn k (event.Gone d))) h (and_false (d == 0) (was_closed 0 h) (out (plain_setup limits) 0 h) (unclosed limits h l.caused.1)) e }
-unwritten_goes write (note.Turn k (event.Accept c)) nf nt = record { goes = λ limits h l e. same_write write limits (Noted (note.Turn k (event.Accept c))) h (as_long (out (plain_setup limits) 0 h)) e }
-unwritten_goes write (note.Turn k (event.Join c cluster)) nf nt = record { goes = λ limits h l e. same_write write limits (Noted (note.Turn k (event.Join c cluster))) h (as_long (out (plain_setup limits) 0 h)) e }
-unwritten_goes write (note.Turn k (event.Read c octets)) nf nt = record { goes = λ limits h l e. same_write write limits (Noted (note.Turn k (event.Read c octets))) h (as_long (out (plain_setup limits) 0 h)) e }
-unwritten_goes write (note.Turn k (event.Room c n)) nf nt = record { goes = λ limits h l e. same_write write limits (Noted (note.Turn k (event.Room c n))) h (as_long (out (plain_setup limits) 0 h)) e }
-unwritten_goes write (note.Turn k (event.Tick now)) nf nt = record { goes = λ limits h l e. same_write write limits (Noted (note.Turn k (event.Tick now))) h (as_long (out (plain_setup limits) 0 h)) e }
-unwritten_goes write (note.Turn k (event.Post poster number job)) nf nt = record { goes = λ limits h l e. same_write write limits (Noted (note.Turn k (event.Post poster number job))) h (as_long (out (plain_setup limits) 0 h)) e }
-unwritten_goes write (note.Turn k (event.Obey version pressures)) nf nt = record { goes = λ limits h l e. same_write write limits (Noted (note.Turn k (event.Obey version pressures))) h (as_long (out (plain_setup limits) 0 h)) e }
-unwritten_goes write (note.Turn k (event.Plain p)) nf nt = record { goes = λ limits h l e. same_write write limits (Noted (note.Turn k (event.Plain p))) h (as_long (out (plain_setup limits) 0 h)) e }
-unwritten_goes write (note.Arrive f o) nf nt = record { goes = λ limits h l e. same_write write limits (Noted (note.Arrive f o)) h (as_long (out (plain_setup limits) 0 h)) e }
-unwritten_goes write (note.Move f p n) nf nt = record { goes = λ limits h l e. same_write write limits (Noted (note.Move f p n)) h (as_long (out (plain_setup limits) 0 h)) e }
-unwritten_goes write (note.Pause f b) nf nt = record { goes = λ limits h l e. same_write write limits (Noted (note.Pause f b)) h (as_long (out (plain_setup limits) 0 h)) e }
-unwritten_goes write (note.Resume f b) nf nt = record { goes = λ limits h l e. same_write write limits (Noted (note.Resume f b)) h (as_long (out (plain_setup limits) 0 h)) e }
-unwritten_goes write (note.Waste c s n) nf nt = record { goes = λ limits h l e. absurd l.caused.0 }
-unwritten_goes write (note.Start x c s d) nf nt = record { goes = λ limits h l e. same_write write limits (Noted (note.Start x c s d)) h (as_long (out (plain_setup limits) 0 h)) e }
-unwritten_goes write (note.Doom x why) nf nt = record { goes = λ limits h l e. same_write write limits (Noted (note.Doom x why)) h (as_long (out (plain_setup limits) 0 h)) e }
-unwritten_goes write (note.Gone x) nf nt = record { goes = λ limits h l e. same_write write limits (Noted (note.Gone x)) h (as_long (out (plain_setup limits) 0 h)) e }
-unwritten_goes write (note.Close c code why) nf nt = record { goes = λ limits h l e. absurd l.caused.0 }
-unwritten_goes write (note.Fire kind id) nf nt = record { goes = λ limits h l e. absurd l.caused.0 }
+    record { goes = λ limits h l e. same_write write limits (Noted (note.Turn k (event.Gone d))) h (and_false (d == 0) (was_closed 0 h) (out (plain_setup limits) 0 h) (unclosed limits h l.licensed.1)) e }
+unwritten_goes write (note.Turn k (event.Accept c)) nf nt = record { goes = λ limits h l e. same_write write limits (Noted (note.Turn k (event.Accept c))) h refl e }
+unwritten_goes write (note.Turn k (event.Join c cluster)) nf nt = record { goes = λ limits h l e. same_write write limits (Noted (note.Turn k (event.Join c cluster))) h refl e }
+unwritten_goes write (note.Turn k (event.Read c octets)) nf nt = record { goes = λ limits h l e. same_write write limits (Noted (note.Turn k (event.Read c octets))) h refl e }
+unwritten_goes write (note.Turn k (event.Room c n)) nf nt = record { goes = λ limits h l e. same_write write limits (Noted (note.Turn k (event.Room c n))) h refl e }
+unwritten_goes write (note.Turn k (event.Tick now)) nf nt = record { goes = λ limits h l e. same_write write limits (Noted (note.Turn k (event.Tick now))) h refl e }
+unwritten_goes write (note.Turn k (event.Post poster number job)) nf nt = record { goes = λ limits h l e. same_write write limits (Noted (note.Turn k (event.Post poster number job))) h refl e }
+unwritten_goes write (note.Turn k (event.Obey version pressures)) nf nt = record { goes = λ limits h l e. same_write write limits (Noted (note.Turn k (event.Obey version pressures))) h refl e }
+unwritten_goes write (note.Turn k (event.Plain p)) nf nt = record { goes = λ limits h l e. same_write write limits (Noted (note.Turn k (event.Plain p))) h refl e }
+unwritten_goes write (note.Arrive f o) nf nt = record { goes = λ limits h l e. same_write write limits (Noted (note.Arrive f o)) h refl e }
+unwritten_goes write (note.Move f p n) nf nt = record { goes = λ limits h l e. same_write write limits (Noted (note.Move f p n)) h refl e }
+unwritten_goes write (note.Pause f b) nf nt = record { goes = λ limits h l e. same_write write limits (Noted (note.Pause f b)) h refl e }
+unwritten_goes write (note.Resume f b) nf nt = record { goes = λ limits h l e. same_write write limits (Noted (note.Resume f b)) h refl e }
+unwritten_goes write (note.Waste c s n) nf nt = record { goes = λ limits h l e. absurd l.licensed.0 }
+unwritten_goes write (note.Start x c s d) nf nt = record { goes = λ limits h l e. same_write write limits (Noted (note.Start x c s d)) h refl e }
+unwritten_goes write (note.Doom x why) nf nt = record { goes = λ limits h l e. same_write write limits (Noted (note.Doom x why)) h refl e }
+unwritten_goes write (note.Gone x) nf nt = record { goes = λ limits h l e. same_write write limits (Noted (note.Gone x)) h refl e }
+unwritten_goes write (note.Close c code why) nf nt = record { goes = λ limits h l e. absurd l.licensed.0 }
+unwritten_goes write (note.Fire kind id) nf nt = record { goes = λ limits h l e. absurd l.licensed.0 }
 
 -- ---- by how the note was taken up
 

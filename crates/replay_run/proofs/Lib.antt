@@ -8,6 +8,7 @@ pub mod Empty
 pub mod Holding
 pub mod Levels
 pub mod Pausing
+pub mod OneSession
 pub mod Peaking
 pub mod Playing
 pub mod Readings

@@ -205,7 +205,7 @@ arrive_lawful : (f : FlowId) (o : List ℕ) (limits : PlainLimits) (h : History 
     → ChangesOne limits (Noted (note.Arrive f o)) h f.exchange (arrived (length o))
 arrive_lawful f o limits h l =
     let P : FlowId → Type 0 = λ g. ChangesOne limits (Noted (note.Arrive g o)) h f.exchange (arrived (length o)) in
-    subst P (sym (live_request limits f h l.lawful.allowed.0.0)) (arrive_changes limits f.exchange o h)
+    subst P (sym (live_request limits f h l.allowed.0.0)) (arrive_changes limits f.exchange o h)
 
 first_place : (b : Bool) (p : ℕ) → (if b then Some 0 else None) ≡ Some p → 0 ≡ p
 first_place true p e = cc
@@ -218,7 +218,7 @@ least false n q len e = omega (arith, e)
 move_lawful : (f : FlowId) (p n : ℕ) (limits : PlainLimits) (h : History NoMark) → IsPlainLawful limits (Noted (note.Move f p n) ∷ h)
     → ChangesOne limits (Noted (note.Move f p n)) h f.exchange (shifted n)
 move_lawful f p n limits h l =
-    let may = l.lawful.allowed.0 in
+    let may = l.allowed.0 in
     let zero_is : 0 ≡ p = first_place (is_free (plain_setup limits) f 0 h) p may.last in
     let i : f ≡ request f.exchange = live_request limits f h may.live in
     let A : ℕ → Type 0 = λ v. n ≡ may_release (plain_setup limits) f v h in
@@ -232,7 +232,7 @@ frame_lawful : (c : ℕ) (f : FlowId) (n : ℕ) (last : Bool) (limits : PlainLim
     → ChangesOne limits (Noted (note.Frame c f n last)) h f.exchange (framed n)
 frame_lawful c f n last limits h l =
     let P : FlowId → Type 0 = λ g. ChangesOne limits (Noted (note.Frame c g n last)) h f.exchange (framed n) in
-    subst P (sym (live_request limits f h l.lawful.allowed.0.live)) (frame_changes limits c f.exchange n last h)
+    subst P (sym (live_request limits f h l.allowed.0.live)) (frame_changes limits c f.exchange n last h)
 
 -- ---- by how the note was taken up
 

@@ -30,7 +30,7 @@ use Rattle.tape_laws.specs.declared.limits.PlainLimits.{PlainLimits}
 use Rattle.plain_core.specs.Flows.{AreLimits}
 use Rattle.plain_core.specs.Runs.{Turns}
 use Rattle.plain_core.specs.Stands.{CanTake, Rests}
-use Rattle.plain_core.specs.declared.worker.Core.{Core}
+use Rattle.plain_core.specs.declared.plain.PlainCore.{PlainCore}
 use Rattle.replay_run.specs.declared.order.Format.TheVariants as format
 use Rattle.replay_run.specs.declared.order.LineRead.TheVariants as read
 use Rattle.replay_run.specs.declared.play.Went.TheVariants as went
@@ -41,11 +41,11 @@ onto_text [] h = sym (append-nil (tape_text [] h))
 onto_text (n ∷ ns) h = onto_text ns (Noted n ∷ h) ∙ append_assoc (tape_text [] h) (note_line [] n) (notes_text ns)
 
 -- a lawful tape of a core that rests
-pub whole_of : (limits : PlainLimits) (core : Core) (h : History NoMark) → Rests limits core h → IsPlainWhole limits h
+pub whole_of : (limits : PlainLimits) (core : PlainCore) (h : History NoMark) → Rests limits core h → IsPlainWhole limits h
 whole_of limits core h r = r.whole
 
 -- an event that was dispatched
-pub event_played : (old : Play) (e : Event) (core : Core) (log : TapeLog) (before notes : List Note) (new : Play) → before ≡ [] → Turns old.core before e core notes → TapeLogs old.log notes log
+pub event_played : (old : Play) (e : Event) (core : PlainCore) (log : TapeLog) (before notes : List Note) (new : Play) → before ≡ [] → Turns old.core before e core notes → TapeLogs old.log notes log
     → new.core ≡ core → new.log ≡ log → new.order ≡ old.order → new.text ≡ old.text ++ notes_text notes → PlaysEvent old e new (Ok went.On)
 event_played old e core log before notes new none t l ec el eo et =
     let P : List Note → Type 0 = λ v. Turns old.core v e core notes in let k = subst P none t in
@@ -53,7 +53,7 @@ event_played old e core log before notes new none t l ec el eo et =
       goes = λ limits h r m g. record {
         history = onto notes h;
         added = notes_text notes;
-        rests = (let Q : Core → Type 0 = λ v. Rests limits v (onto notes h) in subst Q (sym ec) (k.goes limits h r m));
+        rests = (let Q : PlainCore → Type 0 = λ v. Rests limits v (onto notes h) in subst Q (sym ec) (k.goes limits h r m));
         logs = (let R : TapeLog → Type 0 = λ v. TapeLogIs limits v (onto notes h) in subst R (sym el) (l.goes limits h (whole_of limits core (onto notes h) (k.goes limits h r m)).lawful g));
         events = k.shows h;
         tape = onto_text notes h;
@@ -148,7 +148,7 @@ pub header_line_played : (old : Play) (line : List ℕ) (order : Order) (new : P
     → PlaysLine old line new (Ok went.On)
 header_line_played old line order new r eo ec el et = line_on old line new order read.Header r.goes eo
     (λ seen item limits h written s q i k rests logs ev text.
-    let P : Core → Type 0 = λ v. Rests limits v h in
+    let P : PlainCore → Type 0 = λ v. Rests limits v h in
     let n = header_next seen line item limits h s q k in
     let R : TapeLog → Type 0 = λ v. TapeLogIs limits v h in
     (limits, h, subst P (sym ec) rests, subst R (sym el) logs, record { may = n.may; limited = n.limited; events = n.events ∙ sym ev }, ap (λ (v : List ℕ). written ++ v) et ∙ text))
@@ -179,7 +179,7 @@ event_follows old line e order r k =
 
 pub event_line_played : (old mid : Play) (line : List ℕ) (e : Event) (new : Play) (result : Result Went NoMemory) → ReadsLine old.order line mid.order (Ok (read.Event e)) → mid.core ≡ old.core → mid.log ≡ old.log → mid.text ≡ old.text
     → PlaysEvent mid e new result → PlaysLine old line new result
-event_line_played old mid line e new result r ec el et p = record { goes = λ rd written k. by rd written k result (p.goes k.limits k.history (let P : Core → Type 0 = λ v. Rests k.limits v k.history in subst P (sym ec) k.rests) (event_follows old line e mid.order r k) (let R : TapeLog → Type 0 = λ v. TapeLogIs k.limits v k.history in subst R (sym el) k.logs)) }
+event_line_played old mid line e new result r ec el et p = record { goes = λ rd written k. by rd written k result (p.goes k.limits k.history (let P : PlainCore → Type 0 = λ v. Rests k.limits v k.history in subst P (sym ec) k.rests) (event_follows old line e mid.order r k) (let R : TapeLog → Type 0 = λ v. TapeLogIs k.limits v k.history in subst R (sym el) k.logs)) }
   where
     by : (rd written : List ℕ) (k : Played old rd written) (result : Result Went NoMemory) → DispatchedAs mid e new k.limits k.history result → PlayedAs old new line rd written k result
     by rd written k (Ok went.On) d =
@@ -240,14 +240,8 @@ limits_may seen line (EventOf x) l s q = cc
 pub limits_taken : (old : Play) (line : List ℕ) (order : Order) (l : PlainLimits) → ReadsLine old.order line order (Ok (read.Limits l)) → (rd : List ℕ) × (written : List ℕ) × Played old rd written → AreLimits l
 limits_taken old line order l r k = let a = r.goes k.2.seen k.2.order in limits_may k.2.seen line a.item l a.spells a.read
 
-pub no_notes : (core : Core) (e : Event) (notes : List Note) → notes ≡ [] → CanTake core e [] → CanTake core e notes
+pub no_notes : (core : PlainCore) (e : Event) (notes : List Note) → notes ≡ [] → CanTake core e [] → CanTake core e notes
 no_notes core e notes none k = let P : List Note → Type 0 = λ v. CanTake core e v in subst P (sym none) k
-
--- so it may be dispatched
-pub event_taken : (old mid : Play) (line : List ℕ) (e : Event) → ReadsLine old.order line mid.order (Ok (read.Event e)) → mid.core ≡ old.core → (rd : List ℕ) × (written : List ℕ) × Played old rd written → CanTake mid.core e []
-event_taken old mid line e r ec k =
-    let C : Core → Type 0 = λ v. CanTake v e [] in
-    subst C (sym ec) (record { limits = k.2.limits; history = k.2.history; rests = k.2.rests; follows = event_follows old line e mid.order r k.2 })
 
 -- what a line was read as
 pub read_as : (old new : Order) (line : List ℕ) (found answer : LineRead) → found ≡ answer → ReadsLine old line new (Ok found) → ReadsLine old line new (Ok answer)

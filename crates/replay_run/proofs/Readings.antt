@@ -1,14 +1,13 @@
 -- Lines that are read, and that are refused.
 use Rattle.flow_notes.specs.Event.{IsEvent, event_spelling, is_plain}
 use Rattle.flow_notes.specs.Fields.{Fits32, FitsEvent}
-use Rattle.flow_notes.specs.Line.{line_of}
 use Rattle.flow_notes.specs.declared.events.Event.{Event}
 use Rattle.flow_notes.specs.declared.events.PlainEvent.{PlainEvent}
 use Rattle.io_ports.specs.declared.octets.NoMemory.{NoMemory}
 use Rattle.replay_run.specs.Courses.{CoursesAre, Follows}
 use Rattle.tape_laws.specs.Following.{may_follow}
-use Rattle.replay_run.specs.Grammar.{HasNoHeader, HasNoLimits, IsLimitsLine}
-use Rattle.replay_run.specs.Orders.{Accepts, OrderIs, ReadsAt, ReadsLine, StageIs}
+use Rattle.replay_run.specs.Grammar.{IsLimitsLine}
+use Rattle.replay_run.specs.Orders.{Accepts, ReadsAt, ReadsLine, StageIs}
 use Rattle.replay_run.specs.Reading.{EventAt, EventReadAt, FollowsRead, ReadsEvent, SpellsEvent}
 use Rattle.replay_run.specs.Seen.{EventOf, Headed, HeaderOf, Item, LimitsOf, Playing, Seen, Spells, Unread, are_limits, header_line, is_quantum, limit_numbers}
 use Rattle.replay_run.specs.declared.courses.Courses.{Courses}
@@ -18,9 +17,8 @@ use Rattle.replay_run.specs.declared.order.Order.{Order}
 use Rattle.replay_run.specs.declared.order.Stage.{Stage}
 use Rattle.std.proofs.Common.{ap, arith, refl, subst, sym, ◌∙◌}
 use Rattle.std.proofs.lemmas.Bool.Decides.{nat_tests}
-use Rattle.std.specs.Fmt.{decimal}
 use Rattle.std.specs.List.{AllByRecursion}
-use Rattle.std.specs.Prelude.{Bool, Err, IfNone, IfSome, List, None, Ok, Option, Result, Some, [], codes, false, map, nat_le, true, ℕ, ◌&&◌, ◌<◌, ◌==◌, ◌^◌, ◌∷◌, ◌≡◌, ◌≤◌}
+use Rattle.std.specs.Prelude.{Bool, Err, IfNone, IfSome, List, None, Ok, Option, Result, Some, [], false, nat_le, true, ℕ, ◌&&◌, ◌<◌, ◌^◌, ◌≡◌, ◌≤◌}
 use Rattle.tape_laws.specs.declared.limits.PlainLimits.{PlainLimits}
 use Rattle.flow_notes.specs.declared.events.Event.TheVariants as event
 use Rattle.replay_run.specs.declared.order.Format.TheVariants as format
@@ -42,9 +40,6 @@ ranges_of r s w false e = grind (arith, nat_tests)
 pub in_ranges : (f : Format) (l : PlainLimits) → are_limits f l ≡ true → InRanges f l
 in_ranges f l e = let k = ranges_of l.recv l.send l.write (is_quantum f l.quantum) e in record { recv = k.0; send = k.1; write = k.2; quantum = k.3 }
 
-one_quantum : (q : ℕ) → (q == 16384) ≡ true → q ≡ 16384
-one_quantum q e = grind (arith, nat_tests)
-
 two_quantum : (q : ℕ) → (nat_le 16384 q && nat_le q 1048576) ≡ true → q < 2 ^ 32
 two_quantum q e = grind (arith, nat_tests)
 
@@ -54,39 +49,8 @@ numbers_fit format.Two l r =
     let a = r.recv in let b = r.send in let c = r.write in let q = two_quantum l.quantum r.quantum in
     (omega (arith, a), (omega (arith, b), (omega (arith, c), (omega (arith, q), tt))))
 
-same_limits : (f : Format) (l m : PlainLimits) → limit_numbers f l ≡ limit_numbers f m → is_quantum f l.quantum ≡ true → (f ≡ format.One → m.quantum ≡ 16384) → are_limits f l ≡ are_limits f m
-same_limits format.One l m e q n =
-    let ql : l.quantum ≡ 16384 = one_quantum l.quantum q in
-    let qm : m.quantum ≡ 16384 = n refl in
-    let a : l.recv ≡ m.recv = cc in let b : l.send ≡ m.send = cc in let c : l.write ≡ m.write = cc in
-    let d : l.quantum ≡ m.quantum = ql ∙ sym qm in
-    cc
-same_limits format.Two l m e q n =
-    let a : l.recv ≡ m.recv = cc in let b : l.send ≡ m.send = cc in let c : l.write ≡ m.write = cc in let d : l.quantum ≡ m.quantum = cc in
-    cc
-
 clash : (b : Bool) → b ≡ true → b ≡ false → ⊥
 clash b t f = cc
-
--- a line of numbers that aren't in range spells no limits
-pub no_limits : (f : Format) (line ns : List ℕ) (m : PlainLimits)
-    → ((ms : List ℕ) → AllByRecursion Fits32 ms → line_of (codes "limits" ∷ map decimal ms) ≡ line → ms ≡ ns)
-    → limit_numbers f m ≡ ns → (f ≡ format.One → m.quantum ≡ 16384) → are_limits f m ≡ false → HasNoLimits f line
-no_limits f line ns m only is q bad = record {
-  none = λ l r e.
-      let k = in_ranges f l r in
-      let same : limit_numbers f l ≡ limit_numbers f m = only (limit_numbers f l) (numbers_fit f l k) e ∙ sym is in
-      clash (are_limits f m) (sym (same_limits f l m same k.quantum q) ∙ r) bad;
-}
-
--- nor does a line of other numbers, or of none
-pub other_numbers : (f : Format) (line ns : List ℕ)
-    → ((ms : List ℕ) → AllByRecursion Fits32 ms → line_of (codes "limits" ∷ map decimal ms) ≡ line → ms ≡ ns)
-    → ((l : PlainLimits) → limit_numbers f l ≡ ns → ⊥) → HasNoLimits f line
-other_numbers f line ns only none = record { none = λ l r e. none l (only (limit_numbers f l) (numbers_fit f l (in_ranges f l r)) e) }
-
-pub no_numbers : (f : Format) (line : List ℕ) → ((ms : List ℕ) → AllByRecursion Fits32 ms → line_of (codes "limits" ∷ map decimal ms) ≡ line → ⊥) → HasNoLimits f line
-no_numbers f line none = record { none = λ l r e. none (limit_numbers f l) (numbers_fit f l (in_ranges f l r)) e }
 
 -- the header
 pub header_read : (old : Order) (line : List ℕ) (f : Format) → old.stage ≡ stage.Begins → header_line f ≡ line → ReadsLine old line (record old { stage = stage.Headed f }) (Ok read.Header)
@@ -96,19 +60,6 @@ header_read old line f begins e = record { goes = λ seen o. at seen o.names (le
     at Unread n s = record { item = HeaderOf f; spells = record { may = tt; is = e }; read = refl; order = record { names = n; stage = refl } }
     at (Headed g) n s = absurd s
     at (Playing g l es) n s = absurd s
-
-pub header_refused : (old : Order) (line : List ℕ) → old.stage ≡ stage.Begins → HasNoHeader line → ReadsLine old line old (Ok read.Refused)
-header_refused old line begins none = record { goes = λ seen o. at seen o (let P : Stage → Type 0 = λ v. StageIs v seen in subst P begins o.stage) }
-  where
-    no_item : (item : Item) → Spells Unread line item → ⊥
-    no_item (HeaderOf f) s = none.none f s.is
-    no_item (LimitsOf l) s = s.may
-    no_item (EventOf e) s = s.may
-
-    at : (seen : Seen) → OrderIs old seen → StageIs stage.Begins seen → ReadsAt seen line old (Ok read.Refused)
-    at Unread o s = record { none = no_item; order = o }
-    at (Headed g) o s = absurd s
-    at (Playing g l es) o s = absurd s
 
 -- the limits
 pub limits_read : (old : Order) (line : List ℕ) (f : Format) (l : PlainLimits) (courses : Courses) → old.stage ≡ stage.Headed f → IsLimitsLine f line l → CoursesAre courses []
@@ -121,19 +72,6 @@ limits_read old line f l courses headed is none = record { goes = λ seen o. at 
         let P : Format → Type 0 = λ v. IsLimitsLine v line l in let k = subst P s is in
         record { item = LimitsOf l; spells = record { may = k.ranges; is = k.is }; read = refl; order = record { names = n; stage = none } }
     at (Playing g m es) n s = absurd s
-
-pub limits_refused : (old : Order) (line : List ℕ) (f : Format) → old.stage ≡ stage.Headed f → HasNoLimits f line → ReadsLine old line old (Ok read.Refused)
-limits_refused old line f headed none = record { goes = λ seen o. at seen o (let P : Stage → Type 0 = λ v. StageIs v seen in subst P headed o.stage) }
-  where
-    no_item : (g : Format) → f ≡ g → (item : Item) → Spells (Headed g) line item → ⊥
-    no_item g e (HeaderOf h) s = s.may
-    no_item g e (LimitsOf l) s = let P : Format → Type 0 = λ v. HasNoLimits v line in (subst P e none).none l s.may s.is
-    no_item g e (EventOf h) s = s.may
-
-    at : (seen : Seen) → OrderIs old seen → StageIs (stage.Headed f) seen → ReadsAt seen line old (Ok read.Refused)
-    at Unread o s = absurd s
-    at (Headed g) o s = record { none = no_item g s; order = o }
-    at (Playing g l es) o s = absurd s
 
 -- an event
 pub event_read : (old : Order) (line : List ℕ) (courses new : Courses) (result : Result LineRead NoMemory) → old.stage ≡ stage.Plays courses → ReadsEvent old.names courses line new result
@@ -208,18 +146,6 @@ event_out_of_order names old new line e only f = record {
 
 pub event_lost : (names : List (List ℕ)) (old new : Courses) (line : List ℕ) (e : PlainEvent) (x : NoMemory) → Follows old e new (Err x) → ReadsEvent names old line new (Err x)
 event_lost names old new line e x f = record { goes = λ es a. f.goes es a }
-
--- an event of another kind isn't read from a plain line
-pub not_plain : (e : Event) → is_plain e ≡ true → ((p : PlainEvent) → e ≡ event.Plain p → ⊥) → ⊥
-not_plain (event.Plain p) e none = none p refl
-not_plain (event.Accept c) e none = cc
-not_plain (event.Join c k) e none = cc
-not_plain (event.Read c o) e none = cc
-not_plain (event.Gone c) e none = cc
-not_plain (event.Room c k) e none = cc
-not_plain (event.Tick t) e none = cc
-not_plain (event.Post p k j) e none = cc
-not_plain (event.Obey v p) e none = cc
 
 -- reading and following together
 pub followed_read : (names : List (List ℕ)) (old new : Courses) (line : List ℕ) (e : PlainEvent) (result : Result LineRead NoMemory)

@@ -8,16 +8,16 @@ use Rattle.replay_run.proofs.Connected.{tape_connection}
 use Rattle.replay_run.proofs.Empty.{empty_whole}
 use Rattle.plain_laws.proofs.Headlines.{headline_of}
 use Rattle.replay_run.specs.Drill.{drill_limits}
-use Rattle.replay_run.specs.Ending.{Cut, EndsAs, HasLine, Long, SpellsNone, longest_line, most_octets}
+use Rattle.replay_run.specs.Ending.{EndsAs, HasLine, Long, SpellsNone, longest_line, most_octets}
 use Rattle.replay_run.specs.Ends.{AppendsFront, Fills}
 use Rattle.replay_run.specs.Held.{held_of}
 use Rattle.replay_run.specs.Lawfully.{IsTape}
 use Rattle.replay_run.specs.Logging.{TapeLogIs}
 use Rattle.replay_run.specs.Newlines.{BeginsWithLine, has_newline}
-use Rattle.replay_run.specs.Orders.{OrderIs, PlaysNow}
+use Rattle.replay_run.specs.Orders.{OrderIs}
 use Rattle.replay_run.specs.Played.{Begins, PlaysLine}
 use Rattle.replay_run.specs.Replays.{Replays, Tells, TellsAs, TellsFront, last_text, numbered_line}
-use Rattle.replay_run.specs.Runs.{Adds, AtEnd, CausedBy, EndsText, Finishes, Halts, HaltsAs, Judged, Refills, RunIs, Steps, TakesLine, Writes, to_go}
+use Rattle.replay_run.specs.Runs.{Adds, AtEnd, CausedBy, EndsText, Finishes, Halts, HaltsAs, Judged, Refills, RunIs, Steps, TakesLine, Writes}
 use Rattle.replay_run.specs.Seen.{EventOf, Headed, HeaderOf, Item, LimitsOf, Playing, Seen, Spells, Unread, seen_lines, seen_more, seen_text}
 use Rattle.replay_run.specs.declared.order.Order.{Order}
 use Rattle.replay_run.specs.declared.play.Play.{Play}
@@ -25,21 +25,19 @@ use Rattle.replay_run.specs.declared.play.Went.{Went}
 use Rattle.replay_run.specs.declared.run.Run.{Run}
 use Rattle.replay_run.specs.declared.status.Status.{Status}
 use Rattle.replay_run.specs.declared.tape_log.TapeLog.{TapeLog}
-use Rattle.std.proofs.Common.{Decides, ap, append_assoc, arith, inl, inr, length-append, length-drop, refl, subst, sym, ◌∙◌}
+use Rattle.std.proofs.Common.{ap, append_assoc, arith, inl, inr, length-append, refl, subst, sym, ◌∙◌}
 use Rattle.std.proofs.Math.Seq.{take-append_seam, take-length}
 use Rattle.std.proofs.lemmas.Grind.{common_steps}
 use Rattle.std.proofs.lemmas.List.{append-nil, length-take-le}
-use Rattle.std.proofs.lemmas.Slice.Eq.{bytes_eq-Decides}
 use Rattle.std.specs.Fmt.{decimal}
 use Rattle.std.specs.Io.KnownBytes.{Appends, Consumes, IsAtEnd}
-use Rattle.std.specs.Prelude.{Bool, Err, IsTrue, List, get_or, map, MatchResult, None, Ok, OnOk, Option, Result, Some, [], codes, drop, false, length, suc, take, true, zero, ℕ, ◌++◌, ◌+◌, ◌-◌, ◌<◌, ◌==◌, ◌||◌, ◌↔◌, ◌∷◌, ◌≡◌, ◌≤◌, ◌⊎◌}
-use Rattle.std.specs.Str.{bytes_eq}
+use Rattle.std.specs.Prelude.{Bool, Err, List, MatchResult, None, Ok, OnOk, Option, Result, Some, [], codes, drop, false, length, suc, take, true, zero, ℕ, ◌++◌, ◌+◌, ◌-◌, ◌<◌, ◌==◌, ◌||◌, ◌∷◌, ◌≡◌, ◌≤◌, ◌⊎◌}
 use Rattle.tape_laws.specs.History.{History, NoMark}
 use Rattle.tape_laws.specs.Text.{tape_text}
 use Rattle.tape_laws.specs.World.{len, out}
 use Rattle.tape_laws.specs.declared.limits.PlainLimits.{PlainLimits}
 use Rattle.plain_core.specs.Stands.{Rests}
-use Rattle.plain_core.specs.declared.worker.Core.{Core}
+use Rattle.plain_core.specs.declared.plain.PlainCore.{PlainCore}
 use Rattle.replay_run.specs.declared.status.Status.TheVariants as status
 use Rattle.replay_run.specs.declared.play.Went.TheVariants as went
 
@@ -207,19 +205,13 @@ line_on old new n begins plays held er en = record {
   caused = tt;
 }
 
-pub line_less : (old new : Run) (n : ℕ) → n < length (held_of old.lines) → length (held_of old.lines) ≤ 131072 → held_of new.lines ≡ drop (n + 1) (held_of old.lines) → new.read ≡ old.read + (n + 1)
-    → old.read + n < most_octets → to_go new < to_go old
-line_less old new n lt room held er may =
-    let len : length (held_of new.lines) ≡ length (held_of old.lines) - (n + 1) = ap length held ∙ length-drop (n + 1) (held_of old.lines) in
-    omega (arith, lt, room, len, er, may)
-
 -- ---- writing
 
 order_kept : (old new : Order) (seen : Seen) → new ≡ old → OrderIs old seen → OrderIs new seen
 order_kept old new seen e o = let P : Order → Type 0 = λ v. OrderIs v seen in subst P (sym e) o
 
-core_kept : (old new : Core) (limits : PlainLimits) (h : History NoMark) → new ≡ old → Rests limits old h → Rests limits new h
-core_kept old new limits h e r = let P : Core → Type 0 = λ v. Rests limits v h in subst P (sym e) r
+core_kept : (old new : PlainCore) (limits : PlainLimits) (h : History NoMark) → new ≡ old → Rests limits old h → Rests limits new h
+core_kept old new limits h e r = let P : PlainCore → Type 0 = λ v. Rests limits v h in subst P (sym e) r
 
 -- the play is as it was, but for its text
 replayed : (old new : Run) (read written wrote : List ℕ) → RunIs old read written → new.play.order ≡ old.play.order → new.play.core ≡ old.play.core → new.play.log ≡ old.play.log → wrote ++ new.play.text ≡ old.play.text
@@ -308,9 +300,6 @@ pub read_on : (old new : Run) (left_old left_new : Option (List ℕ)) → Fills 
     → Refills old new left_old left_new (Ok tt)
 read_on old new left_old left_new f ep er en = record { got = f.got; consumes = f.consumes; goes = λ read written k. more_held old new read written f.got k ep f.holds er en }
 
-pub read_less : (old new : Run) (n : ℕ) → 0 < n → length (held_of new.lines) ≡ length (held_of old.lines) + n → length (held_of new.lines) ≤ 131072 → new.read ≡ old.read → old.read ≤ most_octets → to_go new < to_go old
-read_less old new n some len room er within = omega (arith, some, len, room, er, within)
-
 same_held : (old new got : List ℕ) → new ≡ old ++ got → length new ≡ length old → new ≡ old
 same_held old new got e len =
     let none : length got ≡ 0 = omega (arith, ap length e, length-append old got, len) in
@@ -350,30 +339,6 @@ read_failed old new left_old left_new f same ep er en whole j = record {
     none e = cc
 
 -- ---- the end of the session
-
-playing : (b : Bool) → b ≡ true → IsTrue b
-playing true e = refl
-playing false e = cc
-
-pub ended_done : (run : Run) → length (held_of run.lines) ≡ 0 → PlaysNow run.play.order true → AtEnd run status.Done
-ended_done run none p = record {
-  goes = λ read written left k whole within ends.
-      halted run run status.Done read written left k (playing _ (sym (p.goes k.played.seen k.played.order)), no_octets (held_of run.lines) none, ends) refl refl (λ e. refl);
-  ends = tt;
-}
-
-pub ended_cut : (run : Run) (now : Bool) → PlaysNow run.play.order now → (length (held_of run.lines) ≡ 0 → now ≡ true → ⊥) → AtEnd run status.Session
-ended_cut run now p unended = record {
-  goes = λ read written left k whole within ends.
-      let er = counted run read written k in
-      halted run run status.Session read written left k
-      (Cut whole (omega (arith, er, within)) (λ both. unended (ap length both.0) (p.goes k.played.seen k.played.order ∙ true_of _ both.1)) ends)
-      refl refl (λ e. refl);
-  ends = tt;
-}
-  where
-    true_of : (b : Bool) → IsTrue b → b ≡ true
-    true_of b i = i
 
 -- ---- steps
 
@@ -466,22 +431,9 @@ judged_step run left out n found how len whole e j =
 
 -- ---- causes
 
-pub caused_more : (a b c d : Type 0) (result : Result (Unit {0}) Status) → (a → c) → (b → d) → CausedBy a b result → CausedBy c d result
-caused_more a b c d (Ok x) f g k = tt
-caused_more a b c d (Err status.Done) f g k = tt
-caused_more a b c d (Err status.Usage) f g k = tt
-caused_more a b c d (Err status.Session) f g k = tt
-caused_more a b c d (Err status.ReadFault) f g k = f k
-caused_more a b c d (Err status.WriteFault) f g k = g k
-caused_more a b c d (Err status.Memory) f g k = tt
-caused_more a b c d (Err status.TooLong) f g k = tt
-
 pub rose_more : (a b c : ℕ) → a ≤ b → Rose b c → Rose a c
 rose_more a b c le (inl lt) = inl (omega (arith, le, lt))
 rose_more a b c le (inr e) = inr e
-
-pub nothing_rose : (A : Type 0) → ⊥ → A
-nothing_rose A x = absurd x
 
 -- ---- the line that was played is the one that is held
 
@@ -582,9 +534,6 @@ finish_none old how out e = let P : Status → Type 0 = λ v. Finishes old v out
 
 -- ---- the whole
 
-same_tells : (how : Status) (read text also : List ℕ) (left : Option (List ℕ)) → text ≡ also → TellsAs how read text left → TellsAs how read also left
-same_tells how read text also left e t = let P : List ℕ → Type 0 = λ v. TellsAs how read v left in subst P e t
-
 pub replays : (run new : Run) (left_old left_new out_old out_mid out_new : Option (List ℕ)) (how result : Status) → RunIs run [] [] → Steps run new left_old left_new out_old out_mid (Err how)
     → Finishes new how out_mid out_new result → Replays left_old left_new out_old out_new result
 replays run new left_old left_new out_old out_mid out_new how result k s f = record {
@@ -594,9 +543,6 @@ replays run new left_old left_new out_old out_mid out_new how result k s f = rec
   appends = appended out_old out_mid out_new s.wrote f.wrote s.appends f.appends;
   tells = f.goes s.got s.wrote left_new (s.goes [] [] k);
 }
-
-pub replays_nothing : (left out : Option (List ℕ)) → Replays left left out out status.Usage
-replays_nothing left out = record { read = []; text = []; consumes = held_kept left; appends = known_kept out; tells = (refl, refl) }
 
 pub replays_none : (left out : Option (List ℕ)) → Replays left left out out status.Memory
 replays_none left out = record {
@@ -672,18 +618,6 @@ long_ends old how new (Err x) e k = tt
 
 -- ---- the words
 
-pub one_word : (w plain : List ℕ) (words : List (List ℕ)) (b : Bool) → words ≡ w ∷ [] → b ≡ bytes_eq w plain → IsTrue b ↔ (words ≡ plain ∷ [])
-one_word w plain words b e eq = (
-  λ t. e ∙ ap (λ (v : List ℕ). v ∷ []) (decided (bytes_eq w plain) (w ≡ plain) (bytes_eq-Decides w plain) (sym eq ∙ t)),
-  λ i. eq ∙ found (bytes_eq w plain) (w ≡ plain) (bytes_eq-Decides w plain) (let s : w ∷ [] ≡ plain ∷ [] = sym e ∙ i in let k : w ≡ plain = cc in k),
-)
-  where
-    decided : (b : Bool) (P : Type 0) → Decides b P → b ≡ true → P
-    decided b P d t = d.0 t
-
-    found : (b : Bool) (P : Type 0) → Decides b P → P → b ≡ true
-    found b P d p = d.1 p
-
 -- the status isn't that of other words
 pub not_usage : (run new : Run) (left_old left_new out_old out_new : Option (List ℕ)) (how : Status) → RunIs run [] [] → Steps run new left_old left_new out_old out_new (Err how) → how ≡ status.Usage → ⊥
 not_usage run new left_old left_new out_old out_new how k s e =
@@ -694,8 +628,3 @@ pub other_result : (how result : Status) → (how ≡ status.Usage → ⊥) → 
 other_result how result n (inl e) u = n (sym e ∙ u)
 other_result how result n (inr (inl e)) u = cc
 other_result how result n (inr (inr e)) u = cc
-
-pub one_item : (A : Type 0) (f : A → List ℕ) (xs : List A) (x : A) (w : List ℕ) → 1 ≤ length xs → length xs < 2 → x ≡ get_or xs 0 x → w ≡ f x → map f xs ≡ w ∷ []
-one_item A f [] x w lo hi e k = absurd (omega (arith, lo))
-one_item A f (y ∷ []) x w lo hi e k = ap (λ v. f v ∷ []) (sym e) ∙ ap (λ (v : List ℕ). v ∷ []) (sym k)
-one_item A f (y ∷ z ∷ xs) x w lo hi e k = absurd (omega (arith, hi))

@@ -162,9 +162,3 @@ summary_ends log n old t0 t1 t2 t3 new (Ok x) tn e0 e1 e2 e3 slice es en =
     (en ∙ ap (λ (v : List ℕ). old ++ v) (es ∙ e3 ∙ ap (λ (v : List ℕ). v ++ report_line (codes "done" ∷ decimal n ∷ [])) (e2 ∙ ap (λ (v : List ℕ). v ++ pause_lines log.pauses log.pauses.pauses.items) (e1 ∙ ap (λ (v : List ℕ). v ++ peak_lines log.peaks) e0))
     ∙ append_assoc (peak_lines log.peaks) (pause_lines log.pauses log.pauses.pauses.items) (report_line (codes "done" ∷ decimal n ∷ []))))
 summary_ends log n old t0 t1 t2 t3 new (Err x) tn e0 e1 e2 e3 slice es en = tt
-
--- the streams so far and those that are left
-pub streams_left : (log : PeakLog) (into done : List ℕ) (x : ℕ) (rest after : List ℕ) (into2 : List ℕ) → rest ≡ x ∷ after → flat_map (flow_peak_lines log) log.started.items ≡ done ++ flat_map (flow_peak_lines log) rest
-    → flat_map (flow_peak_lines log) log.started.items ≡ (done ++ flow_peak_lines log x) ++ flat_map (flow_peak_lines log) after
-streams_left log into done x rest after into2 e k =
-    k ∙ ap (λ (v : List ℕ). done ++ flat_map (flow_peak_lines log) v) e ∙ sym (append_assoc done (flow_peak_lines log x) (flat_map (flow_peak_lines log) after))

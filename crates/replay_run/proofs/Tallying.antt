@@ -1,7 +1,6 @@
 -- A tally, note by note.
 use Rattle.flow_gate.specs.declared.ids.BufferId.{BufferId}
 use Rattle.flow_gate.specs.declared.ids.FlowId.{FlowId}
-use Rattle.flow_notes.specs.declared.notes.Cause.{Cause}
 use Rattle.flow_notes.specs.Passages.{notes_of_passage}
 use Rattle.flow_notes.specs.declared.notes.Note.{Note}
 use Rattle.flow_notes.specs.declared.passages.Passage.{Passage}
@@ -9,7 +8,7 @@ use Rattle.io_ports.specs.declared.octets.NoMemory.{NoMemory}
 use Rattle.replay_run.proofs.Levels.{lawful_back, unwritten_goes}
 use Rattle.replay_run.proofs.Pausing.{onto_more}
 use Rattle.replay_run.specs.Levels.{WriteGoes}
-use Rattle.replay_run.specs.Tally.{octets_framed, octets_in, pauses_in, resets_by, resets_in, short_summary, streams_in}
+use Rattle.replay_run.specs.Tally.{octets_framed, octets_in, pauses_in, resets_in, short_summary, streams_in}
 use Rattle.replay_run.specs.Tallying.{Counted, TallyGoes, TallyIs, tally_text}
 use Rattle.replay_run.specs.declared.level.Level.{Level}
 use Rattle.replay_run.specs.declared.tally.Tally.{Tally}
@@ -18,7 +17,7 @@ use Rattle.std.proofs.lemmas.List.{append-nil}
 use Rattle.std.proofs.lemmas.List.Sums.{sum_by-cons}
 use Rattle.std.proofs.lemmas.Result.{on_ok_weaker}
 use Rattle.std.specs.List.{sum_by}
-use Rattle.std.specs.Prelude.{Bool, List, OnOk, Result, [], length, map, ℕ, ◌++◌, ◌+◌, ◌∷◌, ◌≡◌}
+use Rattle.std.specs.Prelude.{List, OnOk, Result, [], length, map, ℕ, ◌++◌, ◌+◌, ◌∷◌, ◌≡◌}
 use Rattle.tape_laws.specs.History.{History, NoMark, notes_of, onto}
 use Rattle.tape_laws.specs.PlainTape.{IsPlainLawful}
 use Rattle.tape_laws.specs.declared.limits.PlainLimits.{PlainLimits}
@@ -44,9 +43,6 @@ counted_goes old new n c = record {
 
 no_more : (n : ℕ) → n ≡ n + 0
 no_more n = omega arith
-
-abbrev with_level : Tally → Level → Tally
-with_level t w = record t { write = w }
 
 counted_as : (old new : Tally) (m n : Note) → m ≡ n → Counted old n new → Counted old m new
 counted_as old new m n e k = let P : Note → Type 0 = λ v. Counted old v new in subst P (sym e) k
@@ -74,82 +70,6 @@ resume_counted old m f b e = counted_as old old m (note.Resume f b) e (record {
   resets = no_more old.resets;
   write = unwritten_goes old.write (note.Resume f b) (λ c g k l q. cc) (λ c k q. cc);
 })
-
-pub arrive_counted : (old : Tally) (w : Level) (m : Note) (f : FlowId) (o : List ℕ) (v : ℕ) → m ≡ note.Arrive f o → WriteGoes old.write m w → v ≡ old.received + length o
-    → Counted old m (record old { write = w; received = v })
-arrive_counted old w m f o v e g ev = counted_as old (record old { write = w; received = v }) m (note.Arrive f o) e (record {
-  streams = no_more old.streams;
-  received = ev;
-  sent = no_more old.sent;
-  pauses = no_more old.pauses;
-  resets = no_more old.resets;
-  write = written_as old.write w m (note.Arrive f o) e g;
-})
-
-pub frame_counted : (old : Tally) (w : Level) (m : Note) (c : ℕ) (f : FlowId) (n : ℕ) (last : Bool) (v k : ℕ) → m ≡ note.Frame c f n last → k ≡ n → WriteGoes old.write m w → v ≡ old.sent + k
-    → Counted old m (record old { write = w; sent = v })
-frame_counted old w m c f n last v k e ek g ev = counted_as old (record old { write = w; sent = v }) m (note.Frame c f n last) e (record {
-  streams = no_more old.streams;
-  received = no_more old.received;
-  sent = ev ∙ ap (λ (x : ℕ). old.sent + x) ek;
-  pauses = no_more old.pauses;
-  resets = no_more old.resets;
-  write = written_as old.write w m (note.Frame c f n last) e g;
-})
-
-pub start_counted : (old : Tally) (w : Level) (m : Note) (x c s d v : ℕ) → m ≡ note.Start x c s d → WriteGoes old.write m w → v ≡ old.streams + 1
-    → Counted old m (record old { write = w; streams = v })
-start_counted old w m x c s d v e g ev = counted_as old (record old { write = w; streams = v }) m (note.Start x c s d) e (record {
-  streams = ev;
-  received = no_more old.received;
-  sent = no_more old.sent;
-  pauses = no_more old.pauses;
-  resets = no_more old.resets;
-  write = written_as old.write w m (note.Start x c s d) e g;
-})
-
-pub doom_counted : (old : Tally) (w : Level) (m : Note) (x : ℕ) (why : Cause) (v k : ℕ) → m ≡ note.Doom x why → WriteGoes old.write m w → k ≡ resets_by why → v ≡ old.resets + k
-    → Counted old m (record old { write = w; resets = v })
-doom_counted old w m x why v k e g ek ev = counted_as old (record old { write = w; resets = v }) m (note.Doom x why) e (record {
-  streams = no_more old.streams;
-  received = no_more old.received;
-  sent = no_more old.sent;
-  pauses = no_more old.pauses;
-  resets = ev ∙ ap (λ (x : ℕ). old.resets + x) ek;
-  write = written_as old.write w m (note.Doom x why) e g;
-})
-
--- a note that counts nothing
-nothing_counted : (old : Tally) (w : Level) (n : Note) → WriteGoes old.write n w → streams_in n ≡ 0 → octets_in n ≡ 0 → octets_framed n ≡ 0 → pauses_in n ≡ 0 → resets_in n ≡ 0
-    → Counted old n (with_level old w)
-nothing_counted old w n g es ei ef ep er = record {
-  streams = omega (arith, es);
-  received = omega (arith, ei);
-  sent = omega (arith, ef);
-  pauses = omega (arith, ep);
-  resets = omega (arith, er);
-  write = g;
-}
-
-pub other_counted : (old : Tally) (w : Level) (n : Note) → ((f : FlowId) (b : BufferId) → n ≡ note.Pause f b → ⊥) → WriteGoes old.write n w
-    → ((f : FlowId) (o : List ℕ) → n ≡ note.Arrive f o → ⊥) → ((c : ℕ) (f : FlowId) (k : ℕ) (last : Bool) → n ≡ note.Frame c f k last → ⊥)
-    → ((x c s d : ℕ) → n ≡ note.Start x c s d → ⊥) → ((x : ℕ) (why : Cause) → n ≡ note.Doom x why → ⊥) → Counted old n (with_level old w)
-other_counted old w (note.Pause f b) np g na nf ns nd = absurd (np f b refl)
-other_counted old w (note.Arrive f o) np g na nf ns nd = absurd (na f o refl)
-other_counted old w (note.Frame c f k last) np g na nf ns nd = absurd (nf c f k last refl)
-other_counted old w (note.Start x c s d) np g na nf ns nd = absurd (ns x c s d refl)
-other_counted old w (note.Doom x why) np g na nf ns nd = absurd (nd x why refl)
-other_counted old w (note.Turn k e) np g na nf ns nd = nothing_counted old w _ g refl refl refl refl refl
-other_counted old w (note.Move f p k) np g na nf ns nd = nothing_counted old w _ g refl refl refl refl refl
-other_counted old w (note.Out c k) np g na nf ns nd = nothing_counted old w _ g refl refl refl refl refl
-other_counted old w (note.Resume f b) np g na nf ns nd = nothing_counted old w _ g refl refl refl refl refl
-other_counted old w (note.Credit c s k) np g na nf ns nd = nothing_counted old w _ g refl refl refl refl refl
-other_counted old w (note.Head c s o) np g na nf ns nd = nothing_counted old w _ g refl refl refl refl refl
-other_counted old w (note.Answer c o) np g na nf ns nd = nothing_counted old w _ g refl refl refl refl refl
-other_counted old w (note.Waste c s k) np g na nf ns nd = nothing_counted old w _ g refl refl refl refl refl
-other_counted old w (note.Gone x) np g na nf ns nd = nothing_counted old w _ g refl refl refl refl refl
-other_counted old w (note.Close c code why) np g na nf ns nd = nothing_counted old w _ g refl refl refl refl refl
-other_counted old w (note.Fire kind id) np g na nf ns nd = nothing_counted old w _ g refl refl refl refl refl
 
 -- ---- note after note
 

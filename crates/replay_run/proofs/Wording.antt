@@ -1,7 +1,6 @@
 -- The words of a replay.
-use Rattle.replay_run.specs.Forms.{HasNoForm, IsDrillWord, IsNoDrill, SpellsForm}
+use Rattle.replay_run.specs.Forms.{IsDrillWord, IsNoDrill, SpellsForm}
 use Rattle.replay_run.specs.Drills.{DrillsAs}
-use Rattle.replay_run.specs.Replays.{Replays}
 use Rattle.replay_run.specs.Told.{ReplaysForm}
 use Rattle.replay_run.specs.declared.form.Form.{Form}
 use Rattle.replay_run.specs.declared.status.Status.{Status}
@@ -9,83 +8,20 @@ use Rattle.std.proofs.Common.{Decides, ap, arith, inl, inr, refl, subst, sym, �
 use Rattle.std.proofs.lemmas.Fmt.{decimal_injective, parse-decimal}
 use Rattle.std.proofs.lemmas.Slice.Eq.{bytes_eq-Decides}
 use Rattle.std.specs.Fmt.{decimal}
-use Rattle.std.specs.Prelude.{Bool, List, Ok, Option, Result, [], codes, false, get_or, length, map, true, ℕ, ◌<◌, ◌^◌, ◌∷◌, ◌≡◌, ◌≤◌, ◌↔◌, ◌⊎◌}
+use Rattle.std.specs.Prelude.{Bool, List, Ok, Option, Result, [], codes, false, true, ℕ, ◌<◌, ◌^◌, ◌∷◌, ◌≡◌, ◌≤◌, ◌⊎◌}
 use Rattle.std.specs.Str.{bytes_eq}
 use Rattle.std.specs.Str.Parse.{ParsesUnsigned}
 use Rattle.replay_run.specs.declared.form.Form.TheVariants as form
 use Rattle.replay_run.specs.declared.status.Status.TheVariants as status
 
-decided : (b : Bool) (P : Type 0) → Decides b P → b ≡ true → P
-decided b P d t = d.0 t
-
 found : (b : Bool) (P : Type 0) → Decides b P → P → b ≡ true
 found b P d p = d.1 p
 
-same_word : (w v : List ℕ) (b : Bool) → b ≡ bytes_eq w v → b ≡ true → w ≡ v
-same_word w v b e t = decided (bytes_eq w v) (w ≡ v) (bytes_eq-Decides w v) (sym e ∙ t)
-
-other_word : (w v : List ℕ) (b : Bool) → b ≡ bytes_eq w v → b ≡ false → w ≡ v → ⊥
-other_word w v b e t i = let k = found (bytes_eq w v) (w ≡ v) (bytes_eq-Decides w v) i in let f : bytes_eq w v ≡ false = sym e ∙ t in cc
-
 -- ---- one word
-
-pub plain_some : (w : List ℕ) (b : Bool) → b ≡ bytes_eq w (codes "plain") → b ≡ true → SpellsForm (w ∷ []) form.Plain
-plain_some w b e t = record { ranges = tt; is = ap (λ (v : List ℕ). v ∷ []) (same_word w (codes "plain") b e t) }
-
-pub plain_none : (w : List ℕ) (b : Bool) → b ≡ bytes_eq w (codes "plain") → b ≡ false → HasNoForm (w ∷ [])
-plain_none w b e t = record { none = by }
-  where
-    by : (f : Form) → SpellsForm (w ∷ []) f → ⊥
-    by form.Plain s = let i : w ∷ [] ≡ codes "plain" ∷ [] = s.is in let k : w ≡ codes "plain" = cc in other_word w (codes "plain") b e t k
-    by (form.Drill n) s = let i : w ∷ [] ≡ codes "drill" ∷ decimal n ∷ [] = s.is in cc
 
 -- ---- two words
 
-pub drill_some : (w number : List ℕ) (b : Bool) (n : ℕ) → b ≡ bytes_eq w (codes "drill") → b ≡ true → IsDrillWord number n → SpellsForm (w ∷ number ∷ []) (form.Drill n)
-drill_some w number b n e t k = record {
-  ranges = (k.least, k.most);
-  is = ap (λ (v : List ℕ). v ∷ number ∷ []) (same_word w (codes "drill") b e t) ∙ ap (λ (v : List ℕ). codes "drill" ∷ v ∷ []) k.is;
-}
-
-pub drill_other : (w number : List ℕ) (b : Bool) → b ≡ bytes_eq w (codes "drill") → b ≡ false → HasNoForm (w ∷ number ∷ [])
-drill_other w number b e t = record { none = by }
-  where
-    by : (f : Form) → SpellsForm (w ∷ number ∷ []) f → ⊥
-    by form.Plain s = let i : w ∷ number ∷ [] ≡ codes "plain" ∷ [] = s.is in cc
-    by (form.Drill n) s = let i : w ∷ number ∷ [] ≡ codes "drill" ∷ decimal n ∷ [] = s.is in let k : w ≡ codes "drill" = cc in other_word w (codes "drill") b e t k
-
-pub drill_none : (w number : List ℕ) → IsNoDrill number → HasNoForm (w ∷ number ∷ [])
-drill_none w number none = record { none = by }
-  where
-    by : (f : Form) → SpellsForm (w ∷ number ∷ []) f → ⊥
-    by form.Plain s = let i : w ∷ number ∷ [] ≡ codes "plain" ∷ [] = s.is in cc
-    by (form.Drill n) s =
-        let i : w ∷ number ∷ [] ≡ codes "drill" ∷ decimal n ∷ [] = s.is in
-        let k : number ≡ decimal n = cc in
-        none.none n (record { least = s.ranges.0; most = s.ranges.1; is = k })
-
 -- ---- other numbers of words
-
-pub words_none : (words : List (List ℕ)) → ((w : List ℕ) → words ≡ w ∷ [] → ⊥) → ((w v : List ℕ) → words ≡ w ∷ v ∷ [] → ⊥) → HasNoForm words
-words_none words one two = record { none = by }
-  where
-    by : (f : Form) → SpellsForm words f → ⊥
-    by form.Plain s = one (codes "plain") s.is
-    by (form.Drill n) s = two (codes "drill") (decimal n) s.is
-
-pub two_items : (A : Type 0) (f : A → List ℕ) (xs : List A) (x y : A) (w v : List ℕ) → 2 ≤ length xs → length xs < 3 → x ≡ get_or xs 0 x → y ≡ get_or xs 1 y → w ≡ f x → v ≡ f y → map f xs ≡ w ∷ v ∷ []
-two_items A f [] x y w v lo hi ex ey ew ev = absurd (omega (arith, lo))
-two_items A f (a ∷ []) x y w v lo hi ex ey ew ev = absurd (omega (arith, lo))
-two_items A f (a ∷ b ∷ []) x y w v lo hi ex ey ew ev =
-    ap (λ (k : A). f k ∷ f b ∷ []) (sym ex) ∙ ap (λ (k : A). f x ∷ f k ∷ []) (sym ey) ∙ ap (λ (k : List ℕ). k ∷ f y ∷ []) (sym ew) ∙ ap (λ (k : List ℕ). w ∷ k ∷ []) (sym ev)
-two_items A f (a ∷ b ∷ c ∷ xs) x y w v lo hi ex ey ew ev = absurd (omega (arith, hi))
-
--- the same words
-pub form_of : (words same : List (List ℕ)) (f : Form) → words ≡ same → SpellsForm same f → SpellsForm words f
-form_of words same f e s = let P : List (List ℕ) → Type 0 = λ v. SpellsForm v f in subst P (sym e) s
-
-pub no_form_of : (words same : List (List ℕ)) → words ≡ same → HasNoForm same → HasNoForm words
-no_form_of words same e s = let P : List (List ℕ) → Type 0 = λ v. HasNoForm v in subst P (sym e) s
 
 -- ---- the word of a number
 
@@ -129,25 +65,7 @@ form_given words f g e s = let P : Form → Type 0 = λ v. SpellsForm words v in
 
 -- ---- what was asked for was done
 
-pub plain_told : (words : List (List ℕ)) (left_old left_new out_old out_new : Option (List ℕ)) (how : Status) → SpellsForm words form.Plain → Replays left_old left_new out_old out_new how
-    → (f : Form) → SpellsForm words f → ReplaysForm f left_old left_new out_old out_new how
-plain_told words left_old left_new out_old out_new how k r f s =
-    let P : Form → Type 0 = λ v. ReplaysForm v left_old left_new out_old out_new how in subst P (same_form words form.Plain f k s) r
-
 pub drill_told : (words : List (List ℕ)) (n : ℕ) (left out_old out_new : Option (List ℕ)) (how : Status) → SpellsForm words (form.Drill n) → DrillsAs n out_old out_new how
     → (f : Form) → SpellsForm words f → ReplaysForm f left left out_old out_new how
 drill_told words n left out_old out_new how k d f s =
     let P : Form → Type 0 = λ v. ReplaysForm v left left out_old out_new how in subst P (same_form words (form.Drill n) f k s) (refl, d)
-
-pub none_told : (words : List (List ℕ)) (left_old left_new out_old out_new : Option (List ℕ)) (how : Status) → HasNoForm words
-    → (f : Form) → SpellsForm words f → ReplaysForm f left_old left_new out_old out_new how
-none_told words left_old left_new out_old out_new how none f s = absurd (none.none f s)
-
-pub no_usage : (words : List (List ℕ)) (f : Form) (how : Status) → SpellsForm words f → (how ≡ status.Usage → ⊥) → (how ≡ status.Usage) ↔ HasNoForm words
-no_usage words f how k never = (λ e. absurd (never e), λ none. absurd (none.none f k))
-
-pub drill_no_usage : (n : ℕ) (out_old out_new : Option (List ℕ)) (how : Status) → DrillsAs n out_old out_new how → how ≡ status.Usage → ⊥
-drill_no_usage n out_old out_new how d e = let P : Status → Type 0 = λ v. DrillsAs n out_old out_new v in subst P e d
-
-pub drill_no_read : (n : ℕ) (out_old out_new : Option (List ℕ)) (how : Status) → DrillsAs n out_old out_new how → how ≡ status.ReadFault → ⊥
-drill_no_read n out_old out_new how d e = let P : Status → Type 0 = λ v. DrillsAs n out_old out_new v in subst P e d

@@ -19,7 +19,7 @@ use Rattle.tape_laws.specs.Plain.{plain_setup}
 use Rattle.tape_laws.specs.PlainTape.{IsPlainWhole}
 use Rattle.plain_core.specs.Runs.{Turns}
 use Rattle.plain_core.specs.Stands.{Rests}
-use Rattle.plain_core.specs.declared.worker.Core.{Core}
+use Rattle.plain_core.specs.declared.plain.PlainCore.{PlainCore}
 use Rattle.replay_run.specs.declared.status.Status.TheVariants as status
 
 -- a lawful tape of the drill of n streams, one whole dispatch for each of its events
@@ -60,13 +60,13 @@ DrillsAs n out_old out_new status.Memory = Appends out_old out_new []
 DrillsAs n out_old out_new status = ⊥
 
 -- an event was dispatched, and its notes were counted
-pub record CountsEvent (core : Core) (t : Tally) (e : Event) (after : Core) (counted : Tally) : Type 0 where
+pub record CountsEvent (core : PlainCore) (t : Tally) (e : Event) (after : PlainCore) (counted : Tally) : Type 0 where
   pub notes : List Note
   pub turns : Turns core [] e after notes
   pub tally : TallyGoes t notes counted
 
 -- what stands while a drill is run: the events so far were dispatched, and those that are left may come
-pub record Drilled (n : ℕ) (core : Core) (d : Drill) (t : Tally) : Type 0 where
+pub record Drilled (n : ℕ) (core : PlainCore) (d : Drill) (t : Tally) : Type 0 where
   pub history : History NoMark
   pub later : List Event
   pub rests : Rests drill_limits core history

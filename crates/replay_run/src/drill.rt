@@ -1,5 +1,7 @@
 // The events of a drill, one at a time.
-ghost use Rattle.std.specs.Prelude.{◌≡◌, ◌<◌, ◌≤◌, ◌+◌, ◌*◌, ◌/◌, ◌%◌, ◌++◌, replicate, IfOk, ℕ};
+ghost use Rattle.std.specs.List.{AllByRecursion};
+ghost use Rattle.std.specs.Prelude.{◌≡◌, ◌<◌, ◌≤◌, ◌+◌, ◌*◌, ◌/◌, ◌%◌, ◌++◌, replicate, IfOk, List, ℕ};
+ghost use Rattle.flow_notes.specs.Event.{IsEvent};
 ghost use Rattle.replay_run.specs.Drill.{amount as amount_of, drill as drill_of, next_number as number_behind, number_after, stream_at as stream_of};
 ghost use Rattle.replay_run.specs.Drilling.{GoesTo, drains_from, ends_from, opens_from, round_from, rounds_from};
 
@@ -198,11 +200,12 @@ fn octets_of(alloc: Global, stream: u32, n: u32) -> Result<Octets, NoMemory>
     Ok(Octets::from_vec(octets))
 }
 
-/// All events of the drill of n streams, 1 to 1,000, in their order: 69 n.
+/// All events of the drill of n streams, 1 to 1,000, in their order: 69 n. Each has a spelling.
 pub fn drill_events(alloc: Global, n: u32) -> Result<EventList, NoMemory>
     requires some { 0 < n }
     requires few { n ≤ 1000 }
-    ensures { IfOk result (λ events. events ≡ drill_of n) }
+    ensures drill { IfOk result (λ events. events ≡ drill_of n) }
+    ensures spelled { IfOk result (λ events. (names : List (List ℕ)) → AllByRecursion (IsEvent names) events) }
 {
     let mut events = EventList::new(alloc);
     let mut drill = Drill::new(n);

@@ -11,9 +11,9 @@ use crate::status::Status;
 use crate::tally::Tally;
 use flow_notes::{Event, Notes};
 use io_ports::{Failed, NoMemory, Octets, Sink};
+use plain_core::PlainCore;
 use std::alloc::Global;
 use tape_laws::PlainLimits;
-use plain_core::Core;
 
 /// The limits of a drill, in octets.
 const LIMITS: PlainLimits = PlainLimits {
@@ -56,7 +56,7 @@ fn run_drill(alloc: Global, streams: u32) -> Result<Tally, NoMemory>
     requires few { streams ≤ 1000 }
     ensures { IfOk result (TalliesDrill streams) }
 {
-    let mut core = Core::plain(alloc, LIMITS)?;
+    let mut core = PlainCore::new(alloc, LIMITS)?;
     let mut drill = Drill::new(streams);
     let mut tally = Tally::new();
     let mut notes = Notes::new(alloc);
@@ -69,7 +69,7 @@ fn run_drill(alloc: Global, streams: u32) -> Result<Tally, NoMemory>
 // Dispatches an event, and counts its notes, which replace those that were there.
 #[tactic(auto, using(crate::proofs::DrillRuns::event_counted))]
 fn count_event(
-    core: &mut Core,
+    core: &mut PlainCore,
     event: Event,
     notes: &mut Notes,
     tally: &mut Tally,

@@ -33,7 +33,7 @@ mod words;
 pub use courses::{Course, Courses};
 pub use drill::{Drill, Upcoming, drill_events};
 pub use form::{Form, read_form};
-pub use formats::both_formats_spell_one_session;
+pub use formats::{both_formats_spell_one_session, one_session};
 pub use lines::Lines;
 pub use order::{Format, LineRead, Order, Stage};
 pub use output::write_all;
@@ -45,6 +45,3 @@ pub use short::put_short;
 pub use status::Status;
 pub use tally::Tally;
 pub use text::session_text;
-
-#[cfg(test)]
-mod tests;

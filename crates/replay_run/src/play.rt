@@ -10,9 +10,9 @@ use crate::tape_log::TapeLog;
 use crate::tell::tell;
 use flow_notes::{Event, Notes};
 use io_ports::{NoMemory, Octets};
+use plain_core::PlainCore;
 use std::alloc::Global;
 use tape_laws::PlainLimits;
-use plain_core::Core;
 
 /// The limits before any are read.
 const NO_LIMITS: PlainLimits = PlainLimits {
@@ -37,7 +37,7 @@ pub enum Went {
 pub struct Play {
     pub alloc: Global,
     pub order: Order,
-    pub core: Core,
+    pub core: PlainCore,
     pub log: TapeLog,
     pub notes: Notes,
     pub text: Octets,
@@ -57,7 +57,7 @@ impl Play {
         Ok(Play {
             alloc,
             order: Order::plain(alloc),
-            core: Core::plain(alloc, NO_LIMITS)?,
+            core: PlainCore::new(alloc, NO_LIMITS)?,
             log: TapeLog::new(alloc, NO_LIMITS),
             notes: Notes::new(alloc),
             text: Octets::new(alloc),
@@ -73,7 +73,7 @@ impl Play {
         match read_session_line(&mut self.order, line)? {
             LineRead::Header => Ok(Went::On),
             LineRead::Limits(limits) => {
-                self.core = Core::plain(self.alloc, limits)?;
+                self.core = PlainCore::new(self.alloc, limits)?;
                 self.log = TapeLog::new(self.alloc, limits);
                 Ok(Went::On)
             }

@@ -16,8 +16,9 @@ const LINE: usize = 40_000;
 /// The text is written as soon as it has so many octets, and before more is read.
 const PIECE: usize = 65_536;
 
-/// A session that is read, played and written piece by piece. What it holds doesn't grow with the
-/// session.
+/// A session that is read, played and written piece by piece. Of the session and of its tape it holds a
+/// piece each. What grows is the core, with the streams and what waits in their buffers, and what the
+/// summary tells: something of each stream and of each pause.
 #[derive(Drop)]
 pub struct Run {
     pub lines: Lines,

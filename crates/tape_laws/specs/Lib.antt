@@ -13,6 +13,7 @@ pub mod Lawful
 pub mod Order
 pub mod Pauses
 pub mod Plain
+pub mod PlainSession
 pub mod PlainTape
 pub mod Quiet
 pub mod Release

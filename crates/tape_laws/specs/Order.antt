@@ -68,7 +68,7 @@ abbrev pub PickedInTurn : {Mark : Type 0} → Setup Mark → ℕ → FramedUnit 
 PickedInTurn setup c (HeadOf f) past = next_on setup c past ≡ Flows f HeadUnit
 PickedInTurn setup c (TrailersOf f) past = next_on setup c past ≡ Flows f TrailersUnit
 PickedInTurn setup c (Put w) past = next_on setup c past ≡ Waits w
-PickedInTurn setup c (Farewell code) past = Unit {0}
+PickedInTurn setup c (Farewell code why) past = Unit {0}
 
 -- a unit stands only in its turn
 abbrev pub InTurn : {Mark : Type 0} → Setup Mark → Step Mark → History Mark → Type 0

@@ -45,14 +45,6 @@ abbrev pub fed : {Mark : Type 0} → Setup Mark → Note → History Mark → Li
 fed setup (note.Move f p n) past = place_buffer setup f (p + 1) past ∷ []
 fed setup n past = option_to_list (option_map (λ c. buffer.Write c) (framed_on n))
 
--- the buffers that a note makes shorter; a doom's buffers have no watcher left
-abbrev pub eased : {Mark : Type 0} → Setup Mark → Note → History Mark → List BufferId
-eased setup (note.Move f p n) past = place_buffer setup f p past ∷ []
-eased setup (note.Frame c f n last) past = buffer.Send f ∷ []
-eased setup (note.Out c n) past = buffer.Write c ∷ []
-eased setup (note.Close c code closed.Lost) past = buffer.Write c ∷ []
-eased setup n past = []
-
 -- one pause for each watcher of a buffer that rose
 abbrev pub pauses_of_rise : {Mark : Type 0} → Setup Mark → Step Mark → History Mark → List Owed
 pauses_of_rise setup (Noted n) past =
@@ -74,15 +66,24 @@ due_pauses setup (Noted (note.Pause f b) ∷ past) = drop 1 (due_pauses setup pa
 due_pauses setup (Noted (note.Start x c s d) ∷ past) = pauses_of_start setup x (Noted (note.Start x c s d) ∷ past)
 due_pauses setup (step ∷ past) = pauses_of_rise setup step past
 
--- the flows that are still to be told that the buffer drained, in order
+-- the watchers of a buffer b where it is a, which the step makes shorter and which drains by it
+abbrev pub told_of_drain : {Mark : Type 0} → Setup Mark → BufferId → BufferId → Step Mark → History Mark → List FlowId
+told_of_drain setup b a step past = if same_buffer b a && drains_at setup b step past then watchers setup b past else []
+
+-- The flows that are still to be told that the buffer drained, in order. A doom's own buffers have no watcher left.
 abbrev pub pending_lows : {Mark : Type 0} → Setup Mark → BufferId → History Mark → List FlowId
 pending_lows setup b [] = []
 pending_lows setup b (Noted (note.Resume f a) ∷ past) = drop (if same_buffer a b then 1 else 0) (pending_lows setup b past)
 pending_lows setup b (Noted (note.Doom x why) ∷ past) = filter (λ f. not (f.exchange == x)) (pending_lows setup b past)
-pending_lows setup b (Noted n ∷ past) =
-    pending_lows setup b past
-    ++ (if list_any (same_buffer b) (eased setup n past) && drains_at setup b (Noted n) past then watchers setup b past else [])
-pending_lows setup b (Marked m ∷ past) = pending_lows setup b past
+pending_lows setup b (Noted (note.Move f p n) ∷ past) =
+    pending_lows setup b past ++ told_of_drain setup b (place_buffer setup f p past) (Noted (note.Move f p n)) past
+pending_lows setup b (Noted (note.Frame c f n last) ∷ past) =
+    pending_lows setup b past ++ told_of_drain setup b (buffer.Send f) (Noted (note.Frame c f n last)) past
+pending_lows setup b (Noted (note.Out c n) ∷ past) =
+    pending_lows setup b past ++ told_of_drain setup b (buffer.Write c) (Noted (note.Out c n)) past
+pending_lows setup b (Noted (note.Close c code closed.Lost) ∷ past) =
+    pending_lows setup b past ++ told_of_drain setup b (buffer.Write c) (Noted (note.Close c code closed.Lost)) past
+pending_lows setup b (step ∷ past) = pending_lows setup b past
 
 -- the head of a list is this
 abbrev pub Heads : {A : Type 0} → A → List A → Type 0

@@ -1,15 +1,9 @@
 -- A plain session: streams of one connection, 0, that its events begin, feed and end.
-use Rattle.flow_notes.specs.declared.events.PlainEvent.{PlainEvent}
-use Rattle.std.specs.Prelude.{Bool, List, None, Some, [], false, if◌then◌else◌, length, nat_lt, ℕ, ◌&&◌, ◌++◌, ◌+◌, ◌==◌, ◌||◌, ◌∷◌}
-use Rattle.tape_laws.specs.Dispatches.{has, live}
+use Rattle.std.specs.Prelude.{Bool, List, None, Some, [], false, if◌then◌else◌, ℕ, ◌++◌, ◌==◌, ◌||◌, ◌∷◌}
 use Rattle.tape_laws.specs.Flows.{request}
-use Rattle.tape_laws.specs.History.{History, NoMark, Noted, Step}
-use Rattle.tape_laws.specs.Room.{room_demand}
-use Rattle.tape_laws.specs.Setup.{Session, Setup}
-use Rattle.tape_laws.specs.Units.{Demand, Free, WantsArrive, WantsDoom, WantsStart}
-use Rattle.tape_laws.specs.World.{recv}
+use Rattle.tape_laws.specs.History.{History, Noted}
+use Rattle.tape_laws.specs.Setup.{Setup}
 use Rattle.tape_laws.specs.declared.limits.PlainLimits.{PlainLimits}
-use Rattle.flow_notes.specs.declared.notes.Cause.TheVariants as cause
 use Rattle.flow_notes.specs.declared.events.Event.TheVariants as event
 use Rattle.flow_notes.specs.declared.notes.Note.TheVariants as note
 use Rattle.flow_notes.specs.declared.events.PlainEvent.TheVariants as plain
@@ -33,20 +27,6 @@ paired_with s [] = []
 paired_with s (Noted (note.Turn k (event.Plain (plain.Pair first second))) ∷ past) =
     (if second == s then first ∷ [] else []) ++ paired_with s past
 paired_with s (step ∷ past) = paired_with s past
-
-abbrev pub ask_if : Bool → Demand → Demand
-ask_if b d = if b then d else Free
-
--- What an event asks for: a start, the arrival of its octets or the doom of a stream that would hold more than its
--- window (FLOW_CONTROL_ERROR, 3), the doom of a stream that is reset (CANCEL, 8), or octets that leave.
-abbrev pub plain_demand : {Mark : Type 0} → Setup Mark → PlainEvent → History Mark → Demand
-plain_demand setup (plain.Begin s) past = WantsStart s 0 s 0
-plain_demand setup (plain.Body s octets) past = ask_if (has (live past) s)
-    (if nat_lt setup.recv (length (recv setup (request s) past) + length octets) then WantsDoom s (cause.StreamError 3)
-    else WantsArrive (request s) octets)
-plain_demand setup (plain.Cut s) past = ask_if (has (live past) s) (WantsDoom s (cause.PeerReset 8))
-plain_demand setup (plain.Room n) past = room_demand setup 0 n past
-plain_demand setup e past = Free
 
 -- each stream has a request flow alone, without stages, that goes to connection 0
 abbrev pub plain_setup : {Mark : Type 0} → PlainLimits → Setup Mark
@@ -73,19 +53,3 @@ plain_setup limits = record {
   grants = λ c past. [];
   picks = λ m. None;
 }
-
--- only an event asks for something at once
-abbrev pub plain_asked : {Mark : Type 0} → PlainLimits → Step Mark → History Mark → Demand
-plain_asked limits (Noted (note.Turn k (event.Plain e))) past = plain_demand (plain_setup limits) e past
-plain_asked limits step past = Free
-
--- The stream's end was framed, or that of one whose end dooms it, where it was named as such by then: a pair that is
--- named after the end of its first stream dooms nobody.
-abbrev pub plain_must_end : {Mark : Type 0} → ℕ → History Mark → Bool
-plain_must_end x [] = false
-plain_must_end x (Noted (note.Frame c f n last) ∷ past) =
-    (last && has (x ∷ paired_with x past) f.exchange) || plain_must_end x past
-plain_must_end x (step ∷ past) = plain_must_end x past
-
-abbrev pub plain_session : PlainLimits → Session NoMark
-plain_session limits = record { setup = plain_setup limits; asked = plain_asked limits; must_end = plain_must_end }

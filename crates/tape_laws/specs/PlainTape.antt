@@ -1,17 +1,13 @@
 -- The lawful tapes of a plain session.
-use Rattle.tape_laws.specs.Causes.{HasCause}
-use Rattle.tape_laws.specs.History.{EachFollows, History, NoMark}
-use Rattle.tape_laws.specs.Lawful.{IsLawful}
-use Rattle.tape_laws.specs.Plain.{plain_session, plain_setup}
-use Rattle.tape_laws.specs.Quiet.{IsQuiet}
+use Rattle.tape_laws.specs.History.{History, NoMark}
+use Rattle.tape_laws.specs.Lawful.{IsLawful, IsWhole}
+use Rattle.tape_laws.specs.PlainSession.{plain_session}
 use Rattle.tape_laws.specs.declared.limits.PlainLimits.{PlainLimits}
 
 -- a history that may be cut short in its last dispatch
-pub record IsPlainLawful (limits : PlainLimits) (history : History NoMark) : Type 0 where
-  pub lawful : IsLawful (plain_session limits) history
-  pub caused : EachFollows (HasCause (plain_setup limits)) history
+abbrev pub IsPlainLawful : PlainLimits → History NoMark → Type 0
+IsPlainLawful limits history = IsLawful (plain_session limits) history
 
 -- a history that ends with a whole dispatch
-pub record IsPlainWhole (limits : PlainLimits) (history : History NoMark) : Type 0 where
-  pub lawful : IsPlainLawful limits history
-  pub quiet : IsQuiet (plain_session limits) history
+abbrev pub IsPlainWhole : PlainLimits → History NoMark → Type 0
+IsPlainWhole limits history = IsWhole (plain_session limits) history

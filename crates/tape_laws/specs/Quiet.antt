@@ -4,7 +4,7 @@ use Rattle.std.specs.List.{AllByRecursion}
 use Rattle.std.specs.Prelude.{None, [], false, suc, zero, ℕ, ◌-◌, ◌==◌, ◌≡◌}
 use Rattle.tape_laws.specs.Bounds.{IsTamed}
 use Rattle.tape_laws.specs.Connections.{open_connections}
-use Rattle.tape_laws.specs.Demands.{demand}
+use Rattle.tape_laws.specs.Demands.{obligations}
 use Rattle.tape_laws.specs.Dispatches.{live}
 use Rattle.tape_laws.specs.Doomed.{condemned}
 use Rattle.tape_laws.specs.History.{History}
@@ -13,7 +13,6 @@ use Rattle.tape_laws.specs.Pauses.{count, due_pauses, lows}
 use Rattle.tape_laws.specs.Release.{last_free, may_release}
 use Rattle.tape_laws.specs.Setup.{Session}
 use Rattle.tape_laws.specs.Sources.{EachLive, disabled}
-use Rattle.tape_laws.specs.Units.{Free}
 use Rattle.tape_laws.specs.Watermark.{above}
 use Rattle.tape_laws.specs.World.{last_place, received}
 use Rattle.flow_gate.specs.declared.ids.BufferId.TheVariants as buffer
@@ -39,6 +38,7 @@ pub record IsQuiet {Mark : Type 0} (session : Session Mark) (past : History Mark
   pub read : EachLive session.setup (λ f. received f past ≡ session.setup.body f past) past
   pub tamed : IsTamed session.setup past
   -- what was asked for was done, what had to end is doomed, and what was doomed is gone
-  pub asked : demand session past ≡ Free
+  pub asked : obligations session past ≡ []
   pub ended : AllByRecursion (λ x. session.must_end x past ≡ false) (live past)
   pub gone : condemned past ≡ []
+  pub leaves : session.leaves past

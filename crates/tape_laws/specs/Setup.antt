@@ -41,8 +41,15 @@ pub record Setup (Mark : Type 0) : Type 0 where
   -- the unit that a mark picks, if it picks one
   pub picks : Mark → Option Pick
 
--- a kind of session: its setup, what a step asks for at once, and which exchanges have to be doomed by the dispatch's end
-pub record Session (Mark : Type 0) : Type 0 where
+-- a kind of session
+pub record Session (Mark : Type 0) : Type 1 where
   pub setup : Setup Mark
-  pub asked : Step Mark → History Mark → Demand
+  -- what a step asks for at once, in order, from what stood before it
+  pub asked : Step Mark → History Mark → List Demand
+  -- each doom, close and timer has its cause
+  pub licensed : Step Mark → History Mark → Type 0
+  -- what this kind of session asks of a step besides
+  pub may : Step Mark → History Mark → Type 0
+  -- which exchanges have to be doomed by the dispatch's end, and what else a whole dispatch leaves
   pub must_end : ℕ → History Mark → Bool
+  pub leaves : History Mark → Type 0

@@ -14,12 +14,12 @@ pub data Waiting : Type 0 where
   Control : (octets : List ℕ) → Waiting
   Reply : (stream status : ℕ) → Waiting
 
--- which unit a head or answer note frames; a farewell is the GOAWAY before a close
+-- which unit a head or answer note frames; a farewell is the GOAWAY before a close, with the code and cause of that close
 pub data FramedUnit : Type 0 where
   HeadOf : FlowId → FramedUnit
   TrailersOf : FlowId → FramedUnit
   Put : Waiting → FramedUnit
-  Farewell : (code : ℕ) → FramedUnit
+  Farewell : (code : ℕ) → CloseCause → FramedUnit
 
 -- a unit that was picked for a connection, which the next note frames
 pub record Pick : Type 0 where
@@ -31,12 +31,11 @@ pub record Grant : Type 0 where
   pub stream : ℕ
   pub n : ℕ
 
--- what the last step asks for at once, before anything but pauses
+-- what a step asks for at once, before anything but pauses
 pub data Demand : Type 0 where
-  Free : Demand
   WantsOut : (conn n : ℕ) → Demand
   WantsStart : (exchange conn stream to : ℕ) → Demand
   WantsArrive : FlowId → List ℕ → Demand
   WantsDoom : (exchange : ℕ) → Cause → Demand
   WantsClose : (conn code : ℕ) → CloseCause → Demand
-  WantsUnit : (conn : ℕ) → Demand
+  WantsPicked : (conn : ℕ) → Demand

@@ -24,12 +24,17 @@ limit setup (buffer.Stage f i) past = stage_limit (setup.stages f past) i
 limit setup (buffer.Send f) past = setup.send
 limit setup (buffer.Write c) past = setup.write
 
--- It is above from when its length passes the limit until it is at most half of it. A law ties this step to
--- the moments: over the limit at some moment, and over half of it ever since.
+-- It is above from when its length passes the limit until it is at most half of it. The law `above_by_the_past` says so
+-- without this step: over the limit at some moment, and over half of it ever since.
 abbrev pub above : {Mark : Type 0} → Setup Mark → BufferId → History Mark → Bool
 above setup b [] = false
 above setup b (step ∷ past) =
     above_after (limit setup b (step ∷ past)) (above setup b past) (len setup b (step ∷ past))
+
+-- its lengths after each step, the newest first
+abbrev pub lengths : {Mark : Type 0} → Setup Mark → BufferId → History Mark → List ℕ
+lengths setup b [] = []
+lengths setup b (step ∷ past) = len setup b (step ∷ past) ∷ lengths setup b past
 
 -- the step makes the buffer rise, or drain
 abbrev pub rises_at : {Mark : Type 0} → Setup Mark → BufferId → Step Mark → History Mark → Bool

@@ -2,25 +2,17 @@
 use Rattle.flow_gate.specs.declared.ids.BufferId.{BufferId}
 use Rattle.flow_gate.specs.declared.ids.FlowId.{FlowId}
 use Rattle.flow_notes.specs.declared.notes.Note.{Note}
+use Rattle.h2_frames.specs.Head.{data_head, frame_head}
 use Rattle.std.specs.Int.{to_be_bytes, w32}
-use Rattle.std.specs.Prelude.{Bool, List, None, Option, Some, [], drop, if◌then◌else◌, length, take, ℕ, ◌%◌, ◌&&◌, ◌++◌, ◌+◌, ◌/◌, ◌==◌, ◌∷◌}
+use Rattle.std.specs.Prelude.{Bool, List, None, Option, Some, [], drop, if◌then◌else◌, length, take, ℕ, ◌&&◌, ◌++◌, ◌+◌, ◌==◌, ◌∷◌}
 use Rattle.tape_laws.specs.Connections.{was_closed}
-use Rattle.tape_laws.specs.Dispatches.{is_some_of}
 use Rattle.tape_laws.specs.Flows.{same_flow}
-use Rattle.tape_laws.specs.History.{History, Marked, Noted}
+use Rattle.tape_laws.specs.History.{History, Noted}
 use Rattle.tape_laws.specs.Setup.{Setup}
 use Rattle.flow_gate.specs.declared.ids.BufferId.TheVariants as buffer
 use Rattle.flow_notes.specs.declared.notes.CloseCause.TheVariants as closed
 use Rattle.flow_notes.specs.declared.events.Event.TheVariants as event
 use Rattle.flow_notes.specs.declared.notes.Note.TheVariants as note
-
--- the nine octets before a frame's payload (RFC 9113 section 4.1)
-abbrev pub frame_head : ℕ → ℕ → ℕ → ℕ → List ℕ
-frame_head len kind flags stream = (len / 65536) ∷ (len / 256 % 256) ∷ (len % 256) ∷ kind ∷ flags ∷ to_be_bytes w32 stream
-
--- a DATA frame's nine octets: END_STREAM is flag 1 (RFC 9113 section 6.1)
-abbrev pub data_head : ℕ → ℕ → Bool → List ℕ
-data_head stream n last = frame_head n 0 (if last then 1 else 0) stream
 
 -- a WINDOW_UPDATE frame (RFC 9113 section 6.9)
 abbrev pub window_update : ℕ → ℕ → List ℕ
@@ -64,15 +56,11 @@ sent setup f (Noted (note.Frame c g n last) ∷ past) =
     sent setup f past ++ (if same_flow g f then take n (send setup f past) else [])
 sent setup f (step ∷ past) = sent setup f past
 
--- what a note adds to the write buffer of its connection
-abbrev pub framed_octets : {Mark : Type 0} → Setup Mark → Note → History Mark → List ℕ
-framed_octets setup (note.Frame c f n last) past = data_head (setup.stream f past) n last ++ take n (send setup f past)
-framed_octets setup (note.Head c s octets) past = octets
-framed_octets setup (note.Answer c octets) past = octets
-framed_octets setup (note.Credit c s n) past = window_update s n
-framed_octets setup n past = []
+-- the octets of a DATA frame of the flow's first n octets
+abbrev pub data_frame : {Mark : Type 0} → Setup Mark → FlowId → ℕ → Bool → History Mark → List ℕ
+data_frame setup f n last past = data_head (setup.stream f past) n last ++ take n (send setup f past)
 
--- the connection that a note adds to
+-- the connection whose write buffer a note adds to
 abbrev pub framed_on : Note → Option ℕ
 framed_on (note.Frame c f n last) = Some c
 framed_on (note.Head c s octets) = Some c
@@ -83,11 +71,14 @@ framed_on n = None
 -- what the write buffer of a connection holds: a lost connection's is dropped, also where it was closed before
 abbrev pub out : {Mark : Type 0} → Setup Mark → ℕ → History Mark → List ℕ
 out setup c [] = []
+out setup c (Noted (note.Frame d f n last) ∷ past) = out setup c past ++ (if d == c then data_frame setup f n last past else [])
+out setup c (Noted (note.Head d s octets) ∷ past) = out setup c past ++ (if d == c then octets else [])
+out setup c (Noted (note.Answer d octets) ∷ past) = out setup c past ++ (if d == c then octets else [])
+out setup c (Noted (note.Credit d s n) ∷ past) = out setup c past ++ (if d == c then window_update s n else [])
 out setup c (Noted (note.Out d n) ∷ past) = drop (if d == c then n else 0) (out setup c past)
 out setup c (Noted (note.Close d code closed.Lost) ∷ past) = if d == c then [] else out setup c past
 out setup c (Noted (note.Turn k (event.Gone d)) ∷ past) = if (d == c) && was_closed c past then [] else out setup c past
-out setup c (Noted n ∷ past) = out setup c past ++ (if is_some_of (framed_on n) c then framed_octets setup n past else [])
-out setup c (Marked m ∷ past) = out setup c past
+out setup c (step ∷ past) = out setup c past
 
 -- what left the write buffer
 abbrev pub gone : {Mark : Type 0} → Setup Mark → ℕ → History Mark → List ℕ

@@ -38,20 +38,20 @@ refilling =
 pub refilled_while_pending : Whole limits_100_30 (note.Resume q3 write ∷ note.Pause q3 write ∷ note.Pause q1 write ∷ note.Frame 0 q1 22 false ∷ refilling)
 refilled_while_pending = record {
   lawful = record {
-    lawful = record {
-      allowed = search (lit≤, lit<);
-      paused = search;
-      counted = search;
-      bounded = search (lit≤);
-      tied = search;
-      ends = search;
-      in_turn = search;
-      doomed = search;
-      answered = search;
-      only = search;
-      quiet = search;
-    };
-    caused = search;
+    allowed = search (lit≤, lit<);
+    paused = search;
+    counted = search;
+    bounded = search (lit≤);
+    tied = search;
+    ends = search;
+    in_turn = search;
+    doomed = search;
+    swept = search;
+    answered = search;
+    only = search;
+    licensed = search;
+    may = search;
+    quiet = search;
   };
   quiet = search;
 }
@@ -87,20 +87,20 @@ pair_ended =
 pub doomed_pair : Whole limits_100_30 (note.Gone 3 ∷ note.Gone 1 ∷ pair_ended)
 doomed_pair = record {
   lawful = record {
-    lawful = record {
-      allowed = search (lit≤, lit<);
-      paused = search;
-      counted = search;
-      bounded = search (lit≤);
-      tied = search;
-      ends = search;
-      in_turn = search;
-      doomed = search;
-      answered = search;
-      only = search;
-      quiet = search;
-    };
-    caused = search;
+    allowed = search (lit≤, lit<);
+    paused = search;
+    counted = search;
+    bounded = search (lit≤);
+    tied = search;
+    ends = search;
+    in_turn = search;
+    doomed = search;
+    swept = search;
+    answered = search;
+    only = search;
+    licensed = search;
+    may = search;
+    quiet = search;
   };
   quiet = search;
 }
@@ -123,20 +123,20 @@ pub paused_from_the_start : Whole limits_100_30 (note.Resume q3 write ∷ note.R
     ∷ note.Pause q3 write ∷ begun_while_above)
 paused_from_the_start = record {
   lawful = record {
-    lawful = record {
-      allowed = search (lit≤, lit<);
-      paused = search;
-      counted = search;
-      bounded = search (lit≤);
-      tied = search;
-      ends = search;
-      in_turn = search;
-      doomed = search;
-      answered = search;
-      only = search;
-      quiet = search;
-    };
-    caused = search;
+    allowed = search (lit≤, lit<);
+    paused = search;
+    counted = search;
+    bounded = search (lit≤);
+    tied = search;
+    ends = search;
+    in_turn = search;
+    doomed = search;
+    swept = search;
+    answered = search;
+    only = search;
+    licensed = search;
+    may = search;
+    quiet = search;
   };
   quiet = search;
 }
@@ -159,20 +159,20 @@ pair_named_late =
 pub late_pair : Whole limits_100_30 pair_named_late
 late_pair = record {
   lawful = record {
-    lawful = record {
-      allowed = search (lit≤, lit<);
-      paused = search;
-      counted = search;
-      bounded = search (lit≤);
-      tied = search;
-      ends = search;
-      in_turn = search;
-      doomed = search;
-      answered = search;
-      only = search;
-      quiet = search;
-    };
-    caused = search;
+    allowed = search (lit≤, lit<);
+    paused = search;
+    counted = search;
+    bounded = search (lit≤);
+    tied = search;
+    ends = search;
+    in_turn = search;
+    doomed = search;
+    swept = search;
+    answered = search;
+    only = search;
+    licensed = search;
+    may = search;
+    quiet = search;
   };
   quiet = search;
 }

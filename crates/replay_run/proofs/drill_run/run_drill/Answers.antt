@@ -3,8 +3,8 @@ use Rattle.replay_run.proofs.DrillRuns.{drill_fits, drill_tallied, drilled_more,
 use Rattle.replay_run.proofs.Drilling.{events_less}
 use Rattle.replay_run.proofs.drill_run.run_drill.Goals as goal
 
-pub plain-requires : goal.plain-requires
-plain-requires c = drill_fits
+pub new-requires : goal.new-requires
+new-requires c = drill_fits
 
 pub events-init : goal.events-init
 events-init c = record { stands = drilled_none c.args.streams _ _ _ c.requires.few c.in_ok-core.ensures c.new-drill.ensures c.new-tally.ensures }

@@ -32,36 +32,36 @@ returns-clause-frames c =
     let change = subst (λ f. ChangesFlow f (body_framed c.args.next.n c.args.next.last) old.exchanges c.frame_unit.new.self) c.request-flow.ensures (c.in_ok-shifted.ensures {u = tt}).frames in
     let appends = subst (λ f. IfSome (flow_at old.exchanges f) (λ g. AppendsOctets old.conn.write c.frame_unit.new.out (c.data_head-head.result ++ take c.args.next.n (send_of g)))) c.request-flow.ensures (c.in_ok-shifted.ensures {u = tt}).appends in
     let from = subst (λ f. c.in_ok-shifted.shifted.from ≡ crossing (is_send_above old.exchanges f) (is_send_above c.frame_unit.new.self f)) c.request-flow.ensures (c.in_ok-shifted.ensures {u = tt}).from in
-    let gates = ap (λ (f : Flows). f.gates) c.see_unit.ensures.rest in
+    let gates = ap (λ (f : Flows). f.gates) c.record_unit.ensures.rest in
     let marks = subst (λ b. MarksCrossed (request c.args.next.exchange) c.in_ok-shifted.shifted b c.mark_crossed.result c.mark_crossed.new.self.gates) gates
-    (subst (λ f. MarksCrossed f c.in_ok-shifted.shifted c.see_unit.new.self.gates c.mark_crossed.result c.mark_crossed.new.self.gates) c.request-flow.ensures c.mark_crossed.ensures.marks) in
+    (subst (λ f. MarksCrossed f c.in_ok-shifted.shifted c.record_unit.new.self.gates c.mark_crossed.result c.mark_crossed.new.self.gates) c.request-flow.ensures c.mark_crossed.ensures.marks) in
     let counted = subst (λ b. IsSoundBoard b → IsSoundBoard c.mark_crossed.new.self.gates) gates c.mark_crossed.ensures.sound in
-    frames_all c.args.next.exchange c.args.next.n c.args.next.last c.mark_crossed.result c.in_ok-shifted.shifted old c.see_unit.new.self c.mark_crossed.new.self c.frame_unit.new.self c.frame_unit.new.out
-    c.data_head-head.result c.data_head-head.ensures change c.frame_unit.ensures.sound appends (c.in_ok-shifted.ensures {u = tt}).to from marks counted c.see_unit.ensures.rest
-    (piece_seen (record old { exchanges = c.frame_unit.new.self }) c.args.next.exchange c.in_ok-shifted.unit (get nat_cmp old.conn.ready) (get nat_cmp c.see_unit.new.self.conn.ready)
+    frames_all c.args.next.exchange c.args.next.n c.args.next.last c.mark_crossed.result c.in_ok-shifted.shifted old c.record_unit.new.self c.mark_crossed.new.self c.frame_unit.new.self c.frame_unit.new.out
+    c.data_head-head.result c.data_head-head.ensures change c.frame_unit.ensures.sound appends (c.in_ok-shifted.ensures {u = tt}).to from marks counted c.record_unit.ensures.rest
+    (piece_seen (record old { exchanges = c.frame_unit.new.self }) c.args.next.exchange c.in_ok-shifted.unit (get nat_cmp old.conn.ready) (get nat_cmp c.record_unit.new.self.conn.ready)
     (unit_named (record old { exchanges = c.frame_unit.new.self }) c.args.next.exchange c.request-flow.result _ c.in_ok-shifted.unit c.request-flow.ensures
     (room_is old c.from.result c.requires.settled c.from.ensures) (c.in_ok-shifted.ensures {u = tt}).unit)
-    (c.in_ok-see_unit.ensures {u = tt}).ready) c.mark_crossed.ensures.rest
+    (c.in_ok-record_unit.ensures {u = tt}).ready) c.mark_crossed.ensures.rest
 
 pub returns-clause-less : goal.returns-clause-less
 returns-clause-less c =
     let old = c.args.self.now in
     let change = subst (λ f. ChangesFlow f (body_framed c.args.next.n c.args.next.last) old.exchanges c.frame_unit.new.self) c.request-flow.ensures (c.in_ok-shifted.ensures {u = tt}).frames in
-    let gates = ap (λ (f : Flows). f.gates) c.see_unit.ensures.rest in
+    let gates = ap (λ (f : Flows). f.gates) c.record_unit.ensures.rest in
     let marks = subst (λ b. MarksCrossed (request c.args.next.exchange) c.in_ok-shifted.shifted b c.mark_crossed.result c.mark_crossed.new.self.gates) gates
-    (subst (λ f. MarksCrossed f c.in_ok-shifted.shifted c.see_unit.new.self.gates c.mark_crossed.result c.mark_crossed.new.self.gates) c.request-flow.ensures c.mark_crossed.ensures.marks) in
+    (subst (λ f. MarksCrossed f c.in_ok-shifted.shifted c.record_unit.new.self.gates c.mark_crossed.result c.mark_crossed.new.self.gates) c.request-flow.ensures c.mark_crossed.ensures.marks) in
     frame_less c.args.next.exchange c.args.next.n c.args.next.last c.mark_crossed.result c.in_ok-shifted.shifted old c.mark_crossed.new.self c.frame_unit.new.self c.requires.settled c.requires.next change
-    c.frame_unit.ensures.sound (ap (λ (f : Flows). f.exchanges) c.mark_crossed.ensures.rest ∙ ap (λ (f : Flows). f.exchanges) c.see_unit.ensures.rest) marks
+    c.frame_unit.ensures.sound (ap (λ (f : Flows). f.exchanges) c.mark_crossed.ensures.rest ∙ ap (λ (f : Flows). f.exchanges) c.record_unit.ensures.rest) marks
 
 pub mark_crossed-requires-clause-rises : goal.mark_crossed-requires-clause-rises
 mark_crossed-requires-clause-rises c = λ high.
-    subst (λ b. (is_known b (buffer.Write 0) ≡ true) × (is_marked b (buffer.Write 0) ≡ false)) (sym (ap (λ (f : Flows). f.gates) c.see_unit.ensures.rest))
+    subst (λ b. (is_known b (buffer.Write 0) ≡ true) × (is_marked b (buffer.Write 0) ≡ false)) (sym (ap (λ (f : Flows). f.gates) c.record_unit.ensures.rest))
     (rise_allowed c.args.self.now c.frame_unit.new.out.above c.requires.settled (sym high ∙ (c.in_ok-shifted.ensures {u = tt}).to))
 
 pub mark_crossed-requires-clause-drains : goal.mark_crossed-requires-clause-drains
 mark_crossed-requires-clause-drains c = λ low.
     let from = subst (λ f. c.in_ok-shifted.shifted.from ≡ crossing (is_send_above c.args.self.now.exchanges f) (is_send_above c.frame_unit.new.self f)) c.request-flow.ensures (c.in_ok-shifted.ensures {u = tt}).from in
     subst (λ b. (is_marked b (buffer.Send c.request-flow.result) ≡ true) × (pending_on b (buffer.Send c.request-flow.result) ≡ []) × (watchers_of b (buffer.Send c.request-flow.result) ≡ c.request-flow.result ∷ []))
-    (sym (ap (λ (f : Flows). f.gates) c.see_unit.ensures.rest))
+    (sym (ap (λ (f : Flows). f.gates) c.record_unit.ensures.rest))
     (subst (λ f. (is_marked c.args.self.now.gates (buffer.Send f) ≡ true) × (pending_on c.args.self.now.gates (buffer.Send f) ≡ []) × (watchers_of c.args.self.now.gates (buffer.Send f) ≡ f ∷ [])) (sym c.request-flow.ensures)
     (drain_allowed c.args.self.now c.args.next.exchange c.args.next.n c.args.next.last (is_send_above c.frame_unit.new.self (request c.args.next.exchange)) c.requires.settled c.requires.next (sym low ∙ from)))

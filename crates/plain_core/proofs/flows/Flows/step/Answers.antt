@@ -66,8 +66,8 @@ returns-in_default-step c =
       less = stay_less_all c.args.exchange old c.advance.new.self c.in-Some.field-0.step c.requires c.in_default-step.not-Moved is change c.advance.ensures.sound;
     }
 
-pub see_left-requires : goal.see_left-requires
-see_left-requires c =
+pub record_left-requires : goal.record_left-requires
+record_left-requires c =
     subst (IsLiveFlow c.advance.new.self) c.request-flow.ensures
     (step_found _ _ c.in-Some.field-0.unit (unit_of c.in_ok-step.field-0 c.in-Some.field-0 _ c.in-Some.is (c.in_ok-step.ensures {u = tt}).unit))
 
@@ -76,7 +76,7 @@ high-requires-clause-known c =
     let old = c.args.self.now in
     let is = named old c.args.exchange c.request-flow.result c.in_ok-step.field-0 c.in-Some.field-0 c.request-flow.ensures c.in-Some.is (c.in_ok-step.ensures {u = tt}).step in
     let moved = ap (λ (v : MoveStep). Some v) (sym c.in-Moved.is) ∙ is in
-    ap (λ (f : Flows). is_known f.gates (buffer.Send c.request-flow.result)) c.see_left.ensures.rest ∙ (ap (λ f. is_known old.gates (buffer.Send f)) c.request-flow.ensures
+    ap (λ (f : Flows). is_known f.gates (buffer.Send c.request-flow.result)) c.record_left.ensures.rest ∙ (ap (λ f. is_known old.gates (buffer.Send f)) c.request-flow.ensures
     ∙ (high_allowed c.args.exchange c.in-Moved.place c.in-Moved.n c.in-Moved.shifted c.in-Moved.overflow old c.requires moved).0)
 
 pub high-requires-clause-low : goal.high-requires-clause-low
@@ -84,7 +84,7 @@ high-requires-clause-low c =
     let old = c.args.self.now in
     let is = named old c.args.exchange c.request-flow.result c.in_ok-step.field-0 c.in-Some.field-0 c.request-flow.ensures c.in-Some.is (c.in_ok-step.ensures {u = tt}).step in
     let moved = ap (λ (v : MoveStep). Some v) (sym c.in-Moved.is) ∙ is in
-    ap (λ (f : Flows). is_marked f.gates (buffer.Send c.request-flow.result)) c.see_left.ensures.rest ∙ (ap (λ f. is_marked old.gates (buffer.Send f)) c.request-flow.ensures
+    ap (λ (f : Flows). is_marked f.gates (buffer.Send c.request-flow.result)) c.record_left.ensures.rest ∙ (ap (λ f. is_marked old.gates (buffer.Send f)) c.request-flow.ensures
     ∙ (high_allowed c.args.exchange c.in-Moved.place c.in-Moved.n c.in-Moved.shifted c.in-Moved.overflow old c.requires moved).1)
 
 not_high : (d : Crossed) → (d ≡ crossed.High → ⊥) → is_high d ≡ false
@@ -103,30 +103,30 @@ returns-clause-steps c =
     let unit = unit_of c.in_ok-step.field-0 c.in-Some.field-0 _ c.in-Some.is (c.in_ok-step.ensures {u = tt}).unit in
     elim c.if-rose.branch [
       | then-rose w ↦
-          let mid = w.self-is ∙ ap (λ (f : Flows). record f { gates = w.high.new.self }) c.see_left.ensures.rest in
+          let mid = w.self-is ∙ ap (λ (f : Flows). record f { gates = w.high.new.self }) c.record_left.ensures.rest in
           let high : c.in-Moved.shifted.to ≡ crossed.High = search rules in
-          moves_all x c.in-Moved.place c.in-Moved.n c.in-Moved.shifted c.in-Moved.overflow c.eq-rose.result old c.see_unit.new.self ex w.high.new.self c.see_left.new.self.holding moved change c.advance.ensures.sound
+          moves_all x c.in-Moved.place c.in-Moved.n c.in-Moved.shifted c.in-Moved.overflow c.eq-rose.result old c.record_unit.new.self ex w.high.new.self c.record_left.new.self.holding moved change c.advance.ensures.sound
           (w.if-rose.true ∙ sym (ap is_high high))
           (subst (λ r. RisesSend r x old.gates w.high.new.self) (sym w.if-rose.true) (subst (λ f. Rises (buffer.Send f) old.gates w.high.new.self) c.request-flow.ensures
-          (subst (λ b. Rises (buffer.Send c.request-flow.result) b w.high.new.self) (ap (λ (f : Flows). f.gates) c.see_left.ensures.rest) w.high.ensures.rises)))
+          (subst (λ b. Rises (buffer.Send c.request-flow.result) b w.high.new.self) (ap (λ (f : Flows). f.gates) c.record_left.ensures.rest) w.high.ensures.rises)))
           (λ was. w.high.ensures.sound)
-          (c.see_unit.ensures.rest ∙ ap (λ (f : Flows). record f { conn = record f.conn { ready = c.see_unit.new.self.conn.ready } }) mid)
-          (piece_seen (record old { exchanges = ex; gates = w.high.new.self; holding = c.see_left.new.self.holding }) x c.in-Some.field-0.unit (get nat_cmp old.conn.ready) (get nat_cmp c.see_unit.new.self.conn.ready)
-          (unit_named (record old { exchanges = ex; gates = w.high.new.self; holding = c.see_left.new.self.holding }) x c.request-flow.result _ c.in-Some.field-0.unit c.request-flow.ensures (room_is old c.from.result c.requires c.from.ensures) unit)
-          (subst (λ (f : Flows). (y : ℕ) → get nat_cmp c.see_unit.new.self.conn.ready y ≡ (if x == y then as_piece c.in-Some.field-0.unit else get nat_cmp f.conn.ready y)) mid (c.in_ok-see_unit.ensures {u = tt}).ready))
-          c.see_left.ensures.holding
+          (c.record_unit.ensures.rest ∙ ap (λ (f : Flows). record f { conn = record f.conn { ready = c.record_unit.new.self.conn.ready } }) mid)
+          (piece_seen (record old { exchanges = ex; gates = w.high.new.self; holding = c.record_left.new.self.holding }) x c.in-Some.field-0.unit (get nat_cmp old.conn.ready) (get nat_cmp c.record_unit.new.self.conn.ready)
+          (unit_named (record old { exchanges = ex; gates = w.high.new.self; holding = c.record_left.new.self.holding }) x c.request-flow.result _ c.in-Some.field-0.unit c.request-flow.ensures (room_is old c.from.result c.requires c.from.ensures) unit)
+          (subst (λ (f : Flows). (y : ℕ) → get nat_cmp c.record_unit.new.self.conn.ready y ≡ (if x == y then as_piece c.in-Some.field-0.unit else get nat_cmp f.conn.ready y)) mid (c.in_ok-record_unit.ensures {u = tt}).ready))
+          c.record_left.ensures.holding
       | else-rose w ↦
-          let mid = w.self-is ∙ c.see_left.ensures.rest in
+          let mid = w.self-is ∙ c.record_left.ensures.rest in
           let other : (c.in-Moved.shifted.to ≡ crossed.High → ⊥) = search rules in
-          moves_all x c.in-Moved.place c.in-Moved.n c.in-Moved.shifted c.in-Moved.overflow c.eq-rose.result old c.see_unit.new.self ex old.gates c.see_left.new.self.holding moved change c.advance.ensures.sound
+          moves_all x c.in-Moved.place c.in-Moved.n c.in-Moved.shifted c.in-Moved.overflow c.eq-rose.result old c.record_unit.new.self ex old.gates c.record_left.new.self.holding moved change c.advance.ensures.sound
           (w.if-rose.false ∙ sym (not_high c.in-Moved.shifted.to other))
           (subst (λ r. RisesSend r x old.gates old.gates) (sym w.if-rose.false) refl)
           (λ was. was)
-          (c.see_unit.ensures.rest ∙ ap (λ (f : Flows). record f { conn = record f.conn { ready = c.see_unit.new.self.conn.ready } }) mid)
-          (piece_seen (record old { exchanges = ex; holding = c.see_left.new.self.holding }) x c.in-Some.field-0.unit (get nat_cmp old.conn.ready) (get nat_cmp c.see_unit.new.self.conn.ready)
-          (unit_named (record old { exchanges = ex; holding = c.see_left.new.self.holding }) x c.request-flow.result _ c.in-Some.field-0.unit c.request-flow.ensures (room_is old c.from.result c.requires c.from.ensures) unit)
-          (subst (λ (f : Flows). (y : ℕ) → get nat_cmp c.see_unit.new.self.conn.ready y ≡ (if x == y then as_piece c.in-Some.field-0.unit else get nat_cmp f.conn.ready y)) mid (c.in_ok-see_unit.ensures {u = tt}).ready))
-          c.see_left.ensures.holding
+          (c.record_unit.ensures.rest ∙ ap (λ (f : Flows). record f { conn = record f.conn { ready = c.record_unit.new.self.conn.ready } }) mid)
+          (piece_seen (record old { exchanges = ex; holding = c.record_left.new.self.holding }) x c.in-Some.field-0.unit (get nat_cmp old.conn.ready) (get nat_cmp c.record_unit.new.self.conn.ready)
+          (unit_named (record old { exchanges = ex; holding = c.record_left.new.self.holding }) x c.request-flow.result _ c.in-Some.field-0.unit c.request-flow.ensures (room_is old c.from.result c.requires c.from.ensures) unit)
+          (subst (λ (f : Flows). (y : ℕ) → get nat_cmp c.record_unit.new.self.conn.ready y ≡ (if x == y then as_piece c.in-Some.field-0.unit else get nat_cmp f.conn.ready y)) mid (c.in_ok-record_unit.ensures {u = tt}).ready))
+          c.record_left.ensures.holding
     ]
 
 pub returns-clause-less : goal.returns-clause-less
@@ -139,13 +139,13 @@ returns-clause-less c =
     let moved = ap (λ (v : MoveStep). Some v) (sym c.in-Moved.is) ∙ is in
     elim c.if-rose.branch [
       | then-rose w ↦
-          let mid = w.self-is ∙ ap (λ (f : Flows). record f { gates = w.high.new.self }) c.see_left.ensures.rest in
-          moves_less_all x c.in-Moved.place c.in-Moved.n c.in-Moved.shifted c.in-Moved.overflow true old c.see_unit.new.self ex w.high.new.self c.see_left.new.self.holding c.requires moved change
+          let mid = w.self-is ∙ ap (λ (f : Flows). record f { gates = w.high.new.self }) c.record_left.ensures.rest in
+          moves_less_all x c.in-Moved.place c.in-Moved.n c.in-Moved.shifted c.in-Moved.overflow true old c.record_unit.new.self ex w.high.new.self c.record_left.new.self.holding c.requires moved change
           c.advance.ensures.sound (subst (λ f. Rises (buffer.Send f) old.gates w.high.new.self) c.request-flow.ensures
-          (subst (λ b. Rises (buffer.Send c.request-flow.result) b w.high.new.self) (ap (λ (f : Flows). f.gates) c.see_left.ensures.rest) w.high.ensures.rises))
-          (c.see_unit.ensures.rest ∙ ap (λ (f : Flows). record f { conn = record f.conn { ready = c.see_unit.new.self.conn.ready } }) mid)
+          (subst (λ b. Rises (buffer.Send c.request-flow.result) b w.high.new.self) (ap (λ (f : Flows). f.gates) c.record_left.ensures.rest) w.high.ensures.rises))
+          (c.record_unit.ensures.rest ∙ ap (λ (f : Flows). record f { conn = record f.conn { ready = c.record_unit.new.self.conn.ready } }) mid)
       | else-rose w ↦
-          let mid = w.self-is ∙ c.see_left.ensures.rest in
-          moves_less_all x c.in-Moved.place c.in-Moved.n c.in-Moved.shifted c.in-Moved.overflow false old c.see_unit.new.self ex old.gates c.see_left.new.self.holding c.requires moved change
-          c.advance.ensures.sound refl (c.see_unit.ensures.rest ∙ ap (λ (f : Flows). record f { conn = record f.conn { ready = c.see_unit.new.self.conn.ready } }) mid)
+          let mid = w.self-is ∙ c.record_left.ensures.rest in
+          moves_less_all x c.in-Moved.place c.in-Moved.n c.in-Moved.shifted c.in-Moved.overflow false old c.record_unit.new.self ex old.gates c.record_left.new.self.holding c.requires moved change
+          c.advance.ensures.sound refl (c.record_unit.ensures.rest ∙ ap (λ (f : Flows). record f { conn = record f.conn { ready = c.record_unit.new.self.conn.ready } }) mid)
     ]

@@ -3,8 +3,8 @@ use Rattle.std.proofs.Common.{refl}
 use Rattle.replay_run.proofs.Playing.{event_line_played, header_line_played, limits_line_played, limits_taken, read_as}
 use Rattle.replay_run.proofs.play.Play.line.Goals as goal
 
-pub plain-requires : goal.plain-requires
-plain-requires c = limits_taken c.args.self.now c.args.line.now c.read_session_line.new.state _
+pub new-requires : goal.new-requires
+new-requires c = limits_taken c.args.self.now c.args.line.now c.read_session_line.new.state _
     (read_as _ _ _ _ _ c.in-Limits.is c.in_ok-read_session_line.ensures) c.requires
 
 pub returns-in-Header : goal.returns-in-Header
@@ -17,4 +17,4 @@ returns-in-Event c = event_line_played c.args.self.now _ c.args.line.now c.in-Ev
 
 pub returns-in_ok-self-in-Limits : goal.returns-in_ok-self-in-Limits
 returns-in_ok-self-in-Limits c = limits_line_played c.args.self.now c.args.line.now c.read_session_line.new.state _ _
-    (read_as _ _ _ _ _ c.in-Limits.is c.in_ok-read_session_line.ensures) refl c.in_ok-self-in-Limits.ensures c.new.ensures refl
+    (read_as _ _ _ _ _ c.in-Limits.is c.in_ok-read_session_line.ensures) refl c.in_ok-self-in-Limits.ensures c.new-in-Limits.ensures refl

@@ -1,0 +1,94 @@
+-- Octets come: they arrive, or are more than there is room for, or come too late.
+use Rattle.exchange_core.specs.declared.step.Received.TheVariants as received
+use Rattle.flow_notes.specs.declared.events.Event.TheVariants as event
+use Rattle.flow_notes.specs.declared.events.PlainEvent.TheVariants as plain
+use Rattle.flow_notes.specs.declared.notes.Note.TheVariants as note
+use Rattle.std.proofs.Common.{refl, ◌∙◌}
+use Rattle.std.specs.Prelude.{[], ◌∷◌}
+use Rattle.plain_core.proofs.EventNames.{body_goes, body_said, body_same, cut_named, cut_same, late_result, opens_named, opens_same, over_lives, over_named, received_as, take_named, take_same}
+use Rattle.plain_core.proofs.EventOpens.{opened_given, opened_run}
+use Rattle.plain_core.proofs.EventResults.{arrive_named, event_result}
+use Rattle.plain_core.proofs.Fronts.{push_appends, turn_refused}
+use Rattle.plain_core.proofs.plain.PlainCore.body.Goals as goal
+
+pub receive-requires-clause-goes_on : goal.receive-requires-clause-goes_on
+receive-requires-clause-goes_on c = body_goes c.args.self.now c.args.notes.now c.args.stream c.from-exchange.result c.args.octets.now c.from-exchange.ensures c.requires
+
+-- ---- they are in the receive buffer
+pub returns-in_err-note_turn-in-Arrived-clause-cut : goal.returns-in_err-note_turn-in-Arrived-clause-cut
+returns-in_err-note_turn-in-Arrived-clause-cut c =
+    cut_named c.args.self.now c.args.notes.now _ (event.Plain (plain.Body c.args.stream c.in_ok-from_slice.field-0)) (event.Plain (plain.Body c.args.stream c.args.octets.now)) (body_said c.args.stream c.in_ok-from_slice.field-0 c.args.octets.now (c.in_ok-from_slice.ensures ∙ c.as_slice.ensures))
+    (turn_refused c.args.self.now c.begin_run.new.self _ _ c.in_ok-number-in-Arrived.number (plain.Body c.args.stream c.in_ok-from_slice.field-0) (note.Arrive c.request-flow.result c.in_ok-octets-in-Arrived.octets ∷ []) c.in_err-note_turn-in-Arrived.ensures
+    (arrive_named c.args.self.now c.begin_run.new.self c.from-exchange.result c.in_ok-number-in-Arrived.number (plain.Body c.args.stream c.in_ok-from_slice.field-0) c.args.octets.now c.in_ok-octets-in-Arrived.octets c.as_slice-2.result.now c.request-flow.result c.receive.new.self
+    (c.in_ok-octets-in-Arrived.ensures ∙ c.as_slice-in-Arrived.ensures) c.as_slice-2.ensures c.request-flow.ensures (body_same c.args.stream c.from-exchange.result c.in_ok-from_slice.field-0 c.args.octets.now c.from-exchange.ensures (c.in_ok-from_slice.ensures ∙ c.as_slice.ensures))
+    (opened_run c.args.self.now c.open_turn.new.self c.begin_run.new.self _ _ _ c.request-flow.result
+    (opened_given c.args.self.now (record c.args.self.now { flows = c.receive.new.self }) c.open_turn.new.self refl c.in_ok-number-in-Arrived.ensures.turn c.in_ok-number-in-Arrived.ensures.agenda c.open_turn.ensures.rest)
+    c.in_ok-begin_run-in-Arrived.ensures.agenda c.begin_run.ensures.rest)
+    (received_as c.from-exchange.result c.as_slice-2.result.now c.in_ok-receive.field-0 received.Arrived c.args.self.now.flows c.receive.new.self c.in-Arrived.is c.in_ok-receive.ensures) c.in_ok-number-in-Arrived.ensures.number))
+
+pub returns-in_ok-note_turn-in-Arrived-clause-ok : goal.returns-in_ok-note_turn-in-Arrived-clause-ok
+returns-in_ok-note_turn-in-Arrived-clause-ok c =
+    opens_named c.args.self.now c.begin_run.new.self c.args.notes.now _ (event.Plain (plain.Body c.args.stream c.in_ok-from_slice.field-0)) (event.Plain (plain.Body c.args.stream c.args.octets.now)) c.push.result (body_said c.args.stream c.in_ok-from_slice.field-0 c.args.octets.now (c.in_ok-from_slice.ensures ∙ c.as_slice.ensures))
+    (event_result c.args.self.now c.begin_run.new.self _ _ _ c.in_ok-number-in-Arrived.number (plain.Body c.args.stream c.in_ok-from_slice.field-0) (note.Arrive c.request-flow.result c.in_ok-octets-in-Arrived.octets ∷ []) c.push.result c.in_ok-note_turn-in-Arrived.ensures
+    (push_appends _ _ _ c.push.result c.push.ensures.ok c.push.ensures.err)
+    (arrive_named c.args.self.now c.begin_run.new.self c.from-exchange.result c.in_ok-number-in-Arrived.number (plain.Body c.args.stream c.in_ok-from_slice.field-0) c.args.octets.now c.in_ok-octets-in-Arrived.octets c.as_slice-2.result.now c.request-flow.result c.receive.new.self
+    (c.in_ok-octets-in-Arrived.ensures ∙ c.as_slice-in-Arrived.ensures) c.as_slice-2.ensures c.request-flow.ensures (body_same c.args.stream c.from-exchange.result c.in_ok-from_slice.field-0 c.args.octets.now c.from-exchange.ensures (c.in_ok-from_slice.ensures ∙ c.as_slice.ensures))
+    (opened_run c.args.self.now c.open_turn.new.self c.begin_run.new.self _ _ _ c.request-flow.result
+    (opened_given c.args.self.now (record c.args.self.now { flows = c.receive.new.self }) c.open_turn.new.self refl c.in_ok-number-in-Arrived.ensures.turn c.in_ok-number-in-Arrived.ensures.agenda c.open_turn.ensures.rest)
+    c.in_ok-begin_run-in-Arrived.ensures.agenda c.begin_run.ensures.rest)
+    (received_as c.from-exchange.result c.as_slice-2.result.now c.in_ok-receive.field-0 received.Arrived c.args.self.now.flows c.receive.new.self c.in-Arrived.is c.in_ok-receive.ensures) c.in_ok-number-in-Arrived.ensures.number)).0
+
+pub returns-in_ok-note_turn-in-Arrived-clause-cut : goal.returns-in_ok-note_turn-in-Arrived-clause-cut
+returns-in_ok-note_turn-in-Arrived-clause-cut c =
+    cut_named c.args.self.now c.args.notes.now _ (event.Plain (plain.Body c.args.stream c.in_ok-from_slice.field-0)) (event.Plain (plain.Body c.args.stream c.args.octets.now)) (body_said c.args.stream c.in_ok-from_slice.field-0 c.args.octets.now (c.in_ok-from_slice.ensures ∙ c.as_slice.ensures))
+    (event_result c.args.self.now c.begin_run.new.self _ _ _ c.in_ok-number-in-Arrived.number (plain.Body c.args.stream c.in_ok-from_slice.field-0) (note.Arrive c.request-flow.result c.in_ok-octets-in-Arrived.octets ∷ []) c.push.result c.in_ok-note_turn-in-Arrived.ensures
+    (push_appends _ _ _ c.push.result c.push.ensures.ok c.push.ensures.err)
+    (arrive_named c.args.self.now c.begin_run.new.self c.from-exchange.result c.in_ok-number-in-Arrived.number (plain.Body c.args.stream c.in_ok-from_slice.field-0) c.args.octets.now c.in_ok-octets-in-Arrived.octets c.as_slice-2.result.now c.request-flow.result c.receive.new.self
+    (c.in_ok-octets-in-Arrived.ensures ∙ c.as_slice-in-Arrived.ensures) c.as_slice-2.ensures c.request-flow.ensures (body_same c.args.stream c.from-exchange.result c.in_ok-from_slice.field-0 c.args.octets.now c.from-exchange.ensures (c.in_ok-from_slice.ensures ∙ c.as_slice.ensures))
+    (opened_run c.args.self.now c.open_turn.new.self c.begin_run.new.self _ _ _ c.request-flow.result
+    (opened_given c.args.self.now (record c.args.self.now { flows = c.receive.new.self }) c.open_turn.new.self refl c.in_ok-number-in-Arrived.ensures.turn c.in_ok-number-in-Arrived.ensures.agenda c.open_turn.ensures.rest)
+    c.in_ok-begin_run-in-Arrived.ensures.agenda c.begin_run.ensures.rest)
+    (received_as c.from-exchange.result c.as_slice-2.result.now c.in_ok-receive.field-0 received.Arrived c.args.self.now.flows c.receive.new.self c.in-Arrived.is c.in_ok-receive.ensures) c.in_ok-number-in-Arrived.ensures.number)).1
+
+-- ---- they are too many
+pub overrun-requires-clause-take : goal.overrun-requires-clause-take
+overrun-requires-clause-take c =
+    take_same c.args.self.now c.receive.new.self (event.Plain (plain.Body c.args.stream c.in_ok-from_slice.field-0)) c.args.notes.now (received_as c.from-exchange.result c.as_slice-2.result.now c.in_ok-receive.field-0 received.TooMany c.args.self.now.flows c.receive.new.self c.in-TooMany.is c.in_ok-receive.ensures).2
+    (take_named c.args.self.now c.args.notes.now (event.Plain (plain.Body c.args.stream c.in_ok-from_slice.field-0)) (event.Plain (plain.Body c.args.stream c.args.octets.now)) (body_said c.args.stream c.in_ok-from_slice.field-0 c.args.octets.now (c.in_ok-from_slice.ensures ∙ c.as_slice.ensures)) c.requires)
+
+pub overrun-requires-clause-lives : goal.overrun-requires-clause-lives
+overrun-requires-clause-lives c =
+    over_lives c.args.self.now.flows c.receive.new.self c.from-exchange.result c.as_slice-2.result.now
+    (received_as c.from-exchange.result c.as_slice-2.result.now c.in_ok-receive.field-0 received.TooMany c.args.self.now.flows c.receive.new.self c.in-TooMany.is c.in_ok-receive.ensures)
+
+pub overrun-requires-clause-over : goal.overrun-requires-clause-over
+overrun-requires-clause-over c =
+    over_named c.args.self.now.flows c.receive.new.self c.args.stream c.from-exchange.result c.in_ok-from_slice.field-0 c.as_slice-2.result.now c.args.octets.now c.from-exchange.ensures
+    (c.in_ok-from_slice.ensures ∙ c.as_slice.ensures) c.as_slice-2.ensures (received_as c.from-exchange.result c.as_slice-2.result.now c.in_ok-receive.field-0 received.TooMany c.args.self.now.flows c.receive.new.self c.in-TooMany.is c.in_ok-receive.ensures)
+
+pub returns-in-TooMany-clause-ok : goal.returns-in-TooMany-clause-ok
+returns-in-TooMany-clause-ok c =
+    opens_named c.args.self.now c.overrun.new.self c.args.notes.now c.overrun.new.notes (event.Plain (plain.Body c.args.stream c.in_ok-from_slice.field-0)) (event.Plain (plain.Body c.args.stream c.args.octets.now)) c.overrun.result (body_said c.args.stream c.in_ok-from_slice.field-0 c.args.octets.now (c.in_ok-from_slice.ensures ∙ c.as_slice.ensures))
+    (opens_same c.args.self.now c.overrun.new.self c.receive.new.self c.args.notes.now c.overrun.new.notes (event.Plain (plain.Body c.args.stream c.in_ok-from_slice.field-0)) c.overrun.result
+    (received_as c.from-exchange.result c.as_slice-2.result.now c.in_ok-receive.field-0 received.TooMany c.args.self.now.flows c.receive.new.self c.in-TooMany.is c.in_ok-receive.ensures).2 c.overrun.ensures.ok)
+
+pub returns-in-TooMany-clause-cut : goal.returns-in-TooMany-clause-cut
+returns-in-TooMany-clause-cut c =
+    cut_named c.args.self.now c.args.notes.now c.overrun.new.notes (event.Plain (plain.Body c.args.stream c.in_ok-from_slice.field-0)) (event.Plain (plain.Body c.args.stream c.args.octets.now)) (body_said c.args.stream c.in_ok-from_slice.field-0 c.args.octets.now (c.in_ok-from_slice.ensures ∙ c.as_slice.ensures))
+    (cut_same c.args.self.now c.receive.new.self c.args.notes.now c.overrun.new.notes (event.Plain (plain.Body c.args.stream c.in_ok-from_slice.field-0))
+    (received_as c.from-exchange.result c.as_slice-2.result.now c.in_ok-receive.field-0 received.TooMany c.args.self.now.flows c.receive.new.self c.in-TooMany.is c.in_ok-receive.ensures).2 c.overrun.ensures.cut)
+
+-- ---- they come too late
+pub returns-in_ok-number-in-NotLive-clause-ok : goal.returns-in_ok-number-in-NotLive-clause-ok
+returns-in_ok-number-in-NotLive-clause-ok c =
+    (late_result c.args.self.now c.open_turn-in-NotLive.new.self c.receive.new.self _ _ c.args.stream c.from-exchange.result c.in_ok-number-in-NotLive.number c.in_ok-from_slice.field-0 c.args.octets.now c.note_turn-in-NotLive.result
+    c.from-exchange.ensures (c.in_ok-from_slice.ensures ∙ c.as_slice.ensures) c.note_turn-in-NotLive.ensures
+    (opened_given c.args.self.now (record c.args.self.now { flows = c.receive.new.self }) c.open_turn-in-NotLive.new.self refl c.in_ok-number-in-NotLive.ensures.turn c.in_ok-number-in-NotLive.ensures.agenda c.open_turn-in-NotLive.ensures.rest)
+    (received_as c.from-exchange.result c.as_slice-2.result.now c.in_ok-receive.field-0 received.NotLive c.args.self.now.flows c.receive.new.self c.in-NotLive.is c.in_ok-receive.ensures) c.in_ok-number-in-NotLive.ensures.number).0
+
+pub returns-in_ok-number-in-NotLive-clause-cut : goal.returns-in_ok-number-in-NotLive-clause-cut
+returns-in_ok-number-in-NotLive-clause-cut c =
+    (late_result c.args.self.now c.open_turn-in-NotLive.new.self c.receive.new.self _ _ c.args.stream c.from-exchange.result c.in_ok-number-in-NotLive.number c.in_ok-from_slice.field-0 c.args.octets.now c.note_turn-in-NotLive.result
+    c.from-exchange.ensures (c.in_ok-from_slice.ensures ∙ c.as_slice.ensures) c.note_turn-in-NotLive.ensures
+    (opened_given c.args.self.now (record c.args.self.now { flows = c.receive.new.self }) c.open_turn-in-NotLive.new.self refl c.in_ok-number-in-NotLive.ensures.turn c.in_ok-number-in-NotLive.ensures.agenda c.open_turn-in-NotLive.ensures.rest)
+    (received_as c.from-exchange.result c.as_slice-2.result.now c.in_ok-receive.field-0 received.NotLive c.args.self.now.flows c.receive.new.self c.in-NotLive.is c.in_ok-receive.ensures) c.in_ok-number-in-NotLive.ensures.number).1

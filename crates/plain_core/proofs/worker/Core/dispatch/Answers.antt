@@ -1,6 +1,0 @@
--- A dispatch, unless an earlier one met want of memory.
-use Rattle.plain_core.proofs.Fronts.{no_turn}
-use Rattle.plain_core.proofs.worker.Core.dispatch.Goals as goal
-
-pub returns-then-self-clause-cut : goal.returns-then-self-clause-cut
-returns-then-self-clause-cut c = no_turn c.args.self.now c.args.notes.now c.args.event.now
