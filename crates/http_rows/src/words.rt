@@ -1,0 +1,182 @@
+// Octets, numbers, frames and acts in words.
+use h2_frames::{Frame, Weighting};
+use h2_session::{Act, SettingList};
+use std::alloc::{AllocError, Global};
+
+/// The number of a word, and 0 where it is none.
+pub fn number(word: &str) -> u32 {
+    word.parse::<u32>().unwrap_or(0)
+}
+
+/// The octets that a word spells in hexadecimal. `HEX~N` is filled up to N octets with octets 7.
+pub fn octets_of(alloc: Global, word: &str) -> Result<Vec<u8>, AllocError> {
+    let (text, len) = word.split_once('~').unwrap_or((word, "0"));
+    let Ok(mut octets) = hex::decode(alloc, text) else {
+        return Ok(Vec::new(alloc));
+    };
+    let len = number(len) as usize;
+    if len > octets.len() {
+        octets.resize(len, 7)?;
+    }
+    Ok(octets)
+}
+
+/// Octets in hexadecimal, or how many there are of more than 64. No octets are a dash.
+pub fn shown(alloc: Global, octets: &[u8]) -> Result<String, AllocError> {
+    if octets.is_empty() {
+        return format!(in alloc; "-");
+    }
+    if octets.len() > 64 {
+        return format!(in alloc; "({} octets)", octets.len());
+    }
+    hex::encode(alloc, octets)
+}
+
+fn end_word(last: bool) -> &'static str {
+    if last { "last" } else { "more" }
+}
+
+fn ack_word(ack: bool) -> &'static str {
+    if ack { "ack" } else { "-" }
+}
+
+fn weighting_words(alloc: Global, weighting: &Weighting) -> Result<String, AllocError> {
+    let word = if weighting.exclusive {
+        "exclusive"
+    } else {
+        "shared"
+    };
+    format!(in alloc; "{word} {} {}", weighting.dependency, weighting.weight)
+}
+
+fn priority_words(alloc: Global, priority: &Option<Weighting>) -> Result<String, AllocError> {
+    match priority {
+        Some(weighting) => weighting_words(alloc, weighting),
+        None => format!(in alloc; "-"),
+    }
+}
+
+// The octets of a frame that are shown last.
+fn frame_octets<'a>(frame: &'a Frame<'_>) -> &'a [u8] {
+    match frame {
+        Frame::DataFrame { octets, .. } => octets,
+        Frame::Unknown { octets, .. } => octets,
+        Frame::Headers { block, .. } => block,
+        Frame::Push { block, .. } => block,
+        Frame::Continuation { block, .. } => block,
+        Frame::Settings { entries, .. } => entries,
+        Frame::GoAway { debug, .. } => debug,
+        Frame::Ping { octets, .. } => octets,
+        Frame::Priority { .. } | Frame::Reset { .. } | Frame::WindowUpdate { .. } => &[],
+    }
+}
+
+/// A frame in words: its type, its stream, flags and numbers, and its octets.
+pub fn frame_words(alloc: Global, frame: &Frame) -> Result<String, AllocError> {
+    let octets = shown(alloc, frame_octets(frame))?;
+    match *frame {
+        Frame::DataFrame {
+            stream,
+            last,
+            padded,
+            ..
+        } => format!(in alloc; "DATA {stream} {} {padded} {octets}", end_word(last)),
+        Frame::Headers {
+            stream,
+            last,
+            end_headers,
+            padded,
+            priority,
+            ..
+        } => {
+            let priority = priority_words(alloc, &priority)?;
+            let (last, end_headers) = (end_word(last), end_word(end_headers));
+            format!(in alloc; "HEADERS {stream} {last} {end_headers} {padded} {priority} {octets}")
+        }
+        Frame::Priority { stream, priority } => {
+            let priority = weighting_words(alloc, &priority)?;
+            format!(in alloc; "PRIORITY {stream} {priority}")
+        }
+        Frame::Reset { stream, code } => format!(in alloc; "RST_STREAM {stream} {code}"),
+        Frame::Settings { ack, .. } => { format!(in alloc; "SETTINGS {} {octets}", ack_word(ack)) }
+        Frame::Push {
+            stream,
+            end_headers,
+            padded,
+            promised,
+            ..
+        } => {
+            let end_headers = end_word(end_headers);
+            format!(in alloc; "PUSH_PROMISE {stream} {end_headers} {padded} {promised} {octets}")
+        }
+        Frame::Ping { ack, .. } => format!(in alloc; "PING {} {octets}", ack_word(ack)),
+        Frame::GoAway { last, code, .. } => format!(in alloc; "GOAWAY {last} {code} {octets}"),
+        Frame::WindowUpdate { stream, increment } => {
+            format!(in alloc; "WINDOW_UPDATE {stream} {increment}")
+        }
+        Frame::Continuation {
+            stream,
+            end_headers,
+            ..
+        } => format!(in alloc; "CONTINUATION {stream} {} {octets}", end_word(end_headers)),
+        Frame::Unknown {
+            kind,
+            flags,
+            stream,
+            ..
+        } => format!(in alloc; "type {kind} {flags} {stream} {octets}"),
+    }
+}
+
+// The octets of an act that are shown.
+fn act_octets(act: &Act) -> &[u8] {
+    match act {
+        Act::Body { octets, .. } => octets.as_slice(),
+        Act::Ping { octets } => octets.as_slice(),
+        Act::Head { block, .. } => block.as_slice(),
+        Act::Trailers { block, .. } => block.as_slice(),
+        Act::OldBlock { block } => block.as_slice(),
+        Act::StreamError { block, .. } => block.as_slice(),
+        _ => &[],
+    }
+}
+
+/// An act in words: what it is, its stream, its numbers and its octets.
+pub fn act_words(alloc: Global, act: &Act) -> Result<String, AllocError> {
+    let octets = shown(alloc, act_octets(act))?;
+    match act {
+        Act::Ignore => format!(in alloc; "ignore"),
+        Act::Body {
+            stream,
+            padded,
+            last,
+            ..
+        } => format!(in alloc; "body {stream} {octets} {padded} {}", end_word(*last)),
+        Act::Late { stream, n } => format!(in alloc; "late {stream} {n}"),
+        Act::Head { stream, last, .. } => {
+            format!(in alloc; "head {stream} {octets} {}", end_word(*last))
+        }
+        Act::Trailers { stream, .. } => format!(in alloc; "trailers {stream} {octets}"),
+        Act::OldBlock { .. } => format!(in alloc; "old {octets}"),
+        Act::Settings { list } => list_words(alloc, list),
+        Act::Ack => format!(in alloc; "ack"),
+        Act::Ping { .. } => format!(in alloc; "ping {octets}"),
+        Act::WindowUp { stream, n } => format!(in alloc; "window {stream} {n}"),
+        Act::PeerReset { stream, code } => format!(in alloc; "reset {stream} {code}"),
+        Act::GoAway { last, code } => format!(in alloc; "goaway {last} {code}"),
+        Act::StreamError { stream, code, .. } => {
+            format!(in alloc; "stream {stream} {code} {octets}")
+        }
+        Act::ConnError { code } => format!(in alloc; "connection {code}"),
+    }
+}
+
+/// Settings in words: the number and value of each.
+pub fn list_words(alloc: Global, list: &SettingList) -> Result<String, AllocError> {
+    let mut text = String::from_str(alloc, "settings")?;
+    for setting in list.as_slice() {
+        let (id, value) = (setting.id, setting.value);
+        text.push_str(format!(in alloc; " {id}={value}")?.as_str())?;
+    }
+    Ok(text)
+}
