@@ -1,4 +1,5 @@
 // Texts of events and notes, and names that are refused.
+mod copies;
 mod passages;
 mod reading;
 

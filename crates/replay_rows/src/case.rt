@@ -1,0 +1,80 @@
+// A case: the words of a replay, its session, and what fails of its outside.
+ghost use Rattle.std.specs.Prelude.{◌≡◌};
+
+use io_ports::{NoMemory, Octets};
+use std::alloc::Global;
+
+/// A case under way. Its source and its sink fail at the calls with these numbers, counted from 0.
+#[derive(Drop)]
+pub struct Case {
+    alloc: Global,
+    pub words: Vec<String>,
+    pub reads: Vec<u64>,
+    pub writes: Vec<u64>,
+    pub session: Octets,
+}
+
+impl Case {
+    /// No words, an empty session, and no faults. Takes no memory.
+    pub fn new(alloc: Global) -> Self {
+        Case {
+            alloc,
+            words: Vec::new(alloc),
+            reads: Vec::new(alloc),
+            writes: Vec::new(alloc),
+            session: Octets::new(alloc),
+        }
+    }
+
+    /// Whether neither the source nor the sink fails.
+    pub fn is_sound(&self) -> bool {
+        self.reads.is_empty() && self.writes.is_empty()
+    }
+
+    /// Takes up a line behind the case's name, given without its newline: the words, a fault, the cut of
+    /// the last newline, or a line of the session.
+    pub fn line(&mut self, line: &str) -> Result<(), NoMemory> {
+        if let Some(words) = line.strip_prefix("$ ") {
+            self.take_words(words)
+        } else if let Some(call) = line.strip_prefix("% read ") {
+            Ok(self.reads.push(number(call))?)
+        } else if let Some(call) = line.strip_prefix("% write ") {
+            Ok(self.writes.push(number(call))?)
+        } else if line == "% cut" {
+            self.session.truncate(self.session.len().saturating_sub(1));
+            Ok(())
+        } else if line == "$" {
+            Ok(())
+        } else {
+            self.session_line(line)
+        }
+    }
+
+    // The words, with a space between two. A dash is an empty word.
+    fn take_words(&mut self, words: &str) -> Result<(), NoMemory> {
+        for word in words.split(' ') {
+            let word = if word == "-" { "" } else { word };
+            self.words.push(String::from_str(self.alloc, word)?)?;
+        }
+        Ok(())
+    }
+
+    // A line of the session. `*N` at its end says that the two digits before it stand N times.
+    fn session_line(&mut self, line: &str) -> Result<(), NoMemory> {
+        let Some((front, times)) = line.split_once('*') else {
+            self.session.push_all(line.as_bytes())?;
+            return self.session.push_all(b"\n");
+        };
+        self.session.push_all(front.as_bytes())?;
+        let digits = front.as_bytes();
+        let (_, digits) = digits.split_at(digits.len().saturating_sub(2));
+        for _ in 1..number(times) {
+            self.session.push_all(digits)?;
+        }
+        self.session.push_all(b"\n")
+    }
+}
+
+fn number(word: &str) -> u64 {
+    word.parse::<u64>().unwrap_or(0)
+}
