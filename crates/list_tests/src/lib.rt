@@ -1,7 +1,9 @@
-//! What linked lists and the answers to load give, by tables with values from outside.
+//! What linked lists, timers and the answers to load give, by tables with values from outside.
 #![tactic(auto)]
 
 #[cfg(test)]
 mod lists;
 #[cfg(test)]
 mod overload;
+#[cfg(test)]
+mod timers;

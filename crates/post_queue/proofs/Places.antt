@@ -13,9 +13,6 @@ old_or_end [] a b (suc j) e = absurd (some-ne-none b (sym e))
 old_or_end (x ∷ xs) a b zero e = inl e
 old_or_end (x ∷ xs) a b (suc j) e = ⊎_elim inl (λ (h : (a ≡ b) × (length xs ≡ j)). inr (h.0, ap suc h.1)) (old_or_end xs a b j e)
 
-pub in_place-none : AreInPlace []
-in_place-none k p e = absurd (some-ne-none p (sym e))
-
 pub in_place-push : (l : List PosterPass) (p : PosterPass) → AreInPlace l → p.poster ≡ length l → AreInPlace (l ++ p ∷ [])
 in_place-push l p h is k q e =
     ⊎_elim (λ old. h k q old) (λ (new : (p ≡ q) × (length l ≡ k)). ap (λ (x : PosterPass). x.poster) (sym new.0) ∙ is ∙ new.1) (old_or_end l p q k e)

@@ -9,8 +9,6 @@ mod passes;
 mod post_box;
 mod posts;
 mod rule;
-#[cfg(test)]
-mod tests;
 
 pub use hand::{Hand, Known};
 pub use passes::{PosterPass, PosterPasses, RunnerPass};

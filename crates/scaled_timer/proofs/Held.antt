@@ -6,8 +6,8 @@ use denote.RawPtr.{Ptr}
 use Rattle.link_lists.specs.Places.{same_ptr}
 use Rattle.link_lists.specs.Lists.{contains_id, without_id}
 use Rattle.link_lists.proofs.Memory.{either, same_ptr_refl, same_ptr_eq}
-use Rattle.link_lists.proofs.Edges.{same_ptr_symm, with_one, differs}
-use Rattle.link_lists.proofs.Splits.{all_left, all_right, all_both, distinct_left}
+use Rattle.link_lists.proofs.Edges.{same_ptr_symm, with_one}
+use Rattle.link_lists.proofs.Splits.{all_both}
 use Rattle.scaled_timer.specs.Order.{placed, in_order}
 use Rattle.scaled_timer.specs.Due.{Armed, is_due, due_timers, waiting_timers, due_moment}
 use Rattle.scaled_timer.specs.Timing.{Timing, has_timer, without_timer, IsHeld, AreHeld, names_of}
@@ -138,16 +138,6 @@ all-more old new p ps f g k h = record {
 each_other : (old new : Timing) (p : Ptr) (ps : List Ptr) → ((q : Ptr) → same_ptr q p ≡ false → IsHeld q old → IsHeld q new) → AllByRecursion (λ q. same_ptr p q ≡ false) ps → AllByRecursion (λ q. IsHeld q old) ps → AllByRecursion (λ q. IsHeld q new) ps
 each_other old new p [] f n t = tt
 each_other old new p (q ∷ ps) f n t = (f q (same_ptr_symm q p ∙ n.0) t.0, each_other old new p ps f n.1 t.1)
-
--- the last goes
-pub last_held : (old : Timing) (p : Ptr) (ps : List Ptr) → AreHeld (ps ++ p ∷ []) old → IsHeld p old
-last_held old p ps h = (all_right (λ q. IsHeld q old) ps (p ∷ []) h.each).0
-
-pub all-less : (old new : Timing) (p : Ptr) (ps : List Ptr) → ((q : Ptr) → same_ptr q p ≡ false → IsHeld q old → IsHeld q new) → AreHeld (ps ++ p ∷ []) old → AreHeld ps new
-all-less old new p ps f h = record {
-  each = each_other old new p ps f (subst (AllByRecursion (λ q. same_ptr p q ≡ false)) (append-nil ps) (differs ps p [] h.apart)) (all_left (λ q. IsHeld q old) ps (p ∷ []) h.each);
-  apart = distinct_left same_ptr ps (p ∷ []) h.apart;
-}
 
 -- the first goes
 pub first_held : (old : Timing) (p : Ptr) (ps : List Ptr) → AreHeld (p ∷ ps) old → IsHeld p old

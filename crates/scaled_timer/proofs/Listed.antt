@@ -259,21 +259,6 @@ all_weaker P Q [] f t = tt
 all_weaker P Q (x ∷ xs) f t = (f x t.0, all_weaker P Q xs f t.1)
 
 module _ (kinds ppm now drawn held : ℕ) (ls : List (List (Ptr × Entry))) (K : Kept kinds ppm now drawn held ls) where
-  pub Kept-state : (x : ℕ) → x ≤ 1000000 → Kept kinds x now drawn held ls
-  Kept-state x h = record {
-    same = K.same;
-    few = K.few;
-    state = h;
-    latest = K.latest;
-    ages = K.ages;
-    count = K.count;
-    counted = K.counted;
-    rises = K.rises;
-    bounded = K.bounded;
-    apart = K.apart;
-    named = K.named;
-  }
-
   pub Kept-later : (m : ℕ) → now ≤ m → m < 2 ^ 60 → Kept kinds ppm m drawn held ls
   Kept-later m h l = record {
     same = K.same;

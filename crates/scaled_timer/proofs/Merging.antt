@@ -133,9 +133,6 @@ module _ (kinds : List TimerKind) (ppm now : ℕ) where
       subst (NoLater (Some f)) (sym (ap (due_front kinds ppm now ls) (eqb-true k x.0.kind x.1) ∙ x.2.0.1)) x.2.1)
 
   -- list by list
-  pub begun : (ls : List (List (Ptr × Entry))) → HasFronts kinds ppm now ls 0 []
-  begun ls = record { each = tt; once = λ k low. absurd (omega (arith, low)) }
-
   module _ (ls : List (List (Ptr × Entry))) (n : ℕ) (fs : List Front) (h : HasFronts kinds ppm now ls n fs) where
     abbrev Within : ℕ → Front → Type 0
     Within m f = (f.kind < m) × (due_front kinds ppm now ls f.kind ≡ Some f)

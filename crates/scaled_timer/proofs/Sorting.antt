@@ -19,10 +19,6 @@ module _ {X : Type 0} (key : X → ℕ) where
   unfolding placed
   placed-nil x = refl
 
-  pub in_order-cons : (x : X) (xs : List X) → in_order key (x ∷ xs) ≡ placed key x (in_order key xs)
-  unfolding in_order
-  in_order-cons x xs = refl
-
   pub by_key : {G : Type 0} (x y : X) → (key y < key x → G) → (key x ≤ key y → G) → G
   by_key x y f g = either (nat_lt (key y) (key x)) (λ t. f (ltb-true (key y) (key x) t)) (λ n. g (ltb-false (key y) (key x) n))
 

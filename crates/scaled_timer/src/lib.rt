@@ -10,8 +10,6 @@ mod fronts;
 mod kinds;
 mod merge;
 mod queue;
-#[cfg(test)]
-mod tests;
 mod timers;
 
 pub use fired::{Fired, FiredList};

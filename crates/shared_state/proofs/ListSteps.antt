@@ -17,15 +17,8 @@ zeros = replicate 16 0
 pub starts_refl : (l : L) → StartsWith l l
 starts_refl l = ([], sym (append-nil l))
 
-pub starts_trans : (x y z : L) → StartsWith x y → StartsWith y z → StartsWith x z
-starts_trans x y z h k = (k.0 ++ h.0, h.1 ∙ ap (λ (l : L). l ++ h.0) k.1 ∙ append_assoc z k.0 h.0)
-
 starts_more : (l v m : L) → StartsWith l v → StartsWith (l ++ m) v
 starts_more l v m h = (h.0 ++ m, ap (λ (x : L). x ++ m) h.1 ∙ append_assoc v h.0 m)
-
--- a beginning is no longer than the list
-pub starts_length : (l v : L) → StartsWith l v → (rest : ℕ) × (length l ≡ length v + rest)
-starts_length l v h = (length h.0, ap (λ (k : L). length k) h.1 ∙ length-append v h.0)
 
 -- a beginning as long as the list is the list
 starts_whole : (l v : L) → StartsWith l v → length l ≡ length v → l ≡ v
@@ -47,10 +40,6 @@ grown v w e (last, (rest, is)) len = one rest is
     one [] is = absurd (let n = ap (λ (k : L). length k) is in let m = last.0 in omega (arith, length-append v []))
     one (x ∷ []) is = is ∙ ap (λ (y : List ℕ). v ++ y ∷ []) (sym (last_or_snoc zeros x v) ∙ ap (last_or zeros) (sym is) ∙ sym last.1)
     one (x ∷ y ∷ ys) is = absurd (let n = ap (λ (k : L). length k) is in let m = last.0 in omega (arith, length-append v (x ∷ y ∷ ys)))
-
--- a later entry of the list has no smaller number
-pub no_older : (v w : L) (d e : Entry) → IsLast d v → IsLast e w → StartsWith w v → (more : ℕ) × (e.version ≡ d.version + more)
-no_older v w d e was is starts = let n = starts_length w v starts in (n.0, is.0 ∙ n.1 ∙ ap (λ (k : ℕ). k + n.0) (sym was.0))
 
 pub begins : (e : Entry) → e.version ≡ 0 → e.pressures ≡ zeros → IsOneList e ([] ∷ [])
 begins e number pressures = record {

@@ -100,12 +100,3 @@ splits max id v some_left same s r at =
       each = λ j x e. ⊎_elim (λ was. ⊎_elim (λ (t : (j ≡ id) × (w ≡ x)). subst (Fits max) t.1 mine) (λ (t : (j ≢ id) × (get_elem? s.views j ≡ some x)). r.each j x t.1) (at_set s.views id j w x was))
           (λ (is : u ≡ x). subst (Fits max) is (same, omega arith)) (at_snoc vs u x j e);
     }
-
-pub begins : (max : ℕ) → max ≤ most → IsAtMostMax max record { words = 0 ∷ max ∷ []; homes = []; views = newcomer max most ∷ [] }
-begins max small = record {
-  words = refl;
-  bound = omega arith;
-  small = small;
-  seats = omega arith;
-  each = λ j u e. ⊎_elim (λ (none_there : get_elem? [] j ≡ some u). absurd (some-ne-none u (sym none_there))) (λ (is : newcomer max most ≡ u). subst (Fits max) is (refl, omega arith)) (at_snoc [] (newcomer max most) u j e);
-}

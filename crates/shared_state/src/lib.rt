@@ -14,8 +14,6 @@ mod permit_rule;
 mod permits;
 mod publisher;
 mod publishing;
-#[cfg(test)]
-mod tests;
 mod version_word;
 
 pub use entry::{Entry, RESOURCES};

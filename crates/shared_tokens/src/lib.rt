@@ -4,8 +4,6 @@
 mod bucket;
 mod dealing;
 mod seats;
-#[cfg(test)]
-mod tests;
 mod token;
 
 pub use bucket::NoToken;
