@@ -85,10 +85,11 @@ pub fn show_lines<R: Print>(rt: &R, text: &[u8]) -> io::Result<()> {
     }
     let lines = text.strip_suffix(b"\n").unwrap_or(text);
     for line in lines.split(|octet| *octet == b'\n') {
-        if line.len() <= SHOWN {
-            println!(rt; "{}", shown(line))?;
-        } else {
-            println!(rt; "{}.. {} octets", shown(&line[..SHOWN]), line.len())?;
+        match line.get(..SHOWN) {
+            Some(front) if front.len() < line.len() => {
+                println!(rt; "{}.. {} octets", shown(front), line.len())?;
+            }
+            _ => println!(rt; "{}", shown(line))?,
         }
     }
     Ok(())
