@@ -1,0 +1,50 @@
+// What the octets of a connection give.
+use h2_session::Act;
+use hpack_codec::FieldList;
+
+/// Who is at the other end.
+#[derive(Clone, Copy, Debug, PartialEq, Eq)]
+pub enum Peer {
+    /// A client: its octets begin with the preface (RFC 9113 section 3.4), and it opens the streams.
+    Client,
+    /// A server of a cluster: its octets begin with a frame, and this side opens the streams.
+    Cluster,
+}
+
+/// What stands at the front of the octets that aren't read.
+#[derive(Debug, Drop)]
+pub enum Intake {
+    /// No whole frame, and no fault yet.
+    Need,
+    /// No frame: the code of the connection error that it is (RFC 9113 section 7).
+    Fault(u32),
+    /// A frame, which was taken.
+    Taken(Taken),
+}
+
+/// A frame that was taken.
+#[derive(Debug, Drop)]
+pub struct Taken {
+    /// What it means.
+    pub act: Act,
+    /// Its octets that count against the windows of the stream and of the connection, padding counted.
+    pub content: u32,
+    /// What the header block of the act gives.
+    pub reading: Reading,
+    /// Whether it is a WINDOW_UPDATE. It concerns what goes to the peer on its stream, where each
+    /// other frame concerns what comes from there, also where its act is a stream error.
+    pub is_update: bool,
+}
+
+/// What the header block of an act gives.
+#[derive(Debug, Drop)]
+pub enum Reading {
+    /// The act has no header block.
+    Nothing,
+    /// Its fields, in their order.
+    Fields(FieldList),
+    /// Its list is longer than the greatest list size.
+    TooLong,
+    /// It can't be decoded: a connection error COMPRESSION_ERROR, and no later block can be.
+    Refused,
+}

@@ -1,0 +1,4 @@
+pub mod Entries
+pub mod Framing
+pub mod HeadSizes
+pub mod Ready

@@ -1,0 +1,5 @@
+pub mod Control
+pub mod Heads
+pub mod Outgoing
+pub mod View
+pub mod Waiting

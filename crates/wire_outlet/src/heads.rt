@@ -1,0 +1,104 @@
+// Field lists as HEADERS and CONTINUATION frames.
+ghost use Rattle.std.specs.Prelude.{◌≡◌, ◌≤◌, ◌<◌, ◌^◌, length, true, IfOk, OnErr, OnOk, false};
+ghost use Rattle.h2_frames.specs.Blocks.{block_frames, spellings};
+ghost use Rattle.hpack_codec.specs.Sections.{list_size};
+ghost use Rattle.wire_outlet.specs.Heads.{head_most, head_octets};
+
+use crate::laws::heads_fit;
+use h2_frames::block_frames;
+use hpack_codec::{Encoder, FieldList};
+use io_ports::{NoMemory, Octets};
+use std::alloc::Global;
+use std::marker::Model;
+
+/// The encoder of a connection's field blocks, and whether the next one begins with the size update
+/// 0, so that an encoding whose octets don't go out can be undone.
+#[derive(Debug, Drop)]
+pub(crate) struct HeadWriter {
+    alloc: Global,
+    encoder: Encoder,
+    anew: bool,
+}
+
+impl Model for HeadWriter {
+    ghost use Rattle.std.specs.Prelude.{Bool, ◌≡◌};
+
+    ghost Value = { Bool };
+
+    ghost view = { λ a. a.anew };
+
+    ghost invariant = { λ a. a.encoder ≡ a.anew };
+}
+
+impl HeadWriter {
+    pub fn new(alloc: Global) -> Self
+        ensures { result ≡ true }
+    {
+        HeadWriter {
+            alloc,
+            encoder: Encoder::new(alloc),
+            anew: true,
+        }
+    }
+
+    /// The next block begins with the size update 0.
+    pub fn begin_anew(&mut self)
+        ensures { self.new ≡ true }
+    {
+        self.encoder.table_size_named();
+        self.anew = true;
+    }
+
+    /// Whether the next block begins with the size update 0.
+    pub fn is_anew(&self) -> bool
+        ensures { result ≡ self.now }
+    {
+        self.anew
+    }
+
+    /// The frames of a list. After want of memory nothing has changed.
+    pub fn frames(
+        &mut self,
+        stream: u32,
+        last: bool,
+        fields: &FieldList,
+    ) -> Result<Octets, NoMemory>
+        requires on_stream { 0 < stream }
+        requires fits { stream < 2 ^ 31 }
+        ensures octets { IfOk result (λ octets. octets ≡ head_octets self.old stream last fields.now) }
+        ensures bound { IfOk result (λ octets. length octets ≤ head_most (list_size fields.now)) }
+        ensures ok { OnOk result (self.new ≡ false) }
+        ensures err { OnErr result (self.new ≡ self.old) }
+    {
+        heads_fit();
+        let anew = self.anew;
+        let block = self.encoder.encode(fields)?;
+        self.anew = false;
+        let framed = frames_of(self.alloc, stream, last, block.as_slice());
+        if framed.is_err() {
+            self.undo(anew);
+        }
+        framed
+    }
+
+    /// Takes back that a list was encoded, before which the writer was like this.
+    pub fn undo(&mut self, anew: bool)
+        requires { self.old ≡ false }
+        ensures { self.new ≡ anew }
+    {
+        if anew {
+            self.begin_anew();
+        }
+    }
+}
+
+// The frames of a block.
+fn frames_of(alloc: Global, stream: u32, last: bool, block: &[u8]) -> Result<Octets, NoMemory>
+    requires on_stream { 0 < stream }
+    requires fits { stream < 2 ^ 31 }
+    ensures { IfOk result (λ octets. octets ≡ spellings (block_frames stream last block.now)) }
+{
+    let mut octets = Octets::new(alloc);
+    block_frames(stream, last, block, &mut octets)?;
+    Ok(octets)
+}
