@@ -1,12 +1,12 @@
 // The check of a whole list.
-ghost use Rattle.std.specs.Prelude.{◌≡◌, ◌^◌, ◌<◌, is_err, length, IfErr, IfOk, OnOk};
+ghost use Rattle.std.specs.Prelude.{◌≡◌, ◌^◌, ◌<◌, is_err, length, IfErr, IfOk, IfSome, OnOk};
 ghost use Rattle.h2_heads.specs.Heads.{length_of};
 ghost use Rattle.h2_heads.specs.Malformed.{fault_at, is_malformed, IsFirst, IsSound};
 
 use crate::lengths::first_length;
 use crate::malformed::{Kind, Malformed, Message};
 use crate::rules::{lacks, lowest};
-use crate::values::length_in;
+use crate::values::length_named;
 use hpack_codec::Field;
 
 /// Goes once through the list, and stops at the first field that breaks a rule. Gives the
@@ -15,6 +15,7 @@ pub fn check(message: Message, fields: &[Field]) -> Result<Option<u64>, Malforme
     requires { length fields.now < 2 ^ 32 }
     ensures sound { OnOk result (IsSound (fault_at message fields.now)) }
     ensures length { IfOk result (λ named. named ≡ length_of fields.now) }
+    ensures short { IfOk result (λ named. IfSome named (λ length. length < 2 ^ 63)) }
     ensures fault { IfErr result (IsFirst (fault_at message fields.now)) }
     ensures malformed { is_err result ≡ is_malformed message fields.now }
 {
@@ -28,5 +29,5 @@ pub fn check(message: Message, fields: &[Field]) -> Result<Option<u64>, Malforme
     if lacks(message, fields) {
         return Err(Malformed::at(fields.len(), Kind::Missing));
     }
-    Ok(length.and_then(length_in))
+    Ok(length_named(length))
 }

@@ -42,6 +42,7 @@ pub fn check_request(fields: &FieldList) -> Result<RequestHead, Malformed>
     ensures path { IfOk result (λ head. StandsAt (codes ":path") fields.now head.path) }
     ensures path_needed { IfOk result (λ head. OnFalse head.connect (IsSome head.path)) }
     ensures length { IfOk result (λ head. head.content_length ≡ length_of fields.now) }
+    ensures short { IfOk result (λ head. IfSome head.content_length (λ length. length < 2 ^ 63)) }
     ensures fault { IfErr result (IsFirst (fault_at (message_of_request fields.now) fields.now)) }
     ensures malformed { is_err result ≡ is_malformed_request fields.now }
 {
@@ -65,6 +66,7 @@ pub fn check_response(fields: &FieldList) -> Result<ResponseHead, Malformed>
     ensures status { IfOk result (λ head. head.status ≡ status_of fields.now) }
     ensures range { IfOk result (λ head. (100 ≤ head.status) × (head.status ≤ 999)) }
     ensures length { IfOk result (λ head. head.content_length ≡ length_of fields.now) }
+    ensures short { IfOk result (λ head. IfSome head.content_length (λ length. length < 2 ^ 63)) }
     ensures fault { IfErr result (IsFirst (fault_at Response fields.now)) }
     ensures malformed { is_err result ≡ is_malformed_response fields.now }
 {

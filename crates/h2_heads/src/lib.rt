@@ -7,6 +7,7 @@ mod heads;
 mod lengths;
 mod malformed;
 mod names;
+mod octets;
 mod replies;
 mod rules;
 mod values;

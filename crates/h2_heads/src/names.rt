@@ -1,10 +1,12 @@
 // Names of fields, and fields by their names.
-ghost use Rattle.std.specs.Prelude.{◌≡◌, ◌<◌, ◌^◌, length, IfSome};
+ghost use Rattle.std.specs.Prelude.{◌≡◌, ◌<◌, ◌^◌, ◌==◌, ◌||◌, length, not, IfSome};
 ghost use Rattle.h2_heads.specs.Named.{has_field, is_named, place_of, value_of, StandsAt};
+ghost use Rattle.h2_heads.specs.Passes.{is_plain};
 ghost use Rattle.h2_heads.specs.Rules.{has_inner_colon, is_bad_in_name, is_bad_name, is_pseudo};
-ghost use Rattle.std.specs.List.{list_any};
+ghost use Rattle.std.specs.List.{list_all, list_any};
 ghost use Rattle.std.specs.Option.{option_copied};
 
+use crate::octets::PLAIN;
 use hpack_codec::Field;
 
 /// Whether the name is empty or has an octet that no name has.
@@ -12,6 +14,41 @@ pub fn is_bad_name(name: &[u8]) -> bool
     ensures { result ≡ is_bad_name name.now }
 {
     name.is_empty() || has_bad_octet(name)
+}
+
+/// Whether the name has an octet, none that no name has, and no colon past the first.
+pub fn is_sound_name(name: &[u8]) -> bool
+    ensures { result ≡ not (is_bad_name name.now || has_inner_colon name.now) }
+{
+    match name {
+        [first, rest @ ..] => may_begin(*first) & all_plain(rest),
+        [] => false,
+    }
+}
+
+// Whether a name may begin with the octet.
+fn may_begin(octet: u8) -> bool
+    ensures { result ≡ (is_plain octet || octet == 58) }
+{
+    is_plain(octet) || octet == b':'
+}
+
+// One pass without a branch for each octet.
+fn all_plain(octets: &[u8]) -> bool
+    ensures { result ≡ list_all is_plain octets.now }
+{
+    let mut plain = true;
+    for octet in octets {
+        plain &= is_plain(*octet);
+    }
+    plain
+}
+
+// Whether names may have the octet past their first.
+fn is_plain(octet: u8) -> bool
+    ensures { result ≡ is_plain octet }
+{
+    PLAIN[usize::from(octet)]
 }
 
 fn has_bad_octet(name: &[u8]) -> bool
@@ -24,13 +61,6 @@ fn is_bad_in_name(octet: u8) -> bool
     ensures { result ≡ is_bad_in_name octet }
 {
     octet.is_ascii_uppercase() || octet < 0x21 || octet > 0x7e
-}
-
-/// Whether a colon stands in the name past its first octet.
-pub fn has_inner_colon(name: &[u8]) -> bool
-    ensures { result ≡ has_inner_colon name.now }
-{
-    name.iter().skip(1).any(|octet| *octet == b':')
 }
 
 pub fn is_pseudo(field: &Field) -> bool

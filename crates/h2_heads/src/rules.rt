@@ -1,13 +1,15 @@
 // The rules for one field, after the fields before it.
-ghost use Rattle.std.specs.Prelude.{◌≡◌, codes, length};
+ghost use Rattle.std.specs.Prelude.{◌≡◌, codes, if◌then◌else◌, length};
 ghost use Rattle.std.specs.List.{list_any};
 ghost use Rattle.std.specs.Option.{option_copied};
 ghost use Rattle.h2_heads.specs.Malformed.{lacks, lowest};
 ghost use Rattle.h2_heads.specs.Named.{is_named, value_of};
-ghost use Rattle.h2_heads.specs.Rules.{connection_fields, differs, has_regular, is_bad_length, is_bad_pseudo, is_forbidden, is_late, is_one_of, is_repeated, known};
+ghost use Rattle.h2_heads.specs.Passes.{is_special, lowest_of_pseudo, lowest_of_special};
+ghost use Rattle.h2_heads.specs.Rules.{connection_fields, differs, has_regular, is_bad_length, is_bad_name, is_bad_pseudo, is_forbidden, is_one_of, known};
+ghost use Rattle.h2_heads.specs.declared.malformed.Kind.TheVariants.{BadName, InnerColon};
 
 use crate::malformed::{Kind, Message};
-use crate::names::{has_field, has_inner_colon, is_bad_name, is_named, is_pseudo};
+use crate::names::{has_field, is_bad_name, is_named, is_pseudo, is_sound_name};
 use crate::values::{is_bad_value, length_in, status_in};
 use hpack_codec::Field;
 
@@ -23,29 +25,57 @@ pub fn lowest(
     requires { option_copied length ≡ value_of (codes "content-length") before.now }
     ensures { result ≡ lowest message before.now field.now }
 {
-    if is_bad_name(field.name.as_slice()) {
-        return Some(Kind::BadName);
-    }
-    if has_inner_colon(field.name.as_slice()) {
-        return Some(Kind::InnerColon);
+    let name = field.name.as_slice();
+    if !is_sound_name(name) {
+        return Some(fault_of_name(name));
     }
     if is_bad_value(field.value.as_slice()) {
         return Some(Kind::BadValue);
     }
-    if is_late(before, field) {
+    if is_pseudo(field) {
+        return lowest_of_pseudo(message, before, field);
+    }
+    if is_special(name) {
+        return lowest_of_special(length, field);
+    }
+    None
+}
+
+fn fault_of_name(name: &[u8]) -> Kind
+    ensures { result ≡ (if is_bad_name name.now then BadName else InnerColon) }
+{
+    if is_bad_name(name) {
+        Kind::BadName
+    } else {
+        Kind::InnerColon
+    }
+}
+
+// The lowest rule that a pseudo-field breaks whose name and value are sound.
+fn lowest_of_pseudo(message: Message, before: &[Field], field: &Field) -> Option<Kind>
+    ensures { result ≡ lowest_of_pseudo message before.now field.now }
+{
+    if has_regular(before) {
         return Some(Kind::LatePseudo);
     }
-    if is_pseudo(field) && !knows(message, field) {
+    if !knows(message, field) {
         return Some(Kind::UnknownPseudo);
     }
-    if is_repeated(before, field) {
+    if has_field(before, field.name.as_slice()) {
         return Some(Kind::Repeated);
-    }
-    if is_forbidden(field) {
-        return Some(Kind::Forbidden);
     }
     if is_bad_pseudo(field) {
         return Some(Kind::BadPseudo);
+    }
+    None
+}
+
+// The same of a regular field whose name has a rule of its own.
+fn lowest_of_special(length: Option<&[u8]>, field: &Field) -> Option<Kind>
+    ensures { result ≡ lowest_of_special (option_copied length.entry) field.now }
+{
+    if is_forbidden(field) {
+        return Some(Kind::Forbidden);
     }
     if is_bad_length(length, field) {
         return Some(Kind::BadLength);
@@ -53,22 +83,25 @@ pub fn lowest(
     None
 }
 
-fn is_late(before: &[Field], field: &Field) -> bool
-    ensures { result ≡ is_late before.now field.now }
+// Whether the name has such a rule, by its length first.
+fn is_special(name: &[u8]) -> bool
+    ensures { result ≡ is_special name.now }
 {
-    is_pseudo(field) && has_regular(before)
+    match name.len() {
+        2 => name == b"te".as_slice(),
+        7 => name == b"upgrade".as_slice(),
+        10 => name == b"connection".as_slice() || name == b"keep-alive".as_slice(),
+        14 => name == b"content-length".as_slice(),
+        16 => name == b"proxy-connection".as_slice(),
+        17 => name == b"transfer-encoding".as_slice(),
+        _ => false,
+    }
 }
 
 fn has_regular(fields: &[Field]) -> bool
     ensures { result ≡ has_regular fields.now }
 {
     fields.iter().any(|field| !is_pseudo(field))
-}
-
-fn is_repeated(before: &[Field], field: &Field) -> bool
-    ensures { result ≡ is_repeated before.now field.now }
-{
-    is_pseudo(field) && has_field(before, field.name.as_slice())
 }
 
 /// Whether the pseudo-field is one that the message knows.

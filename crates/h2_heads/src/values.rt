@@ -1,7 +1,7 @@
 // Values of fields, and the numbers in them.
-ghost use Rattle.std.specs.Prelude.{◌≡◌, ◌^◌, [], ◌∷◌, ◌&&◌, false, nat_lt, IsTrue};
+ghost use Rattle.std.specs.Prelude.{◌≡◌, ◌≤◌, ◌<◌, ◌^◌, [], ◌∷◌, ◌&&◌, false, true, nat_lt, slice_index, EachIndex, IfSome, IsTrue};
 ghost use Rattle.std.specs.List.{list_any};
-ghost use Rattle.std.specs.Option.{SomeIff, option_copied, option_map_or};
+ghost use Rattle.std.specs.Option.{ForSome, SomeIff, option_copied, option_map, option_map_or};
 ghost use Rattle.h2_heads.specs.Numbers.{begins_zero, decimal, is_decimal, is_digit, is_length, is_status, with_digit};
 ghost use Rattle.h2_heads.specs.Rules.{is_bad_in_value, is_bad_value, is_blank};
 
@@ -15,7 +15,29 @@ pub fn is_bad_value(value: &[u8]) -> bool
 fn has_bad_octet(value: &[u8]) -> bool
     ensures { result ≡ list_any is_bad_in_value value.now }
 {
+    let least = least_octet(value);
+    if least > b'\r' {
+        return false;
+    }
     value.iter().any(|octet| is_bad_in_value(*octet))
+}
+
+// The least octet, by one pass without a branch for each; 255 of none.
+fn least_octet(value: &[u8]) -> u8
+    ensures { EachIndex value.now (λ k. result ≤ slice_index value.now k) }
+{
+    let mut least = u8::MAX;
+    for octet in value {
+        least = lesser(least, *octet);
+    }
+    least
+}
+
+fn lesser(first: u8, second: u8) -> u8
+    ensures first { result ≤ first }
+    ensures second { result ≤ second }
+{
+    if second < first { second } else { first }
 }
 
 fn is_some_blank(octet: Option<&u8>) -> bool
@@ -46,6 +68,18 @@ pub fn length_in(value: &[u8]) -> Option<u64>
         return None;
     }
     decimal_in(value)
+}
+
+/// The number of a first content-length, where there is one.
+pub fn length_named(first: Option<&[u8]>) -> Option<u64>
+    requires { ForSome (option_copied first) (λ value. is_length value ≡ true) }
+    ensures named { result ≡ option_map decimal (option_copied first.entry) }
+    ensures short { IfSome result (λ length. length < 2 ^ 63) }
+{
+    match first {
+        Some(value) => length_in(value),
+        None => None,
+    }
 }
 
 fn begins_zero(value: &[u8]) -> bool

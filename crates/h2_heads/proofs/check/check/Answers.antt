@@ -53,3 +53,7 @@ returns-then-lacks-clause-malformed c =
 pub returns-clause-malformed : goal.returns-clause-malformed
 returns-clause-malformed c =
     sym (not_malformed c.args.message c.args.fields.now (all_sound c.args.message c.args.fields.now c.loop-place.place c.loop-place.invariant.0 c.loop-place-test.false (sym c.lacks.ensures ∙ c.if-lacks.false)))
+
+pub length_named-requires : goal.length_named-requires
+length_named-requires c value is =
+    subst (λ (first : Option (List ℕ)). IfSome first (λ v. is_length v ≡ true)) is c.loop-place.invariant.2
