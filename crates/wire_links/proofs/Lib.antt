@@ -1,0 +1,16 @@
+pub mod Assigns
+pub mod Begins
+pub mod Calls
+pub mod Comes
+pub mod Forgetting
+pub mod Offered
+pub mod Reading
+pub mod Searching
+pub mod Seen
+pub mod Sorted
+pub mod States
+pub mod Tables
+pub mod Tests
+pub mod Under
+pub mod Where
+pub mod Written
