@@ -1,0 +1,10 @@
+mod Keys
+mod First
+mod Finding
+mod Naming
+mod Holding
+mod Spending
+mod Seeing
+mod Longest
+mod Changing
+mod Arming
