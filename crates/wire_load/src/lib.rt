@@ -1,0 +1,11 @@
+//! The load of a worker: the states of the overload actions, the memory classes of its exchanges, and which of them the
+//! dispatch that is under way has touched.
+#![tactic(auto)]
+
+mod action;
+mod following;
+mod load;
+
+pub use action::Action;
+pub use following::load_follows;
+pub use load::Load;

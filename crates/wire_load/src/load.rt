@@ -1,0 +1,158 @@
+//! The load that the exchanges of a worker make, and what it asks for.
+ghost use Rattle.std.specs.Prelude.{◌≡◌, ◌≤◌, ◌<◌, [], ◌∷◌, ⊤, IfOk, MatchOption, OnErr, OnOk};
+ghost use Rattle.std.specs.List.{All, AllPairs};
+ghost use Rattle.overload_core.specs.ActionStates.{actions_at, is_saturated, AreStates};
+ghost use Rattle.wire_load.specs.Action.{state_of};
+ghost use Rattle.wire_load.specs.Load.{unloaded, with_touched, settled, dropped, reset_next};
+
+use crate::action::Action;
+use io_ports::NoMemory;
+use link_lists::Steps;
+use overload_core::{Actions, Classes, action_states, class_has_number, is_saturated};
+use proxy_config::Config;
+use std::alloc::Global;
+use std::collections::BTreeSet;
+use std::marker::{Brand, Model};
+use std::sync::ledger::{Blank, Ledger};
+
+/// The states of the six overload actions, the exchanges by memory class, and the exchanges that this dispatch touched.
+///
+/// Seen as the actions, the classes, and the numbers of the touched exchanges in rising order. An exchange is touched by what
+/// changes the octets that it holds, or shows that it goes on. What a call costs doesn't grow with what it isn't about.
+#[derive(Drop)]
+pub struct Load {
+    actions: Actions,
+    classes: Classes,
+    touched: BTreeSet<u64>,
+}
+
+impl Model for Load {
+    ghost use Rattle.wire_load.specs.Load.{Loading};
+    ghost use Rattle.overload_core.specs.ActionStates.{AreStates};
+
+    ghost Value = { Loading };
+
+    ghost view = { λ l. record { actions = l.actions; accounts = l.classes; touched = l.touched.keys } };
+
+    ghost invariant = { λ l. AreStates l.actions };
+}
+
+impl Load {
+    /// Every action is off, no exchange has a class, and none is touched. Class 1 starts at 2^`class_start` octets.
+    pub fn new(alloc: Global, class_start: u32) -> Result<Load, NoMemory>
+        requires { class_start ≤ 40 }
+        ensures { IfOk result (λ made. made ≡ unloaded class_start) }
+    {
+        Ok(Load {
+            actions: Actions::off(),
+            classes: Classes::new(alloc, class_start)?,
+            touched: BTreeSet::new(alloc),
+        })
+    }
+
+    /// From now on the actions have the states that the configuration's triggers give at these pressures, in parts per
+    /// million, one for each of its resources.
+    pub fn obey(&mut self, config: &Config, pressures: &[u32])
+        ensures { self.new ≡ record self.old { actions = actions_at config.now.overload.triggers pressures.now } }
+    {
+        self.actions = action_states(config, pressures);
+    }
+
+    /// The states of the actions, in parts per million: those of the pressures that were obeyed last, and 0 before the first.
+    pub fn actions(&self) -> Actions
+        ensures actions { result ≡ self.now.actions }
+        ensures states { AreStates result }
+    {
+        self.actions
+    }
+
+    /// The state of one action, in parts per million.
+    pub fn state(&self, action: Action) -> u32
+        ensures state { result ≡ state_of self.now.actions action }
+        ensures most { result ≤ 1000000 }
+    {
+        match action {
+            Action::StopRequests => self.actions.stop_requests,
+            Action::StopAccepting => self.actions.stop_accepting,
+            Action::RejectIncoming => self.actions.reject_incoming,
+            Action::NoKeepalive => self.actions.no_keepalive,
+            Action::ReduceTimeouts => self.actions.reduce_timeouts,
+            Action::ResetStreams => self.actions.reset_streams,
+        }
+    }
+
+    /// Whether the action is saturated: its state is 1,000,000.
+    pub fn is_saturated(&self, action: Action) -> bool
+        ensures { result ≡ is_saturated (state_of self.now.actions action) }
+    {
+        is_saturated(self.state(action))
+    }
+
+    /// The state under which timers run, in parts per million.
+    pub fn timeouts_state(&self) -> u32
+        ensures state { result ≡ self.now.actions.reduce_timeouts }
+        ensures most { result ≤ 1000000 }
+    {
+        self.actions.reduce_timeouts
+    }
+
+    /// This dispatch touches the exchange. One that it has touched before stays where it is.
+    pub fn touch(&mut self, exchange: u64) -> Result<(), NoMemory>
+        ensures ok { OnOk result (self.new ≡ with_touched exchange self.old) }
+        ensures err { OnErr result (self.new ≡ self.old) }
+        ensures rising { AllPairs (λ x y. x < y) self.new.touched }
+    {
+        self.touched.insert(exchange)?;
+        Ok(())
+    }
+
+    /// Takes out the touched exchange with the least number. None where no exchange is touched.
+    pub fn take_touched(&mut self) -> Option<u64>
+        ensures none { MatchOption result ((self.old.touched ≡ []) × (self.new ≡ self.old)) (λ _. ⊤) }
+        ensures some { MatchOption result ⊤ (λ x. self.old ≡ record self.new { touched = x ∷ self.new.touched }) }
+        ensures rising { AllPairs (λ x y. x < y) self.new.touched }
+    {
+        self.touched.pop_first()
+    }
+
+    fn settle_as<L: Ledger>(
+        &mut self,
+        exchange: u64,
+        octets: u64,
+        blank: Blank,
+    ) -> Result<(), NoMemory>
+        requires { (blank.name ≡ L.name) × (blank.parts ≡ L.parts) × (0 < L.parts) }
+        ensures ok { OnOk result (self.new ≡ settled exchange octets self.old) }
+        ensures err { OnErr result (self.new ≡ self.old) }
+    {
+        class_has_number();
+        let mut steps = Steps::<L>::open(blank);
+        self.classes.set(exchange, octets, &mut steps)
+    }
+
+    /// The exchange holds so many octets at the end of this dispatch, and gets its memory class by them. Where its class
+    /// changes it comes last in the new one, and else it keeps its place.
+    pub fn settle(&mut self, exchange: u64, octets: u64) -> Result<(), NoMemory>
+        ensures ok { OnOk result (self.new ≡ settled exchange octets self.old) }
+        ensures err { OnErr result (self.new ≡ self.old) }
+    {
+        self.settle_as::<Brand>(exchange, octets, Blank::new(1))
+    }
+
+    /// The exchange is gone: it leaves its class, and isn't touched. Where it is neither kept nor touched, nothing changes.
+    pub fn drop_one(&mut self, exchange: u64)
+        ensures dropped { self.new ≡ dropped exchange self.old }
+        ensures rising { AllPairs (λ x y. x < y) self.new.touched }
+    {
+        self.classes.drop_one(exchange);
+        let _ = self.touched.remove(&exchange);
+    }
+
+    /// The exchange that is reset next under the state of `ResetStreams`: of the greatest class that the state clears and
+    /// that has one, the exchange that came into it first. None where the state is 0, or clears no exchange.
+    pub fn next_reset(&self) -> Option<u64>
+        ensures { result ≡ reset_next self.now }
+    {
+        self.classes.to_reset(self.actions.reset_streams)
+    }
+}
