@@ -1,0 +1,7 @@
+pub mod Due
+pub mod Held
+pub mod Keeping
+pub mod Maps
+pub mod Rising
+pub mod Sending
+pub mod Sums

@@ -1,0 +1,6 @@
+pub mod DueSet
+pub mod Codes
+pub mod Kept
+pub mod RecvWindows
+pub mod SendWindows
+pub mod Shifts
