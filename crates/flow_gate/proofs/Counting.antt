@@ -1,5 +1,5 @@
 -- Counts and sums over a list.
-use Rattle.std.proofs.Common.{ap, arith, inl, inr, length, refl, sym}
+use Rattle.std.proofs.Common.{ap, arith, inl, inr, refl, sym}
 use Rattle.std.proofs.lemmas.Bool.{cases_Bool}
 use Rattle.std.proofs.lemmas.List.Sums.{sum_by-cons, sum_by-append}
 use Rattle.std.specs.Prelude.{Bool, List, [], cond, count_by, false, if◌then◌else◌, not, sum_by, true, ℕ, ◌&&◌, ◌++◌, ◌+◌, ◌*◌, ◌||◌, ◌∷◌, ◌≡◌, ◌≤◌, ◌<◌}
@@ -38,10 +38,6 @@ module _ {X : Type 0} where
   sum-plus f g (x ∷ xs) =
       omega (arith, sum_by-cons (λ y. f y + g y) x xs, sum_by-cons f x xs, sum_by-cons g x xs, sum-plus f g xs)
 
-  pub sum-none : (f : X → ℕ) → ((x : X) → f x ≡ 0) → (xs : List X) → sum_by f xs ≡ 0
-  sum-none f none [] = refl
-  sum-none f none (x ∷ xs) = omega (arith, sum_by-cons f x xs, none x, sum-none f none xs)
-
   -- a sum of one term, at the places that pass
   pub sum-times : (p : X → Bool) (k : ℕ) (xs : List X) → sum_by (λ x. if p x then k else 0) xs ≡ count_by p xs * k
   sum-times p k [] = omega arith
@@ -63,10 +59,6 @@ module _ {X : Type 0} where
   pub count-congr : (e : X → X → Bool) → ((x : X) → e x x ≡ true) → (p q : X → Bool) (xs : List X) →
       ((x : X) → 0 < count_by (e x) xs → p x ≡ q x) → count_by p xs ≡ count_by q xs
   count-congr e self p q xs same = sum-congr e self (λ x. cond (p x) 1 0) (λ x. cond (q x) 1 0) xs (λ x h. ap (λ b. cond b 1 0) (same x h))
-
-  pub sum-le : (f : X → ℕ) → ((x : X) → f x ≤ 1) → (xs : List X) → sum_by f xs ≤ length xs
-  sum-le f most [] = omega arith
-  sum-le f most (x ∷ xs) = omega (arith, sum_by-cons f x xs, most x, sum-le f most xs)
 
   -- a term of a sum, by a test e of equality
   pub sum-member : (e : X → X → Bool) → ((x y : X) → e x y ≡ true → x ≡ y) → (f : X → ℕ) (x : X) (xs : List X) →

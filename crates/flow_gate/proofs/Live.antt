@@ -69,10 +69,6 @@ module _ (P : ℕ → Type 0) where
   pub live-all : (ss : List Stand) → AllByRecursion P (places_of ss) → AllByRecursion (λ e. P e.0) (live ss)
   live-all ss all = entries-from_keys (live ss) (live-keys ss all)
 
-  pub places-all : (ss : List Stand) → AllByRecursion (λ s. P s.place) ss → AllByRecursion P (places_of ss)
-  places-all [] all = tt
-  places-all (s ∷ ss) all = (all.0, places-all ss all.1)
-
 rises-cons : (p : ℕ) (o : Option FlowId) (es : Places) → AllByRecursion (λ q. nat_cmp p q ≡ Less) (keys_of es) → IsStrictlySortedBy nat_cmp (keys_of es) →
     IsStrictlySortedBy nat_cmp (keys_of (cons_option (option_map (λ f. (p, f)) o) es))
 unfolding IsStrictlySortedBy

@@ -166,9 +166,6 @@ module _ (flows : Flows) (buffers : Buffers) where
   pub count_found : (f : FlowId) (books : Option Books) → FlowFound f books flows → held buffers f (watched_at books) ≡ count (board_of flows buffers) f
   count_found f books is = ap (λ o. held buffers f (watched_at o)) (is ∙ flow_get flows f) ∙ sym (count-board flows buffers f)
 
-  pub watched_found : (f : FlowId) (books : Option Books) → FlowFound f books flows → watched_at books ≡ watched_by (board_of flows buffers) f
-  watched_found f books is = ap watched_at (is ∙ flow_get flows f) ∙ sym (watched-board flows buffers f)
-
   pub known_found : (b : BufferId) (r : Bool) → r ≡ is_some (lookup (is_at (buffer_cmp b)) buffers) → r ≡ is_known (board_of flows buffers) b
   known_found b r is = is ∙ ap is_some (buffer_get buffers b) ∙ sym (is_known-board flows buffers b)
 

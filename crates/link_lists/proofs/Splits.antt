@@ -23,24 +23,6 @@ module _ {X : Type 0} where
   nil_ne_cut [] x ys e = cc
   nil_ne_cut (z ∷ xs) x ys e = cc
 
-  -- the last of a and xs
-  abbrev pub last_from : X → List X → X
-  last_from a [] = a
-  last_from a (x ∷ xs) = last_from x xs
-
-  pub last_from-push : (a : X) (xs : List X) (x : X) → last_from a (xs ++ x ∷ []) ≡ x
-  last_from-push a [] x = refl
-  last_from-push a (z ∷ xs) x = last_from-push z xs x
-
-  pub cut_last : (a : X) (xs : List X) → (us : List X) × (a ∷ xs ≡ us ++ last_from a xs ∷ [])
-  cut_last a [] = ([], refl)
-  cut_last a (x ∷ xs) = let on = cut_last x xs in (a ∷ on.0, ap (λ l. a ∷ l) on.1)
-
-  -- a list with something at its end has a first element
-  pub first_of_push : (xs : List X) (t : X) → (y : X) × (ys : List X) × (xs ++ t ∷ [] ≡ y ∷ ys)
-  first_of_push [] t = (t, [], refl)
-  first_of_push (x ∷ xs) t = (x, xs ++ t ∷ [], refl)
-
   module _ (P : X → Type 0) where
     pub all_left : (xs ys : List X) → AllByRecursion P (xs ++ ys) → AllByRecursion P xs
     all_left [] ys h = tt
@@ -69,32 +51,6 @@ module _ {X : Type 0} where
 
   pub Contains-nil : (x : X) → Contains [] x → ⊥
   Contains-nil x c = let within = c.1 in omega arith
-
-  pub Contains-cut : (xs : List X) (x : X) → Contains xs x → (us : List X) × (vs : List X) × (xs ≡ us ++ x ∷ vs)
-  Contains-cut [] x c = absurd (Contains-nil x c)
-  Contains-cut (y ∷ xs) x c = elim (Contains-cons y xs x c) [
-    | inl e ↦ ([], xs, ap (λ z. z ∷ xs) e)
-    | inr d ↦ let on = Contains-cut xs x d in (y ∷ on.0, on.1, ap (λ l. y ∷ l) on.2)
-  ]
-
-  pub Contains-middle : (xs : List X) (x : X) (ys : List X) → Contains (xs ++ x ∷ ys) x
-  Contains-middle [] x ys = Contains-head x ys
-  Contains-middle (z ∷ xs) x ys = Contains-tail z (xs ++ x ∷ ys) x (Contains-middle xs x ys)
-
-  -- an element of the list is the one at the cut, or one of the others
-  pub Contains-without : (xs : List X) (y : X) (ys : List X) (x : X) → Contains (xs ++ y ∷ ys) x → (y ≡ x) ⊎ Contains (xs ++ ys) x
-  Contains-without [] y ys x c = Contains-cons y ys x c
-  Contains-without (z ∷ xs) y ys x c = elim (Contains-cons z (xs ++ y ∷ ys) x c) [
-    | inl e ↦ inr (subst (λ w. Contains (w ∷ (xs ++ ys)) x) (sym e) (Contains-head x (xs ++ ys)))
-    | inr d ↦ elim (Contains-without xs y ys x d) [ inl e ↦ inl e | inr f ↦ inr (Contains-tail z (xs ++ ys) x f) ]
-  ]
-
-  pub Contains-with : (xs : List X) (y : X) (ys : List X) (x : X) → Contains (xs ++ ys) x → Contains (xs ++ y ∷ ys) x
-  Contains-with [] y ys x c = Contains-tail y ys x c
-  Contains-with (z ∷ xs) y ys x c = elim (Contains-cons z (xs ++ ys) x c) [
-    | inl e ↦ subst (λ w. Contains (w ∷ (xs ++ y ∷ ys)) x) (sym e) (Contains-head x (xs ++ y ∷ ys))
-    | inr d ↦ Contains-tail z (xs ++ y ∷ ys) x (Contains-with xs y ys x d)
-  ]
 
   pub all_at : (P : X → Type 0) (xs : List X) (x : X) → AllByRecursion P xs → Contains xs x → P x
   all_at P [] x h c = absurd (Contains-nil x c)

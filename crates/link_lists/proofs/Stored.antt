@@ -1,5 +1,5 @@
 -- What the calls on the rings do to the lists that are stored in them.
-use Rattle.std.proofs.Common.{◌≡◌, ℕ, ◌+◌, zero, suc, true, false, cond, List, [], ◌∷◌, ◌++◌, map, length, replicate, refl, sym, ap, ◌∙◌, add-one, true≢false, arith}
+use Rattle.std.proofs.Common.{◌≡◌, ℕ, ◌+◌, zero, suc, true, false, cond, List, [], ◌∷◌, ◌++◌, map, replicate, refl, sym, ap, ◌∙◌, add-one, true≢false}
 use Rattle.std.specs.Prelude.{Option, None, Some}
 use Rattle.std.specs.Option.{option_map}
 use denote.RawPtr.{Ptr}
@@ -59,14 +59,6 @@ module _ {T : Type 0} where
 
   pub storing : (rs : List (List (Ptr × Option T))) (s : NodeLists T) → shown rs ≡ s → rs ≡ stored (shown rs) → rs ≡ stored s
   storing rs s v i = i ∙ ap stored v
-
-  -- lengths
-  length-living : (ls : List (List (Ptr × T))) → length (map living ls) ≡ length ls
-  length-living [] = refl
-  length-living (l ∷ ls) = let on = length-living ls in omega arith
-
-  pub length-stored : (s : NodeLists T) → length (stored s) ≡ length s.lists + 1
-  length-stored s = let on = length-living s.lists in omega arith
 
   -- a node comes last
   living-snoc : (l : List (Ptr × T)) (n : Ptr × T) → living (l ++ n ∷ []) ≡ living l ++ (n.0, Some n.1) ∷ []
