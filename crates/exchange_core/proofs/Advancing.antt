@@ -1,13 +1,10 @@
 -- What a step of a flow leaves, and what goes next after it.
-use Rattle.exchange_core.proofs.Finding.{exchange_found, flow_found, flow_there}
-use Rattle.exchange_core.proofs.Metered.{IsMarked}
-use Rattle.exchange_core.proofs.Steady.{IsSteady, steady_same}
-use Rattle.exchange_core.proofs.Writing.{change_kept, change_none, changes_flow, flow_after, open_there, sound_changed, unchanged}
+use Rattle.exchange_core.proofs.Finding.{exchange_found, flow_there}
+use Rattle.exchange_core.proofs.Writing.{open_there}
 use Rattle.exchange_core.specs.Changes.{ChangesFlow}
-use Rattle.exchange_core.specs.Exchange.{flow_changed, flow_in, is_metered, seen_at}
+use Rattle.exchange_core.specs.Exchange.{flow_changed, flow_in}
 use Rattle.exchange_core.specs.Exchanges.{Exchanges, IsLiveFlow, exchange_at, flow_at}
-use Rattle.exchange_core.specs.Flow.{Flow, IsSound as IsSoundFlow}
-use Rattle.exchange_core.specs.Numbers.{Numbers}
+use Rattle.exchange_core.specs.Flow.{Flow}
 use Rattle.exchange_core.specs.View.{IsKept, exchanges_of}
 use Rattle.exchange_core.specs.declared.exchange.Exchange.{Exchange}
 use Rattle.exchange_core.specs.declared.exchanges.Exchanges.TheInside.{Inside}
@@ -16,51 +13,11 @@ use Rattle.flow_gate.specs.declared.ids.FlowId.{FlowId}
 use Rattle.std.proofs.Common.{ap, inl, inr, refl, sym, ◌∙◌}
 use Rattle.std.proofs.lemmas.Bool.{cases_Bool, eqb-true, false≢true}
 use Rattle.std.proofs.lemmas.Option.{none-some}
-use Rattle.std.specs.BTreeMap.{BTreeMap, WritesThrough, is_at}
+use Rattle.std.specs.BTreeMap.{BTreeMap, is_at}
 use Rattle.std.specs.Map.{lookup}
 use Rattle.std.specs.Option.{option_and_then}
 use Rattle.std.specs.Ordering.{nat_cmp}
 use Rattle.std.specs.Prelude.{Bool, IfSome, None, Option, Some, cond, false, is_some, nat_eq, option_map, true, ℕ, ◌≡◌}
-
-module _ (c : Inside) (lent : BTreeMap ℕ Exchange) (marked : Numbers) (f : FlowId) (found written : Exchange) (kept : IsKept c)
-    (found_is : Some found ≡ lookup (is_at (nat_cmp f.exchange)) c.live.entries)
-    (sound : IfSome (flow_in f.back written) IsSoundFlow)
-    (through : WritesThrough nat_cmp (nat_cmp f.exchange) c.live written lent)
-    (marks : IsMarked f.exchange (is_metered found) (is_metered written) c.metered marked) where
-  abbrev after : Inside
-  after = record c { live = lent; metered = marked }
-
-  -- a change that was made
-  pub change_done : (change : Flow → Flow) → IsSteady change → written ≡ flow_changed change f.back (seen_at c.ticked found) →
-      ChangesFlow f change (exchanges_of c) (exchanges_of after) × IsKept after
-  change_done change steady is =
-      let ok : IfSome (flow_in f.back (seen_at c.ticked found)) (λ flow. IsSoundFlow (change flow)) =
-      sound_changed f.back change (seen_at c.ticked found) written is sound in (
-        changes_flow c lent marked f change found written kept steady found_is is ok through,
-        change_kept c lent marked f change found written kept steady found_is is ok through marks,
-      )
-
-  -- none was made
-  pub change_refused : written ≡ seen_at c.ticked found → (exchanges_of after ≡ exchanges_of c) × IsKept after
-  change_refused is =
-      let e : written ≡ flow_changed (λ (g : Flow). g) f.back (seen_at c.ticked found) = is ∙ sym (unchanged f.back (seen_at c.ticked found)) in
-      let ok : IfSome (flow_in f.back (seen_at c.ticked found)) (λ (g : Flow). IsSoundFlow g) =
-      sound_changed f.back (λ (g : Flow). g) (seen_at c.ticked found) written e sound in (
-        change_none c lent marked f (λ (g : Flow). g) found written kept steady_same found_is e ok through (unchanged f.back (seen_at c.ticked found)),
-        change_kept c lent marked f (λ (g : Flow). g) found written kept steady_same found_is e ok through marks,
-      )
-
-  -- the flow that is seen then is the one that was written
-  pub flow_written : (change : Flow → Flow) → IsSteady change → written ≡ flow_changed change f.back (seen_at c.ticked found) →
-      flow_at (exchanges_of after) f ≡ flow_in f.back written
-  flow_written change steady is =
-      flow_after f change (exchanges_of c) (exchanges_of after) (change_done change steady is).0
-      ∙ ap (option_map change) (flow_found c f found (flow_in f.back (seen_at c.ticked found)) found_is refl)
-      ∙ sym (ap (flow_in f.back) is ∙ changed_flow f.back change (seen_at c.ticked found))
-    where
-      changed_flow : (back : Bool) (change : Flow → Flow) (exchange : Exchange) → flow_in back (flow_changed change back exchange) ≡ option_map change (flow_in back exchange)
-      changed_flow false change exchange = refl
-      changed_flow true change exchange = refl
 
 -- a change of a flow that isn't there
 pub absent_changed : (back : Bool) (change : Flow → Flow) (exchange : Exchange) → flow_in back exchange ≡ None → flow_changed change back exchange ≡ exchange

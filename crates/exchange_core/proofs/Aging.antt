@@ -4,14 +4,14 @@ use Rattle.exchange_core.proofs.Refilled.{refilled_kinds, refilled_length, refil
 use Rattle.exchange_core.specs.Exchange.{IsFlowOf, IsSoundExchange, at_moment, seen_at}
 use Rattle.exchange_core.specs.Flow.{Flow, IsSound, held_by}
 use Rattle.exchange_core.specs.declared.exchange.Exchange.{Exchange}
-use Rattle.filter_chain.specs.Chain.{Chain, EndsInSend, IsSound as IsSoundChain, kinds}
-use Rattle.filter_chain.specs.Effects.{ticked as chain_ticked, whole_steps}
-use Rattle.filter_chain.specs.Place.{IsPlace, Place, refilled}
+use Rattle.filter_chain.specs.Chain.{Chain, EndsInSend, IsSound as IsSoundChain}
+use Rattle.filter_chain.specs.Effects.{ticked as chain_ticked}
+use Rattle.filter_chain.specs.Place.{IsPlace, refilled}
 use Rattle.proxy_config.specs.Ranges.{IsBetween}
 use Rattle.std.proofs.Common.{ap, arith, inl, inr, refl, subst, sym, ◌∙◌}
 use Rattle.std.proofs.lemmas.Bool.{cases_Bool, ltb-true}
 use Rattle.std.proofs.lemmas.List.Elements.{All-map, All-weaker}
-use Rattle.std.specs.Prelude.{Bool, IfSome, List, None, Option, Some, [], cond, false, length, map, min, nat_lt, option_map, true, ℕ, ◌+◌, ◌∷◌, ◌≡◌, ◌≤◌}
+use Rattle.std.specs.Prelude.{Bool, IfSome, None, Option, Some, cond, false, length, nat_lt, option_map, true, ℕ, ◌+◌, ◌≤◌}
 
 -- ---- a chain
 ticked_sound : (now : ℕ) (chain : Chain) → chain.time ≤ now → IsSoundChain chain → IsSoundChain (chain_ticked chain now)

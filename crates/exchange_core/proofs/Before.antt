@@ -1,17 +1,9 @@
 -- Whether the places before one are empty.
 use Rattle.std.proofs.lemmas.Bool.Decides.{nat_tests}
-use Rattle.std.proofs.Common.{◌≡◌, ◌+◌, ◌-◌, ◌<◌, ◌≤◌, ◌∙◌, ◌&&◌, ◌==◌, ℕ, suc, zero, Bool, true, false, length, refl, sym, ap, arith}
+use Rattle.std.proofs.Common.{◌≡◌, ◌+◌, ◌<◌, ◌≤◌, ◌∙◌, ◌&&◌, ◌==◌, ℕ, suc, zero, Bool, true, false, length, refl, sym, ap, arith}
 use Rattle.exchange_core.specs.Flow.{Flow, octets_in}
 use Rattle.exchange_core.specs.Units.{empty_before}
 use Rattle.filter_chain.specs.Chain.{octets_at}
-
-and_true : (b : Bool) → (b && true) ≡ b
-and_true true = refl
-and_true false = refl
-
--- before place 1 stands the receive buffer alone
-pub before_first : (flow : Flow) → empty_before flow 1 ≡ (length flow.recv == 0)
-before_first flow = and_true (length flow.recv == 0)
 
 -- a place that is empty adds nothing
 pub before_next : (flow : Flow) (p : ℕ) → (length (octets_in flow p) == 0) ≡ true → empty_before flow (suc p) ≡ empty_before flow p

@@ -20,7 +20,7 @@ use Rattle.std.specs.Map.{keys_of, lookup, remove_entry}
 use Rattle.std.specs.Option.{is_some, option_map_or}
 use Rattle.std.specs.Ordering.{nat_cmp}
 use Rattle.std.specs.VecDeque.{deque_capacity, deque_len}
-use Rattle.std.specs.Prelude.{Bool, IfSome, IsSome, List, None, Option, Some, [], cond, count_by, false, length, nat_eq, option_map, true, ℕ, ◌++◌, ◌+◌, ◌<◌, ◌∷◌, ◌≡◌, ◌≤◌}
+use Rattle.std.specs.Prelude.{Bool, IfSome, IsSome, List, None, Option, Some, [], cond, count_by, false, length, nat_eq, option_map, true, ℕ, ◌++◌, ◌+◌, ◌∷◌, ◌≡◌, ◌≤◌}
 
 -- ---- the deferred list
 all_last : {X : Type 0} (P : X → Type 0) (xs : List X) (x : X) → AllByRecursion P xs → P x → AllByRecursion P (xs ++ x ∷ [])
@@ -31,11 +31,12 @@ weaken : {X : Type 0} (P Q : X → Type 0) (xs : List X) → ((x : X) → P x �
 weaken P Q [] f all = tt
 weaken P Q (x ∷ xs) f all = (f x all.0, weaken P Q xs f all.1)
 
-count_last : (y x : ℕ) (doomed : List ℕ) → count_by (nat_eq y) (doomed ++ x ∷ []) ≡ count_by (nat_eq y) doomed + cond (nat_eq y x) 1 0
-count_last y x doomed = sum_by_push (λ z. cond (nat_eq y z) 1 0) doomed x
+module _ (y x : ℕ) (doomed : List ℕ) where
+  count_last : count_by (nat_eq y) (doomed ++ x ∷ []) ≡ count_by (nat_eq y) doomed + cond (nat_eq y x) 1 0
+  count_last = sum_by_push (λ z. cond (nat_eq y z) 1 0) doomed x
 
-count_first : (y x : ℕ) (doomed : List ℕ) → count_by (nat_eq y) (x ∷ doomed) ≡ cond (nat_eq y x) 1 0 + count_by (nat_eq y) doomed
-count_first y x doomed = sum_by-cons (λ z. cond (nat_eq y z) 1 0) x doomed
+  count_first : count_by (nat_eq y) (x ∷ doomed) ≡ cond (nat_eq y x) 1 0 + count_by (nat_eq y) doomed
+  count_first = sum_by-cons (λ z. cond (nat_eq y z) 1 0) x doomed
 
 at_most_one : (b : Bool) → cond b 1 0 ≤ 1
 at_most_one true = omega arith

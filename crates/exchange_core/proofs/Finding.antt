@@ -8,13 +8,13 @@ use Rattle.exchange_core.specs.View.{exchanges_of}
 use Rattle.exchange_core.specs.declared.exchange.Exchange.{Exchange}
 use Rattle.exchange_core.specs.declared.exchanges.Exchanges.TheInside.{Inside}
 use Rattle.flow_gate.specs.declared.ids.FlowId.{FlowId}
-use Rattle.std.proofs.Common.{ap, refl, subst, sym, ◌∙◌}
+use Rattle.std.proofs.Common.{ap, refl, sym, ◌∙◌}
 use Rattle.std.proofs.lemmas.Bool.{false≢true}
 use Rattle.std.specs.BTreeMap.{is_at}
 use Rattle.std.specs.Map.{lookup}
 use Rattle.std.specs.Option.{is_some, option_and_then}
 use Rattle.std.specs.Ordering.{nat_cmp}
-use Rattle.std.specs.Prelude.{Bool, IsSome, None, Option, Some, nat_eq, option_map, true, ℕ, ◌≡◌}
+use Rattle.std.specs.Prelude.{IsSome, None, Option, Some, option_map, true, ℕ, ◌≡◌}
 
 module _ (c : Inside) (x : ℕ) where
   -- an exchange

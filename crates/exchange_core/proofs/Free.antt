@@ -1,6 +1,6 @@
 -- Which place moves next.
 use Rattle.std.proofs.lemmas.Bool.Decides.{nat_tests}
-use Rattle.std.proofs.Common.{◌≡◌, ◌+◌, ◌-◌, ◌<◌, ◌≤◌, ◌∙◌, ◌&&◌, ◌||◌, ℕ, suc, zero, Bool, true, false, refl, sym, ap, nat_lt, arith}
+use Rattle.std.proofs.Common.{◌≡◌, ◌-◌, ◌<◌, ◌≤◌, ◌∙◌, ◌&&◌, ◌||◌, ℕ, suc, zero, Bool, true, false, refl, sym, ap, nat_lt, arith}
 use Rattle.exchange_core.proofs.Sources.{later_last, later_step}
 use Rattle.exchange_core.specs.Flow.{Flow, last_place}
 use Rattle.exchange_core.specs.Moves.{is_free, is_held_at, is_target_above, last_free, last_free_to, later_above, may_release}
@@ -34,74 +34,75 @@ none_free board to flow (suc p) h e =
     ∙ none_free board to flow p (omega arith) before
 
 -- the place p isn't a source that is above, and none behind it is: so none behind the one before it is
-pub clear_step : (board : Board) (to : Option ℕ) (flow : Flow) (q : ℕ) → q < last_place flow → is_held_at board flow (suc q) ≡ false → later_above board to flow (suc q) ≡ false → later_above board to flow q ≡ false
-clear_step board to flow q h held clear =
-    later_step board to flow q h ∙ (ap (λ b. b || later_above board to flow (suc q)) held ∙ clear)
+module _ (board : Board) (to : Option ℕ) (flow : Flow) where
+  pub clear_step : (q : ℕ) → q < last_place flow → is_held_at board flow (suc q) ≡ false → later_above board to flow (suc q) ≡ false → later_above board to flow q ≡ false
+  clear_step q h held clear =
+      later_step board to flow q h ∙ (ap (λ b. b || later_above board to flow (suc q)) held ∙ clear)
 
-pub held_step : (board : Board) (to : Option ℕ) (flow : Flow) (q : ℕ) → q < last_place flow → is_held_at board flow (suc q) ≡ true → free_before board to flow (suc q) ≡ None
-held_step board to flow q h held =
-    none_free board to flow q h (later_step board to flow q h ∙ ap (λ b. b || later_above board to flow (suc q)) held)
+  pub held_step : (q : ℕ) → q < last_place flow → is_held_at board flow (suc q) ≡ true → free_before board to flow (suc q) ≡ None
+  held_step q h held =
+      none_free board to flow q h (later_step board to flow q h ∙ ap (λ b. b || later_above board to flow (suc q)) held)
 
-free_if : (board : Board) (to : Option ℕ) (flow : Flow) (p : ℕ) (some : Bool) → nat_lt 0 (may_release board flow p) ≡ some → later_above board to flow p ≡ false → is_free board to flow p ≡ some
-free_if board to flow p true e clear = ap (λ b. b && not (later_above board to flow p)) e ∙ ap not clear
-free_if board to flow p false e clear = ap (λ b. b && not (later_above board to flow p)) e
+  free_if : (p : ℕ) (some : Bool) → nat_lt 0 (may_release board flow p) ≡ some → later_above board to flow p ≡ false → is_free board to flow p ≡ some
+  free_if p true e clear = ap (λ b. b && not (later_above board to flow p)) e ∙ ap not clear
+  free_if p false e clear = ap (λ b. b && not (later_above board to flow p)) e
 
--- a place that lets octets go, with no source above behind it, is the last one that is free up to itself
-pub found_free : (board : Board) (to : Option ℕ) (flow : Flow) (p : ℕ) → 0 < may_release board flow p → later_above board to flow p ≡ false → last_free_to board to flow p ≡ Some p
-found_free board to flow zero h clear =
-    ap (λ b. if b then Some 0 else None) (free_if board to flow 0 true (grind (arith, nat_tests)) clear)
-found_free board to flow (suc p) h clear =
-    ap (λ b. if b then Some (suc p) else last_free_to board to flow p) (free_if board to flow (suc p) true (grind (arith, nat_tests)) clear)
+  -- a place that lets octets go, with no source above behind it, is the last one that is free up to itself
+  pub found_free : (p : ℕ) → 0 < may_release board flow p → later_above board to flow p ≡ false → last_free_to board to flow p ≡ Some p
+  found_free zero h clear =
+      ap (λ b. if b then Some 0 else None) (free_if 0 true (grind (arith, nat_tests)) clear)
+  found_free (suc p) h clear =
+      ap (λ b. if b then Some (suc p) else last_free_to board to flow p) (free_if (suc p) true (grind (arith, nat_tests)) clear)
 
--- one that lets nothing go is passed over
-pub passed_over : (board : Board) (to : Option ℕ) (flow : Flow) (p : ℕ) → may_release board flow p ≡ 0 → later_above board to flow p ≡ false → last_free_to board to flow p ≡ free_before board to flow p
-passed_over board to flow zero h clear =
-    ap (λ b. if b then Some 0 else None) (free_if board to flow 0 false (grind (arith, nat_tests)) clear)
-passed_over board to flow (suc p) h clear =
-    ap (λ b. if b then Some (suc p) else last_free_to board to flow p) (free_if board to flow (suc p) false (grind (arith, nat_tests)) clear)
+  -- one that lets nothing go is passed over
+  pub passed_over : (p : ℕ) → may_release board flow p ≡ 0 → later_above board to flow p ≡ false → last_free_to board to flow p ≡ free_before board to flow p
+  passed_over zero h clear =
+      ap (λ b. if b then Some 0 else None) (free_if 0 false (grind (arith, nat_tests)) clear)
+  passed_over (suc p) h clear =
+      ap (λ b. if b then Some (suc p) else last_free_to board to flow p) (free_if (suc p) false (grind (arith, nat_tests)) clear)
 
--- ---- by the place that a search has reached
-pub free_start : (board : Board) (to : Option ℕ) (flow : Flow) (p : ℕ) → 1 ≤ p → p ≡ last_place flow → last_free board to flow ≡ free_before board to flow p
-free_start board to flow zero first e = absurd (omega arith)
-free_start board to flow (suc q) first e =
-    let before : last_place flow - 1 ≡ q = omega arith in
-    ap (last_free_to board to flow) before
+  -- ---- by the place that a search has reached
+  pub free_start : (p : ℕ) → 1 ≤ p → p ≡ last_place flow → last_free board to flow ≡ free_before board to flow p
+  free_start zero first e = absurd (omega arith)
+  free_start (suc q) first e =
+      let before : last_place flow - 1 ≡ q = omega arith in
+      ap (last_free_to board to flow) before
 
--- the write buffer is above: nothing is free
-pub target_holds : (board : Board) (to : Option ℕ) (flow : Flow) → 1 ≤ last_place flow → is_target_above board to ≡ true → last_free board to flow ≡ None
-target_holds board to flow some above =
-    let before : last_place flow ≡ suc (last_place flow - 1) = omega arith in
-    let last : later_above board to flow (suc (last_place flow - 1)) ≡ true =
-    ap (later_above board to flow) (sym before) ∙ (later_last board to flow ∙ above) in
-    none_free board to flow (last_place flow - 1) (omega arith)
-    (later_step board to flow (last_place flow - 1) (omega arith)
-    ∙ (ap (λ b. is_held_at board flow (suc (last_place flow - 1)) || b) last ∙ or_true (is_held_at board flow (suc (last_place flow - 1)))))
+  -- the write buffer is above: nothing is free
+  pub target_holds : 1 ≤ last_place flow → is_target_above board to ≡ true → last_free board to flow ≡ None
+  target_holds some above =
+      let before : last_place flow ≡ suc (last_place flow - 1) = omega arith in
+      let last : later_above board to flow (suc (last_place flow - 1)) ≡ true =
+      ap (later_above board to flow) (sym before) ∙ (later_last board to flow ∙ above) in
+      none_free board to flow (last_place flow - 1) (omega arith)
+      (later_step board to flow (last_place flow - 1) (omega arith)
+      ∙ (ap (λ b. is_held_at board flow (suc (last_place flow - 1)) || b) last ∙ or_true (is_held_at board flow (suc (last_place flow - 1)))))
 
-pub target_clear : (board : Board) (to : Option ℕ) (flow : Flow) (p : ℕ) → p ≡ last_place flow → is_target_above board to ≡ false → later_above board to flow p ≡ false
-target_clear board to flow p e low = ap (later_above board to flow) e ∙ (later_last board to flow ∙ low)
+  pub target_clear : (p : ℕ) → p ≡ last_place flow → is_target_above board to ≡ false → later_above board to flow p ≡ false
+  target_clear p e low = ap (later_above board to flow) e ∙ (later_last board to flow ∙ low)
 
--- the place that the search has reached is above
-pub held_here : (board : Board) (to : Option ℕ) (flow : Flow) (p : ℕ) → 1 ≤ p → p ≤ last_place flow → is_held_at board flow p ≡ true → free_before board to flow p ≡ None
-held_here board to flow zero first last held = absurd (omega arith)
-held_here board to flow (suc q) first last held = held_step board to flow q (omega arith) held
+  -- the place that the search has reached is above
+  pub held_here : (p : ℕ) → 1 ≤ p → p ≤ last_place flow → is_held_at board flow p ≡ true → free_before board to flow p ≡ None
+  held_here zero first last held = absurd (omega arith)
+  held_here (suc q) first last held = held_step q (omega arith) held
 
--- it isn't, so the search goes on to the place before it
-pub clear_here : (board : Board) (to : Option ℕ) (flow : Flow) (p : ℕ) → 1 ≤ p → p ≤ last_place flow → is_held_at board flow p ≡ false → later_above board to flow p ≡ false → later_above board to flow (p - 1) ≡ false
-clear_here board to flow zero first last held clear = absurd (omega arith)
-clear_here board to flow (suc q) first last held clear =
-    let before : (suc q) - 1 ≡ q = omega arith in
-    ap (later_above board to flow) before ∙ clear_step board to flow q (omega arith) held clear
+  -- it isn't, so the search goes on to the place before it
+  pub clear_here : (p : ℕ) → 1 ≤ p → p ≤ last_place flow → is_held_at board flow p ≡ false → later_above board to flow p ≡ false → later_above board to flow (p - 1) ≡ false
+  clear_here zero first last held clear = absurd (omega arith)
+  clear_here (suc q) first last held clear =
+      let before : (suc q) - 1 ≡ q = omega arith in
+      ap (later_above board to flow) before ∙ clear_step q (omega arith) held clear
 
--- which lets octets go
-pub found_here : (board : Board) (to : Option ℕ) (flow : Flow) (p : ℕ) → 1 ≤ p → 0 < may_release board flow (p - 1) → later_above board to flow (p - 1) ≡ false → free_before board to flow p ≡ Some (p - 1)
-found_here board to flow zero first some clear = absurd (omega arith)
-found_here board to flow (suc q) first some clear =
-    let before : q ≡ (suc q) - 1 = omega arith in
-    ap (last_free_to board to flow) before ∙ found_free board to flow ((suc q) - 1) some clear
+  -- which lets octets go
+  pub found_here : (p : ℕ) → 1 ≤ p → 0 < may_release board flow (p - 1) → later_above board to flow (p - 1) ≡ false → free_before board to flow p ≡ Some (p - 1)
+  found_here zero first some clear = absurd (omega arith)
+  found_here (suc q) first some clear =
+      let before : q ≡ (suc q) - 1 = omega arith in
+      ap (last_free_to board to flow) before ∙ found_free ((suc q) - 1) some clear
 
--- or doesn't
-pub passed_here : (board : Board) (to : Option ℕ) (flow : Flow) (p : ℕ) → 1 ≤ p → may_release board flow (p - 1) ≡ 0 → later_above board to flow (p - 1) ≡ false → free_before board to flow p ≡ free_before board to flow (p - 1)
-passed_here board to flow zero first none clear = absurd (omega arith)
-passed_here board to flow (suc q) first none clear =
-    let before : q ≡ (suc q) - 1 = omega arith in
-    ap (last_free_to board to flow) before ∙ passed_over board to flow ((suc q) - 1) none clear
+  -- or doesn't
+  pub passed_here : (p : ℕ) → 1 ≤ p → may_release board flow (p - 1) ≡ 0 → later_above board to flow (p - 1) ≡ false → free_before board to flow p ≡ free_before board to flow (p - 1)
+  passed_here zero first none clear = absurd (omega arith)
+  passed_here (suc q) first none clear =
+      let before : q ≡ (suc q) - 1 = omega arith in
+      ap (last_free_to board to flow) before ∙ passed_over ((suc q) - 1) none clear

@@ -1,7 +1,7 @@
 -- How many octets a flow holds, counted place by place.
-use Rattle.std.proofs.Common.{◌≡◌, ◌+◌, ◌<◌, ◌≤◌, ◌∙◌, ℕ, suc, zero, List, [], ◌∷◌, take, length, refl, sym, ap, arith}
+use Rattle.std.proofs.Common.{◌≡◌, ◌+◌, ◌<◌, ◌∙◌, ℕ, suc, zero, List, [], ◌∷◌, take, length, refl, sym, ap, arith}
 use Rattle.std.proofs.lemmas.List.Sums.{sum_by-cons}
-use Rattle.exchange_core.specs.Flow.{Flow, held_by, last_place}
+use Rattle.exchange_core.specs.Flow.{Flow, last_place}
 use Rattle.filter_chain.specs.Chain.{octets_at}
 use Rattle.filter_chain.specs.Place.{Place}
 use Rattle.std.specs.Option.{option_map_or}
@@ -36,6 +36,3 @@ take_all (x ∷ places) (suc i) e = omega (
   sum_by-cons (λ (place : Place). length place.octets) x (take i places),
   sum_by-cons (λ (place : Place). length place.octets) x places,
 )
-
-pub held_all : (flow : Flow) (i : ℕ) → i ≡ last_place flow → length flow.recv + held_in_first i flow.chain.places ≡ held_by flow
-held_all flow i e = ap (λ n. length flow.recv + n) (take_all flow.chain.places i e)

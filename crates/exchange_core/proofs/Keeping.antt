@@ -4,16 +4,15 @@ use Rattle.exchange_core.specs.Exchange.{IsSoundExchange, is_metered}
 use Rattle.exchange_core.specs.Exchanges.{IsSound, exchange_at, is_metered_at}
 use Rattle.exchange_core.specs.Numbers.{has}
 use Rattle.exchange_core.specs.View.{IsKept, exchanges_of, seen_all, stored}
-use Rattle.exchange_core.specs.declared.exchange.Exchange.{Exchange}
 use Rattle.exchange_core.specs.declared.exchanges.Exchanges.TheInside.{Inside}
-use Rattle.std.proofs.Common.{ap, arith, refl, subst, sym, ◌∙◌}
+use Rattle.std.proofs.Common.{ap, arith, subst, sym, ◌∙◌}
 use Rattle.std.proofs.lemmas.Bool.{false≢true}
 use Rattle.std.specs.List.{AllByRecursion}
 use Rattle.std.specs.List.Sorted.{IsStrictlySortedBy}
 use Rattle.std.specs.Map.{keys_of, lookup}
 use Rattle.std.specs.Option.{is_some, option_map_or}
 use Rattle.std.specs.Ordering.{nat_cmp}
-use Rattle.std.specs.Prelude.{IfSome, IsNone, List, None, Option, Some, [], count_by, false, length, nat_eq, option_to_list, true, ℕ, ◌++◌, ◌+◌, ◌∷◌, ◌↔◌, ◌≡◌, ◌≤◌}
+use Rattle.std.specs.Prelude.{IfSome, List, None, Option, Some, [], count_by, false, length, nat_eq, option_to_list, true, ℕ, ◌++◌, ◌+◌, ◌≡◌, ◌≤◌}
 use Rattle.std.specs.VecDeque.{deque_capacity, deque_len}
 
 -- ---- room was made
@@ -52,14 +51,6 @@ swept_kept c a swept kept items len more live last time ticked marks ready = rec
   counted = ap length marks ∙ kept.counted ∙ ap (λ es. count_by (λ e. is_metered e.1) es) (sym live);
   ready = omega (arith, ap length live, ready, kept.ready);
 }
-
-pub none_swept : (swept : Option ℕ) (doomed rest : List ℕ) → doomed ≡ option_to_list swept ++ rest → (swept ≡ None → doomed ≡ []) → IsNone swept ↔ (doomed ≡ [])
-none_swept None doomed rest is empty = (λ h. empty refl, λ h. refl)
-none_swept (Some x) doomed rest is empty = (λ h. absurd cc, λ h. absurd cc)
-
-pub nothing_in : (items : List ℕ) → length items ≡ 0 → items ≡ []
-nothing_in [] none = refl
-nothing_in (x ∷ items) none = absurd (omega arith)
 
 -- ---- no exchanges
 pub nothing_kept : (c : Inside) → c.live.entries ≡ [] → c.doomed.items ≡ [] → c.metered.items ≡ [] → IsStrictlySortedBy nat_cmp (keys_of c.live.entries) →

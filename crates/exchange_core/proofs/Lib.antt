@@ -10,6 +10,7 @@ pub mod Free
 pub mod Held
 pub mod Holding
 pub mod Keeping
+pub mod Lent
 pub mod Maps
 pub mod Metered
 pub mod Meters
@@ -21,6 +22,7 @@ pub mod PlainStreams
 pub mod Receiving
 pub mod Refilled
 pub mod Rising
+pub mod Ruled
 pub mod Seeing
 pub mod Sources
 pub mod StageSources

@@ -1,8 +1,7 @@
 -- The look-ups of the map of exchanges, and what is seen of it.
 use Rattle.exchange_core.specs.Exchange.{seen_at}
-use Rattle.exchange_core.specs.Exchanges.{Exchanges, exchange_at}
-use Rattle.exchange_core.specs.View.{exchanges_of, seen_all, stored}
-use Rattle.exchange_core.specs.declared.exchange.Exchange.{Exchange}
+use Rattle.exchange_core.specs.Exchanges.{exchange_at}
+use Rattle.exchange_core.specs.View.{exchanges_of, stored}
 use Rattle.exchange_core.specs.declared.exchanges.Exchanges.TheInside.{Inside}
 use Rattle.std.proofs.Common.{ap, arith, inl, inr, refl, sym, ◌∙◌}
 use Rattle.std.proofs.lemmas.Bool.{cases_Bool}
@@ -12,7 +11,7 @@ use Rattle.std.proofs.lemmas.Option.{same_Some}
 use Rattle.std.specs.BTreeMap.{is_at}
 use Rattle.std.specs.Map.{lookup, set_value}
 use Rattle.std.specs.Ordering.{nat_cmp}
-use Rattle.std.specs.Prelude.{Bool, List, None, Option, Some, [], cond, false, map, nat_eq, option_map, true, ℕ, ◌∷◌, ◌≡◌}
+use Rattle.std.specs.Prelude.{Bool, List, Option, Some, [], cond, map, nat_eq, option_map, ℕ, ◌∷◌, ◌≡◌}
 
 pub eq_by_number : (x y : ℕ) → is_at (nat_cmp x) y ≡ nat_eq x y
 eq_by_number x y = grind (arith, nat_tests)

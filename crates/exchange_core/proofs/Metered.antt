@@ -1,13 +1,11 @@
 -- How many exchanges have Meters that hold octets.
-use Rattle.exchange_core.proofs.Maps.{WritesAt}
 use Rattle.exchange_core.proofs.Moments.{chain_kept}
 use Rattle.exchange_core.proofs.Refilled.{refilled_any}
 use Rattle.exchange_core.specs.Exchange.{at_moment, is_metered, seen_at}
 use Rattle.exchange_core.specs.Flow.{Flow, is_filled_meter, meters_hold}
 use Rattle.exchange_core.specs.Numbers.{Numbers, has}
 use Rattle.exchange_core.specs.declared.exchange.Exchange.{Exchange}
-use Rattle.filter_chain.specs.Place.{Place, refilled}
-use Rattle.std.proofs.Common.{ap, arith, inl, inr, refl, subst, sym, ◌∙◌}
+use Rattle.std.proofs.Common.{ap, arith, inl, inr, refl, sym, ◌∙◌}
 use Rattle.std.proofs.lemmas.Bool.{cases_Bool}
 use Rattle.std.proofs.lemmas.List.Sums.{sum_by-cons}
 use Rattle.std.proofs.lemmas.Option.{none-some, same_Some}
@@ -16,8 +14,7 @@ use Rattle.std.specs.List.{list_any}
 use Rattle.std.specs.Map.{lookup, remove_entry, set_value}
 use Rattle.std.specs.Option.{option_map_or}
 use Rattle.std.specs.Ordering.{is_eq, match_ordering, nat_cmp}
-use Rattle.std.specs.Prelude.{Bool, List, None, Option, Some, [], cond, count_by, false, length, map, nat_eq, option_map, true, ℕ, ◌+◌, ◌<◌, ◌||◌, ◌∷◌, ◌≡◌, ◌≤◌}
-use Rattle.std.specs.declared.cmp.Ordering.{Ordering}
+use Rattle.std.specs.Prelude.{Bool, List, None, Option, Some, [], cond, count_by, false, length, nat_eq, option_map, true, ℕ, ◌+◌, ◌<◌, ◌||◌, ◌∷◌, ◌≡◌, ◌≤◌}
 use Rattle.std.specs.declared.cmp.Ordering.TheVariants.{Equal, Greater, Less}
 
 -- the set was told which exchanges have Meters that hold octets

@@ -2,7 +2,7 @@
 use Rattle.std.proofs.lemmas.Bool.Decides.{nat_tests}
 use Rattle.std.proofs.Common.{◌≡◌, ◌≢◌, ◌+◌, ◌-◌, ◌<◌, ◌≤◌, ◌∙◌, ◌&&◌, ◌||◌, ℕ, suc, zero, List, [], ◌∷◌, drop, length, Bool, true, false, refl, sym, ap, subst, nat_lt, arith}
 use Rattle.exchange_core.proofs.StageSources.{last_is, not_last}
-use Rattle.exchange_core.specs.Flow.{Flow, is_filled_meter, is_meter, last_place, meters_hold}
+use Rattle.exchange_core.specs.Flow.{Flow, is_filled_meter, is_meter, last_place}
 use Rattle.filter_chain.specs.Chain.{EndsInSend, kinds, octets_at}
 use Rattle.filter_chain.specs.Place.{Place, is_source}
 use Rattle.filter_chain.specs.Release.{is_source_at}

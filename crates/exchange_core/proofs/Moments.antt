@@ -1,33 +1,33 @@
 -- A flow at a moment: what it knows already stays, and of two moments the later one counts.
-use Rattle.exchange_core.specs.Effects.{ticked}
-use Rattle.exchange_core.specs.Exchange.{at_moment, seen_at}
+use Rattle.exchange_core.specs.Exchange.{at_moment}
 use Rattle.exchange_core.specs.Flow.{Flow}
-use Rattle.exchange_core.specs.declared.exchange.Exchange.{Exchange}
 use Rattle.filter_chain.specs.Chain.{Chain}
 use Rattle.filter_chain.specs.Effects.{ticked as chain_ticked}
 use Rattle.std.proofs.Common.{ap, arith, inl, inr, refl, sym, ◌∙◌}
 use Rattle.std.proofs.lemmas.Bool.{cases_Bool, le-ltb, lt-ltb, ltb-false, ltb-true}
-use Rattle.std.specs.Prelude.{Bool, None, Option, Some, cond, false, nat_lt, option_map, true, ℕ, ◌<◌, ◌≡◌, ◌≤◌}
+use Rattle.std.specs.Prelude.{cond, false, nat_lt, true, ℕ, ◌<◌, ◌≡◌, ◌≤◌}
 
 -- the chain of a flow at a moment
 abbrev pub chain_at : ℕ → Chain → Chain
 chain_at now chain = cond (nat_lt chain.time now) (chain_ticked chain now) chain
 
-pub chain_known : (now : ℕ) (chain : Chain) → now ≤ chain.time → chain_at now chain ≡ chain
-chain_known now chain knows = ap (λ b. cond b (chain_ticked chain now) chain) (le-ltb chain.time now knows)
+module _ (now : ℕ) (chain : Chain) where
+  pub chain_known : now ≤ chain.time → chain_at now chain ≡ chain
+  chain_known knows = ap (λ b. cond b (chain_ticked chain now) chain) (le-ltb chain.time now knows)
 
-pub chain_told : (now : ℕ) (chain : Chain) → chain.time < now → chain_at now chain ≡ chain_ticked chain now
-chain_told now chain later = ap (λ b. cond b (chain_ticked chain now) chain) (lt-ltb chain.time now later)
+  pub chain_told : chain.time < now → chain_at now chain ≡ chain_ticked chain now
+  chain_told later = ap (λ b. cond b (chain_ticked chain now) chain) (lt-ltb chain.time now later)
 
 -- ---- a flow
-pub known : (now : ℕ) (flow : Flow) → now ≤ flow.chain.time → at_moment now flow ≡ flow
-known now flow knows = ap (λ chain. record flow { chain = chain }) (chain_known now flow.chain knows)
+module _ (now : ℕ) (flow : Flow) where
+  pub known : now ≤ flow.chain.time → at_moment now flow ≡ flow
+  known knows = ap (λ chain. record flow { chain = chain }) (chain_known now flow.chain knows)
 
-pub told : (now : ℕ) (flow : Flow) → now ≤ (at_moment now flow).chain.time
-told now flow = elim (cases_Bool (nat_lt flow.chain.time now)) [
-  | inl later ↦ omega (arith, ap (λ b. (cond b (chain_ticked flow.chain now) flow.chain).time) later)
-  | inr is ↦ omega (arith, ap (λ b. (cond b (chain_ticked flow.chain now) flow.chain).time) is, ltb-false flow.chain.time now is)
-]
+  pub told : now ≤ (at_moment now flow).chain.time
+  told = elim (cases_Bool (nat_lt flow.chain.time now)) [
+    | inl later ↦ omega (arith, ap (λ b. (cond b (chain_ticked flow.chain now) flow.chain).time) later)
+    | inr is ↦ omega (arith, ap (λ b. (cond b (chain_ticked flow.chain now) flow.chain).time) is, ltb-false flow.chain.time now is)
+  ]
 
 pub told_by : (now time : ℕ) (flow : Flow) → now ≤ time → flow.chain.time ≤ time → (at_moment now flow).chain.time ≤ time
 told_by now time flow first second = elim (cases_Bool (nat_lt flow.chain.time now)) [

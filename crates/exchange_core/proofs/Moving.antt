@@ -1,8 +1,7 @@
 -- A move that was made, and one that was refused.
-use Rattle.std.proofs.Common.{◌≡◌, ◌+◌, ◌<◌, ◌≤◌, ◌∙◌, ℕ, suc, zero, length, Bool, true, false, refl, sym, ap, subst, arith}
+use Rattle.std.proofs.Common.{◌≡◌, ◌<◌, ◌≤◌, ◌∙◌, ℕ, length, sym, ap, subst}
 use Rattle.exchange_core.proofs.FlowSound.{moved_sound}
 use Rattle.exchange_core.proofs.Stepping.{stage_moves}
-use Rattle.exchange_core.specs.Effects.{moved}
 use Rattle.exchange_core.specs.Flow.{Flow, IsSound, octets_in}
 use Rattle.exchange_core.specs.Kept.{IsKeptFlow, flow_of}
 use Rattle.exchange_core.specs.declared.flow.Flow.TheInside.{Inside}

@@ -1,5 +1,5 @@
 -- Facts of a result by its outcome.
-use Rattle.std.specs.Prelude.{Err, IfOk, IfSome, None, Ok, OnErr, OnOk, Option, Result, Some, ◌≡◌}
+use Rattle.std.specs.Prelude.{Err, IfOk, IfSome, Ok, OnErr, OnOk, Option, Result, Some, ◌≡◌}
 use Rattle.std.proofs.Common.{subst, sym}
 
 module _ {T E : Type 0} where

@@ -1,5 +1,5 @@
 -- Numbers in order: what a search finds, and what comes and goes.
-use Rattle.std.proofs.Common.{◌≡◌, ◌≢◌, ◌+◌, ◌-◌, ◌<◌, ◌≤◌, ◌∙◌, ◌||◌, ◌==◌, ℕ, suc, zero, List, [], ◌∷◌, ◌++◌, drop, take, length, Bool, true, false, refl, sym, ap, subst, nat_eq, nat_lt, arith, inl, inr, ◌⊎◌, ⊎_elim}
+use Rattle.std.proofs.Common.{◌≡◌, ◌≢◌, ◌+◌, ◌-◌, ◌<◌, ◌≤◌, ◌∙◌, ◌||◌, ◌==◌, ℕ, suc, zero, List, [], ◌∷◌, drop, take, length, Bool, true, false, refl, sym, ap, subst, nat_eq, nat_lt, arith, inl, inr, ◌⊎◌, ⊎_elim}
 use Rattle.std.proofs.Math.ListN.{get_or}
 use Rattle.std.proofs.lemmas.Bool.{false≢true}
 use Rattle.std.proofs.lemmas.Bool.Decides.{nat_tests}
@@ -9,7 +9,7 @@ use Rattle.std.proofs.lemmas.List.Folds.{list_any-append}
 use Rattle.exchange_core.specs.Numbers.{Rises, has}
 use Rattle.std.proofs.lemmas.List.Sorted.{searched}
 use Rattle.std.proofs.lemmas.Option.{slice_get-get_or, slice_get_past}
-use Rattle.std.specs.List.{insert, list_any, remove}
+use Rattle.std.specs.List.{insert, remove}
 use Rattle.std.specs.List.Sorted.{IsBinarySearchResult}
 use Rattle.std.specs.Borrow.{Bor}
 use Rattle.std.specs.Option.{option_copied, option_map_or}
@@ -184,22 +184,23 @@ pub record IsGapAt (xs : List ℕ) (x i : ℕ) : Type 0 where
   pub below : (k : ℕ) → k < i → get_or xs k 0 < x
   pub above : (k : ℕ) → i ≤ k → k < length xs → x < get_or xs k 0
 
-pub found_at : (xs : List ℕ) (x i : ℕ) → IsBinarySearchResult (λ y. nat_cmp y x) xs (Ok i) → Rises xs → IsFoundAt xs x i
-found_at xs x i is rises =
-    let at : (i < length xs) × (get_or xs i 0 ≡ x) = searched xs x (Ok i) is (far xs rises) in
-    record { within = at.0; is = at.1 }
+module _ (xs : List ℕ) (x i : ℕ) where
+  pub found_at : {ys : List ℕ} → ys ≡ xs → IsBinarySearchResult (λ y. nat_cmp y x) ys (Ok i) → Rises xs → IsFoundAt xs x i
+  found_at same is rises =
+      let at : (i < length xs) × (get_or xs i 0 ≡ x) = searched xs x (Ok i) (subst (λ zs. IsBinarySearchResult (λ y. nat_cmp y x) zs (Ok i)) same is) (far xs rises) in
+      record { within = at.0; is = at.1 }
 
-pub gap_at : (xs : List ℕ) (x i : ℕ) → IsBinarySearchResult (λ y. nat_cmp y x) xs (Err i) → Rises xs → IsGapAt xs x i
-gap_at xs x i is rises =
-    let at : (i ≤ length xs) × ((k : ℕ) → k < i → get_or xs k 0 < x) × ((k : ℕ) → i ≤ k → k < length xs → x < get_or xs k 0) = searched xs x (Err i) is (far xs rises) in
-    record { within = at.0; below = at.1; above = at.2 }
+  pub gap_at : {ys : List ℕ} → ys ≡ xs → IsBinarySearchResult (λ y. nat_cmp y x) ys (Err i) → Rises xs → IsGapAt xs x i
+  gap_at same is rises =
+      let at : (i ≤ length xs) × ((k : ℕ) → k < i → get_or xs k 0 < x) × ((k : ℕ) → i ≤ k → k < length xs → x < get_or xs k 0) = searched xs x (Err i) (subst (λ zs. IsBinarySearchResult (λ y. nat_cmp y x) zs (Err i)) same is) (far xs rises) in
+      record { within = at.0; below = at.1; above = at.2 }
 
-pub gap_none : (xs : List ℕ) (x i : ℕ) → IsGapAt xs x i → has xs x ≡ false
-gap_none xs x i gap = none_is xs x (λ k h same.
-    ⊎_elim
-    (λ (low : k < i). absurd (omega (arith, same, gap.below k low)))
-    (λ (high : i ≤ k). absurd (omega (arith, same, gap.above k high h)))
-    (order k i))
+  pub gap_none : IsGapAt xs x i → has xs x ≡ false
+  gap_none gap = none_is xs x (λ k h same.
+      ⊎_elim
+      (λ (low : k < i). absurd (omega (arith, same, gap.below k low)))
+      (λ (high : i ≤ k). absurd (omega (arith, same, gap.above k high h)))
+      (order k i))
 
 -- ---- the first one above another
 -- what `get` gives

@@ -53,11 +53,12 @@ moved_time : (p n : ℕ) (flow : Flow) → (moved p n flow).chain.time ≡ flow.
 moved_time zero n flow = refl
 moved_time (suc p) n flow = refl
 
-left_own : (p n : ℕ) (flow : Flow) → (left_from flow p n).chain.flow ≡ flow.chain.flow
-left_own p n flow = elim (overfills flow.chain (p + 1) n) as (λ b. (if b then flow else moved p n flow).chain.flow ≡ flow.chain.flow) [ true ↦ refl | false ↦ moved_own p n flow ]
+module _ (p n : ℕ) (flow : Flow) where
+  left_own : (left_from flow p n).chain.flow ≡ flow.chain.flow
+  left_own = elim (overfills flow.chain (p + 1) n) as (λ b. (if b then flow else moved p n flow).chain.flow ≡ flow.chain.flow) [ true ↦ refl | false ↦ moved_own p n flow ]
 
-left_time : (p n : ℕ) (flow : Flow) → (left_from flow p n).chain.time ≡ flow.chain.time
-left_time p n flow = elim (overfills flow.chain (p + 1) n) as (λ b. (if b then flow else moved p n flow).chain.time ≡ flow.chain.time) [ true ↦ refl | false ↦ moved_time p n flow ]
+  left_time : (left_from flow p n).chain.time ≡ flow.chain.time
+  left_time = elim (overfills flow.chain (p + 1) n) as (λ b. (if b then flow else moved p n flow).chain.time ≡ flow.chain.time) [ true ↦ refl | false ↦ moved_time p n flow ]
 
 pub steady_stepped : (board : Board) (to : Option ℕ) → IsSteady (stepped board to)
 steady_stepped board to = record {

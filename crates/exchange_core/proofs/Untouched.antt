@@ -4,59 +4,36 @@ use Rattle.exchange_core.proofs.Refilled.{refilled_length, refilled_octets, refi
 use Rattle.exchange_core.specs.Exchange.{at_moment, ends_of, flow_in, goes_to, held_in, seen_at}
 use Rattle.exchange_core.specs.Flow.{Flow, held_by, last_place, octets_in, send, stages_of}
 use Rattle.exchange_core.specs.Message.{head_waits, trailers_wait}
-use Rattle.exchange_core.specs.Replies.{Side, Word, answer, reckoning, reply_down, reply_up, row, said, side_of_cause}
+use Rattle.exchange_core.specs.Replies.{Word, answer, reckoning, row, said, side_of_cause}
 use Rattle.exchange_core.specs.Replies.Word.{Code, CodeUnlessEnded, ReplyOnly, ReplyOr, Silence}
 use Rattle.exchange_core.specs.Seen.{IsFoundAs}
-use Rattle.exchange_core.specs.Units.{IsFrameable, empty_before, ends_after, next_unit, octets_of}
+use Rattle.exchange_core.specs.State.{ungated}
+use Rattle.exchange_core.specs.Units.{IsFrameable, ends_after, next_unit}
+use Rattle.flow_rules.specs.Units.{ends_after as is_end_after, next_unit as first_unit}
 use Rattle.exchange_core.specs.declared.exchange.Exchange.{Exchange}
-use Rattle.exchange_core.specs.declared.message.Message.{Message}
-use Rattle.exchange_core.specs.declared.reply.Doomed.{Doomed}
 use Rattle.exchange_core.specs.declared.reply.Reply.TheVariants as reply
-use Rattle.exchange_core.specs.declared.step.Unit.TheVariants.{Body, Head, Nothing, Trailers}
-use Rattle.exchange_core.specs.declared.step.Unit.{Unit as NextUnit}
+use Rattle.flow_rules.specs.declared.unit.Unit.TheVariants.{Body, Head, Nothing, Trailers}
+use Rattle.flow_rules.specs.declared.unit.Unit.{Unit as NextUnit}
 use Rattle.filter_chain.specs.Chain.{Chain, octets_at}
 use Rattle.filter_chain.specs.Effects.{ticked as chain_ticked}
-use Rattle.filter_chain.specs.Place.{Place, is_hold, refilled}
-use Rattle.filter_chain.specs.Release.{empty_before as chain_empty_before, head_may_go, holds_filled, is_source_at, is_whole_at}
+use Rattle.filter_chain.specs.Place.{Place, kind_of, refilled}
+use Rattle.filter_chain.specs.Release.{is_source_at}
 use Rattle.flow_notes.specs.declared.notes.Cause.{Cause}
 use Rattle.flow_notes.specs.declared.notes.Cause.TheVariants.{ConnLost}
 use Rattle.std.proofs.Common.{ap, refl, subst, sym, ◌∙◌}
 use Rattle.std.specs.Option.{option_map_or}
-use Rattle.std.specs.Prelude.{Bool, List, None, Option, Some, [], false, if◌then◌else◌, is_some, length, map, min, nat_lt, not, option_map, slice_get, suc, sum_by, true, zero, ℕ, ℤ, ◌&&◌, ◌+◌, ◌-◌, ◌==◌, ◌||◌, ◌∷◌, ◌≡◌, ◌≤◌}
+use Rattle.std.specs.Prelude.{pos, Bool, List, None, Option, Some, [], false, if◌then◌else◌, is_some, length, map, not, option_map, suc, true, zero, ℕ, ℤ, ◌&&◌, ◌+◌, ◌-◌, ◌∷◌, ◌≡◌, ◌≤◌}
 
 -- ---- a chain
 octets_ticked : (now : ℕ) (chain : Chain) (p : ℕ) → octets_at (chain_ticked chain now) p ≡ octets_at chain p
 octets_ticked now chain zero = refl
 octets_ticked now chain (suc i) = refilled_octets _ chain.places i
 
-whole_ticked : (now : ℕ) (chain : Chain) (p : ℕ) → chain_empty_before (chain_ticked chain now) p ≡ chain_empty_before chain p
-whole_ticked now chain zero = refl
-whole_ticked now chain (suc zero) = refl
-whole_ticked now chain (suc (suc p)) = λ i. (length (octets_ticked now chain (suc p) i) == 0) && whole_ticked now chain (suc p) i
-
-holds_ticked : (now : ℕ) (chain : Chain) (n p : ℕ) (places : List Place) → holds_filled (chain_ticked chain now) p (map (refilled n) places) ≡ holds_filled chain p places
-holds_ticked now chain n p [] = refl
-holds_ticked now chain n p (place ∷ places) =
-    λ i. (not (is_hold place.kind) || (chain.ended && whole_ticked now chain p i)) && holds_ticked now chain n (p + 1) places i
-
-head_ticked : (now : ℕ) (chain : Chain) → head_may_go (chain_ticked chain now) ≡ head_may_go chain
-head_ticked now chain = holds_ticked now chain _ 1 chain.places
+kinds_kept : (n : ℕ) (places : List Place) → map (λ place. kind_of place.kind) (map (refilled n) places) ≡ map (λ place. kind_of place.kind) places
+kinds_kept n [] = refl
+kinds_kept n (place ∷ places) = ap (λ kinds. kind_of place.kind ∷ kinds) (kinds_kept n places)
 
 -- ---- a flow
--- the next unit, by what it is read from
-abbrev unit_from : ℤ → ℕ → Message → ℕ → Bool → ℕ → Bool → NextUnit
-unit_from room frame message quantum goes sent alone =
-    let n = min (min quantum frame) (min (octets_of room) sent) in
-    if head_waits message then (if goes then Head message.head_ends else Nothing)
-    else if nat_lt 0 n then Body n ((message.ended && (alone && (sent == n))) && not (trailers_wait message))
-    else if not (message.ended && (alone && (sent == 0))) || message.end_framed then Nothing
-    else if trailers_wait message then Trailers
-    else Body 0 true
-
-unit_is : (room : ℤ) (frame : ℕ) (flow : Flow) →
-    next_unit room frame flow ≡ unit_from room frame flow.message flow.chain.quantum (head_may_go flow.chain) (length (send flow)) (empty_before flow (last_place flow))
-unit_is room frame flow = refl
-
 module _ (now : ℕ) (flow : Flow) where
   abbrev later : Flow
   later = record flow { chain = chain_ticked flow.chain now }
@@ -68,19 +45,14 @@ module _ (now : ℕ) (flow : Flow) where
   octets_later zero = refl
   octets_later (suc p) = octets_ticked now flow.chain (suc p)
 
-  before_later : (p : ℕ) → empty_before later p ≡ empty_before flow p
-  before_later zero = refl
-  before_later (suc p) = λ i. (length (octets_later p i) == 0) && before_later p i
-
   sent_later : send later ≡ send flow
   sent_later = ap (octets_in later) places_later ∙ octets_later (last_place flow)
 
-  all_before_later : empty_before later (last_place later) ≡ empty_before flow (last_place flow)
-  all_before_later = ap (empty_before later) places_later ∙ before_later (last_place flow)
+  kinds_later : map (λ place. kind_of place.kind) later.chain.places ≡ map (λ place. kind_of place.kind) flow.chain.places
+  kinds_later = kinds_kept _ flow.chain.places
 
   unit_later : (room : ℤ) (frame : ℕ) → next_unit room frame later ≡ next_unit room frame flow
-  unit_later room frame = λ i. unit_from room frame flow.message flow.chain.quantum (head_ticked now flow.chain i)
-      (length (sent_later i)) (all_before_later i)
+  unit_later room frame = λ i. first_unit (record (ungated room frame flow) { last = places_later i; kinds = kinds_later i; len = λ p. length (octets_later p i) })
 
   pub unit_seen : (room : ℤ) (frame : ℕ) → next_unit room frame (at_moment now flow) ≡ next_unit room frame flow
   unit_seen room frame = chain_kept (λ chain. next_unit room frame (record flow { chain = chain })) now flow.chain (unit_later room frame)
@@ -90,7 +62,7 @@ module _ (now : ℕ) (flow : Flow) where
 
   pub ends_seen : (n : ℕ) → ends_after n (at_moment now flow) ≡ ends_after n flow
   ends_seen n = chain_kept (λ chain. ends_after n (record flow { chain = chain })) now flow.chain
-      (λ i. flow.message.ended && (all_before_later i && (length (sent_later i) == n)))
+      (λ i. is_end_after (record (ungated (pos 0) 0 flow) { last = places_later i; len = λ p. length (octets_later p i) }) n)
 
   pub frameable_seen : (unit : NextUnit) → IsFrameable unit flow → IsFrameable unit (at_moment now flow)
   frameable_seen Nothing is = is
@@ -136,39 +108,41 @@ response_held : (now : ℕ) (response : Option Flow) → option_map_or held_by (
 response_held now None = refl
 response_held now (Some flow) = held_seen now flow
 
-pub exchange_held : (now : ℕ) (exchange : Exchange) → held_in (seen_at now exchange) ≡ held_in exchange
-exchange_held now exchange = λ i. held_seen now exchange.request i + response_held now exchange.response i
+module _ (now : ℕ) (exchange : Exchange) where
+  pub exchange_held : held_in (seen_at now exchange) ≡ held_in exchange
+  exchange_held = λ i. held_seen now exchange.request i + response_held now exchange.response i
 
-pub exchange_ends : (now : ℕ) (exchange : Exchange) → ends_of (seen_at now exchange) ≡ ends_of exchange
-exchange_ends now exchange = ap (λ b. record { request = exchange.request.message.end_framed; response = b }) (by_response exchange.response)
-  where
-    by_response : (response : Option Flow) → option_map_or (λ flow. flow.message.end_framed) (option_map (at_moment now) response) false ≡ option_map_or (λ flow. flow.message.end_framed) response false
-    by_response None = refl
-    by_response (Some flow) = refl
+  pub exchange_ends : ends_of (seen_at now exchange) ≡ ends_of exchange
+  exchange_ends = ap (λ b. record { request = exchange.request.message.end_framed; response = b }) (by_response exchange.response)
+    where
+      by_response : (response : Option Flow) → option_map_or (λ flow. flow.message.end_framed) (option_map (at_moment now) response) false ≡ option_map_or (λ flow. flow.message.end_framed) response false
+      by_response None = refl
+      by_response (Some flow) = refl
 
-pub target_seen : (now : ℕ) (back : Bool) (exchange : Exchange) → goes_to back (seen_at now exchange) ≡ goes_to back exchange
-target_seen now false exchange = refl
-target_seen now true exchange = refl
+module _ (now : ℕ) where
+  pub target_seen : (back : Bool) (exchange : Exchange) → goes_to back (seen_at now exchange) ≡ goes_to back exchange
+  target_seen false exchange = refl
+  target_seen true exchange = refl
 
-pub flow_seen : (now : ℕ) (back : Bool) (exchange : Exchange) → flow_in back (seen_at now exchange) ≡ option_map (at_moment now) (flow_in back exchange)
-flow_seen now false exchange = refl
-flow_seen now true exchange = refl
+  pub flow_seen : (back : Bool) (exchange : Exchange) → flow_in back (seen_at now exchange) ≡ option_map (at_moment now) (flow_in back exchange)
+  flow_seen false exchange = refl
+  flow_seen true exchange = refl
 
--- ---- the table of causes
-side_seen : (now : ℕ) (cause : Cause) (back : Bool) (exchange : Exchange) → side_of_cause cause back (seen_at now exchange) ≡ side_of_cause cause back exchange
-side_seen now (ConnLost conn) back exchange = refl
-side_seen now _ back exchange = refl
+  -- ---- the table of causes
+  side_seen : (cause : Cause) (back : Bool) (exchange : Exchange) → side_of_cause cause back (seen_at now exchange) ≡ side_of_cause cause back exchange
+  side_seen (ConnLost conn) back exchange = refl
+  side_seen _ back exchange = refl
 
-framed_seen : (now : ℕ) (response : Option Flow) → option_map_or (λ flow. flow.message.head_framed) (option_map (at_moment now) response) false ≡ option_map_or (λ flow. flow.message.head_framed) response false
-framed_seen now None = refl
-framed_seen now (Some flow) = refl
+  framed_seen : (response : Option Flow) → option_map_or (λ flow. flow.message.head_framed) (option_map (at_moment now) response) false ≡ option_map_or (λ flow. flow.message.head_framed) response false
+  framed_seen None = refl
+  framed_seen (Some flow) = refl
 
-said_seen : (now : ℕ) (word : Word) (exchange : Exchange) → said word (seen_at now exchange) ≡ said word exchange
-said_seen now Silence exchange = refl
-said_seen now (ReplyOnly status) exchange = refl
-said_seen now (ReplyOr status code) exchange = ap (λ b. if b then reply.Reset code else answer status exchange) (framed_seen now exchange.response)
-said_seen now (Code code) exchange = refl
-said_seen now (CodeUnlessEnded code) exchange = refl
+  said_seen : (word : Word) (exchange : Exchange) → said word (seen_at now exchange) ≡ said word exchange
+  said_seen Silence exchange = refl
+  said_seen (ReplyOnly status) exchange = refl
+  said_seen (ReplyOr status code) exchange = ap (λ b. if b then reply.Reset code else answer status exchange) (framed_seen exchange.response)
+  said_seen (Code code) exchange = refl
+  said_seen (CodeUnlessEnded code) exchange = refl
 
 pub reckoning_seen : (now : ℕ) (cause : Cause) (back : Bool) (exchange : Exchange) → reckoning cause back (seen_at now exchange) ≡ reckoning cause back exchange
 reckoning_seen now cause back exchange = λ i. record {

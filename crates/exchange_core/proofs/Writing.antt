@@ -28,19 +28,9 @@ use Rattle.std.specs.Ordering.{nat_cmp}
 use Rattle.std.specs.Prelude.{Bool, IfSome, IsSome, List, None, Option, Some, [], cond, false, length, nat_eq, option_map, true, ℕ, ◌+◌, ◌<◌, ◌||◌, ◌∷◌, ◌≡◌, ◌≤◌}
 
 -- ---- one exchange
--- its flows know this moment
-KnowsMoment : ℕ → Option Flow → Type 0
-KnowsMoment now response = option_map (at_moment now) response ≡ response
-
 response_known : (now : ℕ) (response : Option Flow) → option_map (at_moment now) (option_map (at_moment now) response) ≡ option_map (at_moment now) response
 response_known now None = refl
 response_known now (Some flow) = ap (λ f. Some f) (known now (at_moment now flow) (told now flow))
-
-pub seen_again : (now : ℕ) (exchange : Exchange) → seen_at now (seen_at now exchange) ≡ seen_at now exchange
-seen_again now exchange = λ i. record exchange {
-  request = known now (at_moment now exchange.request) (told now exchange.request) i;
-  response = response_known now exchange.response i;
-}
 
 -- a flow that is lent and comes back changed
 pub with_changed : (back : Bool) (change : Flow → Flow) (exchange : Exchange) (flow written : Flow) → flow_in back exchange ≡ Some flow → written ≡ change flow →
@@ -228,48 +218,20 @@ module _ (c : Inside) (lent : BTreeMap ℕ Exchange) (marked : Numbers) (f : Flo
       }
 
 -- ---- a flow that is lent
-after_change : (f : FlowId) (change : Flow → Flow) (old new : Exchanges) → exchange_at new f.exchange ≡ option_map (flow_changed change f.back) (exchange_at old f.exchange) →
-    flow_at new f ≡ option_map change (flow_at old f)
-after_change f change old new is = ap (option_and_then (flow_in f.back)) is ∙ by_side f.back (exchange_at old f.exchange)
-  where
-    by_side : (back : Bool) (o : Option Exchange) → option_and_then (flow_in back) (option_map (flow_changed change back) o) ≡ option_map change (option_and_then (flow_in back) o)
-    by_side back None = refl
-    by_side false (Some exchange) = refl
-    by_side true (Some exchange) = refl
+module _ (f : FlowId) (change : Flow → Flow) (old new : Exchanges) where
+  after_change : exchange_at new f.exchange ≡ option_map (flow_changed change f.back) (exchange_at old f.exchange) →
+      flow_at new f ≡ option_map change (flow_at old f)
+  after_change is = ap (option_and_then (flow_in f.back)) is ∙ by_side f.back (exchange_at old f.exchange)
+    where
+      by_side : (back : Bool) (o : Option Exchange) → option_and_then (flow_in back) (option_map (flow_changed change back) o) ≡ option_map change (option_and_then (flow_in back) o)
+      by_side back None = refl
+      by_side false (Some exchange) = refl
+      by_side true (Some exchange) = refl
 
--- what the change of a flow does to the flow itself
-pub flow_after : (f : FlowId) (change : Flow → Flow) (old new : Exchanges) → ChangesFlow f change old new → flow_at new f ≡ option_map change (flow_at old f)
-flow_after f change old new changes = after_change f change old new
-    (changes.flow.live f.exchange ∙ ap (λ b. cond b (option_map (flow_changed change f.back) (exchange_at old f.exchange)) (exchange_at old f.exchange)) (eq-eqb f.exchange f.exchange refl))
-
-module _ (c : Inside) (lent : BTreeMap ℕ Exchange) (f : FlowId) (found : Exchange) (flow written : Flow) (kept : IsKept c)
-    (found_is : Some found ≡ lookup (is_at (nat_cmp f.exchange)) c.live.entries)
-    (there : Some flow ≡ flow_in f.back (seen_at c.ticked found))
-    (sound : IsSoundFlow written)
-    (through : WritesThrough nat_cmp (nat_cmp f.exchange) c.live (with_flow f.back written (seen_at c.ticked found)) lent) where
-  pub flow_done : (change : Flow → Flow) → IsSteady change → written ≡ change flow → meters_hold (change flow) ≡ meters_hold flow →
-      ChangesFlow f change (exchanges_of c) (exchanges_of (record c { live = lent })) × IsKept (record c { live = lent })
-  flow_done change steady is same =
-      let e : with_flow f.back written (seen_at c.ticked found) ≡ flow_changed change f.back (seen_at c.ticked found) =
-      with_changed f.back change (seen_at c.ticked found) flow written (sym there) is in
-      let ok : IfSome (flow_in f.back (seen_at c.ticked found)) (λ g. IsSoundFlow (change g)) =
-      subst (λ o. IfSome o (λ g. IsSoundFlow (change g))) there (subst IsSoundFlow is sound) in
-      let calm : IfSome (flow_in f.back (seen_at c.ticked found)) (λ g. meters_hold (change g) ≡ meters_hold g) =
-      subst (λ o. IfSome o (λ g. meters_hold (change g) ≡ meters_hold g)) there same in (
-        changes_flow c lent c.metered f change found (with_flow f.back written (seen_at c.ticked found)) kept steady found_is e ok through,
-        change_kept c lent c.metered f change found (with_flow f.back written (seen_at c.ticked found)) kept steady found_is e ok through
-            (not_marked c lent c.metered f change found (with_flow f.back written (seen_at c.ticked found)) kept steady found_is e ok through calm),
-      )
-
-  pub flow_refused : written ≡ flow → (exchanges_of (record c { live = lent }) ≡ exchanges_of c) × IsKept (record c { live = lent })
-  flow_refused is =
-      let e : with_flow f.back written (seen_at c.ticked found) ≡ flow_changed (λ g. g) f.back (seen_at c.ticked found) =
-      with_changed f.back (λ g. g) (seen_at c.ticked found) flow written (sym there) is in
-      let ok : IfSome (flow_in f.back (seen_at c.ticked found)) (λ g. IsSoundFlow g) =
-      subst (λ o. IfSome o (λ g. IsSoundFlow g)) there (subst IsSoundFlow is sound) in (
-        change_none c lent c.metered f (λ g. g) found (with_flow f.back written (seen_at c.ticked found)) kept steady_same found_is e ok through (unchanged f.back (seen_at c.ticked found)),
-        (flow_done (λ g. g) steady_same is refl).1,
-      )
+  -- what the change of a flow does to the flow itself
+  pub flow_after : ChangesFlow f change old new → flow_at new f ≡ option_map change (flow_at old f)
+  flow_after changes = after_change
+      (changes.flow.live f.exchange ∙ ap (λ b. cond b (option_map (flow_changed change f.back) (exchange_at old f.exchange)) (exchange_at old f.exchange)) (eq-eqb f.exchange f.exchange refl))
 
 -- the exchange was touched, and hasn't the flow
 pub touched_alone : (c : Inside) (lent : BTreeMap ℕ Exchange) (f : FlowId) (found written : Exchange) → IsKept c → Some found ≡ lookup (is_at (nat_cmp f.exchange)) c.live.entries →

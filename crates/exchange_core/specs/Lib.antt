@@ -11,5 +11,6 @@ pub mod Numbers
 pub mod Plain
 pub mod Replies
 pub mod Seen
+pub mod State
 pub mod Units
 pub mod View

@@ -1,55 +1,31 @@
 -- Where octets of a flow go next: the last place that may let some go, with no later source above.
 use Rattle.exchange_core.specs.Effects.{moved}
-use Rattle.exchange_core.specs.Flow.{Flow, last_place, octets_in}
+use Rattle.exchange_core.specs.State.{gated}
+use Rattle.exchange_core.specs.Flow.{Flow}
 use Rattle.exchange_core.specs.declared.step.Step.{Step}
 use Rattle.exchange_core.specs.declared.step.Step.TheVariants.{Still, Moved, TooLarge}
 use Rattle.filter_chain.specs.Chain.{above_at, place_at}
-use Rattle.filter_chain.specs.Place.{Place, is_source}
+use Rattle.filter_chain.specs.Place.{Place, is_source, kind_of}
 use Rattle.filter_chain.specs.Release.{has_room_at, may_release as chain_releases, overfills}
-use Rattle.filter_chain.specs.declared.stage.StageKind.{StageKind}
-use Rattle.filter_chain.specs.declared.stage.StageKind.TheVariants.{Hold, Meter, Send}
-use Rattle.flow_gate.specs.Board.{Board, count, is_marked}
-use Rattle.flow_gate.specs.declared.ids.BufferId.{BufferId}
-use Rattle.flow_gate.specs.declared.ids.FlowId.{FlowId}
+use Rattle.flow_gate.specs.Board.{Board, is_marked}
+use Rattle.flow_rules.specs.Moves.{is_free as is_free_at, last_free as free, last_free_to as free_to, later_above as is_later_above, may_release as releases}
+use Rattle.flow_rules.specs.Sources.{source_of}
 use Rattle.std.specs.List.{list_any}
 use Rattle.std.specs.Option.{option_map_or}
-use Rattle.std.specs.Prelude.{Bool, List, None, Option, Some, [], false, if◌then◌else◌, length, min, nat_lt, not, suc, true, zero, ℕ, ◌&&◌, ◌*◌, ◌++◌, ◌+◌, ◌-◌, ◌==◌, ◌∷◌}
+use Rattle.std.specs.Prelude.{Bool, None, Option, false, if◌then◌else◌, length, min, nat_lt, suc, true, zero, ℕ, ◌&&◌, ◌*◌, ◌+◌}
 use Rattle.wm_buffer.specs.Watermark.{crossing}
 use Rattle.wm_buffer.specs.declared.buffer.Shifted.{Shifted}
 use Rattle.flow_gate.specs.declared.ids.BufferId.TheVariants as buffer
 
--- ---- sources
--- a source and the place where it stands on the flow's way
-pub record SourceAt : Type 0 where
-  pub place : ℕ
-  pub buffer : BufferId
-
-abbrev pub source_of : FlowId → ℕ → StageKind → List SourceAt
-source_of f p Hold = []
-source_of f p (Meter rate) = record { place = p; buffer = buffer.Stage f p } ∷ []
-source_of f p Send = record { place = p; buffer = buffer.Send f } ∷ []
-
-abbrev pub sources_from : FlowId → ℕ → List Place → List SourceAt
-sources_from f p [] = []
-sources_from f p (place ∷ places) = source_of f p place.kind ++ sources_from f (p + 1) places
-
--- the write buffer of the connection that it goes to, if any
-abbrev pub write_source : ℕ → Option ℕ → List SourceAt
-write_source p None = []
-write_source p (Some c) = record { place = p; buffer = buffer.Write c } ∷ []
-
--- its Meters, its send buffer, and the write buffer that it goes to
-abbrev pub sources : Option ℕ → Flow → List SourceAt
-sources to flow = sources_from flow.chain.flow 1 flow.chain.places ++ write_source (last_place flow + 1) to
-
+-- ---- what the gates say
 -- some source behind the place is above
 abbrev pub later_above : Board → Option ℕ → Flow → ℕ → Bool
-later_above board to flow p = list_any (λ s. nat_lt p s.place && is_marked board s.buffer) (sources to flow)
+later_above board to flow p = is_later_above (gated board to flow) p
 
 -- the place is a source that is above
 abbrev pub is_held_at : Board → Flow → ℕ → Bool
-is_held_at board flow p =
-    option_map_or (λ place. list_any (λ s. is_marked board s.buffer) (source_of flow.chain.flow p place.kind)) (place_at flow.chain.places p) false
+is_held_at board flow p = option_map_or
+    (λ place. list_any (λ s. is_marked board s.buffer) (source_of flow.chain.flow p (kind_of place.kind))) (place_at flow.chain.places p) false
 
 -- the write buffer that it goes to is above
 abbrev pub is_target_above : Board → Option ℕ → Bool
@@ -61,23 +37,18 @@ abbrev pub lets_go : Flow → ℕ → ℕ
 lets_go flow zero = min flow.chain.quantum (length flow.recv)
 lets_go flow (suc p) = chain_releases flow.chain (suc p)
 
--- what a place may release: the receive buffer only while the flow isn't held back
+-- what a place may release, whether it is free, the last place up to p that is, and the last of all before the send buffer
 abbrev pub may_release : Board → Flow → ℕ → ℕ
-may_release board flow zero = if count board flow.chain.flow == 0 then lets_go flow 0 else 0
-may_release board flow (suc p) = lets_go flow (suc p)
+may_release board flow p = releases (gated board None flow) p
 
--- it may release, and no later source is above
 abbrev pub is_free : Board → Option ℕ → Flow → ℕ → Bool
-is_free board to flow p = nat_lt 0 (may_release board flow p) && not (later_above board to flow p)
+is_free board to flow p = is_free_at (gated board to flow) p
 
--- the last place up to p that is free
 abbrev pub last_free_to : Board → Option ℕ → Flow → ℕ → Option ℕ
-last_free_to board to flow zero = if is_free board to flow 0 then Some 0 else None
-last_free_to board to flow (suc p) = if is_free board to flow (suc p) then Some (suc p) else last_free_to board to flow p
+last_free_to board to flow p = free_to (gated board to flow) p
 
--- of all before the send buffer
 abbrev pub last_free : Board → Option ℕ → Flow → Option ℕ
-last_free board to flow = last_free_to board to flow (last_place flow - 1)
+last_free board to flow = free (gated board to flow)
 
 -- a Meter or send buffer of a limit holds more than its multiple of it
 abbrev pub is_overflown : ℕ → Place → Bool

@@ -1,61 +1,38 @@
 -- What of a flow is framed next: its head, then its body, then its trailers (RFC 9113 section 8.1).
-use Rattle.exchange_core.specs.Flow.{Flow, last_place, octets_in, send}
+use Rattle.exchange_core.specs.Flow.{Flow, octets_in, send}
 use Rattle.exchange_core.specs.Message.{fields_of, head_waits, trailers_wait}
-use Rattle.exchange_core.specs.declared.step.Unit.{Unit as NextUnit}
-use Rattle.exchange_core.specs.declared.step.Unit.TheVariants.{Nothing, Head, Body, Trailers}
-use Rattle.filter_chain.specs.Release.{head_may_go}
-use Rattle.std.specs.Prelude.{Bool, IsSome, IsTrue, false, if◌then◌else◌, length, min, nat_le, nat_lt, negsuc, not, pos, suc, true, zero, ℕ, ℤ, ◌&&◌, ◌==◌, ◌||◌, ◌≡◌, ◌≤◌}
+use Rattle.exchange_core.specs.State.{ungated}
+use Rattle.flow_rules.specs.declared.unit.Unit.{Unit as NextUnit}
+use Rattle.flow_rules.specs.declared.unit.Unit.TheVariants.{Nothing, Head, Body, Trailers}
+use Rattle.flow_rules.specs.Kinds.{all_empty}
+use Rattle.flow_rules.specs.Units.{carried as most_carried, carries_end as is_end_with, ends_after as is_end_after, next_head as first_head, next_unit as first_unit}
+use Rattle.std.specs.Prelude.{Bool, IsSome, IsTrue, false, length, not, pos, true, ℕ, ℤ, ◌&&◌, ◌==◌, ◌≡◌, ◌≤◌}
 
 -- every place before p is empty
 abbrev pub empty_before : Flow → ℕ → Bool
-empty_before flow zero = true
-empty_before flow (suc p) = (length (octets_in flow p) == 0) && empty_before flow p
+empty_before flow p = all_empty (λ q. length (octets_in flow q) == 0) p
 
--- nothing of the body is left but the first n octets of the send buffer
-abbrev pub is_last : ℕ → Flow → Bool
-is_last n flow = empty_before flow (last_place flow) && (length (send flow) == n)
-
--- the end came, and these n octets of the send buffer are the last
+-- the end came, and the first n octets of the send buffer are the last
 abbrev pub ends_after : ℕ → Flow → Bool
-ends_after n flow = flow.message.ended && is_last n flow
+ends_after n flow = is_end_after (ungated (pos 0) 0 flow) n
 
--- a frame of n octets carries END_STREAM: nothing is behind it, and no trailers wait
+-- a frame of n octets carries END_STREAM
 abbrev pub carries_end : ℕ → Flow → Bool
-carries_end n flow = ends_after n flow && not (trailers_wait flow.message)
+carries_end n flow = is_end_with (ungated (pos 0) 0 flow) n
 
 -- a list that is framed may carry END_STREAM: no body is left, and there are no trailers behind a head
 abbrev pub list_may_end : Flow → Bool
 list_may_end flow = ends_after 0 flow && not (head_waits flow.message && trailers_wait flow.message)
 
--- a room below 0 counts as 0 (section 6.9.2)
-abbrev pub octets_of : ℤ → ℕ
-octets_of (pos n) = n
-octets_of (negsuc n) = 0
-
--- what a DATA frame may carry: at most one move, what the windows let it, and what the peer takes in one frame
+-- what a DATA frame may carry, the head that waits, where it may go, and the flow's next unit
 abbrev pub carried : ℤ → ℕ → Flow → ℕ
-carried room frame flow = min (min flow.chain.quantum frame) (min (octets_of room) (length (send flow)))
+carried room frame flow = most_carried (ungated room frame flow)
 
--- the head that waits, where it may go
 abbrev pub next_head : Flow → NextUnit
-next_head flow = if head_may_go flow.chain then Head flow.message.head_ends else Nothing
+next_head flow = first_head (ungated (pos 0) 0 flow)
 
--- the flow's next unit; an empty frame carries the end where nothing else is left
 abbrev pub next_unit : ℤ → ℕ → Flow → NextUnit
-next_unit room frame flow =
-    if head_waits flow.message then next_head flow
-    else if nat_lt 0 (carried room frame flow) then Body (carried room frame flow) (carries_end (carried room frame flow) flow)
-    else if not (ends_after 0 flow) || flow.message.end_framed then Nothing
-    else if trailers_wait flow.message then Trailers
-    else Body 0 true
-
--- the unit where at most so many octets may go: a DATA frame carries no more, and the end only where all of its own go; where
--- it has some and none may go, there is none. A head, trailers and an empty frame stay.
-abbrev pub narrowed : ℕ → NextUnit → NextUnit
-narrowed most Nothing = Nothing
-narrowed most (Head last) = Head last
-narrowed most (Body n last) = if nat_lt 0 n && (most == 0) then Nothing else Body (min n most) (last && nat_le n most)
-narrowed most Trailers = Trailers
+next_unit room frame flow = first_unit (ungated room frame flow)
 
 -- it may be framed as it stands: a list that came, or octets that lie in the send buffer, with the end only where nothing
 -- is left

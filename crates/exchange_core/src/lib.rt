@@ -15,7 +15,8 @@ mod step;
 
 pub use exchange::Ends;
 pub use exchanges::Exchanges;
+pub use flow_rules::Unit;
 pub use laws::{plain_streams, units_narrow};
 pub use reply::{Doomed, Reply};
 pub use start::StartSpec;
-pub use step::{Advance, Piece, Received, Step, Unit};
+pub use step::{Advance, Piece, Received, Step};

@@ -2,6 +2,7 @@
 use Rattle.std.specs.Prelude.{◌≡◌, ◌+◌, ◌-◌, ◌*◌, ◌/◌, ◌<◌, ◌≤◌, ◌++◌, ℕ, List, [], length, drop, min, Bool, true, false}
 use Rattle.filter_chain.specs.declared.stage.StageKind.{StageKind}
 use Rattle.filter_chain.specs.declared.stage.StageKind.TheVariants.{Hold, Meter, Send}
+use Rattle.flow_rules.specs.Kinds.{Hold as HoldKind, Kind, Meter as MeterKind, Send as SendKind, is_hold as holds, is_source as pauses}
 use Rattle.wm_buffer.specs.Watermark.{above_after}
 
 -- the octets that it holds, its limit in octets, 0 for none, whether it is above that, and how many octets a Meter
@@ -13,16 +14,18 @@ pub record Place : Type 0 where
   pub above : Bool
   pub tokens : ℕ
 
+-- what the rules of a flow say of it
+abbrev pub kind_of : StageKind → Kind
+kind_of Hold = HoldKind
+kind_of (Meter rate) = MeterKind
+kind_of Send = SendKind
+
 abbrev pub is_hold : StageKind → Bool
-is_hold Hold = true
-is_hold (Meter rate) = false
-is_hold Send = false
+is_hold kind = holds (kind_of kind)
 
 -- it pauses the flow while it is above: a Meter and the send buffer do
 abbrev pub is_source : StageKind → Bool
-is_source Hold = false
-is_source (Meter rate) = true
-is_source Send = true
+is_source kind = pauses (kind_of kind)
 
 -- what a Meter lets go in 50 ms, and what it has of tokens at most
 abbrev pub rate_of : StageKind → ℕ

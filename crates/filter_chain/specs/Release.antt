@@ -1,10 +1,10 @@
 -- What a place may release, and what the next one takes.
-use Rattle.std.specs.Prelude.{◌+◌, ◌==◌, ◌&&◌, ◌||◌, ℕ, suc, zero, List, [], ◌∷◌, length, min, not, nat_lt, nat_le, Bool, true, false, if◌then◌else◌}
+use Rattle.std.specs.Prelude.{◌==◌, ◌&&◌, ◌||◌, ℕ, suc, zero, List, length, map, min, not, nat_lt, nat_le, Bool, false}
 use Rattle.std.specs.Option.{option_map_or}
 use Rattle.filter_chain.specs.Chain.{Chain, place_at, octets_at}
-use Rattle.filter_chain.specs.Place.{Place, is_hold, is_source}
+use Rattle.filter_chain.specs.Place.{Place, is_hold, is_source, kind_of}
 use Rattle.filter_chain.specs.declared.stage.StageKind.{StageKind}
-use Rattle.filter_chain.specs.declared.stage.StageKind.TheVariants.{Hold, Meter, Send}
+use Rattle.flow_rules.specs.Kinds.{all_empty, holds_filled as are_filled, is_overfilled, let_go as lets_go}
 
 -- the place is empty; place 0 is the receive buffer
 abbrev pub is_empty_at : Chain → ℕ → Bool
@@ -13,26 +13,22 @@ is_empty_at chain (suc p) = length (octets_at chain (suc p)) == 0
 
 -- every place before p is empty
 abbrev pub empty_before : Chain → ℕ → Bool
-empty_before chain zero = true
-empty_before chain (suc p) = is_empty_at chain p && empty_before chain p
+empty_before chain p = all_empty (is_empty_at chain) p
 
 -- the body has come whole to place p
 abbrev pub is_whole_at : Chain → ℕ → Bool
 is_whole_at chain p = chain.ended && empty_before chain p
 
--- what the place p lets go of now: a Hold nothing until the end came and all before it is empty, and a Meter at most its
--- tokens; the send buffer's octets are framed
+-- what the place p lets go of now
 abbrev pub let_go : Chain → ℕ → StageKind → Place → ℕ
-let_go chain p Hold place = if is_whole_at chain p then min chain.quantum (length place.octets) else 0
-let_go chain p (Meter rate) place = min (min chain.quantum (length place.octets)) place.tokens
-let_go chain p Send place = 0
+let_go chain p kind place = lets_go (kind_of kind) (is_whole_at chain p) place.tokens (min chain.quantum (length place.octets))
 
 abbrev pub may_release : Chain → ℕ → ℕ
 may_release chain p = option_map_or (λ place. let_go chain p place.kind place) (place_at chain.places p) 0
 
 -- the place is a Hold whose limit n more octets pass
 abbrev pub is_overfilled_by : ℕ → Place → Bool
-is_overfilled_by n place = is_hold place.kind && nat_lt place.limit (length place.octets + n)
+is_overfilled_by n place = is_overfilled (kind_of place.kind) place.limit (length place.octets) n
 
 abbrev pub overfills_in : List Place → ℕ → ℕ → Bool
 overfills_in places p n = option_map_or (is_overfilled_by n) (place_at places p) false
@@ -55,9 +51,8 @@ is_source_at chain p = option_map_or (λ place. is_source place.kind) (place_at 
 
 -- the body has come whole to each Hold among the places from p on
 abbrev pub holds_filled : Chain → ℕ → List Place → Bool
-holds_filled chain p [] = true
-holds_filled chain p (place ∷ places) = (not (is_hold place.kind) || is_whole_at chain p) && holds_filled chain (p + 1) places
+holds_filled chain p places = are_filled (is_whole_at chain) p (map (λ place. kind_of place.kind) places)
 
--- a head waits behind a Hold until the end came and the places before the Hold are empty
+-- a head waits behind a Hold until the body has come whole to it
 abbrev pub head_may_go : Chain → Bool
 head_may_go chain = holds_filled chain 1 chain.places

@@ -13,8 +13,9 @@ ghost use Rattle.wm_buffer.specs.Buffer.{AppendsOctets};
 ghost use Rattle.wm_buffer.specs.Watermark.{crossing};
 
 use super::Exchanges;
-use crate::step::{Advance, Piece, Step, Unit};
+use crate::step::{Advance, Piece, Step};
 use flow_gate::{FlowId, Gates};
+use flow_rules::Unit;
 use hpack_codec::FieldList;
 use io_ports::NoMemory;
 use wm_buffer::{Shifted, WatermarkBuffer};

@@ -10,7 +10,8 @@ ghost use Rattle.wm_buffer.specs.Buffer.{AppendsOctets};
 ghost use Rattle.wm_buffer.specs.Watermark.{crossing};
 
 use super::Flow;
-use crate::step::{Piece, Unit};
+use crate::step::Piece;
+use flow_rules::Unit;
 use hpack_codec::FieldList;
 use io_ports::NoMemory;
 use wm_buffer::{Shifted, WatermarkBuffer};
@@ -68,7 +69,7 @@ impl Flow {
         ensures few { result ≤ length (send self.now) }
     {
         let room = u32::try_from(room.max(0)).unwrap_or(u32::MAX);
-        self.quantum.min(frame).min(room.min(sent))
+        self.quantum.min(frame.min(room)).min(sent)
     }
 
     /// Whether the flow's end came, and nothing is left of its body but the first n of the octets `sent` in the send

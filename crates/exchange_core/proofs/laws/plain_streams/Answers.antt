@@ -1,5 +1,5 @@
 use Rattle.std.proofs.Common.{refl}
-use Rattle.exchange_core.proofs.PlainStreams.{left_are, steps_are, units_are}
+use Rattle.exchange_core.proofs.PlainStreams.{goes, stays}
 use Rattle.exchange_core.proofs.laws.plain_streams.Goals as goal
 
 pub returns-clause-begins : goal.returns-clause-begins
@@ -11,14 +11,11 @@ returns-clause-arrives c = λ x p octets. refl
 pub returns-clause-finishes : goal.returns-clause-finishes
 returns-clause-finishes c = λ x p. refl
 
-pub returns-clause-step : goal.returns-clause-step
-returns-clause-step c = steps_are
+pub returns-clause-moves : goal.returns-clause-moves
+returns-clause-moves c = goes
 
-pub returns-clause-steps : goal.returns-clause-steps
-returns-clause-steps c = left_are
-
-pub returns-clause-unit : goal.returns-clause-unit
-returns-clause-unit c = units_are
+pub returns-clause-stays : goal.returns-clause-stays
+returns-clause-stays c = stays
 
 pub returns-clause-frames : goal.returns-clause-frames
 returns-clause-frames c = λ x n last p. refl

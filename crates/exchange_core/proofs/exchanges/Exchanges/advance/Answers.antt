@@ -1,9 +1,10 @@
-use Rattle.exchange_core.proofs.Advancing.{absent_changed, absent_flow, change_done, change_refused, flow_written, left_alone, none_of, not_there, open_if_there, same_there}
-use Rattle.exchange_core.proofs.Finding.{flow_found, flow_there, no_exchange, target_found}
-use Rattle.exchange_core.proofs.Outcomes.{either, if_ok, on_err, on_ok}
-use Rattle.exchange_core.proofs.Seeing.{seen_sound}
+use Rattle.exchange_core.proofs.Advancing.{absent_changed, absent_flow, left_alone, none_of, not_there, open_if_there, same_there}
+use Rattle.exchange_core.proofs.Finding.{flow_there, no_exchange}
+use Rattle.exchange_core.proofs.Lent.{LentWhole, aimed_is, left_whole, map_seen, says_aimed, seen_is, whole_done, whole_refused, whole_seen}
 use Rattle.exchange_core.proofs.Steady.{steady_stepped}
 use Rattle.exchange_core.proofs.Writing.{is_marked, mark_room}
+use Rattle.exchange_core.proofs.Outcomes.{either, if_ok, on_err, on_ok}
+use Rattle.exchange_core.proofs.Seeing.{seen_sound}
 use Rattle.exchange_core.proofs.exchanges.Exchanges.advance.Goals as goal
 use Rattle.exchange_core.specs.Changes.{ChangesFlow}
 use Rattle.exchange_core.specs.Exchange.{flow_changed, flow_in, goes_to, seen_at}
@@ -14,14 +15,14 @@ use Rattle.exchange_core.specs.Units.{IsFrameable, next_unit}
 use Rattle.exchange_core.specs.View.{IsKept, exchanges_of}
 use Rattle.exchange_core.specs.declared.exchanges.Exchanges.TheInside.{Inside}
 use Rattle.exchange_core.specs.declared.step.Advance.{Advance}
-use Rattle.std.proofs.Common.{ap, refl, subst, sym, w64, ◌∙◌}
+use Rattle.std.proofs.Common.{ap, subst, sym, w64, ◌∙◌}
 use Rattle.std.proofs.lemmas.Bool.{false≢true}
 use Rattle.std.proofs.lemmas.Int.{to_z-of_z}
 use Rattle.std.specs.BTreeMap.{is_at}
 use Rattle.std.specs.Map.{lookup}
 use Rattle.std.specs.Option.{option_copied_mut}
 use Rattle.std.specs.Ordering.{nat_cmp}
-use Rattle.std.specs.Prelude.{IfSome, IsOk, IsTrue, None, option_map, ◌≡◌}
+use Rattle.std.specs.Prelude.{IfSome, IsOk, IsTrue, None, option_map, ◌≡◌, false, true}
 use mir.Val.{of_z, to_z}
 
 -- ---- no exchange was found
@@ -52,9 +53,17 @@ advance-advance-requires c = record { «open» = open_if_there c.self.inside c.a
 pub mark-requires : goal.mark-requires
 mark-requires c = λ there none. mark_room c.self.inside c.args.flow c.in-Some.exchange.now c.advance-advance.new.self c.self.invariant c.in-Some.ensures.value none
 
--- what the call leaves
-abbrev left : goal.After-mark → Inside
-left c = record c.self.inside { live = c.get_mut.follows.lender c.advance-advance.new.self; metered = c.mark.new.self }
+lends : (c : goal.After-mark) → LentWhole c.self.inside c.get_mut.follows.lender c.mark.new.self c.args.flow c.in-Some.exchange.now c.advance-advance.new.self
+lends c = record {
+  kept = c.self.invariant;
+  is = c.in-Some.ensures.value;
+  sound = c.advance-advance.ensures.sound;
+  through = c.get_mut.follows.holds c.advance-advance.new.self;
+  marks = is_marked c.self.inside c.args.flow c.in-Some.exchange.now c.advance-advance.new.self c.self.invariant c.in-Some.ensures.value c.mark.new.self _ c.is_metered-is_metered.ensures c.mark.ensures.items c.mark.ensures.len c.mark.ensures.room;
+}
+
+abbrev after : goal.After-mark → Inside
+after c = left_whole c.self.inside c.get_mut.follows.lender c.mark.new.self c.advance-advance.new.self
 
 abbrev change : goal.After-mark → Flow → Flow
 change c = stepped c.args.gates.now (goes_to c.args.flow.back c.in-Some.exchange.now)
@@ -62,44 +71,19 @@ change c = stepped c.args.gates.now (goes_to c.args.flow.back c.in-Some.exchange
 abbrev IsDone : goal.After-mark → Type 0
 IsDone c = c.advance-advance.new.self ≡ flow_changed (change c) c.args.flow.back (seen_at c.self.inside.ticked c.in-Some.exchange.now)
 
-done : (c : goal.After-mark) → IsDone c → ChangesFlow c.args.flow (change c) (exchanges_of c.self.inside) (exchanges_of (left c)) × IsKept (left c)
-done c = change_done c.self.inside (c.get_mut.follows.lender c.advance-advance.new.self) c.mark.new.self c.args.flow c.in-Some.exchange.now c.advance-advance.new.self c.self.invariant
-    c.in-Some.ensures.value c.advance-advance.ensures.sound (c.get_mut.follows.holds c.advance-advance.new.self)
-    (is_marked c.self.inside c.args.flow c.in-Some.exchange.now c.advance-advance.new.self c.self.invariant c.in-Some.ensures.value c.mark.new.self c.is_metered-is_metered.result c.is_metered-is_metered.ensures c.mark.ensures.items c.mark.ensures.len c.mark.ensures.room)
-    (change c) (steady_stepped c.args.gates.now (goes_to c.args.flow.back c.in-Some.exchange.now))
+done : (c : goal.After-mark) → IsDone c → ChangesFlow c.args.flow (change c) (exchanges_of c.self.inside) (exchanges_of (after c)) × IsKept (after c)
+done c = whole_done (lends c) (change c) (steady_stepped c.args.gates.now (goes_to c.args.flow.back c.in-Some.exchange.now))
 
-refused : (c : goal.After-mark) → c.advance-advance.new.self ≡ seen_at c.self.inside.ticked c.in-Some.exchange.now → (exchanges_of (left c) ≡ exchanges_of c.self.inside) × IsKept (left c)
-refused c = change_refused c.self.inside (c.get_mut.follows.lender c.advance-advance.new.self) c.mark.new.self c.args.flow c.in-Some.exchange.now c.advance-advance.new.self c.self.invariant
-    c.in-Some.ensures.value c.advance-advance.ensures.sound (c.get_mut.follows.holds c.advance-advance.new.self)
-    (is_marked c.self.inside c.args.flow c.in-Some.exchange.now c.advance-advance.new.self c.self.invariant c.in-Some.ensures.value c.mark.new.self c.is_metered-is_metered.result c.is_metered-is_metered.ensures c.mark.ensures.items c.mark.ensures.len c.mark.ensures.room)
+kept : (c : goal.After-mark) → IsKept (after c)
+kept c = either _ _ _ c.advance-advance.result c.advance-advance.ensures.exchange c.advance-advance.ensures.err (λ is. (done c is).1) (λ is. (whole_refused (lends c) is).1)
 
-seen_then : (c : goal.After-mark) → IsDone c → flow_at (exchanges_of (left c)) c.args.flow ≡ flow_in c.args.flow.back c.advance-advance.new.self
-seen_then c = flow_written c.self.inside (c.get_mut.follows.lender c.advance-advance.new.self) c.mark.new.self c.args.flow c.in-Some.exchange.now c.advance-advance.new.self c.self.invariant
-    c.in-Some.ensures.value c.advance-advance.ensures.sound (c.get_mut.follows.holds c.advance-advance.new.self)
-    (is_marked c.self.inside c.args.flow c.in-Some.exchange.now c.advance-advance.new.self c.self.invariant c.in-Some.ensures.value c.mark.new.self c.is_metered-is_metered.result c.is_metered-is_metered.ensures c.mark.ensures.items c.mark.ensures.len c.mark.ensures.room)
-    (change c) (steady_stepped c.args.gates.now (goes_to c.args.flow.back c.in-Some.exchange.now))
-
--- what was found
-flow_is : (c : goal.After-mark) → flow_at (exchanges_of c.self.inside) c.args.flow ≡ flow_in c.args.flow.back (seen_at c.self.inside.ticked c.in-Some.exchange.now)
-flow_is c = flow_found c.self.inside c.args.flow c.in-Some.exchange.now (flow_in c.args.flow.back (seen_at c.self.inside.ticked c.in-Some.exchange.now)) c.in-Some.ensures.value refl
-
-target_is : (c : goal.After-mark) → target_of (exchanges_of c.self.inside) c.args.flow ≡ goes_to c.args.flow.back c.in-Some.exchange.now
-target_is c = target_found c.self.inside c.args.flow c.in-Some.exchange.now (goes_to c.args.flow.back c.in-Some.exchange.now) c.in-Some.ensures.value refl
-
-kept : (c : goal.After-mark) → IsKept (left c)
-kept c = either _ _ _ c.advance-advance.result c.advance-advance.ensures.exchange c.advance-advance.ensures.err (λ is. (done c is).1) (λ is. (refused c is).1)
-
-pub invariant_of-self-2 : goal.invariant_of-self-2
-invariant_of-self-2 c = kept c
+seen_then : (c : goal.After-mark) → IsDone c → flow_at (exchanges_of (after c)) c.args.flow ≡ flow_in c.args.flow.back c.advance-advance.new.self
+seen_then c = whole_seen (lends c) (change c) (steady_stepped c.args.gates.now (goes_to c.args.flow.back c.in-Some.exchange.now))
 
 pub returns-clause-live : goal.returns-clause-live
 returns-clause-live c = rw (← c.self.view_is) (if_ok _ _ _ c.advance-advance.result c.advance-advance.ensures.exchange c.advance-advance.ensures.step
-    (λ advance is e. let same = same_there (λ (a : Advance). a.step) (next_step c.args.gates.now (goes_to c.args.flow.back c.in-Some.exchange.now)) advance _ (e ∙ ap (option_map (next_step c.args.gates.now (goes_to c.args.flow.back c.in-Some.exchange.now))) (sym (flow_is c))) in
+    (λ advance is e. let same = same_there (λ (a : Advance). a.step) (next_step c.args.gates.now (target_of (exchanges_of c.self.inside) c.args.flow)) advance _ (e ∙ map_seen c.self.inside c.args.flow c.in-Some.ensures.value (next_step c.args.gates.now)) in
     (λ some. sym same ∙ some, λ live. same ∙ live)))
-
-pub returns-clause-step : goal.returns-clause-step
-returns-clause-step c = rw (← c.self.view_is) (if_ok _ _ _ c.advance-advance.result c.advance-advance.ensures.exchange c.advance-advance.ensures.step
-    (λ advance is e. e ∙ (λ i. option_map (next_step c.args.gates.now (sym (target_is c) i)) (sym (flow_is c) i))))
 
 pub returns-clause-unit : goal.returns-clause-unit
 returns-clause-unit c = let same : to_z w64 (of_z w64 c.args.room) ≡ c.args.room = to_z-of_z w64 c.args.room (assumption c.ranges.room) in
@@ -111,25 +95,29 @@ pub returns-clause-frameable : goal.returns-clause-frameable
 returns-clause-frameable c = if_ok _ _ _ c.advance-advance.result c.advance-advance.ensures.exchange c.advance-advance.ensures.frameable
     (λ advance is e. subst (λ o. IfSome advance (λ a. IfSome o (λ f. IsFrameable a.unit f))) (sym (seen_then c is)) e)
 
-pub returns-clause-flow : goal.returns-clause-flow
-returns-clause-flow c = rw (← c.self.view_is) (on_ok _ _ c.advance-advance.result c.advance-advance.ensures.exchange
-    (λ is. subst (λ to. ChangesFlow c.args.flow (stepped c.args.gates.now to) (exchanges_of c.self.inside) (exchanges_of (left c))) (sym (target_is c)) (done c is).0))
-
 pub returns-clause-gone : goal.returns-clause-gone
 returns-clause-gone c = rw (← c.self.view_is) (λ none.
-    let seen : flow_in c.args.flow.back (seen_at c.self.inside.ticked c.in-Some.exchange.now) ≡ None = sym (flow_is c) ∙ none_of (flow_at (exchanges_of c.self.inside) c.args.flow) none in (
+    let seen : flow_in c.args.flow.back (seen_at c.self.inside.ticked c.in-Some.exchange.now) ≡ None = sym (seen_is c.self.inside c.args.flow c.in-Some.ensures.value) ∙ none_of (flow_at (exchanges_of c.self.inside) c.args.flow) none in (
       c.advance-advance.ensures.gone (sym (flow_there c.self.inside c.args.flow c.in-Some.exchange.now c.in-Some.ensures.value) ∙ none),
       either _ _ _ c.advance-advance.result c.advance-advance.ensures.exchange c.advance-advance.ensures.err
-          (λ is. (refused c (is ∙ absent_changed c.args.flow.back (change c) _ seen)).0) (λ is. (refused c is).0),
+          (λ is. (whole_refused (lends c) (is ∙ absent_changed c.args.flow.back (change c) _ seen)).0) (λ is. (whole_refused (lends c) is).0),
     ))
 
+pub invariant_of-self-2 : goal.invariant_of-self-2
+invariant_of-self-2 c = kept c
+
+pub returns-clause-step : goal.returns-clause-step
+returns-clause-step c = rw (← c.self.view_is) (if_ok _ _ _ c.advance-advance.result c.advance-advance.ensures.exchange c.advance-advance.ensures.step (λ step is e. e ∙ map_seen c.self.inside c.args.flow c.in-Some.ensures.value (next_step c.args.gates.now)))
+
+pub returns-clause-flow : goal.returns-clause-flow
+returns-clause-flow c = rw (← c.self.view_is) (on_ok _ _ c.advance-advance.result c.advance-advance.ensures.exchange
+    (λ is. subst (λ to. ChangesFlow c.args.flow (stepped c.args.gates.now to) (exchanges_of c.self.inside) (exchanges_of (after c))) (sym (aimed_is c.self.inside c.args.flow c.in-Some.ensures.value)) (done c is).0))
+
 pub returns-clause-covered : goal.returns-clause-covered
-returns-clause-covered c = rw (← c.self.view_is) (
-    subst (λ o. IfSome o (λ f. IsTrue (has_room_ahead c.args.gates.now (target_of (exchanges_of c.self.inside) c.args.flow) f) → IsOk c.advance-advance.result)) (sym (flow_is c))
-    (subst (λ t. IfSome (flow_in c.args.flow.back (seen_at c.self.inside.ticked c.in-Some.exchange.now)) (λ f. IsTrue (has_room_ahead c.args.gates.now t f) → IsOk c.advance-advance.result)) (sym (target_is c)) c.advance-advance.ensures.covered))
+returns-clause-covered c = rw (← c.self.view_is) (says_aimed c.self.inside c.args.flow c.in-Some.ensures.value (λ to f. IsTrue (has_room_ahead c.args.gates.now to f) → IsOk c.advance-advance.result) c.advance-advance.ensures.covered)
 
 pub returns-clause-sound : goal.returns-clause-sound
 returns-clause-sound c = seen_sound _ (kept c)
 
 pub returns-clause-err : goal.returns-clause-err
-returns-clause-err c = rw (← c.self.view_is) (on_err _ _ c.advance-advance.result c.advance-advance.ensures.err (λ is. (refused c is).0))
+returns-clause-err c = rw (← c.self.view_is) (on_err _ _ c.advance-advance.result c.advance-advance.ensures.err (λ is. (whole_refused (lends c) is).0))

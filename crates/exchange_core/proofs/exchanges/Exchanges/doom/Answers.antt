@@ -4,6 +4,8 @@ use Rattle.exchange_core.proofs.Outcomes.{at_found, from_found}
 use Rattle.exchange_core.proofs.Seeing.{seen_sound}
 use Rattle.exchange_core.proofs.Untouched.{reckoning_seen}
 use Rattle.exchange_core.proofs.exchanges.Exchanges.doom.Goals as goal
+use Rattle.exchange_core.specs.declared.exchanges.Exchanges.TheInside.{Inside}
+use Rattle.exchange_core.specs.View.{IsKept}
 use Rattle.exchange_core.specs.Changes.{ForgetsFlows, ForgetsSides, KnowsFlows}
 use Rattle.exchange_core.specs.Exchange.{seen_at}
 use Rattle.exchange_core.specs.Replies.{reckoning}
@@ -22,23 +24,32 @@ push_back_reserved-requires c = omega (arith, c.self.invariant.room, c.in-Some.e
 pub mark-requires : goal.mark-requires
 mark-requires c = λ there. absurd (false≢true there)
 
+known : (c : goal.After-is_some) → KnowsFlows c.args.exchange (seen_at c.self.inside.ticked c.in-Some.ended) c.args.gates.now
+known c = at_found (λ (e : Exchange). KnowsFlows c.args.exchange e c.args.gates.now) _ (seen_at c.self.inside.ticked c.in-Some.ended) (exchange_found c.self.inside c.args.exchange (Some c.in-Some.ended) c.in-Some.ensures.value) (rw (← c.self.view_is) at c.requires.known)
+
 pub forget_flows-requires-clause-request : goal.forget_flows-requires-clause-request
-forget_flows-requires-clause-request c = (at_found (λ (e : Exchange). KnowsFlows c.args.exchange e c.args.gates.now) _ (seen_at c.self.inside.ticked c.in-Some.ended) (exchange_found c.self.inside c.args.exchange (Some c.in-Some.ended) c.in-Some.ensures.value) (rw (← c.self.view_is) at c.requires.known)).0
+forget_flows-requires-clause-request c = (known c).0
 
 pub forget_flows-requires-clause-response : goal.forget_flows-requires-clause-response
-forget_flows-requires-clause-response c = λ some. (at_found (λ (e : Exchange). KnowsFlows c.args.exchange e c.args.gates.now) _ (seen_at c.self.inside.ticked c.in-Some.ended) (exchange_found c.self.inside c.args.exchange (Some c.in-Some.ended) c.in-Some.ensures.value) (rw (← c.self.view_is) at c.requires.known)).1 (response_known c.self.inside.ticked c.in-Some.ended.response ∙ sym c.is_some.ensures ∙ some)
+forget_flows-requires-clause-response c = λ some. (known c).1 (response_known c.self.inside.ticked c.in-Some.ended.response ∙ sym c.is_some.ensures ∙ some)
+
+abbrev after : goal.Joined-ended-4 → Inside
+after c = record c.self.inside { live = c.remove.new.self; doomed = c.push_back_reserved.new.self; metered = c.mark.new.self }
+
+kept : (c : goal.Joined-ended-4) → IsKept (after c)
+kept c = doom_kept c.self.inside (after c) c.args.exchange c.in-Some.ended c.self.invariant c.in-Some.ensures.value c.remove.ensures.updates.0 c.remove.ensures.ordered c.remove.ensures.entries c.in-Some.ensures.len
+    refl refl refl c.push_back_reserved.ensures.items c.push_back_reserved.ensures.len c.push_back_reserved.ensures.capacity
+    (is_unmarked c.self.inside c.args.exchange c.in-Some.ended c.self.invariant c.in-Some.ensures.value c.mark.new.self c.mark.ensures.items c.mark.ensures.len c.mark.ensures.room)
 
 pub invariant_of-self : goal.invariant_of-self
-invariant_of-self c = (doom_kept c.self.inside (record c.self.inside { live = c.remove.new.self; doomed = c.push_back_reserved.new.self; metered = c.mark.new.self }) c.args.exchange c.in-Some.ended c.self.invariant c.in-Some.ensures.value c.remove.ensures.updates.0 c.remove.ensures.ordered c.remove.ensures.entries c.in-Some.ensures.len
-    refl refl refl c.push_back_reserved.ensures.items c.push_back_reserved.ensures.len c.push_back_reserved.ensures.capacity
-    (is_unmarked c.self.inside c.args.exchange c.in-Some.ended c.self.invariant c.in-Some.ensures.value c.mark.new.self c.mark.ensures.items c.mark.ensures.len c.mark.ensures.room))
+invariant_of-self c = kept c
 
 pub returns-clause-answer : goal.returns-clause-answer
 returns-clause-answer c = rw (← c.self.view_is) (ap (λ (d : Doomed). Some d) (c.reckoning.ensures ∙ sym (reckoning_seen c.self.inside.ticked c.args.cause c.args.back c.in-Some.ended))
     ∙ sym (ap (option_map (reckoning c.args.cause c.args.back)) (exchange_found c.self.inside c.args.exchange (Some c.in-Some.ended) c.in-Some.ensures.value)))
 
 pub returns-clause-dooms : goal.returns-clause-dooms
-returns-clause-dooms c = rw (← c.self.view_is) (dooms c.self.inside (record c.self.inside { live = c.remove.new.self; doomed = c.push_back_reserved.new.self; metered = c.mark.new.self }) c.args.exchange c.in-Some.ended c.self.invariant c.in-Some.ensures.value c.remove.ensures.updates.0
+returns-clause-dooms c = rw (← c.self.view_is) (dooms c.self.inside (after c) c.args.exchange c.in-Some.ended c.self.invariant c.in-Some.ensures.value c.remove.ensures.updates.0
     refl refl refl c.push_back_reserved.ensures.items)
 
 pub returns-clause-gates : goal.returns-clause-gates
@@ -47,6 +58,4 @@ returns-clause-gates c = rw (← c.self.view_is) (from_found (λ (e : Exchange).
     (subst (λ both. ForgetsSides c.args.exchange both c.args.gates.now c.forget_flows.new.gates) (c.is_some.ensures ∙ sym (response_known c.self.inside.ticked c.in-Some.ended.response)) c.forget_flows.ensures.gone))
 
 pub returns-clause-sound : goal.returns-clause-sound
-returns-clause-sound c = seen_sound _ (doom_kept c.self.inside (record c.self.inside { live = c.remove.new.self; doomed = c.push_back_reserved.new.self; metered = c.mark.new.self }) c.args.exchange c.in-Some.ended c.self.invariant c.in-Some.ensures.value c.remove.ensures.updates.0 c.remove.ensures.ordered c.remove.ensures.entries c.in-Some.ensures.len
-    refl refl refl c.push_back_reserved.ensures.items c.push_back_reserved.ensures.len c.push_back_reserved.ensures.capacity
-    (is_unmarked c.self.inside c.args.exchange c.in-Some.ended c.self.invariant c.in-Some.ensures.value c.mark.new.self c.mark.ensures.items c.mark.ensures.len c.mark.ensures.room))
+returns-clause-sound c = seen_sound _ (kept c)

@@ -1,7 +1,7 @@
 use Rattle.exchange_core.proofs.Finding.{exchange_found, not_live}
 use Rattle.exchange_core.proofs.Seeing.{seen_sound}
 use Rattle.exchange_core.proofs.exchanges.Exchanges.exchange.Goals as goal
-use Rattle.std.specs.Prelude.{None, Some}
+use Rattle.std.specs.Prelude.{Some}
 
 pub unreachable-requires : goal.unreachable-requires
 unreachable-requires c = not_live c.self.inside c.args.exchange c.in_default.ensures.value (rw (← c.self.view_is) at c.requires)

@@ -1,13 +1,10 @@
-use Rattle.exchange_core.proofs.Finding.{flow_found, no_exchange, no_flow}
-use Rattle.exchange_core.proofs.Outcomes.{at_found, either, from_found, on_err, on_ok}
+use Rattle.exchange_core.proofs.Finding.{no_exchange, no_flow}
+use Rattle.exchange_core.proofs.Lent.{Lent, lent_done, seen_says}
 use Rattle.exchange_core.proofs.Seeing.{seen_sound}
-use Rattle.exchange_core.proofs.Writing.{flow_done, flow_refused, found_sound}
 use Rattle.exchange_core.proofs.exchanges.Exchanges.finish.Goals as goal
-use Rattle.exchange_core.specs.Exchange.{seen_at, with_flow}
-use Rattle.exchange_core.specs.Flow.{Flow}
 use Rattle.std.proofs.Common.{ap, refl, sym, ◌∙◌}
 use Rattle.std.specs.Option.{option_copied_mut}
-use Rattle.std.specs.Prelude.{Some, false, true, ◌≡◌}
+use Rattle.std.specs.Prelude.{false, ◌≡◌}
 use Rattle.exchange_core.proofs.Steady.{steady_finished}
 use Rattle.exchange_core.specs.Effects.{finished}
 
@@ -19,20 +16,16 @@ unreachable-requires-in_default-touch c = no_flow c.self.inside c.args.flow c.in
     (ap option_copied_mut (sym c.in_default-touch.is) ∙ c.touch.ensures.value) (rw (← c.self.view_is) at c.requires.live)
 
 pub finish-requires : goal.finish-requires
-finish-requires c = at_found (λ (f : Flow). f.message.ended ≡ false) _ c.in-Some-touch.flow.now (flow_found c.self.inside c.args.flow c.in-Some.exchange.now (Some c.in-Some-touch.flow.now) c.in-Some.ensures.value c.in-Some-touch.ensures.value)
-    (rw (← c.self.view_is) at c.requires.goes_on)
+finish-requires c = seen_says (λ f. f.message.ended ≡ false) c.self.inside c.args.flow c.in-Some.ensures.value c.in-Some-touch.ensures.value (rw (← c.self.view_is) at c.requires.goes_on)
+
+lends : (c : goal.After-self-2-1) → Lent c.self.inside c.get_mut.follows.lender c.args.flow c.in-Some.exchange.now c.in-Some-touch.flow.now c.finish.new.self
+lends c = record { kept = c.self.invariant; is = c.in-Some.ensures.value; there = c.in-Some-touch.ensures.value; sound = c.finish.ensures.sound; through = c.get_mut.follows.holds _ }
 
 pub invariant_of-self : goal.invariant_of-self
-invariant_of-self c = (flow_done c.self.inside (c.get_mut.follows.lender (with_flow c.args.flow.back c.finish.new.self (seen_at c.self.inside.ticked c.in-Some.exchange.now))) c.args.flow c.in-Some.exchange.now c.in-Some-touch.flow.now c.finish.new.self c.self.invariant
-    c.in-Some.ensures.value c.in-Some-touch.ensures.value c.finish.ensures.sound (c.get_mut.follows.holds (with_flow c.args.flow.back c.finish.new.self (seen_at c.self.inside.ticked c.in-Some.exchange.now)))
-    (finished c.args.trailers) (steady_finished c.args.trailers) c.finish.ensures.finished refl).1
+invariant_of-self c = (lent_done (lends c) (finished c.args.trailers) (steady_finished c.args.trailers) c.finish.ensures.finished refl).1
 
 pub returns-clause-ok : goal.returns-clause-ok
-returns-clause-ok c = rw (← c.self.view_is) (flow_done c.self.inside (c.get_mut.follows.lender (with_flow c.args.flow.back c.finish.new.self (seen_at c.self.inside.ticked c.in-Some.exchange.now))) c.args.flow c.in-Some.exchange.now c.in-Some-touch.flow.now c.finish.new.self c.self.invariant
-    c.in-Some.ensures.value c.in-Some-touch.ensures.value c.finish.ensures.sound (c.get_mut.follows.holds (with_flow c.args.flow.back c.finish.new.self (seen_at c.self.inside.ticked c.in-Some.exchange.now)))
-    (finished c.args.trailers) (steady_finished c.args.trailers) c.finish.ensures.finished refl).0
+returns-clause-ok c = rw (← c.self.view_is) (lent_done (lends c) (finished c.args.trailers) (steady_finished c.args.trailers) c.finish.ensures.finished refl).0
 
 pub returns-clause-sound : goal.returns-clause-sound
-returns-clause-sound c = seen_sound _ (flow_done c.self.inside (c.get_mut.follows.lender (with_flow c.args.flow.back c.finish.new.self (seen_at c.self.inside.ticked c.in-Some.exchange.now))) c.args.flow c.in-Some.exchange.now c.in-Some-touch.flow.now c.finish.new.self c.self.invariant
-    c.in-Some.ensures.value c.in-Some-touch.ensures.value c.finish.ensures.sound (c.get_mut.follows.holds (with_flow c.args.flow.back c.finish.new.self (seen_at c.self.inside.ticked c.in-Some.exchange.now)))
-    (finished c.args.trailers) (steady_finished c.args.trailers) c.finish.ensures.finished refl).1
+returns-clause-sound c = seen_sound _ (lent_done (lends c) (finished c.args.trailers) (steady_finished c.args.trailers) c.finish.ensures.finished refl).1

@@ -1,19 +1,22 @@
 use Rattle.exchange_core.proofs.Finding.{flow_found, no_exchange, no_flow}
-use Rattle.exchange_core.proofs.Outcomes.{at_found, either, from_found, if_ok, on_err, on_ok}
+use Rattle.exchange_core.proofs.Lent.{Lent, left, lent_done, lent_order, lent_refused, says_seen, seen_says}
+use Rattle.exchange_core.proofs.Outcomes.{either, if_ok, on_err, on_ok}
+use Rattle.exchange_core.proofs.Writing.{send_crossed}
 use Rattle.exchange_core.proofs.Seeing.{seen_sound}
-use Rattle.exchange_core.proofs.Writing.{flow_done, flow_refused, found_sound, send_crossed}
 use Rattle.exchange_core.proofs.exchanges.Exchanges.frame_body.Goals as goal
-use Rattle.exchange_core.specs.Exchange.{seen_at, with_flow}
-use Rattle.exchange_core.specs.Flow.{Flow}
-use Rattle.std.proofs.Common.{ap, refl, sym, ◌∙◌}
+use Rattle.exchange_core.specs.Flow.{Flow, meters_hold}
+use Rattle.std.proofs.Common.{ap, sym, ◌∙◌}
 use Rattle.std.specs.Option.{option_copied_mut}
-use Rattle.std.specs.Prelude.{Some, false, true, ◌≡◌}
+use Rattle.std.specs.Prelude.{false, ◌≡◌}
 use Rattle.exchange_core.proofs.Steady.{calm_framed, steady_framed}
 use Rattle.exchange_core.specs.Effects.{body_framed}
 use Rattle.exchange_core.specs.Flow.{send}
 use Rattle.exchange_core.specs.Message.{head_waits}
-use Rattle.std.specs.Prelude.{IsOk, OnOk, length, take, ◌+◌, ◌++◌, ◌≤◌}
+use Rattle.std.specs.Prelude.{OnOk, length, take, ◌+◌, ◌++◌, ◌≤◌}
 use Rattle.wm_buffer.specs.Buffer.{AppendsOctets}
+use Rattle.exchange_core.specs.View.{exchanges_of, IsKept}
+use Rattle.exchange_core.specs.Changes.{ChangesFlow}
+use Rattle.exchange_core.specs.declared.exchanges.Exchanges.TheInside.{Inside}
 
 pub unreachable-requires : goal.unreachable-requires
 unreachable-requires c = no_exchange c.self.inside c.args.flow (ap option_copied_mut (sym c.in_default.is) ∙ c.get_mut.ensures.value) (rw (← c.self.view_is) at c.requires.live)
@@ -23,42 +26,44 @@ unreachable-requires-in_default-touch c = no_flow c.self.inside c.args.flow c.in
     (ap option_copied_mut (sym c.in_default-touch.is) ∙ c.touch.ensures.value) (rw (← c.self.view_is) at c.requires.live)
 
 pub frame_body-requires-clause-headed : goal.frame_body-requires-clause-headed
-frame_body-requires-clause-headed c = at_found (λ (f : Flow). head_waits f.message ≡ false) _ c.in-Some-touch.flow.now (flow_found c.self.inside c.args.flow c.in-Some.exchange.now (Some c.in-Some-touch.flow.now) c.in-Some.ensures.value c.in-Some-touch.ensures.value)
-    (rw (← c.self.view_is) at c.requires.headed)
+frame_body-requires-clause-headed c = seen_says (λ f. head_waits f.message ≡ false) c.self.inside c.args.flow c.in-Some.ensures.value c.in-Some-touch.ensures.value (rw (← c.self.view_is) at c.requires.headed)
 
 pub frame_body-requires-clause-octets : goal.frame_body-requires-clause-octets
-frame_body-requires-clause-octets c = at_found (λ (f : Flow). c.args.n ≤ length (send f)) _ c.in-Some-touch.flow.now (flow_found c.self.inside c.args.flow c.in-Some.exchange.now (Some c.in-Some-touch.flow.now) c.in-Some.ensures.value c.in-Some-touch.ensures.value)
-    (rw (← c.self.view_is) at c.requires.octets)
+frame_body-requires-clause-octets c = seen_says (λ f. c.args.n ≤ length (send f)) c.self.inside c.args.flow c.in-Some.ensures.value c.in-Some-touch.ensures.value (rw (← c.self.view_is) at c.requires.octets)
+
+lends : (c : goal.After-self-2-1) → Lent c.self.inside c.get_mut.follows.lender c.args.flow c.in-Some.exchange.now c.in-Some-touch.flow.now c.frame_body.new.self
+lends c = record { kept = c.self.invariant; is = c.in-Some.ensures.value; there = c.in-Some-touch.ensures.value; sound = c.frame_body.ensures.sound; through = c.get_mut.follows.holds _ }
+
+abbrev after : goal.After-self-2-1 → Inside
+after c = left c.self.inside c.get_mut.follows.lender c.args.flow c.in-Some.exchange.now c.frame_body.new.self
+
+abbrev change : goal.After-self-2-1 → Flow → Flow
+change c = body_framed c.args.n c.args.last
+
+calm : (c : goal.After-self-2-1) → meters_hold (change c c.in-Some-touch.flow.now) ≡ meters_hold c.in-Some-touch.flow.now
+calm c = calm_framed c.args.n c.args.last c.in-Some-touch.flow.now (lent_order (lends c))
+
+done : (c : goal.After-self-2-1) → c.frame_body.new.self ≡ change c c.in-Some-touch.flow.now → ChangesFlow c.args.flow (change c) (exchanges_of c.self.inside) (exchanges_of (after c)) × IsKept (after c)
+done c is = lent_done (lends c) (change c) (steady_framed c.args.n c.args.last) is (calm c)
+
+kept : (c : goal.After-self-2-1) → IsKept (after c)
+kept c = either _ _ _ c.frame_body.result c.frame_body.ensures.frames c.frame_body.ensures.err (λ is. (done c is).1) (λ is. (lent_refused (lends c) is.0).1)
 
 pub invariant_of-self : goal.invariant_of-self
-invariant_of-self c = (either _ _ _ c.frame_body.result c.frame_body.ensures.frames c.frame_body.ensures.err (λ is. (flow_done c.self.inside (c.get_mut.follows.lender (with_flow c.args.flow.back c.frame_body.new.self (seen_at c.self.inside.ticked c.in-Some.exchange.now))) c.args.flow c.in-Some.exchange.now c.in-Some-touch.flow.now c.frame_body.new.self c.self.invariant
-    c.in-Some.ensures.value c.in-Some-touch.ensures.value c.frame_body.ensures.sound (c.get_mut.follows.holds (with_flow c.args.flow.back c.frame_body.new.self (seen_at c.self.inside.ticked c.in-Some.exchange.now)))
-    (body_framed c.args.n c.args.last) (steady_framed c.args.n c.args.last) is (calm_framed c.args.n c.args.last c.in-Some-touch.flow.now (found_sound c.self.inside c.args.flow c.in-Some.exchange.now c.in-Some-touch.flow.now c.self.invariant c.in-Some.ensures.value c.in-Some-touch.ensures.value).sound.chain.order)).1) (λ is. (flow_refused c.self.inside (c.get_mut.follows.lender (with_flow c.args.flow.back c.frame_body.new.self (seen_at c.self.inside.ticked c.in-Some.exchange.now))) c.args.flow c.in-Some.exchange.now c.in-Some-touch.flow.now c.frame_body.new.self c.self.invariant
-    c.in-Some.ensures.value c.in-Some-touch.ensures.value c.frame_body.ensures.sound (c.get_mut.follows.holds (with_flow c.args.flow.back c.frame_body.new.self (seen_at c.self.inside.ticked c.in-Some.exchange.now))) is.0).1))
+invariant_of-self c = kept c
 
 pub returns-clause-frames : goal.returns-clause-frames
-returns-clause-frames c = rw (← c.self.view_is) (on_ok _ _ c.frame_body.result c.frame_body.ensures.frames (λ is. (flow_done c.self.inside (c.get_mut.follows.lender (with_flow c.args.flow.back c.frame_body.new.self (seen_at c.self.inside.ticked c.in-Some.exchange.now))) c.args.flow c.in-Some.exchange.now c.in-Some-touch.flow.now c.frame_body.new.self c.self.invariant
-    c.in-Some.ensures.value c.in-Some-touch.ensures.value c.frame_body.ensures.sound (c.get_mut.follows.holds (with_flow c.args.flow.back c.frame_body.new.self (seen_at c.self.inside.ticked c.in-Some.exchange.now)))
-    (body_framed c.args.n c.args.last) (steady_framed c.args.n c.args.last) is (calm_framed c.args.n c.args.last c.in-Some-touch.flow.now (found_sound c.self.inside c.args.flow c.in-Some.exchange.now c.in-Some-touch.flow.now c.self.invariant c.in-Some.ensures.value c.in-Some-touch.ensures.value).sound.chain.order)).0))
-
-pub returns-clause-sound : goal.returns-clause-sound
-returns-clause-sound c = seen_sound _ (either _ _ _ c.frame_body.result c.frame_body.ensures.frames c.frame_body.ensures.err (λ is. (flow_done c.self.inside (c.get_mut.follows.lender (with_flow c.args.flow.back c.frame_body.new.self (seen_at c.self.inside.ticked c.in-Some.exchange.now))) c.args.flow c.in-Some.exchange.now c.in-Some-touch.flow.now c.frame_body.new.self c.self.invariant
-    c.in-Some.ensures.value c.in-Some-touch.ensures.value c.frame_body.ensures.sound (c.get_mut.follows.holds (with_flow c.args.flow.back c.frame_body.new.self (seen_at c.self.inside.ticked c.in-Some.exchange.now)))
-    (body_framed c.args.n c.args.last) (steady_framed c.args.n c.args.last) is (calm_framed c.args.n c.args.last c.in-Some-touch.flow.now (found_sound c.self.inside c.args.flow c.in-Some.exchange.now c.in-Some-touch.flow.now c.self.invariant c.in-Some.ensures.value c.in-Some-touch.ensures.value).sound.chain.order)).1) (λ is. (flow_refused c.self.inside (c.get_mut.follows.lender (with_flow c.args.flow.back c.frame_body.new.self (seen_at c.self.inside.ticked c.in-Some.exchange.now))) c.args.flow c.in-Some.exchange.now c.in-Some-touch.flow.now c.frame_body.new.self c.self.invariant
-    c.in-Some.ensures.value c.in-Some-touch.ensures.value c.frame_body.ensures.sound (c.get_mut.follows.holds (with_flow c.args.flow.back c.frame_body.new.self (seen_at c.self.inside.ticked c.in-Some.exchange.now))) is.0).1))
+returns-clause-frames c = rw (← c.self.view_is) (on_ok _ _ c.frame_body.result c.frame_body.ensures.frames (λ is. (done c is).0))
 
 pub returns-clause-appends : goal.returns-clause-appends
-returns-clause-appends c = rw (← c.self.view_is) (from_found (λ (f : Flow). OnOk c.frame_body.result (AppendsOctets c.args.out.now c.frame_body.new.out (c.args.head.now ++ take c.args.n (send f)))) _ c.in-Some-touch.flow.now (flow_found c.self.inside c.args.flow c.in-Some.exchange.now (Some c.in-Some-touch.flow.now) c.in-Some.ensures.value c.in-Some-touch.ensures.value) c.frame_body.ensures.appends)
+returns-clause-appends c = rw (← c.self.view_is) (says_seen (λ f. OnOk c.frame_body.result (AppendsOctets c.args.out.now c.frame_body.new.out (c.args.head.now ++ take c.args.n (send f)))) c.self.inside c.args.flow (lends c).is (lends c).there c.frame_body.ensures.appends)
 
 pub returns-clause-from : goal.returns-clause-from
 returns-clause-from c = rw (← c.self.view_is) (if_ok _ _ _ c.frame_body.result c.frame_body.ensures.frames c.frame_body.ensures.from
-    (λ shifted is e. e ∙ send_crossed c.args.flow (body_framed c.args.n c.args.last) _ _ c.in-Some-touch.flow.now c.frame_body.new.self (flow_done c.self.inside (c.get_mut.follows.lender (with_flow c.args.flow.back c.frame_body.new.self (seen_at c.self.inside.ticked c.in-Some.exchange.now))) c.args.flow c.in-Some.exchange.now c.in-Some-touch.flow.now c.frame_body.new.self c.self.invariant
-    c.in-Some.ensures.value c.in-Some-touch.ensures.value c.frame_body.ensures.sound (c.get_mut.follows.holds (with_flow c.args.flow.back c.frame_body.new.self (seen_at c.self.inside.ticked c.in-Some.exchange.now)))
-    (body_framed c.args.n c.args.last) (steady_framed c.args.n c.args.last) is (calm_framed c.args.n c.args.last c.in-Some-touch.flow.now (found_sound c.self.inside c.args.flow c.in-Some.exchange.now c.in-Some-touch.flow.now c.self.invariant c.in-Some.ensures.value c.in-Some-touch.ensures.value).sound.chain.order)).0 (flow_found c.self.inside c.args.flow c.in-Some.exchange.now (Some c.in-Some-touch.flow.now) c.in-Some.ensures.value c.in-Some-touch.ensures.value) is))
+    (λ framed is e. e ∙ send_crossed c.args.flow (change c) _ _ c.in-Some-touch.flow.now c.frame_body.new.self (done c is).0 (flow_found c.self.inside c.args.flow _ _ (lends c).is (lends c).there) is))
+
+pub returns-clause-sound : goal.returns-clause-sound
+returns-clause-sound c = seen_sound _ (kept c)
 
 pub returns-clause-err : goal.returns-clause-err
-returns-clause-err c = rw (← c.self.view_is) (on_err _ _ c.frame_body.result c.frame_body.ensures.err (λ is. (
-  (flow_refused c.self.inside (c.get_mut.follows.lender (with_flow c.args.flow.back c.frame_body.new.self (seen_at c.self.inside.ticked c.in-Some.exchange.now))) c.args.flow c.in-Some.exchange.now c.in-Some-touch.flow.now c.frame_body.new.self c.self.invariant
-      c.in-Some.ensures.value c.in-Some-touch.ensures.value c.frame_body.ensures.sound (c.get_mut.follows.holds (with_flow c.args.flow.back c.frame_body.new.self (seen_at c.self.inside.ticked c.in-Some.exchange.now))) is.0).0,
-  is.1,
-)))
+returns-clause-err c = rw (← c.self.view_is) (on_err _ _ c.frame_body.result c.frame_body.ensures.err (λ is. ((lent_refused (lends c) is.0).0, is.1)))

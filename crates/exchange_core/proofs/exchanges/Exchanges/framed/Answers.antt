@@ -1,13 +1,9 @@
-use Rattle.exchange_core.proofs.Finding.{flow_found, no_exchange, no_flow}
-use Rattle.exchange_core.proofs.Outcomes.{at_found, either, from_found, on_err, on_ok}
+use Rattle.exchange_core.proofs.Finding.{no_exchange, no_flow}
+use Rattle.exchange_core.proofs.Lent.{Lent, lent_done}
 use Rattle.exchange_core.proofs.Seeing.{seen_sound}
-use Rattle.exchange_core.proofs.Writing.{flow_done, flow_refused, found_sound}
 use Rattle.exchange_core.proofs.exchanges.Exchanges.framed.Goals as goal
-use Rattle.exchange_core.specs.Exchange.{seen_at, with_flow}
-use Rattle.exchange_core.specs.Flow.{Flow}
 use Rattle.std.proofs.Common.{ap, refl, sym, ◌∙◌}
 use Rattle.std.specs.Option.{option_copied_mut}
-use Rattle.std.specs.Prelude.{Some, false, true, ◌≡◌}
 use Rattle.exchange_core.proofs.Steady.{steady_listed}
 use Rattle.exchange_core.specs.Effects.{list_framed}
 
@@ -18,17 +14,14 @@ pub unreachable-requires-in_default-touch : goal.unreachable-requires-in_default
 unreachable-requires-in_default-touch c = no_flow c.self.inside c.args.flow c.in-Some.exchange.now c.in-Some.ensures.value
     (ap option_copied_mut (sym c.in_default-touch.is) ∙ c.touch.ensures.value) (rw (← c.self.view_is) at c.requires.live)
 
+lends : (c : goal.After-self-2-1) → Lent c.self.inside c.get_mut.follows.lender c.args.flow c.in-Some.exchange.now c.in-Some-touch.flow.now c.list_framed.new.self
+lends c = record { kept = c.self.invariant; is = c.in-Some.ensures.value; there = c.in-Some-touch.ensures.value; sound = c.list_framed.ensures.sound; through = c.get_mut.follows.holds _ }
+
 pub invariant_of-self : goal.invariant_of-self
-invariant_of-self c = (flow_done c.self.inside (c.get_mut.follows.lender (with_flow c.args.flow.back c.list_framed.new.self (seen_at c.self.inside.ticked c.in-Some.exchange.now))) c.args.flow c.in-Some.exchange.now c.in-Some-touch.flow.now c.list_framed.new.self c.self.invariant
-    c.in-Some.ensures.value c.in-Some-touch.ensures.value c.list_framed.ensures.sound (c.get_mut.follows.holds (with_flow c.args.flow.back c.list_framed.new.self (seen_at c.self.inside.ticked c.in-Some.exchange.now)))
-    (list_framed c.args.last) (steady_listed c.args.last) c.list_framed.ensures.framed refl).1
+invariant_of-self c = (lent_done (lends c) (list_framed c.args.last) (steady_listed c.args.last) c.list_framed.ensures.framed refl).1
 
 pub returns-clause-framed : goal.returns-clause-framed
-returns-clause-framed c = rw (← c.self.view_is) (flow_done c.self.inside (c.get_mut.follows.lender (with_flow c.args.flow.back c.list_framed.new.self (seen_at c.self.inside.ticked c.in-Some.exchange.now))) c.args.flow c.in-Some.exchange.now c.in-Some-touch.flow.now c.list_framed.new.self c.self.invariant
-    c.in-Some.ensures.value c.in-Some-touch.ensures.value c.list_framed.ensures.sound (c.get_mut.follows.holds (with_flow c.args.flow.back c.list_framed.new.self (seen_at c.self.inside.ticked c.in-Some.exchange.now)))
-    (list_framed c.args.last) (steady_listed c.args.last) c.list_framed.ensures.framed refl).0
+returns-clause-framed c = rw (← c.self.view_is) (lent_done (lends c) (list_framed c.args.last) (steady_listed c.args.last) c.list_framed.ensures.framed refl).0
 
 pub returns-clause-sound : goal.returns-clause-sound
-returns-clause-sound c = seen_sound _ (flow_done c.self.inside (c.get_mut.follows.lender (with_flow c.args.flow.back c.list_framed.new.self (seen_at c.self.inside.ticked c.in-Some.exchange.now))) c.args.flow c.in-Some.exchange.now c.in-Some-touch.flow.now c.list_framed.new.self c.self.invariant
-    c.in-Some.ensures.value c.in-Some-touch.ensures.value c.list_framed.ensures.sound (c.get_mut.follows.holds (with_flow c.args.flow.back c.list_framed.new.self (seen_at c.self.inside.ticked c.in-Some.exchange.now)))
-    (list_framed c.args.last) (steady_listed c.args.last) c.list_framed.ensures.framed refl).1
+returns-clause-sound c = seen_sound _ (lent_done (lends c) (list_framed c.args.last) (steady_listed c.args.last) c.list_framed.ensures.framed refl).1

@@ -1,9 +1,7 @@
 use Rattle.exchange_core.proofs.Untouched.{frameable_seen, unit_seen}
 use Rattle.exchange_core.proofs.exchanges.Exchanges.next_unit.Goals as goal
-use Rattle.exchange_core.specs.Exchange.{at_moment}
-use Rattle.exchange_core.specs.Flow.{Flow}
 use Rattle.exchange_core.specs.Units.{IsFrameable, next_unit}
-use Rattle.exchange_core.specs.declared.step.Unit.{Unit as NextUnit}
+use Rattle.flow_rules.specs.declared.unit.Unit.{Unit as NextUnit}
 use Rattle.std.proofs.Common.{ap, subst, sym, w64, ◌∙◌}
 use Rattle.std.proofs.lemmas.Int.{to_z-of_z}
 use mir.Val.{of_z, to_z}

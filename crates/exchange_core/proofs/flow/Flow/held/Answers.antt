@@ -1,4 +1,4 @@
-use Rattle.std.proofs.Common.{◌≡◌, ◌+◌, ◌<◌, ◌∙◌, length, sym, arith}
+use Rattle.std.proofs.Common.{◌≡◌, ◌+◌, ◌<◌, length, arith}
 use Rattle.exchange_core.proofs.Held.{held_in_first, held_next}
 use Rattle.exchange_core.proofs.flow.Flow.held.Goals as goal
 use Rattle.exchange_core.specs.Flow.{last_place}

@@ -1,4 +1,4 @@
-use Rattle.std.proofs.Common.{◌≡◌, ◌≤◌, ◌+◌, ◌*◌, ◌^◌, length}
+use Rattle.std.proofs.Common.{◌≡◌, ◌≤◌, ◌+◌, ◌*◌, length}
 use Rattle.exchange_core.proofs.Held.{held_in_first}
 use Rattle.exchange_core.proofs.flow.Flow.held.Given as goal
 use Rattle.exchange_core.specs.Flow.{last_place}

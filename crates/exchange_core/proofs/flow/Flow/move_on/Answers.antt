@@ -1,4 +1,4 @@
-use Rattle.std.proofs.Common.{◌≡◌, ◌+◌, ◌≤◌, length, subst, sym, arith}
+use Rattle.std.proofs.Common.{◌≡◌, ◌+◌, ◌≤◌, length, subst, arith}
 use Rattle.exchange_core.proofs.Holding.{lets_go_few}
 use Rattle.exchange_core.proofs.Moving.{released_kept}
 use Rattle.exchange_core.proofs.flow.Flow.move_on.Goals as goal

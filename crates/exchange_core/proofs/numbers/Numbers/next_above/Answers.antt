@@ -1,8 +1,8 @@
-use Rattle.std.proofs.Common.{◌≡◌, ◌<◌, ◌≤◌, ◌∙◌, ℕ, length, true, sym, ap, subst}
+use Rattle.std.proofs.Common.{◌≡◌, ◌<◌, ◌≤◌, ◌∙◌, ℕ, true, ap, subst}
 use Rattle.exchange_core.proofs.Rising.{item_copied, next_found, next_least}
 use Rattle.exchange_core.proofs.numbers.Numbers.next_above.Goals as goal
 use Rattle.exchange_core.specs.Numbers.{Numbers, has}
-use Rattle.std.specs.Prelude.{IfSome, IsSomeAnd, slice_get, slice_index}
+use Rattle.std.specs.Prelude.{IfSome, IsSomeAnd, slice_get}
 
 pub returns-clause-found : goal.returns-clause-found
 returns-clause-found c =

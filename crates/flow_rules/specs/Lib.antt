@@ -1,0 +1,6 @@
+pub mod Kinds
+pub mod Moves
+pub mod Narrowed
+pub mod Sources
+pub mod State
+pub mod Units

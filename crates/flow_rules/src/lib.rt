@@ -1,0 +1,9 @@
+//! What a flow may do: the definitions of its moves and of its next unit, as functions of one plain record. What keeps
+//! flows and what judges the notes of a session apply them each to its own flow.
+#![tactic(auto)]
+
+mod laws;
+mod unit;
+
+pub use laws::units_narrow;
+pub use unit::Unit;
