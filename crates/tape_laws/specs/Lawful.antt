@@ -2,7 +2,7 @@
 use Rattle.tape_laws.specs.Bounds.{IsBounded}
 use Rattle.tape_laws.specs.Demands.{Answers, OnlyAsked}
 use Rattle.tape_laws.specs.Doomed.{LeavesDoomed, SweepsLast}
-use Rattle.tape_laws.specs.Ends.{KeepsEnds}
+use Rattle.tape_laws.specs.Framing.{KeepsEnds}
 use Rattle.tape_laws.specs.History.{AtEachMoment, BeforeOthers, BeforeTurn, EachFollows, History}
 use Rattle.tape_laws.specs.Order.{InTurn}
 use Rattle.tape_laws.specs.Pauses.{IsCounted, PausesInOrder}

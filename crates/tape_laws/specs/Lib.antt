@@ -6,6 +6,7 @@ pub mod Dispatches
 pub mod Doomed
 pub mod Ends
 pub mod Flows
+pub mod Framing
 pub mod Following
 pub mod Headline
 pub mod History
@@ -21,9 +22,11 @@ pub mod Report
 pub mod Room
 pub mod Setup
 pub mod Sources
+pub mod State
 pub mod Summary
 pub mod Text
 pub mod Tied
+pub mod Tokens
 pub mod Units
 pub mod Watermark
 pub mod World

@@ -1,13 +1,16 @@
 -- The order of the units that a connection frames: what waits first, then window updates, then its flows in rotation.
 use Rattle.flow_gate.specs.declared.ids.FlowId.{FlowId}
-use Rattle.std.specs.Prelude.{Bool, IfSome, List, None, Option, Some, [], false, filter, if◌then◌else◌, nat_le, nat_lt, true, unwrap_or, ℕ, ◌&&◌, ◌++◌, ◌==◌, ◌∷◌, ◌≡◌}
+use Rattle.flow_rules.specs.Units.{is_unit}
+use Rattle.flow_rules.specs.declared.unit.Unit.{Unit as FlowUnit}
+use Rattle.std.specs.Prelude.{IfSome, List, None, Option, Some, [], filter, if◌then◌else◌, nat_le, nat_lt, unwrap_or, ℕ, ◌&&◌, ◌++◌, ◌==◌, ◌∷◌, ◌≡◌}
 use Rattle.tape_laws.specs.Dispatches.{is_some_of}
-use Rattle.tape_laws.specs.Ends.{BodyUnit, FlowUnit, HeadUnit, NoUnit, TrailersUnit, next_unit}
+use Rattle.tape_laws.specs.Framing.{next_unit}
 use Rattle.tape_laws.specs.History.{History, Marked, Noted, Step}
 use Rattle.tape_laws.specs.Setup.{Setup}
 use Rattle.tape_laws.specs.Sources.{live_flows}
 use Rattle.tape_laws.specs.Units.{Farewell, FramedUnit, Grant, HeadOf, Pick, Put, TrailersOf, Waiting}
 use Rattle.flow_notes.specs.declared.notes.Note.TheVariants as note
+use Rattle.flow_rules.specs.declared.unit.Unit.TheVariants as unit
 
 pub data NextUnit : Type 0 where
   Nothing : NextUnit
@@ -31,10 +34,6 @@ framed_last setup c [] = 0
 framed_last setup c (Noted (note.Frame d f n last) ∷ past) = if d == c then f.exchange else framed_last setup c past
 framed_last setup c (Marked m ∷ past) = unwrap_or (picked_on c (setup.picks m)) (framed_last setup c past)
 framed_last setup c (step ∷ past) = framed_last setup c past
-
-abbrev pub is_unit : FlowUnit → Bool
-is_unit NoUnit = false
-is_unit u = true
 
 -- the live flows that go to the connection and have a unit, by exchange
 abbrev pub ready_flows : {Mark : Type 0} → Setup Mark → ℕ → History Mark → List FlowId
@@ -65,14 +64,14 @@ next_on setup c past =
 
 -- a unit is picked only in its turn; the GOAWAY before a close stands outside the order
 abbrev pub PickedInTurn : {Mark : Type 0} → Setup Mark → ℕ → FramedUnit → History Mark → Type 0
-PickedInTurn setup c (HeadOf f) past = next_on setup c past ≡ Flows f HeadUnit
-PickedInTurn setup c (TrailersOf f) past = next_on setup c past ≡ Flows f TrailersUnit
+PickedInTurn setup c (HeadOf f) past = next_on setup c past ≡ Flows f (unit.Head (setup.head_ends f past))
+PickedInTurn setup c (TrailersOf f) past = next_on setup c past ≡ Flows f unit.Trailers
 PickedInTurn setup c (Put w) past = next_on setup c past ≡ Waits w
 PickedInTurn setup c (Farewell code why) past = Unit {0}
 
 -- a unit stands only in its turn
 abbrev pub InTurn : {Mark : Type 0} → Setup Mark → Step Mark → History Mark → Type 0
-InTurn setup (Noted (note.Frame c f n last)) past = next_on setup c past ≡ Flows f (BodyUnit n last)
+InTurn setup (Noted (note.Frame c f n last)) past = next_on setup c past ≡ Flows f (unit.Body n last)
 InTurn setup (Noted (note.Credit c s n)) past = next_on setup c past ≡ Grants (record { stream = s; n = n })
 InTurn setup (Marked m) past = IfSome (setup.picks m) (λ p. PickedInTurn setup p.conn p.unit past)
 InTurn setup step past = Unit {0}

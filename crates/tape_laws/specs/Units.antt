@@ -2,12 +2,18 @@
 use Rattle.flow_gate.specs.declared.ids.FlowId.{FlowId}
 use Rattle.flow_notes.specs.declared.notes.Cause.{Cause}
 use Rattle.flow_notes.specs.declared.notes.CloseCause.{CloseCause}
+use Rattle.flow_rules.specs.Kinds.{Hold as HoldKind, Kind, Meter as MeterKind}
 use Rattle.std.specs.Prelude.{List, ℕ}
 
 -- A stage that keeps octets on their way. A Hold has a limit in octets, a Meter a limit and a rate in octets for 50 ms.
 pub data StageKind : Type 0 where
   Hold : ℕ → StageKind
   Meter : ℕ → ℕ → StageKind
+
+-- what the rules of a flow say of it
+abbrev pub kind_of : StageKind → Kind
+kind_of (Hold limit) = HoldKind
+kind_of (Meter limit rate) = MeterKind
 
 -- what waits on a connection besides its flows: a control frame, or a reply without a body
 pub data Waiting : Type 0 where
