@@ -2,7 +2,7 @@
 use Rattle.flow_gate.specs.declared.ids.BufferId.{BufferId}
 use Rattle.std.proofs.Common.{ap, refl}
 use Rattle.std.specs.Prelude.{[], ◌∷◌, ◌≡◌}
-use Rattle.tape_laws.specs.History.{History, NoMark}
+use Rattle.plain_laws.specs.Words.{Past}
 use Rattle.tape_laws.specs.Plain.{plain_setup}
 use Rattle.tape_laws.specs.Watermark.{above, lengths, limit}
 use Rattle.tape_laws.specs.World.{len}
@@ -10,7 +10,7 @@ use Rattle.tape_laws.specs.declared.limits.PlainLimits.{PlainLimits}
 use Rattle.wm_buffer.specs.Watermark.{above_after, flag}
 use Rattle.flow_gate.specs.declared.ids.BufferId.TheVariants as buffer
 
-pub above_is_flag : (limits : PlainLimits) (b : BufferId) (h : History NoMark) → above (plain_setup limits) b h ≡ flag (limit (plain_setup limits) b h) (lengths (plain_setup limits) b h)
+pub above_is_flag : (limits : PlainLimits) (b : BufferId) (h : Past) → above (plain_setup limits) b h ≡ flag (limit (plain_setup limits) b h) (lengths (plain_setup limits) b h)
 above_is_flag limits b [] = refl
 above_is_flag limits (buffer.Recv f) (step ∷ past) = ap (λ was. above_after 0 was (len (plain_setup limits) (buffer.Recv f) (step ∷ past))) (above_is_flag limits (buffer.Recv f) past)
 above_is_flag limits (buffer.Stage f i) (step ∷ past) = ap (λ was. above_after 0 was (len (plain_setup limits) (buffer.Stage f i) (step ∷ past))) (above_is_flag limits (buffer.Stage f i) past)

@@ -52,78 +52,79 @@ carries_arrive sent send recv received came octets live begun l front k = record
     again a b c d = grind (arith, common_steps)
 
 -- n octets go from the receive buffer to the send buffer
-pub carries_move : (sent send recv received came : List ℕ) (live begun : Bool) (n : ℕ) → live ≡ true → Carries sent send recv received came live begun
-    → Carries sent (send ++ take n recv) (drop n recv) received came live begun
-carries_move sent send recv received came live begun n l k = record {
-  rest = k.rest;
-  is = k.is;
-  held = λ e. k.held l ∙ ap (λ (v : List ℕ). send ++ v) (sym (take-append-drop n recv)) ∙ sym (append_assoc send (take n recv) (drop n recv));
-  unread = k.unread;
-  reads = k.reads;
-  lived = k.lived;
-  unborn = λ e. absurd (never begun e (k.lived l));
-}
+module _ (sent send recv received came : List ℕ) (live begun : Bool) where
+  pub carries_move : (n : ℕ) → live ≡ true → Carries sent send recv received came live begun
+      → Carries sent (send ++ take n recv) (drop n recv) received came live begun
+  carries_move n l k = record {
+    rest = k.rest;
+    is = k.is;
+    held = λ e. k.held l ∙ ap (λ (v : List ℕ). send ++ v) (sym (take-append-drop n recv)) ∙ sym (append_assoc send (take n recv) (drop n recv));
+    unread = k.unread;
+    reads = k.reads;
+    lived = k.lived;
+    unborn = λ e. absurd (never begun e (k.lived l));
+  }
 
--- the first n octets of the send buffer are framed
-pub carries_frame : (sent send recv received came : List ℕ) (live begun : Bool) (n : ℕ) → live ≡ true → Carries sent send recv received came live begun
-    → Carries (sent ++ take n send) (drop n send) recv received came live begun
-carries_frame sent send recv received came live begun n l k = record {
-  rest = drop n send ++ recv;
-  is = k.is ∙ ap (λ (v : List ℕ). sent ++ v) (k.held l ∙ ap (λ (v : List ℕ). v ++ recv) (sym (take-append-drop n send))) ∙ again sent (take n send) (drop n send) recv;
-  held = λ e. refl;
-  unread = k.unread;
-  reads = k.reads;
-  lived = k.lived;
-  unborn = λ e. absurd (never begun e (k.lived l));
-}
-  where
-    again : (a b c d : List ℕ) → a ++ ((b ++ c) ++ d) ≡ (a ++ b) ++ (c ++ d)
-    again a b c d = grind (arith, common_steps)
+  -- the first n octets of the send buffer are framed
+  pub carries_frame : (n : ℕ) → live ≡ true → Carries sent send recv received came live begun
+      → Carries (sent ++ take n send) (drop n send) recv received came live begun
+  carries_frame n l k = record {
+    rest = drop n send ++ recv;
+    is = k.is ∙ ap (λ (v : List ℕ). sent ++ v) (k.held l ∙ ap (λ (v : List ℕ). v ++ recv) (sym (take-append-drop n send))) ∙ again sent (take n send) (drop n send) recv;
+    held = λ e. refl;
+    unread = k.unread;
+    reads = k.reads;
+    lived = k.lived;
+    unborn = λ e. absurd (never begun e (k.lived l));
+  }
+    where
+      again : (a b c d : List ℕ) → a ++ ((b ++ c) ++ d) ≡ (a ++ b) ++ (c ++ d)
+      again a b c d = grind (arith, common_steps)
 
--- its exchange begins
-pub carries_start : (sent send recv received came : List ℕ) (live begun : Bool) → begun ≡ false → Carries sent send recv received came live begun
-    → Carries sent send recv received came true true
-carries_start sent send recv received came live begun e k = record {
-  rest = k.rest;
-  is = k.is;
-  held = λ l.
-      let none = k.unborn e in
-      nothing_left sent k.rest (sym k.is ∙ none.0) ∙ sym (ap (λ (v : List ℕ). v ++ recv) none.1 ∙ none.2);
-  unread = k.unread;
-  reads = k.reads;
-  lived = λ l. refl;
-  unborn = λ b. cc;
-}
-  where
-    nothing_left : (xs ys : List ℕ) → xs ++ ys ≡ [] → ys ≡ []
-    nothing_left [] ys e = e
-    nothing_left (x ∷ xs) ys e = cc
+  -- its exchange begins
+  pub carries_start : begun ≡ false → Carries sent send recv received came live begun
+      → Carries sent send recv received came true true
+  carries_start e k = record {
+    rest = k.rest;
+    is = k.is;
+    held = λ l.
+        let none = k.unborn e in
+        nothing_left sent k.rest (sym k.is ∙ none.0) ∙ sym (ap (λ (v : List ℕ). v ++ recv) none.1 ∙ none.2);
+    unread = k.unread;
+    reads = k.reads;
+    lived = λ l. refl;
+    unborn = λ b. cc;
+  }
+    where
+      nothing_left : (xs ys : List ℕ) → xs ++ ys ≡ [] → ys ≡ []
+      nothing_left [] ys e = e
+      nothing_left (x ∷ xs) ys e = cc
 
--- its exchange is doomed
-pub carries_doom : (sent send recv received came : List ℕ) (live begun after : Bool) → (after ≡ true → ⊥) → Carries sent send recv received came live begun
-    → Carries sent [] [] received came after begun
-carries_doom sent send recv received came live begun after dead k = record {
-  rest = k.rest;
-  is = k.is;
-  held = λ l. absurd (dead l);
-  unread = k.unread;
-  reads = k.reads;
-  lived = λ l. absurd (dead l);
-  unborn = λ e. ((k.unborn e).0, refl, refl);
-}
+  -- its exchange is doomed
+  pub carries_doom : (after : Bool) → (after ≡ true → ⊥) → Carries sent send recv received came live begun
+      → Carries sent [] [] received came after begun
+  carries_doom after dead k = record {
+    rest = k.rest;
+    is = k.is;
+    held = λ l. absurd (dead l);
+    unread = k.unread;
+    reads = k.reads;
+    lived = λ l. absurd (dead l);
+    unborn = λ e. ((k.unborn e).0, refl, refl);
+  }
 
--- another one is
-pub carries_other : (sent send recv received came : List ℕ) (live begun after : Bool) → (after ≡ true → live ≡ true) → Carries sent send recv received came live begun
-    → Carries sent send recv received came after begun
-carries_other sent send recv received came live begun after f k = record {
-  rest = k.rest;
-  is = k.is;
-  held = λ l. k.held (f l);
-  unread = k.unread;
-  reads = k.reads;
-  lived = λ l. k.lived (f l);
-  unborn = k.unborn;
-}
+  -- another one is
+  pub carries_other : (after : Bool) → (after ≡ true → live ≡ true) → Carries sent send recv received came live begun
+      → Carries sent send recv received came after begun
+  carries_other after f k = record {
+    rest = k.rest;
+    is = k.is;
+    held = λ l. k.held (f l);
+    unread = k.unread;
+    reads = k.reads;
+    lived = λ l. k.lived (f l);
+    unborn = k.unborn;
+  }
 
 -- octets of its body come
 pub carries_body : (sent send recv received came octets : List ℕ) (live begun : Bool) → Carries sent send recv received came live begun

@@ -18,21 +18,18 @@ use Rattle.plain_laws.specs.Keeping.{KeepsLists, KeepsStream, KeepsWrite}
 use Rattle.plain_laws.specs.Owing.{due_if, owed_times, pause_notes}
 use Rattle.plain_laws.specs.Regular.{IsRising}
 use Rattle.plain_laws.specs.Settled.{Settled}
-use Rattle.plain_laws.specs.StepNotes.{drain_notes, frame_notes, move_notes, rise_notes}
+use Rattle.plain_laws.specs.StepNotes.{drain_notes, rise_notes}
 use Rattle.std.proofs.Common.{ap, arith, refl, subst, sym, ◌∙◌}
 use Rattle.std.proofs.lemmas.List.{append-nil}
 use Rattle.std.specs.Prelude.{Bool, List, [], drop, false, if◌then◌else◌, length, take, true, ℕ, ◌&&◌, ◌++◌, ◌+◌, ◌==◌, ◌||◌, ◌∷◌, ◌≡◌}
-use Rattle.tape_laws.specs.Dispatches.{before_dispatch, events_back, has, live, started, turns}
+use Rattle.plain_laws.specs.Words.{Past, Alive, conn_high, conn_lows, conn_out, conn_rises, end_out, frame_of, last_out, move_of, past_frame, past_move, recv_at, send_at, send_drains, send_high, send_rises}
+use Rattle.tape_laws.specs.Dispatches.{before_dispatch, events_back, live, started, turns}
 use Rattle.tape_laws.specs.Doomed.{condemned}
-use Rattle.tape_laws.specs.Ends.{end_framed}
 use Rattle.tape_laws.specs.Flows.{request}
-use Rattle.tape_laws.specs.History.{History, NoMark, Noted, Step, onto}
-use Rattle.tape_laws.specs.Order.{framed_last}
-use Rattle.tape_laws.specs.Pauses.{Owed, pauses, pending_lows, resumes}
-use Rattle.tape_laws.specs.Plain.{paired_with, plain_ended, plain_setup}
+use Rattle.tape_laws.specs.History.{NoMark, Noted, Step, onto}
+use Rattle.tape_laws.specs.Pauses.{Owed, pauses, resumes}
+use Rattle.tape_laws.specs.Plain.{paired_with, plain_ended}
 use Rattle.tape_laws.specs.PlainSession.{plain_must_end}
-use Rattle.tape_laws.specs.Watermark.{above, drains_at, rises_at}
-use Rattle.tape_laws.specs.World.{out, place}
 use Rattle.tape_laws.specs.declared.limits.PlainLimits.{PlainLimits}
 use Rattle.wm_buffer.specs.Watermark.{above_after}
 use Rattle.flow_gate.specs.declared.ids.BufferId.TheVariants as buffer
@@ -41,232 +38,204 @@ use Rattle.flow_notes.specs.declared.notes.Note.TheVariants as note
 -- ---- a move
 
 -- the pauses of a move, whatever rose
-abbrev move_due : PlainLimits → ℕ → ℕ → History NoMark → List Owed
-move_due limits x n h = due_if (rises_at (plain_setup limits) (buffer.Send (request x)) (Noted (note.Move (request x) 0 n)) h) (buffer.Send (request x)) (x ∷ [])
+abbrev move_due : PlainLimits → ℕ → ℕ → Past → List Owed
+move_due limits x n h = due_if (send_rises limits x (move_of x n) h) (buffer.Send (request x)) (x ∷ [])
 
-move_onto : (limits : PlainLimits) (x n : ℕ) (h : History NoMark) → onto (move_notes limits x n h) h ≡ onto (pause_notes (move_due limits x n h)) (Noted (note.Move (request x) 0 n) ∷ h)
-move_onto limits x n h = ap (λ (ns : List Note). onto ns (Noted (note.Move (request x) 0 n) ∷ h)) (one_pause (buffer.Send (request x)) x _ _ refl)
+module _ (limits : PlainLimits) (x n : ℕ) (h : Past) where
+  abbrev after : Past
+  after = past_move limits x n h
 
--- what is known of the history with the move and the pauses is known of that with the notes
-moved : (limits : PlainLimits) (x n : ℕ) (h : History NoMark) (P : History NoMark → Type 0) → P (onto (pause_notes (move_due limits x n h)) (Noted (note.Move (request x) 0 n) ∷ h))
-    → P (onto (move_notes limits x n h) h)
-moved limits x n h P p = subst P (sym (move_onto limits x n h)) p
+  abbrev due : List Owed
+  due = move_due limits x n h
 
-pub move_recv : (limits : PlainLimits) (x n : ℕ) (h : History NoMark)
-    → place (plain_setup limits) (request x) 0 (onto (move_notes limits x n h) h) ≡ drop n (place (plain_setup limits) (request x) 0 h)
-move_recv limits x n h =
-    moved limits x n h (λ v. place (plain_setup limits) (request x) 0 v ≡ drop n (place (plain_setup limits) (request x) 0 h))
-    (pauses_place limits (request x) 0 (move_due limits x n h) (Noted (note.Move (request x) 0 n) ∷ h) ∙ recv_move limits x n h)
+  move_onto : after ≡ onto (pause_notes due) (move_of x n ∷ h)
+  move_onto = ap (λ (ns : List Note). onto ns (move_of x n ∷ h)) (one_pause (buffer.Send (request x)) x _ _ refl)
 
-pub move_send : (limits : PlainLimits) (x n : ℕ) (h : History NoMark) → place (plain_setup limits) (request x) 1 (onto (move_notes limits x n h) h)
-    ≡ place (plain_setup limits) (request x) 1 h ++ take n (place (plain_setup limits) (request x) 0 h)
-move_send limits x n h =
-    moved limits x n h (λ v. place (plain_setup limits) (request x) 1 v ≡ place (plain_setup limits) (request x) 1 h ++ take n (place (plain_setup limits) (request x) 0 h))
-    (pauses_place limits (request x) 1 (move_due limits x n h) (Noted (note.Move (request x) 0 n) ∷ h) ∙ send_move limits x n h)
+  -- what is known of the history with the move and the pauses is known of that with the notes
+  moved : (P : Past → Type 0) → P (onto (pause_notes due) (move_of x n ∷ h)) → P after
+  moved P p = subst P (sym move_onto) p
 
-pub move_high : (limits : PlainLimits) (x n : ℕ) (h : History NoMark) → above (plain_setup limits) (buffer.Send (request x)) (onto (move_notes limits x n h) h)
-    ≡ above_after limits.send (above (plain_setup limits) (buffer.Send (request x)) h)
-    (length (place (plain_setup limits) (request x) 1 h ++ take n (place (plain_setup limits) (request x) 0 h)))
-move_high limits x n h =
-    moved limits x n h (λ v. above (plain_setup limits) (buffer.Send (request x)) v ≡ above_after limits.send (above (plain_setup limits) (buffer.Send (request x)) h)
-    (length (place (plain_setup limits) (request x) 1 h ++ take n (place (plain_setup limits) (request x) 0 h))))
-    (pauses_send_above limits (request x) (move_due limits x n h) (Noted (note.Move (request x) 0 n) ∷ h)
-    ∙ ap (λ (o : List ℕ). above_after limits.send (above (plain_setup limits) (buffer.Send (request x)) h) (length o)) (send_move limits x n h))
+  pub move_recv : recv_at limits x after ≡ drop n (recv_at limits x h)
+  move_recv = moved (λ v. recv_at limits x v ≡ drop n (recv_at limits x h)) (pauses_place limits (request x) 0 due (move_of x n ∷ h) ∙ recv_move limits x n h)
 
-pub move_keeps : (limits : PlainLimits) (x y n : ℕ) (h : History NoMark) → (x == y) ≡ false → KeepsStream limits y h (onto (move_notes limits x n h) h)
-move_keeps limits x y n h d =
-    moved limits x n h (λ v. KeepsStream limits y h v)
-    (stream_more limits y h (Noted (note.Move (request x) 0 n) ∷ h) _ (keeps_stream limits y (Noted (note.Move (request x) 0 n)) h (move_leaves limits x y n h d) refl refl)
-    (pauses_keep limits y (move_due limits x n h) (Noted (note.Move (request x) 0 n) ∷ h)))
+  pub move_send : send_at limits x after ≡ send_at limits x h ++ take n (recv_at limits x h)
+  move_send = moved (λ v. send_at limits x v ≡ send_at limits x h ++ take n (recv_at limits x h)) (pauses_place limits (request x) 1 due (move_of x n ∷ h) ∙ send_move limits x n h)
 
-pub move_keeps_write : (limits : PlainLimits) (x n : ℕ) (h : History NoMark) → KeepsWrite limits h (onto (move_notes limits x n h) h)
-move_keeps_write limits x n h =
-    moved limits x n h (λ v. KeepsWrite limits h v)
-    (write_more limits h (Noted (note.Move (request x) 0 n) ∷ h) _ (keeps_write limits (Noted (note.Move (request x) 0 n)) h refl (append-nil _))
-    (pauses_keep_write limits (move_due limits x n h) (Noted (note.Move (request x) 0 n) ∷ h)))
+  pub move_high : send_high limits x after ≡ above_after limits.send (send_high limits x h) (length (send_at limits x h ++ take n (recv_at limits x h)))
+  move_high =
+      moved (λ v. send_high limits x v ≡ above_after limits.send (send_high limits x h) (length (send_at limits x h ++ take n (recv_at limits x h))))
+      (pauses_send_above limits (request x) due (move_of x n ∷ h) ∙ ap (λ (o : List ℕ). above_after limits.send (send_high limits x h) (length o)) (send_move limits x n h))
 
-pub move_keeps_lists : (limits : PlainLimits) (x n : ℕ) (h : History NoMark) → KeepsLists h (onto (move_notes limits x n h) h)
-move_keeps_lists limits x n h =
-    moved limits x n h (λ v. KeepsLists h v)
-    (lists_more h (Noted (note.Move (request x) 0 n) ∷ h) _ (record { lives = refl; begun = refl; doomed = refl; numbers = refl; events = refl })
-    (pauses_keep_lists (move_due limits x n h) (Noted (note.Move (request x) 0 n) ∷ h)))
+  pub move_keeps : (y : ℕ) → (x == y) ≡ false → KeepsStream limits y h after
+  move_keeps y d =
+      moved (λ v. KeepsStream limits y h v)
+      (stream_more limits y h (move_of x n ∷ h) _ (keeps_stream limits y (move_of x n) h (move_leaves limits x y n h d) refl refl) (pauses_keep limits y due (move_of x n ∷ h)))
 
--- what a move leaves as any pause does: what a note that isn't a pause may tell of no pause
-pub move_same : {A : Type 0} (F : History NoMark → A) → ((f : FlowId) (b : BufferId) (h : History NoMark) → F (Noted (note.Pause f b) ∷ h) ≡ F h)
-    → (limits : PlainLimits) (x n : ℕ) (h : History NoMark) → F (Noted (note.Move (request x) 0 n) ∷ h) ≡ F h → F (onto (move_notes limits x n h) h) ≡ F h
-move_same F same limits x n h e =
-    ap F (move_onto limits x n h) ∙ pauses_leave F same (move_due limits x n h) (Noted (note.Move (request x) 0 n) ∷ h) ∙ e
+  pub move_keeps_write : KeepsWrite limits h after
+  move_keeps_write =
+      moved (λ v. KeepsWrite limits h v)
+      (write_more limits h (move_of x n ∷ h) _ (keeps_write limits (move_of x n) h refl (append-nil _)) (pauses_keep_write limits due (move_of x n ∷ h)))
 
-pub move_ended : (limits : PlainLimits) (x y n : ℕ) (h : History NoMark) → plain_ended y (onto (move_notes limits x n h) h) ≡ plain_ended y h
-move_ended limits x y n h = move_same (λ v. plain_ended y v) (λ f b v. refl) limits x n h refl
+  pub move_keeps_lists : KeepsLists h after
+  move_keeps_lists =
+      moved (λ v. KeepsLists h v)
+      (lists_more h (move_of x n ∷ h) _ (record { lives = refl; begun = refl; doomed = refl; numbers = refl; events = refl }) (pauses_keep_lists due (move_of x n ∷ h)))
 
-pub move_end_framed : (limits : PlainLimits) (x y n : ℕ) (h : History NoMark)
-    → end_framed (plain_setup limits) (request y) (onto (move_notes limits x n h) h) ≡ end_framed (plain_setup limits) (request y) h
-move_end_framed limits x y n h = move_same (λ v. end_framed (plain_setup limits) (request y) v) (λ f b v. refl) limits x n h refl
+  -- what a move leaves as any pause does: what a note that isn't a pause may tell of no pause
+  move_same : {A : Type 0} (F : Past → A) → ((f : FlowId) (b : BufferId) (h : Past) → F (Noted (note.Pause f b) ∷ h) ≡ F h) → F (move_of x n ∷ h) ≡ F h → F after ≡ F h
+  move_same F same e = ap F move_onto ∙ pauses_leave F same due (move_of x n ∷ h) ∙ e
 
-pub move_must : (limits : PlainLimits) (x y n : ℕ) (h : History NoMark) → plain_must_end y (onto (move_notes limits x n h) h) ≡ plain_must_end y h
-move_must limits x y n h = move_same (λ v. plain_must_end y v) (λ f b v. refl) limits x n h refl
+  pub move_ended : (y : ℕ) → plain_ended y after ≡ plain_ended y h
+  move_ended y = move_same (λ v. plain_ended y v) (λ f b v. refl) refl
 
-pub move_paired : (limits : PlainLimits) (x y n : ℕ) (h : History NoMark) → paired_with y (onto (move_notes limits x n h) h) ≡ paired_with y h
-move_paired limits x y n h = move_same (λ v. paired_with y v) (λ f b v. refl) limits x n h refl
+  pub move_end_framed : (y : ℕ) → end_out limits y after ≡ end_out limits y h
+  move_end_framed y = move_same (λ v. end_out limits y v) (λ f b v. refl) refl
 
-pub move_before : (limits : PlainLimits) (x n : ℕ) (h : History NoMark) → before_dispatch (onto (move_notes limits x n h) h) ≡ before_dispatch h
-move_before limits x n h = move_same (λ v. before_dispatch v) (λ f b v. refl) limits x n h refl
+  pub move_must : (y : ℕ) → plain_must_end y after ≡ plain_must_end y h
+  move_must y = move_same (λ v. plain_must_end y v) (λ f b v. refl) refl
 
-pub move_framed_last : (limits : PlainLimits) (x n : ℕ) (h : History NoMark) → framed_last (plain_setup limits) 0 (onto (move_notes limits x n h) h) ≡ framed_last (plain_setup limits) 0 h
-move_framed_last limits x n h = move_same (λ v. framed_last (plain_setup limits) 0 v) (λ f b v. refl) limits x n h refl
+  pub move_paired : (y : ℕ) → paired_with y after ≡ paired_with y h
+  move_paired y = move_same (λ v. paired_with y v) (λ f b v. refl) refl
 
-pub move_resumed : (limits : PlainLimits) (x y n : ℕ) (h : History NoMark) → resumes (request y) (onto (move_notes limits x n h) h) ≡ resumes (request y) h
-move_resumed limits x y n h = move_same (λ v. resumes (request y) v) (λ f b v. refl) limits x n h refl
+  pub move_before : before_dispatch after ≡ before_dispatch h
+  move_before = move_same (λ v. before_dispatch v) (λ f b v. refl) refl
 
-pub move_paused : (limits : PlainLimits) (x y n : ℕ) (h : History NoMark) → pauses (request y) (onto (move_notes limits x n h) h)
-    ≡ one_if ((x == y) && rises_at (plain_setup limits) (buffer.Send (request x)) (Noted (note.Move (request x) 0 n)) h) + pauses (request y) h
-move_paused limits x y n h =
-    let rises = rises_at (plain_setup limits) (buffer.Send (request x)) (Noted (note.Move (request x) 0 n)) h in
-    moved limits x n h (λ v. pauses (request y) v ≡ one_if ((x == y) && rises) + pauses (request y) h)
-    (pauses_written y (move_due limits x n h) (Noted (note.Move (request x) 0 n) ∷ h)
-    ∙ ap (λ k. k + pauses (request y) h) (times rises (x == y) refl))
-  where
-    times : (r b : Bool) → (x == y) ≡ b → owed_times y (due_if r (buffer.Send (request x)) (x ∷ [])) ≡ one_if (b && r)
-    times r true e = let P : ℕ → Type 0 = λ v. owed_times v (due_if r (buffer.Send (request x)) (x ∷ [])) ≡ one_if r in subst P (number_is x y e) (owed_one r (buffer.Send (request x)) x)
-    times r false e = owed_none r (buffer.Send (request x)) x y e
+  pub move_framed_last : last_out limits after ≡ last_out limits h
+  move_framed_last = move_same (λ v. last_out limits v) (λ f b v. refl) refl
+
+  pub move_resumed : (y : ℕ) → resumes (request y) after ≡ resumes (request y) h
+  move_resumed y = move_same (λ v. resumes (request y) v) (λ f b v. refl) refl
+
+  pub move_paused : (y : ℕ) → pauses (request y) after ≡ one_if ((x == y) && send_rises limits x (move_of x n) h) + pauses (request y) h
+  move_paused y =
+      let rises = send_rises limits x (move_of x n) h in
+      moved (λ v. pauses (request y) v ≡ one_if ((x == y) && rises) + pauses (request y) h)
+      (pauses_written y due (move_of x n ∷ h) ∙ ap (λ k. k + pauses (request y) h) (times rises (x == y) refl))
+    where
+      times : (r b : Bool) → (x == y) ≡ b → owed_times y (due_if r (buffer.Send (request x)) (x ∷ [])) ≡ one_if (b && r)
+      times r true e = subst (λ (v : ℕ). owed_times v (due_if r (buffer.Send (request x)) (x ∷ [])) ≡ one_if r) (number_is x y e) (owed_one r (buffer.Send (request x)) x)
+      times r false e = owed_none r (buffer.Send (request x)) x y e
 
 -- ---- a frame
 
-abbrev frame_due : PlainLimits → ℕ → ℕ → Bool → History NoMark → List Owed
-frame_due limits x n last h = due_if (rises_at (plain_setup limits) (buffer.Write 0) (Noted (note.Frame 0 (request x) n last)) h) (buffer.Write 0) (live h)
+abbrev frame_due : PlainLimits → ℕ → ℕ → Bool → Past → List Owed
+frame_due limits x n last h = due_if (conn_rises limits (frame_of x n last) h) (buffer.Write 0) (live h)
 
-frame_onto : (limits : PlainLimits) (x n : ℕ) (last : Bool) (h : History NoMark)
-    → onto (frame_notes limits x n last h) h ≡ onto (drain_notes limits x n last h) (onto (pause_notes (frame_due limits x n last h)) (Noted (note.Frame 0 (request x) n last) ∷ h))
-frame_onto limits x n last h =
-    onto_append (rise_notes limits x n last h) (drain_notes limits x n last h) (Noted (note.Frame 0 (request x) n last) ∷ h)
-    ∙ ap (λ (ns : List Note). onto (drain_notes limits x n last h) (onto ns (Noted (note.Frame 0 (request x) n last) ∷ h))) (many_pauses (buffer.Write 0) (live h) _ _ refl)
+module _ (limits : PlainLimits) (x n : ℕ) (last : Bool) (h : Past) where
+  abbrev behind : Past
+  behind = past_frame limits x n last h
 
-framed : (limits : PlainLimits) (x n : ℕ) (last : Bool) (h : History NoMark) (P : History NoMark → Type 0)
-    → P (onto (drain_notes limits x n last h) (onto (pause_notes (frame_due limits x n last h)) (Noted (note.Frame 0 (request x) n last) ∷ h))) → P (onto (frame_notes limits x n last h) h)
-framed limits x n last h P p = subst P (sym (frame_onto limits x n last h)) p
+  abbrev step : Step NoMark
+  step = frame_of x n last
 
--- what pauses and resumes leave, a frame's notes leave as the frame did
-pub frame_same : {A : Type 0} (F : History NoMark → A) → ((f : FlowId) (b : BufferId) (h : History NoMark) → F (Noted (note.Pause f b) ∷ h) ≡ F h)
-    → ((f g : FlowId) (h : History NoMark) → F (Noted (note.Resume f (buffer.Send g)) ∷ h) ≡ F h)
-    → (limits : PlainLimits) (x n : ℕ) (last : Bool) (h : History NoMark) → F (onto (frame_notes limits x n last h) h) ≡ F (Noted (note.Frame 0 (request x) n last) ∷ h)
-frame_same F same again limits x n last h =
-    ap F (frame_onto limits x n last h)
-    ∙ drained (drains_at (plain_setup limits) (buffer.Send (request x)) (Noted (note.Frame 0 (request x) n last)) h) (onto (pause_notes (frame_due limits x n last h)) (Noted (note.Frame 0 (request x) n last) ∷ h))
-    ∙ pauses_leave F same (frame_due limits x n last h) (Noted (note.Frame 0 (request x) n last) ∷ h)
-  where
-    drained : (b : Bool) (g : History NoMark) → F (onto (if b then note.Resume (request x) (buffer.Send (request x)) ∷ [] else []) g) ≡ F g
-    drained true g = again (request x) (request x) g
-    drained false g = refl
+  -- with its pauses, before the resume of its own low
+  abbrev paused : Past
+  paused = onto (pause_notes (frame_due limits x n last h)) (step ∷ h)
 
-pub frame_recv : (limits : PlainLimits) (x n : ℕ) (last : Bool) (h : History NoMark)
-    → place (plain_setup limits) (request x) 0 (onto (frame_notes limits x n last h) h) ≡ place (plain_setup limits) (request x) 0 h
-frame_recv limits x n last h = frame_same (λ v. place (plain_setup limits) (request x) 0 v) (λ f b v. refl) (λ f g v. refl) limits x n last h ∙ recv_frame limits x n last h
+  frame_onto : behind ≡ onto (drain_notes limits x n last h) paused
+  frame_onto =
+      onto_append (rise_notes limits x n last h) (drain_notes limits x n last h) (step ∷ h)
+      ∙ ap (λ (ns : List Note). onto (drain_notes limits x n last h) (onto ns (step ∷ h))) (many_pauses (buffer.Write 0) (live h) _ _ refl)
 
-pub frame_send : (limits : PlainLimits) (x n : ℕ) (last : Bool) (h : History NoMark)
-    → place (plain_setup limits) (request x) 1 (onto (frame_notes limits x n last h) h) ≡ drop n (place (plain_setup limits) (request x) 1 h)
-frame_send limits x n last h = frame_same (λ v. place (plain_setup limits) (request x) 1 v) (λ f b v. refl) (λ f g v. refl) limits x n last h ∙ send_frame limits x n last h
+  framed : (P : Past → Type 0) → P (onto (drain_notes limits x n last h) paused) → P behind
+  framed P p = subst P (sym frame_onto) p
 
-pub frame_high : (limits : PlainLimits) (x n : ℕ) (last : Bool) (h : History NoMark) → above (plain_setup limits) (buffer.Send (request x)) (onto (frame_notes limits x n last h) h)
-    ≡ above_after limits.send (above (plain_setup limits) (buffer.Send (request x)) h) (length (drop n (place (plain_setup limits) (request x) 1 h)))
-frame_high limits x n last h =
-    frame_same (λ v. above (plain_setup limits) (buffer.Send (request x)) v) (λ f b v. send_same limits (request x) (Noted (note.Pause f b)) v refl)
-    (λ f g v. send_same limits (request x) (Noted (note.Resume f (buffer.Send g))) v refl) limits x n last h
-    ∙ ap (λ (o : List ℕ). above_after limits.send (above (plain_setup limits) (buffer.Send (request x)) h) (length o)) (send_frame limits x n last h)
+  -- what pauses and resumes leave, a frame's notes leave as the frame did
+  frame_same : {A : Type 0} (F : Past → A) → ((f : FlowId) (b : BufferId) (h : Past) → F (Noted (note.Pause f b) ∷ h) ≡ F h)
+      → ((f g : FlowId) (h : Past) → F (Noted (note.Resume f (buffer.Send g)) ∷ h) ≡ F h) → F behind ≡ F (step ∷ h)
+  frame_same F same again =
+      ap F frame_onto ∙ drained (send_drains limits x step h) paused ∙ pauses_leave F same (frame_due limits x n last h) (step ∷ h)
+    where
+      drained : (b : Bool) (g : Past) → F (onto (if b then note.Resume (request x) (buffer.Send (request x)) ∷ [] else []) g) ≡ F g
+      drained true g = again (request x) (request x) g
+      drained false g = refl
 
-pub frame_out : (limits : PlainLimits) (x n : ℕ) (last : Bool) (h : History NoMark) → out (plain_setup limits) 0 (onto (frame_notes limits x n last h) h)
-    ≡ out (plain_setup limits) 0 h ++ (data_head x n last ++ take n (place (plain_setup limits) (request x) 1 h))
-frame_out limits x n last h =
-    frame_same (λ v. out (plain_setup limits) 0 v) (λ f b v. refl) (λ f g v. refl) limits x n last h
+  pub frame_recv : recv_at limits x behind ≡ recv_at limits x h
+  frame_recv = frame_same (λ v. recv_at limits x v) (λ f b v. refl) (λ f g v. refl) ∙ recv_frame limits x n last h
 
-pub frame_write_high : (limits : PlainLimits) (x n : ℕ) (last : Bool) (h : History NoMark) → above (plain_setup limits) (buffer.Write 0) (onto (frame_notes limits x n last h) h)
-    ≡ above_after limits.write (above (plain_setup limits) (buffer.Write 0) h)
-    (length (out (plain_setup limits) 0 h ++ (data_head x n last ++ take n (place (plain_setup limits) (request x) 1 h))))
-frame_write_high limits x n last h =
-    frame_same (λ v. above (plain_setup limits) (buffer.Write 0) v) (λ f b v. write_same limits (Noted (note.Pause f b)) v refl)
-    (λ f g v. write_same limits (Noted (note.Resume f (buffer.Send g))) v refl) limits x n last h
+  pub frame_send : send_at limits x behind ≡ drop n (send_at limits x h)
+  frame_send = frame_same (λ v. send_at limits x v) (λ f b v. refl) (λ f g v. refl) ∙ send_frame limits x n last h
 
-pub frame_write_lows : (limits : PlainLimits) (x n : ℕ) (last : Bool) (h : History NoMark)
-    → pending_lows (plain_setup limits) (buffer.Write 0) (onto (frame_notes limits x n last h) h) ≡ pending_lows (plain_setup limits) (buffer.Write 0) h
-frame_write_lows limits x n last h =
-    frame_same (λ v. pending_lows (plain_setup limits) (buffer.Write 0) v) (λ f b v. refl) (λ f g v. refl) limits x n last h
-    ∙ append-nil (pending_lows (plain_setup limits) (buffer.Write 0) h)
+  pub frame_high : send_high limits x behind ≡ above_after limits.send (send_high limits x h) (length (drop n (send_at limits x h)))
+  frame_high =
+      frame_same (λ v. send_high limits x v) (λ f b v. send_same limits (request x) (Noted (note.Pause f b)) v refl) (λ f g v. send_same limits (request x) (Noted (note.Resume f (buffer.Send g))) v refl)
+      ∙ ap (λ (o : List ℕ). above_after limits.send (send_high limits x h) (length o)) (send_frame limits x n last h)
 
-pub frame_keeps : (limits : PlainLimits) (x y n : ℕ) (last : Bool) (h : History NoMark) → (x == y) ≡ false → KeepsStream limits y h (onto (frame_notes limits x n last h) h)
-frame_keeps limits x y n last h d =
-    let step : Step NoMark = Noted (note.Frame 0 (request x) n last) in
-    let h1 = onto (pause_notes (frame_due limits x n last h)) (step ∷ h) in
-    framed limits x n last h (λ v. KeepsStream limits y h v)
-    (stream_more limits y h h1 _
-    (stream_more limits y h (step ∷ h) h1 (keeps_stream limits y step h (frame_leaves limits x y n last h d) refl refl) (pauses_keep limits y (frame_due limits x n last h) (step ∷ h)))
-    (drained (drains_at (plain_setup limits) (buffer.Send (request x)) step h) h1))
-  where
-    drained : (b : Bool) (g : History NoMark) → KeepsStream limits y g (onto (if b then note.Resume (request x) (buffer.Send (request x)) ∷ [] else []) g)
-    drained true g = resume_keeps limits y (request x) (buffer.Send (request x)) g
-    drained false g = record { recv = refl; send = refl; high = refl; ended = refl; framed = refl; pairs = refl; recv_most = refl; send_most = refl }
+  pub frame_out : conn_out limits behind ≡ conn_out limits h ++ (data_head x n last ++ take n (send_at limits x h))
+  frame_out = frame_same (λ v. conn_out limits v) (λ f b v. refl) (λ f g v. refl)
 
-pub frame_keeps_lists : (limits : PlainLimits) (x n : ℕ) (last : Bool) (h : History NoMark) → KeepsLists h (onto (frame_notes limits x n last h) h)
-frame_keeps_lists limits x n last h = record {
-  lives = frame_same (λ v. live v) (λ f b v. refl) (λ f g v. refl) limits x n last h;
-  begun = frame_same (λ v. started v) (λ f b v. refl) (λ f g v. refl) limits x n last h;
-  doomed = frame_same (λ v. condemned v) (λ f b v. refl) (λ f g v. refl) limits x n last h;
-  numbers = frame_same (λ v. turns v) (λ f b v. refl) (λ f g v. refl) limits x n last h;
-  events = frame_same (λ v. events_back v) (λ f b v. refl) (λ f g v. refl) limits x n last h;
-}
+  pub frame_write_high : conn_high limits behind ≡ above_after limits.write (conn_high limits h) (length (conn_out limits h ++ (data_head x n last ++ take n (send_at limits x h))))
+  frame_write_high =
+      frame_same (λ v. conn_high limits v) (λ f b v. write_same limits (Noted (note.Pause f b)) v refl) (λ f g v. write_same limits (Noted (note.Resume f (buffer.Send g))) v refl)
 
-pub frame_framed_last : (limits : PlainLimits) (x n : ℕ) (last : Bool) (h : History NoMark) → framed_last (plain_setup limits) 0 (onto (frame_notes limits x n last h) h) ≡ x
-frame_framed_last limits x n last h = frame_same (λ v. framed_last (plain_setup limits) 0 v) (λ f b v. refl) (λ f g v. refl) limits x n last h
+  pub frame_write_lows : conn_lows limits behind ≡ conn_lows limits h
+  frame_write_lows = frame_same (λ v. conn_lows limits v) (λ f b v. refl) (λ f g v. refl) ∙ append-nil (conn_lows limits h)
 
-pub frame_ended : (limits : PlainLimits) (x y n : ℕ) (last : Bool) (h : History NoMark) → plain_ended y (onto (frame_notes limits x n last h) h) ≡ plain_ended y h
-frame_ended limits x y n last h = frame_same (λ v. plain_ended y v) (λ f b v. refl) (λ f g v. refl) limits x n last h
+  pub frame_keeps : (y : ℕ) → (x == y) ≡ false → KeepsStream limits y h behind
+  frame_keeps y d =
+      framed (λ v. KeepsStream limits y h v)
+      (stream_more limits y h paused _
+      (stream_more limits y h (step ∷ h) paused (keeps_stream limits y step h (frame_leaves limits x y n last h d) refl refl) (pauses_keep limits y (frame_due limits x n last h) (step ∷ h)))
+      (drained (send_drains limits x step h) paused))
+    where
+      drained : (b : Bool) (g : Past) → KeepsStream limits y g (onto (if b then note.Resume (request x) (buffer.Send (request x)) ∷ [] else []) g)
+      drained true g = resume_keeps limits y (request x) (buffer.Send (request x)) g
+      drained false g = record { recv = refl; send = refl; high = refl; ended = refl; framed = refl; pairs = refl; recv_most = refl; send_most = refl }
 
-pub frame_paired : (limits : PlainLimits) (x y n : ℕ) (last : Bool) (h : History NoMark) → paired_with y (onto (frame_notes limits x n last h) h) ≡ paired_with y h
-frame_paired limits x y n last h = frame_same (λ v. paired_with y v) (λ f b v. refl) (λ f g v. refl) limits x n last h
+  pub frame_keeps_lists : KeepsLists h behind
+  frame_keeps_lists = record {
+    lives = frame_same (λ v. live v) (λ f b v. refl) (λ f g v. refl);
+    begun = frame_same (λ v. started v) (λ f b v. refl) (λ f g v. refl);
+    doomed = frame_same (λ v. condemned v) (λ f b v. refl) (λ f g v. refl);
+    numbers = frame_same (λ v. turns v) (λ f b v. refl) (λ f g v. refl);
+    events = frame_same (λ v. events_back v) (λ f b v. refl) (λ f g v. refl);
+  }
 
-pub frame_end_framed : (limits : PlainLimits) (x n : ℕ) (last : Bool) (h : History NoMark)
-    → end_framed (plain_setup limits) (request x) (onto (frame_notes limits x n last h) h) ≡ (last || end_framed (plain_setup limits) (request x) h)
-frame_end_framed limits x n last h =
-    frame_same (λ v. end_framed (plain_setup limits) (request x) v) (λ f b v. refl) (λ f g v. refl) limits x n last h ∙ end_frame limits x n last h
+  pub frame_framed_last : last_out limits behind ≡ x
+  frame_framed_last = frame_same (λ v. last_out limits v) (λ f b v. refl) (λ f g v. refl)
 
-pub frame_before : (limits : PlainLimits) (x n : ℕ) (last : Bool) (h : History NoMark) → before_dispatch (onto (frame_notes limits x n last h) h) ≡ before_dispatch h
-frame_before limits x n last h = frame_same (λ v. before_dispatch v) (λ f b v. refl) (λ f g v. refl) limits x n last h
+  pub frame_ended : (y : ℕ) → plain_ended y behind ≡ plain_ended y h
+  frame_ended y = frame_same (λ v. plain_ended y v) (λ f b v. refl) (λ f g v. refl)
 
-pub frame_must : (limits : PlainLimits) (x y n : ℕ) (last : Bool) (h : History NoMark) → plain_must_end y (onto (frame_notes limits x n last h) h)
-    ≡ plain_must_end y (Noted (note.Frame 0 (request x) n last) ∷ h)
-frame_must limits x y n last h = frame_same (λ v. plain_must_end y v) (λ f b v. refl) (λ f g v. refl) limits x n last h
+  pub frame_paired : (y : ℕ) → paired_with y behind ≡ paired_with y h
+  frame_paired y = frame_same (λ v. paired_with y v) (λ f b v. refl) (λ f g v. refl)
 
--- each live stream is paused where the write buffer rises
-pub frame_paused : (limits : PlainLimits) (x y n : ℕ) (last : Bool) (h : History NoMark) → IsRising (live h) → has (live h) y ≡ true
-    → pauses (request y) (onto (frame_notes limits x n last h) h) ≡ one_if (rises_at (plain_setup limits) (buffer.Write 0) (Noted (note.Frame 0 (request x) n last)) h) + pauses (request y) h
-frame_paused limits x y n last h r is =
-    let step : Step NoMark = Noted (note.Frame 0 (request x) n last) in
-    framed limits x n last h (λ v. pauses (request y) v ≡ one_if (rises_at (plain_setup limits) (buffer.Write 0) step h) + pauses (request y) h)
-    (drained (drains_at (plain_setup limits) (buffer.Send (request x)) step h) _ ∙ pauses_written y (frame_due limits x n last h) (step ∷ h)
-    ∙ ap (λ k. k + pauses (request y) h) (owed_if (rises_at (plain_setup limits) (buffer.Write 0) step h) (buffer.Write 0) (live h) y r is))
-  where
-    drained : (b : Bool) (g : History NoMark) → pauses (request y) (onto (if b then note.Resume (request x) (buffer.Send (request x)) ∷ [] else []) g) ≡ pauses (request y) g
-    drained true g = refl
-    drained false g = refl
+  pub frame_end_framed : end_out limits x behind ≡ (last || end_out limits x h)
+  frame_end_framed = frame_same (λ v. end_out limits x v) (λ f b v. refl) (λ f g v. refl) ∙ end_frame limits x n last h
 
--- and the stream itself is resumed where its send buffer drains
-pub frame_resumed : (limits : PlainLimits) (x y n : ℕ) (last : Bool) (h : History NoMark) → resumes (request y) (onto (frame_notes limits x n last h) h)
-    ≡ one_if ((x == y) && drains_at (plain_setup limits) (buffer.Send (request x)) (Noted (note.Frame 0 (request x) n last)) h) + resumes (request y) h
-frame_resumed limits x y n last h =
-    let step : Step NoMark = Noted (note.Frame 0 (request x) n last) in
-    let drains = drains_at (plain_setup limits) (buffer.Send (request x)) step h in
-    framed limits x n last h (λ v. resumes (request y) v ≡ one_if ((x == y) && drains) + resumes (request y) h)
-    (drained drains _ ∙ ap (λ k. one_if ((x == y) && drains) + k) (pauses_leave (λ v. resumes (request y) v) (λ f b v. refl) (frame_due limits x n last h) (step ∷ h)))
-  where
-    neither : (b : Bool) (n : ℕ) → n ≡ one_if (b && false) + n
-    neither true n = omega arith
-    neither false n = omega arith
+  pub frame_before : before_dispatch behind ≡ before_dispatch h
+  frame_before = frame_same (λ v. before_dispatch v) (λ f b v. refl) (λ f g v. refl)
 
-    drained : (b : Bool) (g : History NoMark)
-        → resumes (request y) (onto (if b then note.Resume (request x) (buffer.Send (request x)) ∷ [] else []) g) ≡ one_if ((x == y) && b) + resumes (request y) g
-    drained true g = refl
-    drained false g = neither (x == y) (resumes (request y) g)
+  pub frame_must : (y : ℕ) → plain_must_end y behind ≡ plain_must_end y (step ∷ h)
+  frame_must y = frame_same (λ v. plain_must_end y v) (λ f b v. refl) (λ f g v. refl)
 
--- where the frame is the last, the end of the stream was framed, in this dispatch
-pub frame_here : (limits : PlainLimits) (x n : ℕ) (last : Bool) (h : History NoMark) → Settled limits h → has (live h) x ≡ true
-    → end_framed (plain_setup limits) (request x) (before_dispatch (onto (frame_notes limits x n last h) h)) ≡ false
-frame_here limits x n last h s is = ap (λ (v : History NoMark). end_framed (plain_setup limits) (request x) v) (frame_before limits x n last h) ∙ (s.regular.books.each x is).unframed
+  -- each live stream is paused where the write buffer rises
+  pub frame_paused : (y : ℕ) → IsRising (live h) → Alive h y → pauses (request y) behind ≡ one_if (conn_rises limits step h) + pauses (request y) h
+  frame_paused y r is =
+      framed (λ v. pauses (request y) v ≡ one_if (conn_rises limits step h) + pauses (request y) h)
+      (drained (send_drains limits x step h) _ ∙ pauses_written y (frame_due limits x n last h) (step ∷ h)
+      ∙ ap (λ k. k + pauses (request y) h) (owed_if (conn_rises limits step h) (buffer.Write 0) (live h) y r is))
+    where
+      drained : (b : Bool) (g : Past) → pauses (request y) (onto (if b then note.Resume (request x) (buffer.Send (request x)) ∷ [] else []) g) ≡ pauses (request y) g
+      drained true g = refl
+      drained false g = refl
+
+  -- and the stream itself is resumed where its send buffer drains
+  pub frame_resumed : (y : ℕ) → resumes (request y) behind ≡ one_if ((x == y) && send_drains limits x step h) + resumes (request y) h
+  frame_resumed y =
+      let drains = send_drains limits x step h in
+      framed (λ v. resumes (request y) v ≡ one_if ((x == y) && drains) + resumes (request y) h)
+      (drained drains _ ∙ ap (λ k. one_if ((x == y) && drains) + k) (pauses_leave (λ v. resumes (request y) v) (λ f b v. refl) (frame_due limits x n last h) (step ∷ h)))
+    where
+      neither : (b : Bool) (n : ℕ) → n ≡ one_if (b && false) + n
+      neither true n = omega arith
+      neither false n = omega arith
+
+      drained : (b : Bool) (g : Past)
+          → resumes (request y) (onto (if b then note.Resume (request x) (buffer.Send (request x)) ∷ [] else []) g) ≡ one_if ((x == y) && b) + resumes (request y) g
+      drained true g = refl
+      drained false g = neither (x == y) (resumes (request y) g)
+
+  -- where the frame is the last, the end of the stream was framed, in this dispatch
+  pub frame_here : Settled limits h → Alive h x → end_out limits x (before_dispatch behind) ≡ false
+  frame_here s is = ap (λ (v : Past). end_out limits x v) frame_before ∙ (s.regular.books.each x is).unframed

@@ -3,12 +3,10 @@ use Rattle.flow_gate.specs.declared.ids.FlowId.{FlowId}
 use Rattle.plain_laws.specs.Owing.{owed_times}
 use Rattle.std.proofs.Common.{arith, refl}
 use Rattle.std.specs.Prelude.{Bool, List, [], count_by, false, if◌then◌else◌, true, ℕ, ◌+◌, ◌∷◌, ◌≡◌}
+use Rattle.plain_laws.specs.Words.{Past, conn_high, conn_lows, disabled_at, lows_at, lows_of, send_high}
 use Rattle.tape_laws.specs.Flows.{request, same_flow}
-use Rattle.tape_laws.specs.History.{History, NoMark, Step}
-use Rattle.tape_laws.specs.Pauses.{Owed, lows, pauses, pending_lows, resumes}
-use Rattle.tape_laws.specs.Plain.{plain_setup}
-use Rattle.tape_laws.specs.Sources.{disabled}
-use Rattle.tape_laws.specs.Watermark.{above}
+use Rattle.tape_laws.specs.History.{NoMark, Step}
+use Rattle.tape_laws.specs.Pauses.{Owed, pauses, resumes}
 use Rattle.tape_laws.specs.declared.limits.PlainLimits.{PlainLimits}
 use Rattle.flow_gate.specs.declared.ids.BufferId.TheVariants as buffer
 
@@ -16,21 +14,21 @@ abbrev pub one_if : Bool → ℕ
 one_if b = if b then 1 else 0
 
 -- whether the stream's send buffer is above, and the write buffer
-abbrev pub send_flag : PlainLimits → ℕ → History NoMark → ℕ
-send_flag limits x h = one_if (above (plain_setup limits) (buffer.Send (request x)) h)
+abbrev pub send_flag : PlainLimits → ℕ → Past → ℕ
+send_flag limits x h = one_if (send_high limits x h)
 
-abbrev pub write_flag : PlainLimits → History NoMark → ℕ
-write_flag limits h = one_if (above (plain_setup limits) (buffer.Write 0) h)
+abbrev pub write_flag : PlainLimits → Past → ℕ
+write_flag limits h = one_if (conn_high limits h)
 
 -- how often it is to be told of either
 abbrev pub told_of : ℕ → List FlowId → ℕ
 told_of x fs = count_by (same_flow (request x)) fs
 
-abbrev pub send_left : PlainLimits → ℕ → History NoMark → ℕ
-send_left limits x h = told_of x (pending_lows (plain_setup limits) (buffer.Send (request x)) h)
+abbrev pub send_left : PlainLimits → ℕ → Past → ℕ
+send_left limits x h = told_of x (lows_of limits x h)
 
-abbrev pub write_left : PlainLimits → ℕ → History NoMark → ℕ
-write_left limits x h = told_of x (pending_lows (plain_setup limits) (buffer.Write 0) h)
+abbrev pub write_left : PlainLimits → ℕ → Past → ℕ
+write_left limits x h = told_of x (conn_lows limits h)
 
 both_flags : (a w : Bool) → count_by (λ (b : Bool). b) (a ∷ w ∷ []) ≡ one_if a + one_if w
 both_flags true true = refl
@@ -38,27 +36,28 @@ both_flags true false = refl
 both_flags false true = refl
 both_flags false false = refl
 
-pub disabled_is : (limits : PlainLimits) (x : ℕ) (h : History NoMark) → disabled (plain_setup limits) (request x) h ≡ send_flag limits x h + write_flag limits h
-disabled_is limits x h = both_flags (above (plain_setup limits) (buffer.Send (request x)) h) (above (plain_setup limits) (buffer.Write 0) h)
+module _ (limits : PlainLimits) (x : ℕ) (h : Past) where
+  pub disabled_is : disabled_at limits x h ≡ send_flag limits x h + write_flag limits h
+  disabled_is = both_flags (send_high limits x h) (conn_high limits h)
 
-pub lows_are : (limits : PlainLimits) (x : ℕ) (h : History NoMark) → lows (plain_setup limits) (request x) h ≡ send_left limits x h + write_left limits x h
-lows_are limits x h = two (send_left limits x h) (write_left limits x h)
-  where
-    two : (a b : ℕ) → 0 + a + b ≡ a + b
-    two a b = omega arith
+  pub lows_are : lows_at limits x h ≡ send_left limits x h + write_left limits x h
+  lows_are = two (send_left limits x h) (write_left limits x h)
+    where
+      two : (a b : ℕ) → 0 + a + b ≡ a + b
+      two a b = omega arith
 
 stepped : (p o r d l a w s m p' o' r' d' l' a' w' s' m' : ℕ) → d ≡ a + w → l ≡ s + m → d' ≡ a' + w' → l' ≡ s' + m'
     → (p' + o') + (r + ((a + w) + (s + m))) ≡ (p + o) + (r' + ((a' + w') + (s' + m'))) → p + o ≡ r + (d + l) → p' + o' ≡ r' + (d' + l')
 stepped p o r d l a w s m p' o' r' d' l' a' w' s' m' e f e' f' g t = omega arith
 
 -- what a step adds to either side of the tally is the same
-pub flow_tally : (limits : PlainLimits) (due due' : List Owed) (x : ℕ) (step : Step NoMark) (h : History NoMark)
+pub flow_tally : (limits : PlainLimits) (due due' : List Owed) (x : ℕ) (step : Step NoMark) (h : Past)
     → (pauses (request x) (step ∷ h) + owed_times x due')
     + (resumes (request x) h + ((send_flag limits x h + write_flag limits h) + (send_left limits x h + write_left limits x h)))
     ≡ (pauses (request x) h + owed_times x due)
     + (resumes (request x) (step ∷ h) + ((send_flag limits x (step ∷ h) + write_flag limits (step ∷ h)) + (send_left limits x (step ∷ h) + write_left limits x (step ∷ h))))
-    → pauses (request x) h + owed_times x due ≡ resumes (request x) h + (disabled (plain_setup limits) (request x) h + lows (plain_setup limits) (request x) h)
+    → pauses (request x) h + owed_times x due ≡ resumes (request x) h + (disabled_at limits x h + lows_at limits x h)
     → pauses (request x) (step ∷ h) + owed_times x due'
-    ≡ resumes (request x) (step ∷ h) + (disabled (plain_setup limits) (request x) (step ∷ h) + lows (plain_setup limits) (request x) (step ∷ h))
+    ≡ resumes (request x) (step ∷ h) + (disabled_at limits x (step ∷ h) + lows_at limits x (step ∷ h))
 flow_tally limits due due' x step h e t =
     stepped _ _ _ _ _ _ _ _ _ _ _ _ _ _ _ _ _ _ (disabled_is limits x h) (lows_are limits x h) (disabled_is limits x (step ∷ h)) (lows_are limits x (step ∷ h)) e t

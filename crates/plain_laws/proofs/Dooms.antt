@@ -1,9 +1,10 @@
 -- A stream is doomed.
+use Rattle.plain_laws.specs.Words.{Past, Alive, conn_lows, conn_out, end_out, lows_of, send_high, turn_of}
 use Rattle.tape_laws.specs.Doomed.{is_swept}
 use Rattle.flow_gate.specs.declared.ids.FlowId.{FlowId}
 use Rattle.flow_notes.specs.declared.notes.Cause.{Cause}
 use Rattle.plain_laws.proofs.Extending.{MayAdd, counted_of, free_meets, nothing_owed, one_owed, regular_more}
-use Rattle.plain_laws.proofs.Leaving.{Leaves, flow_other, only_other, same_len_if, unborn_kept}
+use Rattle.plain_laws.proofs.Leaving.{Leaves, flow_other, only_other, room_kept, unborn_kept}
 use Rattle.plain_laws.proofs.Rising.{rising_filter}
 use Rattle.plain_laws.proofs.Streams.{apart_from, by_case, differs_back, has_left, has_lost, has_stays, not_both, number_is, or_left, or_right, same_number}
 use Rattle.plain_laws.proofs.Tellings.{told_without}
@@ -12,25 +13,24 @@ use Rattle.plain_laws.specs.Regular.{Books, FlowBooks, IsLiveFlow, IsRising, Reg
 use Rattle.std.proofs.Common.{ap, inl, inr, refl, subst, sym, ◌∙◌}
 use Rattle.std.specs.Bool.{OnTrue}
 use Rattle.std.specs.List.{AllByRecursion, list_any}
-use Rattle.std.specs.Prelude.{Bool, List, [], drop, false, filter, if◌then◌else◌, map, max, nat_lt, not, true, ℕ, ◌&&◌, ◌+◌, ◌==◌, ◌||◌, ◌∷◌, ◌≡◌, ◌⊎◌}
+use Rattle.std.specs.Prelude.{Bool, List, [], drop, false, filter, if◌then◌else◌, map, not, true, ℕ, ◌&&◌, ◌==◌, ◌||◌, ◌∷◌, ◌≡◌, ◌⊎◌}
 use Rattle.tape_laws.specs.Causes.{MayDoom, end_framed_here}
 use Rattle.tape_laws.specs.Demands.{MeetsFirst, is_at_once, obligations}
 use Rattle.tape_laws.specs.Dispatches.{before_dispatch, has, live, started}
-use Rattle.tape_laws.specs.Ends.{end_framed}
 use Rattle.tape_laws.specs.Flows.{request}
-use Rattle.tape_laws.specs.History.{History, NoMark, Noted, Step}
-use Rattle.tape_laws.specs.Pauses.{Heads, pending_lows}
+use Rattle.tape_laws.specs.History.{NoMark, Noted, Step}
+use Rattle.tape_laws.specs.Pauses.{Heads}
 use Rattle.tape_laws.specs.Plain.{paired_with, plain_setup}
 use Rattle.tape_laws.specs.PlainSession.{plain_session}
 use Rattle.tape_laws.specs.Units.{Demand, WantsDoom}
-use Rattle.tape_laws.specs.Watermark.{above}
-use Rattle.tape_laws.specs.World.{out}
 use Rattle.tape_laws.specs.declared.limits.PlainLimits.{PlainLimits}
 use Rattle.flow_gate.specs.declared.ids.BufferId.TheVariants as buffer
 use Rattle.flow_notes.specs.declared.events.Event.TheVariants as event
 use Rattle.flow_notes.specs.declared.events.PlainEvent.TheVariants as plain
 use Rattle.flow_notes.specs.declared.notes.Cause.TheVariants as cause
 use Rattle.flow_notes.specs.declared.notes.Note.TheVariants as note
+use Rattle.plain_laws.proofs.Streams.{or_true as later}
+use Rattle.plain_laws.proofs.Quiets.{on_true as under}
 
 -- ---- lists without the flow of x
 
@@ -64,8 +64,8 @@ without_live x xs (f ∷ fs) a = pick (f.exchange == x) refl (without_live x xs 
 
 -- ---- the other streams
 
-pub doom_leaves : (limits : PlainLimits) (x y : ℕ) (why : Cause) (h : History NoMark) → (x == y) ≡ false
-    → without x (pending_lows (plain_setup limits) (buffer.Send (request y)) h) ≡ pending_lows (plain_setup limits) (buffer.Send (request y)) h
+pub doom_leaves : (limits : PlainLimits) (x y : ℕ) (why : Cause) (h : Past) → (x == y) ≡ false
+    → without x (lows_of limits y h) ≡ lows_of limits y h
     → Leaves limits y (Noted (note.Doom x why)) h
 doom_leaves limits x y why h e el = record {
   recv = rw (differs_back x y e) refl;
@@ -79,26 +79,26 @@ doom_leaves limits x y why h e el = record {
 }
 
 -- its own lows aren't those of x
-pub lows_stay : (limits : PlainLimits) (o : Owing) (x y : ℕ) (h : History NoMark) → (x == y) ≡ false → FlowBooks limits o y h
-    → without x (pending_lows (plain_setup limits) (buffer.Send (request y)) h) ≡ pending_lows (plain_setup limits) (buffer.Send (request y)) h
+pub lows_stay : (limits : PlainLimits) (o : Owing) (x y : ℕ) (h : Past) → (x == y) ≡ false → FlowBooks limits o y h
+    → without x (lows_of limits y h) ≡ lows_of limits y h
 lows_stay limits o x y h d f = pick f.send_low
   where
-    pick : (pending_lows (plain_setup limits) (buffer.Send (request y)) h ≡ [])
-        ⊎ ((pending_lows (plain_setup limits) (buffer.Send (request y)) h ≡ request y ∷ []) × (above (plain_setup limits) (buffer.Send (request y)) h ≡ false))
-        → without x (pending_lows (plain_setup limits) (buffer.Send (request y)) h) ≡ pending_lows (plain_setup limits) (buffer.Send (request y)) h
+    pick : (lows_of limits y h ≡ [])
+        ⊎ ((lows_of limits y h ≡ request y ∷ []) × (send_high limits y h ≡ false))
+        → without x (lows_of limits y h) ≡ lows_of limits y h
     pick (inl e) = ap (without x) e ∙ sym e
     pick (inr e) = ap (without x) e.0 ∙ without_other x y d ∙ sym e.0
 
-pub lows_vanish : (limits : PlainLimits) (o : Owing) (x : ℕ) (h : History NoMark) → FlowBooks limits o x h → without x (pending_lows (plain_setup limits) (buffer.Send (request x)) h) ≡ []
+pub lows_vanish : (limits : PlainLimits) (o : Owing) (x : ℕ) (h : Past) → FlowBooks limits o x h → without x (lows_of limits x h) ≡ []
 lows_vanish limits o x h f = pick f.send_low
   where
-    pick : (pending_lows (plain_setup limits) (buffer.Send (request x)) h ≡ [])
-        ⊎ ((pending_lows (plain_setup limits) (buffer.Send (request x)) h ≡ request x ∷ []) × (above (plain_setup limits) (buffer.Send (request x)) h ≡ false))
-        → without x (pending_lows (plain_setup limits) (buffer.Send (request x)) h) ≡ []
+    pick : (lows_of limits x h ≡ [])
+        ⊎ ((lows_of limits x h ≡ request x ∷ []) × (send_high limits x h ≡ false))
+        → without x (lows_of limits x h) ≡ []
     pick (inl e) = ap (without x) e
     pick (inr e) = ap (without x) e.0 ∙ without_own x
 
-doom_may : (limits : PlainLimits) (o : Owing) (x : ℕ) (why : Cause) (h : History NoMark) → Books limits o h → is_swept h ≡ false → OwesDoom x why h o → has (live h) x ≡ true
+doom_may : (limits : PlainLimits) (o : Owing) (x : ℕ) (why : Cause) (h : Past) → Books limits o h → is_swept h ≡ false → OwesDoom x why h o → Alive h x
     → MayDoom (plain_setup limits) x why h → MayAdd limits (note.Doom x why) h
 doom_may limits o x why h s fresh ow is may = record {
   allowed = tt;
@@ -117,11 +117,7 @@ doom_may limits o x why h s fresh ow is may = record {
     meets : ((o.asks ≡ []) × (is_at_once why ≡ false)) ⊎ (o.asks ≡ WantsDoom x why ∷ [])
         → MeetsFirst {Mark = NoMark} (plain_setup limits) (obligations (plain_session limits) h) (Noted (note.Doom x why))
     meets (inl e) = free_meets limits _ (note.Doom x why) (s.asks ∙ e.0) tt
-    meets (inr e) = let P : List Demand → Type 0 = λ ds. MeetsFirst {Mark = NoMark} (plain_setup limits) ds (Noted (note.Doom x why)) in subst P (sym (s.asks ∙ e)) refl
-
-    under : (b : Bool) (A : Type 0) → A → OnTrue b A
-    under true A a = a
-    under false A a = tt
+    meets (inr e) = subst (λ (ds : List Demand). MeetsFirst {Mark = NoMark} (plain_setup limits) ds (Noted (note.Doom x why))) (sym (s.asks ∙ e)) refl
 
     never : (b : Bool) (A : Type 0) → b ≡ false → OnTrue b A
     never true A e = cc
@@ -130,34 +126,34 @@ doom_may limits o x why h s fresh ow is may = record {
     asked : ((o.asks ≡ []) × (is_at_once why ≡ false)) ⊎ (o.asks ≡ WantsDoom x why ∷ [])
         → OnTrue (is_at_once why) (Heads (WantsDoom x why) (obligations (plain_session limits) h))
     asked (inl e) = never (is_at_once why) _ e.1
-    asked (inr e) = let P : List Demand → Type 0 = Heads (WantsDoom x why) in under (is_at_once why) _ (subst P (sym (s.asks ∙ e)) refl)
+    asked (inr e) = under (is_at_once why) _ (subst (Heads (WantsDoom x why)) (sym (s.asks ∙ e)) refl)
 
-doom_books : (limits : PlainLimits) (o : Owing) (x : ℕ) (why : Cause) (h : History NoMark) → Books limits o h → OwesDoom x why h o → has (live h) x ≡ true
+doom_books : (limits : PlainLimits) (o : Owing) (x : ℕ) (why : Cause) (h : Past) → Books limits o h → OwesDoom x why h o → Alive h x
     → Books limits nothing (Noted (note.Doom x why) ∷ h)
 doom_books limits o x why h s ow is =
     let step : Step NoMark = Noted (note.Doom x why) in
-    let out_same : out (plain_setup limits) 0 (step ∷ h) ≡ out (plain_setup limits) 0 h = refl in
+    let out_same : conn_out limits (step ∷ h) ≡ conn_out limits h = refl in
     record {
       due = refl;
       asks = met ow.asks;
       opened = s.opened;
       known = s.known;
       unclosed = s.unclosed;
-      write_room = same_len_if (nat_lt 0 limits.write) _ _ (limits.write + max 65536 (limits.quantum + 9)) out_same s.write_room;
+      write_room = room_kept limits out_same s.write_room;
       rising = rising_filter (λ y. not (y == x)) (live h) s.rising;
       born = λ y e. s.born y (has_left (live h) x y e).0;
       said = λ y. s.said y ∙ ap (λ b. b || has (started h) y) (unstarting y ow.asks);
       each = λ y e. let k = has_left (live h) x y e in let f = s.each y k.0 in
           flow_other limits o nothing y step h (doom_leaves limits x y why h k.1 (lows_stay limits o x y h k.1 f)) f out_same
-          (told_without x y (pending_lows (plain_setup limits) (buffer.Write 0) h) k.1) (sym (ap (owed_times y) ow.due)) (sym (ow.extra y k.0 k.1)) f.unframed;
+          (told_without x y (conn_lows limits h) k.1) (sym (ap (owed_times y) ow.due)) (sym (ow.extra y k.0 k.1)) f.unframed;
       unborn = λ y e. let d = apart_from (started h) x y (s.born x is) e in
           let quiet = s.hushed y (never_live y e) in
           unborn_kept limits y step h (doom_leaves limits x y why h d (ap (without x) quiet ∙ sym quiet)) (record { ended = refl; pairs = refl; must = refl }) (s.unborn y e);
       owed = tt;
       write_lows = without_live x (live h) _ s.write_lows;
-      write_once = subst IsRising (sym (without_exchanges x (pending_lows (plain_setup limits) (buffer.Write 0) h))) (rising_filter (λ y. not (y == x)) _ s.write_once);
+      write_once = subst IsRising (sym (without_exchanges x (conn_lows limits h))) (rising_filter (λ y. not (y == x)) _ s.write_once);
       hushed = λ y e. by_case (x == y)
-          (λ t. let P : ℕ → Type 0 = λ v. without x (pending_lows (plain_setup limits) (buffer.Send (request v)) h) ≡ [] in subst P (number_is x y t) (lows_vanish limits o x h (s.each x is)))
+          (λ t. subst (λ (v : ℕ). without x (lows_of limits v h) ≡ []) (number_is x y t) (lows_vanish limits o x h (s.each x is)))
           (λ d. ap (without x) (s.hushed y (has_lost (live h) x y e d)));
     }
   where
@@ -172,31 +168,32 @@ doom_books limits o x why h s ow is =
     never_live : (y : ℕ) → has (started h) y ≡ false → has (live h) y ≡ false
     never_live y e = by_case (has (live h) y) (λ t. not_both (has (started h) y) (s.born y t) e) (λ f. f)
 
-pub doom_regular : (limits : PlainLimits) (owing : Owing) (x : ℕ) (why : Cause) (h : History NoMark) → Regular limits owing h → is_swept h ≡ false → OwesDoom x why h owing → has (live h) x ≡ true
+pub doom_regular : (limits : PlainLimits) (owing : Owing) (x : ℕ) (why : Cause) (h : Past) → Regular limits owing h → is_swept h ≡ false → OwesDoom x why h owing → Alive h x
     → MayDoom (plain_setup limits) x why h → Regular limits nothing (Noted (note.Doom x why) ∷ h)
 doom_regular limits owing x why h r fresh o is may =
     regular_more limits owing nothing (note.Doom x why) h r (doom_may limits owing x why h r.books fresh o is may) (doom_books limits owing x why h r.books o is)
 
-pub asks_doom : (x : ℕ) (why : Cause) (h : History NoMark) → OwesDoom x why h (asking (WantsDoom x why ∷ []))
-asks_doom x why h = record { due = refl; asks = inr refl; extra = λ y e d. refl }
+module _ (x : ℕ) (why : Cause) (h : Past) where
+  pub asks_doom : OwesDoom x why h (asking (WantsDoom x why ∷ []))
+  asks_doom = record { due = refl; asks = inr refl; extra = λ y e d. refl }
 
-pub owes_none : (x : ℕ) (why : Cause) (h : History NoMark) → is_at_once why ≡ false → OwesDoom x why h nothing
-owes_none x why h e = record { due = refl; asks = inl (refl, e); extra = λ y e d. refl }
+  pub owes_none : is_at_once why ≡ false → OwesDoom x why h nothing
+  owes_none e = record { due = refl; asks = inl (refl, e); extra = λ y e d. refl }
 
 -- the stream was reset
-pub doom_cut : (limits : PlainLimits) (k x : ℕ) (h : History NoMark) → Regular limits (asking (WantsDoom x (cause.PeerReset 8) ∷ [])) (Noted (note.Turn k (event.Plain (plain.Cut x))) ∷ h)
-    → has (live h) x ≡ true → Regular limits nothing (Noted (note.Doom x (cause.PeerReset 8)) ∷ Noted (note.Turn k (event.Plain (plain.Cut x))) ∷ h)
-doom_cut limits k x h r is =
-    let before = Noted (note.Turn k (event.Plain (plain.Cut x))) ∷ h in
-    doom_regular limits (asking (WantsDoom x (cause.PeerReset 8) ∷ [])) x (cause.PeerReset 8) before r refl (asks_doom x (cause.PeerReset 8) before) is tt
+module _ (limits : PlainLimits) (k x : ℕ) where
+  pub doom_cut : (h : Past) → Regular limits (asking (WantsDoom x (cause.PeerReset 8) ∷ [])) (turn_of k (plain.Cut x) ∷ h)
+      → Alive h x → Regular limits nothing (Noted (note.Doom x (cause.PeerReset 8)) ∷ turn_of k (plain.Cut x) ∷ h)
+  doom_cut h r is =
+      let before = turn_of k (plain.Cut x) ∷ h in
+      doom_regular limits (asking (WantsDoom x (cause.PeerReset 8) ∷ [])) x (cause.PeerReset 8) before r refl (asks_doom x (cause.PeerReset 8) before) is tt
 
--- more came than it may hold
-pub doom_over : (limits : PlainLimits) (k x : ℕ) (octets : List ℕ) (h : History NoMark)
-    → Regular limits (overrun x octets) (Noted (note.Turn k (event.Plain (plain.Body x octets))) ∷ h) → has (live h) x ≡ true
-    → Regular limits nothing (Noted (note.Doom x (cause.StreamError 3)) ∷ Noted (note.Turn k (event.Plain (plain.Body x octets))) ∷ h)
-doom_over limits k x octets h r is =
-    let before = Noted (note.Turn k (event.Plain (plain.Body x octets))) ∷ h in
-    doom_regular limits (overrun x octets) x (cause.StreamError 3) before r refl (record { due = refl; asks = inr refl; extra = λ y e d. only_other x y octets d }) is tt
+  -- more came than it may hold
+  pub doom_over : (octets : List ℕ) (h : Past) → Regular limits (overrun x octets) (turn_of k (plain.Body x octets) ∷ h) → Alive h x
+      → Regular limits nothing (Noted (note.Doom x (cause.StreamError 3)) ∷ turn_of k (plain.Body x octets) ∷ h)
+  doom_over octets h r is =
+      let before = turn_of k (plain.Body x octets) ∷ h in
+      doom_regular limits (overrun x octets) x (cause.StreamError 3) before r refl (record { due = refl; asks = inr refl; extra = λ y e d. only_other x y octets d }) is tt
 
 here : (a b : Bool) → a ≡ true → b ≡ false → (a && not b) ≡ true
 here true true e f = cc
@@ -204,25 +201,21 @@ here true false e f = refl
 here false b e f = cc
 
 -- its end was framed
-pub doom_done : (limits : PlainLimits) (x : ℕ) (h : History NoMark) → Regular limits nothing h → is_swept h ≡ false → has (live h) x ≡ true → end_framed (plain_setup limits) (request x) h ≡ true
+pub doom_done : (limits : PlainLimits) (x : ℕ) (h : Past) → Regular limits nothing h → is_swept h ≡ false → Alive h x → end_out limits x h ≡ true
     → Regular limits nothing (Noted (note.Doom x cause.Done) ∷ h)
 doom_done limits x h r fresh is e =
     doom_regular limits nothing x cause.Done h r fresh (owes_none x cause.Done h refl) is (here _ _ e (r.books.each x is).unframed)
 
 -- in this dispatch that of a stream was whose end dooms it
-pub doom_early : (limits : PlainLimits) (s x : ℕ) (h : History NoMark) → Regular limits nothing h → is_swept h ≡ false → has (live h) x ≡ true → has (paired_with x h) s ≡ true
-    → end_framed (plain_setup limits) (request s) h ≡ true → end_framed (plain_setup limits) (request s) (before_dispatch h) ≡ false
+pub doom_early : (limits : PlainLimits) (s x : ℕ) (h : Past) → Regular limits nothing h → is_swept h ≡ false → Alive h x → has (paired_with x h) s ≡ true
+    → end_out limits s h ≡ true → end_out limits s (before_dispatch h) ≡ false
     → Regular limits nothing (Noted (note.Doom x cause.EarlyEnd) ∷ h)
 doom_early limits s x h r fresh is pair e before =
     doom_regular limits nothing x cause.EarlyEnd h r fresh (owes_none x cause.EarlyEnd h refl) is
     (some (λ y. end_framed_here (plain_setup limits) (request y) h) (paired_with x h) s pair (here _ _ e before))
   where
-    later : (a b : Bool) → (a || b) ≡ true → a ≡ false → b ≡ true
-    later true b e f = cc
-    later false b e f = e
-
     some : (p : ℕ → Bool) (xs : List ℕ) (s : ℕ) → has xs s ≡ true → p s ≡ true → list_any p xs ≡ true
     some p [] s e t = cc
     some p (y ∷ ys) s e t =
-        by_case (y == s) (λ u. let P : ℕ → Type 0 = λ v. p v ≡ true in or_left (p y) _ (subst P (sym (number_is y s u)) t))
+        by_case (y == s) (λ u. or_left (p y) _ (subst (λ (v : ℕ). p v ≡ true) (sym (number_is y s u)) t))
         (λ d. or_right (p y) _ (some p ys s (later (y == s) (has ys s) e d) t))

@@ -9,14 +9,14 @@ use Rattle.std.proofs.Math.Seq.{take-append_seam}
 use Rattle.std.specs.Bool.{OnTrue}
 use Rattle.std.specs.List.{AllByRecursion}
 use Rattle.std.specs.Prelude.{Bool, List, [], drop, false, length, max, nat_lt, true, ℕ, ◌++◌, ◌+◌, ◌-◌, ◌∷◌, ◌≡◌, ◌≤◌}
+use Rattle.plain_laws.specs.Words.{Past, Alive, disabled_at, lows_at}
 use Rattle.tape_laws.specs.Bounds.{IsBounded, StagesBounded}
 use Rattle.tape_laws.specs.Causes.{HasCause}
 use Rattle.tape_laws.specs.Demands.{Answers, MeetsFirst, OnlyAsked}
-use Rattle.tape_laws.specs.Dispatches.{has, live}
 use Rattle.tape_laws.specs.Doomed.{LeavesDoomed, SweepsLast}
-use Rattle.tape_laws.specs.Ends.{KeepsEnds}
+use Rattle.tape_laws.specs.Framing.{KeepsEnds}
 use Rattle.tape_laws.specs.Flows.{request}
-use Rattle.tape_laws.specs.History.{BeforeOthers, BeforeTurn, History, NoMark, Noted}
+use Rattle.tape_laws.specs.History.{BeforeOthers, BeforeTurn, NoMark, Noted}
 use Rattle.tape_laws.specs.Order.{InTurn}
 use Rattle.tape_laws.specs.Pauses.{IsCounted, PausesInOrder, count, lows, pauses, resumes}
 use Rattle.tape_laws.specs.Plain.{plain_body, plain_setup}
@@ -31,7 +31,7 @@ use Rattle.tape_laws.specs.World.{out, received, recv, send}
 use Rattle.tape_laws.specs.declared.limits.PlainLimits.{PlainLimits}
 
 -- the note may stand here, by each law that looks at what stood before it
-pub record MayAdd (limits : PlainLimits) (n : Note) (h : History NoMark) : Type 0 where
+pub record MayAdd (limits : PlainLimits) (n : Note) (h : Past) : Type 0 where
   pub allowed : MayStand (plain_setup limits) (Noted n) h
   pub paused : PausesInOrder (plain_setup limits) (Noted n) h
   pub counted : BeforeOthers (IsCounted (plain_setup limits)) (Noted n) h
@@ -44,7 +44,7 @@ pub record MayAdd (limits : PlainLimits) (n : Note) (h : History NoMark) : Type 
   pub quiet : BeforeTurn (IsQuiet (plain_session limits)) (Noted n) h
   pub licensed : HasCause (plain_setup limits) (Noted n) h
 
-lawful_more : (limits : PlainLimits) (n : Note) (h : History NoMark) → IsPlainLawful limits h → MayAdd limits n h
+lawful_more : (limits : PlainLimits) (n : Note) (h : Past) → IsPlainLawful limits h → MayAdd limits n h
     → IsBounded (plain_setup limits) (Noted n ∷ h) → IsTied (plain_setup limits) (Noted n ∷ h) → IsPlainLawful limits (Noted n ∷ h)
 lawful_more limits n h l m bounded tied = record {
   allowed = (m.allowed, l.allowed);
@@ -69,25 +69,24 @@ under_test true A B f a = f a
 under_test false A B f a = tt
 
 -- a fact under a test may be asked of each
-each_under : (limits : PlainLimits) (b : Bool) (P : FlowId → Type 0) (h : History NoMark) → ((x : ℕ) → has (live h) x ≡ true → OnTrue b (P (request x)))
+each_under : (limits : PlainLimits) (b : Bool) (P : FlowId → Type 0) (h : Past) → ((x : ℕ) → Alive h x → OnTrue b (P (request x)))
     → OnTrue b (EachLive (plain_setup limits) P h)
 each_under limits true P h f = each_live limits P h f
 each_under limits false P h f = tt
 
-pub bounded_of : (limits : PlainLimits) (o : Owing) (h : History NoMark) → Books limits o h → IsBounded (plain_setup limits) h
+pub bounded_of : (limits : PlainLimits) (o : Owing) (h : Past) → Books limits o h → IsBounded (plain_setup limits) h
 bounded_of limits o h s = record {
   recv = each_live limits (λ g. length (recv (plain_setup limits) g h) ≤ limits.recv) h (λ x e. (s.each x e).recv_room);
   stages = each_live limits (λ g. StagesBounded (plain_setup limits) g 1 [] h) h (λ x e. tt);
   send = each_under limits (nat_lt 0 limits.send) (λ g. length (send (plain_setup limits) g h) ≤ limits.send + limits.quantum) h (λ x e. (s.each x e).send_room);
-  write = let P : List ℕ → Type 0 = AllByRecursion (λ c. length (out (plain_setup limits) c h) ≤ limits.write + max 65536 (limits.quantum + 9)) in
-      under_test (nat_lt 0 limits.write) _ _ (λ le. subst P (sym s.known) (le, tt)) s.write_room;
+  write = under_test (nat_lt 0 limits.write) _ _ (λ le. subst (AllByRecursion (λ c. length (out (plain_setup limits) c h) ≤ limits.write + max 65536 (limits.quantum + 9))) (sym s.known) (le, tt)) s.write_room;
   together = tt;
 }
 
 front_of : (xs ys zs : List ℕ) → ys ≡ xs ++ zs → IsFront xs ys
 front_of xs ys zs e = rw e (take-append_seam xs zs)
 
-pub tied_of : (limits : PlainLimits) (o : Owing) (h : History NoMark) → Books limits o h → IsTied (plain_setup limits) h
+pub tied_of : (limits : PlainLimits) (o : Owing) (h : Past) → Books limits o h → IsTied (plain_setup limits) h
 tied_of limits o h s =
     each_live limits (λ g. IsFront (received g h) (plain_body g.exchange h)) h (λ x e. front_of _ _ (o.extra x) (s.each x e).read)
 
@@ -95,27 +94,28 @@ settled : (p r d l n : ℕ) → n ≡ 0 → p + n ≡ r + (d + l) → p - r ≡ 
 settled p r d l n e t = omega (arith, e, t)
 
 -- where no pause is due each count is that of its sources and lows
-pub count_is : (limits : PlainLimits) (o : Owing) (x : ℕ) (h : History NoMark) → FlowBooks limits o x h → o.due ≡ []
-    → count (request x) h ≡ disabled (plain_setup limits) (request x) h + lows (plain_setup limits) (request x) h
-count_is limits o x h f e =
-    settled (pauses (request x) h) (resumes (request x) h) (disabled (plain_setup limits) (request x) h) (lows (plain_setup limits) (request x) h)
-    (owed_times x o.due) (ap (owed_times x) e) f.tally
+module _ (limits : PlainLimits) (o : Owing) where
+  pub count_is : (x : ℕ) (h : Past) → FlowBooks limits o x h → o.due ≡ []
+      → count (request x) h ≡ disabled_at limits x h + lows_at limits x h
+  count_is x h f e =
+      settled (pauses (request x) h) (resumes (request x) h) (disabled_at limits x h) (lows_at limits x h)
+      (owed_times x o.due) (ap (owed_times x) e) f.tally
 
-pub counted_of : (limits : PlainLimits) (o : Owing) (h : History NoMark) → Books limits o h → o.due ≡ [] → IsCounted (plain_setup limits) h
-counted_of limits o h s e =
-    each_live limits (λ g. count g h ≡ disabled (plain_setup limits) g h + lows (plain_setup limits) g h) h (λ x is. count_is limits o x h (s.each x is) e)
+  pub counted_of : (h : Past) → Books limits o h → o.due ≡ [] → IsCounted (plain_setup limits) h
+  counted_of h s e =
+      each_live limits (λ g. count g h ≡ disabled (plain_setup limits) g h + lows (plain_setup limits) g h) h (λ x is. count_is x h (s.each x is) e)
 
-pub regular_more : (limits : PlainLimits) (o o' : Owing) (n : Note) (h : History NoMark) → Regular limits o h → MayAdd limits n h → Books limits o' (Noted n ∷ h)
-    → Regular limits o' (Noted n ∷ h)
-regular_more limits o o' n h r m s = record {
-  lawful = lawful_more limits n h r.lawful m (bounded_of limits o' (Noted n ∷ h) s) (tied_of limits o' (Noted n ∷ h) s);
-  books = s;
-}
+  pub regular_more : (o' : Owing) (n : Note) (h : Past) → Regular limits o h → MayAdd limits n h → Books limits o' (Noted n ∷ h)
+      → Regular limits o' (Noted n ∷ h)
+  regular_more o' n h r m s = record {
+    lawful = lawful_more limits n h r.lawful m (bounded_of limits o' (Noted n ∷ h) s) (tied_of limits o' (Noted n ∷ h) s);
+    books = s;
+  }
 
 -- where nothing is owed any note may stand
 pub free_meets : (limits : PlainLimits) (ds : List Demand) (n : Note) → ds ≡ [] → MeetsFirst {Mark = NoMark} (plain_setup limits) [] (Noted n)
     → MeetsFirst {Mark = NoMark} (plain_setup limits) ds (Noted n)
-free_meets limits ds n e m = let P : List Demand → Type 0 = λ v. MeetsFirst {Mark = NoMark} (plain_setup limits) v (Noted n) in subst P (sym e) m
+free_meets limits ds n e m = subst (λ (v : List Demand). MeetsFirst {Mark = NoMark} (plain_setup limits) v (Noted n)) (sym e) m
 
 -- what met the first that was owed leaves the rest, and asks for nothing
 pub nothing_owed : (ds : List Demand) → ds ≡ [] → drop 1 ds ≡ []

@@ -3,10 +3,11 @@ use Rattle.flow_gate.specs.declared.ids.FlowId.{FlowId}
 use Rattle.std.proofs.Common.{ap, arith, ◌∙◌}
 use Rattle.std.proofs.lemmas.Bool.Decides.{nat_tests}
 use Rattle.std.specs.Prelude.{Bool, List, [], false, length, true, ℕ, ◌<◌, ◌∷◌, ◌≡◌, ◌≤◌}
-use Rattle.tape_laws.specs.History.{History, NoMark, Step}
+use Rattle.plain_laws.specs.Words.{Past, conn_high, conn_out}
+use Rattle.tape_laws.specs.History.{NoMark, Step}
 use Rattle.tape_laws.specs.Plain.{plain_setup}
 use Rattle.tape_laws.specs.Watermark.{above}
-use Rattle.tape_laws.specs.World.{len, out, place}
+use Rattle.tape_laws.specs.World.{len, place}
 use Rattle.tape_laws.specs.declared.limits.PlainLimits.{PlainLimits}
 use Rattle.wm_buffer.specs.Watermark.{above_after}
 use Rattle.flow_gate.specs.declared.ids.BufferId.TheVariants as buffer
@@ -35,28 +36,25 @@ low_less l true n k h le = grind (arith, nat_tests)
 low_less l false n k h le = grind (arith, nat_tests)
 
 -- the flag follows from itself and the length now
-pub send_now : (limits : PlainLimits) (f : FlowId) (h : History NoMark)
-    → above_after limits.send (above (plain_setup limits) (buffer.Send f) h) (len (plain_setup limits) (buffer.Send f) h) ≡ above (plain_setup limits) (buffer.Send f) h
-send_now limits f [] = low_at_first limits.send
-send_now limits f (step ∷ h) = above_again limits.send (above (plain_setup limits) (buffer.Send f) h) (len (plain_setup limits) (buffer.Send f) (step ∷ h))
+module _ (limits : PlainLimits) where
+  pub send_now : (f : FlowId) (h : Past) → above_after limits.send (above (plain_setup limits) (buffer.Send f) h) (len (plain_setup limits) (buffer.Send f) h) ≡ above (plain_setup limits) (buffer.Send f) h
+  send_now f [] = low_at_first limits.send
+  send_now f (step ∷ h) = above_again limits.send (above (plain_setup limits) (buffer.Send f) h) (len (plain_setup limits) (buffer.Send f) (step ∷ h))
 
-pub write_now : (limits : PlainLimits) (h : History NoMark)
-    → above_after limits.write (above (plain_setup limits) (buffer.Write 0) h) (len (plain_setup limits) (buffer.Write 0) h) ≡ above (plain_setup limits) (buffer.Write 0) h
-write_now limits [] = low_at_first limits.write
-write_now limits (step ∷ h) = above_again limits.write (above (plain_setup limits) (buffer.Write 0) h) (len (plain_setup limits) (buffer.Write 0) (step ∷ h))
+  pub write_now : (h : Past) → above_after limits.write (conn_high limits h) (len (plain_setup limits) (buffer.Write 0) h) ≡ conn_high limits h
+  write_now [] = low_at_first limits.write
+  write_now (step ∷ h) = above_again limits.write (conn_high limits h) (len (plain_setup limits) (buffer.Write 0) (step ∷ h))
 
--- a step that keeps the contents keeps the flag
-pub send_same : (limits : PlainLimits) (f : FlowId) (step : Step NoMark) (h : History NoMark)
-    → place (plain_setup limits) f 1 (step ∷ h) ≡ place (plain_setup limits) f 1 h
-    → above (plain_setup limits) (buffer.Send f) (step ∷ h) ≡ above (plain_setup limits) (buffer.Send f) h
-send_same limits f step h e =
-    ap (λ (o : List ℕ). above_after limits.send (above (plain_setup limits) (buffer.Send f) h) (length o)) e ∙ send_now limits f h
+  -- a step that keeps the contents keeps the flag
+  pub send_same : (f : FlowId) (step : Step NoMark) (h : Past) → place (plain_setup limits) f 1 (step ∷ h) ≡ place (plain_setup limits) f 1 h
+      → above (plain_setup limits) (buffer.Send f) (step ∷ h) ≡ above (plain_setup limits) (buffer.Send f) h
+  send_same f step h e =
+      ap (λ (o : List ℕ). above_after limits.send (above (plain_setup limits) (buffer.Send f) h) (length o)) e ∙ send_now f h
 
-pub write_same : (limits : PlainLimits) (step : Step NoMark) (h : History NoMark)
-    → out (plain_setup limits) 0 (step ∷ h) ≡ out (plain_setup limits) 0 h
-    → above (plain_setup limits) (buffer.Write 0) (step ∷ h) ≡ above (plain_setup limits) (buffer.Write 0) h
-write_same limits step h e =
-    ap (λ (o : List ℕ). above_after limits.write (above (plain_setup limits) (buffer.Write 0) h) (length o)) e ∙ write_now limits h
+  pub write_same : (step : Step NoMark) (h : Past) → conn_out limits (step ∷ h) ≡ conn_out limits h
+      → conn_high limits (step ∷ h) ≡ conn_high limits h
+  write_same step h e =
+      ap (λ (o : List ℕ). above_after limits.write (conn_high limits h) (length o)) e ∙ write_now h
 
 -- a step that makes a buffer shorter doesn't make it rise
 pub no_rise : (l : ℕ) (w : Bool) (n k : ℕ) → above_after l w n ≡ w → k ≤ n → w ≡ false → above_after l w k ≡ false

@@ -7,23 +7,26 @@ use Rattle.std.proofs.Common.{ap, arith, refl, subst, sym, ◌∙◌}
 use Rattle.std.proofs.lemmas.Bool.Decides.{nat_tests}
 use Rattle.std.specs.List.{list_all}
 use Rattle.std.specs.Prelude.{Bool, List, [], false, if◌then◌else◌, nat_lt, not, true, ℕ, ◌&&◌, ◌++◌, ◌-◌, ◌<◌, ◌==◌, ◌||◌, ◌∷◌, ◌≡◌, ◌≤◌}
+use Rattle.plain_laws.specs.Words.{Past}
 use Rattle.tape_laws.specs.Dispatches.{events_back, has, started}
 use Rattle.tape_laws.specs.Following.{begun, cut, finished, is_flowing, may_follow, paired}
-use Rattle.tape_laws.specs.History.{History, NoMark, Noted}
+use Rattle.tape_laws.specs.History.{Noted}
 use Rattle.tape_laws.specs.Plain.{plain_ended}
 use Rattle.tape_laws.specs.declared.limits.PlainLimits.{PlainLimits}
 use Rattle.flow_notes.specs.declared.events.Event.TheVariants as event
 use Rattle.flow_notes.specs.declared.events.PlainEvent.TheVariants as plain
 use Rattle.flow_notes.specs.declared.notes.Note.TheVariants as note
+use Rattle.plain_laws.proofs.Streams.{or_true as later}
+use Rattle.plain_laws.proofs.Streams.{not_so}
 
 -- the end of a stream came where an event said so
-pub ended_is : (x : ℕ) (h : History NoMark) → plain_ended x h ≡ has (finished (events_back h)) x
+pub ended_is : (x : ℕ) (h : Past) → plain_ended x h ≡ has (finished (events_back h)) x
 ended_is x [] = refl
 ended_is x (Noted (note.Turn k (event.Plain (plain.Finish s))) ∷ past) = ap (λ b. (s == x) || b) (ended_is x past)
 ended_is x (step ∷ past) = ended_is x past
 
 -- a stream that has no pair yet has no seconds
-pub seconds_none : (s : ℕ) (h : History NoMark) → has (paired (events_back h)) s ≡ false → seconds s h ≡ []
+pub seconds_none : (s : ℕ) (h : Past) → has (paired (events_back h)) s ≡ false → seconds s h ≡ []
 seconds_none s [] e = refl
 seconds_none s (Noted (note.Turn k (event.Plain (plain.Pair first second))) ∷ past) e =
     let d = or_none (first == s) (has (paired (events_back past)) s) e in
@@ -31,67 +34,61 @@ seconds_none s (Noted (note.Turn k (event.Plain (plain.Pair first second))) ∷ 
 seconds_none s (step ∷ past) e = seconds_none s past e
 
 -- at rest the streams that the events began are those that were started
-pub begun_is : (limits : PlainLimits) (x : ℕ) (h : History NoMark) → Regular limits nothing h → has (begun (events_back h)) x ≡ has (started h) x
+pub begun_is : (limits : PlainLimits) (x : ℕ) (h : Past) → Regular limits nothing h → has (begun (events_back h)) x ≡ has (started h) x
 begun_is limits x h r = r.books.said x
-
-not_so : (b : Bool) → not b ≡ true → b ≡ false
-not_so true e = cc
-not_so false e = refl
 
 each_below : (s : ℕ) (xs : List ℕ) (y : ℕ) → list_all (λ t. nat_lt t s) xs ≡ true → has xs y ≡ true → y < s
 each_below s [] y a e = cc
 each_below s (x ∷ xs) y a e =
     let k = both_of (nat_lt x s) (list_all (λ t. nat_lt t s) xs) a in
-    by_case (x == y) (λ t. let P : ℕ → Type 0 = λ v. v < s in subst P (number_is x y t) (below x s k.0)) (λ d. each_below s xs y k.1 (later (x == y) (has xs y) e d))
+    by_case (x == y) (λ t. subst (λ (v : ℕ). v < s) (number_is x y t) (below x s k.0)) (λ d. each_below s xs y k.1 (later (x == y) (has xs y) e d))
   where
     below : (a b : ℕ) → nat_lt a b ≡ true → a < b
     below a b e = grind (arith, nat_tests)
 
-    later : (a b : Bool) → (a || b) ≡ true → a ≡ false → b ≡ true
-    later true b e f = cc
-    later false b e f = e
-
 -- a stream that may begin is above each that was started
-pub begin_above : (limits : PlainLimits) (s : ℕ) (h : History NoMark) → Regular limits nothing h → may_follow (events_back h) (plain.Begin s) ≡ true
-    → (y : ℕ) → has (started h) y ≡ true → y < s
-begin_above limits s h r m y e = each_below s (begun (events_back h)) y m (begun_is limits y h r ∙ e)
+module _ (limits : PlainLimits) (s : ℕ) (h : Past) where
+  pub begin_above : Regular limits nothing h → may_follow (events_back h) (plain.Begin s) ≡ true
+      → (y : ℕ) → has (started h) y ≡ true → y < s
+  begin_above r m y e = each_below s (begun (events_back h)) y m (begun_is limits y h r ∙ e)
 
-pub begin_most : (limits : PlainLimits) (s : ℕ) (h : History NoMark) → Regular limits nothing h → may_follow (events_back h) (plain.Begin s) ≡ true → AtMost (s - 1) (started h)
-begin_most limits s h r m = record { most = λ y e. less _ _ (begin_above limits s h r m y e) }
-  where
-    less : (a b : ℕ) → a < b → a ≤ b - 1
-    less a b e = omega arith
+  pub begin_most : Regular limits nothing h → may_follow (events_back h) (plain.Begin s) ≡ true → AtMost (s - 1) (started h)
+  begin_most r m = record { most = λ y e. less _ _ (begin_above r m y e) }
+    where
+      less : (a b : ℕ) → a < b → a ≤ b - 1
+      less a b e = omega arith
 
 -- octets and an end are of a stream that was started, whose end hasn't come
-pub record Flowing (s : ℕ) (h : History NoMark) : Type 0 where
+pub record Flowing (s : ℕ) (h : Past) : Type 0 where
   pub was : has (started h) s ≡ true
   pub goes_on : plain_ended s h ≡ false
 
-flowing : (limits : PlainLimits) (s : ℕ) (h : History NoMark) → Regular limits nothing h → is_flowing (events_back h) s ≡ true → Flowing s h
-flowing limits s h r m =
-    let es = events_back h in
-    let k = three (has (begun es) s) (not (has (finished es) s)) (not (has (cut es) s)) m in
-    record { was = sym (begun_is limits s h r) ∙ k.0; goes_on = ended_is s h ∙ not_so (has (finished es) s) k.1 }
-  where
-    three : (a b c : Bool) → (a && b && c) ≡ true → (a ≡ true) × (b ≡ true)
-    three true true c e = (refl, refl)
-    three true false c e = cc
-    three false b c e = cc
+module _ (limits : PlainLimits) (s : ℕ) where
+  flowing : (h : Past) → Regular limits nothing h → is_flowing (events_back h) s ≡ true → Flowing s h
+  flowing h r m =
+      let es = events_back h in
+      let k = three (has (begun es) s) (not (has (finished es) s)) (not (has (cut es) s)) m in
+      record { was = sym (begun_is limits s h r) ∙ k.0; goes_on = ended_is s h ∙ not_so (has (finished es) s) k.1 }
+    where
+      three : (a b c : Bool) → (a && b && c) ≡ true → (a ≡ true) × (b ≡ true)
+      three true true c e = (refl, refl)
+      three true false c e = cc
+      three false b c e = cc
 
-pub body_flowing : (limits : PlainLimits) (s : ℕ) (octets : List ℕ) (h : History NoMark) → Regular limits nothing h → may_follow (events_back h) (plain.Body s octets) ≡ true → Flowing s h
-body_flowing limits s octets h r m = flowing limits s h r m
+  pub body_flowing : (octets : List ℕ) (h : Past) → Regular limits nothing h → may_follow (events_back h) (plain.Body s octets) ≡ true → Flowing s h
+  body_flowing octets h r m = flowing h r m
 
-pub finish_flowing : (limits : PlainLimits) (s : ℕ) (h : History NoMark) → Regular limits nothing h → may_follow (events_back h) (plain.Finish s) ≡ true → Flowing s h
-finish_flowing limits s h r m = flowing limits s h r m
+  pub finish_flowing : (h : Past) → Regular limits nothing h → may_follow (events_back h) (plain.Finish s) ≡ true → Flowing s h
+  finish_flowing h r m = flowing h r m
 
 -- a pair is of two streams that were started, the first of which has no second yet
-pub record Pairable (s t : ℕ) (h : History NoMark) : Type 0 where
+pub record Pairable (s t : ℕ) (h : Past) : Type 0 where
   pub first : has (started h) s ≡ true
   pub second : has (started h) t ≡ true
   pub apart : (s == t) ≡ false
   pub none : seconds s h ≡ []
 
-pub pair_may : (limits : PlainLimits) (s t : ℕ) (h : History NoMark) → Regular limits nothing h → may_follow (events_back h) (plain.Pair s t) ≡ true → Pairable s t h
+pub pair_may : (limits : PlainLimits) (s t : ℕ) (h : Past) → Regular limits nothing h → may_follow (events_back h) (plain.Pair s t) ≡ true → Pairable s t h
 pair_may limits s t h r m =
     let es = events_back h in
     let k = four (has (begun es) s) (has (begun es) t) (s == t) (has (paired es) s) m in

@@ -2,21 +2,23 @@
 use Rattle.flow_gate.specs.declared.ids.BufferId.{BufferId}
 use Rattle.std.proofs.Common.{ap, arith, length-drop, ◌∙◌}
 use Rattle.std.specs.Prelude.{List, [], drop, length, ℕ, ◌-◌, ◌∷◌, ◌≡◌, ◌≤◌}
-use Rattle.tape_laws.specs.History.{History, NoMark, Step}
+use Rattle.plain_laws.specs.Words.{Past}
+use Rattle.tape_laws.specs.History.{NoMark, Step}
 use Rattle.tape_laws.specs.Plain.{plain_setup}
 use Rattle.tape_laws.specs.Summary.{peak}
 use Rattle.tape_laws.specs.World.{len}
 use Rattle.tape_laws.specs.declared.limits.PlainLimits.{PlainLimits}
 
 -- the peak of a buffer that a step made no longer
-pub peak_same : (limits : PlainLimits) (b : BufferId) (step : Step NoMark) (h : History NoMark) → len (plain_setup limits) b (step ∷ h) ≤ len (plain_setup limits) b h
-    → len {Mark = NoMark} (plain_setup limits) b [] ≡ 0 → peak (plain_setup limits) b (step ∷ h) ≡ peak (plain_setup limits) b h
-peak_same limits b step [] le z = omega (arith, le, z)
-peak_same limits b step (first ∷ h) le z = omega (arith, le)
+module _ (limits : PlainLimits) (b : BufferId) (step : Step NoMark) where
+  pub peak_same : (h : Past) → len (plain_setup limits) b (step ∷ h) ≤ len (plain_setup limits) b h
+      → len {Mark = NoMark} (plain_setup limits) b [] ≡ 0 → peak (plain_setup limits) b (step ∷ h) ≡ peak (plain_setup limits) b h
+  peak_same [] le z = omega (arith, le, z)
+  peak_same (first ∷ h) le z = omega (arith, le)
 
-pub peak_kept : (limits : PlainLimits) (b : BufferId) (step : Step NoMark) (h : History NoMark) → len (plain_setup limits) b (step ∷ h) ≡ len (plain_setup limits) b h
-    → len {Mark = NoMark} (plain_setup limits) b [] ≡ 0 → peak (plain_setup limits) b (step ∷ h) ≡ peak (plain_setup limits) b h
-peak_kept limits b step h e z = peak_same limits b step h (omega (arith, e)) z
+  pub peak_kept : (h : Past) → len (plain_setup limits) b (step ∷ h) ≡ len (plain_setup limits) b h
+      → len {Mark = NoMark} (plain_setup limits) b [] ≡ 0 → peak (plain_setup limits) b (step ∷ h) ≡ peak (plain_setup limits) b h
+  peak_kept h e z = peak_same h (omega (arith, e)) z
 
 -- a front that was dropped
 pub dropped : (n : ℕ) (xs ys : List ℕ) → xs ≡ drop n ys → length xs ≤ length ys

@@ -5,39 +5,40 @@ use Rattle.plain_laws.proofs.Flags.{send_same, write_same}
 use Rattle.plain_laws.proofs.Greatest.{peak_kept}
 use Rattle.plain_laws.proofs.Streams.{same_number}
 use Rattle.plain_laws.specs.Owing.{Owing, only, owed_times}
-use Rattle.plain_laws.specs.Regular.{FlowBooks, IsUnborn}
-use Rattle.std.proofs.Common.{ap, arith, inl, inr, refl, subst, sym, ◌∙◌}
+use Rattle.plain_laws.specs.Regular.{FlowBooks, IsUnborn, IsLiveFlow, IsRising}
+use Rattle.std.proofs.Common.{ap, arith, inl, inr, refl, subst, sym, ◌∙◌, map}
 use Rattle.std.specs.Bool.{OnTrue}
-use Rattle.std.specs.Prelude.{Bool, List, [], false, if◌then◌else◌, length, nat_lt, ℕ, ◌++◌, ◌+◌, ◌==◌, ◌∷◌, ◌≡◌, ◌≤◌, ◌⊎◌}
+use Rattle.std.specs.Prelude.{Bool, List, [], false, if◌then◌else◌, length, nat_lt, ℕ, ◌++◌, ◌+◌, ◌==◌, ◌∷◌, ◌≡◌, ◌≤◌, ◌⊎◌, max}
+use Rattle.plain_laws.specs.Words.{Past, conn_out, end_out, lows_of, recv_at, send_at, send_high}
 use Rattle.tape_laws.specs.Dispatches.{before_dispatch}
-use Rattle.tape_laws.specs.Ends.{end_framed}
 use Rattle.tape_laws.specs.Flows.{request}
-use Rattle.tape_laws.specs.History.{History, NoMark, Step}
-use Rattle.tape_laws.specs.Pauses.{pauses, pending_lows, resumes}
-use Rattle.tape_laws.specs.Plain.{paired_with, plain_body, plain_ended, plain_setup}
+use Rattle.tape_laws.specs.History.{NoMark, Step}
+use Rattle.tape_laws.specs.Pauses.{pauses, resumes}
+use Rattle.tape_laws.specs.Plain.{paired_with, plain_body, plain_ended}
 use Rattle.tape_laws.specs.PlainSession.{plain_must_end}
-use Rattle.tape_laws.specs.Watermark.{above}
-use Rattle.tape_laws.specs.World.{out, place, received}
+use Rattle.tape_laws.specs.World.{received}
 use Rattle.tape_laws.specs.declared.limits.PlainLimits.{PlainLimits}
 use Rattle.flow_gate.specs.declared.ids.BufferId.TheVariants as buffer
+use Rattle.std.specs.List.{AllByRecursion}
+use Rattle.flow_gate.specs.declared.ids.FlowId.{FlowId}
 
-pub record Leaves (limits : PlainLimits) (x : ℕ) (step : Step NoMark) (h : History NoMark) : Type 0 where
-  pub recv : place (plain_setup limits) (request x) 0 (step ∷ h) ≡ place (plain_setup limits) (request x) 0 h
-  pub send : place (plain_setup limits) (request x) 1 (step ∷ h) ≡ place (plain_setup limits) (request x) 1 h
-  pub send_lows : pending_lows (plain_setup limits) (buffer.Send (request x)) (step ∷ h) ≡ pending_lows (plain_setup limits) (buffer.Send (request x)) h
+pub record Leaves (limits : PlainLimits) (x : ℕ) (step : Step NoMark) (h : Past) : Type 0 where
+  pub recv : recv_at limits x (step ∷ h) ≡ recv_at limits x h
+  pub send : send_at limits x (step ∷ h) ≡ send_at limits x h
+  pub send_lows : lows_of limits x (step ∷ h) ≡ lows_of limits x h
   pub paused : pauses (request x) (step ∷ h) ≡ pauses (request x) h
   pub resumed : resumes (request x) (step ∷ h) ≡ resumes (request x) h
   pub body : plain_body x (step ∷ h) ≡ plain_body x h
   pub received : received (request x) (step ∷ h) ≡ received (request x) h
-  pub framed : end_framed (plain_setup limits) (request x) (step ∷ h) ≡ end_framed (plain_setup limits) (request x) h
+  pub framed : end_out limits x (step ∷ h) ≡ end_out limits x h
 
 -- and of what the events said of it
-pub record LeavesWords (x : ℕ) (step : Step NoMark) (h : History NoMark) : Type 0 where
+pub record LeavesWords (x : ℕ) (step : Step NoMark) (h : Past) : Type 0 where
   pub ended : plain_ended x (step ∷ h) ≡ plain_ended x h
   pub pairs : paired_with x (step ∷ h) ≡ paired_with x h
   pub must : plain_must_end x (step ∷ h) ≡ plain_must_end x h
 
-pub unborn_kept : (limits : PlainLimits) (x : ℕ) (step : Step NoMark) (h : History NoMark) → Leaves limits x step h → LeavesWords x step h → IsUnborn limits x h → IsUnborn limits x (step ∷ h)
+pub unborn_kept : (limits : PlainLimits) (x : ℕ) (step : Step NoMark) (h : Past) → Leaves limits x step h → LeavesWords x step h → IsUnborn limits x h → IsUnborn limits x (step ∷ h)
 unborn_kept limits x step h l w u = record {
   recv = l.recv ∙ u.recv;
   send = l.send ∙ u.send;
@@ -55,26 +56,36 @@ unborn_kept limits x step h l w u = record {
 }
 
 pub same_len : (xs ys : List ℕ) (n : ℕ) → xs ≡ ys → length ys ≤ n → length xs ≤ n
-same_len xs ys n e h = let P : List ℕ → Type 0 = λ v. length v ≤ n in subst P (sym e) h
+same_len xs ys n e h = subst (λ (v : List ℕ). length v ≤ n) (sym e) h
 
 pub same_len_if : (b : Bool) (xs ys : List ℕ) (n : ℕ) → xs ≡ ys → OnTrue b (length ys ≤ n) → OnTrue b (length xs ≤ n)
 same_len_if b xs ys n e t = under_test b (length ys ≤ n) (length xs ≤ n) (λ le. same_len xs ys n e le) t
 
+-- a write buffer that stays as it was is within its bound, and is to be told to the same flows, each once
+pub room_kept : (limits : PlainLimits) {xs ys : List ℕ} → xs ≡ ys → OnTrue (nat_lt 0 limits.write) (length ys ≤ limits.write + max 65536 (limits.quantum + 9)) → OnTrue (nat_lt 0 limits.write) (length xs ≤ limits.write + max 65536 (limits.quantum + 9))
+room_kept limits e t = same_len_if (nat_lt 0 limits.write) _ _ (limits.write + max 65536 (limits.quantum + 9)) e t
+
+pub lows_kept : (streams : List ℕ) {xs ys : List FlowId} → xs ≡ ys → AllByRecursion (IsLiveFlow streams) ys → AllByRecursion (IsLiveFlow streams) xs
+lows_kept streams e all = subst (AllByRecursion (IsLiveFlow streams)) (sym e) all
+
+pub once_kept : {xs ys : List FlowId} → xs ≡ ys → IsRising (map (λ f. f.exchange) ys) → IsRising (map (λ f. f.exchange) xs)
+once_kept e r = subst (λ (fs : List FlowId). IsRising (map (λ f. f.exchange) fs)) (sym e) r
+
 -- a send buffer that stays as it was is still to be told at most once
-pub send_low_kept : (limits : PlainLimits) (x : ℕ) (step : Step NoMark) (h : History NoMark)
-    → place (plain_setup limits) (request x) 1 (step ∷ h) ≡ place (plain_setup limits) (request x) 1 h
-    → pending_lows (plain_setup limits) (buffer.Send (request x)) (step ∷ h) ≡ pending_lows (plain_setup limits) (buffer.Send (request x)) h
-    → (pending_lows (plain_setup limits) (buffer.Send (request x)) h ≡ [])
-    ⊎ ((pending_lows (plain_setup limits) (buffer.Send (request x)) h ≡ request x ∷ []) × (above (plain_setup limits) (buffer.Send (request x)) h ≡ false))
-    → (pending_lows (plain_setup limits) (buffer.Send (request x)) (step ∷ h) ≡ [])
-    ⊎ ((pending_lows (plain_setup limits) (buffer.Send (request x)) (step ∷ h) ≡ request x ∷ []) × (above (plain_setup limits) (buffer.Send (request x)) (step ∷ h) ≡ false))
+pub send_low_kept : (limits : PlainLimits) (x : ℕ) (step : Step NoMark) (h : Past)
+    → send_at limits x (step ∷ h) ≡ send_at limits x h
+    → lows_of limits x (step ∷ h) ≡ lows_of limits x h
+    → (lows_of limits x h ≡ [])
+    ⊎ ((lows_of limits x h ≡ request x ∷ []) × (send_high limits x h ≡ false))
+    → (lows_of limits x (step ∷ h) ≡ [])
+    ⊎ ((lows_of limits x (step ∷ h) ≡ request x ∷ []) × (send_high limits x (step ∷ h) ≡ false))
 send_low_kept limits x step h es el (inl e) = inl (el ∙ e)
 send_low_kept limits x step h es el (inr e) = inr (el ∙ e.0, send_same limits (request x) step h es ∙ e.1)
 
 -- the books of a stream that the step isn't about: what the write buffer adds to its count is owed
-pub flow_kept : (limits : PlainLimits) (o o' : Owing) (x : ℕ) (step : Step NoMark) (h : History NoMark) → Leaves limits x step h → FlowBooks limits o x h
+pub flow_kept : (limits : PlainLimits) (o o' : Owing) (x : ℕ) (step : Step NoMark) (h : Past) → Leaves limits x step h → FlowBooks limits o x h
     → owed_times x o'.due + (write_flag limits h + write_left limits x h) ≡ owed_times x o.due + (write_flag limits (step ∷ h) + write_left limits x (step ∷ h))
-    → o'.extra x ≡ o.extra x → end_framed (plain_setup limits) (request x) (before_dispatch (step ∷ h)) ≡ false → FlowBooks limits o' x (step ∷ h)
+    → o'.extra x ≡ o.extra x → end_out limits x (before_dispatch (step ∷ h)) ≡ false → FlowBooks limits o' x (step ∷ h)
 flow_kept limits o o' x step h l f e extra before = record {
   tally = flow_tally limits o.due o'.due x step h
       (stepped _ _ _ _ _ _ _ _ _ _ _ _ _ _ l.paused l.resumed (ap one_if (send_same limits (request x) step h l.send)) (ap (told_of x) l.send_lows) e) f.tally;
@@ -94,9 +105,9 @@ flow_kept limits o o' x step h l f e extra before = record {
     rests r e r' e' er ee = rw (er, ee) refl
 
 -- where the write buffer stays as it was
-pub flow_other : (limits : PlainLimits) (o o' : Owing) (x : ℕ) (step : Step NoMark) (h : History NoMark) → Leaves limits x step h → FlowBooks limits o x h
-    → out (plain_setup limits) 0 (step ∷ h) ≡ out (plain_setup limits) 0 h → write_left limits x (step ∷ h) ≡ write_left limits x h
-    → owed_times x o'.due ≡ owed_times x o.due → o'.extra x ≡ o.extra x → end_framed (plain_setup limits) (request x) (before_dispatch (step ∷ h)) ≡ false
+pub flow_other : (limits : PlainLimits) (o o' : Owing) (x : ℕ) (step : Step NoMark) (h : Past) → Leaves limits x step h → FlowBooks limits o x h
+    → conn_out limits (step ∷ h) ≡ conn_out limits h → write_left limits x (step ∷ h) ≡ write_left limits x h
+    → owed_times x o'.due ≡ owed_times x o.due → o'.extra x ≡ o.extra x → end_out limits x (before_dispatch (step ∷ h)) ≡ false
     → FlowBooks limits o' x (step ∷ h)
 flow_other limits o o' x step h l f eo ew ed extra before =
     flow_kept limits o o' x step h l f (same _ _ _ _ _ _ ed (ap one_if (write_same limits step h eo)) ew) extra before

@@ -1,30 +1,28 @@
 -- A readable flow moves what its receive buffer may release.
+use Rattle.plain_laws.specs.Words.{Past, Alive, conn_high, conn_lows, conn_out, lows_of, move_of, recv_at, send_at, send_high}
 use Rattle.tape_laws.specs.Doomed.{is_swept}
-use Rattle.flow_gate.specs.declared.ids.FlowId.{FlowId}
 use Rattle.plain_laws.proofs.Counting.{disabled_is, flow_tally, lows_are, one_if, send_left, told_of, write_left}
 use Rattle.plain_laws.proofs.Extending.{MayAdd, count_is, counted_of, free_meets, nothing_owed, regular_more}
 use Rattle.plain_laws.proofs.Flags.{low_len, send_now, write_now, write_same}
-use Rattle.plain_laws.proofs.Leaving.{Leaves, flow_other, same_len_if, unborn_kept}
+use Rattle.plain_laws.proofs.Leaving.{Leaves, flow_other, lows_kept, once_kept, room_kept, unborn_kept}
 use Rattle.plain_laws.proofs.Rises.{low_rises, rise_due}
 use Rattle.plain_laws.proofs.Streams.{apart_from, flow_is_live, has_one, number_is, own_or_other, same_number}
 use Rattle.plain_laws.proofs.Tellings.{live_owed, owed_none, owed_one, told_own}
 use Rattle.plain_laws.proofs.Watching.{send_watchers}
 use Rattle.plain_laws.specs.Owing.{Owing, due_if, nothing, owed}
-use Rattle.plain_laws.specs.Regular.{Books, FlowBooks, IsLiveFlow, IsRising, Regular}
+use Rattle.plain_laws.specs.Regular.{Books, FlowBooks, Regular}
 use Rattle.std.proofs.Common.{ap, arith, inl, inr, length-append, length-drop, length-take, refl, subst, sym, ◌∙◌}
 use Rattle.std.proofs.lemmas.Bool.Decides.{nat_tests}
 use Rattle.std.proofs.lemmas.List.{append-nil}
 use Rattle.std.specs.Bool.{OnTrue}
-use Rattle.std.specs.List.{AllByRecursion}
-use Rattle.std.specs.Prelude.{Bool, List, None, Option, Some, [], drop, false, if◌then◌else◌, length, map, max, min, nat_lt, not, take, true, ℕ, ◌&&◌, ◌++◌, ◌+◌, ◌-◌, ◌<◌, ◌==◌, ◌||◌, ◌∷◌, ◌≡◌, ◌≤◌, ◌⊎◌}
-use Rattle.tape_laws.specs.Dispatches.{has, live, started}
+use Rattle.std.specs.Prelude.{Bool, List, None, Option, Some, [], drop, false, if◌then◌else◌, length, min, nat_lt, not, take, true, ℕ, ◌&&◌, ◌++◌, ◌+◌, ◌-◌, ◌<◌, ◌==◌, ◌||◌, ◌∷◌, ◌≡◌, ◌≤◌, ◌⊎◌}
+use Rattle.tape_laws.specs.Dispatches.{live, started}
 use Rattle.tape_laws.specs.Flows.{request}
-use Rattle.tape_laws.specs.History.{History, NoMark, Noted, Step}
-use Rattle.tape_laws.specs.Pauses.{count, pending_lows}
+use Rattle.tape_laws.specs.History.{NoMark, Step}
+use Rattle.tape_laws.specs.Pauses.{count}
 use Rattle.tape_laws.specs.Plain.{plain_setup}
 use Rattle.tape_laws.specs.Sources.{watchers}
-use Rattle.tape_laws.specs.Watermark.{above}
-use Rattle.tape_laws.specs.World.{len, out, place}
+use Rattle.tape_laws.specs.World.{len}
 use Rattle.tape_laws.specs.declared.limits.PlainLimits.{PlainLimits}
 use Rattle.flow_gate.specs.declared.ids.BufferId.TheVariants as buffer
 use Rattle.flow_notes.specs.declared.notes.Note.TheVariants as note
@@ -38,23 +36,24 @@ low_of false false s m e = (refl, refl, omega arith)
 sums_none : (c d l a w s m : ℕ) → c ≡ d + l → d ≡ a + w → l ≡ s + m → c ≡ 0 → (a + w) + (s + m) ≡ 0
 sums_none c d l a w s m e ed el z = omega arith
 
-readable_none : (limits : PlainLimits) (x : ℕ) (h : History NoMark) → FlowBooks limits nothing x h → count (request x) h ≡ 0
-    → (above (plain_setup limits) (buffer.Send (request x)) h ≡ false) × (above (plain_setup limits) (buffer.Write 0) h ≡ false) × (send_left limits x h ≡ 0)
-readable_none limits x h f z =
-    low_of _ _ (send_left limits x h) (write_left limits x h) (sums_none _ _ _ _ _ _ _ (count_is limits nothing x h f refl) (disabled_is limits x h) (lows_are limits x h) z)
+module _ (limits : PlainLimits) (x : ℕ) (h : Past) where
+  readable_none : FlowBooks limits nothing x h → count (request x) h ≡ 0
+      → (send_high limits x h ≡ false) × (conn_high limits h ≡ false) × (send_left limits x h ≡ 0)
+  readable_none f z =
+      low_of _ _ (send_left limits x h) (write_left limits x h) (sums_none _ _ _ _ _ _ _ (count_is limits nothing x h f refl) (disabled_is limits x h) (lows_are limits x h) z)
 
--- a readable flow has no source above, and nothing to be told
-pub readable_low : (limits : PlainLimits) (x : ℕ) (h : History NoMark) → Regular limits nothing h → has (live h) x ≡ true → count (request x) h ≡ 0
-    → (above (plain_setup limits) (buffer.Send (request x)) h ≡ false) × (above (plain_setup limits) (buffer.Write 0) h ≡ false)
-readable_low limits x h r is readable = let k = readable_none limits x h (r.books.each x is) readable in (k.0, k.1)
+  -- a readable flow has no source above, and nothing to be told
+  pub readable_low : Regular limits nothing h → Alive h x → count (request x) h ≡ 0
+      → (send_high limits x h ≡ false) × (conn_high limits h ≡ false)
+  readable_low r is readable = let k = readable_none (r.books.each x is) readable in (k.0, k.1)
 
 -- a send buffer that isn't to be told is empty of lows
-pub untold : (limits : PlainLimits) (o : Owing) (x : ℕ) (h : History NoMark) → FlowBooks limits o x h → send_left limits x h ≡ 0 → pending_lows (plain_setup limits) (buffer.Send (request x)) h ≡ []
+pub untold : (limits : PlainLimits) (o : Owing) (x : ℕ) (h : Past) → FlowBooks limits o x h → send_left limits x h ≡ 0 → lows_of limits x h ≡ []
 untold limits o x h f z = pick f.send_low z
   where
-    pick : (pending_lows (plain_setup limits) (buffer.Send (request x)) h ≡ [])
-        ⊎ ((pending_lows (plain_setup limits) (buffer.Send (request x)) h ≡ request x ∷ []) × (above (plain_setup limits) (buffer.Send (request x)) h ≡ false))
-        → send_left limits x h ≡ 0 → pending_lows (plain_setup limits) (buffer.Send (request x)) h ≡ []
+    pick : (lows_of limits x h ≡ [])
+        ⊎ ((lows_of limits x h ≡ request x ∷ []) × (send_high limits x h ≡ false))
+        → send_left limits x h ≡ 0 → lows_of limits x h ≡ []
     pick (inl e) z = e
     pick (inr e) z = absurd (one_isnt (told_of x (request x ∷ [])) (told_own x []) (sym (ap (told_of x) e.0) ∙ z))
       where
@@ -71,15 +70,15 @@ first_place b = if b then Some 0 else None
 positive : (n : ℕ) → 0 < n → nat_lt 0 n ≡ true
 positive n e = grind (arith, nat_tests)
 
-move_may : (limits : PlainLimits) (x n : ℕ) (h : History NoMark) → Books limits nothing h → is_swept h ≡ false → has (live h) x ≡ true → count (request x) h ≡ 0
-    → 0 < n → n ≡ min limits.quantum (length (place (plain_setup limits) (request x) 0 h)) → MayAdd limits (note.Move (request x) 0 n) h
+move_may : (limits : PlainLimits) (x n : ℕ) (h : Past) → Books limits nothing h → is_swept h ≡ false → Alive h x → count (request x) h ≡ 0
+    → 0 < n → n ≡ min limits.quantum (length (recv_at limits x h)) → MayAdd limits (note.Move (request x) 0 n) h
 move_may limits x n h s fresh is readable some all =
     let k = readable_none limits x h (s.each x is) readable in
     record {
       allowed = record {
         live = flow_is_live limits x h is;
-        last = free_first (count (request x) h) _ _ _ readable (let P : ℕ → Type 0 = λ v. 0 < v in subst P all some) k.0 k.1;
-        all = all ∙ sym (ap (λ c. let_go_at c (min limits.quantum (length (place (plain_setup limits) (request x) 0 h)))) readable);
+        last = free_first (count (request x) h) _ _ _ readable (subst (λ (v : ℕ). 0 < v) all some) k.0 k.1;
+        all = all ∙ sym (ap (λ c. let_go_at c (min limits.quantum (length (recv_at limits x h)))) readable);
       };
       paused = s.due;
       counted = counted_of limits nothing h s refl;
@@ -97,11 +96,11 @@ move_may limits x n h s fresh is readable some all =
         → first_place (nat_lt 0 (let_go_at c n) && not ((true && a) || ((true && w) || false))) ≡ Some 0
     free_first c n a w ec en ea ew = rw (ec, ea, ew) (rw (positive n en) refl)
 
-pub move_leaves : (limits : PlainLimits) (x y n : ℕ) (h : History NoMark) → (x == y) ≡ false → Leaves limits y (Noted (note.Move (request x) 0 n)) h
+pub move_leaves : (limits : PlainLimits) (x y n : ℕ) (h : Past) → (x == y) ≡ false → Leaves limits y (move_of x n) h
 move_leaves limits x y n h e = record {
   recv = rw e refl;
   send = rw e refl;
-  send_lows = append-nil (pending_lows (plain_setup limits) (buffer.Send (request y)) h);
+  send_lows = append-nil (lows_of limits y h);
   paused = refl;
   resumed = refl;
   body = refl;
@@ -110,18 +109,18 @@ move_leaves limits x y n h e = record {
 }
 
 -- the pauses of its send buffer
-abbrev after_move : PlainLimits → ℕ → ℕ → History NoMark → Owing
-after_move limits x n h = owed (due_if (above (plain_setup limits) (buffer.Send (request x)) (Noted (note.Move (request x) 0 n) ∷ h)) (buffer.Send (request x)) (x ∷ []))
+abbrev after_move : PlainLimits → ℕ → ℕ → Past → Owing
+after_move limits x n h = owed (due_if (send_high limits x (move_of x n ∷ h)) (buffer.Send (request x)) (x ∷ []))
 
 -- a low buffer holds at most its limit
-pub send_within : (limits : PlainLimits) (x : ℕ) (h : History NoMark) → above (plain_setup limits) (buffer.Send (request x)) h ≡ false → 0 < limits.send
-    → length (place (plain_setup limits) (request x) 1 h) ≤ limits.send
+pub send_within : (limits : PlainLimits) (x : ℕ) (h : Past) → send_high limits x h ≡ false → 0 < limits.send
+    → length (send_at limits x h) ≤ limits.send
 send_within limits x h low p =
-    low_len limits.send (above (plain_setup limits) (buffer.Send (request x)) h) (len (plain_setup limits) (buffer.Send (request x)) h) (send_now limits (request x) h ∙ low) p
+    low_len limits.send (send_high limits x h) (len (plain_setup limits) (buffer.Send (request x)) h) (send_now limits (request x) h ∙ low) p
 
-pub write_within : (limits : PlainLimits) (h : History NoMark) → above (plain_setup limits) (buffer.Write 0) h ≡ false → 0 < limits.write → length (out (plain_setup limits) 0 h) ≤ limits.write
+pub write_within : (limits : PlainLimits) (h : Past) → conn_high limits h ≡ false → 0 < limits.write → length (conn_out limits h) ≤ limits.write
 write_within limits h low p =
-    low_len limits.write (above (plain_setup limits) (buffer.Write 0) h) (len (plain_setup limits) (buffer.Write 0) h) (write_now limits h ∙ low) p
+    low_len limits.write (conn_high limits h) (len (plain_setup limits) (buffer.Write 0) h) (write_now limits h ∙ low) p
 
 -- a bound that holds where there is a limit
 pub where_limited : (l : ℕ) (A : Type 0) → (0 < l → A) → OnTrue (nat_lt 0 l) A
@@ -134,18 +133,18 @@ where_limited l A f = under_eq (nat_lt 0 l) A (λ e. f (some l e))
     some : (k : ℕ) → nat_lt 0 k ≡ true → 0 < k
     some k e = grind (arith, nat_tests)
 
-move_own : (limits : PlainLimits) (x n : ℕ) (h : History NoMark) → FlowBooks limits nothing x h → count (request x) h ≡ 0
-    → 0 < n → n ≡ min limits.quantum (length (place (plain_setup limits) (request x) 0 h)) → FlowBooks limits (after_move limits x n h) x (Noted (note.Move (request x) 0 n) ∷ h)
+move_own : (limits : PlainLimits) (x n : ℕ) (h : Past) → FlowBooks limits nothing x h → count (request x) h ≡ 0
+    → 0 < n → n ≡ min limits.quantum (length (recv_at limits x h)) → FlowBooks limits (after_move limits x n h) x (move_of x n ∷ h)
 move_own limits x n h f readable some all =
-    let step : Step NoMark = Noted (note.Move (request x) 0 n) in
+    let step : Step NoMark = move_of x n in
     let k = readable_none limits x h f readable in
-    let recv_is : place (plain_setup limits) (request x) 0 (step ∷ h) ≡ drop n (place (plain_setup limits) (request x) 0 h) = rw (same_number x) refl in
-    let send_is : place (plain_setup limits) (request x) 1 (step ∷ h) ≡ place (plain_setup limits) (request x) 1 h ++ take n (place (plain_setup limits) (request x) 0 h) = rw (same_number x) refl in
-    let lows_is : pending_lows (plain_setup limits) (buffer.Send (request x)) (step ∷ h) ≡ pending_lows (plain_setup limits) (buffer.Send (request x)) h = append-nil _ in
-    let write_is : pending_lows (plain_setup limits) (buffer.Write 0) (step ∷ h) ≡ pending_lows (plain_setup limits) (buffer.Write 0) h = append-nil _ in
+    let recv_is : recv_at limits x (step ∷ h) ≡ drop n (recv_at limits x h) = rw (same_number x) refl in
+    let send_is : send_at limits x (step ∷ h) ≡ send_at limits x h ++ take n (recv_at limits x h) = rw (same_number x) refl in
+    let lows_is : lows_of limits x (step ∷ h) ≡ lows_of limits x h = append-nil _ in
+    let write_is : conn_lows limits (step ∷ h) ≡ conn_lows limits h = append-nil _ in
     record {
       tally = flow_tally limits [] (after_move limits x n h).due x step h
-          (grown _ _ _ _ _ _ _ _ _ _ _ (ap one_if k.0) (owed_one (above (plain_setup limits) (buffer.Send (request x)) (step ∷ h)) (buffer.Send (request x)) x)
+          (grown _ _ _ _ _ _ _ _ _ _ _ (ap one_if k.0) (owed_one (send_high limits x (step ∷ h)) (buffer.Send (request x)) x)
           (ap one_if (write_same limits step h refl)) (ap (told_of x) lows_is) (ap (told_of x) write_is)) f.tally;
       send_low = inl (lows_is ∙ untold limits nothing x h f k.2);
       recv_room = less _ _ _ n recv_is f.recv_room;
@@ -171,23 +170,23 @@ move_own limits x n h f readable some all =
     empty : (n q : ℕ) (xs : List ℕ) → xs ≡ [] → 0 < n → n ≡ min q (length xs) → ⊥
     empty n q xs e some all = let k : length xs ≡ 0 = ap length e in omega (arith, k, some, all)
 
-move_books : (limits : PlainLimits) (x n : ℕ) (h : History NoMark) → Books limits nothing h → has (live h) x ≡ true → count (request x) h ≡ 0
-    → 0 < n → n ≡ min limits.quantum (length (place (plain_setup limits) (request x) 0 h)) → Books limits (after_move limits x n h) (Noted (note.Move (request x) 0 n) ∷ h)
+move_books : (limits : PlainLimits) (x n : ℕ) (h : Past) → Books limits nothing h → Alive h x → count (request x) h ≡ 0
+    → 0 < n → n ≡ min limits.quantum (length (recv_at limits x h)) → Books limits (after_move limits x n h) (move_of x n ∷ h)
 move_books limits x n h s is readable some all =
-    let step : Step NoMark = Noted (note.Move (request x) 0 n) in
+    let step : Step NoMark = move_of x n in
     let k = readable_none limits x h (s.each x is) readable in
-    let a = above (plain_setup limits) (buffer.Send (request x)) (step ∷ h) in
-    let out_same : out (plain_setup limits) 0 (step ∷ h) ≡ out (plain_setup limits) 0 h = refl in
-    let lows_same : pending_lows (plain_setup limits) (buffer.Write 0) (step ∷ h) ≡ pending_lows (plain_setup limits) (buffer.Write 0) h = append-nil _ in
+    let a = send_high limits x (step ∷ h) in
+    let out_same : conn_out limits (step ∷ h) ≡ conn_out limits h = refl in
+    let lows_same : conn_lows limits (step ∷ h) ≡ conn_lows limits h = append-nil _ in
     record {
-      due = rise_due (buffer.Send (request x)) (not (above (plain_setup limits) (buffer.Send (request x)) h) && a) (λ b. watchers (plain_setup limits) b h) (x ∷ [])
+      due = rise_due (buffer.Send (request x)) (not (send_high limits x h) && a) (λ b. watchers (plain_setup limits) b h) (x ∷ [])
           (send_watchers limits x h s.rising is)
-          ∙ ap (λ b. due_if b (buffer.Send (request x)) (x ∷ [])) (low_rises (above (plain_setup limits) (buffer.Send (request x)) h) a k.0);
+          ∙ ap (λ b. due_if b (buffer.Send (request x)) (x ∷ [])) (low_rises (send_high limits x h) a k.0);
       asks = nothing_owed _ s.asks;
       opened = s.opened;
       known = s.known;
       unclosed = s.unclosed;
-      write_room = same_len_if (nat_lt 0 limits.write) _ _ (limits.write + max 65536 (limits.quantum + 9)) out_same s.write_room;
+      write_room = room_kept limits out_same s.write_room;
       rising = s.rising;
       born = s.born;
       said = s.said;
@@ -196,15 +195,15 @@ move_books limits x n h s is readable some all =
           (owed_none a (buffer.Send (request x)) x y d) refl (s.each y e).unframed);
       unborn = λ y e. let d = apart_from (started h) x y (s.born x is) e in
           unborn_kept limits y step h (move_leaves limits x y n h d) (record { ended = refl; pairs = refl; must = refl }) (s.unborn y e);
-      owed = live_owed a (buffer.Send (request x)) (x ∷ []) (live h) (λ y e. let P : ℕ → Type 0 = λ v. has (live h) v ≡ true in subst P (number_is x y (sym (has_one x y) ∙ e)) is);
-      write_lows = let P : List FlowId → Type 0 = AllByRecursion (IsLiveFlow (live h)) in subst P (sym lows_same) s.write_lows;
-      write_once = let P : List FlowId → Type 0 = λ fs. IsRising (map (λ f. f.exchange) fs) in subst P (sym lows_same) s.write_once;
-      hushed = λ y e. append-nil (pending_lows (plain_setup limits) (buffer.Send (request y)) h) ∙ s.hushed y e;
+      owed = live_owed a (buffer.Send (request x)) (x ∷ []) (live h) (λ y e. subst (λ (v : ℕ). Alive h v) (number_is x y (sym (has_one x y) ∙ e)) is);
+      write_lows = lows_kept (live h) lows_same s.write_lows;
+      write_once = once_kept lows_same s.write_once;
+      hushed = λ y e. append-nil (lows_of limits y h) ∙ s.hushed y e;
     }
 
-pub move_regular : (limits : PlainLimits) (x n : ℕ) (h : History NoMark) → Regular limits nothing h → is_swept h ≡ false → has (live h) x ≡ true → count (request x) h ≡ 0
-    → 0 < n → n ≡ min limits.quantum (length (place (plain_setup limits) (request x) 0 h))
-    → Regular limits (owed (due_if (above (plain_setup limits) (buffer.Send (request x)) (Noted (note.Move (request x) 0 n) ∷ h)) (buffer.Send (request x)) (x ∷ [])))
-    (Noted (note.Move (request x) 0 n) ∷ h)
+pub move_regular : (limits : PlainLimits) (x n : ℕ) (h : Past) → Regular limits nothing h → is_swept h ≡ false → Alive h x → count (request x) h ≡ 0
+    → 0 < n → n ≡ min limits.quantum (length (recv_at limits x h))
+    → Regular limits (owed (due_if (send_high limits x (move_of x n ∷ h)) (buffer.Send (request x)) (x ∷ [])))
+    (move_of x n ∷ h)
 move_regular limits x n h r fresh is readable some all =
     regular_more limits nothing (after_move limits x n h) (note.Move (request x) 0 n) h r (move_may limits x n h r.books fresh is readable some all) (move_books limits x n h r.books is readable some all)

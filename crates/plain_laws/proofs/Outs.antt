@@ -1,10 +1,11 @@
 -- Octets leave the write buffer.
+use Rattle.plain_laws.specs.Words.{Past, Alive, conn_high, conn_lows, conn_out, lows_of}
 use Rattle.tape_laws.specs.Doomed.{is_swept}
 use Rattle.flow_gate.specs.declared.ids.FlowId.{FlowId}
 use Rattle.plain_laws.proofs.Counting.{one_if, told_of, write_left}
 use Rattle.plain_laws.proofs.Extending.{MayAdd, counted_of, one_owed, regular_more, under_test}
 use Rattle.plain_laws.proofs.Flags.{no_rise, write_now}
-use Rattle.plain_laws.proofs.Leaving.{Leaves, flow_kept, unborn_kept}
+use Rattle.plain_laws.proofs.Leaving.{Leaves, flow_kept, once_kept, unborn_kept}
 use Rattle.plain_laws.proofs.Tellings.{all_requests, told_all}
 use Rattle.plain_laws.proofs.Watching.{write_watchers}
 use Rattle.plain_laws.specs.Owing.{asking, nothing}
@@ -14,34 +15,32 @@ use Rattle.std.proofs.lemmas.List.{append-nil}
 use Rattle.std.specs.List.{AllByRecursion}
 use Rattle.std.specs.Prelude.{Bool, List, [], drop, false, if◌then◌else◌, length, map, nat_lt, not, true, ℕ, ◌&&◌, ◌++◌, ◌+◌, ◌∷◌, ◌≡◌, ◌≤◌}
 use Rattle.tape_laws.specs.Demands.{MeetsFirst}
-use Rattle.tape_laws.specs.Dispatches.{has, live}
+use Rattle.tape_laws.specs.Dispatches.{live}
 use Rattle.tape_laws.specs.Flows.{request}
-use Rattle.tape_laws.specs.History.{History, NoMark, Noted, Step}
-use Rattle.tape_laws.specs.Pauses.{Heads, pending_lows}
+use Rattle.tape_laws.specs.History.{NoMark, Noted, Step}
+use Rattle.tape_laws.specs.Pauses.{Heads}
 use Rattle.tape_laws.specs.Plain.{plain_setup}
 use Rattle.tape_laws.specs.Units.{Demand, WantsOut}
-use Rattle.tape_laws.specs.Watermark.{above}
-use Rattle.tape_laws.specs.World.{out}
 use Rattle.tape_laws.specs.declared.limits.PlainLimits.{PlainLimits}
 use Rattle.flow_gate.specs.declared.ids.BufferId.TheVariants as buffer
 use Rattle.flow_notes.specs.declared.notes.Note.TheVariants as note
 
 -- where it drains, all live flows are to be told
-pub out_lows : (limits : PlainLimits) (n : ℕ) (h : History NoMark) → pending_lows (plain_setup limits) (buffer.Write 0) h ≡ []
-    → pending_lows (plain_setup limits) (buffer.Write 0) (Noted (note.Out 0 n) ∷ h)
-    ≡ (if above (plain_setup limits) (buffer.Write 0) h && not (above (plain_setup limits) (buffer.Write 0) (Noted (note.Out 0 n) ∷ h)) then map request (live h) else [])
+pub out_lows : (limits : PlainLimits) (n : ℕ) (h : Past) → conn_lows limits h ≡ []
+    → conn_lows limits (Noted (note.Out 0 n) ∷ h)
+    ≡ (if conn_high limits h && not (conn_high limits (Noted (note.Out 0 n) ∷ h)) then map request (live h) else [])
 out_lows limits n h none =
-    told_where (above (plain_setup limits) (buffer.Write 0) h && not (above (plain_setup limits) (buffer.Write 0) (Noted (note.Out 0 n) ∷ h))) _ _ (map request (live h)) none (write_watchers limits h)
+    told_where (conn_high limits h && not (conn_high limits (Noted (note.Out 0 n) ∷ h))) _ _ (map request (live h)) none (write_watchers limits h)
   where
     told_where : (b : Bool) (pending watching fs : List FlowId) → pending ≡ [] → watching ≡ fs → pending ++ (if b then watching else []) ≡ (if b then fs else [])
     told_where true pending watching fs e w = rw (e, w) refl
     told_where false pending watching fs e w = rw e refl
 
-pub out_leaves : (limits : PlainLimits) (n x : ℕ) (h : History NoMark) → Leaves limits x (Noted (note.Out 0 n)) h
+pub out_leaves : (limits : PlainLimits) (n x : ℕ) (h : Past) → Leaves limits x (Noted (note.Out 0 n)) h
 out_leaves limits n x h = record {
   recv = refl;
   send = refl;
-  send_lows = append-nil (pending_lows (plain_setup limits) (buffer.Send (request x)) h);
+  send_lows = append-nil (lows_of limits x h);
   paused = refl;
   resumed = refl;
   body = refl;
@@ -49,30 +48,31 @@ out_leaves limits n x h = record {
   framed = refl;
 }
 
-out_may : (limits : PlainLimits) (n : ℕ) (h : History NoMark) → Books limits (asking (WantsOut 0 n ∷ [])) h → is_swept h ≡ false → MayAdd limits (note.Out 0 n) h
-out_may limits n h s fresh = record {
-  allowed = tt;
-  paused = s.due;
-  counted = counted_of limits (asking (WantsOut 0 n ∷ [])) h s refl;
-  ends = tt;
-  in_turn = tt;
-  doomed = tt;
-  swept = fresh;
-  answered = let P : List Demand → Type 0 = λ ds. MeetsFirst {Mark = NoMark} (plain_setup limits) ds (Noted (note.Out 0 n)) in subst P (sym s.asks) refl;
-  only = let P : List Demand → Type 0 = Heads (WantsOut 0 n) in subst P (sym s.asks) refl;
-  quiet = tt;
-  licensed = tt;
-}
+module _ (limits : PlainLimits) (n : ℕ) (h : Past) where
+  out_may : Books limits (asking (WantsOut 0 n ∷ [])) h → is_swept h ≡ false → MayAdd limits (note.Out 0 n) h
+  out_may s fresh = record {
+    allowed = tt;
+    paused = s.due;
+    counted = counted_of limits (asking (WantsOut 0 n ∷ [])) h s refl;
+    ends = tt;
+    in_turn = tt;
+    doomed = tt;
+    swept = fresh;
+    answered = subst (λ (ds : List Demand). MeetsFirst {Mark = NoMark} (plain_setup limits) ds (Noted (note.Out 0 n))) (sym s.asks) refl;
+    only = subst (Heads (WantsOut 0 n)) (sym s.asks) refl;
+    quiet = tt;
+    licensed = tt;
+  }
 
-pub out_less : (limits : PlainLimits) (n : ℕ) (h : History NoMark) → length (out (plain_setup limits) 0 (Noted (note.Out 0 n) ∷ h)) ≤ length (out (plain_setup limits) 0 h)
-out_less limits n h = less n (out (plain_setup limits) 0 h)
-  where
-    less : (n : ℕ) (xs : List ℕ) → length (drop n xs) ≤ length xs
-    less n xs = omega (arith, length-drop n xs)
+  pub out_less : length (conn_out limits (Noted (note.Out 0 n) ∷ h)) ≤ length (conn_out limits h)
+  out_less = less n (conn_out limits h)
+    where
+      less : (n : ℕ) (xs : List ℕ) → length (drop n xs) ≤ length xs
+      less n xs = omega (arith, length-drop n xs)
 
--- a buffer that only lost octets doesn't rise
-pub out_low : (limits : PlainLimits) (n : ℕ) (h : History NoMark) → above (plain_setup limits) (buffer.Write 0) h ≡ false → above (plain_setup limits) (buffer.Write 0) (Noted (note.Out 0 n) ∷ h) ≡ false
-out_low limits n h low = no_rise limits.write _ _ _ (write_now limits h) (out_less limits n h) low
+  -- a buffer that only lost octets doesn't rise
+  pub out_low : conn_high limits h ≡ false → conn_high limits (Noted (note.Out 0 n) ∷ h) ≡ false
+  out_low low = no_rise limits.write _ _ _ (write_now limits h) (out_less) low
 
 -- the flag and what is to be told of a live stream are one more or one less
 pub drain_books : (w a : Bool) → (w ≡ false → a ≡ false) → one_if w ≡ one_if a + one_if (w && not a)
@@ -81,22 +81,22 @@ drain_books true false e = refl
 drain_books false true e = let k = e refl in cc
 drain_books false false e = refl
 
-out_left : (limits : PlainLimits) (n x : ℕ) (h : History NoMark) → IsRising (live h) → has (live h) x ≡ true → pending_lows (plain_setup limits) (buffer.Write 0) h ≡ []
+out_left : (limits : PlainLimits) (n x : ℕ) (h : Past) → IsRising (live h) → Alive h x → conn_lows limits h ≡ []
     → write_left limits x (Noted (note.Out 0 n) ∷ h)
-    ≡ one_if (above (plain_setup limits) (buffer.Write 0) h && not (above (plain_setup limits) (buffer.Write 0) (Noted (note.Out 0 n) ∷ h)))
+    ≡ one_if (conn_high limits h && not (conn_high limits (Noted (note.Out 0 n) ∷ h)))
 out_left limits n x h r is none =
     ap (told_of x) (out_lows limits n h none)
-    ∙ all_if (above (plain_setup limits) (buffer.Write 0) h && not (above (plain_setup limits) (buffer.Write 0) (Noted (note.Out 0 n) ∷ h)))
+    ∙ all_if (conn_high limits h && not (conn_high limits (Noted (note.Out 0 n) ∷ h)))
   where
     all_if : (b : Bool) → told_of x (if b then map request (live h) else []) ≡ one_if b
     all_if true = told_all (live h) x r ∙ ap one_if is
     all_if false = refl
 
-out_books : (limits : PlainLimits) (n : ℕ) (h : History NoMark) → Books limits (asking (WantsOut 0 n ∷ [])) h → pending_lows (plain_setup limits) (buffer.Write 0) h ≡ []
+out_books : (limits : PlainLimits) (n : ℕ) (h : Past) → Books limits (asking (WantsOut 0 n ∷ [])) h → conn_lows limits h ≡ []
     → Books limits nothing (Noted (note.Out 0 n) ∷ h)
 out_books limits n h s none =
     let step : Step NoMark = Noted (note.Out 0 n) in
-    let drained = above (plain_setup limits) (buffer.Write 0) h && not (above (plain_setup limits) (buffer.Write 0) (step ∷ h)) in
+    let drained = conn_high limits h && not (conn_high limits (step ∷ h)) in
     record {
       due = refl;
       asks = one_owed _ _ s.asks;
@@ -111,9 +111,9 @@ out_books limits n h s none =
           (same _ _ _ _ _ (drain_books _ _ (out_low limits n h)) (ap (told_of x) none) (out_left limits n x h s.rising e none)) refl (s.each x e).unframed;
       unborn = λ x e. unborn_kept limits x step h (out_leaves limits n x h) (record { ended = refl; pairs = refl; must = refl }) (s.unborn x e);
       owed = tt;
-      write_lows = let P : List FlowId → Type 0 = AllByRecursion (IsLiveFlow (live h)) in subst P (sym (out_lows limits n h none)) (all_if drained);
-      write_once = let P : List FlowId → Type 0 = λ fs. IsRising (map (λ f. f.exchange) fs) in subst P (sym (out_lows limits n h none)) (once_if drained);
-      hushed = λ x e. append-nil (pending_lows (plain_setup limits) (buffer.Send (request x)) h) ∙ s.hushed x e;
+      write_lows = subst (AllByRecursion (IsLiveFlow (live h))) (sym (out_lows limits n h none)) (all_if drained);
+      write_once = once_kept (out_lows limits n h none) (once_if drained);
+      hushed = λ x e. append-nil (lows_of limits x h) ∙ s.hushed x e;
     }
   where
     less : (a b l : ℕ) → a ≤ b → b ≤ l → a ≤ l
@@ -134,7 +134,7 @@ out_books limits n h s none =
     once_if true = subst IsRising (sym (exchanges (live h))) s.rising
     once_if false = tt
 
-pub out_regular : (limits : PlainLimits) (n : ℕ) (h : History NoMark) → Regular limits (asking (WantsOut 0 n ∷ [])) h → is_swept h ≡ false → pending_lows (plain_setup limits) (buffer.Write 0) h ≡ []
+pub out_regular : (limits : PlainLimits) (n : ℕ) (h : Past) → Regular limits (asking (WantsOut 0 n ∷ [])) h → is_swept h ≡ false → conn_lows limits h ≡ []
     → Regular limits nothing (Noted (note.Out 0 n) ∷ h)
 out_regular limits n h r fresh none =
     regular_more limits (asking (WantsOut 0 n ∷ [])) nothing (note.Out 0 n) h r (out_may limits n h r.books fresh) (out_books limits n h r.books none)

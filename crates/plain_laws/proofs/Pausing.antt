@@ -1,68 +1,68 @@
 -- The next pause that is due is written.
+use Rattle.plain_laws.specs.Words.{Past, Alive, conn_lows, conn_out, lows_of}
 use Rattle.tape_laws.specs.Doomed.{is_swept}
 use Rattle.flow_gate.specs.declared.ids.BufferId.{BufferId}
 use Rattle.flow_gate.specs.declared.ids.FlowId.{FlowId}
 use Rattle.plain_laws.proofs.Counting.{flow_tally, one_if, told_of}
 use Rattle.plain_laws.proofs.Extending.{MayAdd, regular_more}
 use Rattle.plain_laws.proofs.Flags.{send_same, write_same}
-use Rattle.plain_laws.proofs.Leaving.{Leaves, same_len_if, send_low_kept, unborn_kept}
+use Rattle.plain_laws.proofs.Leaving.{Leaves, lows_kept, once_kept, room_kept, send_low_kept, unborn_kept}
 use Rattle.plain_laws.proofs.Streams.{apart_from}
 use Rattle.plain_laws.proofs.Tellings.{owed_cons}
 use Rattle.plain_laws.specs.Owing.{Owing, nothing, owed, owed_times, pause_notes}
-use Rattle.plain_laws.specs.Regular.{Books, FlowBooks, IsLiveFlow, IsRising, Regular}
+use Rattle.plain_laws.specs.Regular.{Books, FlowBooks, IsLiveFlow, Regular}
 use Rattle.std.proofs.Common.{ap, arith, refl, subst, sym, ◌∙◌}
 use Rattle.std.specs.List.{AllByRecursion}
-use Rattle.std.specs.Prelude.{List, [], drop, false, if◌then◌else◌, map, max, nat_lt, true, ℕ, ◌&&◌, ◌+◌, ◌==◌, ◌∷◌, ◌≡◌}
-use Rattle.tape_laws.specs.Dispatches.{has, live, started}
+use Rattle.std.specs.Prelude.{List, [], drop, false, if◌then◌else◌, true, ℕ, ◌&&◌, ◌+◌, ◌==◌, ◌∷◌, ◌≡◌}
+use Rattle.tape_laws.specs.Dispatches.{live, started}
 use Rattle.tape_laws.specs.Flows.{request, same_flow}
-use Rattle.tape_laws.specs.History.{History, NoMark, Noted, Step, onto}
-use Rattle.tape_laws.specs.Pauses.{Heads, Owed, pauses, pending_lows}
-use Rattle.tape_laws.specs.Plain.{plain_setup}
-use Rattle.tape_laws.specs.World.{out}
+use Rattle.tape_laws.specs.History.{NoMark, Noted, Step, onto}
+use Rattle.tape_laws.specs.Pauses.{Heads, Owed, pauses}
 use Rattle.tape_laws.specs.declared.limits.PlainLimits.{PlainLimits}
 use Rattle.flow_gate.specs.declared.ids.BufferId.TheVariants as buffer
 use Rattle.flow_notes.specs.declared.notes.Note.TheVariants as note
 
-pause_may : (limits : PlainLimits) (owing : Owing) (f : FlowId) (b : BufferId) (rest : List Owed) (h : History NoMark) → Books limits owing h → is_swept h ≡ false
-    → owing.due ≡ record { flow = f; buffer = b } ∷ rest → has (live h) f.exchange ≡ true → MayAdd limits (note.Pause f b) h
-pause_may limits owing f b rest h s fresh e is = record {
-  allowed = tt;
-  paused = let P : List Owed → Type 0 = Heads (record { flow = f; buffer = b }) in subst P (sym (s.due ∙ e)) refl;
-  counted = tt;
-  ends = tt;
-  in_turn = tt;
-  doomed = is;
-  swept = fresh;
-  answered = tt;
-  only = tt;
-  quiet = tt;
-  licensed = tt;
-}
+module _ (limits : PlainLimits) (owing : Owing) (f : FlowId) (b : BufferId) (rest : List Owed) where
+  pause_may : (h : Past) → Books limits owing h → is_swept h ≡ false
+      → owing.due ≡ record { flow = f; buffer = b } ∷ rest → Alive h f.exchange → MayAdd limits (note.Pause f b) h
+  pause_may h s fresh e is = record {
+    allowed = tt;
+    paused = subst (Heads (record { flow = f; buffer = b })) (sym (s.due ∙ e)) refl;
+    counted = tt;
+    ends = tt;
+    in_turn = tt;
+    doomed = is;
+    swept = fresh;
+    answered = tt;
+    only = tt;
+    quiet = tt;
+    licensed = tt;
+  }
 
--- the books of each stream: what is owed becomes what was paused
-pause_flow : (limits : PlainLimits) (owing : Owing) (f : FlowId) (b : BufferId) (rest : List Owed) (x : ℕ) (h : History NoMark) → FlowBooks limits owing x h
-    → owing.due ≡ record { flow = f; buffer = b } ∷ rest → FlowBooks limits (record owing { due = rest }) x (Noted (note.Pause f b) ∷ h)
-pause_flow limits owing f b rest x h s e =
-    let step : Step NoMark = Noted (note.Pause f b) in
-    let lows_is : pending_lows (plain_setup limits) (buffer.Send (request x)) (step ∷ h) ≡ pending_lows (plain_setup limits) (buffer.Send (request x)) h = refl in
-    let write_is : pending_lows (plain_setup limits) (buffer.Write 0) (step ∷ h) ≡ pending_lows (plain_setup limits) (buffer.Write 0) h = refl in
-    record {
-      tally = flow_tally limits owing.due rest x step h
-          (written _ _ _ _ _ _ _ _ _ _ _ _ (one_if (same_flow f (request x))) (ap (owed_times x) e ∙ owed_cons x (record { flow = f; buffer = b }) rest)
-          (ap one_if (send_same limits (request x) step h refl)) (ap one_if (write_same limits step h refl)) (ap (told_of x) lows_is) (ap (told_of x) write_is)) s.tally;
-      send_low = send_low_kept limits x step h refl lows_is s.send_low;
-      recv_room = s.recv_room;
-      send_room = s.send_room;
-      read = s.read;
-      over = s.over;
-      unframed = s.unframed;
-    }
-  where
-    written : (p o r a w s m o' a' w' s' m' k : ℕ) → o ≡ k + o' → a' ≡ a → w' ≡ w → s' ≡ s → m' ≡ m
-        → (k + p + o') + (r + ((a + w) + (s + m))) ≡ (p + o) + (r + ((a' + w') + (s' + m')))
-    written p o r a w s m o' a' w' s' m' k eo ea ew es em = omega arith
+  -- the books of each stream: what is owed becomes what was paused
+  pause_flow : (x : ℕ) (h : Past) → FlowBooks limits owing x h
+      → owing.due ≡ record { flow = f; buffer = b } ∷ rest → FlowBooks limits (record owing { due = rest }) x (Noted (note.Pause f b) ∷ h)
+  pause_flow x h s e =
+      let step : Step NoMark = Noted (note.Pause f b) in
+      let lows_is : lows_of limits x (step ∷ h) ≡ lows_of limits x h = refl in
+      let write_is : conn_lows limits (step ∷ h) ≡ conn_lows limits h = refl in
+      record {
+        tally = flow_tally limits owing.due rest x step h
+            (written _ _ _ _ _ _ _ _ _ _ _ _ (one_if (same_flow f (request x))) (ap (owed_times x) e ∙ owed_cons x (record { flow = f; buffer = b }) rest)
+            (ap one_if (send_same limits (request x) step h refl)) (ap one_if (write_same limits step h refl)) (ap (told_of x) lows_is) (ap (told_of x) write_is)) s.tally;
+        send_low = send_low_kept limits x step h refl lows_is s.send_low;
+        recv_room = s.recv_room;
+        send_room = s.send_room;
+        read = s.read;
+        over = s.over;
+        unframed = s.unframed;
+      }
+    where
+      written : (p o r a w s m o' a' w' s' m' k : ℕ) → o ≡ k + o' → a' ≡ a → w' ≡ w → s' ≡ s → m' ≡ m
+          → (k + p + o') + (r + ((a + w) + (s + m))) ≡ (p + o) + (r + ((a' + w') + (s' + m')))
+      written p o r a w s m o' a' w' s' m' k eo ea ew es em = omega arith
 
-pub pause_leaves : (limits : PlainLimits) (f : FlowId) (b : BufferId) (x : ℕ) (h : History NoMark) → (f.exchange == x) ≡ false → Leaves limits x (Noted (note.Pause f b)) h
+pub pause_leaves : (limits : PlainLimits) (f : FlowId) (b : BufferId) (x : ℕ) (h : Past) → (f.exchange == x) ≡ false → Leaves limits x (Noted (note.Pause f b)) h
 pause_leaves limits f b x h e = record {
   recv = refl;
   send = refl;
@@ -77,20 +77,20 @@ pause_leaves limits f b x h e = record {
     none : (n : ℕ) → 0 + n ≡ n
     none n = omega arith
 
-pause_books : (limits : PlainLimits) (owing : Owing) (f : FlowId) (b : BufferId) (rest : List Owed) (h : History NoMark) → Books limits owing h
+pause_books : (limits : PlainLimits) (owing : Owing) (f : FlowId) (b : BufferId) (rest : List Owed) (h : Past) → Books limits owing h
     → owing.due ≡ record { flow = f; buffer = b } ∷ rest → AllByRecursion (λ (o : Owed). IsLiveFlow (live h) o.flow) (record { flow = f; buffer = b } ∷ rest)
     → Books limits (record owing { due = rest }) (Noted (note.Pause f b) ∷ h)
 pause_books limits owing f b rest h s e l =
     let step : Step NoMark = Noted (note.Pause f b) in
-    let out_same : out (plain_setup limits) 0 (step ∷ h) ≡ out (plain_setup limits) 0 h = refl in
-    let lows_same : pending_lows (plain_setup limits) (buffer.Write 0) (step ∷ h) ≡ pending_lows (plain_setup limits) (buffer.Write 0) h = refl in
+    let out_same : conn_out limits (step ∷ h) ≡ conn_out limits h = refl in
+    let lows_same : conn_lows limits (step ∷ h) ≡ conn_lows limits h = refl in
     record {
       due = ap (drop 1) (s.due ∙ e);
       asks = s.asks;
       opened = s.opened;
       known = s.known;
       unclosed = s.unclosed;
-      write_room = same_len_if (nat_lt 0 limits.write) _ _ (limits.write + max 65536 (limits.quantum + 9)) out_same s.write_room;
+      write_room = room_kept limits out_same s.write_room;
       rising = s.rising;
       born = s.born;
       said = s.said;
@@ -98,20 +98,20 @@ pause_books limits owing f b rest h s e l =
       unborn = λ y new. let d = apart_from (started h) f.exchange y (s.born f.exchange l.0.live) new in
           unborn_kept limits y step h (pause_leaves limits f b y h d) (record { ended = refl; pairs = refl; must = refl }) (s.unborn y new);
       owed = l.1;
-      write_lows = let P : List FlowId → Type 0 = AllByRecursion (IsLiveFlow (live h)) in subst P (sym lows_same) s.write_lows;
-      write_once = let P : List FlowId → Type 0 = λ fs. IsRising (map (λ f. f.exchange) fs) in subst P (sym lows_same) s.write_once;
+      write_lows = lows_kept (live h) lows_same s.write_lows;
+      write_once = once_kept lows_same s.write_once;
       hushed = λ y is. s.hushed y is;
     }
 
-pub pause_regular : (limits : PlainLimits) (owing : Owing) (f : FlowId) (b : BufferId) (rest : List Owed) (h : History NoMark) → Regular limits owing h → is_swept h ≡ false
-    → owing.due ≡ record { flow = f; buffer = b } ∷ rest → Regular limits (record owing { due = rest }) (Noted (note.Pause f b) ∷ h)
-pause_regular limits owing f b rest h r fresh e =
-    let P : List Owed → Type 0 = AllByRecursion (λ (o : Owed). IsLiveFlow (live h) o.flow) in
-    let l = subst P e r.books.owed in
-    regular_more limits owing (record owing { due = rest }) (note.Pause f b) h r (pause_may limits owing f b rest h r.books fresh e l.0.live) (pause_books limits owing f b rest h r.books e l)
+module _ (limits : PlainLimits) where
+  pub pause_regular : (owing : Owing) (f : FlowId) (b : BufferId) (rest : List Owed) (h : Past) → Regular limits owing h → is_swept h ≡ false
+      → owing.due ≡ record { flow = f; buffer = b } ∷ rest → Regular limits (record owing { due = rest }) (Noted (note.Pause f b) ∷ h)
+  pause_regular owing f b rest h r fresh e =
+      let l = subst (AllByRecursion (λ (o : Owed). IsLiveFlow (live h) o.flow)) e r.books.owed in
+      regular_more limits owing (record owing { due = rest }) (note.Pause f b) h r (pause_may limits owing f b rest h r.books fresh e l.0.live) (pause_books limits owing f b rest h r.books e l)
 
--- all that are due
-pub pauses_regular : (limits : PlainLimits) (due : List Owed) (h : History NoMark) → Regular limits (owed due) h → is_swept h ≡ false → Regular limits nothing (onto (pause_notes due) h)
-pauses_regular limits [] h r fresh = r
-pauses_regular limits (o ∷ due) h r fresh =
-    pauses_regular limits due (Noted (note.Pause o.flow o.buffer) ∷ h) (pause_regular limits (owed (o ∷ due)) o.flow o.buffer due h r fresh refl) refl
+  -- all that are due
+  pub pauses_regular : (due : List Owed) (h : Past) → Regular limits (owed due) h → is_swept h ≡ false → Regular limits nothing (onto (pause_notes due) h)
+  pauses_regular [] h r fresh = r
+  pauses_regular (o ∷ due) h r fresh =
+      pauses_regular due (Noted (note.Pause o.flow o.buffer) ∷ h) (pause_regular (owed (o ∷ due)) o.flow o.buffer due h r fresh refl) refl

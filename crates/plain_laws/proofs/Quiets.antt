@@ -14,18 +14,18 @@ use Rattle.std.proofs.lemmas.List.{append-nil}
 use Rattle.std.specs.Bool.{OnFalse, OnTrue}
 use Rattle.std.specs.List.{AllByRecursion}
 use Rattle.std.specs.Prelude.{Bool, List, None, [], false, if◌then◌else◌, length, min, nat_lt, true, ℕ, ◌&&◌, ◌+◌, ◌==◌, ◌∷◌, ◌≡◌}
-use Rattle.tape_laws.specs.Dispatches.{has, live}
+use Rattle.plain_laws.specs.Words.{Past, Alive, conn_high, conn_lows, lows_at, recv_at}
+use Rattle.tape_laws.specs.Dispatches.{live}
 use Rattle.tape_laws.specs.Flows.{request}
-use Rattle.tape_laws.specs.History.{History, NoMark}
 use Rattle.tape_laws.specs.Order.{Nothing, next_on}
-use Rattle.tape_laws.specs.Pauses.{count, lows, pending_lows}
+use Rattle.tape_laws.specs.Pauses.{count, lows}
 use Rattle.tape_laws.specs.Plain.{plain_body, plain_setup}
 use Rattle.tape_laws.specs.PlainSession.{plain_must_end, plain_session}
 use Rattle.tape_laws.specs.Quiet.{EachPlace, IsQuiet}
 use Rattle.tape_laws.specs.Release.{last_free, may_release}
 use Rattle.tape_laws.specs.Sources.{disabled}
 use Rattle.tape_laws.specs.Watermark.{above}
-use Rattle.tape_laws.specs.World.{place, received}
+use Rattle.tape_laws.specs.World.{received}
 use Rattle.tape_laws.specs.declared.limits.PlainLimits.{PlainLimits}
 use Rattle.flow_gate.specs.declared.ids.BufferId.TheVariants as buffer
 
@@ -46,7 +46,7 @@ release_none c q n f = pick (c == 0) refl
 not_free : (r : ℕ) (b : Bool) → r ≡ 0 → first_place (nat_lt 0 r && b) ≡ None
 not_free r b e = ap (λ k. first_place (nat_lt 0 k && b)) e
 
-on_true : (b : Bool) (A : Type 0) → A → OnTrue b A
+pub on_true : (b : Bool) (A : Type 0) → A → OnTrue b A
 on_true true A a = a
 on_true false A a = tt
 
@@ -60,49 +60,48 @@ sum_none l s m e es em = omega arith
 counted_alone : (c d l : ℕ) → c ≡ d + l → l ≡ 0 → c ≡ d
 counted_alone c d l e z = omega arith
 
-done_lows : (limits : PlainLimits) (x : ℕ) (h : History NoMark) → IsDone limits h → has (live h) x ≡ true → lows (plain_setup limits) (request x) h ≡ 0
-done_lows limits x h d e = sum_none _ _ _ (lows_are limits x h) (ap (told_of x) (d.send_told x e)) (ap (told_of x) d.write_told)
+module _ (limits : PlainLimits) where
+  done_lows : (x : ℕ) (h : Past) → IsDone limits h → Alive h x → lows_at limits x h ≡ 0
+  done_lows x h d e = sum_none _ _ _ (lows_are limits x h) (ap (told_of x) (d.send_told x e)) (ap (told_of x) d.write_told)
 
-done_still : (limits : PlainLimits) (x : ℕ) (h : History NoMark) → IsDone limits h → has (live h) x ≡ true → may_release (plain_setup limits) (request x) 0 h ≡ 0
-done_still limits x h d e = release_none (count (request x) h) limits.quantum (length (place (plain_setup limits) (request x) 0 h)) (λ z. ap length (d.moved x e z))
+  done_still : (x : ℕ) (h : Past) → IsDone limits h → Alive h x → may_release (plain_setup limits) (request x) 0 h ≡ 0
+  done_still x h d e = release_none (count (request x) h) limits.quantum (length (recv_at limits x h)) (λ z. ap length (d.moved x e z))
 
-done_quiet : (limits : PlainLimits) (h : History NoMark) → Regular limits nothing h → IsDone limits h → IsQuiet (plain_session limits) h
-done_quiet limits h r d =
-    let s = r.books in
-    record {
-      paused = s.due;
-      told = each_live limits (λ g. lows (plain_setup limits) g h ≡ 0) h (λ x e. done_lows limits x h d e);
-      counted = each_live limits (λ g. count g h ≡ disabled (plain_setup limits) g h) h (λ x e. counted_alone _ _ _ (count_is limits nothing x h (s.each x e) refl) (done_lows limits x h d e));
-      still = each_live limits (λ g. OnTrue (count g h == 0) (EachPlace (λ p. may_release (plain_setup limits) g p h ≡ 0) 0)) h (λ x e. on_true _ _ (done_still limits x h d e));
-      behind = each_live limits (λ g. last_free (plain_setup limits) g h ≡ None) h (λ x e. not_free _ _ (done_still limits x h d e));
-      framed = let P : List ℕ → Type 0 = AllByRecursion (λ c. OnFalse (above (plain_setup limits) (buffer.Write c) h) (next_on (plain_setup limits) c h ≡ Nothing)) in
-          subst P (sym s.opened) (on_false (above (plain_setup limits) (buffer.Write 0) h) _ d.framed, tt);
-      read = each_live limits (λ g. received g h ≡ plain_body g.exchange h) h (λ x e. sym ((s.each x e).read ∙ append-nil (received (request x) h)));
-      tamed = tt;
-      asked = s.asks;
-      ended = all_of (λ x. plain_must_end x h ≡ false) (live h) d.ended;
-      gone = d.gone;
-      leaves = tt;
-    }
+  done_quiet : (h : Past) → Regular limits nothing h → IsDone limits h → IsQuiet (plain_session limits) h
+  done_quiet h r d =
+      let s = r.books in
+      record {
+        paused = s.due;
+        told = each_live limits (λ g. lows (plain_setup limits) g h ≡ 0) h (λ x e. done_lows x h d e);
+        counted = each_live limits (λ g. count g h ≡ disabled (plain_setup limits) g h) h (λ x e. counted_alone _ _ _ (count_is limits nothing x h (s.each x e) refl) (done_lows x h d e));
+        still = each_live limits (λ g. OnTrue (count g h == 0) (EachPlace (λ p. may_release (plain_setup limits) g p h ≡ 0) 0)) h (λ x e. on_true _ _ (done_still x h d e));
+        behind = each_live limits (λ g. last_free (plain_setup limits) g h ≡ None) h (λ x e. not_free _ _ (done_still x h d e));
+        framed = subst (AllByRecursion (λ c. OnFalse (above (plain_setup limits) (buffer.Write c) h) (next_on (plain_setup limits) c h ≡ Nothing))) (sym s.opened) (on_false (conn_high limits h) _ d.framed, tt);
+        read = each_live limits (λ g. received g h ≡ plain_body g.exchange h) h (λ x e. sym ((s.each x e).read ∙ append-nil (received (request x) h)));
+        tamed = tt;
+        asked = s.asks;
+        ended = all_of (λ x. plain_must_end x h ≡ false) (live h) d.ended;
+        gone = d.gone;
+        leaves = tt;
+      }
 
-pub done_rests : (limits : PlainLimits) (h : History NoMark) → Regular limits nothing h → IsDone limits h → Rests limits h
-done_rests limits h r d = record { regular = r; quiet = done_quiet limits h r d }
+  pub done_rests : (h : Past) → Regular limits nothing h → IsDone limits h → Rests limits h
+  done_rests h r d = record { regular = r; quiet = done_quiet h r d }
 
-pub told_none : (limits : PlainLimits) (x : ℕ) (h : History NoMark) → IsQuiet (plain_session limits) h → has (live h) x ≡ true → (send_left limits x h ≡ 0) × (write_left limits x h ≡ 0)
-told_none limits x h q e = none _ _ _ (lows_are limits x h) (live_each limits (λ g. lows (plain_setup limits) g h ≡ 0) h x q.told e)
-  where
-    none : (l s m : ℕ) → l ≡ s + m → l ≡ 0 → (s ≡ 0) × (m ≡ 0)
-    none l s m e z = (omega arith, omega arith)
+  pub told_none : (x : ℕ) (h : Past) → IsQuiet (plain_session limits) h → Alive h x → (send_left limits x h ≡ 0) × (write_left limits x h ≡ 0)
+  told_none x h q e = none _ _ _ (lows_are limits x h) (live_each limits (λ g. lows (plain_setup limits) g h ≡ 0) h x q.told e)
+    where
+      none : (l s m : ℕ) → l ≡ s + m → l ≡ 0 → (s ≡ 0) × (m ≡ 0)
+      none l s m e z = (omega arith, omega arith)
 
--- at rest nobody is to be told of the write buffer
-pub rests_told : (limits : PlainLimits) (h : History NoMark) → Rests limits h → pending_lows (plain_setup limits) (buffer.Write 0) h ≡ []
-rests_told limits h r = nobody _ r.regular.books.write_lows (λ x e. (told_none limits x h r.quiet e).1)
-  where
-    one_isnt : (n m : ℕ) → n ≡ 1 + m → n ≡ 0 → ⊥
-    one_isnt n m e z = omega (arith, e, z)
+  -- at rest nobody is to be told of the write buffer
+  pub rests_told : (h : Past) → Rests limits h → conn_lows limits h ≡ []
+  rests_told h r = nobody _ r.regular.books.write_lows (λ x e. (told_none x h r.quiet e).1)
+    where
+      one_isnt : (n m : ℕ) → n ≡ 1 + m → n ≡ 0 → ⊥
+      one_isnt n m e z = omega (arith, e, z)
 
-    nobody : (fs : List FlowId) → AllByRecursion (IsLiveFlow (live h)) fs → ((x : ℕ) → has (live h) x ≡ true → told_of x fs ≡ 0) → fs ≡ []
-    nobody [] a f = refl
-    nobody (g ∷ gs) a f =
-        let P : FlowId → Type 0 = λ v. told_of g.exchange (v ∷ gs) ≡ 0 in
-        absurd (one_isnt _ _ (told_own g.exchange gs) (subst P a.0.is (f g.exchange a.0.live)))
+      nobody : (fs : List FlowId) → AllByRecursion (IsLiveFlow (live h)) fs → ((x : ℕ) → Alive h x → told_of x fs ≡ 0) → fs ≡ []
+      nobody [] a f = refl
+      nobody (g ∷ gs) a f =
+          absurd (one_isnt _ _ (told_own g.exchange gs) (subst (λ (v : FlowId). told_of g.exchange (v ∷ gs) ≡ 0) a.0.is (f g.exchange a.0.live)))

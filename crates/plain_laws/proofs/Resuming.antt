@@ -1,11 +1,12 @@
 -- The next flow that is pending on a buffer is told of its drain.
+use Rattle.plain_laws.specs.Words.{Past, Alive, conn_lows, conn_out, lows_of}
 use Rattle.tape_laws.specs.Doomed.{is_swept}
 use Rattle.flow_gate.specs.declared.ids.BufferId.{BufferId}
 use Rattle.flow_gate.specs.declared.ids.FlowId.{FlowId}
 use Rattle.plain_laws.proofs.Counting.{flow_tally, one_if, send_flag, told_of, write_flag}
 use Rattle.plain_laws.proofs.Extending.{MayAdd, counted_of, free_meets, nothing_owed, regular_more}
 use Rattle.plain_laws.proofs.Flags.{send_same, write_same}
-use Rattle.plain_laws.proofs.Leaving.{Leaves, flow_other, same_len_if, send_low_kept, unborn_kept}
+use Rattle.plain_laws.proofs.Leaving.{Leaves, flow_other, room_kept, send_low_kept, unborn_kept}
 use Rattle.plain_laws.proofs.Streams.{apart_from, own_or_other, same_number}
 use Rattle.plain_laws.proofs.Tellings.{live_flows_drop, one_own, told_cons, told_own}
 use Rattle.plain_laws.specs.Owing.{nothing}
@@ -13,96 +14,98 @@ use Rattle.plain_laws.specs.Regular.{Books, FlowBooks, IsLiveFlow, IsRising, Reg
 use Rattle.std.proofs.Common.{ap, arith, inl, refl, subst, sym, ◌∙◌}
 use Rattle.std.proofs.lemmas.Bool.Decides.{nat_tests}
 use Rattle.std.specs.List.{AllByRecursion}
-use Rattle.std.specs.Prelude.{List, [], drop, false, if◌then◌else◌, map, max, nat_lt, true, ℕ, ◌&&◌, ◌+◌, ◌==◌, ◌∷◌, ◌≡◌}
-use Rattle.tape_laws.specs.Dispatches.{has, live, started}
+use Rattle.std.specs.Prelude.{List, [], drop, false, if◌then◌else◌, map, true, ℕ, ◌&&◌, ◌+◌, ◌==◌, ◌∷◌, ◌≡◌}
+use Rattle.tape_laws.specs.Dispatches.{live, started}
 use Rattle.tape_laws.specs.Flows.{request, same_flow}
-use Rattle.tape_laws.specs.History.{History, NoMark, Noted, Step}
+use Rattle.tape_laws.specs.History.{NoMark, Noted, Step}
 use Rattle.tape_laws.specs.Pauses.{Heads, is_silent, pending_lows, resumes}
 use Rattle.tape_laws.specs.Plain.{plain_setup}
-use Rattle.tape_laws.specs.World.{out}
 use Rattle.tape_laws.specs.declared.limits.PlainLimits.{PlainLimits}
 use Rattle.flow_gate.specs.declared.ids.BufferId.TheVariants as buffer
 use Rattle.flow_notes.specs.declared.notes.Note.TheVariants as note
 
 -- what a resume leaves of a stream that it isn't of
-pub resume_leaves : (limits : PlainLimits) (x y : ℕ) (b : BufferId) (h : History NoMark) → (x == y) ≡ false
-    → pending_lows (plain_setup limits) (buffer.Send (request y)) (Noted (note.Resume (request x) b) ∷ h) ≡ pending_lows (plain_setup limits) (buffer.Send (request y)) h
-    → Leaves limits y (Noted (note.Resume (request x) b)) h
-resume_leaves limits x y b h e el = record {
-  recv = refl;
-  send = refl;
-  send_lows = el;
-  paused = refl;
-  resumed = ap (λ c. one_if (c && true) + resumes (request y) h) e ∙ none (resumes (request y) h);
-  body = refl;
-  received = refl;
-  framed = refl;
-}
-  where
-    none : (n : ℕ) → 0 + n ≡ n
-    none n = omega arith
+module _ (limits : PlainLimits) (x y : ℕ) (b : BufferId) (h : Past) where
+  pub resume_leaves : (x == y) ≡ false
+      → lows_of limits y (Noted (note.Resume (request x) b) ∷ h) ≡ lows_of limits y h
+      → Leaves limits y (Noted (note.Resume (request x) b)) h
+  resume_leaves e el = record {
+    recv = refl;
+    send = refl;
+    send_lows = el;
+    paused = refl;
+    resumed = ap (λ c. one_if (c && true) + resumes (request y) h) e ∙ none (resumes (request y) h);
+    body = refl;
+    received = refl;
+    framed = refl;
+  }
+    where
+      none : (n : ℕ) → 0 + n ≡ n
+      none n = omega arith
 
-same_flags : (limits : PlainLimits) (x y : ℕ) (b : BufferId) (h : History NoMark) → send_flag limits y (Noted (note.Resume (request x) b) ∷ h) ≡ send_flag limits y h
-same_flags limits x y b h = ap one_if (send_same limits (request y) (Noted (note.Resume (request x) b)) h refl)
+  same_flags : send_flag limits y (Noted (note.Resume (request x) b) ∷ h) ≡ send_flag limits y h
+  same_flags = ap one_if (send_same limits (request y) (Noted (note.Resume (request x) b)) h refl)
 
-same_out : (limits : PlainLimits) (x : ℕ) (b : BufferId) (h : History NoMark) → out (plain_setup limits) 0 (Noted (note.Resume (request x) b) ∷ h) ≡ out (plain_setup limits) 0 h
-same_out limits x b h = refl
+module _ (limits : PlainLimits) (x : ℕ) (b : BufferId) (h : Past) where
+  same_out : conn_out limits (Noted (note.Resume (request x) b) ∷ h) ≡ conn_out limits h
+  same_out = refl
 
-same_write : (limits : PlainLimits) (x : ℕ) (b : BufferId) (h : History NoMark) → write_flag limits (Noted (note.Resume (request x) b) ∷ h) ≡ write_flag limits h
-same_write limits x b h = ap one_if (write_same limits (Noted (note.Resume (request x) b)) h (same_out limits x b h))
+  same_write : write_flag limits (Noted (note.Resume (request x) b) ∷ h) ≡ write_flag limits h
+  same_write = ap one_if (write_same limits (Noted (note.Resume (request x) b)) h (same_out))
 
 told : (p r a w s m a' w' s' m' k : ℕ) → a' ≡ a → w' ≡ w → s + m ≡ k + (s' + m')
     → (p + 0) + (r + ((a + w) + (s + m))) ≡ (p + 0) + ((k + r) + ((a' + w') + (s' + m')))
 told p r a w s m a' w' s' m' k ea ew e = omega arith
 
-resume_may : (limits : PlainLimits) (x : ℕ) (b : BufferId) (h : History NoMark) → Books limits nothing h → is_swept h ≡ false → has (live h) x ≡ true
-    → Heads (request x) (pending_lows (plain_setup limits) b h) → is_silent b h ≡ false → MayAdd limits (note.Resume (request x) b) h
-resume_may limits x b h s fresh is first loud = record {
-  allowed = tt;
-  paused = (s.due, first, loud);
-  counted = counted_of limits nothing h s refl;
-  ends = tt;
-  in_turn = tt;
-  doomed = is;
-  swept = fresh;
-  answered = free_meets limits _ (note.Resume (request x) b) s.asks tt;
-  only = tt;
-  quiet = tt;
-  licensed = tt;
-}
+module _ (limits : PlainLimits) (x : ℕ) where
+  resume_may : (b : BufferId) (h : Past) → Books limits nothing h → is_swept h ≡ false → Alive h x
+      → Heads (request x) (pending_lows (plain_setup limits) b h) → is_silent b h ≡ false → MayAdd limits (note.Resume (request x) b) h
+  resume_may b h s fresh is first loud = record {
+    allowed = tt;
+    paused = (s.due, first, loud);
+    counted = counted_of limits nothing h s refl;
+    ends = tt;
+    in_turn = tt;
+    doomed = is;
+    swept = fresh;
+    answered = free_meets limits _ (note.Resume (request x) b) s.asks tt;
+    only = tt;
+    quiet = tt;
+    licensed = tt;
+  }
 
--- ---- of the send buffer
+  -- ---- of the send buffer
 
-pub own_lows : (limits : PlainLimits) (x : ℕ) (h : History NoMark) → pending_lows (plain_setup limits) (buffer.Send (request x)) h ≡ request x ∷ []
-    → pending_lows (plain_setup limits) (buffer.Send (request x)) (Noted (note.Resume (request x) (buffer.Send (request x))) ∷ h) ≡ []
-own_lows limits x h e = ap (λ b. drop (if b && true then 1 else 0) (pending_lows (plain_setup limits) (buffer.Send (request x)) h)) (same_number x) ∙ ap (drop 1) e
+  pub own_lows : (h : Past) → lows_of limits x h ≡ request x ∷ []
+      → lows_of limits x (Noted (note.Resume (request x) (buffer.Send (request x))) ∷ h) ≡ []
+  own_lows h e = ap (λ b. drop (if b && true then 1 else 0) (lows_of limits x h)) (same_number x) ∙ ap (drop 1) e
 
-pub other_lows : (limits : PlainLimits) (x y : ℕ) (h : History NoMark) → (x == y) ≡ false
-    → pending_lows (plain_setup limits) (buffer.Send (request y)) (Noted (note.Resume (request x) (buffer.Send (request x))) ∷ h) ≡ pending_lows (plain_setup limits) (buffer.Send (request y)) h
-other_lows limits x y h e = ap (λ b. drop (if b && true then 1 else 0) (pending_lows (plain_setup limits) (buffer.Send (request y)) h)) e
+  pub other_lows : (y : ℕ) (h : Past) → (x == y) ≡ false
+      → lows_of limits y (Noted (note.Resume (request x) (buffer.Send (request x))) ∷ h) ≡ lows_of limits y h
+  other_lows y h e = ap (λ b. drop (if b && true then 1 else 0) (lows_of limits y h)) e
 
-send_own : (limits : PlainLimits) (x : ℕ) (h : History NoMark) → FlowBooks limits nothing x h → pending_lows (plain_setup limits) (buffer.Send (request x)) h ≡ request x ∷ []
-    → FlowBooks limits nothing x (Noted (note.Resume (request x) (buffer.Send (request x))) ∷ h)
-send_own limits x h f e =
-    let b = buffer.Send (request x) in
-    let step : Step NoMark = Noted (note.Resume (request x) b) in
-    record {
-      tally = flow_tally limits [] [] x step h
-          (told _ _ _ _ _ _ _ _ _ _ (one_if (same_flow (request x) (request x))) (same_flags limits x x b h) (same_write limits x b h)
-          (less _ _ _ _ (one_own x) (ap (told_of x) e ∙ told_own x []) (ap (told_of x) (own_lows limits x h e)))) f.tally;
-      send_low = inl (own_lows limits x h e);
-      recv_room = f.recv_room;
-      send_room = f.send_room;
-      read = f.read;
-      over = f.over;
-      unframed = f.unframed;
-    }
-  where
-    less : (k s m s' : ℕ) → k ≡ 1 → s ≡ 1 + 0 → s' ≡ 0 → s + m ≡ k + (s' + m)
-    less k s m s' ek es es' = omega arith
+  send_own : (h : Past) → FlowBooks limits nothing x h → lows_of limits x h ≡ request x ∷ []
+      → FlowBooks limits nothing x (Noted (note.Resume (request x) (buffer.Send (request x))) ∷ h)
+  send_own h f e =
+      let b = buffer.Send (request x) in
+      let step : Step NoMark = Noted (note.Resume (request x) b) in
+      record {
+        tally = flow_tally limits [] [] x step h
+            (told _ _ _ _ _ _ _ _ _ _ (one_if (same_flow (request x) (request x))) (same_flags limits x x b h) (same_write limits x b h)
+            (less _ _ _ _ (one_own x) (ap (told_of x) e ∙ told_own x []) (ap (told_of x) (own_lows h e)))) f.tally;
+        send_low = inl (own_lows h e);
+        recv_room = f.recv_room;
+        send_room = f.send_room;
+        read = f.read;
+        over = f.over;
+        unframed = f.unframed;
+      }
+    where
+      less : (k s m s' : ℕ) → k ≡ 1 → s ≡ 1 + 0 → s' ≡ 0 → s + m ≡ k + (s' + m)
+      less k s m s' ek es es' = omega arith
 
-send_books : (limits : PlainLimits) (x : ℕ) (h : History NoMark) → Books limits nothing h → has (live h) x ≡ true
-    → pending_lows (plain_setup limits) (buffer.Send (request x)) h ≡ request x ∷ [] → Books limits nothing (Noted (note.Resume (request x) (buffer.Send (request x))) ∷ h)
+send_books : (limits : PlainLimits) (x : ℕ) (h : Past) → Books limits nothing h → Alive h x
+    → lows_of limits x h ≡ request x ∷ [] → Books limits nothing (Noted (note.Resume (request x) (buffer.Send (request x))) ∷ h)
 send_books limits x h s is e =
     let b = buffer.Send (request x) in
     let step : Step NoMark = Noted (note.Resume (request x) b) in
@@ -112,7 +115,7 @@ send_books limits x h s is e =
       opened = s.opened;
       known = s.known;
       unclosed = s.unclosed;
-      write_room = same_len_if (nat_lt 0 limits.write) _ _ (limits.write + max 65536 (limits.quantum + 9)) (same_out limits x b h) s.write_room;
+      write_room = room_kept limits (same_out limits x b h) s.write_room;
       rising = s.rising;
       born = s.born;
       said = s.said;
@@ -126,17 +129,16 @@ send_books limits x h s is e =
       hushed = λ y ey. let d = apart_from (live h) x y is ey in other_lows limits x y h d ∙ s.hushed y ey;
     }
 
-pub resume_send_regular : (limits : PlainLimits) (x : ℕ) (h : History NoMark) → Regular limits nothing h → is_swept h ≡ false → has (live h) x ≡ true
-    → pending_lows (plain_setup limits) (buffer.Send (request x)) h ≡ request x ∷ []
+pub resume_send_regular : (limits : PlainLimits) (x : ℕ) (h : Past) → Regular limits nothing h → is_swept h ≡ false → Alive h x
+    → lows_of limits x h ≡ request x ∷ []
     → Regular limits nothing (Noted (note.Resume (request x) (buffer.Send (request x))) ∷ h)
 resume_send_regular limits x h r fresh is e =
-    let P : List FlowId → Type 0 = Heads (request x) in
-    regular_more limits nothing nothing (note.Resume (request x) (buffer.Send (request x))) h r (resume_may limits x (buffer.Send (request x)) h r.books fresh is (subst P (sym e) refl) refl)
+    regular_more limits nothing nothing (note.Resume (request x) (buffer.Send (request x))) h r (resume_may limits x (buffer.Send (request x)) h r.books fresh is (subst (Heads (request x)) (sym e) refl) refl)
     (send_books limits x h r.books is e)
 
 -- ---- of the write buffer
 
-write_flow : (limits : PlainLimits) (x y : ℕ) (rest : List FlowId) (h : History NoMark) → FlowBooks limits nothing y h → pending_lows (plain_setup limits) (buffer.Write 0) h ≡ request x ∷ rest
+write_flow : (limits : PlainLimits) (x y : ℕ) (rest : List FlowId) (h : Past) → FlowBooks limits nothing y h → conn_lows limits h ≡ request x ∷ rest
     → FlowBooks limits nothing y (Noted (note.Resume (request x) (buffer.Write 0)) ∷ h)
 write_flow limits x y rest h f e =
     let b = buffer.Write 0 in
@@ -162,8 +164,8 @@ write_flow limits x y rest h f e =
         numbers : (a b : ℕ) → (a == b) ≡ (b == a)
         numbers a b = grind (arith, nat_tests)
 
-write_books : (limits : PlainLimits) (x : ℕ) (rest : List FlowId) (h : History NoMark) → Books limits nothing h → has (live h) x ≡ true
-    → pending_lows (plain_setup limits) (buffer.Write 0) h ≡ request x ∷ rest → Books limits nothing (Noted (note.Resume (request x) (buffer.Write 0)) ∷ h)
+write_books : (limits : PlainLimits) (x : ℕ) (rest : List FlowId) (h : Past) → Books limits nothing h → Alive h x
+    → conn_lows limits h ≡ request x ∷ rest → Books limits nothing (Noted (note.Resume (request x) (buffer.Write 0)) ∷ h)
 write_books limits x rest h s is e =
     let b = buffer.Write 0 in
     let step : Step NoMark = Noted (note.Resume (request x) b) in
@@ -173,7 +175,7 @@ write_books limits x rest h s is e =
       opened = s.opened;
       known = s.known;
       unclosed = s.unclosed;
-      write_room = same_len_if (nat_lt 0 limits.write) _ _ (limits.write + max 65536 (limits.quantum + 9)) (same_out limits x b h) s.write_room;
+      write_room = room_kept limits (same_out limits x b h) s.write_room;
       rising = s.rising;
       born = s.born;
       said = s.said;
@@ -181,16 +183,14 @@ write_books limits x rest h s is e =
       unborn = λ y ey. let d = apart_from (started h) x y (s.born x is) ey in
           unborn_kept limits y step h (resume_leaves limits x y b h d refl) (record { ended = refl; pairs = refl; must = refl }) (s.unborn y ey);
       owed = tt;
-      write_lows = live_flows_drop 1 (live h) (pending_lows (plain_setup limits) (buffer.Write 0) h) s.write_lows;
-      write_once = let P : List FlowId → Type 0 = λ fs. IsRising (map (λ f. f.exchange) fs) → IsRising (map (λ f. f.exchange) (drop 1 fs)) in subst P (sym e) (λ r. r.1) s.write_once;
+      write_lows = live_flows_drop 1 (live h) (conn_lows limits h) s.write_lows;
+      write_once = subst (λ (fs : List FlowId). IsRising (map (λ f. f.exchange) fs) → IsRising (map (λ f. f.exchange) (drop 1 fs))) (sym e) (λ r. r.1) s.write_once;
       hushed = s.hushed;
     }
 
-pub resume_write_regular : (limits : PlainLimits) (x : ℕ) (rest : List FlowId) (h : History NoMark) → Regular limits nothing h → is_swept h ≡ false
-    → pending_lows (plain_setup limits) (buffer.Write 0) h ≡ request x ∷ rest → Regular limits nothing (Noted (note.Resume (request x) (buffer.Write 0)) ∷ h)
+pub resume_write_regular : (limits : PlainLimits) (x : ℕ) (rest : List FlowId) (h : Past) → Regular limits nothing h → is_swept h ≡ false
+    → conn_lows limits h ≡ request x ∷ rest → Regular limits nothing (Noted (note.Resume (request x) (buffer.Write 0)) ∷ h)
 resume_write_regular limits x rest h r fresh e =
-    let P : List FlowId → Type 0 = Heads (request x) in
-    let Q : List FlowId → Type 0 = AllByRecursion (IsLiveFlow (live h)) in
-    let is : has (live h) x ≡ true = (subst Q e r.books.write_lows).0.live in
-    regular_more limits nothing nothing (note.Resume (request x) (buffer.Write 0)) h r (resume_may limits x (buffer.Write 0) h r.books fresh is (subst P (sym e) refl) r.books.unclosed)
+    let is : Alive h x = (subst (AllByRecursion (IsLiveFlow (live h))) e r.books.write_lows).0.live in
+    regular_more limits nothing nothing (note.Resume (request x) (buffer.Write 0)) h r (resume_may limits x (buffer.Write 0) h r.books fresh is (subst (Heads (request x)) (sym e) refl) r.books.unclosed)
     (write_books limits x rest h r.books is e)

@@ -6,52 +6,41 @@ use Rattle.plain_laws.specs.Regular.{IsRising}
 use Rattle.std.proofs.Common.{ap, arith, refl, subst, sym, ◌∙◌}
 use Rattle.std.proofs.lemmas.Bool.Decides.{nat_tests}
 use Rattle.std.specs.Prelude.{Bool, List, [], false, filter, flat_map, if◌then◌else◌, length, min, nat_le, nat_lt, not, true, ℕ, ◌&&◌, ◌++◌, ◌<◌, ◌==◌, ◌||◌, ◌∷◌, ◌≡◌, ◌≤◌}
+use Rattle.plain_laws.specs.Words.{Past, Alive, last_out, next_out, recv_at, send_at}
 use Rattle.tape_laws.specs.Dispatches.{has, live}
-use Rattle.tape_laws.specs.Ends.{BodyUnit, FlowUnit, NoUnit, carried, carries_end, end_framed, next_unit}
+use Rattle.tape_laws.specs.Framing.{carries_end, next_unit}
+use Rattle.flow_rules.specs.Units.{carried}
+use Rattle.flow_rules.specs.declared.unit.Unit.{Unit as FlowUnit}
+use Rattle.flow_rules.specs.declared.unit.Unit.TheVariants.{Body as BodyUnit, Nothing as NoUnit}
 use Rattle.tape_laws.specs.Flows.{request}
-use Rattle.tape_laws.specs.History.{History, NoMark}
-use Rattle.tape_laws.specs.Order.{Flows, Nothing, first_flow, framed_last, is_unit, next_on}
+use Rattle.flow_rules.specs.Units.{is_unit}
+use Rattle.tape_laws.specs.Order.{Flows, Nothing, first_flow}
 use Rattle.tape_laws.specs.Plain.{plain_ended, plain_setup}
-use Rattle.tape_laws.specs.World.{place}
+use Rattle.tape_laws.specs.State.{state_of}
 use Rattle.tape_laws.specs.declared.limits.PlainLimits.{PlainLimits}
+use Rattle.plain_laws.proofs.Streams.{both_of as and_true}
 
 -- ---- the unit of a flow
 
-same_end : (e z s : Bool) → (e && ((z && true) && s) && true) ≡ (e && (z && s))
+shorter : (z s : Bool) → ((z && true) && s) ≡ (z && s)
+shorter true s = refl
+shorter false s = refl
+
+same_end : (e z s : Bool) → ((e && ((z && true) && s)) && true) ≡ (e && (z && s))
 same_end true true true = refl
 same_end true true false = refl
 same_end true false s = refl
 same_end false z s = refl
 
-same_unit : (c : ℕ) (e z s t fr : Bool)
-    → (if nat_lt 0 c then BodyUnit c (e && ((z && true) && s) && true) else if not (e && ((z && true) && t)) || fr then NoUnit else BodyUnit 0 true)
-    ≡ (if nat_lt 0 c then BodyUnit c (e && (z && s)) else if not (e && (z && t)) || fr then NoUnit else BodyUnit 0 true)
-same_unit c true true true t fr = refl
-same_unit c true true false t fr = refl
-same_unit c true false s t fr = refl
-same_unit c false z s t fr = refl
+twice : (q s : ℕ) → min (min q q) s ≡ min q s
+twice q s = omega arith
 
-pub carried_is : (limits : PlainLimits) (x : ℕ) (h : History NoMark) → carried (plain_setup limits) (request x) h ≡ min limits.quantum (length (place (plain_setup limits) (request x) 1 h))
-carried_is limits x h = twice limits.quantum (length (place (plain_setup limits) (request x) 1 h))
-  where
-    twice : (q s : ℕ) → min (min q q) s ≡ min q s
-    twice q s = omega arith
+pub carried_is : (limits : PlainLimits) (x : ℕ) (h : Past) → carried (state_of (plain_setup limits) (request x) h) ≡ min limits.quantum (length (send_at limits x h))
+carried_is limits x h = twice limits.quantum (length (send_at limits x h))
 
-pub carries_is : (limits : PlainLimits) (x n : ℕ) (h : History NoMark) → carries_end (plain_setup limits) (request x) n h
-    ≡ (plain_ended x h && ((length (place (plain_setup limits) (request x) 0 h) == 0) && (length (place (plain_setup limits) (request x) 1 h) == n)))
-carries_is limits x n h = same_end (plain_ended x h) (length (place (plain_setup limits) (request x) 0 h) == 0) (length (place (plain_setup limits) (request x) 1 h) == n)
-
-pub unit_is : (limits : PlainLimits) (x : ℕ) (h : History NoMark)
-    → next_unit (plain_setup limits) (request x) h
-    ≡ unit_of limits.quantum (plain_ended x h) (end_framed (plain_setup limits) (request x) h) (length (place (plain_setup limits) (request x) 0 h)) (length (place (plain_setup limits) (request x) 1 h))
-unit_is limits x h =
-    let e = plain_ended x h in
-    let r = length (place (plain_setup limits) (request x) 0 h) in
-    let s = length (place (plain_setup limits) (request x) 1 h) in
-    let fr = end_framed (plain_setup limits) (request x) h in
-    let c = carried (plain_setup limits) (request x) h in
-    same_unit c e (r == 0) (s == c) (s == 0) fr
-    ∙ ap (λ k. if nat_lt 0 k then BodyUnit k (e && ((r == 0) && (s == k))) else if not (e && ((r == 0) && (s == 0))) || fr then NoUnit else BodyUnit 0 true) (carried_is limits x h)
+pub carries_is : (limits : PlainLimits) (x n : ℕ) (h : Past) → carries_end (plain_setup limits) (request x) n h
+    ≡ (plain_ended x h && ((length (recv_at limits x h) == 0) && (length (send_at limits x h) == n)))
+carries_is limits x n h = same_end (plain_ended x h) (length (recv_at limits x h) == 0) (length (send_at limits x h) == n)
 
 -- what is told by a unit that is octets
 pub record IsBodyUnit (quantum : ℕ) (ended framed : Bool) (recv send n : ℕ) (last : Bool) : Type 0 where
@@ -60,64 +49,58 @@ pub record IsBodyUnit (quantum : ℕ) (ended framed : Bool) (recv send n : ℕ) 
   pub some : (nat_lt 0 n || last) ≡ true
   pub again : framed ≡ true → 0 < n
 
-positive_of : (n : ℕ) → nat_lt 0 n ≡ true → 0 < n
-positive_of n e = grind (arith, nat_tests)
-
-none_of : (n : ℕ) → nat_lt 0 n ≡ false → n ≡ 0
-none_of n e = grind (arith, nat_tests)
-
 pub body_unit : (q r s n : ℕ) (e fr last : Bool) → unit_of q e fr r s ≡ BodyUnit n last → IsBodyUnit q e fr r s n last
-body_unit q r s n e fr last u = by_case (nat_lt 0 (min q s)) octets (λ f. empty f (not (e && ((r == 0) && (s == 0))) || fr) refl)
+body_unit q r s n e fr last =
+    by (nat_lt 0 (min (min q q) s)) refl (e && (((r == 0) && true) && (s == 0))) refl fr refl
   where
-    octets : nat_lt 0 (min q s) ≡ true → IsBodyUnit q e fr r s n last
-    octets t =
-        let v : BodyUnit (min q s) (e && ((r == 0) && (s == min q s))) ≡ BodyUnit n last =
-        sym (ap (λ b. if b then BodyUnit (min q s) (e && ((r == 0) && (s == min q s))) else if not (e && ((r == 0) && (s == 0))) || fr then NoUnit else BodyUnit 0 true) t) ∙ u in
-        let same : min q s ≡ n = cc in
-        let end : (e && ((r == 0) && (s == min q s))) ≡ last = cc in
-        let more : nat_lt 0 n ≡ true = ap (λ k. nat_lt 0 k) (sym same) ∙ t in
-        record { all = sym same; ends = sym end ∙ ap (λ k. e && ((r == 0) && (s == k))) same; some = or_left (nat_lt 0 n) last more; again = λ g. positive_of n more }
+    positive : nat_lt 0 n ≡ true → 0 < n
+    positive t = grind (arith, nat_tests)
 
-    ended_of : (b fr : Bool) → (not b || fr) ≡ false → (b ≡ true) × (fr ≡ false)
-    ended_of true fr e = (refl, e)
-    ended_of false fr e = cc
+    none : nat_lt 0 (min (min q q) s) ≡ false → 0 ≡ n → n ≡ min q s
+    none t e = let z : min (min q q) s ≡ 0 = grind (arith, nat_tests) in omega (arith, z, e)
 
-    empty : nat_lt 0 (min q s) ≡ false → (b : Bool) → (not (e && ((r == 0) && (s == 0))) || fr) ≡ b → IsBodyUnit q e fr r s n last
-    empty f true eb =
-        let v : NoUnit ≡ BodyUnit n last =
-        sym (ap (λ b. if b then BodyUnit (min q s) (e && ((r == 0) && (s == min q s))) else if not (e && ((r == 0) && (s == 0))) || fr then NoUnit else BodyUnit 0 true) f
-        ∙ ap (λ b. if b then NoUnit else BodyUnit 0 true) eb) ∙ u in
-        absurd (cc)
-    empty f false eb =
-        let v : BodyUnit 0 true ≡ BodyUnit n last =
-        sym (ap (λ b. if b then BodyUnit (min q s) (e && ((r == 0) && (s == min q s))) else if not (e && ((r == 0) && (s == 0))) || fr then NoUnit else BodyUnit 0 true) f
-        ∙ ap (λ b. if b then NoUnit else BodyUnit 0 true) eb) ∙ u in
+    by : (b : Bool) → nat_lt 0 (min (min q q) s) ≡ b → (t : Bool) → (e && (((r == 0) && true) && (s == 0))) ≡ t → (f : Bool) → fr ≡ f
+        → (if b then BodyUnit (min (min q q) s) ((e && (((r == 0) && true) && (s == min (min q q) s))) && true) else if not t || f then NoUnit else BodyUnit 0 true) ≡ BodyUnit n last
+        → IsBodyUnit q e fr r s n last
+    by true b t _ f _ u =
+        let same : min (min q q) s ≡ n = cc in
+        let end : ((e && (((r == 0) && true) && (s == min (min q q) s))) && true) ≡ last = cc in
+        let more : nat_lt 0 n ≡ true = ap (λ k. nat_lt 0 k) (sym same) ∙ b in
+        record {
+          all = sym same ∙ twice q s;
+          ends = sym end ∙ (same_end e (r == 0) (s == min (min q q) s) ∙ ap (λ k. e && ((r == 0) && (s == k))) same);
+          some = or_left (nat_lt 0 n) last more;
+          again = λ g. positive more;
+        }
+    by false b true t false f u =
         let same : 0 ≡ n = cc in
         let end : true ≡ last = cc in
-        let k = ended_of (e && ((r == 0) && (s == 0))) fr eb in
         record {
-          all = sym same ∙ sym (none_of (min q s) f);
-          ends = sym end ∙ sym k.0 ∙ ap (λ m. e && ((r == 0) && (s == m))) same;
+          all = none b same;
+          ends = sym end ∙ (sym t ∙ (ap (λ k. e && k) (shorter (r == 0) (s == 0)) ∙ ap (λ m. e && ((r == 0) && (s == m))) same));
           some = or_right (nat_lt 0 n) last (sym end);
-          again = λ g. not_both fr g k.1;
+          again = λ g. not_both fr g f;
         }
+    by false b true t true f u = absurd (cc)
+    by false b false t f _ u = absurd (cc)
 
 -- ---- the first of those that are ready
 
-skip_first : (p q : FlowId → Bool) (f : FlowId) (fs : List FlowId) → (p f && q f) ≡ false → filter q (filter p (f ∷ fs)) ≡ filter q (filter p fs)
-skip_first p q f fs e = pick (p f) refl
-  where
-    and_false : (a b : Bool) → (a && b) ≡ false → a ≡ true → b ≡ false
-    and_false true b e f = e
-    and_false false b e f = cc
+module _ (p q : FlowId → Bool) (f : FlowId) (fs : List FlowId) where
+  skip_first : (p f && q f) ≡ false → filter q (filter p (f ∷ fs)) ≡ filter q (filter p fs)
+  skip_first e = pick (p f) refl
+    where
+      and_false : (a b : Bool) → (a && b) ≡ false → a ≡ true → b ≡ false
+      and_false true b e f = e
+      and_false false b e f = cc
 
-    pick : (b : Bool) → p f ≡ b → filter q (if b then f ∷ filter p fs else filter p fs) ≡ filter q (filter p fs)
-    pick true t = ap (λ b. if b then f ∷ filter q (filter p fs) else filter q (filter p fs)) (and_false (p f) (q f) e t)
-    pick false t = refl
+      pick : (b : Bool) → p f ≡ b → filter q (if b then f ∷ filter p fs else filter p fs) ≡ filter q (filter p fs)
+      pick true t = ap (λ b. if b then f ∷ filter q (filter p fs) else filter q (filter p fs)) (and_false (p f) (q f) e t)
+      pick false t = refl
 
-take_first : (p q : FlowId → Bool) (f : FlowId) (fs : List FlowId) → p f ≡ true → q f ≡ true → filter q (filter p (f ∷ fs)) ≡ f ∷ filter q (filter p fs)
-take_first p q f fs ep eq =
-    ap (λ b. filter q (if b then f ∷ filter p fs else filter p fs)) ep ∙ ap (λ b. if b then f ∷ filter q (filter p fs) else filter q (filter p fs)) eq
+  take_first : p f ≡ true → q f ≡ true → filter q (filter p (f ∷ fs)) ≡ f ∷ filter q (filter p fs)
+  take_first ep eq =
+      ap (λ b. filter q (if b then f ∷ filter p fs else filter p fs)) ep ∙ ap (λ b. if b then f ∷ filter q (filter p fs) else filter q (filter p fs)) eq
 
 -- those that pass both tests begin with x, where it passes them and none before it does
 first_passing : (p q : FlowId → Bool) (xs : List ℕ) (x : ℕ) → IsRising xs → has xs x ≡ true → p (request x) ≡ true → q (request x) ≡ true
@@ -133,12 +116,7 @@ first_passing p q (y ∷ ys) x r e ep eq least =
 
     own : y ≡ x → (rest : List FlowId) × (filter q (filter p (flat_map (λ z. request z ∷ []) (y ∷ ys))) ≡ request x ∷ rest)
     own e =
-        let P : ℕ → Type 0 = λ v. (rest : List FlowId) × (filter q (filter p (flat_map (λ z. request z ∷ []) (v ∷ ys))) ≡ request x ∷ rest) in
-        subst P (sym e) (filter q (filter p (flat_map (λ z. request z ∷ []) ys)), take_first p q (request x) (flat_map (λ z. request z ∷ []) ys) ep eq)
-
-    and_true : (a b : Bool) → (a && b) ≡ true → (a ≡ true) × (b ≡ true)
-    and_true true b e = (refl, e)
-    and_true false b e = cc
+        subst (λ (v : ℕ). (rest : List FlowId) × (filter q (filter p (flat_map (λ z. request z ∷ []) (v ∷ ys))) ≡ request x ∷ rest)) (sym e) (filter q (filter p (flat_map (λ z. request z ∷ []) ys)), take_first p q (request x) (flat_map (λ z. request z ∷ []) ys) ep eq)
 
     greater : (a b : ℕ) → a < b → b ≤ a → ⊥
     greater a b e f = omega arith
@@ -161,7 +139,7 @@ none_passing p q (y ∷ ys) none =
     ∙ none_passing p q ys (λ z e. none z (or_right (y == z) (has ys z) e))
 
 -- the flow has a unit
-abbrev ready_flow : PlainLimits → History NoMark → FlowId → Bool
+abbrev ready_flow : PlainLimits → Past → FlowId → Bool
 ready_flow limits h f = is_unit (next_unit (plain_setup limits) f h)
 
 abbrev beyond : ℕ → FlowId → Bool
@@ -170,56 +148,57 @@ beyond last f = nat_lt last f.exchange
 abbrev within : ℕ → FlowId → Bool
 within last f = nat_le f.exchange last
 
-first_of_two : (limits : PlainLimits) (h : History NoMark) (f : FlowId) (ds bs cs : List FlowId) → ds ≡ f ∷ cs → first_flow (plain_setup limits) (ds ++ bs) h ≡ Flows f (next_unit (plain_setup limits) f h)
-first_of_two limits h f ds bs cs e = ap (λ (fs : List FlowId). first_flow (plain_setup limits) (fs ++ bs) h) e
+module _ (limits : PlainLimits) where
+  first_of_two : (h : Past) (f : FlowId) (ds bs cs : List FlowId) → ds ≡ f ∷ cs → first_flow (plain_setup limits) (ds ++ bs) h ≡ Flows f (next_unit (plain_setup limits) f h)
+  first_of_two h f ds bs cs e = ap (λ (fs : List FlowId). first_flow (plain_setup limits) (fs ++ bs) h) e
 
-pub next_above : (limits : PlainLimits) (x : ℕ) (h : History NoMark) → IsRising (live h) → IsNextAbove limits x h
-    → next_on (plain_setup limits) 0 h ≡ Flows (request x) (next_unit (plain_setup limits) (request x) h)
-next_above limits x h r n =
-    let last = framed_last (plain_setup limits) 0 h in
-    let k = first_passing (ready_flow limits h) (beyond last) (live h) x r n.lives n.ready (beyond_is last x n.after) (λ y e ep eq. n.least y e ep (beyond_of last y eq)) in
-    first_of_two limits h (request x) _ _ k.0 k.1
-  where
-    beyond_is : (a b : ℕ) → a < b → nat_lt a b ≡ true
-    beyond_is a b e = grind (arith, nat_tests)
+  pub next_above : (x : ℕ) (h : Past) → IsRising (live h) → IsNextAbove limits x h
+      → next_out limits h ≡ Flows (request x) (next_unit (plain_setup limits) (request x) h)
+  next_above x h r n =
+      let last = last_out limits h in
+      let k = first_passing (ready_flow limits h) (beyond last) (live h) x r n.lives n.ready (beyond_is last x n.after) (λ y e ep eq. n.least y e ep (beyond_of last y eq)) in
+      first_of_two h (request x) _ _ k.0 k.1
+    where
+      beyond_is : (a b : ℕ) → a < b → nat_lt a b ≡ true
+      beyond_is a b e = grind (arith, nat_tests)
 
-    beyond_of : (a b : ℕ) → nat_lt a b ≡ true → a < b
-    beyond_of a b e = grind (arith, nat_tests)
+      beyond_of : (a b : ℕ) → nat_lt a b ≡ true → a < b
+      beyond_of a b e = grind (arith, nat_tests)
 
-pub next_around : (limits : PlainLimits) (x : ℕ) (h : History NoMark) → IsRising (live h) → IsNextAround limits x h
-    → next_on (plain_setup limits) 0 h ≡ Flows (request x) (next_unit (plain_setup limits) (request x) h)
-next_around limits x h r n =
-    let last = framed_last (plain_setup limits) 0 h in
-    let k = first_passing (ready_flow limits h) (within last) (live h) x r n.lives n.ready (within_is x last (n.none x n.lives n.ready)) (λ y e ep eq. n.least y e ep) in
-    let z = none_passing (ready_flow limits h) (beyond last) (live h) (λ y e. not_beyond y last (ready_flow limits h (request y)) (n.none y e)) in
-    ap (λ (fs : List FlowId). first_flow (plain_setup limits) (fs ++ filter (within last) (filter (ready_flow limits h) (flat_map (λ y. request y ∷ []) (live h)))) h) z
-    ∙ ap (λ (fs : List FlowId). first_flow (plain_setup limits) fs h) k.1
-  where
-    within_is : (a b : ℕ) → a ≤ b → nat_le a b ≡ true
-    within_is a b e = grind (arith, nat_tests)
+  pub next_around : (x : ℕ) (h : Past) → IsRising (live h) → IsNextAround limits x h
+      → next_out limits h ≡ Flows (request x) (next_unit (plain_setup limits) (request x) h)
+  next_around x h r n =
+      let last = last_out limits h in
+      let k = first_passing (ready_flow limits h) (within last) (live h) x r n.lives n.ready (within_is x last (n.none x n.lives n.ready)) (λ y e ep eq. n.least y e ep) in
+      let z = none_passing (ready_flow limits h) (beyond last) (live h) (λ y e. not_beyond y last (ready_flow limits h (request y)) (n.none y e)) in
+      ap (λ (fs : List FlowId). first_flow (plain_setup limits) (fs ++ filter (within last) (filter (ready_flow limits h) (flat_map (λ y. request y ∷ []) (live h)))) h) z
+      ∙ ap (λ (fs : List FlowId). first_flow (plain_setup limits) fs h) k.1
+    where
+      within_is : (a b : ℕ) → a ≤ b → nat_le a b ≡ true
+      within_is a b e = grind (arith, nat_tests)
 
-    not_beyond : (y last : ℕ) (b : Bool) → (b ≡ true → y ≤ last) → (b && nat_lt last y) ≡ false
-    not_beyond y last true f = let k = f refl in past y last k
-      where
-        past : (y last : ℕ) → y ≤ last → nat_lt last y ≡ false
-        past y last e = grind (arith, nat_tests)
-    not_beyond y last false f = refl
+      not_beyond : (y last : ℕ) (b : Bool) → (b ≡ true → y ≤ last) → (b && nat_lt last y) ≡ false
+      not_beyond y last true f = let k = f refl in past y last k
+        where
+          past : (y last : ℕ) → y ≤ last → nat_lt last y ≡ false
+          past y last e = grind (arith, nat_tests)
+      not_beyond y last false f = refl
 
-pub next_none : (limits : PlainLimits) (h : History NoMark) → ((x : ℕ) → has (live h) x ≡ true → is_ready limits x h ≡ false) → next_on (plain_setup limits) 0 h ≡ Nothing
-next_none limits h none =
-    let last = framed_last (plain_setup limits) 0 h in
-    let a = none_passing (ready_flow limits h) (beyond last) (live h) (λ y e. neither (ready_flow limits h (request y)) _ (none y e)) in
-    let b = none_passing (ready_flow limits h) (within last) (live h) (λ y e. neither (ready_flow limits h (request y)) _ (none y e)) in
-    ap (λ (fs : List FlowId). first_flow (plain_setup limits) (fs ++ filter (within last) (filter (ready_flow limits h) (flat_map (λ y. request y ∷ []) (live h)))) h) a
-    ∙ ap (λ (fs : List FlowId). first_flow (plain_setup limits) fs h) b
-  where
-    neither : (a b : Bool) → a ≡ false → (a && b) ≡ false
-    neither true b e = cc
-    neither false b e = refl
+  pub next_none : (h : Past) → ((x : ℕ) → Alive h x → is_ready limits x h ≡ false) → next_out limits h ≡ Nothing
+  next_none h none =
+      let last = last_out limits h in
+      let a = none_passing (ready_flow limits h) (beyond last) (live h) (λ y e. neither (ready_flow limits h (request y)) _ (none y e)) in
+      let b = none_passing (ready_flow limits h) (within last) (live h) (λ y e. neither (ready_flow limits h (request y)) _ (none y e)) in
+      ap (λ (fs : List FlowId). first_flow (plain_setup limits) (fs ++ filter (within last) (filter (ready_flow limits h) (flat_map (λ y. request y ∷ []) (live h)))) h) a
+      ∙ ap (λ (fs : List FlowId). first_flow (plain_setup limits) fs h) b
+    where
+      neither : (a b : Bool) → a ≡ false → (a && b) ≡ false
+      neither true b e = cc
+      neither false b e = refl
 
-no_first : (limits : PlainLimits) (h : History NoMark) (fs : List FlowId) → first_flow (plain_setup limits) fs h ≡ Nothing → fs ≡ []
-no_first limits h [] e = refl
-no_first limits h (f ∷ fs) e = absurd (cc)
+  no_first : (h : Past) (fs : List FlowId) → first_flow (plain_setup limits) fs h ≡ Nothing → fs ≡ []
+  no_first h [] e = refl
+  no_first h (f ∷ fs) e = absurd (cc)
 
 both_empty : (ds bs : List FlowId) → ds ++ bs ≡ [] → (ds ≡ []) × (bs ≡ [])
 both_empty [] bs e = (refl, e)
@@ -244,12 +223,11 @@ not_passing p q (y ∷ ys) x none e eq =
 
     own : y ≡ x → p (request x) ≡ false
     own e =
-        let P : ℕ → Type 0 = λ v. filter q (filter p (request v ∷ flat_map (λ z. request z ∷ []) ys)) ≡ [] in
-        by_case (p (request x)) (λ t. absurd (some _ _ (sym (take_first p q (request x) (flat_map (λ z. request z ∷ []) ys) t eq) ∙ subst P e none))) (λ f. f)
+        by_case (p (request x)) (λ t. absurd (some _ _ (sym (take_first p q (request x) (flat_map (λ z. request z ∷ []) ys) t eq) ∙ subst (λ (v : ℕ). filter q (filter p (request v ∷ flat_map (λ z. request z ∷ []) ys)) ≡ []) e none))) (λ f. f)
 
-pub none_next : (limits : PlainLimits) (x : ℕ) (h : History NoMark) → next_on (plain_setup limits) 0 h ≡ Nothing → has (live h) x ≡ true → is_ready limits x h ≡ false
+pub none_next : (limits : PlainLimits) (x : ℕ) (h : Past) → next_out limits h ≡ Nothing → Alive h x → is_ready limits x h ≡ false
 none_next limits x h none is =
-    let last = framed_last (plain_setup limits) 0 h in
+    let last = last_out limits h in
     let k = both_empty (filter (beyond last) (filter (ready_flow limits h) (flat_map (λ y. request y ∷ []) (live h)))) _ (no_first limits h _ none) in
     by_case (nat_lt last x) (λ t. not_passing (ready_flow limits h) (beyond last) (live h) x k.0 is t)
     (λ f. not_passing (ready_flow limits h) (within last) (live h) x k.1 is (then_within x last f))
@@ -258,7 +236,7 @@ none_next limits x h none is =
     then_within x last e = grind (arith, nat_tests)
 
 -- the unit of the flow that is next
-pub next_is_unit : (limits : PlainLimits) (f : FlowId) (u : FlowUnit) (h : History NoMark) → next_on (plain_setup limits) 0 h ≡ Flows f u → next_unit (plain_setup limits) f h ≡ u
+pub next_is_unit : (limits : PlainLimits) (f : FlowId) (u : FlowUnit) (h : Past) → next_out limits h ≡ Flows f u → next_unit (plain_setup limits) f h ≡ u
 next_is_unit limits f u h e = first _ e
   where
     first : (fs : List FlowId) → first_flow (plain_setup limits) fs h ≡ Flows f u → next_unit (plain_setup limits) f h ≡ u

@@ -1,41 +1,40 @@
 -- A stream starts, above every number before it.
+use Rattle.plain_laws.specs.Words.{Past, conn_high, conn_lows, conn_out, end_out, lows_of}
 use Rattle.tape_laws.specs.Doomed.{is_swept}
 use Rattle.flow_gate.specs.declared.ids.BufferId.{BufferId}
 use Rattle.flow_gate.specs.declared.ids.FlowId.{FlowId}
 use Rattle.plain_laws.proofs.Counting.{disabled_is, lows_are, one_if, told_of}
 use Rattle.plain_laws.proofs.Extending.{MayAdd, counted_of, one_owed, regular_more}
 use Rattle.plain_laws.proofs.Flags.{send_same, write_same}
-use Rattle.plain_laws.proofs.Leaving.{Leaves, flow_other, same_len, same_len_if, unborn_kept}
+use Rattle.plain_laws.proofs.Leaving.{Leaves, flow_other, once_kept, room_kept, same_len, unborn_kept}
 use Rattle.plain_laws.proofs.Moves.{where_limited}
 use Rattle.plain_laws.proofs.Rising.{rising_more}
 use Rattle.plain_laws.proofs.Streams.{all_of, by_case, has_kept, has_last, has_more, has_not, has_one, has_was, not_both, number_is, or_none, own_or_other}
 use Rattle.plain_laws.proofs.Tellings.{live_flows_kept, live_owed, owed_none, owed_one, told_absent}
 use Rattle.plain_laws.specs.Owing.{Owing, asking, due_if, owed}
-use Rattle.plain_laws.specs.Regular.{AtMost, Books, FlowBooks, IsLiveFlow, IsRising, Regular}
+use Rattle.plain_laws.specs.Regular.{AtMost, Books, FlowBooks, IsLiveFlow, Regular}
 use Rattle.std.proofs.Common.{ap, arith, inl, refl, subst, sym, ◌∙◌}
 use Rattle.std.specs.List.{AllByRecursion}
-use Rattle.std.specs.Prelude.{Bool, List, [], false, if◌then◌else◌, map, max, nat_lt, true, ℕ, ◌&&◌, ◌++◌, ◌+◌, ◌<◌, ◌==◌, ◌||◌, ◌∷◌, ◌≡◌, ◌≤◌}
+use Rattle.std.specs.Prelude.{Bool, List, [], false, if◌then◌else◌, map, true, ℕ, ◌&&◌, ◌++◌, ◌+◌, ◌<◌, ◌==◌, ◌||◌, ◌∷◌, ◌≡◌, ◌≤◌}
 use Rattle.tape_laws.specs.Demands.{MeetsFirst}
 use Rattle.tape_laws.specs.Dispatches.{before_dispatch, has, live, started}
 use Rattle.tape_laws.specs.Ends.{end_framed}
 use Rattle.tape_laws.specs.Flows.{request, same_flow}
-use Rattle.tape_laws.specs.History.{History, NoMark, Noted, Step}
-use Rattle.tape_laws.specs.Pauses.{Heads, Owed, pending_lows}
+use Rattle.tape_laws.specs.History.{NoMark, Noted, Step}
+use Rattle.tape_laws.specs.Pauses.{Heads, Owed}
 use Rattle.tape_laws.specs.Plain.{plain_setup}
 use Rattle.tape_laws.specs.Units.{Demand, WantsStart}
-use Rattle.tape_laws.specs.Watermark.{above}
-use Rattle.tape_laws.specs.World.{out}
 use Rattle.tape_laws.specs.declared.limits.PlainLimits.{PlainLimits}
 use Rattle.flow_gate.specs.declared.ids.BufferId.TheVariants as buffer
 use Rattle.flow_notes.specs.declared.notes.Note.TheVariants as note
 
-pub unstarted : (x last : ℕ) (h : History NoMark) → AtMost last (started h) → last < x → has (started h) x ≡ false
+pub unstarted : (x last : ℕ) (h : Past) → AtMost last (started h) → last < x → has (started h) x ≡ false
 unstarted x last h most less = by_case (has (started h) x) (λ t. absurd (above_all x last (most.most x t) less)) (λ f. f)
   where
     above_all : (a b : ℕ) → a ≤ b → b < a → ⊥
     above_all a b e f = omega arith
 
-pub start_leaves : (limits : PlainLimits) (x y : ℕ) (h : History NoMark) → Leaves limits y (Noted (note.Start x 0 x 0)) h
+pub start_leaves : (limits : PlainLimits) (x y : ℕ) (h : Past) → Leaves limits y (Noted (note.Start x 0 x 0)) h
 start_leaves limits x y h = record {
   recv = refl;
   send = refl;
@@ -47,7 +46,7 @@ start_leaves limits x y h = record {
   framed = refl;
 }
 
-start_may : (limits : PlainLimits) (x : ℕ) (h : History NoMark) → Books limits (asking (WantsStart x 0 x 0 ∷ [])) h → is_swept h ≡ false → has (started h) x ≡ false → MayAdd limits (note.Start x 0 x 0) h
+start_may : (limits : PlainLimits) (x : ℕ) (h : Past) → Books limits (asking (WantsStart x 0 x 0 ∷ [])) h → is_swept h ≡ false → has (started h) x ≡ false → MayAdd limits (note.Start x 0 x 0) h
 start_may limits x h s fresh new = record {
   allowed = tt;
   paused = s.due;
@@ -56,15 +55,15 @@ start_may limits x h s fresh new = record {
   in_turn = tt;
   doomed = new;
   swept = fresh;
-  answered = let P : List Demand → Type 0 = λ ds. MeetsFirst {Mark = NoMark} (plain_setup limits) ds (Noted (note.Start x 0 x 0)) in subst P (sym s.asks) refl;
-  only = let P : List Demand → Type 0 = Heads (WantsStart x 0 x 0) in subst P (sym s.asks) refl;
+  answered = subst (λ (ds : List Demand). MeetsFirst {Mark = NoMark} (plain_setup limits) ds (Noted (note.Start x 0 x 0))) (sym s.asks) refl;
+  only = subst (Heads (WantsStart x 0 x 0)) (sym s.asks) refl;
   quiet = tt;
   licensed = tt;
 }
 
 -- the pause of a stream that starts while the write buffer is above
-abbrev after_start : PlainLimits → ℕ → History NoMark → Owing
-after_start limits x h = owed (due_if (above (plain_setup limits) (buffer.Write 0) h) (buffer.Write 0) (x ∷ []))
+abbrev after_start : PlainLimits → ℕ → Past → Owing
+after_start limits x h = owed (due_if (conn_high limits h) (buffer.Write 0) (x ∷ []))
 
 start_due : (x : ℕ) (a w b : Bool) → a ≡ false → w ≡ b
     → map (λ (c : BufferId). let o : Owed = record { flow = request x; buffer = c } in o)
@@ -76,30 +75,30 @@ start_due x false false true e f = cc
 start_due x false false false e f = refl
 
 -- no end was framed in an earlier dispatch of what no end was framed of yet
-pub unframed_before : (limits : PlainLimits) (f : FlowId) (h : History NoMark) → end_framed (plain_setup limits) f h ≡ false → end_framed (plain_setup limits) f (before_dispatch h) ≡ false
+pub unframed_before : (limits : PlainLimits) (f : FlowId) (h : Past) → end_framed (plain_setup limits) f h ≡ false → end_framed (plain_setup limits) f (before_dispatch h) ≡ false
 unframed_before limits f [] e = refl
 unframed_before limits f (Noted (note.Turn k ev) ∷ h) e = e
 unframed_before limits f (Noted (note.Frame c g n last) ∷ h) e = unframed_before limits f h (or_none (same_flow g f && last) (end_framed (plain_setup limits) f h) e).1
 unframed_before limits f (step ∷ h) e = unframed_before limits f h e
 
-start_own : (limits : PlainLimits) (x : ℕ) (h : History NoMark) → Books limits (asking (WantsStart x 0 x 0 ∷ [])) h → has (started h) x ≡ false
+start_own : (limits : PlainLimits) (x : ℕ) (h : Past) → Books limits (asking (WantsStart x 0 x 0 ∷ [])) h → has (started h) x ≡ false
     → FlowBooks limits (after_start limits x h) x (Noted (note.Start x 0 x 0) ∷ h)
 start_own limits x h s new =
     let step : Step NoMark = Noted (note.Start x 0 x 0) in
     let u = s.unborn x new in
     let dead : has (live h) x ≡ false = by_case (has (live h) x) (λ t. not_both (has (started h) x) (s.born x t) new) (λ f. f) in
-    let lows_is : pending_lows (plain_setup limits) (buffer.Send (request x)) (step ∷ h) ≡ pending_lows (plain_setup limits) (buffer.Send (request x)) h = refl in
-    let write_is : pending_lows (plain_setup limits) (buffer.Write 0) (step ∷ h) ≡ pending_lows (plain_setup limits) (buffer.Write 0) h = refl in
+    let lows_is : lows_of limits x (step ∷ h) ≡ lows_of limits x h = refl in
+    let write_is : conn_lows limits (step ∷ h) ≡ conn_lows limits h = refl in
     record {
       tally = balance _ _ _ _ _ _ _ _ _ (disabled_is limits x (step ∷ h)) (lows_are limits x (step ∷ h)) u.paused u.resumed
-          (owed_one (above (plain_setup limits) (buffer.Write 0) h) (buffer.Write 0) x ∙ sym (ap one_if (write_same limits step h refl)))
+          (owed_one (conn_high limits h) (buffer.Write 0) x ∙ sym (ap one_if (write_same limits step h refl)))
           (ap one_if (send_same limits (request x) step h refl ∙ u.low)) (ap (told_of x) (lows_is ∙ s.hushed x dead))
           (ap (told_of x) write_is ∙ told_absent x (live h) _ s.write_lows dead);
       send_low = inl (lows_is ∙ s.hushed x dead);
       recv_room = same_len _ _ limits.recv u.recv (none limits.recv);
       send_room = where_limited limits.send _ (λ p. same_len _ _ (limits.send + limits.quantum) u.send (none _));
       read = u.body ∙ sym (ap (λ v. v ++ []) u.received);
-      over = λ t. not_both (end_framed (plain_setup limits) (request x) h) t u.unframed;
+      over = λ t. not_both (end_out limits x h) t u.unframed;
       unframed = unframed_before limits (request x) h u.unframed;
     }
   where
@@ -109,23 +108,23 @@ start_own limits x h s new =
     none : (n : ℕ) → 0 ≤ n
     none n = omega arith
 
-start_books : (limits : PlainLimits) (x last : ℕ) (h : History NoMark) → Books limits (asking (WantsStart x 0 x 0 ∷ [])) h → AtMost last (started h) → last < x
+start_books : (limits : PlainLimits) (x last : ℕ) (h : Past) → Books limits (asking (WantsStart x 0 x 0 ∷ [])) h → AtMost last (started h) → last < x
     → Books limits (after_start limits x h) (Noted (note.Start x 0 x 0) ∷ h)
 start_books limits x last h s most less =
     let step : Step NoMark = Noted (note.Start x 0 x 0) in
     let new = unstarted x last h most less in
-    let b = above (plain_setup limits) (buffer.Write 0) h in
-    let out_same : out (plain_setup limits) 0 (step ∷ h) ≡ out (plain_setup limits) 0 h = refl in
-    let lows_same : pending_lows (plain_setup limits) (buffer.Write 0) (step ∷ h) ≡ pending_lows (plain_setup limits) (buffer.Write 0) h = refl in
+    let b = conn_high limits h in
+    let out_same : conn_out limits (step ∷ h) ≡ conn_out limits h = refl in
+    let lows_same : conn_lows limits (step ∷ h) ≡ conn_lows limits h = refl in
     record {
       due = start_due x _ _ b (send_same limits (request x) step h refl ∙ (s.unborn x new).low) (write_same limits step h out_same);
       asks = one_owed _ _ s.asks;
       opened = s.opened;
       known = s.known;
       unclosed = s.unclosed;
-      write_room = same_len_if (nat_lt 0 limits.write) _ _ (limits.write + max 65536 (limits.quantum + 9)) out_same s.write_room;
+      write_room = room_kept limits out_same s.write_room;
       rising = rising_more (live h) x s.rising (all_of (λ y. y < x) (live h) (λ y e. under _ _ _ (most.most y (s.born y e)) less));
-      born = λ y e. by_case (x == y) (λ t. let P : ℕ → Type 0 = λ v. has (started h ++ x ∷ []) v ≡ true in subst P (number_is x y t) (has_last (started h) x))
+      born = λ y e. by_case (x == y) (λ t. subst (λ (v : ℕ). has (started h ++ x ∷ []) v ≡ true) (number_is x y t) (has_last (started h) x))
           (λ d. has_kept (started h) x y (s.born y (has_was (live h) x y e d)));
       said = λ y. s.said y ∙ swapped (x == y) (has (started h) y) ∙ sym (has_more (started h) x y);
       each = λ y e. own_or_other (λ z. FlowBooks limits (after_start limits x h) z (step ∷ h)) x y (start_own limits x h s new)
@@ -134,10 +133,9 @@ start_books limits x last h s most less =
           (owed_none b (buffer.Write 0) x y d) refl f.unframed);
       unborn = λ y e. unborn_kept limits y step h (start_leaves limits x y h) (record { ended = refl; pairs = refl; must = refl }) (s.unborn y (has_not (started h) x y e).0);
       owed = live_owed b (buffer.Write 0) (x ∷ []) (live h ++ x ∷ [])
-          (λ y e. let P : ℕ → Type 0 = λ v. has (live h ++ x ∷ []) v ≡ true in subst P (number_is x y (sym (has_one x y) ∙ e)) (has_last (live h) x));
-      write_lows = let P : List FlowId → Type 0 = AllByRecursion (IsLiveFlow (live h ++ x ∷ [])) in
-          subst P (sym lows_same) (live_flows_kept (live h) (live h ++ x ∷ []) _ (λ y e. has_kept (live h) x y e) s.write_lows);
-      write_once = let P : List FlowId → Type 0 = λ fs. IsRising (map (λ f. f.exchange) fs) in subst P (sym lows_same) s.write_once;
+          (λ y e. subst (λ (v : ℕ). has (live h ++ x ∷ []) v ≡ true) (number_is x y (sym (has_one x y) ∙ e)) (has_last (live h) x));
+      write_lows = subst (AllByRecursion (IsLiveFlow (live h ++ x ∷ []))) (sym lows_same) (live_flows_kept (live h) (live h ++ x ∷ []) _ (λ y e. has_kept (live h) x y e) s.write_lows);
+      write_once = once_kept lows_same s.write_once;
       hushed = λ y e. s.hushed y (has_not (live h) x y e).0;
     }
   where
@@ -150,8 +148,8 @@ start_books limits x last h s most less =
     under : (a b c : ℕ) → a ≤ b → b < c → a < c
     under a b c e f = omega arith
 
-pub start_regular : (limits : PlainLimits) (x last : ℕ) (h : History NoMark) → Regular limits (asking (WantsStart x 0 x 0 ∷ [])) h → is_swept h ≡ false → AtMost last (started h) → last < x
-    → Regular limits (owed (due_if (above (plain_setup limits) (buffer.Write 0) h) (buffer.Write 0) (x ∷ []))) (Noted (note.Start x 0 x 0) ∷ h)
+pub start_regular : (limits : PlainLimits) (x last : ℕ) (h : Past) → Regular limits (asking (WantsStart x 0 x 0 ∷ [])) h → is_swept h ≡ false → AtMost last (started h) → last < x
+    → Regular limits (owed (due_if (conn_high limits h) (buffer.Write 0) (x ∷ []))) (Noted (note.Start x 0 x 0) ∷ h)
 start_regular limits x last h r fresh most less =
     regular_more limits (asking (WantsStart x 0 x 0 ∷ [])) (after_start limits x h) (note.Start x 0 x 0) h r (start_may limits x h r.books fresh (unstarted x last h most less))
     (start_books limits x last h r.books most less)

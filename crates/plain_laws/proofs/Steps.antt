@@ -20,28 +20,28 @@ use Rattle.plain_laws.proofs.Unswept.{pauses_unswept}
 use Rattle.plain_laws.specs.Owing.{due_if, nothing, owed, pause_notes, pauses_for}
 use Rattle.plain_laws.specs.Regular.{Regular, Rests}
 use Rattle.plain_laws.specs.Settled.{Settled}
-use Rattle.plain_laws.specs.StepNotes.{drain_notes, frame_notes, move_notes, rise_notes}
+use Rattle.plain_laws.specs.StepNotes.{drain_notes, move_notes, rise_notes}
 use Rattle.std.proofs.Common.{ap, arith, refl, subst, sym, ◌∙◌}
 use Rattle.std.proofs.lemmas.List.{append-nil}
 use Rattle.std.specs.Prelude.{Bool, List, [], false, if◌then◌else◌, length, map, min, true, ℕ, ◌&&◌, ◌++◌, ◌+◌, ◌<◌, ◌==◌, ◌∷◌, ◌≡◌}
+use Rattle.plain_laws.specs.Words.{Past, Alive, conn_high, conn_lows, end_out, frame_of, lows_of, move_of, next_out, past_frame, past_move, recv_at, send_drains, send_high}
 use Rattle.tape_laws.specs.Dispatches.{before_dispatch, has, live}
 use Rattle.tape_laws.specs.Doomed.{condemned, is_swept}
-use Rattle.tape_laws.specs.Ends.{BodyUnit, end_framed}
+use Rattle.flow_rules.specs.declared.unit.Unit.TheVariants.{Body as BodyUnit}
 use Rattle.tape_laws.specs.Flows.{request}
-use Rattle.tape_laws.specs.History.{History, NoMark, Noted, Step, onto}
-use Rattle.tape_laws.specs.Order.{Flows, Nothing, next_on}
-use Rattle.tape_laws.specs.Pauses.{Owed, count, pending_lows}
-use Rattle.tape_laws.specs.Plain.{paired_with, plain_setup}
+use Rattle.tape_laws.specs.History.{NoMark, Noted, Step, onto}
+use Rattle.tape_laws.specs.Order.{Flows, Nothing}
+use Rattle.tape_laws.specs.Pauses.{Owed, count}
+use Rattle.tape_laws.specs.Plain.{paired_with}
 use Rattle.tape_laws.specs.PlainSession.{plain_must_end}
-use Rattle.tape_laws.specs.Watermark.{above, drains_at}
-use Rattle.tape_laws.specs.World.{gone, place}
+use Rattle.tape_laws.specs.World.{gone}
 use Rattle.tape_laws.specs.declared.limits.PlainLimits.{PlainLimits}
 use Rattle.flow_gate.specs.declared.ids.BufferId.TheVariants as buffer
 use Rattle.flow_notes.specs.declared.notes.Cause.TheVariants as cause
 use Rattle.flow_notes.specs.declared.notes.Note.TheVariants as note
 
 -- a history of whole dispatches is settled
-pub rests_settled : (limits : PlainLimits) (h : History NoMark) → Rests limits h → Settled limits h
+pub rests_settled : (limits : PlainLimits) (h : Past) → Rests limits h → Settled limits h
 rests_settled limits h r = record {
   regular = r.regular;
   untold = λ x. by_case (has (live h) x) (λ t. untold limits nothing x h (r.regular.books.each x t) (told_none limits x h r.quiet t).0) (λ f. r.regular.books.hushed x f);
@@ -64,113 +64,112 @@ many_pauses b xs false true e = cc
 many_pauses b xs false false e = refl
 
 -- the pauses that are due leave nothing to be told of the send buffers
-pub pauses_settled : (limits : PlainLimits) (due : List Owed) (h : History NoMark) → Regular limits (owed due) h → is_swept h ≡ false
-    → ((x : ℕ) → pending_lows (plain_setup limits) (buffer.Send (request x)) h ≡ []) → Settled limits (onto (pause_notes due) h)
-pauses_settled limits due h r fresh none = record {
-  regular = pauses_regular limits due h r fresh;
-  untold = λ x. pauses_lows limits (buffer.Send (request x)) due h ∙ none x;
-}
+module _ (limits : PlainLimits) where
+  pub pauses_settled : (due : List Owed) (h : Past) → Regular limits (owed due) h → is_swept h ≡ false
+      → ((x : ℕ) → lows_of limits x h ≡ []) → Settled limits (onto (pause_notes due) h)
+  pauses_settled due h r fresh none = record {
+    regular = pauses_regular limits due h r fresh;
+    untold = λ x. pauses_lows limits (buffer.Send (request x)) due h ∙ none x;
+  }
 
--- the pauses of a move are those that are due
-pub move_pauses : (limits : PlainLimits) (x n : ℕ) (h : History NoMark) → above (plain_setup limits) (buffer.Send (request x)) h ≡ false
-    → move_notes limits x n h
-    ≡ note.Move (request x) 0 n ∷ pause_notes (due_if (above (plain_setup limits) (buffer.Send (request x)) (Noted (note.Move (request x) 0 n) ∷ h)) (buffer.Send (request x)) (x ∷ []))
-move_pauses limits x n h low =
-    ap (λ (ns : List Note). note.Move (request x) 0 n ∷ ns) (one_pause (buffer.Send (request x)) x _ _ (low_rises _ (above (plain_setup limits) (buffer.Send (request x)) (Noted (note.Move (request x) 0 n) ∷ h)) low))
+  -- the pauses of a move are those that are due
+  pub move_pauses : (x n : ℕ) (h : Past) → send_high limits x h ≡ false
+      → move_notes limits x n h
+      ≡ note.Move (request x) 0 n ∷ pause_notes (due_if (send_high limits x (move_of x n ∷ h)) (buffer.Send (request x)) (x ∷ []))
+  move_pauses x n h low =
+      ap (λ (ns : List Note). note.Move (request x) 0 n ∷ ns) (one_pause (buffer.Send (request x)) x _ _ (low_rises _ (send_high limits x (move_of x n ∷ h)) low))
 
-pub move_step : (limits : PlainLimits) (x n : ℕ) (h : History NoMark) → Settled limits h → is_swept h ≡ false → has (live h) x ≡ true → count (request x) h ≡ 0
-    → 0 < n → n ≡ min limits.quantum (length (place (plain_setup limits) (request x) 0 h)) → Settled limits (onto (move_notes limits x n h) h)
-move_step limits x n h s fresh is readable some all =
-    let step : Step NoMark = Noted (note.Move (request x) 0 n) in
-    let low = (readable_low limits x h s.regular is readable).0 in
-    let P : List Note → Type 0 = λ ns. Settled limits (onto ns h) in
-    subst P (sym (move_pauses limits x n h low))
-    (pauses_settled limits _ (step ∷ h) (move_regular limits x n h s.regular fresh is readable some all) refl
-    (λ y. append-nil (pending_lows (plain_setup limits) (buffer.Send (request y)) h) ∙ s.untold y))
+  pub move_step : (x n : ℕ) (h : Past) → Settled limits h → is_swept h ≡ false → Alive h x → count (request x) h ≡ 0
+      → 0 < n → n ≡ min limits.quantum (length (recv_at limits x h)) → Settled limits (past_move limits x n h)
+  move_step x n h s fresh is readable some all =
+      let step : Step NoMark = move_of x n in
+      let low = (readable_low limits x h s.regular is readable).0 in
+      subst (λ (ns : List Note). Settled limits (onto ns h)) (sym (move_pauses x n h low))
+      (pauses_settled _ (step ∷ h) (move_regular limits x n h s.regular fresh is readable some all) refl
+      (λ y. append-nil (lows_of limits y h) ∙ s.untold y))
 
-pub rise_pauses : (limits : PlainLimits) (x n : ℕ) (last : Bool) (h : History NoMark) → above (plain_setup limits) (buffer.Write 0) h ≡ false
-    → rise_notes limits x n last h ≡ pause_notes (due_if (above (plain_setup limits) (buffer.Write 0) (Noted (note.Frame 0 (request x) n last) ∷ h)) (buffer.Write 0) (live h))
-rise_pauses limits x n last h low =
-    many_pauses (buffer.Write 0) (live h) _ _ (low_rises _ (above (plain_setup limits) (buffer.Write 0) (Noted (note.Frame 0 (request x) n last) ∷ h)) low)
+  pub rise_pauses : (x n : ℕ) (last : Bool) (h : Past) → conn_high limits h ≡ false
+      → rise_notes limits x n last h ≡ pause_notes (due_if (conn_high limits (frame_of x n last ∷ h)) (buffer.Write 0) (live h))
+  rise_pauses x n last h low =
+      many_pauses (buffer.Write 0) (live h) _ _ (low_rises _ (conn_high limits (frame_of x n last ∷ h)) low)
 
--- the low of the send buffer that the frame left
-frame_pending : (limits : PlainLimits) (x y n : ℕ) (last : Bool) (h : History NoMark) → Settled limits h → has (live h) x ≡ true
-    → pending_lows (plain_setup limits) (buffer.Send (request y)) (Noted (note.Frame 0 (request x) n last) ∷ h)
-    ≡ (if (x == y) && drains_at (plain_setup limits) (buffer.Send (request x)) (Noted (note.Frame 0 (request x) n last)) h then request x ∷ [] else [])
-frame_pending limits x y n last h s is =
-    let drains = drains_at (plain_setup limits) (buffer.Send (request x)) (Noted (note.Frame 0 (request x) n last)) h in
-    own_or_other (λ z. pending_lows (plain_setup limits) (buffer.Send (request z)) (Noted (note.Frame 0 (request x) n last) ∷ h) ≡ (if (x == z) && drains then request x ∷ [] else [])) x y
-    (lows_after limits x n last h s.regular.books.rising is ∙ ap (λ (fs : List FlowId). fs ++ (if drains then request x ∷ [] else [])) (s.untold x)
-    ∙ sym (ap (λ b. if b && drains then request x ∷ [] else []) (same_number x)))
-    (λ d. (frame_leaves limits x y n last h d).send_lows ∙ s.untold y ∙ sym (ap (λ b. if b && drains then request x ∷ [] else []) d))
+  -- the low of the send buffer that the frame left
+  frame_pending : (x y n : ℕ) (last : Bool) (h : Past) → Settled limits h → Alive h x
+      → lows_of limits y (frame_of x n last ∷ h)
+      ≡ (if (x == y) && send_drains limits x (frame_of x n last) h then request x ∷ [] else [])
+  frame_pending x y n last h s is =
+      let drains = send_drains limits x (frame_of x n last) h in
+      own_or_other (λ z. lows_of limits z (frame_of x n last ∷ h) ≡ (if (x == z) && drains then request x ∷ [] else [])) x y
+      (lows_after limits x n last h s.regular.books.rising is ∙ ap (λ (fs : List FlowId). fs ++ (if drains then request x ∷ [] else [])) (s.untold x)
+      ∙ sym (ap (λ b. if b && drains then request x ∷ [] else []) (same_number x)))
+      (λ d. (frame_leaves limits x y n last h d).send_lows ∙ s.untold y ∙ sym (ap (λ b. if b && drains then request x ∷ [] else []) d))
 
-drain_settled : (limits : PlainLimits) (x : ℕ) (drains : Bool) (h : History NoMark) → Regular limits nothing h → is_swept h ≡ false → has (live h) x ≡ true
-    → ((y : ℕ) → pending_lows (plain_setup limits) (buffer.Send (request y)) h ≡ (if (x == y) && drains then request x ∷ [] else []))
-    → Settled limits (onto (if drains then note.Resume (request x) (buffer.Send (request x)) ∷ [] else []) h)
-drain_settled limits x true h r fresh is pend =
-    let own : pending_lows (plain_setup limits) (buffer.Send (request x)) h ≡ request x ∷ [] = pend x ∙ ap (λ b. if b && true then request x ∷ [] else []) (same_number x) in
-    record {
-      regular = resume_send_regular limits x h r fresh is own;
-      untold = λ y. own_or_other (λ z. pending_lows (plain_setup limits) (buffer.Send (request z)) (Noted (note.Resume (request x) (buffer.Send (request x))) ∷ h) ≡ []) x y
-          (own_lows limits x h own) (λ d. other_lows limits x y h d ∙ pend y ∙ ap (λ b. if b && true then request x ∷ [] else []) d);
-    }
-drain_settled limits x false h r fresh is pend = record { regular = r; untold = λ y. pend y ∙ none (x == y) }
-  where
-    none : (b : Bool) → (if b && false then request x ∷ [] else []) ≡ []
-    none true = refl
-    none false = refl
+  drain_settled : (x : ℕ) (drains : Bool) (h : Past) → Regular limits nothing h → is_swept h ≡ false → Alive h x
+      → ((y : ℕ) → lows_of limits y h ≡ (if (x == y) && drains then request x ∷ [] else []))
+      → Settled limits (onto (if drains then note.Resume (request x) (buffer.Send (request x)) ∷ [] else []) h)
+  drain_settled x true h r fresh is pend =
+      let own : lows_of limits x h ≡ request x ∷ [] = pend x ∙ ap (λ b. if b && true then request x ∷ [] else []) (same_number x) in
+      record {
+        regular = resume_send_regular limits x h r fresh is own;
+        untold = λ y. own_or_other (λ z. lows_of limits z (Noted (note.Resume (request x) (buffer.Send (request x))) ∷ h) ≡ []) x y
+            (own_lows limits x h own) (λ d. other_lows limits x y h d ∙ pend y ∙ ap (λ b. if b && true then request x ∷ [] else []) d);
+      }
+  drain_settled x false h r fresh is pend = record { regular = r; untold = λ y. pend y ∙ none (x == y) }
+    where
+      none : (b : Bool) → (if b && false then request x ∷ [] else []) ≡ []
+      none true = refl
+      none false = refl
 
-pub frame_step : (limits : PlainLimits) (x n : ℕ) (last : Bool) (h : History NoMark) → Settled limits h → is_swept h ≡ false → has (live h) x ≡ true
-    → above (plain_setup limits) (buffer.Write 0) h ≡ false → next_on (plain_setup limits) 0 h ≡ Flows (request x) (BodyUnit n last)
-    → Settled limits (onto (frame_notes limits x n last h) h)
-frame_step limits x n last h s fresh is low next =
-    let step : Step NoMark = Noted (note.Frame 0 (request x) n last) in
-    let due = due_if (above (plain_setup limits) (buffer.Write 0) (step ∷ h)) (buffer.Write 0) (live h) in
-    let h' = onto (pause_notes due) (step ∷ h) in
-    let r = pauses_regular limits due (step ∷ h) (frame_regular limits x n last h s.regular fresh is low next) refl in
-    let P : History NoMark → Type 0 = Settled limits in
-    let lives : has (live h') x ≡ true = ap (λ (xs : List ℕ). has xs x) (pauses_live due (step ∷ h)) ∙ is in
-    subst P (sym (onto_append (rise_notes limits x n last h) (drain_notes limits x n last h) (step ∷ h)
-    ∙ ap (λ (ns : List Note). onto (drain_notes limits x n last h) (onto ns (step ∷ h))) (rise_pauses limits x n last h low)))
-    (drain_settled limits x (drains_at (plain_setup limits) (buffer.Send (request x)) step h) h' r (pauses_unswept due (step ∷ h) refl) lives (λ y. pauses_lows limits (buffer.Send (request y)) due (step ∷ h) ∙ frame_pending limits x y n last h s is))
+  pub frame_step : (x n : ℕ) (last : Bool) (h : Past) → Settled limits h → is_swept h ≡ false → Alive h x
+      → conn_high limits h ≡ false → next_out limits h ≡ Flows (request x) (BodyUnit n last)
+      → Settled limits (past_frame limits x n last h)
+  frame_step x n last h s fresh is low next =
+      let step : Step NoMark = frame_of x n last in
+      let due = due_if (conn_high limits (step ∷ h)) (buffer.Write 0) (live h) in
+      let h' = onto (pause_notes due) (step ∷ h) in
+      let r = pauses_regular limits due (step ∷ h) (frame_regular limits x n last h s.regular fresh is low next) refl in
+      let lives : Alive h' x = ap (λ (xs : List ℕ). has xs x) (pauses_live due (step ∷ h)) ∙ is in
+      subst (Settled limits) (sym (onto_append (rise_notes limits x n last h) (drain_notes limits x n last h) (step ∷ h)
+      ∙ ap (λ (ns : List Note). onto (drain_notes limits x n last h) (onto ns (step ∷ h))) (rise_pauses x n last h low)))
+      (drain_settled x (send_drains limits x step h) h' r (pauses_unswept due (step ∷ h) refl) lives (λ y. pauses_lows limits (buffer.Send (request y)) due (step ∷ h) ∙ frame_pending x y n last h s is))
 
--- the next stream that waits for the write buffer's low is told
-pub tell_step : (limits : PlainLimits) (x : ℕ) (rest : List FlowId) (h : History NoMark) → Settled limits h → is_swept h ≡ false
-    → pending_lows (plain_setup limits) (buffer.Write 0) h ≡ request x ∷ rest
-    → Settled limits (Noted (note.Resume (request x) (buffer.Write 0)) ∷ h)
-tell_step limits x rest h s fresh e = record { regular = resume_write_regular limits x rest h s.regular fresh e; untold = s.untold }
+  -- the next stream that waits for the write buffer's low is told
+  pub tell_step : (x : ℕ) (rest : List FlowId) (h : Past) → Settled limits h → is_swept h ≡ false
+      → conn_lows limits h ≡ request x ∷ rest
+      → Settled limits (Noted (note.Resume (request x) (buffer.Write 0)) ∷ h)
+  tell_step x rest h s fresh e = record { regular = resume_write_regular limits x rest h s.regular fresh e; untold = s.untold }
 
-doom_untold : (limits : PlainLimits) (x y : ℕ) (why : Cause) (h : History NoMark) → Settled limits h
-    → pending_lows (plain_setup limits) (buffer.Send (request y)) (Noted (note.Doom x why) ∷ h) ≡ []
-doom_untold limits x y why h s = ap (without x) (s.untold y)
+  doom_untold : (x y : ℕ) (why : Cause) (h : Past) → Settled limits h
+      → lows_of limits y (Noted (note.Doom x why) ∷ h) ≡ []
+  doom_untold x y why h s = ap (without x) (s.untold y)
 
-pub done_step : (limits : PlainLimits) (x : ℕ) (h : History NoMark) → Settled limits h → is_swept h ≡ false → has (live h) x ≡ true → end_framed (plain_setup limits) (request x) h ≡ true
-    → Settled limits (Noted (note.Doom x cause.Done) ∷ h)
-done_step limits x h s fresh is e = record { regular = doom_done limits x h s.regular fresh is e; untold = λ y. doom_untold limits x y cause.Done h s }
+  pub done_step : (x : ℕ) (h : Past) → Settled limits h → is_swept h ≡ false → Alive h x → end_out limits x h ≡ true
+      → Settled limits (Noted (note.Doom x cause.Done) ∷ h)
+  done_step x h s fresh is e = record { regular = doom_done limits x h s.regular fresh is e; untold = λ y. doom_untold x y cause.Done h s }
 
-pub early_pair_step : (limits : PlainLimits) (s x : ℕ) (h : History NoMark) → Settled limits h → is_swept h ≡ false → has (live h) x ≡ true → has (paired_with x h) s ≡ true
-    → end_framed (plain_setup limits) (request s) h ≡ true → end_framed (plain_setup limits) (request s) (before_dispatch h) ≡ false
-    → Settled limits (Noted (note.Doom x cause.EarlyEnd) ∷ h)
-early_pair_step limits s x h t fresh is pair e before = record { regular = doom_early limits s x h t.regular fresh is pair e before; untold = λ y. doom_untold limits x y cause.EarlyEnd h t }
+  pub early_pair_step : (s x : ℕ) (h : Past) → Settled limits h → is_swept h ≡ false → Alive h x → has (paired_with x h) s ≡ true
+      → end_out limits s h ≡ true → end_out limits s (before_dispatch h) ≡ false
+      → Settled limits (Noted (note.Doom x cause.EarlyEnd) ∷ h)
+  early_pair_step s x h t fresh is pair e before = record { regular = doom_early limits s x h t.regular fresh is pair e before; untold = λ y. doom_untold x y cause.EarlyEnd h t }
 
--- between steps the count of a live stream is that of its two flags, and of its low of the write buffer
-pub settled_count : (limits : PlainLimits) (x : ℕ) (h : History NoMark) → Settled limits h → has (live h) x ≡ true
-    → count (request x) h ≡ (send_flag limits x h + write_flag limits h) + write_left limits x h
-settled_count limits x h s is =
-    sums _ _ _ _ _ _ _ (count_is limits nothing x h (s.regular.books.each x is) refl) (disabled_is limits x h) (lows_are limits x h) (ap (told_of x) (s.untold x))
-  where
-    sums : (c d l a w s m : ℕ) → c ≡ d + l → d ≡ a + w → l ≡ s + m → s ≡ 0 → c ≡ (a + w) + m
-    sums c d l a w s m e1 e2 e3 e4 = omega arith
+  -- between steps the count of a live stream is that of its two flags, and of its low of the write buffer
+  pub settled_count : (x : ℕ) (h : Past) → Settled limits h → Alive h x
+      → count (request x) h ≡ (send_flag limits x h + write_flag limits h) + write_left limits x h
+  settled_count x h s is =
+      sums _ _ _ _ _ _ _ (count_is limits nothing x h (s.regular.books.each x is) refl) (disabled_is limits x h) (lows_are limits x h) (ap (told_of x) (s.untold x))
+    where
+      sums : (c d l a w s m : ℕ) → c ≡ d + l → d ≡ a + w → l ≡ s + m → s ≡ 0 → c ≡ (a + w) + m
+      sums c d l a w s m e1 e2 e3 e4 = omega arith
 
-pub gone_step : (limits : PlainLimits) (x : ℕ) (rest : List ℕ) (h : History NoMark) → Settled limits h → condemned h ≡ x ∷ rest → Settled limits (Noted (note.Gone x) ∷ h)
-gone_step limits x rest h s e = record {
-  regular = gone_regular limits x rest h s.regular e;
-  untold = s.untold;
-}
+  pub gone_step : (x : ℕ) (rest : List ℕ) (h : Past) → Settled limits h → condemned h ≡ x ∷ rest → Settled limits (Noted (note.Gone x) ∷ h)
+  gone_step x rest h s e = record {
+    regular = gone_regular limits x rest h s.regular e;
+    untold = s.untold;
+  }
 
-pub settled_done : (limits : PlainLimits) (h : History NoMark) → Settled limits h → pending_lows (plain_setup limits) (buffer.Write 0) h ≡ []
-    → ((x : ℕ) → has (live h) x ≡ true → count (request x) h ≡ 0 → place (plain_setup limits) (request x) 0 h ≡ [])
-    → (above (plain_setup limits) (buffer.Write 0) h ≡ false → next_on (plain_setup limits) 0 h ≡ Nothing)
-    → ((x : ℕ) → has (live h) x ≡ true → plain_must_end x h ≡ false) → condemned h ≡ [] → Rests limits h
-settled_done limits h s told moved framed ended gone =
-    done_rests limits h s.regular (record { write_told = told; send_told = λ x e. s.untold x; moved = moved; framed = framed; ended = ended; gone = gone })
+  pub settled_done : (h : Past) → Settled limits h → conn_lows limits h ≡ []
+      → ((x : ℕ) → Alive h x → count (request x) h ≡ 0 → recv_at limits x h ≡ [])
+      → (conn_high limits h ≡ false → next_out limits h ≡ Nothing)
+      → ((x : ℕ) → Alive h x → plain_must_end x h ≡ false) → condemned h ≡ [] → Rests limits h
+  settled_done h s told moved framed ended gone =
+      done_rests limits h s.regular (record { write_told = told; send_told = λ x e. s.untold x; moved = moved; framed = framed; ended = ended; gone = gone })

@@ -6,9 +6,9 @@ use Rattle.std.proofs.lemmas.List.Folds.{list_any-append}
 use Rattle.std.proofs.lemmas.Map.Views.{any-filter_same}
 use Rattle.std.specs.List.{AllByRecursion, list_any}
 use Rattle.std.specs.Prelude.{Bool, List, [], false, filter, flat_map, if◌then◌else◌, not, true, ℕ, ◌&&◌, ◌++◌, ◌==◌, ◌||◌, ◌∷◌, ◌≡◌}
+use Rattle.plain_laws.specs.Words.{Past, Alive}
 use Rattle.tape_laws.specs.Dispatches.{has, live}
 use Rattle.tape_laws.specs.Flows.{request, same_flow}
-use Rattle.tape_laws.specs.History.{History, NoMark}
 use Rattle.tape_laws.specs.Plain.{plain_setup}
 use Rattle.tape_laws.specs.Sources.{EachLive, is_live}
 use Rattle.tape_laws.specs.declared.limits.PlainLimits.{PlainLimits}
@@ -49,7 +49,7 @@ has_one x y = or_false (x == y)
 pub has_more : (xs : List ℕ) (x y : ℕ) → has (xs ++ x ∷ []) y ≡ (has xs y || (x == y))
 has_more xs x y = list_any-append (λ z. z == y) xs (x ∷ []) ∙ ap (λ b. has xs y || b) (has_one x y)
 
-or_true : (a b : Bool) → (a || b) ≡ true → a ≡ false → b ≡ true
+pub or_true : (a b : Bool) → (a || b) ≡ true → a ≡ false → b ≡ true
 or_true true b e f = cc
 or_true false b e f = e
 
@@ -66,47 +66,49 @@ or_none true b e = cc
 or_none false b e = (refl, e)
 
 -- what is in a list that grew by x is x, or was there
-pub has_was : (xs : List ℕ) (x y : ℕ) → has (xs ++ x ∷ []) y ≡ true → (x == y) ≡ false → has xs y ≡ true
-has_was xs x y e d = by_case (has xs y) (λ t. t) (λ f. not_both (x == y) (or_true (has xs y) (x == y) (sym (has_more xs x y) ∙ e) f) d)
+module _ (xs : List ℕ) (x : ℕ) where
+  pub has_was : (y : ℕ) → has (xs ++ x ∷ []) y ≡ true → (x == y) ≡ false → has xs y ≡ true
+  has_was y e d = by_case (has xs y) (λ t. t) (λ f. not_both (x == y) (or_true (has xs y) (x == y) (sym (has_more xs x y) ∙ e) f) d)
 
-pub has_kept : (xs : List ℕ) (x y : ℕ) → has xs y ≡ true → has (xs ++ x ∷ []) y ≡ true
-has_kept xs x y e = has_more xs x y ∙ or_left (has xs y) (x == y) e
+  pub has_kept : (y : ℕ) → has xs y ≡ true → has (xs ++ x ∷ []) y ≡ true
+  has_kept y e = has_more xs x y ∙ or_left (has xs y) (x == y) e
 
-pub has_last : (xs : List ℕ) (x : ℕ) → has (xs ++ x ∷ []) x ≡ true
-has_last xs x = has_more xs x x ∙ or_right (has xs x) (x == x) (same_number x)
+  pub has_last : has (xs ++ x ∷ []) x ≡ true
+  has_last = has_more xs x x ∙ or_right (has xs x) (x == x) (same_number x)
 
-pub has_not : (xs : List ℕ) (x y : ℕ) → has (xs ++ x ∷ []) y ≡ false → (has xs y ≡ false) × ((x == y) ≡ false)
-has_not xs x y e = or_none (has xs y) (x == y) (sym (has_more xs x y) ∙ e)
+  pub has_not : (y : ℕ) → has (xs ++ x ∷ []) y ≡ false → (has xs y ≡ false) × ((x == y) ≡ false)
+  has_not y e = or_none (has xs y) (x == y) (sym (has_more xs x y) ∙ e)
 
 pub both_of : (a b : Bool) → (a && b) ≡ true → (a ≡ true) × (b ≡ true)
 both_of true b e = (refl, e)
 both_of false b e = cc
 
-not_so : (b : Bool) → not b ≡ true → b ≡ false
+pub not_so : (b : Bool) → not b ≡ true → b ≡ false
 not_so true e = cc
 not_so false e = refl
 
-has_without : (xs : List ℕ) (x y : ℕ) → has (filter (λ z. not (z == x)) xs) y ≡ (not (y == x) && has xs y)
-has_without xs x y = any-filter_same (λ z. z == y) (λ z. not (z == x)) (not (y == x)) (λ z t. ap (λ w. not (w == x)) (number_is z y t)) xs
+module _ (xs : List ℕ) (x y : ℕ) where
+  has_without : has (filter (λ z. not (z == x)) xs) y ≡ (not (y == x) && has xs y)
+  has_without = any-filter_same (λ z. z == y) (λ z. not (z == x)) (not (y == x)) (λ z t. ap (λ w. not (w == x)) (number_is z y t)) xs
 
--- what is left without x was there, and isn't x
-pub has_left : (xs : List ℕ) (x y : ℕ) → has (filter (λ z. not (z == x)) xs) y ≡ true → (has xs y ≡ true) × ((x == y) ≡ false)
-has_left xs x y e = let k = both_of (not (y == x)) (has xs y) (sym (has_without xs x y) ∙ e) in (k.1, differs_back y x (not_so (y == x) k.0))
+  -- what is left without x was there, and isn't x
+  pub has_left : has (filter (λ z. not (z == x)) xs) y ≡ true → (has xs y ≡ true) × ((x == y) ≡ false)
+  has_left e = let k = both_of (not (y == x)) (has xs y) (sym has_without ∙ e) in (k.1, differs_back y x (not_so (y == x) k.0))
 
-pub has_stays : (xs : List ℕ) (x y : ℕ) → has xs y ≡ true → (x == y) ≡ false → has (filter (λ z. not (z == x)) xs) y ≡ true
-has_stays xs x y e d = has_without xs x y ∙ both (not (y == x)) (has xs y) (ap not (differs_back x y d)) e
-  where
-    both : (a b : Bool) → a ≡ true → b ≡ true → (a && b) ≡ true
-    both true b e f = f
-    both false b e f = cc
+  pub has_stays : has xs y ≡ true → (x == y) ≡ false → has (filter (λ z. not (z == x)) xs) y ≡ true
+  has_stays e d = has_without ∙ both (not (y == x)) (has xs y) (ap not (differs_back x y d)) e
+    where
+      both : (a b : Bool) → a ≡ true → b ≡ true → (a && b) ≡ true
+      both true b e f = f
+      both false b e f = cc
 
--- what isn't left wasn't there, or is x
-pub has_lost : (xs : List ℕ) (x y : ℕ) → has (filter (λ z. not (z == x)) xs) y ≡ false → (x == y) ≡ false → has xs y ≡ false
-has_lost xs x y e d = by_case (has xs y) (λ t. not_both _ (has_stays xs x y t d) e) (λ f. f)
+  -- what isn't left wasn't there, or is x
+  pub has_lost : has (filter (λ z. not (z == x)) xs) y ≡ false → (x == y) ≡ false → has xs y ≡ false
+  has_lost e d = by_case (has xs y) (λ t. not_both _ (has_stays t d) e) (λ f. f)
 
 -- a stream that was started isn't one that wasn't
 pub apart_from : (xs : List ℕ) (s x : ℕ) → has xs s ≡ true → has xs x ≡ false → (s == x) ≡ false
-apart_from xs s x is isnt = by_case (s == x) (λ t. let P : ℕ → Type 0 = λ v. has xs v ≡ true in not_both (has xs x) (subst P (number_is s x t) is) isnt) (λ f. f)
+apart_from xs s x is isnt = by_case (s == x) (λ t. not_both (has xs x) (subst (λ (v : ℕ). has xs v ≡ true) (number_is s x t) is) isnt) (λ f. f)
 
 -- ---- what holds of each
 
@@ -127,14 +129,15 @@ request_each P [] x a e = cc
 request_each P (y ∷ ys) x a e = own_or_other (λ z. P (request z)) y x a.0 (λ d. request_each P ys x a.1 (or_true (y == x) (has ys x) e d))
 
 -- what holds of each live stream's flow holds of each live flow
-pub each_live : (limits : PlainLimits) (P : FlowId → Type 0) (h : History NoMark) → ((x : ℕ) → has (live h) x ≡ true → P (request x)) → EachLive (plain_setup limits) P h
-each_live limits P h f = each_request P (live h) f
+module _ (limits : PlainLimits) (P : FlowId → Type 0) (h : Past) where
+  pub each_live : ((x : ℕ) → Alive h x → P (request x)) → EachLive (plain_setup limits) P h
+  each_live f = each_request P (live h) f
 
-pub live_each : (limits : PlainLimits) (P : FlowId → Type 0) (h : History NoMark) (x : ℕ) → EachLive (plain_setup limits) P h → has (live h) x ≡ true → P (request x)
-live_each limits P h x a e = request_each P (live h) x a e
+  pub live_each : (x : ℕ) → EachLive (plain_setup limits) P h → Alive h x → P (request x)
+  live_each x a e = request_each P (live h) x a e
 
 -- the flow of a live stream is live
-pub flow_is_live : (limits : PlainLimits) (x : ℕ) (h : History NoMark) → has (live h) x ≡ true → is_live (plain_setup limits) (request x) h ≡ true
+pub flow_is_live : (limits : PlainLimits) (x : ℕ) (h : Past) → Alive h x → is_live (plain_setup limits) (request x) h ≡ true
 flow_is_live limits x h e = among (live h) e
   where
     among : (xs : List ℕ) → has xs x ≡ true → list_any (same_flow (request x)) (flat_map (λ y. request y ∷ []) xs) ≡ true

@@ -40,7 +40,7 @@ pub told_absent : (x : ℕ) (xs : List ℕ) (fs : List FlowId) → AllByRecursio
 told_absent x xs [] a e = refl
 told_absent x xs (f ∷ fs) a e =
     let i = a.0 in
-    let away : (f.exchange == x) ≡ false = by_case (f.exchange == x) (λ t. let P : ℕ → Type 0 = λ v. has xs v ≡ true in not_both (has xs x) (subst P (number_is f.exchange x t) i.live) e) (λ d. d) in
+    let away : (f.exchange == x) ≡ false = by_case (f.exchange == x) (λ t. not_both (has xs x) (subst (λ (v : ℕ). has xs v ≡ true) (number_is f.exchange x t) i.live) e) (λ d. d) in
     told_cons x f fs ∙ both _ _ (ap (λ (g : FlowId). one_if (same_flow (request x) g)) i.is ∙ one_other f.exchange x away) (told_absent x xs fs a.1 e)
   where
     both : (a b : ℕ) → a ≡ 0 → b ≡ 0 → a + b ≡ 0
@@ -56,8 +56,7 @@ told_all (y ∷ ys) x r = by_case (y == x) (λ t. own (number_is y x t) (told_al
 
     own : y ≡ x → told_of y (map request ys) ≡ one_if (has ys y) → told_of x (map request (y ∷ ys)) ≡ one_if (has (y ∷ ys) x)
     own e later =
-        let P : ℕ → Type 0 = λ v. told_of v (map request (y ∷ ys)) ≡ one_if (has (y ∷ ys) v) in
-        subst P e (told_own y (map request ys) ∙ more _ (later ∙ ap one_if (rising_apart y ys r.0)) ∙ sym (ap (λ b. one_if (b || has ys y)) (same_number y)))
+        subst (λ (v : ℕ). told_of v (map request (y ∷ ys)) ≡ one_if (has (y ∷ ys) v)) e (told_own y (map request ys) ∙ more _ (later ∙ ap one_if (rising_apart y ys r.0)) ∙ sym (ap (λ b. one_if (b || has ys y)) (same_number y)))
 
 -- without another stream
 pub told_without : (x y : ℕ) (fs : List FlowId) → (x == y) ≡ false → told_of y (filter (λ (f : FlowId). not (f.exchange == x)) fs) ≡ told_of y fs
@@ -102,8 +101,7 @@ owed_all b (y ∷ ys) x r =
 
     own : y ≡ x → one_if (same_flow (request y) (request x)) + one_if (has ys x) ≡ one_if (has (y ∷ ys) x)
     own e =
-        let P : ℕ → Type 0 = λ v. one_if (same_flow (request y) (request v)) + one_if (has ys v) ≡ one_if (has (y ∷ ys) v) in
-        subst P e (whole (y == y) (has ys y) (same_number y) (rising_apart y ys r.0))
+        subst (λ (v : ℕ). one_if (same_flow (request y) (request v)) + one_if (has ys v) ≡ one_if (has (y ∷ ys) v)) e (whole (y == y) (has ys y) (same_number y) (rising_apart y ys r.0))
 
 pub owed_if : (a : Bool) (b : BufferId) (xs : List ℕ) (x : ℕ) → IsRising xs → has xs x ≡ true → owed_times x (due_if a b xs) ≡ one_if a
 owed_if true b xs x r e = owed_all b xs x r ∙ ap one_if e

@@ -4,18 +4,18 @@ use Rattle.plain_laws.proofs.Streams.{all_at, or_none}
 use Rattle.std.proofs.Common.{ap, arith, refl, ◌∙◌}
 use Rattle.std.proofs.lemmas.Bool.Decides.{nat_tests}
 use Rattle.std.specs.Prelude.{Bool, List, [], false, if◌then◌else◌, true, ℕ, ◌&&◌, ◌==◌, ◌||◌, ◌∷◌, ◌≡◌}
+use Rattle.plain_laws.specs.Words.{Past, Alive, end_out}
 use Rattle.tape_laws.specs.Dispatches.{has, live}
-use Rattle.tape_laws.specs.Ends.{end_framed}
 use Rattle.tape_laws.specs.Flows.{request, same_flow}
-use Rattle.tape_laws.specs.History.{History, NoMark, Noted}
-use Rattle.tape_laws.specs.Plain.{paired_with, plain_setup}
+use Rattle.tape_laws.specs.History.{Noted}
+use Rattle.tape_laws.specs.Plain.{paired_with}
 use Rattle.tape_laws.specs.PlainSession.{plain_must_end, plain_session}
 use Rattle.tape_laws.specs.Quiet.{IsQuiet}
 use Rattle.tape_laws.specs.declared.limits.PlainLimits.{PlainLimits}
 use Rattle.flow_notes.specs.declared.notes.Note.TheVariants as note
 
 -- no end of it was framed
-pub unframed_of : (limits : PlainLimits) (x : ℕ) (h : History NoMark) → plain_must_end x h ≡ false → end_framed (plain_setup limits) (request x) h ≡ false
+pub unframed_of : (limits : PlainLimits) (x : ℕ) (h : Past) → plain_must_end x h ≡ false → end_out limits x h ≡ false
 unframed_of limits x [] e = refl
 unframed_of limits x (Noted (note.Frame c f n last) ∷ past) e =
     let k = or_none (last && has (x ∷ paired_with x past) f.exchange) (plain_must_end x past) e in
@@ -48,5 +48,5 @@ unframed_of limits x (Noted (note.Frame c f n last) ∷ past) e =
 unframed_of limits x (step ∷ past) e = unframed_of limits x past e
 
 -- at the end of a dispatch no live stream need end
-pub rests_unframed : (limits : PlainLimits) (x : ℕ) (h : History NoMark) → IsQuiet (plain_session limits) h → has (live h) x ≡ true → end_framed (plain_setup limits) (request x) h ≡ false
+pub rests_unframed : (limits : PlainLimits) (x : ℕ) (h : Past) → IsQuiet (plain_session limits) h → Alive h x → end_out limits x h ≡ false
 rests_unframed limits x h q e = unframed_of limits x h (all_at (λ y. plain_must_end y h ≡ false) (live h) x q.ended e)

@@ -6,15 +6,16 @@ use Rattle.plain_laws.specs.Regular.{IsRising}
 use Rattle.std.proofs.Common.{ap, refl, subst, ◌∙◌}
 use Rattle.std.specs.List.{list_any}
 use Rattle.std.specs.Prelude.{Bool, List, [], false, filter, flat_map, if◌then◌else◌, map, true, ℕ, ◌&&◌, ◌==◌, ◌||◌, ◌∷◌, ◌≡◌}
+use Rattle.plain_laws.specs.Words.{Past, Alive}
 use Rattle.tape_laws.specs.Dispatches.{has, live}
 use Rattle.tape_laws.specs.Flows.{request, same_buffer}
-use Rattle.tape_laws.specs.History.{History, NoMark}
 use Rattle.tape_laws.specs.Plain.{plain_setup}
 use Rattle.tape_laws.specs.Sources.{watchers}
 use Rattle.tape_laws.specs.declared.limits.PlainLimits.{PlainLimits}
 use Rattle.flow_gate.specs.declared.ids.BufferId.TheVariants as buffer
+use Rattle.plain_laws.proofs.Streams.{or_true as has_was_tail}
 
-pub write_watchers : (limits : PlainLimits) (h : History NoMark) → watchers (plain_setup limits) (buffer.Write 0) h ≡ map request (live h)
+pub write_watchers : (limits : PlainLimits) (h : Past) → watchers (plain_setup limits) (buffer.Write 0) h ≡ map request (live h)
 write_watchers limits h = each (live h)
   where
     each : (xs : List ℕ) → filter (λ (f : FlowId). list_any (same_buffer (buffer.Write 0)) (buffer.Send f ∷ buffer.Write 0 ∷ [])) (flat_map (λ x. request x ∷ []) xs) ≡ map request xs
@@ -41,13 +42,8 @@ one_watching x (y ∷ ys) r e =
   where
     own : y ≡ x → watching y ys ≡ [] → watching x (y ∷ ys) ≡ request x ∷ []
     own e none =
-        let P : ℕ → Type 0 = λ v. watching v (y ∷ ys) ≡ request v ∷ [] in
-        subst P e (ap (λ b. if (b && true) || false then request y ∷ watching y ys else watching y ys) (same_number y) ∙ ap (λ (fs : List FlowId). request y ∷ fs) none)
+        subst (λ (v : ℕ). watching v (y ∷ ys) ≡ request v ∷ []) e (ap (λ b. if (b && true) || false then request y ∷ watching y ys else watching y ys) (same_number y) ∙ ap (λ (fs : List FlowId). request y ∷ fs) none)
 
-    has_was_tail : (a b : Bool) → (a || b) ≡ true → a ≡ false → b ≡ true
-    has_was_tail true b e f = cc
-    has_was_tail false b e f = e
-
-pub send_watchers : (limits : PlainLimits) (x : ℕ) (h : History NoMark) → IsRising (live h) → has (live h) x ≡ true
+pub send_watchers : (limits : PlainLimits) (x : ℕ) (h : Past) → IsRising (live h) → Alive h x
     → watchers (plain_setup limits) (buffer.Send (request x)) h ≡ request x ∷ []
 send_watchers limits x h r is = one_watching x (live h) r is

@@ -6,3 +6,4 @@ pub mod Pairs
 pub mod Regular
 pub mod Settled
 pub mod StepNotes
+pub mod Words
