@@ -4,12 +4,12 @@ use Rattle.plain_laws.proofs.Streams.{flow_is, or_left, or_right, same_request}
 use Rattle.std.proofs.Common.{ap, arith, refl, ◌∙◌}
 use Rattle.std.proofs.lemmas.List.Sums.{sum_by-cons}
 use Rattle.std.specs.BTreeMap.{get}
-use Rattle.std.specs.List.{AllByRecursion, list_any, slice_get, sum_by}
+use Rattle.std.specs.List.{AllByRecursion, list_any, sum_by}
 use Rattle.std.specs.Ordering.{nat_cmp}
 use Rattle.std.specs.Prelude.{Bool, None, Option, Some, [], drop, false, if◌then◌else◌, true, ℕ, ◌+◌, ◌==◌, ◌||◌, ◌∷◌, ◌≡◌, ◌≤◌}
+use Rattle.plain_laws.specs.Words.{Past}
 use Rattle.tape_laws.specs.Dispatches.{is_some_of}
 use Rattle.tape_laws.specs.Flows.{request, same_flow}
-use Rattle.tape_laws.specs.History.{History, NoMark}
 use Rattle.tape_laws.specs.declared.limits.PlainLimits.{PlainLimits}
 use Rattle.plain_core.specs.Agenda.{Agenda, after_frame, after_move, is_drain_of, is_rounded, is_run_of, is_telling, with_drain, with_run}
 use Rattle.plain_core.specs.Measure.{weight}
@@ -18,6 +18,7 @@ use Rattle.plain_core.specs.declared.agenda.Task.{Task}
 use Rattle.plain_core.specs.declared.flows.Framed.{Framed}
 use Rattle.plain_core.specs.declared.flows.NextFrame.{NextFrame}
 use Rattle.plain_core.specs.declared.agenda.Task.TheVariants as task
+use Rattle.plain_core.specs.Words.{OnTop}
 
 -- a flow that was told and goes on is run, and the telling on top ends where there is none
 abbrev pub after_telling : Option FlowId → Agenda → Agenda
@@ -32,7 +33,7 @@ pub record Holds (old new : Agenda) : Type 0 where
 
 -- no doom is new
 pub record Grounds (old new : Agenda) : Type 0 where
-  pub reasons : (limits : PlainLimits) (h : History NoMark) → AllByRecursion (HasReason limits h) old → AllByRecursion (HasReason limits h) new
+  pub reasons : (limits : PlainLimits) (h : Past) → AllByRecursion (HasReason limits h) old → AllByRecursion (HasReason limits h) new
 
 -- each flow that is run goes on to be
 pub record Runs (old new : Agenda) : Type 0 where
@@ -80,51 +81,53 @@ holds_push t a = record {
 pub runs_push : (t : Task) (a : Agenda) → Runs a (t ∷ a)
 runs_push t a = record { runs = λ f e. or_right (is_run_of f t) (list_any (is_run_of f) a) e }
 
-pub grounds_push_drain : (c : ℕ) (a : Agenda) → Grounds a (task.Drain c ∷ a)
-grounds_push_drain c a = record { reasons = λ l h rs. (tt, rs) }
+module _ (c : ℕ) (a : Agenda) where
+  pub grounds_push_drain : Grounds a (task.Drain c ∷ a)
+  grounds_push_drain = record { reasons = λ l h rs. (tt, rs) }
 
--- ---- a connection is drained, or a flow run
-pub holds_drain : (c : ℕ) (a : Agenda) → Holds a (with_drain c a)
-holds_drain c a = by (list_any (is_drain_of c) a)
-  where
-    by : (b : Bool) → Holds a (if b then a else task.Drain c ∷ a)
-    by true = holds_same a
-    by false = holds_push (task.Drain c) a
+  -- ---- a connection is drained, or a flow run
+  pub holds_drain : Holds a (with_drain c a)
+  holds_drain = by (list_any (is_drain_of c) a)
+    where
+      by : (b : Bool) → Holds a (if b then a else task.Drain c ∷ a)
+      by true = holds_same a
+      by false = holds_push (task.Drain c) a
 
-pub grounds_drain : (c : ℕ) (a : Agenda) → Grounds a (with_drain c a)
-grounds_drain c a = by (list_any (is_drain_of c) a)
-  where
-    by : (b : Bool) → Grounds a (if b then a else task.Drain c ∷ a)
-    by true = grounds_same a
-    by false = record { reasons = λ l h rs. (tt, rs) }
+  pub grounds_drain : Grounds a (with_drain c a)
+  grounds_drain = by (list_any (is_drain_of c) a)
+    where
+      by : (b : Bool) → Grounds a (if b then a else task.Drain c ∷ a)
+      by true = grounds_same a
+      by false = record { reasons = λ l h rs. (tt, rs) }
 
-pub runs_drain : (c : ℕ) (a : Agenda) → Runs a (with_drain c a)
-runs_drain c a = by (list_any (is_drain_of c) a)
-  where
-    by : (b : Bool) → Runs a (if b then a else task.Drain c ∷ a)
-    by true = runs_same a
-    by false = runs_push (task.Drain c) a
+  pub runs_drain : Runs a (with_drain c a)
+  runs_drain = by (list_any (is_drain_of c) a)
+    where
+      by : (b : Bool) → Runs a (if b then a else task.Drain c ∷ a)
+      by true = runs_same a
+      by false = runs_push (task.Drain c) a
 
-pub holds_run : (f : FlowId) (a : Agenda) → Holds a (with_run f a)
-holds_run f a = by (list_any (is_run_of f) a)
-  where
-    by : (b : Bool) → Holds a (if b then a else task.Run f ∷ a)
-    by true = holds_same a
-    by false = holds_push (task.Run f) a
+module _ (f : FlowId) (a : Agenda) where
+  pub holds_run : Holds a (with_run f a)
+  holds_run = by (list_any (is_run_of f) a)
+    where
+      by : (b : Bool) → Holds a (if b then a else task.Run f ∷ a)
+      by true = holds_same a
+      by false = holds_push (task.Run f) a
 
-pub grounds_run : (f : FlowId) (a : Agenda) → Grounds a (with_run f a)
-grounds_run f a = by (list_any (is_run_of f) a)
-  where
-    by : (b : Bool) → Grounds a (if b then a else task.Run f ∷ a)
-    by true = grounds_same a
-    by false = record { reasons = λ l h rs. (tt, rs) }
+  pub grounds_run : Grounds a (with_run f a)
+  grounds_run = by (list_any (is_run_of f) a)
+    where
+      by : (b : Bool) → Grounds a (if b then a else task.Run f ∷ a)
+      by true = grounds_same a
+      by false = record { reasons = λ l h rs. (tt, rs) }
 
-pub runs_run : (f : FlowId) (a : Agenda) → Runs a (with_run f a)
-runs_run f a = by (list_any (is_run_of f) a)
-  where
-    by : (b : Bool) → Runs a (if b then a else task.Run f ∷ a)
-    by true = runs_same a
-    by false = runs_push (task.Run f) a
+  pub runs_run : Runs a (with_run f a)
+  runs_run = by (list_any (is_run_of f) a)
+    where
+      by : (b : Bool) → Runs a (if b then a else task.Run f ∷ a)
+      by true = runs_same a
+      by false = runs_push (task.Run f) a
 
 -- the flow is run
 pub run_is : (x : ℕ) (a : Agenda) → list_any (is_run_of (request x)) (with_run (request x) a) ≡ true
@@ -156,68 +159,69 @@ pub runs_end_drain : (c : ℕ) (a : Agenda) → Runs (task.Drain c ∷ a) a
 runs_end_drain c a = record { runs = λ f t. t }
 
 -- ---- after a frame
-pub holds_frame : (next : NextFrame) (framed : Framed) (a : Agenda) → Holds a (after_frame next framed a)
-holds_frame next framed a = by next.last framed.drained
-  where
-    ran : (d : Bool) (b : Agenda) → Holds b (if d then with_run (request next.exchange) b else b)
-    ran true b = holds_run (request next.exchange) b
-    ran false b = holds_same b
+module _ (next : NextFrame) (framed : Framed) (a : Agenda) where
+  pub holds_frame : Holds a (after_frame next framed a)
+  holds_frame = by next.last framed.drained
+    where
+      ran : (d : Bool) (b : Agenda) → Holds b (if d then with_run (request next.exchange) b else b)
+      ran true b = holds_run (request next.exchange) b
+      ran false b = holds_same b
 
-    by : (l d : Bool) → Holds a (let ended : Agenda = if l then task.End next.exchange ∷ a else a in if d then with_run (request next.exchange) ended else ended)
-    by true d = holds_more a (task.End next.exchange ∷ a) (if d then with_run (request next.exchange) (task.End next.exchange ∷ a) else task.End next.exchange ∷ a) (holds_push (task.End next.exchange) a) (ran d (task.End next.exchange ∷ a))
-    by false d = ran d a
+      by : (l d : Bool) → Holds a (let ended : Agenda = if l then task.End next.exchange ∷ a else a in if d then with_run (request next.exchange) ended else ended)
+      by true d = holds_more a (task.End next.exchange ∷ a) (if d then with_run (request next.exchange) (task.End next.exchange ∷ a) else task.End next.exchange ∷ a) (holds_push (task.End next.exchange) a) (ran d (task.End next.exchange ∷ a))
+      by false d = ran d a
 
-pub runs_frame : (next : NextFrame) (framed : Framed) (a : Agenda) → Runs a (after_frame next framed a)
-runs_frame next framed a = by next.last framed.drained
-  where
-    ran : (d : Bool) (b : Agenda) → Runs b (if d then with_run (request next.exchange) b else b)
-    ran true b = runs_run (request next.exchange) b
-    ran false b = runs_same b
+  pub runs_frame : Runs a (after_frame next framed a)
+  runs_frame = by next.last framed.drained
+    where
+      ran : (d : Bool) (b : Agenda) → Runs b (if d then with_run (request next.exchange) b else b)
+      ran true b = runs_run (request next.exchange) b
+      ran false b = runs_same b
 
-    by : (l d : Bool) → Runs a (let ended : Agenda = if l then task.End next.exchange ∷ a else a in if d then with_run (request next.exchange) ended else ended)
-    by true d = runs_more a (task.End next.exchange ∷ a) (if d then with_run (request next.exchange) (task.End next.exchange ∷ a) else task.End next.exchange ∷ a) (runs_push (task.End next.exchange) a) (ran d (task.End next.exchange ∷ a))
-    by false d = ran d a
+      by : (l d : Bool) → Runs a (let ended : Agenda = if l then task.End next.exchange ∷ a else a in if d then with_run (request next.exchange) ended else ended)
+      by true d = runs_more a (task.End next.exchange ∷ a) (if d then with_run (request next.exchange) (task.End next.exchange ∷ a) else task.End next.exchange ∷ a) (runs_push (task.End next.exchange) a) (ran d (task.End next.exchange ∷ a))
+      by false d = ran d a
 
--- the flow whose send buffer drained is run
-pub drained_runs : (next : NextFrame) (framed : Framed) (a : Agenda) → framed.drained ≡ true → list_any (is_run_of (request next.exchange)) (after_frame next framed a) ≡ true
-drained_runs next framed a e = by framed.drained e
-  where
-    by : (d : Bool) → d ≡ true → list_any (is_run_of (request next.exchange)) (let ended : Agenda = if next.last then task.End next.exchange ∷ a else a in if d then with_run (request next.exchange) ended else ended) ≡ true
-    by true e = run_is next.exchange (if next.last then task.End next.exchange ∷ a else a)
-    by false e = cc
+  -- the flow whose send buffer drained is run
+  pub drained_runs : framed.drained ≡ true → list_any (is_run_of (request next.exchange)) (after_frame next framed a) ≡ true
+  drained_runs e = by framed.drained e
+    where
+      by : (d : Bool) → d ≡ true → list_any (is_run_of (request next.exchange)) (let ended : Agenda = if next.last then task.End next.exchange ∷ a else a in if d then with_run (request next.exchange) ended else ended) ≡ true
+      by true e = run_is next.exchange (if next.last then task.End next.exchange ∷ a else a)
+      by false e = cc
 
--- the end of a stream is seen to, and that of the stream that it dooms
-pub ended_dooms : (next : NextFrame) (framed : Framed) (a : Agenda) (pairs : Pairs) (x : ℕ) → next.last ≡ true
-    → ((next.exchange == x) || is_some_of (get nat_cmp pairs next.exchange) x) ≡ true → list_any (will_doom pairs x) (after_frame next framed a) ≡ true
-ended_dooms next framed a pairs x last e = by next.last framed.drained last
-  where
-    ran : (d : Bool) (b : Agenda) → list_any (will_doom pairs x) b ≡ true → list_any (will_doom pairs x) (if d then with_run (request next.exchange) b else b) ≡ true
-    ran true b t = (holds_run (request next.exchange) b).dooms pairs x t
-    ran false b t = t
+  -- the end of a stream is seen to, and that of the stream that it dooms
+  pub ended_dooms : (pairs : Pairs) (x : ℕ) → next.last ≡ true
+      → ((next.exchange == x) || is_some_of (get nat_cmp pairs next.exchange) x) ≡ true → list_any (will_doom pairs x) (after_frame next framed a) ≡ true
+  ended_dooms pairs x last e = by next.last framed.drained last
+    where
+      ran : (d : Bool) (b : Agenda) → list_any (will_doom pairs x) b ≡ true → list_any (will_doom pairs x) (if d then with_run (request next.exchange) b else b) ≡ true
+      ran true b t = (holds_run (request next.exchange) b).dooms pairs x t
+      ran false b t = t
 
-    by : (l d : Bool) → l ≡ true → list_any (will_doom pairs x) (let ended : Agenda = if l then task.End next.exchange ∷ a else a in if d then with_run (request next.exchange) ended else ended) ≡ true
-    by true d t = ran d (task.End next.exchange ∷ a) (or_left (will_doom pairs x (task.End next.exchange)) (list_any (will_doom pairs x) a) e)
-    by false d t = cc
+      by : (l d : Bool) → l ≡ true → list_any (will_doom pairs x) (let ended : Agenda = if l then task.End next.exchange ∷ a else a in if d then with_run (request next.exchange) ended else ended) ≡ true
+      by true d t = ran d (task.End next.exchange ∷ a) (or_left (will_doom pairs x (task.End next.exchange)) (list_any (will_doom pairs x) a) e)
+      by false d t = cc
 
-pub frame_reasons : (next : NextFrame) (framed : Framed) (a : Agenda) (limits : PlainLimits) (h : History NoMark) → (next.last ≡ true → EndedHere limits next.exchange h)
-    → AllByRecursion (HasReason limits h) a → AllByRecursion (HasReason limits h) (after_frame next framed a)
-frame_reasons next framed a limits h ended rs = by next.last framed.drained ended
-  where
-    ran : (d : Bool) (b : Agenda) → AllByRecursion (HasReason limits h) b → AllByRecursion (HasReason limits h) (if d then with_run (request next.exchange) b else b)
-    ran true b t = (grounds_run (request next.exchange) b).reasons limits h t
-    ran false b t = t
+  pub frame_reasons : (limits : PlainLimits) (h : Past) → (next.last ≡ true → EndedHere limits next.exchange h)
+      → AllByRecursion (HasReason limits h) a → AllByRecursion (HasReason limits h) (after_frame next framed a)
+  frame_reasons limits h ended rs = by next.last framed.drained ended
+    where
+      ran : (d : Bool) (b : Agenda) → AllByRecursion (HasReason limits h) b → AllByRecursion (HasReason limits h) (if d then with_run (request next.exchange) b else b)
+      ran true b t = (grounds_run (request next.exchange) b).reasons limits h t
+      ran false b t = t
 
-    by : (l d : Bool) → (l ≡ true → EndedHere limits next.exchange h)
-        → AllByRecursion (HasReason limits h) (let ended : Agenda = if l then task.End next.exchange ∷ a else a in if d then with_run (request next.exchange) ended else ended)
-    by true d e = ran d (task.End next.exchange ∷ a) (e refl, rs)
-    by false d e = ran d a rs
+      by : (l d : Bool) → (l ≡ true → EndedHere limits next.exchange h)
+          → AllByRecursion (HasReason limits h) (let ended : Agenda = if l then task.End next.exchange ∷ a else a in if d then with_run (request next.exchange) ended else ended)
+      by true d e = ran d (task.End next.exchange ∷ a) (e refl, rs)
+      by false d e = ran d a rs
 
 -- ---- weights
-pub weight_top : (t : Task) (a : Agenda) → slice_get a 0 ≡ Some t → sum_by weight a ≡ weight t + sum_by weight (drop 1 a)
+pub weight_top : (t : Task) (a : Agenda) → OnTop t a → sum_by weight a ≡ weight t + sum_by weight (drop 1 a)
 weight_top t [] e = cc
 weight_top t (u ∷ us) e = let is : u ≡ t = cc in sum_by-cons weight u us ∙ ap (λ (v : Task). weight v + sum_by weight us) is
 
-pub top_is : (t : Task) (a : Agenda) → slice_get a 0 ≡ Some t → a ≡ t ∷ drop 1 a
+pub top_is : (t : Task) (a : Agenda) → OnTop t a → a ≡ t ∷ drop 1 a
 top_is t [] e = cc
 top_is t (u ∷ us) e = let is : u ≡ t = cc in ap (λ (v : Task). v ∷ us) is
 

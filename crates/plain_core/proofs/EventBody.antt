@@ -13,12 +13,12 @@ use Rattle.std.proofs.lemmas.Bool.Decides.{nat_tests}
 use Rattle.std.specs.List.{list_any}
 use Rattle.std.specs.Option.{option_and_then}
 use Rattle.std.specs.Prelude.{Bool, IfSome, List, Option, [], false, length, true, ℕ, ◌+◌, ◌==◌, ◌||◌, ◌∷◌, ◌≡◌}
+use Rattle.plain_laws.specs.Words.{Past, Alive, conn_lows}
 use Rattle.tape_laws.specs.Dispatches.{events_back, has, live}
 use Rattle.tape_laws.specs.Flows.{request, same_flow}
 use Rattle.tape_laws.specs.Following.{MayFollowEvent}
-use Rattle.tape_laws.specs.History.{History, NoMark, Noted}
-use Rattle.tape_laws.specs.Pauses.{pending_lows}
-use Rattle.tape_laws.specs.Plain.{plain_ended, plain_setup}
+use Rattle.tape_laws.specs.History.{Noted}
+use Rattle.tape_laws.specs.Plain.{plain_ended}
 use Rattle.tape_laws.specs.declared.limits.PlainLimits.{PlainLimits}
 use Rattle.plain_core.proofs.EventOpens.{IsOpened, good_of, pairs_kept, turn_number, underway_of, underway_round}
 use Rattle.plain_core.proofs.Fronts.{Opened}
@@ -37,40 +37,41 @@ use Rattle.flow_notes.specs.declared.events.PlainEvent.TheVariants as plain
 use Rattle.flow_notes.specs.declared.notes.Cause.TheVariants as cause
 use Rattle.flow_notes.specs.declared.notes.Note.TheVariants as note
 use Rattle.plain_core.specs.declared.agenda.Task.TheVariants as task
+use Rattle.plain_laws.proofs.Streams.{number_is as eq_of}
 
 -- ---- what is seen
-pub lives_at : (limits : PlainLimits) (flows : Flows) (x : ℕ) (h : History NoMark) → Lives flows x true → Settled limits flows h → has (live h) x ≡ true
-lives_at limits flows x h l s = sym (l.goes limits h s)
+module _ (limits : PlainLimits) (flows : Flows) (x : ℕ) (h : Past) where
+  pub lives_at : Lives flows x true → Settled limits flows h → Alive h x
+  lives_at l s = sym (l.goes limits h s)
 
-pub dead_at : (limits : PlainLimits) (flows : Flows) (x : ℕ) (h : History NoMark) → Lives flows x false → Settled limits flows h → has (live h) x ≡ false
-dead_at limits flows x h l s = sym (l.goes limits h s)
+  pub dead_at : Lives flows x false → Settled limits flows h → has (live h) x ≡ false
+  dead_at l s = sym (l.goes limits h s)
 
--- a live stream whose end hasn't come
-goes_on_at : (limits : PlainLimits) (flows : Flows) (x : ℕ) (h : History NoMark) → Settled limits flows h → has (live h) x ≡ true → plain_ended x h ≡ false → GoesOn flows x
-goes_on_at limits flows x h s is e =
-    let i = s.stands.exchanges.there x is in
-    let P : Option Exchange → Type 0 = λ v. IfSome (option_and_then (flow_in false) v) (λ f. f.message.ended ≡ false) in
-    subst P (sym i.is) (i.ended ∙ e)
+  -- a live stream whose end hasn't come
+  goes_on_at : Settled limits flows h → Alive h x → plain_ended x h ≡ false → GoesOn flows x
+  goes_on_at s is e =
+      let i = s.stands.exchanges.there x is in
+      subst (λ (v : Option Exchange). IfSome (option_and_then (flow_in false) v) (λ f. f.message.ended ≡ false)) (sym i.is) (i.ended ∙ e)
 
 -- the end of a stream hasn't come where octets may, if it is live
-pub body_goes_on : (limits : PlainLimits) (core : PlainCore) (x : ℕ) (octets : List ℕ) (h : History NoMark) → Rests limits core h
-    → MayFollowEvent (events_back h) (event.Plain (plain.Body x octets)) → GoesOn core.flows x
-body_goes_on limits core x octets h r m =
-    let P : Option Exchange → Type 0 = λ v. IfSome (option_and_then (flow_in false) v) (λ f. f.message.ended ≡ false) in
-    by_case (has (live h) x)
-    (λ is. goes_on_at limits core.flows x h r.good.flows is (body_flowing limits x octets h r.good.flows.lawful.regular m.2).goes_on)
-    (λ d. subst P (sym (r.good.flows.stands.exchanges.gone x d)) tt)
+module _ (limits : PlainLimits) (core : PlainCore) where
+  pub body_goes_on : (x : ℕ) (octets : List ℕ) (h : Past) → Rests limits core h
+      → MayFollowEvent (events_back h) (event.Plain (plain.Body x octets)) → GoesOn core.flows x
+  body_goes_on x octets h r m =
+      by_case (has (live h) x)
+      (λ is. goes_on_at limits core.flows x h r.good.flows is (body_flowing limits x octets h r.good.flows.lawful.regular m.2).goes_on)
+      (λ d. subst (λ (v : Option Exchange). IfSome (option_and_then (flow_in false) v) (λ f. f.message.ended ≡ false)) (sym (r.good.flows.stands.exchanges.gone x d)) tt)
 
-pub finish_goes_on : (limits : PlainLimits) (core : PlainCore) (x : ℕ) (h : History NoMark) → Rests limits core h → Lives core.flows x true
-    → MayFollowEvent (events_back h) (event.Plain (plain.Finish x)) → GoesOn core.flows x
-finish_goes_on limits core x h r l m =
-    goes_on_at limits core.flows x h r.good.flows (lives_at limits core.flows x h l r.good.flows) (finish_flowing limits x h r.good.flows.lawful.regular m.2).goes_on
+  pub finish_goes_on : (x : ℕ) (h : Past) → Rests limits core h → Lives core.flows x true
+      → MayFollowEvent (events_back h) (event.Plain (plain.Finish x)) → GoesOn core.flows x
+  finish_goes_on x h r l m =
+      goes_on_at limits core.flows x h r.good.flows (lives_at limits core.flows x h l r.good.flows) (finish_flowing limits x h r.good.flows.lawful.regular m.2).goes_on
 
--- ---- a turn note alone
--- nothing is told after a turn note at rest
-told_none : (limits : PlainLimits) (core : PlainCore) (k : ℕ) (e : PlainEvent) (h : History NoMark) → Rests limits core h
-    → pending_lows (plain_setup limits) (buffer.Write 0) (turned k e ∷ h) ≡ []
-told_none limits core k e h r = rests_told limits h (at_rest limits core h r)
+  -- ---- a turn note alone
+  -- nothing is told after a turn note at rest
+  told_none : (k : ℕ) (e : PlainEvent) (h : Past) → Rests limits core h
+      → conn_lows limits (turned k e ∷ h) ≡ []
+  told_none k e h r = rests_told limits h (at_rest limits core h r)
 
 pub late_opened : (old new : PlainCore) (x k : ℕ) (octets : List ℕ) → IsOpened old old.flows old.pairs (task.Round ∷ old.agenda) new → Lives old.flows x false → k ≡ old.turn + 1
     → Opened old k (plain.Body x octets) [] new
@@ -121,69 +122,66 @@ arrive_opened old new x k octets f o l fits a ek = record {
       (a.goes limits k h r.good.flows is)
       (body_step limits k x octets h rest (turn_number limits old k h r ek) is m.0.1.0 (fits.yes limits h r.good.flows is refl)) refl (pairs_kept limits old h (Noted (note.Arrive (request x) octets) ∷ turned k (plain.Body x octets) ∷ h) r (λ y. refl))
       (underway_of limits old.pairs agenda _
-      (λ y e t. by_case (x == y) (λ s. let P : ℕ → Type 0 = λ v. list_any (is_run_of (request v)) agenda ≡ true in subst P (eq_of x y s) (run_own x))
+      (λ y e t. by_case (x == y) (λ s. subst (λ (v : ℕ). list_any (is_run_of (request v)) agenda ≡ true) (eq_of x y s) (run_own x))
       (λ d. not_both _ t (may_same limits y h (Noted (note.Arrive (request x) octets) ∷ turned k (plain.Body x octets) ∷ h) refl (body_keeps limits k x y octets h d).recv ∙ rest_still limits old y h r e)))
       (inl ((body_keeps_write limits k x octets h).lows ∙ rests_told limits h rest)) (λ y e. rest_unended limits old y h r e) (tt, (tt, tt)) refl refl);
   well = o.failed;
 }
-  where
-    eq_of : (a b : ℕ) → (a == b) ≡ true → a ≡ b
-    eq_of a b e = grind (arith, nat_tests)
 
-pub finish_opened : (old new : PlainCore) (x k : ℕ) (f : Flows) → IsOpened old f old.pairs (with_run (request x) (task.Round ∷ old.agenda)) new → Lives old.flows x true
-    → Ends x old.flows f → k ≡ old.turn + 1 → Opened old k (plain.Finish x) [] new
-finish_opened old new x k f o l a ek = record {
-  number = omega (arith, ek);
-  spelled = λ i. tt;
-  silent = tt;
-  goes = λ limits h r m.
-      let is = lives_at limits old.flows x h l r.good.flows in
-      let agenda = task.Run (request x) ∷ task.Round ∷ [] in
-      good_of limits old new f old.pairs (with_run (request x) (task.Round ∷ old.agenda)) agenda h (turned k (plain.Finish x) ∷ h) o r (λ e. ap (λ v. with_run (request x) (task.Round ∷ v)) e)
-      (a.goes limits k h r.good.flows is)
-      (finish_step limits k x h (at_rest limits old h r) (turn_number limits old k h r ek) m.2) refl (pairs_kept limits old h (turned k (plain.Finish x) ∷ h) r (λ y. refl))
-      (underway_of limits old.pairs agenda _ (λ y e t. not_both _ t (rest_still limits old y h r e)) (inl (told_none limits old k (plain.Finish x) h r)) (λ y e. rest_unended limits old y h r e)
-      (tt, (tt, tt)) refl refl);
-  well = o.failed;
-}
+module _ (old new : PlainCore) (x k : ℕ) where
+  pub finish_opened : (f : Flows) → IsOpened old f old.pairs (with_run (request x) (task.Round ∷ old.agenda)) new → Lives old.flows x true
+      → Ends x old.flows f → k ≡ old.turn + 1 → Opened old k (plain.Finish x) [] new
+  finish_opened f o l a ek = record {
+    number = omega (arith, ek);
+    spelled = λ i. tt;
+    silent = tt;
+    goes = λ limits h r m.
+        let is = lives_at limits old.flows x h l r.good.flows in
+        let agenda = task.Run (request x) ∷ task.Round ∷ [] in
+        good_of limits old new f old.pairs (with_run (request x) (task.Round ∷ old.agenda)) agenda h (turned k (plain.Finish x) ∷ h) o r (λ e. ap (λ v. with_run (request x) (task.Round ∷ v)) e)
+        (a.goes limits k h r.good.flows is)
+        (finish_step limits k x h (at_rest limits old h r) (turn_number limits old k h r ek) m.2) refl (pairs_kept limits old h (turned k (plain.Finish x) ∷ h) r (λ y. refl))
+        (underway_of limits old.pairs agenda _ (λ y e t. not_both _ t (rest_still limits old y h r e)) (inl (told_none limits old k (plain.Finish x) h r)) (λ y e. rest_unended limits old y h r e)
+        (tt, (tt, tt)) refl refl);
+    well = o.failed;
+  }
 
--- ---- it is doomed
-pub over_opened : (old new : PlainCore) (x k : ℕ) (octets : List ℕ) (b : Bool) (f : Flows) → IsOpened old f old.pairs (task.Round ∷ old.agenda) new → Lives old.flows x true
-    → Fits old.flows x (length octets) false → GivesUp x (cause.StreamError 3) old.flows b f → k ≡ old.turn + 1 → Opened old k (plain.Body x octets) (doom_of b x (cause.StreamError 3)) new
-over_opened old new x k octets false f o l fits g ek = record {
-  number = omega (arith, ek);
-  spelled = λ i. tt;
-  silent = tt;
-  goes = λ limits h r m. not_both _ (lives_at limits old.flows x h l r.good.flows) (dead_at limits old.flows x h g.is.0 r.good.flows);
-  well = o.failed;
-}
-over_opened old new x k octets true f o l fits g ek = record {
-  number = omega (arith, ek);
-  spelled = λ i. (tt, tt);
-  silent = (record { events = λ h. refl }, tt);
-  goes = λ limits h r m.
-      let is = lives_at limits old.flows x h l r.good.flows in
-      let e = plain.Body x octets in
-      good_of limits old new f old.pairs (task.Round ∷ old.agenda) (task.Round ∷ []) h (Noted (note.Doom x (cause.StreamError 3)) ∷ turned k e ∷ h) o r (λ e. ap (λ v. task.Round ∷ v) e)
-      (g.is.1.turned limits k e h r.good.flows is (turn_stands limits k e h old.flows (λ y e. refl) r.good.flows.stands))
-      (over_step limits k x octets h (at_rest limits old h r) (turn_number limits old k h r ek) is (fits.no limits h r.good.flows is refl)) refl (pairs_kept limits old h (Noted (note.Doom x (cause.StreamError 3)) ∷ turned k e ∷ h) r (λ y. refl))
-      (underway_round limits old.pairs _
-      (λ y t. let k2 = has_left (live h) x y t in may_same limits y h (Noted (note.Doom x (cause.StreamError 3)) ∷ turned k e ∷ h) refl (over_keeps limits k x y octets h r.good.flows.lawful k2.1).recv
-      ∙ rest_still limits old y h r k2.0)
-      (ap (without x) (told_none limits old k e h r)) (λ y t. rest_unended limits old y h r (has_left (live h) x y t).0) refl);
-  well = o.failed;
-}
+  -- ---- it is doomed
+  pub over_opened : (octets : List ℕ) (b : Bool) (f : Flows) → IsOpened old f old.pairs (task.Round ∷ old.agenda) new → Lives old.flows x true
+      → Fits old.flows x (length octets) false → GivesUp x (cause.StreamError 3) old.flows b f → k ≡ old.turn + 1 → Opened old k (plain.Body x octets) (doom_of b x (cause.StreamError 3)) new
+  over_opened octets false f o l fits g ek = record {
+    number = omega (arith, ek);
+    spelled = λ i. tt;
+    silent = tt;
+    goes = λ limits h r m. not_both _ (lives_at limits old.flows x h l r.good.flows) (dead_at limits old.flows x h g.is.0 r.good.flows);
+    well = o.failed;
+  }
+  over_opened octets true f o l fits g ek = record {
+    number = omega (arith, ek);
+    spelled = λ i. (tt, tt);
+    silent = (record { events = λ h. refl }, tt);
+    goes = λ limits h r m.
+        let is = lives_at limits old.flows x h l r.good.flows in
+        let e = plain.Body x octets in
+        good_of limits old new f old.pairs (task.Round ∷ old.agenda) (task.Round ∷ []) h (Noted (note.Doom x (cause.StreamError 3)) ∷ turned k e ∷ h) o r (λ e. ap (λ v. task.Round ∷ v) e)
+        (g.is.1.turned limits k e h r.good.flows is (turn_stands limits k e h old.flows (λ y e. refl) r.good.flows.stands))
+        (over_step limits k x octets h (at_rest limits old h r) (turn_number limits old k h r ek) is (fits.no limits h r.good.flows is refl)) refl (pairs_kept limits old h (Noted (note.Doom x (cause.StreamError 3)) ∷ turned k e ∷ h) r (λ y. refl))
+        (underway_round limits old.pairs _
+        (λ y t. let k2 = has_left (live h) x y t in may_same limits y h (Noted (note.Doom x (cause.StreamError 3)) ∷ turned k e ∷ h) refl (over_keeps limits k x y octets h r.good.flows.lawful k2.1).recv
+        ∙ rest_still limits old y h r k2.0)
+        (ap (without x) (told_none limits old k e h r)) (λ y t. rest_unended limits old y h r (has_left (live h) x y t).0) refl);
+    well = o.failed;
+  }
 
-pub over_any : (old new : PlainCore) (x k : ℕ) (e : PlainEvent) (b : Bool) (f : Flows) → IsOpened old f old.pairs (task.Round ∷ old.agenda) new → Lives old.flows x true → IsOverrunBy old.flows x e
-    → GivesUp x (cause.StreamError 3) old.flows b f → k ≡ old.turn + 1 → Opened old k e (doom_of b x (cause.StreamError 3)) new
-over_any old new x k (plain.Body y octets) b f o l over g ek =
-    let P : ℕ → Type 0 = λ v. Opened old k (plain.Body v octets) (doom_of b x (cause.StreamError 3)) new in
-    subst P (sym over.0) (over_opened old new x k octets b f o l over.1 g ek)
-over_any old new x k (plain.Begin y) b f o l over g ek = absurd over
-over_any old new x k (plain.Pair y z) b f o l over g ek = absurd over
-over_any old new x k (plain.Finish y) b f o l over g ek = absurd over
-over_any old new x k (plain.Cut y) b f o l over g ek = absurd over
-over_any old new x k (plain.Room n) b f o l over g ek = absurd over
+  pub over_any : (e : PlainEvent) (b : Bool) (f : Flows) → IsOpened old f old.pairs (task.Round ∷ old.agenda) new → Lives old.flows x true → IsOverrunBy old.flows x e
+      → GivesUp x (cause.StreamError 3) old.flows b f → k ≡ old.turn + 1 → Opened old k e (doom_of b x (cause.StreamError 3)) new
+  over_any (plain.Body y octets) b f o l over g ek =
+      subst (λ (v : ℕ). Opened old k (plain.Body v octets) (doom_of b x (cause.StreamError 3)) new) (sym over.0) (over_opened octets b f o l over.1 g ek)
+  over_any (plain.Begin y) b f o l over g ek = absurd over
+  over_any (plain.Pair y z) b f o l over g ek = absurd over
+  over_any (plain.Finish y) b f o l over g ek = absurd over
+  over_any (plain.Cut y) b f o l over g ek = absurd over
+  over_any (plain.Room n) b f o l over g ek = absurd over
 
 pub cut_opened : (old new : PlainCore) (x k : ℕ) (b : Bool) (f : Flows) → IsOpened old f old.pairs (task.Round ∷ old.agenda) new → GivesUp x (cause.PeerReset 8) old.flows b f → k ≡ old.turn + 1
     → Opened old k (plain.Cut x) (doom_of b x (cause.PeerReset 8)) new
@@ -193,9 +191,8 @@ cut_opened old new x k false f o g ek = record {
   silent = tt;
   goes = λ limits h r m.
       let is = dead_at limits old.flows x h g.is.0 r.good.flows in
-      let F : Flows → Type 0 = λ v. FlowsStand limits v (turned k (plain.Cut x) ∷ h) in
       good_of limits old new f old.pairs (task.Round ∷ old.agenda) (task.Round ∷ []) h (turned k (plain.Cut x) ∷ h) o r (λ e. ap (λ v. task.Round ∷ v) e)
-      (subst F (sym g.is.1) (turn_stands limits k (plain.Cut x) h old.flows (λ y e. refl) r.good.flows.stands))
+      (subst (λ (v : Flows). FlowsStand limits v (turned k (plain.Cut x) ∷ h)) (sym g.is.1) (turn_stands limits k (plain.Cut x) h old.flows (λ y e. refl) r.good.flows.stands))
       (cut_late_step limits k x h (at_rest limits old h r) (turn_number limits old k h r ek) is) refl (pairs_kept limits old h (turned k (plain.Cut x) ∷ h) r (λ y. refl))
       (underway_round limits old.pairs _ (λ y e. rest_still limits old y h r e) (told_none limits old k (plain.Cut x) h r) (λ y e. rest_unended limits old y h r e) refl);
   well = o.failed;

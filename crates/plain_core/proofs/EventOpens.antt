@@ -1,4 +1,5 @@
 -- What an event does to a core beside its notes, and that the core is good then.
+use Rattle.plain_laws.specs.Words.{Past, Alive, conn_lows}
 use Rattle.tape_laws.specs.Doomed.{is_swept}
 use Rattle.flow_gate.specs.declared.ids.FlowId.{FlowId}
 use Rattle.plain_laws.proofs.Streams.{not_both}
@@ -9,11 +10,9 @@ use Rattle.std.specs.BTreeMap.{get}
 use Rattle.std.specs.List.{AllByRecursion, list_any}
 use Rattle.std.specs.Ordering.{nat_cmp}
 use Rattle.std.specs.Prelude.{All, Bool, List, [], false, true, ℕ, ◌+◌, ◌∷◌, ◌≡◌, ◌⊎◌}
-use Rattle.tape_laws.specs.Dispatches.{has, is_some_of, live, turns}
+use Rattle.tape_laws.specs.Dispatches.{has, is_some_of, turns}
 use Rattle.tape_laws.specs.Flows.{request}
-use Rattle.tape_laws.specs.History.{History, NoMark}
-use Rattle.tape_laws.specs.Pauses.{pending_lows}
-use Rattle.tape_laws.specs.Plain.{paired_with, plain_setup}
+use Rattle.tape_laws.specs.Plain.{paired_with}
 use Rattle.tape_laws.specs.PlainSession.{plain_must_end}
 use Rattle.tape_laws.specs.declared.limits.PlainLimits.{PlainLimits}
 use Rattle.plain_core.specs.Agenda.{Agenda, is_rounded, is_run_of, is_telling, with_run}
@@ -47,64 +46,62 @@ opened_turn old mid new et ea ec ef nt na rest = record {
 }
 
 -- and more was begun
-pub opened_more : (old mid new : PlainCore) (f : Flows) (p : Pairs) (a b : Agenda) → IsOpened old f p a mid → (mid.agenda ≡ a → new.agenda ≡ b) → new ≡ record mid { agenda = new.agenda } → IsOpened old f p b new
-opened_more old mid new f p a b o na rest = record {
-  turn = ap (λ (v : PlainCore). v.turn) rest ∙ o.turn;
-  flows = ap (λ (v : PlainCore). v.flows) rest ∙ o.flows;
-  pairs = ap (λ (v : PlainCore). v.pairs) rest ∙ o.pairs;
-  agenda = na o.agenda;
-  routes = ap (λ (v : PlainCore). v.config.routes) rest ∙ o.routes;
-  failed = ap (λ (v : PlainCore). v.failed) rest ∙ o.failed;
-}
+module _ (old mid new : PlainCore) (f : Flows) (p : Pairs) (a : Agenda) where
+  pub opened_more : (b : Agenda) → IsOpened old f p a mid → (mid.agenda ≡ a → new.agenda ≡ b) → new ≡ record mid { agenda = new.agenda } → IsOpened old f p b new
+  opened_more b o na rest = record {
+    turn = ap (λ (v : PlainCore). v.turn) rest ∙ o.turn;
+    flows = ap (λ (v : PlainCore). v.flows) rest ∙ o.flows;
+    pairs = ap (λ (v : PlainCore). v.pairs) rest ∙ o.pairs;
+    agenda = na o.agenda;
+    routes = ap (λ (v : PlainCore). v.config.routes) rest ∙ o.routes;
+    failed = ap (λ (v : PlainCore). v.failed) rest ∙ o.failed;
+  }
 
-pub opened_run : (old mid new : PlainCore) (f : Flows) (p : Pairs) (a : Agenda) (g : FlowId) → IsOpened old f p a mid → new.agenda ≡ with_run g mid.agenda → new ≡ record mid { agenda = new.agenda }
-    → IsOpened old f p (with_run g a) new
-opened_run old mid new f p a g o na rest = opened_more old mid new f p a (with_run g a) o (λ e. na ∙ ap (with_run g) e) rest
+  pub opened_run : (g : FlowId) → IsOpened old f p a mid → new.agenda ≡ with_run g mid.agenda → new ≡ record mid { agenda = new.agenda }
+      → IsOpened old f p (with_run g a) new
+  opened_run g o na rest = opened_more (with_run g a) o (λ e. na ∙ ap (with_run g) e) rest
 
 -- the number of the turn note
-pub turn_number : (limits : PlainLimits) (core : PlainCore) (k : ℕ) (h : History NoMark) → Rests limits core h → k ≡ core.turn + 1 → k ≡ turns h + 1
-turn_number limits core k h r ek = ek ∙ ap (λ n. n + 1) r.good.books.turn
+module _ (limits : PlainLimits) where
+  pub turn_number : (core : PlainCore) (k : ℕ) (h : Past) → Rests limits core h → k ≡ core.turn + 1 → k ≡ turns h + 1
+  turn_number core k h r ek = ek ∙ ap (λ n. n + 1) r.good.books.turn
 
-pub good_of : (limits : PlainLimits) (old new : PlainCore) (f : Flows) (p : Pairs) (a b : Agenda) (h new_h : History NoMark) → IsOpened old f p a new → Rests limits old h → (old.agenda ≡ [] → a ≡ b)
-    → FlowsStand limits f new_h → IsSettledHistory limits new_h → turns new_h ≡ turns h + 1 → ((s x : ℕ) → has (paired_with x new_h) s ≡ is_some_of (get nat_cmp p s) x)
-    → Underway limits p b new_h → Good limits new new_h
-good_of limits old new f p a b h new_h o r ea st law et ep u =
-    let F : Flows → Type 0 = λ v. FlowsStand limits v new_h in
-    let A : Agenda → Type 0 = λ v. Underway limits p v new_h in
-    let P : Pairs → Type 0 = λ v. Underway limits v new.agenda new_h in
-    record {
-      flows = record { stands = subst F (sym o.flows) st; lawful = law };
-      books = record {
-        turn = o.turn ∙ ap (λ n. n + 1) r.good.books.turn ∙ sym et;
-        pairs = λ s x. ep s x ∙ ap (λ (v : Pairs). is_some_of (get nat_cmp v s) x) (sym o.pairs);
-        routes = subst (All IsRoute) (sym o.routes) r.good.books.routes;
-      };
-      underway = subst P (sym o.pairs) (subst A (sym (o.agenda ∙ ea r.idle)) u);
-    }
+  pub good_of : (old new : PlainCore) (f : Flows) (p : Pairs) (a b : Agenda) (h new_h : Past) → IsOpened old f p a new → Rests limits old h → (old.agenda ≡ [] → a ≡ b)
+      → FlowsStand limits f new_h → IsSettledHistory limits new_h → turns new_h ≡ turns h + 1 → ((s x : ℕ) → has (paired_with x new_h) s ≡ is_some_of (get nat_cmp p s) x)
+      → Underway limits p b new_h → Good limits new new_h
+  good_of old new f p a b h new_h o r ea st law et ep u =
+      record {
+        flows = record { stands = subst (λ (v : Flows). FlowsStand limits v new_h) (sym o.flows) st; lawful = law };
+        books = record {
+          turn = o.turn ∙ ap (λ n. n + 1) r.good.books.turn ∙ sym et;
+          pairs = λ s x. ep s x ∙ ap (λ (v : Pairs). is_some_of (get nat_cmp v s) x) (sym o.pairs);
+          routes = subst (All IsRoute) (sym o.routes) r.good.books.routes;
+        };
+        underway = subst (λ (v : Pairs). Underway limits v new.agenda new_h) (sym o.pairs) (subst (λ (v : Agenda). Underway limits p v new_h) (sym (o.agenda ∙ ea r.idle)) u);
+      }
 
--- where the pairs stay as they were
-pub pairs_kept : (limits : PlainLimits) (core : PlainCore) (h new_h : History NoMark) → Rests limits core h → ((x : ℕ) → paired_with x new_h ≡ paired_with x h)
-    → (s x : ℕ) → has (paired_with x new_h) s ≡ is_some_of (get nat_cmp core.pairs s) x
-pairs_kept limits core h new_h r e s x = ap (λ (v : List ℕ). has v s) (e x) ∙ r.good.books.pairs s x
+  -- where the pairs stay as they were
+  pub pairs_kept : (core : PlainCore) (h new_h : Past) → Rests limits core h → ((x : ℕ) → paired_with x new_h ≡ paired_with x h)
+      → (s x : ℕ) → has (paired_with x new_h) s ≡ is_some_of (get nat_cmp core.pairs s) x
+  pairs_kept core h new_h r e s x = ap (λ (v : List ℕ). has v s) (e x) ∙ r.good.books.pairs s x
 
-pub underway_of : (limits : PlainLimits) (p : Pairs) (a : Agenda) (h : History NoMark)
-    → ((x : ℕ) → has (live h) x ≡ true → may_move limits x h ≡ true → list_any (is_run_of (request x)) a ≡ true)
-    → ((pending_lows (plain_setup limits) (buffer.Write 0) h ≡ []) ⊎ (list_any (is_telling 0) a ≡ true))
-    → ((x : ℕ) → has (live h) x ≡ true → plain_must_end x h ≡ false) → AllByRecursion (HasReason limits h) a → is_rounded a ≡ true → is_swept h ≡ false → Underway limits p a h
-underway_of limits p a h runs tells ends reasons rounded fresh = record {
-  runs = runs;
-  tells = tells;
-  ends = λ x is t. not_both _ t (ends x is);
-  reasons = reasons;
-  unswept = inr fresh;
-  rested = inl rounded;
-}
+  pub underway_of : (p : Pairs) (a : Agenda) (h : Past) → ((x : ℕ) → Alive h x → may_move limits x h ≡ true → list_any (is_run_of (request x)) a ≡ true)
+      → ((conn_lows limits h ≡ []) ⊎ (list_any (is_telling 0) a ≡ true))
+      → ((x : ℕ) → Alive h x → plain_must_end x h ≡ false) → AllByRecursion (HasReason limits h) a → is_rounded a ≡ true → is_swept h ≡ false → Underway limits p a h
+  underway_of p a h runs tells ends reasons rounded fresh = record {
+    runs = runs;
+    tells = tells;
+    ends = λ x is t. not_both _ t (ends x is);
+    reasons = reasons;
+    unswept = inr fresh;
+    rested = inl rounded;
+  }
 
--- only the round is begun, and nothing may move
-pub underway_round : (limits : PlainLimits) (p : Pairs) (h : History NoMark) → ((x : ℕ) → has (live h) x ≡ true → may_move limits x h ≡ false)
-    → pending_lows (plain_setup limits) (buffer.Write 0) h ≡ [] → ((x : ℕ) → has (live h) x ≡ true → plain_must_end x h ≡ false) → is_swept h ≡ false
-    → Underway limits p (task.Round ∷ []) h
-underway_round limits p h still told unended fresh = underway_of limits p (task.Round ∷ []) h (λ x is t. not_both _ t (still x is)) (inl told) unended (tt, tt) refl fresh
+  -- only the round is begun, and nothing may move
+  pub underway_round : (p : Pairs) (h : Past) → ((x : ℕ) → Alive h x → may_move limits x h ≡ false)
+      → conn_lows limits h ≡ [] → ((x : ℕ) → Alive h x → plain_must_end x h ≡ false) → is_swept h ≡ false
+      → Underway limits p (task.Round ∷ []) h
+  underway_round p h still told unended fresh = underway_of p (task.Round ∷ []) h (λ x is t. not_both _ t (still x is)) (inl told) unended (tt, tt) refl fresh
 
 -- over a core whose flows alone changed
 pub opened_given : (old mid new : PlainCore) → mid ≡ record old { flows = mid.flows } → new.turn ≡ mid.turn + 1 → new.agenda ≡ task.Round ∷ mid.agenda
@@ -119,7 +116,7 @@ opened_given old mid new e nt na rest = record {
 }
 
 pub lives_is : (flows : Flows) (x : ℕ) (b v : Bool) → b ≡ v → Lives flows x b → Lives flows x v
-lives_is flows x b v e l = let P : Bool → Type 0 = λ w. Lives flows x w in subst P e l
+lives_is flows x b v e l = subst (λ (w : Bool). Lives flows x w) e l
 
 pub number_given : (old mid : PlainCore) (k : ℕ) → mid ≡ record old { flows = mid.flows } → k ≡ mid.turn + 1 → k ≡ old.turn + 1
 number_given old mid k e ek = ek ∙ ap (λ (v : PlainCore). v.turn + 1) e

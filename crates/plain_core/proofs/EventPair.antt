@@ -10,8 +10,8 @@ use Rattle.std.proofs.lemmas.Bool.Decides.{nat_tests}
 use Rattle.std.specs.BTreeMap.{Updates, get, is_at}
 use Rattle.std.specs.Ordering.{is_eq, nat_cmp}
 use Rattle.std.specs.Prelude.{Bool, List, Option, Some, [], cond, false, if◌then◌else◌, nat_lt, true, ℕ, ◌++◌, ◌+◌, ◌==◌, ◌||◌, ◌∷◌, ◌≡◌}
+use Rattle.plain_laws.specs.Words.{Past}
 use Rattle.tape_laws.specs.Dispatches.{has, is_some_of}
-use Rattle.tape_laws.specs.History.{History, NoMark}
 use Rattle.tape_laws.specs.Plain.{paired_with}
 use Rattle.plain_core.proofs.EventOpens.{IsOpened, good_of, turn_number, underway_round}
 use Rattle.plain_core.proofs.Fronts.{Opened}
@@ -21,6 +21,7 @@ use Rattle.plain_core.specs.Progress.{Pairs}
 use Rattle.plain_core.specs.declared.plain.PlainCore.{PlainCore}
 use Rattle.flow_notes.specs.declared.events.PlainEvent.TheVariants as plain
 use Rattle.plain_core.specs.declared.agenda.Task.TheVariants as task
+use Rattle.plain_laws.proofs.Streams.{number_is as eq_of}
 
 apart_at : (a b : ℕ) → (a == b) ≡ false → is_at (nat_cmp a) b ≡ false
 apart_at a b d = by (nat_lt a b)
@@ -39,15 +40,12 @@ other_pair : (first s : ℕ) (ps : List ℕ) (b : Bool) → (first == s) ≡ fal
 other_pair first s ps true d = ap (λ e. e || has ps s) d
 other_pair first s ps false d = refl
 
-pair_books : (old new : Pairs) (first second k : ℕ) (h : History NoMark) → ((s x : ℕ) → has (paired_with x h) s ≡ is_some_of (get nat_cmp old s) x) → Updates nat_cmp old new first (Some second)
+pair_books : (old new : Pairs) (first second k : ℕ) (h : Past) → ((s x : ℕ) → has (paired_with x h) s ≡ is_some_of (get nat_cmp old s) x) → Updates nat_cmp old new first (Some second)
     → seconds first h ≡ [] → (s x : ℕ) → has (paired_with x (turned k (plain.Pair first second) ∷ h)) s ≡ is_some_of (get nat_cmp new s) x
 pair_books old new first second k h books u none s x =
-    by_case (first == s) (λ e. let P : ℕ → Type 0 = λ v. has (paired_with x (turned k (plain.Pair first second) ∷ h)) v ≡ is_some_of (get nat_cmp new v) x in subst P (eq_of first s e) own)
+    by_case (first == s) (λ e. subst (λ (v : ℕ). has (paired_with x (turned k (plain.Pair first second) ∷ h)) v ≡ is_some_of (get nat_cmp new v) x) (eq_of first s e) own)
     (λ d. other_pair first s (paired_with x h) (second == x) d ∙ books s x ∙ ap (λ (v : Option ℕ). is_some_of v x) (sym (u.2 s (apart_at first s d))))
   where
-    eq_of : (a b : ℕ) → (a == b) ≡ true → a ≡ b
-    eq_of a b e = grind (arith, nat_tests)
-
     own : has (paired_with x (turned k (plain.Pair first second) ∷ h)) first ≡ is_some_of (get nat_cmp new first) x
     own = own_pair first second x (paired_with x h) (second == x) (sym (pairs_agree first x h) ∙ ap (λ (v : List ℕ). has v x) none)
         ∙ ap (λ (v : Option ℕ). is_some_of v x) (sym u.1)
@@ -73,6 +71,4 @@ pair_named old new first second k p o u ek = record {
 pub pair_opened : (old new : PlainCore) (a b first second k : ℕ) (p : Pairs) → a ≡ first → b ≡ second → IsOpened old old.flows p (task.Round ∷ old.agenda) new → Updates nat_cmp old.pairs p a (Some b)
     → k ≡ old.turn + 1 → Opened old k (plain.Pair first second) [] new
 pair_opened old new a b first second k p ea eb o u ek =
-    let P : ℕ → Type 0 = λ v. Updates nat_cmp old.pairs p v (Some b) in
-    let Q : ℕ → Type 0 = λ v. Updates nat_cmp old.pairs p first (Some v) in
-    pair_named old new first second k p o (subst Q eb (subst P ea u)) ek
+    pair_named old new first second k p o (subst (λ (v : ℕ). Updates nat_cmp old.pairs p first (Some v)) eb (subst (λ (v : ℕ). Updates nat_cmp old.pairs p v (Some b)) ea u)) ek

@@ -7,12 +7,12 @@ use Rattle.plain_laws.proofs.Streams.{not_both}
 use Rattle.std.proofs.Common.{ap, arith, inl, inr, refl, sym, ◌∙◌}
 use Rattle.std.specs.List.{AllByRecursion, list_any}
 use Rattle.std.specs.Prelude.{Bool, List, [], false, if◌then◌else◌, length, map, min, not, true, ℕ, ◌&&◌, ◌+◌, ◌<◌, ◌∷◌, ◌≡◌, ◌⊎◌}
+use Rattle.plain_laws.specs.Words.{Past, conn_out}
 use Rattle.tape_laws.specs.Dispatches.{live}
 use Rattle.tape_laws.specs.Flows.{request}
-use Rattle.tape_laws.specs.History.{History, NoMark, Noted}
+use Rattle.tape_laws.specs.History.{Noted}
 use Rattle.tape_laws.specs.Plain.{plain_setup}
 use Rattle.tape_laws.specs.Watermark.{above}
-use Rattle.tape_laws.specs.World.{out}
 use Rattle.tape_laws.specs.declared.limits.PlainLimits.{PlainLimits}
 use Rattle.plain_core.proofs.EventOpens.{IsOpened, good_of, pairs_kept, turn_number, underway_of, underway_round}
 use Rattle.plain_core.proofs.Fronts.{Opened}
@@ -29,7 +29,7 @@ use Rattle.flow_notes.specs.declared.events.PlainEvent.TheVariants as plain
 use Rattle.flow_notes.specs.declared.notes.Note.TheVariants as note
 use Rattle.plain_core.specs.declared.agenda.Task.TheVariants as task
 
-octets_of : (limits : PlainLimits) (core : PlainCore) (h : History NoMark) → Rests limits core h → length core.flows.conn.write.octets ≡ length (out (plain_setup limits) 0 h)
+octets_of : (limits : PlainLimits) (core : PlainCore) (h : Past) → Rests limits core h → length core.flows.conn.write.octets ≡ length (conn_out limits h)
 octets_of limits core h r = ap length r.good.flows.stands.conn.octets
 
 least_of : (a n b c : ℕ) → a ≡ min n b → b ≡ c → a ≡ min n c
@@ -63,7 +63,7 @@ telling_told : (low : Bool) (fs : List FlowId) (lows : List FlowId) → lows ≡
 telling_told true fs lows e = inr refl
 telling_told false fs lows e = inl e
 
-telling_reasons : (limits : PlainLimits) (h : History NoMark) (low : Bool) → AllByRecursion (HasReason limits h) (with_telling low (task.Round ∷ []))
+telling_reasons : (limits : PlainLimits) (h : Past) (low : Bool) → AllByRecursion (HasReason limits h) (with_telling low (task.Round ∷ []))
 telling_reasons limits h true = (tt, (tt, tt))
 telling_reasons limits h false = (tt, tt)
 

@@ -10,24 +10,22 @@ use Rattle.flow_gate.specs.declared.ids.FlowId.{FlowId}
 use Rattle.plain_laws.proofs.Counting.{one_if}
 use Rattle.plain_laws.proofs.Counts.{begin_count, begin_count_own, is_live_is}
 use Rattle.plain_laws.proofs.EventChanges.{begin_condemned, begin_framed_last, begin_keeps, begin_keeps_write, begin_live, begin_started}
-use Rattle.plain_laws.proofs.Rotation.{unit_is}
 use Rattle.plain_laws.proofs.Streams.{by_case, has_last, has_more, has_not, has_was, not_both, own_or_other, same_number}
 use Rattle.plain_laws.specs.Regular.{IsUnborn}
 use Rattle.plain_laws.specs.Settled.{Settled as IsSettledHistory}
-use Rattle.plain_laws.specs.StepNotes.{begin_notes}
 use Rattle.std.proofs.Common.{ap, arith, inr, refl, subst, sym, ◌∙◌}
 use Rattle.std.proofs.lemmas.Bool.Decides.{nat_tests}
 use Rattle.std.proofs.lemmas.List.{append-nil}
 use Rattle.std.specs.Option.{option_map_or}
 use Rattle.std.specs.Prelude.{Bool, List, None, Option, Some, [], false, if◌then◌else◌, is_some, length, map, min, nat_lt, not, true, ℕ, ◌&&◌, ◌++◌, ◌+◌, ◌<◌, ◌==◌, ◌^◌, ◌||◌, ◌∷◌, ◌≡◌, ◌≤◌}
+use Rattle.plain_laws.specs.Words.{Past, Alive, conn_high, end_out, past_begin, send_at}
 use Rattle.tape_laws.specs.Dispatches.{has, live, started}
-use Rattle.tape_laws.specs.Ends.{BodyUnit, NoUnit, end_framed}
+use Rattle.tape_laws.specs.Ends.{end_framed}
+use Rattle.flow_rules.specs.declared.unit.Unit.TheVariants.{Body as BodyUnit, Nothing as NoUnit}
 use Rattle.tape_laws.specs.Flows.{request, same_flow}
-use Rattle.tape_laws.specs.History.{History, NoMark, onto}
 use Rattle.tape_laws.specs.Pauses.{count}
-use Rattle.tape_laws.specs.Plain.{plain_ended, plain_setup}
+use Rattle.tape_laws.specs.Plain.{plain_ended}
 use Rattle.tape_laws.specs.Watermark.{above}
-use Rattle.tape_laws.specs.World.{place}
 use Rattle.tape_laws.specs.declared.limits.PlainLimits.{PlainLimits}
 use Rattle.plain_core.specs.Carries.{Begins}
 use Rattle.plain_core.specs.Flows.{ConnectionIs, ExchangesAre, GatesAre, IsSettled, Settled, StreamIs, next_piece, piece_of}
@@ -40,16 +38,18 @@ use Rattle.plain_core.proofs.FlowHolds.{holding_begun}
 use Rattle.plain_core.proofs.FlowUnits.{keeps_piece}
 use Rattle.plain_laws.proofs.Tellings.{told_all}
 use Rattle.proxy_config.specs.declared.config.Config.{Config}
+use Rattle.plain_laws.proofs.Streams.{or_right as or_true}
 
 -- ---- who is live
-not_live : (limits : PlainLimits) (x : ℕ) (h : History NoMark) → IsSettledHistory limits h → has (started h) x ≡ false → has (live h) x ≡ false
-not_live limits x h s new = by_case (has (live h) x) (λ e. not_both (has (started h) x) (s.regular.books.born x e) new) (λ e. e)
+module _ (limits : PlainLimits) (x : ℕ) where
+  not_live : (h : Past) → IsSettledHistory limits h → has (started h) x ≡ false → has (live h) x ≡ false
+  not_live h s new = by_case (has (live h) x) (λ e. not_both (has (started h) x) (s.regular.books.born x e) new) (λ e. e)
 
-pub not_started : (limits : PlainLimits) (x : ℕ) (old : Flows) (h : History NoMark) → Settled limits old h → old.exchanges.last < x → has (started h) x ≡ false
-not_started limits x old h s l = by_case (has (started h) x) (λ e. none _ _ l (s.stands.exchanges.most.most x e)) (λ e. e)
-  where
-    none : (a b : ℕ) → a < b → b ≤ a → has (started h) x ≡ false
-    none a b l m = absurd (omega (arith, l, m))
+  pub not_started : (old : Flows) (h : Past) → Settled limits old h → old.exchanges.last < x → has (started h) x ≡ false
+  not_started old h s l = by_case (has (started h) x) (λ e. none _ _ l (s.stands.exchanges.most.most x e)) (λ e. e)
+    where
+      none : (a b : ℕ) → a < b → b ≤ a → has (started h) x ≡ false
+      none a b l m = absurd (omega (arith, l, m))
 
 pub shut : (x : ℕ) (old : Flows) → IsSettled old → old.exchanges.last < x → is_there old.gates (request x) ≡ false
 shut x old s l =
@@ -64,14 +64,14 @@ unwatched x old b1 b2 b3 s l begins knows watches =
     ∙ ap one_if (not_live s.limits x h s.settled.lawful (not_started s.limits x old h s.settled l)))
 
 -- ---- the exchanges
-module _ (limits : PlainLimits) (k x : ℕ) (h : History NoMark) where
-  abbrev after : History NoMark
-  after = onto (begin_notes limits k x h) h
+module _ (limits : PlainLimits) (k x : ℕ) (h : Past) where
+  abbrev after : Past
+  after = past_begin limits k x h
 
   begun_stream : (config : Config) (flows : Flows) → flows.limits ≡ limits → IsUnborn limits x h
       → StreamIs limits x after (Some (begun x (plain_spec x flows.limits.recv flows.limits.send flows.limits.quantum 0) config))
   begun_stream config flows l u =
-      let kept = begin_keeps limits k x x h in
+      let kept = begin_keeps limits k x h x in
       record {
         plain = plain_begun flows.limits.recv flows.limits.send flows.limits.quantum 0;
         is = refl;
@@ -94,18 +94,18 @@ module _ (limits : PlainLimits) (k x : ℕ) (h : History NoMark) where
   begun_exchanges config old ex l e u rises small c sound = record {
     sound = sound;
     time = c.time;
-    small = let P : ℕ → Type 0 = λ n. n < 2 ^ 32 in subst P (sym c.last) small;
+    small = subst (λ (n : ℕ). n < 2 ^ 32) (sym c.last) small;
     most = record {
       most = λ y. own_or_other (λ v. has (started after) v ≡ true → v ≤ ex.last) x y
-          (λ is. let P : ℕ → Type 0 = λ n. x ≤ n in subst P (sym c.last) (itself x))
-          (λ d is. let P : ℕ → Type 0 = λ n. y ≤ n in subst P (sym c.last) (between y old.exchanges.last x
+          (λ is. subst (λ (n : ℕ). x ≤ n) (sym c.last) (itself x))
+          (λ d is. subst (λ (n : ℕ). y ≤ n) (sym c.last) (between y old.exchanges.last x
           (e.most.most y (has_was (started h) x y (sym (ap (λ (xs : List ℕ). has xs y) (begin_started limits k x h)) ∙ is) d)) rises));
     };
     last = inr (ap (λ v. has (started after) v) c.last ∙ (ap (λ (xs : List ℕ). has xs x) (begin_started limits k x h) ∙ has_last (started h) x));
     doomed = c.doomed ∙ (e.doomed ∙ sym (begin_condemned limits k x h));
-    there = λ y. own_or_other (λ v. has (live after) v ≡ true → StreamIs limits v after (exchange_at ex v)) x y
+    there = λ y. own_or_other (λ v. Alive after v → StreamIs limits v after (exchange_at ex v)) x y
         (λ is. subst (StreamIs limits x after) (sym own_is) (begun_stream config old l u))
-        (λ d is. subst (StreamIs limits y after) (sym (other_is y d)) (stream_kept limits y h after (exchange_at old.exchanges y) (begin_keeps limits k x y h)
+        (λ d is. subst (StreamIs limits y after) (sym (other_is y d)) (stream_kept limits y h after (exchange_at old.exchanges y) (begin_keeps limits k x h y)
         (e.there y (has_was (live h) x y (sym (ap (λ (xs : List ℕ). has xs y) (begin_live limits k x h)) ∙ is) d))));
     gone = λ y is.
         let none = has_not (live h) x y (sym (ap (λ (xs : List ℕ). has xs y) (begin_live limits k x h)) ∙ is) in
@@ -131,7 +131,7 @@ module _ (limits : PlainLimits) (k x : ℕ) (h : History NoMark) where
     octets = c.octets ∙ sym (begin_keeps_write limits k x h).octets;
     above = c.above ∙ sym (begin_keeps_write limits k x h).high;
     framed_last = c.framed_last ∙ sym (begin_framed_last limits k x h);
-    ready = λ y. c.ready y ∙ (ap (λ (p : Option Piece). if has (live h) y then p else None) (sym (keeps_piece limits y h after (begin_keeps limits k x y h)))
+    ready = λ y. c.ready y ∙ (ap (λ (p : Option Piece). if has (live h) y then p else None) (sym (keeps_piece limits y h after (begin_keeps limits k x h y)))
         ∙ sym (ap (λ b. if b then next_piece limits y after else None) (lives y)
         ∙ own_or_other (λ v. (if has (live h) v || (x == v) then next_piece limits v after else None) ≡ (if has (live h) v then next_piece limits v after else None)) x y
         (none (has (live h) x || (x == x)) (has (live h) x) (next_piece limits x after) idle)
@@ -153,20 +153,16 @@ module _ (limits : PlainLimits) (k x : ℕ) (h : History NoMark) where
       nothing true e fr c l n p q = cc
       nothing false true fr c l n p q = cc
 
-      no_octets : (q s : ℕ) → s ≡ 0 → nat_lt 0 (min q s) ≡ false
+      no_octets : (q s : ℕ) → s ≡ 0 → nat_lt 0 (min (min q q) s) ≡ false
       no_octets q s e = grind (arith, nat_tests)
 
       idle : next_piece limits x after ≡ None
       idle =
-          let s = length (place (plain_setup limits) (request x) 1 h) in
-          keeps_piece limits x h after (begin_keeps limits k x x h)
-          ∙ (ap piece_of (unit_is limits x h)
-          ∙ nothing _ (plain_ended x h) (end_framed (plain_setup limits) (request x) h) _ _ (min limits.quantum s) (no_octets limits.quantum s (ap (λ (o : List ℕ). length o) u.send)) u.goes_on)
+          let s = length (send_at limits x h) in
+          keeps_piece limits x h after (begin_keeps limits k x h x)
+          ∙ nothing _ (plain_ended x h) (end_out limits x h) _ _ (min (min limits.quantum limits.quantum) s) (no_octets limits.quantum s (ap (λ (o : List ℕ). length o) u.send)) u.goes_on
 
   -- ---- the gates
-  or_true : (a b : Bool) → b ≡ true → (a || b) ≡ true
-  or_true true b e = refl
-  or_true false b e = e
 
   begun_flow : (a b c : Bool) → ((a && not b) || (not b && c)) ≡ (not b && (c || a))
   begun_flow true true c = refl
@@ -194,9 +190,9 @@ module _ (limits : PlainLimits) (k x : ℕ) (h : History NoMark) where
     sound = sound;
     flows = λ f. c4.flows f ∙ (c3.flows f ∙ (c2.flows f ∙ (c1.flows f ∙ (ap (λ b. same_flow (request x) f || b) (g.flows f ∙ is_live_is limits f h)
         ∙ (begun_flow (x == f.exchange) f.back (has (live h) f.exchange) ∙ sym (is_live_is limits f after ∙ ap (λ b. not f.back && b) (lives f.exchange)))))));
-    counts = λ y. own_or_other (λ v. has (live after) v ≡ true → count_on b4 (request v) ≡ count (request v) after) x y
+    counts = λ y. own_or_other (λ v. Alive after v → count_on b4 (request v) ≡ count (request v) after) x y
         (λ is. c4.counts (request x) ∙ (own_sum _ _ _ _ _ (c3.counts (request x)) (c2.counts (request x) ∙ (c1.counts (request x) ∙ shut_count old (request x) shut_flow))
-        (ap (λ b. one_if (((x == x) && true) && b)) send_low ∙ no_one ((x == x) && true)) (ap (λ b. one_if (((x == x) && true) && b)) write_mark ∙ ap (λ b. one_if ((b && true) && above (plain_setup limits) (buffer.Write 0) h)) (same_number x))
+        (ap (λ b. one_if (((x == x) && true) && b)) send_low ∙ no_one ((x == x) && true)) (ap (λ b. one_if (((x == x) && true) && b)) write_mark ∙ ap (λ b. one_if ((b && true) && conn_high limits h)) (same_number x))
         ∙ sym (begin_count_own limits k x h s unstarted)))
         (λ d is. c4.counts (request y) ∙ (other_sum _ _ _ _ (c3.counts (request y)) (ap (λ b. one_if ((b && true) && is_marked b2 (buffer.Send (request x)))) d) (ap (λ b. one_if ((b && true) && is_marked b3 (buffer.Write 0))) d)
         ∙ (c2.counts (request y) ∙ (c1.counts (request y) ∙ (g.counts y (has_was (live h) x y (sym (ap (λ (xs : List ℕ). has xs y) (begin_live limits k x h)) ∙ is) d) ∙ sym (begin_count limits k x y h d))))));
@@ -208,7 +204,7 @@ module _ (limits : PlainLimits) (k x : ℕ) (h : History NoMark) where
     write_pending = pending_same (buffer.Write 0) ∙ (g.write_pending ∙ sym (begin_keeps_write limits k x h).lows);
     send_known = λ y. c4.buffers (buffer.Send (request y)) ∙ (c3.buffers (buffer.Send (request y)) ∙ (c2.buffers (buffer.Send (request y))
         ∙ (ap (λ b. ((x == y) && true) || b) (c1.buffers (buffer.Send (request y)) ∙ g.send_known y) ∙ (turned (x == y) (has (live h) y) ∙ sym (lives y)))));
-    send_mark = λ y. c4.marks (buffer.Send (request y)) ∙ (c3.marks (buffer.Send (request y)) ∙ (c2.marks (buffer.Send (request y)) ∙ (c1.marks (buffer.Send (request y)) ∙ (g.send_mark y ∙ sym (begin_keeps limits k x y h).high))));
+    send_mark = λ y. c4.marks (buffer.Send (request y)) ∙ (c3.marks (buffer.Send (request y)) ∙ (c2.marks (buffer.Send (request y)) ∙ (c1.marks (buffer.Send (request y)) ∙ (g.send_mark y ∙ sym (begin_keeps limits k x h y).high))));
     send_watchers = λ y. c4.watchers (buffer.Send (request y)) ∙ (append-nil _ ∙ (c3.watchers (buffer.Send (request y))
         ∙ (ap (λ (fs : List FlowId). fs ++ (if (x == y) && true then request x ∷ [] else [])) (c2.watchers (buffer.Send (request y)) ∙ (c1.watchers (buffer.Send (request y)) ∙ g.send_watchers y))
         ∙ own_or_other (λ v. (if has (live h) v then request v ∷ [] else []) ++ (if (x == v) && true then request x ∷ [] else []) ≡ (if has (live after) v then request v ∷ [] else [])) x y
@@ -226,7 +222,7 @@ module _ (limits : PlainLimits) (k x : ℕ) (h : History NoMark) where
       send_low : is_marked b2 (buffer.Send (request x)) ≡ false
       send_low = c2.marks (buffer.Send (request x)) ∙ (c1.marks (buffer.Send (request x)) ∙ (g.send_mark x ∙ u.low))
 
-      write_mark : is_marked b3 (buffer.Write 0) ≡ above (plain_setup limits) (buffer.Write 0) h
+      write_mark : is_marked b3 (buffer.Write 0) ≡ conn_high limits h
       write_mark = c3.marks (buffer.Write 0) ∙ (c2.marks (buffer.Write 0) ∙ (c1.marks (buffer.Write 0) ∙ g.write_mark))
 
       no_one : (b : Bool) → one_if (b && false) ≡ 0

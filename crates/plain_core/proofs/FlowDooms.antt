@@ -20,13 +20,11 @@ use Rattle.std.specs.List.{AllByRecursion}
 use Rattle.std.specs.Option.{option_map_or}
 use Rattle.std.specs.Ordering.{nat_cmp}
 use Rattle.std.specs.Prelude.{Bool, IfSome, List, None, Option, [], false, filter, if◌then◌else◌, length, map, nat_lt, not, true, ℕ, ◌&&◌, ◌*◌, ◌++◌, ◌+◌, ◌<◌, ◌==◌, ◌^◌, ◌∷◌, ◌≡◌, ◌≤◌}
+use Rattle.plain_laws.specs.Words.{Past, Alive, conn_lows, lows_of, recv_at, send_high, turn_of}
 use Rattle.tape_laws.specs.Dispatches.{has, live, started}
 use Rattle.tape_laws.specs.Flows.{request, same_flow}
-use Rattle.tape_laws.specs.History.{History, NoMark, Noted}
-use Rattle.tape_laws.specs.Pauses.{pending_lows}
-use Rattle.tape_laws.specs.Plain.{plain_setup}
+use Rattle.tape_laws.specs.History.{Noted}
 use Rattle.tape_laws.specs.Watermark.{above}
-use Rattle.tape_laws.specs.World.{place}
 use Rattle.tape_laws.specs.declared.limits.PlainLimits.{PlainLimits}
 use Rattle.wm_buffer.specs.Buffer.{Buffer}
 use Rattle.plain_core.specs.Carries.{Dooms, Lives}
@@ -82,8 +80,8 @@ without_live xs x (f ∷ fs) a = pick f _ _ _ _ (test f a.0.is) (without_live xs
     pick f a b fs gs e r = rw (e, r) refl
 
 -- ---- the exchanges
-module _ (limits : PlainLimits) (x : ℕ) (why : Cause) (h : History NoMark) where
-  abbrev after : History NoMark
+module _ (limits : PlainLimits) (x : ℕ) (why : Cause) (h : Past) where
+  abbrev after : Past
   after = Noted (note.Doom x why) ∷ h
 
   pub doomed_exchanges : (old new : Exchanges) → ExchangesAre limits old h → DoomsExchange x old new → AreSoundExchanges new
@@ -91,8 +89,8 @@ module _ (limits : PlainLimits) (x : ℕ) (why : Cause) (h : History NoMark) whe
   doomed_exchanges old new e c sound others = record {
     sound = sound;
     time = c.gone.time ∙ e.time;
-    small = let P : ℕ → Type 0 = λ n. n < 2 ^ 32 in subst P (sym c.gone.last) e.small;
-    most = record { most = λ y is. let P : ℕ → Type 0 = λ n. y ≤ n in subst P (sym c.gone.last) (e.most.most y is) };
+    small = subst (λ (n : ℕ). n < 2 ^ 32) (sym c.gone.last) e.small;
+    most = record { most = λ y is. subst (λ (n : ℕ). y ≤ n) (sym c.gone.last) (e.most.most y is) };
     last = last_kept old.last new.last (started h) (started h) c.gone.last refl e.last;
     doomed = c.doomed ∙ ap (λ (xs : List ℕ). xs ++ x ∷ []) e.doomed;
     there = λ y is.
@@ -113,12 +111,8 @@ module _ (limits : PlainLimits) (x : ℕ) (why : Cause) (h : History NoMark) whe
   doomed_flow false true c = refl
   doomed_flow false false c = refl
 
-  own_away : (a : Bool) → (not ((a && true) && true) && true) ≡ not a
-  own_away true = refl
-  own_away false = refl
-
-  pub doomed_gates : (old new : Board) → GatesAre limits old h → Forgets (request x) old new → IsSoundBoard new → has (live h) x ≡ true
-      → ((y : ℕ) → (x == y) ≡ false → KeepsStream limits y h after) → AllByRecursion (IsLiveFlow (live h)) (pending_lows (plain_setup limits) (buffer.Write 0) h) → GatesAre limits new after
+  pub doomed_gates : (old new : Board) → GatesAre limits old h → Forgets (request x) old new → IsSoundBoard new → Alive h x
+      → ((y : ℕ) → (x == y) ≡ false → KeepsStream limits y h after) → AllByRecursion (IsLiveFlow (live h)) (conn_lows limits h) → GatesAre limits new after
   doomed_gates old new g c sound is others lows = record {
     sound = sound;
     flows = λ f. c.flows f ∙ (ap (λ b. not (same_flow (request x) f) && b) (g.flows f ∙ is_live_is limits f h)
@@ -128,11 +122,11 @@ module _ (limits : PlainLimits) (x : ℕ) (why : Cause) (h : History NoMark) whe
     write_known = c.buffers (buffer.Write 0) ∙ g.write_known;
     write_mark = c.marks (buffer.Write 0) ∙ (g.write_mark ∙ sym (doom_high limits x why h));
     write_watchers = c.watchers (buffer.Write 0) ∙ (ap (without_flow (request x)) g.write_watchers ∙ without_map x (live h));
-    write_pending = c.pending (buffer.Write 0) ∙ (ap (without_flow (request x)) g.write_pending ∙ without_live (live h) x (pending_lows (plain_setup limits) (buffer.Write 0) h) lows);
+    write_pending = c.pending (buffer.Write 0) ∙ (ap (without_flow (request x)) g.write_pending ∙ without_live (live h) x (conn_lows limits h) lows);
     send_known = λ y. own_or_other (λ v. is_known new (buffer.Send (request v)) ≡ has (live after) v) x y
         (c.buffers (buffer.Send (request x)) ∙ (ap (λ b. not b && is_known old (buffer.Send (request x))) goes ∙ sym own_gone))
         (λ d. c.buffers (buffer.Send (request y)) ∙ (ap (λ b. not b && is_known old (buffer.Send (request y))) (stays y d) ∙ (g.send_known y ∙ sym (other_there y d))));
-    send_mark = λ y. own_or_other (λ v. is_marked new (buffer.Send (request v)) ≡ above (plain_setup limits) (buffer.Send (request v)) after) x y
+    send_mark = λ y. own_or_other (λ v. is_marked new (buffer.Send (request v)) ≡ send_high limits v after) x y
         (c.marks (buffer.Send (request x)) ∙ (ap (λ b. not b && is_marked old (buffer.Send (request x))) goes ∙ sym (doom_low limits x why h)))
         (λ d. c.marks (buffer.Send (request y)) ∙ (ap (λ b. not b && is_marked old (buffer.Send (request y))) (stays y d) ∙ (g.send_mark y ∙ sym (others y d).high)));
     send_watchers = λ y. own_or_other (λ v. watchers_of new (buffer.Send (request v)) ≡ (if has (live after) v then request v ∷ [] else [])) x y
@@ -184,7 +178,7 @@ module _ (limits : PlainLimits) (x : ℕ) (why : Cause) (h : History NoMark) whe
       → ((y : ℕ) → (x == y) ≡ false → KeepsStream limits y h after) → HoldingIs limits new after
   doomed_holding old new k made others = record {
     holds = λ y. made y ∙ (ap (λ b. not (x == y) && b) (k.holds y) ∙ (apart (x == y) (has (live h) y) _ _ (λ d. ap (λ (o : List ℕ). nat_lt 0 (length o)) (sym (others y d).recv))
-        ∙ sym (ap (λ b. b && nat_lt 0 (length (place (plain_setup limits) (request y) 0 after))) (left_is (live h) x y))));
+        ∙ sym (ap (λ b. b && nat_lt 0 (length (recv_at limits y after))) (left_is (live h) x y))));
   }
     where
       apart : (a b c d : Bool) → (a ≡ false → c ≡ d) → (not a && (b && c)) ≡ ((not a && b) && d)
@@ -192,8 +186,8 @@ module _ (limits : PlainLimits) (x : ℕ) (why : Cause) (h : History NoMark) whe
       apart false true c d f = f refl
       apart false false c d f = refl
 
-  pub dooms_at : (old : Flows) (ex : Exchanges) (b : Board) (conn : Connection) (holding : BTreeSet ℕ) → FlowsStand limits old h → has (live h) x ≡ true
-      → ((y : ℕ) → pending_lows (plain_setup limits) (buffer.Send (request y)) h ≡ []) → AllByRecursion (IsLiveFlow (live h)) (pending_lows (plain_setup limits) (buffer.Write 0) h)
+  pub dooms_at : (old : Flows) (ex : Exchanges) (b : Board) (conn : Connection) (holding : BTreeSet ℕ) → FlowsStand limits old h → Alive h x
+      → ((y : ℕ) → lows_of limits y h ≡ []) → AllByRecursion (IsLiveFlow (live h)) (conn_lows limits h)
       → DoomsExchange x old.exchanges ex → AreSoundExchanges ex → IfSome (exchange_at old.exchanges x) (λ e. ForgetsFlows x e old.gates b) → IsSoundBoard b
       → ((y : ℕ) → get nat_cmp conn.ready y ≡ (if x == y then None else get nat_cmp old.conn.ready y)) → conn.write ≡ old.conn.write → conn.framed_last ≡ old.conn.framed_last
       → ((y : ℕ) → contains nat_cmp holding y ≡ (not (x == y) && contains nat_cmp old.holding y))
@@ -201,8 +195,7 @@ module _ (limits : PlainLimits) (x : ℕ) (why : Cause) (h : History NoMark) whe
   dooms_at old ex b conn holding st is quiet lows c sound forgets counted made write last kept =
       let s = st.exchanges.there x is in
       let sides = at_found (λ (e : Exchange). ForgetsFlows x e old.gates b) (exchange_at old.exchanges x) (plain_exchange x s.plain) s.is forgets in
-      let P : Board → Type 0 = Forgets (request x) old.gates in
-      let forgot = subst P (sym sides.response_gone) sides.request_gone in
+      let forgot = subst (Forgets (request x) old.gates) (sym sides.response_gone) sides.request_gone in
       let others : (y : ℕ) → (x == y) ≡ false → KeepsStream limits y h after = λ y d.
       keeps_stream limits y (Noted (note.Doom x why)) h (doom_leaves limits x y why h d (ap (without x) (quiet y) ∙ sym (quiet y))) refl refl in
       record {
@@ -222,7 +215,7 @@ pub dooms : (x : ℕ) (why : Cause) (old : Flows) (ex : Exchanges) (b : Board) (
 dooms x why old ex b conn holding c sound forgets counted made write last kept = record {
   goes = λ limits h s is. dooms_at limits x why h old ex b conn holding s.stands is s.lawful.untold s.lawful.regular.books.write_lows c sound forgets counted made write last kept;
   turned = λ limits k e h s is st.
-      dooms_at limits x why (Noted (note.Turn k (event.Plain e)) ∷ h) old ex b conn holding st is
+      dooms_at limits x why (turn_of k e ∷ h) old ex b conn holding st is
       s.lawful.untold s.lawful.regular.books.write_lows c sound forgets counted made write last kept;
 }
 

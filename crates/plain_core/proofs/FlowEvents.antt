@@ -11,22 +11,20 @@ use Rattle.flow_gate.specs.Board.{Board}
 use Rattle.plain_laws.proofs.EventChanges.{body_high, body_keeps, body_keeps_write, body_recv, body_send}
 use Rattle.plain_laws.proofs.Flags.{send_same}
 use Rattle.plain_laws.proofs.Keepings.{turn_keeps, turn_keeps_write}
-use Rattle.plain_laws.proofs.Rotation.{unit_is}
 use Rattle.plain_laws.proofs.Streams.{own_or_other, same_number}
 use Rattle.plain_laws.specs.Keeping.{KeepsStream}
 use Rattle.plain_laws.specs.Next.{unit_of}
-use Rattle.plain_laws.specs.StepNotes.{body_notes}
 use Rattle.std.proofs.Common.{ap, refl, subst, sym, ◌∙◌}
 use Rattle.std.specs.BTreeMap.{get}
 use Rattle.std.specs.BTreeSet.{BTreeSet, contains}
 use Rattle.std.specs.Option.{option_and_then}
 use Rattle.std.specs.Ordering.{nat_cmp}
-use Rattle.std.specs.Prelude.{Bool, List, None, Option, false, if◌then◌else◌, length, nat_lt, option_map, true, ℕ, ◌&&◌, ◌++◌, ◌==◌, ◌||◌, ◌∷◌, ◌≡◌}
-use Rattle.tape_laws.specs.Dispatches.{has, live}
+use Rattle.std.specs.Prelude.{Bool, List, None, Option, false, if◌then◌else◌, length, nat_lt, option_map, ℕ, ◌&&◌, ◌++◌, ◌==◌, ◌||◌, ◌∷◌, ◌≡◌}
+use Rattle.plain_laws.specs.Words.{Past, Alive, end_out, past_body, send_high, turn_of}
 use Rattle.tape_laws.specs.Ends.{end_framed}
 use Rattle.tape_laws.specs.Flows.{request}
-use Rattle.tape_laws.specs.History.{History, NoMark, Noted, Step, onto}
-use Rattle.tape_laws.specs.Plain.{plain_ended, plain_setup}
+use Rattle.tape_laws.specs.History.{NoMark, Step}
+use Rattle.tape_laws.specs.Plain.{plain_ended}
 use Rattle.tape_laws.specs.Watermark.{above}
 use Rattle.tape_laws.specs.declared.limits.PlainLimits.{PlainLimits}
 use Rattle.plain_core.specs.Carries.{GoesOn}
@@ -47,99 +45,99 @@ use Rattle.plain_core.proofs.FlowUnits.{keeps_piece}
 unended : (q : ℕ) (ended framed : Bool) (r s r' s' : ℕ) → ended ≡ false → s' ≡ s → unit_of q ended framed r' s' ≡ unit_of q ended framed r s
 unended q ended framed r s r' s' e f = rw (e, f) refl
 
-pub goes_on : (limits : PlainLimits) (flows : Flows) (x : ℕ) (h : History NoMark) → StreamIs limits x h (exchange_at flows.exchanges x) → GoesOn flows x → plain_ended x h ≡ false
+pub goes_on : (limits : PlainLimits) (flows : Flows) (x : ℕ) (h : Past) → StreamIs limits x h (exchange_at flows.exchanges x) → GoesOn flows x → plain_ended x h ≡ false
 goes_on limits flows x h s goes =
     sym s.ended ∙ at_found (λ (f : Flow). f.message.ended ≡ false) (flow_at flows.exchanges (request x)) (plain_flow x s.plain) (ap (option_and_then (flow_in false)) s.is) goes
 
-arrive_piece : (limits : PlainLimits) (k x : ℕ) (octets : List ℕ) (h : History NoMark) → plain_ended x h ≡ false
-    → next_piece limits x (onto (body_notes k x octets) h) ≡ next_piece limits x h
-arrive_piece limits k x octets h goes =
-    ap piece_of (unit_is limits x (onto (body_notes k x octets) h)
-    ∙ (unended limits.quantum (plain_ended x h) (end_framed (plain_setup limits) (request x) h) _ _ _ _ goes (ap (λ (o : List ℕ). length o) (body_send limits k x octets h)) ∙ sym (unit_is limits x h)))
+module _ (limits : PlainLimits) (k x : ℕ) where
+  arrive_piece : (octets : List ℕ) (h : Past) → plain_ended x h ≡ false
+      → next_piece limits x (past_body k x octets h) ≡ next_piece limits x h
+  arrive_piece octets h goes =
+      ap piece_of (unended limits.quantum (plain_ended x h) (end_out limits x h) _ _ _ _ goes (ap (λ (o : List ℕ). length o) (body_send limits k x octets h)))
 
-pub arrives : (limits : PlainLimits) (k x : ℕ) (octets : List ℕ) (old : Flows) (ex : Exchanges) (holding : BTreeSet ℕ) (h : History NoMark) → Settled limits old h → has (live h) x ≡ true → GoesOn old x
-    → ChangesFlow (request x) (arrived octets) old.exchanges ex → AreSoundExchanges ex
-    → ((y : ℕ) → contains nat_cmp holding y ≡ (((x == y) && nat_lt 0 (length octets)) || contains nat_cmp old.holding y))
-    → FlowsStand limits (record old { exchanges = ex; holding = holding }) (onto (body_notes k x octets) h)
-arrives limits k x octets old ex holding h settled is goes c sound made =
-    let h' = onto (body_notes k x octets) h in
-    let st = settled.stands in
-    let s = st.exchanges.there x is in
-    record {
-      limits_are = st.limits_are;
-      ranges = st.ranges;
-      exchanges = changed_exchanges limits x (arrived octets) old.exchanges ex h h' st.exchanges c sound (record { lives = refl; begun = refl; doomed = refl }) (λ y d. body_keeps limits k x y octets h d)
-          (record {
-            plain = plain_arrived octets s.plain;
-            is = changed_plain x (arrived octets) (exchange_at old.exchanges x) s.plain (plain_arrived octets s.plain) s.is refl;
-            window = s.window;
-            limit = s.limit;
-            quantum = s.quantum;
-            started = s.started;
-            recv = ap (λ (o : List ℕ). o ++ octets) s.recv ∙ sym (body_recv limits k x octets h);
-            send = s.send ∙ sym (body_send limits k x octets h);
-            above = s.above ∙ sym (body_high limits k x octets h);
-            ended = s.ended;
-            end_framed = s.end_framed;
-          });
-      gates = gates_kept limits old.gates h h' st.gates (record {
-        lives = refl;
-        counts = λ y e. refl;
-        write = (body_keeps_write limits k x octets h).high;
-        lows = (body_keeps_write limits k x octets h).lows;
-        sends = λ y. own_or_other (λ v. above (plain_setup limits) (buffer.Send (request v)) h' ≡ above (plain_setup limits) (buffer.Send (request v)) h) x y
-            (body_high limits k x octets h) (λ d. (body_keeps limits k x y octets h d).high);
-      });
-      conn = conn_kept limits old.conn h h' st.conn (body_keeps_write limits k x octets h) refl refl
-          (λ y e. own_or_other (λ v. next_piece limits v h' ≡ next_piece limits v h) x y
-          (arrive_piece limits k x octets h (goes_on limits old x h s goes)) (λ d. keeps_piece limits y h h' (body_keeps limits k x y octets h d)));
-      holding = holding_arrived limits k x octets old.holding holding h st.holding is made;
-    }
+  pub arrives : (octets : List ℕ) (old : Flows) (ex : Exchanges) (holding : BTreeSet ℕ) (h : Past) → Settled limits old h → Alive h x → GoesOn old x
+      → ChangesFlow (request x) (arrived octets) old.exchanges ex → AreSoundExchanges ex
+      → ((y : ℕ) → contains nat_cmp holding y ≡ (((x == y) && nat_lt 0 (length octets)) || contains nat_cmp old.holding y))
+      → FlowsStand limits (record old { exchanges = ex; holding = holding }) (past_body k x octets h)
+  arrives octets old ex holding h settled is goes c sound made =
+      let h' = past_body k x octets h in
+      let st = settled.stands in
+      let s = st.exchanges.there x is in
+      record {
+        limits_are = st.limits_are;
+        ranges = st.ranges;
+        exchanges = changed_exchanges limits x (arrived octets) old.exchanges ex h h' st.exchanges c sound (record { lives = refl; begun = refl; doomed = refl }) (λ y d. body_keeps limits k x y octets h d)
+            (record {
+              plain = plain_arrived octets s.plain;
+              is = changed_plain x (arrived octets) (exchange_at old.exchanges x) s.plain (plain_arrived octets s.plain) s.is refl;
+              window = s.window;
+              limit = s.limit;
+              quantum = s.quantum;
+              started = s.started;
+              recv = ap (λ (o : List ℕ). o ++ octets) s.recv ∙ sym (body_recv limits k x octets h);
+              send = s.send ∙ sym (body_send limits k x octets h);
+              above = s.above ∙ sym (body_high limits k x octets h);
+              ended = s.ended;
+              end_framed = s.end_framed;
+            });
+        gates = gates_kept limits old.gates h h' st.gates (record {
+          lives = refl;
+          counts = λ y e. refl;
+          write = (body_keeps_write limits k x octets h).high;
+          lows = (body_keeps_write limits k x octets h).lows;
+          sends = λ y. own_or_other (λ v. send_high limits v h' ≡ send_high limits v h) x y
+              (body_high limits k x octets h) (λ d. (body_keeps limits k x y octets h d).high);
+        });
+        conn = conn_kept limits old.conn h h' st.conn (body_keeps_write limits k x octets h) refl refl
+            (λ y e. own_or_other (λ v. next_piece limits v h' ≡ next_piece limits v h) x y
+            (arrive_piece octets h (goes_on limits old x h s goes)) (λ d. keeps_piece limits y h h' (body_keeps limits k x y octets h d)));
+        holding = holding_arrived limits k x octets old.holding holding h st.holding is made;
+      }
 
--- ---- the end of a stream comes
-end_keeps : (limits : PlainLimits) (k x y : ℕ) (h : History NoMark) → (x == y) ≡ false → KeepsStream limits y h (Noted (note.Turn k (event.Plain (plain.Finish x))) ∷ h)
-end_keeps limits k x y h d = turn_keeps limits y k (plain.Finish x) h (ap (λ b. b || plain_ended y h) d) refl
+  -- ---- the end of a stream comes
+  end_keeps : (y : ℕ) (h : Past) → (x == y) ≡ false → KeepsStream limits y h (turn_of k (plain.Finish x) ∷ h)
+  end_keeps y h d = turn_keeps limits y k (plain.Finish x) h (ap (λ b. b || plain_ended y h) d) refl
 
-ended_stream : (limits : PlainLimits) (k x : ℕ) (h : History NoMark) (found : Option Exchange) → StreamIs limits x h found
-    → StreamIs limits x (Noted (note.Turn k (event.Plain (plain.Finish x))) ∷ h) (option_map (flow_changed (finished None) false) found)
-ended_stream limits k x h found s = record {
-  plain = plain_finished s.plain;
-  is = changed_plain x (finished None) found s.plain (plain_finished s.plain) s.is refl;
-  window = s.window;
-  limit = s.limit;
-  quantum = s.quantum;
-  started = s.started;
-  recv = s.recv;
-  send = s.send;
-  above = s.above ∙ sym (send_same limits (request x) (Noted (note.Turn k (event.Plain (plain.Finish x)))) h refl);
-  ended = sym (ap (λ b. b || plain_ended x h) (same_number x));
-  end_framed = s.end_framed;
-}
+  ended_stream : (h : Past) (found : Option Exchange) → StreamIs limits x h found
+      → StreamIs limits x (turn_of k (plain.Finish x) ∷ h) (option_map (flow_changed (finished None) false) found)
+  ended_stream h found s = record {
+    plain = plain_finished s.plain;
+    is = changed_plain x (finished None) found s.plain (plain_finished s.plain) s.is refl;
+    window = s.window;
+    limit = s.limit;
+    quantum = s.quantum;
+    started = s.started;
+    recv = s.recv;
+    send = s.send;
+    above = s.above ∙ sym (send_same limits (request x) (turn_of k (plain.Finish x)) h refl);
+    ended = sym (ap (λ b. b || plain_ended x h) (same_number x));
+    end_framed = s.end_framed;
+  }
 
-pub ends : (limits : PlainLimits) (k x : ℕ) (old new : Flows) (ex : Exchanges) (h : History NoMark) → Settled limits old h → has (live h) x ≡ true
-    → ChangesFlow (request x) (finished None) old.exchanges ex → AreSoundExchanges ex
-    → new ≡ record old { exchanges = ex; conn = record old.conn { ready = new.conn.ready } }
-    → ((y : ℕ) → get nat_cmp new.conn.ready y ≡ (if x == y then piece_at (record old { exchanges = ex }) x else get nat_cmp old.conn.ready y))
-    → FlowsStand limits new (Noted (note.Turn k (event.Plain (plain.Finish x))) ∷ h)
-ends limits k x old new ex h settled is c sound rest made =
-    let turn : Step NoMark = Noted (note.Turn k (event.Plain (plain.Finish x))) in
-    let st = settled.stands in
-    let own = ended_stream limits k x h (exchange_at old.exchanges x) (st.exchanges.there x is) in
-    let w = turn_keeps_write limits k (plain.Finish x) h in
-    let all = changed_exchanges limits x (finished None) old.exchanges ex h (turn ∷ h) st.exchanges c sound (record { lives = refl; begun = refl; doomed = refl }) (λ y d. end_keeps limits k x y h d) own in
-    record {
-      limits_are = ap (λ (f : Flows). f.limits) rest ∙ st.limits_are;
-      ranges = st.ranges;
-      exchanges = subst (λ (e : Exchanges). ExchangesAre limits e (turn ∷ h)) (sym (ap (λ (f : Flows). f.exchanges) rest)) all;
-      gates = subst (λ (b : Board). GatesAre limits b (turn ∷ h)) (sym (ap (λ (f : Flows). f.gates) rest)) (gates_kept limits old.gates h (turn ∷ h) st.gates (record {
-        lives = refl;
-        counts = λ y e. refl;
-        write = w.high;
-        lows = w.lows;
-        sends = λ y. send_same limits (request y) turn h refl;
-      }));
-      conn = refreshed_conn limits x (record old { exchanges = ex }) new h (turn ∷ h) st.limits_are rest made
-          (record { limit = st.conn.limit; octets = st.conn.octets ∙ sym w.octets; above = st.conn.above ∙ sym w.high; framed_last = st.conn.framed_last })
-          (all.there x is) is refl (λ y d. end_keeps limits k x y h d) st.conn.ready;
-      holding = subst (λ (v : BTreeSet ℕ). HoldingIs limits v (turn ∷ h)) (sym (ap (λ (f : Flows). f.holding) rest)) (holding_kept limits old.holding h (turn ∷ h) st.holding refl (λ y. refl));
-    }
+  pub ends : (old new : Flows) (ex : Exchanges) (h : Past) → Settled limits old h → Alive h x
+      → ChangesFlow (request x) (finished None) old.exchanges ex → AreSoundExchanges ex
+      → new ≡ record old { exchanges = ex; conn = record old.conn { ready = new.conn.ready } }
+      → ((y : ℕ) → get nat_cmp new.conn.ready y ≡ (if x == y then piece_at (record old { exchanges = ex }) x else get nat_cmp old.conn.ready y))
+      → FlowsStand limits new (turn_of k (plain.Finish x) ∷ h)
+  ends old new ex h settled is c sound rest made =
+      let turn : Step NoMark = turn_of k (plain.Finish x) in
+      let st = settled.stands in
+      let own = ended_stream h (exchange_at old.exchanges x) (st.exchanges.there x is) in
+      let w = turn_keeps_write limits k (plain.Finish x) h in
+      let all = changed_exchanges limits x (finished None) old.exchanges ex h (turn ∷ h) st.exchanges c sound (record { lives = refl; begun = refl; doomed = refl }) (λ y d. end_keeps y h d) own in
+      record {
+        limits_are = ap (λ (f : Flows). f.limits) rest ∙ st.limits_are;
+        ranges = st.ranges;
+        exchanges = subst (λ (e : Exchanges). ExchangesAre limits e (turn ∷ h)) (sym (ap (λ (f : Flows). f.exchanges) rest)) all;
+        gates = subst (λ (b : Board). GatesAre limits b (turn ∷ h)) (sym (ap (λ (f : Flows). f.gates) rest)) (gates_kept limits old.gates h (turn ∷ h) st.gates (record {
+          lives = refl;
+          counts = λ y e. refl;
+          write = w.high;
+          lows = w.lows;
+          sends = λ y. send_same limits (request y) turn h refl;
+        }));
+        conn = refreshed_conn limits x (record old { exchanges = ex }) new h (turn ∷ h) st.limits_are rest made
+            (record { limit = st.conn.limit; octets = st.conn.octets ∙ sym w.octets; above = st.conn.above ∙ sym w.high; framed_last = st.conn.framed_last })
+            (all.there x is) is refl (λ y d. end_keeps y h d) st.conn.ready;
+        holding = subst (λ (v : BTreeSet ℕ). HoldingIs limits v (turn ∷ h)) (sym (ap (λ (f : Flows). f.holding) rest)) (holding_kept limits old.holding h (turn ∷ h) st.holding refl (λ y. refl));
+      }

@@ -12,11 +12,9 @@ use Rattle.std.specs.BTreeSet.{BTreeSet, contains}
 use Rattle.std.specs.Option.{option_and_then}
 use Rattle.std.specs.Ordering.{nat_cmp}
 use Rattle.std.specs.Prelude.{Bool, IsSome, List, None, Option, Some, false, if◌then◌else◌, length, nat_le, nat_lt, option_map, true, ℕ, ◌&&◌, ◌+◌, ◌<◌, ◌==◌, ◌||◌, ◌≡◌, ◌≤◌}
+use Rattle.plain_laws.specs.Words.{Past, recv_at}
 use Rattle.tape_laws.specs.Dispatches.{has, live}
 use Rattle.tape_laws.specs.Flows.{request}
-use Rattle.tape_laws.specs.History.{History, NoMark}
-use Rattle.tape_laws.specs.Plain.{plain_setup}
-use Rattle.tape_laws.specs.World.{place}
 use Rattle.tape_laws.specs.declared.limits.PlainLimits.{PlainLimits}
 use Rattle.plain_core.proofs.FlowEvents.{arrives}
 use Rattle.plain_core.specs.Carries.{Arrives, Fits, GoesOn, Lives, Receives, ReceivesAs}
@@ -57,8 +55,8 @@ is_live flows x n fits e = record {
 }
 
 -- ---- whether they fit
-fits_is : (limits : PlainLimits) (flows : Flows) (x n : ℕ) (fits : Bool) (h : History NoMark) → taken fits ≡ came n (exchange_at flows.exchanges x)
-    → StreamIs limits x h (exchange_at flows.exchanges x) → fits ≡ nat_le (length (place (plain_setup limits) (request x) 0 h) + n) limits.recv
+fits_is : (limits : PlainLimits) (flows : Flows) (x n : ℕ) (fits : Bool) (h : Past) → taken fits ≡ came n (exchange_at flows.exchanges x)
+    → StreamIs limits x h (exchange_at flows.exchanges x) → fits ≡ nat_le (length (recv_at limits x h) + n) limits.recv
 fits_is limits flows x n fits h e s =
     taken_same fits (nat_le (length s.plain.recv + n) s.plain.window) (e ∙ ap (came n) s.is)
     ∙ ap (λ (w : ℕ). nat_le (length s.plain.recv + n) w) s.window ∙ ap (λ (o : List ℕ). nat_le (length o + n) limits.recv) s.recv
@@ -88,8 +86,7 @@ by_answer old new x octets received.Arrived e arrives same =
 arrived_change : (octets : List ℕ) (x : ℕ) (old new : Exchanges) → received.Arrived ≡ received_by (length octets) (flow_at old (request x))
     → ChangesFlow (request x) (received_octets octets) old new → ChangesFlow (request x) (arrived octets) old new
 arrived_change octets x old new e c =
-    let P : Option Exchange → Type 0 = λ v. Changes x v old new in
-    record { flow = subst P (same (exchange_at old x) e) c.flow; doomed = c.doomed }
+    record { flow = subst (λ (v : Option Exchange). Changes x v old new) (same (exchange_at old x) e) c.flow; doomed = c.doomed }
   where
     same : (found : Option Exchange) → received.Arrived ≡ came (length octets) found
         → option_map (flow_changed (received_octets octets) false) found ≡ option_map (flow_changed (arrived octets) false) found

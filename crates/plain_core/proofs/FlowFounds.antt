@@ -27,7 +27,7 @@ no_exchanges : (limits : PlainLimits) (ex : Exchanges) → ex.live ≡ [] → ex
 no_exchanges limits ex live doomed last time sound = record {
   sound = sound;
   time = time;
-  small = let P : ℕ → Type 0 = λ n. n < 2 ^ 32 in subst P (sym last) (omega arith);
+  small = subst (λ (n : ℕ). n < 2 ^ 32) (sym last) (omega arith);
   most = record { most = λ y is. absurd (cc) };
   last = inl last;
   doomed = doomed;

@@ -15,11 +15,10 @@ use Rattle.plain_laws.proofs.Changes.{frame_end_framed, frame_ended, frame_frame
 use Rattle.plain_laws.proofs.Counting.{one_if}
 use Rattle.plain_laws.proofs.Counts.{frame_count}
 use Rattle.plain_laws.proofs.Own.{send_frame}
-use Rattle.plain_laws.proofs.Rotation.{IsBodyUnit, body_unit, next_is_unit, unit_is}
+use Rattle.plain_laws.proofs.Rotation.{IsBodyUnit, body_unit, next_is_unit}
 use Rattle.plain_laws.proofs.Streams.{by_case, own_or_other, same_number}
 use Rattle.plain_laws.specs.Keeping.{KeepsLists}
 use Rattle.plain_laws.specs.Settled.{Settled as IsSettledHistory}
-use Rattle.plain_laws.specs.StepNotes.{frame_notes}
 use Rattle.std.proofs.Common.{ap, arith, refl, subst, sym, ◌∙◌}
 use Rattle.std.proofs.lemmas.List.{append-nil}
 use Rattle.std.specs.BTreeMap.{get}
@@ -27,13 +26,14 @@ use Rattle.std.specs.BTreeSet.{BTreeSet}
 use Rattle.std.specs.Option.{option_and_then, option_map_or}
 use Rattle.std.specs.Ordering.{nat_cmp}
 use Rattle.std.specs.Prelude.{Bool, IfSome, IsSome, List, Option, Some, [], drop, false, if◌then◌else◌, length, min, nat_lt, not, option_map, take, true, ℕ, ◌&&◌, ◌*◌, ◌++◌, ◌+◌, ◌-◌, ◌<◌, ◌==◌, ◌^◌, ◌||◌, ◌∷◌, ◌≡◌, ◌≤◌}
+use Rattle.plain_laws.specs.Words.{Past, Alive, conn_high, conn_out, conn_rises, end_out, frame_of, past_frame, recv_at, send_at, send_drains, send_high}
 use Rattle.tape_laws.specs.Dispatches.{has, live}
-use Rattle.tape_laws.specs.Ends.{BodyUnit, end_framed}
+use Rattle.tape_laws.specs.Ends.{end_framed}
+use Rattle.flow_rules.specs.declared.unit.Unit.TheVariants.{Body as BodyUnit}
 use Rattle.tape_laws.specs.Flows.{request}
-use Rattle.tape_laws.specs.History.{History, NoMark, Noted, Step, onto}
-use Rattle.tape_laws.specs.Plain.{plain_ended, plain_setup}
-use Rattle.tape_laws.specs.Watermark.{above, drains_at, rises_at}
-use Rattle.tape_laws.specs.World.{out, place}
+use Rattle.tape_laws.specs.History.{NoMark, Step}
+use Rattle.tape_laws.specs.Plain.{plain_ended}
+use Rattle.tape_laws.specs.Watermark.{above}
 use Rattle.tape_laws.specs.declared.limits.PlainLimits.{PlainLimits}
 use Rattle.wm_buffer.specs.Buffer.{AppendsOctets, Buffer}
 use Rattle.wm_buffer.specs.Watermark.{above_after, crossing}
@@ -145,32 +145,32 @@ drain_pending true x y old new c w none = pick (x == y) _ _ _
     pick true p q f e r = cc
     pick false p q f e r = e ∙ r
 
-module _ (limits : PlainLimits) (x n : ℕ) (last : Bool) (h : History NoMark) where
-  abbrev after : History NoMark
-  after = onto (frame_notes limits x n last h) h
+module _ (limits : PlainLimits) (x n : ℕ) (last : Bool) (h : Past) where
+  abbrev after : Past
+  after = past_frame limits x n last h
 
   abbrev framing : Step NoMark
-  framing = Noted (note.Frame 0 (request x) n last)
+  framing = frame_of x n last
 
   abbrev sent : Bool
-  sent = above_after limits.send (above (plain_setup limits) (buffer.Send (request x)) h) (length (drop n (place (plain_setup limits) (request x) 1 h)))
+  sent = above_after limits.send (send_high limits x h) (length (drop n (send_at limits x h)))
 
   abbrev written : Bool
-  written = above_after limits.write (above (plain_setup limits) (buffer.Write 0) h) (length (out (plain_setup limits) 0 h ++ (data_head x n last ++ take n (place (plain_setup limits) (request x) 1 h))))
+  written = above_after limits.write (conn_high limits h) (length (conn_out limits h ++ (data_head x n last ++ take n (send_at limits x h))))
 
   abbrev rises : Bool
-  rises = rises_at (plain_setup limits) (buffer.Write 0) framing h
+  rises = conn_rises limits framing h
 
   abbrev drains : Bool
-  drains = drains_at (plain_setup limits) (buffer.Send (request x)) framing h
+  drains = send_drains limits x framing h
 
-  pub rises_is : rises ≡ (not (above (plain_setup limits) (buffer.Write 0) h) && written)
-  rises_is = ap (λ (o : List ℕ). not (above (plain_setup limits) (buffer.Write 0) h) && above_after limits.write (above (plain_setup limits) (buffer.Write 0) h) (length o)) (out_frame limits x n last h)
+  pub rises_is : rises ≡ (not (conn_high limits h) && written)
+  rises_is = ap (λ (o : List ℕ). not (conn_high limits h) && above_after limits.write (conn_high limits h) (length o)) (out_frame limits x n last h)
 
-  pub drains_is : drains ≡ (above (plain_setup limits) (buffer.Send (request x)) h && not sent)
-  drains_is = ap (λ (o : List ℕ). above (plain_setup limits) (buffer.Send (request x)) h && not (above_after limits.send (above (plain_setup limits) (buffer.Send (request x)) h) (length o))) (send_frame limits x n last h)
+  pub drains_is : drains ≡ (send_high limits x h && not sent)
+  drains_is = ap (λ (o : List ℕ). send_high limits x h && not (above_after limits.send (send_high limits x h) (length o))) (send_frame limits x n last h)
 
-  sent_flag : (p : Plain) → p.limit ≡ limits.send → p.above ≡ above (plain_setup limits) (buffer.Send (request x)) h → p.send ≡ place (plain_setup limits) (request x) 1 h → (plain_framed n last p).above ≡ sent
+  sent_flag : (p : Plain) → p.limit ≡ limits.send → p.above ≡ send_high limits x h → p.send ≡ send_at limits x h → (plain_framed n last p).above ≡ sent
   sent_flag p el ea es = flag_same _ _ _ _ _ _ el ea (ap (λ (o : List ℕ). drop n o) es)
 
   framed_stream : (found : Option Exchange) → (s : StreamIs limits x h found) → StreamIs limits x after (option_map (flow_changed (body_framed n last) false) found)
@@ -184,7 +184,7 @@ module _ (limits : PlainLimits) (x n : ℕ) (last : Bool) (h : History NoMark) w
     recv = s.recv ∙ sym (frame_recv limits x n last h);
     send = ap (λ (o : List ℕ). drop n o) s.send ∙ sym (frame_send limits x n last h);
     above = sent_flag s.plain s.limit s.above s.send ∙ sym (frame_high limits x n last h);
-    ended = s.ended ∙ sym (frame_ended limits x x n last h);
+    ended = s.ended ∙ sym (frame_ended limits x n last h x);
     end_framed = ap (λ b. b || last) s.end_framed ∙ (either_way _ last ∙ sym (frame_end_framed limits x n last h));
   }
     where
@@ -194,14 +194,14 @@ module _ (limits : PlainLimits) (x n : ℕ) (last : Bool) (h : History NoMark) w
       either_way false true = refl
       either_way false false = refl
 
-  own_flag : (drained : Bool) → drained ≡ drains → (not drained && above (plain_setup limits) (buffer.Send (request x)) h) ≡ sent
-  own_flag drained e = pick drained (above (plain_setup limits) (buffer.Send (request x)) h) sent refl (e ∙ drains_is)
-      (λ low. no_rise limits.send _ (length (place (plain_setup limits) (request x) 1 h)) _ (send_now limits (request x) h) (shorter n (place (plain_setup limits) (request x) 1 h)) low)
+  own_flag : (drained : Bool) → drained ≡ drains → (not drained && send_high limits x h) ≡ sent
+  own_flag drained e = pick drained (send_high limits x h) sent refl (e ∙ drains_is)
+      (λ low. no_rise limits.send _ (length (send_at limits x h)) _ (send_now limits (request x) h) (shorter n (send_at limits x h)) low)
     where
       shorter : (n : ℕ) (o : List ℕ) → length (drop n o) ≤ length o
       shorter n o = omega (arith, length-drop n o)
 
-      pick : (d a s : Bool) → above (plain_setup limits) (buffer.Send (request x)) h ≡ a → d ≡ (a && not s) → (above (plain_setup limits) (buffer.Send (request x)) h ≡ false → s ≡ false) → (not d && a) ≡ s
+      pick : (d a s : Bool) → send_high limits x h ≡ a → d ≡ (a && not s) → (send_high limits x h ≡ false → s ≡ false) → (not d && a) ≡ s
       pick true true true i e f = cc
       pick true true false i e f = refl
       pick true false s i e f = absurd (cc)
@@ -209,7 +209,7 @@ module _ (limits : PlainLimits) (x n : ℕ) (last : Bool) (h : History NoMark) w
       pick false true false i e f = absurd (cc)
       pick false false s i e f = sym (f i)
 
-  framed_counts : (rose drained : Bool) (old mid new : Board) → IsSettledHistory limits h → GatesAre limits old h → has (live h) x ≡ true → above (plain_setup limits) (buffer.Write 0) h ≡ false
+  framed_counts : (rose drained : Bool) (old mid new : Board) → IsSettledHistory limits h → GatesAre limits old h → Alive h x → conn_high limits h ≡ false
       → RisesIf rose old mid → DrainsIf drained (request x) mid new → rose ≡ rises → drained ≡ drains → CountsAre limits new after
   framed_counts rose drained old mid new s g is low r d er ed = record {
     counts = λ y l. let was = sym (ap (λ (xs : List ℕ). has xs y) lists.lives) ∙ l in
@@ -218,9 +218,9 @@ module _ (limits : PlainLimits) (x n : ℕ) (last : Bool) (h : History NoMark) w
     write_mark = drain_write drained (request x) mid new d ∙ (rise_write rose old mid r (g.write_mark ∙ low)
         ∙ (er ∙ (rises_is ∙ (ap (λ b. not b && written) low ∙ sym (frame_write_high limits x n last h)))));
     write_pending = drain_write_pending drained (request x) mid new d ∙ (rise_pending rose (buffer.Write 0) old mid r ∙ (g.write_pending ∙ sym (frame_write_lows limits x n last h)));
-    send_mark = λ y. own_or_other (λ v. is_marked new (buffer.Send (request v)) ≡ above (plain_setup limits) (buffer.Send (request v)) after) x y
+    send_mark = λ y. own_or_other (λ v. is_marked new (buffer.Send (request v)) ≡ send_high limits v after) x y
         (drain_own drained x mid new d ∙ (ap (λ b. not drained && b) (rise_send rose (request x) old mid r ∙ g.send_mark x) ∙ (own_flag drained ed ∙ sym (frame_high limits x n last h))))
-        (λ e. drain_other drained x y mid new d e ∙ (rise_send rose (request y) old mid r ∙ (g.send_mark y ∙ sym (frame_keeps limits x y n last h e).high)));
+        (λ e. drain_other drained x y mid new d e ∙ (rise_send rose (request y) old mid r ∙ (g.send_mark y ∙ sym (frame_keeps limits x n last h y e).high)));
     send_pending = λ y. drain_pending drained x y mid new d ((rise_names rose old mid r).watchers (buffer.Send (request x)) ∙ (g.send_watchers x ∙ ap (λ b. if b then request x ∷ [] else []) is))
         (rise_pending rose (buffer.Send (request y)) old mid r ∙ g.send_pending y);
   }
@@ -228,20 +228,20 @@ module _ (limits : PlainLimits) (x n : ℕ) (last : Bool) (h : History NoMark) w
       lists : KeepsLists h after
       lists = frame_keeps_lists limits x n last h
 
-      once : (y : ℕ) → has (live h) y ≡ true → times (request y) (watchers_of old (buffer.Write 0)) ≡ 1
+      once : (y : ℕ) → Alive h y → times (request y) (watchers_of old (buffer.Write 0)) ≡ 1
       once y e = ap (times (request y)) g.write_watchers ∙ (told_all (live h) y s.regular.books.rising ∙ ap one_if e)
 
       sums : (cn dk cm co rk ch ch' dk' rk' : ℕ) → cn + dk ≡ cm → cm ≡ co + rk → co ≡ ch → ch' + dk' ≡ rk' + ch → rk ≡ rk' → dk ≡ dk' → cn ≡ ch'
       sums cn dk cm co rk ch ch' dk' rk' e1 e2 e3 e4 e5 e6 = omega (arith, e1, e2, e3, e4, e5, e6)
 
-  written_flag : (conn : Connection) (w : Buffer) (octets : List ℕ) → ConnectionIs limits conn h → AppendsOctets conn.write w (data_head x n last ++ take n octets) → octets ≡ place (plain_setup limits) (request x) 1 h → w.above ≡ written
-  written_flag conn w octets c a e = a.above ∙ flag_same _ _ _ _ _ _ c.limit c.above (a.octets ∙ (ap (λ (o : List ℕ). o ++ (data_head x n last ++ take n octets)) c.octets ∙ ap (λ (o : List ℕ). out (plain_setup limits) 0 h ++ (data_head x n last ++ take n o)) e))
+  written_flag : (conn : Connection) (w : Buffer) (octets : List ℕ) → ConnectionIs limits conn h → AppendsOctets conn.write w (data_head x n last ++ take n octets) → octets ≡ send_at limits x h → w.above ≡ written
+  written_flag conn w octets c a e = a.above ∙ flag_same _ _ _ _ _ _ c.limit c.above (a.octets ∙ (ap (λ (o : List ℕ). o ++ (data_head x n last ++ take n octets)) c.octets ∙ ap (λ (o : List ℕ). conn_out limits h ++ (data_head x n last ++ take n o)) e))
 
-  framed_conn : (old : Connection) (w : Buffer) (octets : List ℕ) → ConnectionIs limits old h → AppendsOctets old.write w (data_head x n last ++ take n octets) → octets ≡ place (plain_setup limits) (request x) 1 h
+  framed_conn : (old : Connection) (w : Buffer) (octets : List ℕ) → ConnectionIs limits old h → AppendsOctets old.write w (data_head x n last ++ take n octets) → octets ≡ send_at limits x h
       → WriteIs limits (record old { write = w; framed_last = x }) after
   framed_conn old w octets c a e = record {
     limit = a.limit ∙ c.limit;
-    octets = a.octets ∙ (ap (λ (o : List ℕ). o ++ (data_head x n last ++ take n octets)) c.octets ∙ (ap (λ (o : List ℕ). out (plain_setup limits) 0 h ++ (data_head x n last ++ take n o)) e ∙ sym (frame_out limits x n last h)));
+    octets = a.octets ∙ (ap (λ (o : List ℕ). o ++ (data_head x n last ++ take n octets)) c.octets ∙ (ap (λ (o : List ℕ). conn_out limits h ++ (data_head x n last ++ take n o)) e ∙ sym (frame_out limits x n last h)));
     above = written_flag old w octets c a e ∙ sym (frame_write_high limits x n last h);
     framed_last = sym (frame_framed_last limits x n last h);
   }
@@ -258,50 +258,52 @@ low_of true false = refl
 low_of false true = refl
 low_of false false = refl
 
-pub frame_rises : (limits : PlainLimits) (x n : ℕ) (last : Bool) (old : Connection) (w : Buffer) (octets : List ℕ) (to : Crossed) (h : History NoMark) → ConnectionIs limits old h
-    → AppendsOctets old.write w (data_head x n last ++ take n octets) → octets ≡ place (plain_setup limits) (request x) 1 h → to ≡ crossing old.write.above w.above
-    → is_high to ≡ rises_at (plain_setup limits) (buffer.Write 0) (Noted (note.Frame 0 (request x) n last)) h
-frame_rises limits x n last old w octets to h c a e is =
-    ap is_high is ∙ (high_of old.write.above w.above ∙ (ap (λ b. not b && w.above) c.above
-    ∙ (ap (λ b. not (above (plain_setup limits) (buffer.Write 0) h) && b) (written_flag limits x n last h old w octets c a e) ∙ sym (rises_is limits x n last h))))
+module _ (limits : PlainLimits) (x n : ℕ) (last : Bool) where
+  pub frame_rises : (old : Connection) (w : Buffer) (octets : List ℕ) (to : Crossed) (h : Past) → ConnectionIs limits old h
+      → AppendsOctets old.write w (data_head x n last ++ take n octets) → octets ≡ send_at limits x h → to ≡ crossing old.write.above w.above
+      → is_high to ≡ conn_rises limits (frame_of x n last) h
+  frame_rises old w octets to h c a e is =
+      ap is_high is ∙ (high_of old.write.above w.above ∙ (ap (λ b. not b && w.above) c.above
+      ∙ (ap (λ b. not (conn_high limits h) && b) (written_flag limits x n last h old w octets c a e) ∙ sym (rises_is limits x n last h))))
 
-pub frame_drains : (limits : PlainLimits) (x n : ℕ) (last : Bool) (p : Plain) (from : Crossed) (h : History NoMark) → p.limit ≡ limits.send → p.above ≡ above (plain_setup limits) (buffer.Send (request x)) h
-    → p.send ≡ place (plain_setup limits) (request x) 1 h → from ≡ crossing p.above (plain_framed n last p).above
-    → is_low from ≡ drains_at (plain_setup limits) (buffer.Send (request x)) (Noted (note.Frame 0 (request x) n last)) h
-frame_drains limits x n last p from h el ea es is =
-    ap is_low is ∙ (low_of p.above (plain_framed n last p).above ∙ (ap (λ b. b && not (plain_framed n last p).above) ea
-    ∙ (ap (λ b. above (plain_setup limits) (buffer.Send (request x)) h && not b) (sent_flag limits x n last h p el ea es) ∙ sym (drains_is limits x n last h))))
+  pub frame_drains : (p : Plain) (from : Crossed) (h : Past) → p.limit ≡ limits.send → p.above ≡ send_high limits x h
+      → p.send ≡ send_at limits x h → from ≡ crossing p.above (plain_framed n last p).above
+      → is_low from ≡ send_drains limits x (frame_of x n last) h
+  frame_drains p from h el ea es is =
+      ap is_low is ∙ (low_of p.above (plain_framed n last p).above ∙ (ap (λ b. b && not (plain_framed n last p).above) ea
+      ∙ (ap (λ b. send_high limits x h && not b) (sent_flag limits x n last h p el ea es) ∙ sym (drains_is limits x n last h))))
 
--- ---- the frame that goes next
-pub next_unit_is : (limits : PlainLimits) (x n : ℕ) (last : Bool) (h : History NoMark) → NextIs (record { exchange = x; n = n; last = last }) limits h
-    → IsBodyUnit limits.quantum (plain_ended x h) (end_framed (plain_setup limits) (request x) h) (length (place (plain_setup limits) (request x) 0 h)) (length (place (plain_setup limits) (request x) 1 h)) n last
-next_unit_is limits x n last h next =
-    body_unit _ _ _ n _ _ last (sym (unit_is limits x h) ∙ next_is_unit limits (request x) (BodyUnit n last) h next.turn)
+  -- ---- the frame that goes next
+  pub next_unit_is : (h : Past) → NextIs (record { exchange = x; n = n; last = last }) limits h
+      → IsBodyUnit limits.quantum (plain_ended x h) (end_out limits x h) (length (recv_at limits x h)) (length (send_at limits x h)) n last
+  next_unit_is h next =
+      body_unit _ _ _ n _ _ last (next_is_unit limits (request x) (BodyUnit n last) h next.turn)
 
-pub next_octets : (flows : Flows) (x n : ℕ) (last : Bool) → IsSettled flows → IsNextFrame flows (Some (record { exchange = x; n = n; last = last }))
-    → IfSome (flow_at flows.exchanges (request x)) (λ f. n ≤ length (send_of f))
-next_octets flows x n last s next =
-    let is = next.goes s.limits s.history s.settled in
-    let k = s.settled.stands.exchanges.there x is.live in
-    from_found (λ (f : Flow). n ≤ length (send_of f)) (flow_at flows.exchanges (request x)) (plain_flow x k.plain) (ap (option_and_then (flow_in false)) k.is)
-    (few _ _ _ _ (next_unit_is s.limits x n last s.history is).all (ap (λ (o : List ℕ). length o) k.send))
-  where
-    few : (n q l m : ℕ) → n ≡ min q l → m ≡ l → n ≤ m
-    few n q l m e f = omega (arith, e, f)
+module _ (flows : Flows) (x n : ℕ) (last : Bool) where
+  pub next_octets : IsSettled flows → IsNextFrame flows (Some (record { exchange = x; n = n; last = last }))
+      → IfSome (flow_at flows.exchanges (request x)) (λ f. n ≤ length (send_of f))
+  next_octets s next =
+      let is = next.goes s.limits s.history s.settled in
+      let k = s.settled.stands.exchanges.there x is.live in
+      from_found (λ (f : Flow). n ≤ length (send_of f)) (flow_at flows.exchanges (request x)) (plain_flow x k.plain) (ap (option_and_then (flow_in false)) k.is)
+      (few _ _ _ _ (next_unit_is s.limits x n last s.history is).all (ap (λ (o : List ℕ). length o) k.send))
+    where
+      few : (n q l m : ℕ) → n ≡ min q l → m ≡ l → n ≤ m
+      few n q l m e f = omega (arith, e, f)
 
-pub next_small : (flows : Flows) (x n : ℕ) (last : Bool) → IsSettled flows → IsNextFrame flows (Some (record { exchange = x; n = n; last = last })) → x < 2 ^ 32
-next_small flows x n last s next =
-    let is = next.goes s.limits s.history s.settled in
-    let e = s.settled.stands.exchanges in
-    below x flows.exchanges.last (e.sound.below x (subst IsSome (sym (e.there x is.live).is) refl)) e.small
-  where
-    below : (a b : ℕ) → a ≤ b → b < 2 ^ 32 → a < 2 ^ 32
-    below a b l m = omega (arith, l, m)
+  pub next_small : IsSettled flows → IsNextFrame flows (Some (record { exchange = x; n = n; last = last })) → x < 2 ^ 32
+  next_small s next =
+      let is = next.goes s.limits s.history s.settled in
+      let e = s.settled.stands.exchanges in
+      below x flows.exchanges.last (e.sound.below x (subst IsSome (sym (e.there x is.live).is) refl)) e.small
+    where
+      below : (a b : ℕ) → a ≤ b → b < 2 ^ 32 → a < 2 ^ 32
+      below a b l m = omega (arith, l, m)
 
 send_above_is : (x : ℕ) (ex : Exchanges) (p : Plain) → exchange_at ex x ≡ Some (plain_exchange x p) → is_send_above ex (request x) ≡ p.above
 send_above_is x ex p is = ap (λ (o : Option Exchange). option_map_or (λ (f : Flow). above_at f.chain (last_place f)) (option_and_then (flow_in false) o) false) is
 
-pub frames_at : (limits : PlainLimits) (x n : ℕ) (last rose drained : Bool) (shifted : Shifted) (old new : Flows) (ex : Exchanges) (w : Buffer) (mid b : Board) (h : History NoMark) → Settled limits old h
+pub frames_at : (limits : PlainLimits) (x n : ℕ) (last rose drained : Bool) (shifted : Shifted) (old new : Flows) (ex : Exchanges) (w : Buffer) (mid b : Board) (h : Past) → Settled limits old h
     → NextIs (record { exchange = x; n = n; last = last }) limits h → (s : StreamIs limits x h (exchange_at old.exchanges x))
     → ChangesFlow (request x) (body_framed n last) old.exchanges ex → AreSoundExchanges ex → AppendsOctets old.conn.write w (data_head x n last ++ take n s.plain.send)
     → rose ≡ is_high shifted.to → drained ≡ is_low shifted.from → shifted.to ≡ crossing old.conn.write.above w.above
@@ -312,7 +314,7 @@ pub frames_at : (limits : PlainLimits) (x n : ℕ) (last rose drained : Bool) (s
 unfolding framed_stream
 frames_at limits x n last rose drained shifted old new ex w mid b h settled next s c sound appends er ed to from rise drain counted rest made =
     let st = settled.stands in
-    let h' = onto (frame_notes limits x n last h) h in
+    let h' = past_frame limits x n last h in
     let lists = frame_keeps_lists limits x n last h in
     let is = next.live in
     let own = framed_stream limits x n last h (exchange_at old.exchanges x) s in
@@ -322,7 +324,7 @@ frames_at limits x n last rose drained shifted old new ex w mid b h settled next
     let drains = ed ∙ frame_drains limits x n last s.plain shifted.from h s.limit s.above s.send
     (from ∙ (ap (λ v. crossing v (is_send_above ex (request x))) (send_above_is x old.exchanges s.plain s.is) ∙ ap (λ v. crossing s.plain.above v) (send_above_is x ex (plain_framed n last s.plain) now))) in
     let all = changed_exchanges limits x (body_framed n last) old.exchanges ex h h' st.exchanges c sound (record { lives = lists.lives; begun = lists.begun; doomed = lists.doomed })
-    (λ y d. frame_keeps limits x y n last h d) own in
+    (λ y d. frame_keeps limits x n last h y d) own in
     record {
       rises = rises;
       drains = drains;
@@ -340,11 +342,11 @@ frames_at limits x n last rose drained shifted old new ex w mid b h settled next
               above = ap (λ (f : Flows). f.conn.write.above) rest ∙ w'.above;
               framed_last = ap (λ (f : Flows). f.conn.framed_last) rest ∙ w'.framed_last;
               ready = refreshed limits (record old { exchanges = ex }) x h h' (get nat_cmp old.conn.ready) (get nat_cmp new.conn.ready) st.limits_are
-                  (all.there x (ap (λ (xs : List ℕ). has xs x) lists.lives ∙ is)) is lists.lives (λ y d. frame_keeps limits x y n last h d) made st.conn.ready;
+                  (all.there x (ap (λ (xs : List ℕ). has xs x) lists.lives ∙ is)) is lists.lives (λ y d. frame_keeps limits x n last h y d) made st.conn.ready;
             };
         holding = subst (λ (v : BTreeSet ℕ). HoldingIs limits v h') (sym (ap (λ (f : Flows). f.holding) rest))
-            (holding_kept limits old.holding h h' st.holding lists.lives (λ y. own_or_other (λ v. place (plain_setup limits) (request v) 0 h' ≡ place (plain_setup limits) (request v) 0 h) x y
-            (frame_recv limits x n last h) (λ d. (frame_keeps limits x y n last h d).recv)));
+            (holding_kept limits old.holding h h' st.holding lists.lives (λ y. own_or_other (λ v. recv_at limits v h' ≡ recv_at limits v h) x y
+            (frame_recv limits x n last h) (λ d. (frame_keeps limits x n last h y d).recv)));
       };
     }
 
@@ -400,11 +402,11 @@ frames_all x n last framed shifted old between new ex w head is c sound appends 
 }
 
 -- the end was not framed before, and a frame without it has octets
-end_new : (limits : PlainLimits) (x n : ℕ) (last : Bool) (h : History NoMark) → IsSettledHistory limits h → has (live h) x ≡ true
-    → IsBodyUnit limits.quantum (plain_ended x h) (end_framed (plain_setup limits) (request x) h) (length (place (plain_setup limits) (request x) 0 h)) (length (place (plain_setup limits) (request x) 1 h)) n last
-    → end_framed (plain_setup limits) (request x) h ≡ false
-end_new limits x n last h s is u = by_case (end_framed (plain_setup limits) (request x) h)
-    (λ t. absurd (none n limits.quantum (length (place (plain_setup limits) (request x) 1 h)) u.all (ap (λ (o : List ℕ). length o) ((s.regular.books.each x is).over t).1) (u.again t)))
+end_new : (limits : PlainLimits) (x n : ℕ) (last : Bool) (h : Past) → IsSettledHistory limits h → Alive h x
+    → IsBodyUnit limits.quantum (plain_ended x h) (end_out limits x h) (length (recv_at limits x h)) (length (send_at limits x h)) n last
+    → end_out limits x h ≡ false
+end_new limits x n last h s is u = by_case (end_out limits x h)
+    (λ t. absurd (none n limits.quantum (length (send_at limits x h)) u.all (ap (λ (o : List ℕ). length o) ((s.regular.books.each x is).over t).1) (u.again t)))
     (λ f. f)
   where
     none : (n q l : ℕ) → n ≡ min q l → l ≡ 0 → 0 < n → ⊥

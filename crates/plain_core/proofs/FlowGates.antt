@@ -4,14 +4,13 @@ use Rattle.flow_gate.specs.Changes.{Same}
 use Rattle.flow_gate.specs.declared.ids.FlowId.{FlowId}
 use Rattle.plain_laws.proofs.Counts.{is_live_is}
 use Rattle.std.proofs.Common.{ap, refl, sym, ◌∙◌}
-use Rattle.std.specs.Prelude.{List, [], if◌then◌else◌, map, not, true, ℕ, ◌&&◌, ◌∷◌, ◌≡◌}
+use Rattle.std.specs.Prelude.{List, [], if◌then◌else◌, map, not, ℕ, ◌&&◌, ◌∷◌, ◌≡◌}
+use Rattle.plain_laws.specs.Words.{Past, Alive, conn_high, conn_lows, send_high}
 use Rattle.tape_laws.specs.Dispatches.{has, live}
 use Rattle.tape_laws.specs.Flows.{request}
-use Rattle.tape_laws.specs.History.{History, NoMark}
-use Rattle.tape_laws.specs.Pauses.{count, pending_lows}
+use Rattle.tape_laws.specs.Pauses.{count}
 use Rattle.tape_laws.specs.Plain.{plain_setup}
 use Rattle.tape_laws.specs.Sources.{is_live}
-use Rattle.tape_laws.specs.Watermark.{above}
 use Rattle.tape_laws.specs.declared.limits.PlainLimits.{PlainLimits}
 use Rattle.plain_core.specs.Flows.{GatesAre}
 use Rattle.flow_gate.specs.declared.ids.BufferId.TheVariants as buffer
@@ -23,20 +22,20 @@ pub record KeepsNames (old new : Board) : Type 0 where
   pub watchers : Same watchers_of old new
 
 -- the marks, counts and pending lows are those of the history
-pub record CountsAre (limits : PlainLimits) (board : Board) (h : History NoMark) : Type 0 where
-  pub counts : (x : ℕ) → has (live h) x ≡ true → count_on board (request x) ≡ count (request x) h
-  pub write_mark : is_marked board (buffer.Write 0) ≡ above (plain_setup limits) (buffer.Write 0) h
-  pub write_pending : pending_on board (buffer.Write 0) ≡ pending_lows (plain_setup limits) (buffer.Write 0) h
-  pub send_mark : (x : ℕ) → is_marked board (buffer.Send (request x)) ≡ above (plain_setup limits) (buffer.Send (request x)) h
+pub record CountsAre (limits : PlainLimits) (board : Board) (h : Past) : Type 0 where
+  pub counts : (x : ℕ) → Alive h x → count_on board (request x) ≡ count (request x) h
+  pub write_mark : is_marked board (buffer.Write 0) ≡ conn_high limits h
+  pub write_pending : pending_on board (buffer.Write 0) ≡ conn_lows limits h
+  pub send_mark : (x : ℕ) → is_marked board (buffer.Send (request x)) ≡ send_high limits x h
   pub send_pending : (x : ℕ) → pending_on board (buffer.Send (request x)) ≡ []
 
 pub same_names : (board : Board) → KeepsNames board board
 same_names board = record { flows = λ f. refl; buffers = λ b. refl; watchers = λ b. refl }
 
-live_flow : (limits : PlainLimits) (f : FlowId) (h h' : History NoMark) → live h' ≡ live h → is_live (plain_setup limits) f h' ≡ is_live (plain_setup limits) f h
+live_flow : (limits : PlainLimits) (f : FlowId) (h h' : Past) → live h' ≡ live h → is_live (plain_setup limits) f h' ≡ is_live (plain_setup limits) f h
 live_flow limits f h h' e = is_live_is limits f h' ∙ (ap (λ (xs : List ℕ). not f.back && has xs f.exchange) e ∙ sym (is_live_is limits f h))
 
-pub gates_from : (limits : PlainLimits) (old new : Board) (h h' : History NoMark) → GatesAre limits old h → IsSoundBoard new → KeepsNames old new → live h' ≡ live h
+pub gates_from : (limits : PlainLimits) (old new : Board) (h h' : Past) → GatesAre limits old h → IsSoundBoard new → KeepsNames old new → live h' ≡ live h
     → CountsAre limits new h' → GatesAre limits new h'
 gates_from limits old new h h' g sound k lives c = record {
   sound = sound;
@@ -53,14 +52,14 @@ gates_from limits old new h h' g sound k lives c = record {
 }
 
 -- what the marks and counts of the history are
-pub record KeepsSources (limits : PlainLimits) (old new : History NoMark) : Type 0 where
+pub record KeepsSources (limits : PlainLimits) (old new : Past) : Type 0 where
   pub lives : live new ≡ live old
-  pub counts : (x : ℕ) → has (live old) x ≡ true → count (request x) new ≡ count (request x) old
-  pub write : above (plain_setup limits) (buffer.Write 0) new ≡ above (plain_setup limits) (buffer.Write 0) old
-  pub lows : pending_lows (plain_setup limits) (buffer.Write 0) new ≡ pending_lows (plain_setup limits) (buffer.Write 0) old
-  pub sends : (x : ℕ) → above (plain_setup limits) (buffer.Send (request x)) new ≡ above (plain_setup limits) (buffer.Send (request x)) old
+  pub counts : (x : ℕ) → Alive old x → count (request x) new ≡ count (request x) old
+  pub write : conn_high limits new ≡ conn_high limits old
+  pub lows : conn_lows limits new ≡ conn_lows limits old
+  pub sends : (x : ℕ) → send_high limits x new ≡ send_high limits x old
 
-pub gates_kept : (limits : PlainLimits) (board : Board) (h h' : History NoMark) → GatesAre limits board h → KeepsSources limits h h' → GatesAre limits board h'
+pub gates_kept : (limits : PlainLimits) (board : Board) (h h' : Past) → GatesAre limits board h → KeepsSources limits h h' → GatesAre limits board h'
 gates_kept limits board h h' g k = gates_from limits board board h h' g g.sound (same_names board) k.lives (record {
   counts = λ x is. let was = sym (ap (λ (xs : List ℕ). has xs x) k.lives) ∙ is in g.counts x was ∙ sym (k.counts x was);
   write_mark = g.write_mark ∙ sym k.write;

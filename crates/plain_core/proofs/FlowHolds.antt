@@ -8,40 +8,36 @@ use Rattle.plain_laws.proofs.EventChanges.{begin_keeps, begin_live, body_keeps, 
 use Rattle.plain_laws.proofs.Streams.{by_case, has_more, own_or_other, same_number}
 use Rattle.plain_laws.specs.Keeping.{KeepsStream}
 use Rattle.plain_laws.specs.Regular.{IsUnborn}
-use Rattle.plain_laws.specs.StepNotes.{begin_notes, body_notes, move_notes}
 use Rattle.std.proofs.Common.{ap, arith, length-append, refl, sym, ◌∙◌}
 use Rattle.std.proofs.lemmas.Bool.Decides.{nat_tests}
 use Rattle.std.specs.BTreeSet.{BTreeSet, contains}
 use Rattle.std.specs.Option.{option_and_then, option_map_or}
 use Rattle.std.specs.Ordering.{nat_cmp}
 use Rattle.std.specs.Prelude.{Bool, List, Option, false, length, min, nat_lt, not, true, ℕ, ◌&&◌, ◌++◌, ◌+◌, ◌-◌, ◌<◌, ◌==◌, ◌||◌, ◌≡◌}
+use Rattle.plain_laws.specs.Words.{Past, Alive, past_begin, past_body, past_move, recv_at}
 use Rattle.tape_laws.specs.Dispatches.{has, live}
-use Rattle.tape_laws.specs.Flows.{request}
-use Rattle.tape_laws.specs.History.{History, NoMark, onto}
-use Rattle.tape_laws.specs.Plain.{plain_setup}
-use Rattle.tape_laws.specs.World.{place}
 use Rattle.tape_laws.specs.declared.limits.PlainLimits.{PlainLimits}
 use Rattle.plain_core.specs.Flows.{HoldingIs, StreamIs}
 use Rattle.plain_core.specs.UnitsOf.{is_emptied}
 use Rattle.plain_core.specs.declared.flows.Flows.{Flows}
 
-abbrev holds_some : PlainLimits → ℕ → History NoMark → Bool
-holds_some limits x h = nat_lt 0 (length (place (plain_setup limits) (request x) 0 h))
+abbrev holds_some : PlainLimits → ℕ → Past → Bool
+holds_some limits x h = nat_lt 0 (length (recv_at limits x h))
 
 alone : (b : Bool) → (b && true) ≡ b
 alone true = refl
 alone false = refl
 
 -- no receive buffer changed
-pub holding_kept : (limits : PlainLimits) (holding : BTreeSet ℕ) (h h' : History NoMark) → HoldingIs limits holding h → live h' ≡ live h
-    → ((y : ℕ) → place (plain_setup limits) (request y) 0 h' ≡ place (plain_setup limits) (request y) 0 h) → HoldingIs limits holding h'
+pub holding_kept : (limits : PlainLimits) (holding : BTreeSet ℕ) (h h' : Past) → HoldingIs limits holding h → live h' ≡ live h
+    → ((y : ℕ) → recv_at limits y h' ≡ recv_at limits y h) → HoldingIs limits holding h'
 holding_kept limits holding h h' k lives same = record {
   holds = λ y. k.holds y ∙ (ap (λ (o : List ℕ). has (live h) y && nat_lt 0 (length o)) (sym (same y)) ∙ ap (λ (xs : List ℕ). has xs y && holds_some limits y h') (sym lives));
 }
 
 -- that of one live stream did
-pub holding_changed : (limits : PlainLimits) (x : ℕ) (old new : BTreeSet ℕ) (h h' : History NoMark) → HoldingIs limits old h → has (live h) x ≡ true → live h' ≡ live h
-    → ((y : ℕ) → (x == y) ≡ false → KeepsStream limits y h h') → contains nat_cmp new x ≡ nat_lt 0 (length (place (plain_setup limits) (request x) 0 h'))
+pub holding_changed : (limits : PlainLimits) (x : ℕ) (old new : BTreeSet ℕ) (h h' : Past) → HoldingIs limits old h → Alive h x → live h' ≡ live h
+    → ((y : ℕ) → (x == y) ≡ false → KeepsStream limits y h h') → contains nat_cmp new x ≡ nat_lt 0 (length (recv_at limits x h'))
     → ((y : ℕ) → (x == y) ≡ false → contains nat_cmp new y ≡ contains nat_cmp old y) → HoldingIs limits new h'
 holding_changed limits x old new h h' k is lives others own rest = record {
   holds = λ y. own_or_other (λ v. contains nat_cmp new v ≡ (has (live h') v && holds_some limits v h')) x y
@@ -50,15 +46,15 @@ holding_changed limits x old new h h' k is lives others own rest = record {
 }
 
 -- a stream began
-pub holding_begun : (limits : PlainLimits) (k x : ℕ) (holding : BTreeSet ℕ) (h : History NoMark) → HoldingIs limits holding h → IsUnborn limits x h
-    → HoldingIs limits holding (onto (begin_notes limits k x h) h)
+pub holding_begun : (limits : PlainLimits) (k x : ℕ) (holding : BTreeSet ℕ) (h : Past) → HoldingIs limits holding h → IsUnborn limits x h
+    → HoldingIs limits holding (past_begin limits k x h)
 holding_begun limits k x holding h k' u =
-    let h' = onto (begin_notes limits k x h) h in
+    let h' = past_begin limits k x h in
     record {
-      holds = λ y. k'.holds y ∙ (ap (λ (o : List ℕ). has (live h) y && nat_lt 0 (length o)) (sym (begin_keeps limits k x y h).recv)
+      holds = λ y. k'.holds y ∙ (ap (λ (o : List ℕ). has (live h) y && nat_lt 0 (length o)) (sym (begin_keeps limits k x h y).recv)
           ∙ sym (ap (λ b. b && holds_some limits y h') (ap (λ (xs : List ℕ). has xs y) (begin_live limits k x h) ∙ has_more (live h) x y)
           ∙ own_or_other (λ v. ((has (live h) v || (x == v)) && holds_some limits v h') ≡ (has (live h) v && holds_some limits v h')) x y
-          (none _ _ _ (ap (λ (o : List ℕ). nat_lt 0 (length o)) ((begin_keeps limits k x x h).recv ∙ u.recv)))
+          (none _ _ _ (ap (λ (o : List ℕ). nat_lt 0 (length o)) ((begin_keeps limits k x h x).recv ∙ u.recv)))
           (λ d. ap (λ b. (has (live h) y || b) && holds_some limits y h') d ∙ ap (λ b. b && holds_some limits y h') (or_false (has (live h) y)))));
     }
   where
@@ -73,29 +69,30 @@ holding_begun limits k x holding h k' u =
     or_false false = refl
 
 -- octets arrived, some or none
-pub held_more : (a c : Bool) (octets : List ℕ) → (length octets == 0) ≡ false → (a || c) ≡ ((a && nat_lt 0 (length octets)) || c)
-held_more a c octets e = ap (λ b. b || c) (sym (ap (λ b. a && b) (some (length octets) e) ∙ alone a))
-  where
-    some : (l : ℕ) → (l == 0) ≡ false → nat_lt 0 l ≡ true
-    some l e = grind (arith, nat_tests)
+module _ (a c : Bool) (octets : List ℕ) where
+  pub held_more : (length octets == 0) ≡ false → (a || c) ≡ ((a && nat_lt 0 (length octets)) || c)
+  held_more e = ap (λ b. b || c) (sym (ap (λ b. a && b) (some (length octets) e) ∙ alone a))
+    where
+      some : (l : ℕ) → (l == 0) ≡ false → nat_lt 0 l ≡ true
+      some l e = grind (arith, nat_tests)
 
-pub held_same : (a c : Bool) (octets : List ℕ) → (length octets == 0) ≡ true → c ≡ ((a && nat_lt 0 (length octets)) || c)
-held_same a c octets e = ap (λ b. b || c) (sym (ap (λ b. a && b) (none (length octets) e) ∙ neither a))
-  where
-    none : (l : ℕ) → (l == 0) ≡ true → nat_lt 0 l ≡ false
-    none l e = grind (arith, nat_tests)
+  pub held_same : (length octets == 0) ≡ true → c ≡ ((a && nat_lt 0 (length octets)) || c)
+  held_same e = ap (λ b. b || c) (sym (ap (λ b. a && b) (none (length octets) e) ∙ neither a))
+    where
+      none : (l : ℕ) → (l == 0) ≡ true → nat_lt 0 l ≡ false
+      none l e = grind (arith, nat_tests)
 
-    neither : (b : Bool) → (b && false) ≡ false
-    neither true = refl
-    neither false = refl
+      neither : (b : Bool) → (b && false) ≡ false
+      neither true = refl
+      neither false = refl
 
-pub holding_arrived : (limits : PlainLimits) (k x : ℕ) (octets : List ℕ) (old new : BTreeSet ℕ) (h : History NoMark) → HoldingIs limits old h → has (live h) x ≡ true
-    → ((y : ℕ) → contains nat_cmp new y ≡ (((x == y) && nat_lt 0 (length octets)) || contains nat_cmp old y)) → HoldingIs limits new (onto (body_notes k x octets) h)
+pub holding_arrived : (limits : PlainLimits) (k x : ℕ) (octets : List ℕ) (old new : BTreeSet ℕ) (h : Past) → HoldingIs limits old h → Alive h x
+    → ((y : ℕ) → contains nat_cmp new y ≡ (((x == y) && nat_lt 0 (length octets)) || contains nat_cmp old y)) → HoldingIs limits new (past_body k x octets h)
 holding_arrived limits k x octets old new h was is made =
-    holding_changed limits x old new h (onto (body_notes k x octets) h) was is refl (λ y d. body_keeps limits k x y octets h d)
+    holding_changed limits x old new h (past_body k x octets h) was is refl (λ y d. body_keeps limits k x y octets h d)
     (made x ∙ (ap (λ b. (b && nat_lt 0 (length octets)) || contains nat_cmp old x) (same_number x)
     ∙ (ap (λ b. nat_lt 0 (length octets) || b) (was.holds x ∙ ap (λ b. b && holds_some limits x h) is)
-    ∙ (some_of (place (plain_setup limits) (request x) 0 h) octets ∙ sym (ap (λ (o : List ℕ). nat_lt 0 (length o)) (body_recv limits k x octets h))))))
+    ∙ (some_of (recv_at limits x h) octets ∙ sym (ap (λ (o : List ℕ). nat_lt 0 (length o)) (body_recv limits k x octets h))))))
     (λ y d. made y ∙ ap (λ b. (b && nat_lt 0 (length octets)) || contains nat_cmp old y) d)
   where
     some : (a b c : ℕ) → c ≡ a + b → (nat_lt 0 b || nat_lt 0 a) ≡ nat_lt 0 c
@@ -124,8 +121,8 @@ some_there n q r p e = test r (more n q r p e)
     test r p = grind (arith, nat_tests)
 
 -- whether a move took all
-pub emptied_is : (limits : PlainLimits) (flows : Flows) (x : ℕ) (h : History NoMark) → StreamIs limits x h (exchange_at flows.exchanges x)
-    → is_emptied flows x ≡ (length (place (plain_setup limits) (request x) 0 h) == 0)
+pub emptied_is : (limits : PlainLimits) (flows : Flows) (x : ℕ) (h : Past) → StreamIs limits x h (exchange_at flows.exchanges x)
+    → is_emptied flows x ≡ (length (recv_at limits x h) == 0)
 emptied_is limits flows x h s =
     ap (λ (o : Option Exchange). option_map_or (λ (f : Flow). length f.recv == 0) (option_and_then (flow_in false) o) false) s.is ∙ ap (λ (o : List ℕ). length o == 0) s.recv
 
@@ -147,10 +144,10 @@ left_some n q r l e f = by_case (nat_lt n q)
     some : (l : ℕ) → not (l == 0) ≡ nat_lt 0 l
     some l = grind (arith, nat_tests)
 
-pub holding_moved : (limits : PlainLimits) (x n : ℕ) (took : Bool) (old new : BTreeSet ℕ) (h : History NoMark) → HoldingIs limits old h → has (live h) x ≡ true
-    → nat_lt 0 (length (place (plain_setup limits) (request x) 0 h)) ≡ true → not took ≡ nat_lt 0 (length (place (plain_setup limits) (request x) 0 (onto (move_notes limits x n h) h)))
-    → ((y : ℕ) → contains nat_cmp new y ≡ (not ((x == y) && took) && contains nat_cmp old y)) → HoldingIs limits new (onto (move_notes limits x n h) h)
+pub holding_moved : (limits : PlainLimits) (x n : ℕ) (took : Bool) (old new : BTreeSet ℕ) (h : Past) → HoldingIs limits old h → Alive h x
+    → nat_lt 0 (length (recv_at limits x h)) ≡ true → not took ≡ nat_lt 0 (length (recv_at limits x (past_move limits x n h)))
+    → ((y : ℕ) → contains nat_cmp new y ≡ (not ((x == y) && took) && contains nat_cmp old y)) → HoldingIs limits new (past_move limits x n h)
 holding_moved limits x n took old new h was is there left made =
-    holding_changed limits x old new h (onto (move_notes limits x n h) h) was is (move_keeps_lists limits x n h).lives (λ y d. move_keeps limits x y n h d)
+    holding_changed limits x old new h (past_move limits x n h) was is (move_keeps_lists limits x n h).lives (λ y d. move_keeps limits x n h y d)
     (made x ∙ (ap (λ b. not (b && took) && contains nat_cmp old x) (same_number x) ∙ (ap (λ b. not took && b) (was.holds x ∙ (ap (λ b. b && holds_some limits x h) is ∙ there)) ∙ (alone (not took) ∙ left))))
     (λ y d. made y ∙ ap (λ b. not (b && took) && contains nat_cmp old y) d)

@@ -9,13 +9,11 @@ use Rattle.plain_laws.specs.StepNotes.{room_notes}
 use Rattle.std.proofs.Common.{ap, arith, refl, sym, ◌∙◌}
 use Rattle.std.proofs.lemmas.List.{append-nil}
 use Rattle.std.specs.Prelude.{Bool, List, None, Option, [], drop, false, if◌then◌else◌, length, map, not, true, ℕ, ◌&&◌, ◌++◌, ◌∷◌, ◌≡◌, ◌≤◌}
+use Rattle.plain_laws.specs.Words.{Past, conn_drains, conn_high, conn_lows, conn_out, turn_of}
 use Rattle.tape_laws.specs.Dispatches.{has, live}
 use Rattle.tape_laws.specs.Flows.{request}
-use Rattle.tape_laws.specs.History.{History, NoMark, Noted, Step, onto}
-use Rattle.tape_laws.specs.Pauses.{pending_lows}
-use Rattle.tape_laws.specs.Plain.{plain_setup}
-use Rattle.tape_laws.specs.Watermark.{above, drains_at}
-use Rattle.tape_laws.specs.World.{out}
+use Rattle.tape_laws.specs.History.{NoMark, Noted, Step, onto}
+use Rattle.tape_laws.specs.Watermark.{above}
 use Rattle.tape_laws.specs.declared.limits.PlainLimits.{PlainLimits}
 use Rattle.wm_buffer.specs.Buffer.{Buffer, DropsOctets}
 use Rattle.wm_buffer.specs.Watermark.{above_after}
@@ -43,46 +41,47 @@ pub flag_same : (l l' : ℕ) (a a' : Bool) (o o' : List ℕ) → l ≡ l' → a 
 flag_same l l' a a' o o' e f g = rw (e, f, g) refl
 
 -- the flag of the write buffer, and whether it drains
-left_flag : (limits : PlainLimits) (n : ℕ) (conn : Connection) (w : Buffer) (h : History NoMark) → ConnectionIs limits conn h → DropsOctets conn.write w n
-    → w.above ≡ above_after limits.write (above (plain_setup limits) (buffer.Write 0) h) (length (drop n (out (plain_setup limits) 0 h)))
-left_flag limits n conn w h c d = d.above ∙ flag_same _ _ _ _ _ _ c.limit c.above (d.octets ∙ ap (λ (o : List ℕ). drop n o) c.octets)
+module _ (limits : PlainLimits) (n : ℕ) where
+  left_flag : (conn : Connection) (w : Buffer) (h : Past) → ConnectionIs limits conn h → DropsOctets conn.write w n
+      → w.above ≡ above_after limits.write (conn_high limits h) (length (drop n (conn_out limits h)))
+  left_flag conn w h c d = d.above ∙ flag_same _ _ _ _ _ _ c.limit c.above (d.octets ∙ ap (λ (o : List ℕ). drop n o) c.octets)
 
-drains_is : (limits : PlainLimits) (n : ℕ) (low : Bool) (conn : Connection) (w : Buffer) (h : History NoMark) → ConnectionIs limits conn h → DropsOctets conn.write w n
-    → low ≡ (conn.write.above && not w.above) → low ≡ drains_at (plain_setup limits) (buffer.Write 0) (Noted (note.Out 0 n)) h
-drains_is limits n low conn w h c d is = is ∙ (ap (λ b. b && not w.above) c.above ∙ ap (λ b. above (plain_setup limits) (buffer.Write 0) h && not b) (left_flag limits n conn w h c d))
+  drains_is : (low : Bool) (conn : Connection) (w : Buffer) (h : Past) → ConnectionIs limits conn h → DropsOctets conn.write w n
+      → low ≡ (conn.write.above && not w.above) → low ≡ conn_drains limits (Noted (note.Out 0 n)) h
+  drains_is low conn w h c d is = is ∙ (ap (λ b. b && not w.above) c.above ∙ ap (λ b. conn_high limits h && not b) (left_flag conn w h c d))
 
-module _ (limits : PlainLimits) (k m n : ℕ) (h : History NoMark) where
-  abbrev after : History NoMark
+module _ (limits : PlainLimits) (k m n : ℕ) (h : Past) where
+  abbrev after : Past
   after = onto (room_notes k m n) h
 
   -- where it doesn't drain its flag stays
-  flag_stays : drains_at (plain_setup limits) (buffer.Write 0) (Noted (note.Out 0 n)) h ≡ false
-      → above (plain_setup limits) (buffer.Write 0) h ≡ above (plain_setup limits) (buffer.Write 0) after
-  flag_stays none = pick (above (plain_setup limits) (buffer.Write 0) h) refl none ∙ sym (room_high limits k m n h)
+  flag_stays : conn_drains limits (Noted (note.Out 0 n)) h ≡ false
+      → conn_high limits h ≡ conn_high limits after
+  flag_stays none = pick (conn_high limits h) refl none ∙ sym (room_high limits k m n h)
     where
-      pick : (a : Bool) → above (plain_setup limits) (buffer.Write 0) h ≡ a → (a && not (above_after limits.write (above (plain_setup limits) (buffer.Write 0) h) (length (drop n (out (plain_setup limits) 0 h))))) ≡ false
-          → a ≡ above_after limits.write (above (plain_setup limits) (buffer.Write 0) h) (length (drop n (out (plain_setup limits) 0 h)))
+      pick : (a : Bool) → conn_high limits h ≡ a → (a && not (above_after limits.write (conn_high limits h) (length (drop n (conn_out limits h))))) ≡ false
+          → a ≡ above_after limits.write (conn_high limits h) (length (drop n (conn_out limits h)))
       pick true e none = sym (is_true _ none)
         where
           is_true : (b : Bool) → not b ≡ false → b ≡ true
           is_true true e = refl
           is_true false e = sym e
-      pick false e none = sym (no_rise limits.write _ (length (out (plain_setup limits) 0 h)) _ (write_now limits h) (shorter n (out (plain_setup limits) 0 h)) e)
+      pick false e none = sym (no_rise limits.write _ (length (conn_out limits h)) _ (write_now limits h) (shorter n (conn_out limits h)) e)
         where
           shorter : (n : ℕ) (o : List ℕ) → length (drop n o) ≤ length o
           shorter n o = omega (arith, length-drop n o)
 
-  lows_after : pending_lows (plain_setup limits) (buffer.Write 0) h ≡ []
-      → pending_lows (plain_setup limits) (buffer.Write 0) after ≡ (if drains_at (plain_setup limits) (buffer.Write 0) (Noted (note.Out 0 n)) h then map request (live h) else [])
+  lows_after : conn_lows limits h ≡ []
+      → conn_lows limits after ≡ (if conn_drains limits (Noted (note.Out 0 n)) h then map request (live h) else [])
   lows_after none =
-      let turn : Step NoMark = Noted (note.Turn k (event.Plain (plain.Room m))) in
+      let turn : Step NoMark = turn_of k (plain.Room m) in
       let w = turn_keeps_write limits k (plain.Room m) h in
       out_lows limits n (turn ∷ h) (w.lows ∙ none)
-      ∙ (ap (λ b. if b && not (above (plain_setup limits) (buffer.Write 0) after) then map request (live h) else []) w.high
-      ∙ ap (λ b. if above (plain_setup limits) (buffer.Write 0) h && not b then map request (live h) else []) (room_high limits k m n h))
+      ∙ (ap (λ b. if b && not (conn_high limits after) then map request (live h) else []) w.high
+      ∙ ap (λ b. if conn_high limits h && not b then map request (live h) else []) (room_high limits k m n h))
 
-  left_counts : (low : Bool) (old new : Board) → low ≡ drains_at (plain_setup limits) (buffer.Write 0) (Noted (note.Out 0 n)) h → GatesAre limits old h → DrainsWrite low old new
-      → pending_lows (plain_setup limits) (buffer.Write 0) h ≡ [] → CountsAre limits new after
+  left_counts : (low : Bool) (old new : Board) → low ≡ conn_drains limits (Noted (note.Out 0 n)) h → GatesAre limits old h → DrainsWrite low old new
+      → conn_lows limits h ≡ [] → CountsAre limits new after
   left_counts true old new is g d none = record {
     counts = λ y e. d.counts (request y) ∙ g.counts y e;
     write_mark = d.marks (buffer.Write 0) ∙ sym (room_high limits k m n h ∙ drained _ _ (sym is));

@@ -46,8 +46,7 @@ drains_tells f told old mid between new same d none one is t =
     let p = d.pending (buffer.Send f) ∙ (ap (λ (fs : List FlowId). fs ++ (if same_flow f f then watchers_of mid (buffer.Send f) else [])) (same.pending (buffer.Send f) ∙ none)
     ∙ (ap (λ b. if b then watchers_of mid (buffer.Send f) else []) (own_flow f) ∙ w)) in
     let list = told_own f told (pending_on new (buffer.Send f)) (pending_on between (buffer.Send f)) (same_flow f f) (own_flow f) p is (t.pending (buffer.Send f)) in
-    let P : List FlowId → Type 0 = λ fs. TellsFlow (buffer.Send f) fs between new in
-    record { between = between; drains = d; tells = subst P list t }
+    record { between = between; drains = d; tells = subst (λ (fs : List FlowId). TellsFlow (buffer.Send f) fs between new) list t }
 
 pub not_high : (d : Crossed) → (d ≡ crossed.High → ⊥) → is_high d ≡ false
 not_high crossed.High n = absurd (n refl)

@@ -6,12 +6,10 @@ use Rattle.std.proofs.lemmas.Int.{to_z_pos}
 use Rattle.std.specs.BTreeMap.{get}
 use Rattle.std.specs.Ordering.{nat_cmp}
 use Rattle.std.specs.Prelude.{Bool, List, None, Option, false, if◌then◌else◌, pos, true, ℕ, ℤ, ◌<◌, ◌==◌, ◌^◌, ◌≡◌}
+use Rattle.plain_laws.specs.Words.{Past, Alive, conn_high, conn_out, last_out}
 use Rattle.tape_laws.specs.Dispatches.{has, live}
-use Rattle.tape_laws.specs.History.{History, NoMark}
 use Rattle.tape_laws.specs.Order.{framed_last}
-use Rattle.tape_laws.specs.Plain.{plain_setup}
 use Rattle.tape_laws.specs.Watermark.{above}
-use Rattle.tape_laws.specs.World.{out}
 use Rattle.tape_laws.specs.declared.limits.PlainLimits.{PlainLimits}
 use Rattle.plain_core.specs.Flows.{AreLimits, ConnectionIs, IsSettled, StreamIs, next_piece}
 use Rattle.plain_core.specs.UnitsOf.{piece_at}
@@ -35,16 +33,16 @@ room_is flows room s e = ap (λ z. to_z w64 (of_z w64 z)) e ∙ to_z_pos w64 flo
         omega (arith, most, same)
 
 -- all of a connection but which streams have a unit
-pub record WriteIs (limits : PlainLimits) (conn : Connection) (h : History NoMark) : Type 0 where
+pub record WriteIs (limits : PlainLimits) (conn : Connection) (h : Past) : Type 0 where
   pub limit : conn.write.limit ≡ limits.write
-  pub octets : conn.write.octets ≡ out (plain_setup limits) 0 h
-  pub above : conn.write.above ≡ above (plain_setup limits) (buffer.Write 0) h
-  pub framed_last : conn.framed_last ≡ framed_last (plain_setup limits) 0 h
+  pub octets : conn.write.octets ≡ conn_out limits h
+  pub above : conn.write.above ≡ conn_high limits h
+  pub framed_last : conn.framed_last ≡ last_out limits h
 
 -- the write buffer stays, and so does which streams have a unit
-pub conn_kept : (limits : PlainLimits) (conn : Connection) (h h' : History NoMark) → ConnectionIs limits conn h → KeepsWrite limits h h'
-    → framed_last (plain_setup limits) 0 h' ≡ framed_last (plain_setup limits) 0 h → live h' ≡ live h
-    → ((x : ℕ) → has (live h) x ≡ true → next_piece limits x h' ≡ next_piece limits x h) → ConnectionIs limits conn h'
+pub conn_kept : (limits : PlainLimits) (conn : Connection) (h h' : Past) → ConnectionIs limits conn h → KeepsWrite limits h h'
+    → last_out limits h' ≡ last_out limits h → live h' ≡ live h
+    → ((x : ℕ) → Alive h x → next_piece limits x h' ≡ next_piece limits x h) → ConnectionIs limits conn h'
 conn_kept limits conn h h' c k last lives ready = record {
   limit = c.limit;
   octets = c.octets ∙ sym k.octets;
@@ -58,10 +56,10 @@ conn_kept limits conn h h' c k last lives ready = record {
     same x false e = ap (λ b. if b then next_piece limits x h else None) e ∙ sym (ap (λ b. if b then next_piece limits x h' else None) (ap (λ (xs : List ℕ). has xs x) lives ∙ e))
 
 -- one stream was looked at again
-pub refreshed_conn : (limits : PlainLimits) (x : ℕ) (mid new : Flows) (h h' : History NoMark) → mid.limits ≡ limits
+pub refreshed_conn : (limits : PlainLimits) (x : ℕ) (mid new : Flows) (h h' : Past) → mid.limits ≡ limits
     → new ≡ record mid { conn = record mid.conn { ready = new.conn.ready } }
     → ((y : ℕ) → get nat_cmp new.conn.ready y ≡ (if x == y then piece_at mid x else get nat_cmp mid.conn.ready y)) → WriteIs limits mid.conn h'
-    → StreamIs limits x h' (exchange_at mid.exchanges x) → has (live h) x ≡ true → live h' ≡ live h → ((y : ℕ) → (x == y) ≡ false → KeepsStream limits y h h')
+    → StreamIs limits x h' (exchange_at mid.exchanges x) → Alive h x → live h' ≡ live h → ((y : ℕ) → (x == y) ≡ false → KeepsStream limits y h h')
     → ((y : ℕ) → get nat_cmp mid.conn.ready y ≡ (if has (live h) y then next_piece limits y h else None)) → ConnectionIs limits new.conn h'
 refreshed_conn limits x mid new h h' l rest made w s is lives others was = record {
   limit = ap (λ (f : Flows). f.conn.write.limit) rest ∙ w.limit;

@@ -1,11 +1,11 @@
 -- What the flows are after octets of a stream moved.
-use Rattle.exchange_core.proofs.PlainStreams.{left_are, steps_are}
+use Rattle.exchange_core.proofs.PlainStreams.{free_is, goes, plain_free, stays as flow_stays}
 use Rattle.exchange_core.specs.Changes.{ChangesFlow}
 use Rattle.exchange_core.specs.Exchange.{flow_changed, flow_in, goes_to}
 use Rattle.exchange_core.specs.Exchanges.{Exchanges, IsLiveFlow, IsSound as AreSoundExchanges, exchange_at, flow_at, target_of}
 use Rattle.exchange_core.specs.Flow.{Flow}
 use Rattle.exchange_core.specs.Moves.{next_step, stepped}
-use Rattle.exchange_core.specs.Plain.{Plain, plain_crossed, plain_flow, plain_moved, plain_moves, plain_step, plain_stepped}
+use Rattle.exchange_core.specs.Plain.{Plain, plain_crossed, plain_flow, plain_moved}
 use Rattle.exchange_core.specs.declared.exchange.Exchange.{Exchange}
 use Rattle.exchange_core.specs.declared.step.Step.{Step as MoveStep}
 use Rattle.exchange_core.specs.declared.step.Step.TheVariants as step
@@ -16,23 +16,20 @@ use Rattle.plain_laws.proofs.Changes.{move_end_framed, move_ended, move_framed_l
 use Rattle.plain_laws.proofs.Counting.{one_if}
 use Rattle.plain_laws.proofs.Counts.{move_count}
 use Rattle.plain_laws.proofs.Steps.{settled_count}
-use Rattle.plain_laws.proofs.Streams.{both_of, by_case, number_is, own_or_other, same_number}
+use Rattle.plain_laws.proofs.Streams.{by_case, number_is, own_or_other, same_number}
 use Rattle.plain_laws.specs.Keeping.{KeepsLists, KeepsWrite}
 use Rattle.plain_laws.specs.Settled.{Settled as IsSettledHistory}
-use Rattle.plain_laws.specs.StepNotes.{move_notes}
 use Rattle.std.proofs.Common.{ap, arith, refl, subst, sym, ◌∙◌}
 use Rattle.std.specs.BTreeMap.{get}
 use Rattle.std.specs.BTreeSet.{BTreeSet, contains}
 use Rattle.std.specs.Option.{option_and_then, option_map_or}
 use Rattle.std.specs.Ordering.{nat_cmp}
 use Rattle.std.specs.Prelude.{Bool, IsNone, IsSome, List, None, Option, Some, [], drop, false, if◌then◌else◌, length, min, nat_lt, not, option_map, take, true, ℕ, ◌&&◌, ◌*◌, ◌++◌, ◌+◌, ◌-◌, ◌<◌, ◌==◌, ◌||◌, ◌∷◌, ◌≡◌, ◌≤◌}
+use Rattle.plain_laws.specs.Words.{Past, Alive, move_of, past_move, recv_at, send_at, send_high, send_rises}
 use Rattle.tape_laws.specs.Dispatches.{has, live}
 use Rattle.tape_laws.specs.Flows.{request}
-use Rattle.tape_laws.specs.History.{History, NoMark, Noted, onto}
 use Rattle.tape_laws.specs.Pauses.{count}
-use Rattle.tape_laws.specs.Plain.{plain_setup}
-use Rattle.tape_laws.specs.Watermark.{above, rises_at}
-use Rattle.tape_laws.specs.World.{place}
+use Rattle.tape_laws.specs.Watermark.{above}
 use Rattle.tape_laws.specs.declared.limits.PlainLimits.{PlainLimits}
 use Rattle.wm_buffer.specs.Watermark.{above_after, crossing}
 use Rattle.wm_buffer.specs.declared.buffer.Shifted.{Shifted}
@@ -60,34 +57,33 @@ some_is : {X : Type 0} (a b : X) → Some a ≡ Some b → a ≡ b
 some_is a b e = cc
 
 -- ---- what the step was
-pub target_is : (limits : PlainLimits) (x : ℕ) (ex : Exchanges) (h : History NoMark) → StreamIs limits x h (exchange_at ex x) → target_of ex (request x) ≡ Some 0
-target_is limits x ex h s = ap (option_and_then (goes_to false)) s.is
+module _ (limits : PlainLimits) (x : ℕ) where
+  pub target_is : (ex : Exchanges) (h : Past) → StreamIs limits x h (exchange_at ex x) → target_of ex (request x) ≡ Some 0
+  target_is ex h s = ap (option_and_then (goes_to false)) s.is
 
-pub step_is : (limits : PlainLimits) (x : ℕ) (ex : Exchanges) (b : Board) (st : MoveStep) (h : History NoMark) → (s : StreamIs limits x h (exchange_at ex x))
-    → Some st ≡ option_map (next_step b (target_of ex (request x))) (flow_at ex (request x)) → st ≡ plain_step b x s.plain
-step_is limits x ex b st h s e = some_is _ _
-    (e ∙ (ap (λ t. option_map (next_step b t) (flow_at ex (request x))) (target_is limits x ex h s)
-    ∙ (ap (λ (o : Option Exchange). option_map (next_step b (Some 0)) (option_and_then (flow_in false) o)) s.is ∙ ap (λ (v : MoveStep). Some v) (steps_are b x s.plain))))
+  pub step_is : (ex : Exchanges) (b : Board) (st : MoveStep) (h : Past) → (s : StreamIs limits x h (exchange_at ex x))
+      → Some st ≡ option_map (next_step b (target_of ex (request x))) (flow_at ex (request x)) → st ≡ next_step b (Some 0) (plain_flow x s.plain)
+  step_is ex b st h s e = some_is _ _
+      (e ∙ (ap (λ t. option_map (next_step b t) (flow_at ex (request x))) (target_is ex h s)
+      ∙ ap (λ (o : Option Exchange). option_map (next_step b (Some 0)) (option_and_then (flow_in false) o)) s.is))
 
-pub changed_by : (limits : PlainLimits) (x : ℕ) (old new : Exchanges) (b : Board) (h : History NoMark) → (s : StreamIs limits x h (exchange_at old x))
-    → ChangesFlow (request x) (stepped b (target_of old (request x))) old new → ChangesFlow (request x) (stepped b (Some 0)) old new
-changed_by limits x old new b h s c = subst (λ t. ChangesFlow (request x) (stepped b t) old new) (target_is limits x old h s) c
+  pub changed_by : (old new : Exchanges) (b : Board) (h : Past) → (s : StreamIs limits x h (exchange_at old x))
+      → ChangesFlow (request x) (stepped b (target_of old (request x))) old new → ChangesFlow (request x) (stepped b (Some 0)) old new
+  changed_by old new b h s c = subst (λ t. ChangesFlow (request x) (stepped b t) old new) (target_is old h s) c
 
 pub record IsMove (b : Board) (x : ℕ) (p : Plain) (n : ℕ) (shifted : Shifted) : Type 0 where
-  pub moves : plain_moves b x p ≡ true
+  pub free : plain_free b x p ≡ true
   pub all : n ≡ min p.quantum (length p.recv)
   pub shift : shifted ≡ plain_crossed n p
 
-pub is_move : (b : Board) (x : ℕ) (p : Plain) (from n : ℕ) (shifted : Shifted) (over : Bool) → step.Moved from n shifted over ≡ plain_step b x p → IsMove b x p n shifted
-is_move b x p from n shifted over e = pick (plain_moves b x p) refl e
-  where
-    pick : (m : Bool) → plain_moves b x p ≡ m
-        → step.Moved from n shifted over ≡ (if m then step.Moved 0 (min p.quantum (length p.recv)) (plain_crossed (min p.quantum (length p.recv)) p) false else step.Still) → IsMove b x p n shifted
-    pick true is e =
-        let same : n ≡ min p.quantum (length p.recv) = cc in
-        let shift : shifted ≡ plain_crossed (min p.quantum (length p.recv)) p = cc in
-        record { moves = is; all = same; shift = shift ∙ sym (ap (λ k. plain_crossed k p) same) }
-    pick false is e = absurd (cc)
+pub is_move : (b : Board) (x : ℕ) (p : Plain) (from n : ℕ) (shifted : Shifted) (over : Bool) → step.Moved from n shifted over ≡ next_step b (Some 0) (plain_flow x p) → IsMove b x p n shifted
+is_move b x p from n shifted over e = by_case (plain_free b x p)
+    (λ t.
+    let made : step.Moved from n shifted over ≡ step.Moved 0 (min p.quantum (length p.recv)) (plain_crossed (min p.quantum (length p.recv)) p) false = e ∙ (goes b x p t).0 in
+    let same : n ≡ min p.quantum (length p.recv) = cc in
+    let shift : shifted ≡ plain_crossed (min p.quantum (length p.recv)) p = cc in
+    record { free = t; all = same; shift = shift ∙ sym (ap (λ k. plain_crossed k p) same) })
+    (λ f. let made : step.Moved from n shifted over ≡ step.Still = e ∙ (flow_stays b x p f).0 in absurd (cc))
 
 pub record MayGo (b : Board) (x : ℕ) (n : ℕ) : Type 0 where
   pub free : count_on b (request x) ≡ 0
@@ -97,66 +93,56 @@ pub record MayGo (b : Board) (x : ℕ) (n : ℕ) : Type 0 where
 
 may_go : (b : Board) (x : ℕ) (p : Plain) (n : ℕ) (shifted : Shifted) → IsMove b x p n shifted → MayGo b x n
 may_go b x p n shifted m =
-    let k = both_of (count_on b (request x) == 0) _ m.moves in
-    let l = both_of (nat_lt 0 (min p.quantum (length p.recv))) _ k.1 in
-    let f = neither (is_marked b (buffer.Send (request x))) (is_marked b (buffer.Write 0)) l.1 in
-    record { free = number_is (count_on b (request x)) 0 k.0; some = let P : ℕ → Type 0 = λ v. 0 < v in subst P (sym m.all) (positive _ l.0); send_low = f.0; write_low = f.1 }
-  where
-    positive : (v : ℕ) → nat_lt 0 v ≡ true → 0 < v
-    positive v e = grind (arith, nat_tests)
-
-    neither : (a b : Bool) → not (a || b) ≡ true → (a ≡ false) × (b ≡ false)
-    neither true b e = absurd (cc)
-    neither false true e = absurd (cc)
-    neither false false e = (refl, refl)
+    let f = free_is b x p m.free in
+    record { free = f.read; some = subst (λ (v : ℕ). 0 < v) (sym m.all) f.some; send_low = f.send_low; write_low = f.write_low }
 
 abbrev pub RisesSend : Bool → ℕ → Board → Board → Type 0
 RisesSend true x old new = Rises (buffer.Send (request x)) old new
 RisesSend false x old new = new ≡ old
 
 -- ---- a move
-module _ (limits : PlainLimits) (x n : ℕ) (h : History NoMark) where
-  abbrev after : History NoMark
-  after = onto (move_notes limits x n h) h
+module _ (limits : PlainLimits) (x n : ℕ) (h : Past) where
+  abbrev after : Past
+  after = past_move limits x n h
 
   abbrev risen : Bool
-  risen = above_after limits.send (above (plain_setup limits) (buffer.Send (request x)) h) (length (place (plain_setup limits) (request x) 1 h ++ take n (place (plain_setup limits) (request x) 0 h)))
+  risen = above_after limits.send (send_high limits x h) (length (send_at limits x h ++ take n (recv_at limits x h)))
 
-  rises_is : rises_at (plain_setup limits) (buffer.Send (request x)) (Noted (note.Move (request x) 0 n)) h ≡ (not (above (plain_setup limits) (buffer.Send (request x)) h) && risen)
-  rises_is = ap (λ (o : List ℕ). not (above (plain_setup limits) (buffer.Send (request x)) h) && above_after limits.send (above (plain_setup limits) (buffer.Send (request x)) h) (length o)) (send_move limits x n h)
+  rises_is : send_rises limits x (move_of x n) h ≡ (not (send_high limits x h) && risen)
+  rises_is = ap (λ (o : List ℕ). not (send_high limits x h) && above_after limits.send (send_high limits x h) (length o)) (send_move limits x n h)
 
-  moved_flag : (p : Plain) → p.limit ≡ limits.send → p.above ≡ above (plain_setup limits) (buffer.Send (request x)) h → p.send ≡ place (plain_setup limits) (request x) 1 h
-      → p.recv ≡ place (plain_setup limits) (request x) 0 h → (plain_moved n p).above ≡ risen
-  moved_flag p el ea es er = flag_same _ _ _ _ _ _ el ea (ap (λ (o : List ℕ). o ++ take n p.recv) es ∙ ap (λ (o : List ℕ). place (plain_setup limits) (request x) 1 h ++ take n o) er)
+  moved_flag : (p : Plain) → p.limit ≡ limits.send → p.above ≡ send_high limits x h → p.send ≡ send_at limits x h
+      → p.recv ≡ recv_at limits x h → (plain_moved n p).above ≡ risen
+  moved_flag p el ea es er = flag_same _ _ _ _ _ _ el ea (ap (λ (o : List ℕ). o ++ take n p.recv) es ∙ ap (λ (o : List ℕ). send_at limits x h ++ take n o) er)
 
-  moved_stream : (b : Board) (found : Option Exchange) → (s : StreamIs limits x h found) → plain_stepped b x s.plain ≡ plain_moved n s.plain → StreamIs limits x after (option_map (flow_changed (stepped b (Some 0)) false) found)
+  moved_stream : (b : Board) (found : Option Exchange) → (s : StreamIs limits x h found) → stepped b (Some 0) (plain_flow x s.plain) ≡ plain_flow x (plain_moved n s.plain) → StreamIs limits x after (option_map (flow_changed (stepped b (Some 0)) false) found)
   moved_stream b found s e = record {
     plain = plain_moved n s.plain;
-    is = changed_plain x (stepped b (Some 0)) found s.plain (plain_moved n s.plain) s.is (left_are b x s.plain ∙ ap (plain_flow x) e);
+    is = changed_plain x (stepped b (Some 0)) found s.plain (plain_moved n s.plain) s.is e;
     window = s.window;
     limit = s.limit;
     quantum = s.quantum;
     started = s.started;
     recv = ap (λ (o : List ℕ). drop n o) s.recv ∙ sym (move_recv limits x n h);
-    send = ap (λ (o : List ℕ). o ++ take n s.plain.recv) s.send ∙ (ap (λ (o : List ℕ). place (plain_setup limits) (request x) 1 h ++ take n o) s.recv ∙ sym (move_send limits x n h));
+    send = ap (λ (o : List ℕ). o ++ take n s.plain.recv) s.send ∙ (ap (λ (o : List ℕ). send_at limits x h ++ take n o) s.recv ∙ sym (move_send limits x n h));
     above = moved_flag s.plain s.limit s.above s.send s.recv ∙ sym (move_high limits x n h);
-    ended = s.ended ∙ sym (move_ended limits x x n h);
-    end_framed = s.end_framed ∙ sym (move_end_framed limits x x n h);
+    ended = s.ended ∙ sym (move_ended limits x n h x);
+    end_framed = s.end_framed ∙ sym (move_end_framed limits x n h x);
   }
 
   abbrev rises : Bool
-  rises = rises_at (plain_setup limits) (buffer.Send (request x)) (Noted (note.Move (request x) 0 n)) h
+  rises = send_rises limits x (move_of x n) h
 
-  moved_counts : (rose : Bool) (old new : Board) → IsSettledHistory limits h → GatesAre limits old h → has (live h) x ≡ true → MayGo old x n → RisesSend rose x old new → rose ≡ rises → CountsAre limits new after
+  moved_counts : (rose : Bool) (old new : Board) → IsSettledHistory limits h → GatesAre limits old h → Alive h x → MayGo old x n → RisesSend rose x old new → rose ≡ rises → CountsAre limits new after
   moved_counts true old new s g is m c e = record {
     counts = λ y l. let was = sym (ap (λ (xs : List ℕ). has xs y) lists.lives) ∙ l in
         sums _ _ _ _ _ _ (c.counts (request y)) (ap (times (request y)) (g.send_watchers x ∙ ap (λ b. if b then request x ∷ [] else []) is) ∙ times_one x y) (g.counts y was)
         (move_count limits x y n h s was) (ap (λ b. one_if ((x == y) && b)) (sym e) ∙ with_true (x == y));
     write_mark = c.marks (buffer.Write 0) ∙ (g.write_mark ∙ sym w.high);
     write_pending = c.pending (buffer.Write 0) ∙ (g.write_pending ∙ sym w.lows);
-    send_mark = λ y. own_or_other (λ v. is_marked new (buffer.Send (request v)) ≡ above (plain_setup limits) (buffer.Send (request v)) after) x y
+    send_mark = λ y. own_or_other (λ v. is_marked new (buffer.Send (request v)) ≡ send_high limits v after) x y
         (c.marks (buffer.Send (request x)) ∙ (ap (λ b. (b && true) || is_marked old (buffer.Send (request x))) (same_number x) ∙ (e ∙ high)))
-        (λ d. c.marks (buffer.Send (request y)) ∙ (ap (λ b. (b && true) || is_marked old (buffer.Send (request y))) d ∙ (g.send_mark y ∙ sym (move_keeps limits x y n h d).high)));
+        (λ d. c.marks (buffer.Send (request y)) ∙ (ap (λ b. (b && true) || is_marked old (buffer.Send (request y))) d ∙ (g.send_mark y ∙ sym (move_keeps limits x n h y d).high)));
     send_pending = λ y. c.pending (buffer.Send (request y)) ∙ g.send_pending y;
   }
     where
@@ -166,10 +152,10 @@ module _ (limits : PlainLimits) (x n : ℕ) (h : History NoMark) where
       w : KeepsWrite limits h after
       w = move_keeps_write limits x n h
 
-      low : above (plain_setup limits) (buffer.Send (request x)) h ≡ false
+      low : send_high limits x h ≡ false
       low = sym (g.send_mark x) ∙ m.send_low
 
-      high : rises ≡ above (plain_setup limits) (buffer.Send (request x)) after
+      high : rises ≡ send_high limits x after
       high = rises_is ∙ (ap (λ b. not b && risen) low ∙ sym (move_high limits x n h))
 
       with_true : (b : Bool) → one_if (b && true) ≡ one_if b
@@ -183,9 +169,9 @@ module _ (limits : PlainLimits) (x n : ℕ) (h : History NoMark) where
         sums _ _ _ _ (ap (λ (b : Board). count_on b (request y)) c ∙ g.counts y was) (move_count limits x y n h s was) (ap (λ b. one_if ((x == y) && b)) (sym e) ∙ with_false (x == y));
     write_mark = ap (λ (b : Board). is_marked b (buffer.Write 0)) c ∙ (g.write_mark ∙ sym w.high);
     write_pending = ap (λ (b : Board). pending_on b (buffer.Write 0)) c ∙ (g.write_pending ∙ sym w.lows);
-    send_mark = λ y. own_or_other (λ v. is_marked new (buffer.Send (request v)) ≡ above (plain_setup limits) (buffer.Send (request v)) after) x y
+    send_mark = λ y. own_or_other (λ v. is_marked new (buffer.Send (request v)) ≡ send_high limits v after) x y
         (ap (λ (b : Board). is_marked b (buffer.Send (request x))) c ∙ (m.send_low ∙ (e ∙ high)))
-        (λ d. ap (λ (b : Board). is_marked b (buffer.Send (request y))) c ∙ (g.send_mark y ∙ sym (move_keeps limits x y n h d).high));
+        (λ d. ap (λ (b : Board). is_marked b (buffer.Send (request y))) c ∙ (g.send_mark y ∙ sym (move_keeps limits x n h y d).high));
     send_pending = λ y. ap (λ (b : Board). pending_on b (buffer.Send (request y))) c ∙ g.send_pending y;
   }
     where
@@ -195,10 +181,10 @@ module _ (limits : PlainLimits) (x n : ℕ) (h : History NoMark) where
       w : KeepsWrite limits h after
       w = move_keeps_write limits x n h
 
-      low : above (plain_setup limits) (buffer.Send (request x)) h ≡ false
+      low : send_high limits x h ≡ false
       low = sym (g.send_mark x) ∙ m.send_low
 
-      high : rises ≡ above (plain_setup limits) (buffer.Send (request x)) after
+      high : rises ≡ send_high limits x after
       high = rises_is ∙ (ap (λ b. not b && risen) low ∙ sym (move_high limits x n h))
 
       with_false : (b : Bool) → one_if (b && false) ≡ 0
@@ -218,13 +204,13 @@ names_moved : (rose : Bool) (x : ℕ) (old new : Board) → RisesSend rose x old
 names_moved true x old new c = record { flows = c.flows; buffers = c.buffers; watchers = c.watchers }
 names_moved false x old new c = record { flows = λ f. ap (λ (b : Board). is_there b f) c; buffers = λ d. ap (λ (b : Board). is_known b d) c; watchers = λ d. ap (λ (b : Board). watchers_of b d) c }
 
-pub rose_is : (limits : PlainLimits) (x n : ℕ) (ex : Exchanges) (shifted : Shifted) (b : Board) (h : History NoMark) → (s : StreamIs limits x h (exchange_at ex x)) → IsMove b x s.plain n shifted
-    → is_high shifted.to ≡ rises_at (plain_setup limits) (buffer.Send (request x)) (Noted (note.Move (request x) 0 n)) h
+pub rose_is : (limits : PlainLimits) (x n : ℕ) (ex : Exchanges) (shifted : Shifted) (b : Board) (h : Past) → (s : StreamIs limits x h (exchange_at ex x)) → IsMove b x s.plain n shifted
+    → is_high shifted.to ≡ send_rises limits x (move_of x n) h
 rose_is limits x n ex shifted b h s m =
     ap (λ (v : Shifted). is_high v.to) m.shift ∙ (high_of s.plain.above (plain_moved n s.plain).above
-    ∙ (ap (λ a. not a && (plain_moved n s.plain).above) s.above ∙ (ap (λ a. not (above (plain_setup limits) (buffer.Send (request x)) h) && a) (moved_flag limits x n h s.plain s.limit s.above s.send s.recv) ∙ sym (rises_is limits x n h))))
+    ∙ (ap (λ a. not a && (plain_moved n s.plain).above) s.above ∙ (ap (λ a. not (send_high limits x h) && a) (moved_flag limits x n h s.plain s.limit s.above s.send s.recv) ∙ sym (rises_is limits x n h))))
 
-pub moves : (limits : PlainLimits) (x n : ℕ) (shifted : Shifted) (rose : Bool) (old new : Flows) (ex : Exchanges) (b : Board) (holding : BTreeSet ℕ) (h : History NoMark) → Settled limits old h → has (live h) x ≡ true
+pub moves : (limits : PlainLimits) (x n : ℕ) (shifted : Shifted) (rose : Bool) (old new : Flows) (ex : Exchanges) (b : Board) (holding : BTreeSet ℕ) (h : Past) → Settled limits old h → Alive h x
     → (s : StreamIs limits x h (exchange_at old.exchanges x)) → IsMove old.gates x s.plain n shifted → ChangesFlow (request x) (stepped old.gates (Some 0)) old.exchanges ex → AreSoundExchanges ex
     → rose ≡ is_high shifted.to → RisesSend rose x old.gates b → IsSoundBoard b → new ≡ record old { exchanges = ex; gates = b; holding = holding; conn = record old.conn { ready = new.conn.ready } }
     → ((y : ℕ) → get nat_cmp new.conn.ready y ≡ (if x == y then piece_at (record old { exchanges = ex; gates = b; holding = holding }) x else get nat_cmp old.conn.ready y))
@@ -232,16 +218,16 @@ pub moves : (limits : PlainLimits) (x n : ℕ) (shifted : Shifted) (rose : Bool)
     → MovesAt x (record { n = n; rose = rose }) limits new h
 moves limits x n shifted rose old new ex b holding h settled is s m c sound e change counted rest made left =
     let st = settled.stands in
-    let h' = onto (move_notes limits x n h) h in
+    let h' = past_move limits x n h in
     let go = may_go old.gates x s.plain n shifted m in
     let lists = move_keeps_lists limits x n h in
     let w = move_keeps_write limits x n h in
     let rises_here = e ∙ rose_is limits x n old.exchanges shifted old.gates h s m in
-    let stepped_is = ap (λ t. if t then plain_moved (min s.plain.quantum (length s.plain.recv)) s.plain else s.plain) m.moves ∙ ap (λ k. plain_moved k s.plain) (sym m.all) in
-    let took : n ≡ min old.limits.quantum (length (place (plain_setup limits) (request x) 0 h)) =
+    let stepped_is = (goes old.gates x s.plain m.free).1 ∙ ap (λ k. plain_flow x (plain_moved k s.plain)) (sym m.all) in
+    let took : n ≡ min old.limits.quantum (length (recv_at limits x h)) =
     m.all ∙ two_mins _ _ _ _ (s.quantum ∙ sym (ap (λ (v : PlainLimits). v.quantum) st.limits_are)) (ap (λ (o : List ℕ). length o) s.recv) in
     let all = changed_exchanges limits x (stepped old.gates (Some 0)) old.exchanges ex h h' st.exchanges c sound (record { lives = lists.lives; begun = lists.begun; doomed = lists.doomed })
-    (λ y d. move_keeps limits x y n h d) (moved_stream limits x n h old.gates (exchange_at old.exchanges x) s stepped_is) in
+    (λ y d. move_keeps limits x n h y d) (moved_stream limits x n h old.gates (exchange_at old.exchanges x) s stepped_is) in
     record {
       live = is;
       some = go.some;
@@ -258,10 +244,10 @@ moves limits x n shifted rose old new ex b holding h settled is s m c sound e ch
             (holding_moved limits x n (nat_lt n old.limits.quantum || is_emptied (record old { exchanges = ex }) x) old.holding holding h st.holding is
             (some_there n old.limits.quantum _ go.some took)
             (ap (λ t. not (nat_lt n old.limits.quantum || t)) (emptied_is limits (record old { exchanges = ex }) x h' (all.there x (ap (λ (xs : List ℕ). has xs x) lists.lives ∙ is)))
-            ∙ left_some n old.limits.quantum _ _ took (ap (λ (o : List ℕ). length o) (move_recv limits x n h) ∙ length-drop n (place (plain_setup limits) (request x) 0 h))) left);
+            ∙ left_some n old.limits.quantum _ _ took (ap (λ (o : List ℕ). length o) (move_recv limits x n h) ∙ length-drop n (recv_at limits x h))) left);
         conn = refreshed_conn limits x (record old { exchanges = ex; gates = b; holding = holding }) new h h' st.limits_are rest made
             (record { limit = st.conn.limit; octets = st.conn.octets ∙ sym w.octets; above = st.conn.above ∙ sym w.high; framed_last = st.conn.framed_last ∙ sym (move_framed_last limits x n h) })
-            (all.there x (ap (λ (xs : List ℕ). has xs x) lists.lives ∙ is)) is lists.lives (λ y d. move_keeps limits x y n h d) st.conn.ready;
+            (all.there x (ap (λ (xs : List ℕ). has xs x) lists.lives ∙ is)) is lists.lives (λ y d. move_keeps limits x n h y d) st.conn.ready;
       };
     }
   where
@@ -269,16 +255,16 @@ moves limits x n shifted rose old new ex b holding h settled is s m c sound e ch
     two_mins a b c d e f = rw (e, f) refl
 
 -- ---- nothing moves
-pub stays : (limits : PlainLimits) (x : ℕ) (old : Flows) (ex : Exchanges) (h : History NoMark) → Settled limits old h → has (live h) x ≡ true
-    → (s : StreamIs limits x h (exchange_at old.exchanges x)) → plain_moves old.gates x s.plain ≡ false → ChangesFlow (request x) (stepped old.gates (Some 0)) old.exchanges ex → AreSoundExchanges ex
+pub stays : (limits : PlainLimits) (x : ℕ) (old : Flows) (ex : Exchanges) (h : Past) → Settled limits old h → Alive h x
+    → (s : StreamIs limits x h (exchange_at old.exchanges x)) → plain_free old.gates x s.plain ≡ false → ChangesFlow (request x) (stepped old.gates (Some 0)) old.exchanges ex → AreSoundExchanges ex
     → StaysAt x limits (record old { exchanges = ex }) h
 stays limits x old ex h settled is s none c sound =
     let st = settled.stands in
     record {
       live = is;
       still = by_case (count (request x) h == 0)
-          (λ t. ap (λ b. b && nat_lt 0 (length (place (plain_setup limits) (request x) 0 h))) t ∙ empty t)
-          (λ f. ap (λ b. b && nat_lt 0 (length (place (plain_setup limits) (request x) 0 h))) f);
+          (λ t. ap (λ b. b && nat_lt 0 (length (recv_at limits x h))) t ∙ empty t)
+          (λ f. ap (λ b. b && nat_lt 0 (length (recv_at limits x h))) f);
       stands = record {
         limits_are = st.limits_are;
         ranges = st.ranges;
@@ -286,8 +272,7 @@ stays limits x old ex h settled is s none c sound =
             (λ y d. record { recv = refl; send = refl; high = refl; ended = refl; framed = refl; pairs = refl; recv_most = refl; send_most = refl })
             (record {
               plain = s.plain;
-              is = changed_plain x (stepped old.gates (Some 0)) (exchange_at old.exchanges x) s.plain s.plain s.is
-                  (left_are old.gates x s.plain ∙ ap (λ t. plain_flow x (if t then plain_moved (min s.plain.quantum (length s.plain.recv)) s.plain else s.plain)) none);
+              is = changed_plain x (stepped old.gates (Some 0)) (exchange_at old.exchanges x) s.plain s.plain s.is (flow_stays old.gates x s.plain none).1;
               window = s.window;
               limit = s.limit;
               quantum = s.quantum;
@@ -309,9 +294,9 @@ stays limits x old ex h settled is s none c sound =
     no_flags false true k c e z = absurd (omega (arith, e, z))
     no_flags false false k c e z = (refl, refl)
 
-    nothing_there : (c r q : ℕ) (ms mw : Bool) → (c == 0) ≡ true → ms ≡ false → mw ≡ false → 0 < q → ((c == 0) && (nat_lt 0 (min q r) && not (ms || mw))) ≡ false → nat_lt 0 r ≡ false
+    nothing_there : (c r q : ℕ) (ms mw : Bool) → (c == 0) ≡ true → ms ≡ false → mw ≡ false → 0 < q → (nat_lt 0 (if c == 0 then min q r else 0) && not (ms || (mw || false))) ≡ false → nat_lt 0 r ≡ false
     nothing_there c r q ms mw e1 e2 e3 p e = few (nat_lt 0 (min q r)) refl
-        (sym (ap (λ b. b && (nat_lt 0 (min q r) && not (ms || mw))) e1 ∙ (ap (λ b. nat_lt 0 (min q r) && not (b || mw)) e2 ∙ ap (λ b. nat_lt 0 (min q r) && not b) e3)) ∙ e)
+        (sym (ap (λ b. nat_lt 0 (if b then min q r else 0) && not (ms || (mw || false))) e1 ∙ (ap (λ b. nat_lt 0 (min q r) && not (b || (mw || false))) e2 ∙ ap (λ b. nat_lt 0 (min q r) && not (b || false)) e3)) ∙ e)
       where
         zero_of : (m : ℕ) → nat_lt 0 m ≡ false → m ≡ 0
         zero_of m e = grind (arith, nat_tests)
@@ -326,12 +311,12 @@ stays limits x old ex h settled is s none c sound =
         few true is e = absurd (cc)
         few false is e = none_of r (least q r p (zero_of (min q r) is))
 
-    empty : (count (request x) h == 0) ≡ true → nat_lt 0 (length (place (plain_setup limits) (request x) 0 h)) ≡ false
+    empty : (count (request x) h == 0) ≡ true → nat_lt 0 (length (recv_at limits x h)) ≡ false
     empty t =
         let z = number_is (count (request x) h) 0 t in
         let g = settled.stands.gates in
         let f = no_flags _ _ _ _ (settled_count limits x h settled.lawful is) z in
-        let q = let P : ℕ → Type 0 = λ v. 0 < v in subst P (sym s.quantum) (quantum_some limits settled.stands.ranges) in
+        let q = subst (λ (v : ℕ). 0 < v) (sym s.quantum) (quantum_some limits settled.stands.ranges) in
         sym (ap (λ (o : List ℕ). nat_lt 0 (length o)) s.recv)
         ∙ nothing_there (count_on old.gates (request x)) (length s.plain.recv) s.plain.quantum _ _ (ap (λ v. v == 0) (g.counts x is) ∙ t) (g.send_mark x ∙ f.0) (g.write_mark ∙ f.1) q none
 
@@ -343,33 +328,30 @@ untold_moved false x old new c = ap (λ (b : Board). pending_on b (buffer.Write 
 move_less_ways : (a b r s t d l n e u : ℕ) → a + (9 * r + (5 * s + e)) ≡ b + (9 * d + (5 * t + e)) → d ≡ r - n → t ≡ s + l → l ≡ min n r → n ≤ r → 0 < n → (a + 4 * u) + 4 ≤ b + 4 * u
 move_less_ways a b r s t d l n e u e1 e2 e3 e4 le p = omega (arith, e1, e2, e3, e4, le, p)
 
-pub move_less : (limits : PlainLimits) (x n : ℕ) (shifted : Shifted) (rose : Bool) (old new : Flows) (ex : Exchanges) (b : Board) (holding : BTreeSet ℕ) (h : History NoMark)
+pub move_less : (limits : PlainLimits) (x n : ℕ) (shifted : Shifted) (rose : Bool) (old new : Flows) (ex : Exchanges) (b : Board) (holding : BTreeSet ℕ) (h : Past)
     → (s : StreamIs limits x h (exchange_at old.exchanges x)) → IsMove old.gates x s.plain n shifted → ChangesFlow (request x) (stepped old.gates (Some 0)) old.exchanges ex
     → AreSoundExchanges old.exchanges → AreSoundExchanges ex → RisesSend rose x old.gates b → new ≡ record old { exchanges = ex; gates = b; holding = holding; conn = record old.conn { ready = new.conn.ready } }
     → left_in new + 4 ≤ left_in old
 unfolding moved_stream
 move_less limits x n shifted rose old new ex b holding h s m c was sound change rest =
-    let P : Flows → Type 0 = λ f. left_in f + 4 ≤ left_in old in
     let o = option_map (flow_changed (stepped old.gates (Some 0)) false) (exchange_at old.exchanges x) in
-    let stepped_is = ap (λ t. if t then plain_moved (min s.plain.quantum (length s.plain.recv)) s.plain else s.plain) m.moves ∙ ap (λ k. plain_moved k s.plain) (sym m.all) in
+    let stepped_is = (goes old.gates x s.plain m.free).1 ∙ ap (λ k. plain_flow x (plain_moved k s.plain)) (sym m.all) in
     let now = (moved_stream limits x n h old.gates (exchange_at old.exchanges x) s stepped_is).is in
     let sums = ap (λ v. ahead (record old { exchanges = ex }) + v) (sym (ap (λ (v : Option Exchange). option_map_or way v 0) s.is))
     ∙ (ahead_changes x o old.exchanges ex was sound c.flow.live ∙ ap (λ v. ahead old + v) (ap (λ (v : Option Exchange). option_map_or way v 0) now)) in
-    subst P (sym rest)
-    (let Q : ℕ → Type 0 = λ v. (ahead (record old { exchanges = ex }) + 4 * v) + 4 ≤ left_in old in
-    subst Q (sym (ap (λ (fs : List FlowId). length fs) (untold_moved rose x old.gates b change)))
+    subst (λ (f : Flows). left_in f + 4 ≤ left_in old) (sym rest)
+    (subst (λ (v : ℕ). (ahead (record old { exchanges = ex }) + 4 * v) + 4 ≤ left_in old) (sym (ap (λ (fs : List FlowId). length fs) (untold_moved rose x old.gates b change)))
     (move_less_ways _ _ (length s.plain.recv) (length s.plain.send) (length (s.plain.send ++ take n s.plain.recv)) (length (drop n s.plain.recv)) (length (take n s.plain.recv)) n _ _ sums
     (length-drop n s.plain.recv) (length-append s.plain.send (take n s.plain.recv)) (length-take n s.plain.recv) (few _ _ _ m.all) (may_go old.gates x s.plain n shifted m).some))
   where
     few : (n q r : ℕ) → n ≡ min q r → n ≤ r
     few n q r e = omega (arith, e)
 
-pub stay_less : (limits : PlainLimits) (x : ℕ) (old : Flows) (ex : Exchanges) (h : History NoMark) → (s : StreamIs limits x h (exchange_at old.exchanges x)) → plain_moves old.gates x s.plain ≡ false
+pub stay_less : (limits : PlainLimits) (x : ℕ) (old : Flows) (ex : Exchanges) (h : Past) → (s : StreamIs limits x h (exchange_at old.exchanges x)) → plain_free old.gates x s.plain ≡ false
     → ChangesFlow (request x) (stepped old.gates (Some 0)) old.exchanges ex → AreSoundExchanges old.exchanges → AreSoundExchanges ex → left_in (record old { exchanges = ex }) ≤ left_in old
 stay_less limits x old ex h s none c was sound =
     let o = option_map (flow_changed (stepped old.gates (Some 0)) false) (exchange_at old.exchanges x) in
-    let now = changed_plain x (stepped old.gates (Some 0)) (exchange_at old.exchanges x) s.plain s.plain s.is
-    (left_are old.gates x s.plain ∙ ap (λ t. plain_flow x (if t then plain_moved (min s.plain.quantum (length s.plain.recv)) s.plain else s.plain)) none) in
+    let now = changed_plain x (stepped old.gates (Some 0)) (exchange_at old.exchanges x) s.plain s.plain s.is (flow_stays old.gates x s.plain none).1 in
     same (ahead (record old { exchanges = ex })) (ahead old) _ _ _ (ahead_changes x o old.exchanges ex was sound c.flow.live)
     (ap (λ (v : Option Exchange). option_map_or way v 0) (now ∙ sym s.is))
   where
@@ -377,26 +359,26 @@ stay_less limits x old ex h s none c was sound =
     same a b v w u e f = omega (arith, e, f)
 
 -- the step was no move
-still_of : (b : Board) (x : ℕ) (p : Plain) (st : MoveStep) → ((from n : ℕ) (shifted : Shifted) (over : Bool) → st ≡ step.Moved from n shifted over → ⊥) → st ≡ plain_step b x p → plain_moves b x p ≡ false
-still_of b x p st none e = by_case (plain_moves b x p)
-    (λ t. absurd (none 0 (min p.quantum (length p.recv)) (plain_crossed (min p.quantum (length p.recv)) p) false
-    (e ∙ ap (λ m. if m then step.Moved 0 (min p.quantum (length p.recv)) (plain_crossed (min p.quantum (length p.recv)) p) false else step.Still) t)))
+still_of : (b : Board) (x : ℕ) (p : Plain) (st : MoveStep) → ((from n : ℕ) (shifted : Shifted) (over : Bool) → st ≡ step.Moved from n shifted over → ⊥) → st ≡ next_step b (Some 0) (plain_flow x p) → plain_free b x p ≡ false
+still_of b x p st none e = by_case (plain_free b x p)
+    (λ t. absurd (none 0 (min p.quantum (length p.recv)) (plain_crossed (min p.quantum (length p.recv)) p) false (e ∙ (goes b x p t).0)))
     (λ f. f)
 
 -- a flow is there for each live stream, and for no other
-pub found_lives : (limits : PlainLimits) (x : ℕ) (ex : Exchanges) (h : History NoMark) → ExchangesAre limits ex h → IsLiveFlow ex (request x) → has (live h) x ≡ true
-found_lives limits x ex h s found = by_case (has (live h) x) (λ t. t) (λ f. absurd (none (flow_at ex (request x)) (ap (λ (o : Option Exchange). option_and_then (flow_in false) o) (s.gone x f)) found))
-  where
-    none : (o : Option Flow) → o ≡ None → IsSome o → ⊥
-    none None e f = cc
-    none (Some v) e f = cc
+module _ (limits : PlainLimits) (x : ℕ) (ex : Exchanges) (h : Past) where
+  pub found_lives : ExchangesAre limits ex h → IsLiveFlow ex (request x) → Alive h x
+  found_lives s found = by_case (has (live h) x) (λ t. t) (λ f. absurd (none (flow_at ex (request x)) (ap (λ (o : Option Exchange). option_and_then (flow_in false) o) (s.gone x f)) found))
+    where
+      none : (o : Option Flow) → o ≡ None → IsSome o → ⊥
+      none None e f = cc
+      none (Some v) e f = cc
 
-unfound_dies : (limits : PlainLimits) (x : ℕ) (ex : Exchanges) (h : History NoMark) → ExchangesAre limits ex h → IsNone (flow_at ex (request x)) → has (live h) x ≡ false
-unfound_dies limits x ex h s none = by_case (has (live h) x) (λ t. absurd (some (flow_at ex (request x)) _ (ap (λ (o : Option Exchange). option_and_then (flow_in false) o) (s.there x t).is) none)) (λ f. f)
-  where
-    some : (o : Option Flow) (f : Flow) → o ≡ Some f → IsNone o → ⊥
-    some None f e n = cc
-    some (Some v) f e n = cc
+  unfound_dies : ExchangesAre limits ex h → IsNone (flow_at ex (request x)) → has (live h) x ≡ false
+  unfound_dies s none = by_case (has (live h) x) (λ t. absurd (some (flow_at ex (request x)) _ (ap (λ (o : Option Exchange). option_and_then (flow_in false) o) (s.there x t).is) none)) (λ f. f)
+    where
+      some : (o : Option Flow) (f : Flow) → o ≡ Some f → IsNone o → ⊥
+      some None f e n = cc
+      some (Some v) f e n = cc
 
 -- what came of a flow tells whether it was there
 pub step_found : {A : Type 0} (o : Option Flow) (g : Flow → A) (a : A) → Some a ≡ option_map g o → IsSome o
@@ -411,59 +393,60 @@ pub idles_all : (x : ℕ) (old : Flows) (ex : Exchanges) → IsNone (flow_at old
 idles_all x old ex none same = record {
   goes = λ limits h s. record {
     dead = unfound_dies limits x old.exchanges h s.stands.exchanges none;
-    stands = let P : Exchanges → Type 0 = λ v. FlowsStand limits (record old { exchanges = v }) h in subst P (sym same) s.stands;
+    stands = subst (λ (v : Exchanges). FlowsStand limits (record old { exchanges = v }) h) (sym same) s.stands;
   };
 }
 
 pub idle_less_all : (old : Flows) (ex : Exchanges) → ex ≡ old.exchanges → left_in (record old { exchanges = ex }) ≤ left_in old
-idle_less_all old ex same = let P : Exchanges → Type 0 = λ v. left_in (record old { exchanges = v }) ≤ left_in old in subst P (sym same) (itself (left_in old))
+idle_less_all old ex same = subst (λ (v : Exchanges). left_in (record old { exchanges = v }) ≤ left_in old) (sym same) (itself (left_in old))
   where
     itself : (n : ℕ) → n ≤ n
     itself n = omega arith
 
-pub stays_all : (x : ℕ) (old : Flows) (ex : Exchanges) (st : MoveStep) → ((from n : ℕ) (shifted : Shifted) (over : Bool) → st ≡ step.Moved from n shifted over → ⊥)
-    → Some st ≡ option_map (next_step old.gates (target_of old.exchanges (request x))) (flow_at old.exchanges (request x))
-    → ChangesFlow (request x) (stepped old.gates (target_of old.exchanges (request x))) old.exchanges ex → AreSoundExchanges ex → Steps x outcome.Still old (record old { exchanges = ex })
-stays_all x old ex st none e c sound = record {
-  goes = λ limits h s.
-      let is = found_lives limits x old.exchanges h s.stands.exchanges (step_found _ _ st e) in
-      let k = s.stands.exchanges.there x is in
-      stays limits x old ex h s is k (still_of old.gates x k.plain st none (step_is limits x old.exchanges old.gates st h k e)) (changed_by limits x old.exchanges ex old.gates h k c) sound;
-}
+module _ (x : ℕ) (old : Flows) (ex : Exchanges) (st : MoveStep) where
+  pub stays_all : ((from n : ℕ) (shifted : Shifted) (over : Bool) → st ≡ step.Moved from n shifted over → ⊥)
+      → Some st ≡ option_map (next_step old.gates (target_of old.exchanges (request x))) (flow_at old.exchanges (request x))
+      → ChangesFlow (request x) (stepped old.gates (target_of old.exchanges (request x))) old.exchanges ex → AreSoundExchanges ex → Steps x outcome.Still old (record old { exchanges = ex })
+  stays_all none e c sound = record {
+    goes = λ limits h s.
+        let is = found_lives limits x old.exchanges h s.stands.exchanges (step_found _ _ st e) in
+        let k = s.stands.exchanges.there x is in
+        stays limits x old ex h s is k (still_of old.gates x k.plain st none (step_is limits x old.exchanges old.gates st h k e)) (changed_by limits x old.exchanges ex old.gates h k c) sound;
+  }
 
-pub stay_less_all : (x : ℕ) (old : Flows) (ex : Exchanges) (st : MoveStep) → IsSettled old → ((from n : ℕ) (shifted : Shifted) (over : Bool) → st ≡ step.Moved from n shifted over → ⊥)
-    → Some st ≡ option_map (next_step old.gates (target_of old.exchanges (request x))) (flow_at old.exchanges (request x))
-    → ChangesFlow (request x) (stepped old.gates (target_of old.exchanges (request x))) old.exchanges ex → AreSoundExchanges ex → left_in (record old { exchanges = ex }) ≤ left_in old
-stay_less_all x old ex st s none e c sound =
-    let k = s.settled.stands.exchanges.there x (found_lives s.limits x old.exchanges s.history s.settled.stands.exchanges (step_found _ _ st e)) in
-    stay_less s.limits x old ex s.history k (still_of old.gates x k.plain st none (step_is s.limits x old.exchanges old.gates st s.history k e)) (changed_by s.limits x old.exchanges ex old.gates s.history k c)
-    s.settled.stands.exchanges.sound sound
+  pub stay_less_all : IsSettled old → ((from n : ℕ) (shifted : Shifted) (over : Bool) → st ≡ step.Moved from n shifted over → ⊥)
+      → Some st ≡ option_map (next_step old.gates (target_of old.exchanges (request x))) (flow_at old.exchanges (request x))
+      → ChangesFlow (request x) (stepped old.gates (target_of old.exchanges (request x))) old.exchanges ex → AreSoundExchanges ex → left_in (record old { exchanges = ex }) ≤ left_in old
+  stay_less_all s none e c sound =
+      let k = s.settled.stands.exchanges.there x (found_lives s.limits x old.exchanges s.history s.settled.stands.exchanges (step_found _ _ st e)) in
+      stay_less s.limits x old ex s.history k (still_of old.gates x k.plain st none (step_is s.limits x old.exchanges old.gates st s.history k e)) (changed_by s.limits x old.exchanges ex old.gates s.history k c)
+      s.settled.stands.exchanges.sound sound
 
-pub moves_all : (x from n : ℕ) (shifted : Shifted) (over rose : Bool) (old new : Flows) (ex : Exchanges) (b : Board) (holding : BTreeSet ℕ)
-    → Some (step.Moved from n shifted over) ≡ option_map (next_step old.gates (target_of old.exchanges (request x))) (flow_at old.exchanges (request x))
-    → ChangesFlow (request x) (stepped old.gates (target_of old.exchanges (request x))) old.exchanges ex → AreSoundExchanges ex
-    → rose ≡ is_high shifted.to → RisesSend rose x old.gates b → (IsSoundBoard old.gates → IsSoundBoard b)
-    → new ≡ record old { exchanges = ex; gates = b; holding = holding; conn = record old.conn { ready = new.conn.ready } }
-    → ((y : ℕ) → get nat_cmp new.conn.ready y ≡ (if x == y then piece_at (record old { exchanges = ex; gates = b; holding = holding }) x else get nat_cmp old.conn.ready y))
-    → ((y : ℕ) → contains nat_cmp holding y ≡ (not ((x == y) && (nat_lt n old.limits.quantum || is_emptied (record old { exchanges = ex }) x)) && contains nat_cmp old.holding y))
-    → Steps x (outcome.Moved (record { n = n; rose = rose })) old new
-moves_all x from n shifted over rose old new ex b holding e c sound is rise counted rest made left = record {
-  goes = λ limits h s.
-      let lives = found_lives limits x old.exchanges h s.stands.exchanges (step_found _ _ (step.Moved from n shifted over) e) in
-      let k = s.stands.exchanges.there x lives in
-      moves limits x n shifted rose old new ex b holding h s lives k (is_move old.gates x k.plain from n shifted over (step_is limits x old.exchanges old.gates (step.Moved from n shifted over) h k e))
-      (changed_by limits x old.exchanges ex old.gates h k c) sound is rise (counted s.stands.gates.sound) rest made left;
-}
+module _ (x from n : ℕ) (shifted : Shifted) (over rose : Bool) (old new : Flows) (ex : Exchanges) (b : Board) (holding : BTreeSet ℕ) where
+  pub moves_all : Some (step.Moved from n shifted over) ≡ option_map (next_step old.gates (target_of old.exchanges (request x))) (flow_at old.exchanges (request x))
+      → ChangesFlow (request x) (stepped old.gates (target_of old.exchanges (request x))) old.exchanges ex → AreSoundExchanges ex
+      → rose ≡ is_high shifted.to → RisesSend rose x old.gates b → (IsSoundBoard old.gates → IsSoundBoard b)
+      → new ≡ record old { exchanges = ex; gates = b; holding = holding; conn = record old.conn { ready = new.conn.ready } }
+      → ((y : ℕ) → get nat_cmp new.conn.ready y ≡ (if x == y then piece_at (record old { exchanges = ex; gates = b; holding = holding }) x else get nat_cmp old.conn.ready y))
+      → ((y : ℕ) → contains nat_cmp holding y ≡ (not ((x == y) && (nat_lt n old.limits.quantum || is_emptied (record old { exchanges = ex }) x)) && contains nat_cmp old.holding y))
+      → Steps x (outcome.Moved (record { n = n; rose = rose })) old new
+  moves_all e c sound is rise counted rest made left = record {
+    goes = λ limits h s.
+        let lives = found_lives limits x old.exchanges h s.stands.exchanges (step_found _ _ (step.Moved from n shifted over) e) in
+        let k = s.stands.exchanges.there x lives in
+        moves limits x n shifted rose old new ex b holding h s lives k (is_move old.gates x k.plain from n shifted over (step_is limits x old.exchanges old.gates (step.Moved from n shifted over) h k e))
+        (changed_by limits x old.exchanges ex old.gates h k c) sound is rise (counted s.stands.gates.sound) rest made left;
+  }
 
-pub moves_less_all : (x from n : ℕ) (shifted : Shifted) (over rose : Bool) (old new : Flows) (ex : Exchanges) (b : Board) (holding : BTreeSet ℕ) → IsSettled old
-    → Some (step.Moved from n shifted over) ≡ option_map (next_step old.gates (target_of old.exchanges (request x))) (flow_at old.exchanges (request x))
-    → ChangesFlow (request x) (stepped old.gates (target_of old.exchanges (request x))) old.exchanges ex → AreSoundExchanges ex → RisesSend rose x old.gates b
-    → new ≡ record old { exchanges = ex; gates = b; holding = holding; conn = record old.conn { ready = new.conn.ready } } → left_in new + 4 ≤ left_in old
-moves_less_all x from n shifted over rose old new ex b holding s e c sound rise rest =
-    let h = s.history in
-    let k = s.settled.stands.exchanges.there x (found_lives s.limits x old.exchanges h s.settled.stands.exchanges (step_found _ _ (step.Moved from n shifted over) e)) in
-    move_less s.limits x n shifted rose old new ex b holding h k (is_move old.gates x k.plain from n shifted over (step_is s.limits x old.exchanges old.gates (step.Moved from n shifted over) h k e))
-    (changed_by s.limits x old.exchanges ex old.gates h k c) s.settled.stands.exchanges.sound sound rise rest
+  pub moves_less_all : IsSettled old
+      → Some (step.Moved from n shifted over) ≡ option_map (next_step old.gates (target_of old.exchanges (request x))) (flow_at old.exchanges (request x))
+      → ChangesFlow (request x) (stepped old.gates (target_of old.exchanges (request x))) old.exchanges ex → AreSoundExchanges ex → RisesSend rose x old.gates b
+      → new ≡ record old { exchanges = ex; gates = b; holding = holding; conn = record old.conn { ready = new.conn.ready } } → left_in new + 4 ≤ left_in old
+  moves_less_all s e c sound rise rest =
+      let h = s.history in
+      let k = s.settled.stands.exchanges.there x (found_lives s.limits x old.exchanges h s.settled.stands.exchanges (step_found _ _ (step.Moved from n shifted over) e)) in
+      move_less s.limits x n shifted rose old new ex b holding h k (is_move old.gates x k.plain from n shifted over (step_is s.limits x old.exchanges old.gates (step.Moved from n shifted over) h k e))
+      (changed_by s.limits x old.exchanges ex old.gates h k c) s.settled.stands.exchanges.sound sound rise rest
 
 -- where octets moved, the send buffer may be marked
 pub high_allowed : (x from n : ℕ) (shifted : Shifted) (over : Bool) (old : Flows) → IsSettled old

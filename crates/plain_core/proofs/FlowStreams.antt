@@ -9,15 +9,15 @@ use Rattle.plain_laws.proofs.Streams.{own_or_other, same_number}
 use Rattle.plain_laws.specs.Keeping.{KeepsStream}
 use Rattle.std.proofs.Common.{ap, inl, inr, refl, subst, sym, ◌∙◌}
 use Rattle.std.specs.Prelude.{List, None, Option, Some, false, if◌then◌else◌, option_map, true, ℕ, ◌<◌, ◌==◌, ◌^◌, ◌≡◌, ◌≤◌, ◌⊎◌}
+use Rattle.plain_laws.specs.Words.{Past, Alive}
 use Rattle.tape_laws.specs.Dispatches.{has, live, started}
 use Rattle.tape_laws.specs.Doomed.{condemned}
 use Rattle.tape_laws.specs.Flows.{request}
-use Rattle.tape_laws.specs.History.{History, NoMark}
 use Rattle.tape_laws.specs.declared.limits.PlainLimits.{PlainLimits}
 use Rattle.plain_core.specs.Flows.{ExchangesAre, StreamIs}
 
 -- the lists of streams stay as they were
-pub record KeepsStreams (old new : History NoMark) : Type 0 where
+pub record KeepsStreams (old new : Past) : Type 0 where
   pub lives : live new ≡ live old
   pub begun : started new ≡ started old
   pub doomed : condemned new ≡ condemned old
@@ -26,7 +26,7 @@ pub last_kept : (a b : ℕ) (xs ys : List ℕ) → b ≡ a → ys ≡ xs → (a 
 last_kept a b xs ys e f (inl z) = inl (e ∙ z)
 last_kept a b xs ys e f (inr t) = inr (ap (λ v. has ys v) e ∙ (ap (λ (v : List ℕ). has v a) f ∙ t))
 
-pub stream_kept : (limits : PlainLimits) (x : ℕ) (h h' : History NoMark) (found : Option Exchange) → KeepsStream limits x h h' → StreamIs limits x h found → StreamIs limits x h' found
+pub stream_kept : (limits : PlainLimits) (x : ℕ) (h h' : Past) (found : Option Exchange) → KeepsStream limits x h h' → StreamIs limits x h found → StreamIs limits x h' found
 stream_kept limits x h h' found k s = record {
   plain = s.plain;
   is = s.is;
@@ -46,17 +46,17 @@ pub changed_plain : (x : ℕ) (change : Flow → Flow) (found : Option Exchange)
 changed_plain x change found p q is e = ap (option_map (flow_changed change false)) is ∙ ap (λ (f : Flow). Some (record (plain_exchange x p) { request = f })) e
 
 -- one stream changed, the others stand as they did
-pub changed_exchanges : (limits : PlainLimits) (x : ℕ) (change : Flow → Flow) (old new : Exchanges) (h h' : History NoMark) → ExchangesAre limits old h
+pub changed_exchanges : (limits : PlainLimits) (x : ℕ) (change : Flow → Flow) (old new : Exchanges) (h h' : Past) → ExchangesAre limits old h
     → ChangesFlow (request x) change old new → AreSoundExchanges new → KeepsStreams h h' → ((y : ℕ) → (x == y) ≡ false → KeepsStream limits y h h')
     → StreamIs limits x h' (option_map (flow_changed change false) (exchange_at old x)) → ExchangesAre limits new h'
 changed_exchanges limits x change old new h h' e c sound lists others own = record {
   sound = sound;
   time = c.flow.time ∙ e.time;
-  small = let P : ℕ → Type 0 = λ n. n < 2 ^ 32 in subst P (sym c.flow.last) e.small;
-  most = record { most = λ y is. let P : ℕ → Type 0 = λ n. y ≤ n in subst P (sym c.flow.last) (e.most.most y (sym (begun y) ∙ is)) };
+  small = subst (λ (n : ℕ). n < 2 ^ 32) (sym c.flow.last) e.small;
+  most = record { most = λ y is. subst (λ (n : ℕ). y ≤ n) (sym c.flow.last) (e.most.most y (sym (begun y) ∙ is)) };
   last = last_kept old.last new.last (started h) (started h') c.flow.last lists.begun e.last;
   doomed = c.doomed ∙ (e.doomed ∙ sym lists.doomed);
-  there = λ y. own_or_other (λ v. has (live h') v ≡ true → StreamIs limits v h' (exchange_at new v)) x y
+  there = λ y. own_or_other (λ v. Alive h' v → StreamIs limits v h' (exchange_at new v)) x y
       (λ is. subst (StreamIs limits x h') (sym own_is) own)
       (λ d is. subst (StreamIs limits y h') (sym (other_is y d)) (stream_kept limits y h h' (exchange_at old y) (others y d) (e.there y (sym (lives y) ∙ is))));
   gone = λ y. own_or_other (λ v. has (live h') v ≡ false → exchange_at new v ≡ None) x y
@@ -77,7 +77,7 @@ changed_exchanges limits x change old new h h' e c sound lists others own = reco
     other_is y d = c.flow.live y ∙ ap (λ b. if b then option_map (flow_changed change false) (exchange_at old x) else exchange_at old y) d
 
 -- no stream changed
-pub same_exchanges : (limits : PlainLimits) (exchanges : Exchanges) (h h' : History NoMark) → ExchangesAre limits exchanges h → KeepsStreams h h'
+pub same_exchanges : (limits : PlainLimits) (exchanges : Exchanges) (h h' : Past) → ExchangesAre limits exchanges h → KeepsStreams h h'
     → ((y : ℕ) → KeepsStream limits y h h') → ExchangesAre limits exchanges h'
 same_exchanges limits exchanges h h' e lists all = record {
   sound = e.sound;
@@ -91,14 +91,14 @@ same_exchanges limits exchanges h h' e lists all = record {
 }
 
 -- no stream changed, and of the doomed some are gone
-pub swept_exchanges : (limits : PlainLimits) (old new : Exchanges) (h h' : History NoMark) → ExchangesAre limits old h → AreSoundExchanges new
+pub swept_exchanges : (limits : PlainLimits) (old new : Exchanges) (h h' : Past) → ExchangesAre limits old h → AreSoundExchanges new
     → ((x : ℕ) → exchange_at new x ≡ exchange_at old x) → new.last ≡ old.last → new.time ≡ old.time → new.doomed ≡ condemned h' → live h' ≡ live h → started h' ≡ started h
     → ((y : ℕ) → KeepsStream limits y h h') → ExchangesAre limits new h'
 swept_exchanges limits old new h h' e sound same last time doomed lives begun all = record {
   sound = sound;
   time = time ∙ e.time;
-  small = let P : ℕ → Type 0 = λ n. n < 2 ^ 32 in subst P (sym last) e.small;
-  most = record { most = λ y is. let P : ℕ → Type 0 = λ n. y ≤ n in subst P (sym last) (e.most.most y (sym (ap (λ (xs : List ℕ). has xs y) begun) ∙ is)) };
+  small = subst (λ (n : ℕ). n < 2 ^ 32) (sym last) e.small;
+  most = record { most = λ y is. subst (λ (n : ℕ). y ≤ n) (sym last) (e.most.most y (sym (ap (λ (xs : List ℕ). has xs y) begun) ∙ is)) };
   last = last_kept old.last new.last (started h) (started h') last begun e.last;
   doomed = doomed;
   there = λ y is. subst (StreamIs limits y h') (sym (same y)) (stream_kept limits y h h' (exchange_at old y) (all y) (e.there y (sym (ap (λ (xs : List ℕ). has xs y) lives) ∙ is)));

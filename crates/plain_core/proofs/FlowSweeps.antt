@@ -6,8 +6,9 @@ use Rattle.plain_laws.proofs.Keepings.{gone_keeps, gone_keeps_write}
 use Rattle.plain_laws.specs.Keeping.{KeepsStream}
 use Rattle.std.proofs.Common.{ap, arith, refl, subst, sym, ◌∙◌}
 use Rattle.std.specs.Prelude.{IsNone, List, None, Option, Some, [], drop, length, ℕ, ◌<◌, ◌∷◌, ◌≡◌, ◌↔◌}
+use Rattle.plain_laws.specs.Words.{Past}
 use Rattle.tape_laws.specs.Doomed.{condemned}
-use Rattle.tape_laws.specs.History.{History, NoMark, Noted}
+use Rattle.tape_laws.specs.History.{Noted}
 use Rattle.tape_laws.specs.declared.limits.PlainLimits.{PlainLimits}
 use Rattle.plain_core.specs.Carries.{NoneDoomed, Sweeps, SweepsAt}
 use Rattle.plain_core.specs.Flows.{GatesAre, Settled}
@@ -19,12 +20,12 @@ use Rattle.plain_core.proofs.FlowParts.{conn_kept}
 use Rattle.plain_core.proofs.FlowHolds.{holding_kept}
 use Rattle.plain_core.proofs.FlowUnits.{keeps_piece}
 
-sweep_gates : (limits : PlainLimits) (board : Board) (x : ℕ) (h : History NoMark) → GatesAre limits board h → GatesAre limits board (Noted (note.Gone x) ∷ h)
+sweep_gates : (limits : PlainLimits) (board : Board) (x : ℕ) (h : Past) → GatesAre limits board h → GatesAre limits board (Noted (note.Gone x) ∷ h)
 sweep_gates limits board x h g =
     let w = gone_keeps_write limits x h in
     gates_kept limits board h (Noted (note.Gone x) ∷ h) g (record { lives = refl; counts = λ y e. refl; write = w.high; lows = w.lows; sends = λ y. (gone_keeps limits x y h).high })
 
-pub sweeps_one : (limits : PlainLimits) (x : ℕ) (old : Flows) (ex : Exchanges) (h : History NoMark) → Settled limits old h → SweepsExchanges (Some x) old.exchanges ex → AreSoundExchanges ex
+pub sweeps_one : (limits : PlainLimits) (x : ℕ) (old : Flows) (ex : Exchanges) (h : Past) → Settled limits old h → SweepsExchanges (Some x) old.exchanges ex → AreSoundExchanges ex
     → SweepsAt x limits (record old { exchanges = ex }) h
 sweeps_one limits x old ex h settled c sound =
     let st = settled.stands in
@@ -42,10 +43,10 @@ sweeps_one limits x old ex h settled c sound =
       };
     }
 
-itself : (limits : PlainLimits) (x : ℕ) (h : History NoMark) → KeepsStream limits x h h
+itself : (limits : PlainLimits) (x : ℕ) (h : Past) → KeepsStream limits x h h
 itself limits x h = record { recv = refl; send = refl; high = refl; ended = refl; framed = refl; pairs = refl; recv_most = refl; send_most = refl }
 
-pub sweeps_none : (limits : PlainLimits) (old : Flows) (ex : Exchanges) (h : History NoMark) → Settled limits old h → SweepsExchanges None old.exchanges ex → AreSoundExchanges ex → old.exchanges.doomed ≡ []
+pub sweeps_none : (limits : PlainLimits) (old : Flows) (ex : Exchanges) (h : Past) → Settled limits old h → SweepsExchanges None old.exchanges ex → AreSoundExchanges ex → old.exchanges.doomed ≡ []
     → NoneDoomed limits (record old { exchanges = ex }) h
 sweeps_none limits old ex h settled c sound none =
     let st = settled.stands in
@@ -62,7 +63,7 @@ sweeps_none limits old ex h settled c sound none =
     }
 
 pub one_fewer : (x : ℕ) (old new : List ℕ) → old ≡ x ∷ new → length new < length old
-one_fewer x old new e = let P : List ℕ → Type 0 = λ xs. length new < length xs in subst P (sym e) (omega arith)
+one_fewer x old new e = subst (λ (xs : List ℕ). length new < length xs) (sym e) (omega arith)
 
 pub sweeps : (swept : Option ℕ) (old : Flows) (ex : Exchanges) → (IsNone swept ↔ (old.exchanges.doomed ≡ [])) → SweepsExchanges swept old.exchanges ex → AreSoundExchanges ex
     → Sweeps swept old (record old { exchanges = ex })

@@ -1,4 +1,5 @@
 -- What the flows are after watchers of the write buffer were told, and which of them go on.
+use Rattle.plain_laws.specs.Words.{Past}
 use Rattle.tape_laws.specs.Doomed.{is_swept}
 use Rattle.flow_gate.specs.Board.{Board, IsSound as IsSoundBoard, pending_on}
 use Rattle.flow_gate.specs.Changes.{Tells as TellsFlows}
@@ -7,7 +8,6 @@ use Rattle.std.proofs.Common.{ap, arith, inl, inr, subst, sym, ◌∙◌}
 use Rattle.std.specs.Prelude.{List, None, Option, false, if◌then◌else◌, take, true, ℕ, ◌+◌, ◌≡◌}
 use Rattle.tape_laws.specs.Dispatches.{has, live}
 use Rattle.tape_laws.specs.Flows.{request}
-use Rattle.tape_laws.specs.History.{History, NoMark}
 use Rattle.tape_laws.specs.declared.limits.PlainLimits.{PlainLimits}
 use Rattle.plain_core.proofs.FlowHolds.{holding_kept}
 use Rattle.plain_core.proofs.FlowGates.{gates_from}
@@ -21,7 +21,7 @@ use Rattle.flow_gate.specs.declared.ids.BufferId.TheVariants as buffer
 use Rattle.plain_core.proofs.FlowUnits.{keeps_piece}
 use Rattle.exchange_core.specs.declared.step.Piece.{Piece}
 
-told_gates : (limits : PlainLimits) (fs : List FlowId) (old new : Board) (h : History NoMark) → GatesAre limits old h → TellsFlows (buffer.Write 0) fs old new → IsSoundBoard new
+told_gates : (limits : PlainLimits) (fs : List FlowId) (old new : Board) (h : Past) → GatesAre limits old h → TellsFlows (buffer.Write 0) fs old new → IsSoundBoard new
     → AreTold limits fs (pending_on new (buffer.Write 0)) h (with_all_told fs h) → GatesAre limits new (with_all_told fs h)
 told_gates limits fs old new h g t sound is =
     gates_from limits old new h (with_all_told fs h) g sound (record { flows = t.flows; buffers = t.buffers; watchers = t.watchers }) is.lists.lives (record {
@@ -35,7 +35,7 @@ told_gates limits fs old new h g t sound is =
     fewer_by : (cn k co ch ch' : ℕ) → cn + k ≡ co → co ≡ ch → ch' + k ≡ ch → cn ≡ ch'
     fewer_by cn k co ch ch' e1 e2 e3 = omega (arith, e1, e2, e3)
 
-told_conn : (limits : PlainLimits) (fs rest : List FlowId) (conn : Connection) (h : History NoMark) → ConnectionIs limits conn h → AreTold limits fs rest h (with_all_told fs h)
+told_conn : (limits : PlainLimits) (fs rest : List FlowId) (conn : Connection) (h : Past) → ConnectionIs limits conn h → AreTold limits fs rest h (with_all_told fs h)
     → ConnectionIs limits conn (with_all_told fs h)
 told_conn limits fs rest conn h c is = record {
   limit = c.limit;
@@ -46,7 +46,7 @@ told_conn limits fs rest conn h c is = record {
       ∙ ap (λ (xs : List ℕ). if has xs y then next_piece limits y (with_all_told fs h) else None) (sym is.lists.lives));
 }
 
-told_stand : (limits : PlainLimits) (fs : List FlowId) (old : Flows) (b : Board) (h : History NoMark) → Settled limits old h → is_swept h ≡ false → TellsFlows (buffer.Write 0) fs old.gates b → IsSoundBoard b
+told_stand : (limits : PlainLimits) (fs : List FlowId) (old : Flows) (b : Board) (h : Past) → Settled limits old h → is_swept h ≡ false → TellsFlows (buffer.Write 0) fs old.gates b → IsSoundBoard b
     → FlowsStand limits (record old { gates = b }) (with_all_told fs h)
 told_stand limits fs old b h settled fresh t sound =
     let st = settled.stands in
@@ -64,8 +64,7 @@ told_stand limits fs old b h settled fresh t sound =
 pub tells : (n : ℕ) (old : Flows) (b : Board) → TellsFlows (buffer.Write 0) (take n (pending_on old.gates (buffer.Write 0))) old.gates b → IsSoundBoard b → Tells n old (record old { gates = b })
 tells n old b t sound = record {
   goes = λ limits h s fresh.
-      let P : List FlowId → Type 0 = λ fs. FlowsStand limits (record old { gates = b }) (with_all_told (take n fs) h) in
-      subst P s.stands.gates.write_pending (told_stand limits (take n (pending_on old.gates (buffer.Write 0))) old b h s fresh t sound);
+      subst (λ (fs : List FlowId). FlowsStand limits (record old { gates = b }) (with_all_told (take n fs) h)) s.stands.gates.write_pending (told_stand limits (take n (pending_on old.gates (buffer.Write 0))) old b h s fresh t sound);
 }
 
 -- ---- which go on

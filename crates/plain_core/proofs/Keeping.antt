@@ -3,7 +3,6 @@ use Rattle.flow_gate.specs.declared.ids.BufferId.{BufferId}
 use Rattle.flow_gate.specs.declared.ids.FlowId.{FlowId}
 use Rattle.flow_notes.specs.Buffer.{CanPause}
 use Rattle.flow_notes.specs.declared.notes.Note.{Note}
-use Rattle.io_ports.specs.declared.octets.NoMemory.{NoMemory}
 use Rattle.plain_laws.specs.Settled.{Settled as IsSettledHistory}
 use Rattle.proxy_config.specs.Ranges.{IsRoute}
 use Rattle.proxy_config.specs.declared.config.Config.{Config}
@@ -11,9 +10,9 @@ use Rattle.std.proofs.Common.{ap, refl, subst, sym, ◌∙◌}
 use Rattle.std.specs.BTreeMap.{get}
 use Rattle.std.specs.List.{AllByRecursion}
 use Rattle.std.specs.Ordering.{nat_cmp}
-use Rattle.std.specs.Prelude.{All, Bool, Err, List, Ok, OnOk, Result, [], false, true, ℕ, ◌∷◌, ◌≡◌}
+use Rattle.std.specs.Prelude.{All, Bool, Err, List, Ok, OnOk, [], false, true, ℕ, ◌∷◌, ◌≡◌}
+use Rattle.plain_laws.specs.Words.{Past}
 use Rattle.tape_laws.specs.Dispatches.{has, is_some_of, turns}
-use Rattle.tape_laws.specs.History.{History, NoMark}
 use Rattle.tape_laws.specs.Plain.{paired_with}
 use Rattle.tape_laws.specs.declared.limits.PlainLimits.{PlainLimits}
 use Rattle.plain_core.proofs.Fronts.{NoTurn, appends_more}
@@ -24,6 +23,7 @@ use Rattle.plain_core.specs.Runs.{AreSpelled, Cuts, Keeps}
 use Rattle.plain_core.specs.Stands.{BooksAre, Good}
 use Rattle.plain_core.specs.declared.flows.Flows.{Flows}
 use Rattle.plain_core.specs.declared.plain.PlainCore.{PlainCore}
+use Rattle.plain_core.specs.Words.{HasFlows, Written}
 
 -- flows and agenda alone differ
 pub record OnlyMoves (old new : PlainCore) : Type 0 where
@@ -32,55 +32,57 @@ pub record OnlyMoves (old new : PlainCore) : Type 0 where
   pub pairs : new.pairs ≡ old.pairs
   pub well : new.failed ≡ old.failed
 
-pub books_kept : (old new : PlainCore) (h k : History NoMark) → OnlyMoves old new → turns k ≡ turns h → ((x : ℕ) → paired_with x k ≡ paired_with x h) → BooksAre old h → BooksAre new k
+pub books_kept : (old new : PlainCore) (h k : Past) → OnlyMoves old new → turns k ≡ turns h → ((x : ℕ) → paired_with x k ≡ paired_with x h) → BooksAre old h → BooksAre new k
 books_kept old new h k o t p b = record {
   turn = o.turn ∙ b.turn ∙ sym t;
   pairs = λ s x. ap (λ (v : List ℕ). has v s) (p x) ∙ b.pairs s x ∙ ap (λ (v : Pairs). is_some_of (get nat_cmp v s) x) (sym o.pairs);
-  routes = let P : Config → Type 0 = λ c. All IsRoute c.routes in subst P (sym o.config) b.routes;
+  routes = subst (λ (c : Config). All IsRoute c.routes) (sym o.config) b.routes;
 }
 
 -- a core with other flows and another agenda
-pub only_moves : (old new : PlainCore) (flows : Flows) → new ≡ record old { flows = flows; agenda = new.agenda } → OnlyMoves old new
-only_moves old new flows e = record {
-  config = ap (λ (c : PlainCore). c.config) e;
-  turn = ap (λ (c : PlainCore). c.turn) e;
-  pairs = ap (λ (c : PlainCore). c.pairs) e;
-  well = ap (λ (c : PlainCore). c.failed) e;
-}
+module _ (old new : PlainCore) (flows : Flows) where
+  pub only_moves : HasFlows flows old new → OnlyMoves old new
+  only_moves e = record {
+    config = ap (λ (c : PlainCore). c.config) e;
+    turn = ap (λ (c : PlainCore). c.turn) e;
+    pairs = ap (λ (c : PlainCore). c.pairs) e;
+    well = ap (λ (c : PlainCore). c.failed) e;
+  }
 
-pub flows_are : (old new : PlainCore) (flows : Flows) → new ≡ record old { flows = flows; agenda = new.agenda } → new.flows ≡ flows
-flows_are old new flows e = ap (λ (c : PlainCore). c.flows) e
+  pub flows_are : HasFlows flows old new → new.flows ≡ flows
+  flows_are e = ap (λ (c : PlainCore). c.flows) e
 
 -- the core with other flows
 abbrev pub with_flows : PlainCore → Flows → PlainCore
 with_flows core flows = record core { flows = flows }
 
-pub on_ok : {A : Type 0} (r : Result (Unit {0}) NoMemory) → A → OnOk r A
+pub on_ok : {A : Type 0} (r : Written) → A → OnOk r A
 on_ok (Ok u) a = a
 on_ok (Err e) a = tt
 
 -- a core stands after a step that is no turn
-pub good_of : (limits : PlainLimits) (old new : PlainCore) (h k : History NoMark) → OnlyMoves old new → turns k ≡ turns h → ((x : ℕ) → paired_with x k ≡ paired_with x h)
+pub good_of : (limits : PlainLimits) (old new : PlainCore) (h k : Past) → OnlyMoves old new → turns k ≡ turns h → ((x : ℕ) → paired_with x k ≡ paired_with x h)
     → FlowsStand limits new.flows k → IsSettledHistory limits k → Underway limits old.pairs new.agenda k → Good limits old h → Good limits new k
 good_of limits old new h k o t p f s u g = record {
   flows = record { stands = f; lawful = s };
   books = books_kept old new h k o t p g.books;
-  underway = let P : Pairs → Type 0 = λ v. Underway limits v new.agenda k in subst P (sym o.pairs) u;
+  underway = subst (λ (v : Pairs). Underway limits v new.agenda k) (sym o.pairs) u;
 }
 
 -- ---- one step after the other
-pub keeps_more : (a b c : PlainCore) (k l m : List Note) → Keeps a k b l → Keeps b l c m → Keeps a k c m
-keeps_more a b c k l m p q = record {
-  appends = appends_more k l m p.appends q.appends;
-  spelled = λ s. q.spelled (p.spelled s);
-  events = λ h. q.events h ∙ p.events h;
-  goes = λ limits h g. q.goes limits h (p.goes limits h g);
-  well = q.well ∙ p.well;
-}
+module _ (a b c : PlainCore) (k l m : List Note) where
+  pub keeps_more : Keeps a k b l → Keeps b l c m → Keeps a k c m
+  keeps_more p q = record {
+    appends = appends_more k l m p.appends q.appends;
+    spelled = λ s. q.spelled (p.spelled s);
+    events = λ h. q.events h ∙ p.events h;
+    goes = λ limits h g. q.goes limits h (p.goes limits h g);
+    well = q.well ∙ p.well;
+  }
 
-pub keeps_then : (a b c : PlainCore) (k l m : List Note) (r : Result (Unit {0}) NoMemory) → Keeps a k b l → OnOk r (Keeps b l c m) → OnOk r (Keeps a k c m)
-keeps_then a b c k l m (Ok u) p q = keeps_more a b c k l m p q
-keeps_then a b c k l m (Err e) p q = tt
+  pub keeps_then : (r : Written) → Keeps a k b l → OnOk r (Keeps b l c m) → OnOk r (Keeps a k c m)
+  keeps_then (Ok u) p q = keeps_more p q
+  keeps_then (Err e) p q = tt
 
 pub cuts_more : (a b : PlainCore) (k l m : List Note) → Keeps a k b l → Cuts b l m → Cuts a k m
 cuts_more a b k l m p q = record {

@@ -4,13 +4,10 @@ use Rattle.plain_laws.specs.Regular.{Rests as IsAtRest}
 use Rattle.std.proofs.Common.{ap, refl, ◌∙◌}
 use Rattle.std.specs.List.{list_any}
 use Rattle.std.specs.Prelude.{Bool, [], false, length, nat_lt, true, ℕ, ◌&&◌, ◌==◌, ◌≡◌}
-use Rattle.tape_laws.specs.Dispatches.{has, live}
+use Rattle.plain_laws.specs.Words.{Past, Alive, recv_at}
 use Rattle.tape_laws.specs.Flows.{request}
-use Rattle.tape_laws.specs.History.{History, NoMark}
 use Rattle.tape_laws.specs.Pauses.{count}
-use Rattle.tape_laws.specs.Plain.{plain_setup}
 use Rattle.tape_laws.specs.PlainSession.{plain_must_end}
-use Rattle.tape_laws.specs.World.{place}
 use Rattle.tape_laws.specs.declared.limits.PlainLimits.{PlainLimits}
 use Rattle.plain_core.specs.Agenda.{Agenda}
 use Rattle.plain_core.specs.Carries.{may_move}
@@ -18,7 +15,7 @@ use Rattle.plain_core.specs.Stands.{Rests}
 use Rattle.plain_core.specs.declared.agenda.Task.{Task}
 use Rattle.plain_core.specs.declared.plain.PlainCore.{PlainCore}
 
-pub at_rest : (limits : PlainLimits) (core : PlainCore) (h : History NoMark) → Rests limits core h → IsAtRest limits h
+pub at_rest : (limits : PlainLimits) (core : PlainCore) (h : Past) → Rests limits core h → IsAtRest limits h
 at_rest limits core h r = record { regular = r.good.flows.lawful.regular; quiet = r.whole.quiet }
 
 -- of an agenda that is empty
@@ -26,22 +23,23 @@ pub no_task : (p : Task → Bool) (agenda : Agenda) → agenda ≡ [] → list_a
 no_task p agenda e = ap (list_any p) e
 
 -- no octets may move
-pub rest_still : (limits : PlainLimits) (core : PlainCore) (x : ℕ) (h : History NoMark) → Rests limits core h → has (live h) x ≡ true → may_move limits x h ≡ false
-rest_still limits core x h r is = by_case (may_move limits x h) (λ t. not_both _ (r.good.underway.runs x is t) (no_task _ core.agenda r.idle)) (λ f. f)
+module _ (limits : PlainLimits) (core : PlainCore) (x : ℕ) (h : Past) where
+  pub rest_still : Rests limits core h → Alive h x → may_move limits x h ≡ false
+  rest_still r is = by_case (may_move limits x h) (λ t. not_both _ (r.good.underway.runs x is t) (no_task _ core.agenda r.idle)) (λ f. f)
 
--- no stream has to end
-pub rest_unended : (limits : PlainLimits) (core : PlainCore) (x : ℕ) (h : History NoMark) → Rests limits core h → has (live h) x ≡ true → plain_must_end x h ≡ false
-rest_unended limits core x h r is = by_case (plain_must_end x h) (λ t. not_both _ (r.good.underway.ends x is t) (no_task _ core.agenda r.idle)) (λ f. f)
+  -- no stream has to end
+  pub rest_unended : Rests limits core h → Alive h x → plain_must_end x h ≡ false
+  rest_unended r is = by_case (plain_must_end x h) (λ t. not_both _ (r.good.underway.ends x is t) (no_task _ core.agenda r.idle)) (λ f. f)
 
 -- what keeps a stream's count and its receive buffer
-pub may_same : (limits : PlainLimits) (x : ℕ) (old new : History NoMark) → count (request x) new ≡ count (request x) old
-    → place (plain_setup limits) (request x) 0 new ≡ place (plain_setup limits) (request x) 0 old → may_move limits x new ≡ may_move limits x old
+pub may_same : (limits : PlainLimits) (x : ℕ) (old new : Past) → count (request x) new ≡ count (request x) old
+    → recv_at limits x new ≡ recv_at limits x old → may_move limits x new ≡ may_move limits x old
 may_same limits x old new ec ep =
-    ap (λ n. (n == 0) && nat_lt 0 (length (place (plain_setup limits) (request x) 0 new))) ec
+    ap (λ n. (n == 0) && nat_lt 0 (length (recv_at limits x new))) ec
     ∙ ap (λ os. (count (request x) old == 0) && nat_lt 0 (length os)) ep
 
 -- an empty receive buffer
-pub may_not : (limits : PlainLimits) (x : ℕ) (h : History NoMark) → place (plain_setup limits) (request x) 0 h ≡ [] → may_move limits x h ≡ false
+pub may_not : (limits : PlainLimits) (x : ℕ) (h : Past) → recv_at limits x h ≡ [] → may_move limits x h ≡ false
 may_not limits x h e = ap (λ os. (count (request x) h == 0) && nat_lt 0 (length os)) e ∙ neither (count (request x) h == 0)
   where
     neither : (a : Bool) → (a && false) ≡ false

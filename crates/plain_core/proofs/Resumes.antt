@@ -49,14 +49,15 @@ all_still flows (f ∷ fs) high = (wakes_above flows f.exchange high, all_still 
 
 -- ---- their resumes
 -- the first so many are those that are told
-told_are : (flows : Flows) (told : Told) → (t : IsToldNext flows told) → take told.n (pending_on flows.gates (buffer.Write 0)) ≡ t.still ++ option_to_list told.next
-told_are flows told t =
-    let fs = t.still ++ option_to_list told.next in
-    ap (λ (v : List FlowId). take told.n v) t.whole ∙ ap (λ (n : ℕ). take n (fs ++ t.rest)) t.number ∙ take-append_seam fs t.rest
+module _ (flows : Flows) (told : Told) where
+  told_are : (t : IsToldNext flows told) → take told.n (pending_on flows.gates (buffer.Write 0)) ≡ t.still ++ option_to_list told.next
+  told_are t =
+      let fs = t.still ++ option_to_list told.next in
+      ap (λ (v : List FlowId). take told.n v) t.whole ∙ ap (λ (n : ℕ). take n (fs ++ t.rest)) t.number ∙ take-append_seam fs t.rest
 
-pub told_noted : (flows : Flows) (told : Told) (lows : List FlowId) (old new : List Note) → lows ≡ pending_on flows.gates (buffer.Write 0) → IsToldNext flows told
-    → new ≡ old ++ resumes_of (buffer.Write 0) (take told.n lows) → TellsUpTo flows old told new
-told_noted flows told lows old new e t is = record {
-  is = t;
-  notes = is ∙ ap (λ (fs : List FlowId). old ++ resumes_of (buffer.Write 0) fs) (ap (λ (fs : List FlowId). take told.n fs) e ∙ told_are flows told t);
-}
+  pub told_noted : (lows : List FlowId) (old new : List Note) → lows ≡ pending_on flows.gates (buffer.Write 0) → IsToldNext flows told
+      → new ≡ old ++ resumes_of (buffer.Write 0) (take told.n lows) → TellsUpTo flows old told new
+  told_noted lows old new e t is = record {
+    is = t;
+    notes = is ∙ ap (λ (fs : List FlowId). old ++ resumes_of (buffer.Write 0) fs) (ap (λ (fs : List FlowId). take told.n fs) e ∙ told_are t);
+  }

@@ -33,9 +33,8 @@ first_underway limits pairs = record {
 pub core_rests : (limits : PlainLimits) (core : PlainCore) → Settled limits core.flows [] → core.turn ≡ 0 → core.pairs.entries ≡ [] → All IsRoute core.config.routes → core.agenda ≡ []
     → core.failed ≡ false → Rests limits core []
 core_rests limits core flows turn pairs routes idle well =
-    let A : Agenda → Type 0 = λ v. Underway limits core.pairs v [] in
     record {
-      good = record { flows = flows; books = first_books core turn pairs routes; underway = subst A (sym idle) (first_underway limits core.pairs) };
+      good = record { flows = flows; books = first_books core turn pairs routes; underway = subst (λ (v : Agenda). Underway limits core.pairs v []) (sym idle) (first_underway limits core.pairs) };
       whole = record { lawful = (none_rests limits).regular.lawful; quiet = (none_rests limits).quiet };
       idle = idle;
       well = well;

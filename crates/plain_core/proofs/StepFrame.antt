@@ -3,18 +3,18 @@ use Rattle.flow_gate.specs.Board.{watchers_of}
 use Rattle.flow_gate.specs.declared.ids.FlowId.{FlowId}
 use Rattle.flow_notes.specs.Buffer.{CanPause}
 use Rattle.flow_notes.specs.declared.notes.Note.{Note}
-use Rattle.io_ports.specs.declared.octets.NoMemory.{NoMemory}
 use Rattle.plain_laws.proofs.Changes.{frame_keeps_lists, frame_paired}
 use Rattle.plain_laws.proofs.Steps.{frame_step}
 use Rattle.plain_laws.specs.StepNotes.{drain_notes, frame_notes, rise_notes}
 use Rattle.std.proofs.Common.{ap, arith, refl, subst, sym, ◌∙◌}
 use Rattle.std.proofs.lemmas.List.{append-nil}
 use Rattle.std.proofs.lemmas.List.Sums.{sum_by-cons}
-use Rattle.std.specs.List.{AllByRecursion, slice_get, sum_by}
-use Rattle.std.specs.Prelude.{Bool, Err, List, None, Ok, OnOk, Option, Result, Some, [], drop, false, if◌then◌else◌, map, true, ℕ, ◌++◌, ◌+◌, ◌<◌, ◌∷◌, ◌≡◌, ◌≤◌}
+use Rattle.std.specs.List.{AllByRecursion, sum_by}
+use Rattle.std.specs.Prelude.{Bool, Err, List, None, Ok, OnOk, Option, Some, [], drop, false, if◌then◌else◌, map, true, ℕ, ◌++◌, ◌+◌, ◌<◌, ◌∷◌, ◌≡◌, ◌≤◌}
+use Rattle.plain_laws.specs.Words.{Past, past_frame}
 use Rattle.tape_laws.specs.Dispatches.{live}
 use Rattle.tape_laws.specs.Flows.{request}
-use Rattle.tape_laws.specs.History.{History, NoMark, onto}
+use Rattle.tape_laws.specs.History.{onto}
 use Rattle.tape_laws.specs.declared.limits.PlainLimits.{PlainLimits}
 use Rattle.plain_core.proofs.Agendas.{grounds_push_drain, holds_push, runs_push, top_is, weight_frame, weight_top}
 use Rattle.plain_core.proofs.Fronts.{NoTurn, Stepped, all_both, appends_both, cuts_front, cuts_result, front_more, keeps_of, keeps_result, spelled_both}
@@ -36,6 +36,7 @@ use Rattle.plain_core.specs.declared.plain.PlainCore.{PlainCore}
 use Rattle.flow_gate.specs.declared.ids.BufferId.TheVariants as buffer
 use Rattle.flow_notes.specs.declared.notes.Note.TheVariants as note
 use Rattle.plain_core.specs.declared.agenda.Task.TheVariants as task
+use Rattle.plain_core.specs.Words.{HasFlows, OnTop, Written}
 
 -- ---- the notes of a frame
 -- the frame and the pauses of a rise
@@ -62,39 +63,39 @@ pauses_each : (xs : List ℕ) → pauses_of (buffer.Write 0) (map request xs) �
 pauses_each [] = refl
 pauses_each (x ∷ xs) = ap (λ (v : List Note). note.Pause (request x) (buffer.Write 0) ∷ v) (pauses_each xs)
 
-rise_is : (limits : PlainLimits) (next : NextFrame) (framed : Framed) (flows : Flows) (h : History NoMark) → FramesAt next framed limits flows h
-    → rise_of framed.rose (buffer.Write 0) (watchers_of flows.gates (buffer.Write 0)) ≡ rise_notes limits next.exchange next.n next.last h
-rise_is limits next framed flows h s =
-    ap (λ (fs : List FlowId). rise_of framed.rose (buffer.Write 0) fs)
-    (s.stands.gates.write_watchers ∙ ap (λ (xs : List ℕ). map request xs) (frame_keeps_lists limits next.exchange next.n next.last h).lives)
-    ∙ ap (λ (ns : List Note). if framed.rose then ns else []) (pauses_each (live h))
-    ∙ ap (λ (b : Bool). if b then map (λ y. note.Pause (request y) (buffer.Write 0)) (live h) else []) s.rises
+module _ (limits : PlainLimits) (next : NextFrame) (framed : Framed) (flows : Flows) (h : Past) where
+  rise_is : FramesAt next framed limits flows h
+      → rise_of framed.rose (buffer.Write 0) (watchers_of flows.gates (buffer.Write 0)) ≡ rise_notes limits next.exchange next.n next.last h
+  rise_is s =
+      ap (λ (fs : List FlowId). rise_of framed.rose (buffer.Write 0) fs)
+      (s.stands.gates.write_watchers ∙ ap (λ (xs : List ℕ). map request xs) (frame_keeps_lists limits next.exchange next.n next.last h).lives)
+      ∙ ap (λ (ns : List Note). if framed.rose then ns else []) (pauses_each (live h))
+      ∙ ap (λ (b : Bool). if b then map (λ y. note.Pause (request y) (buffer.Write 0)) (live h) else []) s.rises
 
-low_is : (limits : PlainLimits) (next : NextFrame) (framed : Framed) (flows : Flows) (h : History NoMark) → FramesAt next framed limits flows h
-    → low_of framed.drained (request next.exchange) ≡ drain_notes limits next.exchange next.n next.last h
-low_is limits next framed flows h s = ap (λ (b : Bool). low_of b (request next.exchange)) s.drains
+  low_is : FramesAt next framed limits flows h
+      → low_of framed.drained (request next.exchange) ≡ drain_notes limits next.exchange next.n next.last h
+  low_is s = ap (λ (b : Bool). low_of b (request next.exchange)) s.drains
 
-frame_noted : (limits : PlainLimits) (next : NextFrame) (framed : Framed) (flows : Flows) (h : History NoMark) → FramesAt next framed limits flows h
-    → noted_frame next framed flows ≡ frame_notes limits next.exchange next.n next.last h
-frame_noted limits next framed flows h s =
-    let first = note.Frame 0 (request next.exchange) next.n next.last in
-    ap (λ (ns : List Note). first ∷ (ns ++ low_of framed.drained (request next.exchange))) (rise_is limits next framed flows h s)
-    ∙ ap (λ (ns : List Note). first ∷ (rise_notes limits next.exchange next.n next.last h ++ ns)) (low_is limits next framed flows h s)
+  frame_noted : FramesAt next framed limits flows h
+      → noted_frame next framed flows ≡ frame_notes limits next.exchange next.n next.last h
+  frame_noted s =
+      let first = note.Frame 0 (request next.exchange) next.n next.last in
+      ap (λ (ns : List Note). first ∷ (ns ++ low_of framed.drained (request next.exchange))) (rise_is s)
+      ∙ ap (λ (ns : List Note). first ∷ (rise_notes limits next.exchange next.n next.last h ++ ns)) (low_is s)
 
 -- ---- a frame
-frame_good : (limits : PlainLimits) (old new : PlainCore) (flows : Flows) (next : NextFrame) (framed : Framed) (h : History NoMark) → new ≡ record old { flows = flows; agenda = new.agenda }
+frame_good : (limits : PlainLimits) (old new : PlainCore) (flows : Flows) (next : NextFrame) (framed : Framed) (h : Past) → HasFlows flows old new
     → new.agenda ≡ after_frame next framed old.agenda → Good limits old h → NextIs next limits h → FramesAt next framed limits flows h
-    → Good limits new (onto (frame_notes limits next.exchange next.n next.last h) h)
+    → Good limits new (past_frame limits next.exchange next.n next.last h)
 frame_good limits old new flows next framed h e a g i s =
     let x = next.exchange in
-    let k = onto (frame_notes limits x next.n next.last h) h in
-    good_of limits old new h k (only_moves old new flows e) (frame_keeps_lists limits x next.n next.last h).numbers (λ y. frame_paired limits x y next.n next.last h)
-    (let P : Flows → Type 0 = λ v. FlowsStand limits v k in subst P (sym (flows_are old new flows e)) s.stands)
+    let k = past_frame limits x next.n next.last h in
+    good_of limits old new h k (only_moves old new flows e) (frame_keeps_lists limits x next.n next.last h).numbers (λ y. frame_paired limits x next.n next.last h y)
+    (subst (λ (v : Flows). FlowsStand limits v k) (sym (flows_are old new flows e)) s.stands)
     (frame_step limits x next.n next.last h g.flows.lawful (unswept_rounded old.agenda h (rounded_next limits old.pairs old.agenda next h i g.underway) g.underway.unswept) i.live i.low i.turn)
-    (let P : Agenda → Type 0 = λ v. Underway limits old.pairs v k in
-    subst P (sym a) (underway_frame limits old.pairs old.agenda next framed h g.flows.lawful i s.drains g.books.pairs g.underway)) g
+    (subst (λ (v : Agenda). Underway limits old.pairs v k) (sym a) (underway_frame limits old.pairs old.agenda next framed h g.flows.lawful i s.drains g.books.pairs g.underway)) g
 
-pub frame_steps : (old new : PlainCore) (flows : Flows) (next : NextFrame) (framed : Framed) → new ≡ record old { flows = flows; agenda = new.agenda }
+pub frame_steps : (old new : PlainCore) (flows : Flows) (next : NextFrame) (framed : Framed) → HasFlows flows old new
     → new.agenda ≡ after_frame next framed old.agenda → IsNextFrame old.flows (Some next) → Frames next framed old.flows flows → Stepped old (noted_frame next framed flows) new
 frame_steps old new flows next framed e a i s = record {
   spelled = spelled_both (noted_rise next framed flows) (low_of framed.drained (request next.exchange))
@@ -106,45 +107,39 @@ frame_steps old new flows next framed e a i s = record {
   goes = λ limits h g.
       let is : NextIs next limits h = i.goes limits h g.flows in
       let frames : FramesAt next framed limits flows h = s.goes limits h g.flows is in
-      let P : List Note → Type 0 = λ v. Good limits new (onto v h) in
-      subst P (sym (frame_noted limits next framed flows h frames)) (frame_good limits old new flows next framed h e a g is frames);
+      subst (λ (v : List Note). Good limits new (onto v h)) (sym (frame_noted limits next framed flows h frames)) (frame_good limits old new flows next framed h e a g is frames);
   well = (only_moves old new flows e).well;
 }
 
 -- the notes of the code are these, all of them or a front
-pub rise_appends : (before after : List Note) (next : NextFrame) (framed : Framed) (flows : Flows) (f : FlowId) (r : Result (Unit {0}) NoMemory) → f ≡ request next.exchange
+pub rise_appends : (before after : List Note) (next : NextFrame) (framed : Framed) (flows : Flows) (f : FlowId) (r : Written) → f ≡ request next.exchange
     → AppendsNotes before (note.Frame 0 f next.n next.last ∷ rise_of framed.rose (buffer.Write 0) (watchers_of flows.gates (buffer.Write 0))) after r
     → AppendsNotes before (noted_rise next framed flows) after r
 rise_appends before after next framed flows f r e a =
-    let P : FlowId → Type 0 = λ v. AppendsNotes before (note.Frame 0 v next.n next.last ∷ rise_of framed.rose (buffer.Write 0) (watchers_of flows.gates (buffer.Write 0))) after r in
-    subst P e a
+    subst (λ (v : FlowId). AppendsNotes before (note.Frame 0 v next.n next.last ∷ rise_of framed.rose (buffer.Write 0) (watchers_of flows.gates (buffer.Write 0))) after r) e a
 
-pub frame_result : (old new : PlainCore) (before mid after : List Note) (flows : Flows) (next : NextFrame) (framed : Framed) (f : FlowId) (r : Result (Unit {0}) NoMemory) → f ≡ request next.exchange
-    → new ≡ record old { flows = flows; agenda = new.agenda } → new.agenda ≡ after_frame next framed old.agenda → IsNextFrame old.flows (Some next) → Frames next framed old.flows flows
+pub frame_result : (old new : PlainCore) (before mid after : List Note) (flows : Flows) (next : NextFrame) (framed : Framed) (f : FlowId) (r : Written) → f ≡ request next.exchange
+    → HasFlows flows old new → new.agenda ≡ after_frame next framed old.agenda → IsNextFrame old.flows (Some next) → Frames next framed old.flows flows
     → mid ≡ before ++ (note.Frame 0 f next.n next.last ∷ rise_of framed.rose (buffer.Write 0) (watchers_of new.flows.gates (buffer.Write 0)))
     → AppendsNotes mid (low_of framed.drained f) after r → OnOk r (Keeps old before new after) × Cuts old before after
 frame_result old new before mid after flows next framed f r is e a i s m n =
-    let G : Flows → Type 0 = λ v. mid ≡ before ++ (note.Frame 0 f next.n next.last ∷ rise_of framed.rose (buffer.Write 0) (watchers_of v.gates (buffer.Write 0))) in
-    let first : mid ≡ before ++ noted_rise next framed flows = rise_appends before mid next framed flows f (Ok tt) is (subst G (flows_are old new flows e) m) in
-    let P : FlowId → Type 0 = λ v. AppendsNotes mid (low_of framed.drained v) after r in
-    let all = appends_both before (noted_rise next framed flows) (low_of framed.drained (request next.exchange)) mid after r first (subst P is n) in
+    let first : mid ≡ before ++ noted_rise next framed flows = rise_appends before mid next framed flows f (Ok tt) is (subst (λ (v : Flows). mid ≡ before ++ (note.Frame 0 f next.n next.last ∷ rise_of framed.rose (buffer.Write 0) (watchers_of v.gates (buffer.Write 0)))) (flows_are old new flows e) m) in
+    let all = appends_both before (noted_rise next framed flows) (low_of framed.drained (request next.exchange)) mid after r first (subst (λ (v : FlowId). AppendsNotes mid (low_of framed.drained v) after r) is n) in
     let st = frame_steps old new flows next framed e a i s in
     (keeps_result old new before (noted_frame next framed flows) after r all st, cuts_result old new before (noted_frame next framed flows) after r all st)
 
 pub frame_cuts : (old new : PlainCore) (before after : List Note) (flows : Flows) (next : NextFrame) (framed : Framed) (f : FlowId) → f ≡ request next.exchange
-    → new ≡ record old { flows = flows; agenda = new.agenda } → new.agenda ≡ after_frame next framed old.agenda → IsNextFrame old.flows (Some next) → Frames next framed old.flows flows
+    → HasFlows flows old new → new.agenda ≡ after_frame next framed old.agenda → IsNextFrame old.flows (Some next) → Frames next framed old.flows flows
     → AppendsSome before (note.Frame 0 f next.n next.last ∷ rise_of framed.rose (buffer.Write 0) (watchers_of new.flows.gates (buffer.Write 0))) after → Cuts old before after
 frame_cuts old new before after flows next framed f is e a i s n =
-    let G : Flows → Type 0 = λ v. AppendsSome before (note.Frame 0 f next.n next.last ∷ rise_of framed.rose (buffer.Write 0) (watchers_of v.gates (buffer.Write 0))) after in
-    let P : FlowId → Type 0 = λ v. AppendsSome before (note.Frame 0 v next.n next.last ∷ rise_of framed.rose (buffer.Write 0) (watchers_of flows.gates (buffer.Write 0))) after in
     cuts_front old new before (noted_frame next framed flows) after
-    (front_more before (noted_rise next framed flows) (low_of framed.drained (request next.exchange)) after (subst P is (subst G (flows_are old new flows e) n))) (frame_steps old new flows next framed e a i s)
+    (front_more before (noted_rise next framed flows) (low_of framed.drained (request next.exchange)) after (subst (λ (v : FlowId). AppendsSome before (note.Frame 0 v next.n next.last ∷ rise_of framed.rose (buffer.Write 0) (watchers_of flows.gates (buffer.Write 0))) after) is (subst (λ (v : Flows). AppendsSome before (note.Frame 0 f next.n next.last ∷ rise_of framed.rose (buffer.Write 0) (watchers_of v.gates (buffer.Write 0))) after) (flows_are old new flows e) n))) (frame_steps old new flows next framed e a i s)
 
 frame_sums : (last : Bool) (a b w v : ℕ) → a + (if last then 7 else 5) ≤ b → w ≤ (if last then 2 else 0) + (1 + v) → (a + w) + 2 ≤ b + v
 frame_sums true a b w v e f = omega arith
 frame_sums false a b w v e f = omega arith
 
-pub frame_less : (old new : PlainCore) (flows : Flows) (next : NextFrame) (framed : Framed) → new ≡ record old { flows = flows; agenda = new.agenda }
+pub frame_less : (old new : PlainCore) (flows : Flows) (next : NextFrame) (framed : Framed) → HasFlows flows old new
     → new.agenda ≡ after_frame next framed old.agenda → left_in flows + of_frame next ≤ left_in old.flows → to_go new + 2 ≤ to_go old
 frame_less old new flows next framed e a less =
     let b = ap (λ (v : Agenda). sum_by weight v) a in
@@ -153,46 +148,45 @@ frame_less old new flows next framed e a less =
     omega (arith, b, l, s)
 
 -- ---- nothing to frame
-no_next : (old : PlainCore) (next : Option NextFrame) (limits : PlainLimits) (h : History NoMark) → next ≡ None → IsNextFrame old.flows next → Good limits old h → NoNext limits h
+no_next : (old : PlainCore) (next : Option NextFrame) (limits : PlainLimits) (h : Past) → next ≡ None → IsNextFrame old.flows next → Good limits old h → NoNext limits h
 no_next old next limits h e i g =
-    let P : Option NextFrame → Type 0 = λ v. IsNextFrame old.flows v in
-    let j : IsNextFrame old.flows None = subst P e i in
+    let j : IsNextFrame old.flows None = subst (λ (v : Option NextFrame). IsNextFrame old.flows v) e i in
     j.goes limits h g.flows
 
 pub some_next : (old : PlainCore) (next : NextFrame) (found : Option NextFrame) → found ≡ Some next → IsNextFrame old.flows found → IsNextFrame old.flows (Some next)
-some_next old next found e i = let P : Option NextFrame → Type 0 = λ v. IsNextFrame old.flows v in subst P e i
+some_next old next found e i = subst (λ (v : Option NextFrame). IsNextFrame old.flows v) e i
 
 -- the task on top ends, and all else stays
-pub end_steps : (old new : PlainCore) (t : Task) → new ≡ record old { flows = old.flows; agenda = new.agenda } → slice_get old.agenda 0 ≡ Some t → new.agenda ≡ drop 1 old.agenda
-    → ((limits : PlainLimits) (h : History NoMark) → Good limits old h → Underway limits old.pairs (t ∷ drop 1 old.agenda) h → Underway limits old.pairs (drop 1 old.agenda) h) → Stepped old [] new
+pub end_steps : (old new : PlainCore) (t : Task) → new ≡ record old { flows = old.flows; agenda = new.agenda } → OnTop t old.agenda → new.agenda ≡ drop 1 old.agenda
+    → ((limits : PlainLimits) (h : Past) → Good limits old h → Underway limits old.pairs (t ∷ drop 1 old.agenda) h → Underway limits old.pairs (drop 1 old.agenda) h) → Stepped old [] new
 end_steps old new t e top a ends = record {
   spelled = tt;
   silent = tt;
   goes = λ limits h g.
       good_of limits old new h h (only_moves old new old.flows e) refl (λ x. refl)
-      (let P : Flows → Type 0 = λ v. FlowsStand limits v h in subst P (sym (flows_are old new old.flows e)) g.flows.stands) g.flows.lawful
-      (let P : Agenda → Type 0 = λ v. Underway limits old.pairs v h in
-      subst P (sym a) (ends limits h g (let Q : Agenda → Type 0 = λ v. Underway limits old.pairs v h in subst Q (top_is t old.agenda top) g.underway))) g;
+      (subst (λ (v : Flows). FlowsStand limits v h) (sym (flows_are old new old.flows e)) g.flows.stands) g.flows.lawful
+      (subst (λ (v : Agenda). Underway limits old.pairs v h) (sym a) (ends limits h g (subst (λ (v : Agenda). Underway limits old.pairs v h) (top_is t old.agenda top) g.underway))) g;
   well = (only_moves old new old.flows e).well;
 }
 
-keeps_silent : (old new : PlainCore) (before : List Note) → Stepped old [] new → Keeps old before new before
-keeps_silent old new before s = keeps_of old new before [] before (sym (append-nil before)) s
+module _ (old new : PlainCore) (before : List Note) where
+  keeps_silent : Stepped old [] new → Keeps old before new before
+  keeps_silent s = keeps_of old new before [] before (sym (append-nil before)) s
 
-pub round_ends : (old new : PlainCore) (before : List Note) (next : Option NextFrame) → next ≡ None → IsNextFrame old.flows next → new ≡ record old { flows = old.flows; agenda = new.agenda }
-    → slice_get old.agenda 0 ≡ Some task.Round → new.agenda ≡ drop 1 old.agenda → Keeps old before new before
-round_ends old new before next none i e top a =
-    keeps_silent old new before (end_steps old new task.Round e top a (λ limits h g u. underway_end_round limits old.pairs (drop 1 old.agenda) h (no_next old next limits h none i g) u))
+  pub round_ends : (next : Option NextFrame) → next ≡ None → IsNextFrame old.flows next → new ≡ record old { flows = old.flows; agenda = new.agenda }
+      → OnTop task.Round old.agenda → new.agenda ≡ drop 1 old.agenda → Keeps old before new before
+  round_ends next none i e top a =
+      keeps_silent (end_steps old new task.Round e top a (λ limits h g u. underway_end_round limits old.pairs (drop 1 old.agenda) h (no_next old next limits h none i g) u))
 
-pub drain_ends : (old new : PlainCore) (before : List Note) (c : ℕ) → new ≡ record old { flows = old.flows; agenda = new.agenda }
-    → slice_get old.agenda 0 ≡ Some (task.Drain c) → new.agenda ≡ drop 1 old.agenda → Keeps old before new before
-drain_ends old new before c e top a =
-    keeps_silent old new before (end_steps old new (task.Drain c) e top a (λ limits h g u. underway_end_drain limits old.pairs c (drop 1 old.agenda) h u))
+  pub drain_ends : (c : ℕ) → new ≡ record old { flows = old.flows; agenda = new.agenda }
+      → OnTop (task.Drain c) old.agenda → new.agenda ≡ drop 1 old.agenda → Keeps old before new before
+  drain_ends c e top a =
+      keeps_silent (end_steps old new (task.Drain c) e top a (λ limits h g u. underway_end_drain limits old.pairs c (drop 1 old.agenda) h u))
 
-one_weight : (t : Task) (a : Agenda) → slice_get a 0 ≡ Some t → 1 ≤ weight t → sum_by weight (drop 1 a) < sum_by weight a
+one_weight : (t : Task) (a : Agenda) → OnTop t a → 1 ≤ weight t → sum_by weight (drop 1 a) < sum_by weight a
 one_weight t a top o = let w = weight_top t a top in omega (arith, w, o)
 
-pub end_less : (old new : PlainCore) (t : Task) → new ≡ record old { flows = old.flows; agenda = new.agenda } → slice_get old.agenda 0 ≡ Some t → new.agenda ≡ drop 1 old.agenda → 1 ≤ weight t
+pub end_less : (old new : PlainCore) (t : Task) → new ≡ record old { flows = old.flows; agenda = new.agenda } → OnTop t old.agenda → new.agenda ≡ drop 1 old.agenda → 1 ≤ weight t
     → to_go new < to_go old
 end_less old new t e top a o =
     let w = one_weight t old.agenda top o in
@@ -205,7 +199,7 @@ end_less old new t e top a o =
 abbrev pub draining : PlainCore → PlainCore
 draining old = record old { agenda = task.Drain 0 ∷ old.agenda }
 
-drain_good : (limits : PlainLimits) (old : PlainCore) (next : NextFrame) (h : History NoMark) → IsNextFrame old.flows (Some next) → Good limits old h → Good limits (draining old) h
+drain_good : (limits : PlainLimits) (old : PlainCore) (next : NextFrame) (h : Past) → IsNextFrame old.flows (Some next) → Good limits old h → Good limits (draining old) h
 drain_good limits old next h i g = record {
   flows = g.flows;
   books = record { turn = g.books.turn; pairs = g.books.pairs; routes = g.books.routes };
@@ -219,17 +213,16 @@ drain_good limits old next h i g = record {
 abbrev pub pushed : PlainCore → Agenda → PlainCore
 pushed old a = record old { agenda = a }
 
-pub drain_is_good : (old : PlainCore) (a : Agenda) (next : NextFrame) (before : List Note) → a ≡ task.Drain 0 ∷ old.agenda → IsNextFrame old.flows (Some next) → IsGood old before → IsGood (pushed old a) before
-drain_is_good old a next before e i g =
-    let P : Agenda → Type 0 = λ v. IsGood (pushed old v) before in
-    subst P (sym e) (record { limits = g.limits; history = g.history; good = drain_good g.limits old next (onto before g.history) i g.good })
+module _ (old : PlainCore) (a : Agenda) (next : NextFrame) (before : List Note) where
+  pub drain_is_good : a ≡ task.Drain 0 ∷ old.agenda → IsNextFrame old.flows (Some next) → IsGood old before → IsGood (pushed old a) before
+  drain_is_good e i g =
+      subst (λ (v : Agenda). IsGood (pushed old v) before) (sym e) (record { limits = g.limits; history = g.history; good = drain_good g.limits old next (onto before g.history) i g.good })
 
-drain_keeps : (old : PlainCore) (a : Agenda) (next : NextFrame) (before : List Note) → a ≡ task.Drain 0 ∷ old.agenda → IsNextFrame old.flows (Some next) → Keeps old before (pushed old a) before
-drain_keeps old a next before e i =
-    let P : Agenda → Type 0 = λ v. Keeps old before (pushed old v) before in
-    subst P (sym e) (keeps_silent old (draining old) before (record { spelled = tt; silent = tt; goes = λ limits h g. drain_good limits old next h i g; well = refl }))
+  drain_keeps : a ≡ task.Drain 0 ∷ old.agenda → IsNextFrame old.flows (Some next) → Keeps old before (pushed old a) before
+  drain_keeps e i =
+      subst (λ (v : Agenda). Keeps old before (pushed old v) before) (sym e) (keeps_silent old (draining old) before (record { spelled = tt; silent = tt; goes = λ limits h g. drain_good limits old next h i g; well = refl }))
 
-pub drain_from_keeps : (old new : PlainCore) (a : Agenda) (next : NextFrame) (before after : List Note) (r : Result (Unit {0}) NoMemory) → a ≡ task.Drain 0 ∷ old.agenda → IsNextFrame old.flows (Some next)
+pub drain_from_keeps : (old new : PlainCore) (a : Agenda) (next : NextFrame) (before after : List Note) (r : Written) → a ≡ task.Drain 0 ∷ old.agenda → IsNextFrame old.flows (Some next)
     → OnOk r (Keeps (pushed old a) before new after) → OnOk r (Keeps old before new after)
 drain_from_keeps old new a next before after r e i k = keeps_then old (pushed old a) new before before after r (drain_keeps old a next before e i) k
 
@@ -237,10 +230,11 @@ pub drain_from_cuts : (old : PlainCore) (a : Agenda) (next : NextFrame) (before 
     → Cuts old before after
 drain_from_cuts old a next before after e i k = cuts_more old (pushed old a) before before after (drain_keeps old a next before e i) k
 
-pub drain_from_less : (old new : PlainCore) (a : Agenda) (r : Result (Unit {0}) NoMemory) → a ≡ task.Drain 0 ∷ old.agenda → OnOk r (to_go new + 2 ≤ to_go (pushed old a)) → OnOk r (to_go new < to_go old)
-drain_from_less old new a (Ok u) e l = let b = ap (λ (v : Agenda). sum_by weight v) e in let w = sum_by-cons weight (task.Drain 0) old.agenda in omega (arith, l, b, w)
-drain_from_less old new a (Err x) e l = tt
+module _ (old new : PlainCore) where
+  pub drain_from_less : (a : Agenda) (r : Written) → a ≡ task.Drain 0 ∷ old.agenda → OnOk r (to_go new + 2 ≤ to_go (pushed old a)) → OnOk r (to_go new < to_go old)
+  drain_from_less a (Ok u) e l = let b = ap (λ (v : Agenda). sum_by weight v) e in let w = sum_by-cons weight (task.Drain 0) old.agenda in omega (arith, l, b, w)
+  drain_from_less a (Err x) e l = tt
 
-pub drain_less : (old new : PlainCore) (r : Result (Unit {0}) NoMemory) → OnOk r (to_go new + 2 ≤ to_go old) → OnOk r (to_go new < to_go old)
-drain_less old new (Ok u) l = omega (arith, l)
-drain_less old new (Err e) l = tt
+  pub drain_less : (r : Written) → OnOk r (to_go new + 2 ≤ to_go old) → OnOk r (to_go new < to_go old)
+  drain_less (Ok u) l = omega (arith, l)
+  drain_less (Err e) l = tt

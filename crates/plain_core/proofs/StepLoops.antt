@@ -21,7 +21,7 @@ pub keeps_none : (core : PlainCore) (notes : List Note) → Keeps core notes cor
 keeps_none core notes = record { appends = appends_none notes; spelled = λ s. s; events = λ h. refl; goes = λ limits h g. g; well = refl }
 
 pub cuts_same : (first old : PlainCore) (start before after : List Note) → Keeps first start old before → after ≡ before → Cuts first start after
-cuts_same first old start before after k e = let P : List Note → Type 0 = λ v. Cuts first start v in subst P (sym e) (cuts_keeps first old start before k)
+cuts_same first old start before after k e = subst (λ (v : List Note). Cuts first start v) (sym e) (cuts_keeps first old start before k)
 
 pub opened_good : (old new : PlainCore) (before after : List Note) (e : Event) → CanTake old e before → Opens old before e new after → IsGood new after
 opened_good old new before after e c o = record { limits = c.limits; history = c.history; good = o.goes c.limits c.history c.rests c.follows }
@@ -38,18 +38,18 @@ gone_keeps first old start before after x flows swept k some idle s is =
     keeps_more first old (with_flows old flows) start before after k
     (keeps_of old (with_flows old flows) before (note.Gone x ∷ []) after is (sweep_steps old (with_flows old flows) x flows swept some refl refl idle s))
 
-pub none_keeps : (first old : PlainCore) (start before : List Note) (flows : Flows) (swept : Option ℕ) → Keeps first start old before → swept ≡ None → Sweeps swept old.flows flows
-    → Keeps first start (with_flows old flows) before
-none_keeps first old start before flows swept k none s =
-    keeps_more first old (with_flows old flows) start before before k
-    (keeps_of old (with_flows old flows) before [] before (sym (append-nil before)) (none_steps old (with_flows old flows) flows swept none refl refl s))
+module _ (first old : PlainCore) (start before : List Note) (flows : Flows) (swept : Option ℕ) where
+  pub none_keeps : Keeps first start old before → swept ≡ None → Sweeps swept old.flows flows
+      → Keeps first start (with_flows old flows) before
+  none_keeps k none s =
+      keeps_more first old (with_flows old flows) start before before k
+      (keeps_of old (with_flows old flows) before [] before (sym (append-nil before)) (none_steps old (with_flows old flows) flows swept none refl refl s))
 
-pub all_gone : (first old : PlainCore) (start before : List Note) (flows : Flows) (swept : Option ℕ) → IsGood first start → Keeps first start old before → swept ≡ None → Sweeps swept old.flows flows
-    → flows.exchanges.doomed ≡ []
-all_gone first old start before flows swept g k none s = none_doomed old before flows swept none (good_kept first old start before g k) s
+  pub all_gone : IsGood first start → Keeps first start old before → swept ≡ None → Sweeps swept old.flows flows
+      → flows.exchanges.doomed ≡ []
+  all_gone g k none s = none_doomed old before flows swept none (good_kept first old start before g k) s
 
 pub fewer : (x : ℕ) (swept : Option ℕ) (old new : Flows) → swept ≡ Some x → Sweeps swept old new → length new.exchanges.doomed < length old.exchanges.doomed
 fewer x swept old new some s =
-    let P : Option ℕ → Type 0 = λ v. Sweeps v old new in
-    let t : Sweeps (Some x) old new = subst P some s in
+    let t : Sweeps (Some x) old new = subst (λ (v : Option ℕ). Sweeps v old new) some s in
     t.less

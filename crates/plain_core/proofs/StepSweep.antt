@@ -7,11 +7,8 @@ use Rattle.std.proofs.Common.{ap, inl, inr, refl, subst, sym, ◌∙◌}
 use Rattle.std.specs.List.{list_any}
 use Rattle.std.specs.Prelude.{List, None, Option, Some, [], false, true, ℕ, ◌∷◌, ◌≡◌, ◌⊎◌}
 use Rattle.plain_laws.specs.Next.{is_ready}
-use Rattle.tape_laws.specs.Dispatches.{has, live}
-use Rattle.tape_laws.specs.History.{History, NoMark, Noted, onto}
-use Rattle.tape_laws.specs.Pauses.{pending_lows}
-use Rattle.tape_laws.specs.Plain.{plain_setup}
-use Rattle.tape_laws.specs.Watermark.{above}
+use Rattle.plain_laws.specs.Words.{Past, Alive, conn_high, conn_lows}
+use Rattle.tape_laws.specs.History.{Noted, onto}
 use Rattle.tape_laws.specs.declared.limits.PlainLimits.{PlainLimits}
 use Rattle.plain_core.proofs.Fronts.{Stepped}
 use Rattle.plain_core.proofs.Keeping.{good_of, only_moves}
@@ -24,27 +21,29 @@ use Rattle.plain_core.specs.declared.flows.Flows.{Flows}
 use Rattle.plain_core.specs.declared.plain.PlainCore.{PlainCore}
 use Rattle.flow_gate.specs.declared.ids.BufferId.TheVariants as buffer
 use Rattle.flow_notes.specs.declared.notes.Note.TheVariants as note
+use Rattle.plain_core.specs.Words.{HasFlows}
 
-gone_framed : (limits : PlainLimits) (x : ℕ) (h : History NoMark) → HasFramed limits h → HasFramed limits (Noted (note.Gone x) ∷ h)
+gone_framed : (limits : PlainLimits) (x : ℕ) (h : Past) → HasFramed limits h → HasFramed limits (Noted (note.Gone x) ∷ h)
 gone_framed limits x h f = record {
-  none = elim f.none as (λ s. (above (plain_setup limits) (buffer.Write 0) (Noted (note.Gone x) ∷ h) ≡ true)
-      ⊎ ((y : ℕ) → has (live (Noted (note.Gone x) ∷ h)) y ≡ true → is_ready limits y (Noted (note.Gone x) ∷ h) ≡ false))
+  none = elim f.none as (λ s. (conn_high limits (Noted (note.Gone x) ∷ h) ≡ true)
+      ⊎ ((y : ℕ) → Alive (Noted (note.Gone x) ∷ h) y → is_ready limits y (Noted (note.Gone x) ∷ h) ≡ false))
       [ inl e ↦ inl ((gone_keeps_write limits x h).high ∙ e) | inr e ↦ inr (λ y l. keeps_ready limits y h (Noted (note.Gone x) ∷ h) (gone_keeps limits x y h) ∙ e y l) ];
 }
 
-told_gone : (limits : PlainLimits) (x : ℕ) (a : Agenda) (h : History NoMark) → (pending_lows (plain_setup limits) (buffer.Write 0) h ≡ []) ⊎ (list_any (is_telling 0) a ≡ true)
-    → (pending_lows (plain_setup limits) (buffer.Write 0) (Noted (note.Gone x) ∷ h) ≡ []) ⊎ (list_any (is_telling 0) a ≡ true)
-told_gone limits x a h t =
-    elim t as (λ s. (pending_lows (plain_setup limits) (buffer.Write 0) (Noted (note.Gone x) ∷ h) ≡ []) ⊎ (list_any (is_telling 0) a ≡ true))
-    [ inl e ↦ inl e | inr e ↦ inr e ]
+module _ (limits : PlainLimits) (x : ℕ) (a : Agenda) (h : Past) where
+  told_gone : (conn_lows limits h ≡ []) ⊎ (list_any (is_telling 0) a ≡ true)
+      → (conn_lows limits (Noted (note.Gone x) ∷ h) ≡ []) ⊎ (list_any (is_telling 0) a ≡ true)
+  told_gone t =
+      elim t as (λ s. (conn_lows limits (Noted (note.Gone x) ∷ h) ≡ []) ⊎ (list_any (is_telling 0) a ≡ true))
+      [ inl e ↦ inl e | inr e ↦ inr e ]
 
-rested_gone : (limits : PlainLimits) (x : ℕ) (a : Agenda) (h : History NoMark) → (is_rounded a ≡ true) ⊎ ((a ≡ []) × HasFramed limits h)
-    → (is_rounded a ≡ true) ⊎ ((a ≡ []) × HasFramed limits (Noted (note.Gone x) ∷ h))
-rested_gone limits x a h t =
-    elim t as (λ s. (is_rounded a ≡ true) ⊎ ((a ≡ []) × HasFramed limits (Noted (note.Gone x) ∷ h))) [ inl e ↦ inl e | inr e ↦ inr (e.0, gone_framed limits x h e.1) ]
+  rested_gone : (is_rounded a ≡ true) ⊎ ((a ≡ []) × HasFramed limits h)
+      → (is_rounded a ≡ true) ⊎ ((a ≡ []) × HasFramed limits (Noted (note.Gone x) ∷ h))
+  rested_gone t =
+      elim t as (λ s. (is_rounded a ≡ true) ⊎ ((a ≡ []) × HasFramed limits (Noted (note.Gone x) ∷ h))) [ inl e ↦ inl e | inr e ↦ inr (e.0, gone_framed limits x h e.1) ]
 
 -- where nothing is under way nothing is then
-underway_gone : (limits : PlainLimits) (pairs : Pairs) (x : ℕ) (h : History NoMark) → Underway limits pairs [] h → Underway limits pairs [] (Noted (note.Gone x) ∷ h)
+underway_gone : (limits : PlainLimits) (pairs : Pairs) (x : ℕ) (h : Past) → Underway limits pairs [] h → Underway limits pairs [] (Noted (note.Gone x) ∷ h)
 underway_gone limits pairs x h u = record {
   runs = λ y l m. u.runs y l m;
   tells = told_gone limits x [] h u.tells;
@@ -54,10 +53,10 @@ underway_gone limits pairs x h u = record {
   rested = rested_gone limits x [] h u.rested;
 }
 
-sweeps_at : (x : ℕ) (swept : Option ℕ) (old new : Flows) (limits : PlainLimits) (h : History NoMark) → swept ≡ Some x → SweepsAs swept limits new h → SweepsAt x limits new h
-sweeps_at x swept old new limits h e s = let P : Option ℕ → Type 0 = λ v. SweepsAs v limits new h in subst P e s
+sweeps_at : (x : ℕ) (swept : Option ℕ) (old new : Flows) (limits : PlainLimits) (h : Past) → swept ≡ Some x → SweepsAs swept limits new h → SweepsAt x limits new h
+sweeps_at x swept old new limits h e s = subst (λ (v : Option ℕ). SweepsAs v limits new h) e s
 
-pub sweep_steps : (old new : PlainCore) (x : ℕ) (flows : Flows) (swept : Option ℕ) → swept ≡ Some x → new ≡ record old { flows = flows; agenda = new.agenda } → new.agenda ≡ old.agenda → old.agenda ≡ []
+pub sweep_steps : (old new : PlainCore) (x : ℕ) (flows : Flows) (swept : Option ℕ) → swept ≡ Some x → HasFlows flows old new → new.agenda ≡ old.agenda → old.agenda ≡ []
     → Sweeps swept old.flows flows → Stepped old (note.Gone x ∷ []) new
 sweep_steps old new x flows swept some e same idle sweeps = record {
   spelled = (tt, tt);
@@ -65,33 +64,28 @@ sweep_steps old new x flows swept some e same idle sweeps = record {
   goes = λ limits h g.
       let s = sweeps_at x swept old.flows flows limits h some (sweeps.goes limits h g.flows) in
       let k = Noted (note.Gone x) ∷ h in
-      let F : Flows → Type 0 = λ v. FlowsStand limits v k in
-      let A : Agenda → Type 0 = λ v. Underway limits old.pairs v h in
-      let B : Agenda → Type 0 = λ v. Underway limits old.pairs v k in
-      good_of limits old new h k (only_moves old new flows e) refl (λ y. refl) (subst F (sym (ap (λ (v : PlainCore). v.flows) e)) s.stands) (gone_step limits x s.rest h g.flows.lawful s.first)
-      (subst B (sym (same ∙ idle)) (underway_gone limits old.pairs x h (subst A idle g.underway))) g;
+      good_of limits old new h k (only_moves old new flows e) refl (λ y. refl) (subst (λ (v : Flows). FlowsStand limits v k) (sym (ap (λ (v : PlainCore). v.flows) e)) s.stands) (gone_step limits x s.rest h g.flows.lawful s.first)
+      (subst (λ (v : Agenda). Underway limits old.pairs v k) (sym (same ∙ idle)) (underway_gone limits old.pairs x h (subst (λ (v : Agenda). Underway limits old.pairs v h) idle g.underway))) g;
   well = ap (λ (v : PlainCore). v.failed) e;
 }
 
 -- nothing is doomed any more
-none_at : (swept : Option ℕ) (old new : Flows) (limits : PlainLimits) (h : History NoMark) → swept ≡ None → SweepsAs swept limits new h → NoneDoomed limits new h
-none_at swept old new limits h e s = let P : Option ℕ → Type 0 = λ v. SweepsAs v limits new h in subst P e s
+none_at : (swept : Option ℕ) (old new : Flows) (limits : PlainLimits) (h : Past) → swept ≡ None → SweepsAs swept limits new h → NoneDoomed limits new h
+none_at swept old new limits h e s = subst (λ (v : Option ℕ). SweepsAs v limits new h) e s
 
 pub none_doomed : (core : PlainCore) (notes : List Note) (flows : Flows) (swept : Option ℕ) → swept ≡ None → IsGood core notes → Sweeps swept core.flows flows → flows.exchanges.doomed ≡ []
 none_doomed core notes flows swept none g s =
     let n = none_at swept core.flows flows g.limits (onto notes g.history) none (s.goes g.limits (onto notes g.history) g.good.flows) in n.stands.exchanges.doomed ∙ n.none
 
 -- and the flows stand as they did
-pub none_steps : (old new : PlainCore) (flows : Flows) (swept : Option ℕ) → swept ≡ None → new ≡ record old { flows = flows; agenda = new.agenda } → new.agenda ≡ old.agenda
+pub none_steps : (old new : PlainCore) (flows : Flows) (swept : Option ℕ) → swept ≡ None → HasFlows flows old new → new.agenda ≡ old.agenda
     → Sweeps swept old.flows flows → Stepped old [] new
 none_steps old new flows swept none e same sweeps = record {
   spelled = tt;
   silent = tt;
   goes = λ limits h g.
       let n = none_at swept old.flows flows limits h none (sweeps.goes limits h g.flows) in
-      let F : Flows → Type 0 = λ v. FlowsStand limits v h in
-      let A : Agenda → Type 0 = λ v. Underway limits old.pairs v h in
-      good_of limits old new h h (only_moves old new flows e) refl (λ y. refl) (subst F (sym (ap (λ (v : PlainCore). v.flows) e)) n.stands) g.flows.lawful (subst A (sym same) g.underway) g;
+      good_of limits old new h h (only_moves old new flows e) refl (λ y. refl) (subst (λ (v : Flows). FlowsStand limits v h) (sym (ap (λ (v : PlainCore). v.flows) e)) n.stands) g.flows.lawful (subst (λ (v : Agenda). Underway limits old.pairs v h) (sym same) g.underway) g;
   well = ap (λ (v : PlainCore). v.failed) e;
 }
 

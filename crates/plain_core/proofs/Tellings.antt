@@ -1,4 +1,5 @@
 -- Histories in which flows are told that the write buffer drained, one after the other.
+use Rattle.plain_laws.specs.Words.{Past, Alive, conn_high, conn_lows, conn_out, last_out}
 use Rattle.tape_laws.specs.Doomed.{is_swept}
 use Rattle.flow_gate.specs.Board.{times}
 use Rattle.flow_gate.specs.declared.ids.FlowId.{FlowId}
@@ -14,50 +15,47 @@ use Rattle.std.proofs.lemmas.Bool.Decides.{nat_tests}
 use Rattle.std.proofs.lemmas.List.Sums.{sum_by-cons}
 use Rattle.std.specs.List.{AllByRecursion}
 use Rattle.std.specs.Prelude.{Bool, List, [], cond, drop, false, true, ℕ, ◌&&◌, ◌++◌, ◌+◌, ◌==◌, ◌∷◌, ◌≡◌}
-use Rattle.tape_laws.specs.Dispatches.{has, live}
+use Rattle.tape_laws.specs.Dispatches.{live}
 use Rattle.tape_laws.specs.Flows.{request, same_flow}
-use Rattle.tape_laws.specs.History.{History, NoMark, Noted, onto}
-use Rattle.tape_laws.specs.Order.{framed_last}
-use Rattle.tape_laws.specs.Pauses.{count, pending_lows}
-use Rattle.tape_laws.specs.Plain.{paired_with, plain_setup}
-use Rattle.tape_laws.specs.Watermark.{above}
-use Rattle.tape_laws.specs.World.{out}
+use Rattle.tape_laws.specs.History.{Noted, onto}
+use Rattle.tape_laws.specs.Pauses.{count}
+use Rattle.tape_laws.specs.Plain.{paired_with}
 use Rattle.tape_laws.specs.declared.limits.PlainLimits.{PlainLimits}
 use Rattle.plain_core.specs.Noting.{resumes_of}
 use Rattle.flow_gate.specs.declared.ids.BufferId.TheVariants as buffer
 use Rattle.flow_notes.specs.declared.notes.Note.TheVariants as note
 
 -- a history with one more flow told
-abbrev pub with_told : FlowId → History NoMark → History NoMark
+abbrev pub with_told : FlowId → Past → Past
 with_told f h = Noted (note.Resume f (buffer.Write 0)) ∷ h
 
 -- a history with these flows told
-abbrev pub with_all_told : List FlowId → History NoMark → History NoMark
+abbrev pub with_all_told : List FlowId → Past → Past
 with_all_told fs h = onto (resumes_of (buffer.Write 0) fs) h
 
 -- a flow that is to be told is the request of a live stream
-pub first_is : (limits : PlainLimits) (f : FlowId) (rest : List FlowId) (h : History NoMark) → Settled limits h → pending_lows (plain_setup limits) (buffer.Write 0) h ≡ f ∷ rest
-    → IsLiveFlow (live h) f
-first_is limits f rest h s first = (let P : List FlowId → Type 0 = AllByRecursion (IsLiveFlow (live h)) in subst P first s.regular.books.write_lows).0
+module _ (limits : PlainLimits) (f : FlowId) (rest : List FlowId) (h : Past) where
+  pub first_is : Settled limits h → conn_lows limits h ≡ f ∷ rest
+      → IsLiveFlow (live h) f
+  first_is s first = (subst (AllByRecursion (IsLiveFlow (live h))) first s.regular.books.write_lows).0
 
-pub tell_settled : (limits : PlainLimits) (f : FlowId) (rest : List FlowId) (h : History NoMark) → Settled limits h → is_swept h ≡ false
-    → pending_lows (plain_setup limits) (buffer.Write 0) h ≡ f ∷ rest → Settled limits (with_told f h)
-tell_settled limits f rest h s fresh first =
-    let is = (first_is limits f rest h s first).is in
-    let P : FlowId → Type 0 = λ g. Settled limits (with_told g h) in
-    subst P (sym is) (tell_step limits f.exchange rest h s fresh (first ∙ ap (λ (g : FlowId). g ∷ rest) is))
+  pub tell_settled : Settled limits h → is_swept h ≡ false
+      → conn_lows limits h ≡ f ∷ rest → Settled limits (with_told f h)
+  tell_settled s fresh first =
+      let is = (first_is s first).is in
+      subst (λ (g : FlowId). Settled limits (with_told g h)) (sym is) (tell_step limits f.exchange rest h s fresh (first ∙ ap (λ (g : FlowId). g ∷ rest) is))
 
 -- what stays, and what is told of
-pub record AreTold (limits : PlainLimits) (fs rest : List FlowId) (h k : History NoMark) : Type 0 where
+pub record AreTold (limits : PlainLimits) (fs rest : List FlowId) (h k : Past) : Type 0 where
   pub settled : Settled limits k
   pub lists : KeepsLists h k
   pub streams : (y : ℕ) → KeepsStream limits y h k
-  pub octets : out (plain_setup limits) 0 k ≡ out (plain_setup limits) 0 h
-  pub high : above (plain_setup limits) (buffer.Write 0) k ≡ above (plain_setup limits) (buffer.Write 0) h
-  pub last : framed_last (plain_setup limits) 0 k ≡ framed_last (plain_setup limits) 0 h
+  pub octets : conn_out limits k ≡ conn_out limits h
+  pub high : conn_high limits k ≡ conn_high limits h
+  pub last : last_out limits k ≡ last_out limits h
   pub paired : (y : ℕ) → paired_with y k ≡ paired_with y h
-  pub lows : pending_lows (plain_setup limits) (buffer.Write 0) k ≡ rest
-  pub counts : (y : ℕ) → has (live h) y ≡ true → count (request y) k + times (request y) fs ≡ count (request y) h
+  pub lows : conn_lows limits k ≡ rest
+  pub counts : (y : ℕ) → Alive h y → count (request y) k + times (request y) fs ≡ count (request y) h
 
 same_turned : (x y : ℕ) → same_flow (request y) (request x) ≡ (x == y)
 same_turned x y = pick (x == y) (y == x) (swapped x y)
@@ -81,7 +79,7 @@ times_cons x y fs = sum_by-cons (λ (f : FlowId). cond (same_flow (request y) f)
 pub times_one : (x y : ℕ) → times (request y) (request x ∷ []) ≡ one_if (x == y)
 times_one x y = times_cons x y [] ∙ plus_none (one_if (x == y))
 
-none_told : (limits : PlainLimits) (rest : List FlowId) (h : History NoMark) → Settled limits h → pending_lows (plain_setup limits) (buffer.Write 0) h ≡ rest → AreTold limits [] rest h h
+none_told : (limits : PlainLimits) (rest : List FlowId) (h : Past) → Settled limits h → conn_lows limits h ≡ rest → AreTold limits [] rest h h
 none_told limits rest h s lows = record {
   settled = s;
   lists = record { lives = refl; begun = refl; doomed = refl; numbers = refl; events = refl };
@@ -94,7 +92,7 @@ none_told limits rest h s lows = record {
   counts = λ y is. plus_none (count (request y) h);
 }
 
-more_told : (limits : PlainLimits) (x : ℕ) (fs rest : List FlowId) (h k : History NoMark) → Settled limits h → pending_lows (plain_setup limits) (buffer.Write 0) h ≡ request x ∷ (fs ++ rest)
+more_told : (limits : PlainLimits) (x : ℕ) (fs rest : List FlowId) (h k : Past) → Settled limits h → conn_lows limits h ≡ request x ∷ (fs ++ rest)
     → AreTold limits fs rest (with_told (request x) h) k → AreTold limits (request x ∷ fs) rest h k
 more_told limits x fs rest h k s first t = record {
   settled = t.settled;
@@ -111,13 +109,11 @@ more_told limits x fs rest h k s first t = record {
     both_fewer : (k t o a b h : ℕ) → t ≡ o + a → k + a ≡ b → b + o ≡ h → k + t ≡ h
     both_fewer k t o a b h e1 e2 e3 = omega (arith, e1, e2, e3)
 
-pub are_told : (limits : PlainLimits) (fs rest : List FlowId) (h : History NoMark) → Settled limits h → is_swept h ≡ false
-    → pending_lows (plain_setup limits) (buffer.Write 0) h ≡ fs ++ rest → AreTold limits fs rest h (with_all_told fs h)
+pub are_told : (limits : PlainLimits) (fs rest : List FlowId) (h : Past) → Settled limits h → is_swept h ≡ false
+    → conn_lows limits h ≡ fs ++ rest → AreTold limits fs rest h (with_all_told fs h)
 are_told limits [] rest h s fresh e = none_told limits rest h s e
 are_told limits (f ∷ fs) rest h s fresh e =
     let is = (first_is limits f (fs ++ rest) h s e).is in
     let next : Settled limits (with_told f h) = tell_settled limits f (fs ++ rest) h s fresh e in
     let all : AreTold limits fs rest (with_told f h) (with_all_told fs (with_told f h)) = are_told limits fs rest (with_told f h) next refl (ap (λ (v : List FlowId). drop 1 v) e) in
-    let P : FlowId → Type 0 = λ g. AreTold limits fs rest (with_told g h) (with_all_told fs (with_told f h)) in
-    let Q : FlowId → Type 0 = λ g. AreTold limits (g ∷ fs) rest h (with_all_told fs (with_told f h)) in
-    subst Q (sym is) (more_told limits f.exchange fs rest h (with_all_told fs (with_told f h)) s (e ∙ ap (λ (g : FlowId). g ∷ (fs ++ rest)) is) (subst P is all))
+    subst (λ (g : FlowId). AreTold limits (g ∷ fs) rest h (with_all_told fs (with_told f h))) (sym is) (more_told limits f.exchange fs rest h (with_all_told fs (with_told f h)) s (e ∙ ap (λ (g : FlowId). g ∷ (fs ++ rest)) is) (subst (λ (g : FlowId). AreTold limits fs rest (with_told g h) (with_all_told fs (with_told f h))) is all))

@@ -8,15 +8,12 @@ use Rattle.plain_laws.proofs.Streams.{by_case, not_both, number_is}
 use Rattle.plain_laws.specs.Settled.{Settled}
 use Rattle.std.proofs.Common.{ap, arith, inl, inr, refl, subst, sym, ◌∙◌}
 use Rattle.std.proofs.lemmas.Bool.Decides.{nat_tests}
-use Rattle.std.specs.List.{AllByRecursion, list_any, slice_get}
+use Rattle.std.specs.List.{AllByRecursion, list_any}
 use Rattle.std.specs.Prelude.{Bool, IfNone, List, None, Option, Some, [], drop, false, length, nat_lt, option_to_list, true, ℕ, ◌&&◌, ◌++◌, ◌+◌, ◌==◌, ◌∷◌, ◌≡◌, ◌≤◌, ◌⊎◌}
-use Rattle.tape_laws.specs.Dispatches.{has, live}
+use Rattle.plain_laws.specs.Words.{Past, Alive, conn_high, conn_lows, recv_at}
 use Rattle.tape_laws.specs.Flows.{request}
-use Rattle.tape_laws.specs.History.{History, NoMark, Noted}
-use Rattle.tape_laws.specs.Pauses.{count, pending_lows}
-use Rattle.tape_laws.specs.Plain.{plain_setup}
-use Rattle.tape_laws.specs.Watermark.{above}
-use Rattle.tape_laws.specs.World.{place}
+use Rattle.tape_laws.specs.History.{Noted}
+use Rattle.tape_laws.specs.Pauses.{count}
 use Rattle.tape_laws.specs.declared.limits.PlainLimits.{PlainLimits}
 use Rattle.plain_core.proofs.Agendas.{after_telling, grounds_run, grounds_same, holds_run, holds_same, run_is, runs_run, top_is}
 use Rattle.plain_core.proofs.Tellings.{first_is, tell_settled, with_all_told, with_told}
@@ -27,8 +24,9 @@ use Rattle.plain_core.specs.Progress.{Pairs, Underway}
 use Rattle.flow_gate.specs.declared.ids.BufferId.TheVariants as buffer
 use Rattle.flow_notes.specs.declared.notes.Note.TheVariants as note
 use Rattle.plain_core.specs.declared.agenda.Task.TheVariants as task
+use Rattle.plain_core.specs.Words.{OnTop}
 
-pub tell_leaves_work : (limits : PlainLimits) (x : ℕ) (h : History NoMark) → LeavesWork limits h (Noted (note.Resume (request x) (buffer.Write 0)) ∷ h)
+pub tell_leaves_work : (limits : PlainLimits) (x : ℕ) (h : Past) → LeavesWork limits h (Noted (note.Resume (request x) (buffer.Write 0)) ∷ h)
 tell_leaves_work limits x h = record {
   lives = λ y l. l;
   unswept = λ e. refl;
@@ -52,59 +50,61 @@ neither : (a b : Bool) → a ≡ false → (a && b) ≡ false
 neither true b e = cc
 neither false b e = refl
 
-pub still_above : (limits : PlainLimits) (x : ℕ) (h : History NoMark) → Settled limits h → has (live h) x ≡ true → above (plain_setup limits) (buffer.Write 0) h ≡ true → may_move limits x h ≡ false
+pub still_above : (limits : PlainLimits) (x : ℕ) (h : Past) → Settled limits h → Alive h x → conn_high limits h ≡ true → may_move limits x h ≡ false
 still_above limits x h s l e =
-    neither (count (request x) h == 0) (nat_lt 0 (length (place (plain_setup limits) (request x) 0 h)))
+    neither (count (request x) h == 0) (nat_lt 0 (length (recv_at limits x h)))
     (not_zero (count (request x) h) (some_count _ _ _ _ (settled_count limits x h s l) (ap one_if e)))
 
 -- nothing of it moves where it is told
-still_told : (limits : PlainLimits) (f : FlowId) (y : ℕ) (h : History NoMark) → IsStill limits y h → IsStill limits y (with_told f h)
-still_told limits f y h s = record {
-  still = elim s.still as (λ t. (above (plain_setup limits) (buffer.Write 0) (with_told f h) ≡ true) ⊎ (nat_lt 0 (length (place (plain_setup limits) (request y) 0 (with_told f h))) ≡ false))
-      [ inl e ↦ inl (write_resume_high limits f h ∙ e) | inr e ↦ inr e ];
-}
+module _ (limits : PlainLimits) (f : FlowId) where
+  still_told : (y : ℕ) (h : Past) → IsStill limits y h → IsStill limits y (with_told f h)
+  still_told y h s = record {
+    still = elim s.still as (λ t. (conn_high limits (with_told f h) ≡ true) ⊎ (nat_lt 0 (length (recv_at limits y (with_told f h))) ≡ false))
+        [ inl e ↦ inl (write_resume_high limits f h ∙ e) | inr e ↦ inr e ];
+  }
 
-all_still_told : (limits : PlainLimits) (f : FlowId) (gs : List FlowId) (h : History NoMark) → AllByRecursion (λ g. IsStill limits g.exchange h) gs
-    → AllByRecursion (λ g. IsStill limits g.exchange (with_told f h)) gs
-all_still_told limits f [] h a = tt
-all_still_told limits f (g ∷ gs) h a = (still_told limits f g.exchange h a.0, all_still_told limits f gs h a.1)
+  all_still_told : (gs : List FlowId) (h : Past) → AllByRecursion (λ g. IsStill limits g.exchange h) gs
+      → AllByRecursion (λ g. IsStill limits g.exchange (with_told f h)) gs
+  all_still_told [] h a = tt
+  all_still_told (g ∷ gs) h a = (still_told g.exchange h a.0, all_still_told gs h a.1)
 
 empty_still : (a b : Bool) → b ≡ false → (a && b) ≡ false
 empty_still true b e = e
 empty_still false b e = refl
 
-still_stays : (limits : PlainLimits) (x : ℕ) (h : History NoMark) → Settled limits h → has (live h) x ≡ true → IsStill limits x h → may_move limits x h ≡ false
+still_stays : (limits : PlainLimits) (x : ℕ) (h : Past) → Settled limits h → Alive h x → IsStill limits x h → may_move limits x h ≡ false
 still_stays limits x h s l t =
     elim t.still as (λ v. may_move limits x h ≡ false)
-    [ inl e ↦ still_above limits x h s l e | inr e ↦ empty_still (count (request x) h == 0) (nat_lt 0 (length (place (plain_setup limits) (request x) 0 h))) e ]
+    [ inl e ↦ still_above limits x h s l e | inr e ↦ empty_still (count (request x) h == 0) (nat_lt 0 (length (recv_at limits x h))) e ]
 
 -- what may move once x was told could move before, or is of x
-told_moves : (limits : PlainLimits) (x y : ℕ) (rest : List FlowId) (h : History NoMark) → Settled limits h → pending_lows (plain_setup limits) (buffer.Write 0) h ≡ request x ∷ rest
-    → has (live h) y ≡ true → (x == y) ≡ false → may_move limits y (with_told (request x) h) ≡ true → may_move limits y h ≡ true
+told_moves : (limits : PlainLimits) (x y : ℕ) (rest : List FlowId) (h : Past) → Settled limits h → conn_lows limits h ≡ request x ∷ rest
+    → Alive h y → (x == y) ≡ false → may_move limits y (with_told (request x) h) ≡ true → may_move limits y h ≡ true
 told_moves limits x y rest h s first l d m =
     moves_back limits y h (with_told (request x) h) (λ e. still_none _ _ _ (tell_count limits x y rest h s l first) d e) (same_length _ _ (resume_keeps limits y (request x) (buffer.Write 0) h).recv) m
 
-underway_told : (limits : PlainLimits) (pairs : Pairs) (a : Agenda) (x : ℕ) (rest : List FlowId) (h : History NoMark) → Settled limits h
-    → pending_lows (plain_setup limits) (buffer.Write 0) h ≡ request x ∷ rest → is_rounded a ≡ true → IsStill limits x h
-    → Underway limits pairs a h → Underway limits pairs a (with_told (request x) h)
-underway_told limits pairs a x rest h s first r still u =
-    let k : History NoMark = with_told (request x) h in
-    let at : (y : ℕ) → (x == y) ≡ true → IsStill limits y k = λ y e. (let P : ℕ → Type 0 = λ v. IsStill limits v k in subst P (number_is x y e) (still_told limits (request x) x h still)) in
-    underway_of limits pairs a a h k (holds_same a) (grounds_same a) (tell_leaves_work limits x h) r
-    (λ y l m. by_case (x == y) (λ e. not_both (may_move limits y k) m (still_stays limits y k (tell_step limits x rest h s (unswept_rounded a h r u.unswept) first) l (at y e)))
-    (λ d. u.runs y l (told_moves limits x y rest h s first l d m))) u
+module _ (limits : PlainLimits) (pairs : Pairs) (a : Agenda) (x : ℕ) (rest : List FlowId) (h : Past) where
+  underway_told : Settled limits h
+      → conn_lows limits h ≡ request x ∷ rest → is_rounded a ≡ true → IsStill limits x h
+      → Underway limits pairs a h → Underway limits pairs a (with_told (request x) h)
+  underway_told s first r still u =
+      let k : Past = with_told (request x) h in
+      let at : (y : ℕ) → (x == y) ≡ true → IsStill limits y k = λ y e. (subst (λ (v : ℕ). IsStill limits v k) (number_is x y e) (still_told limits (request x) x h still)) in
+      underway_of limits pairs a a h k (holds_same a) (grounds_same a) (tell_leaves_work limits x h) r
+      (λ y l m. by_case (x == y) (λ e. not_both (may_move limits y k) m (still_stays limits y k (tell_step limits x rest h s (unswept_rounded a h r u.unswept) first) l (at y e)))
+      (λ d. u.runs y l (told_moves limits x y rest h s first l d m))) u
 
-underway_woken : (limits : PlainLimits) (pairs : Pairs) (a : Agenda) (x : ℕ) (rest : List FlowId) (h : History NoMark) → Settled limits h
-    → pending_lows (plain_setup limits) (buffer.Write 0) h ≡ request x ∷ rest → is_rounded a ≡ true
-    → Underway limits pairs a h → Underway limits pairs (with_run (request x) a) (with_told (request x) h)
-underway_woken limits pairs a x rest h s first r u =
-    underway_of limits pairs a (with_run (request x) a) h (with_told (request x) h) (holds_run (request x) a) (grounds_run (request x) a) (tell_leaves_work limits x h) r
-    (λ y l m. by_case (x == y) (λ e. subst (λ (v : ℕ). list_any (is_run_of (request v)) (with_run (request x) a) ≡ true) (number_is x y e) (run_is x a))
-    (λ d. (runs_run (request x) a).runs (request y) (u.runs y l (told_moves limits x y rest h s first l d m)))) u
+  underway_woken : Settled limits h
+      → conn_lows limits h ≡ request x ∷ rest → is_rounded a ≡ true
+      → Underway limits pairs a h → Underway limits pairs (with_run (request x) a) (with_told (request x) h)
+  underway_woken s first r u =
+      underway_of limits pairs a (with_run (request x) a) h (with_told (request x) h) (holds_run (request x) a) (grounds_run (request x) a) (tell_leaves_work limits x h) r
+      (λ y l m. by_case (x == y) (λ e. subst (λ (v : ℕ). list_any (is_run_of (request v)) (with_run (request x) a) ≡ true) (number_is x y e) (run_is x a))
+      (λ d. (runs_run (request x) a).runs (request y) (u.runs y l (told_moves limits x y rest h s first l d m)))) u
 
 -- flows of which nothing moves are told, and then one that is run, or none is left
-pub underway_telling : (limits : PlainLimits) (pairs : Pairs) (c : ℕ) (a : Agenda) (fs : List FlowId) (next : Option FlowId) (rest : List FlowId) (h : History NoMark) → Settled limits h
-    → pending_lows (plain_setup limits) (buffer.Write 0) h ≡ (fs ++ option_to_list next) ++ rest → IfNone next (rest ≡ []) → slice_get a 0 ≡ Some (task.Tell c) → is_rounded a ≡ true
+pub underway_telling : (limits : PlainLimits) (pairs : Pairs) (c : ℕ) (a : Agenda) (fs : List FlowId) (next : Option FlowId) (rest : List FlowId) (h : Past) → Settled limits h
+    → conn_lows limits h ≡ (fs ++ option_to_list next) ++ rest → IfNone next (rest ≡ []) → OnTop (task.Tell c) a → is_rounded a ≡ true
     → AllByRecursion (λ f. IsStill limits f.exchange h) fs
     → Underway limits pairs a h → Underway limits pairs (after_telling next a) (with_all_told (fs ++ option_to_list next) h)
 underway_telling limits pairs c a [] None rest h s lows last top r still u =
@@ -117,7 +117,6 @@ underway_telling limits pairs c a [] (Some f) rest h s lows last top r still u =
 underway_telling limits pairs c a (f ∷ fs) next rest h s lows last top r still u =
     let more = (fs ++ option_to_list next) ++ rest in
     let is = (first_is limits f more h s lows).is in
-    let P : FlowId → Type 0 = λ g. Underway limits pairs a (with_told g h) in
     let one : Underway limits pairs a (with_told f h) =
-    subst P (sym is) (underway_told limits pairs a f.exchange more h s (lows ∙ ap (λ (g : FlowId). g ∷ more) is) r still.0 u) in
+    subst (λ (g : FlowId). Underway limits pairs a (with_told g h)) (sym is) (underway_told limits pairs a f.exchange more h s (lows ∙ ap (λ (g : FlowId). g ∷ more) is) r still.0 u) in
     underway_telling limits pairs c a fs next rest (with_told f h) (tell_settled limits f more h s (unswept_rounded a h r u.unswept) lows) (ap (λ (v : List FlowId). drop 1 v) lows) last top r (all_still_told limits f fs h still.1) one

@@ -7,16 +7,12 @@ use Rattle.plain_laws.proofs.Streams.{by_case, not_both}
 use Rattle.std.proofs.Common.{ap, arith, inl, inr, refl, sym, ◌∙◌}
 use Rattle.std.proofs.lemmas.Bool.Decides.{nat_tests}
 use Rattle.std.specs.Prelude.{List, [], false, length, nat_lt, true, ℕ, ◌&&◌, ◌<◌, ◌==◌, ◌∷◌, ◌≡◌}
-use Rattle.tape_laws.specs.Dispatches.{has, live}
+use Rattle.plain_laws.specs.Words.{Past, Alive, conn_high, conn_lows, next_out, recv_at}
 use Rattle.tape_laws.specs.Flows.{request}
-use Rattle.tape_laws.specs.History.{History, NoMark}
-use Rattle.tape_laws.specs.Order.{Nothing, next_on}
-use Rattle.tape_laws.specs.Pauses.{count, pending_lows}
-use Rattle.tape_laws.specs.Plain.{plain_setup}
+use Rattle.tape_laws.specs.Order.{Nothing}
+use Rattle.tape_laws.specs.Pauses.{count}
 use Rattle.tape_laws.specs.PlainSession.{plain_must_end}
 use Rattle.tape_laws.specs.PlainTape.{IsPlainWhole}
-use Rattle.tape_laws.specs.Watermark.{above}
-use Rattle.tape_laws.specs.World.{place}
 use Rattle.tape_laws.specs.declared.limits.PlainLimits.{PlainLimits}
 use Rattle.plain_core.proofs.Fronts.{appends_more, turn_appended, turn_more}
 use Rattle.plain_core.proofs.Rested.{no_task}
@@ -36,23 +32,23 @@ nothing_left c [] e z = refl
 nothing_left c (y ∷ ys) e z = not_both _ (some_test c (length (y ∷ ys)) z (omega arith)) e
 
 -- where nothing is under way and nothing doomed nothing is left to do
-whole_of : (limits : PlainLimits) (core : PlainCore) (h : History NoMark) → Good limits core h → core.agenda ≡ [] → core.flows.exchanges.doomed ≡ [] → IsPlainWhole limits h
+whole_of : (limits : PlainLimits) (core : PlainCore) (h : Past) → Good limits core h → core.agenda ≡ [] → core.flows.exchanges.doomed ≡ [] → IsPlainWhole limits h
 whole_of limits core h g idle swept =
     let u = g.underway in
-    let told : pending_lows (plain_setup limits) (buffer.Write 0) h ≡ [] =
-    elim u.tells as (λ s. pending_lows (plain_setup limits) (buffer.Write 0) h ≡ []) [ inl e ↦ e | inr e ↦ not_both _ e (no_task (is_telling 0) core.agenda idle) ] in
-    let still : (x : ℕ) → has (live h) x ≡ true → may_move limits x h ≡ false =
+    let told : conn_lows limits h ≡ [] =
+    elim u.tells as (λ s. conn_lows limits h ≡ []) [ inl e ↦ e | inr e ↦ not_both _ e (no_task (is_telling 0) core.agenda idle) ] in
+    let still : (x : ℕ) → Alive h x → may_move limits x h ≡ false =
     λ x is. by_case (may_move limits x h) (λ t. not_both _ (u.runs x is t) (no_task (is_run_of (request x)) core.agenda idle)) (λ f. f) in
-    let framed : above (plain_setup limits) (buffer.Write 0) h ≡ false → next_on (plain_setup limits) 0 h ≡ Nothing =
-    λ low. elim u.rested as (λ s. next_on (plain_setup limits) 0 h ≡ Nothing) [
+    let framed : conn_high limits h ≡ false → next_out limits h ≡ Nothing =
+    λ low. elim u.rested as (λ s. next_out limits h ≡ Nothing) [
       | inl e ↦ not_both _ e (ap is_rounded idle)
-      | inr e ↦ elim (e.1.none) as (λ s. next_on (plain_setup limits) 0 h ≡ Nothing) [ inl a ↦ not_both _ a low | inr r ↦ next_none limits h r ]
+      | inr e ↦ elim (e.1.none) as (λ s. next_out limits h ≡ Nothing) [ inl a ↦ not_both _ a low | inr r ↦ next_none limits h r ]
     ] in
-    let ended : (x : ℕ) → has (live h) x ≡ true → plain_must_end x h ≡ false =
+    let ended : (x : ℕ) → Alive h x → plain_must_end x h ≡ false =
     λ x is. by_case (plain_must_end x h) (λ t. not_both _ (u.ends x is t) (no_task (will_doom core.pairs x) core.agenda idle)) (λ f. f) in
     record {
       lawful = g.flows.lawful.regular.lawful;
-      quiet = (settled_done limits h g.flows.lawful told (λ x is z. nothing_left (count (request x) h) (place (plain_setup limits) (request x) 0 h) (still x is) z) framed ended
+      quiet = (settled_done limits h g.flows.lawful told (λ x is z. nothing_left (count (request x) h) (recv_at limits x h) (still x is) z) framed ended
           (sym g.flows.stands.exchanges.doomed ∙ swept)).quiet;
     }
 

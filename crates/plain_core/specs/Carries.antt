@@ -7,7 +7,7 @@ use Rattle.plain_laws.specs.StepNotes.{begin_notes, body_notes, frame_notes, mov
 use Rattle.std.specs.Prelude.{Bool, List, None, Option, IfSome, Some, [], false, length, min, nat_lt, take, true, ℕ, ◌&&◌, ◌+◌, ◌<◌, ◌==◌, ◌∷◌, ◌≡◌, ◌≤◌, ◌⊎◌}
 use Rattle.tape_laws.specs.Dispatches.{has, live, started}
 use Rattle.tape_laws.specs.Doomed.{condemned, is_swept}
-use Rattle.tape_laws.specs.Ends.{BodyUnit}
+use Rattle.flow_rules.specs.declared.unit.Unit.TheVariants.{Body as BodyUnit}
 use Rattle.tape_laws.specs.Flows.{request}
 use Rattle.tape_laws.specs.History.{History, NoMark, Noted, onto}
 use Rattle.tape_laws.specs.Order.{Flows as FlowsNext, Nothing, next_on}

@@ -13,7 +13,10 @@ use Rattle.std.specs.Ordering.{nat_cmp}
 use Rattle.std.specs.Prelude.{None, Option, Some, [], false, if◌then◌else◌, length, map, nat_lt, true, ℕ, ◌&&◌, ◌<◌, ◌^◌, ◌≡◌, ◌≤◌, ◌∷◌, ◌⊎◌}
 use Rattle.tape_laws.specs.Dispatches.{has, live, started}
 use Rattle.tape_laws.specs.Doomed.{condemned}
-use Rattle.tape_laws.specs.Ends.{BodyUnit, FlowUnit, end_framed, next_unit}
+use Rattle.tape_laws.specs.Ends.{end_framed}
+use Rattle.tape_laws.specs.Framing.{next_unit}
+use Rattle.flow_rules.specs.declared.unit.Unit.{Unit as FlowUnit}
+use Rattle.flow_rules.specs.declared.unit.Unit.TheVariants.{Body as BodyUnit}
 use Rattle.tape_laws.specs.Flows.{request}
 use Rattle.tape_laws.specs.History.{History, NoMark}
 use Rattle.tape_laws.specs.Order.{framed_last}

@@ -12,3 +12,4 @@ pub mod Stands
 pub mod Telling
 pub mod Tops
 pub mod UnitsOf
+pub mod Words

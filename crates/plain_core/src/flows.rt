@@ -8,12 +8,12 @@ ghost use Rattle.std.specs.Ordering.{nat_cmp};
 ghost use Rattle.std.specs.Prelude.{if◌then◌else◌, nat_lt, not, ◌==◌, ◌&&◌, ◌||◌};
 ghost use Rattle.plain_core.specs.Crossings.{MarksCrossed};
 ghost use Rattle.plain_core.specs.Measure.{LessByStep, left_in, of_frame};
-ghost use Rattle.plain_core.specs.UnitsOf.{as_piece, is_emptied, piece_at, unit_at};
+ghost use Rattle.plain_core.specs.UnitsOf.{is_emptied, piece_at, unit_at};
 ghost use Rattle.flow_gate.specs.Board.{IsSound as AreSoundGates, is_known, is_marked, pending_on, watchers_of};
 ghost use Rattle.proxy_config.specs.Ranges.{IsRoute};
 ghost use Rattle.tape_laws.specs.Flows.{request as flow_of};
 ghost use Rattle.plain_core.specs.Carries.{Begins, Dooms, Ends, Frames, GoesOn, IsNextFrame, Leaves, Lives, Receives, Steps, Sweeps, Tells};
-ghost use Rattle.plain_core.specs.Flows.{AreLimits, IsSettled, Settled};
+ghost use Rattle.plain_core.specs.Flows.{AreLimits, IsSettled, Settled, piece_of};
 
 use crate::conn::Connection;
 use exchange_core::{Advance, Exchanges, Piece, Received, StartSpec, Step, Unit};
@@ -332,7 +332,7 @@ impl Flows {
 
     // Records the unit of an exchange that goes next, if it is a DATA frame.
     fn record_unit(&mut self, exchange: u64, unit: Unit) -> Result<(), NoMemory>
-        ensures ready { OnOk result ((x : ℕ) → get nat_cmp self.new.conn.ready x ≡ (if exchange == x then as_piece unit else get nat_cmp self.old.conn.ready x)) }
+        ensures ready { OnOk result ((x : ℕ) → get nat_cmp self.new.conn.ready x ≡ (if exchange == x then piece_of unit else get nat_cmp self.old.conn.ready x)) }
         ensures rest { self.new ≡ record self.old { conn = record self.old.conn { ready = self.new.conn.ready } } }
     {
         if let Unit::Body { n, last } = unit {

@@ -16,6 +16,5 @@ returns-clause-dooms c = subst (Dooms c.args.exchange c.args.cause c.args.self.n
 
 pub returns-clause-less : goal.returns-clause-less
 returns-clause-less c =
-    let P : Flows → Type 0 = λ f. left_in f ≤ left_in c.args.self.now in
-    subst P (sym c.unhold.ensures.rest) (doom_less c.args.exchange c.args.self.now c.doom-replies.new.self c.doom-replies.new.gates c.unready.new.self c.unhold.new.self.holding
+    subst (λ (f : Flows). left_in f ≤ left_in c.args.self.now) (sym c.unhold.ensures.rest) (doom_less c.args.exchange c.args.self.now c.doom-replies.new.self c.doom-replies.new.gates c.unready.new.self c.unhold.new.self.holding
     c.requires.settled.settled.stands.exchanges.sound c.doom-replies.ensures.dooms c.doom-replies.ensures.sound c.requires.settled c.requires.live c.doom-replies.ensures.gates)

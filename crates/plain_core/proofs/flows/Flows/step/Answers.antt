@@ -3,7 +3,7 @@ use Rattle.exchange_core.specs.Exchanges.{IsLiveFlow, flow_at, target_of}
 use Rattle.exchange_core.specs.Moves.{next_step, stepped}
 use Rattle.exchange_core.specs.declared.step.Advance.{Advance}
 use Rattle.exchange_core.specs.declared.step.Step.{Step as MoveStep}
-use Rattle.exchange_core.specs.declared.step.Unit.{Unit as NextUnit}
+use Rattle.flow_rules.specs.declared.unit.Unit.{Unit as NextUnit}
 use Rattle.flow_gate.specs.Board.{is_known, is_marked, is_open as is_there}
 use Rattle.flow_gate.specs.Changes.{Rises}
 use Rattle.flow_gate.specs.declared.ids.FlowId.{FlowId}
@@ -15,7 +15,7 @@ use Rattle.std.specs.Prelude.{IsNone, Option, Some, false, if◌then◌else◌, 
 use Rattle.tape_laws.specs.Flows.{request}
 use Rattle.wm_buffer.specs.declared.watermark.Crossed.{Crossed}
 use Rattle.wm_buffer.specs.declared.watermark.Crossed.TheVariants as crossed
-use Rattle.plain_core.specs.UnitsOf.{as_piece}
+use Rattle.plain_core.specs.Flows.{piece_of}
 use Rattle.plain_core.specs.declared.flows.Flows.{Flows}
 use Rattle.flow_gate.specs.declared.ids.BufferId.TheVariants as buffer
 use Rattle.plain_core.proofs.FlowSteps.{RisesSend, found_lives, high_allowed, idle_less_all, idles_all, moves_all, moves_less_all, no_step, stay_less_all, stays_all, step_found}
@@ -24,6 +24,7 @@ use Rattle.plain_core.proofs.FlowUnits.{piece_seen, unit_named}
 use Rattle.plain_core.proofs.flows.Flows.step.Goals as goal
 use Rattle.plain_core.proofs.flows.Flows.step.Goals.{else-rose, then-rose}
 use Rattle.plain_core.specs.Crossings.{is_high}
+use Rattle.plain_core.proofs.FlowMarks.{not_high}
 
 pub advance-requires : goal.advance-requires
 advance-requires c = record {
@@ -71,29 +72,21 @@ record_left-requires c =
     subst (IsLiveFlow c.advance.new.self) c.request-flow.ensures
     (step_found _ _ c.in-Some.field-0.unit (unit_of c.in_ok-step.field-0 c.in-Some.field-0 _ c.in-Some.is (c.in_ok-step.ensures {u = tt}).unit))
 
-pub high-requires-clause-known : goal.high-requires-clause-known
-high-requires-clause-known c =
+pub high-requires : goal.high-requires
+high-requires c =
     let old = c.args.self.now in
     let is = named old c.args.exchange c.request-flow.result c.in_ok-step.field-0 c.in-Some.field-0 c.request-flow.ensures c.in-Some.is (c.in_ok-step.ensures {u = tt}).step in
-    let moved = ap (λ (v : MoveStep). Some v) (sym c.in-Moved.is) ∙ is in
-    ap (λ (f : Flows). is_known f.gates (buffer.Send c.request-flow.result)) c.record_left.ensures.rest ∙ (ap (λ f. is_known old.gates (buffer.Send f)) c.request-flow.ensures
-    ∙ (high_allowed c.args.exchange c.in-Moved.place c.in-Moved.n c.in-Moved.shifted c.in-Moved.overflow old c.requires moved).0)
+    let allowed = high_allowed c.args.exchange c.in-Moved.place c.in-Moved.n c.in-Moved.shifted c.in-Moved.overflow old c.requires (ap (λ (v : MoveStep). Some v) (sym c.in-Moved.is) ∙ is) in
+    record {
+      known = ap (λ (f : Flows). is_known f.gates (buffer.Send c.request-flow.result)) c.record_left.ensures.rest ∙ (ap (λ f. is_known old.gates (buffer.Send f)) c.request-flow.ensures ∙ allowed.0);
+      low = ap (λ (f : Flows). is_marked f.gates (buffer.Send c.request-flow.result)) c.record_left.ensures.rest ∙ (ap (λ f. is_marked old.gates (buffer.Send f)) c.request-flow.ensures ∙ allowed.1);
+    }
 
-pub high-requires-clause-low : goal.high-requires-clause-low
-high-requires-clause-low c =
-    let old = c.args.self.now in
-    let is = named old c.args.exchange c.request-flow.result c.in_ok-step.field-0 c.in-Some.field-0 c.request-flow.ensures c.in-Some.is (c.in_ok-step.ensures {u = tt}).step in
-    let moved = ap (λ (v : MoveStep). Some v) (sym c.in-Moved.is) ∙ is in
-    ap (λ (f : Flows). is_marked f.gates (buffer.Send c.request-flow.result)) c.record_left.ensures.rest ∙ (ap (λ f. is_marked old.gates (buffer.Send f)) c.request-flow.ensures
-    ∙ (high_allowed c.args.exchange c.in-Moved.place c.in-Moved.n c.in-Moved.shifted c.in-Moved.overflow old c.requires moved).1)
+with_ready : {a b new : Flows} → new ≡ record a { conn = record a.conn { ready = new.conn.ready } } → a ≡ b → new ≡ record b { conn = record b.conn { ready = new.conn.ready } }
+with_ready {new} e same = e ∙ ap (λ (f : Flows). record f { conn = record f.conn { ready = new.conn.ready } }) same
 
-not_high : (d : Crossed) → (d ≡ crossed.High → ⊥) → is_high d ≡ false
-not_high crossed.High n = absurd (n refl)
-not_high crossed.Low n = refl
-not_high crossed.Nothing n = refl
-
-pub returns-clause-steps : goal.returns-clause-steps
-returns-clause-steps c =
+pub returns : goal.returns
+returns c =
     let old = c.args.self.now in
     let x = c.args.exchange in
     let ex = c.advance.new.self in
@@ -101,51 +94,44 @@ returns-clause-steps c =
     let change = subst (λ f. ChangesFlow f (stepped old.gates (target_of old.exchanges f)) old.exchanges ex) c.request-flow.ensures (c.in_ok-step.ensures {u = tt}).flow in
     let moved = ap (λ (v : MoveStep). Some v) (sym c.in-Moved.is) ∙ is in
     let unit = unit_of c.in_ok-step.field-0 c.in-Some.field-0 _ c.in-Some.is (c.in_ok-step.ensures {u = tt}).unit in
-    elim c.if-rose.branch [
-      | then-rose w ↦
-          let mid = w.self-is ∙ ap (λ (f : Flows). record f { gates = w.high.new.self }) c.record_left.ensures.rest in
-          let high : c.in-Moved.shifted.to ≡ crossed.High = search rules in
-          moves_all x c.in-Moved.place c.in-Moved.n c.in-Moved.shifted c.in-Moved.overflow c.eq-rose.result old c.record_unit.new.self ex w.high.new.self c.record_left.new.self.holding moved change c.advance.ensures.sound
-          (w.if-rose.true ∙ sym (ap is_high high))
-          (subst (λ r. RisesSend r x old.gates w.high.new.self) (sym w.if-rose.true) (subst (λ f. Rises (buffer.Send f) old.gates w.high.new.self) c.request-flow.ensures
-          (subst (λ b. Rises (buffer.Send c.request-flow.result) b w.high.new.self) (ap (λ (f : Flows). f.gates) c.record_left.ensures.rest) w.high.ensures.rises)))
-          (λ was. w.high.ensures.sound)
-          (c.record_unit.ensures.rest ∙ ap (λ (f : Flows). record f { conn = record f.conn { ready = c.record_unit.new.self.conn.ready } }) mid)
-          (piece_seen (record old { exchanges = ex; gates = w.high.new.self; holding = c.record_left.new.self.holding }) x c.in-Some.field-0.unit (get nat_cmp old.conn.ready) (get nat_cmp c.record_unit.new.self.conn.ready)
-          (unit_named (record old { exchanges = ex; gates = w.high.new.self; holding = c.record_left.new.self.holding }) x c.request-flow.result _ c.in-Some.field-0.unit c.request-flow.ensures (room_is old c.from.result c.requires c.from.ensures) unit)
-          (subst (λ (f : Flows). (y : ℕ) → get nat_cmp c.record_unit.new.self.conn.ready y ≡ (if x == y then as_piece c.in-Some.field-0.unit else get nat_cmp f.conn.ready y)) mid (c.in_ok-record_unit.ensures {u = tt}).ready))
-          c.record_left.ensures.holding
-      | else-rose w ↦
-          let mid = w.self-is ∙ c.record_left.ensures.rest in
-          let other : (c.in-Moved.shifted.to ≡ crossed.High → ⊥) = search rules in
-          moves_all x c.in-Moved.place c.in-Moved.n c.in-Moved.shifted c.in-Moved.overflow c.eq-rose.result old c.record_unit.new.self ex old.gates c.record_left.new.self.holding moved change c.advance.ensures.sound
-          (w.if-rose.false ∙ sym (not_high c.in-Moved.shifted.to other))
-          (subst (λ r. RisesSend r x old.gates old.gates) (sym w.if-rose.false) refl)
-          (λ was. was)
-          (c.record_unit.ensures.rest ∙ ap (λ (f : Flows). record f { conn = record f.conn { ready = c.record_unit.new.self.conn.ready } }) mid)
-          (piece_seen (record old { exchanges = ex; holding = c.record_left.new.self.holding }) x c.in-Some.field-0.unit (get nat_cmp old.conn.ready) (get nat_cmp c.record_unit.new.self.conn.ready)
-          (unit_named (record old { exchanges = ex; holding = c.record_left.new.self.holding }) x c.request-flow.result _ c.in-Some.field-0.unit c.request-flow.ensures (room_is old c.from.result c.requires c.from.ensures) unit)
-          (subst (λ (f : Flows). (y : ℕ) → get nat_cmp c.record_unit.new.self.conn.ready y ≡ (if x == y then as_piece c.in-Some.field-0.unit else get nat_cmp f.conn.ready y)) mid (c.in_ok-record_unit.ensures {u = tt}).ready))
-          c.record_left.ensures.holding
-    ]
-
-pub returns-clause-less : goal.returns-clause-less
-returns-clause-less c =
-    let old = c.args.self.now in
-    let x = c.args.exchange in
-    let ex = c.advance.new.self in
-    let is = named old x c.request-flow.result c.in_ok-step.field-0 c.in-Some.field-0 c.request-flow.ensures c.in-Some.is (c.in_ok-step.ensures {u = tt}).step in
-    let change = subst (λ f. ChangesFlow f (stepped old.gates (target_of old.exchanges f)) old.exchanges ex) c.request-flow.ensures (c.in_ok-step.ensures {u = tt}).flow in
-    let moved = ap (λ (v : MoveStep). Some v) (sym c.in-Moved.is) ∙ is in
-    elim c.if-rose.branch [
-      | then-rose w ↦
-          let mid = w.self-is ∙ ap (λ (f : Flows). record f { gates = w.high.new.self }) c.record_left.ensures.rest in
-          moves_less_all x c.in-Moved.place c.in-Moved.n c.in-Moved.shifted c.in-Moved.overflow true old c.record_unit.new.self ex w.high.new.self c.record_left.new.self.holding c.requires moved change
-          c.advance.ensures.sound (subst (λ f. Rises (buffer.Send f) old.gates w.high.new.self) c.request-flow.ensures
-          (subst (λ b. Rises (buffer.Send c.request-flow.result) b w.high.new.self) (ap (λ (f : Flows). f.gates) c.record_left.ensures.rest) w.high.ensures.rises))
-          (c.record_unit.ensures.rest ∙ ap (λ (f : Flows). record f { conn = record f.conn { ready = c.record_unit.new.self.conn.ready } }) mid)
-      | else-rose w ↦
-          let mid = w.self-is ∙ c.record_left.ensures.rest in
-          moves_less_all x c.in-Moved.place c.in-Moved.n c.in-Moved.shifted c.in-Moved.overflow false old c.record_unit.new.self ex old.gates c.record_left.new.self.holding c.requires moved change
-          c.advance.ensures.sound refl (c.record_unit.ensures.rest ∙ ap (λ (f : Flows). record f { conn = record f.conn { ready = c.record_unit.new.self.conn.ready } }) mid)
-    ]
+    record {
+      steps = elim c.if-rose.branch [
+        | then-rose w ↦
+            let mid = w.self-is ∙ ap (λ (f : Flows). record f { gates = w.high.new.self }) c.record_left.ensures.rest in
+            let high : c.in-Moved.shifted.to ≡ crossed.High = search rules in
+            moves_all x c.in-Moved.place c.in-Moved.n c.in-Moved.shifted c.in-Moved.overflow c.eq-rose.result old c.record_unit.new.self ex w.high.new.self c.record_left.new.self.holding moved change c.advance.ensures.sound
+            (w.if-rose.true ∙ sym (ap is_high high))
+            (subst (λ r. RisesSend r x old.gates w.high.new.self) (sym w.if-rose.true) (subst (λ f. Rises (buffer.Send f) old.gates w.high.new.self) c.request-flow.ensures
+            (subst (λ b. Rises (buffer.Send c.request-flow.result) b w.high.new.self) (ap (λ (f : Flows). f.gates) c.record_left.ensures.rest) w.high.ensures.rises)))
+            (λ was. w.high.ensures.sound)
+            (with_ready c.record_unit.ensures.rest mid)
+            (piece_seen (record old { exchanges = ex; gates = w.high.new.self; holding = c.record_left.new.self.holding }) x c.in-Some.field-0.unit (get nat_cmp old.conn.ready) (get nat_cmp c.record_unit.new.self.conn.ready)
+            (unit_named (record old { exchanges = ex; gates = w.high.new.self; holding = c.record_left.new.self.holding }) x c.request-flow.result _ c.in-Some.field-0.unit c.request-flow.ensures (room_is old c.from.result c.requires c.from.ensures) unit)
+            (subst (λ (f : Flows). (y : ℕ) → get nat_cmp c.record_unit.new.self.conn.ready y ≡ (if x == y then piece_of c.in-Some.field-0.unit else get nat_cmp f.conn.ready y)) mid (c.in_ok-record_unit.ensures {u = tt}).ready))
+            c.record_left.ensures.holding
+        | else-rose w ↦
+            let mid = w.self-is ∙ c.record_left.ensures.rest in
+            let other : (c.in-Moved.shifted.to ≡ crossed.High → ⊥) = search rules in
+            moves_all x c.in-Moved.place c.in-Moved.n c.in-Moved.shifted c.in-Moved.overflow c.eq-rose.result old c.record_unit.new.self ex old.gates c.record_left.new.self.holding moved change c.advance.ensures.sound
+            (w.if-rose.false ∙ sym (not_high c.in-Moved.shifted.to other))
+            (subst (λ r. RisesSend r x old.gates old.gates) (sym w.if-rose.false) refl)
+            (λ was. was)
+            (with_ready c.record_unit.ensures.rest mid)
+            (piece_seen (record old { exchanges = ex; holding = c.record_left.new.self.holding }) x c.in-Some.field-0.unit (get nat_cmp old.conn.ready) (get nat_cmp c.record_unit.new.self.conn.ready)
+            (unit_named (record old { exchanges = ex; holding = c.record_left.new.self.holding }) x c.request-flow.result _ c.in-Some.field-0.unit c.request-flow.ensures (room_is old c.from.result c.requires c.from.ensures) unit)
+            (subst (λ (f : Flows). (y : ℕ) → get nat_cmp c.record_unit.new.self.conn.ready y ≡ (if x == y then piece_of c.in-Some.field-0.unit else get nat_cmp f.conn.ready y)) mid (c.in_ok-record_unit.ensures {u = tt}).ready))
+            c.record_left.ensures.holding
+      ];
+      less = elim c.if-rose.branch [
+        | then-rose w ↦
+            let mid = w.self-is ∙ ap (λ (f : Flows). record f { gates = w.high.new.self }) c.record_left.ensures.rest in
+            moves_less_all x c.in-Moved.place c.in-Moved.n c.in-Moved.shifted c.in-Moved.overflow true old c.record_unit.new.self ex w.high.new.self c.record_left.new.self.holding c.requires moved change
+            c.advance.ensures.sound (subst (λ f. Rises (buffer.Send f) old.gates w.high.new.self) c.request-flow.ensures
+            (subst (λ b. Rises (buffer.Send c.request-flow.result) b w.high.new.self) (ap (λ (f : Flows). f.gates) c.record_left.ensures.rest) w.high.ensures.rises))
+            (with_ready c.record_unit.ensures.rest mid)
+        | else-rose w ↦
+            let mid = w.self-is ∙ c.record_left.ensures.rest in
+            moves_less_all x c.in-Moved.place c.in-Moved.n c.in-Moved.shifted c.in-Moved.overflow false old c.record_unit.new.self ex old.gates c.record_left.new.self.holding c.requires moved change
+            c.advance.ensures.sound refl (with_ready c.record_unit.ensures.rest mid)
+      ];
+    }

@@ -17,18 +17,10 @@ returns-in_err-note_turn-clause-cut c =
     (opened_turn c.args.self.now (record c.args.self.now { flows = c.begin.new.self }) c.open_turn.new.self refl refl refl refl c.in_ok-number.ensures.turn c.in_ok-number.ensures.agenda
     c.open_turn.ensures.rest) c.in_ok-held.ensures c.in_ok-number.ensures.number)
 
-pub returns-clause-ok : goal.returns-clause-ok
-returns-clause-ok c =
-    opens_after c.args.self.now c.open_turn.new.self _ _ _ c.in_ok-number.number (plain.Begin c.args.stream) (begin_notes c.args.stream c.in_ok-held.held) c.note_begin.result
-    c.in_ok-note_turn.ensures c.note_begin.ensures
-    (begin_opened c.args.self.now c.open_turn.new.self c.args.stream c.in_ok-number.number c.in_ok-held.held c.begin.new.self
-    (opened_turn c.args.self.now (record c.args.self.now { flows = c.begin.new.self }) c.open_turn.new.self refl refl refl refl c.in_ok-number.ensures.turn c.in_ok-number.ensures.agenda
-    c.open_turn.ensures.rest) c.in_ok-held.ensures c.in_ok-number.ensures.number)
-
-pub returns-clause-cut : goal.returns-clause-cut
-returns-clause-cut c =
-    turn_after c.args.self.now c.open_turn.new.self _ _ _ c.in_ok-number.number (plain.Begin c.args.stream) (begin_notes c.args.stream c.in_ok-held.held) c.note_begin.result
-    c.in_ok-note_turn.ensures c.note_begin.ensures
-    (begin_opened c.args.self.now c.open_turn.new.self c.args.stream c.in_ok-number.number c.in_ok-held.held c.begin.new.self
-    (opened_turn c.args.self.now (record c.args.self.now { flows = c.begin.new.self }) c.open_turn.new.self refl refl refl refl c.in_ok-number.ensures.turn c.in_ok-number.ensures.agenda
-    c.open_turn.ensures.rest) c.in_ok-held.ensures c.in_ok-number.ensures.number)
+pub returns : goal.returns
+returns c =
+    let r = begin_opened c.args.self.now c.open_turn.new.self c.args.stream c.in_ok-number.number c.in_ok-held.held c.begin.new.self (opened_turn c.args.self.now (record c.args.self.now { flows = c.begin.new.self }) c.open_turn.new.self refl refl refl refl c.in_ok-number.ensures.turn c.in_ok-number.ensures.agenda c.open_turn.ensures.rest) c.in_ok-held.ensures c.in_ok-number.ensures.number in
+    record {
+      ok = opens_after c.args.self.now c.open_turn.new.self _ _ _ c.in_ok-number.number (plain.Begin c.args.stream) (begin_notes c.args.stream c.in_ok-held.held) c.note_begin.result c.in_ok-note_turn.ensures c.note_begin.ensures r;
+      cut = turn_after c.args.self.now c.open_turn.new.self _ _ _ c.in_ok-number.number (plain.Begin c.args.stream) (begin_notes c.args.stream c.in_ok-held.held) c.note_begin.result c.in_ok-note_turn.ensures c.note_begin.ensures r;
+    }

@@ -26,29 +26,16 @@ returns-in_err-note_turn-in-Arrived-clause-cut c =
     c.in_ok-begin_run-in-Arrived.ensures.agenda c.begin_run.ensures.rest)
     (received_as c.from-exchange.result c.as_slice-2.result.now c.in_ok-receive.field-0 received.Arrived c.args.self.now.flows c.receive.new.self c.in-Arrived.is c.in_ok-receive.ensures) c.in_ok-number-in-Arrived.ensures.number))
 
-pub returns-in_ok-note_turn-in-Arrived-clause-ok : goal.returns-in_ok-note_turn-in-Arrived-clause-ok
-returns-in_ok-note_turn-in-Arrived-clause-ok c =
-    opens_named c.args.self.now c.begin_run.new.self c.args.notes.now _ (event.Plain (plain.Body c.args.stream c.in_ok-from_slice.field-0)) (event.Plain (plain.Body c.args.stream c.args.octets.now)) c.push.result (body_said c.args.stream c.in_ok-from_slice.field-0 c.args.octets.now (c.in_ok-from_slice.ensures ∙ c.as_slice.ensures))
-    (event_result c.args.self.now c.begin_run.new.self _ _ _ c.in_ok-number-in-Arrived.number (plain.Body c.args.stream c.in_ok-from_slice.field-0) (note.Arrive c.request-flow.result c.in_ok-octets-in-Arrived.octets ∷ []) c.push.result c.in_ok-note_turn-in-Arrived.ensures
-    (push_appends _ _ _ c.push.result c.push.ensures.ok c.push.ensures.err)
-    (arrive_named c.args.self.now c.begin_run.new.self c.from-exchange.result c.in_ok-number-in-Arrived.number (plain.Body c.args.stream c.in_ok-from_slice.field-0) c.args.octets.now c.in_ok-octets-in-Arrived.octets c.as_slice-2.result.now c.request-flow.result c.receive.new.self
-    (c.in_ok-octets-in-Arrived.ensures ∙ c.as_slice-in-Arrived.ensures) c.as_slice-2.ensures c.request-flow.ensures (body_same c.args.stream c.from-exchange.result c.in_ok-from_slice.field-0 c.args.octets.now c.from-exchange.ensures (c.in_ok-from_slice.ensures ∙ c.as_slice.ensures))
-    (opened_run c.args.self.now c.open_turn.new.self c.begin_run.new.self _ _ _ c.request-flow.result
-    (opened_given c.args.self.now (record c.args.self.now { flows = c.receive.new.self }) c.open_turn.new.self refl c.in_ok-number-in-Arrived.ensures.turn c.in_ok-number-in-Arrived.ensures.agenda c.open_turn.ensures.rest)
-    c.in_ok-begin_run-in-Arrived.ensures.agenda c.begin_run.ensures.rest)
-    (received_as c.from-exchange.result c.as_slice-2.result.now c.in_ok-receive.field-0 received.Arrived c.args.self.now.flows c.receive.new.self c.in-Arrived.is c.in_ok-receive.ensures) c.in_ok-number-in-Arrived.ensures.number)).0
-
-pub returns-in_ok-note_turn-in-Arrived-clause-cut : goal.returns-in_ok-note_turn-in-Arrived-clause-cut
-returns-in_ok-note_turn-in-Arrived-clause-cut c =
-    cut_named c.args.self.now c.args.notes.now _ (event.Plain (plain.Body c.args.stream c.in_ok-from_slice.field-0)) (event.Plain (plain.Body c.args.stream c.args.octets.now)) (body_said c.args.stream c.in_ok-from_slice.field-0 c.args.octets.now (c.in_ok-from_slice.ensures ∙ c.as_slice.ensures))
-    (event_result c.args.self.now c.begin_run.new.self _ _ _ c.in_ok-number-in-Arrived.number (plain.Body c.args.stream c.in_ok-from_slice.field-0) (note.Arrive c.request-flow.result c.in_ok-octets-in-Arrived.octets ∷ []) c.push.result c.in_ok-note_turn-in-Arrived.ensures
-    (push_appends _ _ _ c.push.result c.push.ensures.ok c.push.ensures.err)
-    (arrive_named c.args.self.now c.begin_run.new.self c.from-exchange.result c.in_ok-number-in-Arrived.number (plain.Body c.args.stream c.in_ok-from_slice.field-0) c.args.octets.now c.in_ok-octets-in-Arrived.octets c.as_slice-2.result.now c.request-flow.result c.receive.new.self
-    (c.in_ok-octets-in-Arrived.ensures ∙ c.as_slice-in-Arrived.ensures) c.as_slice-2.ensures c.request-flow.ensures (body_same c.args.stream c.from-exchange.result c.in_ok-from_slice.field-0 c.args.octets.now c.from-exchange.ensures (c.in_ok-from_slice.ensures ∙ c.as_slice.ensures))
-    (opened_run c.args.self.now c.open_turn.new.self c.begin_run.new.self _ _ _ c.request-flow.result
-    (opened_given c.args.self.now (record c.args.self.now { flows = c.receive.new.self }) c.open_turn.new.self refl c.in_ok-number-in-Arrived.ensures.turn c.in_ok-number-in-Arrived.ensures.agenda c.open_turn.ensures.rest)
-    c.in_ok-begin_run-in-Arrived.ensures.agenda c.begin_run.ensures.rest)
-    (received_as c.from-exchange.result c.as_slice-2.result.now c.in_ok-receive.field-0 received.Arrived c.args.self.now.flows c.receive.new.self c.in-Arrived.is c.in_ok-receive.ensures) c.in_ok-number-in-Arrived.ensures.number)).1
+pub returns-in_ok-note_turn-in-Arrived : goal.returns-in_ok-note_turn-in-Arrived
+returns-in_ok-note_turn-in-Arrived c =
+    let v = event.Plain (plain.Body c.args.stream c.args.octets.now) in
+    let u = event.Plain (plain.Body c.args.stream c.in_ok-from_slice.field-0) in
+    let s = body_said c.args.stream c.in_ok-from_slice.field-0 c.args.octets.now (c.in_ok-from_slice.ensures ∙ c.as_slice.ensures) in
+    let r = event_result c.args.self.now c.begin_run.new.self _ _ _ c.in_ok-number-in-Arrived.number (plain.Body c.args.stream c.in_ok-from_slice.field-0) (note.Arrive c.request-flow.result c.in_ok-octets-in-Arrived.octets ∷ []) c.push.result c.in_ok-note_turn-in-Arrived.ensures (push_appends _ _ _ c.push.result c.push.ensures.ok c.push.ensures.err) (arrive_named c.args.self.now c.begin_run.new.self c.from-exchange.result c.in_ok-number-in-Arrived.number (plain.Body c.args.stream c.in_ok-from_slice.field-0) c.args.octets.now c.in_ok-octets-in-Arrived.octets c.as_slice-2.result.now c.request-flow.result c.receive.new.self (c.in_ok-octets-in-Arrived.ensures ∙ c.as_slice-in-Arrived.ensures) c.as_slice-2.ensures c.request-flow.ensures (body_same c.args.stream c.from-exchange.result c.in_ok-from_slice.field-0 c.args.octets.now c.from-exchange.ensures (c.in_ok-from_slice.ensures ∙ c.as_slice.ensures)) (opened_run c.args.self.now c.open_turn.new.self c.begin_run.new.self _ _ _ c.request-flow.result (opened_given c.args.self.now (record c.args.self.now { flows = c.receive.new.self }) c.open_turn.new.self refl c.in_ok-number-in-Arrived.ensures.turn c.in_ok-number-in-Arrived.ensures.agenda c.open_turn.ensures.rest) c.in_ok-begin_run-in-Arrived.ensures.agenda c.begin_run.ensures.rest) (received_as c.from-exchange.result c.as_slice-2.result.now c.in_ok-receive.field-0 received.Arrived c.args.self.now.flows c.receive.new.self c.in-Arrived.is c.in_ok-receive.ensures) c.in_ok-number-in-Arrived.ensures.number) in
+    record {
+      ok = opens_named c.args.self.now c.begin_run.new.self c.args.notes.now _ u v c.push.result s r.0;
+      cut = cut_named c.args.self.now c.args.notes.now _ u v s r.1;
+    }
 
 -- ---- they are too many
 pub overrun-requires-clause-take : goal.overrun-requires-clause-take
@@ -66,29 +53,22 @@ overrun-requires-clause-over c =
     over_named c.args.self.now.flows c.receive.new.self c.args.stream c.from-exchange.result c.in_ok-from_slice.field-0 c.as_slice-2.result.now c.args.octets.now c.from-exchange.ensures
     (c.in_ok-from_slice.ensures ∙ c.as_slice.ensures) c.as_slice-2.ensures (received_as c.from-exchange.result c.as_slice-2.result.now c.in_ok-receive.field-0 received.TooMany c.args.self.now.flows c.receive.new.self c.in-TooMany.is c.in_ok-receive.ensures)
 
-pub returns-in-TooMany-clause-ok : goal.returns-in-TooMany-clause-ok
-returns-in-TooMany-clause-ok c =
-    opens_named c.args.self.now c.overrun.new.self c.args.notes.now c.overrun.new.notes (event.Plain (plain.Body c.args.stream c.in_ok-from_slice.field-0)) (event.Plain (plain.Body c.args.stream c.args.octets.now)) c.overrun.result (body_said c.args.stream c.in_ok-from_slice.field-0 c.args.octets.now (c.in_ok-from_slice.ensures ∙ c.as_slice.ensures))
-    (opens_same c.args.self.now c.overrun.new.self c.receive.new.self c.args.notes.now c.overrun.new.notes (event.Plain (plain.Body c.args.stream c.in_ok-from_slice.field-0)) c.overrun.result
-    (received_as c.from-exchange.result c.as_slice-2.result.now c.in_ok-receive.field-0 received.TooMany c.args.self.now.flows c.receive.new.self c.in-TooMany.is c.in_ok-receive.ensures).2 c.overrun.ensures.ok)
-
-pub returns-in-TooMany-clause-cut : goal.returns-in-TooMany-clause-cut
-returns-in-TooMany-clause-cut c =
-    cut_named c.args.self.now c.args.notes.now c.overrun.new.notes (event.Plain (plain.Body c.args.stream c.in_ok-from_slice.field-0)) (event.Plain (plain.Body c.args.stream c.args.octets.now)) (body_said c.args.stream c.in_ok-from_slice.field-0 c.args.octets.now (c.in_ok-from_slice.ensures ∙ c.as_slice.ensures))
-    (cut_same c.args.self.now c.receive.new.self c.args.notes.now c.overrun.new.notes (event.Plain (plain.Body c.args.stream c.in_ok-from_slice.field-0))
-    (received_as c.from-exchange.result c.as_slice-2.result.now c.in_ok-receive.field-0 received.TooMany c.args.self.now.flows c.receive.new.self c.in-TooMany.is c.in_ok-receive.ensures).2 c.overrun.ensures.cut)
+pub returns-in-TooMany : goal.returns-in-TooMany
+returns-in-TooMany c =
+    let v = event.Plain (plain.Body c.args.stream c.args.octets.now) in
+    let u = body_said c.args.stream c.in_ok-from_slice.field-0 c.args.octets.now (c.in_ok-from_slice.ensures ∙ c.as_slice.ensures) in
+    let s = received_as c.from-exchange.result c.as_slice-2.result.now c.in_ok-receive.field-0 received.TooMany c.args.self.now.flows c.receive.new.self c.in-TooMany.is c.in_ok-receive.ensures in
+    let r = event.Plain (plain.Body c.args.stream c.in_ok-from_slice.field-0) in
+    record {
+      ok = opens_named c.args.self.now c.overrun.new.self c.args.notes.now c.overrun.new.notes r v c.overrun.result u (opens_same c.args.self.now c.overrun.new.self c.receive.new.self c.args.notes.now c.overrun.new.notes r c.overrun.result s.2 c.overrun.ensures.ok);
+      cut = cut_named c.args.self.now c.args.notes.now c.overrun.new.notes r v u (cut_same c.args.self.now c.receive.new.self c.args.notes.now c.overrun.new.notes r s.2 c.overrun.ensures.cut);
+    }
 
 -- ---- they come too late
-pub returns-in_ok-number-in-NotLive-clause-ok : goal.returns-in_ok-number-in-NotLive-clause-ok
-returns-in_ok-number-in-NotLive-clause-ok c =
-    (late_result c.args.self.now c.open_turn-in-NotLive.new.self c.receive.new.self _ _ c.args.stream c.from-exchange.result c.in_ok-number-in-NotLive.number c.in_ok-from_slice.field-0 c.args.octets.now c.note_turn-in-NotLive.result
-    c.from-exchange.ensures (c.in_ok-from_slice.ensures ∙ c.as_slice.ensures) c.note_turn-in-NotLive.ensures
-    (opened_given c.args.self.now (record c.args.self.now { flows = c.receive.new.self }) c.open_turn-in-NotLive.new.self refl c.in_ok-number-in-NotLive.ensures.turn c.in_ok-number-in-NotLive.ensures.agenda c.open_turn-in-NotLive.ensures.rest)
-    (received_as c.from-exchange.result c.as_slice-2.result.now c.in_ok-receive.field-0 received.NotLive c.args.self.now.flows c.receive.new.self c.in-NotLive.is c.in_ok-receive.ensures) c.in_ok-number-in-NotLive.ensures.number).0
-
-pub returns-in_ok-number-in-NotLive-clause-cut : goal.returns-in_ok-number-in-NotLive-clause-cut
-returns-in_ok-number-in-NotLive-clause-cut c =
-    (late_result c.args.self.now c.open_turn-in-NotLive.new.self c.receive.new.self _ _ c.args.stream c.from-exchange.result c.in_ok-number-in-NotLive.number c.in_ok-from_slice.field-0 c.args.octets.now c.note_turn-in-NotLive.result
-    c.from-exchange.ensures (c.in_ok-from_slice.ensures ∙ c.as_slice.ensures) c.note_turn-in-NotLive.ensures
-    (opened_given c.args.self.now (record c.args.self.now { flows = c.receive.new.self }) c.open_turn-in-NotLive.new.self refl c.in_ok-number-in-NotLive.ensures.turn c.in_ok-number-in-NotLive.ensures.agenda c.open_turn-in-NotLive.ensures.rest)
-    (received_as c.from-exchange.result c.as_slice-2.result.now c.in_ok-receive.field-0 received.NotLive c.args.self.now.flows c.receive.new.self c.in-NotLive.is c.in_ok-receive.ensures) c.in_ok-number-in-NotLive.ensures.number).1
+pub returns-in_ok-number-in-NotLive : goal.returns-in_ok-number-in-NotLive
+returns-in_ok-number-in-NotLive c =
+    let r = late_result c.args.self.now c.open_turn-in-NotLive.new.self c.receive.new.self _ _ c.args.stream c.from-exchange.result c.in_ok-number-in-NotLive.number c.in_ok-from_slice.field-0 c.args.octets.now c.note_turn-in-NotLive.result c.from-exchange.ensures (c.in_ok-from_slice.ensures ∙ c.as_slice.ensures) c.note_turn-in-NotLive.ensures (opened_given c.args.self.now (record c.args.self.now { flows = c.receive.new.self }) c.open_turn-in-NotLive.new.self refl c.in_ok-number-in-NotLive.ensures.turn c.in_ok-number-in-NotLive.ensures.agenda c.open_turn-in-NotLive.ensures.rest) (received_as c.from-exchange.result c.as_slice-2.result.now c.in_ok-receive.field-0 received.NotLive c.args.self.now.flows c.receive.new.self c.in-NotLive.is c.in_ok-receive.ensures) c.in_ok-number-in-NotLive.ensures.number in
+    record {
+      ok = r.0;
+      cut = r.1;
+    }

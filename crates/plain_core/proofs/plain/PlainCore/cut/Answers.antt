@@ -17,20 +17,11 @@ returns-in_err-note_turn-clause-cut c =
     c.in_ok-number.ensures.agenda c.open_turn.ensures.rest) c.give_up-gives_up.ensures.flows
     (number_given c.args.self.now c.give_up-gives_up.new.self c.in_ok-number.number c.give_up-gives_up.ensures.rest c.in_ok-number.ensures.number)))
 
-pub returns-clause-ok : goal.returns-clause-ok
-returns-clause-ok c =
-    opens_after c.args.self.now c.open_turn.new.self _ _ _ c.in_ok-number.number (plain.Cut c.args.stream) (doom_of c.give_up-gives_up.result c.from-exchange.result (cause.PeerReset 8))
-    c.note_doom.result c.in_ok-note_turn.ensures c.note_doom.ensures
-    (event_is _ _ _ _ _ _ (ap plain.Cut c.from-exchange.ensures) (cut_opened c.args.self.now c.open_turn.new.self c.from-exchange.result c.in_ok-number.number c.give_up-gives_up.result
-    c.give_up-gives_up.new.self.flows (opened_given c.args.self.now c.give_up-gives_up.new.self c.open_turn.new.self c.give_up-gives_up.ensures.rest c.in_ok-number.ensures.turn
-    c.in_ok-number.ensures.agenda c.open_turn.ensures.rest) c.give_up-gives_up.ensures.flows
-    (number_given c.args.self.now c.give_up-gives_up.new.self c.in_ok-number.number c.give_up-gives_up.ensures.rest c.in_ok-number.ensures.number)))
-
-pub returns-clause-cut : goal.returns-clause-cut
-returns-clause-cut c =
-    turn_after c.args.self.now c.open_turn.new.self _ _ _ c.in_ok-number.number (plain.Cut c.args.stream) (doom_of c.give_up-gives_up.result c.from-exchange.result (cause.PeerReset 8))
-    c.note_doom.result c.in_ok-note_turn.ensures c.note_doom.ensures
-    (event_is _ _ _ _ _ _ (ap plain.Cut c.from-exchange.ensures) (cut_opened c.args.self.now c.open_turn.new.self c.from-exchange.result c.in_ok-number.number c.give_up-gives_up.result
-    c.give_up-gives_up.new.self.flows (opened_given c.args.self.now c.give_up-gives_up.new.self c.open_turn.new.self c.give_up-gives_up.ensures.rest c.in_ok-number.ensures.turn
-    c.in_ok-number.ensures.agenda c.open_turn.ensures.rest) c.give_up-gives_up.ensures.flows
-    (number_given c.args.self.now c.give_up-gives_up.new.self c.in_ok-number.number c.give_up-gives_up.ensures.rest c.in_ok-number.ensures.number)))
+pub returns : goal.returns
+returns c =
+    let s = doom_of c.give_up-gives_up.result c.from-exchange.result (cause.PeerReset 8) in
+    let r = event_is _ _ _ _ _ _ (ap plain.Cut c.from-exchange.ensures) (cut_opened c.args.self.now c.open_turn.new.self c.from-exchange.result c.in_ok-number.number c.give_up-gives_up.result c.give_up-gives_up.new.self.flows (opened_given c.args.self.now c.give_up-gives_up.new.self c.open_turn.new.self c.give_up-gives_up.ensures.rest c.in_ok-number.ensures.turn c.in_ok-number.ensures.agenda c.open_turn.ensures.rest) c.give_up-gives_up.ensures.flows (number_given c.args.self.now c.give_up-gives_up.new.self c.in_ok-number.number c.give_up-gives_up.ensures.rest c.in_ok-number.ensures.number)) in
+    record {
+      ok = opens_after c.args.self.now c.open_turn.new.self _ _ _ c.in_ok-number.number (plain.Cut c.args.stream) s c.note_doom.result c.in_ok-note_turn.ensures c.note_doom.ensures r;
+      cut = turn_after c.args.self.now c.open_turn.new.self _ _ _ c.in_ok-number.number (plain.Cut c.args.stream) s c.note_doom.result c.in_ok-note_turn.ensures c.note_doom.ensures r;
+    }

@@ -14,20 +14,11 @@ returns-in_err-note_turn-clause-cut c =
     c.requires.lives c.requires.over.is c.give_up-gives_up.ensures.flows
     (number_given c.args.self.now c.give_up-gives_up.new.self c.in_ok-number.number c.give_up-gives_up.ensures.rest c.in_ok-number.ensures.number))
 
-pub returns-clause-ok : goal.returns-clause-ok
-returns-clause-ok c =
-    opens_after c.args.self.now c.open_turn.new.self _ _ _ c.in_ok-number.number c.args.event (doom_of c.give_up-gives_up.result c.args.exchange (cause.StreamError 3)) c.note_doom.result
-    c.in_ok-note_turn.ensures c.note_doom.ensures
-    (over_any c.args.self.now c.open_turn.new.self c.args.exchange c.in_ok-number.number c.args.event c.give_up-gives_up.result c.give_up-gives_up.new.self.flows
-    (opened_given c.args.self.now c.give_up-gives_up.new.self c.open_turn.new.self c.give_up-gives_up.ensures.rest c.in_ok-number.ensures.turn c.in_ok-number.ensures.agenda c.open_turn.ensures.rest)
-    c.requires.lives c.requires.over.is c.give_up-gives_up.ensures.flows
-    (number_given c.args.self.now c.give_up-gives_up.new.self c.in_ok-number.number c.give_up-gives_up.ensures.rest c.in_ok-number.ensures.number))
-
-pub returns-clause-cut : goal.returns-clause-cut
-returns-clause-cut c =
-    turn_after c.args.self.now c.open_turn.new.self _ _ _ c.in_ok-number.number c.args.event (doom_of c.give_up-gives_up.result c.args.exchange (cause.StreamError 3)) c.note_doom.result
-    c.in_ok-note_turn.ensures c.note_doom.ensures
-    (over_any c.args.self.now c.open_turn.new.self c.args.exchange c.in_ok-number.number c.args.event c.give_up-gives_up.result c.give_up-gives_up.new.self.flows
-    (opened_given c.args.self.now c.give_up-gives_up.new.self c.open_turn.new.self c.give_up-gives_up.ensures.rest c.in_ok-number.ensures.turn c.in_ok-number.ensures.agenda c.open_turn.ensures.rest)
-    c.requires.lives c.requires.over.is c.give_up-gives_up.ensures.flows
-    (number_given c.args.self.now c.give_up-gives_up.new.self c.in_ok-number.number c.give_up-gives_up.ensures.rest c.in_ok-number.ensures.number))
+pub returns : goal.returns
+returns c =
+    let s = doom_of c.give_up-gives_up.result c.args.exchange (cause.StreamError 3) in
+    let r = over_any c.args.self.now c.open_turn.new.self c.args.exchange c.in_ok-number.number c.args.event c.give_up-gives_up.result c.give_up-gives_up.new.self.flows (opened_given c.args.self.now c.give_up-gives_up.new.self c.open_turn.new.self c.give_up-gives_up.ensures.rest c.in_ok-number.ensures.turn c.in_ok-number.ensures.agenda c.open_turn.ensures.rest) c.requires.lives c.requires.over.is c.give_up-gives_up.ensures.flows (number_given c.args.self.now c.give_up-gives_up.new.self c.in_ok-number.number c.give_up-gives_up.ensures.rest c.in_ok-number.ensures.number) in
+    record {
+      ok = opens_after c.args.self.now c.open_turn.new.self _ _ _ c.in_ok-number.number c.args.event s c.note_doom.result c.in_ok-note_turn.ensures c.note_doom.ensures r;
+      cut = turn_after c.args.self.now c.open_turn.new.self _ _ _ c.in_ok-number.number c.args.event s c.note_doom.result c.in_ok-note_turn.ensures c.note_doom.ensures r;
+    }

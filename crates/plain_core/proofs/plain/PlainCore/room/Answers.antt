@@ -9,17 +9,13 @@ use Rattle.plain_core.proofs.EventRoom.{none_opened, room_opened}
 use Rattle.plain_core.proofs.Fronts.{opens_result, push_appends, turn_refused, turn_result}
 use Rattle.plain_core.proofs.plain.PlainCore.room.Goals as goal
 
-pub returns-then-left-eq0-clause-ok : goal.returns-then-left-eq0-clause-ok
-returns-then-left-eq0-clause-ok c =
-    opens_result c.args.self.now c.open_turn.new.self _ _ c.in_ok-number.number (plain.Room c.args.n) [] c.note_turn.result c.note_turn.ensures
-    (none_opened c.args.self.now c.open_turn.new.self c.args.n c.in_ok-number.number
-    (opened_given c.args.self.now c.args.self.now c.open_turn.new.self refl c.in_ok-number.ensures.turn c.in_ok-number.ensures.agenda c.open_turn.ensures.rest) (omega arith) c.in_ok-number.ensures.number)
-
-pub returns-then-left-eq0-clause-cut : goal.returns-then-left-eq0-clause-cut
-returns-then-left-eq0-clause-cut c =
-    turn_result c.args.self.now c.open_turn.new.self _ _ c.in_ok-number.number (plain.Room c.args.n) [] c.note_turn.result c.note_turn.ensures
-    (none_opened c.args.self.now c.open_turn.new.self c.args.n c.in_ok-number.number
-    (opened_given c.args.self.now c.args.self.now c.open_turn.new.self refl c.in_ok-number.ensures.turn c.in_ok-number.ensures.agenda c.open_turn.ensures.rest) (omega arith) c.in_ok-number.ensures.number)
+pub returns-then-left-eq0 : goal.returns-then-left-eq0
+returns-then-left-eq0 c =
+    let r = none_opened c.args.self.now c.open_turn.new.self c.args.n c.in_ok-number.number (opened_given c.args.self.now c.args.self.now c.open_turn.new.self refl c.in_ok-number.ensures.turn c.in_ok-number.ensures.agenda c.open_turn.ensures.rest) (omega arith) c.in_ok-number.ensures.number in
+    record {
+      ok = opens_result c.args.self.now c.open_turn.new.self _ _ c.in_ok-number.number (plain.Room c.args.n) [] c.note_turn.result c.note_turn.ensures r;
+      cut = turn_result c.args.self.now c.open_turn.new.self _ _ c.in_ok-number.number (plain.Room c.args.n) [] c.note_turn.result c.note_turn.ensures r;
+    }
 
 pub returns-in_err-note_turn-clause-cut : goal.returns-in_err-note_turn-clause-cut
 returns-in_err-note_turn-clause-cut c =
@@ -31,22 +27,10 @@ returns-in_err-note_turn-clause-cut c =
     c.in_ok-begin_telling.ensures.agenda c.begin_telling.ensures.rest)
     c.leave-drained.ensures (omega arith) (omega arith) c.in_ok-number-2.ensures.number)
 
-pub returns-clause-ok : goal.returns-clause-ok
-returns-clause-ok c =
-    (event_result c.args.self.now c.begin_telling.new.self _ _ _ c.in_ok-number-2.number (plain.Room c.args.n) (note.Out 0 c.min-left.result ∷ []) c.push.result c.in_ok-note_turn.ensures
-    (push_appends _ _ _ c.push.result c.push.ensures.ok c.push.ensures.err)
-    (room_opened c.args.self.now c.begin_telling.new.self c.args.n c.min-left.result c.in_ok-number-2.number c.leave-drained.result c.leave-drained.new.self
-    (opened_telling c.args.self.now c.open_turn-2.new.self c.begin_telling.new.self _ _ _ c.leave-drained.result
-    (opened_given c.args.self.now (record c.args.self.now { flows = c.leave-drained.new.self }) c.open_turn-2.new.self refl c.in_ok-number-2.ensures.turn c.in_ok-number-2.ensures.agenda c.open_turn-2.ensures.rest)
-    c.in_ok-begin_telling.ensures.agenda c.begin_telling.ensures.rest)
-    c.leave-drained.ensures (omega arith) (omega arith) c.in_ok-number-2.ensures.number)).0
-
-pub returns-clause-cut : goal.returns-clause-cut
-returns-clause-cut c =
-    (event_result c.args.self.now c.begin_telling.new.self _ _ _ c.in_ok-number-2.number (plain.Room c.args.n) (note.Out 0 c.min-left.result ∷ []) c.push.result c.in_ok-note_turn.ensures
-    (push_appends _ _ _ c.push.result c.push.ensures.ok c.push.ensures.err)
-    (room_opened c.args.self.now c.begin_telling.new.self c.args.n c.min-left.result c.in_ok-number-2.number c.leave-drained.result c.leave-drained.new.self
-    (opened_telling c.args.self.now c.open_turn-2.new.self c.begin_telling.new.self _ _ _ c.leave-drained.result
-    (opened_given c.args.self.now (record c.args.self.now { flows = c.leave-drained.new.self }) c.open_turn-2.new.self refl c.in_ok-number-2.ensures.turn c.in_ok-number-2.ensures.agenda c.open_turn-2.ensures.rest)
-    c.in_ok-begin_telling.ensures.agenda c.begin_telling.ensures.rest)
-    c.leave-drained.ensures (omega arith) (omega arith) c.in_ok-number-2.ensures.number)).1
+pub returns : goal.returns
+returns c =
+    let r = event_result c.args.self.now c.begin_telling.new.self _ _ _ c.in_ok-number-2.number (plain.Room c.args.n) (note.Out 0 c.min-left.result ∷ []) c.push.result c.in_ok-note_turn.ensures (push_appends _ _ _ c.push.result c.push.ensures.ok c.push.ensures.err) (room_opened c.args.self.now c.begin_telling.new.self c.args.n c.min-left.result c.in_ok-number-2.number c.leave-drained.result c.leave-drained.new.self (opened_telling c.args.self.now c.open_turn-2.new.self c.begin_telling.new.self _ _ _ c.leave-drained.result (opened_given c.args.self.now (record c.args.self.now { flows = c.leave-drained.new.self }) c.open_turn-2.new.self refl c.in_ok-number-2.ensures.turn c.in_ok-number-2.ensures.agenda c.open_turn-2.ensures.rest) c.in_ok-begin_telling.ensures.agenda c.begin_telling.ensures.rest) c.leave-drained.ensures (omega arith) (omega arith) c.in_ok-number-2.ensures.number) in
+    record {
+      ok = r.0;
+      cut = r.1;
+    }

@@ -56,19 +56,11 @@ returns-in-NotLive-clause-less c =
     idle_less c.args.self.now (record c.args.self.now { flows = c.step.new.self; agenda = c.pop-in-NotLive.new.self }) c.step.new.self c.args.flow c.in_ok-moved.field-0 c.in-NotLive.is refl c.requires.top
     c.pop-in-NotLive.ensures c.in_ok-moved.ensures.less
 
-pub returns-clause-ok : goal.returns-clause-ok
-returns-clause-ok c =
-    (move_result c.args.self.now c.go_on.new.self c.args.notes.now c.note_and_rise.new.notes c.step.new.self c.args.flow c.request-flow.result c.in_ok-moved.field-0
-    c.in-Moved.moved c.note_and_rise.result c.request-flow.ensures c.in-Moved.is c.in_ok-go_on.ensures.rest c.requires.top c.in_ok-go_on.ensures.agenda
-    c.in_ok-moved.ensures.steps c.requires.good c.note_and_rise.ensures).0
-
-pub returns-clause-cut : goal.returns-clause-cut
-returns-clause-cut c =
-    (move_result c.args.self.now c.go_on.new.self c.args.notes.now c.note_and_rise.new.notes c.step.new.self c.args.flow c.request-flow.result c.in_ok-moved.field-0
-    c.in-Moved.moved c.note_and_rise.result c.request-flow.ensures c.in-Moved.is c.in_ok-go_on.ensures.rest c.requires.top c.in_ok-go_on.ensures.agenda
-    c.in_ok-moved.ensures.steps c.requires.good c.note_and_rise.ensures).1
-
-pub returns-clause-less : goal.returns-clause-less
-returns-clause-less c =
-    on_ok c.note_and_rise.result (move_less c.args.self.now c.go_on.new.self c.step.new.self c.in_ok-moved.field-0 c.in-Moved.moved c.in-Moved.is c.in_ok-go_on.ensures.rest
-    c.in_ok-go_on.ensures.agenda c.in_ok-moved.ensures.less)
+pub returns : goal.returns
+returns c =
+    let r = move_result c.args.self.now c.go_on.new.self c.args.notes.now c.note_and_rise.new.notes c.step.new.self c.args.flow c.request-flow.result c.in_ok-moved.field-0 c.in-Moved.moved c.note_and_rise.result c.request-flow.ensures c.in-Moved.is c.in_ok-go_on.ensures.rest c.requires.top c.in_ok-go_on.ensures.agenda c.in_ok-moved.ensures.steps c.requires.good c.note_and_rise.ensures in
+    record {
+      ok = r.0;
+      cut = r.1;
+      less = on_ok c.note_and_rise.result (move_less c.args.self.now c.go_on.new.self c.step.new.self c.in_ok-moved.field-0 c.in-Moved.moved c.in-Moved.is c.in_ok-go_on.ensures.rest c.in_ok-go_on.ensures.agenda c.in_ok-moved.ensures.less);
+    }
