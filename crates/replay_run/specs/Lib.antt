@@ -29,3 +29,4 @@ pub mod Summarizes
 pub mod Tally
 pub mod Tallying
 pub mod Told
+pub mod WireOrder
