@@ -9,7 +9,7 @@ use Rattle.flow_notes.specs.Line.{line_of, newline, spaced}
 use Rattle.flow_notes.specs.Name.{AreNames}
 use Rattle.flow_notes.specs.declared.events.Event.{Event}
 use Rattle.flow_notes.specs.declared.events.PlainEvent.{PlainEvent}
-use Rattle.replay_run.proofs.Pausing.{number_is}
+use Rattle.replay_run.proofs.Spots.{number_is}
 use Rattle.replay_run.proofs.Readings.{in_ranges, numbers_fit}
 use Rattle.replay_run.specs.Allowed.{Completes, IsAllowed, IsUnrefused}
 use Rattle.replay_run.specs.Ending.{Cut, IsRefused, Long, SpellsNone, longest_line}

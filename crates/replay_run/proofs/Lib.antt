@@ -10,10 +10,12 @@ pub mod Levels
 pub mod Pausing
 pub mod OneSession
 pub mod Peaking
+pub mod Placing
 pub mod Playing
 pub mod Readings
 pub mod Running
 pub mod Spelled
+pub mod Spots
 pub mod Summing
 pub mod Tallying
 pub mod Telling

@@ -3,7 +3,7 @@ use Rattle.flow_notes.proofs.NumberLists.{numbers_again}
 use Rattle.flow_notes.proofs.Splitting.{words_of_line}
 use Rattle.flow_notes.proofs.Words.{number_words}
 use Rattle.flow_notes.specs.Fields.{Fits32}
-use Rattle.flow_notes.specs.Line.{line_of, newline}
+use Rattle.flow_notes.specs.Line.{line_of}
 use Rattle.flow_notes.specs.Meaning.{numbers_of}
 use Rattle.flow_notes.specs.Split.{words_in}
 use Rattle.flow_notes.specs.declared.events.Event.{Event}

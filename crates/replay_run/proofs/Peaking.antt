@@ -7,7 +7,8 @@ use Rattle.flow_notes.specs.declared.notes.Note.{Note}
 use Rattle.flow_notes.specs.declared.passages.Passage.{Passage}
 use Rattle.io_ports.specs.declared.octets.NoMemory.{NoMemory}
 use Rattle.replay_run.proofs.Levels.{lawful_back, level_emptied, level_fallen, level_risen, level_same, live_request, unwritten_goes}
-use Rattle.replay_run.proofs.Pausing.{number_is, numbers_equal, onto_more}
+use Rattle.replay_run.proofs.Pausing.{onto_more}
+use Rattle.replay_run.proofs.Spots.{number_is, numbers_equal}
 use Rattle.replay_run.specs.Levels.{WriteGoes, level_of}
 use Rattle.replay_run.specs.Peaking.{PeaksAre, PeaksGo, Sets, arrived, dropped, flow_levels, framed, levels_of, shifted}
 use Rattle.replay_run.specs.declared.level.Level.{Level}

@@ -8,7 +8,6 @@ use Rattle.std.proofs.Common.{subst, sym}
 use Rattle.std.specs.List.{AllByRecursion}
 use Rattle.std.specs.Prelude.{List, [], ℕ, ◌∷◌, ◌≡◌, ◌≤◌}
 use Rattle.flow_notes.specs.declared.events.Event.TheVariants as event
-use Rattle.flow_notes.specs.declared.events.PlainEvent.TheVariants as plain
 
 going_is_spelled : (names : List (List ℕ)) (es later : List Event) → MayGoOn es later → AllByRecursion (IsEvent names) later
 going_is_spelled names es [] m = tt

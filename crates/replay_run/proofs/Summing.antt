@@ -3,9 +3,8 @@ use Rattle.flow_notes.specs.Flow.{flow_word}
 use Rattle.flow_notes.specs.Line.{newline, spaced}
 use Rattle.flow_notes.specs.Buffer.{buffer_words}
 use Rattle.flow_gate.specs.declared.ids.BufferId.{BufferId}
-use Rattle.flow_gate.specs.declared.ids.FlowId.{FlowId}
 use Rattle.io_ports.specs.declared.octets.NoMemory.{NoMemory}
-use Rattle.replay_run.specs.Pausing.{LogIs, logged, place_cmp, resumed_at, told_pause}
+use Rattle.replay_run.specs.Pausing.{LogIs, told_pause}
 use Rattle.replay_run.specs.Peaking.{PeaksAre, levels_of}
 use Rattle.replay_run.specs.Summarizes.{Summarizes, flow_peak_lines, pause_lines, peak_lines, write_peak_line}
 use Rattle.replay_run.specs.declared.level.Level.{Level}
@@ -16,64 +15,29 @@ use Rattle.replay_run.specs.declared.peaks.PeakLog.{PeakLog}
 use Rattle.replay_run.specs.declared.tape_log.TapeLog.{TapeLog}
 use Rattle.std.proofs.Common.{ap, append_assoc, arith, refl, sym, ◌∙◌}
 use Rattle.std.proofs.lemmas.Grind.{common_steps}
-use Rattle.std.proofs.lemmas.List.{append-nil, map-append}
+use Rattle.std.proofs.lemmas.List.{append-nil}
 use Rattle.std.specs.BTreeMap.{get}
 use Rattle.std.specs.Fmt.{decimal}
 use Rattle.std.specs.Ordering.{nat_cmp}
-use Rattle.std.specs.Prelude.{Err, List, Ok, OnOk, Option, Result, [], codes, flat_map, length, map, ℕ, ◌++◌, ◌∷◌, ◌≡◌}
+use Rattle.std.specs.Prelude.{Err, List, Ok, OnOk, Result, [], codes, flat_map, map, ℕ, ◌++◌, ◌∷◌, ◌≡◌}
 use Rattle.tape_laws.specs.Connections.{connections}
 use Rattle.tape_laws.specs.Dispatches.{started, turns}
 use Rattle.tape_laws.specs.Flows.{request}
-use Rattle.tape_laws.specs.History.{History, Marked, NoMark, Noted}
+use Rattle.tape_laws.specs.History.{History, NoMark}
 use Rattle.tape_laws.specs.Plain.{plain_setup}
 use Rattle.tape_laws.specs.Report.{flow_peaks, paused_line, peak_line, report_line, until_word, write_peak}
-use Rattle.tape_laws.specs.Summary.{Paused, all_flows, pause_turns, paused_in, paused_lines, peak}
+use Rattle.tape_laws.specs.Summary.{Paused, all_flows, paused_lines, peak}
 use Rattle.tape_laws.specs.declared.limits.PlainLimits.{PlainLimits}
 use Rattle.flow_gate.specs.declared.ids.BufferId.TheVariants as buffer
-use Rattle.flow_notes.specs.declared.notes.Note.TheVariants as note
 
 -- ---- pauses
 
--- a pause with the resume that has its number
-abbrev with_resume : History NoMark → Pause → Paused
-with_resume whole p =
-    record { flow = p.place.spot.flow; buffer = p.place.spot.buffer; at = p.turn; until = resumed_at whole p.place }
+pauses_told : (ps : List Pause) → pause_lines ps ≡ flat_map paused_line (map told_pause ps)
+pauses_told [] = refl
+pauses_told (p ∷ ps) = ap (λ (v : List ℕ). paused_line (told_pause p) ++ v) (pauses_told ps)
 
--- the pause of a note behind this history
-abbrev this : FlowId → BufferId → History NoMark → Pause
-this f b past = record { place = record { spot = record { flow = f; buffer = b }; number = length (pause_turns f b past) }; turn = turns past }
-
-paused_all : (whole h : History NoMark) → paused_in whole h ≡ map (with_resume whole) (logged h)
-paused_all whole [] = refl
-paused_all whole (Marked m ∷ past) = paused_all whole past
-paused_all whole (Noted (note.Pause f b) ∷ past) =
-    ap (λ (ps : List Paused). ps ++ with_resume whole (this f b past) ∷ []) (paused_all whole past)
-    ∙ sym (map-append (with_resume whole) (logged past) (this f b past ∷ []))
-paused_all whole (Noted (note.Turn k e) ∷ past) = paused_all whole past
-paused_all whole (Noted (note.Arrive f o) ∷ past) = paused_all whole past
-paused_all whole (Noted (note.Move f p n) ∷ past) = paused_all whole past
-paused_all whole (Noted (note.Frame c f n last) ∷ past) = paused_all whole past
-paused_all whole (Noted (note.Out c n) ∷ past) = paused_all whole past
-paused_all whole (Noted (note.Resume f b) ∷ past) = paused_all whole past
-paused_all whole (Noted (note.Credit c s n) ∷ past) = paused_all whole past
-paused_all whole (Noted (note.Head c s o) ∷ past) = paused_all whole past
-paused_all whole (Noted (note.Answer c o) ∷ past) = paused_all whole past
-paused_all whole (Noted (note.Waste c s n) ∷ past) = paused_all whole past
-paused_all whole (Noted (note.Start x c s d) ∷ past) = paused_all whole past
-paused_all whole (Noted (note.Doom x why) ∷ past) = paused_all whole past
-paused_all whole (Noted (note.Gone x) ∷ past) = paused_all whole past
-paused_all whole (Noted (note.Close c code why) ∷ past) = paused_all whole past
-paused_all whole (Noted (note.Fire kind id) ∷ past) = paused_all whole past
-
-pauses_told : (log : PauseLog) (h : History NoMark) → LogIs log h → (ps : List Pause) → pause_lines log ps ≡ flat_map paused_line (map (with_resume h) ps)
-pauses_told log h l [] = refl
-pauses_told log h l (p ∷ ps) =
-    ap (λ (o : Option ℕ). paused_line (record { flow = p.place.spot.flow; buffer = p.place.spot.buffer; at = p.turn; until = o }) ++ pause_lines log ps) (l.resumes p.place)
-    ∙ ap (λ (v : List ℕ). paused_line (with_resume h p) ++ v) (pauses_told log h l ps)
-
-pauses_are : (log : PauseLog) (h : History NoMark) → LogIs log h → pause_lines log log.pauses.items ≡ flat_map paused_line (paused_lines h)
-pauses_are log h l =
-    ap (pause_lines log) l.pauses ∙ pauses_told log h l (logged h) ∙ ap (flat_map paused_line) (sym (paused_all h h))
+pauses_are : (log : PauseLog) (h : History NoMark) → LogIs log h → pause_lines log.pauses.items ≡ flat_map paused_line (paused_lines h)
+pauses_are log h l = pauses_told log.pauses.items ∙ ap (flat_map paused_line) l.pauses
 
 -- ---- peaks
 
@@ -116,12 +80,12 @@ peaks_are log limits h p c =
 -- ---- the whole
 
 pub summarizes : (log : TapeLog) (n : ℕ) (old new : List ℕ) → n ≡ log.pauses.turn
-    → new ≡ old ++ (peak_lines log.peaks ++ (pause_lines log.pauses log.pauses.pauses.items ++ report_line (codes "done" ∷ decimal n ∷ [])))
+    → new ≡ old ++ (peak_lines log.peaks ++ (pause_lines log.pauses.pauses.items ++ report_line (codes "done" ∷ decimal n ∷ [])))
     → Summarizes log old new
 summarizes log n old new en e = record {
   goes = λ limits h l c.
       e ∙ ap (λ (v : List ℕ). old ++ v) (
-      ap (λ (v : List ℕ). v ++ (pause_lines log.pauses log.pauses.pauses.items ++ report_line (codes "done" ∷ decimal n ∷ []))) (peaks_are log.peaks limits h l.peaks c)
+      ap (λ (v : List ℕ). v ++ (pause_lines log.pauses.pauses.items ++ report_line (codes "done" ∷ decimal n ∷ []))) (peaks_are log.peaks limits h l.peaks c)
       ∙ ap (λ (v : List ℕ). peaks_text limits h ++ (v ++ report_line (codes "done" ∷ decimal n ∷ []))) (pauses_are log.pauses h l.pauses)
       ∙ ap (λ k. peaks_text limits h ++ (flat_map paused_line (paused_lines h) ++ report_line (codes "done" ∷ decimal k ∷ []))) (en ∙ l.pauses.turn)
       ∙ append_assoc (flat_map (flow_peaks (plain_setup limits) h) (all_flows (plain_setup limits) h)) (flat_map (write_peak (plain_setup limits) h) (connections (plain_setup limits) h)) (flat_map paused_line (paused_lines h) ++ report_line (codes "done" ∷ decimal (turns h) ∷ [])));
@@ -139,26 +103,20 @@ paused_spelled p = by p.buffer
     by (buffer.Send f) = grind (arith, common_steps)
     by (buffer.Write c) = grind (arith, common_steps)
 
-flat : (old a b c d e f g h : List ℕ) → (((((((old ++ a) ++ b) ++ c) ++ (d ++ e)) ++ f) ++ g) ++ h) ≡ old ++ (a ++ (b ++ (c ++ (d ++ (e ++ (f ++ (g ++ h)))))))
-flat old a b c d e f g h = grind (arith, common_steps)
+pub paused_ends : (p : Pause) (old new s a b c d e f g h : List ℕ) (r : Result (Unit {0}) NoMemory) → h ≡ newline → g ≡ until_word p.until ++ h → f ≡ codes " " ++ g → e ≡ decimal p.at ++ f → d ≡ codes " " ++ e
+    → c ≡ spaced (buffer_words p.spot.buffer) ++ d → b ≡ flow_word p.spot.flow ++ c → a ≡ codes "paused " ++ b → s ≡ a → OnOk r (new ≡ old ++ s)
+    → OnOk r (new ≡ old ++ paused_line (told_pause p))
+paused_ends p old new s a b c d e f g h (Ok x) eh eg ef ee ed ec eb ea es k =
+    k ∙ ap (λ (v : List ℕ). old ++ v) (es ∙ ea ∙ ap (λ (v : List ℕ). codes "paused " ++ v) (eb ∙ ap (λ (v : List ℕ). flow_word p.spot.flow ++ v) (ec ∙ ap (λ (v : List ℕ). spaced (buffer_words p.spot.buffer) ++ v)
+    (ed ∙ ap (λ (v : List ℕ). codes " " ++ v) (ee ∙ ap (λ (v : List ℕ). decimal p.at ++ v) (ef ∙ ap (λ (v : List ℕ). codes " " ++ v) (eg ∙ ap (λ (v : List ℕ). until_word p.until ++ v) eh))))))
+    ∙ paused_spelled (told_pause p))
+paused_ends p old new s a b c d e f g h (Err x) eh eg ef ee ed ec eb ea es k = tt
 
-pub paused_ends : (log : PauseLog) (p : Pause) (old a b c d e f new : List ℕ) (r : Result (Unit {0}) NoMemory) (until : Option ℕ) → until ≡ get place_cmp log.resumes p.place
-    → a ≡ old ++ codes "paused " → b ≡ a ++ flow_word p.place.spot.flow → c ≡ b ++ spaced (buffer_words p.place.spot.buffer) → d ≡ c ++ (codes " " ++ decimal p.turn)
-    → e ≡ d ++ codes " " → f ≡ e ++ until_word until → OnOk r (new ≡ f ++ codes "\n")
-    → OnOk r (new ≡ old ++ paused_line (told_pause log p))
-paused_ends log p old a b c d e f new (Ok x) until eu ea eb ec ed ee ef en =
-    en ∙ ap (λ (v : List ℕ). v ++ newline) (ef ∙ ap (λ (v : List ℕ). v ++ until_word until) (ee ∙ ap (λ (v : List ℕ). v ++ codes " ") (ed ∙ ap (λ (v : List ℕ). v ++ (codes " " ++ decimal p.turn)) (ec ∙ ap (λ (v : List ℕ). v ++ spaced (buffer_words p.place.spot.buffer)) (eb ∙ ap (λ (v : List ℕ). v ++ flow_word p.place.spot.flow) ea)))))
-    ∙ flat old (codes "paused ") (flow_word p.place.spot.flow) (spaced (buffer_words p.place.spot.buffer)) (codes " ") (decimal p.turn) (codes " ") (until_word until) newline
-    ∙ ap (λ (o : Option ℕ). old ++ (codes "paused " ++ (flow_word p.place.spot.flow ++ (spaced (buffer_words p.place.spot.buffer) ++ (codes " " ++ (decimal p.turn ++ (codes " " ++ (until_word o ++ newline)))))))) eu
-    ∙ ap (λ (v : List ℕ). old ++ v) (paused_spelled (told_pause log p))
-paused_ends log p old a b c d e f new (Err x) until eu ea eb ec ed ee ef en = tt
-
-pub summary_ends : (log : TapeLog) (n : ℕ) (old t0 t1 t2 t3 new : List ℕ) (r : Result (Unit {0}) NoMemory) → n ≡ log.pauses.turn
-    → t0 ≡ [] → t1 ≡ t0 ++ peak_lines log.peaks → t2 ≡ t1 ++ pause_lines log.pauses log.pauses.pauses.items → t3 ≡ t2 ++ report_line (codes "done" ∷ decimal n ∷ [])
-    → (slice : List ℕ) → slice ≡ t3 → OnOk r (new ≡ old ++ slice)
-    → OnOk r (Summarizes log old new)
-summary_ends log n old t0 t1 t2 t3 new (Ok x) tn e0 e1 e2 e3 slice es en =
-    summarizes log n old new tn
-    (en ∙ ap (λ (v : List ℕ). old ++ v) (es ∙ e3 ∙ ap (λ (v : List ℕ). v ++ report_line (codes "done" ∷ decimal n ∷ [])) (e2 ∙ ap (λ (v : List ℕ). v ++ pause_lines log.pauses log.pauses.pauses.items) (e1 ∙ ap (λ (v : List ℕ). v ++ peak_lines log.peaks) e0))
-    ∙ append_assoc (peak_lines log.peaks) (pause_lines log.pauses log.pauses.pauses.items) (report_line (codes "done" ∷ decimal n ∷ []))))
-summary_ends log n old t0 t1 t2 t3 new (Err x) tn e0 e1 e2 e3 slice es en = tt
+pub summary_ends : (log : TapeLog) (n : ℕ) (old t0 t1 t2 t3 : List ℕ) → n ≡ log.pauses.turn
+    → t0 ≡ old → t1 ≡ t0 ++ peak_lines log.peaks → t2 ≡ t1 ++ pause_lines log.pauses.pauses.items → t3 ≡ t2 ++ report_line (codes "done" ∷ decimal n ∷ [])
+    → Summarizes log old t3
+summary_ends log n old t0 t1 t2 t3 tn e0 e1 e2 e3 =
+    summarizes log n old t3 tn
+    (e3 ∙ ap (λ (v : List ℕ). v ++ report_line (codes "done" ∷ decimal n ∷ [])) (e2 ∙ ap (λ (v : List ℕ). v ++ pause_lines log.pauses.pauses.items) (e1 ∙ ap (λ (v : List ℕ). v ++ peak_lines log.peaks) e0))
+    ∙ append_assoc (old ++ peak_lines log.peaks) (pause_lines log.pauses.pauses.items) (report_line (codes "done" ∷ decimal n ∷ []))
+    ∙ append_assoc old (peak_lines log.peaks) (pause_lines log.pauses.pauses.items ++ report_line (codes "done" ∷ decimal n ∷ [])))

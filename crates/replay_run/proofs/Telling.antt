@@ -1,12 +1,20 @@
 -- A text of notes, passage by passage.
+use Rattle.flow_gate.specs.declared.ids.BufferId.{BufferId}
+use Rattle.flow_gate.specs.declared.ids.FlowId.{FlowId}
+use Rattle.flow_notes.specs.Buffer.{buffer_words}
+use Rattle.flow_notes.specs.Flow.{flow_word}
+use Rattle.flow_notes.specs.Line.{newline, spaced}
 use Rattle.flow_notes.specs.Note.{IsNote}
 use Rattle.flow_notes.specs.declared.notes.Note.{Note}
 use Rattle.replay_run.specs.NotesText.{notes_text}
-use Rattle.std.proofs.Common.{ap, append_assoc, refl, subst, sym, ◌∙◌}
+use Rattle.std.proofs.Common.{ap, append_assoc, arith, refl, subst, sym, ◌∙◌}
+use Rattle.std.proofs.lemmas.Grind.{common_steps}
 use Rattle.std.proofs.lemmas.List.{append-nil}
 use Rattle.std.specs.List.{AllByRecursion, flat_map}
-use Rattle.std.specs.Prelude.{List, [], ℕ, ◌++◌, ◌∷◌, ◌≡◌}
+use Rattle.std.specs.Prelude.{List, [], codes, map, ℕ, ◌++◌, ◌∷◌, ◌≡◌}
 use Rattle.tape_laws.specs.Text.{note_line}
+use Rattle.flow_gate.specs.declared.ids.BufferId.TheVariants as buffer
+use Rattle.flow_notes.specs.declared.notes.Note.TheVariants as note
 
 text_joined : (ms ns : List Note) → notes_text (ms ++ ns) ≡ notes_text ms ++ notes_text ns
 text_joined [] ns = refl
@@ -58,3 +66,29 @@ pub told_all : (notes : List Note) (left : List (List Note)) (old into : List �
 told_all notes left old into e k =
     k.1
     ∙ ap (λ (v : List ℕ). old ++ v) (sym (k.2 ∙ ap (λ (v : List (List Note)). k.0 ++ notes_text (flat_map (λ notes. notes) v)) e ∙ append-nil k.0))
+
+-- ---- a row of pauses or resumes
+
+pub row_more : (g : FlowId → Note) (flows rest after : List FlowId) (f : FlowId) (line old into new : List ℕ) → rest ≡ f ∷ after → line ≡ note_line [] (g f) → new ≡ into ++ line
+    → (done : List ℕ) × (into ≡ old ++ done) × (notes_text (map g flows) ≡ done ++ notes_text (map g rest))
+    → (done : List ℕ) × (new ≡ old ++ done) × (notes_text (map g flows) ≡ done ++ notes_text (map g after))
+row_more g flows rest after f line old into new e el en k = (
+  k.0 ++ line,
+  en ∙ ap (λ (v : List ℕ). v ++ line) k.1 ∙ append_assoc old k.0 line,
+  k.2
+      ∙ ap (λ (v : List FlowId). k.0 ++ notes_text (map g v)) e
+      ∙ ap (λ (v : List ℕ). k.0 ++ (v ++ notes_text (map g after))) (sym el)
+      ∙ sym (append_assoc k.0 line (notes_text (map g after))),
+)
+
+pub pause_spelled : (f : FlowId) (b : BufferId) → codes "pause " ++ (flow_word f ++ (spaced (buffer_words b) ++ newline)) ≡ note_line [] (note.Pause f b)
+pause_spelled f (buffer.Recv g) = grind (arith, common_steps)
+pause_spelled f (buffer.Stage g i) = grind (arith, common_steps)
+pause_spelled f (buffer.Send g) = grind (arith, common_steps)
+pause_spelled f (buffer.Write c) = grind (arith, common_steps)
+
+pub resume_spelled : (f : FlowId) (b : BufferId) → codes "resume " ++ (flow_word f ++ (spaced (buffer_words b) ++ newline)) ≡ note_line [] (note.Resume f b)
+resume_spelled f (buffer.Recv g) = grind (arith, common_steps)
+resume_spelled f (buffer.Stage g i) = grind (arith, common_steps)
+resume_spelled f (buffer.Send g) = grind (arith, common_steps)
+resume_spelled f (buffer.Write c) = grind (arith, common_steps)

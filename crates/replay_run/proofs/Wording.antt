@@ -12,7 +12,6 @@ use Rattle.std.specs.Prelude.{Bool, List, Ok, Option, Result, [], codes, false, 
 use Rattle.std.specs.Str.{bytes_eq}
 use Rattle.std.specs.Str.Parse.{ParsesUnsigned}
 use Rattle.replay_run.specs.declared.form.Form.TheVariants as form
-use Rattle.replay_run.specs.declared.status.Status.TheVariants as status
 
 found : (b : Bool) (P : Type 0) → Decides b P → P → b ≡ true
 found b P d p = d.1 p

@@ -13,12 +13,14 @@ pub mod Grammar
 pub mod Held
 pub mod Lawfully
 pub mod Levels
+pub mod LineEnds
 pub mod Logging
 pub mod Newlines
 pub mod NotesText
 pub mod Orders
 pub mod Pausing
 pub mod Peaking
+pub mod Placing
 pub mod Played
 pub mod Reading
 pub mod Replays
@@ -29,4 +31,5 @@ pub mod Summarizes
 pub mod Tally
 pub mod Tallying
 pub mod Told
+pub mod Tracking
 pub mod WireOrder

@@ -4,7 +4,6 @@ use Rattle.replay_run.specs.Logging.{TapeLogIs}
 use Rattle.replay_run.specs.Pausing.{told_pause}
 use Rattle.replay_run.specs.Peaking.{levels_of}
 use Rattle.replay_run.specs.declared.pauses.Pause.{Pause}
-use Rattle.replay_run.specs.declared.pauses.PauseLog.{PauseLog}
 use Rattle.replay_run.specs.declared.peaks.PeakLog.{PeakLog}
 use Rattle.replay_run.specs.declared.tape_log.TapeLog.{TapeLog}
 use Rattle.std.specs.BTreeMap.{get}
@@ -32,8 +31,8 @@ abbrev pub peak_lines : PeakLog → List ℕ
 peak_lines log = flat_map (flow_peak_lines log) log.started.items ++ write_peak_line log
 
 -- the lines of some pauses
-abbrev pub pause_lines : PauseLog → List Pause → List ℕ
-pause_lines log ps = flat_map (λ p. paused_line (told_pause log p)) ps
+abbrev pub pause_lines : List Pause → List ℕ
+pause_lines ps = flat_map (λ p. paused_line (told_pause p)) ps
 
 -- the summary of the history, of one connection, stands behind the text
 pub record Summarizes (log : TapeLog) (old new : List ℕ) : Type 0 where

@@ -10,6 +10,7 @@ mod grammar;
 mod input;
 mod last;
 mod level;
+mod line_end;
 mod lines;
 mod order;
 mod output;
@@ -28,6 +29,8 @@ mod tally;
 mod tape_log;
 mod tell;
 mod text;
+mod track;
+mod tracks;
 mod words;
 
 pub use courses::{Course, Courses};

@@ -1,11 +1,11 @@
 // The pauses of a session, each with the dispatch of its resume.
 ghost use Rattle.std.specs.Prelude.{◌≡◌, ◌+◌, IfOk};
 
+use crate::tracks::Tracks;
 use flow_gate::{BufferId, FlowId};
 use flow_notes::{Note, Notes, Passage};
 use io_ports::NoMemory;
 use std::alloc::Global;
-use std::collections::BTreeMap;
 
 /// A flow, and a buffer for which it is paused.
 #[derive(Clone, Copy, Debug, PartialEq, Eq, PartialOrd, Ord)]
@@ -14,25 +14,12 @@ pub struct Spot {
     pub buffer: BufferId,
 }
 
-/// A pause or a resume, by its number among those of the same flow and buffer, from 0.
-#[derive(Clone, Copy, Debug, PartialEq, Eq, PartialOrd, Ord)]
-pub struct Place {
-    pub spot: Spot,
-    pub number: u64,
-}
-
-/// A pause, and the dispatch in which it came.
+/// A pause, the dispatch in which it came, and that of its resume, once it came.
 #[derive(Clone, Copy, Debug, PartialEq, Eq)]
 pub struct Pause {
-    pub place: Place,
-    pub turn: u64,
-}
-
-/// How many pauses and resumes came of a flow and a buffer.
-#[derive(Clone, Copy, Debug, PartialEq, Eq)]
-pub struct Counts {
-    pub paused: u64,
-    pub resumed: u64,
+    pub spot: Spot,
+    pub at: u64,
+    pub until: Option<u64>,
 }
 
 /// What a summary tells of the pauses of a tape, kept note by note: it grows with the pauses alone.
@@ -40,15 +27,13 @@ pub struct Counts {
 pub struct PauseLog {
     turn: u64,
     pauses: Vec<Pause>,
-    counts: BTreeMap<Spot, Counts>,
-    resumes: BTreeMap<Place, u64>,
+    tracks: Tracks,
 }
 
 impl PauseLog {
-    ghost use Rattle.std.specs.Prelude.{◌≡◌, ◌∷◌, [], map, Some, OnOk};
-    ghost use Rattle.std.specs.BTreeMap.{get, Updates};
+    ghost use Rattle.std.specs.Prelude.{◌≡◌, ◌+◌, ◌∷◌, [], map, OnOk};
     ghost use Rattle.flow_notes.specs.Passages.{notes_of_passage};
-    ghost use Rattle.replay_run.specs.Pausing.{LogIs, Logs, counts_of, place_cmp, spot_cmp};
+    ghost use Rattle.replay_run.specs.Pausing.{LogIs, Logs, ended};
 
     /// The log of an empty tape. Takes no memory.
     pub fn new(alloc: Global) -> Self
@@ -57,8 +42,7 @@ impl PauseLog {
         PauseLog {
             turn: 0,
             pauses: Vec::new(alloc),
-            counts: BTreeMap::new(alloc),
-            resumes: BTreeMap::new(alloc),
+            tracks: Tracks::new(alloc),
         }
     }
 
@@ -84,13 +68,6 @@ impl PauseLog {
         ensures { result.now ≡ self.now.pauses.items }
     {
         self.pauses.as_slice()
-    }
-
-    /// The dispatch of the resume with this number, once it came.
-    pub fn resume_of(&self, place: Place) -> Option<u64>
-        ensures { result ≡ get place_cmp self.now.resumes place }
-    {
-        self.resumes.get(&place).copied()
     }
 
     fn passage(&mut self, passage: Passage<'_>) -> Result<(), NoMemory>
@@ -151,8 +128,7 @@ impl PauseLog {
     fn turn_on(&mut self) -> Result<(), NoMemory>
         ensures turn { OnOk result (self.new.turn ≡ self.old.turn + 1) }
         ensures pauses { self.new.pauses ≡ self.old.pauses }
-        ensures counts { self.new.counts ≡ self.old.counts }
-        ensures resumes { self.new.resumes ≡ self.old.resumes }
+        ensures tracks { self.new.tracks ≡ self.old.tracks }
     {
         self.turn = next(self.turn)?;
         Ok(())
@@ -161,56 +137,36 @@ impl PauseLog {
     fn pause(&mut self, spot: Spot) -> Result<(), NoMemory>
         ensures { OnOk result (Logs self.old (Note.Pause spot.flow spot.buffer ∷ []) self.new) }
     {
-        let counts = self.counts(spot);
-        let number = counts.paused;
+        let until = self.tracks.pause(spot, self.pauses.len())?;
         self.pauses.push(Pause {
-            place: Place { spot, number },
-            turn: self.turn,
-        })?;
-        self.count(
             spot,
-            Counts {
-                paused: next(number)?,
-                ..counts
-            },
-        )
+            at: self.turn,
+            until,
+        })?;
+        Ok(())
     }
 
     fn resume(&mut self, spot: Spot) -> Result<(), NoMemory>
         ensures { OnOk result (Logs self.old (Note.Resume spot.flow spot.buffer ∷ []) self.new) }
     {
-        let counts = self.counts(spot);
-        let number = counts.resumed;
-        self.resumes.insert(Place { spot, number }, self.turn)?;
-        self.count(
-            spot,
-            Counts {
-                resumed: next(number)?,
-                ..counts
-            },
-        )
-    }
-
-    fn counts(&self, spot: Spot) -> Counts
-        ensures { result ≡ counts_of (get spot_cmp self.now.counts spot) }
-    {
-        match self.counts.get(&spot) {
-            Some(counts) => *counts,
-            None => Counts {
-                paused: 0,
-                resumed: 0,
-            },
+        match self.tracks.resume(spot, self.turn)? {
+            Some(place) => {
+                self.end_pause(place);
+                Ok(())
+            }
+            None => Ok(()),
         }
     }
 
-    fn count(&mut self, spot: Spot, counts: Counts) -> Result<(), NoMemory>
-        ensures counts { OnOk result (Updates spot_cmp self.old.counts self.new.counts spot (Some counts)) }
+    // Notes at the pause with this place that its resume comes in this dispatch.
+    fn end_pause(&mut self, place: usize)
+        ensures pauses { self.new.pauses.items ≡ ended place self.old.turn self.old.pauses.items }
         ensures turn { self.new.turn ≡ self.old.turn }
-        ensures pauses { self.new.pauses ≡ self.old.pauses }
-        ensures resumes { self.new.resumes ≡ self.old.resumes }
+        ensures tracks { self.new.tracks ≡ self.old.tracks }
     {
-        self.counts.insert(spot, counts)?;
-        Ok(())
+        if place < self.pauses.len() {
+            self.pauses[place].until = Some(self.turn);
+        }
     }
 }
 

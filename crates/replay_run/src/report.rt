@@ -5,23 +5,26 @@ ghost use Rattle.flow_notes.specs.Line.{newline};
 ghost use Rattle.replay_run.specs.Pausing.{told_pause};
 ghost use Rattle.tape_laws.specs.Report.{paused_line, peak_line, report_line};
 
-use crate::pauses::{Pause, PauseLog};
-use crate::words::{put_behind, put_buffer, put_flow, put_until};
+use crate::line_end::LineEnd;
+use crate::pauses::Pause;
+use crate::words::{put_behind, put_flow};
 use flow_gate::FlowId;
 use io_ports::{NoMemory, Octets};
 
 /// Appends the line of a pause: the flow, the buffer, its dispatch, and that of its resume.
-pub fn put_paused(into: &mut Octets, log: &PauseLog, pause: Pause) -> Result<(), NoMemory>
-    ensures { OnOk result (into.new ≡ into.old ++ paused_line (told_pause log.now pause)) }
+pub fn put_paused(into: &mut Octets, pause: Pause) -> Result<(), NoMemory>
+    ensures { OnOk result (into.new ≡ into.old ++ paused_line (told_pause pause)) }
 {
-    let spot = pause.place.spot;
-    into.push_all(b"paused ")?;
-    put_flow(into, spot.flow)?;
-    put_buffer(into, spot.buffer)?;
-    put_behind(into, b" ", pause.turn)?;
-    into.push_all(b" ")?;
-    put_until(into, log.resume_of(pause.place))?;
-    into.push_all(b"\n")
+    let spot = pause.spot;
+    let mut line = LineEnd::new();
+    line.put_until(pause.until);
+    line.put(b" ");
+    line.put_number(pause.at);
+    line.put(b" ");
+    line.put_buffer(spot.buffer);
+    line.put_flow(spot.flow);
+    line.put(b"paused ");
+    into.push_all(line.as_slice())
 }
 
 /// Appends the line of a flow's buffer: its name, its limit and its peak; nothing where it never held

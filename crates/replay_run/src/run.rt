@@ -17,8 +17,8 @@ const LINE: usize = 40_000;
 const PIECE: usize = 65_536;
 
 /// A session that is read, played and written piece by piece. Of the session and of its tape it holds a
-/// piece each. What grows is the core, with the streams and what waits in their buffers, and what the
-/// summary tells: something of each stream and of each pause.
+/// piece each, and at the end the text of the summary. What grows is the core, with the streams and what
+/// waits in their buffers, and what the summary tells: something of each stream and of each pause.
 #[derive(Drop)]
 pub struct Run {
     pub lines: Lines,

@@ -15,11 +15,12 @@ pub fn write_summary(alloc: Global, log: &TapeLog, into: &mut Octets) -> Result<
     ensures ok { OnOk result (Summarizes log.now into.old into.new) }
     ensures err { OnErr result (into.new ≡ into.old) }
 {
-    let mut text = Octets::new(alloc);
+    let mut text = Octets::from_slice(alloc, into.as_slice())?;
     put_peaks(&mut text, &log.peaks)?;
     put_pauses(&mut text, &log.pauses)?;
     put_done(&mut text, log.pauses.turns())?;
-    into.push_all(text.as_slice())
+    *into = text;
+    Ok(())
 }
 
 // Appends the peaks of each stream's buffers, and of the write buffer.
@@ -57,11 +58,11 @@ fn put_stream(into: &mut Octets, log: &PeakLog, x: u64) -> Result<(), NoMemory>
 
 // Appends a line for each pause.
 fn put_pauses(into: &mut Octets, log: &PauseLog) -> Result<(), NoMemory>
-    ensures { OnOk result (into.new ≡ into.old ++ pause_lines log.now log.now.pauses.items) }
+    ensures { OnOk result (into.new ≡ into.old ++ pause_lines log.now.pauses.items) }
 {
     let mut rest = log.pauses();
     while let Some((pause, after)) = rest.split_first() {
-        put_paused(into, log, *pause)?;
+        put_paused(into, *pause)?;
         rest = after;
     }
     Ok(())

@@ -1,11 +1,14 @@
 // Notes as lines.
 ghost use Rattle.std.specs.List.{AllByRecursion};
-ghost use Rattle.std.specs.Prelude.{◌≡◌, ◌++◌, [], map, OnOk, OnErr};
+ghost use Rattle.std.specs.Prelude.{◌≡◌, ◌≤◌, ◌++◌, [], length, map, OnOk, OnErr};
 ghost use Rattle.flow_notes.specs.Extends.{Extends};
+ghost use Rattle.flow_notes.specs.Flow.{flow_word};
 ghost use Rattle.flow_notes.specs.Note.{IsNote};
 ghost use Rattle.flow_notes.specs.Passages.{notes_of_passage};
+ghost use Rattle.replay_run.specs.LineEnds.{text_of};
 ghost use Rattle.replay_run.specs.NotesText.{notes_text};
 
+use crate::line_end::LineEnd;
 use flow_gate::{BufferId, FlowId};
 use flow_notes::{Names, Note, Notes, Passage, note_text};
 use io_ports::{NoMemory, Octets};
@@ -31,53 +34,46 @@ fn tell_passage(passage: Passage<'_>, names: &Names, into: &mut Octets) -> Resul
 {
     match passage {
         Passage::One(note) => note_text(note, names, into),
-        Passage::Pauses { flows, buffer } => tell_pauses(flows, buffer, names, into),
-        Passage::Resumes { flows, buffer } => tell_resumes(flows, buffer, names, into),
+        Passage::Pauses { flows, buffer } => tell_pauses(flows, buffer, into),
+        Passage::Resumes { flows, buffer } => tell_resumes(flows, buffer, into),
     }
 }
 
-fn tell_pauses(
-    flows: &[FlowId],
-    buffer: BufferId,
-    names: &Names,
-    into: &mut Octets,
-) -> Result<(), NoMemory>
-    requires names { names.now ≡ [] }
-    requires spelled { AllByRecursion (IsNote []) (map (λ f. Note.Pause f buffer) flows.now) }
+fn tell_pauses(flows: &[FlowId], buffer: BufferId, into: &mut Octets) -> Result<(), NoMemory>
     ensures ok { OnOk result (into.new ≡ into.old ++ notes_text (map (λ f. Note.Pause f buffer) flows.now)) }
     ensures err { OnErr result (Extends into.old into.new) }
 {
+    let end = LineEnd::of_buffer(buffer);
     let mut rest = flows;
     while let Some((flow, after)) = rest.split_first() {
-        let pause = Note::Pause {
-            flow: *flow,
-            buffer,
-        };
-        note_text(&pause, names, into)?;
+        put_crossing(b"pause ", *flow, end, into)?;
         rest = after;
     }
     Ok(())
 }
 
-fn tell_resumes(
-    flows: &[FlowId],
-    buffer: BufferId,
-    names: &Names,
-    into: &mut Octets,
-) -> Result<(), NoMemory>
-    requires names { names.now ≡ [] }
-    requires spelled { AllByRecursion (IsNote []) (map (λ f. Note.Resume f buffer) flows.now) }
+fn tell_resumes(flows: &[FlowId], buffer: BufferId, into: &mut Octets) -> Result<(), NoMemory>
     ensures ok { OnOk result (into.new ≡ into.old ++ notes_text (map (λ f. Note.Resume f buffer) flows.now)) }
     ensures err { OnErr result (Extends into.old into.new) }
 {
+    let end = LineEnd::of_buffer(buffer);
     let mut rest = flows;
     while let Some((flow, after)) = rest.split_first() {
-        let resume = Note::Resume {
-            flow: *flow,
-            buffer,
-        };
-        note_text(&resume, names, into)?;
+        put_crossing(b"resume ", *flow, end, into)?;
         rest = after;
     }
     Ok(())
+}
+
+// Appends the line of a pause or a resume: a word, the flow, and the end of the line.
+fn put_crossing(word: &[u8], flow: FlowId, end: LineEnd, into: &mut Octets) -> Result<(), NoMemory>
+    requires word { length word.now ≤ 7 }
+    requires room { 28 ≤ end.start }
+    ensures ok { OnOk result (into.new ≡ into.old ++ (word.now ++ (flow_word flow ++ text_of end))) }
+    ensures err { OnErr result (into.new ≡ into.old) }
+{
+    let mut line = end;
+    line.put_flow(flow);
+    line.put(word);
+    into.push_all(line.as_slice())
 }

@@ -1,12 +1,9 @@
 // Words of a summary, written behind what stands in a text. Want of memory may leave some of a word.
 ghost use Rattle.std.specs.Prelude.{◌≡◌, ◌++◌, decimal, OnOk, OnErr};
-ghost use Rattle.flow_notes.specs.Buffer.{buffer_words};
 ghost use Rattle.flow_notes.specs.Extends.{Extends};
 ghost use Rattle.flow_notes.specs.Flow.{flow_word};
-ghost use Rattle.flow_notes.specs.Line.{spaced};
-ghost use Rattle.tape_laws.specs.Report.{until_word};
 
-use flow_gate::{BufferId, FlowId};
+use flow_gate::FlowId;
 use io_ports::{NoMemory, Octets};
 use itoa::Buffer;
 
@@ -34,26 +31,4 @@ pub fn put_flow(into: &mut Octets, flow: FlowId) -> Result<(), NoMemory>
 {
     put_number(into, flow.exchange)?;
     into.push_all(if flow.back { b"r" } else { b"q" })
-}
-
-/// Appends a buffer's words, each behind a space.
-pub fn put_buffer(into: &mut Octets, buffer: BufferId) -> Result<(), NoMemory>
-    ensures { OnOk result (into.new ≡ into.old ++ spaced (buffer_words buffer)) }
-{
-    match buffer {
-        BufferId::Recv(_) => Ok(()),
-        BufferId::Stage(_, place) => put_behind(into, b" stage ", u64::from(place)),
-        BufferId::Send(_) => into.push_all(b" send"),
-        BufferId::Write(conn) => put_behind(into, b" write ", u64::from(conn)),
-    }
-}
-
-/// Appends the dispatch of a resume, or a dash where there was none.
-pub fn put_until(into: &mut Octets, until: Option<u64>) -> Result<(), NoMemory>
-    ensures { OnOk result (into.new ≡ into.old ++ until_word until) }
-{
-    match until {
-        Some(turn) => put_number(into, turn),
-        None => into.push_all(b"-"),
-    }
 }

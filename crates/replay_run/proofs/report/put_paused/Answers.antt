@@ -3,5 +3,5 @@ use Rattle.replay_run.proofs.Summing.{paused_ends}
 use Rattle.replay_run.proofs.report.put_paused.Goals as goal
 
 pub returns : goal.returns
-returns c = paused_ends c.args.log.now c.args.pause c.args.into.now _ _ _ _ _ _ _ c.push_all-3.result c.resume_of.result c.resume_of.ensures
-    c.in_ok-push_all.ensures.ok c.in_ok-put_flow.ensures c.in_ok-put_buffer.ensures c.in_ok-put_behind.ensures.ok c.in_ok-push_all-2.ensures.ok c.in_ok-put_until.ensures c.push_all-3.ensures.ok
+returns c = paused_ends c.args.pause c.args.into.now _ _ _ _ _ _ _ _ _ _ c.push_all.result c.new-line.ensures.text c.put_until.ensures.text c.put.ensures.text c.put_number.ensures.text c.put-2.ensures.text
+    c.put_buffer.ensures.text c.put_flow.ensures.text c.put-3.ensures.text c.as_slice.ensures c.push_all.ensures.ok

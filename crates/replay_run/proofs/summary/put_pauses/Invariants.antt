@@ -4,7 +4,7 @@ use Rattle.replay_run.proofs.summary.put_pauses.Given as goal
 
 abbrev pub invariant-loop-pause : goal.invariant-loop-pause
 invariant-loop-pause l = record {
-  told : (done : List ℕ) × (l.into ≡ l.fn.into ++ done) × (pause_lines l.log l.log.pauses.items ≡ done ++ pause_lines l.log l.rest);
+  told : (done : List ℕ) × (l.into ≡ l.fn.into ++ done) × (pause_lines l.log.pauses.items ≡ done ++ pause_lines l.rest);
 }
 
 abbrev pub decreases-loop-pause : goal.decreases-loop-pause

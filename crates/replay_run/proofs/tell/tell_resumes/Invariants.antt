@@ -1,14 +1,11 @@
-use Rattle.std.proofs.Common.{◌≡◌, ◌++◌, List, [], ℕ, length, map}
-use Rattle.std.specs.List.{AllByRecursion}
-use Rattle.flow_notes.specs.Note.{IsNote}
+use Rattle.std.proofs.Common.{◌≡◌, ◌++◌, List, ℕ, length, map}
 use Rattle.replay_run.specs.NotesText.{notes_text}
 use Rattle.flow_notes.specs.declared.notes.Note.TheVariants as note
 use Rattle.replay_run.proofs.tell.tell_resumes.Given as goal
 
 abbrev pub invariant-loop-flow : goal.invariant-loop-flow
 invariant-loop-flow l = record {
-  spelled : AllByRecursion (IsNote []) (map (λ f. note.Resume f l.buffer) l.rest);
-  told : (done : List ℕ) × (l.into ≡ l.fn.into ++ done) × (notes_text (map (λ f. note.Resume f l.buffer) l.flows) ≡ done ++ notes_text (map (λ f. note.Resume f l.buffer) l.rest));
+  told : (done : List ℕ) × (l.into ≡ l.fn.into ++ done) × (notes_text (map (λ f. note.Resume f l.fn.buffer) l.flows) ≡ done ++ notes_text (map (λ f. note.Resume f l.fn.buffer) l.rest));
 }
 
 abbrev pub decreases-loop-flow : goal.decreases-loop-flow

@@ -3,7 +3,7 @@ use Rattle.replay_run.proofs.Pausing.{logged_as, other_logged, turn_ends}
 use Rattle.replay_run.proofs.pauses.PauseLog.note.Goals as goal
 
 pub returns-in-Turn : goal.returns-in-Turn
-returns-in-Turn c = turn_ends c.args.self.now c.turn_on.new.self _ _ _ c.turn_on.result c.in-Turn.is c.turn_on.ensures.turn c.turn_on.ensures.pauses c.turn_on.ensures.counts c.turn_on.ensures.resumes
+returns-in-Turn c = turn_ends c.args.self.now c.turn_on.new.self _ _ _ c.turn_on.result c.in-Turn.is c.turn_on.ensures.turn c.turn_on.ensures.pauses c.turn_on.ensures.tracks
 
 pub returns-in-Pause : goal.returns-in-Pause
 returns-in-Pause c = logged_as c.args.self.now c.pause.new.self _ _ c.pause.result c.in-Pause.is c.pause.ensures

@@ -1,11 +1,13 @@
 -- One more resume of the spot.
-use Rattle.std.proofs.Common.{ap, ◌∙◌}
-use Rattle.std.specs.BTreeMap.{get}
-use Rattle.replay_run.specs.Pausing.{place_cmp}
-use Rattle.replay_run.proofs.Pausing.{resume_ends}
+use Rattle.replay_run.proofs.Pausing.{resume_none, resume_some}
 use Rattle.replay_run.proofs.pauses.PauseLog.resume.Goals as goal
+use Rattle.replay_run.specs.declared.pauses.PauseLog.{PauseLog}
+use Rattle.std.proofs.Common.{refl}
 
-pub returns : goal.returns
-returns c = resume_ends c.args.self.now c.count.new.self c.args.spot c.counts-counts.result c.in_ok-next.field-0 c.count.result c.counts-counts.ensures c.in_ok-next.ensures
-    c.count.ensures.turn (ap (λ v. v.items) c.count.ensures.pauses) c.count.ensures.counts
-    (λ p. ap (λ m. get place_cmp m p) c.count.ensures.resumes ∙ c.in_ok-insert.ensures.updates.0 p)
+pub returns-in-Some : goal.returns-in-Some
+returns-in-Some c =
+    let mid : PauseLog = record { turn = c.args.self.now.turn; pauses = c.args.self.now.pauses; tracks = c.resume.new.self } in
+    resume_some c.args.self.now mid c.end_pause.new.self c.args.spot c.in_ok-place.field-0 c.in-Some.place c.in-Some.is c.in_ok-place.ensures refl refl c.end_pause.ensures.pauses c.end_pause.ensures.turn c.end_pause.ensures.tracks
+
+pub returns-in-None : goal.returns-in-None
+returns-in-None c = resume_none c.args.self.now (record { turn = c.args.self.now.turn; pauses = c.args.self.now.pauses; tracks = c.resume.new.self }) c.args.spot c.in_ok-place.field-0 c.in-None.is c.in_ok-place.ensures refl refl
