@@ -1,15 +1,16 @@
 -- What a core stands for: a history whose octets, counts and pairs it keeps, and what of it is under way.
 use Rattle.std.specs.BTreeMap.{get}
 use Rattle.std.specs.Ordering.{nat_cmp}
-use Rattle.std.specs.Prelude.{All, Bool, List, [], false, ℕ, ◌∷◌, ◌≡◌}
+use Rattle.std.specs.Prelude.{All, Bool, List, [], false, length, take, ℕ, ◌<◌, ◌∷◌, ◌≡◌}
 use Rattle.flow_notes.specs.declared.events.Event.{Event}
 use Rattle.flow_notes.specs.declared.notes.Note.{Note}
 use Rattle.proxy_config.specs.Ranges.{IsRoute}
 use Rattle.tape_laws.specs.Dispatches.{events_back, has, is_some_of, turns}
 use Rattle.tape_laws.specs.Following.{MayFollowAll}
 use Rattle.tape_laws.specs.History.{History, NoMark, onto}
-use Rattle.tape_laws.specs.Plain.{paired_with}
+use Rattle.tape_laws.specs.Plain.{paired_with, plain_setup}
 use Rattle.tape_laws.specs.PlainTape.{IsPlainWhole}
+use Rattle.tape_laws.specs.World.{out}
 use Rattle.tape_laws.specs.declared.limits.PlainLimits.{PlainLimits}
 use Rattle.plain_core.specs.Flows.{Settled}
 use Rattle.plain_core.specs.Progress.{Underway}
@@ -44,3 +45,8 @@ pub record CanTake (core : PlainCore) (e : Event) (notes : List Note) : Type 0 w
 -- the core met want of memory, or not
 abbrev pub HasFailed : PlainCore → Bool → Type 0
 HasFailed core failed = core.failed ≡ failed
+
+-- these octets are a front of those that wait for the connection's socket, and there are some where any wait
+pub record WaitsInFront (core : PlainCore) (octets : List ℕ) : Type 0 where
+  pub front : (limits : PlainLimits) (h : History NoMark) → Rests limits core h → octets ≡ take (length octets) (out (plain_setup limits) 0 h)
+  pub some : (limits : PlainLimits) (h : History NoMark) → Rests limits core h → 0 < length (out (plain_setup limits) 0 h) → 0 < length octets

@@ -5,7 +5,7 @@ ghost use Rattle.plain_core.specs.Agenda.{with_drain, with_run};
 ghost use Rattle.plain_core.specs.Flows.{AreLimits};
 ghost use Rattle.plain_core.specs.Measure.{to_go};
 ghost use Rattle.plain_core.specs.Runs.{Cuts, CutsTurn, IsGood, Keeps, Opens, Turns};
-ghost use Rattle.plain_core.specs.Stands.{CanTake, HasFailed, Rests};
+ghost use Rattle.plain_core.specs.Stands.{CanTake, HasFailed, Rests, WaitsInFront};
 
 use crate::agenda::{Agenda, Task};
 use crate::fault::CoreFault;
@@ -71,6 +71,14 @@ impl PlainCore {
                 Err(CoreFault::NoMemory)
             }
         }
+    }
+
+    /// A front of the octets in the write buffer of connection 0, nonempty where it holds any: what the
+    /// connection's socket may take next.
+    pub fn out_front(&self) -> &[u8]
+        ensures { WaitsInFront self.now result.now }
+    {
+        self.flows.conn.write.front()
     }
 
     // A whole dispatch: the event's effect, then small steps to the end, then the sweep.
