@@ -1,6 +1,7 @@
 // Tables of changes. What each crosses was found by hand from the rule for above.
 ghost use Rattle.std.specs.Prelude.{◌≤◌};
 
+use crate::said::{holds, holds_in, same, same_in};
 use std::alloc::{AllocError, Global};
 use std::test::*;
 use wm_buffer::{Crossed, Shifted, WatermarkBuffer};
@@ -102,13 +103,13 @@ const CHANGES: [(u32, [(u32, u32, Crossed, Crossed, bool); 4]); 6] = [
 fn one_buffer_crosses_its_marks(rt: HostRuntime) -> Result<(), Fail> {
     for (limit, changes) in CHANGES {
         let mut buffer = WatermarkBuffer::new(rt.alloc(), limit);
-        assert_eq!(rt; buffer.limit(), limit);
+        same(&rt, &buffer.limit(), &limit);
         for (added, taken, rose, drained, above) in changes {
             let piece = octets(rt.alloc(), 0, u64::from(added))?;
-            assert_eq!(rt; buffer.add(&piece), Ok(rose), "limit {limit}, add {added}");
+            same_in(&rt, &limit, &buffer.add(&piece), &Ok(rose));
             assert!(rt; taken <= buffer.len());
-            assert_eq!(rt; buffer.take(taken), drained, "limit {limit}, take {taken}");
-            assert_eq!(rt; buffer.is_above(), above, "limit {limit}");
+            same_in(&rt, &limit, &buffer.take(taken), &drained);
+            same_in(&rt, &limit, &buffer.is_above(), &above);
         }
     }
     Ok(())
@@ -118,19 +119,19 @@ fn one_buffer_crosses_its_marks(rt: HostRuntime) -> Result<(), Fail> {
 #[test]
 fn a_ready_buffer_takes_what_it_has_room_for(rt: HostRuntime) -> Result<(), Fail> {
     let mut buffer = WatermarkBuffer::new(rt.alloc(), 10);
-    assert!(rt; buffer.is_empty());
-    assert_eq!(rt; buffer.ready(65_536), Ok(()));
+    holds(&rt, buffer.is_empty());
+    same(&rt, &buffer.ready(65_536), &Ok(()));
     let first = octets(rt.alloc(), 0, 65_546)?;
-    assert_eq!(rt; buffer.add(&first), Ok(HIGH));
+    same(&rt, &buffer.add(&first), &Ok(HIGH));
     assert!(rt; 65_541 <= buffer.len());
-    assert_eq!(rt; buffer.take(65_541), LOW);
+    same(&rt, &buffer.take(65_541), &LOW);
     let second = octets(rt.alloc(), 65_546, 65_541)?;
-    assert_eq!(rt; buffer.add(&second), Ok(HIGH));
-    assert_eq!(rt; buffer.len(), 65_546);
+    same(&rt, &buffer.add(&second), &Ok(HIGH));
+    same(&rt, &buffer.len(), &65_546);
     let spelled = spell(rt.alloc(), &mut buffer)?;
     let wanted = octets(rt.alloc(), 65_541, 65_546)?;
-    assert!(rt; spelled.as_slice() == wanted.as_slice());
-    assert!(rt; buffer.is_empty());
+    holds(&rt, spelled.as_slice() == wanted.as_slice());
+    holds(&rt, buffer.is_empty());
     Ok(())
 }
 
@@ -155,11 +156,9 @@ fn a_move_is_one_change_of_both(rt: HostRuntime) -> Result<(), Fail> {
         let mut from = WatermarkBuffer::new(alloc, from_limit);
         let mut to = WatermarkBuffer::new(alloc, to_limit);
         let lies_before = u64::from(has).wrapping_add(u64::from(ahead));
-        assert!(rt;
-            from.add(&octets(alloc, lies_before, u64::from(had))?)
-                .is_ok()
-        );
-        assert!(rt; to.add(&octets(alloc, 0, u64::from(has))?).is_ok());
+        let behind = octets(alloc, lies_before, u64::from(had))?;
+        holds(&rt, from.add(&behind).is_ok());
+        holds(&rt, to.add(&octets(alloc, 0, u64::from(has))?).is_ok());
         let head = octets(alloc, u64::from(has), u64::from(ahead))?;
         assert!(rt; n <= from.len());
         let shifted = from.move_to(&mut to, &head, n);
@@ -167,16 +166,13 @@ fn a_move_is_one_change_of_both(rt: HostRuntime) -> Result<(), Fail> {
             from: drained,
             to: raised,
         };
-        assert_eq!(rt; shifted, Ok(wanted), "had {had}, has {has}, n {n}");
+        same_in(&rt, &n, &shifted, &Ok(wanted));
         let spelled = spell(alloc, &mut to)?;
         let all = lies_before.wrapping_add(u64::from(n));
-        assert_eq!(rt; spelled.len() as u64, all);
+        same(&rt, &(spelled.len() as u64), &all);
         let wanted = octets(alloc, 0, spelled.len() as u64)?;
-        assert!(rt;
-            spelled.as_slice() == wanted.as_slice(),
-            "had {had}, has {has}, n {n}"
-        );
-        assert_eq!(rt; from.len(), had.saturating_sub(n));
+        holds_in(&rt, &n, spelled.as_slice() == wanted.as_slice());
+        same(&rt, &from.len(), &had.saturating_sub(n));
     }
     Ok(())
 }

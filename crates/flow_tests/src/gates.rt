@@ -1,4 +1,5 @@
 // Gates by tables of calls. What each call answers, and the counts after it, were found by hand from the rules.
+use crate::said::{holds, same, same_in};
 use flow_gate::{BufferId, FlowId, Gates, Watchers};
 use io_ports::NoMemory;
 use std::process::Abort;
@@ -224,9 +225,9 @@ const LEFT: [(BufferId, bool); 5] = [
 fn make_all(rt: &impl Abort, gates: &mut Gates, rows: &[Row]) -> Result<(), NoMemory> {
     for (at, row) in rows.iter().enumerate() {
         let (call, answer, first, second) = *row;
-        assert_eq!(rt; make(rt, gates, call)?, answer, "row {at}");
-        assert_eq!(rt; count(gates, FIRST), first, "row {at}");
-        assert_eq!(rt; count(gates, SECOND), second, "row {at}");
+        same_in(rt, &at, &make(rt, gates, call)?, &answer);
+        same_in(rt, &at, &count(gates, FIRST), &first);
+        same_in(rt, &at, &count(gates, SECOND), &second);
     }
     Ok(())
 }
@@ -244,7 +245,7 @@ fn calls_answer_by_the_tables(rt: HostRuntime) -> Result<(), Fail> {
     let mut gates = Gates::new(rt.alloc());
     make_all(&rt, &mut gates, &OWN_BUFFERS)?;
     for (buffer, known) in LEFT {
-        assert_eq!(rt; gates.is_known(buffer), known, "{buffer:?}");
+        same(&rt, &gates.is_known(buffer), &known);
     }
     Ok(())
 }
@@ -256,15 +257,15 @@ fn watchers_stand_in_the_order_in_which_they_began(rt: HostRuntime) -> Result<()
     let watchers = [FIRST, SECOND, LEAST];
     let mut seen = 0;
     for watcher in gates.watchers(SHARED) {
-        assert_eq!(rt; watchers.get(seen).copied(), Some(watcher));
+        same(&rt, &watchers.get(seen).copied(), &Some(watcher));
         seen = seen.saturating_add(1);
     }
-    assert_eq!(rt; seen, 3);
+    same(&rt, &seen, &3);
     for (i, watcher) in watchers.iter().enumerate() {
-        assert_eq!(rt; gates.watcher(SHARED, i), Some(*watcher));
+        same(&rt, &gates.watcher(SHARED, i), &Some(*watcher));
     }
-    assert_eq!(rt; gates.watcher(SHARED, 3), None);
-    assert_eq!(rt; gates.watcher(OWN, 0), None);
+    same(&rt, &gates.watcher(SHARED, 3), &None);
+    same(&rt, &gates.watcher(OWN, 0), &None);
     Ok(())
 }
 
@@ -276,21 +277,21 @@ fn lows_are_told_together(rt: HostRuntime) -> Result<(), Fail> {
     let lows = [FIRST, SECOND, LEAST];
     let mut seen = 0;
     for low in gates.lows(SHARED) {
-        assert_eq!(rt; lows.get(seen).copied(), Some(low));
+        same(&rt, &lows.get(seen).copied(), &Some(low));
         seen = seen.saturating_add(1);
     }
-    assert_eq!(rt; seen, 3);
+    same(&rt, &seen, &3);
     gates.take_lows(SHARED, 2);
     for (flow, held) in [(FIRST, 0), (SECOND, 0), (LEAST, 1)] {
-        assert_eq!(rt; count(&gates, flow), Some(held));
+        same(&rt, &count(&gates, flow), &Some(held));
     }
-    assert_eq!(rt; gates.lows(SHARED).nth(0), Some(LEAST));
-    assert_eq!(rt; gates.lows(SHARED).nth(1), None);
+    same(&rt, &gates.lows(SHARED).nth(0), &Some(LEAST));
+    same(&rt, &gates.lows(SHARED).nth(1), &None);
     gates.take_lows(SHARED, 2);
-    assert_eq!(rt; count(&gates, LEAST), Some(0));
-    assert_eq!(rt; gates.lows(SHARED).nth(0), None);
+    same(&rt, &count(&gates, LEAST), &Some(0));
+    same(&rt, &gates.lows(SHARED).nth(0), &None);
     gates.take_lows(OWN, 1);
-    assert_eq!(rt; gates.lows(OWN).nth(0), None);
+    same(&rt, &gates.lows(OWN).nth(0), &None);
     Ok(())
 }
 
@@ -300,11 +301,11 @@ fn a_flow_is_clear_where_no_buffer_is_above(rt: HostRuntime) -> Result<(), Fail>
     let mut gates = Gates::new(rt.alloc());
     make_all(&rt, &mut gates, &TWO_BUFFERS[..4])?;
     assert!(rt; gates.is_open(FIRST));
-    assert!(rt; gates.is_clear(FIRST, OWN, SHARED));
+    holds(&rt, gates.is_clear(FIRST, OWN, SHARED));
     make_all(&rt, &mut gates, &TWO_BUFFERS[4..5])?;
     assert!(rt; gates.is_open(FIRST));
-    assert!(rt; gates.is_clear(FIRST, OWN, OWN));
-    assert!(rt; !gates.is_clear(FIRST, OWN, SHARED));
+    holds(&rt, gates.is_clear(FIRST, OWN, OWN));
+    holds(&rt, !gates.is_clear(FIRST, OWN, SHARED));
     Ok(())
 }
 
@@ -318,23 +319,23 @@ fn each_buffer_counts(rt: HostRuntime) -> Result<(), Fail> {
         for call in [OpenBuffer(buffer), Watch(FIRST, buffer), High(buffer)] {
             make(&rt, &mut gates, call)?;
         }
-        assert_eq!(rt; count(&gates, FIRST), Some(u64::from(n)));
+        same(&rt, &count(&gates, FIRST), &Some(u64::from(n)));
     }
     Ok(())
 }
 
 /// What a watchers' iterator, its length and its slice say agrees with these flows; whether there is a slice.
 fn are_all(rt: &impl Abort, mut watchers: Watchers<'_>, flows: &[FlowId]) -> bool {
-    assert_eq!(rt; watchers.len(), flows.len());
-    assert_eq!(rt; watchers.is_empty(), flows.is_empty());
+    same(rt, &watchers.len(), &flows.len());
+    same(rt, &watchers.is_empty(), &flows.is_empty());
     let row = watchers.as_slice();
     if let Some(row) = row {
-        assert!(rt; row == flows);
+        holds(rt, row == flows);
     }
     for flow in flows {
-        assert_eq!(rt; watchers.next(), Some(*flow));
+        same(rt, &watchers.next(), &Some(*flow));
     }
-    assert_eq!(rt; watchers.next(), None);
+    same(rt, &watchers.next(), &None);
     row.is_some()
 }
 
@@ -343,20 +344,26 @@ fn are_all(rt: &impl Abort, mut watchers: Watchers<'_>, flows: &[FlowId]) -> boo
 fn watchers_lie_side_by_side(rt: HostRuntime) -> Result<(), Fail> {
     let mut gates = Gates::new(rt.alloc());
     make_all(&rt, &mut gates, &TWO_FLOWS[..13])?;
-    assert!(rt; are_all(&rt, gates.watchers(SHARED), &[FIRST, SECOND, LEAST]));
-    assert!(rt; are_all(&rt, gates.lows(SHARED), &[]));
+    holds(
+        &rt,
+        are_all(&rt, gates.watchers(SHARED), &[FIRST, SECOND, LEAST]),
+    );
+    holds(&rt, are_all(&rt, gates.lows(SHARED), &[]));
     make(&rt, &mut gates, BeginLow(SHARED))?;
     make(&rt, &mut gates, NextLow(SHARED))?;
-    assert!(rt; are_all(&rt, gates.lows(SHARED), &[SECOND, LEAST]));
+    holds(&rt, are_all(&rt, gates.lows(SHARED), &[SECOND, LEAST]));
     make(&rt, &mut gates, Forget(SECOND))?;
-    assert!(rt; !are_all(&rt, gates.watchers(SHARED), &[FIRST, LEAST]));
-    assert!(rt; !are_all(&rt, gates.lows(SHARED), &[LEAST]));
+    holds(&rt, !are_all(&rt, gates.watchers(SHARED), &[FIRST, LEAST]));
+    holds(&rt, !are_all(&rt, gates.lows(SHARED), &[LEAST]));
     make(&rt, &mut gates, OpenFlow(SECOND))?;
     make(&rt, &mut gates, Watch(SECOND, SHARED))?;
     make(&rt, &mut gates, High(SHARED))?;
-    assert!(rt; are_all(&rt, gates.watchers(SHARED), &[FIRST, LEAST, SECOND]));
-    assert!(rt; are_all(&rt, gates.lows(SHARED), &[LEAST]));
-    assert!(rt; are_all(&rt, gates.watchers(OWN), &[]));
+    holds(
+        &rt,
+        are_all(&rt, gates.watchers(SHARED), &[FIRST, LEAST, SECOND]),
+    );
+    holds(&rt, are_all(&rt, gates.lows(SHARED), &[LEAST]));
+    holds(&rt, are_all(&rt, gates.watchers(OWN), &[]));
     Ok(())
 }
 
@@ -372,9 +379,9 @@ fn sending(exchange: u64) -> (FlowId, BufferId) {
 /// Opens a flow that watches its send buffer.
 fn open(rt: &impl Abort, gates: &mut Gates, exchange: u64) -> Result<(), NoMemory> {
     let (flow, buffer) = sending(exchange);
-    assert_eq!(rt; make(rt, gates, OpenFlow(flow))?, DONE);
-    assert_eq!(rt; make(rt, gates, OpenBuffer(buffer))?, DONE);
-    assert_eq!(rt; make(rt, gates, Watch(flow, buffer))?, LOW);
+    same(rt, &make(rt, gates, OpenFlow(flow))?, &DONE);
+    same(rt, &make(rt, gates, OpenBuffer(buffer))?, &DONE);
+    same(rt, &make(rt, gates, Watch(flow, buffer))?, &LOW);
     Ok(())
 }
 
@@ -382,10 +389,14 @@ fn open(rt: &impl Abort, gates: &mut Gates, exchange: u64) -> Result<(), NoMemor
 fn rise_and_drain(rt: &impl Abort, gates: &mut Gates, exchange: u64) -> Result<(), NoMemory> {
     let (flow, buffer) = sending(exchange);
     make(rt, gates, High(buffer))?;
-    assert_eq!(rt; count(gates, flow), Some(1));
+    same(rt, &count(gates, flow), &Some(1));
     make(rt, gates, BeginLow(buffer))?;
-    assert_eq!(rt; make(rt, gates, NextLow(buffer))?, Answer::Told(Some(flow)));
-    assert_eq!(rt; make(rt, gates, NextLow(buffer))?, NOBODY);
+    same(
+        rt,
+        &make(rt, gates, NextLow(buffer))?,
+        &Answer::Told(Some(flow)),
+    );
+    same(rt, &make(rt, gates, NextLow(buffer))?, &NOBODY);
     Ok(())
 }
 
@@ -401,7 +412,7 @@ fn many_flows_cost_little(rt: HostRuntime) -> Result<(), Fail> {
     }
     for exchange in 1..=MANY {
         let (flow, _) = sending(exchange);
-        assert_eq!(rt; count(&gates, flow), Some(0));
+        same(&rt, &count(&gates, flow), &Some(0));
     }
     Ok(())
 }
@@ -424,13 +435,11 @@ fn many_watchers_cost_little(rt: HostRuntime) -> Result<(), Fail> {
         if exchange % 2 == 0 {
             make(&rt, &mut gates, Forget(flow))?;
         } else {
-            assert_eq!(rt;
-                make(&rt, &mut gates, NextLow(SHARED))?,
-                Answer::Told(Some(flow))
-            );
+            let told = make(&rt, &mut gates, NextLow(SHARED))?;
+            same(&rt, &told, &Answer::Told(Some(flow)));
         }
     }
-    assert_eq!(rt; make(&rt, &mut gates, NextLow(SHARED))?, NOBODY);
+    same(&rt, &make(&rt, &mut gates, NextLow(SHARED))?, &NOBODY);
     for gone in 0..MANY {
         let exchange = MANY - gone;
         let (flow, _) = sending(exchange);
@@ -438,6 +447,6 @@ fn many_watchers_cost_little(rt: HostRuntime) -> Result<(), Fail> {
             make(&rt, &mut gates, Forget(flow))?;
         }
     }
-    assert!(rt; !gates.is_watched(SHARED));
+    holds(&rt, !gates.is_watched(SHARED));
     Ok(())
 }

@@ -9,3 +9,5 @@ mod gates;
 mod notes;
 #[cfg(test)]
 mod ports;
+#[cfg(test)]
+mod said;

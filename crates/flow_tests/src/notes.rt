@@ -3,6 +3,7 @@ mod copies;
 mod passages;
 mod reading;
 
+use crate::said::{holds, same};
 use flow_gate::{BufferId, FlowId};
 use flow_notes::{
     Cause, CloseCause, Event, FireKind, Job, NameRefusal, Names, Note, PlainEvent, event_text,
@@ -203,7 +204,7 @@ pause 1q send\nresume 1q stage 1\nresume 18446744073709551615r write 2\n\
 out 0 34\ncredit 1 0 983041\nwaste 1 3 7\nstart 1 1 1 2\ndoom 3 overflow\n\
 doom 3 timeout stream-idle\ndoom 3 posted 0 5\ngone 3\nclose 1 11 flood\n\
 fire connection-idle 7\nturn 1 open 1\n";
-    assert_eq!(rt; text.as_slice(), expected.as_bytes());
+    same(&rt, &text.as_slice(), &expected.as_bytes());
     Ok(())
 }
 
@@ -243,7 +244,7 @@ fn events_are_written(rt: HostRuntime) -> Result<(), Fail> {
         &mut text,
     )?;
     let expected = "accept 1\njoin 2 api-2_b\nroom 2 94\ntick 50\npost 0 0 cancel 1\npair 1 3\n";
-    assert_eq!(rt; text.as_slice(), expected.as_bytes());
+    same(&rt, &text.as_slice(), &expected.as_bytes());
     Ok(())
 }
 
@@ -261,14 +262,14 @@ fn names_are_kept(rt: HostRuntime) -> Result<(), Fail> {
         b"a\n",
         long.as_slice(),
     ] {
-        assert_eq!(rt; names.push(bad), Err(NameRefusal::BadForm));
+        same(&rt, &names.push(bad), &Err(NameRefusal::BadForm));
     }
-    assert_eq!(rt; names.push(b"web"), Err(NameRefusal::Doubled));
-    assert_eq!(rt; names.push(&long[..64]), Ok(()));
-    assert_eq!(rt; names.len(), 3);
-    assert_eq!(rt; names.find(b"api-2_b"), Some(1));
-    assert_eq!(rt; names.find(b"nobody"), None);
-    assert_eq!(rt; names.name(0), b"web".as_slice());
-    assert!(rt; !names.is_empty());
+    same(&rt, &names.push(b"web"), &Err(NameRefusal::Doubled));
+    same(&rt, &names.push(&long[..64]), &Ok(()));
+    assert!(rt; names.len() == 3);
+    same(&rt, &names.find(b"api-2_b"), &Some(1));
+    same(&rt, &names.find(b"nobody"), &None);
+    same(&rt, &names.name(0), &b"web".as_slice());
+    holds(&rt, !names.is_empty());
     Ok(())
 }

@@ -1,6 +1,7 @@
 // Tables of reads and writes, with what each answers.
 ghost use Rattle.std.specs.Prelude.{◌≡◌};
 
+use crate::said::{holds, same};
 use io_ports::{
     Failed, MemSink, MemSource, Octets, PressureList, Sink, Source, StdSink, StdSource,
 };
@@ -67,13 +68,16 @@ fn sources_give_their_octets_in_pieces(rt: HostRuntime) -> Result<(), Fail> {
         source.give_at_most(most);
         let given = reads(alloc, &mut source, room, wanted)?;
         let given = given.ok_or("other answers")?;
-        assert!(rt; room == 0 || given.as_slice() == ALL, "{failing:?}");
+        holds(&rt, room == 0 || given.as_slice() == ALL);
     }
     let mut source = StdSource::new(ALL);
     let given = reads(alloc, &mut source, 3, &[Ok(3), Ok(3), Ok(2), Ok(0)])?;
-    assert!(rt; given.ok_or("other answers")?.as_slice() == ALL);
+    holds(&rt, given.ok_or("other answers")?.as_slice() == ALL);
     let mut source = StdSource::new(Broken);
-    assert!(rt; reads(alloc, &mut source, 3, &[Err(Failed), Err(Failed)])?.is_some());
+    holds(
+        &rt,
+        reads(alloc, &mut source, 3, &[Err(Failed), Err(Failed)])?.is_some(),
+    );
     Ok(())
 }
 
@@ -113,22 +117,24 @@ fn sinks_take_pieces(rt: HostRuntime) -> Result<(), Fail> {
         let made = MemSink::new(alloc, room, failing.to_vec(alloc)?);
         let mut sink = made.map_err(|_| "no memory")?;
         sink.take_at_most(most);
-        assert!(rt; writes(&mut sink, pieces), "{wanted:?}");
-        assert!(rt; sink.octets() == wanted, "{wanted:?}");
+        holds(&rt, writes(&mut sink, pieces));
+        holds(&rt, sink.octets() == wanted);
     }
     let mut held = Vec::new(alloc);
-    assert!(rt;
-        writes(
-            &mut StdSink::new(&mut held),
-            &[(b"abc", Ok(3)), (b"d", Ok(1))]
-        )
-    );
-    assert!(rt; held.as_slice() == b"abcd".as_slice());
+    let pieces: [(&[u8], Answer); 2] = [(b"abc", Ok(3)), (b"d", Ok(1))];
+    holds(&rt, writes(&mut StdSink::new(&mut held), &pieces));
+    holds(&rt, held.as_slice() == b"abcd".as_slice());
     let mut block = [0u8; 4];
     let pieces: [(&[u8], Answer); 3] = [(b"abc", Ok(3)), (b"def", Ok(1)), (b"e", Ok(0))];
-    assert!(rt; writes(&mut StdSink::new(block.as_mut_slice()), &pieces));
-    assert_eq!(rt; block, *b"abcd");
-    assert!(rt; writes(&mut StdSink::new(Broken), &[(b"abc", Err(Failed))]));
+    holds(
+        &rt,
+        writes(&mut StdSink::new(block.as_mut_slice()), &pieces),
+    );
+    same(&rt, &block, b"abcd");
+    holds(
+        &rt,
+        writes(&mut StdSink::new(Broken), &[(b"abc", Err(Failed))]),
+    );
     Ok(())
 }
 
@@ -156,23 +162,23 @@ impl Write for Broken {
 fn lists_keep_what_is_appended(rt: HostRuntime) -> Result<(), Fail> {
     let alloc = rt.alloc();
     let mut octets = Octets::new(alloc);
-    assert!(rt; octets.is_empty());
-    assert_eq!(rt; octets.push_all(b"abc"), Ok(()));
-    assert_eq!(rt; octets.push_all(b"de"), Ok(()));
-    assert_eq!(rt; octets.len(), 5);
-    assert!(rt; octets.as_slice() == b"abcde".as_slice());
+    holds(&rt, octets.is_empty());
+    same(&rt, &octets.push_all(b"abc"), &Ok(()));
+    same(&rt, &octets.push_all(b"de"), &Ok(()));
+    same(&rt, &octets.len(), &5);
+    holds(&rt, octets.as_slice() == b"abcde".as_slice());
     let copy = Octets::from_slice(alloc, octets.as_slice()).map_err(|_| "no memory")?;
     octets.truncate(3);
-    assert!(rt; octets.as_slice() == b"abc".as_slice());
+    holds(&rt, octets.as_slice() == b"abc".as_slice());
     octets.clear();
-    assert!(rt; octets.is_empty());
+    holds(&rt, octets.is_empty());
     let copy = Octets::from_vec(copy.into_vec());
-    assert!(rt; copy.as_slice() == b"abcde".as_slice());
+    holds(&rt, copy.as_slice() == b"abcde".as_slice());
     let mut pressures = PressureList::from_vec(vec![in alloc; 1]?);
-    assert_eq!(rt; pressures.push(1_000_000), Ok(()));
-    assert_eq!(rt; pressures.len(), 2);
-    assert!(rt; pressures.as_slice() == [1, 1_000_000].as_slice());
-    assert!(rt; !pressures.is_empty());
-    assert!(rt; PressureList::new(alloc).into_vec().is_empty());
+    same(&rt, &pressures.push(1_000_000), &Ok(()));
+    same(&rt, &pressures.len(), &2);
+    holds(&rt, pressures.as_slice() == [1, 1_000_000].as_slice());
+    holds(&rt, !pressures.is_empty());
+    holds(&rt, PressureList::new(alloc).into_vec().is_empty());
     Ok(())
 }

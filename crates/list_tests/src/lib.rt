@@ -6,4 +6,6 @@ mod lists;
 #[cfg(test)]
 mod overload;
 #[cfg(test)]
+mod said;
+#[cfg(test)]
 mod timers;

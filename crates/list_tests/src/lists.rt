@@ -3,6 +3,7 @@ ghost use Rattle.std.specs.Prelude.{◌≡◌, ◌<◌, ℕ, length, true, false
 ghost use Rattle.link_lists.specs.Places.{same_ptr};
 ghost use Rattle.link_lists.specs.Lists.{NodeId, has_node, IsKnown};
 
+use crate::said::same;
 use link_lists::{Lists, Node, Steps};
 use std::alloc::Global;
 use std::marker::{Brand, Send};
@@ -262,11 +263,7 @@ fn nodes_leave_and_move(rt: HostRuntime) {
     for (deed, here, away) in rows {
         for ((before, behind), first) in places.into_iter().zip(here) {
             let got = after::<Brand>(rt.alloc(), before, behind, deed, Blank::new(1));
-            assert_eq!(rt;
-                got,
-                Some([first, [away, 0, 0]]),
-                "{deed:?} after {before:?}"
-            );
+            same(&rt, &got, &Some([first, [away, 0, 0]]));
         }
     }
 }
@@ -290,7 +287,7 @@ fn read_and_retire<L: Ledger>(alloc: Global, blank: Blank) -> Option<(u32, u32, 
 #[test]
 fn a_taken_node_is_retired(rt: HostRuntime) {
     let read = read_and_retire::<Brand>(rt.alloc(), Blank::new(1));
-    assert_eq!(rt; read, Some((9, 9, [true, false], 9)));
+    same(&rt, &read, &Some((9, 9, [true, false], 9)));
 }
 
 fn crosses<X: Send>(x: X) -> X {

@@ -1,6 +1,7 @@
 //! Tables whose answers come from outside.
 ghost use Rattle.std.specs.Prelude.{◌≡◌, ◌<◌};
 
+use crate::said::{holds, same, same_in};
 use link_lists::Steps;
 use overload_core::{Actions, Classes, action_states, class_of, trigger_state};
 use proxy_config::{Form, Trigger, read_config};
@@ -32,11 +33,7 @@ fn states_of_triggers(rt: HostRuntime) {
             resource: 0,
             form,
         };
-        assert_eq!(rt;
-            trigger_state(&trigger, pressure),
-            state,
-            "{form:?} at {pressure}"
-        );
+        same_in(&rt, &pressure, &trigger_state(&trigger, pressure), &state);
     }
 }
 
@@ -62,11 +59,7 @@ fn classes_of_sizes(rt: HostRuntime) {
         (131_072, 10, 8),
     ];
     for (bytes, start, class) in rows {
-        assert_eq!(rt;
-            class_at(bytes, start),
-            Some(class),
-            "{bytes} octets from 2^{start}"
-        );
+        same_in(&rt, &bytes, &class_at(bytes, start), &Some(class));
     }
 }
 
@@ -113,11 +106,7 @@ fn the_greatest_trigger_counts(rt: HostRuntime) {
             reduce_timeouts: 0,
             reset_streams,
         };
-        assert_eq!(rt;
-            states_at(rt.alloc(), mem, cpu),
-            Some(wanted),
-            "{mem} and {cpu}"
-        );
+        same_in(&rt, &cpu, &states_at(rt.alloc(), mem, cpu), &Some(wanted));
     }
 }
 
@@ -157,7 +146,7 @@ fn a_state_clears_the_greatest_classes(rt: HostRuntime) {
         (1_000_000, 1),
     ] {
         let next = reset_of_each::<Brand>(rt.alloc(), state, Blank::new(1));
-        assert!(rt; next.is_some(), "state {state}");
+        holds(&rt, next.is_some());
         if let Some(next) = next {
             for (exchange, reset) in (1..9).zip(next) {
                 let wanted = if exchange < least {
@@ -165,7 +154,7 @@ fn a_state_clears_the_greatest_classes(rt: HostRuntime) {
                 } else {
                     Some(exchange)
                 };
-                assert_eq!(rt; reset, wanted, "class {exchange} under {state}");
+                same_in(&rt, &state, &reset, &wanted);
             }
         }
     }
@@ -208,10 +197,10 @@ fn a_change_of_class_puts_an_exchange_last(rt: HostRuntime) {
         (1, Some(1_024), Some(1)),
     ];
     let got = resets::<Brand>(rt.alloc(), &changes, Blank::new(1));
-    assert!(rt; got.is_some());
+    holds(&rt, got.is_some());
     if let Some(got) = got {
-        for ((exchange, bytes, wanted), next) in changes.into_iter().zip(got) {
-            assert_eq!(rt; next, wanted, "after {exchange} with {bytes:?}");
+        for ((exchange, _, wanted), next) in changes.into_iter().zip(got) {
+            same_in(&rt, &exchange, &next, &wanted);
         }
     }
 }

@@ -3,6 +3,7 @@ ghost use Rattle.std.specs.Prelude.{◌≡◌, ◌<◌, ◌≤◌, ◌^◌, leng
 ghost use Rattle.std.specs.VecDeque.{deque_len};
 ghost use Rattle.scaled_timer.specs.Timing.{AreHeld};
 
+use crate::said::{holds, same, same_in};
 use link_lists::Steps;
 use scaled_timer::{Fired, Timer, TimerKind, Timers};
 use std::alloc::Global;
@@ -132,10 +133,14 @@ fn shrunk<L: Ledger>(alloc: Global, blank: Blank) -> Option<[Vec<Fired>; 2]>
 #[test]
 fn a_timer_is_due_as_the_state_rises(rt: HostRuntime) {
     let got = shrunk::<Brand>(rt.alloc(), Blank::new(1));
-    assert!(rt; got.is_some());
+    holds(&rt, got.is_some());
     if let Some([before, after]) = got {
-        assert_eq!(rt; before.as_slice(), [].as_slice());
-        assert_eq!(rt; after.as_slice(), [Fired { kind: 0, id: 7 }].as_slice());
+        holds(&rt, before.is_empty());
+        same(
+            &rt,
+            &after.as_slice(),
+            &[Fired { kind: 0, id: 7 }].as_slice(),
+        );
     }
 }
 
@@ -158,14 +163,14 @@ fn equal<L: Ledger>(alloc: Global, blank: Blank) -> Option<Vec<Fired>>
 #[test]
 fn equal_moments_go_by_arming(rt: HostRuntime) {
     let got = equal::<Brand>(rt.alloc(), Blank::new(1));
-    assert!(rt; got.is_some());
+    holds(&rt, got.is_some());
     if let Some(fired) = got {
         let wanted = [
             Fired { kind: 1, id: 2 },
             Fired { kind: 0, id: 1 },
             Fired { kind: 1, id: 3 },
         ];
-        assert_eq!(rt; fired.as_slice(), wanted.as_slice());
+        same(&rt, &fired.as_slice(), &wanted.as_slice());
     }
 }
 
@@ -192,7 +197,7 @@ fn merged<L: Ledger>(alloc: Global, blank: Blank) -> Option<Vec<Fired>>
 #[test]
 fn kinds_are_merged(rt: HostRuntime) {
     let got = merged::<Brand>(rt.alloc(), Blank::new(1));
-    assert!(rt; got.is_some());
+    holds(&rt, got.is_some());
     if let Some(fired) = got {
         let wanted = [
             Fired { kind: 2, id: 3 },
@@ -203,7 +208,7 @@ fn kinds_are_merged(rt: HostRuntime) {
             Fired { kind: 2, id: 8 },
             Fired { kind: 0, id: 4 },
         ];
-        assert_eq!(rt; fired.as_slice(), wanted.as_slice());
+        same(&rt, &fired.as_slice(), &wanted.as_slice());
     }
 }
 
@@ -233,13 +238,13 @@ fn thirds<L: Ledger>(alloc: Global, blank: Blank) -> Option<Vec<Fired>>
 #[test]
 fn the_others_fire_in_order(rt: HostRuntime) {
     let got = thirds::<Brand>(rt.alloc(), Blank::new(1));
-    assert!(rt; got.is_some());
+    holds(&rt, got.is_some());
     if let Some(fired) = got {
-        assert_eq!(rt; fired.len(), 6666);
+        same(&rt, &fired.len(), &6666);
         let mut id: u64 = 0;
         for one in fired.as_slice() {
             id = id.wrapping_add(if id % 3 == 2 { 2 } else { 1 });
-            assert_eq!(rt; one.id, id);
+            same(&rt, &one.id, &id);
         }
     }
 }
@@ -254,6 +259,6 @@ fn delays_shrink_in_proportion(rt: HostRuntime) {
         (999_999, 1000),
         (1_000_000, 1000),
     ] {
-        assert_eq!(rt; kind.delay(ppm), delay, "at {ppm}");
+        same_in(&rt, &ppm, &kind.delay(ppm), &delay);
     }
 }

@@ -4,6 +4,8 @@
 #[cfg(test)]
 mod posts;
 #[cfg(test)]
+mod said;
+#[cfg(test)]
 mod states;
 #[cfg(test)]
 mod tokens;

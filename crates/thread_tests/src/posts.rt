@@ -3,6 +3,7 @@ ghost use Rattle.std.specs.Prelude.{◌≡◌, ◌+◌, ◌<◌, length, All, If
 ghost use Rattle.std.specs.Thread.{IsSync};
 ghost use Rattle.post_queue.specs.Clauses.{IsPosterOf, IsRunnerOf, passes_in, room_in};
 
+use crate::said::{holds, same};
 use flow_notes::Job;
 use post_queue::{Post, PostBox, PostList, PostRefusal, PosterPass, PosterPasses, RunnerPass};
 use std::alloc::Global;
@@ -69,10 +70,10 @@ fn post_all<R: Wait + Abort>(
         };
         match posts.post(rt, &mut pass, job) {
             Ok(number) => {
-                assert_eq!(rt; number, posted);
+                same(rt, &number, &posted);
                 posted = posted.wrapping_add(1);
             }
-            Err(PostRefusal::NoMemory(back)) => assert_eq!(rt; back, job),
+            Err(PostRefusal::NoMemory(back)) => same(rt, &back, &job),
         }
     }
     (pass, posted)
@@ -171,8 +172,8 @@ fn one_poster(rt: HostRuntime) -> Result<(), Fail> {
     let (posts, mut passes, mut runner) = PostBox::new(alloc, 1)?;
     let mut pass = take(&posts, &mut passes).ok_or("a pass")?;
     let cancel = Job::Cancel { exchange: 7 };
-    assert_eq!(rt; posts.post(&rt, &mut pass, Job::Look), Ok(0));
-    assert_eq!(rt; posts.post(&rt, &mut pass, cancel), Ok(1));
+    same(&rt, &posts.post(&rt, &mut pass, Job::Look), &Ok(0));
+    same(&rt, &posts.post(&rt, &mut pass, cancel), &Ok(1));
     let both = posts.drain(&rt, alloc, &mut runner)?;
     let wanted = [
         Post {
@@ -186,11 +187,11 @@ fn one_poster(rt: HostRuntime) -> Result<(), Fail> {
             job: cancel,
         },
     ];
-    assert_eq!(rt; both.as_slice(), wanted.as_slice());
-    assert!(rt; posts.drain(&rt, alloc, &mut runner)?.is_empty());
+    same(&rt, &both.as_slice(), &wanted.as_slice());
+    holds(&rt, posts.drain(&rt, alloc, &mut runner)?.is_empty());
     put(&posts, &mut passes, pass);
     let rest = close(&rt, alloc, posts, passes, runner).ok_or("memory")?;
-    assert!(rt; rest.is_empty());
+    holds(&rt, rest.is_empty());
     Ok(())
 }
 
@@ -199,12 +200,12 @@ fn a_drain_takes_64(rt: HostRuntime) -> Result<(), Fail> {
     let alloc = rt.alloc();
     let (posts, mut passes, mut runner) = PostBox::new(alloc, 1)?;
     let pass = take(&posts, &mut passes).ok_or("a pass")?;
-    assert!(rt; passes.take_one().is_none());
-    assert_eq!(rt; post_all(&rt, &posts, pass, 200).1, 200);
-    assert_eq!(rt; posts.drain(&rt, alloc, &mut runner)?.len(), 64);
-    assert_eq!(rt; posts.drain(&rt, alloc, &mut runner)?.len(), 64);
-    assert_eq!(rt; posts.drain(&rt, alloc, &mut runner)?.len(), 64);
-    assert_eq!(rt; posts.drain(&rt, alloc, &mut runner)?.len(), 8);
+    holds(&rt, passes.take_one().is_none());
+    same(&rt, &post_all(&rt, &posts, pass, 200).1, &200);
+    same(&rt, &posts.drain(&rt, alloc, &mut runner)?.len(), &64);
+    same(&rt, &posts.drain(&rt, alloc, &mut runner)?.len(), &64);
+    same(&rt, &posts.drain(&rt, alloc, &mut runner)?.len(), &64);
+    same(&rt, &posts.drain(&rt, alloc, &mut runner)?.len(), &8);
     Ok(())
 }
 
@@ -216,14 +217,22 @@ fn two_post_beside_a_runner(rt: HostRuntime) -> Result<(), Fail> {
     let b = take(&posts, &mut passes).ok_or("a pass")?;
     let (a, b, runner, drained) = exchange(&rt, alloc, &posts, a, b, runner);
     let mut all = drained.ok_or("memory")?;
-    assert!(rt; all.len() >= 1900);
+    holds(&rt, all.len() >= 1900);
     put(&posts, &mut passes, b);
     put(&posts, &mut passes, a);
     let rest = close(&rt, alloc, posts, passes, runner).ok_or("memory")?;
     all.extend_from_slice(rest.as_slice())?;
-    assert_eq!(rt; all.len(), 2000);
-    assert_eq!(rt; count_in_order(all.as_slice(), 0), Some(u64::from(EACH)));
-    assert_eq!(rt; count_in_order(all.as_slice(), 1), Some(u64::from(EACH)));
+    same(&rt, &all.len(), &2000);
+    same(
+        &rt,
+        &count_in_order(all.as_slice(), 0),
+        &Some(u64::from(EACH)),
+    );
+    same(
+        &rt,
+        &count_in_order(all.as_slice(), 1),
+        &Some(u64::from(EACH)),
+    );
     Ok(())
 }
 
@@ -236,6 +245,6 @@ fn refused_posts_use_no_number(rt: HostRuntime) -> Result<(), Fail> {
     let (pass, posted) = post_all(&rt, &posts, pass, 200);
     put(&posts, &mut passes, pass);
     let rest = close(&rt, alloc, posts, passes, runner).ok_or("memory")?;
-    assert_eq!(rt; count_in_order(rest.as_slice(), 0), Some(posted));
+    same(&rt, &count_in_order(rest.as_slice(), 0), &Some(posted));
     Ok(())
 }

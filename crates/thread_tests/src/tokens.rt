@@ -2,6 +2,7 @@
 ghost use Rattle.std.specs.Prelude.{◌≤◌, ◌^◌, All, IfOk};
 ghost use Rattle.shared_tokens.specs.Seats.{IsPutSeatOf, IsSeatOf, seats_in};
 
+use crate::said::{holds, same};
 use shared_tokens::{Bucket, NoToken, PutSeat, TokenSeat, TokenSeats};
 use std::alloc::Global;
 use std::process::Abort;
@@ -29,8 +30,8 @@ fn play<R: Abort>(rt: &R, bucket: &Bucket, put: &mut PutSeat, seat: &mut TokenSe
 {
     for step in steps {
         match *step {
-            Step::Put(n, answer) => assert_eq!(rt; bucket.put(put, n), answer),
-            Step::Take(answer) => assert_eq!(rt; bucket.take(seat), answer),
+            Step::Put(n, answer) => same(rt, &bucket.put(put, n), &answer),
+            Step::Take(answer) => same(rt, &bucket.take(seat), &answer),
         }
     }
 }
@@ -41,9 +42,9 @@ fn row<R: Abort + AllocGlobal>(rt: &R, burst: u64, steps: &[Step], taken: u64) -
 {
     let (bucket, mut seats, mut put) = Bucket::new(rt.alloc(), burst, 1)?;
     let mut seat = seats.take_one().ok_or("a seat")?;
-    assert!(rt; seats.take_one().is_none());
+    holds(rt, seats.take_one().is_none());
     play(rt, &bucket, &mut put, &mut seat, steps);
-    assert_eq!(rt; bucket.taken(&seat), taken);
+    same(rt, &bucket.taken(&seat), &taken);
     bucket.settle(&mut put, seat);
     Ok(())
 }
@@ -135,7 +136,7 @@ fn settle_all<R: Abort>(rt: &R, bucket: &Bucket, put: &mut PutSeat, workers: Vec
     let mut workers = workers;
     let mut sum: u64 = 0;
     while let Some(Worker { seat, tokens }) = workers.pop() {
-        assert_eq!(rt; bucket.taken(&seat), tokens);
+        same(rt, &bucket.taken(&seat), &tokens);
         sum = sum.wrapping_add(tokens);
         bucket.settle(put, seat);
     }
@@ -146,10 +147,10 @@ fn settle_all<R: Abort>(rt: &R, bucket: &Bucket, put: &mut PutSeat, workers: Vec
 #[test]
 fn four_threads_take(rt: HostRuntime) -> Result<(), Fail> {
     let (bucket, seats, mut put) = Bucket::new(rt.alloc(), 1000, 4)?;
-    assert_eq!(rt; bucket.put(&mut put, 1000), 1000);
+    same(&rt, &bucket.put(&mut put, 1000), &1000);
     let mut workers = hire(rt.alloc(), &bucket, seats)?;
-    assert_eq!(rt; workers.len(), 4);
+    same(&rt, &workers.len(), &4);
     take_beside(&rt, &bucket, workers.as_mut_slice());
-    assert_eq!(rt; settle_all(&rt, &bucket, &mut put, workers), 1000);
+    same(&rt, &settle_all(&rt, &bucket, &mut put, workers), &1000);
     Ok(())
 }

@@ -1,5 +1,6 @@
 // Notes that were pushed one by one and in rows come back by passages, in their order.
 use super::{REQUEST, RESPONSE};
+use crate::said::{holds, holds_in, same};
 use flow_gate::{BufferId, FlowId, Gates};
 use flow_notes::{Note, Notes, Passage};
 use std::alloc::Global;
@@ -39,10 +40,10 @@ fn is_at(wanted: &[Wanted<'_>], place: usize, passage: Passage<'_>) -> bool {
 fn assert_passages(rt: &impl Abort, notes: &Notes, wanted: &[Wanted<'_>]) {
     let mut place = 0usize;
     for passage in notes.passages() {
-        assert!(rt; is_at(wanted, place, passage), "passage {place} is another");
+        holds_in(rt, &place, is_at(wanted, place, passage));
         place = place.saturating_add(1);
     }
-    assert_eq!(rt; place, wanted.len());
+    same(rt, &place, &wanted.len());
 }
 
 /// Gates where two flows watch a write buffer.
@@ -84,7 +85,7 @@ fn rows_are_passages(rt: HostRuntime) -> Result<(), Fail> {
         Wanted::Resumes(&[REQUEST, RESPONSE]),
     ];
     assert_passages(&rt, &notes, &rows);
-    assert_eq!(rt; notes.len(), 8);
+    same(&rt, &notes.len(), &8);
     Ok(())
 }
 
@@ -96,7 +97,7 @@ fn an_empty_row_is_no_passage(rt: HostRuntime) -> Result<(), Fail> {
     notes.push_pauses(gates.watchers(UNWATCHED), UNWATCHED)?;
     notes.push_resumes(gates.watchers(WRITE), 0, WRITE)?;
     assert_passages(&rt, &notes, &[]);
-    assert!(rt; notes.is_empty());
+    holds(&rt, notes.is_empty());
     Ok(())
 }
 
@@ -107,10 +108,10 @@ fn cleared_notes_are_none(rt: HostRuntime) -> Result<(), Fail> {
     let mut notes = Notes::new(alloc);
     notes.push(Note::Out { conn: 2, n: 1 })?;
     notes.push_pauses(gates.watchers(WRITE), WRITE)?;
-    assert!(rt; !notes.is_empty());
+    holds(&rt, !notes.is_empty());
     notes.clear();
     assert_passages(&rt, &notes, &[]);
-    assert_eq!(rt; notes.len(), 0);
+    same(&rt, &notes.len(), &0);
     notes.push_pauses(gates.watchers(WRITE), WRITE)?;
     assert_passages(&rt, &notes, &[Wanted::Pauses(&[REQUEST, RESPONSE])]);
     Ok(())

@@ -1,5 +1,6 @@
 // Lines that are read and written again, and lines that are no spelling.
 use super::some_names;
+use crate::said::{holds, holds_in, same};
 use flow_notes::{event_text, note_text, read_event, read_note, read_numbers};
 use io_ports::Octets;
 use std::process::Abort;
@@ -138,8 +139,8 @@ const NO_PLAIN: [&str; 9] = [
 
 fn line_is_kept(rt: &impl Abort, line: &str, written: &Octets) -> Result<(), Fail> {
     let (text, newline) = written.as_slice().split_at(line.len().min(written.len()));
-    assert_eq!(rt; text, line.as_bytes());
-    assert_eq!(rt; newline, b"\n".as_slice());
+    same(rt, &text, &line.as_bytes());
+    same(rt, &newline, &b"\n".as_slice());
     Ok(())
 }
 
@@ -150,16 +151,17 @@ fn notes_are_read(rt: HostRuntime) -> Result<(), Fail> {
     for line in NOTES {
         let mut written = Octets::new(alloc);
         let Some(note) = read_note(alloc, line.as_bytes(), &names)? else {
-            assert!(rt; false, "{line}");
+            holds_in(&rt, &line, false);
             continue;
         };
         note_text(&note, &names, &mut written)?;
         line_is_kept(&rt, line, &written)?;
     }
     for line in NO_NOTES {
-        assert!(rt;
+        holds_in(
+            &rt,
+            &line,
             read_note(alloc, line.as_bytes(), &names)?.is_none(),
-            "{line}"
         );
     }
     Ok(())
@@ -173,24 +175,26 @@ fn events_are_read(rt: HostRuntime) -> Result<(), Fail> {
         for line in lines {
             let mut written = Octets::new(alloc);
             let Some(event) = read_event(alloc, line.as_bytes(), &names, plain)? else {
-                assert!(rt; false, "{line}");
+                holds_in(&rt, &line, false);
                 continue;
             };
-            assert!(rt; event.is_plain() == plain, "{line}");
+            holds_in(&rt, line, event.is_plain() == plain);
             event_text(&event, &names, &mut written)?;
             line_is_kept(&rt, line, &written)?;
         }
     }
     for line in NO_WIRE {
-        assert!(rt;
+        holds_in(
+            &rt,
+            &line,
             read_event(alloc, line.as_bytes(), &names, false)?.is_none(),
-            "{line}"
         );
     }
     for line in NO_PLAIN {
-        assert!(rt;
+        holds_in(
+            &rt,
+            &line,
             read_event(alloc, line.as_bytes(), &names, true)?.is_none(),
-            "{line}"
         );
     }
     Ok(())
@@ -200,15 +204,15 @@ fn events_are_read(rt: HostRuntime) -> Result<(), Fail> {
 fn numbers_are_read(rt: HostRuntime) -> Result<(), Fail> {
     let alloc = rt.alloc();
     let Some(numbers) = read_numbers(alloc, b"limits", b"limits 65535 0 4294967295")? else {
-        assert!(rt; false);
+        holds(&rt, false);
         return Ok(());
     };
-    assert_eq!(rt; numbers.as_slice(), [65535, 0, 4294967295].as_slice());
+    same(&rt, &numbers.as_slice(), &[65535, 0, 4294967295].as_slice());
     let Some(numbers) = read_numbers(alloc, b"limits", b"limits")? else {
-        assert!(rt; false);
+        holds(&rt, false);
         return Ok(());
     };
-    assert!(rt; numbers.is_empty());
+    holds(&rt, numbers.is_empty());
     for line in [
         "limit 1",
         "limits ",
@@ -217,9 +221,10 @@ fn numbers_are_read(rt: HostRuntime) -> Result<(), Fail> {
         "limits  1",
         "limits 4294967296",
     ] {
-        assert!(rt;
+        holds_in(
+            &rt,
+            &line,
             read_numbers(alloc, b"limits", line.as_bytes())?.is_none(),
-            "{line}"
         );
     }
     Ok(())

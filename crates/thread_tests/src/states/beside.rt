@@ -4,6 +4,7 @@ ghost use Rattle.std.specs.Thread.{IsSync};
 ghost use Rattle.shared_state.specs.States.{resources_of};
 
 use super::follower_of;
+use crate::said::{holds, same};
 use io_ports::NoMemory;
 use proxy_config::read_config;
 use shared_state::{Follower, Publisher, Snapshot, Told, make_shared};
@@ -120,7 +121,7 @@ fn beside<R: Threads + Wait + Sync>(
 #[test]
 fn two_followers_beside_a_publisher(rt: HostRuntime) -> Result<(), Fail> {
     let config = read_config(rt.alloc(), CONFIG.as_bytes())?;
-    assert_eq!(rt; config.overload.resources.len(), 2);
+    assert!(rt; config.overload.resources.len() == 2);
     let (mut publisher, mut followers) = make_shared(&rt, rt.alloc(), &config, 2)?;
     let Some(a) = follower_of(&publisher, &mut followers) else {
         panic!(rt; "there is a follower")
@@ -136,12 +137,12 @@ fn two_followers_beside_a_publisher(rt: HostRuntime) -> Result<(), Fail> {
     b.learn(second);
     let last = (a.current(&rt, rt.alloc()), b.current(&rt, rt.alloc()));
     let versions = publisher.end(&rt);
-    assert_eq!(rt; (of_a?, of_b?), (true, true));
+    holds(&rt, of_a? && of_b?);
     let (last_of_a, last_of_b) = (last.0?, last.1?);
-    assert_eq!(rt;
-        (versions, last_of_a.version, last_of_b.version),
-        (1_000, 1_000, 1_000)
-    );
-    assert!(rt; is_whole(&last_of_a) && is_whole(&last_of_b));
+    same(&rt, &versions, &1_000);
+    for last in [&last_of_a, &last_of_b] {
+        same(&rt, &last.version, &1_000);
+        holds(&rt, is_whole(last));
+    }
     Ok(())
 }

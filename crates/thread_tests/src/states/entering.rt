@@ -1,4 +1,5 @@
 // Permits on one seat.
+use crate::said::{holds, same};
 use shared_state::{Permits, Refused};
 use std::test::*;
 
@@ -6,7 +7,7 @@ use std::test::*;
 fn a_third_permit_of_two_is_refused(rt: HostRuntime) -> Result<(), Fail> {
     let (permits, mut seats) = Permits::new(rt.alloc(), 2, 1)?;
     let mut seat = seats.take_one().ok_or("a seat")?;
-    assert!(rt; seats.take_one().is_none());
+    holds(&rt, seats.take_one().is_none());
     let Ok(first) = permits.enter(&mut seat) else {
         panic!(rt; "the first permit was refused")
     };
@@ -26,7 +27,7 @@ fn a_third_permit_of_two_is_refused(rt: HostRuntime) -> Result<(), Fail> {
     };
     permits.leave(&mut seat, second);
     permits.leave(&mut seat, third);
-    assert_eq!(rt; found, 2);
+    same(&rt, &found, &2);
     Ok(())
 }
 
@@ -39,7 +40,7 @@ fn of_no_permits_none_is_given(rt: HostRuntime) -> Result<(), Fail> {
             permits.leave(&mut seat, permit);
             panic!(rt; "a permit was given")
         }
-        Err(refused) => assert_eq!(rt; refused, Refused { found: 0 }),
+        Err(refused) => same(&rt, &refused, &Refused { found: 0 }),
     }
     Ok(())
 }

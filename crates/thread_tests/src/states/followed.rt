@@ -1,5 +1,6 @@
 // What a follower answers on the publisher's own thread.
 use super::follower_of;
+use crate::said::{holds, same, same_in};
 use overload_core::action_states;
 use proxy_config::read_config;
 use shared_state::{Snapshot, make_shared};
@@ -25,7 +26,7 @@ fn followed<R: AllocGlobal + Wait + Abort>(
     ends: bool,
 ) -> Result<Snapshot, Fail> {
     let config = read_config(rt.alloc(), CONFIG.as_bytes())?;
-    assert_eq!(rt; config.overload.resources.len(), 1);
+    assert!(rt; config.overload.resources.len() == 1);
     let (mut publisher, mut followers) = make_shared(rt, rt.alloc(), &config, 1)?;
     let Some(mut follower) = follower_of(&publisher, &mut followers) else {
         panic!(rt; "there is a follower")
@@ -33,12 +34,12 @@ fn followed<R: AllocGlobal + Wait + Abort>(
     let Ok(told) = publisher.publish(rt, &[pressure]) else {
         panic!(rt; "there is memory")
     };
-    assert_eq!(rt; told.version(), 1);
+    same(rt, &told.version(), &1);
     if learns {
         follower.learn(told);
     }
     let snapshot = if ends {
-        assert_eq!(rt; publisher.end(rt), 1);
+        same(rt, &publisher.end(rt), &1);
         follower.current(rt, rt.alloc())
     } else {
         let snapshot = follower.current(rt, rt.alloc());
@@ -46,7 +47,7 @@ fn followed<R: AllocGlobal + Wait + Abort>(
         snapshot
     };
     let snapshot = snapshot?;
-    assert_eq!(rt; action_states(&config, &[pressure]), snapshot.actions);
+    same(rt, &action_states(&config, &[pressure]), &snapshot.actions);
     Ok(snapshot)
 }
 
@@ -61,9 +62,9 @@ fn a_follower_answers_what_was_published(rt: HostRuntime) -> Result<(), Fail> {
     ];
     for (pressure, learns, ends, state) in rows {
         let snapshot = followed(&rt, pressure, learns, ends)?;
-        assert_eq!(rt; snapshot.version, 1, "learns {learns}, ends {ends}");
-        assert_eq!(rt; snapshot.pressures.as_slice(), [pressure].as_slice());
-        assert_eq!(rt; snapshot.actions.stop_requests, state);
+        same_in(&rt, &pressure, &snapshot.version, &1);
+        same(&rt, &snapshot.pressures.as_slice(), &[pressure].as_slice());
+        same(&rt, &snapshot.actions.stop_requests, &state);
     }
     Ok(())
 }
@@ -71,18 +72,18 @@ fn a_follower_answers_what_was_published(rt: HostRuntime) -> Result<(), Fail> {
 #[test]
 fn the_opening_version_has_no_pressure(rt: HostRuntime) -> Result<(), Fail> {
     let config = read_config(rt.alloc(), CONFIG.as_bytes())?;
-    assert_eq!(rt; config.overload.resources.len(), 1);
+    assert!(rt; config.overload.resources.len() == 1);
     let (mut publisher, mut followers) = make_shared(&rt, rt.alloc(), &config, 2)?;
     let first = follower_of(&publisher, &mut followers);
     let told = publisher.tell();
     publisher.end(&rt);
     let mut first = first.ok_or("a follower")?;
-    assert_eq!(rt; told.version(), 0);
-    assert!(rt; followers.take_one().is_some());
-    assert!(rt; followers.take_one().is_none());
+    same(&rt, &told.version(), &0);
+    holds(&rt, followers.take_one().is_some());
+    holds(&rt, followers.take_one().is_none());
     first.learn(told);
     let snapshot = first.current(&rt, rt.alloc())?;
-    assert_eq!(rt; snapshot.version, 0);
-    assert_eq!(rt; snapshot.pressures.as_slice(), [0].as_slice());
+    same(&rt, &snapshot.version, &0);
+    same(&rt, &snapshot.pressures.as_slice(), &[0].as_slice());
     Ok(())
 }

@@ -3,6 +3,7 @@ ghost use Rattle.std.specs.Prelude.{All, IfSome};
 ghost use Rattle.std.specs.Thread.{IsSync};
 ghost use Rattle.shared_state.specs.PermitSeats.{IsSeatOf, IsNewSeat, seats_in};
 
+use crate::said::holds;
 use shared_state::{PermitSeat, PermitSeats, Permits};
 use std::sync::atomic::{AtomicU64, Ordering};
 use std::test::*;
@@ -94,8 +95,8 @@ fn no_more_than_three_are_inside(rt: HostRuntime) -> Result<(), Fail> {
     let c = seat_of(&permits, &mut seats).ok_or("a seat")?;
     let d = seat_of(&permits, &mut seats).ok_or("a seat")?;
     for saw in four(&rt, &permits, (a, b, c, d)) {
-        assert!(rt; saw.most <= 3, "{saw:?}");
-        assert!(rt; saw.given > 0, "{saw:?}");
+        holds(&rt, saw.most <= 3);
+        holds(&rt, saw.given > 0);
     }
     Ok(())
 }
