@@ -5,7 +5,7 @@ use Rattle.exchange_core.specs.Changes.{Dooms}
 use Rattle.exchange_core.specs.Exchange.{IsSoundExchange, at_moment, is_metered, seen_at}
 use Rattle.exchange_core.specs.Exchanges.{Exchanges, IsSound, exchange_at}
 use Rattle.exchange_core.specs.Flow.{Flow}
-use Rattle.exchange_core.specs.Numbers.{Numbers, has}
+use Rattle.number_set.specs.NumberSet.{NumberSet, has}
 use Rattle.exchange_core.specs.View.{IsKept, exchanges_of, stored}
 use Rattle.exchange_core.specs.declared.exchange.Exchange.{Exchange}
 use Rattle.exchange_core.specs.declared.exchanges.Exchanges.TheInside.{Inside}
@@ -129,7 +129,7 @@ module _ (c a : Inside) (x : ℕ) (found : Exchange) (kept : IsKept c)
     ready = omega (arith, long, kept.ready, marks.room);
   }
 
-pub is_unmarked : (c : Inside) (x : ℕ) (found : Exchange) → IsKept c → Some found ≡ lookup (is_at (nat_cmp x)) c.live.entries → (marked : Numbers) →
+pub is_unmarked : (c : Inside) (x : ℕ) (found : Exchange) → IsKept c → Some found ≡ lookup (is_at (nat_cmp x)) c.live.entries → (marked : NumberSet) →
     ((y : ℕ) → has marked.items y ≡ cond (nat_eq x y) false (has c.metered.items y)) → length marked.items + cond (has c.metered.items x) 1 0 ≡ length c.metered.items + 0 → marked.room ≡ c.metered.room →
     IsMarked x (is_metered found) false c.metered marked
 is_unmarked c x found kept found_is marked items len room =

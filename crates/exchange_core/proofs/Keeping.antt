@@ -2,7 +2,7 @@
 use Rattle.exchange_core.proofs.Dooming.{sound_swept}
 use Rattle.exchange_core.specs.Exchange.{IsSoundExchange, is_metered}
 use Rattle.exchange_core.specs.Exchanges.{IsSound, exchange_at, is_metered_at}
-use Rattle.exchange_core.specs.Numbers.{has}
+use Rattle.number_set.specs.NumberSet.{has}
 use Rattle.exchange_core.specs.View.{IsKept, exchanges_of, seen_all, stored}
 use Rattle.exchange_core.specs.declared.exchanges.Exchanges.TheInside.{Inside}
 use Rattle.std.proofs.Common.{ap, arith, subst, sym, ◌∙◌}

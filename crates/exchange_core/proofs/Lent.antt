@@ -8,7 +8,7 @@ use Rattle.exchange_core.specs.Changes.{ChangesFlow}
 use Rattle.exchange_core.specs.Exchange.{flow_changed, flow_in, goes_to, is_metered, seen_at, with_flow}
 use Rattle.exchange_core.specs.Exchanges.{flow_at, target_of}
 use Rattle.exchange_core.specs.Flow.{Flow, IsSound as IsSoundFlow, meters_hold}
-use Rattle.exchange_core.specs.Numbers.{Numbers}
+use Rattle.number_set.specs.NumberSet.{NumberSet}
 use Rattle.exchange_core.specs.View.{IsKept, exchanges_of}
 use Rattle.exchange_core.specs.declared.exchange.Exchange.{Exchange}
 use Rattle.exchange_core.specs.declared.exchanges.Exchanges.TheInside.{Inside}
@@ -85,17 +85,17 @@ module _ {c : Inside} {lender : Exchange → BTreeMap ℕ Exchange} {f : FlowId}
       )
 
 -- ---- an exchange, whose Meters may hold octets now or not
-pub record LentWhole (c : Inside) (lender : Exchange → BTreeMap ℕ Exchange) (marked : Numbers) (f : FlowId) (found written : Exchange) : Type 0 where
+pub record LentWhole (c : Inside) (lender : Exchange → BTreeMap ℕ Exchange) (marked : NumberSet) (f : FlowId) (found written : Exchange) : Type 0 where
   pub kept : IsKept c
   pub is : Some found ≡ lookup (is_at (nat_cmp f.exchange)) c.live.entries
   pub sound : IfSome (flow_in f.back written) IsSoundFlow
   pub through : WritesThrough nat_cmp (nat_cmp f.exchange) c.live written (lender written)
   pub marks : IsMarked f.exchange (is_metered found) (is_metered written) c.metered marked
 
-abbrev pub left_whole : Inside → (Exchange → BTreeMap ℕ Exchange) → Numbers → Exchange → Inside
+abbrev pub left_whole : Inside → (Exchange → BTreeMap ℕ Exchange) → NumberSet → Exchange → Inside
 left_whole c lender marked written = record c { live = lender written; metered = marked }
 
-module _ {c : Inside} {lender : Exchange → BTreeMap ℕ Exchange} {marked : Numbers} {f : FlowId} {found written : Exchange} (l : LentWhole c lender marked f found written) where
+module _ {c : Inside} {lender : Exchange → BTreeMap ℕ Exchange} {marked : NumberSet} {f : FlowId} {found written : Exchange} (l : LentWhole c lender marked f found written) where
   pub whole_done : (change : Flow → Flow) → IsSteady change → written ≡ flow_changed change f.back (seen_at c.ticked found) →
       ChangesFlow f change (exchanges_of c) (exchanges_of (left_whole c lender marked written)) × IsKept (left_whole c lender marked written)
   whole_done change steady is =

@@ -21,7 +21,6 @@ pub mod Outcomes
 pub mod PlainStreams
 pub mod Receiving
 pub mod Refilled
-pub mod Rising
 pub mod Ruled
 pub mod Seeing
 pub mod Sources

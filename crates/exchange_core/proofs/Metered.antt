@@ -3,7 +3,7 @@ use Rattle.exchange_core.proofs.Moments.{chain_kept}
 use Rattle.exchange_core.proofs.Refilled.{refilled_any}
 use Rattle.exchange_core.specs.Exchange.{at_moment, is_metered, seen_at}
 use Rattle.exchange_core.specs.Flow.{Flow, is_filled_meter, meters_hold}
-use Rattle.exchange_core.specs.Numbers.{Numbers, has}
+use Rattle.number_set.specs.NumberSet.{NumberSet, has}
 use Rattle.exchange_core.specs.declared.exchange.Exchange.{Exchange}
 use Rattle.std.proofs.Common.{ap, arith, inl, inr, refl, sym, ◌∙◌}
 use Rattle.std.proofs.lemmas.Bool.{cases_Bool}
@@ -18,7 +18,7 @@ use Rattle.std.specs.Prelude.{Bool, List, None, Option, Some, [], cond, count_by
 use Rattle.std.specs.declared.cmp.Ordering.TheVariants.{Equal, Greater, Less}
 
 -- the set was told which exchanges have Meters that hold octets
-pub record IsMarked (x : ℕ) (before now : Bool) (old new : Numbers) : Type 0 where
+pub record IsMarked (x : ℕ) (before now : Bool) (old new : NumberSet) : Type 0 where
   pub items : (y : ℕ) → has new.items y ≡ cond (nat_eq x y) now (has old.items y)
   pub counted : length new.items + cond before 1 0 ≡ length old.items + cond now 1 0
   pub room : new.room ≡ old.room

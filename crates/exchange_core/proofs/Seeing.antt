@@ -4,7 +4,7 @@ use Rattle.exchange_core.proofs.Maps.{seen_of, stored_at}
 use Rattle.exchange_core.proofs.Metered.{exchange_metered}
 use Rattle.exchange_core.specs.Exchange.{IsSoundExchange, is_metered, seen_at}
 use Rattle.exchange_core.specs.Exchanges.{IsNextMetered, IsSound, exchange_at, is_metered_at}
-use Rattle.exchange_core.specs.Numbers.{has}
+use Rattle.number_set.specs.NumberSet.{has}
 use Rattle.exchange_core.specs.View.{IsKept, exchanges_of, seen_all, stored}
 use Rattle.exchange_core.specs.declared.exchange.Exchange.{Exchange}
 use Rattle.exchange_core.specs.declared.exchanges.Exchanges.TheInside.{Inside}

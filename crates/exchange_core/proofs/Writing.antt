@@ -8,7 +8,7 @@ use Rattle.exchange_core.specs.Changes.{ChangesFlow}
 use Rattle.exchange_core.specs.Exchange.{IsFlowOf, IsSoundExchange, at_moment, flow_changed, flow_id, flow_in, is_metered, seen_at, with_flow}
 use Rattle.exchange_core.specs.Exchanges.{Exchanges, IsSound, exchange_at, flow_at, is_send_above}
 use Rattle.exchange_core.specs.Flow.{Flow, IsSound as IsSoundFlow, last_place, meters_hold}
-use Rattle.exchange_core.specs.Numbers.{Numbers, has}
+use Rattle.number_set.specs.NumberSet.{NumberSet, has}
 use Rattle.exchange_core.specs.View.{IsKept, exchanges_of, seen_all, stored}
 use Rattle.exchange_core.specs.declared.exchange.Exchange.{Exchange}
 use Rattle.exchange_core.specs.declared.exchanges.Exchanges.TheInside.{Inside}
@@ -143,7 +143,7 @@ calm true change exchange same = ap (λ b. meters_hold exchange.request || b) (b
     by_response None is = refl
     by_response (Some flow) is = is
 
-module _ (c : Inside) (lent : BTreeMap ℕ Exchange) (marked : Numbers) (f : FlowId) (change : Flow → Flow) (found written : Exchange) (kept : IsKept c) (steady : IsSteady change)
+module _ (c : Inside) (lent : BTreeMap ℕ Exchange) (marked : NumberSet) (f : FlowId) (change : Flow → Flow) (found written : Exchange) (kept : IsKept c) (steady : IsSteady change)
     (found_is : Some found ≡ lookup (is_at (nat_cmp f.exchange)) c.live.entries)
     (is : written ≡ flow_changed change f.back (seen_at c.ticked found))
     (sound : IfSome (flow_in f.back (seen_at c.ticked found)) (λ flow. IsSoundFlow (change flow)))
@@ -280,7 +280,7 @@ module _ (c : Inside) (f : FlowId) (found written : Exchange) (kept : IsKept c) 
       let few = count_room is_metered (is_at (nat_cmp f.exchange)) c.live.entries found found_is (sym found_metered ∙ none) in
       omega (arith, few, kept.counted, kept.ready)
 
-  pub is_marked : (marked : Numbers) (now : Bool) → now ≡ is_metered written → ((y : ℕ) → has marked.items y ≡ cond (nat_eq f.exchange y) now (has c.metered.items y)) →
+  pub is_marked : (marked : NumberSet) (now : Bool) → now ≡ is_metered written → ((y : ℕ) → has marked.items y ≡ cond (nat_eq f.exchange y) now (has c.metered.items y)) →
       length marked.items + cond (has c.metered.items f.exchange) 1 0 ≡ length c.metered.items + cond now 1 0 → marked.room ≡ c.metered.room →
       IsMarked f.exchange (is_metered found) (is_metered written) c.metered marked
   is_marked marked now is items len room = record {

@@ -7,7 +7,6 @@ pub mod Kept
 pub mod Lending
 pub mod Message
 pub mod Moves
-pub mod Numbers
 pub mod Plain
 pub mod Replies
 pub mod Seen

@@ -2,7 +2,7 @@
 -- the flow as it stands at the last tick.
 use Rattle.exchange_core.specs.Exchange.{is_metered, seen_at}
 use Rattle.exchange_core.specs.Exchanges.{Exchanges, IsSound, is_metered_at}
-use Rattle.exchange_core.specs.Numbers.{has}
+use Rattle.number_set.specs.NumberSet.{has}
 use Rattle.exchange_core.specs.declared.exchange.Exchange.{Exchange}
 use Rattle.exchange_core.specs.declared.exchanges.Exchanges.TheInside.{Inside}
 use Rattle.std.specs.Prelude.{List, count_by, length, map, ℕ, ◌+◌, ◌≡◌, ◌≤◌}

@@ -15,7 +15,6 @@ mod reading;
 
 use crate::exchange::{Exchange, forget_flows};
 use crate::flow::Flow;
-use crate::numbers::Numbers;
 use crate::reply::Doomed;
 use crate::start::StartSpec;
 use crate::step::Received;
@@ -24,6 +23,7 @@ use flow_gate::{FlowId, Gates};
 use flow_notes::Cause;
 use hpack_codec::FieldList;
 use io_ports::NoMemory;
+use number_set::NumberSet;
 use proxy_config::Config;
 use std::alloc::Global;
 use std::collections::{BTreeMap, VecDeque};
@@ -38,7 +38,7 @@ pub struct Exchanges {
     alloc: Global,
     live: BTreeMap<u64, Exchange>,
     doomed: VecDeque<u64>,
-    metered: Numbers,
+    metered: NumberSet,
     last: u64,
     ticked: u64,
     time: u64,
@@ -69,7 +69,7 @@ impl Exchanges {
             alloc,
             live: BTreeMap::new(alloc),
             doomed: VecDeque::new(alloc),
-            metered: Numbers::new(alloc),
+            metered: NumberSet::new(alloc),
             last: 0,
             ticked: 0,
             time: 0,

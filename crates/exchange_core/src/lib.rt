@@ -8,7 +8,6 @@ mod exchanges;
 mod flow;
 mod laws;
 mod message;
-mod numbers;
 mod reply;
 mod start;
 mod step;

@@ -9,12 +9,13 @@ use Rattle.wire_links.proofs.Begins.{has_ends, mark_nothing}
 use Rattle.wire_links.proofs.Offered.{Exchanges, IsOffer, no_other, offer_is, room_kept, some_room, takers_alike, takes, told_right}
 use Rattle.wire_links.proofs.Seen.{IsClient, IsCluster, client_is, cluster_is, conn_found, ends_apart, keys_seen, numbers_found, numbers_it, numbers_others, streams_found, streams_it, streams_others}
 use Rattle.wire_links.proofs.Tables.{found_other, on_both, on_client, on_waiting, or_false, or_true, same_itself, same_other, spot, spot_there, table_left, table_placed, table_same, and_first}
-use Rattle.wire_links.proofs.Tests.{here, same_is, same_or_apart, turned}
+use Rattle.number_set.proofs.Tests.{here, same_is, same_or_apart, turned}
 use Rattle.wire_links.proofs.Under.{entries_insert, entries_remove, keys_changed, seen_changed, under_it, under_others}
 use Rattle.wire_links.proofs.Where.{holds, rises_changed, where_changed}
 use Rattle.wire_links.specs.Kept.{AreKept, Offers, Seats, conns_in, conns_of, items_at, numbers_at, room_at, streams_at, told}
 use Rattle.wire_links.specs.Links.{HasEnds, exchanges_of, is_end, is_on, is_same, open_clients, takers, takes_one, with_stream}
-use Rattle.wire_links.specs.Numbers.{Rises, changed, marked, under}
+use Rattle.number_set.specs.NumberSet.{Rises, marked}
+use Rattle.wire_links.specs.Numbers.{changed, under}
 use Rattle.wire_links.specs.Seats.{Seat, left, linked, placed}
 use Rattle.wire_links.specs.declared.conn.Conn.{Conn}
 use Rattle.wire_links.specs.declared.ends.Ends.{Ends}

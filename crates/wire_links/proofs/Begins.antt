@@ -9,14 +9,15 @@ use Rattle.std.specs.Ordering.{nat_cmp}
 use Rattle.std.specs.Prelude.{Bool, IfSome, List, None, Option, Some, false, if◌then◌else◌, length, nat_eq, not, true, ℕ, ◌<◌, ◌^◌, ◌||◌, ◌≡◌, ◌≤◌}
 use Rattle.wire_links.proofs.Offered.{Exchanges, no_client, takers_alike, takes}
 use Rattle.wire_links.proofs.Seen.{IsClient, client_is, conn_found, keys_seen, numbers_found, numbers_it, numbers_others, streams_found, streams_it, streams_others}
-use Rattle.wire_links.proofs.Sorted.{marked_same}
+use Rattle.number_set.proofs.Sorted.{marked_same}
 use Rattle.wire_links.proofs.Tables.{found_other, on_client, same_itself, same_other, spot, spot_there, table_left, table_placed}
-use Rattle.wire_links.proofs.Tests.{here, same_or_apart, turned}
+use Rattle.number_set.proofs.Tests.{here, same_or_apart, turned}
 use Rattle.wire_links.proofs.Under.{choice, entries_insert, entries_remove, keys_changed, other, seen_changed, some_is, under_insert, under_remove}
 use Rattle.wire_links.proofs.Where.{has_where, holds, rises_changed, rises_where, where_insert, where_remove}
 use Rattle.wire_links.specs.Kept.{AreKept, Offers, Seats, conns_in, conns_of, items_at, numbers_at, room_at, streams_at}
 use Rattle.wire_links.specs.Links.{HasEnds, exchanges_of, is_end, is_on, is_same, open_clients, takers, takes_one}
-use Rattle.wire_links.specs.Numbers.{Rises, changed, has, marked, under}
+use Rattle.number_set.specs.NumberSet.{Rises, has, marked}
+use Rattle.wire_links.specs.Numbers.{changed, under}
 use Rattle.wire_links.specs.Seats.{Seat, left, opened}
 use Rattle.wire_links.specs.declared.conn.Conn.{Conn}
 use Rattle.wire_links.specs.declared.ends.Ends.{Ends}

@@ -15,13 +15,14 @@ use Rattle.wire_links.proofs.Comes.{CanCome, accepts, come, join_room, joins, ro
 use Rattle.wire_links.proofs.Offered.{Conns, Exchanges, has_room}
 use Rattle.wire_links.proofs.Reading.{at_stream, known_is, links_at}
 use Rattle.wire_links.proofs.Seen.{IsSeat, client_is, cluster_is, conn_found, keys_seen, numbers_found, seat_found, streams_found}
-use Rattle.wire_links.proofs.Sorted.{unmarked}
+use Rattle.number_set.proofs.Sorted.{unmarked}
 use Rattle.wire_links.proofs.States.{CanPut, clients_put, puts}
 use Rattle.wire_links.proofs.Under.{changed_insert, changed_some, changed_twice, remove_changed, remove_insert, seen_changed, seen_changes, seen_inserted, some_is, under_insert, under_it, choice}
 use Rattle.wire_links.proofs.Where.{rises_where}
 use Rattle.wire_links.specs.Kept.{AreKept, HasRoom, HasRoomFor, IsNext, Offers, Seats, connected, conns_of, disconnected, items_at, room_at, told, told_by}
 use Rattle.wire_links.specs.Links.{IsToFrame, Links, cluster_of, doomed, drained, exchange_at, framed, is_client, is_end, new_conn, started, with_conn, with_stream}
-use Rattle.wire_links.specs.Numbers.{Rises, changed, has, under}
+use Rattle.number_set.specs.NumberSet.{Rises, has}
+use Rattle.wire_links.specs.Numbers.{changed, under}
 use Rattle.wire_links.specs.Seats.{Seat, left, linked, opened, placed, with_state}
 use Rattle.wire_links.specs.declared.conn.Conn.{Conn}
 use Rattle.wire_links.specs.declared.ends.Ends.{Ends}

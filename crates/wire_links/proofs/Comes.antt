@@ -15,14 +15,15 @@ use Rattle.std.specs.declared.cmp.Ordering.TheVariants.{Equal, Greater, Less}
 use Rattle.wire_links.proofs.Begins.{has_ends}
 use Rattle.wire_links.proofs.Offered.{Exchanges, IsOffer, no_client, offer_is, room_kept, takes, told_right}
 use Rattle.wire_links.proofs.Seen.{conn_found, keys_seen, under_seen}
-use Rattle.wire_links.proofs.Sorted.{marked_same, rises_none}
+use Rattle.number_set.proofs.Sorted.{marked_same, rises_none}
 use Rattle.wire_links.proofs.States.{Stays, ends_stay}
-use Rattle.wire_links.proofs.Tests.{same_or_apart, turned}
+use Rattle.number_set.proofs.Tests.{same_or_apart, turned}
 use Rattle.wire_links.proofs.Under.{choice, entries_insert, entries_remove, keys_insert, keys_remove, other, seen_inserted, seen_removed, under_insert, under_remove}
 use Rattle.wire_links.proofs.Where.{has_where, holds, rises_where, where_insert, where_remove, where_within}
 use Rattle.wire_links.specs.Kept.{AreKept, HasRoom, Offers, Seats, conns_in, in_cluster, conns_of, items_at, numbers_at, room_at, streams_at, told}
 use Rattle.wire_links.specs.Links.{HasEnds, exchanges_of, is_end, is_on, is_open_client, is_same, new_conn}
-use Rattle.wire_links.specs.Numbers.{Rises, has, marked, numbers_where, under}
+use Rattle.number_set.specs.NumberSet.{Rises, has, marked}
+use Rattle.wire_links.specs.Numbers.{numbers_where, under}
 use Rattle.wire_links.specs.Seats.{Seat}
 use Rattle.wire_links.specs.declared.conn.Conn.{Conn}
 use Rattle.wire_links.specs.declared.ends.Ends.{Ends}

@@ -6,12 +6,13 @@ use Rattle.std.proofs.Common.{arith}
 use Rattle.wire_links.proofs.Assigns.{the_offer}
 use Rattle.wire_links.proofs.Offered.{Exchanges, IsOffer, items_told, items_untold, no_client, no_other, room_told, takes}
 use Rattle.wire_links.proofs.Seen.{conn_found, keys_seen}
-use Rattle.wire_links.proofs.Sorted.{marked_same}
-use Rattle.wire_links.proofs.Tests.{same_or_apart}
+use Rattle.number_set.proofs.Sorted.{marked_same}
+use Rattle.number_set.proofs.Tests.{same_or_apart}
 use Rattle.wire_links.proofs.Where.{has_where, holds, rises_where}
 use Rattle.wire_links.specs.Kept.{AreKept, Offers, Seats, conns_of, items_at, noted, room_at}
 use Rattle.wire_links.specs.Links.{exchanges_of}
-use Rattle.wire_links.specs.Numbers.{Rises, changed, has, marked, under}
+use Rattle.number_set.specs.NumberSet.{Rises, has, marked}
+use Rattle.wire_links.specs.Numbers.{changed, under}
 use Rattle.wire_links.specs.Seats.{Seat}
 
 pub none_left : (xs : List ℕ) → length xs ≡ 0 → xs ≡ []

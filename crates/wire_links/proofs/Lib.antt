@@ -5,12 +5,9 @@ pub mod Comes
 pub mod Forgetting
 pub mod Offered
 pub mod Reading
-pub mod Searching
 pub mod Seen
-pub mod Sorted
 pub mod States
 pub mod Tables
-pub mod Tests
 pub mod Under
 pub mod Where
 pub mod Written

@@ -4,12 +4,13 @@ use Rattle.std.proofs.lemmas.Bool.{false≢true}
 use Rattle.std.specs.Map.{keys_of}
 use Rattle.std.specs.Option.{is_some, option_map_or}
 use Rattle.std.specs.Prelude.{Bool, List, None, Option, Some, [], false, length, nat_eq, nat_lt, not, true, ℕ, ◌<◌, ◌&&◌, ◌≡◌, ◌≤◌}
-use Rattle.wire_links.proofs.Tests.{here, same_or_apart, turned}
+use Rattle.number_set.proofs.Tests.{here, same_or_apart, turned}
 use Rattle.wire_links.proofs.Under.{under_it, under_others}
 use Rattle.wire_links.proofs.Where.{fewer, has_where, holds, where_alike, where_but}
 use Rattle.wire_links.specs.Kept.{HasRoom, Offers, conns_in, in_cluster, items_at, noted, room_at, told, told_of}
 use Rattle.wire_links.specs.Links.{exchanges_of, is_same, most_of, takers, takes_one}
-use Rattle.wire_links.specs.Numbers.{Numbers, Rises, changed, has, marked, numbers_where, under}
+use Rattle.number_set.specs.NumberSet.{NumberSet, Rises, has, marked}
+use Rattle.wire_links.specs.Numbers.{changed, numbers_where, under}
 use Rattle.wire_links.specs.Seats.{Seat}
 use Rattle.wire_links.specs.declared.conn.Conn.{Conn}
 use Rattle.wire_links.specs.declared.ends.Ends.{Ends}
@@ -42,30 +43,30 @@ takers_alike conns old new k r alike = where_alike (takes k old) (takes k new) c
 
 -- ---- a cluster is told of a connection
 module _ (offers : Offers) (k t : ℕ) (b : Bool) where
-  pub items_told : (n : Numbers) → under k offers ≡ Some n → items_at k (changed k (noted t b) offers) ≡ marked t b (items_at k offers)
-  items_told n is = ap (λ o. option_map_or (λ (m : Numbers). m.items) o []) (under_it offers k (noted t b) n is)
-      ∙ sym (ap (λ o. marked t b (option_map_or (λ (m : Numbers). m.items) o [])) is)
+  pub items_told : (n : NumberSet) → under k offers ≡ Some n → items_at k (changed k (noted t b) offers) ≡ marked t b (items_at k offers)
+  items_told n is = ap (λ o. option_map_or (λ (m : NumberSet). m.items) o []) (under_it offers k (noted t b) n is)
+      ∙ sym (ap (λ o. marked t b (option_map_or (λ (m : NumberSet). m.items) o [])) is)
 
   pub items_untold : (j : ℕ) → nat_eq k j ≡ false → items_at j (changed k (noted t b) offers) ≡ items_at j offers
-  items_untold j apart = ap (λ o. option_map_or (λ (m : Numbers). m.items) o []) (under_others offers k j (noted t b) apart)
+  items_untold j apart = ap (λ o. option_map_or (λ (m : NumberSet). m.items) o []) (under_others offers k j (noted t b) apart)
 
-  pub room_told : (n : Numbers) → under k offers ≡ Some n → (j : ℕ) → room_at j (changed k (noted t b) offers) ≡ room_at j offers
+  pub room_told : (n : NumberSet) → under k offers ≡ Some n → (j : ℕ) → room_at j (changed k (noted t b) offers) ≡ room_at j offers
   room_told n is j = elim (same_or_apart k j) [
     | inl same ↦ subst (λ i. room_at i (changed k (noted t b) offers) ≡ room_at i offers) same
-        (ap (λ o. option_map_or (λ (m : Numbers). m.room) o 0) (under_it offers k (noted t b) n is) ∙ sym (ap (λ o. option_map_or (λ (m : Numbers). m.room) o 0) is))
-    | inr apart ↦ ap (λ o. option_map_or (λ (m : Numbers). m.room) o 0) (under_others offers k j (noted t b) apart)
+        (ap (λ o. option_map_or (λ (m : NumberSet). m.room) o 0) (under_it offers k (noted t b) n is) ∙ sym (ap (λ o. option_map_or (λ (m : NumberSet). m.room) o 0) is))
+    | inr apart ↦ ap (λ o. option_map_or (λ (m : NumberSet). m.room) o 0) (under_others offers k j (noted t b) apart)
   ]
 
 pub record IsOffer (k : ℕ) (offers : Offers) : Type 0 where
-  pub numbers : Numbers
+  pub numbers : NumberSet
   pub found : under k offers ≡ Some numbers
 
 -- a cluster with room is there
 pub offer_is : (offers : Offers) (k : ℕ) → 0 < room_at k offers → IsOffer k offers
 offer_is offers k room = by_found (under k offers) refl
   where
-    by_found : (o : Option Numbers) → under k offers ≡ o → IsOffer k offers
-    by_found None none = absurd (omega (arith, room, ap (λ o. option_map_or (λ (m : Numbers). m.room) o 0) none))
+    by_found : (o : Option NumberSet) → under k offers ≡ o → IsOffer k offers
+    by_found None none = absurd (omega (arith, room, ap (λ o. option_map_or (λ (m : NumberSet). m.room) o 0) none))
     by_found (Some n) is = record { numbers = n; found = is }
 
 -- a cluster with a connection has room

@@ -8,7 +8,7 @@ use Rattle.std.specs.Map.{keys_of}
 use Rattle.std.specs.Option.{is_some, option_and_then, option_map, option_map_or}
 use Rattle.std.specs.Ordering.{nat_cmp}
 use Rattle.std.specs.Prelude.{Bool, IsSome, None, Option, Some, [], false, nat_eq, not, true, ℕ, ◌∷◌, ◌≡◌}
-use Rattle.wire_links.proofs.Tests.{same_is}
+use Rattle.number_set.proofs.Tests.{same_is}
 use Rattle.wire_links.proofs.Under.{some_is, under_it, under_others}
 use Rattle.wire_links.specs.Kept.{Seats, conns_of, numbers_at, streams_at}
 use Rattle.wire_links.specs.Numbers.{changed, under}

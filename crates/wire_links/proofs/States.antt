@@ -10,14 +10,15 @@ use Rattle.std.specs.Prelude.{Bool, IfSome, IsSome, List, None, Option, Some, fa
 use Rattle.std.specs.Set.{remove_key}
 use Rattle.wire_links.proofs.Offered.{Conns, Exchanges, no_client, no_other, offer_is, room_kept, some_room, takes, told_right}
 use Rattle.wire_links.proofs.Seen.{conn_found, keys_seen, numbers_found, numbers_it, numbers_others, streams_found, streams_it, streams_others, under_seen}
-use Rattle.wire_links.proofs.Sorted.{marked_same}
+use Rattle.number_set.proofs.Sorted.{marked_same}
 use Rattle.wire_links.proofs.Tables.{or_true}
-use Rattle.wire_links.proofs.Tests.{here, same_or_apart}
+use Rattle.number_set.proofs.Tests.{here, same_or_apart}
 use Rattle.wire_links.proofs.Under.{keys_changed, some_is, under_it, under_others}
 use Rattle.wire_links.proofs.Where.{has_where, holds, rises_changed, rises_where, where_alike, where_but}
 use Rattle.wire_links.specs.Kept.{AreKept, Offers, Seats, conns_in, in_cluster, conns_of, items_at, numbers_at, room_at, streams_at, told, told_of}
 use Rattle.wire_links.specs.Links.{HasEnds, exchanges_of, is_end, is_open_client, is_same, open_clients, takers}
-use Rattle.wire_links.specs.Numbers.{Rises, changed, marked, under}
+use Rattle.number_set.specs.NumberSet.{Rises, marked}
+use Rattle.wire_links.specs.Numbers.{changed, under}
 use Rattle.wire_links.specs.Seats.{Seat, with_state}
 use Rattle.wire_links.specs.declared.conn.Conn.{Conn}
 use Rattle.wire_links.specs.declared.ends.Ends.{Ends}

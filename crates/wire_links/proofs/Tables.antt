@@ -6,11 +6,12 @@ use Rattle.std.specs.Map.{keys_of, remove_entry}
 use Rattle.std.specs.Ordering.{nat_cmp}
 use Rattle.std.specs.Prelude.{Bool, None, Option, Some, false, if◌then◌else◌, nat_eq, true, ℕ, ◌&&◌, ◌||◌, ◌≡◌}
 use Rattle.wire_links.proofs.Seen.{streams_found, streams_it, streams_others}
-use Rattle.wire_links.proofs.Tests.{here, same_is, same_or_apart, turned}
+use Rattle.number_set.proofs.Tests.{here, same_is, same_or_apart, turned}
 use Rattle.wire_links.proofs.Under.{under_insert, under_remove}
 use Rattle.wire_links.specs.Kept.{Seats, streams_at}
 use Rattle.wire_links.specs.Links.{is_on, is_same}
-use Rattle.wire_links.specs.Numbers.{Rises, changed, under}
+use Rattle.number_set.specs.NumberSet.{Rises}
+use Rattle.wire_links.specs.Numbers.{changed, under}
 use Rattle.wire_links.specs.Seats.{Seat}
 use Rattle.wire_links.specs.declared.ends.Ends.{Ends}
 

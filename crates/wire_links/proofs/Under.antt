@@ -15,9 +15,10 @@ use Rattle.std.specs.Prelude.{Bool, List, None, Option, Some, [], false, if◌th
 use Rattle.std.specs.declared.cmp.Ordering.{Ordering}
 use Rattle.std.specs.declared.cmp.Ordering.TheVariants.{Equal, Greater, Less}
 use Rattle.std.specs.Set.{remove_key}
-use Rattle.wire_links.proofs.Sorted.{Above, rises_insert, rises_remove}
-use Rattle.wire_links.proofs.Tests.{above_apart, at_apart, at_here, below_apart, compared, here, less_is, same_or_apart, turned}
-use Rattle.wire_links.specs.Numbers.{Rises, changed, under}
+use Rattle.number_set.proofs.Sorted.{Above, rises_insert, rises_remove}
+use Rattle.number_set.proofs.Tests.{above_apart, at_apart, at_here, below_apart, compared, here, less_is, same_or_apart, turned}
+use Rattle.number_set.specs.NumberSet.{Rises}
+use Rattle.wire_links.specs.Numbers.{changed, under}
 
 pub some_is : {X : Type 0} (x y : X) → Some x ≡ Some y → x ≡ y
 some_is x y e = ap (λ o. option_map_or (λ z. z) o x) e

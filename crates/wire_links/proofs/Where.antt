@@ -10,10 +10,11 @@ use Rattle.std.specs.Option.{option_map_or}
 use Rattle.std.specs.Ordering.{nat_cmp}
 use Rattle.std.specs.declared.cmp.Ordering.TheVariants.{Less}
 use Rattle.std.specs.Prelude.{Bool, IfSome, List, None, Option, Some, [], false, if◌then◌else◌, length, nat_eq, true, ℕ, ◌<◌, ◌||◌, ◌∷◌, ◌≡◌, ◌≤◌}
-use Rattle.wire_links.proofs.Sorted.{has_first, has_marked, has_other, none_upto, rises_marked, same_list}
-use Rattle.wire_links.proofs.Tests.{here, same_or_apart}
+use Rattle.number_set.proofs.Sorted.{has_first, has_marked, has_other, none_upto, rises_marked, same_list}
+use Rattle.number_set.proofs.Tests.{here, same_or_apart}
 use Rattle.wire_links.proofs.Under.{choice, entries_insert, entries_remove, keys_changed, other, some_is, under_first, under_insert, under_it, under_later, under_others, under_remove}
-use Rattle.wire_links.specs.Numbers.{Rises, changed, first, has, marked, numbers_where, under}
+use Rattle.number_set.specs.NumberSet.{Rises, first, has, marked}
+use Rattle.wire_links.specs.Numbers.{changed, numbers_where, under}
 
 module _ {X : Type 0} where
   where_in : (p : ℕ → X → Bool) (e : ℕ × X) (es : List (ℕ × X)) → p e.0 e.1 ≡ true → numbers_where p (e ∷ es) ≡ e.0 ∷ numbers_where p es

@@ -10,7 +10,8 @@ use Rattle.std.specs.Prelude.{Bool, Err, List, None, Ok, OnErr, OnOk, Option, Re
 use Rattle.wire_links.proofs.Under.{changed_none, changed_some, some_is, under_it}
 use Rattle.wire_links.specs.Kept.{HasRoom, HasRoomFor, Offers, Seats, items_at, noted, room_at, told, told_of}
 use Rattle.wire_links.specs.Links.{takes_one}
-use Rattle.wire_links.specs.Numbers.{Numbers, changed, has, under}
+use Rattle.number_set.specs.NumberSet.{NumberSet, has}
+use Rattle.wire_links.specs.Numbers.{changed, under}
 use Rattle.wire_links.specs.Seats.{Seat}
 use Rattle.wire_links.specs.declared.conn.Conn.{Conn}
 
@@ -24,7 +25,7 @@ module _ {X : Type 0} (n : ℕ) (old new : List (ℕ × X)) where
   pub nothing : (f : X → X) → None ≡ under n old → new ≡ old → new ≡ changed n f old
   nothing f none same = same ∙ sym (changed_none old n f (sym none))
 
-pub same_numbers : (m n : Numbers) → m.items ≡ n.items → m.room ≡ n.room → m ≡ n
+pub same_numbers : (m n : NumberSet) → m.items ≡ n.items → m.room ≡ n.room → m ≡ n
 same_numbers m n items room = λ i. record { items = items i; room = room i }
 
 -- ---- a clause about one outcome
@@ -49,10 +50,10 @@ module _ (seats : Seats) (old new : Offers) (c : ℕ) where
   told_cluster seat k b found kind is entries = entries ∙ ap (λ t. changed k (noted c t) old) is ∙ sym (ap (λ o. told c o old) found ∙ ap (λ o. told_of c seat o old) kind)
 
 -- a cluster that is there has the room
-pub room_of : (k c : ℕ) (offers : Offers) (n : Numbers) → Some n ≡ under k offers → HasRoom c k offers → has n.items c ≡ false → length n.items < n.room
+pub room_of : (k c : ℕ) (offers : Offers) (n : NumberSet) → Some n ≡ under k offers → HasRoom c k offers → has n.items c ≡ false → length n.items < n.room
 room_of k c offers n found room absent =
-    let items : items_at k offers ≡ n.items = ap (λ o. option_map_or (λ (m : Numbers). m.items) o []) (sym found) in
-    let size : room_at k offers ≡ n.room = ap (λ o. option_map_or (λ (m : Numbers). m.room) o 0) (sym found) in
+    let items : items_at k offers ≡ n.items = ap (λ o. option_map_or (λ (m : NumberSet). m.items) o []) (sym found) in
+    let size : room_at k offers ≡ n.room = ap (λ o. option_map_or (λ (m : NumberSet). m.room) o 0) (sym found) in
     let less : length (items_at k offers) < room_at k offers = room.room (ap (λ ns. has ns c) items ∙ absent) in
     omega (arith, less, ap length items, size)
 

@@ -5,7 +5,8 @@ use Rattle.std.specs.Map.{keys_of}
 use Rattle.std.specs.Option.{option_map_or}
 use Rattle.std.specs.Prelude.{Bool, IfSome, List, None, Option, Some, [], false, length, map, true, ℕ, ◌<◌, ◌≡◌, ◌≤◌, ◌^◌}
 use Rattle.wire_links.specs.Links.{HasEnds, Links, exchanges_of, is_on, is_same, open_clients, takers, takes_one}
-use Rattle.wire_links.specs.Numbers.{Numbers, Rises, changed, has, marked, numbers_where, under}
+use Rattle.number_set.specs.NumberSet.{NumberSet, Rises, has, marked}
+use Rattle.wire_links.specs.Numbers.{changed, numbers_where, under}
 use Rattle.wire_links.specs.Seats.{Seat, left, linked}
 use Rattle.wire_links.specs.declared.conn.Conn.{Conn}
 use Rattle.wire_links.specs.declared.ends.Ends.{Ends}
@@ -16,7 +17,7 @@ Seats = List (ℕ × Seat)
 
 -- by cluster, the connections that can take one more exchange
 abbrev pub Offers : Type 0
-Offers = List (ℕ × Numbers)
+Offers = List (ℕ × NumberSet)
 
 -- ---- what is seen of them
 abbrev pub conns_of : Seats → List (ℕ × Conn)
@@ -71,7 +72,7 @@ pub record IsNext (state old : Conn) : Type 0 where
   pub closed : state.live ≡ true → old.live ≡ true
 
 -- a connection can take one more exchange for its cluster, or can't
-abbrev pub noted : ℕ → Bool → Numbers → Numbers
+abbrev pub noted : ℕ → Bool → NumberSet → NumberSet
 noted c takes n = record n { items = marked c takes n.items }
 
 -- what the cluster of a connection, if it has one, is told of it

@@ -5,7 +5,8 @@ use Rattle.std.specs.Map.{keys_of, remove_entry}
 use Rattle.std.specs.Option.{is_some, option_and_then, option_map_or, unwrap_or}
 use Rattle.std.specs.Ordering.{nat_cmp}
 use Rattle.std.specs.Prelude.{Bool, IfSome, IsSome, List, None, Option, Some, [], false, length, min, nat_eq, nat_lt, not, true, ℕ, ◌&&◌, ◌||◌, ◌≡◌}
-use Rattle.wire_links.specs.Numbers.{Rises, changed, first, first_above, numbers_where, under}
+use Rattle.number_set.specs.NumberSet.{Rises, first, first_above}
+use Rattle.wire_links.specs.Numbers.{changed, numbers_where, under}
 use Rattle.wire_links.specs.declared.conn.Conn.{Conn}
 use Rattle.wire_links.specs.declared.ends.Ends.{Ends}
 

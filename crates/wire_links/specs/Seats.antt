@@ -3,7 +3,7 @@ use Rattle.std.specs.BTreeMap.{insert_entry, is_at}
 use Rattle.std.specs.Map.{remove_entry}
 use Rattle.std.specs.Ordering.{nat_cmp}
 use Rattle.std.specs.Prelude.{List, None, Option, Some, false, true, ℕ}
-use Rattle.wire_links.specs.Numbers.{marked}
+use Rattle.number_set.specs.NumberSet.{marked}
 use Rattle.wire_links.specs.declared.conn.Conn.{Conn}
 use Rattle.wire_links.specs.declared.seat.Seat.TheInside.{Inside}
 

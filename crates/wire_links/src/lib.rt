@@ -4,7 +4,6 @@
 mod conn;
 mod ends;
 mod links;
-mod numbers;
 mod seat;
 
 pub use conn::Conn;

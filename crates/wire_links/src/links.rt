@@ -2,16 +2,16 @@
 ghost use Rattle.std.specs.Prelude.{◌≡◌, ◌&&◌, [], IfSome, IsSomeAnd, OnErr, OnOk, Some, false, length, not, true};
 ghost use Rattle.wire_links.specs.Kept.{IsNext};
 ghost use Rattle.wire_links.specs.Links.{IsSound, accepted, chosen, closed, cluster_of, conn_at, drained, exchanges_of, forgotten, goaway_last, is_client, is_draining, is_known, is_open, joined, least_of, next_client, next_of, no_links, takers, with_concurrent, with_conn};
-ghost use Rattle.wire_links.specs.Numbers.{has};
+ghost use Rattle.number_set.specs.NumberSet.{has};
 
 mod exchanges;
 mod tables;
 
 use crate::conn::Conn;
 use crate::ends::Ends;
-use crate::numbers::Numbers;
 use crate::seat::Seat;
 use io_ports::NoMemory;
+use number_set::NumberSet;
 use std::alloc::Global;
 use std::collections::btree_map::Entry;
 use std::collections::{BTreeMap, BTreeSet};
@@ -29,7 +29,7 @@ pub struct Links {
     seats: BTreeMap<u32, Seat>,
     exchanges: BTreeMap<u64, Ends>,
     // By cluster, the connections that can take one more exchange, and room for all of its connections.
-    offers: BTreeMap<u32, Numbers>,
+    offers: BTreeMap<u32, NumberSet>,
     // The client connections that are open.
     clients: BTreeSet<u32>,
 }

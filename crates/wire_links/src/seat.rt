@@ -1,12 +1,13 @@
 // A connection as it is kept.
 ghost use Rattle.std.specs.Prelude.{◌≡◌, [], IfOk, OnErr, OnOk, length};
 ghost use Rattle.wire_links.specs.Links.{takes_one};
-ghost use Rattle.wire_links.specs.Numbers.{first, first_above, under};
+ghost use Rattle.number_set.specs.NumberSet.{first, first_above};
+ghost use Rattle.wire_links.specs.Numbers.{under};
 ghost use Rattle.wire_links.specs.Seats.{left, linked, opened, placed, with_state};
 
 use crate::conn::Conn;
-use crate::numbers::Numbers;
 use io_ports::NoMemory;
+use number_set::NumberSet;
 use std::alloc::Global;
 use std::collections::BTreeMap;
 use std::marker::Model;
@@ -15,7 +16,7 @@ use std::marker::Model;
 #[derive(Drop)]
 pub(crate) struct Seat {
     conn: Conn,
-    numbers: Numbers,
+    numbers: NumberSet,
     streams: BTreeMap<u32, u64>,
 }
 
@@ -36,7 +37,7 @@ impl Seat {
     {
         Seat {
             conn,
-            numbers: Numbers::new(alloc),
+            numbers: NumberSet::new(alloc),
             streams: BTreeMap::new(alloc),
         }
     }
@@ -71,7 +72,7 @@ impl Seat {
     pub(crate) fn next(&self, after: u64) -> Option<u64>
         ensures { result ≡ first_above after self.now.numbers }
     {
-        self.numbers.first_above(after)
+        self.numbers.next_above(after)
     }
 
     /// The exchange on a stream.

@@ -11,7 +11,7 @@ use Rattle.std.specs.Prelude.{Bool, Err, IfSome, None, Ok, OnOk, Option, Result,
 use Rattle.wire_windows.proofs.Due.{Marks, due_gone, due_put, stays_marked}
 use Rattle.wire_windows.proofs.Maps.{get_insert, get_remove, remove_absent}
 use Rattle.wire_windows.proofs.Sums.{sum_at_least, sum_insert, sum_none, sum_remove}
-use Rattle.wire_windows.specs.DueSet.{DueSet, has}
+use Rattle.number_set.specs.NumberSet.{NumberSet, has}
 use Rattle.wire_windows.specs.Kept.{AreDue, AreKept, windows_of}
 use Rattle.wire_windows.specs.RecvWindows.{IsSound, RecvStreams, RecvWindows, begun, changed_at, drops, held_at, held_by_all, is_due_stream, left_in, on_window, received}
 use Rattle.wire_windows.specs.declared.recv_stream.RecvStream.{RecvStream}
@@ -105,7 +105,7 @@ module _ (c : Inside) (kept : AreKept c) (x : ℕ) (s : RecvStream) (there : get
   holds = ap (λ (o : Option RecvStream). option_map_or held o 0) there
 
   -- a stream changes
-  pub kept_put : (t : RecvStream) (conn : Receiving) (stray : ℕ) (streams : RecvStreams) (due : DueSet) → streams ≡ insert c.streams x t → AddsUp conn → IsWhole c.stream_window t
+  pub kept_put : (t : RecvStream) (conn : Receiving) (stray : ℕ) (streams : RecvStreams) (due : NumberSet) → streams ≡ insert c.streams x t → AddsUp conn → IsWhole c.stream_window t
       → (conn.held + s.window.held) + c.stray ≡ (c.conn.held + t.window.held) + stray
       → Marks x (is_due_stream t) c.due due → due.room ≡ c.due.room
       → AreKept (record c { conn = conn; stray = stray; streams = streams; due = due })
@@ -117,7 +117,7 @@ module _ (c : Inside) (kept : AreKept c) (x : ℕ) (s : RecvStream) (there : get
       })
 
   -- octets that it held are owed
-  pub kept_owed : (n : ℕ) (window conn : Receiving) (streams : RecvStreams) (due : DueSet) → n ≤ s.window.held
+  pub kept_owed : (n : ℕ) (window conn : Receiving) (streams : RecvStreams) (due : NumberSet) → n ≤ s.window.held
       → Owes s.window window n → AddsUp window → Owes c.conn conn n → AddsUp conn
       → streams ≡ insert c.streams x (record s { window = window })
       → Marks x (is_due_stream (record s { window = window })) c.due due → due.room ≡ c.due.room
@@ -132,14 +132,14 @@ module _ (c : Inside) (kept : AreKept c) (x : ℕ) (s : RecvStream) (there : get
       (omega (arith, within, left, conn_left, less)) marks room
 
   -- its window changes, but not what it holds, and it is due no more
-  pub kept_undue : (t : RecvStream) (streams : RecvStreams) (due : DueSet) → streams ≡ insert c.streams x t → IsWhole c.stream_window t → t.window.held ≡ s.window.held
+  pub kept_undue : (t : RecvStream) (streams : RecvStreams) (due : NumberSet) → streams ≡ insert c.streams x t → IsWhole c.stream_window t → t.window.held ≡ s.window.held
       → is_due_stream t ≡ false → Marks x false c.due due → due.room ≡ c.due.room
       → AreKept (record c { streams = streams; due = due })
   kept_undue t streams due put is same undue marks room =
       kept_put t c.conn c.stray streams due put kept.sound.conn is (omega (arith, same)) (subst (λ b. Marks x b c.due due) (sym undue) marks) room
 
   -- it goes
-  pub kept_gone : (n : ℕ) (conn : Receiving) (stray : ℕ) (streams : RecvStreams) (due : DueSet) → n ≤ s.window.held
+  pub kept_gone : (n : ℕ) (conn : Receiving) (stray : ℕ) (streams : RecvStreams) (due : NumberSet) → n ≤ s.window.held
       → Owes c.conn conn n → AddsUp conn → stray ≡ c.stray + (s.window.held - n) → streams ≡ remove c.streams x
       → Marks x false c.due due → due.room ≡ c.due.room
       → AreKept (record c { conn = conn; stray = stray; streams = streams; due = due })
@@ -183,7 +183,7 @@ kept_came c kept x n conn streams fits more adds changed = at (get c.streams x) 
         (omega (arith, is.0, left, fits), is.1) (omega (arith, more)) (stays_marked c.streams c.due kept.due x (is_due_stream s) c.due refl due) refl
 
 -- a stream begins
-pub kept_begun : (c : Inside) → AreKept c → (x : ℕ) (streams : RecvStreams) (due : DueSet) → get c.streams x ≡ None → streams ≡ insert c.streams x (begun c.stream_window)
+pub kept_begun : (c : Inside) → AreKept c → (x : ℕ) (streams : RecvStreams) (due : NumberSet) → get c.streams x ≡ None → streams ≡ insert c.streams x (begun c.stream_window)
     → due.items ≡ c.due.items → len c.streams + 1 ≤ due.room → AreKept (record c { streams = streams; due = due })
 kept_begun c kept x streams due none put items room =
     let nothing : option_map_or held (get c.streams x) 0 ≡ 0 = ap (λ (o : Option RecvStream). option_map_or held o 0) none in

@@ -2,6 +2,5 @@ pub mod Due
 pub mod Held
 pub mod Keeping
 pub mod Maps
-pub mod Rising
 pub mod Sending
 pub mod Sums

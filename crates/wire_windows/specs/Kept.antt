@@ -2,7 +2,7 @@
 use Rattle.std.specs.FinMap.{get, len, values}
 use Rattle.std.specs.Option.{option_map_or}
 use Rattle.std.specs.Prelude.{Bool, false, if◌then◌else◌, length, sum_by, ℕ, ◌≡◌, ◌≤◌}
-use Rattle.wire_windows.specs.DueSet.{DueSet, has}
+use Rattle.number_set.specs.NumberSet.{NumberSet, has}
 use Rattle.wire_windows.specs.RecvWindows.{IsSound, RecvStreams, RecvWindows, is_due_stream}
 use Rattle.wire_windows.specs.declared.recv_windows.RecvWindows.TheInside.{Inside}
 
@@ -16,7 +16,7 @@ abbrev pub is_due_in : ℕ → RecvStreams → Bool
 is_due_in x streams = option_map_or is_due_stream (get streams x) false
 
 -- the set has the streams that are due, each once
-pub record AreDue (streams : RecvStreams) (due : DueSet) : Type 0 where
+pub record AreDue (streams : RecvStreams) (due : NumberSet) : Type 0 where
   pub those : (x : ℕ) → has due.items x ≡ is_due_in x streams
   pub counted : length due.items ≡ due_count streams
 

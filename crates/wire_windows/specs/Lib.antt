@@ -1,4 +1,3 @@
-pub mod DueSet
 pub mod Codes
 pub mod Kept
 pub mod RecvWindows

@@ -3,7 +3,6 @@
 
 mod by_exchange;
 mod conn_windows;
-mod due_set;
 mod laws;
 mod recv_stream;
 mod recv_windows;

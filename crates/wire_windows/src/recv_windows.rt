@@ -5,10 +5,10 @@ ghost use Rattle.h2_windows.specs.RecvWindow.{is_due};
 ghost use Rattle.wire_windows.specs.RecvWindows.{changed_at, left_in, on_window, received};
 
 use crate::by_exchange::ByExchange;
-use crate::due_set::DueSet;
 use crate::recv_stream::{Came, RecvStream};
 use h2_windows::{Overrun, RecvWindow};
 use io_ports::NoMemory;
+use number_set::NumberSet;
 use std::alloc::Global;
 use std::marker::Model;
 
@@ -28,7 +28,7 @@ pub struct RecvWindows {
     stray: u32,
     stream_window: u32,
     streams: ByExchange<RecvStream>,
-    due: DueSet,
+    due: NumberSet,
 }
 
 impl Model for RecvWindows {
@@ -61,7 +61,7 @@ impl RecvWindows {
             stray: 0,
             stream_window,
             streams: ByExchange::new(alloc),
-            due: DueSet::new(alloc),
+            due: NumberSet::new(alloc),
         }
     }
 

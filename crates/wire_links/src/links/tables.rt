@@ -5,16 +5,16 @@ ghost use Rattle.wire_links.specs.Numbers.{changed, under};
 ghost use Rattle.wire_links.specs.Seats.{left, linked, opened, placed, with_state};
 
 use crate::conn::Conn;
-use crate::numbers::Numbers;
 use crate::seat::Seat;
 use io_ports::NoMemory;
+use number_set::NumberSet;
 use std::alloc::Global;
 use std::collections::BTreeMap;
 
 pub(super) type Seats = BTreeMap<u32, Seat>;
 
 // By cluster, the connections that can take one more exchange.
-pub(super) type Offers = BTreeMap<u32, Numbers>;
+pub(super) type Offers = BTreeMap<u32, NumberSet>;
 
 /// The state of a connection is another one.
 pub(super) fn set_conn(seats: &mut Seats, conn: u32, state: Conn)
@@ -161,7 +161,7 @@ pub(super) fn make_room(
     ensures room { OnOk result (most ≤ room_at cluster offers.new.entries) }
 {
     if !offers.contains_key(&cluster) {
-        offers.insert(cluster, Numbers::new(alloc))?;
+        offers.insert(cluster, NumberSet::new(alloc))?;
     }
     match offers.get_mut(&cluster) {
         Some(numbers) => numbers.reserve(most),

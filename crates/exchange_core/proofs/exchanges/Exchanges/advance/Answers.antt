@@ -59,7 +59,7 @@ lends c = record {
   is = c.in-Some.ensures.value;
   sound = c.advance-advance.ensures.sound;
   through = c.get_mut.follows.holds c.advance-advance.new.self;
-  marks = is_marked c.self.inside c.args.flow c.in-Some.exchange.now c.advance-advance.new.self c.self.invariant c.in-Some.ensures.value c.mark.new.self _ c.is_metered-is_metered.ensures c.mark.ensures.items c.mark.ensures.len c.mark.ensures.room;
+  marks = is_marked c.self.inside c.args.flow c.in-Some.exchange.now c.advance-advance.new.self c.self.invariant c.in-Some.ensures.value c.mark.new.self _ c.is_metered-is_metered.ensures c.mark.ensures.members c.mark.ensures.len c.mark.ensures.room;
 }
 
 abbrev after : goal.After-mark → Inside

@@ -39,7 +39,7 @@ after c = record c.self.inside { live = c.remove.new.self; doomed = c.push_back_
 kept : (c : goal.Joined-ended-4) → IsKept (after c)
 kept c = doom_kept c.self.inside (after c) c.args.exchange c.in-Some.ended c.self.invariant c.in-Some.ensures.value c.remove.ensures.updates.0 c.remove.ensures.ordered c.remove.ensures.entries c.in-Some.ensures.len
     refl refl refl c.push_back_reserved.ensures.items c.push_back_reserved.ensures.len c.push_back_reserved.ensures.capacity
-    (is_unmarked c.self.inside c.args.exchange c.in-Some.ended c.self.invariant c.in-Some.ensures.value c.mark.new.self c.mark.ensures.items c.mark.ensures.len c.mark.ensures.room)
+    (is_unmarked c.self.inside c.args.exchange c.in-Some.ended c.self.invariant c.in-Some.ensures.value c.mark.new.self c.mark.ensures.members c.mark.ensures.len c.mark.ensures.room)
 
 pub invariant_of-self : goal.invariant_of-self
 invariant_of-self c = kept c

@@ -2,7 +2,7 @@ use Rattle.std.proofs.Common.{ap, ◌∙◌}
 use Rattle.std.specs.Prelude.{slice_get}
 use Rattle.wire_links.proofs.Calls.{next_first}
 use Rattle.wire_links.proofs.Reading.{next_in}
-use Rattle.wire_links.specs.Numbers.{first_above}
+use Rattle.number_set.specs.NumberSet.{first_above}
 use Rattle.wire_links.proofs.links.Links.next_client.Goals as goal
 
 pub returns : goal.returns

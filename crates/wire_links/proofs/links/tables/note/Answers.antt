@@ -1,7 +1,7 @@
 use Rattle.std.proofs.Common.{ap, sym, ◌∙◌}
 use Rattle.wire_links.proofs.Written.{nothing, room_of, same_numbers, written}
 use Rattle.wire_links.specs.Kept.{noted}
-use Rattle.wire_links.specs.Numbers.{has, marked}
+use Rattle.number_set.specs.NumberSet.{has, marked}
 use Rattle.wire_links.proofs.links.tables.note.Goals as goal
 
 pub returns-in-Some : goal.returns-in-Some

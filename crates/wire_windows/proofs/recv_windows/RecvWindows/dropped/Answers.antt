@@ -22,7 +22,7 @@ pub invariant_of-self : goal.invariant_of-self
 invariant_of-self c = kept_gone c.self.inside c.self.invariant c.args.x c.in-Some.stream (sym c.in-Some.ensures) c.args.buffered c.discarded.new.self _ c.remove.new.self c.mark.new.self
     (held_of c.self.inside.streams c.args.x c.in-Some.stream c.in-Some.ensures c.args.buffered (rw (← c.self.view_is) at c.requires))
     c.discarded.ensures.owes c.discarded.ensures.whole (ap (λ n. c.self.inside.stray + (n - c.args.buffered)) c.held.ensures.held) c.remove.ensures
-    (record { items = c.mark.ensures.items; len = c.mark.ensures.len }) c.mark.ensures.room
+    (record { items = c.mark.ensures.members; len = c.mark.ensures.len }) c.mark.ensures.room
 
 pub returns-clause-sound : goal.returns-clause-sound
 returns-clause-sound c = (invariant_of-self c).sound

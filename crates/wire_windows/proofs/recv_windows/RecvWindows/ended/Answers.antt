@@ -7,7 +7,7 @@ use Rattle.wire_windows.specs.RecvWindows.{over}
 pub invariant_of-self : goal.invariant_of-self
 invariant_of-self c = kept_undue c.self.inside c.self.invariant c.args.x c.in-Some.stream (sym c.in-Some.ensures) (over c.in-Some.stream) c.set.new.self c.mark.new.self c.set.ensures
     (whole_at (windows_of c.self.inside) c.self.invariant.sound c.args.x c.in-Some.stream (sym c.in-Some.ensures)) refl refl
-    (record { items = c.mark.ensures.items; len = c.mark.ensures.len }) c.mark.ensures.room
+    (record { items = c.mark.ensures.members; len = c.mark.ensures.len }) c.mark.ensures.room
 
 pub returns-clause-sound : goal.returns-clause-sound
 returns-clause-sound c = (invariant_of-self c).sound

@@ -18,7 +18,7 @@ invariant_of-self c =
     let undue : is_due_stream t ≡ false = ap (λ (w : Receiving). let u : RecvStream = record c.in-Some.stream { window = w } in is_due_stream u) c.grant-granted.ensures.left ∙ never (not c.in-Some.stream.ended) in
     kept_undue c.self.inside c.self.invariant c.args.x c.in-Some.stream (sym c.in-Some.ensures) t c.set.new.self c.mark.new.self c.set.ensures
     (c.grant-granted.ensures.whole, ap (λ (w : Receiving). w.window) c.grant-granted.ensures.left ∙ is.1) (ap (λ (w : Receiving). w.held) c.grant-granted.ensures.left) undue
-    (record { items = c.mark.ensures.items; len = c.mark.ensures.len }) c.mark.ensures.room
+    (record { items = c.mark.ensures.members; len = c.mark.ensures.len }) c.mark.ensures.room
 
 pub returns-clause-sound : goal.returns-clause-sound
 returns-clause-sound c = (invariant_of-self c).sound

@@ -14,7 +14,7 @@ pub invariant_of-self : goal.invariant_of-self
 invariant_of-self c = kept_owed c.self.inside c.self.invariant c.args.x c.in-Some.stream (sym c.in-Some.ensures) c.args.n c.moved.new.self c.moved-2.new.self c.set.new.self c.mark.new.self
     (held_of c.self.inside.streams c.args.x c.in-Some.stream c.in-Some.ensures c.args.n (rw (← c.self.view_is) at c.requires))
     c.moved.ensures.owes c.moved.ensures.whole c.moved-2.ensures.owes c.moved-2.ensures.whole c.set.ensures
-    (subst (λ b. Marks c.args.x b c.self.inside.due c.mark.new.self) c.is_due.ensures (record { items = c.mark.ensures.items; len = c.mark.ensures.len }))
+    (subst (λ b. Marks c.args.x b c.self.inside.due c.mark.new.self) c.is_due.ensures (record { items = c.mark.ensures.members; len = c.mark.ensures.len }))
     c.mark.ensures.room
 
 pub returns-clause-sound : goal.returns-clause-sound

@@ -1,0 +1,5 @@
+pub mod Counted
+pub mod Next
+pub mod Searching
+pub mod Sorted
+pub mod Tests

@@ -1,0 +1,6 @@
+//! Sets of numbers in order. Once there is room, numbers come and go without memory.
+#![tactic(auto)]
+
+mod set;
+
+pub use set::NumberSet;

@@ -1,0 +1,114 @@
+// A set of numbers in order.
+ghost use Rattle.number_set.specs.NumberSet.{first, first_above, has, marked};
+ghost use Rattle.std.specs.Prelude.{◌≡◌, ◌+◌, ◌<◌, ◌≤◌, ◌==◌, ℕ, [], IsSomeAnd, IfSome, OnOk, false, if◌then◌else◌, length, slice_index, true};
+
+use io_ports::NoMemory;
+use std::alloc::Global;
+use std::marker::Model;
+
+/// A set of numbers, in the order of the numbers. Once the room for a number is made, it comes and goes without memory. What
+/// stands behind a number that comes or goes is moved as one block.
+#[derive(Drop)]
+pub struct NumberSet {
+    items: Vec<u64>,
+}
+
+impl Model for NumberSet {
+    ghost use Rattle.number_set.specs.NumberSet.{NumberSet};
+
+    ghost Value = { NumberSet };
+
+    ghost use Rattle.number_set.specs.NumberSet.{IsKept, set_of};
+
+    ghost view = { set_of };
+
+    ghost invariant = { IsKept };
+}
+
+impl NumberSet {
+    /// None, and room for none. Takes no memory.
+    pub fn new(alloc: Global) -> Self
+        ensures { result.items ≡ [] }
+    {
+        NumberSet {
+            items: Vec::new(alloc),
+        }
+    }
+
+    /// How many there are.
+    pub fn len(&self) -> usize
+        ensures len { result ≡ length self.now.items }
+    {
+        self.items.len()
+    }
+
+    /// Makes room for one number more. Without memory the set is as it was.
+    pub fn reserve_one(&mut self) -> Result<(), NoMemory>
+        ensures items { self.new.items ≡ self.old.items }
+        ensures room { OnOk result (length self.new.items < self.new.room) }
+        ensures more { self.old.room ≤ self.new.room }
+    {
+        self.items.reserve(1)?;
+        Ok(())
+    }
+
+    /// Makes room for `most` numbers in all. Without memory the set is as it was.
+    pub fn reserve(&mut self, most: usize) -> Result<(), NoMemory>
+        ensures items { self.new.items ≡ self.old.items }
+        ensures room { OnOk result (most ≤ self.new.room) }
+        ensures more { self.old.room ≤ self.new.room }
+    {
+        let more = most.saturating_sub(self.items.len());
+        self.items.reserve(more)?;
+        Ok(())
+    }
+
+    /// From now on the number is there, or isn't. There must be room for a number that comes; takes no memory.
+    pub fn mark(&mut self, number: u64, is_there: bool)
+        requires { is_there ≡ true → has self.old.items number ≡ false → length self.old.items < self.old.room }
+        ensures items { self.new.items ≡ marked number is_there self.old.items }
+        ensures members { (y : ℕ) → has self.new.items y ≡ (if number == y then is_there else has self.old.items y) }
+        ensures len { length self.new.items + (if has self.old.items number then 1 else 0) ≡ length self.old.items + (if is_there then 1 else 0) }
+        ensures room { self.new.room ≡ self.old.room }
+    {
+        match self.items.binary_search(&number) {
+            Ok(index) if !is_there => {
+                let _ = self.items.remove(index);
+            }
+            Err(index) if is_there => {
+                let Ok(()) = self.items.insert(index, number) else {
+                    unreachable!()
+                };
+            }
+            _ => {}
+        }
+    }
+
+    /// The least.
+    pub fn first(&self) -> Option<u64>
+        ensures { result ≡ first self.now.items }
+    {
+        self.items.first().copied()
+    }
+
+    /// The least that is above another.
+    pub fn next_above(&self, after: u64) -> Option<u64>
+        ensures next { result ≡ first_above after self.now.items }
+        ensures found { IfSome result (λ x. (after < x) × (has self.now.items x ≡ true)) }
+        ensures least { (y : ℕ) → after < y → has self.now.items y ≡ true → IsSomeAnd result (λ x. x ≤ y) }
+    {
+        self.items.get(self.count_upto(after)).copied()
+    }
+
+    // How many are at most so great.
+    fn count_upto(&self, most: u64) -> usize
+        ensures within { result ≤ length self.now.items }
+        ensures below { (k : ℕ) → k < result → slice_index self.now.items k ≤ most }
+        ensures above { (k : ℕ) → result ≤ k → k < length self.now.items → most < slice_index self.now.items k }
+    {
+        match self.items.binary_search(&most) {
+            Ok(index) => index + 1,
+            Err(index) => index,
+        }
+    }
+}
