@@ -2,9 +2,13 @@
 //! written.
 #![tactic(auto)]
 
+mod heads;
 mod inlet;
+mod links;
 mod load;
 mod outlet;
+mod timers;
+mod windows;
 mod words;
 
 use std::io::Read;
@@ -27,9 +31,13 @@ fn show_line(rt: &HostRuntime, line: &str) -> anyhow::Result<()> {
     }
     let (machine, _) = line.split_once(' ').unwrap_or((line, ""));
     match machine {
+        "heads" => heads::show(rt, line),
         "inlet" => inlet::show(rt, line),
+        "links" => links::show(rt, line),
         "load" => load::show(rt, line),
         "outlet" => outlet::show(rt, line),
+        "timers" => timers::show(rt, line),
+        "windows" => windows::show(rt, line),
         _ => no_case(rt, line),
     }
 }
