@@ -9,17 +9,17 @@ use Rattle.flow_notes.specs.Line.{line_of, newline, spaced}
 use Rattle.flow_notes.specs.Name.{AreNames}
 use Rattle.flow_notes.specs.declared.events.Event.{Event}
 use Rattle.flow_notes.specs.declared.events.PlainEvent.{PlainEvent}
-use Rattle.replay_run.proofs.Spots.{number_is}
-use Rattle.replay_run.proofs.Readings.{in_ranges, numbers_fit}
+use Rattle.tape_summary.proofs.Spots.{number_is}
+use Rattle.session_lines.proofs.Readings.{in_ranges, numbers_fit}
 use Rattle.replay_run.specs.Allowed.{Completes, IsAllowed, IsUnrefused}
-use Rattle.replay_run.specs.Ending.{Cut, IsRefused, Long, SpellsNone, longest_line}
+use Rattle.session_run.specs.Ending.{Cut, IsRefused, Long, MayNotCome, longest_line}
 use Rattle.replay_run.specs.Forms.{HasNoForm, SpellsForm}
-use Rattle.replay_run.specs.Newlines.{has_newline}
+use Rattle.session_run.specs.Newlines.{has_newline}
 use Rattle.replay_run.specs.Replays.{Replays}
 use Rattle.replay_run.specs.Lawfully.{IsSeen}
-use Rattle.replay_run.specs.Seen.{EventOf, Headed, HeaderOf, Item, LimitsOf, MayCome, Playing, Seen, Unread, are_limits, event_lines, header_line, is_playing, item_line, limit_numbers, limits_line, seen_text}
-use Rattle.replay_run.specs.declared.order.Format.{Format}
-use Rattle.replay_run.specs.declared.status.Status.{Status}
+use Rattle.session_lines.specs.Seen.{EventOf, Headed, HeaderOf, Item, LimitsOf, MayCome, Playing, Seen, SpellsNothing, Unread, are_limits, event_lines, header_line, is_playing, item_line, limit_numbers, limits_line, seen_text}
+use Rattle.session_lines.specs.declared.order.Format.{Format}
+use Rattle.session_run.specs.declared.status.Status.{Status}
 use Rattle.std.proofs.Common.{ap, append_assoc, arith, inl, inr, length-append, refl, subst, sym, ◌∙◌}
 use Rattle.std.proofs.lemmas.Bool.{false_from_ne_true}
 use Rattle.std.proofs.lemmas.Fmt.{digits_decimal}
@@ -35,8 +35,8 @@ use Rattle.tape_laws.specs.declared.limits.PlainLimits.{PlainLimits}
 use Rattle.flow_notes.specs.declared.events.Event.TheVariants as event
 use Rattle.flow_notes.specs.declared.events.PlainEvent.TheVariants as plain
 use Rattle.replay_run.specs.declared.form.Form.TheVariants as form
-use Rattle.replay_run.specs.declared.order.Format.TheVariants as format
-use Rattle.replay_run.specs.declared.status.Status.TheVariants as status
+use Rattle.session_lines.specs.declared.order.Format.TheVariants as format
+use Rattle.session_run.specs.declared.status.Status.TheVariants as status
 
 -- ---- a spelling has no newline
 
@@ -260,16 +260,16 @@ has_one (c ∷ line) more = ap (λ b. (c == 10) || b) (has_one line more) ∙ or
 unlike : (b : Bool) → b ≡ true → b ≡ false → ⊥
 unlike b is isnt = let k : true ≡ false = sym is ∙ isnt in cc
 
-unrefused : (text read ys rest : List ℕ) (seen : Seen) → IsAllowed text → IsSeen seen → text ≡ read ++ ys → read ≡ seen_text seen ++ rest → IsRefused seen rest (Some ys) → ⊥
+unrefused : (text read ys rest : List ℕ) (seen : Seen) → IsAllowed text → IsSeen seen → text ≡ read ++ ys → read ≡ seen_text seen ++ rest → IsRefused (SpellsNothing seen) (is_playing seen) (seen_text seen) rest (Some ys) → ⊥
 unrefused text read ys rest seen k may split reads refused =
     by refused (goes_on seen k.format k.limits k.events (rest ++ ys) may k.may (sym whole ∙ k.is))
   where
     whole : text ≡ seen_text seen ++ (rest ++ ys)
     whole = split ∙ ap (λ (v : List ℕ). v ++ ys) reads ∙ append_assoc (seen_text seen) rest ys
 
-    by : IsRefused seen rest (Some ys) → GoesOnAt seen (rest ++ ys) → ⊥
-    by (SpellsNone n has none) (inl over) = let none_left = nothing_left rest ys over.0 in let some = has.begins.within in omega (arith, none_left, some)
-    by (SpellsNone n has none) (inr line) =
+    by : IsRefused (SpellsNothing seen) (is_playing seen) (seen_text seen) rest (Some ys) → GoesOnAt seen (rest ++ ys) → ⊥
+    by (MayNotCome n has none) (inl over) = let none_left = nothing_left rest ys over.0 in let some = has.begins.within in omega (arith, none_left, some)
+    by (MayNotCome n has none) (inr line) =
         let same = same_line (take n rest) (item_line seen line.item) (has.begins.rest ++ ys) line.more has.begins.whole line.whole
         (sym (append_assoc (take n rest) (10 ∷ has.begins.rest) ys) ∙ ap (λ (v : List ℕ). v ++ ys) (sym has.begins.is) ∙ line.is) in
         none line.item (record { may = line.may; is = sym same.0 })
@@ -290,6 +290,7 @@ completed status.Memory text left_new out_old out_new some r k = tt
 completed status.ReadFault text left_new out_old out_new some r k = tt
 completed status.WriteFault text left_new out_old out_new some r k = tt
 completed status.Usage text left_new out_old out_new some r k = some refl
+completed status.Config text left_new out_old out_new some r k = r.tells.ends
 completed status.Session text None out_old out_new some r k = r.consumes
 completed status.Session text (Some ys) out_old out_new some r k = unrefused text r.read ys r.tells.rest r.tells.seen k r.tells.tape.may r.consumes r.tells.reads r.tells.ends
 completed status.TooLong text None out_old out_new some r k = r.consumes

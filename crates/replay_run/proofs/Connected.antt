@@ -2,7 +2,7 @@
 use Rattle.flow_notes.specs.declared.events.Event.{Event}
 use Rattle.tape_laws.specs.Following.{MayFollowAll}
 use Rattle.replay_run.specs.Lawfully.{IsSeen, IsTape}
-use Rattle.replay_run.specs.Seen.{Headed, Playing, Seen, Unread, seen_events}
+use Rattle.session_lines.specs.Seen.{Headed, Playing, Seen, Unread, seen_events}
 use Rattle.std.proofs.Common.{refl, subst, sym}
 use Rattle.std.specs.List.{AllByRecursion}
 use Rattle.std.specs.Prelude.{List, [], ◌∷◌, ◌≡◌}

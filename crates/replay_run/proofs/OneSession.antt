@@ -8,10 +8,10 @@ use Rattle.flow_notes.specs.Meaning.{numbers_of}
 use Rattle.flow_notes.specs.Split.{words_in}
 use Rattle.flow_notes.specs.declared.events.Event.{Event}
 use Rattle.replay_run.proofs.Completing.{compare, header_whole, limits_whole, next_event, nothing_more, opened, same_events, same_header, same_line}
-use Rattle.replay_run.proofs.Readings.{in_ranges, numbers_fit}
+use Rattle.session_lines.proofs.Readings.{in_ranges, numbers_fit}
 use Rattle.replay_run.specs.Lawfully.{IsSeen}
-use Rattle.replay_run.specs.Seen.{Headed, Playing, Seen, Unread, are_limits, event_lines, header_line, is_quantum, limit_numbers, limits_line, seen_text}
-use Rattle.replay_run.specs.declared.order.Format.{Format}
+use Rattle.session_lines.specs.Seen.{Headed, Playing, Seen, Unread, are_limits, event_lines, header_line, is_quantum, limit_numbers, limits_line, seen_text}
+use Rattle.session_lines.specs.declared.order.Format.{Format}
 use Rattle.std.proofs.Common.{ap, arith, inl, inr, refl, subst, sym, ◌∙◌}
 use Rattle.std.proofs.lemmas.Bool.Decides.{nat_tests}
 use Rattle.std.proofs.lemmas.List.{append-nil}
@@ -21,7 +21,7 @@ use Rattle.std.specs.List.{AllByRecursion}
 use Rattle.std.specs.Prelude.{IsTrue, List, [], codes, drop, length, map, true, ℕ, ◌++◌, ◌<◌, ◌==◌, ◌∷◌, ◌≡◌, ◌⊎◌}
 use Rattle.tape_laws.specs.Following.{MayFollowAll}
 use Rattle.tape_laws.specs.declared.limits.PlainLimits.{PlainLimits}
-use Rattle.replay_run.specs.declared.order.Format.TheVariants as format
+use Rattle.session_lines.specs.declared.order.Format.TheVariants as format
 
 -- a line of a keyword spells one list of numbers
 same_numbers : (ms ns : List ℕ) → AllByRecursion Fits32 ms → AllByRecursion Fits32 ns → line_of (codes "limits" ∷ map decimal ms) ≡ line_of (codes "limits" ∷ map decimal ns) → ms ≡ ns

@@ -5,12 +5,12 @@ use Rattle.flow_notes.specs.Passages.{notes_of_passage}
 use Rattle.flow_notes.specs.declared.notes.Note.{Note}
 use Rattle.flow_notes.specs.declared.passages.Passage.{Passage}
 use Rattle.io_ports.specs.declared.octets.NoMemory.{NoMemory}
-use Rattle.replay_run.proofs.Levels.{lawful_back, unwritten_goes}
-use Rattle.replay_run.proofs.Pausing.{onto_more}
-use Rattle.replay_run.specs.Levels.{WriteGoes}
+use Rattle.tape_summary.proofs.Levels.{lawful_back, unwritten_goes}
+use Rattle.tape_summary.proofs.Pausing.{onto_more}
+use Rattle.tape_summary.specs.Levels.{WriteGoes}
 use Rattle.replay_run.specs.Tally.{octets_framed, octets_in, pauses_in, resets_in, short_summary, streams_in}
 use Rattle.replay_run.specs.Tallying.{Counted, TallyGoes, TallyIs, tally_text}
-use Rattle.replay_run.specs.declared.level.Level.{Level}
+use Rattle.tape_summary.specs.declared.level.Level.{Level}
 use Rattle.replay_run.specs.declared.tally.Tally.{Tally}
 use Rattle.std.proofs.Common.{Bor, ap, arith, refl, subst, sym, ◌∙◌}
 use Rattle.std.proofs.lemmas.List.{append-nil}

@@ -6,7 +6,7 @@ use Rattle.io_ports.specs.declared.octets.NoMemory.{NoMemory}
 use Rattle.tape_laws.specs.Following.{MayFollowAll}
 use Rattle.replay_run.specs.Formats.{InBothFormats, IsQuantumOfOne}
 use Rattle.replay_run.specs.Lawfully.{IsSeen}
-use Rattle.replay_run.specs.Seen.{Playing, event_lines, header_line, limits_line}
+use Rattle.session_lines.specs.Seen.{Playing, event_lines, header_line, limits_line}
 use Rattle.replay_run.specs.SessionText.{event_text_lines, limits_lines}
 use Rattle.std.proofs.Common.{ap, append_assoc, arith, refl, subst, sym, ◌∙◌}
 use Rattle.std.proofs.lemmas.Bool.Decides.{nat_tests}
@@ -16,7 +16,7 @@ use Rattle.std.specs.Fmt.{decimal}
 use Rattle.std.specs.Prelude.{Bool, Err, IsTrue, List, Ok, OnOk, Result, [], codes, false, nat_le, reverse, true, ℕ, ◌&&◌, ◌++◌, ◌==◌, ◌∷◌, ◌≡◌, ◌↔◌}
 use Rattle.tape_laws.specs.declared.limits.PlainLimits.{PlainLimits}
 use Rattle.flow_notes.specs.declared.events.Event.TheVariants as event
-use Rattle.replay_run.specs.declared.order.Format.TheVariants as format
+use Rattle.session_lines.specs.declared.order.Format.TheVariants as format
 
 last_of : (a b : Bool) → IsTrue (a && b) → IsTrue b
 last_of true b e = e

@@ -3,7 +3,7 @@ use Rattle.replay_run.specs.Forms.{IsDrillWord, IsNoDrill, SpellsForm}
 use Rattle.replay_run.specs.Drills.{DrillsAs}
 use Rattle.replay_run.specs.Told.{ReplaysForm}
 use Rattle.replay_run.specs.declared.form.Form.{Form}
-use Rattle.replay_run.specs.declared.status.Status.{Status}
+use Rattle.session_run.specs.declared.status.Status.{Status}
 use Rattle.std.proofs.Common.{Decides, ap, arith, inl, inr, refl, subst, sym, ◌∙◌}
 use Rattle.std.proofs.lemmas.Fmt.{decimal_injective, parse-decimal}
 use Rattle.std.proofs.lemmas.Slice.Eq.{bytes_eq-Decides}

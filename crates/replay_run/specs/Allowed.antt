@@ -1,14 +1,14 @@
 -- A session that breaks no rule, and how its replay may end.
-use Rattle.replay_run.specs.Ending.{longest_line, most_octets}
+use Rattle.session_run.specs.Ending.{longest_line, most_octets}
 use Rattle.replay_run.specs.Lawfully.{IsSeen}
-use Rattle.replay_run.specs.Newlines.{has_newline}
-use Rattle.replay_run.specs.Seen.{Playing, seen_text}
-use Rattle.replay_run.specs.declared.order.Format.{Format}
-use Rattle.replay_run.specs.declared.status.Status.{Status}
+use Rattle.session_run.specs.Newlines.{has_newline}
+use Rattle.session_lines.specs.Seen.{Playing, seen_text}
+use Rattle.session_lines.specs.declared.order.Format.{Format}
+use Rattle.session_run.specs.declared.status.Status.{Status}
 use Rattle.flow_notes.specs.declared.events.Event.{Event}
 use Rattle.std.specs.Prelude.{List, None, Option, Some, false, length, ℕ, ◌++◌, ◌∷◌, ◌≡◌, ◌≤◌}
 use Rattle.tape_laws.specs.declared.limits.PlainLimits.{PlainLimits}
-use Rattle.replay_run.specs.declared.status.Status.TheVariants as status
+use Rattle.session_run.specs.declared.status.Status.TheVariants as status
 
 -- a header, limits and events, each of which may come after those before it, within the most octets of a session and of a line
 pub record IsAllowed (text : List ℕ) : Type 0 where

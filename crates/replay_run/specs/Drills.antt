@@ -7,7 +7,7 @@ use Rattle.replay_run.specs.GoingOn.{MayGoOn}
 use Rattle.replay_run.specs.Tally.{short_summary}
 use Rattle.replay_run.specs.Tallying.{TallyGoes, TallyIs}
 use Rattle.replay_run.specs.declared.drill.Drill.{Drill}
-use Rattle.replay_run.specs.declared.status.Status.{Status}
+use Rattle.session_run.specs.declared.status.Status.{Status}
 use Rattle.replay_run.specs.declared.tally.Tally.{Tally}
 use Rattle.std.specs.Io.KnownBytes.{Appends}
 use Rattle.std.specs.Prelude.{List, Option, [], reverse, ℕ, ◌++◌, ◌≡◌}
@@ -20,7 +20,7 @@ use Rattle.tape_laws.specs.PlainTape.{IsPlainWhole}
 use Rattle.plain_core.specs.Runs.{Turns}
 use Rattle.plain_core.specs.Stands.{Rests}
 use Rattle.plain_core.specs.declared.plain.PlainCore.{PlainCore}
-use Rattle.replay_run.specs.declared.status.Status.TheVariants as status
+use Rattle.session_run.specs.declared.status.Status.TheVariants as status
 
 -- a lawful tape of the drill of n streams, one whole dispatch for each of its events
 pub record IsDrillTape (n : ℕ) (h : History NoMark) : Type 0 where

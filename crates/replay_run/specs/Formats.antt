@@ -2,12 +2,12 @@
 use Rattle.flow_notes.specs.Line.{newline}
 use Rattle.flow_notes.specs.declared.events.Event.{Event}
 use Rattle.replay_run.specs.Lawfully.{IsSeen}
-use Rattle.replay_run.specs.Seen.{Playing, header_line, seen_text}
+use Rattle.session_lines.specs.Seen.{Playing, header_line, seen_text}
 use Rattle.replay_run.specs.SessionText.{session_spelling}
 use Rattle.std.specs.Fmt.{decimal}
 use Rattle.std.specs.Prelude.{List, Some, codes, reverse, ℕ, ◌++◌, ◌≡◌, ◌↔◌}
 use Rattle.tape_laws.specs.declared.limits.PlainLimits.{PlainLimits}
-use Rattle.replay_run.specs.declared.order.Format.TheVariants as format
+use Rattle.session_lines.specs.declared.order.Format.TheVariants as format
 
 -- a text of format 1, by its limits line and the lines behind it
 abbrev pub in_one : List ℕ → List ℕ → List ℕ

@@ -1,6 +1,6 @@
 -- Lines that may come, and a tape of their events.
 use Rattle.tape_laws.specs.Following.{MayFollowAll}
-use Rattle.replay_run.specs.Seen.{Headed, Playing, Seen, Unread, are_limits, seen_events}
+use Rattle.session_lines.specs.Seen.{Headed, Playing, Seen, Unread, are_limits, seen_events}
 use Rattle.std.specs.Prelude.{IsTrue, [], ◌≡◌}
 use Rattle.tape_laws.specs.Dispatches.{events_back}
 use Rattle.tape_laws.specs.History.{History, NoMark}

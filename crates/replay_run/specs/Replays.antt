@@ -1,10 +1,10 @@
 -- What `replay` tells of a session.
-use Rattle.flow_notes.specs.Line.{line_of, newline}
-use Rattle.replay_run.specs.Ending.{EndsAs}
+use Rattle.flow_notes.specs.Line.{newline}
+use Rattle.session_run.specs.Ending.{EndsAs}
+use Rattle.session_run.specs.Tells.{numbered_line}
 use Rattle.replay_run.specs.Lawfully.{IsTape}
-use Rattle.replay_run.specs.Seen.{Seen, seen_lines, seen_text}
-use Rattle.replay_run.specs.declared.status.Status.{Status}
-use Rattle.std.specs.Fmt.{decimal}
+use Rattle.session_lines.specs.Seen.{Seen, SpellsNothing, is_playing, seen_lines, seen_text}
+use Rattle.session_run.specs.declared.status.Status.{Status}
 use Rattle.std.specs.Io.KnownBytes.{Appends, Consumes}
 use Rattle.std.specs.Prelude.{List, Option, [], codes, suc, ℕ, ◌++◌, ◌∷◌, ◌≡◌}
 use Rattle.tape_laws.specs.Headline.{Headline}
@@ -13,10 +13,7 @@ use Rattle.tape_laws.specs.Plain.{plain_setup}
 use Rattle.tape_laws.specs.Report.{summary_text}
 use Rattle.tape_laws.specs.Text.{tape_text}
 use Rattle.tape_laws.specs.declared.limits.PlainLimits.{PlainLimits}
-use Rattle.replay_run.specs.declared.status.Status.TheVariants as status
-
-abbrev pub numbered_line : List (List ℕ) → ℕ → List ℕ
-numbered_line words k = line_of (words ++ decimal k ∷ []) ++ newline
+use Rattle.session_run.specs.declared.status.Status.TheVariants as status
 
 -- the last line or lines, by the status
 abbrev pub last_text : Status → Seen → PlainLimits → History NoMark → List ℕ
@@ -36,7 +33,7 @@ pub record Tells (status : Status) (read told : List ℕ) (left : Option (List �
   pub tape : IsTape seen limits history
   -- what it promises to an operator, for every flow and buffer
   pub headline : Headline (plain_setup limits) history
-  pub ends : EndsAs status seen limits history rest left
+  pub ends : EndsAs (SpellsNothing seen) (is_playing seen) status (seen_text seen) rest left
   pub is : told ≡ tape_text [] history ++ last_text status seen limits history
 
 -- where the sink failed, what was written is a front of such a text

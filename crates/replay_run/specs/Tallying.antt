@@ -1,6 +1,6 @@
 -- What a tally stands for.
 use Rattle.flow_notes.specs.declared.notes.Note.{Note}
-use Rattle.replay_run.specs.Levels.{WriteGoes, level_of}
+use Rattle.tape_summary.specs.Levels.{WriteGoes, level_of}
 use Rattle.replay_run.specs.Tally.{counts_text, octets_framed, octets_in, pauses_in, resets_in, streams_in}
 use Rattle.replay_run.specs.declared.tally.Tally.{Tally}
 use Rattle.std.specs.List.{sum_by}

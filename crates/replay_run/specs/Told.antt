@@ -2,7 +2,7 @@
 use Rattle.replay_run.specs.Drills.{DrillsAs}
 use Rattle.replay_run.specs.Replays.{Replays}
 use Rattle.replay_run.specs.declared.form.Form.{Form}
-use Rattle.replay_run.specs.declared.status.Status.{Status}
+use Rattle.session_run.specs.declared.status.Status.{Status}
 use Rattle.std.specs.Prelude.{List, Option, ℕ, ◌≡◌}
 use Rattle.replay_run.specs.declared.form.Form.TheVariants as form
 

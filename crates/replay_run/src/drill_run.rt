@@ -5,13 +5,12 @@ ghost use Rattle.replay_run.specs.Drills.{CountsEvent, DrillsAs, IsDrillSummary,
 ghost use Rattle.plain_core.specs.Stands.{CanTake};
 
 use crate::drill::Drill;
-use crate::output::write_all;
 use crate::short::put_short;
-use crate::status::Status;
 use crate::tally::Tally;
 use flow_notes::{Event, Notes};
 use io_ports::{Failed, NoMemory, Octets, Sink};
 use plain_core::PlainCore;
+use session_run::{Status, write_all};
 use std::alloc::Global;
 use tape_laws::PlainLimits;
 

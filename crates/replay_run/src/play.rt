@@ -2,17 +2,16 @@
 ghost use Rattle.std.specs.List.{AllByRecursion};
 ghost use Rattle.std.specs.Prelude.{◌≡◌, ◌++◌, [], OnOk, OnErr};
 ghost use Rattle.flow_notes.specs.Note.{IsNote};
-ghost use Rattle.replay_run.specs.NotesText.{notes_text};
+ghost use Rattle.tape_summary.specs.NotesText.{notes_text};
 
-use crate::order::{LineRead, Order};
-use crate::session::read_session_line;
-use crate::tape_log::TapeLog;
-use crate::tell::tell;
-use flow_notes::{Event, Notes};
+use flow_notes::{Event, Names, Notes};
 use io_ports::{NoMemory, Octets};
 use plain_core::PlainCore;
+use session_lines::{LineRead, Order, read_session_line};
+use session_run::{Player, Went};
 use std::alloc::Global;
 use tape_laws::PlainLimits;
+use tape_summary::{TapeLog, tell, write_summary};
 
 /// The limits before any are read.
 const NO_LIMITS: PlainLimits = PlainLimits {
@@ -22,17 +21,7 @@ const NO_LIMITS: PlainLimits = PlainLimits {
     quantum: 16_384,
 };
 
-/// How a line went.
-#[derive(Clone, Copy, Debug, PartialEq, Eq)]
-pub enum Went {
-    /// It was read, and its event was dispatched.
-    On,
-    /// It breaks the grammar or the order.
-    Refused,
-}
-
-/// A session under way: what its lines say of the next one, the core, what the summary tells of the tape
-/// so far, and the text of the tape that isn't written yet.
+/// A plain session under way: what its lines say of the next one, the core, and what the summary tells of the tape so far.
 #[derive(Drop)]
 pub struct Play {
     pub alloc: Global,
@@ -40,19 +29,18 @@ pub struct Play {
     pub core: PlainCore,
     pub log: TapeLog,
     pub notes: Notes,
-    pub text: Octets,
 }
 
 impl Play {
-    ghost use Rattle.std.specs.Prelude.{◌≡◌, ◌++◌, List, ℕ, [], IfOk, OnOk, OnErr};
+    ghost use Rattle.std.specs.Prelude.{◌≡◌, [], IfOk};
     ghost use Rattle.flow_notes.specs.Event.{IsEvent};
     ghost use Rattle.plain_core.specs.Stands.{CanTake};
-    ghost use Rattle.replay_run.specs.NotesText.{notes_text};
-    ghost use Rattle.replay_run.specs.Played.{Begins, Played, PlaysEvent, PlaysLine};
+    ghost use Rattle.replay_run.specs.Played.{PlaysEvent, plain_kind};
+    ghost use Rattle.session_run.specs.Runs.{Begins};
 
     /// Before the first line.
     pub fn new(alloc: Global) -> Result<Self, NoMemory>
-        ensures { IfOk result Begins }
+        ensures { IfOk result (λ play. Begins plain_kind play []) }
     {
         Ok(Play {
             alloc,
@@ -60,16 +48,38 @@ impl Play {
             core: PlainCore::new(alloc, NO_LIMITS)?,
             log: TapeLog::new(alloc, NO_LIMITS),
             notes: Notes::new(alloc),
-            text: Octets::new(alloc),
         })
     }
 
-    /// Reads a line, given without its newline, and dispatches its event. Where it doesn't go on, the
-    /// text is as it was.
-    pub fn line(&mut self, line: &[u8]) -> Result<Went, NoMemory>
-        requires { (read : List ℕ) × (written : List ℕ) × Played self.old read written }
-        ensures { PlaysLine self.old line.now self.new result }
+    // Dispatches an event and appends its notes, or leaves the text as it was.
+    fn event(&mut self, event: &Event, text: &mut Octets) -> Result<Went, NoMemory>
+        requires names { self.old.order.names ≡ [] }
+        requires event { IsEvent [] event.now }
+        requires follows { CanTake self.old.core event.now [] }
+        ensures { PlaysEvent self.old event.now text.old self.new text.new result }
     {
+        self.notes.clear();
+        let Ok(()) = self.core.dispatch(event, &mut self.notes) else {
+            return Err(NoMemory);
+        };
+        self.log.note_all(&self.notes)?;
+        append_notes(&self.notes, &self.order.names, text)?;
+        Ok(Went::On)
+    }
+}
+
+impl Player for Play {
+    ghost use Rattle.replay_run.specs.Played as spec;
+
+    ghost stands = { spec.Played };
+
+    ghost refuses = { spec.RefusesLine };
+
+    ghost can_end = { spec.can_end };
+
+    ghost sums = { spec.SumsPlay };
+
+    fn line(&mut self, line: &[u8], text: &mut Octets) -> Result<Went, NoMemory> {
         match read_session_line(&mut self.order, line)? {
             LineRead::Header => Ok(Went::On),
             LineRead::Limits(limits) => {
@@ -77,37 +87,28 @@ impl Play {
                 self.log = TapeLog::new(self.alloc, limits);
                 Ok(Went::On)
             }
-            LineRead::Event(event) => self.event(&event),
+            LineRead::Event(event) => self.event(&event, text),
             LineRead::Refused => Ok(Went::Refused),
         }
     }
 
-    // Dispatches an event and appends its notes, or leaves the text as it was.
-    fn event(&mut self, event: &Event) -> Result<Went, NoMemory>
-        requires names { self.old.order.names ≡ [] }
-        requires event { IsEvent [] event.now }
-        requires follows { CanTake self.old.core event.now [] }
-        ensures { PlaysEvent self.old event.now self.new result }
-    {
-        self.notes.clear();
-        let Ok(()) = self.core.dispatch(event, &mut self.notes) else {
-            return Err(NoMemory);
-        };
-        self.log.note_all(&self.notes)?;
-        append_notes(&self.notes, &self.order, &mut self.text)?;
-        Ok(Went::On)
+    fn may_end(&self) -> bool {
+        self.order.is_playing()
+    }
+
+    fn summarize(&mut self, text: &mut Octets) -> Result<(), NoMemory> {
+        write_summary(self.alloc, &self.log, text)
     }
 }
 
-// Appends the lines of all notes, or nothing.
-fn append_notes(notes: &Notes, order: &Order, text: &mut Octets) -> Result<(), NoMemory>
-    requires names { order.now.names ≡ [] }
-    requires spelled { AllByRecursion (IsNote []) notes.now }
-    ensures ok { OnOk result (text.new ≡ text.old ++ notes_text notes.now) }
+/// Appends the lines of all notes, or nothing.
+pub fn append_notes(notes: &Notes, names: &Names, text: &mut Octets) -> Result<(), NoMemory>
+    requires { AllByRecursion (IsNote names.now) notes.now }
+    ensures ok { OnOk result (text.new ≡ text.old ++ notes_text names.now notes.now) }
     ensures err { OnErr result (text.new ≡ text.old) }
 {
     let whole = text.len();
-    if let Err(error) = tell(notes, &order.names, text) {
+    if let Err(error) = tell(notes, names, text) {
         text.truncate(whole);
         return Err(error);
     }

@@ -9,16 +9,15 @@ ghost use Rattle.replay_run.specs.Told.{ReplaysForm};
 
 use crate::drill_run::replay_drill;
 use crate::form::{Form, read_form};
-use crate::lines::Lines;
 use crate::play::Play;
-use crate::run::Run;
-use crate::status::Status;
+use crate::reason::{Outcome, Reason};
 use io_ports::{Sink, Source};
+use line_faults::{LineFault, explain_plain};
+use session_run::{Lines, Run, Status};
 use std::alloc::Global;
 
-/// Replays what the words ask for: `plain` reads the session and writes its tape with its summary,
-/// `drill N` reads nothing and writes the short summary of that drill. Other words read and write
-/// nothing. `config` isn't read.
+/// Replays what the words ask for: `plain` reads the session and writes its tape with its summary; `drill N` reads nothing
+/// and writes the short summary of that drill. Other words read and write nothing. `config` isn't read.
 pub fn replay<C: Source, S: Source, K: Sink>(
     alloc: Global,
     words: &[String],
@@ -34,27 +33,77 @@ pub fn replay<C: Source, S: Source, K: Sink>(
     ensures write_fault { result ≡ Status.WriteFault → Rose (K.faults out.old) (K.faults out.new) }
     ensures config { config.new ≡ config.old }
 {
+    replay_with_reason(alloc, words, config, session, out).status
+}
+
+/// The same, and why it ended so.
+pub fn replay_with_reason<C: Source, S: Source, K: Sink>(
+    alloc: Global,
+    words: &[String],
+    config: &mut C,
+    session: &mut S,
+    out: &mut K,
+) -> Outcome
+    ensures tape { (f : Form) → SpellsForm (map string_bytes words.now) f → ReplaysForm f (S.left session.old) (S.left session.new) (K.contents out.old) (K.contents out.new) result.status }
+    ensures completes { SpellsForm (map string_bytes words.now) Form.Plain → Completes (S.left session.old) result.status }
+    ensures usage { (result.status ≡ Status.Usage) ↔ HasNoForm (map string_bytes words.now) }
+    ensures nothing { result.status ≡ Status.Usage → (session.new ≡ session.old) × (out.new ≡ out.old) }
+    ensures read_fault { result.status ≡ Status.ReadFault → Rose (S.faults session.old) (S.faults session.new) }
+    ensures write_fault { result.status ≡ Status.WriteFault → Rose (K.faults out.old) (K.faults out.new) }
+    ensures config { config.new ≡ config.old }
+{
     match read_form(words) {
         Some(Form::Plain) => replay_plain(alloc, session, out),
-        Some(Form::Drill { streams }) => replay_drill(alloc, streams, out),
-        None => Status::Usage,
+        Some(Form::Drill { streams }) => {
+            let status = replay_drill(alloc, streams, out);
+            Outcome {
+                status,
+                reason: Reason::of_status(status),
+            }
+        }
+        None => Outcome {
+            status: Status::Usage,
+            reason: Reason::Words,
+        },
     }
 }
 
-fn replay_plain<S: Source, K: Sink>(alloc: Global, session: &mut S, out: &mut K) -> Status
-    ensures tape { Replays (S.left session.old) (S.left session.new) (K.contents out.old) (K.contents out.new) result }
-    ensures completes { Completes (S.left session.old) result }
-    ensures some { result ≡ Status.Usage → ⊥ }
-    ensures read_fault { result ≡ Status.ReadFault → Rose (S.faults session.old) (S.faults session.new) }
-    ensures write_fault { result ≡ Status.WriteFault → Rose (K.faults out.old) (K.faults out.new) }
+fn replay_plain<S: Source, K: Sink>(alloc: Global, session: &mut S, out: &mut K) -> Outcome
+    ensures tape { Replays (S.left session.old) (S.left session.new) (K.contents out.old) (K.contents out.new) result.status }
+    ensures completes { Completes (S.left session.old) result.status }
+    ensures some { result.status ≡ Status.Usage → ⊥ }
+    ensures read_fault { result.status ≡ Status.ReadFault → Rose (S.faults session.old) (S.faults session.new) }
+    ensures write_fault { result.status ≡ Status.WriteFault → Rose (K.faults out.old) (K.faults out.new) }
 {
     let Ok(play) = Play::new(alloc) else {
-        return Status::Memory;
+        return Outcome {
+            status: Status::Memory,
+            reason: Reason::Memory,
+        };
     };
     let Ok(lines) = Lines::new(alloc) else {
-        return Status::Memory;
+        return Outcome {
+            status: Status::Memory,
+            reason: Reason::Memory,
+        };
     };
-    let mut run = Run::new(lines, play);
+    let mut run = Run::new(alloc, lines, play);
     let status = run.play_all(session, out);
-    run.finish(status, out)
+    let fault = explain(alloc, status, &run);
+    let status = run.finish(status, out);
+    Outcome {
+        status,
+        reason: Reason::of_line(status, fault),
+    }
+}
+
+// What is wrong with the line at which the session was refused, if it was, and if there is memory to say so.
+fn explain(alloc: Global, status: Status, run: &Run<Play>) -> Option<LineFault> {
+    if status != Status::Session {
+        return None;
+    }
+    match explain_plain(alloc, &run.player.order, run.number, run.refused_line()) {
+        Ok(fault) => Some(fault),
+        Err(_) => None,
+    }
 }

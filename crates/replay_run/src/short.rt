@@ -4,8 +4,8 @@ ghost use Rattle.flow_notes.specs.Line.{newline};
 ghost use Rattle.replay_run.specs.Tallying.{tally_text};
 
 use crate::tally::Tally;
-use crate::words::put_behind;
 use io_ports::{NoMemory, Octets};
+use tape_summary::put_behind;
 
 /// Appends the six lines of a tally. Want of memory may leave some of them.
 pub fn put_short(into: &mut Octets, tally: Tally) -> Result<(), NoMemory>

@@ -2,9 +2,9 @@
 ghost use Rattle.std.specs.Prelude.{◌≡◌, ◌+◌, IfOk};
 ghost use Rattle.replay_run.specs.Tally.{resets_by as resets_of};
 
-use crate::level::{Level, write_after};
 use flow_notes::{Cause, Note, Notes, Passage};
 use io_ports::NoMemory;
+use tape_summary::{Level, write_after};
 
 /// What the short summary tells of the tape of a plain session, kept note by note.
 #[derive(Clone, Copy, Debug, PartialEq, Eq)]

@@ -5,10 +5,10 @@ ghost use Rattle.flow_notes.specs.Event.{IsEvent};
 ghost use Rattle.flow_notes.specs.Extends.{Extends};
 ghost use Rattle.replay_run.specs.SessionText.{event_text_lines, head_lines, limits_lines, session_spelling};
 
-use crate::words::put_behind;
 use flow_notes::{EventList, Names, event_text};
 use io_ports::{NoMemory, Octets};
 use tape_laws::PlainLimits;
+use tape_summary::put_behind;
 
 /// Appends the whole text of a session: of a plain one with these limits, in format 2, or of a wire
 /// one, which has none. Each event has to have a spelling with these names. After want of memory

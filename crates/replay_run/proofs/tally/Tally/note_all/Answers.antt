@@ -1,6 +1,6 @@
 -- Passage after passage is taken up.
 use Rattle.std.proofs.Common.{◌++◌, []}
-use Rattle.replay_run.proofs.Pausing.{all_left, no_passages, passage_more}
+use Rattle.tape_summary.proofs.Pausing.{all_left, no_passages, passage_more}
 use Rattle.replay_run.proofs.Tallying.{all_tallied, tally_more, tally_none}
 use Rattle.replay_run.proofs.tally.Tally.note_all.Goals as goal
 

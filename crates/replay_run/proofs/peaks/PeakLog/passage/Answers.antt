@@ -1,9 +1,0 @@
--- A row leaves each buffer as it was.
-use Rattle.replay_run.proofs.Peaking.{note_peak, row_peak}
-use Rattle.replay_run.proofs.peaks.PeakLog.passage.Goals as goal
-
-pub returns-in-One : goal.returns-in-One
-returns-in-One c = note_peak c.args.self.now c.note.new.self c.args.passage c.in-One.note c.note.result c.in-One.is c.note.ensures
-
-pub returns-in_default : goal.returns-in_default
-returns-in_default c = row_peak c.args.self.now c.args.passage c.in_default.not-One

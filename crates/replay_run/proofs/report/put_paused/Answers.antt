@@ -1,7 +1,0 @@
--- The words of a pause stand in their order.
-use Rattle.replay_run.proofs.Summing.{paused_ends}
-use Rattle.replay_run.proofs.report.put_paused.Goals as goal
-
-pub returns : goal.returns
-returns c = paused_ends c.args.pause c.args.into.now _ _ _ _ _ _ _ _ _ _ c.push_all.result c.new-line.ensures.text c.put_until.ensures.text c.put.ensures.text c.put_number.ensures.text c.put-2.ensures.text
-    c.put_buffer.ensures.text c.put_flow.ensures.text c.put-3.ensures.text c.as_slice.ensures c.push_all.ensures.ok

@@ -1,6 +1,0 @@
--- The octets of the end of a line.
-use Rattle.replay_run.specs.declared.line_end.LineEnd.{LineEnd}
-use Rattle.std.specs.Prelude.{List, drop, ℕ}
-
-abbrev pub text_of : LineEnd → List ℕ
-text_of line = drop line.start line.text

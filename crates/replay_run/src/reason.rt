@@ -1,0 +1,80 @@
+// Why a replay ends as it does.
+ghost use Rattle.std.specs.Prelude.{OnErr, OnOk};
+ghost use Rattle.flow_notes.specs.Extends.{Extends};
+
+use io_ports::{NoMemory, Octets};
+use line_faults::{LineFault, put_line_fault};
+use session_run::Status;
+
+/// How a replay ended, and why.
+#[derive(Debug, Drop)]
+pub struct Outcome {
+    pub status: Status,
+    pub reason: Reason,
+}
+
+/// Why a replay ended.
+#[derive(Debug, Drop)]
+pub enum Reason {
+    /// The session was replayed to its end.
+    Done,
+    /// The words have no form.
+    Words,
+    /// The configuration is refused.
+    Config,
+    /// A line is refused.
+    Line(LineFault),
+    /// A line is refused, and there was no memory to say why.
+    SomeLine,
+    /// The session has more than 67,108,864 octets.
+    LongSession,
+    /// The session couldn't be read.
+    SessionRead,
+    /// The output couldn't be written.
+    Write,
+    /// Out of memory.
+    Memory,
+}
+
+impl Reason {
+    /// That of a status, without a line that is to be told.
+    pub fn of_status(status: Status) -> Self {
+        match status {
+            Status::Done => Reason::Done,
+            Status::Usage => Reason::Words,
+            Status::Config => Reason::Config,
+            Status::Session => Reason::SomeLine,
+            Status::ReadFault => Reason::SessionRead,
+            Status::WriteFault => Reason::Write,
+            Status::Memory => Reason::Memory,
+            Status::TooLong => Reason::LongSession,
+        }
+    }
+
+    /// That of a status, with what is wrong with the line at which the session was refused, if it was.
+    pub fn of_line(status: Status, fault: Option<LineFault>) -> Self {
+        match (status, fault) {
+            (Status::Session, Some(fault)) => Reason::Line(fault),
+            _ => Reason::of_status(status),
+        }
+    }
+}
+
+/// Appends why a replay ended, in one line without its newline; nothing where it was replayed to its end, or the words have no
+/// form. Want of memory may leave some of it.
+pub fn put_reason(reason: &Reason, into: &mut Octets) -> Result<(), NoMemory>
+    ensures ok { OnOk result (Extends into.old into.new) }
+    ensures err { OnErr result (Extends into.old into.new) }
+{
+    match reason {
+        Reason::Done => Ok(()),
+        Reason::Words => Ok(()),
+        Reason::Config => into.push_all(b"the configuration is refused"),
+        Reason::Line(fault) => put_line_fault(fault, into),
+        Reason::SomeLine => into.push_all(b"the session is refused"),
+        Reason::LongSession => into.push_all(b"the session has more than 67,108,864 octets"),
+        Reason::SessionRead => into.push_all(b"the session can't be read"),
+        Reason::Write => into.push_all(b"the output can't be written"),
+        Reason::Memory => into.push_all(b"out of memory"),
+    }
+}

@@ -1,0 +1,4 @@
+pub mod Coursing
+pub mod Readings
+pub mod WireFollowing
+pub mod WireReading

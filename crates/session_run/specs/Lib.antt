@@ -1,0 +1,9 @@
+pub mod Codes
+pub mod Ending
+pub mod Ends
+pub mod Held
+pub mod Kinds
+pub mod Newlines
+pub mod Players
+pub mod Runs
+pub mod Tells

@@ -1,0 +1,9 @@
+pub mod Levels
+pub mod LineEnds
+pub mod Logging
+pub mod NotesText
+pub mod Pausing
+pub mod Peaking
+pub mod Placing
+pub mod Summarizes
+pub mod Tracking
