@@ -1,38 +1,80 @@
 //! The command line of `h2replay`: its words are those behind the program's name.
 #![tactic(auto)]
 
-use io_ports::{StdSink, StdSource};
-use replay_run::{Status, replay};
+mod outside;
+mod pages;
+mod tell;
+
+use crate::pages::{HELP, USAGE, VERSION};
+use crate::tell::tell_outcome;
+use io_ports::StdSource;
+pub use outside::{Input, Output};
+use replay_run::{Status, replay_with_reason};
 use std::env::{self, Env};
 use std::io::{self, Eprint, ErrorKind, Read, Write};
 use std::process::ExitCode;
 
-const USAGE: &str = "usage: h2replay plain | h2replay drill N
-  plain    reads a plain session from standard input, and writes its tape and summary
-  drill N  runs a session of N streams, 1 to 1000, and writes what it came to
-";
-
 /// Replays what the words ask for, from the input to the output, and answers the exit code of the
-/// replay's status. Where the words have no form, it prints the usage to standard error.
+/// replay's status. Why it isn't 0 is told in a line on standard error; where the words have no form, that is the usage.
+/// `--help` and `--version` are answered on the output.
 pub fn replay_words<R: Env + Eprint + AllocGlobal, I: Read + Drop, O: Write + Drop>(
     rt: &R,
     input: I,
     output: O,
 ) -> ExitCode {
-    let status = match words(rt) {
-        Ok(words) => {
-            let mut config = StdSource::new(io::empty());
-            let mut session = StdSource::new(input);
-            let mut out = StdSink::new(output);
-            replay(rt.alloc(), &words, &mut config, &mut session, &mut out)
-        }
-        Err(status) => status,
+    let words = match words(rt) {
+        Ok(words) => words,
+        Err(status) => return end_early(rt, status),
     };
-    if status == Status::Usage {
+    match page(words.as_slice()) {
+        Some(text) => show_page(output, text),
+        None => replay_session(rt, words.as_slice(), input, output),
+    }
+}
+
+fn replay_session<R: Eprint + AllocGlobal, I: Read + Drop, O: Write + Drop>(
+    rt: &R,
+    words: &[String],
+    input: I,
+    output: O,
+) -> ExitCode {
+    let mut config = StdSource::new(io::empty());
+    let mut session = Input::new(input);
+    let mut out = Output::new(output);
+    let outcome = replay_with_reason(rt.alloc(), words, &mut config, &mut session, &mut out);
+    if outcome.status == Status::Usage {
         // Where standard error is closed there is nobody to tell.
         let _ = rt.eprint(USAGE);
+    } else {
+        tell_outcome(rt, &outcome, session.kind(), out.kind());
+    }
+    ExitCode::from(outcome.status.code())
+}
+
+// Where the words can't be had there is nothing to replay.
+fn end_early<R: Eprint>(rt: &R, status: Status) -> ExitCode {
+    if status == Status::Usage {
+        let _ = rt.eprint(USAGE);
+    } else {
+        let _ = rt.eprint("h2replay: out of memory\n");
     }
     ExitCode::from(status.code())
+}
+
+// The page that the words ask for, if they ask for one.
+fn page(words: &[String]) -> Option<&'static str> {
+    match words {
+        [word] if word.as_str() == "--help" => Some(HELP),
+        [word] if word.as_str() == "--version" => Some(VERSION),
+        _ => None,
+    }
+}
+
+fn show_page<O: Write + Drop>(mut output: O, text: &str) -> ExitCode {
+    match output.write_all(text.as_bytes()) {
+        Ok(()) => ExitCode::from(Status::Done.code()),
+        Err(_) => ExitCode::from(Status::WriteFault.code()),
+    }
 }
 
 // The words behind the program's name. Words that aren't UTF-8 have no form.

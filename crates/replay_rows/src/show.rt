@@ -1,7 +1,7 @@
 // Prints what comes of a case.
 use crate::case::Case;
-use io_ports::{MemSink, MemSource, NoMemory};
-use replay_run::{Status, replay};
+use io_ports::{MemSink, MemSource, NoMemory, Octets};
+use replay_run::{Outcome, Status, put_reason, replay, replay_with_reason};
 use std::alloc::Global;
 use std::io;
 
@@ -14,30 +14,27 @@ const SHOWN: usize = 200;
 /// The most octets of a session that is replayed in small pieces too.
 const SMALL: usize = 4_096;
 
-/// How a replay ended, and what it wrote.
+/// The outside of a replay: a configuration that isn't there, the session of a case, and what is written.
 #[derive(Drop)]
-pub struct Outcome {
-    pub status: Status,
+pub struct Outside {
+    pub config: MemSource,
+    pub session: MemSource,
     pub out: MemSink,
 }
 
-/// Replays a case, where each read gives and each write takes at most so many octets.
-fn replayed(alloc: Global, case: &Case, most: usize) -> Result<Outcome, NoMemory> {
-    let mut config = source(alloc, b"", &[])?;
+/// That of a case, where each read gives and each write takes at most so many octets.
+fn outside(alloc: Global, case: &Case, most: usize) -> Result<Outside, NoMemory> {
     let mut session = source(alloc, case.session.as_slice(), case.reads.as_slice())?;
     let mut writes = Vec::new(alloc);
     writes.extend_from_slice(case.writes.as_slice())?;
     let mut out = MemSink::new(alloc, ROOM, writes)?;
     session.give_at_most(most.max(1));
     out.take_at_most(most);
-    let status = replay(
-        alloc,
-        case.words.as_slice(),
-        &mut config,
-        &mut session,
-        &mut out,
-    );
-    Ok(Outcome { status, out })
+    Ok(Outside {
+        config: source(alloc, b"", &[])?,
+        session,
+        out,
+    })
 }
 
 fn source(alloc: Global, octets: &[u8], failing: &[u64]) -> Result<MemSource, NoMemory> {
@@ -48,33 +45,63 @@ fn source(alloc: Global, octets: &[u8], failing: &[u64]) -> Result<MemSource, No
     Ok(MemSource::new(held, calls))
 }
 
-/// Prints the status of a case and what it writes. A small session without faults ends and writes the same
-/// in pieces of 1 and of 7 octets, or else it is said where it doesn't.
+/// Prints the status of a case with its reason, and what it writes. A small session without faults ends and writes the
+/// same in pieces of 1 and of 7 octets, or else it is said where it doesn't.
 pub fn show_case<R: Print + AllocGlobal>(rt: &R, case: &Case) -> io::Result<()> {
-    let Ok(whole) = replayed(rt.alloc(), case, usize::MAX) else {
+    let Ok(mut whole) = outside(rt.alloc(), case, usize::MAX) else {
         return println!(rt; "no memory");
     };
-    println!(rt; "{} {:?}", whole.status.code(), whole.status)?;
+    let outcome = replay_with_reason(
+        rt.alloc(),
+        case.words.as_slice(),
+        &mut whole.config,
+        &mut whole.session,
+        &mut whole.out,
+    );
+    show_outcome(rt, &outcome)?;
     show_lines(rt, whole.out.octets())?;
     let session = case.session.len();
     if case.is_sound() && 0 < session && session <= SMALL {
-        show_difference(rt, case, &whole, 1)?;
-        show_difference(rt, case, &whole, 7)?;
+        show_difference(rt, case, outcome.status, whole.out.octets(), 1)?;
+        show_difference(rt, case, outcome.status, whole.out.octets(), 7)?;
     }
     Ok(())
+}
+
+fn show_outcome<R: Print + AllocGlobal>(rt: &R, outcome: &Outcome) -> io::Result<()> {
+    let status = outcome.status;
+    let mut text = Octets::new(rt.alloc());
+    let told = put_reason(&outcome.reason, &mut text);
+    match (told, text.is_empty()) {
+        (Ok(()), true) => println!(rt; "{} {status:?}", status.code()),
+        (Ok(()), false) => {
+            println!(rt; "{} {status:?}: {}", status.code(), shown(text.as_slice()))
+        }
+        (Err(_), _) => println!(rt; "no memory"),
+    }
 }
 
 fn show_difference<R: Print + AllocGlobal>(
     rt: &R,
     case: &Case,
-    whole: &Outcome,
+    status: Status,
+    text: &[u8],
     most: usize,
 ) -> io::Result<()> {
-    match replayed(rt.alloc(), case, most) {
-        Ok(other) if other.status == whole.status && other.out.octets() == whole.out.octets() => {
-            Ok(())
-        }
-        _ => println!(rt; "otherwise in pieces of {most}"),
+    let Ok(mut pieces) = outside(rt.alloc(), case, most) else {
+        return println!(rt; "no memory");
+    };
+    let other = replay(
+        rt.alloc(),
+        case.words.as_slice(),
+        &mut pieces.config,
+        &mut pieces.session,
+        &mut pieces.out,
+    );
+    if other == status && pieces.out.octets() == text {
+        Ok(())
+    } else {
+        println!(rt; "otherwise in pieces of {most}")
     }
 }
 

@@ -93,6 +93,7 @@ pub fn show_codes<R: Print>(rt: &R) -> io::Result<()> {
     for status in [
         Status::Done,
         Status::Usage,
+        Status::Config,
         Status::Session,
         Status::ReadFault,
         Status::WriteFault,
