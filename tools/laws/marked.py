@@ -56,6 +56,11 @@ def load(folder):
             self.tape.lines.append({"broke": conn.number, "code": code})
         return plain(self, conn, code)
 
+    def start_draining(plain, self, conn):
+        if conn.open and not conn.draining:
+            self.tape.lines.append({"drains": conn.number})
+        return plain(self, conn)
+
     def frame_waiting(plain, self, conn):
         u = conn.waiting[0]
         put = Con("Control", tuple(u.octets)) if isinstance(u, wire.Answer) else Con("Reply", u.stream, u.status)
@@ -74,7 +79,7 @@ def load(folder):
 
     hook(session.Session, "accept", accept)
     hook(hpack.Decoder, "decode", decode)
-    for name, around in (("take_act", take_act), ("connection_error", connection_error), ("frame_waiting", frame_waiting),
+    for name, around in (("take_act", take_act), ("connection_error", connection_error), ("start_draining", start_draining), ("frame_waiting", frame_waiting),
                          ("frame_flow", frame_flow), ("close", close)):
         hook(wire.WireCore, name, around)
 
@@ -220,6 +225,8 @@ def step_of(x, names):
         return Con("Marked", Con("Took", x["took"], frame_of(x["frame"]), act_of(x["act"]), reading_of(x["reading"])))
     if "broke" in x:
         return Con("Marked", Con("Broke", x["broke"], x["code"]))
+    if "drains" in x:
+        return Con("Marked", Con("Drains", x["drains"]))
     return Con("Marked", Con("Picked", x["picked"], x["unit"]))
 
 

@@ -15,10 +15,11 @@ pub data Reading : Type 0 where
   Refused : Reading
 
 -- A frame was taken from a connection's octets, with its act and how its field block was read; the octets that came break off
--- with a connection error of this code; a unit was picked, which the next note frames.
+-- with a connection error of this code; a job made a client's connection drain; a unit was picked, which the next note frames.
 pub data WireMark : Type 0 where
   Took : (conn : ℕ) → Frame → Act → Reading → WireMark
   Broke : (conn code : ℕ) → WireMark
+  Drains : (conn : ℕ) → WireMark
   Picked : (conn : ℕ) → FramedUnit → WireMark
 
 abbrev pub WireStep : Type 0

@@ -10,13 +10,11 @@ use Rattle.wire_laws.specs.Base.{is_open_conn}
 use Rattle.wire_laws.specs.ControlFrames.{client_settings, cluster_settings, goaway, ping_ack, rst_stream, settings_ack}
 use Rattle.wire_laws.specs.Draining.{draining}
 use Rattle.wire_laws.specs.Happenings.{greatest_opened, hears, is_ignored}
-use Rattle.wire_laws.specs.Marks.{Picked, Took, WireHistory, WireStep}
+use Rattle.wire_laws.specs.Marks.{Drains, Picked, Took, WireHistory, WireStep}
 use Rattle.wire_laws.specs.Overload.{gives_up_keepalive}
-use Rattle.wire_laws.specs.Peers.{is_client}
 use Rattle.wire_laws.specs.Replies.{to_client, to_cluster}
 use Rattle.wire_laws.specs.Streams.{comes_from, down_stream, goes_to, live_at, up_stream}
 use Rattle.flow_notes.specs.declared.events.Event.TheVariants as event
-use Rattle.flow_notes.specs.declared.events.Job.TheVariants as job
 use Rattle.flow_notes.specs.declared.notes.Note.TheVariants as note
 use Rattle.h2_session.specs.declared.act.Act.TheVariants as act
 
@@ -41,12 +39,10 @@ puts_of_act config c (act.StreamError s code block) past =
     if is_some (live_at c s past) || is_ignored config c s past then [] else rst_stream s code ∷ []
 puts_of_act config c a past = []
 
--- what an event puts: the settings of a new connection, or the GOAWAY of a job
+-- what an event puts: the settings of a new connection
 abbrev pub puts_of_event : Config → ℕ → Event → WireHistory → List Waiting
 puts_of_event config c (event.Accept d) past = if d == c then client_settings config ∷ [] else []
 puts_of_event config c (event.Join d cluster) past = if d == c then cluster_settings config ∷ [] else []
-puts_of_event config c (event.Post poster number job.Drain) past =
-    if is_client c past && is_open_conn config c past then starts_draining config c past else []
 puts_of_event config c e past = []
 
 -- what a step puts on the connection, if that is open
@@ -55,6 +51,7 @@ puts config c (Noted (note.Turn k e)) past = puts_of_event config c e past
 puts config c (Noted (note.Doom x why)) past = if is_open_conn config c past then puts_of_doom config c x why past else []
 puts config c (Marked (Took d frame a reading)) past =
     if (d == c) && is_open_conn config c past then puts_of_act config c a past else []
+puts config c (Marked (Drains d)) past = if d == c then starts_draining config c past else []
 puts config c step past = []
 
 -- the list once a step has put its units: one for a full list isn't put
@@ -69,6 +66,7 @@ waiting_on config c (Noted (note.Turn k e) ∷ past) = with_puts config c (Noted
 waiting_on config c (Noted (note.Doom x why) ∷ past) = with_puts config c (Noted (note.Doom x why)) (waiting_on config c past) past
 waiting_on config c (Marked (Took d frame a reading) ∷ past) =
     with_puts config c (Marked (Took d frame a reading)) (waiting_on config c past) past
+waiting_on config c (Marked (Drains d) ∷ past) = with_puts config c (Marked (Drains d)) (waiting_on config c past) past
 waiting_on config c (step ∷ past) = waiting_on config c past
 
 -- some unit of the step was for a full list, which floods the connection

@@ -1,0 +1,17 @@
+pub mod Choice
+pub mod Classes
+pub mod Decision
+pub mod Demands
+pub mod Farewells
+pub mod Faults
+pub mod Firing
+pub mod Floods
+pub mod Jobs
+pub mod Lengths
+pub mod Licenses
+pub mod OnTheWire
+pub mod Owed
+pub mod Timers
+pub mod WireSession
+pub mod WireSetup
+pub mod WireTape
