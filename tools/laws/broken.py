@@ -166,7 +166,7 @@ def main():
         dropped = len(steps) - len(front)
         on = " ∷ ".join([facts.step(s) for s in reversed(added)] + [("drop %d %s" % (dropped, row)) if dropped else row])
         law_path = "lawful.%s" % law if law != "acts" else "acts"
-        groups.setdefault(group, []).append((row, "-- %s\npub %s : %s config_of_%s (%s) → ⊥\n%s w = let k = w.%s.0%s in cc" % (
+        groups.setdefault(group, []).append((row, ("-- %s\npub %s : %s config_of_%s (%s) → ⊥\n" + facts.OPENED + "\n%s w = let k = w.%s.0%s in cc") % (
             says, name, "Begun", row, on, name, law_path, path)))
         judging.forget(judge)
         n += 1
@@ -174,7 +174,7 @@ def main():
     for file, gs in halves.items():
         texts = [t for g in gs for _, t in groups.get(g, [])]
         open(os.path.join(w.out, file + ".antt"), "w").write(
-            "-- Tapes of wire sessions that break one law each, as it says; what stood before is lawful.\n\n" + "\n\n".join(texts) + "\n")
+            "-- Tapes of wire sessions that break one law each, as it says; what stood before is lawful.\n" + facts.IMPORTS + "\n" + "\n\n".join(texts) + "\n")
     print(n, "broken")
 
 

@@ -122,6 +122,14 @@ def route(r):
     return "route %s %s %s %s %s %s" % (opt(r.f["authority"]), opt(r.f["path"]), opt(r.f["prefix"]), text(r.f["cluster"]), filters(r.f["request"]), filters(r.f["response"]))
 
 
+# what is opaque elsewhere and has to compute here
+OPENED = "unfolding static_table varint integer reached stay greatest_of placed in_order"
+IMPORTS = """use Rattle.hpack_codec.specs.Encoding.{integer, varint}
+use Rattle.hpack_codec.specs.Table.{static_table}
+use Rattle.overload_core.specs.ActionStates.{greatest_of}
+use Rattle.overload_core.specs.Course.{reached, stay}
+use Rattle.scaled_timer.specs.Order.{in_order, placed}
+"""
 LAWS = "allowed paused counted bounded tied ends in_turn doomed swept answered only licensed may quiet".split()
 
 
@@ -133,8 +141,8 @@ def session_of(conf, lines, model):
 
 def fact(name, c):
     fields = "".join("    %s = search (lit≤, lit<, inl, inr);\n" % law for law in LAWS)
-    return ("pub %s_is_lawful : Lawful %s %s\n%s_is_lawful = record {\n  lawful = record {\n%s  };\n"
-            "  quiet = search (lit≤, lit<);\n  acts = search;\n}" % (name, c, name, name, fields))
+    said = "pub %s_is_lawful : Lawful %s %s\n%s\n%s_is_lawful = record {\n  lawful = record {\n%s  };\n" % (name, c, name, OPENED, name, fields)
+    return said + "  quiet = search (lit≤, lit<);\n  acts = search;\n}"
 
 
 def main():
@@ -154,7 +162,7 @@ def main():
         groups.setdefault(group, []).append("-- %s\n%s\n\n%s\n\n%s" % (says, config("config_of_" + name, c), tape(name, steps), fact(name, "config_of_" + name)))
     for group, texts in groups.items():
         path = os.path.join(w.out, "Wire%s.antt" % group)
-        open(path, "w").write("-- Lawful tapes of wire sessions: %s.\n\n" % group.lower() + "\n\n".join(texts) + "\n")
+        open(path, "w").write("-- Lawful tapes of wire sessions: %s.\n" % group.lower() + IMPORTS + "\n" + "\n\n".join(texts) + "\n")
         print(path, len(texts))
 
 

@@ -32,12 +32,19 @@ ends_of config [] = []
 ends_of config (Noted (note.Turn k e) ∷ past) = held_of config past ∷ ends_of config past
 ends_of config (step ∷ past) = ends_of config past
 
+-- for how many ends on end an exchange has been in its class
+abbrev pub stay_of : ℕ → List Holding → ℕ → ℕ
+stay_of start ends x = stay start ends (class_at start ends x) x
+
 -- x goes before y: it is of a greater class, or longer in the same, or as long and of the lesser number
+abbrev pub stays_longer : ℕ → ℕ → ℕ → ℕ → Bool
+stays_longer m x n y = nat_lt n m || ((m == n) && nat_lt x y)
+
 abbrev pub goes_first : ℕ → List Holding → ℕ → ℕ → Bool
 goes_first start ends x y =
     let a = class_at start ends x in
     let b = class_at start ends y in
-    nat_lt b a || ((a == b) && (nat_lt (stay start ends b y) (stay start ends a x) || ((stay start ends a x == stay start ends b y) && nat_lt x y)))
+    nat_lt b a || ((a == b) && stays_longer (stay_of start ends x) x (stay_of start ends y) y)
 
 abbrev pub first_of_two : ℕ → List Holding → ℕ → Option ℕ → ℕ
 first_of_two start ends x None = x

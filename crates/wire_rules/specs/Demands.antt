@@ -1,4 +1,5 @@
 -- What each step asks for, in order: an event, a frame that was taken, a decision against a request, a timer, a loss and a flood.
+use Rattle.flow_gate.specs.declared.ids.BufferId.{BufferId}
 use Rattle.flow_gate.specs.declared.ids.FlowId.{FlowId}
 use Rattle.flow_notes.specs.declared.events.Event.{Event}
 use Rattle.flow_notes.specs.declared.notes.Cause.{Cause}
@@ -67,7 +68,8 @@ asked_on_stream config c a reading f past =
 abbrev pub asked_by_act : Config → ℕ → Frame → Act → Reading → WireHistory → List Demand
 asked_by_act config c frame (act.GoAway last code) reading past = if is_client c past then [] else left_out c last past
 asked_by_act config c frame (act.PeerReset s code) reading past =
-    if resets_too_many config c (Marked (Took c frame (act.PeerReset s code) reading) ∷ past) then WantsClose c 11 closed.Flood ∷ [] else []
+    if resets_too_many config c (Marked (Took c frame (act.PeerReset s code) reading) ∷ past)
+    then WantsClose c 11 closed.Flood ∷ [] else []
 asked_by_act config c frame a reading past = asked_by_opening (opening config (Marked (Took c frame a reading) ∷ past)) past
 
 -- a frame: a connection error alone, else what it does to its stream, to its connection and to the waiting list
@@ -78,7 +80,9 @@ asked_by_sound config c frame a reading past =
 
 abbrev pub asked_by_frame : Config → ℕ → Frame → Act → Reading → WireHistory → List Demand
 asked_by_frame config c frame a reading past = option_map_or
-    (λ code. WantsClose c code closed.Protocol ∷ []) (conn_fault config c frame a reading past) (asked_by_sound config c frame a reading past)
+    (λ code. WantsClose c code closed.Protocol ∷ [])
+    (conn_fault config c frame a reading past)
+    (asked_by_sound config c frame a reading past)
 
 -- a head that was decided against
 abbrev pub asked_by_start : ℕ → Option Opening → List Demand
@@ -95,10 +99,14 @@ abbrev pub overfills_limit : Config → ℕ → ℕ → Bool
 overfills_limit config most held =
     nat_lt 0 config.limits.overflow_multiple && nat_lt 0 most && nat_lt (config.limits.overflow_multiple * most) held
 
+abbrev pub is_overfilled_by : Config → BufferId → WireStep → WireHistory → Bool
+is_overfilled_by config b step past =
+    overfills_limit config (limit (wire_base config) b past) (len (wire_base config) b (step ∷ past))
+
 abbrev pub asked_by_move : Config → FlowId → ℕ → WireStep → WireHistory → List Demand
 asked_by_move config f p step past =
-    let fed = filter (λ s. s.place == p + 1) (body_sources (wire_base config) f past) in
-    if list_any (λ s. overfills_limit config (limit (wire_base config) s.buffer past) (len (wire_base config) s.buffer (step ∷ past))) fed
+    let fed_by_move = filter (λ s. s.place == p + 1) (body_sources (wire_base config) f past) in
+    if list_any (λ s. is_overfilled_by config s.buffer step past) fed_by_move
     then WantsDoom f.exchange cause.Overflow ∷ [] else []
 
 -- a doom closes the connections that its units flooded, the client's first

@@ -20,7 +20,8 @@ is_drain e = false
 abbrev pub to_drain : Config → WireHistory → List ℕ
 to_drain config past = filter (λ c. is_open_conn config c past && not (draining config c past)) (clients past)
 
--- The next one, where nothing is owed any more of those before: a GOAWAY for a full list closes its connection first, with all that this dooms.
+-- The next one, where nothing is owed any more of those before: a GOAWAY for a full list closes its connection first, with all
+-- that this dooms.
 abbrev pub next_to_drain : Config → WireHistory → Option ℕ
 next_to_drain config past =
     if is_drain (this_event past) && (length (owed config past) == 0) then slice_get (to_drain config past) 0 else None

@@ -54,7 +54,8 @@ MayDoom config x cause.Done past = IsTrue (is_done config x past)
 MayDoom config x cause.EarlyEnd past = IsTrue (is_early config x past)
 MayDoom config x cause.TooLarge past =
     IsTrue (is_too_large config (request x) past || is_too_large config (response x) past)
-MayDoom config x (cause.ConnLost d) past = IsTrue (has_no_stream config d x past) ⊎ Heads (WantsDoom x (cause.ConnLost d)) (owed config past)
+MayDoom config x (cause.ConnLost d) past =
+    IsTrue (has_no_stream config d x past) ⊎ Heads (WantsDoom x (cause.ConnLost d)) (owed config past)
 MayDoom config x why past = Heads (WantsDoom x why) (owed config past)
 
 -- a connection that drains has no exchange left, and nothing waits on it

@@ -16,7 +16,8 @@ settles (Noted (note.Doom x why)) (WantsDoom y other) = x == y
 settles (Noted (note.Close c code why)) (WantsClose d other because) = c == d
 settles step demand = false
 
--- what a step asks for stands before what was asked before; a demand stands until it is met, or its exchange doomed or its connection closed
+-- What a step asks for stands before what was asked before. A demand stands until it is met, or its exchange is doomed or its
+-- connection closed.
 abbrev pub standing : Config → WireHistory → List Demand
 standing config [] = []
 standing config (step ∷ past) = asks config step past ++ filter (λ d. not (settles step d)) (standing config past)

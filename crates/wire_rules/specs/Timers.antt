@@ -86,7 +86,8 @@ abbrev pub ends_request : ℕ → Act → WireHistory → Option ℕ
 ends_request c a past =
     if is_client c past && ends_stream (stream_of_act a) a then live_at c (stream_of_act a) past else None
 
--- `route` runs from a request's end, `stream_idle` from an exchange's start and its last touch, `connection_idle` while a client has no exchange
+-- `route` runs from a request's end, `stream_idle` from an exchange's start and its last touch, `connection_idle` while a client
+-- has no exchange
 abbrev pub armed : Config → WireHistory → List Armed
 armed config [] = []
 armed config (Noted (note.Turn k (event.Accept c)) ∷ past) =
