@@ -134,15 +134,27 @@ def remembered(fn):
 PASSED = {}
 
 
-def both(a, b):
-    """A product of two types; what fails is remembered by its number."""
-    if not a():
-        TRACE.append(".0")
-        return False
-    if not b():
-        TRACE.append(".1")
-        return False
+def every(*parts):
+    """A product of types; what fails is remembered by its number."""
+    for i, part in enumerate(parts):
+        if not part():
+            TRACE.append(".%d" % i)
+            return False
     return True
+
+
+def either(a, b):
+    if a() or b():
+        return True
+    TRACE[:] = ["⊎"]
+    return False
+
+
+def says(name, truth):
+    """A type without parts: which it is is remembered where it fails."""
+    if not truth:
+        TRACE.append(name)
+    return truth
 
 
 def all_of(p, xs):
@@ -225,7 +237,7 @@ STD = {
     "slice_get": lambda xs, i: some(xs[i]) if i < len(xs) else NONE, "slice_index": lambda xs, i: xs[i] if i < len(xs) else 0,
     "fold": fold, "replicate": lambda n, x: (x,) * n, "bytes_eq": lambda a, b: a == b, "starts_with": starts_with,
     "to_be_bytes": lambda w, n: tuple(n.to_bytes(w, "big")), "from_be_bytes": lambda w, xs: int.from_bytes(bytes(xs), "big"),
-    "codes": lambda s: s, "IsTrue": lambda b: b, "AllByRecursion": all_of,
+    "codes": lambda s: s, "IsTrue": lambda b: says("≡", b), "AllByRecursion": all_of,
     "All": lambda p, xs: all(p(x) for x in xs), "suc": lambda n: n + 1,
     "EachFollows": each_follows, "AtEachMoment": at_each_moment,
 }
@@ -360,7 +372,7 @@ class Parser:
         if t == "[]":
             return ("nil",)
         if t == "⊥":
-            return ("val", "False")
+            return ("val", "says('⊥', False)")
         if t[0] == '"':
             return ("val", "tuple(%s.encode())" % t)
         if t.startswith("0x") or t[0].isdigit():
@@ -380,7 +392,7 @@ class Spec:
 
     def __init__(self, top):
         self.top, self.defs, self.files, self.fns = top, {}, {}, {}
-        self.globals = {"Con": Con, "Rec": Rec, "Fn": Fn, "NONE": NONE, "some": some, "field": field, "updated": updated, "conj": conj, "Cell": Cell, "Undecided": Undecided, "STD": STD, "both": both, "undecided": self.undecided, "get": self.get, "sub": lambda a, b: max(0, a - b), "div": lambda a, b: a // b if b else 0, "mod": lambda a, b: a % b if b else a, "minus": self.minus}
+        self.globals = {"Con": Con, "Rec": Rec, "Fn": Fn, "NONE": NONE, "some": some, "field": field, "updated": updated, "conj": conj, "Cell": Cell, "Undecided": Undecided, "STD": STD, "every": every, "either": either, "says": says, "undecided": self.undecided, "get": self.get, "sub": lambda a, b: max(0, a - b), "div": lambda a, b: a // b if b else 0, "mod": lambda a, b: a % b if b else a, "minus": self.minus}
 
     @staticmethod
     def minus(a, b):
@@ -675,7 +687,15 @@ class Spec:
                 return "undecided()"
             a, b = self.code(d, tree[2], env), self.code(d, tree[3], env)
             if op == "×":
-                return "both(lambda: %s, lambda: %s)" % (a, b)
+                parts, right = [a], tree[3]
+                while right[0] == "op" and right[1] == "×":
+                    parts.append(self.code(d, right[2], env))
+                    right = right[3]
+                return "every(%s)" % ", ".join("lambda: " + x for x in parts + [self.code(d, right, env)])
+            if op in ("≡", "≤", "<"):
+                return "says(%r, %s)" % (op, self.OPS[op] % (a, b))
+            if op == "⊎":
+                return "either(lambda: %s, lambda: %s)" % (a, b)
             if op == "∷":
                 return "cons(%s, %s)" % (a, b)
             return self.OPS[op] % (a, b)

@@ -120,11 +120,27 @@ def judged(judge, config, steps):
 
 
 def path_of(trace):
-    """As a projection: from `law: at step n: .. < Record.field < .0`."""
-    out, laws = [], trace.split(": ", 1)
+    """The law, the projection to what is false, and which type that is: from `law: at step n: .. < Record.field < .0 < ≡`."""
+    out, kind, laws = [], "≡", trace.split(": ", 1)
     for part in laws[1].split(" < ")[1:]:
-        out.append(part if part.startswith(".") else "." + part.split(".")[-1])
-    return laws[0], "".join(out)
+        if part in ("≡", "≤", "<", "⊥", "⊎"):
+            kind = part
+        else:
+            out.append(part if part.startswith(".") else "." + part.split(".")[-1])
+    return laws[0], "".join(out), kind
+
+
+# paths between large values, told apart by a test
+TESTS = {"rejected_and_greeted": "picks_put", "refused_otherwise": "(refuses 404)", "credit_of_another_amount": "(grants_octets 5)",
+         "reply_changed": "(λ xs. slice_index xs 14 == 52)", "head_changed": "(λ xs. slice_index xs 15 == 97)"}
+
+
+def refuted(name, path, kind):
+    """How ⊥ follows from the false fact at the path."""
+    if name in TESTS:
+        return "let k = ap %s %s in cc" % (TESTS[name], path)
+    return {"⊥": path, "≤": "omega (arith, %s)" % path, "<": "omega (arith, %s)" % path, "⊎": "elim %s [ inl a ↦ (let k = a in cc) | inr b ↦ b ]" % path}.get(
+        kind, "let k = %s in cc" % path)
 
 
 def main():
@@ -161,16 +177,16 @@ def main():
             print("!!", name, found)
             continue
         at.sort(key=lambda f: f.split(":")[0] != BREAKS.get(name))
-        law, path = path_of(at[0])
-        print(name, "|", [f.split(":")[0] for f in at], law + path, flush=True)
+        law, path, kind = path_of(at[0])
+        print(name, "|", [f.split(":")[0] for f in at], law + path, kind, flush=True)
         dropped = len(steps) - len(front)
         on = " ∷ ".join([facts.step(s) for s in reversed(added)] + [("drop %d %s" % (dropped, row)) if dropped else row])
         law_path = "lawful.%s" % law if law != "acts" else "acts"
-        groups.setdefault(group, []).append((row, ("-- %s\npub %s : %s config_of_%s (%s) → ⊥\n" + facts.OPENED + "\n%s w = let k = w.%s.0%s in cc") % (
-            says, name, "Begun", row, on, name, law_path, path)))
+        groups.setdefault(group, []).append((row, ("-- %s\npub %s : %s config_of_%s (%s) → ⊥\n" + facts.OPENED + "\n%s w = %s") % (
+            says, name, "Begun", row, on, name, refuted(name, "w.%s.0%s" % (law_path, path), kind))))
         judging.forget(judge)
         n += 1
-    halves = {"WireBrokenExchanges": ("Requests", "Filters", "Windows", "Errors"), "WireBrokenConnections": ("Floods", "Leaving", "Timers", "Overload")}
+    halves = {"WireBrokenExchanges": ("Requests", "Bodies", "Filters", "Windows", "Shifts", "Errors"), "WireBrokenConnections": ("Floods", "Nested", "Leaving", "Timers", "Ticks", "Overload")}
     for file, gs in halves.items():
         texts = [t for g in gs for _, t in groups.get(g, [])]
         open(os.path.join(w.out, file + ".antt"), "w").write(

@@ -131,6 +131,11 @@ use Rattle.overload_core.specs.Course.{reached, stay}
 use Rattle.scaled_timer.specs.Order.{in_order, placed}
 """
 LAWS = "allowed paused counted bounded tied ends in_turn doomed swept answered only licensed may quiet".split()
+# the laws of a tape that one search doesn't reach: each of its steps is searched by itself
+BY_STEP = {"nested_flood": "counted bounded tied answered may quiet", "doom_puts_all_at_once": "bounded answered quiet", "cluster_leaves": "bounded answered quiet",
+           "tick_walks_what_was_stirred": " ".join(LAWS) + " acts", "overflow": "bounded", "padded_body": "bounded answered", "trailers": "bounded answered",
+           "send_window": "bounded answered", "two_streams": "counted bounded tied answered quiet", "ended_stream_is_not_shifted": "bounded"}
+TOO_LONG = {(tape, law) for tape, laws in BY_STEP.items() for law in laws.split()}
 
 
 def session_of(conf, lines, model):
@@ -139,10 +144,22 @@ def session_of(conf, lines, model):
     return conf, ["h2replay-session 1 wire"] + lines
 
 
-def fact(name, c):
-    fields = "".join("    %s = search (lit≤, lit<, inl, inr);\n" % law for law in LAWS)
+HINTS = "(lit≤, lit<, inl, inr)"
+
+
+def law(tape, name, n):
+    """The proof of a law of a tape of n steps."""
+    if (tape, name) not in TOO_LONG:
+        return "search %s" % HINTS
+    each = ["(search %s ," % HINTS] * n + ["search %s" % HINTS]
+    lines = [" ".join(each[i:i + 3]) for i in range(0, n + 1, 3)]
+    return "\n      " + "\n      ".join(lines) + ")" * n
+
+
+def fact(name, c, n):
+    fields = "".join("    %s = %s;\n" % (x, law(name, x, n)) for x in LAWS)
     said = "pub %s_is_lawful : Lawful %s %s\n%s\n%s_is_lawful = record {\n  lawful = record {\n%s  };\n" % (name, c, name, OPENED, name, fields)
-    return said + "  quiet = search (lit≤, lit<);\n  acts = search;\n}"
+    return said + "  quiet = search (lit≤, lit<);\n  acts = %s;\n}" % law(name, "acts", n)
 
 
 def main():
@@ -159,7 +176,7 @@ def main():
         judging.forget(judge)
         if found != ([], None):
             print("not lawful:", name, found)
-        groups.setdefault(group, []).append("-- %s\n%s\n\n%s\n\n%s" % (says, config("config_of_" + name, c), tape(name, steps), fact(name, "config_of_" + name)))
+        groups.setdefault(group, []).append("-- %s\n%s\n\n%s\n\n%s" % (says, config("config_of_" + name, c), tape(name, steps), fact(name, "config_of_" + name, len(steps))))
     for group, texts in groups.items():
         path = os.path.join(w.out, "Wire%s.antt" % group)
         open(path, "w").write("-- Lawful tapes of wire sessions: %s.\n" % group.lower() + IMPORTS + "\n" + "\n\n".join(texts) + "\n")
