@@ -147,19 +147,24 @@ def session_of(conf, lines, model):
 HINTS = "(lit≤, lit<, inl, inr)"
 
 
-def law(tape, name, n):
-    """The proof of a law of a tape of n steps."""
+QUIET = "paused told counted still behind framed read tamed asked ended gone leaves".split()
+
+
+def law(tape, name, steps):
+    """The proof of a law of a tape: one search, or one for each step, and of a dispatch's end one for each of its parts."""
     if (tape, name) not in TOO_LONG:
         return "search %s" % HINTS
-    each = ["(search %s ," % HINTS] * n + ["search %s" % HINTS]
-    lines = [" ".join(each[i:i + 3]) for i in range(0, n + 1, 3)]
-    return "\n      " + "\n      ".join(lines) + ")" * n
+    quiet = "record { %s }" % "; ".join("%s = search %s" % (x, HINTS) for x in QUIET)
+    one = lambda s: quiet if name == "quiet" and tape == "tick_walks_what_was_stirred" and s.args[0].name == "Turn" else "search %s" % HINTS
+    each = ["(%s ," % one(s) for s in reversed(steps)] + ["search %s" % HINTS]
+    lines = [" ".join(each[i:i + 3]) for i in range(0, len(each), 3)]
+    return "\n      " + "\n      ".join(lines) + ")" * len(steps)
 
 
-def fact(name, c, n):
-    fields = "".join("    %s = %s;\n" % (x, law(name, x, n)) for x in LAWS)
+def fact(name, c, steps):
+    fields = "".join("    %s = %s;\n" % (x, law(name, x, steps)) for x in LAWS)
     said = "pub %s_is_lawful : Lawful %s %s\n%s\n%s_is_lawful = record {\n  lawful = record {\n%s  };\n" % (name, c, name, OPENED, name, fields)
-    return said + "  quiet = search (lit≤, lit<);\n  acts = %s;\n}" % law(name, "acts", n)
+    return said + "  quiet = search (lit≤, lit<);\n  acts = %s;\n}" % law(name, "acts", steps)
 
 
 def main():
@@ -176,7 +181,7 @@ def main():
         judging.forget(judge)
         if found != ([], None):
             print("not lawful:", name, found)
-        groups.setdefault(group, []).append("-- %s\n%s\n\n%s\n\n%s" % (says, config("config_of_" + name, c), tape(name, steps), fact(name, "config_of_" + name, len(steps))))
+        groups.setdefault(group, []).append("-- %s\n%s\n\n%s\n\n%s" % (says, config("config_of_" + name, c), tape(name, steps), fact(name, "config_of_" + name, steps)))
     for group, texts in groups.items():
         path = os.path.join(w.out, "Wire%s.antt" % group)
         open(path, "w").write("-- Lawful tapes of wire sessions: %s.\n" % group.lower() + IMPORTS + "\n" + "\n\n".join(texts) + "\n")
