@@ -186,7 +186,7 @@ def main():
             says, name, "Begun", row, on, name, refuted(name, "w.%s.0%s" % (law_path, path), kind))))
         judging.forget(judge)
         n += 1
-    halves = {"WireBrokenExchanges": ("Requests", "Bodies", "Filters", "Windows", "Shifts", "Errors"), "WireBrokenConnections": ("Floods", "Nested", "Leaving", "Timers", "Ticks", "Overload")}
+    halves = {"WireBrokenExchanges": ("Requests", "Bodies", "Filters", "Windows", "Shifts", "Errors"), "WireBrokenConnections": ("Floods", "Nested", "Leaving", "GoAway", "Timers", "Ticks", "Overload")}
     for file, gs in halves.items():
         texts = [t for g in gs for _, t in groups.get(g, [])]
         open(os.path.join(w.out, file + ".antt"), "w").write(

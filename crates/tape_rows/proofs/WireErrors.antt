@@ -79,7 +79,7 @@ cluster_resets_is_lawful = record {
     quiet = search (lit≤, lit<, inl, inr);
   };
   quiet = search (lit≤, lit<);
-  acts = search (lit≤, lit<, inl, inr);
+  acts = search;
 }
 
 -- DATA before the response's head
@@ -143,7 +143,7 @@ data_before_head_is_lawful = record {
     quiet = search (lit≤, lit<, inl, inr);
   };
   quiet = search (lit≤, lit<);
-  acts = search (lit≤, lit<, inl, inr);
+  acts = search;
 }
 
 -- a body longer than its content-length
@@ -201,7 +201,7 @@ body_too_long_is_lawful = record {
     quiet = search (lit≤, lit<, inl, inr);
   };
   quiet = search (lit≤, lit<);
-  acts = search (lit≤, lit<, inl, inr);
+  acts = search;
 }
 
 -- DATA on an idle stream
@@ -253,7 +253,7 @@ idle_stream_is_lawful = record {
     quiet = search (lit≤, lit<, inl, inr);
   };
   quiet = search (lit≤, lit<);
-  acts = search (lit≤, lit<, inl, inr);
+  acts = search;
 }
 
 -- a SETTINGS frame of five octets
@@ -311,5 +311,5 @@ bad_frame_is_lawful = record {
     quiet = search (lit≤, lit<, inl, inr);
   };
   quiet = search (lit≤, lit<);
-  acts = search (lit≤, lit<, inl, inr);
+  acts = search;
 }

@@ -9,12 +9,14 @@ use Rattle.proxy_config.specs.Defaults.{config_of_empty, default_limits}
 use Rattle.proxy_config.specs.declared.config.Config.{Config}
 use Rattle.scaled_timer.specs.Order.{in_order, placed}
 use Rattle.std.proofs.Common.{inl, inr, lit<, lit≤}
-use Rattle.std.specs.Prelude.{None, Some, [], codes, false, replicate, true, ◌++◌, ◌∷◌}
+use Rattle.std.specs.Prelude.{None, Some, [], codes, drop, false, replicate, true, ◌++◌, ◌∷◌}
+use Rattle.tape_laws.specs.Bounds.{IsBounded}
 use Rattle.tape_laws.specs.Flows.{request}
-use Rattle.tape_laws.specs.History.{Marked, Noted}
+use Rattle.tape_laws.specs.History.{AtEachMoment, Marked, Noted}
 use Rattle.tape_laws.specs.Units.{Control, HeadOf, Put, Reply}
 use Rattle.tape_rows.proofs.WireTapes.{Lawful, cluster, field, hex, route}
 use Rattle.wire_laws.specs.Marks.{Fields, NoBlock, Picked, Took, WireHistory}
+use Rattle.wire_rules.specs.WireSetup.{wire_setup}
 use Rattle.flow_gate.specs.declared.ids.BufferId.TheVariants as buffer
 use Rattle.flow_notes.specs.declared.events.Event.TheVariants as event
 use Rattle.flow_notes.specs.declared.notes.Cause.TheVariants as cause
@@ -80,7 +82,7 @@ meter_is_lawful = record {
     quiet = search (lit≤, lit<, inl, inr);
   };
   quiet = search (lit≤, lit<);
-  acts = search (lit≤, lit<, inl, inr);
+  acts = search;
 }
 
 -- and pauses while the write buffer is above
@@ -145,7 +147,7 @@ meter_behind_write_buffer_is_lawful = record {
     quiet = search (lit≤, lit<, inl, inr);
   };
   quiet = search (lit≤, lit<);
-  acts = search (lit≤, lit<, inl, inr);
+  acts = search;
 }
 
 -- a Hold behind a Meter lets the head wait for the whole body
@@ -203,7 +205,7 @@ meter_and_hold_is_lawful = record {
     quiet = search (lit≤, lit<, inl, inr);
   };
   quiet = search (lit≤, lit<);
-  acts = search (lit≤, lit<, inl, inr);
+  acts = search;
 }
 
 -- a body that passes its Hold's limit is answered by 413
@@ -257,7 +259,7 @@ hold_413_is_lawful = record {
     quiet = search (lit≤, lit<, inl, inr);
   };
   quiet = search (lit≤, lit<);
-  acts = search (lit≤, lit<, inl, inr);
+  acts = search;
 }
 
 -- a send buffer that holds more than twice its limit gives its exchange up
@@ -307,6 +309,14 @@ overflow =
     ∷ Noted (note.Turn 1 (event.Accept 1))
     ∷ []
 
+pub overflow_bounded_14 : AtEachMoment (IsBounded (wire_setup config_of_overflow)) (drop 21 overflow)
+unfolding static_table varint integer reached stay greatest_of placed in_order
+overflow_bounded_14 = search (lit≤, lit<, inl, inr)
+
+pub overflow_bounded_28 : AtEachMoment (IsBounded (wire_setup config_of_overflow)) (drop 7 overflow)
+unfolding static_table varint integer reached stay greatest_of placed in_order
+overflow_bounded_28 = search (lit≤, lit<, inl, inr, overflow_bounded_14)
+
 pub overflow_is_lawful : Lawful config_of_overflow overflow
 unfolding static_table varint integer reached stay greatest_of placed in_order
 overflow_is_lawful = record {
@@ -314,19 +324,7 @@ overflow_is_lawful = record {
     allowed = search (lit≤, lit<, inl, inr);
     paused = search (lit≤, lit<, inl, inr);
     counted = search (lit≤, lit<, inl, inr);
-    bounded = 
-      (search (lit≤, lit<, inl, inr) , (search (lit≤, lit<, inl, inr) , (search (lit≤, lit<, inl, inr) ,
-      (search (lit≤, lit<, inl, inr) , (search (lit≤, lit<, inl, inr) , (search (lit≤, lit<, inl, inr) ,
-      (search (lit≤, lit<, inl, inr) , (search (lit≤, lit<, inl, inr) , (search (lit≤, lit<, inl, inr) ,
-      (search (lit≤, lit<, inl, inr) , (search (lit≤, lit<, inl, inr) , (search (lit≤, lit<, inl, inr) ,
-      (search (lit≤, lit<, inl, inr) , (search (lit≤, lit<, inl, inr) , (search (lit≤, lit<, inl, inr) ,
-      (search (lit≤, lit<, inl, inr) , (search (lit≤, lit<, inl, inr) , (search (lit≤, lit<, inl, inr) ,
-      (search (lit≤, lit<, inl, inr) , (search (lit≤, lit<, inl, inr) , (search (lit≤, lit<, inl, inr) ,
-      (search (lit≤, lit<, inl, inr) , (search (lit≤, lit<, inl, inr) , (search (lit≤, lit<, inl, inr) ,
-      (search (lit≤, lit<, inl, inr) , (search (lit≤, lit<, inl, inr) , (search (lit≤, lit<, inl, inr) ,
-      (search (lit≤, lit<, inl, inr) , (search (lit≤, lit<, inl, inr) , (search (lit≤, lit<, inl, inr) ,
-      (search (lit≤, lit<, inl, inr) , (search (lit≤, lit<, inl, inr) , (search (lit≤, lit<, inl, inr) ,
-      (search (lit≤, lit<, inl, inr) , (search (lit≤, lit<, inl, inr) , search (lit≤, lit<, inl, inr))))))))))))))))))))))))))))))))))));
+    bounded = search (lit≤, lit<, inl, inr, overflow_bounded_28);
     tied = search (lit≤, lit<, inl, inr);
     ends = search (lit≤, lit<, inl, inr);
     in_turn = search (lit≤, lit<, inl, inr);
@@ -339,5 +337,5 @@ overflow_is_lawful = record {
     quiet = search (lit≤, lit<, inl, inr);
   };
   quiet = search (lit≤, lit<);
-  acts = search (lit≤, lit<, inl, inr);
+  acts = search;
 }

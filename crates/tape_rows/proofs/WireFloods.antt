@@ -61,7 +61,7 @@ flood_of_pings_is_lawful = record {
     quiet = search (lit≤, lit<, inl, inr);
   };
   quiet = search (lit≤, lit<);
-  acts = search (lit≤, lit<, inl, inr);
+  acts = search;
 }
 
 -- a client that resets two streams where one is allowed
@@ -131,5 +131,5 @@ flood_of_resets_is_lawful = record {
     quiet = search (lit≤, lit<, inl, inr);
   };
   quiet = search (lit≤, lit<);
-  acts = search (lit≤, lit<, inl, inr);
+  acts = search;
 }

@@ -59,7 +59,7 @@ rejected_is_lawful = record {
     quiet = search (lit≤, lit<, inl, inr);
   };
   quiet = search (lit≤, lit<);
-  acts = search (lit≤, lit<, inl, inr);
+  acts = search;
 }
 
 -- a request is stopped
@@ -113,7 +113,7 @@ stopped_is_lawful = record {
     quiet = search (lit≤, lit<, inl, inr);
   };
   quiet = search (lit≤, lit<);
-  acts = search (lit≤, lit<, inl, inr);
+  acts = search;
 }
 
 -- the greatest exchange is reset
@@ -173,5 +173,5 @@ reset_by_memory_is_lawful = record {
     quiet = search (lit≤, lit<, inl, inr);
   };
   quiet = search (lit≤, lit<);
-  acts = search (lit≤, lit<, inl, inr);
+  acts = search;
 }

@@ -76,7 +76,7 @@ whole_exchange_is_lawful = record {
     quiet = search (lit≤, lit<, inl, inr);
   };
   quiet = search (lit≤, lit<);
-  acts = search (lit≤, lit<, inl, inr);
+  acts = search;
 }
 
 -- a request that no route takes
@@ -127,7 +127,7 @@ no_route_is_lawful = record {
     quiet = search (lit≤, lit<, inl, inr);
   };
   quiet = search (lit≤, lit<);
-  acts = search (lit≤, lit<, inl, inr);
+  acts = search;
 }
 
 -- a response that ends before its request
@@ -193,5 +193,5 @@ early_end_is_lawful = record {
     quiet = search (lit≤, lit<, inl, inr);
   };
   quiet = search (lit≤, lit<);
-  acts = search (lit≤, lit<, inl, inr);
+  acts = search;
 }

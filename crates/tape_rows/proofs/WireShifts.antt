@@ -9,12 +9,14 @@ use Rattle.proxy_config.specs.Defaults.{config_of_empty}
 use Rattle.proxy_config.specs.declared.config.Config.{Config}
 use Rattle.scaled_timer.specs.Order.{in_order, placed}
 use Rattle.std.proofs.Common.{inl, inr, lit<, lit≤}
-use Rattle.std.specs.Prelude.{None, Some, [], codes, false, true, ◌++◌, ◌∷◌}
+use Rattle.std.specs.Prelude.{None, Some, [], codes, drop, false, true, ◌++◌, ◌∷◌}
+use Rattle.tape_laws.specs.Bounds.{IsBounded}
 use Rattle.tape_laws.specs.Flows.{request, response}
-use Rattle.tape_laws.specs.History.{Marked, Noted}
+use Rattle.tape_laws.specs.History.{AtEachMoment, Marked, Noted}
 use Rattle.tape_laws.specs.Units.{Control, HeadOf, Put}
 use Rattle.tape_rows.proofs.WireTapes.{Lawful, cluster, field, hex, route}
 use Rattle.wire_laws.specs.Marks.{Fields, NoBlock, Picked, Took, WireHistory}
+use Rattle.wire_rules.specs.WireSetup.{wire_setup}
 use Rattle.flow_notes.specs.declared.events.Event.TheVariants as event
 use Rattle.flow_notes.specs.declared.notes.Note.TheVariants as note
 use Rattle.h2_session.specs.declared.act.Act.TheVariants as act
@@ -61,6 +63,10 @@ ended_stream_is_not_shifted =
     ∷ Noted (note.Turn 1 (event.Accept 1))
     ∷ []
 
+pub ended_stream_is_not_shifted_bounded_14 : AtEachMoment (IsBounded (wire_setup config_of_ended_stream_is_not_shifted)) (drop 17 ended_stream_is_not_shifted)
+unfolding static_table varint integer reached stay greatest_of placed in_order
+ended_stream_is_not_shifted_bounded_14 = search (lit≤, lit<, inl, inr)
+
 pub ended_stream_is_not_shifted_is_lawful : Lawful config_of_ended_stream_is_not_shifted ended_stream_is_not_shifted
 unfolding static_table varint integer reached stay greatest_of placed in_order
 ended_stream_is_not_shifted_is_lawful = record {
@@ -68,18 +74,7 @@ ended_stream_is_not_shifted_is_lawful = record {
     allowed = search (lit≤, lit<, inl, inr);
     paused = search (lit≤, lit<, inl, inr);
     counted = search (lit≤, lit<, inl, inr);
-    bounded = 
-      (search (lit≤, lit<, inl, inr) , (search (lit≤, lit<, inl, inr) , (search (lit≤, lit<, inl, inr) ,
-      (search (lit≤, lit<, inl, inr) , (search (lit≤, lit<, inl, inr) , (search (lit≤, lit<, inl, inr) ,
-      (search (lit≤, lit<, inl, inr) , (search (lit≤, lit<, inl, inr) , (search (lit≤, lit<, inl, inr) ,
-      (search (lit≤, lit<, inl, inr) , (search (lit≤, lit<, inl, inr) , (search (lit≤, lit<, inl, inr) ,
-      (search (lit≤, lit<, inl, inr) , (search (lit≤, lit<, inl, inr) , (search (lit≤, lit<, inl, inr) ,
-      (search (lit≤, lit<, inl, inr) , (search (lit≤, lit<, inl, inr) , (search (lit≤, lit<, inl, inr) ,
-      (search (lit≤, lit<, inl, inr) , (search (lit≤, lit<, inl, inr) , (search (lit≤, lit<, inl, inr) ,
-      (search (lit≤, lit<, inl, inr) , (search (lit≤, lit<, inl, inr) , (search (lit≤, lit<, inl, inr) ,
-      (search (lit≤, lit<, inl, inr) , (search (lit≤, lit<, inl, inr) , (search (lit≤, lit<, inl, inr) ,
-      (search (lit≤, lit<, inl, inr) , (search (lit≤, lit<, inl, inr) , (search (lit≤, lit<, inl, inr) ,
-      (search (lit≤, lit<, inl, inr) , search (lit≤, lit<, inl, inr))))))))))))))))))))))))))))))));
+    bounded = search (lit≤, lit<, inl, inr, ended_stream_is_not_shifted_bounded_14);
     tied = search (lit≤, lit<, inl, inr);
     ends = search (lit≤, lit<, inl, inr);
     in_turn = search (lit≤, lit<, inl, inr);
@@ -92,5 +87,5 @@ ended_stream_is_not_shifted_is_lawful = record {
     quiet = search (lit≤, lit<, inl, inr);
   };
   quiet = search (lit≤, lit<);
-  acts = search (lit≤, lit<, inl, inr);
+  acts = search;
 }

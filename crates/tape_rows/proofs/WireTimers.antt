@@ -78,7 +78,7 @@ route_timeout_is_lawful = record {
     quiet = search (lit≤, lit<, inl, inr);
   };
   quiet = search (lit≤, lit<);
-  acts = search (lit≤, lit<, inl, inr);
+  acts = search;
 }
 
 -- an idle connection
@@ -123,5 +123,5 @@ idle_connection_is_lawful = record {
     quiet = search (lit≤, lit<, inl, inr);
   };
   quiet = search (lit≤, lit<);
-  acts = search (lit≤, lit<, inl, inr);
+  acts = search;
 }

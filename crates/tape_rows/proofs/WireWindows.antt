@@ -9,12 +9,14 @@ use Rattle.proxy_config.specs.Defaults.{config_of_empty, default_limits}
 use Rattle.proxy_config.specs.declared.config.Config.{Config}
 use Rattle.scaled_timer.specs.Order.{in_order, placed}
 use Rattle.std.proofs.Common.{inl, inr, lit<, lit≤}
-use Rattle.std.specs.Prelude.{None, Some, [], codes, false, replicate, true, ◌++◌, ◌∷◌}
+use Rattle.std.specs.Prelude.{None, Some, [], codes, drop, false, replicate, true, ◌++◌, ◌∷◌}
+use Rattle.tape_laws.specs.Bounds.{IsBounded}
 use Rattle.tape_laws.specs.Flows.{request, response}
-use Rattle.tape_laws.specs.History.{Marked, Noted}
+use Rattle.tape_laws.specs.History.{AtEachMoment, Marked, Noted}
 use Rattle.tape_laws.specs.Units.{Control, Farewell, HeadOf, Put}
 use Rattle.tape_rows.proofs.WireTapes.{Lawful, cluster, field, hex, route}
 use Rattle.wire_laws.specs.Marks.{Fields, NoBlock, Picked, Took, WireHistory}
+use Rattle.wire_rules.specs.WireSetup.{wire_setup}
 use Rattle.flow_gate.specs.declared.ids.BufferId.TheVariants as buffer
 use Rattle.flow_notes.specs.declared.events.Event.TheVariants as event
 use Rattle.flow_notes.specs.declared.notes.Cause.TheVariants as cause
@@ -71,6 +73,14 @@ send_window =
     ∷ Noted (note.Turn 1 (event.Accept 1))
     ∷ []
 
+pub send_window_bounded_14 : AtEachMoment (IsBounded (wire_setup config_of_send_window)) (drop 23 send_window)
+unfolding static_table varint integer reached stay greatest_of placed in_order
+send_window_bounded_14 = search (lit≤, lit<, inl, inr)
+
+pub send_window_bounded_28 : AtEachMoment (IsBounded (wire_setup config_of_send_window)) (drop 9 send_window)
+unfolding static_table varint integer reached stay greatest_of placed in_order
+send_window_bounded_28 = search (lit≤, lit<, inl, inr, send_window_bounded_14)
+
 pub send_window_is_lawful : Lawful config_of_send_window send_window
 unfolding static_table varint integer reached stay greatest_of placed in_order
 send_window_is_lawful = record {
@@ -78,46 +88,20 @@ send_window_is_lawful = record {
     allowed = search (lit≤, lit<, inl, inr);
     paused = search (lit≤, lit<, inl, inr);
     counted = search (lit≤, lit<, inl, inr);
-    bounded = 
-      (search (lit≤, lit<, inl, inr) , (search (lit≤, lit<, inl, inr) , (search (lit≤, lit<, inl, inr) ,
-      (search (lit≤, lit<, inl, inr) , (search (lit≤, lit<, inl, inr) , (search (lit≤, lit<, inl, inr) ,
-      (search (lit≤, lit<, inl, inr) , (search (lit≤, lit<, inl, inr) , (search (lit≤, lit<, inl, inr) ,
-      (search (lit≤, lit<, inl, inr) , (search (lit≤, lit<, inl, inr) , (search (lit≤, lit<, inl, inr) ,
-      (search (lit≤, lit<, inl, inr) , (search (lit≤, lit<, inl, inr) , (search (lit≤, lit<, inl, inr) ,
-      (search (lit≤, lit<, inl, inr) , (search (lit≤, lit<, inl, inr) , (search (lit≤, lit<, inl, inr) ,
-      (search (lit≤, lit<, inl, inr) , (search (lit≤, lit<, inl, inr) , (search (lit≤, lit<, inl, inr) ,
-      (search (lit≤, lit<, inl, inr) , (search (lit≤, lit<, inl, inr) , (search (lit≤, lit<, inl, inr) ,
-      (search (lit≤, lit<, inl, inr) , (search (lit≤, lit<, inl, inr) , (search (lit≤, lit<, inl, inr) ,
-      (search (lit≤, lit<, inl, inr) , (search (lit≤, lit<, inl, inr) , (search (lit≤, lit<, inl, inr) ,
-      (search (lit≤, lit<, inl, inr) , (search (lit≤, lit<, inl, inr) , (search (lit≤, lit<, inl, inr) ,
-      (search (lit≤, lit<, inl, inr) , (search (lit≤, lit<, inl, inr) , (search (lit≤, lit<, inl, inr) ,
-      (search (lit≤, lit<, inl, inr) , search (lit≤, lit<, inl, inr))))))))))))))))))))))))))))))))))))));
+    bounded = search (lit≤, lit<, inl, inr, send_window_bounded_28);
     tied = search (lit≤, lit<, inl, inr);
     ends = search (lit≤, lit<, inl, inr);
     in_turn = search (lit≤, lit<, inl, inr);
     doomed = search (lit≤, lit<, inl, inr);
     swept = search (lit≤, lit<, inl, inr);
-    answered = 
-      (search (lit≤, lit<, inl, inr) , (search (lit≤, lit<, inl, inr) , (search (lit≤, lit<, inl, inr) ,
-      (search (lit≤, lit<, inl, inr) , (search (lit≤, lit<, inl, inr) , (search (lit≤, lit<, inl, inr) ,
-      (search (lit≤, lit<, inl, inr) , (search (lit≤, lit<, inl, inr) , (search (lit≤, lit<, inl, inr) ,
-      (search (lit≤, lit<, inl, inr) , (search (lit≤, lit<, inl, inr) , (search (lit≤, lit<, inl, inr) ,
-      (search (lit≤, lit<, inl, inr) , (search (lit≤, lit<, inl, inr) , (search (lit≤, lit<, inl, inr) ,
-      (search (lit≤, lit<, inl, inr) , (search (lit≤, lit<, inl, inr) , (search (lit≤, lit<, inl, inr) ,
-      (search (lit≤, lit<, inl, inr) , (search (lit≤, lit<, inl, inr) , (search (lit≤, lit<, inl, inr) ,
-      (search (lit≤, lit<, inl, inr) , (search (lit≤, lit<, inl, inr) , (search (lit≤, lit<, inl, inr) ,
-      (search (lit≤, lit<, inl, inr) , (search (lit≤, lit<, inl, inr) , (search (lit≤, lit<, inl, inr) ,
-      (search (lit≤, lit<, inl, inr) , (search (lit≤, lit<, inl, inr) , (search (lit≤, lit<, inl, inr) ,
-      (search (lit≤, lit<, inl, inr) , (search (lit≤, lit<, inl, inr) , (search (lit≤, lit<, inl, inr) ,
-      (search (lit≤, lit<, inl, inr) , (search (lit≤, lit<, inl, inr) , (search (lit≤, lit<, inl, inr) ,
-      (search (lit≤, lit<, inl, inr) , search (lit≤, lit<, inl, inr))))))))))))))))))))))))))))))))))))));
+    answered = (search (lit≤, lit<, inl, inr), (search (lit≤, lit<, inl, inr), (search (lit≤, lit<, inl, inr), (search (lit≤, lit<, inl, inr), (search (lit≤, lit<, inl, inr), (search (lit≤, lit<, inl, inr), (search (lit≤, lit<, inl, inr), (search (lit≤, lit<, inl, inr), (search (lit≤, lit<, inl, inr), (search (lit≤, lit<, inl, inr), (search (lit≤, lit<, inl, inr), (search (lit≤, lit<, inl, inr), (search (lit≤, lit<, inl, inr), (search (lit≤, lit<, inl, inr), (search (lit≤, lit<, inl, inr), (search (lit≤, lit<, inl, inr), (search (lit≤, lit<, inl, inr), (search (lit≤, lit<, inl, inr), (search (lit≤, lit<, inl, inr), (search (lit≤, lit<, inl, inr), (search (lit≤, lit<, inl, inr), (search (lit≤, lit<, inl, inr), (search (lit≤, lit<, inl, inr), (search (lit≤, lit<, inl, inr), (search (lit≤, lit<, inl, inr), (search (lit≤, lit<, inl, inr), (search (lit≤, lit<, inl, inr), (search (lit≤, lit<, inl, inr), (search (lit≤, lit<, inl, inr), (search (lit≤, lit<, inl, inr), (search (lit≤, lit<, inl, inr), (search (lit≤, lit<, inl, inr), (search (lit≤, lit<, inl, inr), (search (lit≤, lit<, inl, inr), (search (lit≤, lit<, inl, inr), (search (lit≤, lit<, inl, inr), (search (lit≤, lit<, inl, inr), search (lit≤, lit<, inl, inr))))))))))))))))))))))))))))))))))))));
     only = search (lit≤, lit<, inl, inr);
     licensed = search (lit≤, lit<, inl, inr);
     may = search (lit≤, lit<, inl, inr);
     quiet = search (lit≤, lit<, inl, inr);
   };
   quiet = search (lit≤, lit<);
-  acts = search (lit≤, lit<, inl, inr);
+  acts = search;
 }
 
 -- two streams behind a full write buffer, in rotation
@@ -173,104 +157,6 @@ two_streams =
     ∷ Marked (Picked 1 (Put (Control (hex (codes "00001204000000000000030000006400040000ffff00060000f000")))))
     ∷ Noted (note.Turn 1 (event.Accept 1))
     ∷ []
-
-pub two_streams_is_lawful : Lawful config_of_two_streams two_streams
-unfolding static_table varint integer reached stay greatest_of placed in_order
-two_streams_is_lawful = record {
-  lawful = record {
-    allowed = search (lit≤, lit<, inl, inr);
-    paused = search (lit≤, lit<, inl, inr);
-    counted = 
-      (search (lit≤, lit<, inl, inr) , (search (lit≤, lit<, inl, inr) , (search (lit≤, lit<, inl, inr) ,
-      (search (lit≤, lit<, inl, inr) , (search (lit≤, lit<, inl, inr) , (search (lit≤, lit<, inl, inr) ,
-      (search (lit≤, lit<, inl, inr) , (search (lit≤, lit<, inl, inr) , (search (lit≤, lit<, inl, inr) ,
-      (search (lit≤, lit<, inl, inr) , (search (lit≤, lit<, inl, inr) , (search (lit≤, lit<, inl, inr) ,
-      (search (lit≤, lit<, inl, inr) , (search (lit≤, lit<, inl, inr) , (search (lit≤, lit<, inl, inr) ,
-      (search (lit≤, lit<, inl, inr) , (search (lit≤, lit<, inl, inr) , (search (lit≤, lit<, inl, inr) ,
-      (search (lit≤, lit<, inl, inr) , (search (lit≤, lit<, inl, inr) , (search (lit≤, lit<, inl, inr) ,
-      (search (lit≤, lit<, inl, inr) , (search (lit≤, lit<, inl, inr) , (search (lit≤, lit<, inl, inr) ,
-      (search (lit≤, lit<, inl, inr) , (search (lit≤, lit<, inl, inr) , (search (lit≤, lit<, inl, inr) ,
-      (search (lit≤, lit<, inl, inr) , (search (lit≤, lit<, inl, inr) , (search (lit≤, lit<, inl, inr) ,
-      (search (lit≤, lit<, inl, inr) , (search (lit≤, lit<, inl, inr) , (search (lit≤, lit<, inl, inr) ,
-      (search (lit≤, lit<, inl, inr) , (search (lit≤, lit<, inl, inr) , (search (lit≤, lit<, inl, inr) ,
-      (search (lit≤, lit<, inl, inr) , (search (lit≤, lit<, inl, inr) , (search (lit≤, lit<, inl, inr) ,
-      (search (lit≤, lit<, inl, inr) , (search (lit≤, lit<, inl, inr) , (search (lit≤, lit<, inl, inr) ,
-      search (lit≤, lit<, inl, inr)))))))))))))))))))))))))))))))))))))))))));
-    bounded = 
-      (search (lit≤, lit<, inl, inr) , (search (lit≤, lit<, inl, inr) , (search (lit≤, lit<, inl, inr) ,
-      (search (lit≤, lit<, inl, inr) , (search (lit≤, lit<, inl, inr) , (search (lit≤, lit<, inl, inr) ,
-      (search (lit≤, lit<, inl, inr) , (search (lit≤, lit<, inl, inr) , (search (lit≤, lit<, inl, inr) ,
-      (search (lit≤, lit<, inl, inr) , (search (lit≤, lit<, inl, inr) , (search (lit≤, lit<, inl, inr) ,
-      (search (lit≤, lit<, inl, inr) , (search (lit≤, lit<, inl, inr) , (search (lit≤, lit<, inl, inr) ,
-      (search (lit≤, lit<, inl, inr) , (search (lit≤, lit<, inl, inr) , (search (lit≤, lit<, inl, inr) ,
-      (search (lit≤, lit<, inl, inr) , (search (lit≤, lit<, inl, inr) , (search (lit≤, lit<, inl, inr) ,
-      (search (lit≤, lit<, inl, inr) , (search (lit≤, lit<, inl, inr) , (search (lit≤, lit<, inl, inr) ,
-      (search (lit≤, lit<, inl, inr) , (search (lit≤, lit<, inl, inr) , (search (lit≤, lit<, inl, inr) ,
-      (search (lit≤, lit<, inl, inr) , (search (lit≤, lit<, inl, inr) , (search (lit≤, lit<, inl, inr) ,
-      (search (lit≤, lit<, inl, inr) , (search (lit≤, lit<, inl, inr) , (search (lit≤, lit<, inl, inr) ,
-      (search (lit≤, lit<, inl, inr) , (search (lit≤, lit<, inl, inr) , (search (lit≤, lit<, inl, inr) ,
-      (search (lit≤, lit<, inl, inr) , (search (lit≤, lit<, inl, inr) , (search (lit≤, lit<, inl, inr) ,
-      (search (lit≤, lit<, inl, inr) , (search (lit≤, lit<, inl, inr) , (search (lit≤, lit<, inl, inr) ,
-      search (lit≤, lit<, inl, inr)))))))))))))))))))))))))))))))))))))))))));
-    tied = 
-      (search (lit≤, lit<, inl, inr) , (search (lit≤, lit<, inl, inr) , (search (lit≤, lit<, inl, inr) ,
-      (search (lit≤, lit<, inl, inr) , (search (lit≤, lit<, inl, inr) , (search (lit≤, lit<, inl, inr) ,
-      (search (lit≤, lit<, inl, inr) , (search (lit≤, lit<, inl, inr) , (search (lit≤, lit<, inl, inr) ,
-      (search (lit≤, lit<, inl, inr) , (search (lit≤, lit<, inl, inr) , (search (lit≤, lit<, inl, inr) ,
-      (search (lit≤, lit<, inl, inr) , (search (lit≤, lit<, inl, inr) , (search (lit≤, lit<, inl, inr) ,
-      (search (lit≤, lit<, inl, inr) , (search (lit≤, lit<, inl, inr) , (search (lit≤, lit<, inl, inr) ,
-      (search (lit≤, lit<, inl, inr) , (search (lit≤, lit<, inl, inr) , (search (lit≤, lit<, inl, inr) ,
-      (search (lit≤, lit<, inl, inr) , (search (lit≤, lit<, inl, inr) , (search (lit≤, lit<, inl, inr) ,
-      (search (lit≤, lit<, inl, inr) , (search (lit≤, lit<, inl, inr) , (search (lit≤, lit<, inl, inr) ,
-      (search (lit≤, lit<, inl, inr) , (search (lit≤, lit<, inl, inr) , (search (lit≤, lit<, inl, inr) ,
-      (search (lit≤, lit<, inl, inr) , (search (lit≤, lit<, inl, inr) , (search (lit≤, lit<, inl, inr) ,
-      (search (lit≤, lit<, inl, inr) , (search (lit≤, lit<, inl, inr) , (search (lit≤, lit<, inl, inr) ,
-      (search (lit≤, lit<, inl, inr) , (search (lit≤, lit<, inl, inr) , (search (lit≤, lit<, inl, inr) ,
-      (search (lit≤, lit<, inl, inr) , (search (lit≤, lit<, inl, inr) , (search (lit≤, lit<, inl, inr) ,
-      search (lit≤, lit<, inl, inr)))))))))))))))))))))))))))))))))))))))))));
-    ends = search (lit≤, lit<, inl, inr);
-    in_turn = search (lit≤, lit<, inl, inr);
-    doomed = search (lit≤, lit<, inl, inr);
-    swept = search (lit≤, lit<, inl, inr);
-    answered = 
-      (search (lit≤, lit<, inl, inr) , (search (lit≤, lit<, inl, inr) , (search (lit≤, lit<, inl, inr) ,
-      (search (lit≤, lit<, inl, inr) , (search (lit≤, lit<, inl, inr) , (search (lit≤, lit<, inl, inr) ,
-      (search (lit≤, lit<, inl, inr) , (search (lit≤, lit<, inl, inr) , (search (lit≤, lit<, inl, inr) ,
-      (search (lit≤, lit<, inl, inr) , (search (lit≤, lit<, inl, inr) , (search (lit≤, lit<, inl, inr) ,
-      (search (lit≤, lit<, inl, inr) , (search (lit≤, lit<, inl, inr) , (search (lit≤, lit<, inl, inr) ,
-      (search (lit≤, lit<, inl, inr) , (search (lit≤, lit<, inl, inr) , (search (lit≤, lit<, inl, inr) ,
-      (search (lit≤, lit<, inl, inr) , (search (lit≤, lit<, inl, inr) , (search (lit≤, lit<, inl, inr) ,
-      (search (lit≤, lit<, inl, inr) , (search (lit≤, lit<, inl, inr) , (search (lit≤, lit<, inl, inr) ,
-      (search (lit≤, lit<, inl, inr) , (search (lit≤, lit<, inl, inr) , (search (lit≤, lit<, inl, inr) ,
-      (search (lit≤, lit<, inl, inr) , (search (lit≤, lit<, inl, inr) , (search (lit≤, lit<, inl, inr) ,
-      (search (lit≤, lit<, inl, inr) , (search (lit≤, lit<, inl, inr) , (search (lit≤, lit<, inl, inr) ,
-      (search (lit≤, lit<, inl, inr) , (search (lit≤, lit<, inl, inr) , (search (lit≤, lit<, inl, inr) ,
-      (search (lit≤, lit<, inl, inr) , (search (lit≤, lit<, inl, inr) , (search (lit≤, lit<, inl, inr) ,
-      (search (lit≤, lit<, inl, inr) , (search (lit≤, lit<, inl, inr) , (search (lit≤, lit<, inl, inr) ,
-      search (lit≤, lit<, inl, inr)))))))))))))))))))))))))))))))))))))))))));
-    only = search (lit≤, lit<, inl, inr);
-    licensed = search (lit≤, lit<, inl, inr);
-    may = search (lit≤, lit<, inl, inr);
-    quiet = 
-      (search (lit≤, lit<, inl, inr) , (search (lit≤, lit<, inl, inr) , (search (lit≤, lit<, inl, inr) ,
-      (search (lit≤, lit<, inl, inr) , (search (lit≤, lit<, inl, inr) , (search (lit≤, lit<, inl, inr) ,
-      (search (lit≤, lit<, inl, inr) , (search (lit≤, lit<, inl, inr) , (search (lit≤, lit<, inl, inr) ,
-      (search (lit≤, lit<, inl, inr) , (search (lit≤, lit<, inl, inr) , (search (lit≤, lit<, inl, inr) ,
-      (search (lit≤, lit<, inl, inr) , (search (lit≤, lit<, inl, inr) , (search (lit≤, lit<, inl, inr) ,
-      (search (lit≤, lit<, inl, inr) , (search (lit≤, lit<, inl, inr) , (search (lit≤, lit<, inl, inr) ,
-      (search (lit≤, lit<, inl, inr) , (search (lit≤, lit<, inl, inr) , (search (lit≤, lit<, inl, inr) ,
-      (search (lit≤, lit<, inl, inr) , (search (lit≤, lit<, inl, inr) , (search (lit≤, lit<, inl, inr) ,
-      (search (lit≤, lit<, inl, inr) , (search (lit≤, lit<, inl, inr) , (search (lit≤, lit<, inl, inr) ,
-      (search (lit≤, lit<, inl, inr) , (search (lit≤, lit<, inl, inr) , (search (lit≤, lit<, inl, inr) ,
-      (search (lit≤, lit<, inl, inr) , (search (lit≤, lit<, inl, inr) , (search (lit≤, lit<, inl, inr) ,
-      (search (lit≤, lit<, inl, inr) , (search (lit≤, lit<, inl, inr) , (search (lit≤, lit<, inl, inr) ,
-      (search (lit≤, lit<, inl, inr) , (search (lit≤, lit<, inl, inr) , (search (lit≤, lit<, inl, inr) ,
-      (search (lit≤, lit<, inl, inr) , (search (lit≤, lit<, inl, inr) , (search (lit≤, lit<, inl, inr) ,
-      search (lit≤, lit<, inl, inr)))))))))))))))))))))))))))))))))))))))))));
-  };
-  quiet = search (lit≤, lit<);
-  acts = search (lit≤, lit<, inl, inr);
-}
 
 -- a window update by 0 on a stream and on the connection
 abbrev pub config_of_updates_by_0 : Config
@@ -331,5 +217,5 @@ updates_by_0_is_lawful = record {
     quiet = search (lit≤, lit<, inl, inr);
   };
   quiet = search (lit≤, lit<);
-  acts = search (lit≤, lit<, inl, inr);
+  acts = search;
 }
