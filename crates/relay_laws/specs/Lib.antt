@@ -1,0 +1,11 @@
+pub mod Dispatch
+pub mod Given
+pub mod Lawful
+pub mod Order
+pub mod Pairs
+pub mod Promise
+pub mod Report
+pub mod Session
+pub mod Sound
+pub mod Watermark
+pub mod World

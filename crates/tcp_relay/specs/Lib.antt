@@ -1,0 +1,9 @@
+pub mod Board
+pub mod Effects
+pub mod Lines
+pub mod Noting
+pub mod Rests
+pub mod Seen
+pub mod Stands
+pub mod Ties
+pub mod Turns

@@ -1,0 +1,51 @@
+-- What a dispatch does to a relay and its notes.
+use Rattle.flow_notes.specs.declared.events.Event.{Event}
+use Rattle.flow_notes.specs.declared.notes.Note.{Note}
+use Rattle.io_ports.specs.declared.octets.NoMemory.{NoMemory}
+use Rattle.std.specs.Prelude.{Bool, Err, List, None, Ok, Option, Result, Some, ℕ, ◌++◌, ◌+◌, ◌∷◌, ◌≡◌}
+use Rattle.tcp_relay.specs.Board.{IsSeenAs, board_after, board_of, effect_of, held_for}
+use Rattle.tcp_relay.specs.Effects.{notes_of}
+use Rattle.tcp_relay.specs.Noting.{AppendsSome}
+use Rattle.tcp_relay.specs.declared.fault.RelayFault.{RelayFault}
+use Rattle.tcp_relay.specs.declared.relay.Relay.{Relay}
+use Rattle.flow_notes.specs.declared.notes.Note.TheVariants as note
+use Rattle.tcp_relay.specs.declared.fault.RelayFault.TheVariants as fault
+
+-- the relay met want of memory, or not
+abbrev pub HasFailed : Relay → Bool → Type 0
+HasFailed relay failed = relay.failed ≡ failed
+
+-- the notes of a dispatch: its turn note, and those of what the event does
+abbrev pub turn_notes : Relay → Event → List Note
+turn_notes relay e = note.Turn (relay.turn + 1) e ∷ notes_of e (effect_of e (board_of relay.table))
+
+-- its notes stand behind those that were there, and the event has its effect
+pub record Carries (old : Relay) (before : List Note) (e : Event) (new : Relay) (after : List Note) : Type 0 where
+  pub notes : after ≡ before ++ turn_notes old e
+  pub turn : new.turn ≡ old.turn + 1
+  pub board : IsSeenAs (board_of new.table) (board_after e (board_of old.table))
+  pub well : new.failed ≡ old.failed
+
+-- a whole dispatch, of an event that doesn't read a paused flow
+pub record Turns (old : Relay) (before : List Note) (e : Event) (new : Relay) (after : List Note) : Type 0 where
+  pub notes : after ≡ before ++ turn_notes old e
+  pub reads : held_for e (board_of old.table) ≡ None
+  pub turn : new.turn ≡ old.turn + 1
+  pub board : IsSeenAs (board_of new.table) (board_after e (board_of old.table))
+  pub well : new.failed ≡ old.failed
+
+-- a dispatch that was cut short leaves a front of its notes
+pub record CutsTurn (old : Relay) (before : List Note) (e : Event) (after : List Note) : Type 0 where
+  pub front : AppendsSome before (turn_notes old e) after
+
+abbrev pub CarriesOut : Relay → List Note → Event → Relay → List Note → Result (Unit {0}) NoMemory → Type 0
+CarriesOut old before e new after (Ok u) = Carries old before e new after
+CarriesOut old before e new after (Err x) = CutsTurn old before e after
+
+-- An event that reads a paused flow is refused, with what waits, and nothing changes. No other is refused so.
+abbrev pub Refuses : Option ℕ → Relay → List Note → Result (Unit {0}) RelayFault → Relay → List Note → Type 0
+Refuses None old before result new after = (held : ℕ) → result ≡ Err (fault.Paused held) → ⊥
+Refuses (Some held) old before result new after = (result ≡ Err (fault.Paused held)) × (new ≡ old) × (after ≡ before)
+
+abbrev pub RefusesPaused : Relay → List Note → Event → Result (Unit {0}) RelayFault → Relay → List Note → Type 0
+RefusesPaused old before e result new after = Refuses (held_for e (board_of old.table)) old before result new after

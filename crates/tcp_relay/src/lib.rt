@@ -1,0 +1,15 @@
+//! A relay of octets between paired connections, which backs off by not reading.
+#![tactic(auto)]
+
+mod conn;
+mod conns;
+mod effect;
+mod fault;
+mod laws;
+mod noting;
+mod relay;
+mod table;
+
+pub use fault::RelayFault;
+pub use laws::{tapes_are_bounded, tapes_are_sound, tapes_keep_what_waits, tapes_pause_exactly};
+pub use relay::Relay;
