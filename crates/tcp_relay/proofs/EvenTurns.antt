@@ -37,48 +37,48 @@ use Rattle.flow_notes.specs.declared.notes.Note.TheVariants as note
 module _ (limit : ℕ) (h : Tape) (v : IsEven limit h) where
   even_turn_accept : (k c : ℕ) → IsEven limit (Noted (note.Turn k (event.Accept c)) ∷ h)
   even_turn_accept k c = even_kept limit h (Noted (note.Turn k (event.Accept c)) ∷ h) (record {
-    feed = λ d f e. e; above = λ d f e. above_same limit d (Noted (note.Turn k (event.Accept c))) h refl; pauses = λ g. refl; resumes = λ g. refl; pairs = refl }) v
+    fed = λ d f e. e; level = λ d f e. above_same limit d (Noted (note.Turn k (event.Accept c))) h refl; pauses = λ g. refl; resumes = λ g. refl; pairs = refl }) v
 
   even_turn_join : (k c j : ℕ) → IsEven limit (Noted (note.Turn k (event.Join c j)) ∷ h)
   even_turn_join k c j = even_kept limit h (Noted (note.Turn k (event.Join c j)) ∷ h) (record {
-    feed = λ d f e. e; above = λ d f e. above_same limit d (Noted (note.Turn k (event.Join c j))) h refl; pauses = λ g. refl; resumes = λ g. refl; pairs = refl }) v
+    fed = λ d f e. e; level = λ d f e. above_same limit d (Noted (note.Turn k (event.Join c j))) h refl; pauses = λ g. refl; resumes = λ g. refl; pairs = refl }) v
 
   even_turn_read : (k c : ℕ) (octets : List ℕ) → IsEven limit (Noted (note.Turn k (event.Read c octets)) ∷ h)
   even_turn_read k c octets = even_kept limit h (Noted (note.Turn k (event.Read c octets)) ∷ h) (record {
-    feed = λ d f e. e; above = λ d f e. above_same limit d (Noted (note.Turn k (event.Read c octets))) h refl; pauses = λ g. refl; resumes = λ g. refl; pairs = refl }) v
+    fed = λ d f e. e; level = λ d f e. above_same limit d (Noted (note.Turn k (event.Read c octets))) h refl; pauses = λ g. refl; resumes = λ g. refl; pairs = refl }) v
 
   even_turn_room : (k c n : ℕ) → IsEven limit (Noted (note.Turn k (event.Room c n)) ∷ h)
   even_turn_room k c n = even_kept limit h (Noted (note.Turn k (event.Room c n)) ∷ h) (record {
-    feed = λ d f e. e; above = λ d f e. above_same limit d (Noted (note.Turn k (event.Room c n))) h refl; pauses = λ g. refl; resumes = λ g. refl; pairs = refl }) v
+    fed = λ d f e. e; level = λ d f e. above_same limit d (Noted (note.Turn k (event.Room c n))) h refl; pauses = λ g. refl; resumes = λ g. refl; pairs = refl }) v
 
   even_turn_gone : (k c : ℕ) → IsEven limit (Noted (note.Turn k (event.Gone c)) ∷ h)
   even_turn_gone k c = even_kept limit h (Noted (note.Turn k (event.Gone c)) ∷ h) (record {
-    feed = λ d f e. e; above = λ d f e. above_same limit d (Noted (note.Turn k (event.Gone c))) h refl; pauses = λ g. refl; resumes = λ g. refl; pairs = refl }) v
+    fed = λ d f e. e; level = λ d f e. above_same limit d (Noted (note.Turn k (event.Gone c))) h refl; pauses = λ g. refl; resumes = λ g. refl; pairs = refl }) v
 
   even_turn_tick : (k now : ℕ) → IsEven limit (Noted (note.Turn k (event.Tick now)) ∷ h)
   even_turn_tick k now = even_kept limit h (Noted (note.Turn k (event.Tick now)) ∷ h) (record {
-    feed = λ d f e. e; above = λ d f e. above_same limit d (Noted (note.Turn k (event.Tick now))) h refl; pauses = λ g. refl; resumes = λ g. refl; pairs = refl }) v
+    fed = λ d f e. e; level = λ d f e. above_same limit d (Noted (note.Turn k (event.Tick now))) h refl; pauses = λ g. refl; resumes = λ g. refl; pairs = refl }) v
 
   even_turn_post : (k p n : ℕ) (job : Job) → IsEven limit (Noted (note.Turn k (event.Post p n job)) ∷ h)
   even_turn_post k p n job = even_kept limit h (Noted (note.Turn k (event.Post p n job)) ∷ h) (record {
-    feed = λ d f e. e; above = λ d f e. above_same limit d (Noted (note.Turn k (event.Post p n job))) h refl; pauses = λ g. refl; resumes = λ g. refl; pairs = refl }) v
+    fed = λ d f e. e; level = λ d f e. above_same limit d (Noted (note.Turn k (event.Post p n job))) h refl; pauses = λ g. refl; resumes = λ g. refl; pairs = refl }) v
 
   even_turn_obey : (k w : ℕ) (ps : List ℕ) → IsEven limit (Noted (note.Turn k (event.Obey w ps)) ∷ h)
   even_turn_obey k w ps = even_kept limit h (Noted (note.Turn k (event.Obey w ps)) ∷ h) (record {
-    feed = λ d f e. e; above = λ d f e. above_same limit d (Noted (note.Turn k (event.Obey w ps))) h refl; pauses = λ g. refl; resumes = λ g. refl; pairs = refl }) v
+    fed = λ d f e. e; level = λ d f e. above_same limit d (Noted (note.Turn k (event.Obey w ps))) h refl; pauses = λ g. refl; resumes = λ g. refl; pairs = refl }) v
 
   even_turn_plain : (k : ℕ) (p : PlainEvent) → IsEven limit (Noted (note.Turn k (event.Plain p)) ∷ h)
   even_turn_plain k p = even_kept limit h (Noted (note.Turn k (event.Plain p)) ∷ h) (record {
-    feed = λ d f e. e; above = λ d f e. above_same limit d (Noted (note.Turn k (event.Plain p))) h refl; pauses = λ g. refl; resumes = λ g. refl; pairs = refl }) v
+    fed = λ d f e. e; level = λ d f e. above_same limit d (Noted (note.Turn k (event.Plain p))) h refl; pauses = λ g. refl; resumes = λ g. refl; pairs = refl }) v
 
   even_close : (b : Bool) (c : ℕ) → IsEven limit (onto (close_if b c) h)
   even_close true c = even_kept limit h (Noted (note.Close c 0 closed.Drained) ∷ h) (record {
-    feed = λ d f e. e; above = λ d f e. above_same limit d (Noted (note.Close c 0 closed.Drained)) h refl; pauses = λ g. refl; resumes = λ g. refl; pairs = refl }) v
+    fed = λ d f e. e; level = λ d f e. above_same limit d (Noted (note.Close c 0 closed.Drained)) h refl; pauses = λ g. refl; resumes = λ g. refl; pairs = refl }) v
   even_close false c = v
 
   even_overload : (c : ℕ) → IsEven limit (Noted (note.Close c 0 closed.Overload) ∷ h)
   even_overload c = even_kept limit h (Noted (note.Close c 0 closed.Overload) ∷ h) (record {
-    feed = λ d f e. e; above = λ d f e. above_same limit d (Noted (note.Close c 0 closed.Overload)) h refl; pauses = λ g. refl; resumes = λ g. refl; pairs = refl }) v
+    fed = λ d f e. e; level = λ d f e. above_same limit d (Noted (note.Close c 0 closed.Overload)) h refl; pauses = λ g. refl; resumes = λ g. refl; pairs = refl }) v
 
 -- ---- a pair starts
 module _ (limit c d : ℕ) (ds : List ℕ) (h : Tape) (s : IsSound h) (v : IsEven limit h) (some : free h ≡ d ∷ ds) (opened : is_open c h ≡ true) (idle : feed c h ≡ None)
@@ -178,8 +178,8 @@ module _ (limit : ℕ) (h : Tape) (s : IsSound h) (v : IsEven limit h) where
     even_alone : is_open c h ≡ true → feed c h ≡ None → IsEven limit (after limit (event.Gone c) h)
     even_alone o e = subst (λ (ns : List Note). IsEven limit (onto ns h)) (sym (loses_alone limit h c o e))
         (even_kept limit h lost (record {
-          feed = λ d f k. k;
-          above = λ d f k. above_lost d (by_case (c == d) (λ t. no_some (feed c h) f e (ap (λ y. feed y h) (number_is c d t) ∙ k)) (λ n. n));
+          fed = λ d f k. k;
+          level = λ d f k. above_lost d (by_case (c == d) (λ t. no_some (feed c h) f e (ap (λ y. feed y h) (number_is c d t) ∙ k)) (λ n. n));
           pauses = λ g. refl;
           resumes = λ g. refl;
           pairs = refl;
@@ -203,7 +203,7 @@ module _ (limit : ℕ) (h : Tape) (s : IsSound h) (v : IsEven limit h) where
       even_pair : IsEven limit (after limit (event.Gone c) h)
       even_pair = subst (λ (ns : List Note). IsEven limit (onto ns h)) (sym (loses_pair limit h c f o e))
           (even_close limit swept
-            (even_kept limit h swept (record { feed = λ d g k. left_feed y (feed d h) g k; above = above_swept; pauses = λ g. refl; resumes = λ g. refl; pairs = refl }) v)
+            (even_kept limit h swept (record { fed = λ d g k. left_feed y (feed d h) g k; level = above_swept; pauses = λ g. refl; resumes = λ g. refl; pairs = refl }) v)
             (length (out f.to h) == 0) f.to)
 
     even_after_gone : IsEven limit (after limit (event.Gone c) h)

@@ -41,7 +41,7 @@ pub record IsEven (limit : ℕ) (h : Tape) : Type 0 where
   pub unused : (g : FlowId) → pairs h < g.exchange → Unused h g
 
 -- ---- flows told apart
-opposite_twice : (f : FlowId) → opposite (opposite f) ≡ f
+pub opposite_twice : (f : FlowId) → opposite (opposite f) ≡ f
 opposite_twice f = λ i. record { exchange = f.exchange; back = twice f.back i }
   where
     twice : (b : Bool) → not (not b) ≡ b
@@ -75,8 +75,8 @@ apart f g c d h to at n = by_case (same_flow f g)
 
 -- ---- what keeps all this
 pub record KeepsCounts (limit : ℕ) (h h' : Tape) : Type 0 where
-  pub feed : (c : ℕ) (f : Feed) → feed c h' ≡ Some f → feed c h ≡ Some f
-  pub above : (c : ℕ) (f : Feed) → feed c h' ≡ Some f → above limit c h' ≡ above limit c h
+  pub fed : (c : ℕ) (f : Feed) → feed c h' ≡ Some f → feed c h ≡ Some f
+  pub level : (c : ℕ) (f : Feed) → feed c h' ≡ Some f → above limit c h' ≡ above limit c h
   pub pauses : (g : FlowId) → pauses g h' ≡ pauses g h
   pub resumes : (g : FlowId) → resumes g h' ≡ resumes g h
   pub pairs : pairs h' ≡ pairs h
@@ -84,8 +84,8 @@ pub record KeepsCounts (limit : ℕ) (h h' : Tape) : Type 0 where
 pub even_kept : (limit : ℕ) (h h' : Tape) → KeepsCounts limit h h' → IsEven limit h → IsEven limit h'
 even_kept limit h h' k v = record {
   each = λ c. for_some (feed c h') (Even limit h' c) (λ f e.
-      let p : Even limit h c f = if_some (feed c h) (Even limit h c) f (k.feed c f e) (v.each c) in
-      record { even = k.pauses (opposite f.flow) ∙ p.even ∙ (λ i. sym (k.resumes (opposite f.flow)) i + one_if (sym (k.above c f e) i)) });
+      let p : Even limit h c f = if_some (feed c h) (Even limit h c) f (k.fed c f e) (v.each c) in
+      record { even = k.pauses (opposite f.flow) ∙ p.even ∙ (λ i. sym (k.resumes (opposite f.flow)) i + one_if (sym (k.level c f e) i)) });
   unused = λ g l.
       let u : Unused h g = v.unused g (subst (λ n. n < g.exchange) k.pairs l) in
       record { pauses = k.pauses g ∙ u.pauses; resumes = k.resumes g ∙ u.resumes };
@@ -201,8 +201,8 @@ module _ (limit : ℕ) (h : Tape) (s : IsSound h) (v : IsEven limit h) (c n : �
 
   even_nobody : feed c h ≡ None → IsEven limit gone
   even_nobody e = even_kept limit h gone (record {
-    feed = λ d f k. k;
-    above = λ d f k. goes_still d (by_case (c == d) (λ t. no_some (feed c h) f e (ap (λ y. feed y h) (number_is c d t) ∙ k)) (λ m. m));
+    fed = λ d f k. k;
+    level = λ d f k. goes_still d (by_case (c == d) (λ t. no_some (feed c h) f e (ap (λ y. feed y h) (number_is c d t) ∙ k)) (λ m. m));
     pauses = λ g. refl;
     resumes = λ g. refl;
     pairs = refl;
@@ -243,7 +243,7 @@ module _ (limit : ℕ) (h : Tape) (s : IsSound h) (v : IsEven limit h) (c n : �
     was_even : Even limit h c f
     was_even = if_some (feed c h) (Even limit h c) f e (v.each c)
 
-    Told : Bool → Type 0
+    abbrev Told : Bool → Type 0
     Told b = pauses (opposite f.flow) (told b) ≡ resumes (opposite f.flow) (told b) + one_if (above limit c (told b))
 
     tell : (a z : Bool) → above limit c h ≡ a → above limit c gone ≡ z → Told (a && not z)

@@ -6,11 +6,14 @@ pub mod Flags
 pub mod Fronts
 pub mod Kept
 pub mod Lists
+pub mod Promises
+pub mod Relayed
 pub mod Rested
 pub mod Sessions
 pub mod Shapes
 pub mod SoundTurns
 pub mod Sounds
+pub mod Spelled
 pub mod Tests
 pub mod TieAll
 pub mod TieComes

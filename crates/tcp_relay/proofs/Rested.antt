@@ -9,22 +9,27 @@ use Rattle.relay_laws.specs.Sound.{IsPaired, IsSound}
 use Rattle.relay_laws.specs.Watermark.{above}
 use Rattle.relay_laws.specs.World.{out}
 use Rattle.relay_laws.specs.declared.feed.Feed.{Feed}
+use Rattle.std.specs.BTreeSet.{contains}
+use Rattle.std.specs.Ordering.{nat_cmp}
 use Rattle.std.proofs.Common.{ap, refl, subst, sym, ◌∙◌}
-use Rattle.std.specs.Prelude.{Bool, List, None, Option, Some, [], false, if◌then◌else◌, length, true, ℕ, ◌+◌, ◌++◌, ◌∷◌, ◌≡◌}
+use Rattle.std.specs.Prelude.{Bool, Err, List, None, Ok, OnOk, Option, Result, Some, [], false, if◌then◌else◌, is_none, is_some, length, nat_lt, not, true, ℕ, ◌+◌, ◌++◌, ◌||◌, ◌∷◌, ◌≡◌}
 use Rattle.tape_laws.specs.Dispatches.{events_back, turns}
 use Rattle.tape_laws.specs.History.{Noted, onto}
 use Rattle.tcp_relay.proofs.Boards.{feeds_seen, onto_append, seen_same}
 use Rattle.tcp_relay.proofs.Sessions.{tape_sound}
+use Rattle.tcp_relay.proofs.Spelled.{spelled, spelled_both, spelled_some}
 use Rattle.tcp_relay.proofs.Tests.{by_case, by_option, if_some, no_some}
 use Rattle.tcp_relay.proofs.TieAll.{counts, shows, tied}
-use Rattle.tcp_relay.specs.Board.{Board, board_after, board_of, effect_of, held_at, held_for, held_past}
+use Rattle.tcp_relay.specs.Board.{Board, IsSeenAs, board_after, board_of, effect_of, held_at, held_for, held_past, is_reading}
 use Rattle.tcp_relay.specs.Effects.{notes_of}
-use Rattle.tcp_relay.specs.Lines.{held_in}
+use Rattle.tcp_relay.specs.Lines.{feeds_of, held_in, line_in, octets_of}
 use Rattle.tcp_relay.specs.Noting.{AppendsSome}
-use Rattle.tcp_relay.specs.Rests.{GoesOn, GoesOnFrom, Rests, StopsFrom, held_behind, held_by}
-use Rattle.tcp_relay.specs.Stands.{line_if, tape_board}
+use Rattle.tcp_relay.specs.Rests.{GoesOn, GoesOnFrom, RefusesFrom, Rests, ShowsClosing, ShowsConn, ShowsFront, ShowsOut, ShowsReads, StopsFrom, goes_on as reads_on, has_octets, held_behind, held_by}
+use Rattle.tcp_relay.specs.Seen.{IsFront, IsLeast}
+use Rattle.tcp_relay.specs.Stands.{line_if, line_of, tape_board}
 use Rattle.tcp_relay.specs.Ties.{Tied}
-use Rattle.tcp_relay.specs.Turns.{CutsTurn, Turns, turn_notes}
+use Rattle.tcp_relay.specs.Turns.{AreSpelled, CutsTurn, HasFailed, Refuses, RefusesPaused, Turns, turn_notes}
+use Rattle.tcp_relay.specs.declared.fault.RelayFault.{RelayFault}
 use Rattle.tcp_relay.specs.declared.relay.Relay.{Relay}
 use Rattle.flow_notes.specs.declared.events.Event.TheVariants as event
 use Rattle.flow_notes.specs.declared.notes.Note.TheVariants as note
@@ -120,10 +125,108 @@ goes_on old before e new after t = record {
         notes = is;
         rests = subst (λ v. Rests limit names new v) (sym past) (next_rests limit names old e base r may new before after t.reads t.turn (seen_same _ _ t.board) t.well);
         shows = ap (λ v. events_back v) past ∙ shows limit e base (ties limit names old e base r may);
+        spelled = λ b. subst (λ v. AreSpelled names v) (sym t.notes) (spelled_both names before (turn_notes old e) b (spelled names old.turn e (board_of old.table) may.0));
       };
 }
 
 pub stops : (old : Relay) (before : List Note) (e : Event) (after : List Note) → CutsTurn old before e after → StopsFrom old before e after
 stops old before e after t = record {
-  goes = λ limit names h r may. subst (λ ns. AppendsSome before ns after) (same_notes limit names old e (onto before h) r may) t.front;
+  goes = λ limit names h r may. record {
+    notes = subst (λ ns. AppendsSome before ns after) (same_notes limit names old e (onto before h) r may) t.front;
+    spelled = spelled_some names before (turn_notes old e) after (spelled names old.turn e (board_of old.table) may.0) t.front;
+  };
+}
+
+-- ---- answers of the call that speaks of the connections alone
+abbrev pub Answered : Type 0
+Answered = Result (Unit {0}) RelayFault
+
+pub goes_on_ok : (result : Answered) (old : Relay) (before : List Note) (e : Event) (new : Relay) (after : List Note)
+    → OnOk result (Turns old before e new after) → OnOk result (GoesOnFrom old before e new after)
+goes_on_ok (Ok u) old before e new after t = goes_on old before e new after t
+goes_on_ok (Err x) old before e new after t = t
+
+pub refuses : (result : Answered) (old : Relay) (before : List Note) (e : Event) (new : Relay) (after : List Note)
+    → (HasFailed old false → RefusesPaused old before e result new after) → RefusesFrom old before e result new after
+refuses result old before e new after k = record {
+  goes = λ limit names h r. subst (λ o. Refuses o old before result new after)
+      (ap (λ b. held_for e b) r.board ∙ held_event limit (onto before h) (tape_sound limit names (onto before h) r.tape) e) (k r.well);
+}
+
+-- ---- a new relay, and what is seen of one at rest
+pub rests_first : (limit : ℕ) (relay : Relay) → IsSeenAs (board_of relay.table) (tape_board limit []) → relay.turn ≡ 0 → relay.failed ≡ false
+    → (names : List (List ℕ)) → Rests limit names relay []
+rests_first limit relay board turn well names = record {
+  tape = record { is = refl; follows = tt };
+  board = seen_same _ _ board;
+  turn = turn;
+  well = well;
+}
+
+module _ (limit : ℕ) (names : List (List ℕ)) (relay : Relay) (h : Tape) (r : Rests limit names relay h) where
+  whole : IsSound h
+  whole = tape_sound limit names h r.tape
+
+  line_at : (c : ℕ) → line_in relay.table.conns c ≡ line_of limit c h
+  line_at c = λ i. (r.board i).lines c
+
+  octets_if : (o : Bool) (x : List ℕ) (a : Bool) (f : Option Feed) → (o ≡ false → x ≡ []) → octets_of (line_if o x limit a f) ≡ x
+  octets_if true x a f e = refl
+  octets_if false x a f e = sym (e refl)
+
+  octets_at : (c : ℕ) → octets_of (line_in relay.table.conns c) ≡ out c h
+  octets_at c = ap (λ l. octets_of l) (line_at c) ∙ octets_if (is_open c h) (out c h) (above limit c h) (feed c h) (λ e. (whole.done c e).out)
+
+  open_if : (o : Bool) (x : List ℕ) (a : Bool) (f : Option Feed) → is_some (line_if o x limit a f) ≡ o
+  open_if true x a f = refl
+  open_if false x a f = refl
+
+  open_at : (c : ℕ) → is_some (line_in relay.table.conns c) ≡ is_open c h
+  open_at c = ap (λ l. is_some l) (line_at c) ∙ open_if (is_open c h) (out c h) (above limit c h) (feed c h)
+
+  waits_at : (c : ℕ) → contains nat_cmp relay.table.waiting c ≡ has_octets c h
+  waits_at c = λ i. (r.board i).waits c
+
+  -- octets wait for open connections alone
+  open_or_waits : (c : ℕ) → is_open c h ≡ (is_open c h || has_octets c h)
+  open_or_waits c = by_case (is_open c h)
+      (λ e. e ∙ sym (ap (λ b. b || has_octets c h) e))
+      (λ e. e ∙ sym (ap (λ b. b || has_octets c h) e ∙ ap (λ (v : List ℕ). nat_lt 0 (length v)) (whole.done c e).out))
+
+  reads_if : (c : ℕ) (o : Option Feed) → feed c h ≡ o → is_reading o (tape_board limit h) ≡ reads_on limit o h
+  reads_if c None e = refl
+  reads_if c (Some f) e =
+      let p : IsPaired h c f = if_some (feed c h) (IsPaired h c) f e (whole.paired c) in
+      let q : IsPaired h f.to (record { flow = opposite f.flow; to = c }) = if_some (feed f.to h) (IsPaired h f.to) (record { flow = opposite f.flow; to = c }) p.back (whole.paired f.to) in
+      ap (λ o. is_none o) (held_open limit h whole (is_open f.to h) (out f.to h) (above limit f.to h) (feed f.to h) q.opened) ∙ none_if (above limit f.to h) (length (out f.to h))
+    where
+      none_if : (a : Bool) (n : ℕ) → is_none (if a then Some n else None) ≡ not a
+      none_if true n = refl
+      none_if false n = refl
+
+  pub reads_at : (c : ℕ) → is_reading (feeds_of (line_in relay.table.conns c)) (board_of relay.table) ≡ reads_on limit (feed c h) h
+  reads_at c = (λ i. is_reading ((ap (λ l. feeds_of l) (line_at c) ∙ feeds_seen limit c h whole) i) (r.board i)) ∙ reads_if c (feed c h) refl
+
+-- ---- the least at which a test holds
+least_same : (P Q : ℕ → Bool) (after : ℕ) (o : Option ℕ) → ((c : ℕ) → P c ≡ Q c) → IsLeast P after o → IsLeast Q after o
+least_same P Q after o same l = subst (λ R. IsLeast R after o) (λ i c. same c i) l
+
+pub shows_front : (relay : Relay) (c : ℕ) (front : List ℕ) → IsFront (octets_of (line_in relay.table.conns c)) front → ShowsFront relay c front
+shows_front relay c front k = record { goes = λ limit names h r. subst (λ v. IsFront v front) (octets_at limit names relay h r c) k }
+
+pub shows_reads : (relay : Relay) (c : ℕ) (answer : Bool) → answer ≡ is_reading (feeds_of (line_in relay.table.conns c)) (board_of relay.table) → ShowsReads relay c answer
+shows_reads relay c answer k = record { goes = λ limit names h r. k ∙ reads_at limit names relay h r c }
+
+pub shows_closing : (relay : Relay) (c : ℕ) (there answer : Bool) → there ≡ is_some (line_in relay.table.conns c) → answer ≡ not there → ShowsClosing relay c answer
+shows_closing relay c there answer k e = record { goes = λ limit names h r. e ∙ ap (λ b. not b) (k ∙ open_at limit names relay h r c) }
+
+pub shows_conn : (relay : Relay) (after : ℕ) (answer : Option ℕ) → IsLeast (λ c. is_some (line_in relay.table.conns c)) after answer → ShowsConn relay after answer
+shows_conn relay after answer k = record {
+  goes = λ limit names h r. least_same (λ c. is_some (line_in relay.table.conns c)) (λ c. is_open c h || has_octets c h) after answer
+      (λ c. open_at limit names relay h r c ∙ open_or_waits limit names relay h r c) k;
+}
+
+pub shows_out : (relay : Relay) (after : ℕ) (answer : Option ℕ) → IsLeast (λ c. contains nat_cmp relay.table.waiting c) after answer → ShowsOut relay after answer
+shows_out relay after answer k = record {
+  goes = λ limit names h r. least_same (λ c. contains nat_cmp relay.table.waiting c) (λ c. has_octets c h) after answer (λ c. waits_at limit names relay h r c) k;
 }

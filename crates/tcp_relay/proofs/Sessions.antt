@@ -2,7 +2,7 @@
 use Rattle.flow_notes.specs.declared.events.Event.{Event}
 use Rattle.relay_laws.specs.Order.{may_come}
 use Rattle.relay_laws.specs.Pairs.{Tape}
-use Rattle.relay_laws.specs.Promise.{IsBounded, PausesItsReader}
+use Rattle.relay_laws.specs.Promise.{IsBounded}
 use Rattle.relay_laws.specs.Session.{IsTape, MayRelayAll, relay_tape}
 use Rattle.relay_laws.specs.Sound.{IsSound}
 use Rattle.std.proofs.Common.{ap, arith, refl, subst, sym, ◌∙◌}
@@ -11,8 +11,9 @@ use Rattle.std.specs.Prelude.{Bool, List, [], false, length, nat_lt, true, ℕ, 
 use Rattle.tape_laws.specs.Dispatches.{events_back}
 use Rattle.tape_laws.specs.History.{AtEachMoment}
 use Rattle.tcp_relay.proofs.Bounded.{bounded_after}
-use Rattle.tcp_relay.proofs.EvenTurns.{even_after, exact}
+use Rattle.tcp_relay.proofs.EvenTurns.{even_after}
 use Rattle.tcp_relay.proofs.Evens.{IsEven}
+use Rattle.tcp_relay.proofs.Relayed.{IsRelayed, relayed_after, relayed_first}
 use Rattle.tcp_relay.proofs.SoundTurns.{sound_after}
 use Rattle.tcp_relay.proofs.TieAll.{shows, tied}
 use Rattle.tcp_relay.specs.Ties.{Tied}
@@ -42,6 +43,9 @@ module _ (limit : ℕ) (names : List (List ℕ)) where
         shows = shows limit e (relay_tape limit es) t ∙ ap (λ v. e ∷ v) k.shows;
       }
 
+  pub tape_sound : (h : Tape) → IsTape limit names h → IsSound h
+  tape_sound h t = subst (λ v. IsSound v) (sym t.is) (known (events_back h) t.follows).sound
+
   bounded_first : IsBounded limit []
   bounded_first = λ c. none (nat_lt 0 limit)
     where
@@ -68,8 +72,8 @@ module _ (limit : ℕ) (names : List (List ℕ)) where
       let k : Known (relay_tape limit es) es = known es m.1 in
       even_after limit (relay_tape limit es) k.sound (even es m.1) e (ap (λ v. may_come v e) k.shows ∙ m.0.comes.2) m.0.backs_off
 
-  pub tape_exact : (h : Tape) → IsTape limit names h → PausesItsReader limit h
-  tape_exact h t = exact limit h (subst (λ v. IsEven limit v) (sym t.is) (even (events_back h) t.follows))
-
-  pub tape_sound : (h : Tape) → IsTape limit names h → IsSound h
-  tape_sound h t = subst (λ v. IsSound v) (sym t.is) (known (events_back h) t.follows).sound
+  pub relayed : (es : List Event) → MayRelayAll limit names es → IsRelayed (relay_tape limit es)
+  relayed [] m = relayed_first
+  relayed (e ∷ es) m =
+      let k : Known (relay_tape limit es) es = known es m.1 in
+      relayed_after limit (relay_tape limit es) k.sound (relayed es m.1) e (ap (λ v. may_come v e) k.shows ∙ m.0.comes.2)

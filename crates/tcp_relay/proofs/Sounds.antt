@@ -86,7 +86,7 @@ sound_out c n h = sound_kept h (Noted (note.Out c n) ∷ h) (record {
 })
 
 -- ---- a pair is doomed
-left_feed : (x : ℕ) (o : Option Feed) (f : Feed) → unless_doomed x o ≡ Some f → o ≡ Some f
+pub left_feed : (x : ℕ) (o : Option Feed) (f : Feed) → unless_doomed x o ≡ Some f → o ≡ Some f
 left_feed x None f e = cc
 left_feed x (Some g) f e = by_case (g.flow.exchange == x)
     (λ t. no_some (unless_doomed x (Some g)) f (ap (λ b. if b then None else Some g) t) e)
@@ -147,7 +147,7 @@ sound_close c code why h none empty still s = record {
 new_above : (es : List ℕ) (c d : ℕ) → (nat_lt 0 d && (nat_lt c d && list_all (λ e. nat_lt e d) es)) ≡ true → c < d
 new_above es c d e = is_below c d (and_left (nat_lt c d) (list_all (λ e. nat_lt e d) es) (and_right (nat_lt 0 d) (nat_lt c d && list_all (λ e. nat_lt e d) es) e))
 
-new_before : (es : List ℕ) (c d : ℕ) → (nat_lt 0 d && (nat_lt c d && list_all (λ e. nat_lt e d) es)) ≡ true → (nat_lt 0 d && list_all (λ e. nat_lt e d) es) ≡ true
+pub new_before : (es : List ℕ) (c d : ℕ) → (nat_lt 0 d && (nat_lt c d && list_all (λ e. nat_lt e d) es)) ≡ true → (nat_lt 0 d && list_all (λ e. nat_lt e d) es) ≡ true
 new_before es c d e = and_both (nat_lt 0 d) (list_all (λ e. nat_lt e d) es) (and_left (nat_lt 0 d) (nat_lt c d && list_all (λ e. nat_lt e d) es) e)
     (and_right (nat_lt c d) (list_all (λ e. nat_lt e d) es) (and_right (nat_lt 0 d) (nat_lt c d && list_all (λ e. nat_lt e d) es) e))
 

@@ -1,7 +1,9 @@
 -- What a dispatch does to a relay and its notes.
+use Rattle.flow_notes.specs.Note.{IsNote}
 use Rattle.flow_notes.specs.declared.events.Event.{Event}
 use Rattle.flow_notes.specs.declared.notes.Note.{Note}
 use Rattle.io_ports.specs.declared.octets.NoMemory.{NoMemory}
+use Rattle.std.specs.List.{AllByRecursion}
 use Rattle.std.specs.Prelude.{Bool, Err, List, None, Ok, Option, Result, Some, ℕ, ◌++◌, ◌+◌, ◌∷◌, ◌≡◌}
 use Rattle.tcp_relay.specs.Board.{IsSeenAs, board_after, board_of, effect_of, held_for}
 use Rattle.tcp_relay.specs.Effects.{notes_of}
@@ -10,6 +12,10 @@ use Rattle.tcp_relay.specs.declared.fault.RelayFault.{RelayFault}
 use Rattle.tcp_relay.specs.declared.relay.Relay.{Relay}
 use Rattle.flow_notes.specs.declared.notes.Note.TheVariants as note
 use Rattle.tcp_relay.specs.declared.fault.RelayFault.TheVariants as fault
+
+-- each note has a spelling; the names are those of the clusters
+abbrev pub AreSpelled : List (List ℕ) → List Note → Type 0
+AreSpelled names notes = AllByRecursion (IsNote names) notes
 
 -- the relay met want of memory, or not
 abbrev pub HasFailed : Relay → Bool → Type 0

@@ -1,6 +1,6 @@
 // Laws of a relay's tapes: they are told by contracts, and do nothing.
 ghost use Rattle.relay_laws.specs.Pairs.{Tape};
-ghost use Rattle.relay_laws.specs.Promise.{IsBounded, KeepsWhatWaits, PausesItsReader};
+ghost use Rattle.relay_laws.specs.Promise.{IsBounded, KeepsWhatWaits, Relays};
 ghost use Rattle.relay_laws.specs.Session.{IsTape};
 ghost use Rattle.relay_laws.specs.Sound.{IsSound};
 ghost use Rattle.std.specs.Prelude.{List, ℕ};
@@ -23,8 +23,10 @@ pub fn tapes_are_bounded()
     ensures { (limit : ℕ) (names : List (List ℕ)) (h : Tape) → IsTape limit names h → AtEachMoment (IsBounded limit) h }
 {}
 
-/// At the end of each dispatch, where a session's tape ends, the flow to a connection in a live pair is paused, once, exactly
-/// where that one's write buffer is above.
-pub fn tapes_pause_exactly()
-    ensures { (limit : ℕ) (names : List (List ℕ)) (h : Tape) → IsTape limit names h → PausesItsReader limit h }
+/// A session's tape keeps what is promised to an operator. At the end of each dispatch what left and what waits for the one
+/// connection of a live pair is exactly what was read from the other, in order, and a live flow is paused, once, exactly where
+/// its write buffer is above. At each moment what came for a connection that wasn't lost has left or waits, and a write buffer
+/// with a limit holds at most that and 16,384 octets. Nothing is read from a paused flow.
+pub fn tapes_keep_their_promise()
+    ensures { (limit : ℕ) (names : List (List ℕ)) (h : Tape) → IsTape limit names h → Relays limit h }
 {}

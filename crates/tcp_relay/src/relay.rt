@@ -1,11 +1,7 @@
 // The relay and its dispatch.
-ghost use Rattle.std.specs.BTreeSet.{contains};
-ghost use Rattle.std.specs.Ordering.{nat_cmp};
-ghost use Rattle.std.specs.Prelude.{◌≡◌, ◌≢◌, ℕ, Err, OnErr, OnOk, [], false, is_some, not, true, None};
-ghost use Rattle.tcp_relay.specs.Board.{board_of, held_for, is_reading};
-ghost use Rattle.tcp_relay.specs.Lines.{feeds_of, line_in, octets_of};
-ghost use Rattle.tcp_relay.specs.Rests.{GoesOnFrom, StopsFrom};
-ghost use Rattle.tcp_relay.specs.Seen.{IsFront, IsLeast};
+ghost use Rattle.std.specs.Prelude.{◌≡◌, ◌≢◌, ℕ, Err, List, OnOk, [], false, true};
+ghost use Rattle.tcp_relay.specs.Board.{board_of, held_for};
+ghost use Rattle.tcp_relay.specs.Rests.{GoesOnFrom, RefusesFrom, Rests, ShowsClosing, ShowsConn, ShowsFront, ShowsOut, ShowsReads, StopsFrom};
 ghost use Rattle.tcp_relay.specs.Turns.{CarriesOut, CutsTurn, HasFailed, RefusesPaused, Turns};
 
 use crate::fault::RelayFault;
@@ -31,13 +27,7 @@ pub struct Relay {
 impl Relay {
     /// A relay without connections, whose write buffers have this limit in octets, 0 for none. Takes no memory.
     pub fn new(alloc: Global, limit: u32) -> Self
-        ensures limit { result.table.limit ≡ limit }
-        ensures turn { result.turn ≡ 0 }
-        ensures pairs { result.table.pairs ≡ 0 }
-        ensures free { result.table.free.keys ≡ [] }
-        ensures lines { (c : ℕ) → line_in result.table.conns c ≡ None }
-        ensures waits { (c : ℕ) → contains nat_cmp result.table.waiting c ≡ false }
-        ensures well { HasFailed result false }
+        ensures { (names : List (List ℕ)) → Rests limit names result [] }
     {
         Relay {
             alloc,
@@ -51,11 +41,21 @@ impl Relay {
     /// `Paused`: nothing has changed then, and no note was written. After want of memory the notes so far stand, and each
     /// later call answers `Failed`.
     pub fn dispatch(&mut self, event: &Event, notes: &mut Notes) -> Result<(), RelayFault>
+        ensures ok { OnOk result (GoesOnFrom self.old notes.old event.now self.new notes.new) }
+        ensures paused { RefusesFrom self.old notes.old event.now result self.new notes.new }
+        ensures cut { result ≡ Err RelayFault.NoMemory → StopsFrom self.old notes.old event.now notes.new }
+        ensures fails { result ≡ Err RelayFault.NoMemory → HasFailed self.new true }
+        ensures failed { HasFailed self.old true → (result ≡ Err RelayFault.Failed) × (notes.new ≡ notes.old) }
+        ensures well { HasFailed self.old false → result ≢ Err RelayFault.Failed }
+    {
+        self.attempt(event, notes)
+    }
+
+    // The same, in terms of the connections alone.
+    fn attempt(&mut self, event: &Event, notes: &mut Notes) -> Result<(), RelayFault>
         ensures ok { OnOk result (Turns self.old notes.old event.now self.new notes.new) }
-        ensures goes_on { OnOk result (GoesOnFrom self.old notes.old event.now self.new notes.new) }
         ensures paused { HasFailed self.old false → RefusesPaused self.old notes.old event.now result self.new notes.new }
         ensures cut { result ≡ Err RelayFault.NoMemory → CutsTurn self.old notes.old event.now notes.new }
-        ensures stops { result ≡ Err RelayFault.NoMemory → StopsFrom self.old notes.old event.now notes.new }
         ensures fails { result ≡ Err RelayFault.NoMemory → HasFailed self.new true }
         ensures failed { HasFailed self.old true → (result ≡ Err RelayFault.Failed) × (notes.new ≡ notes.old) }
         ensures well { HasFailed self.old false → result ≢ Err RelayFault.Failed }
@@ -105,35 +105,35 @@ impl Relay {
 
     /// A prefix of what waits for the connection, nonempty where that is; empty for one that isn't known.
     pub fn out_front(&self, conn: u32) -> &[u8]
-        ensures { IsFront (octets_of (line_in self.now.table.conns conn)) result.now }
+        ensures { ShowsFront self.now conn result.now }
     {
         self.table.front(conn)
     }
 
     /// Whether octets of the connection may be read: it is in a live pair, and its flow isn't paused.
     pub fn reads(&self, conn: u32) -> bool
-        ensures { result ≡ is_reading (feeds_of (line_in self.now.table.conns conn)) (board_of self.now.table) }
+        ensures { ShowsReads self.now conn result }
     {
         self.table.reads(conn)
     }
 
     /// Whether the relay has closed the connection, which was accepted or joined.
     pub fn closing(&self, conn: u32) -> bool
-        ensures { result ≡ not (is_some (line_in self.now.table.conns conn)) }
+        ensures { ShowsClosing self.now conn result }
     {
         !self.table.is_open(conn)
     }
 
     /// The least number above `after` of a connection that is open or has octets that wait. None exactly where there is none.
     pub fn conn_after(&self, after: u32) -> Option<u32>
-        ensures { IsLeast (λ c. is_some (line_in self.now.table.conns c)) after result }
+        ensures { ShowsConn self.now after result }
     {
         self.table.conn_after(after)
     }
 
     /// The least number above `after` of a connection that has octets that wait. None exactly where there is none.
     pub fn out_after(&self, after: u32) -> Option<u32>
-        ensures { IsLeast (λ c. contains nat_cmp self.now.table.waiting c) after result }
+        ensures { ShowsOut self.now after result }
     {
         self.table.out_after(after)
     }
