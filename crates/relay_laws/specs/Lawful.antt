@@ -4,7 +4,7 @@ use Rattle.relay_laws.specs.Pairs.{Tape, feed, goes_to, opposite}
 use Rattle.relay_laws.specs.Watermark.{drains, rises}
 use Rattle.relay_laws.specs.World.{out}
 use Rattle.relay_laws.specs.declared.feed.Feed.{Feed}
-use Rattle.std.specs.Prelude.{IfSome, Some, [], length, ℕ, ◌+◌, ◌<◌, ◌∷◌, ◌≡◌, ◌≤◌}
+use Rattle.std.specs.Prelude.{IfSome, Some, [], length, ℕ, ◌+◌, ◌<◌, ◌≡◌, ◌≤◌}
 use Rattle.tape_laws.specs.Dispatches.{turns}
 use Rattle.tape_laws.specs.Doomed.{LeavesDoomed}
 use Rattle.tape_laws.specs.History.{BeforeOthers, BeforeTurn, EachFollows, Marked, NoMark, Noted, Step}

@@ -1,6 +1,6 @@
 -- What a tape of a relay promises to an operator.
 use Rattle.relay_laws.specs.Lawful.{BacksOff, EachPaired}
-use Rattle.relay_laws.specs.Pairs.{Tape, feed, opposite}
+use Rattle.relay_laws.specs.Pairs.{Tape, opposite}
 use Rattle.relay_laws.specs.Watermark.{above}
 use Rattle.relay_laws.specs.World.{entered, gone, out}
 use Rattle.std.specs.Bool.{OnTrue}

@@ -12,7 +12,7 @@ use Rattle.tcp_relay.proofs.Flags.{above_same}
 use Rattle.tcp_relay.proofs.Shapes.{close_if, resume_if}
 use Rattle.tcp_relay.proofs.Tests.{by_case, if_false, if_true}
 use Rattle.tcp_relay.specs.Board.{Board, IsSeenAs, put}
-use Rattle.tcp_relay.specs.Lines.{Line, added, dropped, fed, feeds_of, holding}
+use Rattle.tcp_relay.specs.Lines.{added, dropped, fed, feeds_of, holding}
 use Rattle.tcp_relay.specs.Stands.{line_if, line_of, tape_board}
 use Rattle.wm_buffer.specs.Watermark.{above_after}
 use Rattle.flow_gate.specs.declared.ids.BufferId.TheVariants as buffer
@@ -71,9 +71,9 @@ module _ (limit c : ℕ) (h : Tape) where
   closed_line : (d : ℕ) → line_of limit d (Noted (note.Close c 0 closed.Drained) ∷ h) ≡ put c None (λ e. line_of limit e h) d
   closed_line d = by_case (c == d)
       (λ t. ap (λ b. line_if (not b && is_open d h) (out d h) limit (above limit d (Noted (note.Close c 0 closed.Drained) ∷ h)) (feed d h)) t
-        ∙ sym (if_true (c == d) None (line_of limit d h) t))
+      ∙ sym (if_true (c == d) None (line_of limit d h) t))
       (λ n. line_same limit (Noted (note.Close c 0 closed.Drained)) h d (ap (λ b. not b && is_open d h) n) refl refl
-        ∙ sym (if_false (c == d) None (line_of limit d h) n))
+      ∙ sym (if_false (c == d) None (line_of limit d h) n))
 
   pub board_closed : tape_board limit (Noted (note.Close c 0 closed.Drained) ∷ h) ≡ close_at c (tape_board limit h)
   board_closed = seen_same _ _ (record { limit = refl; pairs = refl; free = refl; lines = closed_line; waits = λ d. refl })

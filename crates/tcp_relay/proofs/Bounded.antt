@@ -2,7 +2,6 @@
 use Rattle.flow_gate.specs.declared.ids.FlowId.{FlowId}
 use Rattle.flow_notes.specs.Event.{IsEvent}
 use Rattle.flow_notes.specs.declared.events.Event.{Event}
-use Rattle.flow_notes.specs.declared.notes.CloseCause.{CloseCause}
 use Rattle.flow_notes.specs.declared.notes.Note.{Note}
 use Rattle.relay_laws.specs.Dispatch.{dispatch_notes}
 use Rattle.relay_laws.specs.Pairs.{Tape, feed, goes_to}
@@ -13,26 +12,23 @@ use Rattle.relay_laws.specs.Watermark.{above}
 use Rattle.relay_laws.specs.World.{out}
 use Rattle.relay_laws.specs.declared.feed.Feed.{Feed}
 use Rattle.std.proofs.Common.{ap, append-nil, arith, length-append, refl, subst, sym, ◌∙◌}
-use Rattle.std.proofs.lemmas.Bool.Decides.{nat_tests}
 use Rattle.std.proofs.lemmas.List.{length-drop}
 use Rattle.std.specs.Bool.{OnTrue}
 use Rattle.std.specs.List.{AllByRecursion}
-use Rattle.std.specs.Prelude.{Bool, List, None, Option, Some, [], drop, false, if◌then◌else◌, length, nat_lt, option_map, true, ℕ, ◌+◌, ◌++◌, ◌-◌, ◌<◌, ◌==◌, ◌∷◌, ◌≡◌, ◌≤◌}
+use Rattle.std.specs.Prelude.{Bool, List, None, Option, Some, [], drop, false, if◌then◌else◌, length, nat_lt, option_map, true, ℕ, ◌+◌, ◌++◌, ◌-◌, ◌==◌, ◌∷◌, ◌≡◌, ◌≤◌}
 use Rattle.tape_laws.specs.Dispatches.{is_some_of, turns}
 use Rattle.tape_laws.specs.History.{AtEachMoment, Noted, onto}
 use Rattle.tcp_relay.proofs.Flags.{above_now, above_same, low_len}
 use Rattle.tcp_relay.proofs.Shapes.{pause_if, reads_nothing, reads_some, rose, turn_of}
-use Rattle.tcp_relay.proofs.Tests.{by_case, by_option, if_some, is_below, number_is}
+use Rattle.tcp_relay.proofs.Tests.{by_option, if_some, is_below, number_is}
 use Rattle.tcp_relay.specs.Board.{Board, effect_of, ends_as, is_over, left_as, lost_as, met, resumed_flow, without}
 use Rattle.tcp_relay.specs.Effects.{drained_of, ended_of, leaving_of, loss_of, notes_of, resume_of}
 use Rattle.tcp_relay.specs.Lines.{Line, taken_of}
 use Rattle.tcp_relay.specs.Stands.{tape_board}
 use Rattle.tcp_relay.specs.Ties.{Tied}
 use Rattle.tcp_relay.specs.declared.conns.Taken.{Taken}
-use Rattle.tcp_relay.specs.declared.effect.Effect.{Effect}
 use Rattle.tcp_relay.specs.declared.effect.Ended.{Ended}
 use Rattle.tcp_relay.specs.declared.effect.Left.{Left}
-use Rattle.flow_gate.specs.declared.ids.BufferId.TheVariants as buffer
 use Rattle.flow_notes.specs.declared.events.Event.TheVariants as event
 use Rattle.flow_notes.specs.declared.notes.CloseCause.TheVariants as closed
 use Rattle.flow_notes.specs.declared.notes.Note.TheVariants as note
@@ -97,7 +93,7 @@ module _ (limit : ℕ) where
     bounded_at : OnTrue (nat_lt 0 limit) (length (out f.to h ++ octets) ≤ limit + 16384)
     bounded_at = on_low (nat_lt 0 limit) (length (out f.to h ++ octets)) (limit + 16384) (λ t.
         at_most limit (length (out f.to h)) (length octets) (length (out f.to h ++ octets)) (length-append (out f.to h) octets)
-          (low_len limit (above limit f.to h) (length (out f.to h)) (above_now limit f.to h ∙ low) (is_below 0 limit t)) few)
+        (low_len limit (above limit f.to h) (length (out f.to h)) (above_now limit f.to h ∙ low) (is_below 0 limit t)) few)
 
     abbrev Within : List ℕ → Type 0
     Within xs = OnTrue (nat_lt 0 limit) (length xs ≤ limit + 16384)
@@ -162,11 +158,11 @@ module _ (limit : ℕ) (h : Tape) (s : IsSound h) (b : AtEachMoment (IsBounded l
     read_some f e =
         let pair : IsPaired h c f = if_some (feed c h) (IsPaired h c) f e (s.paired c) in
         let low : above limit f.to (Noted (turn_of limit h (event.Read c octets)) ∷ h) ≡ false =
-            above_same limit f.to (Noted (turn_of limit h (event.Read c octets))) h refl ∙ sym (ap (λ (o : Option Feed). is_held limit o h) e) ∙ free in
+        above_same limit f.to (Noted (turn_of limit h (event.Read c octets))) h refl ∙ sym (ap (λ (o : Option Feed). is_held limit o h) e) ∙ free in
         subst (λ (ns : List Note). AtEachMoment (IsBounded limit) (onto ns h)) (sym (reads_some limit h c octets f e pair.goes))
         (bounded_all limit (pause_if (rose limit h c octets f) f) (Noted (note.Arrive f.flow octets) ∷ Noted (turn_of limit h (event.Read c octets)) ∷ h)
-          (short_pause (rose limit h c octets f) f)
-          (bounded_arrive limit f octets (Noted (turn_of limit h (event.Read c octets)) ∷ h) pair.goes low few turned.0, turned))
+        (short_pause (rose limit h c octets f) f)
+        (bounded_arrive limit f octets (Noted (turn_of limit h (event.Read c octets)) ∷ h) pair.goes low few turned.0, turned))
 
     pub read_bounded : After (event.Read c octets)
     read_bounded = by_option (feed c h)

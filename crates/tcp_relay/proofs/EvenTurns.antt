@@ -1,5 +1,4 @@
 -- Each whole dispatch keeps pauses and resumes even.
-use Rattle.flow_gate.specs.declared.ids.FlowId.{FlowId}
 use Rattle.flow_notes.specs.declared.events.Event.{Event}
 use Rattle.flow_notes.specs.declared.events.Job.{Job}
 use Rattle.flow_notes.specs.declared.events.PlainEvent.{PlainEvent}
@@ -9,13 +8,13 @@ use Rattle.relay_laws.specs.Pairs.{Tape, feed, free, is_open, opposite, pairs, u
 use Rattle.relay_laws.specs.Promise.{PausesItsReader}
 use Rattle.relay_laws.specs.Session.{is_held, reads_paused}
 use Rattle.relay_laws.specs.Sound.{IsDone, IsFree, IsPaired, IsSound}
-use Rattle.relay_laws.specs.Watermark.{above, drains_at, rises_at}
+use Rattle.relay_laws.specs.Watermark.{above}
 use Rattle.relay_laws.specs.World.{out}
 use Rattle.relay_laws.specs.declared.feed.Feed.{Feed}
 use Rattle.std.proofs.Common.{ap, arith, refl, subst, sym, ◌∙◌}
 use Rattle.std.proofs.lemmas.Option.{same_Some}
 use Rattle.std.specs.List.{AllByRecursion}
-use Rattle.std.specs.Prelude.{Bool, List, None, Option, Some, [], drop, false, if◌then◌else◌, is_none, length, min, nat_lt, not, true, ℕ, ◌&&◌, ◌+◌, ◌++◌, ◌-◌, ◌<◌, ◌==◌, ◌||◌, ◌∷◌, ◌≡◌}
+use Rattle.std.specs.Prelude.{Bool, List, None, Option, Some, [], drop, false, if◌then◌else◌, is_none, length, min, nat_lt, true, ℕ, ◌&&◌, ◌+◌, ◌-◌, ◌<◌, ◌==◌, ◌||◌, ◌∷◌, ◌≡◌}
 use Rattle.tape_laws.specs.Dispatches.{events_back, has, turns}
 use Rattle.tape_laws.specs.Flows.{request, response}
 use Rattle.tape_laws.specs.History.{Noted, onto}
@@ -24,8 +23,8 @@ use Rattle.tcp_relay.proofs.Boards.{onto_append}
 use Rattle.tcp_relay.proofs.Evens.{Even, IsEven, Unused, even_kept, even_read, even_room, one_if}
 use Rattle.tcp_relay.proofs.Flags.{above_empty, above_same}
 use Rattle.tcp_relay.proofs.Lists.{not_in}
-use Rattle.tcp_relay.proofs.Shapes.{close_if, leaves_none, leaves_some, loses_alone, loses_nothing, loses_pair, low, pairs_two, pause_if, reads_nothing, reads_some, refuses, resume_if, rose, turn_of}
-use Rattle.tcp_relay.proofs.SoundTurns.{after, fresh, read_turn, room_turn, turned}
+use Rattle.tcp_relay.proofs.Shapes.{close_if, leaves_none, leaves_some, loses_alone, loses_nothing, loses_pair, low, pairs_two, reads_nothing, reads_some, refuses, resume_if, turn_of}
+use Rattle.tcp_relay.proofs.SoundTurns.{after, read_turn, room_turn, turned}
 use Rattle.tcp_relay.proofs.Sounds.{feed_c, feed_d, feed_other, left_feed}
 use Rattle.tcp_relay.proofs.Tests.{by_case, by_option, differs_above, for_some, if_some, no_some, number_is, same_number}
 use Rattle.flow_notes.specs.declared.events.Event.TheVariants as event
@@ -37,52 +36,107 @@ use Rattle.flow_notes.specs.declared.notes.Note.TheVariants as note
 module _ (limit : ℕ) (h : Tape) (v : IsEven limit h) where
   even_turn_accept : (k c : ℕ) → IsEven limit (Noted (note.Turn k (event.Accept c)) ∷ h)
   even_turn_accept k c = even_kept limit h (Noted (note.Turn k (event.Accept c)) ∷ h) (record {
-    fed = λ d f e. e; level = λ d f e. above_same limit d (Noted (note.Turn k (event.Accept c))) h refl; pauses = λ g. refl; resumes = λ g. refl; pairs = refl }) v
+    fed = λ d f e. e;
+    level = λ d f e. above_same limit d (Noted (note.Turn k (event.Accept c))) h refl;
+    pauses = λ g. refl;
+    resumes = λ g. refl;
+    pairs = refl;
+  }) v
 
   even_turn_join : (k c j : ℕ) → IsEven limit (Noted (note.Turn k (event.Join c j)) ∷ h)
   even_turn_join k c j = even_kept limit h (Noted (note.Turn k (event.Join c j)) ∷ h) (record {
-    fed = λ d f e. e; level = λ d f e. above_same limit d (Noted (note.Turn k (event.Join c j))) h refl; pauses = λ g. refl; resumes = λ g. refl; pairs = refl }) v
+    fed = λ d f e. e;
+    level = λ d f e. above_same limit d (Noted (note.Turn k (event.Join c j))) h refl;
+    pauses = λ g. refl;
+    resumes = λ g. refl;
+    pairs = refl;
+  }) v
 
   even_turn_read : (k c : ℕ) (octets : List ℕ) → IsEven limit (Noted (note.Turn k (event.Read c octets)) ∷ h)
   even_turn_read k c octets = even_kept limit h (Noted (note.Turn k (event.Read c octets)) ∷ h) (record {
-    fed = λ d f e. e; level = λ d f e. above_same limit d (Noted (note.Turn k (event.Read c octets))) h refl; pauses = λ g. refl; resumes = λ g. refl; pairs = refl }) v
+    fed = λ d f e. e;
+    level = λ d f e. above_same limit d (Noted (note.Turn k (event.Read c octets))) h refl;
+    pauses = λ g. refl;
+    resumes = λ g. refl;
+    pairs = refl;
+  }) v
 
   even_turn_room : (k c n : ℕ) → IsEven limit (Noted (note.Turn k (event.Room c n)) ∷ h)
   even_turn_room k c n = even_kept limit h (Noted (note.Turn k (event.Room c n)) ∷ h) (record {
-    fed = λ d f e. e; level = λ d f e. above_same limit d (Noted (note.Turn k (event.Room c n))) h refl; pauses = λ g. refl; resumes = λ g. refl; pairs = refl }) v
+    fed = λ d f e. e;
+    level = λ d f e. above_same limit d (Noted (note.Turn k (event.Room c n))) h refl;
+    pauses = λ g. refl;
+    resumes = λ g. refl;
+    pairs = refl;
+  }) v
 
   even_turn_gone : (k c : ℕ) → IsEven limit (Noted (note.Turn k (event.Gone c)) ∷ h)
   even_turn_gone k c = even_kept limit h (Noted (note.Turn k (event.Gone c)) ∷ h) (record {
-    fed = λ d f e. e; level = λ d f e. above_same limit d (Noted (note.Turn k (event.Gone c))) h refl; pauses = λ g. refl; resumes = λ g. refl; pairs = refl }) v
+    fed = λ d f e. e;
+    level = λ d f e. above_same limit d (Noted (note.Turn k (event.Gone c))) h refl;
+    pauses = λ g. refl;
+    resumes = λ g. refl;
+    pairs = refl;
+  }) v
 
   even_turn_tick : (k now : ℕ) → IsEven limit (Noted (note.Turn k (event.Tick now)) ∷ h)
   even_turn_tick k now = even_kept limit h (Noted (note.Turn k (event.Tick now)) ∷ h) (record {
-    fed = λ d f e. e; level = λ d f e. above_same limit d (Noted (note.Turn k (event.Tick now))) h refl; pauses = λ g. refl; resumes = λ g. refl; pairs = refl }) v
+    fed = λ d f e. e;
+    level = λ d f e. above_same limit d (Noted (note.Turn k (event.Tick now))) h refl;
+    pauses = λ g. refl;
+    resumes = λ g. refl;
+    pairs = refl;
+  }) v
 
   even_turn_post : (k p n : ℕ) (job : Job) → IsEven limit (Noted (note.Turn k (event.Post p n job)) ∷ h)
   even_turn_post k p n job = even_kept limit h (Noted (note.Turn k (event.Post p n job)) ∷ h) (record {
-    fed = λ d f e. e; level = λ d f e. above_same limit d (Noted (note.Turn k (event.Post p n job))) h refl; pauses = λ g. refl; resumes = λ g. refl; pairs = refl }) v
+    fed = λ d f e. e;
+    level = λ d f e. above_same limit d (Noted (note.Turn k (event.Post p n job))) h refl;
+    pauses = λ g. refl;
+    resumes = λ g. refl;
+    pairs = refl;
+  }) v
 
   even_turn_obey : (k w : ℕ) (ps : List ℕ) → IsEven limit (Noted (note.Turn k (event.Obey w ps)) ∷ h)
   even_turn_obey k w ps = even_kept limit h (Noted (note.Turn k (event.Obey w ps)) ∷ h) (record {
-    fed = λ d f e. e; level = λ d f e. above_same limit d (Noted (note.Turn k (event.Obey w ps))) h refl; pauses = λ g. refl; resumes = λ g. refl; pairs = refl }) v
+    fed = λ d f e. e;
+    level = λ d f e. above_same limit d (Noted (note.Turn k (event.Obey w ps))) h refl;
+    pauses = λ g. refl;
+    resumes = λ g. refl;
+    pairs = refl;
+  }) v
 
   even_turn_plain : (k : ℕ) (p : PlainEvent) → IsEven limit (Noted (note.Turn k (event.Plain p)) ∷ h)
   even_turn_plain k p = even_kept limit h (Noted (note.Turn k (event.Plain p)) ∷ h) (record {
-    fed = λ d f e. e; level = λ d f e. above_same limit d (Noted (note.Turn k (event.Plain p))) h refl; pauses = λ g. refl; resumes = λ g. refl; pairs = refl }) v
+    fed = λ d f e. e;
+    level = λ d f e. above_same limit d (Noted (note.Turn k (event.Plain p))) h refl;
+    pauses = λ g. refl;
+    resumes = λ g. refl;
+    pairs = refl;
+  }) v
 
   even_close : (b : Bool) (c : ℕ) → IsEven limit (onto (close_if b c) h)
   even_close true c = even_kept limit h (Noted (note.Close c 0 closed.Drained) ∷ h) (record {
-    fed = λ d f e. e; level = λ d f e. above_same limit d (Noted (note.Close c 0 closed.Drained)) h refl; pauses = λ g. refl; resumes = λ g. refl; pairs = refl }) v
+    fed = λ d f e. e;
+    level = λ d f e. above_same limit d (Noted (note.Close c 0 closed.Drained)) h refl;
+    pauses = λ g. refl;
+    resumes = λ g. refl;
+    pairs = refl;
+  }) v
   even_close false c = v
 
   even_overload : (c : ℕ) → IsEven limit (Noted (note.Close c 0 closed.Overload) ∷ h)
   even_overload c = even_kept limit h (Noted (note.Close c 0 closed.Overload) ∷ h) (record {
-    fed = λ d f e. e; level = λ d f e. above_same limit d (Noted (note.Close c 0 closed.Overload)) h refl; pauses = λ g. refl; resumes = λ g. refl; pairs = refl }) v
+    fed = λ d f e. e;
+    level = λ d f e. above_same limit d (Noted (note.Close c 0 closed.Overload)) h refl;
+    pauses = λ g. refl;
+    resumes = λ g. refl;
+    pairs = refl;
+  }) v
 
 -- ---- a pair starts
 module _ (limit c d : ℕ) (ds : List ℕ) (h : Tape) (s : IsSound h) (v : IsEven limit h) (some : free h ≡ d ∷ ds) (opened : is_open c h ≡ true) (idle : feed c h ≡ None)
-  (apart : (c == d) ≡ false) (taken : has (free h) c ≡ false) (empty : out c h ≡ []) (empty_too : out d h ≡ []) where
+    (apart : (c == d) ≡ false) (taken : has (free h) c ≡ false) (empty : out c h ≡ []) (empty_too : out d h ≡ []) where
   abbrev x : ℕ
   x = pairs h + 1
 
@@ -104,15 +158,15 @@ module _ (limit c d : ℕ) (ds : List ℕ) (h : Tape) (s : IsSound h) (v : IsEve
   even_at : (e : ℕ) (f : Feed) → feed e begun ≡ Some f → Even limit begun e f
   even_at e f k = by_case (c == e)
       (λ t. subst (λ y. Even limit begun y f) (number_is c e t)
-        (subst (λ y. Even limit begun c y) (same_Some (record { flow = request x; to = d }) f (sym (feed_c c d ds h s some opened idle apart taken) ∙ ap (λ y. feed y begun) (number_is c e t) ∙ k))
-          (record { even = even_new true c empty })))
+      (subst (λ y. Even limit begun c y) (same_Some (record { flow = request x; to = d }) f (sym (feed_c c d ds h s some opened idle apart taken) ∙ ap (λ y. feed y begun) (number_is c e t) ∙ k))
+      (record { even = even_new true c empty })))
       (λ n. by_case (d == e)
-        (λ t. subst (λ y. Even limit begun y f) (number_is d e t)
-          (subst (λ y. Even limit begun d y) (same_Some (record { flow = response x; to = c }) f (sym (feed_d c d ds h s some opened idle apart taken) ∙ ap (λ y. feed y begun) (number_is d e t) ∙ k))
-            (record { even = even_new false d empty_too })))
-        (λ m.
-          let p : Even limit h e f = if_some (feed e h) (Even limit h e) f (sym (feed_other c d ds h s some opened idle apart taken e n m) ∙ k) (v.each e) in
-          record { even = p.even ∙ ap (λ t. resumes (opposite f.flow) h + one_if t) (sym (above_same limit e (Noted (note.Start x c 0 d)) h refl)) }))
+      (λ t. subst (λ y. Even limit begun y f) (number_is d e t)
+      (subst (λ y. Even limit begun d y) (same_Some (record { flow = response x; to = c }) f (sym (feed_d c d ds h s some opened idle apart taken) ∙ ap (λ y. feed y begun) (number_is d e t) ∙ k))
+      (record { even = even_new false d empty_too })))
+      (λ m.
+      let p : Even limit h e f = if_some (feed e h) (Even limit h e) f (sym (feed_other c d ds h s some opened idle apart taken e n m) ∙ k) (v.each e) in
+      record { even = p.even ∙ ap (λ t. resumes (opposite f.flow) h + one_if t) (sym (above_same limit e (Noted (note.Start x c 0 d)) h refl)) }))
 
   pub even_start : IsEven limit begun
   even_start = record {
@@ -129,14 +183,14 @@ module _ (limit : ℕ) (h : Tape) (s : IsSound h) (v : IsEven limit h) where
       let p : IsFree h d = s.unpaired d (ap (λ l. has l d) e ∙ ap (λ b. b || has ds d) (same_number d)) in
       subst (λ (ns : List Note). IsEven limit (onto ns h)) (sym (pairs_two limit h c d ds e))
       (even_start limit c d ds (Noted (turn_of limit h (event.Accept c)) ∷ h) (turned limit h s c new) (even_turn_accept limit h v (turns h + 1) c) e
-        (ap (λ b. b || is_open c h) (same_number c)) q.feed
-        (differs_above d c (subst (λ fs. AllByRecursion (λ y. y < c) fs) e (s.fresh c new).after).0) (not_in (free h) c (s.fresh c new).after) q.out p.out)
+      (ap (λ b. b || is_open c h) (same_number c)) q.feed
+      (differs_above d c (subst (λ fs. AllByRecursion (λ y. y < c) fs) e (s.fresh c new).after).0) (not_in (free h) c (s.fresh c new).after) q.out p.out)
 
   even_read_some : (c : ℕ) (octets : List ℕ) → is_held limit (feed c h) h ≡ false → (f : Feed) → feed c h ≡ Some f → IsEven limit (after limit (event.Read c octets) h)
   even_read_some c octets free f e =
       let pair : IsPaired h c f = if_some (feed c h) (IsPaired h c) f e (s.paired c) in
       let calm : above limit f.to (Noted (turn_of limit h (event.Read c octets)) ∷ h) ≡ false =
-          above_same limit f.to (Noted (turn_of limit h (event.Read c octets))) h refl ∙ sym (ap (λ (o : Option Feed). is_held limit o h) e) ∙ free in
+      above_same limit f.to (Noted (turn_of limit h (event.Read c octets))) h refl ∙ sym (ap (λ (o : Option Feed). is_held limit o h) e) ∙ free in
       subst (λ (ns : List Note). IsEven limit (onto ns h)) (sym (reads_some limit h c octets f e pair.goes))
       (even_read limit (Noted (turn_of limit h (event.Read c octets)) ∷ h) (read_turn h s (turns h + 1) c octets) (even_turn_read limit h v (turns h + 1) c octets) f octets c pair.goes pair.back calm)
 
@@ -155,10 +209,10 @@ module _ (limit : ℕ) (h : Tape) (s : IsSound h) (v : IsEven limit h) where
     even_room_some : nat_lt 0 m ≡ true → IsEven limit (after limit (event.Room c n) h)
     even_room_some e = subst (λ (ns : List Note). IsEven limit (onto ns h)) (sym (leaves_some limit h c n m refl e))
         (subst (λ y. IsEven limit y)
-          (sym (onto_append (resume_if (low limit h c n m) (feed c h) c) (close_if (length (drop m (out c h)) == 0 && is_none (feed c h)) c) (Noted (note.Out c m) ∷ turned_room)))
-          (even_close limit (onto (resume_if (low limit h c n m) (feed c h) c) (Noted (note.Out c m) ∷ turned_room))
-            (even_room limit turned_room (room_turn h s (turns h + 1) c n) (even_turn_room limit h v (turns h + 1) c n) c m)
-            (length (drop m (out c h)) == 0 && is_none (feed c h)) c))
+        (sym (onto_append (resume_if (low limit h c n m) (feed c h) c) (close_if (length (drop m (out c h)) == 0 && is_none (feed c h)) c) (Noted (note.Out c m) ∷ turned_room)))
+        (even_close limit (onto (resume_if (low limit h c n m) (feed c h) c) (Noted (note.Out c m) ∷ turned_room))
+        (even_room limit turned_room (room_turn h s (turns h + 1) c n) (even_turn_room limit h v (turns h + 1) c n) c m)
+        (length (drop m (out c h)) == 0 && is_none (feed c h)) c))
 
     even_after_room : IsEven limit (after limit (event.Room c n) h)
     even_after_room = by_case (nat_lt 0 m) even_room_some
@@ -203,8 +257,8 @@ module _ (limit : ℕ) (h : Tape) (s : IsSound h) (v : IsEven limit h) where
       even_pair : IsEven limit (after limit (event.Gone c) h)
       even_pair = subst (λ (ns : List Note). IsEven limit (onto ns h)) (sym (loses_pair limit h c f o e))
           (even_close limit swept
-            (even_kept limit h swept (record { fed = λ d g k. left_feed y (feed d h) g k; level = above_swept; pauses = λ g. refl; resumes = λ g. refl; pairs = refl }) v)
-            (length (out f.to h) == 0) f.to)
+          (even_kept limit h swept (record { fed = λ d g k. left_feed y (feed d h) g k; level = above_swept; pauses = λ g. refl; resumes = λ g. refl; pairs = refl }) v)
+          (length (out f.to h) == 0) f.to)
 
     even_after_gone : IsEven limit (after limit (event.Gone c) h)
     even_after_gone = by_case (is_open c h)

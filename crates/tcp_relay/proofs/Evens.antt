@@ -2,7 +2,7 @@
 -- buffer is above, and else as often.
 use Rattle.flow_gate.specs.declared.ids.FlowId.{FlowId}
 use Rattle.relay_laws.specs.Lawful.{EachPaired}
-use Rattle.relay_laws.specs.Pairs.{Tape, feed, free, goes_to, is_open, opposite, pairs, unless_doomed}
+use Rattle.relay_laws.specs.Pairs.{Tape, feed, goes_to, opposite, pairs}
 use Rattle.relay_laws.specs.Sound.{IsPaired, IsSound}
 use Rattle.relay_laws.specs.Watermark.{above, drains_at, rises_at}
 use Rattle.relay_laws.specs.World.{out}
@@ -13,12 +13,11 @@ use Rattle.std.proofs.lemmas.List.{length-drop}
 use Rattle.std.proofs.lemmas.Option.{same_Some}
 use Rattle.std.specs.Prelude.{Bool, List, None, Option, Some, [], drop, false, if◌then◌else◌, length, not, true, ℕ, ◌&&◌, ◌+◌, ◌++◌, ◌-◌, ◌<◌, ◌==◌, ◌∷◌, ◌≡◌, ◌≤◌}
 use Rattle.tape_laws.specs.Dispatches.{is_some_of}
-use Rattle.tape_laws.specs.Flows.{request, response, same_flow}
+use Rattle.tape_laws.specs.Flows.{same_flow}
 use Rattle.tape_laws.specs.History.{Noted, onto}
 use Rattle.tape_laws.specs.Pauses.{pauses, resumes}
-use Rattle.tcp_relay.proofs.Flags.{above_empty, above_less, above_same}
+use Rattle.tcp_relay.proofs.Flags.{above_less, above_same}
 use Rattle.tcp_relay.proofs.Shapes.{pause_if, resume_if}
-use Rattle.tcp_relay.proofs.Sounds.{left_feed}
 use Rattle.tcp_relay.proofs.Tests.{and_left, and_right, by_case, for_some, if_some, no_some, not_both, number_is, same_number}
 use Rattle.wm_buffer.specs.Watermark.{above_after}
 use Rattle.flow_gate.specs.declared.ids.BufferId.TheVariants as buffer
@@ -99,7 +98,7 @@ no_more p = omega arith
 
 -- ---- octets arrive at a connection that isn't above, and the pause follows where it rises
 module _ (limit : ℕ) (h : Tape) (s : IsSound h) (v : IsEven limit h) (f : Feed) (octets : List ℕ) (c : ℕ)
-  (to : goes_to f.flow h ≡ Some f.to) (back : feed f.to h ≡ Some (record { flow = opposite f.flow; to = c })) (low : above limit f.to h ≡ false) where
+    (to : goes_to f.flow h ≡ Some f.to) (back : feed f.to h ≡ Some (record { flow = opposite f.flow; to = c })) (low : above limit f.to h ≡ false) where
   abbrev arrived : Tape
   arrived = Noted (note.Arrive f.flow octets) ∷ h
 
@@ -149,14 +148,18 @@ module _ (limit : ℕ) (h : Tape) (s : IsSound h) (v : IsEven limit h) (f : Feed
   even_at : (b : Bool) → high ≡ b → (d : ℕ) (g : Feed) → feed d h ≡ Some g → Even limit (next b) d g
   even_at b e d g k = by_case (f.to == d)
       (λ t. let same : record { flow = opposite f.flow; to = c } ≡ g = same_Some _ _ (sym back ∙ ap (λ y. feed y h) (number_is f.to d t) ∙ k) in
-        record { even = subst (λ y. pauses (opposite y.flow) (next b) ≡ resumes (opposite y.flow) (next b) + one_if (above limit d (next b))) same
-          (subst (λ y. pauses y (next b) ≡ resumes y (next b) + one_if (above limit d (next b))) (sym (opposite_twice f.flow))
-            (subst (λ y. pauses f.flow (next b) ≡ resumes f.flow (next b) + one_if (above limit y (next b))) (number_is f.to d t) (now b e))) })
+      record {
+        even = subst (λ y. pauses (opposite y.flow) (next b) ≡ resumes (opposite y.flow) (next b) + one_if (above limit d (next b))) same
+            (subst (λ y. pauses y (next b) ≡ resumes y (next b) + one_if (above limit d (next b))) (sym (opposite_twice f.flow))
+            (subst (λ y. pauses f.flow (next b) ≡ resumes f.flow (next b) + one_if (above limit y (next b))) (number_is f.to d t) (now b e)));
+      })
       (λ n.
-        let p : Even limit h d g = if_some (feed d h) (Even limit h d) g k (v.each d) in
-        let q : IsPaired h d g = if_some (feed d h) (IsPaired h d) g k (s.paired d) in
-        record { even = pauses_other b (opposite g.flow) (apart f.flow (opposite g.flow) f.to d h to q.comes n) ∙ p.even
-          ∙ (λ i. sym (resumes_next b (opposite g.flow)) i + one_if (sym (above_next b d ∙ goes_next d n) i)) })
+      let p : Even limit h d g = if_some (feed d h) (Even limit h d) g k (v.each d) in
+      let q : IsPaired h d g = if_some (feed d h) (IsPaired h d) g k (s.paired d) in
+      record {
+        even = pauses_other b (opposite g.flow) (apart f.flow (opposite g.flow) f.to d h to q.comes n) ∙ p.even
+            ∙ (λ i. sym (resumes_next b (opposite g.flow)) i + one_if (sym (above_next b d ∙ goes_next d n) i));
+      })
 
   few : f.flow.exchange ≤ pairs h
   few = (if_some (feed f.to h) (IsPaired h f.to) (record { flow = opposite f.flow; to = c }) back (s.paired f.to)).few
@@ -257,13 +260,15 @@ module _ (limit : ℕ) (h : Tape) (s : IsSound h) (v : IsEven limit h) (c n : �
     even_left_at : (b : Bool) → Told b → (d : ℕ) (g : Feed) → feed d h ≡ Some g → Even limit (told b) d g
     even_left_at b w d g k = by_case (c == d)
         (λ t. subst (λ y. Even limit (told b) y g) (number_is c d t)
-          (subst (λ y. Even limit (told b) c y) (same_Some f g (sym e ∙ ap (λ y. feed y h) (number_is c d t) ∙ k)) (record { even = w })))
+        (subst (λ y. Even limit (told b) c y) (same_Some f g (sym e ∙ ap (λ y. feed y h) (number_is c d t) ∙ k)) (record { even = w })))
         (λ m.
-          let p : Even limit h d g = if_some (feed d h) (Even limit h d) g k (v.each d) in
-          let q : IsPaired h d g = if_some (feed d h) (IsPaired h d) g k (s.paired d) in
-          record { even = pauses_told b (opposite g.flow) ∙ p.even
-            ∙ (λ i. sym (resumes_other b (opposite g.flow) (apart (opposite f.flow) (opposite g.flow) c d h pair.comes q.comes m)) i
-              + one_if (sym (above_told b d ∙ goes_still d m) i)) })
+        let p : Even limit h d g = if_some (feed d h) (Even limit h d) g k (v.each d) in
+        let q : IsPaired h d g = if_some (feed d h) (IsPaired h d) g k (s.paired d) in
+        record {
+          even = pauses_told b (opposite g.flow) ∙ p.even
+              ∙ (λ i. sym (resumes_other b (opposite g.flow) (apart (opposite f.flow) (opposite g.flow) c d h pair.comes q.comes m)) i
+              + one_if (sym (above_told b d ∙ goes_still d m) i));
+        })
 
     not_yet : (x y n : ℕ) → x ≤ n → n < y → (x == y) ≡ false
     not_yet x y n l m = grind (arith, nat_tests)

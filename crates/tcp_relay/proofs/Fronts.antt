@@ -1,7 +1,7 @@
 -- Notes that are written after others, and fronts of them.
 use Rattle.flow_notes.specs.declared.notes.Note.{Note}
 use Rattle.io_ports.specs.declared.octets.NoMemory.{NoMemory}
-use Rattle.std.proofs.Common.{ap, append_assoc, refl, sym, ◌∙◌}
+use Rattle.std.proofs.Common.{ap, append_assoc, sym, ◌∙◌}
 use Rattle.std.specs.Prelude.{Err, IsErrAnd, List, Ok, Result, ◌++◌, ◌≡◌}
 use Rattle.tcp_relay.specs.Noting.{AppendsNotes, AppendsSome}
 

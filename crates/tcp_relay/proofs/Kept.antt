@@ -1,6 +1,4 @@
 -- What came for a connection that wasn't lost has left, or waits, in order.
-use Rattle.flow_notes.specs.declared.notes.CloseCause.{CloseCause}
-use Rattle.flow_notes.specs.declared.notes.Note.{Note}
 use Rattle.relay_laws.specs.Pairs.{Tape, goes_to}
 use Rattle.relay_laws.specs.Promise.{KeepsWhatWaits, was_lost}
 use Rattle.relay_laws.specs.World.{entered, gone, out}
@@ -8,7 +6,7 @@ use Rattle.std.proofs.Common.{ap, append-nil, append_assoc, refl, sym, take-appe
 use Rattle.std.specs.Prelude.{Bool, List, [], drop, false, if◌then◌else◌, take, true, ℕ, ◌++◌, ◌==◌, ◌||◌, ◌∷◌, ◌≡◌}
 use Rattle.tape_laws.specs.Dispatches.{is_some_of}
 use Rattle.tape_laws.specs.History.{AtEachMoment, Marked, NoMark, Noted, Step}
-use Rattle.tcp_relay.proofs.Tests.{by_case, not_both, or_none_left, or_none_right}
+use Rattle.tcp_relay.proofs.Tests.{not_both}
 use Rattle.flow_notes.specs.declared.notes.CloseCause.TheVariants as why
 use Rattle.flow_notes.specs.declared.notes.Note.TheVariants as note
 

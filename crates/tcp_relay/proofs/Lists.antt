@@ -110,8 +110,8 @@ pub remove_rest : (xs : List ℕ) (c : ℕ) → Rises xs → remove_key (is_at (
 remove_rest [] c r = refl
 remove_rest (x ∷ xs) c r = by_case (x == c)
     (λ e. ap (λ b. cond b xs (x ∷ remove_key (is_at (nat_cmp c)) xs)) (at_is c x ∙ e)
-      ∙ sym (filter_none xs c (all_above xs c (subst (λ y. AllByRecursion (λ d. y < d) xs) (number_is x c e) r.0)))
-      ∙ sym (ap (λ b. cond (not b) (x ∷ filter (λ z. not (z == c)) xs) (filter (λ z. not (z == c)) xs)) e))
+    ∙ sym (filter_none xs c (all_above xs c (subst (λ y. AllByRecursion (λ d. y < d) xs) (number_is x c e) r.0)))
+    ∙ sym (ap (λ b. cond (not b) (x ∷ filter (λ z. not (z == c)) xs) (filter (λ z. not (z == c)) xs)) e))
     (λ e. ap (λ b. cond b xs (x ∷ remove_key (is_at (nat_cmp c)) xs)) (at_is c x ∙ e)
-      ∙ ap (λ ys. x ∷ ys) (remove_rest xs c r.1)
-      ∙ sym (ap (λ b. cond (not b) (x ∷ filter (λ z. not (z == c)) xs) (filter (λ z. not (z == c)) xs)) e))
+    ∙ ap (λ ys. x ∷ ys) (remove_rest xs c r.1)
+    ∙ sym (ap (λ b. cond (not b) (x ∷ filter (λ z. not (z == c)) xs) (filter (λ z. not (z == c)) xs)) e))

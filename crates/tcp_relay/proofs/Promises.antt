@@ -6,11 +6,10 @@ use Rattle.relay_laws.specs.Lawful.{BacksOff}
 use Rattle.relay_laws.specs.Order.{may_come}
 use Rattle.relay_laws.specs.Pairs.{Tape, feed, opposite}
 use Rattle.relay_laws.specs.Promise.{PausesItsReader, RelaysItsReads, Relays}
-use Rattle.relay_laws.specs.Session.{IsTape, MayRelayAll, is_held, reads_paused, relay_tape}
+use Rattle.relay_laws.specs.Session.{IsTape, MayRelayAll, is_held, relay_tape}
 use Rattle.relay_laws.specs.Sound.{IsPaired, IsSound}
 use Rattle.relay_laws.specs.Watermark.{above}
-use Rattle.relay_laws.specs.declared.feed.Feed.{Feed}
-use Rattle.std.proofs.Common.{ap, refl, subst, sym, ◌∙◌}
+use Rattle.std.proofs.Common.{ap, subst, sym, ◌∙◌}
 use Rattle.std.specs.List.{AllByRecursion}
 use Rattle.std.specs.Prelude.{Bool, IfSome, List, None, Option, Some, [], false, if◌then◌else◌, true, ℕ, ◌+◌, ◌++◌, ◌∷◌, ◌≡◌}
 use Rattle.tape_laws.specs.Dispatches.{events_back, turns}
@@ -91,7 +90,7 @@ module _ (May : Step NoMark → Tape → Type 0) (quiet : (n : Note) → NotTurn
         let t : Tied limit e h = tied limit h names e k.sound (ap (λ v. may_come v e) k.shows ∙ m.0.comes.2) m.0.comes.0 in
         subst (λ (ns : List Note). EachFollows May (onto ns h)) (sym t.notes)
         (follows_onto (notes_of e (effect_of e (tape_board limit h))) (Noted (note.Turn (turns h + 1) e) ∷ h) (none_of e (effect_of e (tape_board limit h)))
-          (at e es m, each_turn es m.1))
+        (at e es m, each_turn es m.1))
 
 quiet_before : (P : Tape → Type 0) (n : Note) → NotTurn n → (h : Tape) → BeforeTurn P (Noted n) h
 quiet_before P (note.Turn k e) t h = absurd t

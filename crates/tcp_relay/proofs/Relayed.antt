@@ -1,21 +1,20 @@
 -- What came for the one connection of a live pair is what was read from the other since the pair's start.
-use Rattle.flow_gate.specs.declared.ids.FlowId.{FlowId}
 use Rattle.flow_notes.specs.declared.events.Event.{Event}
 use Rattle.flow_notes.specs.declared.events.Job.{Job}
 use Rattle.flow_notes.specs.declared.events.PlainEvent.{PlainEvent}
 use Rattle.flow_notes.specs.declared.notes.Note.{Note}
 use Rattle.relay_laws.specs.Lawful.{EachPaired}
 use Rattle.relay_laws.specs.Order.{is_new, may_come, named}
-use Rattle.relay_laws.specs.Pairs.{Tape, feed, free, goes_to, is_open, opposite, pairs, unless_doomed}
+use Rattle.relay_laws.specs.Pairs.{Tape, feed, free, is_open, opposite, pairs}
 use Rattle.relay_laws.specs.Promise.{RelaysItsReads, read_in, was_lost}
-use Rattle.relay_laws.specs.Sound.{IsDone, IsFree, IsFresh, IsPaired, IsSound}
+use Rattle.relay_laws.specs.Sound.{IsPaired, IsSound}
 use Rattle.relay_laws.specs.World.{entered, gone, out}
 use Rattle.relay_laws.specs.declared.feed.Feed.{Feed}
 use Rattle.std.proofs.Common.{ap, append-nil, arith, refl, subst, sym, ◌∙◌}
 use Rattle.std.proofs.lemmas.Bool.Decides.{nat_tests}
 use Rattle.std.proofs.lemmas.Option.{same_Some}
-use Rattle.std.specs.List.{AllByRecursion, list_all}
-use Rattle.std.specs.Prelude.{Bool, List, None, Option, Some, [], drop, false, filter, if◌then◌else◌, is_none, length, min, nat_lt, not, true, ℕ, ◌&&◌, ◌+◌, ◌++◌, ◌<◌, ◌==◌, ◌||◌, ◌∷◌, ◌≡◌, ◌≤◌}
+use Rattle.std.specs.List.{AllByRecursion}
+use Rattle.std.specs.Prelude.{Bool, List, None, Option, Some, [], drop, false, if◌then◌else◌, is_none, length, min, nat_lt, not, true, ℕ, ◌&&◌, ◌+◌, ◌++◌, ◌<◌, ◌==◌, ◌||◌, ◌∷◌, ◌≡◌, ◌≤◌}
 use Rattle.tape_laws.specs.Dispatches.{events_back, has, is_some_of, turns}
 use Rattle.tape_laws.specs.Flows.{request, response}
 use Rattle.tape_laws.specs.History.{Noted, onto}
@@ -25,7 +24,7 @@ use Rattle.tcp_relay.proofs.Lists.{has_left, has_was, not_in}
 use Rattle.tcp_relay.proofs.Shapes.{close_if, leaves_none, leaves_some, loses_alone, loses_nothing, loses_pair, low, pairs_two, pause_if, reads_nothing, reads_some, refuses, resume_if, rose, turn_of}
 use Rattle.tcp_relay.proofs.SoundTurns.{after, gone_turn, turned}
 use Rattle.tcp_relay.proofs.Sounds.{feed_c, feed_d, feed_other, left_feed, new_before}
-use Rattle.tcp_relay.proofs.Tests.{and_right, by_case, by_option, differs_above, for_some, if_some, no_some, not_both, number_is, or_none_left, or_none_right, same_number}
+use Rattle.tcp_relay.proofs.Tests.{and_right, by_case, by_option, differs_above, for_some, if_some, no_some, not_both, number_is, same_number}
 use Rattle.flow_gate.specs.declared.ids.BufferId.TheVariants as buffer
 use Rattle.flow_notes.specs.declared.events.Event.TheVariants as event
 use Rattle.flow_notes.specs.declared.notes.Cause.TheVariants as cause
@@ -102,7 +101,7 @@ module _ (k c : ℕ) (h : Tape) (r : IsRelayed h) (new : is_new (events_back h) 
 
 -- ---- a pair starts
 module _ (c d : ℕ) (ds : List ℕ) (h : Tape) (s : IsSound h) (r : IsRelayed h) (some : free h ≡ d ∷ ds) (opened : is_open c h ≡ true) (idle : feed c h ≡ None)
-  (apart : (c == d) ≡ false) (taken : has (free h) c ≡ false) (empty : entered c h ≡ []) where
+    (apart : (c == d) ≡ false) (taken : has (free h) c ≡ false) (empty : entered c h ≡ []) where
   abbrev x : ℕ
   x = pairs h + 1
 
@@ -121,16 +120,16 @@ module _ (c d : ℕ) (ds : List ℕ) (h : Tape) (s : IsSound h) (r : IsRelayed h
   fed_at : (e : ℕ) (f : Feed) → feed e begun ≡ Some f → Fed begun e f
   fed_at e f k = by_case (c == e)
       (λ t. subst (λ y. Fed begun y f) (number_is c e t)
-        (subst (λ y. Fed begun c y) (same_Some (record { flow = request x; to = d }) f (sym (feed_c c d ds h s some opened idle apart taken) ∙ ap (λ y. feed y begun) (number_is c e t) ∙ k))
-          (record { is = empty_too ∙ read_none c })))
+      (subst (λ y. Fed begun c y) (same_Some (record { flow = request x; to = d }) f (sym (feed_c c d ds h s some opened idle apart taken) ∙ ap (λ y. feed y begun) (number_is c e t) ∙ k))
+      (record { is = empty_too ∙ read_none c })))
       (λ n. by_case (d == e)
-        (λ t. subst (λ y. Fed begun y f) (number_is d e t)
-          (subst (λ y. Fed begun d y) (same_Some (record { flow = response x; to = c }) f (sym (feed_d c d ds h s some opened idle apart taken) ∙ ap (λ y. feed y begun) (number_is d e t) ∙ k))
-            (record { is = empty ∙ read_none d })))
-        (λ m.
-          let was : feed e h ≡ Some f = sym (feed_other c d ds h s some opened idle apart taken e n m) ∙ k in
-          let p : IsPaired h e f = if_some (feed e h) (IsPaired h e) f was (s.paired e) in
-          record { is = (if_some (feed e h) (Fed h e) f was (r.each e)).is ∙ sym (ap (λ b. if b then [] else read_in f.flow.exchange e h) (not_before (pairs h) f.flow.exchange p.few)) }))
+      (λ t. subst (λ y. Fed begun y f) (number_is d e t)
+      (subst (λ y. Fed begun d y) (same_Some (record { flow = response x; to = c }) f (sym (feed_d c d ds h s some opened idle apart taken) ∙ ap (λ y. feed y begun) (number_is d e t) ∙ k))
+      (record { is = empty ∙ read_none d })))
+      (λ m.
+      let was : feed e h ≡ Some f = sym (feed_other c d ds h s some opened idle apart taken e n m) ∙ k in
+      let p : IsPaired h e f = if_some (feed e h) (IsPaired h e) f was (s.paired e) in
+      record { is = (if_some (feed e h) (Fed h e) f was (r.each e)).is ∙ sym (ap (λ b. if b then [] else read_in f.flow.exchange e h) (not_before (pairs h) f.flow.exchange p.few)) }))
 
   relayed_start : IsRelayed begun
   relayed_start = record {
@@ -186,20 +185,22 @@ module _ (k d : ℕ) (octets : List ℕ) (h : Tape) (s : IsSound h) (r : IsRelay
     elsewhere : (c : ℕ) (g : Feed) → feed c h ≡ Some g → (d == c) ≡ false → (f.to == g.to) ≡ false
     elsewhere c g q n = by_case (f.to == g.to)
         (λ t. not_both (d == c) (subst (λ y. (d == y) ≡ true)
-          (ap (λ (y : Feed). y.to) (same_Some (record { flow = opposite f.flow; to = d }) (record { flow = opposite g.flow; to = c })
-            (sym pair.back ∙ ap (λ y. feed y h) (number_is f.to g.to t) ∙ (if_some (feed c h) (IsPaired h c) g q (s.paired c)).back))) (same_number d)) n)
+        (ap (λ (y : Feed). y.to) (same_Some (record { flow = opposite f.flow; to = d }) (record { flow = opposite g.flow; to = c })
+        (sym pair.back ∙ ap (λ y. feed y h) (number_is f.to g.to t) ∙ (if_some (feed c h) (IsPaired h c) g q (s.paired c)).back))) (same_number d)) n)
         (λ m. m)
 
     fed_here : (b : Bool) (c : ℕ) (g : Feed) → feed c h ≡ Some g → Fed (brought b) c g
     fed_here b c g q = by_case (d == c)
         (λ t. let same : f ≡ g = same_Some f g (sym e ∙ ap (λ y. feed y h) (number_is d c t) ∙ q) in
-          subst (λ y. Fed (brought b) y g) (number_is d c t) (subst (λ y. Fed (brought b) d y) same (record {
-            is = enters b f.to ∙ ap (λ z. entered f.to h ++ (if z then octets else [])) (same_number f.to)
-                ∙ ap (λ (y : List ℕ). y ++ octets) (if_some (feed d h) (Fed h d) f e (r.each d)).is
-                ∙ sym (reads b f.flow.exchange d ∙ ap (λ z. read_in f.flow.exchange d h ++ (if z then octets else [])) (same_number d)) })))
+        subst (λ y. Fed (brought b) y g) (number_is d c t) (subst (λ y. Fed (brought b) d y) same (record {
+          is = enters b f.to ∙ ap (λ z. entered f.to h ++ (if z then octets else [])) (same_number f.to)
+              ∙ ap (λ (y : List ℕ). y ++ octets) (if_some (feed d h) (Fed h d) f e (r.each d)).is
+              ∙ sym (reads b f.flow.exchange d ∙ ap (λ z. read_in f.flow.exchange d h ++ (if z then octets else [])) (same_number d));
+        })))
         (λ n. record {
           is = untold b g.to (elsewhere c g q n) ∙ (if_some (feed c h) (Fed h c) g q (r.each c)).is
-              ∙ sym (reads b g.flow.exchange c ∙ nothing_more (read_in g.flow.exchange c h) (d == c) octets n) })
+              ∙ sym (reads b g.flow.exchange c ∙ nothing_more (read_in g.flow.exchange c h) (d == c) octets n);
+        })
 
     open_there : (b : Bool) (c : ℕ) → is_open c (brought b) ≡ is_open c h
     open_there true c = refl
@@ -326,14 +327,14 @@ module _ (limit : ℕ) (h : Tape) (s : IsSound h) (r : IsRelayed h) where
       (relayed_overload (Noted (turn_of limit h (event.Accept c)) ∷ h) (relayed_accept (turns h + 1) c h r new) c)
   relayed_accept_by c new (d ∷ ds) e = subst (λ (ns : List Note). IsRelayed (onto ns h)) (sym (pairs_two limit h c d ds e))
       (relayed_start c d ds (Noted (turn_of limit h (event.Accept c)) ∷ h) (turned limit h s c new) (relayed_accept (turns h + 1) c h r new) e
-        (ap (λ b. b || is_open c h) (same_number c)) (s.done c (s.fresh c new).closed).feed
-        (differs_above d c (subst (λ fs. AllByRecursion (λ y. y < c) fs) e (s.fresh c new).after).0) (not_in (free h) c (s.fresh c new).after) (r.new c new).none)
+      (ap (λ b. b || is_open c h) (same_number c)) (s.done c (s.fresh c new).closed).feed
+      (differs_above d c (subst (λ fs. AllByRecursion (λ y. y < c) fs) e (s.fresh c new).after).0) (not_in (free h) c (s.fresh c new).after) (r.new c new).none)
 
   relayed_after_read : (c : ℕ) (octets : List ℕ) → IsRelayed (after limit (event.Read c octets) h)
   relayed_after_read c octets = by_option (feed c h)
       (λ e. subst (λ (ns : List Note). IsRelayed (onto ns h)) (sym (reads_nothing limit h c octets e)) (relayed_nothing (turns h + 1) c octets h s r e))
       (λ f e. subst (λ (ns : List Note). IsRelayed (onto ns h)) (sym (reads_some limit h c octets f e (if_some (feed c h) (IsPaired h c) f e (s.paired c)).goes))
-        (relayed_read (turns h + 1) c octets h s r f e (rose limit h c octets f)))
+      (relayed_read (turns h + 1) c octets h s r f e (rose limit h c octets f)))
 
   module _ (c n : ℕ) where
     abbrev m : ℕ
@@ -345,10 +346,10 @@ module _ (limit : ℕ) (h : Tape) (s : IsSound h) (r : IsRelayed h) where
     relayed_after_room : IsRelayed (after limit (event.Room c n) h)
     relayed_after_room = by_case (nat_lt 0 m)
         (λ e. subst (λ (ns : List Note). IsRelayed (onto ns h)) (sym (leaves_some limit h c n m refl e))
-          (subst (λ y. IsRelayed y) (sym (onto_append (resume_if (low limit h c n m) (feed c h) c) (close_if (length (drop m (out c h)) == 0 && is_none (feed c h)) c) left))
-            (relayed_close (onto (resume_if (low limit h c n m) (feed c h) c) left)
-              (relayed_resume left (relayed_out (Noted (turn_of limit h (event.Room c n)) ∷ h) (relayed_room_turn h r (turns h + 1) c n) c m) (low limit h c n m) (feed c h) c)
-              (length (drop m (out c h)) == 0 && is_none (feed c h)) c)))
+        (subst (λ y. IsRelayed y) (sym (onto_append (resume_if (low limit h c n m) (feed c h) c) (close_if (length (drop m (out c h)) == 0 && is_none (feed c h)) c) left))
+        (relayed_close (onto (resume_if (low limit h c n m) (feed c h) c) left)
+        (relayed_resume left (relayed_out (Noted (turn_of limit h (event.Room c n)) ∷ h) (relayed_room_turn h r (turns h + 1) c n) c m) (low limit h c n m) (feed c h) c)
+        (length (drop m (out c h)) == 0 && is_none (feed c h)) c)))
         (λ e. subst (λ (ns : List Note). IsRelayed (onto ns h)) (sym (leaves_none limit h c n e)) (relayed_room_turn h r (turns h + 1) c n))
 
   module _ (c : ℕ) where
@@ -358,11 +359,11 @@ module _ (limit : ℕ) (h : Tape) (s : IsSound h) (r : IsRelayed h) where
     relayed_after_gone : IsRelayed (after limit (event.Gone c) h)
     relayed_after_gone = by_case (is_open c h)
         (λ o. by_option (feed c h)
-          (λ e. subst (λ (ns : List Note). IsRelayed (onto ns h)) (sym (loses_alone limit h c o e)) (lost_here o))
-          (λ f e. subst (λ (ns : List Note). IsRelayed (onto ns h)) (sym (loses_pair limit h c f o e))
-            (relayed_close (Noted (note.Gone f.flow.exchange) ∷ Noted (note.Doom f.flow.exchange (cause.ConnLost c)) ∷ Noted (note.Close c 0 closed.Lost) ∷ Noted (turn_of limit h (event.Gone c)) ∷ h)
-              (relayed_swept (Noted (note.Close c 0 closed.Lost) ∷ Noted (turn_of limit h (event.Gone c)) ∷ h) (lost_here o) f.flow.exchange c)
-              (length (out f.to h) == 0) f.to)))
+        (λ e. subst (λ (ns : List Note). IsRelayed (onto ns h)) (sym (loses_alone limit h c o e)) (lost_here o))
+        (λ f e. subst (λ (ns : List Note). IsRelayed (onto ns h)) (sym (loses_pair limit h c f o e))
+        (relayed_close (Noted (note.Gone f.flow.exchange) ∷ Noted (note.Doom f.flow.exchange (cause.ConnLost c)) ∷ Noted (note.Close c 0 closed.Lost) ∷ Noted (turn_of limit h (event.Gone c)) ∷ h)
+        (relayed_swept (Noted (note.Close c 0 closed.Lost) ∷ Noted (turn_of limit h (event.Gone c)) ∷ h) (lost_here o) f.flow.exchange c)
+        (length (out f.to h) == 0) f.to)))
         (λ o. subst (λ (ns : List Note). IsRelayed (onto ns h)) (sym (loses_nothing limit h c o (s.done c o).feed)) (relayed_gone_turn h r (turns h + 1) c))
 
   pub relayed_after : (e : Event) → may_come (events_back h) e ≡ true → IsRelayed (after limit e h)

@@ -2,7 +2,7 @@
 use Rattle.flow_notes.specs.declared.events.Event.{Event}
 use Rattle.flow_notes.specs.declared.notes.Note.{Note}
 use Rattle.relay_laws.specs.Dispatch.{dispatch_notes}
-use Rattle.relay_laws.specs.Order.{MayCome, may_come}
+use Rattle.relay_laws.specs.Order.{MayCome}
 use Rattle.relay_laws.specs.Pairs.{Tape, feed, is_open, opposite}
 use Rattle.relay_laws.specs.Session.{IsTape, MayRelayAll, is_held, reads_paused, relay_tape}
 use Rattle.relay_laws.specs.Sound.{IsPaired, IsSound}
@@ -13,18 +13,18 @@ use Rattle.std.specs.BTreeSet.{contains}
 use Rattle.std.specs.Ordering.{nat_cmp}
 use Rattle.std.proofs.Common.{ap, refl, subst, sym, ◌∙◌}
 use Rattle.std.specs.Prelude.{Bool, Err, List, None, Ok, OnOk, Option, Result, Some, [], false, if◌then◌else◌, is_none, is_some, length, nat_lt, not, true, ℕ, ◌+◌, ◌++◌, ◌||◌, ◌∷◌, ◌≡◌}
-use Rattle.tape_laws.specs.Dispatches.{events_back, turns}
-use Rattle.tape_laws.specs.History.{Noted, onto}
+use Rattle.tape_laws.specs.Dispatches.{events_back}
+use Rattle.tape_laws.specs.History.{onto}
 use Rattle.tcp_relay.proofs.Boards.{feeds_seen, onto_append, seen_same}
 use Rattle.tcp_relay.proofs.Sessions.{tape_sound}
 use Rattle.tcp_relay.proofs.Spelled.{spelled, spelled_both, spelled_some}
 use Rattle.tcp_relay.proofs.Tests.{by_case, by_option, if_some, no_some}
 use Rattle.tcp_relay.proofs.TieAll.{counts, shows, tied}
-use Rattle.tcp_relay.specs.Board.{Board, IsSeenAs, board_after, board_of, effect_of, held_at, held_for, held_past, is_reading}
+use Rattle.tcp_relay.specs.Board.{IsSeenAs, board_after, board_of, effect_of, held_at, held_for, held_past, is_reading}
 use Rattle.tcp_relay.specs.Effects.{notes_of}
 use Rattle.tcp_relay.specs.Lines.{feeds_of, held_in, line_in, octets_of}
 use Rattle.tcp_relay.specs.Noting.{AppendsSome}
-use Rattle.tcp_relay.specs.Rests.{GoesOn, GoesOnFrom, RefusesFrom, Rests, ShowsClosing, ShowsConn, ShowsFront, ShowsOut, ShowsReads, StopsFrom, goes_on as reads_on, has_octets, held_behind, held_by}
+use Rattle.tcp_relay.specs.Rests.{GoesOnFrom, RefusesFrom, Rests, ShowsClosing, ShowsConn, ShowsFront, ShowsOut, ShowsReads, StopsFrom, goes_on as reads_on, has_octets, held_behind, held_by}
 use Rattle.tcp_relay.specs.Seen.{IsFront, IsLeast}
 use Rattle.tcp_relay.specs.Stands.{line_if, line_of, tape_board}
 use Rattle.tcp_relay.specs.Ties.{Tied}
@@ -44,11 +44,11 @@ module _ (limit : ℕ) (h : Tape) (s : IsSound h) where
   held_same c = ap (λ (o : Option Feed). held_past o (tape_board limit h)) (feeds_seen limit c h s) ∙ by_option (feed c h)
       (λ e. ap (λ (o : Option Feed). held_past o (tape_board limit h)) e ∙ sym (ap (λ (o : Option Feed). held_behind limit o h) e))
       (λ f e.
-        let p : IsPaired h c f = if_some (feed c h) (IsPaired h c) f e (s.paired c) in
-        let q : IsPaired h f.to (record { flow = opposite f.flow; to = c }) = if_some (feed f.to h) (IsPaired h f.to) (record { flow = opposite f.flow; to = c }) p.back (s.paired f.to) in
-        ap (λ (o : Option Feed). held_past o (tape_board limit h)) e
-        ∙ held_open (is_open f.to h) (out f.to h) (above limit f.to h) (feed f.to h) q.opened
-        ∙ sym (ap (λ (o : Option Feed). held_behind limit o h) e))
+      let p : IsPaired h c f = if_some (feed c h) (IsPaired h c) f e (s.paired c) in
+      let q : IsPaired h f.to (record { flow = opposite f.flow; to = c }) = if_some (feed f.to h) (IsPaired h f.to) (record { flow = opposite f.flow; to = c }) p.back (s.paired f.to) in
+      ap (λ (o : Option Feed). held_past o (tape_board limit h)) e
+      ∙ held_open (is_open f.to h) (out f.to h) (above limit f.to h) (feed f.to h) q.opened
+      ∙ sym (ap (λ (o : Option Feed). held_behind limit o h) e))
 
   pub held_event : (e : Event) → held_for e (tape_board limit h) ≡ held_by limit e h
   held_event (event.Read c octets) = held_same c
@@ -90,7 +90,7 @@ module _ (limit : ℕ) (names : List (List ℕ)) (old : Relay) (e : Event) (h : 
   same_notes = (λ i. note.Turn (r.turn i + 1) e ∷ notes_of e (effect_of e (r.board i))) ∙ sym ties.notes
 
   module _ (new : Relay) (before after : List Note) (free : held_for e (board_of old.table) ≡ None) (turn : new.turn ≡ old.turn + 1)
-    (board : board_of new.table ≡ board_after e (board_of old.table)) (well : new.failed ≡ old.failed) where
+      (board : board_of new.table ≡ board_after e (board_of old.table)) (well : new.failed ≡ old.failed) where
     abbrev pub next : Tape
     next = onto (dispatch_notes limit e h) h
 

@@ -2,7 +2,7 @@
 use Rattle.flow_notes.specs.declared.events.Event.{Event}
 use Rattle.flow_notes.specs.declared.notes.Note.{Note}
 use Rattle.relay_laws.specs.Dispatch.{dispatch_notes, paused_by, resumed_by, spread}
-use Rattle.relay_laws.specs.Given.{carried, drained, ended, given, left_by, lost, met}
+use Rattle.relay_laws.specs.Given.{carried, drained, ended, left_by, met}
 use Rattle.relay_laws.specs.Pairs.{Tape, feed, free, goes_to, is_open, opposite, pairs}
 use Rattle.relay_laws.specs.Watermark.{drains_at, rises_at}
 use Rattle.relay_laws.specs.World.{out}
@@ -66,7 +66,7 @@ module _ (limit : ℕ) (h : Tape) where
   reads_some c octets f e g =
       ap (λ (o : Option Feed). spread limit (turn_of (event.Read c octets) ∷ carried octets o) h) e
       ∙ ap (λ (o : Option ℕ). turn_of (event.Read c octets) ∷ note.Arrive f.flow octets
-        ∷ paused_by limit (note.Arrive f.flow octets) (Noted (turn_of (event.Read c octets)) ∷ h) o ++ []) g
+      ∷ paused_by limit (note.Arrive f.flow octets) (Noted (turn_of (event.Read c octets)) ∷ h) o ++ []) g
       ∙ ap (λ ns. turn_of (event.Read c octets) ∷ note.Arrive f.flow octets ∷ ns) (none_behind (pause_if (rose c octets f) f))
 
   -- ---- octets leave
@@ -87,7 +87,7 @@ module _ (limit : ℕ) (h : Tape) where
       ap (λ (k : ℕ). spread limit (turn_of (event.Room c n) ∷ left_by c k h) h) (sym is)
       ∙ ap (λ (b : Bool). spread limit (turn_of (event.Room c n) ∷ (if b then note.Out c m ∷ drained c (length (drop m (out c h))) (feed c h) else [])) h) e
       ∙ (λ i. turn_of (event.Room c n) ∷ note.Out c m ∷ resumed_is c n m (feed c h) i
-        ++ spread_close limit (length (drop m (out c h)) == 0 && is_none (feed c h)) c (onto (note.Out c m ∷ resumed_by limit c m (Noted (turn_of (event.Room c n)) ∷ h) (feed c h)) (Noted (turn_of (event.Room c n)) ∷ h)) i)
+      ++ spread_close limit (length (drop m (out c h)) == 0 && is_none (feed c h)) c (onto (note.Out c m ∷ resumed_by limit c m (Noted (turn_of (event.Room c n)) ∷ h) (feed c h)) (Noted (turn_of (event.Room c n)) ∷ h)) i)
 
   -- ---- a connection is lost
   pub loses_nothing : (c : ℕ) → is_open c h ≡ false → feed c h ≡ None → dispatch_notes limit (event.Gone c) h ≡ turn_of (event.Gone c) ∷ []
@@ -104,4 +104,4 @@ module _ (limit : ℕ) (h : Tape) where
   loses_pair c f o e =
       (λ i. spread limit (turn_of (event.Gone c) ∷ (if o i then note.Close c 0 closed.Lost ∷ [] else []) ++ ended c (e i) h) h)
       ∙ (λ i. turn_of (event.Gone c) ∷ note.Close c 0 closed.Lost ∷ note.Doom f.flow.exchange (cause.ConnLost c) ∷ note.Gone f.flow.exchange
-        ∷ spread_if limit (length (out f.to h) == 0) f.to (Noted (note.Gone f.flow.exchange) ∷ Noted (note.Doom f.flow.exchange (cause.ConnLost c)) ∷ Noted (note.Close c 0 closed.Lost) ∷ Noted (turn_of (event.Gone c)) ∷ h) i)
+      ∷ spread_if limit (length (out f.to h) == 0) f.to (Noted (note.Gone f.flow.exchange) ∷ Noted (note.Doom f.flow.exchange (cause.ConnLost c)) ∷ Noted (note.Close c 0 closed.Lost) ∷ Noted (turn_of (event.Gone c)) ∷ h) i)

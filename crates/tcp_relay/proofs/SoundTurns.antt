@@ -1,24 +1,23 @@
 -- What each whole dispatch leaves true of a tape's connections.
-use Rattle.flow_notes.specs.Event.{IsEvent}
 use Rattle.flow_notes.specs.declared.events.Event.{Event}
 use Rattle.flow_notes.specs.declared.notes.Note.{Note}
 use Rattle.relay_laws.specs.Dispatch.{dispatch_notes}
 use Rattle.relay_laws.specs.Order.{may_come, is_new}
 use Rattle.relay_laws.specs.Pairs.{Tape, feed, free, is_open, opposite, unless_doomed}
-use Rattle.relay_laws.specs.Sound.{IsDone, IsFree, IsFresh, IsPaired, IsSound}
+use Rattle.relay_laws.specs.Sound.{IsFresh, IsPaired, IsSound}
 use Rattle.relay_laws.specs.World.{out}
 use Rattle.relay_laws.specs.declared.feed.Feed.{Feed}
 use Rattle.std.proofs.Common.{ap, arith, refl, subst, suc, sym, ◌∙◌}
 use Rattle.std.proofs.lemmas.Bool.Decides.{nat_tests}
 use Rattle.std.specs.List.{AllByRecursion}
-use Rattle.std.specs.Prelude.{Bool, List, None, Option, Some, [], drop, false, if◌then◌else◌, is_none, length, min, nat_lt, not, true, ℕ, ◌&&◌, ◌+◌, ◌++◌, ◌<◌, ◌==◌, ◌||◌, ◌∷◌, ◌≡◌}
-use Rattle.tape_laws.specs.Dispatches.{events_back, has, turns}
+use Rattle.std.specs.Prelude.{Bool, List, None, Option, Some, [], drop, false, if◌then◌else◌, is_none, length, min, nat_lt, true, ℕ, ◌&&◌, ◌+◌, ◌<◌, ◌==◌, ◌||◌, ◌∷◌, ◌≡◌}
+use Rattle.tape_laws.specs.Dispatches.{events_back, turns}
 use Rattle.tape_laws.specs.History.{Noted, onto}
 use Rattle.tcp_relay.proofs.Boards.{onto_append}
 use Rattle.tcp_relay.proofs.Lists.{not_in}
 use Rattle.tcp_relay.proofs.Shapes.{close_if, leaves_none, leaves_some, loses_alone, loses_nothing, loses_pair, low, pairs_two, pause_if, reads_nothing, reads_some, refuses, resume_if, rose, turn_of}
-use Rattle.tcp_relay.proofs.Sounds.{IsKept, sound_accept, sound_arrive, sound_close, sound_doom, sound_join, sound_kept, sound_out, sound_start}
-use Rattle.tcp_relay.proofs.Tests.{and_left, and_right, by_case, by_option, differs_above, if_some, if_true, is_below, not_both, number_is, same_number}
+use Rattle.tcp_relay.proofs.Sounds.{sound_accept, sound_arrive, sound_close, sound_doom, sound_join, sound_kept, sound_out, sound_start}
+use Rattle.tcp_relay.proofs.Tests.{and_left, and_right, by_case, by_option, differs_above, if_some, if_true, not_both, same_number}
 use Rattle.flow_gate.specs.declared.ids.BufferId.TheVariants as buffer
 use Rattle.flow_notes.specs.declared.events.Event.TheVariants as event
 use Rattle.flow_notes.specs.declared.events.PlainEvent.{PlainEvent}
@@ -33,7 +32,6 @@ after limit e h = onto (dispatch_notes limit e h) h
 
 -- ---- notes that change nothing of this
 module _ (h : Tape) (s : IsSound h) where
-
   pub read_turn : (k c : ℕ) (octets : List ℕ) → IsSound (Noted (note.Turn k (event.Read c octets)) ∷ h)
   read_turn k c octets = sound_kept h (Noted (note.Turn k (event.Read c octets)) ∷ h)
       (record { opened = λ d. refl; out = λ d e n. e; feed = λ d. refl; goes = λ f. refl; free = refl; pairs = refl; new = λ d e. e }) s
@@ -121,7 +119,7 @@ module _ (limit : ℕ) (h : Tape) (s : IsSound h) where
         (sound_close c 0 closed.Overload (Noted (turn_of limit h (event.Accept c)) ∷ h) (s.done c fresh.closed).feed (s.done c fresh.closed).out (λ d k. k) turned)
     after_accept_by (d ∷ ds) e = subst (λ (ns : List Note). IsSound (onto ns h)) (sym (pairs_two limit h c d ds e))
         (sound_start c d ds (Noted (turn_of limit h (event.Accept c)) ∷ h) turned e (ap (λ b. b || is_open c h) (same_number c)) (s.done c fresh.closed).feed
-          (differs_above d c (subst (λ fs. AllByRecursion (λ v. v < c) fs) e fresh.after).0) (not_in (free h) c fresh.after))
+        (differs_above d c (subst (λ fs. AllByRecursion (λ v. v < c) fs) e fresh.after).0) (not_in (free h) c fresh.after))
 
     pub after_accept : IsSound (after limit (event.Accept c) h)
     after_accept = after_accept_by (free h) refl
@@ -133,9 +131,9 @@ module _ (limit : ℕ) (h : Tape) (s : IsSound h) where
         let pair : IsPaired h c f = if_some (feed c h) (IsPaired h c) f e (s.paired c) in
         subst (λ (ns : List Note). IsSound (onto ns h)) (sym (reads_some limit h c octets f e pair.goes))
         (paused (Noted (note.Arrive f.flow octets) ∷ Noted (turn_of limit h (event.Read c octets)) ∷ h)
-          (sound_arrive f.flow octets f.to (record { flow = opposite f.flow; to = c }) (Noted (turn_of limit h (event.Read c octets)) ∷ h) pair.goes pair.back
-            (read_turn h s (turns h + 1) c octets))
-          (rose limit h c octets f) f)
+        (sound_arrive f.flow octets f.to (record { flow = opposite f.flow; to = c }) (Noted (turn_of limit h (event.Read c octets)) ∷ h) pair.goes pair.back
+        (read_turn h s (turns h + 1) c octets))
+        (rose limit h c octets f) f)
 
     pub after_read : IsSound (after limit (event.Read c octets) h)
     after_read = by_option (feed c h)
@@ -159,12 +157,12 @@ module _ (limit : ℕ) (h : Tape) (s : IsSound h) where
     after_room_some : nat_lt 0 m ≡ true → IsSound (after limit (event.Room c n) h)
     after_room_some e = subst (λ (ns : List Note). IsSound (onto ns h)) (sym (leaves_some limit h c n m refl e))
         (subst (λ v. IsSound v) (sym (onto_append (resume_if (low limit h c n m) (feed c h) c) (close_if is_last c) gone))
-          (drained (onto (resume_if (low limit h c n m) (feed c h) c) gone)
-            (resumed gone (sound_out c m (Noted (turn_of limit h (event.Room c n)) ∷ h) (room_turn h s (turns h + 1) c n)) (low limit h c n m) (feed c h) c)
-            is_last c
-            (λ t. resumed_feed (low limit h c n m) (feed c h) c c gone ∙ feeds_none (feed c h) (and_right (length (drop m (out c h)) == 0) (is_none (feed c h)) t))
-            (λ t. resumed_out (low limit h c n m) (feed c h) c c gone ∙ out_at
-              ∙ none_left (drop m (out c h)) (and_left (length (drop m (out c h)) == 0) (is_none (feed c h)) t))))
+        (drained (onto (resume_if (low limit h c n m) (feed c h) c) gone)
+        (resumed gone (sound_out c m (Noted (turn_of limit h (event.Room c n)) ∷ h) (room_turn h s (turns h + 1) c n)) (low limit h c n m) (feed c h) c)
+        is_last c
+        (λ t. resumed_feed (low limit h c n m) (feed c h) c c gone ∙ feeds_none (feed c h) (and_right (length (drop m (out c h)) == 0) (is_none (feed c h)) t))
+        (λ t. resumed_out (low limit h c n m) (feed c h) c c gone ∙ out_at
+        ∙ none_left (drop m (out c h)) (and_left (length (drop m (out c h)) == 0) (is_none (feed c h)) t))))
 
     pub after_room : IsSound (after limit (event.Room c n) h)
     after_room = by_case (nat_lt 0 m) after_room_some

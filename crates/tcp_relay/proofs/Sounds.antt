@@ -2,7 +2,6 @@
 use Rattle.flow_gate.specs.declared.ids.FlowId.{FlowId}
 use Rattle.flow_notes.specs.declared.notes.Cause.{Cause}
 use Rattle.flow_notes.specs.declared.notes.CloseCause.{CloseCause}
-use Rattle.relay_laws.specs.Lawful.{EachPaired}
 use Rattle.relay_laws.specs.Order.{is_new, named}
 use Rattle.relay_laws.specs.Pairs.{Tape, feed, free, goes_to, is_open, opposite, pairs, unless_doomed}
 use Rattle.relay_laws.specs.Sound.{IsDone, IsFree, IsFresh, IsPaired, IsSound, Rises}
@@ -12,14 +11,13 @@ use Rattle.std.proofs.Common.{ap, append-nil, arith, refl, subst, suc, sym, zero
 use Rattle.std.proofs.lemmas.Bool.Decides.{nat_tests}
 use Rattle.std.proofs.lemmas.Option.{same_Some}
 use Rattle.std.specs.List.{AllByRecursion, list_all}
-use Rattle.std.specs.Prelude.{Bool, IfSome, List, None, Option, Some, [], drop, false, filter, if◌then◌else◌, nat_lt, not, true, ℕ, ◌&&◌, ◌+◌, ◌++◌, ◌<◌, ◌==◌, ◌||◌, ◌∷◌, ◌≡◌, ◌≤◌}
+use Rattle.std.specs.Prelude.{Bool, List, None, Option, Some, [], drop, false, if◌then◌else◌, nat_lt, not, true, ℕ, ◌&&◌, ◌+◌, ◌++◌, ◌<◌, ◌==◌, ◌||◌, ◌∷◌, ◌≡◌, ◌≤◌}
 use Rattle.tape_laws.specs.Dispatches.{events_back, has, is_some_of}
 use Rattle.tape_laws.specs.Flows.{request, response}
-use Rattle.tape_laws.specs.History.{NoMark, Noted, Step}
-use Rattle.tcp_relay.proofs.Lists.{all_below, all_filter, all_more, has_left, has_other, has_was, rises_filter, rises_more}
-use Rattle.tcp_relay.proofs.Tests.{and_both, and_left, and_right, by_case, differs_back, differs_below, for_some, if_false, if_some, if_true, is_below, is_not, no_some, not_both, number_is, or_none_left, or_none_right, or_right, same_number}
+use Rattle.tape_laws.specs.History.{Noted}
+use Rattle.tcp_relay.proofs.Lists.{all_filter, all_more, has_left, has_other, has_was, rises_filter, rises_more}
+use Rattle.tcp_relay.proofs.Tests.{and_both, and_left, and_right, by_case, differs_back, differs_below, for_some, if_some, is_below, is_not, no_some, not_both, number_is, or_none_right, or_right, same_number}
 use Rattle.flow_notes.specs.declared.events.Event.TheVariants as event
-use Rattle.flow_notes.specs.declared.notes.CloseCause.TheVariants as closed
 use Rattle.flow_notes.specs.declared.notes.Note.TheVariants as note
 
 -- the numbers of new connections are as they were
@@ -271,11 +269,11 @@ module _ (c d : ℕ) (ds : List ℕ) (h : Tape) (s : IsSound h) (some : free h �
   paired_at : (e : ℕ) (f : Feed) → feed e begun ≡ Some f → IsPaired begun e f
   paired_at e f k = by_case (c == e)
       (λ t. subst (λ v. IsPaired begun v f) (number_is c e t)
-        (subst (λ v. IsPaired begun c v) (same_Some asks f (sym feed_c ∙ ap (λ v. feed v begun) (number_is c e t) ∙ k)) paired_c))
+      (subst (λ v. IsPaired begun c v) (same_Some asks f (sym feed_c ∙ ap (λ v. feed v begun) (number_is c e t) ∙ k)) paired_c))
       (λ n. by_case (d == e)
-        (λ t. subst (λ v. IsPaired begun v f) (number_is d e t)
-          (subst (λ v. IsPaired begun d v) (same_Some answers f (sym feed_d ∙ ap (λ v. feed v begun) (number_is d e t) ∙ k)) paired_d))
-        (λ m. paired_other e f (sym (feed_other e n m) ∙ k)))
+      (λ t. subst (λ v. IsPaired begun v f) (number_is d e t)
+      (subst (λ v. IsPaired begun d v) (same_Some answers f (sym feed_d ∙ ap (λ v. feed v begun) (number_is d e t) ∙ k)) paired_d))
+      (λ m. paired_other e f (sym (feed_other e n m) ∙ k)))
 
   pub sound_start : IsSound begun
   sound_start = record {

@@ -1,16 +1,13 @@
 -- The notes of a dispatch have a spelling.
 use Rattle.flow_gate.specs.declared.ids.FlowId.{FlowId}
 use Rattle.flow_notes.specs.Event.{IsEvent}
-use Rattle.flow_notes.specs.Note.{IsNote}
 use Rattle.flow_notes.specs.declared.events.Event.{Event}
 use Rattle.flow_notes.specs.declared.notes.Note.{Note}
 use Rattle.std.proofs.Common.{arith, refl, subst, sym}
 use Rattle.std.proofs.lemmas.Bool.Decides.{nat_tests}
-use Rattle.std.specs.List.{AllByRecursion}
 use Rattle.std.specs.Prelude.{Bool, List, None, Option, Some, [], false, if◌then◌else◌, length, not, option_map, true, ℕ, ◌&&◌, ◌+◌, ◌++◌, ◌<◌, ◌==◌, ◌∷◌, ◌≡◌, ◌≤◌}
-use Rattle.tcp_relay.proofs.Tests.{by_case}
 use Rattle.tcp_relay.specs.Board.{Board, carried_as, effect_of, ends_as, is_over, left_as, lost_as, met, resumed_flow, without}
-use Rattle.tcp_relay.specs.Effects.{drained_of, ended_of, leaving_of, notes_of, pause_of, resume_of}
+use Rattle.tcp_relay.specs.Effects.{drained_of, ended_of, notes_of, pause_of, resume_of}
 use Rattle.tcp_relay.specs.Lines.{Line, dropped, feeds_of, leaving, rises_by, taken_of}
 use Rattle.tcp_relay.specs.Noting.{AppendsSome}
 use Rattle.tcp_relay.specs.Turns.{AreSpelled}

@@ -10,7 +10,7 @@ use Rattle.relay_laws.specs.Order.{may_come}
 use Rattle.relay_laws.specs.Pairs.{Tape}
 use Rattle.relay_laws.specs.Sound.{IsSound}
 use Rattle.std.proofs.Common.{ap, refl, ◌∙◌}
-use Rattle.std.specs.Prelude.{Bool, List, None, Option, Some, [], false, length, true, ℕ, ◌+◌, ◌++◌, ◌<◌, ◌∷◌, ◌≡◌}
+use Rattle.std.specs.Prelude.{Bool, List, None, Option, Some, false, true, ℕ, ◌+◌, ◌++◌, ◌∷◌, ◌≡◌}
 use Rattle.tape_laws.specs.Dispatches.{events_back, turns}
 use Rattle.tape_laws.specs.History.{Noted, onto}
 use Rattle.tcp_relay.proofs.Boards.{board_same}

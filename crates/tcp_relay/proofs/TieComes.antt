@@ -1,24 +1,21 @@
 -- A connection comes, as the tape and as the connections show it.
 use Rattle.flow_notes.specs.declared.notes.Note.{Note}
-use Rattle.relay_laws.specs.Dispatch.{dispatch_notes}
 use Rattle.relay_laws.specs.Order.{is_new}
 use Rattle.relay_laws.specs.Pairs.{Tape, feed, free, is_open, pairs}
 use Rattle.relay_laws.specs.Sound.{IsDone, IsFree, IsFresh, IsSound, Rises}
 use Rattle.relay_laws.specs.Watermark.{above}
 use Rattle.relay_laws.specs.World.{out}
-use Rattle.relay_laws.specs.declared.feed.Feed.{Feed}
 use Rattle.std.proofs.Common.{ap, refl, subst, sym, ◌∙◌}
 use Rattle.std.specs.List.{AllByRecursion}
-use Rattle.std.specs.Prelude.{Bool, List, None, Option, Some, [], false, filter, if◌then◌else◌, length, nat_lt, not, option_map, true, ℕ, ◌&&◌, ◌+◌, ◌++◌, ◌<◌, ◌==◌, ◌||◌, ◌∷◌, ◌≡◌}
+use Rattle.std.specs.Prelude.{List, None, Option, Some, [], false, filter, if◌then◌else◌, not, option_map, true, ℕ, ◌&&◌, ◌+◌, ◌<◌, ◌==◌, ◌||◌, ◌∷◌, ◌≡◌}
 use Rattle.tape_laws.specs.Dispatches.{events_back, has}
-use Rattle.tape_laws.specs.Flows.{request, response}
 use Rattle.tape_laws.specs.History.{Noted, onto}
 use Rattle.tcp_relay.proofs.Boards.{fed_if, line_same, seen_same}
 use Rattle.tcp_relay.proofs.Flags.{above_empty}
 use Rattle.tcp_relay.proofs.Lists.{filter_first, insert_last}
 use Rattle.tcp_relay.proofs.Shapes.{pairs_two, refuses, turn_of}
-use Rattle.tcp_relay.proofs.Tests.{by_case, differs_above, differs_back, differs_below, if_false, if_true, not_both, number_is, same_number}
-use Rattle.tcp_relay.specs.Board.{Board, accepted, change, joined, met, put, request_feed, response_feed}
+use Rattle.tcp_relay.proofs.Tests.{by_case, differs_above, differs_back, if_false, if_true, not_both, number_is, same_number}
+use Rattle.tcp_relay.specs.Board.{accepted, change, met, put, request_feed, response_feed}
 use Rattle.tcp_relay.specs.Effects.{notes_of}
 use Rattle.tcp_relay.specs.Lines.{Line, fed, new_line}
 use Rattle.tcp_relay.specs.Stands.{line_if, line_of, tape_board}
@@ -52,7 +49,7 @@ module _ (limit c : ℕ) (h : Tape) (s : IsSound h) (new : is_new (events_back h
     join_lines : (d : ℕ) → line_of limit d came ≡ put c (Some (new_line limit None)) (λ x. line_of limit x h) d
     join_lines d = by_case (c == d)
         (λ t. subst (λ x. line_of limit x came ≡ Some (new_line limit None)) (number_is c d t) join_at
-          ∙ sym (if_true (c == d) (Some (new_line limit None)) (line_of limit d h) t))
+        ∙ sym (if_true (c == d) (Some (new_line limit None)) (line_of limit d h) t))
         (λ n. join_other d n ∙ sym (if_false (c == d) (Some (new_line limit None)) (line_of limit d h) n))
 
     pub tied_join : Tied limit (event.Join c cluster) h
@@ -132,13 +129,13 @@ module _ (limit c : ℕ) (h : Tape) (s : IsSound h) (new : is_new (events_back h
     cluster_line : line_of limit d begun ≡ option_map (fed (Some (response_feed x c))) (line_of limit d h)
     cluster_line =
         (λ i. line_if (other i || is_open d h) (out d h) limit
-          ((above_empty limit d begun partner.out ∙ sym (above_empty limit d h partner.out)) i) (cluster_feeds i))
+        ((above_empty limit d begun partner.out ∙ sym (above_empty limit d h partner.out)) i) (cluster_feeds i))
         ∙ sym (fed_if (Some (response_feed x c)) (is_open d h) (out d h) limit (above limit d h) (feed d h))
 
     other_line : (e : ℕ) → (c == e) ≡ false → (d == e) ≡ false → line_of limit e begun ≡ line_of limit e h
     other_line e n m = line_same limit (Noted (note.Start x c 0 d)) turned e refl refl
-          (ap (λ b. if b then Some (request_feed x d) else (if d == e then Some (response_feed x c) else feed e h)) n
-          ∙ ap (λ b. if b then Some (response_feed x c) else feed e h) m)
+        (ap (λ b. if b then Some (request_feed x d) else (if d == e then Some (response_feed x c) else feed e h)) n
+        ∙ ap (λ b. if b then Some (response_feed x c) else feed e h) m)
         ∙ line_same limit (Noted (turn_of limit h (event.Accept c))) h e (ap (λ b. b || is_open e h) n) refl refl
 
     abbrev with_client : ℕ → Option Line
@@ -150,24 +147,24 @@ module _ (limit c : ℕ) (h : Tape) (s : IsSound h) (new : is_new (events_back h
     at_cluster : line_of limit d begun ≡ with_both d
     at_cluster = cluster_line
         ∙ sym (if_true (d == d) (option_map (fed (Some (response_feed x c))) (with_client d)) (with_client d) (same_number d)
-          ∙ ap (λ b. option_map (fed (Some (response_feed x c))) (if b then Some (new_line limit (Some (request_feed x d))) else line_of limit d h)) other)
+        ∙ ap (λ b. option_map (fed (Some (response_feed x c))) (if b then Some (new_line limit (Some (request_feed x d))) else line_of limit d h)) other)
 
     at_client : line_of limit c begun ≡ with_both c
     at_client = client
         ∙ sym (if_false (d == c) (option_map (fed (Some (response_feed x c))) (with_client c)) (with_client c) (differs_back c d other)
-          ∙ if_true (c == c) (Some (new_line limit (Some (request_feed x d)))) (line_of limit c h) (same_number c))
+        ∙ if_true (c == c) (Some (new_line limit (Some (request_feed x d)))) (line_of limit c h) (same_number c))
 
     at_other : (e : ℕ) → (c == e) ≡ false → (d == e) ≡ false → line_of limit e begun ≡ with_both e
     at_other e n m = other_line e n m
         ∙ sym (if_false (d == e) (option_map (fed (Some (response_feed x c))) (with_client e)) (with_client e) m
-          ∙ if_false (c == e) (Some (new_line limit (Some (request_feed x d)))) (line_of limit e h) n)
+        ∙ if_false (c == e) (Some (new_line limit (Some (request_feed x d)))) (line_of limit e h) n)
 
     lines : (e : ℕ) → line_of limit e begun ≡ with_both e
     lines e = by_case (c == e)
         (λ t. subst (λ y. line_of limit y begun ≡ with_both y) (number_is c e t) at_client)
         (λ n. by_case (d == e)
-          (λ t. subst (λ y. line_of limit y begun ≡ with_both y) (number_is d e t) at_cluster)
-          (λ m. at_other e n m))
+        (λ t. subst (λ y. line_of limit y begun ≡ with_both y) (number_is d e t) at_cluster)
+        (λ m. at_other e n m))
 
     pub tied_paired : Tied limit (event.Accept c) h
     tied_paired = record {

@@ -2,23 +2,23 @@
 use Rattle.flow_gate.specs.declared.ids.FlowId.{FlowId}
 use Rattle.flow_notes.specs.declared.notes.Note.{Note}
 use Rattle.relay_laws.specs.Dispatch.{dispatch_notes}
-use Rattle.relay_laws.specs.Pairs.{Tape, feed, free, goes_to, is_open, opposite, pairs, unless_doomed}
+use Rattle.relay_laws.specs.Pairs.{Tape, feed, free, goes_to, is_open, opposite, unless_doomed}
 use Rattle.relay_laws.specs.Sound.{IsPaired, IsSound}
 use Rattle.relay_laws.specs.Watermark.{above}
 use Rattle.relay_laws.specs.World.{out}
 use Rattle.relay_laws.specs.declared.feed.Feed.{Feed}
 use Rattle.std.proofs.Common.{ap, refl, subst, sym, ◌∙◌}
 use Rattle.std.proofs.lemmas.Option.{same_Some}
-use Rattle.std.specs.Prelude.{Bool, List, None, Option, Some, [], false, filter, if◌then◌else◌, length, nat_lt, not, option_map, true, ℕ, ◌&&◌, ◌+◌, ◌==◌, ◌∷◌, ◌≡◌}
+use Rattle.std.specs.Prelude.{Bool, List, None, Option, Some, [], false, filter, if◌then◌else◌, length, nat_lt, not, option_map, true, ℕ, ◌&&◌, ◌==◌, ◌∷◌, ◌≡◌}
 use Rattle.tape_laws.specs.Dispatches.{has}
 use Rattle.tape_laws.specs.History.{Noted, onto}
 use Rattle.tcp_relay.proofs.Boards.{board_close_if, close_at, fed_if, line_same, seen_same}
 use Rattle.tcp_relay.proofs.Flags.{above_same}
 use Rattle.tcp_relay.proofs.Lists.{all_other, filter_none, has_left, remove_rest}
 use Rattle.tcp_relay.proofs.Shapes.{close_if, loses_alone, loses_nothing, loses_pair, turn_of}
-use Rattle.tcp_relay.proofs.Tests.{by_case, by_option, differs_back, if_false, if_some, if_true, no_some, not_both, number_is, same_number}
-use Rattle.tcp_relay.specs.Board.{Board, change, ends_as, lost, lost_as, parted, parted_from, put, without}
-use Rattle.tcp_relay.specs.Effects.{ended_of, loss_of, notes_of}
+use Rattle.tcp_relay.proofs.Tests.{by_case, by_option, if_false, if_some, if_true, no_some, not_both, number_is, same_number}
+use Rattle.tcp_relay.specs.Board.{change, lost, lost_as, parted, parted_from, put, without}
+use Rattle.tcp_relay.specs.Effects.{notes_of}
 use Rattle.tcp_relay.specs.Lines.{Line, fed, is_idle_at}
 use Rattle.tcp_relay.specs.Stands.{line_if, line_of, tape_board}
 use Rattle.tcp_relay.specs.Ties.{Tied}
@@ -68,10 +68,10 @@ module _ (limit c : ℕ) (h : Tape) (s : IsSound h) where
   lost_line : (d : ℕ) → line_of limit d was_lost ≡ put c None (λ x. line_of limit x h) d
   lost_line d = by_case (c == d)
       (λ t. ap (λ b. line_if (not b && is_open d h) (out d was_lost) limit (above limit d was_lost) (feed d h)) t
-        ∙ sym (if_true (c == d) None (line_of limit d h) t))
+      ∙ sym (if_true (c == d) None (line_of limit d h) t))
       (λ n. line_same limit (Noted (note.Close c 0 closed.Lost)) turned d (ap (λ b. not b && is_open d h) n) (out_lost d n) refl
-        ∙ line_same limit (Noted (turn_of limit h (event.Gone c))) h d refl refl refl
-        ∙ sym (if_false (c == d) None (line_of limit d h) n))
+      ∙ line_same limit (Noted (turn_of limit h (event.Gone c))) h d refl refl refl
+      ∙ sym (if_false (c == d) None (line_of limit d h) n))
 
   lost_waits : (d : ℕ) → nat_lt 0 (length (out d was_lost)) ≡ put c false (λ x. nat_lt 0 (length (out x h))) d
   lost_waits d = by_case (c == d)
@@ -116,17 +116,17 @@ module _ (limit c : ℕ) (h : Tape) (s : IsSound h) where
       other : (c == f.to) ≡ false
       other = by_case (c == f.to)
           (λ t. side_differs f.flow.back
-            (ap (λ (g : Feed). g.flow.back) (same_Some _ _ (sym e ∙ ap (λ y. feed y h) (number_is c f.to t) ∙ pair.back))))
+          (ap (λ (g : Feed). g.flow.back) (same_Some _ _ (sym e ∙ ap (λ y. feed y h) (number_is c f.to t) ∙ pair.back))))
           (λ n. n)
 
       -- no third connection is in this pair
       third : (d : ℕ) (g : Feed) → feed d h ≡ Some g → (c == d) ≡ false → (f.to == d) ≡ false → (g.flow.exchange == x) ≡ false
       third d g k n m = by_case (g.flow.exchange == x)
           (λ t. by_side g.flow.back f.flow.back
-            (λ b. not_both (c == d) (subst (λ y. (c == y) ≡ true)
-              (same_Some c d (sym pair.comes ∙ ap (λ v. goes_to (opposite v) h) (sym (same_side x g.flow f.flow (number_is g.flow.exchange x t) refl b)) ∙ at.comes)) (same_number c)) n)
-            (λ b. not_both (f.to == d) (subst (λ y. (f.to == y) ≡ true)
-              (same_Some f.to d (sym pair.goes ∙ ap (λ v. goes_to v h) (sym (same_side x (opposite g.flow) f.flow (number_is g.flow.exchange x t) refl b)) ∙ at.comes)) (same_number f.to)) m))
+          (λ b. not_both (c == d) (subst (λ y. (c == y) ≡ true)
+          (same_Some c d (sym pair.comes ∙ ap (λ v. goes_to (opposite v) h) (sym (same_side x g.flow f.flow (number_is g.flow.exchange x t) refl b)) ∙ at.comes)) (same_number c)) n)
+          (λ b. not_both (f.to == d) (subst (λ y. (f.to == y) ≡ true)
+          (same_Some f.to d (sym pair.goes ∙ ap (λ v. goes_to v h) (sym (same_side x (opposite g.flow) f.flow (number_is g.flow.exchange x t) refl b)) ∙ at.comes)) (same_number f.to)) m))
           (λ y. y)
         where
           at : IsPaired h d g
@@ -164,12 +164,12 @@ module _ (limit c : ℕ) (h : Tape) (s : IsSound h) where
       parted_lines : (d : ℕ) → line_of limit d swept ≡ change f.to (option_map (fed None)) lines_left d
       parted_lines d = by_case (f.to == d)
           (λ t. subst (λ y. line_of limit y swept ≡ option_map (fed None) (lines_left y)) (number_is f.to d t) partner_line
-            ∙ sym (if_true (f.to == d) (option_map (fed None) (lines_left d)) (lines_left d) t))
+          ∙ sym (if_true (f.to == d) (option_map (fed None) (lines_left d)) (lines_left d) t))
           (λ m. by_case (c == d)
-            (λ t. subst (λ y. line_of limit y swept ≡ None) (number_is c d t) gone_line
-              ∙ sym (if_true (c == d) None (line_of limit d h) t) ∙ sym (if_false (f.to == d) (option_map (fed None) (lines_left d)) (lines_left d) m))
-            (λ n. doomed_line d (feeds_other d n m) ∙ lost_line d
-              ∙ sym (if_false (f.to == d) (option_map (fed None) (lines_left d)) (lines_left d) m)))
+          (λ t. subst (λ y. line_of limit y swept ≡ None) (number_is c d t) gone_line
+          ∙ sym (if_true (c == d) None (line_of limit d h) t) ∙ sym (if_false (f.to == d) (option_map (fed None) (lines_left d)) (lines_left d) m))
+          (λ n. doomed_line d (feeds_other d n m) ∙ lost_line d
+          ∙ sym (if_false (f.to == d) (option_map (fed None) (lines_left d)) (lines_left d) m)))
 
       parted_board : tape_board limit swept ≡ record (without c (tape_board limit h)) { lines = change f.to (option_map (fed None)) lines_left }
       parted_board = seen_same _ _ (record {
@@ -194,17 +194,17 @@ module _ (limit c : ℕ) (h : Tape) (s : IsSound h) where
           → (d : ℕ) → (if z then put f.to None (change f.to (option_map (fed None)) lines_left) else change f.to (option_map (fed None)) lines_left) d ≡ change f.to parted lines_left d
       ended_lines true y d = by_case (f.to == d)
           (λ t. if_true (f.to == d) None (change f.to (option_map (fed None)) lines_left d) t
-            ∙ sym (if_true (f.to == d) (parted (lines_left d)) (lines_left d) t
-              ∙ subst (λ v. parted (lines_left v) ≡ None) (number_is f.to d t) (ap (λ b. if b then None else option_map (fed None) (lines_left f.to)) y)))
+          ∙ sym (if_true (f.to == d) (parted (lines_left d)) (lines_left d) t
+          ∙ subst (λ v. parted (lines_left v) ≡ None) (number_is f.to d t) (ap (λ b. if b then None else option_map (fed None) (lines_left f.to)) y)))
           (λ n. if_false (f.to == d) None (change f.to (option_map (fed None)) lines_left d) n
-            ∙ if_false (f.to == d) (option_map (fed None) (lines_left d)) (lines_left d) n
-            ∙ sym (if_false (f.to == d) (parted (lines_left d)) (lines_left d) n))
+          ∙ if_false (f.to == d) (option_map (fed None) (lines_left d)) (lines_left d) n
+          ∙ sym (if_false (f.to == d) (parted (lines_left d)) (lines_left d) n))
       ended_lines false y d = by_case (f.to == d)
           (λ t. if_true (f.to == d) (option_map (fed None) (lines_left d)) (lines_left d) t
-            ∙ sym (if_true (f.to == d) (parted (lines_left d)) (lines_left d) t
-              ∙ subst (λ v. parted (lines_left v) ≡ option_map (fed None) (lines_left v)) (number_is f.to d t) (ap (λ b. if b then None else option_map (fed None) (lines_left f.to)) y)))
+          ∙ sym (if_true (f.to == d) (parted (lines_left d)) (lines_left d) t
+          ∙ subst (λ v. parted (lines_left v) ≡ option_map (fed None) (lines_left v)) (number_is f.to d t) (ap (λ b. if b then None else option_map (fed None) (lines_left f.to)) y)))
           (λ n. if_false (f.to == d) (option_map (fed None) (lines_left d)) (lines_left d) n
-            ∙ sym (if_false (f.to == d) (parted (lines_left d)) (lines_left d) n))
+          ∙ sym (if_false (f.to == d) (parted (lines_left d)) (lines_left d) n))
 
       ended_board : (z : Bool) → is_idle_at (lines_left f.to) ≡ z
           → (if z then close_at f.to (tape_board limit swept) else tape_board limit swept) ≡ parted_from (Some f) (without c (tape_board limit h))

@@ -9,7 +9,7 @@ use Rattle.relay_laws.specs.declared.feed.Feed.{Feed}
 use Rattle.std.proofs.Common.{ap, append-nil, arith, length-append, refl, subst, sym, ◌∙◌}
 use Rattle.std.proofs.lemmas.Bool.Decides.{nat_tests}
 use Rattle.std.specs.Prelude.{Bool, List, None, Option, Some, [], false, if◌then◌else◌, length, nat_lt, not, option_map, true, ℕ, ◌&&◌, ◌+◌, ◌++◌, ◌<◌, ◌==◌, ◌∷◌, ◌≡◌}
-use Rattle.tape_laws.specs.Dispatches.{is_some_of, turns}
+use Rattle.tape_laws.specs.Dispatches.{is_some_of}
 use Rattle.tape_laws.specs.History.{Noted, onto}
 use Rattle.tcp_relay.proofs.Boards.{added_if, board_same, feeds_seen, line_same, seen_same}
 use Rattle.tcp_relay.proofs.Flags.{above_same}
@@ -82,7 +82,7 @@ module _ (limit c : ℕ) (octets : List ℕ) (h : Tape) (s : IsSound h) where
     lines : (d : ℕ) → line_of limit d arrived ≡ change f.to (option_map (added octets)) (λ x. line_of limit x h) d
     lines d = by_case (f.to == d)
         (λ t. subst (λ x. line_of limit x arrived ≡ option_map (added octets) (line_of limit x h)) (number_is f.to d t) line_at
-          ∙ sym (if_true (f.to == d) (option_map (added octets) (line_of limit d h)) (line_of limit d h) t))
+        ∙ sym (if_true (f.to == d) (option_map (added octets) (line_of limit d h)) (line_of limit d h) t))
         (λ n. line_other d n ∙ sym (if_false (f.to == d) (option_map (added octets) (line_of limit d h)) (line_of limit d h) n))
 
     waits_at : nat_lt 0 (length (out f.to arrived)) ≡ true
@@ -91,7 +91,7 @@ module _ (limit c : ℕ) (octets : List ℕ) (h : Tape) (s : IsSound h) where
     waits : (d : ℕ) → nat_lt 0 (length (out d arrived)) ≡ put f.to true (λ x. nat_lt 0 (length (out x h))) d
     waits d = by_case (f.to == d)
         (λ t. subst (λ x. nat_lt 0 (length (out x arrived)) ≡ true) (number_is f.to d t) waits_at
-          ∙ sym (if_true (f.to == d) true (nat_lt 0 (length (out d h))) t))
+        ∙ sym (if_true (f.to == d) true (nat_lt 0 (length (out d h))) t))
         (λ n. ap (λ (v : List ℕ). nat_lt 0 (length v)) (out_other d n) ∙ sym (if_false (f.to == d) true (nat_lt 0 (length (out d h))) n))
 
     arrived_board : tape_board limit arrived ≡ carried octets (Some f) (tape_board limit h)

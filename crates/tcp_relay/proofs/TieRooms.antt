@@ -1,5 +1,4 @@
 -- Octets leave, as the tape and as the connections show it.
-use Rattle.flow_gate.specs.declared.ids.FlowId.{FlowId}
 use Rattle.flow_notes.specs.declared.notes.Note.{Note}
 use Rattle.relay_laws.specs.Dispatch.{dispatch_notes}
 use Rattle.relay_laws.specs.Pairs.{Tape, feed, free, is_open}
@@ -9,7 +8,7 @@ use Rattle.relay_laws.specs.World.{out}
 use Rattle.relay_laws.specs.declared.feed.Feed.{Feed}
 use Rattle.std.proofs.Common.{ap, arith, refl, subst, sym, ◌∙◌}
 use Rattle.std.proofs.lemmas.Bool.Decides.{nat_tests}
-use Rattle.std.specs.Prelude.{Bool, List, None, Option, Some, [], drop, false, filter, if◌then◌else◌, is_none, length, min, nat_lt, not, option_map, true, ℕ, ◌&&◌, ◌+◌, ◌++◌, ◌==◌, ◌∷◌, ◌≡◌}
+use Rattle.std.specs.Prelude.{Bool, List, None, Option, Some, [], drop, false, if◌then◌else◌, length, min, nat_lt, not, option_map, true, ℕ, ◌&&◌, ◌++◌, ◌==◌, ◌∷◌, ◌≡◌}
 use Rattle.tape_laws.specs.Dispatches.{has}
 use Rattle.tape_laws.specs.History.{Noted, onto}
 use Rattle.tcp_relay.proofs.Boards.{board_close_if, board_resumed, board_same, close_at, dropped_if, line_same, onto_append, seen_same}
@@ -17,7 +16,7 @@ use Rattle.tcp_relay.proofs.Flags.{above_same}
 use Rattle.tcp_relay.proofs.Lists.{all_other, filter_none}
 use Rattle.tcp_relay.proofs.Shapes.{close_if, leaves_none, leaves_some, low, resume_if, turn_of}
 use Rattle.tcp_relay.proofs.Tests.{by_case, if_false, if_true, not_both, number_is, same_number}
-use Rattle.tcp_relay.specs.Board.{Board, change, is_over, left, left_as, put, resumed_flow}
+use Rattle.tcp_relay.specs.Board.{change, is_over, left, left_as, put, resumed_flow}
 use Rattle.tcp_relay.specs.Effects.{notes_of, resume_of}
 use Rattle.tcp_relay.specs.Lines.{dropped, holding, taken_of}
 use Rattle.tcp_relay.specs.Stands.{line_if, line_of, tape_board}
@@ -136,15 +135,15 @@ module _ (limit c n : ℕ) (h : Tape) (s : IsSound h) where
     waits : (d : ℕ) → nat_lt 0 (length (out d gone)) ≡ change c (λ w. if t.is_empty then false else w) (λ x. nat_lt 0 (length (out x h))) d
     waits d = by_case (c == d)
         (λ y. subst (λ x. nat_lt 0 (length (out x gone)) ≡ (if t.is_empty then false else nat_lt 0 (length (out x h)))) (number_is c d y) waits_at
-          ∙ sym (if_true (c == d) (if t.is_empty then false else nat_lt 0 (length (out d h))) (nat_lt 0 (length (out d h))) y))
+        ∙ sym (if_true (c == d) (if t.is_empty then false else nat_lt 0 (length (out d h))) (nat_lt 0 (length (out d h))) y))
         (λ y. ap (λ (v : List ℕ). nat_lt 0 (length v)) (out_other d y)
-          ∙ sym (if_false (c == d) (if t.is_empty then false else nat_lt 0 (length (out d h))) (nat_lt 0 (length (out d h))) y))
+        ∙ sym (if_false (c == d) (if t.is_empty then false else nat_lt 0 (length (out d h))) (nat_lt 0 (length (out d h))) y))
 
     -- it goes on, or it is closed
     lines_on : (d : ℕ) → line_of limit d gone ≡ change c (option_map (dropped n)) (λ x. line_of limit x h) d
     lines_on d = by_case (c == d)
         (λ y. subst (λ x. line_of limit x gone ≡ option_map (dropped n) (line_of limit x h)) (number_is c d y) line_at
-          ∙ sym (if_true (c == d) (option_map (dropped n) (line_of limit d h)) (line_of limit d h) y))
+        ∙ sym (if_true (c == d) (option_map (dropped n) (line_of limit d h)) (line_of limit d h) y))
         (λ y. line_other d y ∙ sym (if_false (c == d) (option_map (dropped n) (line_of limit d h)) (line_of limit d h) y))
 
     lines_closed : (d : ℕ) → put c None (λ x. line_of limit x gone) d ≡ change c (λ line. None) (λ x. line_of limit x h) d

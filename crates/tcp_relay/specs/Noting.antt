@@ -13,4 +13,3 @@ pub record AppendsSome (old ns new : List Note) : Type 0 where
 abbrev pub AppendsNotes : List Note → List Note → List Note → Result (Unit {0}) NoMemory → Type 0
 AppendsNotes old ns new (Ok u) = new ≡ old ++ ns
 AppendsNotes old ns new (Err e) = AppendsSome old ns new
-

@@ -21,11 +21,7 @@ pub struct Taken {
 }
 
 /// A connection comes.
-pub(crate) fn put(
-    conns: &mut BTreeMap<u32, Conn>,
-    conn: u32,
-    value: Conn,
-) -> Result<(), NoMemory>
+pub(crate) fn put(conns: &mut BTreeMap<u32, Conn>, conn: u32, value: Conn) -> Result<(), NoMemory>
     ensures { OnOk result (Changes conn (λ _. Some (seen value)) conns.old conns.new) }
 {
     conns.insert(conn, value)?;

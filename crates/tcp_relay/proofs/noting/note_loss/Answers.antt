@@ -8,4 +8,4 @@ use Rattle.flow_notes.specs.declared.notes.Note.TheVariants as note
 pub returns-in_err-note_close : goal.returns-in_err-note_close
 returns-in_err-note_close c =
     stopped _ c.note_close.result c.from_residual.result _ c.args.notes.now (note.Close c.args.conn 0 closed.Lost ∷ []) (ended_of c.args.conn c.args.ended) c.note_close.new.notes
-      c.in_err-note_close.was c.note_close.ensures c.from_residual.ensures.1
+    c.in_err-note_close.was c.note_close.ensures c.from_residual.ensures.1
