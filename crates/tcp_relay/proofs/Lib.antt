@@ -1,9 +1,11 @@
 pub mod Boards
 pub mod Bounded
+pub mod Dooms
 pub mod EvenTurns
 pub mod Evens
 pub mod Flags
 pub mod Fronts
+pub mod Given
 pub mod Kept
 pub mod Lists
 pub mod Promises

@@ -90,7 +90,7 @@ left_feed x (Some g) f e = by_case (g.flow.exchange == x)
     (λ t. no_some (unless_doomed x (Some g)) f (ap (λ b. if b then None else Some g) t) e)
     (λ n. sym (ap (λ b. if b then None else Some g) n) ∙ e)
 
-left_other : (x : ℕ) (o : Option Feed) (f : Feed) → unless_doomed x o ≡ Some f → (f.flow.exchange == x) ≡ false
+pub left_other : (x : ℕ) (o : Option Feed) (f : Feed) → unless_doomed x o ≡ Some f → (f.flow.exchange == x) ≡ false
 left_other x None f e = cc
 left_other x (Some g) f e = by_case (g.flow.exchange == x)
     (λ t. no_some (unless_doomed x (Some g)) f (ap (λ b. if b then None else Some g) t) e)

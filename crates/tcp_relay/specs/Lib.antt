@@ -1,3 +1,4 @@
+pub mod AsGiven
 pub mod Board
 pub mod Effects
 pub mod Lines

@@ -4,11 +4,19 @@ ghost use Rattle.relay_laws.specs.Promise.{Relays};
 ghost use Rattle.relay_laws.specs.Session.{IsTape};
 ghost use Rattle.relay_laws.specs.Sound.{IsSound};
 ghost use Rattle.std.specs.Prelude.{List, ℕ};
+ghost use Rattle.tcp_relay.specs.AsGiven.{IsAsGiven};
 
 /// At the end of a session's tape the connections are paired two and two, a closed one holds nothing, and those that wait
 /// for a partner stand in the order of their numbers.
 pub fn tapes_are_sound()
     ensures { (limit : ℕ) (names : List (List ℕ)) (h : Tape) → IsTape limit names h → IsSound h }
+{}
+
+/// Each start, in, out, doom, gone and close note of a session's tape stands where its dispatch's event gives it, and nowhere
+/// else; a pause or a resume names the write buffer that its flow goes to. Octets leave only where they are, and a doomed pair
+/// is untouched until it is gone, in the same dispatch.
+pub fn tapes_are_as_given()
+    ensures { (limit : ℕ) (names : List (List ℕ)) (h : Tape) → IsTape limit names h → IsAsGiven h }
 {}
 
 /// A session's tape keeps what is promised to an operator. At the end of each dispatch what left and what waits for the one
