@@ -1,11 +1,8 @@
 -- A doomed pair is untouched until it is gone, at once.
 use Rattle.flow_notes.specs.declared.events.Event.{Event}
-use Rattle.flow_notes.specs.declared.events.Job.{Job}
-use Rattle.flow_notes.specs.declared.events.PlainEvent.{PlainEvent}
 use Rattle.flow_notes.specs.declared.notes.Note.{Note}
 use Rattle.relay_laws.specs.Lawful.{EachPaired}
-use Rattle.relay_laws.specs.Order.{may_come}
-use Rattle.relay_laws.specs.Pairs.{Tape, feed, free, is_open, opposite, pairs, unless_doomed}
+use Rattle.relay_laws.specs.Pairs.{Tape, feed, free, is_open, pairs}
 use Rattle.relay_laws.specs.Session.{IsTape, MayRelayAll, relay_tape}
 use Rattle.relay_laws.specs.Sound.{IsPaired, IsSound}
 use Rattle.relay_laws.specs.World.{out}
@@ -14,7 +11,7 @@ use Rattle.std.proofs.Common.{ap, arith, refl, subst, sym, ◌∙◌}
 use Rattle.std.proofs.lemmas.Bool.Decides.{nat_tests}
 use Rattle.std.proofs.lemmas.Option.{same_Some}
 use Rattle.std.specs.List.{AllByRecursion}
-use Rattle.std.specs.Prelude.{Bool, List, None, Option, Some, [], drop, false, filter, if◌then◌else◌, is_none, length, min, nat_lt, not, true, ℕ, ◌&&◌, ◌+◌, ◌++◌, ◌==◌, ◌||◌, ◌∷◌, ◌≡◌, ◌≤◌}
+use Rattle.std.specs.Prelude.{Bool, List, None, Option, Some, [], drop, false, if◌then◌else◌, is_none, length, min, nat_lt, not, true, ℕ, ◌&&◌, ◌+◌, ◌++◌, ◌==◌, ◌||◌, ◌∷◌, ◌≡◌, ◌≤◌}
 use Rattle.tape_laws.specs.Dispatches.{events_back, has, live, started, turns}
 use Rattle.tape_laws.specs.Doomed.{LeavesDoomed, condemned}
 use Rattle.tape_laws.specs.Flows.{request, response}
@@ -26,7 +23,7 @@ use Rattle.tcp_relay.proofs.Sessions.{known}
 use Rattle.tcp_relay.proofs.Shapes.{close_if, leaves_none, leaves_some, loses_alone, loses_nothing, loses_pair, low, pairs_two, pause_if, reads_nothing, reads_some, refuses, resume_if, rose, turn_of}
 use Rattle.tcp_relay.proofs.SoundTurns.{after}
 use Rattle.tcp_relay.proofs.Sounds.{left_feed, left_other}
-use Rattle.tcp_relay.proofs.Tests.{and_both, by_case, by_option, for_some, if_some, is_not, number_is, or_left, or_right, same_number}
+use Rattle.tcp_relay.proofs.Tests.{and_both, by_case, by_option, for_some, if_some, is_not, or_left, or_right, same_number}
 use Rattle.flow_notes.specs.declared.events.Event.TheVariants as event
 use Rattle.flow_notes.specs.declared.notes.Cause.TheVariants as cause
 use Rattle.flow_notes.specs.declared.notes.CloseCause.TheVariants as closed
@@ -111,9 +108,9 @@ module _ (c d : ℕ) (h : Tape) (l : IsLived h) where
   lived_start = record {
     lives = λ e. for_some (feed e begun) (λ f. has (live begun) f.flow.exchange ≡ true) (λ f k.
         one_of (c == e) (d == e) (record { flow = request x; to = d }) (record { flow = response x; to = c }) (feed e h) f k
-          (λ s. subst (λ (g : Feed). has (live begun) g.flow.exchange ≡ true) s it_lives)
-          (λ s. subst (λ (g : Feed). has (live begun) g.flow.exchange ≡ true) s it_lives)
-          (λ s. still f.flow.exchange (lived_at h e f l s)));
+        (λ s. subst (λ (g : Feed). has (live begun) g.flow.exchange ≡ true) s it_lives)
+        (λ s. subst (λ (g : Feed). has (live begun) g.flow.exchange ≡ true) s it_lives)
+        (λ s. still f.flow.exchange (lived_at h e f l s)));
     few = all_more (λ y. y ≤ x) (started h) x (one_further (pairs h) (started h) l.few) (at_most x);
     none = l.none;
     follows = (not_started (pairs h) (started h) l.few, l.follows);
@@ -149,8 +146,8 @@ module _ (limit : ℕ) (h : Tape) (s : IsSound h) (l : IsLived h) where
   lived_read c octets = by_option (feed c h)
       (λ e. subst (λ (ns : List Note). IsLived (onto ns h)) (sym (reads_nothing limit h c octets e)) (lived_turn (turns h + 1) (event.Read c octets) h l))
       (λ f e. subst (λ (ns : List Note). IsLived (onto ns h)) (sym (reads_some limit h c octets f e (if_some (feed c h) (IsPaired h c) f e (s.paired c)).goes))
-        (lived_pause (rose limit h c octets f) f (Noted (note.Arrive f.flow octets) ∷ Noted (turn_of limit h (event.Read c octets)) ∷ h) (lived_at h c f l e)
-          (lived_arrive f octets (Noted (turn_of limit h (event.Read c octets)) ∷ h) (lived_at h c f l e) (lived_turn (turns h + 1) (event.Read c octets) h l))))
+      (lived_pause (rose limit h c octets f) f (Noted (note.Arrive f.flow octets) ∷ Noted (turn_of limit h (event.Read c octets)) ∷ h) (lived_at h c f l e)
+      (lived_arrive f octets (Noted (turn_of limit h (event.Read c octets)) ∷ h) (lived_at h c f l e) (lived_turn (turns h + 1) (event.Read c octets) h l))))
 
   module _ (c n : ℕ) where
     abbrev m : ℕ
@@ -162,10 +159,10 @@ module _ (limit : ℕ) (h : Tape) (s : IsSound h) (l : IsLived h) where
     lived_room : IsLived (after limit (event.Room c n) h)
     lived_room = by_case (nat_lt 0 m)
         (λ e. subst (λ (ns : List Note). IsLived (onto ns h)) (sym (leaves_some limit h c n m refl e))
-          (subst (λ y. IsLived y) (sym (onto_append (resume_if (low limit h c n m) (feed c h) c) (close_if (length (drop m (out c h)) == 0 && is_none (feed c h)) c) left))
-            (lived_close (length (drop m (out c h)) == 0 && is_none (feed c h)) c (onto (resume_if (low limit h c n m) (feed c h) c) left)
-              (lived_resume (low limit h c n m) (feed c h) c left (λ f k. lived_at h c f l k)
-                (lived_out c m (Noted (turn_of limit h (event.Room c n)) ∷ h) (lived_turn (turns h + 1) (event.Room c n) h l))))))
+        (subst (λ y. IsLived y) (sym (onto_append (resume_if (low limit h c n m) (feed c h) c) (close_if (length (drop m (out c h)) == 0 && is_none (feed c h)) c) left))
+        (lived_close (length (drop m (out c h)) == 0 && is_none (feed c h)) c (onto (resume_if (low limit h c n m) (feed c h) c) left)
+        (lived_resume (low limit h c n m) (feed c h) c left (λ f k. lived_at h c f l k)
+        (lived_out c m (Noted (turn_of limit h (event.Room c n)) ∷ h) (lived_turn (turns h + 1) (event.Room c n) h l))))))
         (λ e. subst (λ (ns : List Note). IsLived (onto ns h)) (sym (leaves_none limit h c n e)) (lived_turn (turns h + 1) (event.Room c n) h l))
 
   module _ (c : ℕ) where
@@ -175,11 +172,11 @@ module _ (limit : ℕ) (h : Tape) (s : IsSound h) (l : IsLived h) where
     lived_gone : IsLived (after limit (event.Gone c) h)
     lived_gone = by_case (is_open c h)
         (λ o. by_option (feed c h)
-          (λ e. subst (λ (ns : List Note). IsLived (onto ns h)) (sym (loses_alone limit h c o e)) lost_here)
-          (λ f e. subst (λ (ns : List Note). IsLived (onto ns h)) (sym (loses_pair limit h c f o e))
-            (lived_close (length (out f.to h) == 0) f.to
-              (Noted (note.Gone f.flow.exchange) ∷ Noted (note.Doom f.flow.exchange (cause.ConnLost c)) ∷ Noted (note.Close c 0 closed.Lost) ∷ Noted (turn_of limit h (event.Gone c)) ∷ h)
-              (lived_swept f.flow.exchange c (Noted (note.Close c 0 closed.Lost) ∷ Noted (turn_of limit h (event.Gone c)) ∷ h) lost_here (lived_at h c f l e)))))
+        (λ e. subst (λ (ns : List Note). IsLived (onto ns h)) (sym (loses_alone limit h c o e)) lost_here)
+        (λ f e. subst (λ (ns : List Note). IsLived (onto ns h)) (sym (loses_pair limit h c f o e))
+        (lived_close (length (out f.to h) == 0) f.to
+        (Noted (note.Gone f.flow.exchange) ∷ Noted (note.Doom f.flow.exchange (cause.ConnLost c)) ∷ Noted (note.Close c 0 closed.Lost) ∷ Noted (turn_of limit h (event.Gone c)) ∷ h)
+        (lived_swept f.flow.exchange c (Noted (note.Close c 0 closed.Lost) ∷ Noted (turn_of limit h (event.Gone c)) ∷ h) lost_here (lived_at h c f l e)))))
         (λ o. subst (λ (ns : List Note). IsLived (onto ns h)) (sym (loses_nothing limit h c o (s.done c o).feed)) (lived_turn (turns h + 1) (event.Gone c) h l))
 
   lived_after : (e : Event) → IsLived (after limit e h)

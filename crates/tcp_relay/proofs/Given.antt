@@ -3,7 +3,7 @@ use Rattle.flow_gate.specs.declared.ids.FlowId.{FlowId}
 use Rattle.flow_notes.specs.declared.events.Event.{Event}
 use Rattle.flow_notes.specs.declared.notes.Note.{Note}
 use Rattle.relay_laws.specs.Dispatch.{behind, dispatch_notes, paused_by, resumed_by, spread}
-use Rattle.relay_laws.specs.Given.{carried, drained, ended, given, left_by, lost, met, owed}
+use Rattle.relay_laws.specs.Given.{carried, drained, ended, given, met, owed}
 use Rattle.relay_laws.specs.Lawful.{StandsWhereGiven, TakesWhatIsThere}
 use Rattle.relay_laws.specs.Pairs.{Tape, feed, free, goes_to, is_open, opposite}
 use Rattle.relay_laws.specs.Session.{IsTape, MayRelayAll, relay_tape}
@@ -11,7 +11,7 @@ use Rattle.relay_laws.specs.Sound.{IsPaired, IsSound}
 use Rattle.relay_laws.specs.Watermark.{drains_at, rises_at}
 use Rattle.relay_laws.specs.World.{out}
 use Rattle.relay_laws.specs.declared.feed.Feed.{Feed}
-use Rattle.std.proofs.Common.{ap, arith, refl, subst, sym, ◌∙◌}
+use Rattle.std.proofs.Common.{ap, arith, refl, subst, sym}
 use Rattle.std.specs.Prelude.{Bool, List, None, Option, Some, [], drop, false, if◌then◌else◌, is_none, length, min, nat_lt, true, ℕ, ◌&&◌, ◌+◌, ◌++◌, ◌<◌, ◌==◌, ◌∷◌, ◌≡◌, ◌≤◌}
 use Rattle.tape_laws.specs.Dispatches.{events_back, turns}
 use Rattle.tape_laws.specs.History.{EachFollows, Noted, onto}
