@@ -1,0 +1,123 @@
+-- What the calls that begin a flow need of each other.
+use Rattle.exchange_core.specs.Exchange.{flow_id}
+use Rattle.flow_gate.proofs.SameIds.{same_flow-refl}
+use Rattle.flow_gate.specs.Board.{Board, IsSound as AreSoundGates, is_known, is_marked, is_open, times, watchers_of}
+use Rattle.flow_gate.specs.Changes.{Begins, Forgets, Watches}
+use Rattle.flow_gate.specs.Ids.{is_own, same_flow}
+use Rattle.flow_gate.specs.declared.ids.BufferId.{BufferId}
+use Rattle.flow_gate.specs.declared.ids.FlowId.{FlowId}
+use Rattle.proxy_config.specs.declared.routes.Filter.{Filter}
+use Rattle.io_ports.specs.declared.octets.NoMemory.{NoMemory}
+use Rattle.std.proofs.Common.{ap, refl, subst, sym, ◌∙◌}
+use Rattle.std.specs.Option.{option_map_or}
+use Rattle.std.specs.Prelude.{Bool, Err, IfOk, IfSome, List, None, Ok, OnErr, OnOk, Option, Result, Some, [], false, if◌then◌else◌, true, ℕ, ◌&&◌, ◌++◌, ◌==◌, ◌||◌, ◌∷◌, ◌≡◌}
+use Rattle.wire_flows.proofs.Begun.{all_none, all_some, begins_flow, grows_more, watch_write_grows}
+use Rattle.wire_flows.proofs.Cases.{by_case, not_both}
+use Rattle.wire_flows.proofs.Owners.{own_exact}
+use Rattle.wire_flows.proofs.Restored.{Partial, closed_none, closed_watches, partly_begun, restored, same_board, wholly_begun}
+use Rattle.wire_flows.specs.Begins.{BeginsBoth, BeginsFlow, Grows, IsFresh, IsSame, WatchesAll, WatchesOwn, is_held_by, meters, watches_from}
+use Rattle.flow_gate.specs.declared.ids.BufferId.TheVariants as buffer
+
+-- ---- what a flow that grows keeps
+pub grown_open : (f : FlowId) (old new : Board) → Grows f old new → is_open old f ≡ true → is_open new f ≡ true
+grown_open f old new g there = g.flows f ∙ there
+
+pub grown_known : (f : FlowId) (to : Option ℕ) (old new : Board) → Grows f old new → IfSome to (λ c. is_known old (buffer.Write c) ≡ true) → IfSome to (λ c. is_known new (buffer.Write c) ≡ true)
+grown_known f None old new g k = tt
+grown_known f (Some c) old new g k = g.buffers (buffer.Write c) refl ∙ k
+
+-- ---- the write buffer, after its Meters and its send buffer
+module _ (f : FlowId) (filters : List Filter) (old mid sent : Board) (g : Grows f old mid) (w : WatchesOwn f (meters f 1 filters) old mid) (h : Grows f mid sent) (v : WatchesOwn f (buffer.Send f ∷ []) mid sent) where
+  pub both_grow : Grows f old sent
+  both_grow = grows_more f old mid sent g h
+
+  pub write_known : (c : ℕ) → is_known old (buffer.Write c) ≡ true → is_known sent (buffer.Write c) ≡ true
+  write_known c known = h.buffers (buffer.Write c) refl ∙ (g.buffers (buffer.Write c) refl ∙ known)
+
+  pub write_apart : (c : ℕ) → times f (watchers_of old (buffer.Write c)) ≡ 0 → times f (watchers_of sent (buffer.Write c)) ≡ 0
+  write_apart c none = ap (times f) (v.writes c ∙ w.writes c) ∙ none
+
+  pub write_above : (c : ℕ) → is_marked sent (buffer.Write c) ≡ is_marked old (buffer.Write c)
+  write_above c = h.marks (buffer.Write c) ∙ g.marks (buffer.Write c)
+
+  pub some_watched : (c : ℕ) (new : Board) → Watches f (buffer.Write c) sent new → WatchesAll f (watches_from f filters (Some c)) (Some c) old new
+  some_watched c new t = all_some f filters old mid sent w v c new t
+
+  pub some_grow : (c : ℕ) (new : Board) → Watches f (buffer.Write c) sent new → Grows f old new
+  some_grow c new t = grows_more f old sent new both_grow (watch_write_grows f c sent new t)
+
+  pub none_watched : WatchesAll f (watches_from f filters None) None old sent
+  none_watched = all_none f filters old mid sent w v
+
+-- what a watch of the write buffer leaves, or refuses
+pub either_grow : (f : FlowId) (c : ℕ) (old sent new : Board) (r : Result Bool NoMemory) → Grows f old sent → OnOk r (Watches f (buffer.Write c) sent new) → OnErr r (new ≡ sent) → Grows f old new
+either_grow f c old sent new (Ok b) g w e = grows_more f old sent new g (watch_write_grows f c sent new w)
+either_grow f c old sent new (Err x) g w e = subst (λ b. Grows f old b) (sym e) g
+
+pub either_watched : (r : Result Bool NoMemory) (P Q : Type 0) → (P → Q) → OnOk r P → OnOk r Q
+either_watched (Ok b) P Q k p = k p
+either_watched (Err x) P Q k p = tt
+
+pub either_held : (r : Result Bool NoMemory) (x y : Bool) → x ≡ y → IfOk r (λ b. b ≡ x) → IfOk r (λ b. b ≡ y)
+either_held (Ok b) x y e p = p ∙ e
+either_held (Err z) x y e p = tt
+
+-- ---- a flow that begins
+module _ (f : FlowId) (old mid : Board) (b : Begins f old mid) where
+  pub begun_open : is_open mid f ≡ true
+  begun_open = b.flows f ∙ ap (λ t. t || is_open old f) (same_flow-refl f)
+
+  pub begun_fresh : IsFresh f old → IsFresh f mid
+  begun_fresh fresh = record { unknown = λ c own. b.buffers c ∙ fresh.unknown c own }
+
+  pub begun_known : (to : Option ℕ) → IfSome to (λ c. is_known old (buffer.Write c) ≡ true) → IfSome to (λ c. is_known mid (buffer.Write c) ≡ true)
+  begun_known None k = tt
+  begun_known (Some c) k = b.buffers (buffer.Write c) ∙ k
+
+  pub begun_apart : (to : Option ℕ) → AreSoundGates old → is_open old f ≡ false → IfSome to (λ c. times f (watchers_of mid (buffer.Write c)) ≡ 0)
+  begun_apart None s shut = tt
+  begun_apart (Some c) s shut = ap (times f) (b.watchers (buffer.Write c)) ∙ closed_none old f (buffer.Write c) s shut
+
+  pub begun_held : (to : Option ℕ) → is_held_by to mid ≡ is_held_by to old
+  begun_held None = refl
+  begun_held (Some c) = b.marks (buffer.Write c)
+
+  pub begun_all : (bs : List BufferId) (to : Option ℕ) (new : Board) → is_open old f ≡ false → Grows f mid new → WatchesAll f bs to mid new → BeginsFlow f bs to old new
+  begun_all bs to new shut g w = begins_flow f bs to old mid new (closed_watches old f shut) b g w
+
+  pub begun_back : (part new : Board) → Grows f mid part → Forgets f part new → is_open old f ≡ false → IsFresh f old → AreSoundGates old → IsSame old new
+  begun_back part new g k shut fresh s = restored f old part new (partly_begun f old mid part b g) k shut fresh s
+
+-- ---- the response after the request
+apart_sides : (x : ℕ) → same_flow (flow_id x false) (flow_id x true) ≡ false
+apart_sides x = by_b (x == x)
+  where
+    by_b : (b : Bool) → (b && false) ≡ false
+    by_b true = refl
+    by_b false = refl
+
+module _ (x : ℕ) (bs : List BufferId) (to : Option ℕ) (old mid : Board) (b : BeginsFlow (flow_id x false) bs to old mid) where
+  pub response_shut : is_open old (flow_id x true) ≡ false → is_open mid (flow_id x true) ≡ false
+  response_shut shut = b.flows (flow_id x true) ∙ (λ i. apart_sides x i || shut i)
+
+  pub response_fresh : IsFresh (flow_id x true) old → IsFresh (flow_id x true) mid
+  response_fresh fresh = record {
+    unknown = λ c own. b.buffers c (by_case (is_own (flow_id x false) c)
+        (λ mine. not_both (same_flow (flow_id x false) (flow_id x true)) (own_exact (flow_id x false) (flow_id x true) c mine own) (apart_sides x))
+        (λ other. other)) ∙ fresh.unknown c own;
+  }
+
+  pub response_known : (c : ℕ) → is_known old (buffer.Write c) ≡ true → is_known mid (buffer.Write c) ≡ true
+  response_known c known = b.buffers (buffer.Write c) refl ∙ known
+
+  pub response_held : (c : ℕ) → is_marked mid (buffer.Write c) ≡ is_marked old (buffer.Write c)
+  response_held c = b.marks (buffer.Write c)
+
+  pub request_open : (late : Board) → IsSame mid late → is_open late (flow_id x false) ≡ true
+  request_open late s = s.flows (flow_id x false) ∙ (b.flows (flow_id x false) ∙ ap (λ t. t || is_open old (flow_id x false)) (same_flow-refl (flow_id x false)))
+
+  pub both_begin : (bs' : List BufferId) (from : ℕ) (new : Board) → AreSoundGates mid → BeginsFlow (flow_id x true) bs' (Some from) mid new → BeginsBoth x bs bs' to from old new
+  both_begin bs' from new s k = record { between = mid; sound = s; request_begins = b; response_begins = k }
+
+  pub request_back : (late new : Board) → IsSame mid late → Forgets (flow_id x false) late new → is_open old (flow_id x false) ≡ false → IsFresh (flow_id x false) old → AreSoundGates old → IsSame old new
+  request_back late new s k shut fresh gates = restored (flow_id x false) old late new (wholly_begun (flow_id x false) bs to old mid late b s) k shut fresh gates

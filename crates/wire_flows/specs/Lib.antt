@@ -1,0 +1,6 @@
+pub mod Begins
+pub mod Flows
+pub mod Measure
+pub mod Moves
+pub mod Sound
+pub mod Writes
