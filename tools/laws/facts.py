@@ -152,7 +152,7 @@ TYPES = {"allowed": "EachFollows (MayStand (wire_setup %s))", "paused": "EachFol
          "tied": "AtEachMoment (IsTied (wire_setup %s))", "in_turn": "EachFollows (InTurn (wire_setup %s))",
          "answered": "EachFollows (Answers (wire_session %s))", "may": "EachFollows (MayStandOnWire %s)",
          "quiet": "EachFollows (BeforeTurn (IsQuiet (wire_session %s)))"}
-NO_FACTS = {"Ticks", "Nested"}     # too long for the checker's search; judged here alone
+NO_FACTS = {"Ticks"}     # too long for the checker's search; judged here alone
 PIECE = 14          # steps that one search takes
 
 
@@ -168,8 +168,9 @@ def fronts(tape, name, c, steps):
 
 
 # and where a front is too much, each step by itself; of some tapes that is too long to be worth its lines, and no fact stands
-STEP_BY_STEP = {("trailers", "answered"), ("send_window", "answered"), ("cluster_leaves", "bounded"), ("cluster_leaves", "answered"), ("cluster_leaves", "quiet")}
-TAPE_ALONE = {"two_streams", "nested_flood", "doom_puts_all_at_once"}
+STEP_BY_STEP = {("trailers", "answered"), ("send_window", "answered")} | {
+    (tape, law) for tape in ("cluster_leaves", "two_streams", "nested_flood", "doom_puts_all_at_once") for law in BY_STEP[tape].split()}
+TAPE_ALONE = set()
 
 
 def by_step(steps):

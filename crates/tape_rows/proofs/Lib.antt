@@ -10,6 +10,7 @@ pub mod WireFilters
 pub mod WireWindows
 pub mod WireShifts
 pub mod WireFloods
+pub mod WireNested
 pub mod WireGoAway
 pub mod WireErrors
 pub mod WireLeaving
