@@ -23,7 +23,7 @@ pub struct Outside {
 }
 
 /// That of a case, where each read gives and each write takes at most so many octets.
-fn outside(alloc: Global, case: &Case, most: usize) -> Result<Outside, NoMemory> {
+fn open_outside(alloc: Global, case: &Case, most: usize) -> Result<Outside, NoMemory> {
     let mut session = source(alloc, case.session.as_slice(), case.reads.as_slice())?;
     let mut writes = Vec::new(alloc);
     writes.extend_from_slice(case.writes.as_slice())?;
@@ -48,7 +48,7 @@ fn source(alloc: Global, octets: &[u8], failing: &[u64]) -> Result<MemSource, No
 /// Prints the status of a case with its reason, and what it writes. A small session without faults ends and writes the
 /// same in pieces of 1 and of 7 octets, or else it is said where it doesn't.
 pub fn show_case<R: Print + AllocGlobal>(rt: &R, case: &Case) -> io::Result<()> {
-    let Ok(mut whole) = outside(rt.alloc(), case, usize::MAX) else {
+    let Ok(mut whole) = open_outside(rt.alloc(), case, usize::MAX) else {
         return println!(rt; "no memory");
     };
     let outcome = replay_with_reason(
@@ -88,7 +88,7 @@ fn show_difference<R: Print + AllocGlobal>(
     text: &[u8],
     most: usize,
 ) -> io::Result<()> {
-    let Ok(mut pieces) = outside(rt.alloc(), case, most) else {
+    let Ok(mut pieces) = open_outside(rt.alloc(), case, most) else {
         return println!(rt; "no memory");
     };
     let other = replay(
