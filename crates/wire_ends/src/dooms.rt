@@ -71,7 +71,7 @@ pub fn doom(
     requires sound { IsSound core.old }
     ensures sound { OnOk result (IsSound core.new) }
     ensures go { OnOk result (to_go core.new ≤ to_go core.old) }
-    ensures less { is_live_in core.old.flows exchange ≡ true → OnOk result (to_go core.new + 2 ≤ to_go core.old) }
+    ensures less { is_live_in core.old.flows exchange ≡ true → OnOk result (to_go core.new + 8 ≤ to_go core.old) }
     ensures notes { Appends notes.old notes.new }
 {
     let Some((ends, doomed)) = unlink(core, exchange, cause, back) else {

@@ -1,6 +1,6 @@
 // The state of a worker's wire sessions.
 ghost use Rattle.proxy_config.specs.Ranges.{IsInRange};
-ghost use Rattle.std.specs.Prelude.{◌≡◌, ◌≤◌, ◌+◌, [], IfOk, OnOk};
+ghost use Rattle.std.specs.Prelude.{◌≡◌, ◌≤◌, ◌+◌, ◌∷◌, [], IfOk, OnOk};
 ghost use Rattle.wire_state.specs.Agenda.{stirred_at, top_go};
 ghost use Rattle.wire_state.specs.Noting.{Appends};
 ghost use Rattle.wire_state.specs.Progress.{task_go, to_go};
@@ -109,6 +109,7 @@ impl WireCore {
         requires sound { IsSound self.old }
         ensures sound { OnOk result (IsSound self.new) }
         ensures go { OnOk result (to_go self.new ≡ to_go self.old + task_go task) }
+        ensures agenda { OnOk result (self.new.agenda ≡ task ∷ self.old.agenda) }
         ensures rest { self.new ≡ record self.old { agenda = self.new.agenda } }
     {
         self.agenda.push(task)
