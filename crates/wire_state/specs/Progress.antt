@@ -8,7 +8,7 @@ use Rattle.wire_flows.specs.Measure.{to_go as flows_go}
 use Rattle.wire_state.specs.declared.agenda.Task.{Task}
 use Rattle.wire_state.specs.declared.agenda.Task.TheVariants as task
 use Rattle.wire_state.specs.declared.conn.Conn.{Conn}
-use Rattle.wire_state.specs.declared.core.WireCore.{WireCore}
+use Rattle.wire_state.specs.declared.wire_core.WireCore.{WireCore}
 use Rattle.wire_windows.specs.RecvWindows.{RecvWindows}
 use Rattle.wire_windows.specs.declared.recv_stream.RecvStream.{RecvStream}
 

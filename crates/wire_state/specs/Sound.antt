@@ -10,7 +10,7 @@ use Rattle.wire_flows.specs.Flows.{Flows, is_live_in, time_of}
 use Rattle.wire_links.specs.Links.{Links, ends_of}
 use Rattle.wire_outlet.specs.Outgoing.{IsReady, Outgoing}
 use Rattle.wire_state.specs.declared.conn.Conn.{Conn}
-use Rattle.wire_state.specs.declared.core.WireCore.{WireCore}
+use Rattle.wire_state.specs.declared.wire_core.WireCore.{WireCore}
 use Rattle.wire_timers.specs.Armed.{Timeouts}
 
 -- the most octets of a framed unit: those of a head, and of a DATA frame

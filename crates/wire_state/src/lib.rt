@@ -3,7 +3,6 @@
 
 mod agenda;
 mod conn;
-mod core;
 mod course;
 mod incoming;
 mod noting;
@@ -12,13 +11,14 @@ mod ready;
 mod stirred;
 mod units;
 mod walk;
+mod wire_core;
 
 pub use crate::agenda::{Agenda, Task};
 pub use crate::conn::{Conn, is_stream};
-pub use crate::core::{Lengths, WireCore};
 pub use crate::course::Course;
 pub use crate::noting::{note, note_answer, note_head, note_pauses};
 pub use crate::ready::Ready;
 pub use crate::stirred::Stirred;
 pub use crate::units::NextUnit;
 pub use crate::walk::Walk;
+pub use crate::wire_core::{Lengths, WireCore};

@@ -1,7 +1,7 @@
 use Rattle.std.proofs.Common.{ap, arith, ◌∙◌}
 use Rattle.wire_flows.specs.Flows.{is_live_in}
 use Rattle.wire_state.proofs.Results.{ok_map}
-use Rattle.wire_state.specs.declared.core.WireCore.{WireCore}
+use Rattle.wire_state.specs.declared.wire_core.WireCore.{WireCore}
 use Rattle.wire_out.proofs.runs.too_large.Goals as goal
 
 pub returns-clause-go : goal.returns-clause-go

@@ -1,7 +1,7 @@
 use Rattle.std.proofs.Common.{arith}
 use Rattle.wire_state.proofs.Weights.{conn_changed}
 use Rattle.wire_state.specs.Progress.{to_go}
-use Rattle.wire_state.proofs.core.WireCore.look_due_at.Goals as goal
+use Rattle.wire_state.proofs.wire_core.WireCore.look_due_at.Goals as goal
 
 pub returns-in-Some-clause-go : goal.returns-in-Some-clause-go
 unfolding to_go

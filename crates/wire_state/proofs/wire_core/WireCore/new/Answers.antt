@@ -1,6 +1,6 @@
 use Rattle.std.proofs.Common.{ap, arith}
 use Rattle.wire_state.proofs.Soundness.{empty_kept, empty_live}
-use Rattle.wire_state.proofs.core.WireCore.new.Goals as goal
+use Rattle.wire_state.proofs.wire_core.WireCore.new.Goals as goal
 use Rattle.wire_timers.specs.Armed.{Timeouts}
 
 pub returns-clause-sound : goal.returns-clause-sound

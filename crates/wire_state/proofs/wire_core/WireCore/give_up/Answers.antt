@@ -1,10 +1,10 @@
 use Rattle.std.proofs.Common.{ap, arith}
 use Rattle.std.specs.Prelude.{List, length, ℕ, ◌≡◌}
 use Rattle.wire_state.proofs.Tasks.{unstirred}
-use Rattle.wire_state.proofs.core.WireCore.give_up.Goals as goal
+use Rattle.wire_state.proofs.wire_core.WireCore.give_up.Goals as goal
 use Rattle.wire_state.specs.Agenda.{stirred_at}
 use Rattle.wire_state.specs.Progress.{to_go}
-use Rattle.wire_state.specs.declared.core.WireCore.{WireCore}
+use Rattle.wire_state.specs.declared.wire_core.WireCore.{WireCore}
 
 pub returns-clause-go : goal.returns-clause-go
 unfolding to_go
