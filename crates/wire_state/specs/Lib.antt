@@ -1,4 +1,5 @@
 pub mod Agenda
+pub mod Courses
 pub mod Intakes
 pub mod Noting
 pub mod Progress

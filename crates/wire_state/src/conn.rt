@@ -279,6 +279,7 @@ impl Conn {
         next: Unit,
     ) -> Result<(), NoMemory>
         ensures rest { self.new ≡ record self.old { inlet = self.new.inlet; windows = self.new.windows; ready = self.new.ready; framed_last = exchange } }
+        ensures room { self.new.windows.send.conn ≡ self.old.windows.send.conn }
         ensures go { conn_go self.new ≤ conn_go self.old }
     {
         self.framed_last = exchange;
@@ -289,6 +290,7 @@ impl Conn {
     // This side of a stream ended, where `last` holds.
     fn ended_where(&mut self, last: bool, exchange: u64, stream: u32)
         ensures rest { self.new ≡ record self.old { inlet = self.new.inlet; windows = self.new.windows } }
+        ensures room { self.new.windows.send.conn ≡ self.old.windows.send.conn }
         ensures go { conn_go self.new ≤ conn_go self.old }
     {
         if !last {
@@ -302,6 +304,7 @@ impl Conn {
     pub fn stream_ended(&mut self, exchange: u64, stream: u32)
         ensures rest { self.new ≡ record self.old { windows = self.new.windows } }
         ensures recv { self.new.windows.recv ≡ self.old.windows.recv }
+        ensures room { self.new.windows.send.conn ≡ self.old.windows.send.conn }
         ensures go { conn_go self.new ≤ conn_go self.old }
     {
         if self.inlet.is_open(stream) {

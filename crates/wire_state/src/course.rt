@@ -1,4 +1,7 @@
 // Between which connections a flow goes.
+ghost use Rattle.std.specs.Prelude.{◌≡◌};
+ghost use Rattle.wire_state.specs.Courses.{course_of};
+
 use flow_gate::FlowId;
 use wire_links::Ends;
 
@@ -12,7 +15,9 @@ pub struct Course {
 
 impl Course {
     /// The course of the request of an exchange between these ends, or of its response.
-    pub fn of(exchange: u64, back: bool, ends: Ends) -> Self {
+    pub fn of(exchange: u64, back: bool, ends: Ends) -> Self
+        ensures { result ≡ course_of exchange back ends }
+    {
         let flow = FlowId { exchange, back };
         if back {
             return Course {

@@ -1,6 +1,7 @@
 // What goes out on a connection.
 ghost use Rattle.exchange_core.specs.Units.{IsFrameable as IsFrameableUnit};
 ghost use Rattle.flow_rules.specs.declared.unit.Unit.TheVariants.{Head};
+ghost use Rattle.h2_windows.specs.SendWindow.{Spend, changed};
 ghost use Rattle.proxy_config.specs.declared.config.LimitKeys.{LimitKeys as Limits};
 ghost use Rattle.std.specs.Prelude.{◌≡◌, ◌<◌, ◌≤◌, ◌+◌, ◌^◌, IfOk, IfSome, MatchOption, OnOk, false, true};
 ghost use Rattle.wire_flows.specs.Flows.{IsThere, KeepsLive, flow_in, time_of};
@@ -155,6 +156,7 @@ impl Conn {
         ensures open { self.new.open ≡ self.old.open }
         ensures keeps { OnOk result (KeepsLive flows.old flows.new) }
         ensures time { OnOk result (time_of flows.new ≡ time_of flows.old) }
+        ensures spent { IfOk result (λ framed. IfSome framed (λ f. self.new.windows.send.conn ≡ changed (Spend f.n) self.old.windows.send.conn)) }
         ensures go { IfOk result (λ framed. MatchOption framed (conn_go self.new + to_go flows.new ≤ conn_go self.old + to_go flows.old) (λ f. conn_go self.new + (to_go flows.new + 40) ≤ conn_go self.old + to_go flows.old)) }
     {
         if !is_stream(stream) || !self.may_write() {

@@ -1,5 +1,8 @@
 // What goes next into the write buffer of a connection.
-ghost use Rattle.std.specs.Prelude.{◌≡◌};
+ghost use Rattle.exchange_core.specs.Exchange.{flow_id};
+ghost use Rattle.std.specs.Prelude.{◌≡◌, IfSome};
+ghost use Rattle.wire_inlet.specs.Incoming.{is_cluster};
+ghost use Rattle.wire_state.specs.Courses.{IsReadable};
 ghost use Rattle.wire_state.specs.Progress.{conn_go};
 
 use crate::conn::Conn;
@@ -50,6 +53,7 @@ impl Conn {
     // The least exchange whose stream is due a WINDOW_UPDATE and that nothing holds back.
     fn next_due(&mut self, flows: &WireFlows) -> Option<u64>
         ensures rest { self.new ≡ record self.old { credits = self.new.credits } }
+        ensures readable { IfSome result (λ x. IsReadable flows.now (flow_id x (is_cluster self.old.peer))) }
         ensures go { conn_go self.new ≡ conn_go self.old }
     {
         let back = !self.is_client();

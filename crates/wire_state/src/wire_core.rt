@@ -2,6 +2,7 @@
 ghost use Rattle.proxy_config.specs.Ranges.{IsInRange};
 ghost use Rattle.std.specs.Prelude.{◌≡◌, ◌≤◌, ◌+◌, ◌∷◌, [], IfOk, OnOk};
 ghost use Rattle.wire_state.specs.Agenda.{stirred_at, top_go};
+ghost use Rattle.wire_state.specs.Courses.{comes_from, course_at, course_in, goes_to, row_of};
 ghost use Rattle.wire_state.specs.Noting.{Appends};
 ghost use Rattle.wire_state.specs.Progress.{task_go, to_go};
 ghost use Rattle.wire_state.specs.Sound.{IsSound, is_open_at};
@@ -235,7 +236,9 @@ impl WireCore {
     }
 
     /// The course of a flow of a live exchange.
-    pub fn course(&self, flow: FlowId) -> Option<Course> {
+    pub fn course(&self, flow: FlowId) -> Option<Course>
+        ensures { result ≡ course_in self.entry.now.links flow }
+    {
         match self.links.ends_of(flow.exchange) {
             Some(ends) => Some(Course::of(flow.exchange, flow.back, ends)),
             None => None,
@@ -243,14 +246,18 @@ impl WireCore {
     }
 
     /// The flow that comes from a stream of a connection.
-    pub fn flow_from(&self, conn: u32, stream: u32) -> Option<Course> {
+    pub fn flow_from(&self, conn: u32, stream: u32) -> Option<Course>
+        ensures { result ≡ course_at (comes_from conn) conn stream self.entry.now.links }
+    {
         let exchange = self.links.exchange_at(conn, stream)?;
         let ends = self.links.ends_of(exchange)?;
         Some(Course::of(exchange, ends.client != conn, ends))
     }
 
     /// The flow that goes to a stream of a connection.
-    pub fn flow_to(&self, conn: u32, stream: u32) -> Option<Course> {
+    pub fn flow_to(&self, conn: u32, stream: u32) -> Option<Course>
+        ensures { result ≡ course_at (goes_to conn) conn stream self.entry.now.links }
+    {
         let exchange = self.links.exchange_at(conn, stream)?;
         let ends = self.links.ends_of(exchange)?;
         Some(Course::of(exchange, ends.client == conn, ends))
@@ -360,7 +367,9 @@ impl WireCore {
     }
 
     /// The route row of an exchange that began in the last dispatch: none where its request was refused before one was found.
-    pub fn row(&self, exchange: u64) -> Option<u32> {
+    pub fn row(&self, exchange: u64) -> Option<u32>
+        ensures { result ≡ row_of exchange self.entry.now.before self.entry.now.rows.items }
+    {
         if exchange <= self.before {
             return None;
         }
