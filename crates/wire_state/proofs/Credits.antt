@@ -1,5 +1,4 @@
 -- What the credit of a connection comes to, where its windows change.
-use Rattle.h2_windows.specs.RecvWindow.{Receiving}
 use Rattle.std.proofs.Common.{ap, arith, refl}
 use Rattle.std.specs.FinMap.{get, insert, values}
 use Rattle.std.specs.List.{sum_by}

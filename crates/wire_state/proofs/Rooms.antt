@@ -4,7 +4,7 @@ use Rattle.proxy_config.specs.declared.config.LimitKeys.{LimitKeys}
 use Rattle.std.proofs.Common.{ap, arith, ◌∙◌}
 use Rattle.std.proofs.lemmas.Int.{ints}
 use Rattle.std.proofs.lemmas.List.{length-append}
-use Rattle.std.specs.Prelude.{IfSome, IsSome, List, None, Option, Some, false, length, max, negsuc, pos, ℕ, ℤ, ◌+◌, ◌<◌, ◌≡◌, ◌≤ℤ◌, ◌≤◌}
+use Rattle.std.specs.Prelude.{IfSome, IsSome, List, None, Option, Some, false, length, negsuc, pos, ℕ, ℤ, ◌+◌, ◌<◌, ◌≡◌, ◌≤ℤ◌, ◌≤◌}
 use Rattle.wire_outlet.proofs.Ready.{appended}
 use Rattle.wire_outlet.specs.Outgoing.{Outgoing}
 use Rattle.wire_state.specs.Sound.{IsKept, unit_of}

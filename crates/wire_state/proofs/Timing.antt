@@ -6,8 +6,8 @@ use Rattle.scaled_timer.specs.Order.{in_order}
 use Rattle.std.proofs.Common.{arith, refl}
 use Rattle.std.proofs.lemmas.List.{length-append, length-map}
 use Rattle.std.proofs.lemmas.List.Filters.{length-filter_both}
-use Rattle.std.specs.Prelude.{Bool, List, [], cond, false, filter, length, not, true, ℕ, ◌++◌, ◌+◌, ◌==◌, ◌∷◌, ◌≡◌, ◌≤◌}
-use Rattle.wire_timers.specs.Armed.{Armed, Timeouts, armed_anew, disarmed, gone, is_of, without}
+use Rattle.std.specs.Prelude.{Bool, List, [], cond, false, filter, length, not, true, ℕ, ◌++◌, ◌+◌, ◌==◌, ◌∷◌, ◌≤◌}
+use Rattle.wire_timers.specs.Armed.{Timeouts, armed_anew, disarmed, gone, is_of, without}
 use Rattle.wire_timers.specs.Due.{due_list, due_moment, due_of, due_taken, is_due}
 use Rattle.wire_timers.specs.Kinds.{longest_at, number_of}
 

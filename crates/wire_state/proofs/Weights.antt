@@ -4,7 +4,7 @@ use Rattle.std.proofs.lemmas.Map.Entries.{sum_by-set_value}
 use Rattle.std.specs.BTreeMap.{is_at}
 use Rattle.std.specs.Map.{lookup, set_value}
 use Rattle.std.specs.Ordering.{nat_cmp}
-use Rattle.std.specs.Prelude.{List, Some, ℕ, ◌+◌, ◌≡◌, ◌≤◌}
+use Rattle.std.specs.Prelude.{List, Some, ℕ, ◌+◌, ◌≡◌}
 use Rattle.wire_state.specs.Progress.{conn_go, conns_go}
 use Rattle.wire_state.specs.declared.conn.Conn.{Conn}
 

@@ -1,7 +1,7 @@
-use Rattle.std.proofs.Common.{ap, arith, sym, ◌∙◌}
-use Rattle.std.specs.Prelude.{is_some, ℕ, ◌+◌, ◌≡◌, ◌≤◌}
+use Rattle.std.proofs.Common.{ap, arith, sym}
+use Rattle.std.specs.Prelude.{is_some}
 use Rattle.wire_state.proofs.Credits.{begun_go}
-use Rattle.wire_state.specs.Progress.{conn_go, credit_go}
+use Rattle.wire_state.specs.Progress.{conn_go}
 use Rattle.wire_state.proofs.conn.Conn.begin_recv.Goals as goal
 
 pub returns-in-None-clause-go : goal.returns-in-None-clause-go

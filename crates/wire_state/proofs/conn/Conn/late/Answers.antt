@@ -1,7 +1,6 @@
-use Rattle.std.proofs.Common.{ap, arith, sym, ◌∙◌}
-use Rattle.std.specs.Prelude.{is_some, ℕ, ◌+◌, ◌≡◌, ◌≤◌}
+use Rattle.std.proofs.Common.{arith}
 use Rattle.wire_state.proofs.Credits.{late_go}
-use Rattle.wire_state.specs.Progress.{conn_go, credit_go}
+use Rattle.wire_state.specs.Progress.{conn_go}
 use Rattle.wire_state.proofs.conn.Conn.late.Goals as goal
 
 pub returns-clause-go : goal.returns-clause-go

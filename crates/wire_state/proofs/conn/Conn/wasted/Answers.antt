@@ -1,5 +1,4 @@
-use Rattle.std.proofs.Common.{ap, arith, sym, ◌∙◌}
-use Rattle.std.specs.Prelude.{is_some, ℕ, ◌+◌, ◌≡◌, ◌≤◌}
+use Rattle.std.proofs.Common.{ap, arith}
 use Rattle.wire_state.proofs.Credits.{credit_wastes}
 use Rattle.wire_state.specs.Progress.{conn_go, credit_go}
 use Rattle.wire_state.proofs.conn.Conn.wasted.Goals as goal

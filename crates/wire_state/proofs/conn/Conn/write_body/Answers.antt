@@ -3,7 +3,6 @@ use Rattle.h2_frames.specs.Head.{data_head}
 use Rattle.std.proofs.Common.{ap, arith, subst, sym, ◌∙◌}
 use Rattle.std.proofs.lemmas.Int.{to_z-of_z}
 use mir.Syntax.{w64}
-use mir.Val.{SFits}
 use Rattle.flow_rules.specs.Narrowed.{octets_of}
 use Rattle.std.specs.Prelude.{false, is_some, length, pos, take, ℤ, ◌+◌, ◌++◌, ◌≡◌, ◌≤ℤ◌, ◌≤◌}
 use Rattle.wire_flows.specs.Flows.{flow_in}
