@@ -20,7 +20,7 @@ returns-clause-sound c =
       moment = c.requires.sound.moment;
       armed = omega (arith, t, c.requires.sound.armed);
       metered = subst (λ (m : ℕ). m ≤ c.args.core.now.now) (sym c.doom-doomed.ensures.time) c.requires.sound.metered;
-      live = λ y. linked y ∙ live_doomed c.args.exchange c.args.core.now.links (is_live_in c.args.core.now.flows) (is_live_in c.doom-doomed.new.self) c.are_sound.ensures.exchanges c.requires.sound.live c.doom-doomed.ensures.live y;
+      live = λ y. linked y ∙ live_doomed c.args.exchange c.args.core.now.links (is_live_in c.args.core.now.flows) (is_live_in c.doom-doomed.new.self) c.are_sound.ensures c.requires.sound.live c.doom-doomed.ensures.live y;
       kept = c.requires.sound.kept;
     }
 
