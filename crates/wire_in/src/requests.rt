@@ -37,10 +37,7 @@ pub(crate) fn request(
     ensures go { OnOk result (to_go core.new ≤ to_go core.old + 300) }
     ensures notes { Appends notes.old notes.new }
 {
-    if ignores(core, number, stream) || !core.flows.knows_write(number) {
-        return Ok(());
-    }
-    if core.links.exchange_at(number, stream).is_some() {
+    if ignores(core, number, stream) || !is_unused(core, number, stream) {
         return Ok(());
     }
     let decision = decide(core, fields.as_ref(), last);
@@ -88,6 +85,17 @@ fn ignores(core: &mut WireCore, number: u32, stream: u32) -> bool
     match core.conns.get_mut(&number) {
         Some(conn) => conn.ignores(stream),
         None => true,
+    }
+}
+
+// Whether no exchange is on the stream, and the write buffer of the connection is known.
+fn is_unused(core: &WireCore, number: u32, stream: u32) -> bool
+    ensures write { result ≡ true → IsSome (write_at number core.now.flows) }
+    ensures unused { result ≡ true → exchange_at number stream core.now.links ≡ None }
+{
+    match core.links.exchange_at(number, stream) {
+        Some(_) => false,
+        None => core.flows.knows_write(number),
     }
 }
 
@@ -163,7 +171,7 @@ fn known_row(core: &WireCore, row: Option<u32>) -> Option<u32>
     ensures { IfSome result (λ row. row < length core.now.config.routes) }
 {
     match row {
-        Some(row) if (row as usize) < core.config.routes.len() => Some(row),
+        Some(row) if row < core.config.routes.len() => Some(row),
         _ => None,
     }
 }
