@@ -60,12 +60,7 @@ pub(crate) fn take_act(
 }
 
 // The effect of a frame without content and without a field block.
-fn control(
-    core: &mut WireCore,
-    number: u32,
-    act: Act,
-    notes: &mut Notes,
-) -> Result<(), NoMemory>
+fn control(core: &mut WireCore, number: u32, act: Act, notes: &mut Notes) -> Result<(), NoMemory>
     requires sound { IsSound core.old }
     ensures sound { OnOk result (IsSound core.new) }
     ensures go { OnOk result (to_go core.new ≤ to_go core.old + 17) }

@@ -37,7 +37,10 @@ impl Content {
     fn is_counted(&self) -> bool
         ensures { result ≡ true → length self.now.octets ≤ self.now.counted }
     {
-        self.octets.len() + self.padded as usize <= self.counted as usize
+        match self.counted.checked_sub(self.padded) {
+            Some(room) => self.octets.len() <= room as usize,
+            None => false,
+        }
     }
 }
 
