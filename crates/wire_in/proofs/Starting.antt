@@ -1,13 +1,9 @@
 -- Which exchanges are linked and live, where one begins.
 use Rattle.std.proofs.Common.{ap, refl, sym, ◌∙◌}
-use Rattle.std.specs.Prelude.{Bool, None, Option, Some, false, if◌then◌else◌, is_some, nat_eq, true, ℕ, ◌==◌, ◌||◌, ◌≡◌}
+use Rattle.std.specs.Prelude.{Bool, Option, Some, false, if◌then◌else◌, is_some, nat_eq, true, ℕ, ◌==◌, ◌||◌, ◌≡◌}
 use Rattle.wire_links.proofs.Under.{under_insert}
 use Rattle.wire_links.specs.Links.{Links, ends_of, started}
 use Rattle.wire_links.specs.declared.ends.Ends.{Ends}
-
-pub is_none : {A : Type 0} (o : Option A) → is_some o ≡ false → o ≡ None
-is_none None e = refl
-is_none (Some a) e = absurd (cc e)
 
 with_it : (b : Bool) (e : Ends) (o : Option Ends) → is_some (if b then Some e else o) ≡ (b || is_some o)
 with_it true e o = refl

@@ -7,4 +7,4 @@ use Rattle.wire_state.proofs.Soundness.{links_sound}
 pub open-requires : goal.open-requires
 open-requires c =
     let k = c.args.core.now in
-    links_sound k.config k.now k.links k.conns k.flows k.timers c.requires.sound c.join.new.self (λ x. ap (λ (l : Links). is_some (ends_of x l)) c.in_ok-join.ensures.ok)
+    record { sound = links_sound k.config k.now k.links k.conns k.flows k.timers c.requires.sound c.join.new.self (λ x. ap (λ (l : Links). is_some (ends_of x l)) c.in_ok-join.ensures.ok) }

@@ -3,5 +3,5 @@ use Rattle.wire_in.proofs.settings.refresh_all.Given as goal
 use Rattle.wire_state.specs.Progress.{to_go}
 use Rattle.wire_state.specs.Sound.{IsSound}
 
-abbrev pub invariant-loop-_exchange : goal.invariant-loop-_exchange
-invariant-loop-_exchange l = record { sound : IsSound l.core; go : to_go l.core ≤ to_go l.fn.core }
+abbrev pub invariant-loop-exchange : goal.invariant-loop-exchange
+invariant-loop-exchange l = record { sound : IsSound l.core; go : to_go l.core ≤ to_go l.fn.core }
