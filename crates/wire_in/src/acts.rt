@@ -1,5 +1,5 @@
 // What each frame does.
-ghost use Rattle.std.specs.Prelude.{◌≤◌, ◌+◌, ◌*◌, OnOk};
+ghost use Rattle.std.specs.Prelude.{◌≡◌, ◌≤◌, ◌+◌, ◌*◌, OnOk};
 ghost use Rattle.wire_state.specs.Noting.{Appends};
 ghost use Rattle.wire_state.specs.Progress.{to_go};
 ghost use Rattle.wire_state.specs.Sound.{IsSound};
@@ -38,7 +38,6 @@ pub(crate) fn take_act(
         is_update,
     } = taken;
     match act {
-        Act::Ignore | Act::Ack => Ok(()),
         Act::Body {
             stream,
             octets,
@@ -48,20 +47,33 @@ pub(crate) fn take_act(
             let content = Content::of(octets, padded, content);
             body(core, number, stream, content, last, notes)
         }
-        Act::Late { stream, n } => late(core, number, stream, n, notes),
+        Act::Late { stream, .. } => late(core, number, stream, content, notes),
         Act::Head { stream, last, .. } => head(core, number, stream, reading, last, notes),
         Act::Trailers { stream, .. } => trailers(core, number, stream, reading, notes),
         Act::OldBlock { .. } => old_block(core, number, reading, notes),
+        Act::StreamError { stream, code, .. } => {
+            let fault = stream_fault(stream, code, content, is_update);
+            fault.take(core, number, reading, notes)
+        }
+        act => control(core, number, act, notes),
+    }
+}
+
+// The effect of a frame without content and without a field block.
+fn control(core: &mut WireCore, number: u32, act: Act, notes: &mut Notes) -> Result<(), NoMemory>
+    requires sound { IsSound core.old }
+    ensures sound { OnOk result (IsSound core.new) }
+    ensures go { OnOk result (to_go core.new ≤ to_go core.old + 17) }
+    ensures notes { Appends notes.old notes.new }
+{
+    match act {
         Act::Settings { list } => settings(core, number, &list, notes),
         Act::Ping { octets } => ping(core, number, octets),
         Act::WindowUp { stream, n } => window_up(core, number, stream, n, notes),
         Act::PeerReset { stream, code } => peer_reset(core, number, stream, code, notes),
         Act::GoAway { last, .. } => goaway(core, number, last),
-        Act::StreamError { stream, code, .. } => {
-            let fault = stream_fault(stream, code, content, is_update);
-            fault.take(core, number, reading, notes)
-        }
         Act::ConnError { code } => close_with(core, number, code, notes),
+        _ => Ok(()),
     }
 }
 

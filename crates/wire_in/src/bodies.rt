@@ -1,5 +1,5 @@
 // DATA frames.
-ghost use Rattle.std.specs.Prelude.{◌≡◌, ◌≤◌, ◌+◌, ◌*◌, OnOk, length};
+ghost use Rattle.std.specs.Prelude.{◌≡◌, ◌≤◌, ◌+◌, ◌*◌, OnOk, length, true};
 ghost use Rattle.wire_state.specs.Noting.{Appends};
 ghost use Rattle.wire_state.specs.Progress.{to_go};
 ghost use Rattle.wire_state.specs.Sound.{IsSound};
@@ -22,7 +22,10 @@ pub(crate) struct Content {
 }
 
 impl Content {
-    pub(crate) fn of(octets: Octets, padded: u32, counted: u32) -> Self {
+    pub(crate) fn of(octets: Octets, padded: u32, counted: u32) -> Self
+        ensures octets { result.octets ≡ octets }
+        ensures counted { result.counted ≡ counted }
+    {
         Content {
             octets,
             padded,
@@ -31,8 +34,13 @@ impl Content {
     }
 
     // Whether no more is carried than is counted.
-    fn is_counted(&self) -> bool {
-        self.octets.len() + self.padded as usize <= self.counted as usize
+    fn is_counted(&self) -> bool
+        ensures { result ≡ true → length self.now.octets ≤ self.now.counted }
+    {
+        match self.counted.checked_sub(self.padded) {
+            Some(room) => self.octets.len() <= room as usize,
+            None => false,
+        }
     }
 }
 

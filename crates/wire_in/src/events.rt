@@ -186,18 +186,26 @@ fn note_out(notes: &mut Notes, conn: u32, n: u32) -> Result<(), NoMemory>
     note(notes, Note::Out { conn, n })
 }
 
-// The clock goes on.
+// The clock goes on: timers may be due, and octets in Meters may be released.
 fn tick(core: &mut WireCore, now: u64) -> Result<(), NoMemory>
     requires sound { IsSound core.old }
     ensures sound { OnOk result (IsSound core.new) }
 {
-    core.now = core.now.max(now).min(LAST_MOMENT);
-    core.flows.tick(core.now);
+    set_clock(core, now);
     core.begin(Task::Fires)?;
     core.begin(Task::Ticks {
         exchange: 0,
         back: true,
     })
+}
+
+// The clock doesn't go back, and not beyond the last moment.
+fn set_clock(core: &mut WireCore, now: u64)
+    requires sound { IsSound core.old }
+    ensures sound { IsSound core.new }
+{
+    core.now = core.now.max(now).min(LAST_MOMENT);
+    core.flows.tick(core.now);
 }
 
 // A posted job.

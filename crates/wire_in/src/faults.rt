@@ -38,7 +38,9 @@ pub(crate) struct StreamFault {
     is_update: bool,
 }
 
-pub(crate) fn stream_fault(stream: u32, code: u32, content: u32, is_update: bool) -> StreamFault {
+pub(crate) fn stream_fault(stream: u32, code: u32, content: u32, is_update: bool) -> StreamFault
+    ensures { result.content ≡ content }
+{
     StreamFault {
         stream,
         code,

@@ -37,10 +37,7 @@ pub(crate) fn request(
     ensures go { OnOk result (to_go core.new ≤ to_go core.old + 300) }
     ensures notes { Appends notes.old notes.new }
 {
-    if ignores(core, number, stream) || !core.flows.knows_write(number) {
-        return Ok(());
-    }
-    if core.links.exchange_at(number, stream).is_some() {
+    if ignores(core, number, stream) || !is_unused(core, number, stream) {
         return Ok(());
     }
     let decision = decide(core, fields.as_ref(), last);
@@ -88,6 +85,17 @@ fn ignores(core: &mut WireCore, number: u32, stream: u32) -> bool
     match core.conns.get_mut(&number) {
         Some(conn) => conn.ignores(stream),
         None => true,
+    }
+}
+
+// Whether no exchange is on the stream, and the write buffer of the connection is known.
+fn is_unused(core: &WireCore, number: u32, stream: u32) -> bool
+    ensures write { result ≡ true → IsSome (write_at number core.entry.now.flows) }
+    ensures unused { result ≡ true → exchange_at number stream core.entry.now.links ≡ None }
+{
+    match core.links.exchange_at(number, stream) {
+        Some(_) => false,
+        None => core.flows.knows_write(number),
     }
 }
 
@@ -146,9 +154,9 @@ fn begin(
 
 // The row of a request, and the connection that it goes to, if there are.
 fn goal_of(core: &WireCore, decision: &Decision) -> (Option<u32>, Option<u32>)
-    ensures row { IfSome result.0 (λ row. row < length core.now.config.routes) }
-    ensures to { IfSome result.1 (λ c. IsSome (write_at c core.now.flows)) }
-    ensures cluster { IfSome result.1 (λ c. IsSome (cluster_of c core.now.links)) }
+    ensures row { IfSome result.0 (λ row. row < length core.entry.now.config.routes) }
+    ensures to { IfSome result.1 (λ c. IsSome (write_at c core.entry.now.flows)) }
+    ensures cluster { IfSome result.1 (λ c. IsSome (cluster_of c core.entry.now.links)) }
 {
     match decision {
         Decision::Going { routed, conn } => {
@@ -160,18 +168,18 @@ fn goal_of(core: &WireCore, decision: &Decision) -> (Option<u32>, Option<u32>)
 }
 
 fn known_row(core: &WireCore, row: Option<u32>) -> Option<u32>
-    ensures { IfSome result (λ row. row < length core.now.config.routes) }
+    ensures { IfSome result (λ row. row < length core.entry.now.config.routes) }
 {
     match row {
-        Some(row) if (row as usize) < core.config.routes.len() => Some(row),
+        Some(row) if row < core.config.routes.len() => Some(row),
         _ => None,
     }
 }
 
 // The connection, where it is one to a cluster whose write buffer is known.
 fn known_conn(core: &WireCore, conn: u32) -> Option<u32>
-    ensures write { IfSome result (λ c. IsSome (write_at c core.now.flows)) }
-    ensures cluster { IfSome result (λ c. IsSome (cluster_of c core.now.links)) }
+    ensures write { IfSome result (λ c. IsSome (write_at c core.entry.now.flows)) }
+    ensures cluster { IfSome result (λ c. IsSome (cluster_of c core.entry.now.links)) }
 {
     if core.flows.knows_write(conn) && core.links.cluster_of(conn).is_some() {
         Some(conn)
@@ -236,7 +244,7 @@ fn spec_of(
     ensures send { result.send ≤ most_octets }
     ensures quantum { IsBetween 16384 1048576 result.quantum }
     ensures ends { (result.from_conn ≡ number) × (result.to_conn ≡ to) }
-    ensures rest { (result.row ≡ row) × (result.now ≡ core.now.now) }
+    ensures rest { (result.row ≡ row) × (result.now ≡ core.entry.now.now) }
 {
     let limits = &core.config.limits;
     StartSpec {

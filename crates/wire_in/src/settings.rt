@@ -119,11 +119,24 @@ fn refresh_all(core: &mut WireCore, number: u32) -> Result<(), NoMemory>
     ensures go { OnOk result (to_go core.new ≤ to_go core.old) }
 {
     let mut after = 0;
-    while let Some(exchange) = core.links.next_of(number, after) {
-        if let Some(ends) = core.links.ends_of(exchange) {
-            core.refresh(Course::of(exchange, ends.client == number, ends))?;
-        }
+    for _exchange in 0..core.links.exchanges_of(number) {
+        let Some(exchange) = core.links.next_of(number, after) else {
+            return Ok(());
+        };
+        refresh_one(core, number, exchange)?;
         after = exchange;
     }
     Ok(())
+}
+
+// What goes next of the flow of an exchange that goes to the connection.
+fn refresh_one(core: &mut WireCore, number: u32, exchange: u64) -> Result<(), NoMemory>
+    requires sound { IsSound core.old }
+    ensures sound { OnOk result (IsSound core.new) }
+    ensures go { OnOk result (to_go core.new ≤ to_go core.old) }
+{
+    match core.links.ends_of(exchange) {
+        Some(ends) => core.refresh(Course::of(exchange, ends.client == number, ends)),
+        None => Ok(()),
+    }
 }
