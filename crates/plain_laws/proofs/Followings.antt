@@ -22,7 +22,7 @@ use Rattle.plain_laws.proofs.Streams.{not_so}
 -- the end of a stream came where an event said so
 pub ended_is : (x : ℕ) (h : Past) → plain_ended x h ≡ has (finished (events_back h)) x
 ended_is x [] = refl
-ended_is x (Noted (note.Turn k (event.Plain (plain.Finish s))) ∷ past) = ap (λ b. (s == x) || b) (ended_is x past)
+ended_is x (Noted (note.Turn k (event.Plain (plain.Finish s))) ∷ past) = cc (ended_is x past)
 ended_is x (step ∷ past) = ended_is x past
 
 -- a stream that has no pair yet has no seconds
@@ -41,7 +41,7 @@ each_below : (s : ℕ) (xs : List ℕ) (y : ℕ) → list_all (λ t. nat_lt t s)
 each_below s [] y a e = cc
 each_below s (x ∷ xs) y a e =
     let k = both_of (nat_lt x s) (list_all (λ t. nat_lt t s) xs) a in
-    by_case (x == y) (λ t. subst (λ (v : ℕ). v < s) (number_is x y t) (below x s k.0)) (λ d. each_below s xs y k.1 (later (x == y) (has xs y) e d))
+    by_case (x == y) (λ t. rw (← (number_is x y t)) (below x s k.0)) (λ d. each_below s xs y k.1 (later (x == y) (has xs y) e d))
   where
     below : (a b : ℕ) → nat_lt a b ≡ true → a < b
     below a b e = grind (arith, nat_tests)

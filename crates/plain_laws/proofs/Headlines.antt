@@ -86,7 +86,7 @@ each_is P (g ∷ gs) f e a = by (same_flow f g) refl e (λ k. each_is P gs f k a
 
 -- a flow that a note names is of a live exchange
 lives : (f g : FlowId) (past : Past) → Alive past g.exchange → same_flow g f ≡ true → Alive past f.exchange
-lives f g past l s = subst (λ (v : FlowId). Alive past v.exchange) (flow_is g f s) l
+lives f g past l s = rw (← (flow_is g f s)) l
 
 -- ---- steps
 
@@ -105,7 +105,7 @@ module _ (limits : PlainLimits) (f : FlowId) where
   move_carries : (g : FlowId) (q n : ℕ) (past : Past) → MayStand (plain_setup limits) (Noted (note.Move g q n)) past
       → LeavesDoomed (Noted (note.Move g q n)) past → CarriesIn limits f past → CarriesIn limits f (Noted (note.Move g q n) ∷ past)
   move_carries g q n past may leaves k =
-      subst (λ (v : ℕ). CarriesIn limits f (Noted (note.Move g v n) ∷ past)) (first (is_free (plain_setup limits) g 0 past) q may.last) (move_if _ _ _ _ _ _ _ (same_flow g f) n (lives f g past leaves) k)
+      rw (← (first (is_free (plain_setup limits) g 0 past) q may.last)) (move_if _ _ _ _ _ _ _ (same_flow g f) n (lives f g past leaves) k)
     where
       first : (b : Bool) (p : ℕ) → (if b then Some 0 else None) ≡ Some p → 0 ≡ p
       first true p e = cc
@@ -115,7 +115,7 @@ module _ (limits : PlainLimits) (f : FlowId) where
       → CarriesIn limits f (Noted (note.Start x c s d) ∷ past)
   start_carries x c s d past leaves k =
       rw (list_any-append (λ y. y == f.exchange) (live past) (x ∷ []), list_any-append (λ y. y == f.exchange) (started past) (x ∷ []))
-      (start_if _ _ _ _ _ _ _ (x == f.exchange) (λ e. subst (λ (v : ℕ). has (started past) v ≡ false) (number_is x f.exchange e) leaves) k)
+      (start_if _ _ _ _ _ _ _ (x == f.exchange) (λ e. rw (← (number_is x f.exchange e)) leaves) k)
 
   -- a step keeps what a flow carries
   step_carries : (step : Step NoMark) (past : Past) → MayStand (plain_setup limits) step past → LeavesDoomed step past

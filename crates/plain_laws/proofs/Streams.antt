@@ -35,7 +35,7 @@ pub own_or_other : (P : ℕ → Type 0) (x y : ℕ) → P x → ((x == y) ≡ fa
 own_or_other P x y own other = by_case (x == y) (λ e. subst P (number_is x y e) own) other
 
 pub same_request : (x : ℕ) → same_flow (request x) (request x) ≡ true
-same_request x = ap (λ b. b && true) (same_number x)
+same_request x = cc (same_number x)
 
 -- ---- which numbers a list has
 
@@ -89,7 +89,7 @@ not_so false e = refl
 
 module _ (xs : List ℕ) (x y : ℕ) where
   has_without : has (filter (λ z. not (z == x)) xs) y ≡ (not (y == x) && has xs y)
-  has_without = any-filter_same (λ z. z == y) (λ z. not (z == x)) (not (y == x)) (λ z t. ap (λ w. not (w == x)) (number_is z y t)) xs
+  has_without = any-filter_same (λ z. z == y) (λ z. not (z == x)) (not (y == x)) (λ z t. cc (number_is z y t)) xs
 
   -- what is left without x was there, and isn't x
   pub has_left : has (filter (λ z. not (z == x)) xs) y ≡ true → (has xs y ≡ true) × ((x == y) ≡ false)
@@ -108,7 +108,7 @@ module _ (xs : List ℕ) (x y : ℕ) where
 
 -- a stream that was started isn't one that wasn't
 pub apart_from : (xs : List ℕ) (s x : ℕ) → has xs s ≡ true → has xs x ≡ false → (s == x) ≡ false
-apart_from xs s x is isnt = by_case (s == x) (λ t. not_both (has xs x) (subst (λ (v : ℕ). has xs v ≡ true) (number_is s x t) is) isnt) (λ f. f)
+apart_from xs s x is isnt = by_case (s == x) (λ t. not_both (has xs x) (rw (← (number_is s x t)) is) isnt) (λ f. f)
 
 -- ---- what holds of each
 
@@ -143,7 +143,7 @@ flow_is_live limits x h e = among (live h) e
     among : (xs : List ℕ) → has xs x ≡ true → list_any (same_flow (request x)) (flat_map (λ y. request y ∷ []) xs) ≡ true
     among [] e = cc
     among (y ∷ ys) e =
-        by_case (y == x) (λ t. or_left (same_flow (request x) (request y)) _ (ap (λ z. same_flow (request x) (request z)) (number_is y x t) ∙ same_request x))
+        by_case (y == x) (λ t. or_left (same_flow (request x) (request y)) _ (cc (number_is y x t, same_request x)))
         (λ d. or_right (same_flow (request x) (request y)) _ (among ys (or_true (y == x) (has ys x) e d)))
 
 -- ---- flows told apart by their names

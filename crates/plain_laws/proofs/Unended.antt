@@ -44,7 +44,7 @@ unframed_of limits x (Noted (note.Frame c f n last) ∷ past) e =
 
     not_last : (f : FlowId) (last : Bool) (xs : List ℕ) → (last && has (x ∷ xs) f.exchange) ≡ false → (same_flow f (request x) && last) ≡ false
     not_last f last xs e =
-        none (f.exchange == x) (has xs f.exchange) (if f.back then false else true) last (ap (λ b. last && (b || has xs f.exchange)) (swapped f.exchange x) ∙ e)
+        none (f.exchange == x) (has xs f.exchange) (if f.back then false else true) last (cc (swapped f.exchange x))
 unframed_of limits x (step ∷ past) e = unframed_of limits x past e
 
 -- at the end of a dispatch no live stream need end

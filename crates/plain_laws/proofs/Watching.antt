@@ -20,7 +20,7 @@ write_watchers limits h = each (live h)
   where
     each : (xs : List ℕ) → filter (λ (f : FlowId). list_any (same_buffer (buffer.Write 0)) (buffer.Send f ∷ buffer.Write 0 ∷ [])) (flat_map (λ x. request x ∷ []) xs) ≡ map request xs
     each [] = refl
-    each (x ∷ xs) = ap (λ (fs : List FlowId). request x ∷ fs) (each xs)
+    each (x ∷ xs) = cc (each xs)
 
 -- the flows of these streams that watch the send buffer of x
 abbrev watching : ℕ → List ℕ → List FlowId
@@ -37,12 +37,11 @@ one_watching x [] r e = cc
 one_watching x (y ∷ ys) r e =
     by_case (y == x)
     (λ t. own (number_is y x t) (none_watching y ys (rising_apart y ys r.0)))
-    (λ d. ap (λ b. if (b && true) || false then request y ∷ watching x ys else watching x ys) (differs_back y x d)
-    ∙ one_watching x ys r.1 (has_was_tail (y == x) (has ys x) e d))
+    (λ d. cc (differs_back y x d, one_watching x ys r.1 (has_was_tail (y == x) (has ys x) e d)))
   where
     own : y ≡ x → watching y ys ≡ [] → watching x (y ∷ ys) ≡ request x ∷ []
     own e none =
-        subst (λ (v : ℕ). watching v (y ∷ ys) ≡ request v ∷ []) e (ap (λ b. if (b && true) || false then request y ∷ watching y ys else watching y ys) (same_number y) ∙ ap (λ (fs : List FlowId). request y ∷ fs) none)
+        subst (λ (v : ℕ). watching v (y ∷ ys) ≡ request v ∷ []) e (cc (same_number y))
 
 pub send_watchers : (limits : PlainLimits) (x : ℕ) (h : Past) → IsRising (live h) → Alive h x
     → watchers (plain_setup limits) (buffer.Send (request x)) h ≡ request x ∷ []
