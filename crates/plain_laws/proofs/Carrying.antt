@@ -89,7 +89,7 @@ module _ (sent send recv received came : List ℕ) (live begun : Bool) where
     is = k.is;
     held = λ l.
         let none = k.unborn e in
-        nothing_left sent k.rest (sym k.is ∙ none.0) ∙ sym (cc);
+        nothing_left sent k.rest (sym k.is ∙ none.0) ∙ (cc);
     unread = k.unread;
     reads = k.reads;
     lived = λ l. refl;

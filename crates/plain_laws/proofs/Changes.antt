@@ -113,7 +113,7 @@ module _ (limits : PlainLimits) (x n : ℕ) (h : Past) where
       (cc (pauses_written y due (move_of x n ∷ h), times rises (x == y) refl))
     where
       times : (r b : Bool) → (x == y) ≡ b → owed_times y (due_if r (buffer.Send (request x)) (x ∷ [])) ≡ one_if (b && r)
-      times r true e = rw (← (number_is x y e)) (owed_one r (buffer.Send (request x)) x)
+      times r true e = rw (← number_is x y e) (owed_one r (buffer.Send (request x)) x)
       times r false e = owed_none r (buffer.Send (request x)) x y e
 
 -- ---- a frame

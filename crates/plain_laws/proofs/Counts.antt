@@ -1,4 +1,6 @@
 -- The counts of the live streams, step by step.
+use Rattle.plain_laws.proofs.Streams.{swapped}
+use Rattle.std.proofs.Math.Bool.{and-false}
 use Rattle.flow_gate.specs.declared.ids.FlowId.{FlowId}
 use Rattle.flow_notes.specs.declared.notes.Cause.{Cause}
 use Rattle.plain_laws.proofs.Changes.{frame_paused, frame_resumed, move_paused, move_resumed}
@@ -67,11 +69,7 @@ module _ (limits : PlainLimits) where
           → one_if ((x == x) && b) + resumes (request x) h ≤ pauses (request x) h
       own true e =
           rw (same_number x) (above_counts _ _ _ _ _ (write_flag limits h) (s.regular.books.each x lives).tally (disabled_is limits x h) (ap one_if (was_high _ _ e)))
-      own false e = other _ _ (none (x == x)) (settled_pauses x h s lives)
-        where
-          none : (c : Bool) → one_if (c && false) ≡ 0
-          none true = refl
-          none false = refl
+      own false e = other _ _ (cc (and-false (x == x))) (settled_pauses x h s lives)
 
   pub tell_count : (x y : ℕ) (rest : List FlowId) (h : Past) → Settled limits h → Alive h y
       → conn_lows limits h ≡ request x ∷ rest
@@ -126,9 +124,6 @@ module _ (limits : PlainLimits) where
 pub is_live_is : (limits : PlainLimits) (f : FlowId) (h : Past) → is_live (plain_setup limits) f h ≡ (not f.back && has (live h) f.exchange)
 is_live_is limits f h = among f.exchange f.back (live h)
   where
-    swapped : (a b : ℕ) → (a == b) ≡ (b == a)
-    swapped a b = grind (arith, nat_tests)
-
     joined : (a c b h t : Bool) → a ≡ c → t ≡ (not b && h) → ((a && (if b then false else true)) || t) ≡ (not b && (c || h))
     joined true true true h t e f = f
     joined true true false h t e f = refl
@@ -138,9 +133,5 @@ is_live_is limits f h = among f.exchange f.back (live h)
     joined false false false h t e f = f
 
     among : (x : ℕ) (b : Bool) (xs : List ℕ) → list_any (same_flow (record { exchange = x; back = b })) (flat_map (λ y. request y ∷ []) xs) ≡ (not b && has xs x)
-    among x b [] = none b
-      where
-        none : (b : Bool) → false ≡ (not b && false)
-        none true = refl
-        none false = refl
+    among x b [] = sym (and-false (not b))
     among x b (y ∷ ys) = joined (x == y) (y == x) b (has ys x) _ (swapped x y) (among x b ys)

@@ -1,4 +1,5 @@
 -- A stream is doomed.
+use Rattle.std.proofs.lemmas.Bool.{or_left, or_right}
 use Rattle.plain_laws.specs.Words.{Past, Alive, conn_lows, conn_out, end_out, lows_of, send_high, turn_of}
 use Rattle.tape_laws.specs.Doomed.{is_swept}
 use Rattle.flow_gate.specs.declared.ids.FlowId.{FlowId}
@@ -6,7 +7,7 @@ use Rattle.flow_notes.specs.declared.notes.Cause.{Cause}
 use Rattle.plain_laws.proofs.Extending.{MayAdd, counted_of, free_meets, nothing_owed, one_owed, regular_more}
 use Rattle.plain_laws.proofs.Leaving.{Leaves, flow_other, only_other, room_kept, unborn_kept}
 use Rattle.plain_laws.proofs.Rising.{rising_filter}
-use Rattle.plain_laws.proofs.Streams.{apart_from, by_case, differs_back, has_left, has_lost, has_stays, not_both, number_is, or_left, or_right, same_number}
+use Rattle.plain_laws.proofs.Streams.{apart_from, by_case, differs_back, has_left, has_lost, has_stays, not_both, number_is, same_number}
 use Rattle.plain_laws.proofs.Tellings.{told_without}
 use Rattle.plain_laws.specs.Owing.{OwesDoom, Owing, asking, nothing, overrun, owed_times, starts}
 use Rattle.plain_laws.specs.Regular.{Books, FlowBooks, IsLiveFlow, IsRising, Regular}

@@ -103,7 +103,7 @@ module _ (limits : PlainLimits) (k x : ℕ) (h : Past) where
       ∙ ap (λ n. n + pauses (request y) h) (times (conn_high limits h) (x == y) refl)
     where
       times : (r b : Bool) → (x == y) ≡ b → owed_times y (due_if r (buffer.Write 0) (x ∷ [])) ≡ one_if (b && r)
-      times r true e = rw (← (number_is x y e)) (owed_one r (buffer.Write 0) x)
+      times r true e = rw (← number_is x y e) (owed_one r (buffer.Write 0) x)
       times r false e = owed_none r (buffer.Write 0) x y e
 
 -- ---- octets arrive

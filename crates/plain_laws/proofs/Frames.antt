@@ -1,4 +1,5 @@
 -- A frame of the flow whose turn it is.
+use Rattle.std.proofs.lemmas.Bool.{and_parts as both_true}
 use Rattle.h2_frames.specs.Head.{data_head}
 use Rattle.plain_laws.specs.Words.{Past, Alive, conn_high, conn_lows, conn_out, end_out, frame_of, lows_of, next_out, recv_at, send_at, send_high}
 use Rattle.tape_laws.specs.Doomed.{is_swept}
@@ -32,7 +33,6 @@ use Rattle.tape_laws.specs.Sources.{watchers}
 use Rattle.tape_laws.specs.declared.limits.PlainLimits.{PlainLimits}
 use Rattle.flow_gate.specs.declared.ids.BufferId.TheVariants as buffer
 use Rattle.flow_notes.specs.declared.notes.Note.TheVariants as note
-use Rattle.plain_laws.proofs.Streams.{both_of as both_true}
 use Rattle.plain_laws.proofs.Streams.{number_is as zero_of}
 
 pub frame_leaves : (limits : PlainLimits) (x y n : ℕ) (last : Bool) (h : Past) → (x == y) ≡ false → Leaves limits y (frame_of x n last) h

@@ -11,6 +11,7 @@ use Rattle.plain_laws.proofs.Tellings.{live_owed, owed_none, owed_one, told_own}
 use Rattle.plain_laws.proofs.Watching.{send_watchers}
 use Rattle.plain_laws.specs.Owing.{Owing, due_if, nothing, owed}
 use Rattle.plain_laws.specs.Regular.{Books, FlowBooks, Regular}
+use Rattle.std.proofs.lemmas.Bool.{lt-ltb}
 use Rattle.std.proofs.Common.{ap, arith, inl, inr, length-append, length-drop, length-take, refl, subst, sym, ◌∙◌}
 use Rattle.std.proofs.lemmas.Bool.Decides.{nat_tests}
 use Rattle.std.proofs.lemmas.List.{append-nil}
@@ -67,9 +68,6 @@ let_go_at c n = if c == 0 then n else 0
 abbrev pub first_place : Bool → Option ℕ
 first_place b = if b then Some 0 else None
 
-positive : (n : ℕ) → 0 < n → nat_lt 0 n ≡ true
-positive n e = grind (arith, nat_tests)
-
 move_may : (limits : PlainLimits) (x n : ℕ) (h : Past) → Books limits nothing h → is_swept h ≡ false → Alive h x → count (request x) h ≡ 0
     → 0 < n → n ≡ min limits.quantum (length (recv_at limits x h)) → MayAdd limits (note.Move (request x) 0 n) h
 move_may limits x n h s fresh is readable some all =
@@ -94,7 +92,7 @@ move_may limits x n h s fresh is readable some all =
   where
     free_first : (c n : ℕ) (a w : Bool) → c ≡ 0 → 0 < n → a ≡ false → w ≡ false
         → first_place (nat_lt 0 (let_go_at c n) && not ((true && a) || ((true && w) || false))) ≡ Some 0
-    free_first c n a w ec en ea ew = rw (ec, ea, ew) (rw (positive n en) refl)
+    free_first c n a w ec en ea ew = rw (ec, ea, ew) (rw (lt-ltb 0 n en) refl)
 
 pub move_leaves : (limits : PlainLimits) (x y n : ℕ) (h : Past) → (x == y) ≡ false → Leaves limits y (move_of x n) h
 move_leaves limits x y n h e = record {

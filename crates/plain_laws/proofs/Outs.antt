@@ -65,10 +65,7 @@ module _ (limits : PlainLimits) (n : ℕ) (h : Past) where
   }
 
   pub out_less : length (conn_out limits (Noted (note.Out 0 n) ∷ h)) ≤ length (conn_out limits h)
-  out_less = less n (conn_out limits h)
-    where
-      less : (n : ℕ) (xs : List ℕ) → length (drop n xs) ≤ length xs
-      less n xs = omega (arith, length-drop n xs)
+  out_less = omega (arith, length-drop n (conn_out limits h))
 
   -- a buffer that only lost octets doesn't rise
   pub out_low : conn_high limits h ≡ false → conn_high limits (Noted (note.Out 0 n) ∷ h) ≡ false

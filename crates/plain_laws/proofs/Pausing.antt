@@ -11,6 +11,7 @@ use Rattle.plain_laws.proofs.Streams.{apart_from}
 use Rattle.plain_laws.proofs.Tellings.{owed_cons}
 use Rattle.plain_laws.specs.Owing.{Owing, nothing, owed, owed_times, pause_notes}
 use Rattle.plain_laws.specs.Regular.{Books, FlowBooks, IsLiveFlow, Regular}
+use Rattle.std.proofs.Math.Nat.{zero-add}
 use Rattle.std.proofs.Common.{ap, arith, refl, subst, sym, ◌∙◌}
 use Rattle.std.specs.List.{AllByRecursion}
 use Rattle.std.specs.Prelude.{List, [], drop, false, if◌then◌else◌, true, ℕ, ◌&&◌, ◌+◌, ◌==◌, ◌∷◌, ◌≡◌}
@@ -67,15 +68,12 @@ pause_leaves limits f b x h e = record {
   recv = refl;
   send = refl;
   send_lows = refl;
-  paused = cc (none (pauses (request x) h));
+  paused = cc (zero-add (pauses (request x) h));
   resumed = refl;
   body = refl;
   received = refl;
   framed = refl;
 }
-  where
-    none : (n : ℕ) → 0 + n ≡ n
-    none n = omega arith
 
 pause_books : (limits : PlainLimits) (owing : Owing) (f : FlowId) (b : BufferId) (rest : List Owed) (h : Past) → Books limits owing h
     → owing.due ≡ record { flow = f; buffer = b } ∷ rest → AllByRecursion (λ (o : Owed). IsLiveFlow (live h) o.flow) (record { flow = f; buffer = b } ∷ rest)

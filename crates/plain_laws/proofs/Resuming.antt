@@ -1,4 +1,5 @@
 -- The next flow that is pending on a buffer is told of its drain.
+use Rattle.plain_laws.proofs.Streams.{swapped as numbers}
 use Rattle.plain_laws.specs.Words.{Past, Alive, conn_lows, conn_out, lows_of}
 use Rattle.tape_laws.specs.Doomed.{is_swept}
 use Rattle.flow_gate.specs.declared.ids.BufferId.{BufferId}
@@ -11,6 +12,7 @@ use Rattle.plain_laws.proofs.Streams.{apart_from, own_or_other, same_number}
 use Rattle.plain_laws.proofs.Tellings.{live_flows_drop, one_own, told_cons, told_own}
 use Rattle.plain_laws.specs.Owing.{nothing}
 use Rattle.plain_laws.specs.Regular.{Books, FlowBooks, IsLiveFlow, IsRising, Regular}
+use Rattle.std.proofs.Math.Nat.{zero-add}
 use Rattle.std.proofs.Common.{ap, arith, inl, refl, subst, sym, ◌∙◌}
 use Rattle.std.proofs.lemmas.Bool.Decides.{nat_tests}
 use Rattle.std.specs.List.{AllByRecursion}
@@ -34,14 +36,11 @@ module _ (limits : PlainLimits) (x y : ℕ) (b : BufferId) (h : Past) where
     send = refl;
     send_lows = el;
     paused = refl;
-    resumed = cc (none (resumes (request y) h));
+    resumed = cc (zero-add (resumes (request y) h));
     body = refl;
     received = refl;
     framed = refl;
   }
-    where
-      none : (n : ℕ) → 0 + n ≡ n
-      none n = omega arith
 
   same_flags : send_flag limits y (Noted (note.Resume (request x) b) ∷ h) ≡ send_flag limits y h
   same_flags = ap one_if (send_same limits (request y) (Noted (note.Resume (request x) b)) h refl)
@@ -160,9 +159,6 @@ write_flow limits x y rest h f e =
 
     swapped : (a c : ℕ) → one_if (same_flow (request c) (request a)) ≡ one_if (same_flow (request a) (request c))
     swapped a c = cc (numbers c a)
-      where
-        numbers : (a b : ℕ) → (a == b) ≡ (b == a)
-        numbers a b = grind (arith, nat_tests)
 
 write_books : (limits : PlainLimits) (x : ℕ) (rest : List FlowId) (h : Past) → Books limits nothing h → Alive h x
     → conn_lows limits h ≡ request x ∷ rest → Books limits nothing (Noted (note.Resume (request x) (buffer.Write 0)) ∷ h)

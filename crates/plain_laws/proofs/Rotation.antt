@@ -1,8 +1,11 @@
 -- Which flow is next on the connection.
+use Rattle.std.proofs.lemmas.Bool.{or_left, or_right, and_parts as and_true}
 use Rattle.flow_gate.specs.declared.ids.FlowId.{FlowId}
-use Rattle.plain_laws.proofs.Streams.{all_at, by_case, not_both, number_is, or_left, or_right, same_number}
+use Rattle.plain_laws.proofs.Streams.{all_at, by_case, not_both, number_is, same_number}
 use Rattle.plain_laws.specs.Next.{IsNextAbove, IsNextAround, is_ready, unit_of}
 use Rattle.plain_laws.specs.Regular.{IsRising}
+use Rattle.plain_laws.proofs.Streams.{or_true as later}
+use Rattle.std.proofs.lemmas.Bool.{ltb-true}
 use Rattle.std.proofs.Common.{ap, arith, refl, subst, sym, ◌∙◌}
 use Rattle.std.proofs.lemmas.Bool.Decides.{nat_tests}
 use Rattle.std.specs.Prelude.{Bool, List, [], false, filter, flat_map, if◌then◌else◌, length, min, nat_le, nat_lt, not, true, ℕ, ◌&&◌, ◌++◌, ◌<◌, ◌==◌, ◌||◌, ◌∷◌, ◌≡◌, ◌≤◌}
@@ -18,7 +21,6 @@ use Rattle.tape_laws.specs.Order.{Flows, Nothing, first_flow}
 use Rattle.tape_laws.specs.Plain.{plain_ended, plain_setup}
 use Rattle.tape_laws.specs.State.{state_of}
 use Rattle.tape_laws.specs.declared.limits.PlainLimits.{PlainLimits}
-use Rattle.plain_laws.proofs.Streams.{both_of as and_true}
 
 -- ---- the unit of a flow
 
@@ -110,10 +112,6 @@ first_passing p q [] x r e ep eq least = cc
 first_passing p q (y ∷ ys) x r e ep eq least =
     by_case (y == x) (λ t. own (number_is y x t)) (λ d. other (later (y == x) (has ys x) e d) (first_passing p q ys x r.1 (later (y == x) (has ys x) e d) ep eq (λ z ez. least z (or_right (y == z) (has ys z) ez))))
   where
-    later : (a b : Bool) → (a || b) ≡ true → a ≡ false → b ≡ true
-    later true b e f = cc
-    later false b e f = e
-
     own : y ≡ x → (rest : List FlowId) × (filter q (filter p (flat_map (λ z. request z ∷ []) (y ∷ ys))) ≡ request x ∷ rest)
     own e =
         rw e (filter q (filter p (flat_map (λ z. request z ∷ []) ys)), take_first p q (request x) (flat_map (λ z. request z ∷ []) ys) ep eq)
@@ -156,14 +154,11 @@ module _ (limits : PlainLimits) where
       → next_out limits h ≡ Flows (request x) (next_unit (plain_setup limits) (request x) h)
   next_above x h r n =
       let last = last_out limits h in
-      let k = first_passing (ready_flow limits h) (beyond last) (live h) x r n.lives n.ready (beyond_is last x n.after) (λ y e ep eq. n.least y e ep (beyond_of last y eq)) in
+      let k = first_passing (ready_flow limits h) (beyond last) (live h) x r n.lives n.ready (beyond_is last x n.after) (λ y e ep eq. n.least y e ep (ltb-true last y eq)) in
       first_of_two h (request x) _ _ k.0 k.1
     where
       beyond_is : (a b : ℕ) → a < b → nat_lt a b ≡ true
       beyond_is a b e = grind (arith, nat_tests)
-
-      beyond_of : (a b : ℕ) → nat_lt a b ≡ true → a < b
-      beyond_of a b e = grind (arith, nat_tests)
 
   pub next_around : (x : ℕ) (h : Past) → IsRising (live h) → IsNextAround limits x h
       → next_out limits h ≡ Flows (request x) (next_unit (plain_setup limits) (request x) h)
@@ -209,10 +204,6 @@ not_passing p q [] x none e eq = cc
 not_passing p q (y ∷ ys) x none e eq =
     by_case (y == x) (λ t. own (number_is y x t)) (λ d. not_passing p q ys x (rest_none (p (request y)) (q (request y)) refl refl) (later (y == x) (has ys x) e d) eq)
   where
-    later : (a b : Bool) → (a || b) ≡ true → a ≡ false → b ≡ true
-    later true b e f = cc
-    later false b e f = e
-
     some : (g : FlowId) (gs : List FlowId) → g ∷ gs ≡ [] → ⊥
     some g gs e = cc
 

@@ -1,9 +1,11 @@
 -- How often a stream stands among flows that are to be told, and among pauses that are due.
+use Rattle.std.proofs.Math.Nat.{zero-add}
+use Rattle.std.proofs.lemmas.Bool.{or_left, or_right}
 use Rattle.flow_gate.specs.declared.ids.BufferId.{BufferId}
 use Rattle.flow_gate.specs.declared.ids.FlowId.{FlowId}
 use Rattle.plain_laws.proofs.Counting.{one_if, told_of}
 use Rattle.plain_laws.proofs.Rising.{rising_apart}
-use Rattle.plain_laws.proofs.Streams.{by_case, differs_back, has_one, not_both, number_is, or_left, or_right, same_number, same_request}
+use Rattle.plain_laws.proofs.Streams.{by_case, differs_back, has_one, not_both, number_is, same_number, same_request}
 use Rattle.plain_laws.specs.Owing.{due_if, owed_times, pauses_for}
 use Rattle.plain_laws.specs.Regular.{IsLiveFlow, IsRising}
 use Rattle.std.proofs.Common.{ap, arith, refl, subst, sym, ◌∙◌}
@@ -30,17 +32,14 @@ pub told_own : (x : ℕ) (fs : List FlowId) → told_of x (request x ∷ fs) ≡
 told_own x fs = cc (told_cons x (request x) fs, one_own x)
 
 pub told_other : (x y : ℕ) (fs : List FlowId) → (x == y) ≡ false → told_of y (request x ∷ fs) ≡ told_of y fs
-told_other x y fs e = cc (told_cons y (request x) fs, one_other x y e, none (told_of y fs))
-  where
-    none : (n : ℕ) → 0 + n ≡ n
-    none n = omega arith
+told_other x y fs e = cc (told_cons y (request x) fs, one_other x y e, zero-add (told_of y fs))
 
 -- a stream that isn't live stands among no live flows
 pub told_absent : (x : ℕ) (xs : List ℕ) (fs : List FlowId) → AllByRecursion (IsLiveFlow xs) fs → has xs x ≡ false → told_of x fs ≡ 0
 told_absent x xs [] a e = refl
 told_absent x xs (f ∷ fs) a e =
     let i = a.0 in
-    let away : (f.exchange == x) ≡ false = by_case (f.exchange == x) (λ t. not_both (has xs x) (rw (← (number_is f.exchange x t)) i.live) e) (λ d. d) in
+    let away : (f.exchange == x) ≡ false = by_case (f.exchange == x) (λ t. not_both (has xs x) (rw (← number_is f.exchange x t) i.live) e) (λ d. d) in
     told_cons x f fs ∙ both _ _ (cc (one_other f.exchange x away)) (told_absent x xs fs a.1 e)
   where
     both : (a b : ℕ) → a ≡ 0 → b ≡ 0 → a + b ≡ 0
@@ -56,7 +55,7 @@ told_all (y ∷ ys) x r = by_case (y == x) (λ t. own (number_is y x t) (told_al
 
     own : y ≡ x → told_of y (map request ys) ≡ one_if (has ys y) → told_of x (map request (y ∷ ys)) ≡ one_if (has (y ∷ ys) x)
     own e later =
-        subst (λ (v : ℕ). told_of v (map request (y ∷ ys)) ≡ one_if (has (y ∷ ys) v)) e (told_own y (map request ys) ∙ more _ (cc (rising_apart y ys r.0)) ∙ sym (cc (same_number y)))
+        subst (λ (v : ℕ). told_of v (map request (y ∷ ys)) ≡ one_if (has (y ∷ ys) v)) e (told_own y (map request ys) ∙ more _ (cc (rising_apart y ys r.0)) ∙ (cc (same_number y)))
 
 -- without another stream
 pub told_without : (x y : ℕ) (fs : List FlowId) → (x == y) ≡ false → told_of y (filter (λ (f : FlowId). not (f.exchange == x)) fs) ≡ told_of y fs
@@ -89,10 +88,7 @@ owed_all b (y ∷ ys) x r =
   where
     other : (c h : Bool) → c ≡ false → one_if (c && true) + one_if h ≡ one_if (c || h)
     other true h e = cc
-    other false h e = none (one_if h)
-      where
-        none : (n : ℕ) → 0 + n ≡ n
-        none n = omega arith
+    other false h e = zero-add (one_if h)
 
     whole : (c h : Bool) → c ≡ true → h ≡ false → one_if (c && true) + one_if h ≡ one_if (c || h)
     whole true true e f = cc

@@ -8,6 +8,7 @@ use Rattle.plain_laws.proofs.Streams.{apart_from, by_case, not_both, number_is, 
 use Rattle.plain_laws.proofs.Unended.{rests_unframed}
 use Rattle.plain_laws.specs.Owing.{Owing, arriving, asking, nothing, overrun, owed_times, starts}
 use Rattle.plain_laws.specs.Regular.{Books, FlowBooks, IsLiveFlow, IsUnborn, Regular, Rests}
+use Rattle.std.proofs.lemmas.Bool.{lt-ltb}
 use Rattle.std.proofs.Common.{ap, arith, refl, subst, sym, ◌∙◌}
 use Rattle.std.proofs.lemmas.Bool.Decides.{nat_tests}
 use Rattle.std.proofs.lemmas.List.{append-nil}
@@ -159,11 +160,8 @@ pub turn_room : (limits : PlainLimits) (k n m : ℕ) (h : Past) → Rests limits
 turn_room limits k n m h r e is some =
     turn_bare limits (WantsOut 0 m ∷ []) k (plain.Room n) h r e (asks m (min n (length (conn_out limits h))) is some) r.regular.books.said (λ x. refl) (λ x new. record { ended = refl; pairs = refl; must = refl })
   where
-    positive : (m : ℕ) → 0 < m → nat_lt 0 m ≡ true
-    positive m e = grind (arith, nat_tests)
-
     asks : (m l : ℕ) → m ≡ l → 0 < m → (if nat_lt 0 l then WantsOut 0 l ∷ [] else []) ≡ WantsOut 0 m ∷ []
-    asks m l e some = rw (← e) (cc (positive m some))
+    asks m l e some = rw (← e) (cc (lt-ltb 0 m some))
 
 -- there is nothing that might leave
 pub turn_room_none : (limits : PlainLimits) (k n : ℕ) (h : Past) → Rests limits h → k ≡ turns h + 1 → min n (length (conn_out limits h)) ≡ 0
@@ -214,7 +212,7 @@ body_regular limits o k s octets h r ek d ed st was own other =
     turn_regular limits o k (plain.Body s octets) h r ek d ed (λ x. cc (r.regular.books.said x, st x))
     (λ x is. by_case (s == x)
     (λ t. let live_s = subst (Alive h) (sym (number_is s x t)) is in
-    rw (← (number_is s x t)) (body_own limits o k s octets h r live_s ed (own live_s)))
+    rw (← number_is s x t) (body_own limits o k s octets h r live_s ed (own live_s)))
     (λ f. turn_flow limits o x k (plain.Body s octets) h r is (body_other k s x octets h f) ed (other x f)))
     (λ x new. let f = apart_from (started h) s x was new in
     turn_unborn limits x k (plain.Body s octets) h r new (body_other k s x octets h f) (record { ended = refl; pairs = refl; must = refl }))

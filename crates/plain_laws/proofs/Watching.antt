@@ -1,7 +1,8 @@
 -- Which flows watch a buffer.
+use Rattle.std.proofs.lemmas.Bool.{or_parts}
 use Rattle.flow_gate.specs.declared.ids.FlowId.{FlowId}
 use Rattle.plain_laws.proofs.Rising.{rising_apart}
-use Rattle.plain_laws.proofs.Streams.{by_case, differs_back, number_is, or_none, same_number}
+use Rattle.plain_laws.proofs.Streams.{by_case, differs_back, number_is, same_number}
 use Rattle.plain_laws.specs.Regular.{IsRising}
 use Rattle.std.proofs.Common.{ap, refl, subst, ◌∙◌}
 use Rattle.std.specs.List.{list_any}
@@ -29,7 +30,7 @@ watching x xs = filter (λ (f : FlowId). list_any (same_buffer (buffer.Send (req
 none_watching : (x : ℕ) (xs : List ℕ) → has xs x ≡ false → watching x xs ≡ []
 none_watching x [] e = refl
 none_watching x (y ∷ ys) e =
-    let k = or_none (y == x) (has ys x) e in
+    let k = or_parts (y == x) (has ys x) e in
     ap (λ b. if (b && true) || false then request y ∷ watching x ys else watching x ys) (differs_back y x k.0) ∙ none_watching x ys k.1
 
 one_watching : (x : ℕ) (xs : List ℕ) → IsRising xs → has xs x ≡ true → watching x xs ≡ request x ∷ []
