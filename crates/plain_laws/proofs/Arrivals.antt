@@ -45,7 +45,7 @@ arrive_may limits x octets h s fresh is some = record {
   in_turn = tt;
   doomed = is;
   swept = fresh;
-  answered = subst (λ (ds : List Demand). MeetsFirst {Mark = NoMark} (plain_setup limits) ds (Noted (note.Arrive (request x) octets))) (sym s.asks) refl;
+  answered = rw s.asks refl;
   only = tt;
   quiet = tt;
   licensed = tt;
@@ -65,11 +65,11 @@ arrive_own limits x octets h f some room =
     record {
       tally = flow_tally limits [] [] x step h
           (same _ _ _ _ _ _ _ _ _ _ _ (ap one_if (send_same limits (request x) step h send_is)) (ap one_if (write_same limits step h refl))
-          (ap (told_of x) lows_is) (ap (told_of x) write_is)) f.tally;
+          (cc) (cc)) f.tally;
       send_low = send_low_kept limits x step h send_is lows_is f.send_low;
       recv_room = fits _ _ _ _ recv_is room;
       send_room = same_len_if (nat_lt 0 limits.send) _ _ (limits.send + limits.quantum) send_is f.send_room;
-      read = f.read ∙ ap (λ v. received (request x) h ++ v) (only_own x octets) ∙ sym received_is ∙ sym (append-nil (received (request x) (step ∷ h)));
+      read = cc (only_own x octets, append-nil (received (request x) (step ∷ h)));
       over = λ t. absurd (never _ (sym (only_own x octets) ∙ (f.over t).2) some);
       unframed = f.unframed;
     }
@@ -102,7 +102,7 @@ module _ (limits : PlainLimits) (x : ℕ) (octets : List ℕ) (h : Past) where
         born = s.born;
         said = s.said;
         each = λ y e. own_or_other (λ z. FlowBooks limits nothing z (step ∷ h)) x y (arrive_own limits x octets h (s.each x is) some room)
-            (λ d. flow_other limits (arriving x octets) nothing y step h (arrive_leaves limits x y octets h d) (s.each y e) out_same (ap (told_of y) lows_same) refl
+            (λ d. flow_other limits (arriving x octets) nothing y step h (arrive_leaves limits x y octets h d) (s.each y e) out_same (cc) refl
             (sym (only_other x y octets d)) (s.each y e).unframed);
         unborn = λ y e. let d = apart_from (started h) x y (s.born x is) e in
             unborn_kept limits y step h (arrive_leaves limits x y octets h d) (record { ended = refl; pairs = refl; must = refl }) (s.unborn y e);

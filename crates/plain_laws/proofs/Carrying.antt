@@ -29,7 +29,7 @@ carries_none = record { rest = []; is = refl; held = λ e. refl; unread = []; re
 -- what it sent is a front of the body
 pub sent_front : (sent send recv received came : List ℕ) (live begun : Bool) → Carries sent send recv received came live begun → IsFront sent came
 sent_front sent send recv received came live begun k =
-    let whole : came ≡ sent ++ (k.rest ++ k.unread) = k.reads ∙ ap (λ (v : List ℕ). v ++ k.unread) k.is ∙ append_assoc sent k.rest k.unread in
+    let whole : came ≡ sent ++ (k.rest ++ k.unread) = cc (append_assoc sent k.rest k.unread) in
     rw whole (take-append_seam sent (k.rest ++ k.unread))
 
 never : (b : Bool) → b ≡ false → b ≡ true → ⊥
@@ -40,10 +40,10 @@ pub carries_arrive : (sent send recv received came octets : List ℕ) (live begu
     → Carries sent send (recv ++ octets) (received ++ octets) came live begun
 carries_arrive sent send recv received came octets live begun l front k = record {
   rest = send ++ (recv ++ octets);
-  is = ap (λ (v : List ℕ). v ++ octets) (k.is ∙ ap (λ (v : List ℕ). sent ++ v) (k.held l)) ∙ again sent send recv octets;
+  is = cc (k.held l, again sent send recv octets);
   held = λ e. refl;
   unread = drop (length (received ++ octets)) came;
-  reads = sym (take-append-drop (length (received ++ octets)) came) ∙ ap (λ (v : List ℕ). v ++ drop (length (received ++ octets)) came) front;
+  reads = cc (take-append-drop (length (received ++ octets)) came);
   lived = k.lived;
   unborn = λ e. absurd (never begun e (k.lived l));
 }
@@ -58,7 +58,7 @@ module _ (sent send recv received came : List ℕ) (live begun : Bool) where
   carries_move n l k = record {
     rest = k.rest;
     is = k.is;
-    held = λ e. k.held l ∙ ap (λ (v : List ℕ). send ++ v) (sym (take-append-drop n recv)) ∙ sym (append_assoc send (take n recv) (drop n recv));
+    held = λ e. cc (k.held l, take-append-drop n recv, append_assoc send (take n recv) (drop n recv));
     unread = k.unread;
     reads = k.reads;
     lived = k.lived;
@@ -70,7 +70,7 @@ module _ (sent send recv received came : List ℕ) (live begun : Bool) where
       → Carries (sent ++ take n send) (drop n send) recv received came live begun
   carries_frame n l k = record {
     rest = drop n send ++ recv;
-    is = k.is ∙ ap (λ (v : List ℕ). sent ++ v) (k.held l ∙ ap (λ (v : List ℕ). v ++ recv) (sym (take-append-drop n send))) ∙ again sent (take n send) (drop n send) recv;
+    is = cc (k.held l, take-append-drop n send, again sent (take n send) (drop n send) recv);
     held = λ e. refl;
     unread = k.unread;
     reads = k.reads;
@@ -89,7 +89,7 @@ module _ (sent send recv received came : List ℕ) (live begun : Bool) where
     is = k.is;
     held = λ l.
         let none = k.unborn e in
-        nothing_left sent k.rest (sym k.is ∙ none.0) ∙ sym (ap (λ (v : List ℕ). v ++ recv) none.1 ∙ none.2);
+        nothing_left sent k.rest (sym k.is ∙ none.0) ∙ (cc);
     unread = k.unread;
     reads = k.reads;
     lived = λ l. refl;
@@ -134,7 +134,7 @@ carries_body sent send recv received came octets live begun k = record {
   is = k.is;
   held = k.held;
   unread = k.unread ++ octets;
-  reads = ap (λ (v : List ℕ). v ++ octets) k.reads ∙ append_assoc received k.unread octets;
+  reads = cc (append_assoc received k.unread octets);
   lived = k.lived;
   unborn = k.unborn;
 }

@@ -47,8 +47,7 @@ module _ (limits : PlainLimits) (k : ℕ) where
       let same : conn_high limits (turn ∷ h) ≡ high = write_same limits turn h refl in
       let most = begin_most limits x h r.regular m in
       let s = start_regular limits x (x - 1) (turn ∷ h) (turn_begin limits k x h r ek) refl most (less x some) in
-      subst (λ (ns : List Note). Settled limits (onto ns (start ∷ turn ∷ h))) (sym (one_pause (buffer.Write 0) x high high refl))
-      (pauses_settled limits _ (start ∷ turn ∷ h) (subst (λ (b : Bool). Regular limits (owed (due_if b (buffer.Write 0) (x ∷ []))) (start ∷ turn ∷ h)) same s) refl
+      rw (one_pause (buffer.Write 0) x high high refl) (pauses_settled limits _ (start ∷ turn ∷ h) (subst (λ (b : Bool). Regular limits (owed (due_if b (buffer.Write 0) (x ∷ []))) (start ∷ turn ∷ h)) same s) refl
       (λ y. turn_untold limits k y (plain.Begin x) h (rests_settled limits h r)))
     where
       less : (a : ℕ) → 0 < a → a - 1 < a
@@ -77,7 +76,7 @@ module _ (limits : PlainLimits) (k x : ℕ) (octets : List ℕ) (h : Past) where
       → limits.recv < length (recv_at limits x h) + length octets → Settled limits (onto (over_notes k x octets) h)
   over_step r ek is over = record {
     regular = doom_over limits k x octets h (turn_body_over limits k x octets h r ek is over) is;
-    untold = λ y. ap (without x) (turn_untold limits k y (plain.Body x octets) h (rests_settled limits h r));
+    untold = λ y. cc (turn_untold limits k y (plain.Body x octets) h (rests_settled limits h r));
   }
 
   -- octets of a stream that isn't live any more
@@ -90,7 +89,7 @@ module _ (limits : PlainLimits) (k : ℕ) where
   pub cut_step : (x : ℕ) (h : Past) → Rests limits h → k ≡ turns h + 1 → Alive h x → Settled limits (onto (cut_notes k x) h)
   cut_step x h r ek is = record {
     regular = doom_cut limits k x h (turn_cut limits k x h r ek is) is;
-    untold = λ y. ap (without x) (turn_untold limits k y (plain.Cut x) h (rests_settled limits h r));
+    untold = λ y. cc (turn_untold limits k y (plain.Cut x) h (rests_settled limits h r));
   }
 
   pub cut_late_step : (x : ℕ) (h : Past) → Rests limits h → k ≡ turns h + 1 → has (live h) x ≡ false

@@ -99,7 +99,7 @@ module _ (limits : PlainLimits) (o : Owing) where
       → count (request x) h ≡ disabled_at limits x h + lows_at limits x h
   count_is x h f e =
       settled (pauses (request x) h) (resumes (request x) h) (disabled_at limits x h) (lows_at limits x h)
-      (owed_times x o.due) (ap (owed_times x) e) f.tally
+      (owed_times x o.due) (cc) f.tally
 
   pub counted_of : (h : Past) → Books limits o h → o.due ≡ [] → IsCounted (plain_setup limits) h
   counted_of h s e =

@@ -57,7 +57,7 @@ gone_books limits x h s =
       rising = s.rising;
       born = s.born;
       said = s.said;
-      each = λ y e. flow_other limits nothing nothing y step h (gone_leaves limits x y h) (s.each y e) out_same (ap (told_of y) lows_same) refl refl (s.each y e).unframed;
+      each = λ y e. flow_other limits nothing nothing y step h (gone_leaves limits x y h) (s.each y e) out_same (cc) refl refl (s.each y e).unframed;
       unborn = λ y e. unborn_kept limits y step h (gone_leaves limits x y h) (record { ended = refl; pairs = refl; must = refl }) (s.unborn y e);
       owed = tt;
       write_lows = lows_kept (live h) lows_same s.write_lows;

@@ -2,6 +2,8 @@
 use Rattle.flow_gate.specs.declared.ids.FlowId.{FlowId}
 use Rattle.plain_laws.proofs.Carrying.{Carries, carries_arrive, carries_body, carries_doom, carries_frame, carries_move, carries_none, carries_other, carries_start, sent_front}
 use Rattle.plain_laws.proofs.Streams.{differs_back, flow_is, has_left, number_is}
+use Rattle.std.proofs.Math.Bool.{or-true}
+use Rattle.std.proofs.Math.Bool.{or-false}
 use Rattle.std.proofs.Common.{refl, subst, sym}
 use Rattle.std.proofs.lemmas.List.{append-nil}
 use Rattle.std.proofs.lemmas.List.Folds.{list_any-append}
@@ -54,16 +56,8 @@ module _ (sent send recv received came : List ℕ) (live begun : Bool) where
 
   start_if : (b : Bool) → (b ≡ true → begun ≡ false) → Carries sent send recv received came live begun
       → Carries sent send recv received came (live || (b || false)) (begun || (b || false))
-  start_if true e k = rw (or_true live, or_true begun) (carries_start sent send recv received came live begun (e refl) k)
-    where
-      or_true : (b : Bool) → (b || true) ≡ true
-      or_true true = refl
-      or_true false = refl
-  start_if false e k = rw (or_false live, or_false begun) k
-    where
-      or_false : (b : Bool) → (b || false) ≡ b
-      or_false true = refl
-      or_false false = refl
+  start_if true e k = rw (or-true live, or-true begun) (carries_start sent send recv received came live begun (e refl) k)
+  start_if false e k = rw (or-false live, or-false begun) k
 
   doom_if : (after b : Bool) → (after ≡ true → (live ≡ true) × (b ≡ false)) → Carries sent send recv received came live begun
       → Carries sent (if b then [] else send) (if b then [] else recv) received came after begun
@@ -86,7 +80,7 @@ each_is P (g ∷ gs) f e a = by (same_flow f g) refl e (λ k. each_is P gs f k a
 
 -- a flow that a note names is of a live exchange
 lives : (f g : FlowId) (past : Past) → Alive past g.exchange → same_flow g f ≡ true → Alive past f.exchange
-lives f g past l s = subst (λ (v : FlowId). Alive past v.exchange) (flow_is g f s) l
+lives f g past l s = rw (← flow_is g f s) l
 
 -- ---- steps
 
@@ -105,7 +99,7 @@ module _ (limits : PlainLimits) (f : FlowId) where
   move_carries : (g : FlowId) (q n : ℕ) (past : Past) → MayStand (plain_setup limits) (Noted (note.Move g q n)) past
       → LeavesDoomed (Noted (note.Move g q n)) past → CarriesIn limits f past → CarriesIn limits f (Noted (note.Move g q n) ∷ past)
   move_carries g q n past may leaves k =
-      subst (λ (v : ℕ). CarriesIn limits f (Noted (note.Move g v n) ∷ past)) (first (is_free (plain_setup limits) g 0 past) q may.last) (move_if _ _ _ _ _ _ _ (same_flow g f) n (lives f g past leaves) k)
+      rw (← (first (is_free (plain_setup limits) g 0 past) q may.last)) (move_if _ _ _ _ _ _ _ (same_flow g f) n (lives f g past leaves) k)
     where
       first : (b : Bool) (p : ℕ) → (if b then Some 0 else None) ≡ Some p → 0 ≡ p
       first true p e = cc
@@ -115,7 +109,7 @@ module _ (limits : PlainLimits) (f : FlowId) where
       → CarriesIn limits f (Noted (note.Start x c s d) ∷ past)
   start_carries x c s d past leaves k =
       rw (list_any-append (λ y. y == f.exchange) (live past) (x ∷ []), list_any-append (λ y. y == f.exchange) (started past) (x ∷ []))
-      (start_if _ _ _ _ _ _ _ (x == f.exchange) (λ e. subst (λ (v : ℕ). has (started past) v ≡ false) (number_is x f.exchange e) leaves) k)
+      (start_if _ _ _ _ _ _ _ (x == f.exchange) (λ e. rw (← number_is x f.exchange e) leaves) k)
 
   -- a step keeps what a flow carries
   step_carries : (step : Step NoMark) (past : Past) → MayStand (plain_setup limits) step past → LeavesDoomed step past

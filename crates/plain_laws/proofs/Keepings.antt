@@ -166,7 +166,7 @@ module _ (limits : PlainLimits) where
   -- another stream than the doomed one, whose send buffer's low isn't pending
   pub doom_keeps : (x y : ℕ) (why : Cause) (h : Past) → Settled limits h → (x == y) ≡ false → KeepsStream limits y h (Noted (note.Doom x why) ∷ h)
   doom_keeps x y why h s d =
-      keeps_stream limits y (Noted (note.Doom x why)) h (doom_leaves limits x y why h d (ap (without x) (s.untold y) ∙ sym (s.untold y))) refl refl
+      keeps_stream limits y (Noted (note.Doom x why)) h (doom_leaves limits x y why h d (cc (s.untold y))) refl refl
 
 module _ (limits : PlainLimits) (x : ℕ) (why : Cause) (h : Past) where
   pub doom_out : conn_out limits (Noted (note.Doom x why) ∷ h) ≡ conn_out limits h

@@ -51,15 +51,15 @@ unborn_kept limits x step h l w u = record {
   alone = w.pairs ∙ u.alone;
   unframed = l.framed ∙ u.unframed;
   may_live = w.must ∙ u.may_live;
-  recv_peak = peak_kept limits (buffer.Recv (request x)) step h (ap length l.recv) refl ∙ u.recv_peak;
-  send_peak = peak_kept limits (buffer.Send (request x)) step h (ap length l.send) refl ∙ u.send_peak;
+  recv_peak = peak_kept limits (buffer.Recv (request x)) step h (cc) refl ∙ u.recv_peak;
+  send_peak = peak_kept limits (buffer.Send (request x)) step h (cc) refl ∙ u.send_peak;
 }
 
 pub same_len : (xs ys : List ℕ) (n : ℕ) → xs ≡ ys → length ys ≤ n → length xs ≤ n
-same_len xs ys n e h = subst (λ (v : List ℕ). length v ≤ n) (sym e) h
+same_len xs ys n e h = rw e h
 
 pub same_len_if : (b : Bool) (xs ys : List ℕ) (n : ℕ) → xs ≡ ys → OnTrue b (length ys ≤ n) → OnTrue b (length xs ≤ n)
-same_len_if b xs ys n e t = under_test b (length ys ≤ n) (length xs ≤ n) (λ le. same_len xs ys n e le) t
+same_len_if b xs ys n e t = under_test b (length ys ≤ n) (length xs ≤ n) (same_len xs ys n e) t
 
 -- a write buffer that stays as it was is within its bound, and is to be told to the same flows, each once
 pub room_kept : (limits : PlainLimits) {xs ys : List ℕ} → xs ≡ ys → OnTrue (nat_lt 0 limits.write) (length ys ≤ limits.write + max 65536 (limits.quantum + 9)) → OnTrue (nat_lt 0 limits.write) (length xs ≤ limits.write + max 65536 (limits.quantum + 9))
@@ -69,7 +69,7 @@ pub lows_kept : (streams : List ℕ) {xs ys : List FlowId} → xs ≡ ys → All
 lows_kept streams e all = subst (AllByRecursion (IsLiveFlow streams)) (sym e) all
 
 pub once_kept : {xs ys : List FlowId} → xs ≡ ys → IsRising (map (λ f. f.exchange) ys) → IsRising (map (λ f. f.exchange) xs)
-once_kept e r = subst (λ (fs : List FlowId). IsRising (map (λ f. f.exchange) fs)) (sym e) r
+once_kept e r = rw e r
 
 -- a send buffer that stays as it was is still to be told at most once
 pub send_low_kept : (limits : PlainLimits) (x : ℕ) (step : Step NoMark) (h : Past)
@@ -88,7 +88,7 @@ pub flow_kept : (limits : PlainLimits) (o o' : Owing) (x : ℕ) (step : Step NoM
     → o'.extra x ≡ o.extra x → end_out limits x (before_dispatch (step ∷ h)) ≡ false → FlowBooks limits o' x (step ∷ h)
 flow_kept limits o o' x step h l f e extra before = record {
   tally = flow_tally limits o.due o'.due x step h
-      (stepped _ _ _ _ _ _ _ _ _ _ _ _ _ _ l.paused l.resumed (ap one_if (send_same limits (request x) step h l.send)) (ap (told_of x) l.send_lows) e) f.tally;
+      (stepped _ _ _ _ _ _ _ _ _ _ _ _ _ _ l.paused l.resumed (ap one_if (send_same limits (request x) step h l.send)) (cc) e) f.tally;
   send_low = send_low_kept limits x step h l.send l.send_lows f.send_low;
   recv_room = same_len _ _ limits.recv l.recv f.recv_room;
   send_room = same_len_if (nat_lt 0 limits.send) _ _ (limits.send + limits.quantum) l.send f.send_room;
@@ -118,7 +118,7 @@ flow_other limits o o' x step h l f eo ew ed extra before =
 -- ---- what came of a stream's body
 
 pub only_own : (s : ℕ) (octets : List ℕ) → only s octets s ≡ octets
-only_own s octets = ap (λ b. if b then octets else []) (same_number s)
+only_own s octets = cc (same_number s)
 
 pub only_other : (s x : ℕ) (octets : List ℕ) → (s == x) ≡ false → only s octets x ≡ []
-only_other s x octets e = ap (λ b. if b then octets else []) e
+only_other s x octets e = cc

@@ -11,6 +11,7 @@ use Rattle.plain_laws.proofs.Tellings.{live_owed, owed_none, owed_one, told_own}
 use Rattle.plain_laws.proofs.Watching.{send_watchers}
 use Rattle.plain_laws.specs.Owing.{Owing, due_if, nothing, owed}
 use Rattle.plain_laws.specs.Regular.{Books, FlowBooks, Regular}
+use Rattle.std.proofs.lemmas.Bool.{lt-ltb}
 use Rattle.std.proofs.Common.{ap, arith, inl, inr, length-append, length-drop, length-take, refl, subst, sym, ◌∙◌}
 use Rattle.std.proofs.lemmas.Bool.Decides.{nat_tests}
 use Rattle.std.proofs.lemmas.List.{append-nil}
@@ -55,7 +56,7 @@ untold limits o x h f z = pick f.send_low z
         ⊎ ((lows_of limits x h ≡ request x ∷ []) × (send_high limits x h ≡ false))
         → send_left limits x h ≡ 0 → lows_of limits x h ≡ []
     pick (inl e) z = e
-    pick (inr e) z = absurd (one_isnt (told_of x (request x ∷ [])) (told_own x []) (sym (ap (told_of x) e.0) ∙ z))
+    pick (inr e) z = absurd (one_isnt (told_of x (request x ∷ [])) (told_own x []) (cc))
       where
         one_isnt : (n : ℕ) → n ≡ 1 + 0 → n ≡ 0 → ⊥
         one_isnt n e f = omega (arith, e, f)
@@ -67,9 +68,6 @@ let_go_at c n = if c == 0 then n else 0
 abbrev pub first_place : Bool → Option ℕ
 first_place b = if b then Some 0 else None
 
-positive : (n : ℕ) → 0 < n → nat_lt 0 n ≡ true
-positive n e = grind (arith, nat_tests)
-
 move_may : (limits : PlainLimits) (x n : ℕ) (h : Past) → Books limits nothing h → is_swept h ≡ false → Alive h x → count (request x) h ≡ 0
     → 0 < n → n ≡ min limits.quantum (length (recv_at limits x h)) → MayAdd limits (note.Move (request x) 0 n) h
 move_may limits x n h s fresh is readable some all =
@@ -77,8 +75,8 @@ move_may limits x n h s fresh is readable some all =
     record {
       allowed = record {
         live = flow_is_live limits x h is;
-        last = free_first (count (request x) h) _ _ _ readable (subst (λ (v : ℕ). 0 < v) all some) k.0 k.1;
-        all = all ∙ sym (ap (λ c. let_go_at c (min limits.quantum (length (recv_at limits x h)))) readable);
+        last = free_first (count (request x) h) _ _ _ readable (rw (← all) some) k.0 k.1;
+        all = cc;
       };
       paused = s.due;
       counted = counted_of limits nothing h s refl;
@@ -94,7 +92,7 @@ move_may limits x n h s fresh is readable some all =
   where
     free_first : (c n : ℕ) (a w : Bool) → c ≡ 0 → 0 < n → a ≡ false → w ≡ false
         → first_place (nat_lt 0 (let_go_at c n) && not ((true && a) || ((true && w) || false))) ≡ Some 0
-    free_first c n a w ec en ea ew = rw (ec, ea, ew) (rw (positive n en) refl)
+    free_first c n a w ec en ea ew = rw (ec, ea, ew) (rw (lt-ltb 0 n en) refl)
 
 pub move_leaves : (limits : PlainLimits) (x y n : ℕ) (h : Past) → (x == y) ≡ false → Leaves limits y (move_of x n) h
 move_leaves limits x y n h e = record {
@@ -145,7 +143,7 @@ move_own limits x n h f readable some all =
     record {
       tally = flow_tally limits [] (after_move limits x n h).due x step h
           (grown _ _ _ _ _ _ _ _ _ _ _ (ap one_if k.0) (owed_one (send_high limits x (step ∷ h)) (buffer.Send (request x)) x)
-          (ap one_if (write_same limits step h refl)) (ap (told_of x) lows_is) (ap (told_of x) write_is)) f.tally;
+          (ap one_if (write_same limits step h refl)) (cc) (cc)) f.tally;
       send_low = inl (lows_is ∙ untold limits nothing x h f k.2);
       recv_room = less _ _ _ n recv_is f.recv_room;
       send_room = where_limited limits.send _ (λ p. more _ _ _ n limits.send limits.quantum send_is (send_within limits x h k.0 p) (few _ _ _ all));
@@ -191,11 +189,11 @@ move_books limits x n h s is readable some all =
       born = s.born;
       said = s.said;
       each = λ y e. own_or_other (λ z. FlowBooks limits (after_move limits x n h) z (step ∷ h)) x y (move_own limits x n h (s.each x is) readable some all)
-          (λ d. flow_other limits nothing (after_move limits x n h) y step h (move_leaves limits x y n h d) (s.each y e) out_same (ap (told_of y) lows_same)
+          (λ d. flow_other limits nothing (after_move limits x n h) y step h (move_leaves limits x y n h d) (s.each y e) out_same (cc)
           (owed_none a (buffer.Send (request x)) x y d) refl (s.each y e).unframed);
       unborn = λ y e. let d = apart_from (started h) x y (s.born x is) e in
           unborn_kept limits y step h (move_leaves limits x y n h d) (record { ended = refl; pairs = refl; must = refl }) (s.unborn y e);
-      owed = live_owed a (buffer.Send (request x)) (x ∷ []) (live h) (λ y e. subst (λ (v : ℕ). Alive h v) (number_is x y (sym (has_one x y) ∙ e)) is);
+      owed = live_owed a (buffer.Send (request x)) (x ∷ []) (live h) (λ y e. rw (← (number_is x y (sym (has_one x y) ∙ e))) is);
       write_lows = lows_kept (live h) lows_same s.write_lows;
       write_once = once_kept lows_same s.write_once;
       hushed = λ y e. append-nil (lows_of limits y h) ∙ s.hushed y e;

@@ -58,17 +58,14 @@ module _ (limits : PlainLimits) (n : ℕ) (h : Past) where
     in_turn = tt;
     doomed = tt;
     swept = fresh;
-    answered = subst (λ (ds : List Demand). MeetsFirst {Mark = NoMark} (plain_setup limits) ds (Noted (note.Out 0 n))) (sym s.asks) refl;
+    answered = rw s.asks refl;
     only = subst (Heads (WantsOut 0 n)) (sym s.asks) refl;
     quiet = tt;
     licensed = tt;
   }
 
   pub out_less : length (conn_out limits (Noted (note.Out 0 n) ∷ h)) ≤ length (conn_out limits h)
-  out_less = less n (conn_out limits h)
-    where
-      less : (n : ℕ) (xs : List ℕ) → length (drop n xs) ≤ length xs
-      less n xs = omega (arith, length-drop n xs)
+  out_less = omega (arith, length-drop n (conn_out limits h))
 
   -- a buffer that only lost octets doesn't rise
   pub out_low : conn_high limits h ≡ false → conn_high limits (Noted (note.Out 0 n) ∷ h) ≡ false
@@ -85,11 +82,10 @@ out_left : (limits : PlainLimits) (n x : ℕ) (h : Past) → IsRising (live h) �
     → write_left limits x (Noted (note.Out 0 n) ∷ h)
     ≡ one_if (conn_high limits h && not (conn_high limits (Noted (note.Out 0 n) ∷ h)))
 out_left limits n x h r is none =
-    ap (told_of x) (out_lows limits n h none)
-    ∙ all_if (conn_high limits h && not (conn_high limits (Noted (note.Out 0 n) ∷ h)))
+    cc (out_lows limits n h none, all_if (conn_high limits h && not (conn_high limits (Noted (note.Out 0 n) ∷ h))))
   where
     all_if : (b : Bool) → told_of x (if b then map request (live h) else []) ≡ one_if b
-    all_if true = told_all (live h) x r ∙ ap one_if is
+    all_if true = cc (told_all (live h) x r)
     all_if false = refl
 
 out_books : (limits : PlainLimits) (n : ℕ) (h : Past) → Books limits (asking (WantsOut 0 n ∷ [])) h → conn_lows limits h ≡ []
@@ -103,12 +99,12 @@ out_books limits n h s none =
       opened = s.opened;
       known = s.known;
       unclosed = s.unclosed;
-      write_room = under_test (nat_lt 0 limits.write) _ _ (λ le. less _ _ _ (out_less limits n h) le) s.write_room;
+      write_room = under_test (nat_lt 0 limits.write) _ _ (less _ _ _ (out_less limits n h)) s.write_room;
       rising = s.rising;
       born = s.born;
       said = s.said;
       each = λ x e. flow_kept limits (asking (WantsOut 0 n ∷ [])) nothing x step h (out_leaves limits n x h) (s.each x e)
-          (same _ _ _ _ _ (drain_books _ _ (out_low limits n h)) (ap (told_of x) none) (out_left limits n x h s.rising e none)) refl (s.each x e).unframed;
+          (same _ _ _ _ _ (drain_books _ _ (out_low limits n h)) (cc) (out_left limits n x h s.rising e none)) refl (s.each x e).unframed;
       unborn = λ x e. unborn_kept limits x step h (out_leaves limits n x h) (record { ended = refl; pairs = refl; must = refl }) (s.unborn x e);
       owed = tt;
       write_lows = subst (AllByRecursion (IsLiveFlow (live h))) (sym (out_lows limits n h none)) (all_if drained);
@@ -128,7 +124,7 @@ out_books limits n h s none =
 
     exchanges : (xs : List ℕ) → map (λ (f : FlowId). f.exchange) (map request xs) ≡ xs
     exchanges [] = refl
-    exchanges (x ∷ xs) = ap (λ ys. x ∷ ys) (exchanges xs)
+    exchanges (x ∷ xs) = cc (exchanges xs)
 
     once_if : (b : Bool) → IsRising (map (λ (f : FlowId). f.exchange) (if b then map request (live h) else []))
     once_if true = subst IsRising (sym (exchanges (live h))) s.rising

@@ -58,8 +58,8 @@ module _ (limits : PlainLimits) (x : ℕ) (step : Step NoMark) (h : Past) where
 
   pub leaves_recv_peak : Leaves limits x step h
       → peak (plain_setup limits) (buffer.Recv (request x)) (step ∷ h) ≡ peak (plain_setup limits) (buffer.Recv (request x)) h
-  leaves_recv_peak l = peak_kept limits (buffer.Recv (request x)) step h (ap length l.recv) refl
+  leaves_recv_peak l = peak_kept limits (buffer.Recv (request x)) step h (cc) refl
 
   pub leaves_send_peak : Leaves limits x step h
       → peak (plain_setup limits) (buffer.Send (request x)) (step ∷ h) ≡ peak (plain_setup limits) (buffer.Send (request x)) h
-  leaves_send_peak l = peak_kept limits (buffer.Send (request x)) step h (ap length l.send) refl
+  leaves_send_peak l = peak_kept limits (buffer.Send (request x)) step h (cc) refl

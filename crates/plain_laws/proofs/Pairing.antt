@@ -20,7 +20,7 @@ pairs_agree x y (Noted (note.Turn k (event.Plain (plain.Pair first second))) ∷
   where
     joined : (a b : Bool) (us vs : List ℕ) → has us y ≡ has vs x → a ≡ (first == x) → b ≡ (second == y)
         → has ((if a then second ∷ [] else []) ++ us) y ≡ has ((if b then first ∷ [] else []) ++ vs) x
-    joined true true us vs e fa fb = rw (← fa, ← fb) (ap (λ c. true || c) e)
+    joined true true us vs e fa fb = rw (← fa, ← fb) (cc)
     joined true false us vs e fa fb = rw (← fb) e
     joined false true us vs e fa fb = rw (← fa) e
     joined false false us vs e fa fb = e

@@ -11,6 +11,7 @@ use Rattle.plain_laws.proofs.Streams.{apart_from}
 use Rattle.plain_laws.proofs.Tellings.{owed_cons}
 use Rattle.plain_laws.specs.Owing.{Owing, nothing, owed, owed_times, pause_notes}
 use Rattle.plain_laws.specs.Regular.{Books, FlowBooks, IsLiveFlow, Regular}
+use Rattle.std.proofs.Math.Nat.{zero-add}
 use Rattle.std.proofs.Common.{ap, arith, refl, subst, sym, ◌∙◌}
 use Rattle.std.specs.List.{AllByRecursion}
 use Rattle.std.specs.Prelude.{List, [], drop, false, if◌then◌else◌, true, ℕ, ◌&&◌, ◌+◌, ◌==◌, ◌∷◌, ◌≡◌}
@@ -48,8 +49,8 @@ module _ (limits : PlainLimits) (owing : Owing) (f : FlowId) (b : BufferId) (res
       let write_is : conn_lows limits (step ∷ h) ≡ conn_lows limits h = refl in
       record {
         tally = flow_tally limits owing.due rest x step h
-            (written _ _ _ _ _ _ _ _ _ _ _ _ (one_if (same_flow f (request x))) (ap (owed_times x) e ∙ owed_cons x (record { flow = f; buffer = b }) rest)
-            (ap one_if (send_same limits (request x) step h refl)) (ap one_if (write_same limits step h refl)) (ap (told_of x) lows_is) (ap (told_of x) write_is)) s.tally;
+            (written _ _ _ _ _ _ _ _ _ _ _ _ (one_if (same_flow f (request x))) (cc (owed_cons x (record { flow = f; buffer = b }) rest))
+            (ap one_if (send_same limits (request x) step h refl)) (ap one_if (write_same limits step h refl)) (cc) (cc)) s.tally;
         send_low = send_low_kept limits x step h refl lows_is s.send_low;
         recv_room = s.recv_room;
         send_room = s.send_room;
@@ -67,15 +68,12 @@ pause_leaves limits f b x h e = record {
   recv = refl;
   send = refl;
   send_lows = refl;
-  paused = ap (λ c. one_if (c && (if f.back then false else true)) + pauses (request x) h) e ∙ none (pauses (request x) h);
+  paused = cc (zero-add (pauses (request x) h));
   resumed = refl;
   body = refl;
   received = refl;
   framed = refl;
 }
-  where
-    none : (n : ℕ) → 0 + n ≡ n
-    none n = omega arith
 
 pause_books : (limits : PlainLimits) (owing : Owing) (f : FlowId) (b : BufferId) (rest : List Owed) (h : Past) → Books limits owing h
     → owing.due ≡ record { flow = f; buffer = b } ∷ rest → AllByRecursion (λ (o : Owed). IsLiveFlow (live h) o.flow) (record { flow = f; buffer = b } ∷ rest)
@@ -85,7 +83,7 @@ pause_books limits owing f b rest h s e l =
     let out_same : conn_out limits (step ∷ h) ≡ conn_out limits h = refl in
     let lows_same : conn_lows limits (step ∷ h) ≡ conn_lows limits h = refl in
     record {
-      due = ap (drop 1) (s.due ∙ e);
+      due = cc;
       asks = s.asks;
       opened = s.opened;
       known = s.known;

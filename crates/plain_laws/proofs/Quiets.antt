@@ -44,7 +44,7 @@ release_none c q n f = pick (c == 0) refl
 
 -- what may not be released isn't free
 not_free : (r : ℕ) (b : Bool) → r ≡ 0 → first_place (nat_lt 0 r && b) ≡ None
-not_free r b e = ap (λ k. first_place (nat_lt 0 k && b)) e
+not_free r b e = cc
 
 pub on_true : (b : Bool) (A : Type 0) → A → OnTrue b A
 on_true true A a = a
@@ -62,7 +62,7 @@ counted_alone c d l e z = omega arith
 
 module _ (limits : PlainLimits) where
   done_lows : (x : ℕ) (h : Past) → IsDone limits h → Alive h x → lows_at limits x h ≡ 0
-  done_lows x h d e = sum_none _ _ _ (lows_are limits x h) (ap (told_of x) (d.send_told x e)) (ap (told_of x) d.write_told)
+  done_lows x h d e = sum_none _ _ _ (lows_are limits x h) (cc (d.send_told x e)) (cc)
 
   done_still : (x : ℕ) (h : Past) → IsDone limits h → Alive h x → may_release (plain_setup limits) (request x) 0 h ≡ 0
   done_still x h d e = release_none (count (request x) h) limits.quantum (length (recv_at limits x h)) (λ z. ap length (d.moved x e z))

@@ -1,4 +1,5 @@
 -- The next flow that is pending on a buffer is told of its drain.
+use Rattle.plain_laws.proofs.Streams.{swapped as numbers}
 use Rattle.plain_laws.specs.Words.{Past, Alive, conn_lows, conn_out, lows_of}
 use Rattle.tape_laws.specs.Doomed.{is_swept}
 use Rattle.flow_gate.specs.declared.ids.BufferId.{BufferId}
@@ -11,6 +12,7 @@ use Rattle.plain_laws.proofs.Streams.{apart_from, own_or_other, same_number}
 use Rattle.plain_laws.proofs.Tellings.{live_flows_drop, one_own, told_cons, told_own}
 use Rattle.plain_laws.specs.Owing.{nothing}
 use Rattle.plain_laws.specs.Regular.{Books, FlowBooks, IsLiveFlow, IsRising, Regular}
+use Rattle.std.proofs.Math.Nat.{zero-add}
 use Rattle.std.proofs.Common.{ap, arith, inl, refl, subst, sym, ◌∙◌}
 use Rattle.std.proofs.lemmas.Bool.Decides.{nat_tests}
 use Rattle.std.specs.List.{AllByRecursion}
@@ -34,14 +36,11 @@ module _ (limits : PlainLimits) (x y : ℕ) (b : BufferId) (h : Past) where
     send = refl;
     send_lows = el;
     paused = refl;
-    resumed = ap (λ c. one_if (c && true) + resumes (request y) h) e ∙ none (resumes (request y) h);
+    resumed = cc (zero-add (resumes (request y) h));
     body = refl;
     received = refl;
     framed = refl;
   }
-    where
-      none : (n : ℕ) → 0 + n ≡ n
-      none n = omega arith
 
   same_flags : send_flag limits y (Noted (note.Resume (request x) b) ∷ h) ≡ send_flag limits y h
   same_flags = ap one_if (send_same limits (request y) (Noted (note.Resume (request x) b)) h refl)
@@ -78,7 +77,7 @@ module _ (limits : PlainLimits) (x : ℕ) where
 
   pub own_lows : (h : Past) → lows_of limits x h ≡ request x ∷ []
       → lows_of limits x (Noted (note.Resume (request x) (buffer.Send (request x))) ∷ h) ≡ []
-  own_lows h e = ap (λ b. drop (if b && true then 1 else 0) (lows_of limits x h)) (same_number x) ∙ ap (drop 1) e
+  own_lows h e = cc (same_number x)
 
   pub other_lows : (y : ℕ) (h : Past) → (x == y) ≡ false
       → lows_of limits y (Noted (note.Resume (request x) (buffer.Send (request x))) ∷ h) ≡ lows_of limits y h
@@ -92,7 +91,7 @@ module _ (limits : PlainLimits) (x : ℕ) where
       record {
         tally = flow_tally limits [] [] x step h
             (told _ _ _ _ _ _ _ _ _ _ (one_if (same_flow (request x) (request x))) (same_flags limits x x b h) (same_write limits x b h)
-            (less _ _ _ _ (one_own x) (ap (told_of x) e ∙ told_own x []) (ap (told_of x) (own_lows h e)))) f.tally;
+            (less _ _ _ _ (one_own x) (cc (told_own x [])) (cc (own_lows h e)))) f.tally;
         send_low = inl (own_lows h e);
         recv_room = f.recv_room;
         send_room = f.send_room;
@@ -159,10 +158,7 @@ write_flow limits x y rest h f e =
     less s m k k' m' t em ek et = omega arith
 
     swapped : (a c : ℕ) → one_if (same_flow (request c) (request a)) ≡ one_if (same_flow (request a) (request c))
-    swapped a c = ap (λ b. one_if (b && true)) (numbers c a)
-      where
-        numbers : (a b : ℕ) → (a == b) ≡ (b == a)
-        numbers a b = grind (arith, nat_tests)
+    swapped a c = cc (numbers c a)
 
 write_books : (limits : PlainLimits) (x : ℕ) (rest : List FlowId) (h : Past) → Books limits nothing h → Alive h x
     → conn_lows limits h ≡ request x ∷ rest → Books limits nothing (Noted (note.Resume (request x) (buffer.Write 0)) ∷ h)

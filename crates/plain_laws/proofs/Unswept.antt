@@ -51,6 +51,8 @@ module _ (limits : PlainLimits) (x n : ℕ) (last : Bool) (h : Past) where
 
   pub frame_unswept : is_swept (past_frame limits x n last h) ≡ false
   frame_unswept =
-      ap (λ (v : Past). is_swept v) (onto_append (rise_notes limits x n last h) (drain_notes limits x n last h) (frame_of x n last ∷ h))
-      ∙ if_unswept (send_drains limits x (frame_of x n last) h) (note.Resume (request x) (buffer.Send (request x)))
-      (onto (rise_notes limits x n last h) (frame_of x n last ∷ h)) (rise_unswept (frame_of x n last ∷ h) refl) refl
+      cc (
+        onto_append (rise_notes limits x n last h) (drain_notes limits x n last h) (frame_of x n last ∷ h),
+        if_unswept (send_drains limits x (frame_of x n last) h) (note.Resume (request x) (buffer.Send (request x)))
+            (onto (rise_notes limits x n last h) (frame_of x n last ∷ h)) (rise_unswept (frame_of x n last ∷ h) refl) refl,
+      )

@@ -10,4 +10,4 @@ pub returns : goal.returns
 returns c = λ limits b h.
     let l = limit (plain_setup limits) b h in
     let ls = lengths (plain_setup limits) b h in
-    subst (λ (v : Bool). IsTrue v ↔ IsAbove l ls) (sym (above_is_flag limits b h)) (c.flag_is_watermark.ensures.above l ls)
+    rw (above_is_flag limits b h) (c.flag_is_watermark.ensures.above l ls)
