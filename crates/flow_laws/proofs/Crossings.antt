@@ -46,6 +46,25 @@ before_turn P Q (Noted (note.Close c code why)) h f b = tt
 before_turn P Q (Noted (note.Fire k i)) h f b = tt
 before_turn P Q (Marked m) h f b = tt
 
+pub at_turn : {Mark : Type 0} (P : History Mark → Type 0) (step : Step Mark) (h : History Mark) → P h → BeforeTurn P step h
+at_turn P (Noted (note.Turn k e)) h p = p
+at_turn P (Noted (note.Arrive g octets)) h p1 = tt
+at_turn P (Noted (note.Move g q n)) h p1 = tt
+at_turn P (Noted (note.Frame c g n last)) h p1 = tt
+at_turn P (Noted (note.Out c n)) h p1 = tt
+at_turn P (Noted (note.Pause g b)) h p1 = tt
+at_turn P (Noted (note.Resume g b)) h p1 = tt
+at_turn P (Noted (note.Credit c s n)) h p1 = tt
+at_turn P (Noted (note.Head c s octets)) h p1 = tt
+at_turn P (Noted (note.Answer c octets)) h p1 = tt
+at_turn P (Noted (note.Waste c s n)) h p1 = tt
+at_turn P (Noted (note.Start x c s d)) h p1 = tt
+at_turn P (Noted (note.Doom x why)) h p1 = tt
+at_turn P (Noted (note.Gone x)) h p1 = tt
+at_turn P (Noted (note.Close c code why)) h p1 = tt
+at_turn P (Noted (note.Fire k i)) h p1 = tt
+at_turn P (Marked m) h p1 = tt
+
 some_of : (P : ℕ → Type 0) (o : Option ℕ) (c : ℕ) → o ≡ Some c → IfSome o P → P c
 some_of P None c e i = cc
 some_of P (Some d) c e i = subst P (number e) i

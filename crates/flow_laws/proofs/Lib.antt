@@ -1,27 +1,27 @@
-mod Balance
-mod Bounded
-mod Bounds
-mod Builders
-mod Crossings
-mod Ends
-mod Flags
-mod Induction
-mod Lengths
-mod Lists
-mod Lives
-mod Losing
-mod Lows
-mod MadeUp
-mod Moves
-mod Octets
-mod Orders
-mod Paused
-mod Quiets
-mod Rooms
-mod Sound
-mod Sources
-mod Spared
-mod Together
-mod Units
-mod Watching
-mod Writes
+pub mod Balance
+pub mod Bounded
+pub mod Bounds
+pub mod Builders
+pub mod Crossings
+pub mod Ends
+pub mod Flags
+pub mod Induction
+pub mod Lengths
+pub mod Lists
+pub mod Lives
+pub mod Losing
+pub mod Lows
+pub mod MadeUp
+pub mod Moves
+pub mod Octets
+pub mod Orders
+pub mod Paused
+pub mod Quiets
+pub mod Rooms
+pub mod Sound
+pub mod Sources
+pub mod Spared
+pub mod Together
+pub mod Units
+pub mod Watching
+pub mod Writes

@@ -189,7 +189,7 @@ module _ {Mark : Type 0} (setup : Setup Mark) (ways : HasWays setup) (limited : 
             let m = move_of q n e in
             subst (λ s. StagesBounded setup f 1 (setup.stages f h) (s ∷ h)) (sym e)
             (stages_room setup f q n h (Noted (note.Move f q n)) (grown q n) m.within (subst (λ s. FitsIn setup s h) e fits) 1 (setup.stages f h) (last_place setup f h + 1) (setup.goes_to f h) self
-            (stand_all setup f q n h) (limited.limits f h) m.low r.stages)
+            (stand_all setup f h q n) (limited.limits f h) m.low r.stages)
         at (MovesNone le) = stages_kept setup f step h 1 (setup.stages f h) self le r.stages
 
     room_then : HasRoom setup f (step ∷ h)
