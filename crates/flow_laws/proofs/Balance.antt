@@ -396,9 +396,9 @@ module _ {Mark : Type 0} (setup : Setup Mark) (ways : HasWays setup) (f : FlowId
       by_case (starts f step)
       (λ t. let k = dead_before step h l.0 r t in started_own step h t (unborn setup f h l.1 k.0) now.1 k.1 u)
       (λ o.
-        let s = lives_spared f step h now.0 in
-        let alive : is_live setup f h ≡ true = is_live_is setup ways f h r ∙ (ap (λ b. b && is_of setup ways f) (sym (life_stays f step h o s)) ∙ two _ _ now.0 now.1) in
-        keeps step h r o s alive p.0 c.0 u (balance h p.1 l.1 c.1 alive))
+      let s = lives_spared f step h now.0 in
+      let alive : is_live setup f h ≡ true = is_live_is setup ways f h r ∙ (ap (λ b. b && is_of setup ways f) (sym (life_stays f step h o s)) ∙ two _ _ now.0 now.1) in
+      keeps step h r o s alive p.0 c.0 u (balance h p.1 l.1 c.1 alive))
     where
       two : (a b : Bool) → a ≡ true → b ≡ true → (a && b) ≡ true
       two true b e i = i

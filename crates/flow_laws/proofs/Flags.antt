@@ -18,11 +18,7 @@ again l false n = grind (arith, nat_tests)
 low_first : (l : ℕ) → above_after l false 0 ≡ false
 low_first l = grind (arith, nat_tests)
 
--- an empty buffer isn't above, and one that isn't above holds at most its limit
-pub low_empty : (l : ℕ) (w : Bool) → above_after l w 0 ≡ false
-low_empty l true = grind (arith, nat_tests)
-low_empty l false = grind (arith, nat_tests)
-
+-- a buffer that isn't above holds at most its limit
 pub low_within : (l : ℕ) (w : Bool) (n : ℕ) → above_after l w n ≡ false → 0 < l → n ≤ l
 low_within l true n h p = grind (arith, nat_tests)
 low_within l false n h p = grind (arith, nat_tests)

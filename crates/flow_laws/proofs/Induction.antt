@@ -8,7 +8,7 @@ use Rattle.std.proofs.Common.{subst, sym, ◌∙◌}
 use Rattle.std.specs.Prelude.{Bool, [], false, true, ◌&&◌, ◌∷◌, ◌≡◌}
 use Rattle.tape_laws.specs.Dispatches.{has, live, started}
 use Rattle.tape_laws.specs.Doomed.{LeavesDoomed}
-use Rattle.tape_laws.specs.History.{AtEachMoment, EachFollows, History, Marked, Noted, Step}
+use Rattle.tape_laws.specs.History.{EachFollows, History, Marked, Noted, Step}
 use Rattle.tape_laws.specs.Setup.{Setup}
 use Rattle.tape_laws.specs.Sources.{is_live}
 use Rattle.flow_notes.specs.declared.notes.Note.TheVariants as note
@@ -48,17 +48,11 @@ module _ {Mark : Type 0} (setup : Setup Mark) (ways : HasWays setup) (f : FlowId
       by_case (starts f step)
       (λ t. own step h t (unborn setup f h l.1 (new_then step h l.0 t)))
       (λ o.
-        let s = lives_spared f step h now.0 in
-        let alive : is_live setup f h ≡ true = is_live_is setup ways f h r ∙ two _ _ (sym (life_stays f step h o s) ∙ now.0) now.1 in
-        on step h o s alive m.0 (by_life P May own on h l.1 m.1 alive))
+      let s = lives_spared f step h now.0 in
+      let alive : is_live setup f h ≡ true = is_live_is setup ways f h r ∙ two _ _ (sym (life_stays f step h o s) ∙ now.0) now.1 in
+      on step h o s alive m.0 (by_life P May own on h l.1 m.1 alive))
 
 -- two laws that look back are one
 pub both_follow : {Mark : Type 0} (A B : Step Mark → History Mark → Type 0) (h : History Mark) → EachFollows A h → EachFollows B h → EachFollows (λ s k. A s k × B s k) h
 both_follow A B [] a b = tt
 both_follow A B (step ∷ h) a b = ((a.0, b.0), both_follow A B h a.1 b.1)
-
--- what follows at the end of each history follows at each moment
-pub at_each : {Mark : Type 0} (P : History Mark → Type 0) (May : Step Mark → History Mark → Type 0) → ((h : History Mark) → EachFollows May h → P h)
-    → (h : History Mark) → EachFollows May h → AtEachMoment P h
-at_each P May f [] m = f [] m
-at_each P May f (step ∷ h) m = (f (step ∷ h) m, at_each P May f h m.1)

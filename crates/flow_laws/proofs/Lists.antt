@@ -4,7 +4,6 @@ use Rattle.flow_gate.specs.declared.ids.FlowId.{FlowId}
 use Rattle.std.proofs.Common.{ap, arith, refl, sym, ◌∙◌}
 use Rattle.std.proofs.lemmas.Bool.Decides.{nat_tests}
 use Rattle.std.proofs.lemmas.List.Sums.{sum_by-append, sum_by-cons}
-use Rattle.std.specs.List.{AllByRecursion}
 use Rattle.std.specs.Prelude.{Bool, List, [], count_by, false, filter, if◌then◌else◌, not, true, ℕ, ◌&&◌, ◌++◌, ◌+◌, ◌==◌, ◌||◌, ◌∷◌, ◌≡◌}
 use Rattle.tape_laws.specs.Flows.{same_buffer, same_flow}
 use Rattle.flow_gate.specs.declared.ids.BufferId.TheVariants as buffer
@@ -85,10 +84,6 @@ flow_swapped f g = ap (λ b. b && (if f.back then g.back else not g.back)) (swap
     turned false true = refl
     turned false false = refl
 
-pub buffer_swapped : (b c : BufferId) → same_buffer b c ≡ same_buffer c b
-buffer_swapped b c = by_case (same_buffer b c) (λ t. t ∙ sym (ap (λ v. same_buffer c v) (buffer_is b c t) ∙ buffer_same c)) (λ d. by_case (same_buffer c b)
-    (λ t. let e : same_buffer b c ≡ true = ap (λ v. same_buffer b v) (buffer_is c b t) ∙ buffer_same b in cc) (λ f. cc))
-
 -- ---- flags
 pub or_true : (a b : Bool) → (a || b) ≡ true → a ≡ false → b ≡ true
 or_true true b e f = cc
@@ -113,11 +108,6 @@ not_so false e = refl
 pub not_both : {A : Type 0} (b : Bool) → b ≡ true → b ≡ false → A
 not_both true e f = cc
 not_both false e f = cc
-
--- ---- what holds of each
-pub all_map : {A : Type 0} (P Q : A → Type 0) (xs : List A) → ((x : A) → P x → Q x) → AllByRecursion P xs → AllByRecursion Q xs
-all_map P Q [] f a = tt
-all_map P Q (x ∷ xs) f a = (f x a.0, all_map P Q xs f a.1)
 
 -- ---- sums
 pub count_cons : {A : Type 0} (p : A → Bool) (x : A) (xs : List A) → count_by p (x ∷ xs) ≡ one_if (p x) + count_by p xs

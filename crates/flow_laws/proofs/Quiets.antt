@@ -91,7 +91,7 @@ pub rest_is_quiet : {Mark : Type 0} (session : Session Mark) (h : History Mark) 
 rest_is_quiet session h ways p r =
     let setup = session.setup in
     let told : (f : FlowId) → is_live setup f h ≡ true → lows setup f h ≡ 0 = λ f a. no_lows setup h f (source_buffers setup f h)
-        (each_at (λ g. AllByRecursion (λ b. pending_lows setup b h ≡ []) (source_buffers setup g h)) (live_flows setup h) f r.told a) in
+    (each_at (λ g. AllByRecursion (λ b. pending_lows setup b h ≡ []) (source_buffers setup g h)) (live_flows setup h) f r.told a) in
     let right : (f : FlowId) → is_live setup f h ≡ true → count f h ≡ disabled setup f h = λ f a. counted setup h f r.paused (told f a) (balance setup ways f h p.paused p.doomed p.closed a) in
     record {
       paused = r.paused;

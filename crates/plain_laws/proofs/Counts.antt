@@ -1,4 +1,5 @@
 -- The counts of the live streams, step by step.
+use Rattle.plain_laws.proofs.Balances.{tally_at}
 use Rattle.plain_laws.proofs.Streams.{swapped}
 use Rattle.std.proofs.Math.Bool.{and-false}
 use Rattle.flow_gate.specs.declared.ids.FlowId.{FlowId}
@@ -12,10 +13,9 @@ use Rattle.plain_laws.proofs.Streams.{by_case, number_is, own_or_other, same_num
 use Rattle.plain_laws.proofs.Tellings.{told_own}
 use Rattle.plain_laws.specs.Settled.{Settled}
 use Rattle.std.proofs.Common.{ap, arith, refl, subst, sym, ◌∙◌}
-use Rattle.std.proofs.lemmas.Bool.Decides.{nat_tests}
 use Rattle.std.specs.List.{list_any}
 use Rattle.std.specs.Prelude.{Bool, List, [], false, flat_map, if◌then◌else◌, length, not, true, ℕ, ◌&&◌, ◌+◌, ◌-◌, ◌==◌, ◌||◌, ◌∷◌, ◌≡◌, ◌≤◌}
-use Rattle.plain_laws.specs.Words.{Past, Alive, conn_high, conn_lows, conn_rises, frame_of, move_of, past_begin, past_frame, past_move, send_drains, send_high, send_rises}
+use Rattle.plain_laws.specs.Words.{Alive, Past, conn_high, conn_lows, conn_rises, disabled_at, frame_of, lows_at, move_of, past_begin, past_frame, past_move, send_drains, send_high, send_rises}
 use Rattle.tape_laws.specs.Dispatches.{has, live, started}
 use Rattle.tape_laws.specs.Flows.{request, same_flow}
 use Rattle.tape_laws.specs.History.{Noted}
@@ -27,10 +27,14 @@ use Rattle.wm_buffer.specs.Watermark.{above_after}
 use Rattle.flow_gate.specs.declared.ids.BufferId.TheVariants as buffer
 use Rattle.flow_notes.specs.declared.notes.Note.TheVariants as note
 
--- a live stream was paused at least as often as resumed
+-- between steps the pauses of a live stream are its resumes, its sources above and its lows
+settled_tally : (limits : PlainLimits) (x : ℕ) (h : Past) → Settled limits h → Alive h x → pauses (request x) h + 0 ≡ resumes (request x) h + (disabled_at limits x h + lows_at limits x h)
+settled_tally limits x h s is = tally_at limits x h s.regular.lawful s.regular.books.due is
+
+-- so it was paused at least as often as resumed
 module _ (limits : PlainLimits) where
   pub settled_pauses : (x : ℕ) (h : Past) → Settled limits h → Alive h x → resumes (request x) h ≤ pauses (request x) h
-  settled_pauses x h s is = least _ _ _ (s.regular.books.each x is).tally
+  settled_pauses x h s is = least _ _ _ (settled_tally limits x h s is)
     where
       least : (p r d : ℕ) → p + 0 ≡ r + d → r ≤ p
       least p r d e = omega (arith, e)
@@ -68,7 +72,7 @@ module _ (limits : PlainLimits) where
       own : (b : Bool) → send_drains limits x (frame_of x n last) h ≡ b
           → one_if ((x == x) && b) + resumes (request x) h ≤ pauses (request x) h
       own true e =
-          rw (same_number x) (above_counts _ _ _ _ _ (write_flag limits h) (s.regular.books.each x lives).tally (disabled_is limits x h) (ap one_if (was_high _ _ e)))
+          rw (same_number x) (above_counts _ _ _ _ _ (write_flag limits h) (settled_tally limits x h s lives) (disabled_is limits x h) (ap one_if (was_high _ _ e)))
       own false e = other _ _ (cc (and-false (x == x))) (settled_pauses x h s lives)
 
   pub tell_count : (x y : ℕ) (rest : List FlowId) (h : Past) → Settled limits h → Alive h y
@@ -90,7 +94,7 @@ module _ (limits : PlainLimits) where
       own : (x == y) ≡ true → count (request y) (Noted (note.Resume (request x) (buffer.Write 0)) ∷ h) + one_if (x == y) ≡ count (request y) h
       own t =
           lower _ _ _ (x == y) t (cc)
-          (fits _ _ _ _ _ _ _ (s.regular.books.each y is).tally (lows_are limits y h) (subst (λ (v : ℕ). write_left limits v h ≡ 1 + told_of v rest) (number_is x y t) (cc (told_own x rest))))
+          (fits _ _ _ _ _ _ _ (settled_tally limits y h s is) (lows_are limits y h) (subst (λ (v : ℕ). write_left limits v h ≡ 1 + told_of v rest) (number_is x y t) (cc (told_own x rest))))
 
       other : (x == y) ≡ false → count (request y) (Noted (note.Resume (request x) (buffer.Write 0)) ∷ h) + one_if (x == y) ≡ count (request y) h
       other d = same _ _ _ (x == y) d (cc)

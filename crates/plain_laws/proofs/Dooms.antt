@@ -1,20 +1,20 @@
 -- A stream is doomed.
+use Rattle.plain_laws.proofs.Leaving.{flow_kept}
 use Rattle.std.proofs.lemmas.Bool.{or_left, or_right}
 use Rattle.plain_laws.specs.Words.{Past, Alive, conn_lows, conn_out, end_out, lows_of, send_high, turn_of}
 use Rattle.tape_laws.specs.Doomed.{is_swept}
 use Rattle.flow_gate.specs.declared.ids.FlowId.{FlowId}
 use Rattle.flow_notes.specs.declared.notes.Cause.{Cause}
-use Rattle.plain_laws.proofs.Extending.{MayAdd, counted_of, free_meets, nothing_owed, one_owed, regular_more}
-use Rattle.plain_laws.proofs.Leaving.{Leaves, flow_other, only_other, room_kept, unborn_kept}
+use Rattle.plain_laws.proofs.Extending.{MayAdd, free_meets, nothing_owed, one_owed, regular_more}
+use Rattle.plain_laws.proofs.Leaving.{Leaves, only_other, room_kept, unborn_kept}
 use Rattle.plain_laws.proofs.Rising.{rising_filter}
 use Rattle.plain_laws.proofs.Streams.{apart_from, by_case, differs_back, has_left, has_lost, has_stays, not_both, number_is, same_number}
-use Rattle.plain_laws.proofs.Tellings.{told_without}
-use Rattle.plain_laws.specs.Owing.{OwesDoom, Owing, asking, nothing, overrun, owed_times, starts}
+use Rattle.plain_laws.specs.Owing.{OwesDoom, Owing, asking, nothing, overrun, starts}
 use Rattle.plain_laws.specs.Regular.{Books, FlowBooks, IsLiveFlow, IsRising, Regular}
-use Rattle.std.proofs.Common.{ap, inl, inr, refl, subst, sym, ◌∙◌}
+use Rattle.std.proofs.Common.{inl, inr, refl, subst, sym, ◌∙◌}
 use Rattle.std.specs.Bool.{OnTrue}
 use Rattle.std.specs.List.{AllByRecursion, list_any}
-use Rattle.std.specs.Prelude.{Bool, List, [], drop, false, filter, if◌then◌else◌, map, not, true, ℕ, ◌&&◌, ◌==◌, ◌||◌, ◌∷◌, ◌≡◌, ◌⊎◌}
+use Rattle.std.specs.Prelude.{Bool, List, [], drop, false, filter, if◌then◌else◌, map, not, true, ℕ, ◌&&◌, ◌==◌, ◌∷◌, ◌≡◌, ◌⊎◌}
 use Rattle.tape_laws.specs.Causes.{MayDoom, end_framed_here}
 use Rattle.tape_laws.specs.Demands.{MeetsFirst, is_at_once, obligations}
 use Rattle.tape_laws.specs.Dispatches.{before_dispatch, has, live, started}
@@ -23,10 +23,8 @@ use Rattle.tape_laws.specs.History.{NoMark, Noted, Step}
 use Rattle.tape_laws.specs.Pauses.{Heads}
 use Rattle.tape_laws.specs.Plain.{paired_with, plain_setup}
 use Rattle.tape_laws.specs.PlainSession.{plain_session}
-use Rattle.tape_laws.specs.Units.{Demand, WantsDoom}
+use Rattle.tape_laws.specs.Units.{WantsDoom}
 use Rattle.tape_laws.specs.declared.limits.PlainLimits.{PlainLimits}
-use Rattle.flow_gate.specs.declared.ids.BufferId.TheVariants as buffer
-use Rattle.flow_notes.specs.declared.events.Event.TheVariants as event
 use Rattle.flow_notes.specs.declared.events.PlainEvent.TheVariants as plain
 use Rattle.flow_notes.specs.declared.notes.Cause.TheVariants as cause
 use Rattle.flow_notes.specs.declared.notes.Note.TheVariants as note
@@ -104,7 +102,6 @@ doom_may : (limits : PlainLimits) (o : Owing) (x : ℕ) (why : Cause) (h : Past)
 doom_may limits o x why h s fresh ow is may = record {
   allowed = tt;
   paused = s.due ∙ ow.due;
-  counted = counted_of limits o h s ow.due;
   ends = tt;
   in_turn = tt;
   doomed = is;
@@ -145,8 +142,7 @@ doom_books limits o x why h s ow is =
       born = λ y e. s.born y (has_left (live h) x y e).0;
       said = λ y. cc (s.said y, unstarting y ow.asks);
       each = λ y e. let k = has_left (live h) x y e in let f = s.each y k.0 in
-          flow_other limits o nothing y step h (doom_leaves limits x y why h k.1 (lows_stay limits o x y h k.1 f)) f out_same
-          (told_without x y (conn_lows limits h) k.1) (cc) (sym (ow.extra y k.0 k.1)) f.unframed;
+          flow_kept limits o nothing y step h (doom_leaves limits x y why h k.1 (lows_stay limits o x y h k.1 f)) f (sym (ow.extra y k.0 k.1)) f.unframed;
       unborn = λ y e. let d = apart_from (started h) x y (s.born x is) e in
           let quiet = s.hushed y (never_live y e) in
           unborn_kept limits y step h (doom_leaves limits x y why h d (cc)) (record { ended = refl; pairs = refl; must = refl }) (s.unborn y e);

@@ -3,9 +3,8 @@ use Rattle.flow_gate.specs.declared.ids.BufferId.{BufferId}
 use Rattle.flow_gate.specs.declared.ids.FlowId.{FlowId}
 use Rattle.flow_notes.specs.declared.events.PlainEvent.{PlainEvent}
 use Rattle.flow_notes.specs.declared.notes.Cause.{Cause}
-use Rattle.flow_notes.specs.declared.notes.Note.{Note}
 use Rattle.plain_laws.proofs.Counting.{one_if}
-use Rattle.plain_laws.proofs.Dooms.{doom_leaves, without}
+use Rattle.plain_laws.proofs.Dooms.{doom_leaves}
 use Rattle.plain_laws.proofs.Flags.{send_same}
 use Rattle.plain_laws.proofs.Keepings.{arrive_keeps, arrive_keeps_write, keeps_stream, out_keeps, pauses_keep, pauses_keep_write, start_keeps, start_keeps_write, stream_more, turn_keeps, turn_keeps_write, write_more}
 use Rattle.plain_laws.proofs.Onto.{pauses_leave}
@@ -22,7 +21,7 @@ use Rattle.plain_laws.specs.Pairs.{seconds}
 use Rattle.plain_laws.specs.Regular.{Rests}
 use Rattle.plain_laws.specs.Settled.{Settled}
 use Rattle.plain_laws.specs.StepNotes.{cut_notes, over_notes, room_notes}
-use Rattle.std.proofs.Common.{ap, refl, subst, sym, ◌∙◌}
+use Rattle.std.proofs.Common.{ap, refl, ◌∙◌}
 use Rattle.std.specs.Prelude.{Bool, List, [], drop, false, if◌then◌else◌, length, map, not, true, ℕ, ◌&&◌, ◌++◌, ◌+◌, ◌==◌, ◌∷◌, ◌≡◌}
 use Rattle.plain_laws.specs.Words.{Past, conn_high, conn_lows, conn_out, last_out, lows_of, past_begin, past_body, recv_at, send_at, send_high, turn_of}
 use Rattle.tape_laws.specs.Dispatches.{live, started, turns}
@@ -35,7 +34,6 @@ use Rattle.tape_laws.specs.PlainSession.{plain_must_end}
 use Rattle.tape_laws.specs.declared.limits.PlainLimits.{PlainLimits}
 use Rattle.wm_buffer.specs.Watermark.{above_after}
 use Rattle.flow_gate.specs.declared.ids.BufferId.TheVariants as buffer
-use Rattle.flow_notes.specs.declared.events.Event.TheVariants as event
 use Rattle.flow_notes.specs.declared.events.PlainEvent.TheVariants as plain
 use Rattle.flow_notes.specs.declared.notes.Cause.TheVariants as cause
 use Rattle.flow_notes.specs.declared.notes.Note.TheVariants as note

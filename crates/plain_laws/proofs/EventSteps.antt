@@ -1,8 +1,7 @@
 -- The effect of each event, from rest to a settled history.
 use Rattle.flow_notes.specs.declared.events.PlainEvent.{PlainEvent}
-use Rattle.flow_notes.specs.declared.notes.Note.{Note}
 use Rattle.plain_laws.proofs.Arrivals.{arrive_regular}
-use Rattle.plain_laws.proofs.Dooms.{doom_cut, doom_over, without}
+use Rattle.plain_laws.proofs.Dooms.{doom_cut, doom_over}
 use Rattle.plain_laws.proofs.Flags.{write_same}
 use Rattle.plain_laws.proofs.Followings.{begin_most, body_flowing, finish_flowing, pair_may}
 use Rattle.plain_laws.proofs.Outs.{out_regular}
@@ -14,7 +13,7 @@ use Rattle.plain_laws.specs.Owing.{due_if, nothing, owed}
 use Rattle.plain_laws.specs.Regular.{Regular, Rests}
 use Rattle.plain_laws.specs.Settled.{Settled}
 use Rattle.plain_laws.specs.StepNotes.{cut_notes, over_notes, room_notes}
-use Rattle.std.proofs.Common.{ap, arith, refl, subst, sym, ◌∙◌}
+use Rattle.std.proofs.Common.{arith, refl, subst, ◌∙◌}
 use Rattle.std.proofs.lemmas.List.{append-nil}
 use Rattle.std.specs.Prelude.{Bool, List, [], false, length, min, true, ℕ, ◌+◌, ◌-◌, ◌<◌, ◌∷◌, ◌≡◌, ◌≤◌}
 use Rattle.plain_laws.specs.Words.{Past, Alive, conn_high, conn_out, lows_of, past_begin, past_body, recv_at, turn_of}
@@ -23,7 +22,6 @@ use Rattle.tape_laws.specs.Following.{may_follow}
 use Rattle.tape_laws.specs.History.{NoMark, Noted, Step, onto}
 use Rattle.tape_laws.specs.declared.limits.PlainLimits.{PlainLimits}
 use Rattle.flow_gate.specs.declared.ids.BufferId.TheVariants as buffer
-use Rattle.flow_notes.specs.declared.events.Event.TheVariants as event
 use Rattle.flow_notes.specs.declared.events.PlainEvent.TheVariants as plain
 use Rattle.flow_notes.specs.declared.notes.Note.TheVariants as note
 

@@ -5,9 +5,9 @@ use Rattle.plain_laws.proofs.Flags.{send_same}
 use Rattle.plain_laws.proofs.Greatest.{peak_kept}
 use Rattle.plain_laws.proofs.Leaving.{Leaves}
 use Rattle.plain_laws.proofs.Streams.{same_number}
-use Rattle.std.proofs.Common.{ap, refl}
+use Rattle.std.proofs.Common.{refl}
 use Rattle.std.proofs.lemmas.List.{append-nil}
-use Rattle.std.specs.Prelude.{Bool, List, [], drop, length, take, ℕ, ◌++◌, ◌||◌, ◌∷◌, ◌≡◌}
+use Rattle.std.specs.Prelude.{Bool, List, [], drop, take, ℕ, ◌++◌, ◌||◌, ◌∷◌, ◌≡◌}
 use Rattle.plain_laws.specs.Words.{Past, conn_out, end_out, frame_of, move_of, recv_at, send_at, send_high}
 use Rattle.tape_laws.specs.Flows.{request}
 use Rattle.tape_laws.specs.History.{NoMark, Noted, Step}

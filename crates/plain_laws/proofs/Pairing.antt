@@ -1,6 +1,6 @@
 -- Which streams must end once the end of one was framed.
 use Rattle.plain_laws.specs.Pairs.{seconds}
-use Rattle.std.proofs.Common.{ap, refl}
+use Rattle.std.proofs.Common.{refl}
 use Rattle.std.specs.Prelude.{Bool, List, [], false, if◌then◌else◌, true, ℕ, ◌&&◌, ◌++◌, ◌==◌, ◌||◌, ◌∷◌, ◌≡◌}
 use Rattle.plain_laws.specs.Words.{Past}
 use Rattle.tape_laws.specs.Dispatches.{has}

@@ -6,7 +6,7 @@ use Rattle.plain_laws.specs.Next.{IsNextAbove, IsNextAround, is_ready, unit_of}
 use Rattle.plain_laws.specs.Regular.{IsRising}
 use Rattle.plain_laws.proofs.Streams.{or_true as later}
 use Rattle.std.proofs.lemmas.Bool.{ltb-true}
-use Rattle.std.proofs.Common.{ap, arith, refl, subst, sym, ◌∙◌}
+use Rattle.std.proofs.Common.{ap, arith, refl, sym, ◌∙◌}
 use Rattle.std.proofs.lemmas.Bool.Decides.{nat_tests}
 use Rattle.std.specs.Prelude.{Bool, List, [], false, filter, flat_map, if◌then◌else◌, length, min, nat_le, nat_lt, not, true, ℕ, ◌&&◌, ◌++◌, ◌<◌, ◌==◌, ◌||◌, ◌∷◌, ◌≡◌, ◌≤◌}
 use Rattle.plain_laws.specs.Words.{Past, Alive, last_out, next_out, recv_at, send_at}

@@ -1,31 +1,30 @@
 -- A stream starts, above every number before it.
+use Rattle.plain_laws.proofs.Leaving.{flow_kept}
 use Rattle.std.proofs.lemmas.Bool.{or_parts}
 use Rattle.plain_laws.specs.Words.{Past, conn_high, conn_lows, conn_out, end_out, lows_of}
 use Rattle.tape_laws.specs.Doomed.{is_swept}
 use Rattle.flow_gate.specs.declared.ids.BufferId.{BufferId}
 use Rattle.flow_gate.specs.declared.ids.FlowId.{FlowId}
-use Rattle.plain_laws.proofs.Counting.{disabled_is, lows_are, one_if, told_of}
-use Rattle.plain_laws.proofs.Extending.{MayAdd, counted_of, one_owed, regular_more}
+use Rattle.plain_laws.proofs.Extending.{MayAdd, one_owed, regular_more}
 use Rattle.plain_laws.proofs.Flags.{send_same, write_same}
-use Rattle.plain_laws.proofs.Leaving.{Leaves, flow_other, once_kept, room_kept, same_len, unborn_kept}
+use Rattle.plain_laws.proofs.Leaving.{Leaves, once_kept, room_kept, same_len, unborn_kept}
 use Rattle.plain_laws.proofs.Moves.{where_limited}
 use Rattle.plain_laws.proofs.Rising.{rising_more}
 use Rattle.plain_laws.proofs.Streams.{all_of, by_case, has_kept, has_last, has_more, has_not, has_one, has_was, not_both, number_is, own_or_other}
-use Rattle.plain_laws.proofs.Tellings.{live_flows_kept, live_owed, owed_none, owed_one, told_absent}
+use Rattle.plain_laws.proofs.Tellings.{live_flows_kept, live_owed}
 use Rattle.plain_laws.specs.Owing.{Owing, asking, due_if, owed}
 use Rattle.plain_laws.specs.Regular.{AtMost, Books, FlowBooks, IsLiveFlow, Regular}
 use Rattle.std.proofs.Math.Bool.{or_comm}
-use Rattle.std.proofs.Common.{ap, arith, inl, refl, subst, sym, ◌∙◌}
+use Rattle.std.proofs.Common.{arith, inl, refl, subst, sym, ◌∙◌}
 use Rattle.std.specs.List.{AllByRecursion}
-use Rattle.std.specs.Prelude.{Bool, List, [], false, if◌then◌else◌, map, true, ℕ, ◌&&◌, ◌++◌, ◌+◌, ◌<◌, ◌==◌, ◌||◌, ◌∷◌, ◌≡◌, ◌≤◌}
-use Rattle.tape_laws.specs.Demands.{MeetsFirst}
+use Rattle.std.specs.Prelude.{Bool, [], false, if◌then◌else◌, map, true, ℕ, ◌&&◌, ◌++◌, ◌+◌, ◌<◌, ◌==◌, ◌∷◌, ◌≡◌, ◌≤◌}
 use Rattle.tape_laws.specs.Dispatches.{before_dispatch, has, live, started}
 use Rattle.tape_laws.specs.Ends.{end_framed}
 use Rattle.tape_laws.specs.Flows.{request, same_flow}
 use Rattle.tape_laws.specs.History.{NoMark, Noted, Step}
 use Rattle.tape_laws.specs.Pauses.{Heads, Owed}
 use Rattle.tape_laws.specs.Plain.{plain_setup}
-use Rattle.tape_laws.specs.Units.{Demand, WantsStart}
+use Rattle.tape_laws.specs.Units.{WantsStart}
 use Rattle.tape_laws.specs.declared.limits.PlainLimits.{PlainLimits}
 use Rattle.flow_gate.specs.declared.ids.BufferId.TheVariants as buffer
 use Rattle.flow_notes.specs.declared.notes.Note.TheVariants as note
@@ -52,7 +51,6 @@ start_may : (limits : PlainLimits) (x : ℕ) (h : Past) → Books limits (asking
 start_may limits x h s fresh new = record {
   allowed = tt;
   paused = s.due;
-  counted = counted_of limits (asking (WantsStart x 0 x 0 ∷ [])) h s refl;
   ends = tt;
   in_turn = tt;
   doomed = new;
@@ -90,12 +88,7 @@ start_own limits x h s new =
     let u = s.unborn x new in
     let dead : has (live h) x ≡ false = by_case (has (live h) x) (λ t. not_both (has (started h) x) (s.born x t) new) (λ f. f) in
     let lows_is : lows_of limits x (step ∷ h) ≡ lows_of limits x h = refl in
-    let write_is : conn_lows limits (step ∷ h) ≡ conn_lows limits h = refl in
     record {
-      tally = balance _ _ _ _ _ _ _ _ _ (disabled_is limits x (step ∷ h)) (lows_are limits x (step ∷ h)) u.paused u.resumed
-          (cc (owed_one (conn_high limits h) (buffer.Write 0) x, write_same limits step h refl))
-          (cc (send_same limits (request x) step h refl)) (cc (s.hushed x dead))
-          (ap (told_of x) write_is ∙ told_absent x (live h) _ s.write_lows dead);
       send_low = inl (lows_is ∙ s.hushed x dead);
       recv_room = same_len _ _ limits.recv u.recv (none limits.recv);
       send_room = where_limited limits.send _ (λ p. same_len _ _ (limits.send + limits.quantum) u.send (none _));
@@ -104,9 +97,6 @@ start_own limits x h s new =
       unframed = unframed_before limits (request x) h u.unframed;
     }
   where
-    balance : (p r o d l a w s m : ℕ) → d ≡ a + w → l ≡ s + m → p ≡ 0 → r ≡ 0 → o ≡ w → a ≡ 0 → s ≡ 0 → m ≡ 0 → p + o ≡ r + (d + l)
-    balance p r o d l a w s m ed el ep er eo ea es em = omega arith
-
     none : (n : ℕ) → 0 ≤ n
     none n = omega arith
 
@@ -131,8 +121,7 @@ start_books limits x last h s most less =
       said = λ y. s.said y ∙ or_comm (x == y) (has (started h) y) ∙ sym (has_more (started h) x y);
       each = λ y e. own_or_other (λ z. FlowBooks limits (after_start limits x h) z (step ∷ h)) x y (start_own limits x h s new)
           (λ d. let f = s.each y (has_was (live h) x y e d) in
-          flow_other limits (asking (WantsStart x 0 x 0 ∷ [])) (after_start limits x h) y step h (start_leaves limits x y h) f out_same (cc)
-          (owed_none b (buffer.Write 0) x y d) refl f.unframed);
+          flow_kept limits (asking (WantsStart x 0 x 0 ∷ [])) (after_start limits x h) y step h (start_leaves limits x y h) f refl f.unframed);
       unborn = λ y e. unborn_kept limits y step h (start_leaves limits x y h) (record { ended = refl; pairs = refl; must = refl }) (s.unborn y (has_not (started h) x y e).0);
       owed = live_owed b (buffer.Write 0) (x ∷ []) (live h ++ x ∷ [])
           (λ y e. rw (← (number_is x y (sym (has_one x y) ∙ e))) (has_last (live h) x));

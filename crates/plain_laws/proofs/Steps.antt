@@ -1,11 +1,12 @@
 -- The steps of a core, each from a settled history to one.
+use Rattle.plain_laws.proofs.Balances.{count_is}
 use Rattle.flow_gate.specs.declared.ids.BufferId.{BufferId}
 use Rattle.flow_gate.specs.declared.ids.FlowId.{FlowId}
 use Rattle.flow_notes.specs.declared.notes.Cause.{Cause}
 use Rattle.flow_notes.specs.declared.notes.Note.{Note}
-use Rattle.plain_laws.proofs.Counting.{disabled_is, lows_are, send_flag, told_of, write_flag, write_left}
-use Rattle.plain_laws.proofs.Dooms.{doom_done, doom_early, without}
-use Rattle.plain_laws.proofs.Extending.{count_is}
+use Rattle.plain_laws.proofs.Counting.{disabled_is, lows_are, send_flag, write_flag, write_left}
+use Rattle.plain_laws.proofs.Dooms.{doom_done, doom_early}
+use Rattle.plain_laws.proofs.Extending.{}
 use Rattle.plain_laws.proofs.Frames.{frame_leaves, frame_regular, lows_after}
 use Rattle.plain_laws.proofs.Gones.{gone_regular}
 use Rattle.plain_laws.proofs.Moves.{move_regular, readable_low, untold}
@@ -21,9 +22,9 @@ use Rattle.plain_laws.specs.Owing.{due_if, nothing, owed, pause_notes, pauses_fo
 use Rattle.plain_laws.specs.Regular.{Regular, Rests}
 use Rattle.plain_laws.specs.Settled.{Settled}
 use Rattle.plain_laws.specs.StepNotes.{drain_notes, move_notes, rise_notes}
-use Rattle.std.proofs.Common.{ap, arith, refl, subst, sym, ◌∙◌}
+use Rattle.std.proofs.Common.{ap, arith, refl, subst, ◌∙◌}
 use Rattle.std.proofs.lemmas.List.{append-nil}
-use Rattle.std.specs.Prelude.{Bool, List, [], false, if◌then◌else◌, length, map, min, true, ℕ, ◌&&◌, ◌++◌, ◌+◌, ◌<◌, ◌==◌, ◌∷◌, ◌≡◌}
+use Rattle.std.specs.Prelude.{Bool, List, [], false, if◌then◌else◌, length, map, min, true, ℕ, ◌&&◌, ◌+◌, ◌<◌, ◌==◌, ◌∷◌, ◌≡◌}
 use Rattle.plain_laws.specs.Words.{Past, Alive, conn_high, conn_lows, end_out, frame_of, lows_of, move_of, next_out, past_frame, past_move, recv_at, send_drains, send_high}
 use Rattle.tape_laws.specs.Dispatches.{before_dispatch, has, live}
 use Rattle.tape_laws.specs.Doomed.{condemned, is_swept}
@@ -153,7 +154,7 @@ module _ (limits : PlainLimits) where
   pub settled_count : (x : ℕ) (h : Past) → Settled limits h → Alive h x
       → count (request x) h ≡ (send_flag limits x h + write_flag limits h) + write_left limits x h
   settled_count x h s is =
-      sums _ _ _ _ _ _ _ (count_is limits nothing x h (s.regular.books.each x is) refl) (disabled_is limits x h) (lows_are limits x h) (cc (s.untold x))
+      sums _ _ _ _ _ _ _ (count_is limits x h s.regular.lawful s.regular.books.due is) (disabled_is limits x h) (lows_are limits x h) (cc (s.untold x))
     where
       sums : (c d l a w s m : ℕ) → c ≡ d + l → d ≡ a + w → l ≡ s + m → s ≡ 0 → c ≡ (a + w) + m
       sums c d l a w s m e1 e2 e3 e4 = omega arith

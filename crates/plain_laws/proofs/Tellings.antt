@@ -5,22 +5,19 @@ use Rattle.flow_gate.specs.declared.ids.BufferId.{BufferId}
 use Rattle.flow_gate.specs.declared.ids.FlowId.{FlowId}
 use Rattle.plain_laws.proofs.Counting.{one_if, told_of}
 use Rattle.plain_laws.proofs.Rising.{rising_apart}
-use Rattle.plain_laws.proofs.Streams.{by_case, differs_back, has_one, not_both, number_is, same_number, same_request}
+use Rattle.plain_laws.proofs.Streams.{by_case, differs_back, has_one, number_is, same_number, same_request}
 use Rattle.plain_laws.specs.Owing.{due_if, owed_times, pauses_for}
 use Rattle.plain_laws.specs.Regular.{IsLiveFlow, IsRising}
-use Rattle.std.proofs.Common.{ap, arith, refl, subst, sym, ◌∙◌}
-use Rattle.std.proofs.lemmas.List.Sums.{sum_by-append, sum_by-cons}
+use Rattle.std.proofs.Common.{ap, arith, refl, subst, ◌∙◌}
+use Rattle.std.proofs.lemmas.List.Sums.{sum_by-cons}
 use Rattle.std.specs.List.{AllByRecursion}
-use Rattle.std.specs.Prelude.{Bool, List, [], drop, false, filter, if◌then◌else◌, map, not, suc, true, zero, ℕ, ◌&&◌, ◌++◌, ◌+◌, ◌==◌, ◌||◌, ◌∷◌, ◌≡◌}
+use Rattle.std.specs.Prelude.{Bool, List, [], drop, false, map, suc, true, zero, ℕ, ◌&&◌, ◌+◌, ◌==◌, ◌||◌, ◌∷◌, ◌≡◌}
 use Rattle.tape_laws.specs.Dispatches.{has}
 use Rattle.tape_laws.specs.Flows.{request, same_flow}
 use Rattle.tape_laws.specs.Pauses.{Owed}
 
 pub told_cons : (x : ℕ) (f : FlowId) (fs : List FlowId) → told_of x (f ∷ fs) ≡ one_if (same_flow (request x) f) + told_of x fs
 told_cons x f fs = sum_by-cons (λ (g : FlowId). one_if (same_flow (request x) g)) f fs
-
-pub told_append : (x : ℕ) (fs gs : List FlowId) → told_of x (fs ++ gs) ≡ told_of x fs + told_of x gs
-told_append x fs gs = sum_by-append (λ (g : FlowId). one_if (same_flow (request x) g)) fs gs
 
 pub one_other : (x y : ℕ) → (x == y) ≡ false → one_if (same_flow (request y) (request x)) ≡ 0
 one_other x y e = cc (differs_back x y e)
@@ -34,17 +31,6 @@ told_own x fs = cc (told_cons x (request x) fs, one_own x)
 pub told_other : (x y : ℕ) (fs : List FlowId) → (x == y) ≡ false → told_of y (request x ∷ fs) ≡ told_of y fs
 told_other x y fs e = cc (told_cons y (request x) fs, one_other x y e, zero-add (told_of y fs))
 
--- a stream that isn't live stands among no live flows
-pub told_absent : (x : ℕ) (xs : List ℕ) (fs : List FlowId) → AllByRecursion (IsLiveFlow xs) fs → has xs x ≡ false → told_of x fs ≡ 0
-told_absent x xs [] a e = refl
-told_absent x xs (f ∷ fs) a e =
-    let i = a.0 in
-    let away : (f.exchange == x) ≡ false = by_case (f.exchange == x) (λ t. not_both (has xs x) (rw (← number_is f.exchange x t) i.live) e) (λ d. d) in
-    told_cons x f fs ∙ both _ _ (cc (one_other f.exchange x away)) (told_absent x xs fs a.1 e)
-  where
-    both : (a b : ℕ) → a ≡ 0 → b ≡ 0 → a + b ≡ 0
-    both a b e f = omega arith
-
 -- each stream of a rising list stands once among the flows of all
 pub told_all : (xs : List ℕ) (x : ℕ) → IsRising xs → told_of x (map request xs) ≡ one_if (has xs x)
 told_all [] x r = refl
@@ -56,23 +42,6 @@ told_all (y ∷ ys) x r = by_case (y == x) (λ t. own (number_is y x t) (told_al
     own : y ≡ x → told_of y (map request ys) ≡ one_if (has ys y) → told_of x (map request (y ∷ ys)) ≡ one_if (has (y ∷ ys) x)
     own e later =
         subst (λ (v : ℕ). told_of v (map request (y ∷ ys)) ≡ one_if (has (y ∷ ys) v)) e (told_own y (map request ys) ∙ more _ (cc (rising_apart y ys r.0)) ∙ (cc (same_number y)))
-
--- without another stream
-pub told_without : (x y : ℕ) (fs : List FlowId) → (x == y) ≡ false → told_of y (filter (λ (f : FlowId). not (f.exchange == x)) fs) ≡ told_of y fs
-told_without x y [] e = refl
-told_without x y (f ∷ fs) e = pick (f.exchange == x) refl (told_without x y fs e)
-  where
-    none : (m n : ℕ) → m ≡ 0 → m + n ≡ n
-    none m n e = omega (arith, e)
-
-    away : (f.exchange == x) ≡ true → one_if (same_flow (request y) f) ≡ 0
-    away t = cc (number_is f.exchange x t, differs_back x y e)
-
-    pick : (b : Bool) → (f.exchange == x) ≡ b → told_of y (filter (λ (g : FlowId). not (g.exchange == x)) fs) ≡ told_of y fs
-        → told_of y (if not b then f ∷ filter (λ (g : FlowId). not (g.exchange == x)) fs else filter (λ (g : FlowId). not (g.exchange == x)) fs) ≡ told_of y (f ∷ fs)
-    pick true t rest = rest ∙ sym (told_cons y f fs ∙ none _ _ (away t))
-    pick false t rest =
-        told_cons y f (filter (λ (g : FlowId). not (g.exchange == x)) fs) ∙ ap (λ n. one_if (same_flow (request y) f) + n) rest ∙ sym (told_cons y f fs)
 
 -- ---- the pauses
 

@@ -1,12 +1,11 @@
 -- A turn note, at rest: the event asks for what has to follow.
+use Rattle.plain_laws.proofs.Leaving.{flow_kept}
 use Rattle.flow_notes.specs.declared.events.PlainEvent.{PlainEvent}
-use Rattle.plain_laws.proofs.Counting.{flow_tally, one_if, told_of}
-use Rattle.plain_laws.proofs.Extending.{MayAdd, counted_of, free_meets, nothing_owed, regular_more}
-use Rattle.plain_laws.proofs.Flags.{send_same, write_same}
-use Rattle.plain_laws.proofs.Leaving.{Leaves, LeavesWords, flow_other, lows_kept, once_kept, only_other, only_own, room_kept, send_low_kept, unborn_kept}
+use Rattle.plain_laws.proofs.Extending.{MayAdd, free_meets, nothing_owed, regular_more}
+use Rattle.plain_laws.proofs.Leaving.{Leaves, LeavesWords, lows_kept, once_kept, only_other, only_own, room_kept, send_low_kept, unborn_kept}
 use Rattle.plain_laws.proofs.Streams.{apart_from, by_case, not_both, number_is, same_number}
 use Rattle.plain_laws.proofs.Unended.{rests_unframed}
-use Rattle.plain_laws.specs.Owing.{Owing, arriving, asking, nothing, overrun, owed_times, starts}
+use Rattle.plain_laws.specs.Owing.{Owing, arriving, asking, nothing, overrun, starts}
 use Rattle.plain_laws.specs.Regular.{Books, FlowBooks, IsLiveFlow, IsUnborn, Regular, Rests}
 use Rattle.std.proofs.lemmas.Bool.{lt-ltb}
 use Rattle.std.proofs.Common.{ap, arith, refl, subst, sym, ◌∙◌}
@@ -19,12 +18,11 @@ use Rattle.tape_laws.specs.Dispatches.{events_back, has, live, started, turns}
 use Rattle.tape_laws.specs.Flows.{request}
 use Rattle.tape_laws.specs.Following.{begun}
 use Rattle.tape_laws.specs.History.{NoMark, Step}
-use Rattle.tape_laws.specs.Plain.{paired_with, plain_body, plain_ended, plain_setup}
+use Rattle.tape_laws.specs.Plain.{plain_body, plain_setup}
 use Rattle.tape_laws.specs.PlainSession.{ask_if, plain_demand}
 use Rattle.tape_laws.specs.Units.{Demand, WantsArrive, WantsDoom, WantsOut, WantsStart}
 use Rattle.tape_laws.specs.World.{received, recv}
 use Rattle.tape_laws.specs.declared.limits.PlainLimits.{PlainLimits}
-use Rattle.flow_gate.specs.declared.ids.BufferId.TheVariants as buffer
 use Rattle.flow_notes.specs.declared.events.Event.TheVariants as event
 use Rattle.flow_notes.specs.declared.events.PlainEvent.TheVariants as plain
 use Rattle.flow_notes.specs.declared.notes.Cause.TheVariants as cause
@@ -54,8 +52,7 @@ module _ (limits : PlainLimits) where
   turn_flow : (o : Owing) (x k : ℕ) (e : PlainEvent) (h : Past) → Rests limits h → Alive h x
       → plain_body x (turn_of k e ∷ h) ≡ plain_body x h → o.due ≡ [] → o.extra x ≡ [] → FlowBooks limits o x (turn_of k e ∷ h)
   turn_flow o x k e h r is eb ed ex =
-      flow_other limits nothing o x (turn_of k e) h (turn_leaves x k e h eb) (r.regular.books.each x is) (same_out k e h)
-      (cc) (cc) ex (rests_unframed limits x h r.quiet is)
+      flow_kept limits nothing o x (turn_of k e) h (turn_leaves x k e h eb) (r.regular.books.each x is) ex (rests_unframed limits x h r.quiet is)
 
   -- a turn may stand at rest
   turn_may : (k : ℕ) (e : PlainEvent) (h : Past) → Rests limits h → k ≡ turns h + 1 → MayAdd limits (note.Turn k (event.Plain e)) h
@@ -64,7 +61,6 @@ module _ (limits : PlainLimits) where
       record {
         allowed = ek;
         paused = s.due;
-        counted = counted_of limits nothing h s refl;
         ends = tt;
         in_turn = tt;
         doomed = r.quiet.gone;
@@ -187,9 +183,6 @@ body_own limits o k s octets h r is ed ex =
     let ends_not = rests_unframed limits s h r.quiet is in
     let lows_same = refl in
     record {
-      tally = flow_tally limits [] o.due s step h
-          (same _ _ _ _ _ _ _ _ _ _ _ _ (cc) (ap one_if (send_same limits (request s) step h refl)) (ap one_if (write_same limits step h (same_out limits k (plain.Body s octets) h)))
-          (cc) (cc)) f.tally;
       send_low = send_low_kept limits s step h refl lows_same f.send_low;
       recv_room = f.recv_room;
       send_room = f.send_room;
@@ -198,10 +191,6 @@ body_own limits o k s octets h r is ed ex =
       over = λ t. not_both (end_out limits s h) t ends_not;
       unframed = ends_not;
     }
-  where
-    same : (p r o a w s m o' a' w' s' m' : ℕ) → o' ≡ o → a' ≡ a → w' ≡ w → s' ≡ s → m' ≡ m
-        → (p + o') + (r + ((a + w) + (s + m))) ≡ (p + o) + (r + ((a' + w') + (s' + m')))
-    same p r o a w s m o' a' w' s' m' eo ea ew es em = omega arith
 
 -- octets of a stream that began
 body_regular : (limits : PlainLimits) (o : Owing) (k s : ℕ) (octets : List ℕ) (h : Past) → Rests limits h → k ≡ turns h + 1

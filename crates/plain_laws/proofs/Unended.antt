@@ -5,8 +5,7 @@ use Rattle.std.proofs.lemmas.Bool.{or_from}
 use Rattle.std.proofs.Math.Bool.{and-false}
 use Rattle.flow_gate.specs.declared.ids.FlowId.{FlowId}
 use Rattle.plain_laws.proofs.Streams.{all_at}
-use Rattle.std.proofs.Common.{ap, arith, refl, ◌∙◌}
-use Rattle.std.proofs.lemmas.Bool.Decides.{nat_tests}
+use Rattle.std.proofs.Common.{refl}
 use Rattle.std.specs.Prelude.{Bool, List, [], false, if◌then◌else◌, true, ℕ, ◌&&◌, ◌==◌, ◌||◌, ◌∷◌, ◌≡◌}
 use Rattle.plain_laws.specs.Words.{Past, Alive, end_out}
 use Rattle.tape_laws.specs.Dispatches.{has, live}

@@ -6,7 +6,7 @@ use Rattle.plain_laws.proofs.Streams.{by_case, differs_back, number_is, same_num
 use Rattle.plain_laws.specs.Regular.{IsRising}
 use Rattle.std.proofs.Common.{ap, refl, subst, ◌∙◌}
 use Rattle.std.specs.List.{list_any}
-use Rattle.std.specs.Prelude.{Bool, List, [], false, filter, flat_map, if◌then◌else◌, map, true, ℕ, ◌&&◌, ◌==◌, ◌||◌, ◌∷◌, ◌≡◌}
+use Rattle.std.specs.Prelude.{List, [], false, filter, flat_map, if◌then◌else◌, map, true, ℕ, ◌&&◌, ◌==◌, ◌||◌, ◌∷◌, ◌≡◌}
 use Rattle.plain_laws.specs.Words.{Past, Alive}
 use Rattle.tape_laws.specs.Dispatches.{has, live}
 use Rattle.tape_laws.specs.Flows.{request, same_buffer}
