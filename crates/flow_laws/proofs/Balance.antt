@@ -330,61 +330,18 @@ module _ {Mark : Type 0} (setup : Setup Mark) (ways : HasWays setup) (f : FlowId
   keeps (Noted (note.Pause g b)) h r o s a p c u q = pause_keeps g b h r o s a p c u q
   keeps (Noted (note.Resume g b)) h r o s a p c u q = resume_keeps g b h r o s a p c u q
   keeps (Noted (note.Start x c s d)) h r o sp a p cl u q = start_keeps x c s d h r o sp a p cl u q
-  keeps (Noted (note.Turn k e)) h r o' s' a p c' u q = balance_kept (Noted (note.Turn k e)) h r o' s' a p c' p refl refl refl (no_sum (source_buffers setup f h)) q
-  keeps (Noted (note.Arrive g octets)) h r o' s' a p c' u q = balance_kept (Noted (note.Arrive g octets)) h r o' s' a p c' p refl refl refl (no_sum (source_buffers setup f h)) q
-  keeps (Noted (note.Move g q1 n)) h r o' s' a p c' u q = balance_kept (Noted (note.Move g q1 n)) h r o' s' a p c' p refl refl refl (no_sum (source_buffers setup f h)) q
-  keeps (Noted (note.Frame c1 g n last)) h r o' s' a p c' u q = balance_kept (Noted (note.Frame c1 g n last)) h r o' s' a p c' p refl refl refl (no_sum (source_buffers setup f h)) q
-  keeps (Noted (note.Out c1 n)) h r o' s' a p c' u q = balance_kept (Noted (note.Out c1 n)) h r o' s' a p c' p refl refl refl (no_sum (source_buffers setup f h)) q
-  keeps (Noted (note.Credit c1 s1 n)) h r o' s' a p c' u q = balance_kept (Noted (note.Credit c1 s1 n)) h r o' s' a p c' p refl refl refl (no_sum (source_buffers setup f h)) q
-  keeps (Noted (note.Head c1 s1 octets)) h r o' s' a p c' u q = balance_kept (Noted (note.Head c1 s1 octets)) h r o' s' a p c' p refl refl refl (no_sum (source_buffers setup f h)) q
-  keeps (Noted (note.Answer c1 octets)) h r o' s' a p c' u q = balance_kept (Noted (note.Answer c1 octets)) h r o' s' a p c' p refl refl refl (no_sum (source_buffers setup f h)) q
-  keeps (Noted (note.Waste c1 s1 n)) h r o' s' a p c' u q = balance_kept (Noted (note.Waste c1 s1 n)) h r o' s' a p c' p refl refl refl (no_sum (source_buffers setup f h)) q
-  keeps (Noted (note.Doom x why)) h r o' s' a p c' u q = balance_kept (Noted (note.Doom x why)) h r o' s' a p c' p refl refl refl (no_sum (source_buffers setup f h)) q
-  keeps (Noted (note.Gone x)) h r o' s' a p c' u q = balance_kept (Noted (note.Gone x)) h r o' s' a p c' p refl refl refl (no_sum (source_buffers setup f h)) q
-  keeps (Noted (note.Close c1 code why)) h r o' s' a p c' u q = balance_kept (Noted (note.Close c1 code why)) h r o' s' a p c' p refl refl refl (no_sum (source_buffers setup f h)) q
-  keeps (Noted (note.Fire k i)) h r o' s' a p c' u q = balance_kept (Noted (note.Fire k i)) h r o' s' a p c' p refl refl refl (no_sum (source_buffers setup f h)) q
-  keeps (Marked m) h r o' s' a p c' u q = balance_kept (Marked m) h r o' s' a p c' p refl refl refl (no_sum (source_buffers setup f h)) q
+  keeps step h r o' s' a p c' u q = balance_kept step h r o' s' a p c' p refl refl refl (no_sum (source_buffers setup f h)) q
 
   dead_before : (step : Step Mark) (h : History Mark) → LeavesDoomed step h → Lives h → starts f step ≡ true
       → (has (started h) f.exchange ≡ false) × (has (live h) f.exchange ≡ false)
   dead_before (Noted (note.Start x c s d)) h l r t =
       let new : has (started h) f.exchange ≡ false = subst (λ v. has (started h) v ≡ false) (number_is x f.exchange t) l in (new, r.born f.exchange new)
-  dead_before (Noted (note.Turn k e)) h l r t = cc
-  dead_before (Noted (note.Arrive g octets)) h l r t = cc
-  dead_before (Noted (note.Move g q n)) h l r t = cc
-  dead_before (Noted (note.Frame c g n last)) h l r t = cc
-  dead_before (Noted (note.Out c n)) h l r t = cc
-  dead_before (Noted (note.Pause g b)) h l r t = cc
-  dead_before (Noted (note.Resume g b)) h l r t = cc
-  dead_before (Noted (note.Credit c s n)) h l r t = cc
-  dead_before (Noted (note.Head c s octets)) h l r t = cc
-  dead_before (Noted (note.Answer c octets)) h l r t = cc
-  dead_before (Noted (note.Waste c s n)) h l r t = cc
-  dead_before (Noted (note.Doom x why)) h l r t = cc
-  dead_before (Noted (note.Gone x)) h l r t = cc
-  dead_before (Noted (note.Close c code why)) h l r t = cc
-  dead_before (Noted (note.Fire k i)) h l r t = cc
-  dead_before (Marked m) h l r t = cc
+  dead_before step h l r t = cc
 
   started_own : (step : Step Mark) (h : History Mark) → starts f step ≡ true → IsUnborn setup f h → is_of setup ways f ≡ true → has (live h) f.exchange ≡ false → Untold h
       → IsBalanced setup f (step ∷ h)
   started_own (Noted (note.Start x c s d)) h t n i dead u = start_own x c s d h t n i dead u
-  started_own (Noted (note.Turn k e)) h t n i' dead u = cc
-  started_own (Noted (note.Arrive g octets)) h t n i' dead u = cc
-  started_own (Noted (note.Move g q n1)) h t n i' dead u = cc
-  started_own (Noted (note.Frame c g n1 last)) h t n i' dead u = cc
-  started_own (Noted (note.Out c n1)) h t n i' dead u = cc
-  started_own (Noted (note.Pause g b)) h t n i' dead u = cc
-  started_own (Noted (note.Resume g b)) h t n i' dead u = cc
-  started_own (Noted (note.Credit c s n1)) h t n i' dead u = cc
-  started_own (Noted (note.Head c s octets)) h t n i' dead u = cc
-  started_own (Noted (note.Answer c octets)) h t n i' dead u = cc
-  started_own (Noted (note.Waste c s n1)) h t n i' dead u = cc
-  started_own (Noted (note.Doom x why)) h t n i' dead u = cc
-  started_own (Noted (note.Gone x)) h t n i' dead u = cc
-  started_own (Noted (note.Close c code why)) h t n i' dead u = cc
-  started_own (Noted (note.Fire k i1)) h t n i' dead u = cc
-  started_own (Marked m) h t n i' dead u = cc
+  started_own step h t n i' dead u = cc
 
   pub balance : (h : History Mark) → EachFollows (PausesInOrder setup) h → EachFollows LeavesDoomed h → EachFollows (BeforeTurn (LeavesClosed setup)) h
       → is_live setup f h ≡ true → IsBalanced setup f h

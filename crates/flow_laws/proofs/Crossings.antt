@@ -29,41 +29,11 @@ use Rattle.flow_notes.specs.declared.notes.Note.TheVariants as note
 -- what holds before a turn
 pub before_turn : {Mark : Type 0} (P Q : History Mark → Type 0) (step : Step Mark) (h : History Mark) → (P h → Q h) → BeforeTurn P step h → BeforeTurn Q step h
 before_turn P Q (Noted (note.Turn k e)) h f b = f b
-before_turn P Q (Noted (note.Arrive g octets)) h f b = tt
-before_turn P Q (Noted (note.Move g q n)) h f b = tt
-before_turn P Q (Noted (note.Frame c g n last)) h f b = tt
-before_turn P Q (Noted (note.Out c n)) h f b = tt
-before_turn P Q (Noted (note.Pause g b1)) h f b = tt
-before_turn P Q (Noted (note.Resume g b1)) h f b = tt
-before_turn P Q (Noted (note.Credit c s n)) h f b = tt
-before_turn P Q (Noted (note.Head c s octets)) h f b = tt
-before_turn P Q (Noted (note.Answer c octets)) h f b = tt
-before_turn P Q (Noted (note.Waste c s n)) h f b = tt
-before_turn P Q (Noted (note.Start x c s d)) h f b = tt
-before_turn P Q (Noted (note.Doom x why)) h f b = tt
-before_turn P Q (Noted (note.Gone x)) h f b = tt
-before_turn P Q (Noted (note.Close c code why)) h f b = tt
-before_turn P Q (Noted (note.Fire k i)) h f b = tt
-before_turn P Q (Marked m) h f b = tt
+before_turn P Q step h f b = tt
 
 pub at_turn : {Mark : Type 0} (P : History Mark → Type 0) (step : Step Mark) (h : History Mark) → P h → BeforeTurn P step h
 at_turn P (Noted (note.Turn k e)) h p = p
-at_turn P (Noted (note.Arrive g octets)) h p1 = tt
-at_turn P (Noted (note.Move g q n)) h p1 = tt
-at_turn P (Noted (note.Frame c g n last)) h p1 = tt
-at_turn P (Noted (note.Out c n)) h p1 = tt
-at_turn P (Noted (note.Pause g b)) h p1 = tt
-at_turn P (Noted (note.Resume g b)) h p1 = tt
-at_turn P (Noted (note.Credit c s n)) h p1 = tt
-at_turn P (Noted (note.Head c s octets)) h p1 = tt
-at_turn P (Noted (note.Answer c octets)) h p1 = tt
-at_turn P (Noted (note.Waste c s n)) h p1 = tt
-at_turn P (Noted (note.Start x c s d)) h p1 = tt
-at_turn P (Noted (note.Doom x why)) h p1 = tt
-at_turn P (Noted (note.Gone x)) h p1 = tt
-at_turn P (Noted (note.Close c code why)) h p1 = tt
-at_turn P (Noted (note.Fire k i)) h p1 = tt
-at_turn P (Marked m) h p1 = tt
+at_turn P step h p1 = tt
 
 some_of : (P : ℕ → Type 0) (o : Option ℕ) (c : ℕ) → o ≡ Some c → IfSome o P → P c
 some_of P None c e i = cc

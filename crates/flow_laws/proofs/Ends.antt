@@ -109,21 +109,7 @@ module _ {Mark : Type 0} (setup : Setup Mark) (f : FlowId) where
   times_step (Noted (note.Frame c g n last)) h k t i = count_if (same_flow g f && last) (end_framed setup f h) (times_ended setup f h) i
       (λ b. subst (λ v. end_framed setup v h ≡ false) (flow_is g f (both (same_flow g f) last b).0) k.once)
   times_step (Marked m) h k t i = count_if (picks_end (setup.picks m) h) (end_framed setup f h) (times_ended setup f h) i (λ b. ending_once h (mark_ending (setup.picks m) h k t b))
-  times_step (Noted (note.Turn k e)) h k2 t2 i2 = i2
-  times_step (Noted (note.Arrive g octets)) h k2 t2 i2 = i2
-  times_step (Noted (note.Move g q n)) h k2 t2 i2 = i2
-  times_step (Noted (note.Out c n)) h k2 t2 i2 = i2
-  times_step (Noted (note.Pause g b)) h k2 t2 i2 = i2
-  times_step (Noted (note.Resume g b)) h k2 t2 i2 = i2
-  times_step (Noted (note.Credit c s n)) h k2 t2 i2 = i2
-  times_step (Noted (note.Head c s octets)) h k2 t2 i2 = i2
-  times_step (Noted (note.Answer c octets)) h k2 t2 i2 = i2
-  times_step (Noted (note.Waste c s n)) h k2 t2 i2 = i2
-  times_step (Noted (note.Start x c s d)) h k2 t2 i2 = i2
-  times_step (Noted (note.Doom x why)) h k2 t2 i2 = i2
-  times_step (Noted (note.Gone x)) h k2 t2 i2 = i2
-  times_step (Noted (note.Close c code why)) h k2 t2 i2 = i2
-  times_step (Noted (note.Fire k i)) h k2 t2 i2 = i2
+  times_step step h k2 t2 i2 = i2
 
   times : (h : History Mark) → EachFollows (KeepsEnds setup) h → EachFollows (EndsInTime setup) h → times_ended setup f h ≡ one_if (end_framed setup f h)
   times [] k t = refl
@@ -234,21 +220,7 @@ module _ {Mark : Type 0} (setup : Setup Mark) (f : FlowId) where
       or_true_left : (a b : Bool) → (a || b) ≡ true → b ≡ false → a ≡ true
       or_true_left true b i e = refl
       or_true_left false b i e = not_both b i e
-  first_left (Noted (note.Turn k e)) h k2 t2 l2 e2 now p le = not_both (end_framed setup f h) now e2
-  first_left (Noted (note.Arrive g octets)) h k2 t2 l2 e2 now p le = not_both (end_framed setup f h) now e2
-  first_left (Noted (note.Move g q n)) h k2 t2 l2 e2 now p le = not_both (end_framed setup f h) now e2
-  first_left (Noted (note.Out c n)) h k2 t2 l2 e2 now p le = not_both (end_framed setup f h) now e2
-  first_left (Noted (note.Pause g b)) h k2 t2 l2 e2 now p le = not_both (end_framed setup f h) now e2
-  first_left (Noted (note.Resume g b)) h k2 t2 l2 e2 now p le = not_both (end_framed setup f h) now e2
-  first_left (Noted (note.Credit c s n)) h k2 t2 l2 e2 now p le = not_both (end_framed setup f h) now e2
-  first_left (Noted (note.Head c s octets)) h k2 t2 l2 e2 now p le = not_both (end_framed setup f h) now e2
-  first_left (Noted (note.Answer c octets)) h k2 t2 l2 e2 now p le = not_both (end_framed setup f h) now e2
-  first_left (Noted (note.Waste c s n)) h k2 t2 l2 e2 now p le = not_both (end_framed setup f h) now e2
-  first_left (Noted (note.Start x c s d)) h k2 t2 l2 e2 now p le = not_both (end_framed setup f h) now e2
-  first_left (Noted (note.Doom x why)) h k2 t2 l2 e2 now p le = not_both (end_framed setup f h) now e2
-  first_left (Noted (note.Gone x)) h k2 t2 l2 e2 now p le = not_both (end_framed setup f h) now e2
-  first_left (Noted (note.Close c code why)) h k2 t2 l2 e2 now p le = not_both (end_framed setup f h) now e2
-  first_left (Noted (note.Fire k i)) h k2 t2 l2 e2 now p le = not_both (end_framed setup f h) now e2
+  first_left step h k2 t2 l2 e2 now p le = not_both (end_framed setup f h) now e2
 
 module _ {Mark : Type 0} (setup : Setup Mark) (ways : HasWays setup) (f : FlowId) where
   pub record MayEnd (step : Step Mark) (h : History Mark) : Type 0 where
@@ -265,22 +237,7 @@ module _ {Mark : Type 0} (setup : Setup Mark) (ways : HasWays setup) (f : FlowId
 
   over_own : (step : Step Mark) (h : History Mark) → starts f step ≡ true → IsUnborn setup f h → Over (step ∷ h)
   over_own (Noted (note.Start x c s d)) h t u = (loses_own setup ways f (Noted (note.Start x c s d)) h t u, (λ e p le. u.empty p))
-  over_own (Noted (note.Turn k e)) h t2 u2 = cc
-  over_own (Noted (note.Arrive g octets)) h t2 u2 = cc
-  over_own (Noted (note.Move g q n)) h t2 u2 = cc
-  over_own (Noted (note.Frame c g n last)) h t2 u2 = cc
-  over_own (Noted (note.Out c n)) h t2 u2 = cc
-  over_own (Noted (note.Pause g b)) h t2 u2 = cc
-  over_own (Noted (note.Resume g b)) h t2 u2 = cc
-  over_own (Noted (note.Credit c s n)) h t2 u2 = cc
-  over_own (Noted (note.Head c s octets)) h t2 u2 = cc
-  over_own (Noted (note.Answer c octets)) h t2 u2 = cc
-  over_own (Noted (note.Waste c s n)) h t2 u2 = cc
-  over_own (Noted (note.Doom x why)) h t2 u2 = cc
-  over_own (Noted (note.Gone x)) h t2 u2 = cc
-  over_own (Noted (note.Close c code why)) h t2 u2 = cc
-  over_own (Noted (note.Fire k i)) h t2 u2 = cc
-  over_own (Marked m) h t2 u2 = cc
+  over_own step h t2 u2 = cc
 
   over_kept : (step : Step Mark) (h : History Mark) → starts f step ≡ false → spares f step ≡ true → is_live setup f h ≡ true → MayEnd step h → Over h → Over (step ∷ h)
   over_kept step h o s a m v = (loses_kept setup ways f step h o s a m.stands v.0, λ e p le. left e p (subst (λ (ss : List StageKind). p ≤ length ss + 1) (ways.stages f step h o) le))

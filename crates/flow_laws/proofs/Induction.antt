@@ -16,22 +16,7 @@ use Rattle.flow_notes.specs.declared.notes.Note.TheVariants as note
 module _ {Mark : Type 0} (setup : Setup Mark) (ways : HasWays setup) (f : FlowId) where
   pub new_then : (step : Step Mark) (h : History Mark) → LeavesDoomed step h → starts f step ≡ true → has (started h) f.exchange ≡ false
   new_then (Noted (note.Start x c s d)) h l t = subst (λ v. has (started h) v ≡ false) (number_is x f.exchange t) l
-  new_then (Noted (note.Turn k e)) h l t = cc
-  new_then (Noted (note.Arrive g octets)) h l t = cc
-  new_then (Noted (note.Move g q n)) h l t = cc
-  new_then (Noted (note.Frame c g n last)) h l t = cc
-  new_then (Noted (note.Out c n)) h l t = cc
-  new_then (Noted (note.Pause g b)) h l t = cc
-  new_then (Noted (note.Resume g b)) h l t = cc
-  new_then (Noted (note.Credit c s n)) h l t = cc
-  new_then (Noted (note.Head c s octets)) h l t = cc
-  new_then (Noted (note.Answer c octets)) h l t = cc
-  new_then (Noted (note.Waste c s n)) h l t = cc
-  new_then (Noted (note.Doom x why)) h l t = cc
-  new_then (Noted (note.Gone x)) h l t = cc
-  new_then (Noted (note.Close c code why)) h l t = cc
-  new_then (Noted (note.Fire k i)) h l t = cc
-  new_then (Marked m) h l t = cc
+  new_then step h l t = cc
 
   two : (a b : Bool) → a ≡ true → b ≡ true → (a && b) ≡ true
   two true b e i = i

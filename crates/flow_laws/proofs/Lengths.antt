@@ -69,19 +69,7 @@ module _ {Mark : Type 0} (setup : Setup Mark) (f : FlowId) (p : ℕ) where
       at : (b : Bool) → length (if b then [] else place setup f p h) ≤ held h
       at true = omega arith
       at false = same_len (held h)
-  feeding (Noted (note.Turn k e)) h = NotFed (same_len (held h))
-  feeding (Noted (note.Out c n)) h = NotFed (same_len (held h))
-  feeding (Noted (note.Pause g b)) h = NotFed (same_len (held h))
-  feeding (Noted (note.Resume g b)) h = NotFed (same_len (held h))
-  feeding (Noted (note.Credit c s n)) h = NotFed (same_len (held h))
-  feeding (Noted (note.Head c s octets)) h = NotFed (same_len (held h))
-  feeding (Noted (note.Answer c octets)) h = NotFed (same_len (held h))
-  feeding (Noted (note.Waste c s n)) h = NotFed (same_len (held h))
-  feeding (Noted (note.Start x c s d)) h = NotFed (same_len (held h))
-  feeding (Noted (note.Gone x)) h = NotFed (same_len (held h))
-  feeding (Noted (note.Close c code why)) h = NotFed (same_len (held h))
-  feeding (Noted (note.Fire k i)) h = NotFed (same_len (held h))
-  feeding (Marked m) h = NotFed (same_len (held h))
+  feeding step h = NotFed (same_len (held h))
 
   pub easing : (step : Step Mark) (h : History Mark) → Easing setup f p step h
   easing (Noted (note.Arrive g octets)) h = NotEased (added (place setup f p h) (if same_flow g f && (p == 0) then octets else []))
@@ -103,19 +91,7 @@ module _ {Mark : Type 0} (setup : Setup Mark) (f : FlowId) (p : ℕ) where
       at : (b : Bool) → (f.exchange == x) ≡ b → Easing setup f p (Noted (note.Doom x why)) h
       at true e = Doomed why (ap (λ (v : ℕ). Noted (note.Doom v why)) (sym (number_is f.exchange x e)))
       at false e = NotEased (rw e (same_len (held h)))
-  easing (Noted (note.Turn k e)) h = NotEased (same_len (held h))
-  easing (Noted (note.Out c n)) h = NotEased (same_len (held h))
-  easing (Noted (note.Pause g b)) h = NotEased (same_len (held h))
-  easing (Noted (note.Resume g b)) h = NotEased (same_len (held h))
-  easing (Noted (note.Credit c s n)) h = NotEased (same_len (held h))
-  easing (Noted (note.Head c s octets)) h = NotEased (same_len (held h))
-  easing (Noted (note.Answer c octets)) h = NotEased (same_len (held h))
-  easing (Noted (note.Waste c s n)) h = NotEased (same_len (held h))
-  easing (Noted (note.Start x c s d)) h = NotEased (same_len (held h))
-  easing (Noted (note.Gone x)) h = NotEased (same_len (held h))
-  easing (Noted (note.Close c code why)) h = NotEased (same_len (held h))
-  easing (Noted (note.Fire k i)) h = NotEased (same_len (held h))
-  easing (Marked m) h = NotEased (same_len (held h))
+  easing step h = NotEased (same_len (held h))
 
 -- ---- the write buffer of a connection
 module _ {Mark : Type 0} (setup : Setup Mark) (c : ℕ) where
@@ -138,22 +114,11 @@ module _ {Mark : Type 0} (setup : Setup Mark) (c : ℕ) where
 
   pub turn_fed : (k : ℕ) (e : Event) (h : History Mark) → kept (Noted (note.Turn k e) ∷ h) ≤ kept h
   turn_fed k (event.Gone d) h = less_if ((d == c) && was_closed c h) (out setup c h)
-  turn_fed k (event.Accept d) h = same_len (kept h)
-  turn_fed k (event.Join d e) h = same_len (kept h)
-  turn_fed k (event.Read d octets) h = same_len (kept h)
-  turn_fed k (event.Room d n) h = same_len (kept h)
-  turn_fed k (event.Tick now) h = same_len (kept h)
-  turn_fed k (event.Post p n j) h = same_len (kept h)
-  turn_fed k (event.Obey v ps) h = same_len (kept h)
-  turn_fed k (event.Plain e) h = same_len (kept h)
+  turn_fed k e h = same_len (kept h)
 
   pub close_fed : (d code : ℕ) (why : CloseCause) (h : History Mark) → kept (Noted (note.Close d code why) ∷ h) ≤ kept h
   close_fed d code closed.Lost h = less_if (d == c) (out setup c h)
-  close_fed d code closed.Protocol h = same_len (kept h)
-  close_fed d code closed.Drained h = same_len (kept h)
-  close_fed d code closed.Idle h = same_len (kept h)
-  close_fed d code closed.Overload h = same_len (kept h)
-  close_fed d code closed.Flood h = same_len (kept h)
+  close_fed d code e h = same_len (kept h)
 
   pub out_fed : (step : Step Mark) (h : History Mark) → OutFed step h
   out_fed (Noted (note.Frame d f n last)) h = adds d (data_frame setup f n last h) h
@@ -163,16 +128,7 @@ module _ {Mark : Type 0} (setup : Setup Mark) (c : ℕ) where
   out_fed (Noted (note.Out d n)) h = inr (dropped (if d == c then n else 0) (out setup c h))
   out_fed (Noted (note.Turn k e)) h = inr (turn_fed k e h)
   out_fed (Noted (note.Close d code why)) h = inr (close_fed d code why h)
-  out_fed (Noted (note.Arrive g octets)) h = inr (same_len (kept h))
-  out_fed (Noted (note.Move g q n)) h = inr (same_len (kept h))
-  out_fed (Noted (note.Pause g b)) h = inr (same_len (kept h))
-  out_fed (Noted (note.Resume g b)) h = inr (same_len (kept h))
-  out_fed (Noted (note.Waste c s n)) h = inr (same_len (kept h))
-  out_fed (Noted (note.Start x c s d)) h = inr (same_len (kept h))
-  out_fed (Noted (note.Doom x why)) h = inr (same_len (kept h))
-  out_fed (Noted (note.Gone x)) h = inr (same_len (kept h))
-  out_fed (Noted (note.Fire k i)) h = inr (same_len (kept h))
-  out_fed (Marked m) h = inr (same_len (kept h))
+  out_fed step h = inr (same_len (kept h))
 
   abbrev OutEased : Step Mark → History Mark → Type 0
   OutEased step h = (eased_by setup step h ≡ Some (buffer.Write c)) ⊎ (kept h ≤ kept (step ∷ h))
@@ -183,14 +139,7 @@ module _ {Mark : Type 0} (setup : Setup Mark) (c : ℕ) where
       at : (b : Bool) → kept h ≤ length (if b && false then [] else out setup c h)
       at true = same_len (kept h)
       at false = same_len (kept h)
-  turn_eased k (event.Accept d) h o = same_len (kept h)
-  turn_eased k (event.Join d e) h o = same_len (kept h)
-  turn_eased k (event.Read d octets) h o = same_len (kept h)
-  turn_eased k (event.Room d n) h o = same_len (kept h)
-  turn_eased k (event.Tick now) h o = same_len (kept h)
-  turn_eased k (event.Post p n j) h o = same_len (kept h)
-  turn_eased k (event.Obey v ps) h o = same_len (kept h)
-  turn_eased k (event.Plain e) h o = same_len (kept h)
+  turn_eased k e h o = same_len (kept h)
 
   close_eased : (d code : ℕ) (why : CloseCause) (h : History Mark) → OutEased (Noted (note.Close d code why)) h
   close_eased d code closed.Lost h = at (d == c) refl
@@ -198,11 +147,7 @@ module _ {Mark : Type 0} (setup : Setup Mark) (c : ℕ) where
       at : (b : Bool) → (d == c) ≡ b → (Some (buffer.Write d) ≡ Some (buffer.Write c)) ⊎ (kept h ≤ length (if b then [] else out setup c h))
       at true e = inl (ap (λ (v : ℕ). Some (buffer.Write v)) (number_is d c e))
       at false e = inr (same_len (kept h))
-  close_eased d code closed.Protocol h = inr (same_len (kept h))
-  close_eased d code closed.Drained h = inr (same_len (kept h))
-  close_eased d code closed.Idle h = inr (same_len (kept h))
-  close_eased d code closed.Overload h = inr (same_len (kept h))
-  close_eased d code closed.Flood h = inr (same_len (kept h))
+  close_eased d code e h = inr (same_len (kept h))
 
   -- a closed connection's is dropped with the turn note that says that it is gone
   pub out_eased : (step : Step Mark) (h : History Mark) → BeforeTurn (λ past. was_closed c past ≡ false) step h → OutEased step h
@@ -217,13 +162,4 @@ module _ {Mark : Type 0} (setup : Setup Mark) (c : ℕ) where
       at false e = inr (undropped (out setup c h))
   out_eased (Noted (note.Turn k e)) h o = inr (turn_eased k e h o)
   out_eased (Noted (note.Close d code why)) h o = close_eased d code why h
-  out_eased (Noted (note.Arrive g octets)) h o = inr (same_len (kept h))
-  out_eased (Noted (note.Move g q n)) h o = inr (same_len (kept h))
-  out_eased (Noted (note.Pause g b)) h o = inr (same_len (kept h))
-  out_eased (Noted (note.Resume g b)) h o = inr (same_len (kept h))
-  out_eased (Noted (note.Waste c s n)) h o = inr (same_len (kept h))
-  out_eased (Noted (note.Start x c s d)) h o = inr (same_len (kept h))
-  out_eased (Noted (note.Doom x why)) h o = inr (same_len (kept h))
-  out_eased (Noted (note.Gone x)) h o = inr (same_len (kept h))
-  out_eased (Noted (note.Fire k i)) h o = inr (same_len (kept h))
-  out_eased (Marked m) h o = inr (same_len (kept h))
+  out_eased step h o = inr (same_len (kept h))

@@ -101,21 +101,7 @@ dies lives begun x r = record {
 lives_on : {Mark : Type 0} (step : Step Mark) (h : History Mark) → LeavesDoomed step h → Lives h → Lives (step ∷ h)
 lives_on (Noted (note.Start x c s d)) h l r = begins (live h) (started h) x r l
 lives_on (Noted (note.Doom x why)) h l r = dies (live h) (started h) x r
-lives_on (Noted (note.Turn k e)) h l r = r
-lives_on (Noted (note.Arrive g octets)) h l r = r
-lives_on (Noted (note.Move g q n)) h l r = r
-lives_on (Noted (note.Frame c g n last)) h l r = r
-lives_on (Noted (note.Out c n)) h l r = r
-lives_on (Noted (note.Pause g b)) h l r = r
-lives_on (Noted (note.Resume g b)) h l r = r
-lives_on (Noted (note.Credit c s n)) h l r = r
-lives_on (Noted (note.Head c s octets)) h l r = r
-lives_on (Noted (note.Answer c octets)) h l r = r
-lives_on (Noted (note.Waste c s n)) h l r = r
-lives_on (Noted (note.Gone x)) h l r = r
-lives_on (Noted (note.Close c code why)) h l r = r
-lives_on (Noted (note.Fire k i)) h l r = r
-lives_on (Marked m) h l r = r
+lives_on step h l r = r
 
 pub lives : {Mark : Type 0} (h : History Mark) → EachFollows LeavesDoomed h → Lives h
 lives [] l = record { once = tt; born = λ x e. refl }

@@ -74,19 +74,7 @@ module _ {Mark : Type 0} (setup : Setup Mark) (f : FlowId) where
       kept : (b : Bool) (xs : List ℕ) → not b ≡ true → (if b then [] else xs) ≡ xs
       kept true xs i = cc
       kept false xs i = refl
-  loses_step (Noted (note.Turn k e)) k1 h e1 s1 m1 l = loses_same (suc k1) (Noted (note.Turn k e)) h refl refl (same_lying setup f (Noted (note.Turn k e)) h (λ p. refl) (suc k1)) l
-  loses_step (Noted (note.Out c n)) k1 h e1 s1 m1 l = loses_same (suc k1) (Noted (note.Out c n)) h refl refl (same_lying setup f (Noted (note.Out c n)) h (λ p. refl) (suc k1)) l
-  loses_step (Noted (note.Pause g b)) k1 h e1 s1 m1 l = loses_same (suc k1) (Noted (note.Pause g b)) h refl refl (same_lying setup f (Noted (note.Pause g b)) h (λ p. refl) (suc k1)) l
-  loses_step (Noted (note.Resume g b)) k1 h e1 s1 m1 l = loses_same (suc k1) (Noted (note.Resume g b)) h refl refl (same_lying setup f (Noted (note.Resume g b)) h (λ p. refl) (suc k1)) l
-  loses_step (Noted (note.Credit c s n)) k1 h e1 s1 m1 l = loses_same (suc k1) (Noted (note.Credit c s n)) h refl refl (same_lying setup f (Noted (note.Credit c s n)) h (λ p. refl) (suc k1)) l
-  loses_step (Noted (note.Head c s octets)) k1 h e1 s1 m1 l = loses_same (suc k1) (Noted (note.Head c s octets)) h refl refl (same_lying setup f (Noted (note.Head c s octets)) h (λ p. refl) (suc k1)) l
-  loses_step (Noted (note.Answer c octets)) k1 h e1 s1 m1 l = loses_same (suc k1) (Noted (note.Answer c octets)) h refl refl (same_lying setup f (Noted (note.Answer c octets)) h (λ p. refl) (suc k1)) l
-  loses_step (Noted (note.Waste c s n)) k1 h e1 s1 m1 l = loses_same (suc k1) (Noted (note.Waste c s n)) h refl refl (same_lying setup f (Noted (note.Waste c s n)) h (λ p. refl) (suc k1)) l
-  loses_step (Noted (note.Start x c s d)) k1 h e1 s1 m1 l = loses_same (suc k1) (Noted (note.Start x c s d)) h refl refl (same_lying setup f (Noted (note.Start x c s d)) h (λ p. refl) (suc k1)) l
-  loses_step (Noted (note.Gone x)) k1 h e1 s1 m1 l = loses_same (suc k1) (Noted (note.Gone x)) h refl refl (same_lying setup f (Noted (note.Gone x)) h (λ p. refl) (suc k1)) l
-  loses_step (Noted (note.Close c code why)) k1 h e1 s1 m1 l = loses_same (suc k1) (Noted (note.Close c code why)) h refl refl (same_lying setup f (Noted (note.Close c code why)) h (λ p. refl) (suc k1)) l
-  loses_step (Noted (note.Fire k i)) k1 h e1 s1 m1 l = loses_same (suc k1) (Noted (note.Fire k i)) h refl refl (same_lying setup f (Noted (note.Fire k i)) h (λ p. refl) (suc k1)) l
-  loses_step (Marked m) k1 h e1 s1 m1 l = loses_same (suc k1) (Marked m) h refl refl (same_lying setup f (Marked m) h (λ p. refl) (suc k1)) l
+  loses_step step k1 h e1 s1 m1 l = loses_same (suc k1) step h refl refl (same_lying setup f step h (λ p. refl) (suc k1)) l
 
   next_is : (k : ℕ) → suc k ≡ k + 1
   next_is k = omega arith
@@ -99,22 +87,7 @@ module _ {Mark : Type 0} (setup : Setup Mark) (ways : HasWays setup) (f : FlowId
   own_empty : (step : Step Mark) (k : History Mark) → starts f step ≡ true → IsUnborn setup f k
       → (received f (step ∷ k) ≡ []) × (sent setup f (step ∷ k) ≡ []) × ((p : ℕ) → place setup f p (step ∷ k) ≡ [])
   own_empty (Noted (note.Start x c s d)) k t u = (u.unread, u.unsent, u.empty)
-  own_empty (Noted (note.Turn k1 e)) k' t u = cc
-  own_empty (Noted (note.Arrive g octets)) k' t u = cc
-  own_empty (Noted (note.Move g q n)) k' t u = cc
-  own_empty (Noted (note.Frame c g n last)) k' t u = cc
-  own_empty (Noted (note.Out c n)) k' t u = cc
-  own_empty (Noted (note.Pause g b)) k' t u = cc
-  own_empty (Noted (note.Resume g b)) k' t u = cc
-  own_empty (Noted (note.Credit c s n)) k' t u = cc
-  own_empty (Noted (note.Head c s octets)) k' t u = cc
-  own_empty (Noted (note.Answer c octets)) k' t u = cc
-  own_empty (Noted (note.Waste c s n)) k' t u = cc
-  own_empty (Noted (note.Doom x why)) k' t u = cc
-  own_empty (Noted (note.Gone x)) k' t u = cc
-  own_empty (Noted (note.Close c code why)) k' t u = cc
-  own_empty (Noted (note.Fire k1 i)) k' t u = cc
-  own_empty (Marked m) k' t u = cc
+  own_empty step k' t u = cc
 
   pub loses_own : (step : Step Mark) (k : History Mark) → starts f step ≡ true → IsUnborn setup f k → LosesNothing setup f (step ∷ k)
   loses_own step k t u =
@@ -158,21 +131,7 @@ module _ {Mark : Type 0} (setup : Setup Mark) (ways : HasWays setup) (f : FlowId
       (sym (loses_nothing setup ways f (Noted (note.Frame c g n last) ∷ h) m l (ap (λ v. is_live setup v h) (sym (flow_is g f t)) ∙ m.0.live)))
       (front_more (sent setup f (Noted (note.Frame c g n last) ∷ h)) (lying setup f (last_place setup f (Noted (note.Frame c g n last) ∷ h)) (Noted (note.Frame c g n last) ∷ h))))
       (λ d. subst (λ v. IsFront v (received f h)) (sym (rw d (append-nil (sent setup f h)))) r)
-  front_step (Noted (note.Turn k e)) h m1 l r = r
-  front_step (Noted (note.Move g q n)) h m1 l r = r
-  front_step (Noted (note.Out c n)) h m1 l r = r
-  front_step (Noted (note.Pause g b)) h m1 l r = r
-  front_step (Noted (note.Resume g b)) h m1 l r = r
-  front_step (Noted (note.Credit c s n)) h m1 l r = r
-  front_step (Noted (note.Head c s octets)) h m1 l r = r
-  front_step (Noted (note.Answer c octets)) h m1 l r = r
-  front_step (Noted (note.Waste c s n)) h m1 l r = r
-  front_step (Noted (note.Start x c s d)) h m1 l r = r
-  front_step (Noted (note.Doom x why)) h m1 l r = r
-  front_step (Noted (note.Gone x)) h m1 l r = r
-  front_step (Noted (note.Close c code why)) h m1 l r = r
-  front_step (Noted (note.Fire k i)) h m1 l r = r
-  front_step (Marked m) h m1 l r = r
+  front_step step h m1 l r = r
 
   pub sent_front : (h : History Mark) → EachFollows (MayStand setup) h → EachFollows LeavesDoomed h → IsSentFront h
   sent_front [] m l = refl
@@ -185,22 +144,7 @@ module _ {Mark : Type 0} (setup : Setup Mark) (ways : HasWays setup) (f : FlowId
   -- a flow that begins has received nothing
   begun_now : (step : Step Mark) (h : History Mark) → has (started h) f.exchange ≡ false → has (started (step ∷ h)) f.exchange ≡ true → received f h ≡ [] → received f (step ∷ h) ≡ []
   begun_now (Noted (note.Start x c s d)) h new now e = e
-  begun_now (Noted (note.Turn k e1)) h new now e = not_both (has (started h) f.exchange) now new
-  begun_now (Noted (note.Arrive g octets)) h new now e = not_both (has (started h) f.exchange) now new
-  begun_now (Noted (note.Move g q n)) h new now e = not_both (has (started h) f.exchange) now new
-  begun_now (Noted (note.Frame c g n last)) h new now e = not_both (has (started h) f.exchange) now new
-  begun_now (Noted (note.Out c n)) h new now e = not_both (has (started h) f.exchange) now new
-  begun_now (Noted (note.Pause g b)) h new now e = not_both (has (started h) f.exchange) now new
-  begun_now (Noted (note.Resume g b)) h new now e = not_both (has (started h) f.exchange) now new
-  begun_now (Noted (note.Credit c s n)) h new now e = not_both (has (started h) f.exchange) now new
-  begun_now (Noted (note.Head c s octets)) h new now e = not_both (has (started h) f.exchange) now new
-  begun_now (Noted (note.Answer c octets)) h new now e = not_both (has (started h) f.exchange) now new
-  begun_now (Noted (note.Waste c s n)) h new now e = not_both (has (started h) f.exchange) now new
-  begun_now (Noted (note.Doom x why)) h new now e = not_both (has (started h) f.exchange) now new
-  begun_now (Noted (note.Gone x)) h new now e = not_both (has (started h) f.exchange) now new
-  begun_now (Noted (note.Close c code why)) h new now e = not_both (has (started h) f.exchange) now new
-  begun_now (Noted (note.Fire k i)) h new now e = not_both (has (started h) f.exchange) now new
-  begun_now (Marked m) h new now e = not_both (has (started h) f.exchange) now new
+  begun_now step h new now e = not_both (has (started h) f.exchange) now new
 
   read_new : (step : Step Mark) (h : History Mark) → EachFollows LeavesDoomed (step ∷ h) → has (started h) f.exchange ≡ false → received f (step ∷ h) ≡ []
   read_new step h l new =
@@ -213,22 +157,7 @@ module _ {Mark : Type 0} (setup : Setup Mark) (ways : HasWays setup) (f : FlowId
       (subst (λ v. IsFront v (setup.body f h)) (sym (ap (λ b. received f h ++ (if b then octets else [])) t)) (subst (λ v. IsFront (received v h ++ octets) (setup.body v h)) (flow_is g f t) b)) g')
       (λ d. subst (λ v. IsFront v (setup.body f (Noted (note.Arrive g octets) ∷ h))) (sym (rw d (append-nil (received f h))))
       (front_on (received f h) (setup.body f h) (setup.body f (Noted (note.Arrive g octets) ∷ h)) r g'))
-  read_step (Noted (note.Turn k e)) h b1 g1 r = front_on (received f h) (setup.body f h) (setup.body f ((Noted (note.Turn k e)) ∷ h)) r g1
-  read_step (Noted (note.Move g q n)) h b1 g1 r = front_on (received f h) (setup.body f h) (setup.body f ((Noted (note.Move g q n)) ∷ h)) r g1
-  read_step (Noted (note.Frame c g n last)) h b1 g1 r = front_on (received f h) (setup.body f h) (setup.body f ((Noted (note.Frame c g n last)) ∷ h)) r g1
-  read_step (Noted (note.Out c n)) h b1 g1 r = front_on (received f h) (setup.body f h) (setup.body f ((Noted (note.Out c n)) ∷ h)) r g1
-  read_step (Noted (note.Pause g b)) h b1 g1 r = front_on (received f h) (setup.body f h) (setup.body f ((Noted (note.Pause g b)) ∷ h)) r g1
-  read_step (Noted (note.Resume g b)) h b1 g1 r = front_on (received f h) (setup.body f h) (setup.body f ((Noted (note.Resume g b)) ∷ h)) r g1
-  read_step (Noted (note.Credit c s n)) h b1 g1 r = front_on (received f h) (setup.body f h) (setup.body f ((Noted (note.Credit c s n)) ∷ h)) r g1
-  read_step (Noted (note.Head c s octets)) h b1 g1 r = front_on (received f h) (setup.body f h) (setup.body f ((Noted (note.Head c s octets)) ∷ h)) r g1
-  read_step (Noted (note.Answer c octets)) h b1 g1 r = front_on (received f h) (setup.body f h) (setup.body f ((Noted (note.Answer c octets)) ∷ h)) r g1
-  read_step (Noted (note.Waste c s n)) h b1 g1 r = front_on (received f h) (setup.body f h) (setup.body f ((Noted (note.Waste c s n)) ∷ h)) r g1
-  read_step (Noted (note.Start x c s d)) h b1 g1 r = front_on (received f h) (setup.body f h) (setup.body f ((Noted (note.Start x c s d)) ∷ h)) r g1
-  read_step (Noted (note.Doom x why)) h b1 g1 r = front_on (received f h) (setup.body f h) (setup.body f ((Noted (note.Doom x why)) ∷ h)) r g1
-  read_step (Noted (note.Gone x)) h b1 g1 r = front_on (received f h) (setup.body f h) (setup.body f ((Noted (note.Gone x)) ∷ h)) r g1
-  read_step (Noted (note.Close c code why)) h b1 g1 r = front_on (received f h) (setup.body f h) (setup.body f ((Noted (note.Close c code why)) ∷ h)) r g1
-  read_step (Noted (note.Fire k i)) h b1 g1 r = front_on (received f h) (setup.body f h) (setup.body f ((Noted (note.Fire k i)) ∷ h)) r g1
-  read_step (Marked m) h b1 g1 r = front_on (received f h) (setup.body f h) (setup.body f ((Marked m) ∷ h)) r g1
+  read_step step h b1 g1 r = front_on (received f h) (setup.body f h) (setup.body f (step ∷ h)) r g1
 
   pub body_read : (h : History Mark) → EachFollows LeavesDoomed h → EachFollows (ReadsBody setup) h → EachFollows (GoesOn setup) h → IsRead h
   body_read [] l b g = refl

@@ -70,11 +70,7 @@ module _ {Mark : Type 0} (setup : Setup Mark) (f : FlowId) (b : BufferId) where
 
   close_step : (c code : ℕ) (why : CloseCause) (h : History Mark) → Step_ (Noted (note.Close c code why)) h
   close_step c code closed.Lost h p s w e = drained (buffer.Write c) (drains_at setup b (Noted (note.Close c code closed.Lost)) h) (pending_lows setup b h) (watchers setup b h) e w
-  close_step c code closed.Protocol h p s w e = undrained _ (left h) e
-  close_step c code closed.Drained h p s w e = undrained _ (left h) e
-  close_step c code closed.Idle h p s w e = undrained _ (left h) e
-  close_step c code closed.Overload h p s w e = undrained _ (left h) e
-  close_step c code closed.Flood h p s w e = undrained _ (left h) e
+  close_step c code ev h p s w e = undrained _ (left h) e
 
   pub lows_step : (step : Step Mark) (h : History Mark) → Step_ step h
   lows_step (Noted (note.Move g q n)) h p s w e =
@@ -108,17 +104,7 @@ module _ {Mark : Type 0} (setup : Setup Mark) (f : FlowId) (b : BufferId) where
   lows_step (Noted (note.Doom x why)) h p s w e =
       ap (λ k. k + 0) (count_filter f (λ g. not (g.exchange == x)) (pending_lows setup b h) ∙ ap (λ t. if t then left h else 0) s)
       ∙ undrained (drains_at setup b (Noted (note.Doom x why)) h) (left h) e
-  lows_step (Noted (note.Turn k e1)) h p s w e = undrained _ (left h) e
-  lows_step (Noted (note.Arrive g octets)) h p s w e = undrained _ (left h) e
-  lows_step (Noted (note.Pause g b)) h p s w e = undrained _ (left h) e
-  lows_step (Noted (note.Credit c s1 n)) h p s w e = undrained _ (left h) e
-  lows_step (Noted (note.Head c s1 octets)) h p s w e = undrained _ (left h) e
-  lows_step (Noted (note.Answer c octets)) h p s w e = undrained _ (left h) e
-  lows_step (Noted (note.Waste c s1 n)) h p s w e = undrained _ (left h) e
-  lows_step (Noted (note.Start x c s1 d)) h p s w e = undrained _ (left h) e
-  lows_step (Noted (note.Gone x)) h p s w e = undrained _ (left h) e
-  lows_step (Noted (note.Fire k i)) h p s w e = undrained _ (left h) e
-  lows_step (Marked m) h p s w e = undrained _ (left h) e
+  lows_step step h p s w e = undrained _ (left h) e
 
 -- ---- only live flows that watch a buffer are to be told of it
 module _ {Mark : Type 0} (setup : Setup Mark) (ways : HasWays setup) (f : FlowId) (b : BufferId) where
@@ -177,11 +163,7 @@ module _ {Mark : Type 0} (setup : Setup Mark) (ways : HasWays setup) (f : FlowId
 
   close_untold : (c code : ℕ) (why : CloseCause) (h : History Mark) → Lives h → watches h ≡ false → kept h ≡ 0 → kept (Noted (note.Close c code why) ∷ h) ≡ 0
   close_untold c code closed.Lost h r n k = untold_eased (Noted (note.Close c code closed.Lost)) (buffer.Write c) h r n k
-  close_untold c code closed.Protocol h r n k = k
-  close_untold c code closed.Drained h r n k = k
-  close_untold c code closed.Idle h r n k = k
-  close_untold c code closed.Overload h r n k = k
-  close_untold c code closed.Flood h r n k = k
+  close_untold c code e h r n k = k
 
   untold_step : (step : Step Mark) (h : History Mark) → Untold step h
   untold_step (Noted (note.Move g q n)) h r st w u =
@@ -203,35 +185,11 @@ module _ {Mark : Type 0} (setup : Setup Mark) (ways : HasWays setup) (f : FlowId
       at : (t : Bool) → not (f.exchange == x) ≡ t → (if t then kept h else 0) ≡ 0
       at true e = u (sym (watch_stays (Noted (note.Doom x why)) h refl e) ∙ w)
       at false e = refl
-  untold_step (Noted (note.Turn k e)) h r st w u = u (sym (watch_stays (Noted (note.Turn k e)) h refl refl) ∙ w)
-  untold_step (Noted (note.Arrive g octets)) h r st w u = u (sym (watch_stays (Noted (note.Arrive g octets)) h refl refl) ∙ w)
-  untold_step (Noted (note.Pause g b)) h r st w u = u (sym (watch_stays (Noted (note.Pause g b)) h refl refl) ∙ w)
-  untold_step (Noted (note.Credit c s n)) h r st w u = u (sym (watch_stays (Noted (note.Credit c s n)) h refl refl) ∙ w)
-  untold_step (Noted (note.Head c s octets)) h r st w u = u (sym (watch_stays (Noted (note.Head c s octets)) h refl refl) ∙ w)
-  untold_step (Noted (note.Answer c octets)) h r st w u = u (sym (watch_stays (Noted (note.Answer c octets)) h refl refl) ∙ w)
-  untold_step (Noted (note.Waste c s n)) h r st w u = u (sym (watch_stays (Noted (note.Waste c s n)) h refl refl) ∙ w)
-  untold_step (Noted (note.Gone x)) h r st w u = u (sym (watch_stays (Noted (note.Gone x)) h refl refl) ∙ w)
-  untold_step (Noted (note.Fire k i)) h r st w u = u (sym (watch_stays (Noted (note.Fire k i)) h refl refl) ∙ w)
-  untold_step (Marked m) h r st w u = u (sym (watch_stays (Marked m) h refl refl) ∙ w)
+  untold_step step h r st w u = u (sym (watch_stays step h refl refl) ∙ w)
 
   new_then : (step : Step Mark) (h : History Mark) → LeavesDoomed step h → Lives h → starts f step ≡ true → has (live h) f.exchange ≡ false
   new_then (Noted (note.Start x c s d)) h l r t = subst (λ v. has (live h) v ≡ false) (number_is x f.exchange t) (r.born x l)
-  new_then (Noted (note.Turn k e)) h l r t = cc
-  new_then (Noted (note.Arrive g octets)) h l r t = cc
-  new_then (Noted (note.Move g q n)) h l r t = cc
-  new_then (Noted (note.Frame c g n last)) h l r t = cc
-  new_then (Noted (note.Out c n)) h l r t = cc
-  new_then (Noted (note.Pause g b)) h l r t = cc
-  new_then (Noted (note.Resume g b)) h l r t = cc
-  new_then (Noted (note.Credit c s n)) h l r t = cc
-  new_then (Noted (note.Head c s octets)) h l r t = cc
-  new_then (Noted (note.Answer c octets)) h l r t = cc
-  new_then (Noted (note.Waste c s n)) h l r t = cc
-  new_then (Noted (note.Doom x why)) h l r t = cc
-  new_then (Noted (note.Gone x)) h l r t = cc
-  new_then (Noted (note.Close c code why)) h l r t = cc
-  new_then (Noted (note.Fire k i)) h l r t = cc
-  new_then (Marked m) h l r t = cc
+  new_then step h l r t = cc
 
   pub untold : (h : History Mark) → EachFollows LeavesDoomed h → watches h ≡ false → kept h ≡ 0
   untold [] l w = refl

@@ -29,22 +29,7 @@ between_stays f (Noted (note.Start x c s d)) past o = at (x == f.exchange) o
     at : (b : Bool) → b ≡ false → (if b then Some (record { conn = c; to = d }) else between f.exchange past) ≡ between f.exchange past
     at true e = cc
     at false e = refl
-between_stays f (Noted (note.Turn k e)) past o = refl
-between_stays f (Noted (note.Arrive g octets)) past o = refl
-between_stays f (Noted (note.Move g q n)) past o = refl
-between_stays f (Noted (note.Frame c g n last)) past o = refl
-between_stays f (Noted (note.Out c n)) past o = refl
-between_stays f (Noted (note.Pause g b)) past o = refl
-between_stays f (Noted (note.Resume g b)) past o = refl
-between_stays f (Noted (note.Credit c s n)) past o = refl
-between_stays f (Noted (note.Head c s octets)) past o = refl
-between_stays f (Noted (note.Answer c octets)) past o = refl
-between_stays f (Noted (note.Waste c s n)) past o = refl
-between_stays f (Noted (note.Doom x why)) past o = refl
-between_stays f (Noted (note.Gone x)) past o = refl
-between_stays f (Noted (note.Close c code why)) past o = refl
-between_stays f (Noted (note.Fire k i)) past o = refl
-between_stays f (Marked m) past o = refl
+between_stays f step past o = refl
 
 made_ways : HasWays made_setup
 made_ways = record {

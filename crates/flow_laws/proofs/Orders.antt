@@ -39,21 +39,7 @@ module _ {Mark : Type 0} (setup : Setup Mark) where
       let is : record { flow = f; buffer = b } ≡ o = subst (λ due. Heads (record { flow = f; buffer = b }) due) e p in
       (ap (λ (v : Owed). Noted (note.Pause v.flow v.buffer)) is, ap (drop 1) e)
   next_pause (Noted (note.Resume f b)) h o os e p = absurd (some o os (sym e ∙ p.0))
-  next_pause (Noted (note.Turn k e1)) h' o' os' e' p = absurd (some o' os' (sym e' ∙ p))
-  next_pause (Noted (note.Arrive g octets)) h' o' os' e' p = absurd (some o' os' (sym e' ∙ p))
-  next_pause (Noted (note.Move g q n)) h' o' os' e' p = absurd (some o' os' (sym e' ∙ p))
-  next_pause (Noted (note.Frame c g n last)) h' o' os' e' p = absurd (some o' os' (sym e' ∙ p))
-  next_pause (Noted (note.Out c n)) h' o' os' e' p = absurd (some o' os' (sym e' ∙ p))
-  next_pause (Noted (note.Credit c s n)) h' o' os' e' p = absurd (some o' os' (sym e' ∙ p))
-  next_pause (Noted (note.Head c s octets)) h' o' os' e' p = absurd (some o' os' (sym e' ∙ p))
-  next_pause (Noted (note.Answer c octets)) h' o' os' e' p = absurd (some o' os' (sym e' ∙ p))
-  next_pause (Noted (note.Waste c s n)) h' o' os' e' p = absurd (some o' os' (sym e' ∙ p))
-  next_pause (Noted (note.Start x c s d)) h' o' os' e' p = absurd (some o' os' (sym e' ∙ p))
-  next_pause (Noted (note.Doom x why)) h' o' os' e' p = absurd (some o' os' (sym e' ∙ p))
-  next_pause (Noted (note.Gone x)) h' o' os' e' p = absurd (some o' os' (sym e' ∙ p))
-  next_pause (Noted (note.Close c code why)) h' o' os' e' p = absurd (some o' os' (sym e' ∙ p))
-  next_pause (Noted (note.Fire k i)) h' o' os' e' p = absurd (some o' os' (sym e' ∙ p))
-  next_pause (Marked m) h' o' os' e' p = absurd (some o' os' (sym e' ∙ p))
+  next_pause step h' o' os' e' p = absurd (some o' os' (sym e' ∙ p))
 
   paused_first : (ss : List (Step Mark)) (h : History Mark) (due : List Owed) → due_pauses setup h ≡ due → EachFollows (PausesInOrder setup) (after ss h) → GoAlike ss (pause_steps due)
   paused_first [] h [] e p = tt
@@ -100,11 +86,7 @@ module _ {Mark : Type 0} (setup : Setup Mark) where
     close_lows : (c code : ℕ) (why : CloseCause) (h : History Mark) → drains_at setup b (Noted (note.Close c code why)) h ≡ false
         → pending_lows setup b h ≡ pending_lows setup b (Noted (note.Close c code why) ∷ h)
     close_lows c code closed.Lost h d = undrained (pending_lows setup b h) (watchers setup b h) (same_buffer b (buffer.Write c)) _ d
-    close_lows c code closed.Protocol h d = refl
-    close_lows c code closed.Drained h d = refl
-    close_lows c code closed.Idle h d = refl
-    close_lows c code closed.Overload h d = refl
-    close_lows c code closed.Flood h d = refl
+    close_lows c code e h d = refl
 
     told_step : (s : Step Mark) (ss : List (Step Mark)) (h : History Mark) → PausesInOrder setup s h → drains_at setup b s h ≡ false → Told ss (s ∷ h) → Told (s ∷ ss) h
     told_step (Noted (note.Resume f a)) ss h p d l = at (same_buffer a b) refl l
@@ -133,17 +115,7 @@ module _ {Mark : Type 0} (setup : Setup Mark) where
         (sym (undrained (pending_lows setup b h) (watchers setup b h) (same_buffer b (buffer.Write c)) _ d)) l
     told_step (Noted (note.Close c code why)) ss h p d l =
         subst (λ gs. LeavesOut (dooms ss) (told_of b ss ++ pending_lows setup b (after ss (Noted (note.Close c code why) ∷ h))) gs) (sym (close_lows c code why h d)) l
-    told_step (Noted (note.Turn k e)) ss h p d l = l
-    told_step (Noted (note.Arrive g octets)) ss h p d l = l
-    told_step (Noted (note.Pause g b)) ss h p d l = l
-    told_step (Noted (note.Credit c s n)) ss h p d l = l
-    told_step (Noted (note.Head c s octets)) ss h p d l = l
-    told_step (Noted (note.Answer c octets)) ss h p d l = l
-    told_step (Noted (note.Waste c s n)) ss h p d l = l
-    told_step (Noted (note.Start x c s d1)) ss h p d l = l
-    told_step (Noted (note.Gone x)) ss h p d l = l
-    told_step (Noted (note.Fire k i)) ss h p d l = l
-    told_step (Marked m) ss h p d l = l
+    told_step step ss h p d l = l
 
     told : (ss : List (Step Mark)) (h : History Mark) → EachFollows (PausesInOrder setup) (after ss h) → NeverDrains setup b ss h → Told ss h
     told [] h p d = leaves_all (dooms {Mark = Mark} []) (pending_lows setup b h)
@@ -153,22 +125,7 @@ module _ {Mark : Type 0} (setup : Setup Mark) where
   module _ (c : ℕ) where
     closed_on : (s : Step Mark) (h : History Mark) → was_closed c h ≡ true → was_closed c (s ∷ h) ≡ true
     closed_on (Noted (note.Close d code why)) h o = or_right (d == c) (was_closed c h) o
-    closed_on (Noted (note.Turn k e)) h o = o
-    closed_on (Noted (note.Arrive g octets)) h o = o
-    closed_on (Noted (note.Move g q n)) h o = o
-    closed_on (Noted (note.Frame c g n last)) h o = o
-    closed_on (Noted (note.Out c n)) h o = o
-    closed_on (Noted (note.Pause g b)) h o = o
-    closed_on (Noted (note.Resume g b)) h o = o
-    closed_on (Noted (note.Credit c s n)) h o = o
-    closed_on (Noted (note.Head c s octets)) h o = o
-    closed_on (Noted (note.Answer c octets)) h o = o
-    closed_on (Noted (note.Waste c s n)) h o = o
-    closed_on (Noted (note.Start x c s d)) h o = o
-    closed_on (Noted (note.Doom x why)) h o = o
-    closed_on (Noted (note.Gone x)) h o = o
-    closed_on (Noted (note.Fire k i)) h o = o
-    closed_on (Marked m) h o = o
+    closed_on step h o = o
 
     hushed : (s : Step Mark) (ss : List (Step Mark)) (h : History Mark) → was_closed c h ≡ true → PausesInOrder setup s h → told_of (buffer.Write c) ss ≡ []
         → told_of (buffer.Write c) (s ∷ ss) ≡ []
@@ -177,22 +134,7 @@ module _ {Mark : Type 0} (setup : Setup Mark) where
         at : (x : Bool) → same_buffer a (buffer.Write c) ≡ x → (if x then f ∷ told_of (buffer.Write c) ss else told_of (buffer.Write c) ss) ≡ []
         at true e = not_both (was_closed c h) o (subst (λ v. is_silent v h ≡ false) (buffer_is a (buffer.Write c) e) p.2)
         at false e = l
-    hushed (Noted (note.Turn k e)) ss h o p l = l
-    hushed (Noted (note.Arrive g octets)) ss h o p l = l
-    hushed (Noted (note.Move g q n)) ss h o p l = l
-    hushed (Noted (note.Frame c g n last)) ss h o p l = l
-    hushed (Noted (note.Out c n)) ss h o p l = l
-    hushed (Noted (note.Pause g b)) ss h o p l = l
-    hushed (Noted (note.Credit c s n)) ss h o p l = l
-    hushed (Noted (note.Head c s octets)) ss h o p l = l
-    hushed (Noted (note.Answer c octets)) ss h o p l = l
-    hushed (Noted (note.Waste c s n)) ss h o p l = l
-    hushed (Noted (note.Start x c s d)) ss h o p l = l
-    hushed (Noted (note.Doom x why)) ss h o p l = l
-    hushed (Noted (note.Gone x)) ss h o p l = l
-    hushed (Noted (note.Close c code why)) ss h o p l = l
-    hushed (Noted (note.Fire k i)) ss h o p l = l
-    hushed (Marked m) ss h o p l = l
+    hushed step ss h o p l = l
 
     silent : (ss : List (Step Mark)) (h : History Mark) → EachFollows (PausesInOrder setup) (after ss h) → was_closed c h ≡ true → told_of (buffer.Write c) ss ≡ []
     silent [] h p o = refl

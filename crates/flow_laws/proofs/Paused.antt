@@ -82,16 +82,7 @@ module _ {Mark : Type 0} (setup : Setup Mark) (ways : HasWays setup) where
   due_step (Noted (note.Head c s octets)) h a = rise_lively h (filter (λ b. rises_at setup b (Noted (note.Head c s octets)) h) (buffer.Write c ∷ []))
   due_step (Noted (note.Answer c octets)) h a = rise_lively h (filter (λ b. rises_at setup b (Noted (note.Answer c octets)) h) (buffer.Write c ∷ []))
   due_step (Noted (note.Credit c s n)) h a = rise_lively h (filter (λ b. rises_at setup b (Noted (note.Credit c s n)) h) (buffer.Write c ∷ []))
-  due_step (Noted (note.Turn k e)) h a = tt
-  due_step (Noted (note.Arrive g octets)) h a = tt
-  due_step (Noted (note.Out c n)) h a = tt
-  due_step (Noted (note.Resume g b)) h a = tt
-  due_step (Noted (note.Waste c s n)) h a = tt
-  due_step (Noted (note.Doom x why)) h a = tt
-  due_step (Noted (note.Gone x)) h a = tt
-  due_step (Noted (note.Close c code why)) h a = tt
-  due_step (Noted (note.Fire k i)) h a = tt
-  due_step (Marked m) h a = tt
+  due_step step h a = tt
 
   pub due_live : (h : History Mark) → DueLive (live h) (due_pauses setup h)
   due_live [] = tt
@@ -115,22 +106,7 @@ module _ {Mark : Type 0} (setup : Setup Mark) (ways : HasWays setup) where
 module _ {Mark : Type 0} (setup : Setup Mark) (o : Owed) where
   fresh_step : (step : Step Mark) (h : History Mark) → Heads o (due_pauses setup (step ∷ h)) → is_swept (step ∷ h) ≡ false
   fresh_step (Noted (note.Gone x)) h e = absurd e
-  fresh_step (Noted (note.Turn k e)) h e1 = refl
-  fresh_step (Noted (note.Arrive g octets)) h e1 = refl
-  fresh_step (Noted (note.Move g q n)) h e1 = refl
-  fresh_step (Noted (note.Frame c g n last)) h e1 = refl
-  fresh_step (Noted (note.Out c n)) h e1 = refl
-  fresh_step (Noted (note.Pause g b)) h e1 = refl
-  fresh_step (Noted (note.Resume g b)) h e1 = refl
-  fresh_step (Noted (note.Credit c s n)) h e1 = refl
-  fresh_step (Noted (note.Head c s octets)) h e1 = refl
-  fresh_step (Noted (note.Answer c octets)) h e1 = refl
-  fresh_step (Noted (note.Waste c s n)) h e1 = refl
-  fresh_step (Noted (note.Start x c s d)) h e1 = refl
-  fresh_step (Noted (note.Doom x why)) h e1 = refl
-  fresh_step (Noted (note.Close c code why)) h e1 = refl
-  fresh_step (Noted (note.Fire k i)) h e1 = refl
-  fresh_step (Marked m) h e1 = refl
+  fresh_step step h e1 = refl
 
   pub fresh_due : (h : History Mark) → Heads o (due_pauses setup h) → is_swept h ≡ false
   fresh_due [] e = refl

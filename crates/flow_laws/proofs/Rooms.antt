@@ -64,19 +64,7 @@ module _ {Mark : Type 0} (setup : Setup Mark) (f : FlowId) where
       emptied : (b : Bool) (xs : List ℕ) → length (if b then [] else xs) ≤ length xs
       emptied true xs = omega arith
       emptied false xs = omega arith
-  moving (Noted (note.Turn k e)) h = MovesNone (λ p some. same_len (length (place setup f p h)))
-  moving (Noted (note.Out c n)) h = MovesNone (λ p some. same_len (length (place setup f p h)))
-  moving (Noted (note.Pause g b)) h = MovesNone (λ p some. same_len (length (place setup f p h)))
-  moving (Noted (note.Resume g b)) h = MovesNone (λ p some. same_len (length (place setup f p h)))
-  moving (Noted (note.Credit c s n)) h = MovesNone (λ p some. same_len (length (place setup f p h)))
-  moving (Noted (note.Head c s octets)) h = MovesNone (λ p some. same_len (length (place setup f p h)))
-  moving (Noted (note.Answer c octets)) h = MovesNone (λ p some. same_len (length (place setup f p h)))
-  moving (Noted (note.Waste c s n)) h = MovesNone (λ p some. same_len (length (place setup f p h)))
-  moving (Noted (note.Start x c s d)) h = MovesNone (λ p some. same_len (length (place setup f p h)))
-  moving (Noted (note.Gone x)) h = MovesNone (λ p some. same_len (length (place setup f p h)))
-  moving (Noted (note.Close c code why)) h = MovesNone (λ p some. same_len (length (place setup f p h)))
-  moving (Noted (note.Fire k i)) h = MovesNone (λ p some. same_len (length (place setup f p h)))
-  moving (Marked m) h = MovesNone (λ p some. same_len (length (place setup f p h)))
+  moving step h = MovesNone (λ p some. same_len (length (place setup f p h)))
 
   -- a move adds no more than it carries
   moved_in : (q n p : ℕ) (h : History Mark) → length (place setup f p (Noted (note.Move f q n) ∷ h)) ≤ length (place setup f p h) + n
@@ -200,22 +188,7 @@ module _ {Mark : Type 0} (setup : Setup Mark) (ways : HasWays setup) (limited : 
     where
       own_empty : (step : Step Mark) (k : History Mark) → starts f step ≡ true → IsUnborn setup f k → (p : ℕ) → place setup f p (step ∷ k) ≡ []
       own_empty (Noted (note.Start x c s d)) k t u p = u.empty p
-      own_empty (Noted (note.Turn k1 e)) k' t u p = cc
-      own_empty (Noted (note.Arrive g octets)) k' t u p = cc
-      own_empty (Noted (note.Move g q n)) k' t u p = cc
-      own_empty (Noted (note.Frame c g n last)) k' t u p = cc
-      own_empty (Noted (note.Out c n)) k' t u p = cc
-      own_empty (Noted (note.Pause g b)) k' t u p = cc
-      own_empty (Noted (note.Resume g b)) k' t u p = cc
-      own_empty (Noted (note.Credit c s n)) k' t u p = cc
-      own_empty (Noted (note.Head c s octets)) k' t u p = cc
-      own_empty (Noted (note.Answer c octets)) k' t u p = cc
-      own_empty (Noted (note.Waste c s n)) k' t u p = cc
-      own_empty (Noted (note.Doom x why)) k' t u p = cc
-      own_empty (Noted (note.Gone x)) k' t u p = cc
-      own_empty (Noted (note.Close c code why)) k' t u p = cc
-      own_empty (Noted (note.Fire k1 i)) k' t u p = cc
-      own_empty (Marked m) k' t u p = cc
+      own_empty step k' t u p = cc
 
       own : (step : Step Mark) (k : History Mark) → starts f step ≡ true → IsUnborn setup f k → HasRoom setup f (step ∷ k)
       own step k t u = empty_room setup f (step ∷ k) (own_empty step k t u)

@@ -39,21 +39,7 @@ module _ {Mark : Type 0} (setup : Setup Mark) where
   pub counted_before : (step : Step Mark) (h : History Mark) → PausesInOrder setup step h → (due_pauses setup h ≡ [] → IsCounted setup h) → BeforeOthers (IsCounted setup) step h
   counted_before (Noted (note.Pause f b)) h p c = tt
   counted_before (Noted (note.Resume f b)) h p c = c p.0
-  counted_before (Noted (note.Turn k e)) h p1 c1 = c1 p1
-  counted_before (Noted (note.Arrive g octets)) h p1 c1 = c1 p1
-  counted_before (Noted (note.Move g q n)) h p1 c1 = c1 p1
-  counted_before (Noted (note.Frame c g n last)) h p1 c1 = c1 p1
-  counted_before (Noted (note.Out c n)) h p1 c1 = c1 p1
-  counted_before (Noted (note.Credit c s n)) h p1 c1 = c1 p1
-  counted_before (Noted (note.Head c s octets)) h p1 c1 = c1 p1
-  counted_before (Noted (note.Answer c octets)) h p1 c1 = c1 p1
-  counted_before (Noted (note.Waste c s n)) h p1 c1 = c1 p1
-  counted_before (Noted (note.Start x c s d)) h p1 c1 = c1 p1
-  counted_before (Noted (note.Doom x why)) h p1 c1 = c1 p1
-  counted_before (Noted (note.Gone x)) h p1 c1 = c1 p1
-  counted_before (Noted (note.Close c code why)) h p1 c1 = c1 p1
-  counted_before (Noted (note.Fire k i)) h p1 c1 = c1 p1
-  counted_before (Marked m) h p1 c1 = c1 p1
+  counted_before step h p1 c1 = c1 p1
 
 module _ {Mark : Type 0} (session : Session Mark) where
   pub paced_of : (h : History Mark) → IsSound session h → IsPaced session.setup h

@@ -35,41 +35,12 @@ pub life_stays : {Mark : Type 0} (f : FlowId) (step : Step Mark) (h : History Ma
     → has (live (step ∷ h)) f.exchange ≡ has (live h) f.exchange
 life_stays f (Noted (note.Start x c s d)) h b e = started_other (live h) x f.exchange b
 life_stays f (Noted (note.Doom x why)) h b e = doomed_other (live h) x f.exchange e
-life_stays f (Noted (note.Turn k e1)) h b e = refl
-life_stays f (Noted (note.Arrive g octets)) h b e = refl
-life_stays f (Noted (note.Move g q n)) h b e = refl
-life_stays f (Noted (note.Frame c g n last)) h b e = refl
-life_stays f (Noted (note.Out c n)) h b e = refl
-life_stays f (Noted (note.Pause g b1)) h b e = refl
-life_stays f (Noted (note.Resume g b1)) h b e = refl
-life_stays f (Noted (note.Credit c s n)) h b e = refl
-life_stays f (Noted (note.Head c s octets)) h b e = refl
-life_stays f (Noted (note.Answer c octets)) h b e = refl
-life_stays f (Noted (note.Waste c s n)) h b e = refl
-life_stays f (Noted (note.Gone x)) h b e = refl
-life_stays f (Noted (note.Close c code why)) h b e = refl
-life_stays f (Noted (note.Fire k i)) h b e = refl
-life_stays f (Marked m) h b e = refl
+life_stays f step h b e = refl
 
 -- a flow that is live then was spared
 pub lives_spared : {Mark : Type 0} (f : FlowId) (step : Step Mark) (h : History Mark) → has (live (step ∷ h)) f.exchange ≡ true → spares f step ≡ true
 lives_spared f (Noted (note.Doom x why)) h l = (both (not (f.exchange == x)) (has (live h) f.exchange) (sym (has_without (live h) x f.exchange) ∙ l)).0
-lives_spared f (Noted (note.Turn k e)) h l = refl
-lives_spared f (Noted (note.Arrive g octets)) h l = refl
-lives_spared f (Noted (note.Move g q n)) h l = refl
-lives_spared f (Noted (note.Frame c g n last)) h l = refl
-lives_spared f (Noted (note.Out c n)) h l = refl
-lives_spared f (Noted (note.Pause g b)) h l = refl
-lives_spared f (Noted (note.Resume g b)) h l = refl
-lives_spared f (Noted (note.Credit c s n)) h l = refl
-lives_spared f (Noted (note.Head c s octets)) h l = refl
-lives_spared f (Noted (note.Answer c octets)) h l = refl
-lives_spared f (Noted (note.Waste c s n)) h l = refl
-lives_spared f (Noted (note.Start x c s d)) h l = refl
-lives_spared f (Noted (note.Gone x)) h l = refl
-lives_spared f (Noted (note.Close c code why)) h l = refl
-lives_spared f (Noted (note.Fire k i)) h l = refl
-lives_spared f (Marked m) h l = refl
+lives_spared f step h l = refl
 
 -- the flow of an exchange that never started isn't named
 pub record IsUnborn {Mark : Type 0} (setup : Setup Mark) (f : FlowId) (h : History Mark) : Type 0 where
@@ -127,16 +98,7 @@ module _ {Mark : Type 0} (setup : Setup Mark) (f : FlowId) where
       at : (b : Bool) (xs : List ℕ) → xs ≡ [] → (if b then [] else xs) ≡ []
       at true xs e = refl
       at false xs e = e
-  unborn_step (Noted (note.Turn k e)) h l r new u = unborn_more (Noted (note.Turn k e)) h (λ p. refl) refl refl refl refl (u new)
-  unborn_step (Noted (note.Out c n)) h l r new u = unborn_more (Noted (note.Out c n)) h (λ p. refl) refl refl refl refl (u new)
-  unborn_step (Noted (note.Credit c s n)) h l r new u = unborn_more (Noted (note.Credit c s n)) h (λ p. refl) refl refl refl refl (u new)
-  unborn_step (Noted (note.Head c s octets)) h l r new u = unborn_more (Noted (note.Head c s octets)) h (λ p. refl) refl refl refl refl (u new)
-  unborn_step (Noted (note.Answer c octets)) h l r new u = unborn_more (Noted (note.Answer c octets)) h (λ p. refl) refl refl refl refl (u new)
-  unborn_step (Noted (note.Waste c s n)) h l r new u = unborn_more (Noted (note.Waste c s n)) h (λ p. refl) refl refl refl refl (u new)
-  unborn_step (Noted (note.Gone x)) h l r new u = unborn_more (Noted (note.Gone x)) h (λ p. refl) refl refl refl refl (u new)
-  unborn_step (Noted (note.Close c code why)) h l r new u = unborn_more (Noted (note.Close c code why)) h (λ p. refl) refl refl refl refl (u new)
-  unborn_step (Noted (note.Fire k i)) h l r new u = unborn_more (Noted (note.Fire k i)) h (λ p. refl) refl refl refl refl (u new)
-  unborn_step (Marked m) h l r new u = unborn_more (Marked m) h (λ p. refl) refl refl refl refl (u new)
+  unborn_step step h l r new u = unborn_more step h (λ p. refl) refl refl refl refl (u new)
 
   pub unborn : (h : History Mark) → EachFollows LeavesDoomed h → has (started h) f.exchange ≡ false → IsUnborn setup f h
   unborn [] l new = record { empty = λ p. refl; unpaused = refl; unresumed = refl; unread = refl; unsent = refl }

@@ -263,20 +263,7 @@ module _ {Mark : Type 0} (setup : Setup Mark) (ways : HasWays setup) (c : ℕ) w
       arrive_holds most f octets h (lives h l.1) (some_of (λ n. IfSome (setup.comes_from f h) (λ d. held_from setup d h + length octets ≤ n)) setup.together most e t.together) r
   holds_step (Noted (note.Start x d s to)) h most e l t r = start_holds most x d s to h l.0 l.1 r
   holds_step (Noted (note.Doom x why)) h most e l t r = doom_holds most x why h r
-  holds_step (Noted (note.Turn k e)) h most e3 l3 t3 r = holds_same most (Noted (note.Turn k e)) h refl (λ f. refl) (λ v os i. cc) r
-  holds_step (Noted (note.Move g q n)) h most e3 l3 t3 r = holds_same most (Noted (note.Move g q n)) h refl (λ f. refl) (λ v os i. cc) r
-  holds_step (Noted (note.Frame c g n last)) h most e3 l3 t3 r = holds_same most (Noted (note.Frame c g n last)) h refl (λ f. refl) (λ v os i. cc) r
-  holds_step (Noted (note.Out c n)) h most e3 l3 t3 r = holds_same most (Noted (note.Out c n)) h refl (λ f. refl) (λ v os i. cc) r
-  holds_step (Noted (note.Pause g b)) h most e3 l3 t3 r = holds_same most (Noted (note.Pause g b)) h refl (λ f. refl) (λ v os i. cc) r
-  holds_step (Noted (note.Resume g b)) h most e3 l3 t3 r = holds_same most (Noted (note.Resume g b)) h refl (λ f. refl) (λ v os i. cc) r
-  holds_step (Noted (note.Credit c s n)) h most e3 l3 t3 r = holds_same most (Noted (note.Credit c s n)) h refl (λ f. refl) (λ v os i. cc) r
-  holds_step (Noted (note.Head c s octets)) h most e3 l3 t3 r = holds_same most (Noted (note.Head c s octets)) h refl (λ f. refl) (λ v os i. cc) r
-  holds_step (Noted (note.Answer c octets)) h most e3 l3 t3 r = holds_same most (Noted (note.Answer c octets)) h refl (λ f. refl) (λ v os i. cc) r
-  holds_step (Noted (note.Waste c s n)) h most e3 l3 t3 r = holds_same most (Noted (note.Waste c s n)) h refl (λ f. refl) (λ v os i. cc) r
-  holds_step (Noted (note.Gone x)) h most e3 l3 t3 r = holds_same most (Noted (note.Gone x)) h refl (λ f. refl) (λ v os i. cc) r
-  holds_step (Noted (note.Close c code why)) h most e3 l3 t3 r = holds_same most (Noted (note.Close c code why)) h refl (λ f. refl) (λ v os i. cc) r
-  holds_step (Noted (note.Fire k i)) h most e3 l3 t3 r = holds_same most (Noted (note.Fire k i)) h refl (λ f. refl) (λ v os i. cc) r
-  holds_step (Marked m) h most e3 l3 t3 r = holds_same most (Marked m) h refl (λ f. refl) (λ v os i. cc) r
+  holds_step step h most e3 l3 t3 r = holds_same most step h refl (λ f. refl) (λ v os i. cc) r
 
   pub holds : (h : History Mark) → EachFollows LeavesDoomed h → EachFollows (FitsIn setup) h → (most : ℕ) → setup.together ≡ Some most → Holds most h
   holds [] l t most e = omega arith

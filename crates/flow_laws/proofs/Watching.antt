@@ -49,18 +49,7 @@ module _ {Mark : Type 0} (setup : Setup Mark) (h : History Mark) (b : BufferId) 
   paused (Noted (note.Head c s octets)) e r = rose (Noted (note.Head c s octets)) (buffer.Write c) e r
   paused (Noted (note.Answer c octets)) e r = rose (Noted (note.Answer c octets)) (buffer.Write c) e r
   paused (Noted (note.Credit c s n)) e r = rose (Noted (note.Credit c s n)) (buffer.Write c) e r
-  paused (Noted (note.Turn k e)) e1 r = cc
-  paused (Noted (note.Arrive g octets)) e1 r = cc
-  paused (Noted (note.Out c n)) e1 r = cc
-  paused (Noted (note.Pause g b)) e1 r = cc
-  paused (Noted (note.Resume g b)) e1 r = cc
-  paused (Noted (note.Waste c s n)) e1 r = cc
-  paused (Noted (note.Start x c s d)) e1 r = cc
-  paused (Noted (note.Doom x why)) e1 r = cc
-  paused (Noted (note.Gone x)) e1 r = cc
-  paused (Noted (note.Close c code why)) e1 r = cc
-  paused (Noted (note.Fire k i)) e1 r = cc
-  paused (Marked m) e1 r = cc
+  paused step e1 r = cc
 
   abbrev told_then : Step Mark → BufferId → List FlowId
   told_then step c = pending_lows setup b h ++ (if same_buffer b c && drains_at setup b step h then watchers setup b h else [])
@@ -76,30 +65,14 @@ module _ {Mark : Type 0} (setup : Setup Mark) (h : History Mark) (b : BufferId) 
   close_told : (c code : ℕ) (why : CloseCause) → eased_by setup (Noted (note.Close c code why)) h ≡ Some b → drains_at setup b (Noted (note.Close c code why)) h ≡ true
       → pending_lows setup b (Noted (note.Close c code why) ∷ h) ≡ pending_lows setup b h ++ watchers setup b h
   close_told c code closed.Lost e d = drained (Noted (note.Close c code closed.Lost)) (buffer.Write c) e d
-  close_told c code closed.Protocol e d = cc
-  close_told c code closed.Drained e d = cc
-  close_told c code closed.Idle e d = cc
-  close_told c code closed.Overload e d = cc
-  close_told c code closed.Flood e d = cc
+  close_told c code ev e d = cc
 
   told : (step : Step Mark) → eased_by setup step h ≡ Some b → drains_at setup b step h ≡ true → pending_lows setup b (step ∷ h) ≡ pending_lows setup b h ++ watchers setup b h
   told (Noted (note.Move f p n)) e d = drained (Noted (note.Move f p n)) (place_buffer setup f p h) e d
   told (Noted (note.Frame c f n last)) e d = drained (Noted (note.Frame c f n last)) (buffer.Send f) e d
   told (Noted (note.Out c n)) e d = drained (Noted (note.Out c n)) (buffer.Write c) e d
   told (Noted (note.Close c code why)) e d = close_told c code why e d
-  told (Noted (note.Turn k e)) e1 d1 = cc
-  told (Noted (note.Arrive g octets)) e1 d1 = cc
-  told (Noted (note.Pause g b)) e1 d1 = cc
-  told (Noted (note.Resume g b)) e1 d1 = cc
-  told (Noted (note.Credit c s n)) e1 d1 = cc
-  told (Noted (note.Head c s octets)) e1 d1 = cc
-  told (Noted (note.Answer c octets)) e1 d1 = cc
-  told (Noted (note.Waste c s n)) e1 d1 = cc
-  told (Noted (note.Start x c s d)) e1 d1 = cc
-  told (Noted (note.Doom x why)) e1 d1 = cc
-  told (Noted (note.Gone x)) e1 d1 = cc
-  told (Noted (note.Fire k i)) e1 d1 = cc
-  told (Marked m) e1 d1 = cc
+  told step e1 d1 = cc
 
 module _ {Mark : Type 0} (setup : Setup Mark) (ways : HasWays setup) (step : Step Mark) (h : History Mark) (paced : IsPaced setup (step ∷ h)) (f : FlowId) where
   all_cross : (bs : List BufferId) → AllByRecursion (λ b. (rises_at setup b step h ≡ true → fed_by setup step h ≡ Some b) × (drains_at setup b step h ≡ true → eased_by setup step h ≡ Some b)) bs

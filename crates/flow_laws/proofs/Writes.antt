@@ -63,16 +63,7 @@ module _ {Mark : Type 0} (setup : Setup Mark) (c : ℕ) where
   grows (Noted (note.Out d n)) h m t = inl (dropped (if d == c then n else 0) (out setup c h))
   grows (Noted (note.Turn k e)) h m t = inl (turn_fed setup c k e h)
   grows (Noted (note.Close d code why)) h m t = inl (close_fed setup c d code why h)
-  grows (Noted (note.Arrive g octets)) h m2 t = inl (same_len (held h))
-  grows (Noted (note.Move g q n)) h m2 t = inl (same_len (held h))
-  grows (Noted (note.Pause g b)) h m2 t = inl (same_len (held h))
-  grows (Noted (note.Resume g b)) h m2 t = inl (same_len (held h))
-  grows (Noted (note.Waste c s n)) h m2 t = inl (same_len (held h))
-  grows (Noted (note.Start x c s d)) h m2 t = inl (same_len (held h))
-  grows (Noted (note.Doom x why)) h m2 t = inl (same_len (held h))
-  grows (Noted (note.Gone x)) h m2 t = inl (same_len (held h))
-  grows (Noted (note.Fire k i)) h m2 t = inl (same_len (held h))
-  grows (Marked m) h m2 t = inl (same_len (held h))
+  grows step h m2 t = inl (same_len (held h))
 
   pub out_room : (h : History Mark) → EachFollows (MayStand setup) h → EachFollows (FitsIn setup) h → 0 < setup.write → held h ≤ setup.write + unit_size setup
   out_room [] m t some = omega arith

@@ -97,5 +97,5 @@ module _ (limits : PlainLimits) where
   all_read [] m t = tt
   all_read (step ∷ h) m t = (reads step h m.0 t.0, all_read h m.1 t.1)
 
-  pub headline_of_whole : (h : Past) → IsPlainWhole limits h → Headline (plain_setup limits) h
-  headline_of_whole h w = headline_by (plain_session limits) (plain_ways limits) h w.lawful w.quiet (all_read h w.lawful.allowed w.lawful.tied) (all_further h)
+  pub headline_of : (h : Past) → IsPlainWhole limits h → Headline (plain_setup limits) h
+  headline_of h w = headline_by (plain_session limits) (plain_ways limits) h w.lawful w.quiet (all_read h w.lawful.allowed w.lawful.tied) (all_further h)
