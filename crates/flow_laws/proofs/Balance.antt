@@ -18,7 +18,7 @@ use Rattle.std.specs.Prelude.{Bool, List, None, Option, Some, [], count_by, drop
 use Rattle.tape_laws.specs.Dispatches.{has, live, started}
 use Rattle.tape_laws.specs.Doomed.{LeavesDoomed}
 use Rattle.tape_laws.specs.Flows.{same_buffer, same_flow}
-use Rattle.tape_laws.specs.History.{BeforeTurn, EachFollows, History, Marked, Noted, Step}
+use Rattle.tape_laws.specs.History.{BeforeTurn, EachFollows, History, Noted, Step}
 use Rattle.tape_laws.specs.Pauses.{Owed, PausesInOrder, due_pauses, lows, pauses, pending_lows, resumes}
 use Rattle.tape_laws.specs.Setup.{Setup}
 use Rattle.tape_laws.specs.Sources.{EachLive, disabled, is_live, live_flows, source_buffers, watchers}

@@ -15,8 +15,7 @@ use Rattle.std.proofs.lemmas.Bool.Decides.{nat_tests}
 use Rattle.std.specs.List.{AllByRecursion}
 use Rattle.std.specs.Prelude.{IfSome, List, None, Option, Some, false, length, true, ℕ, ◌+◌, ◌<◌, ◌==◌, ◌∷◌, ◌≡◌, ◌≤◌, ◌⊎◌}
 use Rattle.tape_laws.specs.Connections.{was_closed}
-use Rattle.tape_laws.specs.Dispatches.{live}
-use Rattle.tape_laws.specs.History.{BeforeTurn, History, Marked, Noted, Step}
+use Rattle.tape_laws.specs.History.{BeforeTurn, History, Noted, Step}
 use Rattle.tape_laws.specs.Pauses.{place_buffer}
 use Rattle.tape_laws.specs.Setup.{Setup}
 use Rattle.tape_laws.specs.Sources.{is_live, live_flows, source_buffers}

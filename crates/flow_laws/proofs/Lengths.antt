@@ -9,7 +9,7 @@ use Rattle.std.proofs.Common.{ap, arith, inl, inr, length-append, length-drop, r
 use Rattle.std.specs.Prelude.{Bool, List, Some, [], drop, false, if◌then◌else◌, length, take, true, ℕ, ◌&&◌, ◌++◌, ◌+◌, ◌==◌, ◌∷◌, ◌≡◌, ◌≤◌, ◌⊎◌}
 use Rattle.tape_laws.specs.Connections.{was_closed}
 use Rattle.tape_laws.specs.Flows.{same_flow}
-use Rattle.tape_laws.specs.History.{BeforeTurn, History, Marked, Noted, Step}
+use Rattle.tape_laws.specs.History.{BeforeTurn, History, Noted, Step}
 use Rattle.tape_laws.specs.Setup.{Setup}
 use Rattle.tape_laws.specs.World.{data_frame, last_place, out, place, window_update}
 use Rattle.flow_gate.specs.declared.ids.BufferId.TheVariants as buffer

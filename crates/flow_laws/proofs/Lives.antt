@@ -10,7 +10,7 @@ use Rattle.std.specs.Prelude.{Bool, List, [], count_by, false, filter, flat_map,
 use Rattle.tape_laws.specs.Dispatches.{has, live, started}
 use Rattle.tape_laws.specs.Doomed.{LeavesDoomed}
 use Rattle.tape_laws.specs.Flows.{same_flow}
-use Rattle.tape_laws.specs.History.{EachFollows, History, Marked, Noted, Step}
+use Rattle.tape_laws.specs.History.{EachFollows, History, Noted, Step}
 use Rattle.tape_laws.specs.Setup.{Setup}
 use Rattle.tape_laws.specs.Sources.{is_live, live_flows}
 use Rattle.flow_notes.specs.declared.notes.Note.TheVariants as note

@@ -16,7 +16,7 @@ use Rattle.tape_laws.specs.Dispatches.{has, started}
 use Rattle.tape_laws.specs.Doomed.{LeavesDoomed}
 use Rattle.tape_laws.specs.Flows.{same_flow}
 use Rattle.tape_laws.specs.Headline.{SendsItsBody}
-use Rattle.tape_laws.specs.History.{AtEachMoment, EachFollows, History, Marked, Noted, Step}
+use Rattle.tape_laws.specs.History.{AtEachMoment, EachFollows, History, Noted, Step}
 use Rattle.tape_laws.specs.Release.{MayStand}
 use Rattle.tape_laws.specs.Setup.{Setup}
 use Rattle.tape_laws.specs.Sources.{EachLive, is_live, live_flows}

@@ -15,7 +15,7 @@ use Rattle.std.specs.Prelude.{Bool, List, None, Some, [], count_by, drop, false,
 use Rattle.tape_laws.specs.Dispatches.{has, live}
 use Rattle.tape_laws.specs.Doomed.{LeavesDoomed}
 use Rattle.tape_laws.specs.Flows.{same_buffer, same_flow}
-use Rattle.tape_laws.specs.History.{EachFollows, History, Marked, Noted, Step}
+use Rattle.tape_laws.specs.History.{EachFollows, History, Noted, Step}
 use Rattle.tape_laws.specs.Pauses.{Heads, PausesInOrder, pending_lows, place_buffer}
 use Rattle.tape_laws.specs.Setup.{Setup}
 use Rattle.tape_laws.specs.Sources.{live_flows, source_buffers, watchers}

@@ -11,7 +11,7 @@ use Rattle.std.proofs.lemmas.List.{append-nil}
 use Rattle.std.specs.Prelude.{Bool, List, [], drop, false, filter, if◌then◌else◌, not, true, ℕ, ◌&&◌, ◌++◌, ◌==◌, ◌∷◌, ◌≡◌}
 use Rattle.tape_laws.specs.Connections.{was_closed}
 use Rattle.tape_laws.specs.Flows.{same_buffer}
-use Rattle.tape_laws.specs.History.{EachFollows, History, Marked, Noted, Step}
+use Rattle.tape_laws.specs.History.{EachFollows, History, Noted, Step}
 use Rattle.tape_laws.specs.Pauses.{Heads, Owed, PausesInOrder, due_pauses, is_silent, pending_lows, place_buffer}
 use Rattle.tape_laws.specs.Setup.{Setup}
 use Rattle.tape_laws.specs.Sources.{watchers}

@@ -11,7 +11,7 @@ use Rattle.std.specs.Prelude.{Bool, List, [], count_by, drop, false, filter, fla
 use Rattle.tape_laws.specs.Dispatches.{has, live}
 use Rattle.tape_laws.specs.Doomed.{LeavesDoomed, is_swept}
 use Rattle.tape_laws.specs.Flows.{same_buffer, same_flow}
-use Rattle.tape_laws.specs.History.{EachFollows, History, Marked, Noted, Step}
+use Rattle.tape_laws.specs.History.{EachFollows, History, Noted, Step}
 use Rattle.tape_laws.specs.Pauses.{Heads, Owed, due_pauses, pending_lows, place_buffer}
 use Rattle.tape_laws.specs.Setup.{Setup}
 use Rattle.tape_laws.specs.Sources.{live_flows, source_buffers, watchers}

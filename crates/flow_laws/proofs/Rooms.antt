@@ -15,7 +15,7 @@ use Rattle.std.specs.Prelude.{Bool, List, [], drop, false, if◌then◌else◌, 
 use Rattle.tape_laws.specs.Bounds.{StagesBounded}
 use Rattle.tape_laws.specs.Doomed.{LeavesDoomed}
 use Rattle.tape_laws.specs.Flows.{same_flow}
-use Rattle.tape_laws.specs.History.{EachFollows, History, Marked, Noted, Step}
+use Rattle.tape_laws.specs.History.{EachFollows, History, Noted, Step}
 use Rattle.tape_laws.specs.Release.{MayStand}
 use Rattle.tape_laws.specs.Setup.{Setup}
 use Rattle.tape_laws.specs.Sources.{is_live}

@@ -13,7 +13,7 @@ use Rattle.std.proofs.Common.{ap, arith}
 use Rattle.std.specs.Prelude.{[], ℕ, ◌+◌, ◌-◌, ◌∷◌, ◌≡◌}
 use Rattle.tape_laws.specs.Doomed.{LeavesDoomed}
 use Rattle.tape_laws.specs.Headline.{CountsItsSources, Headline}
-use Rattle.tape_laws.specs.History.{BeforeOthers, BeforeTurn, EachFollows, History, Marked, Noted, Step}
+use Rattle.tape_laws.specs.History.{BeforeOthers, BeforeTurn, EachFollows, History, Noted, Step}
 use Rattle.tape_laws.specs.Lawful.{IsLawful}
 use Rattle.tape_laws.specs.Pauses.{IsCounted, PausesInOrder, count, due_pauses, lows}
 use Rattle.tape_laws.specs.Quiet.{IsQuiet}

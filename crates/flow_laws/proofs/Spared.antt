@@ -9,7 +9,7 @@ use Rattle.std.specs.Prelude.{Bool, List, [], false, filter, if◌then◌else◌
 use Rattle.tape_laws.specs.Dispatches.{has, live, started}
 use Rattle.tape_laws.specs.Doomed.{LeavesDoomed}
 use Rattle.tape_laws.specs.Flows.{same_flow}
-use Rattle.tape_laws.specs.History.{EachFollows, History, Marked, Noted, Step}
+use Rattle.tape_laws.specs.History.{EachFollows, History, Noted, Step}
 use Rattle.tape_laws.specs.Pauses.{pauses, resumes}
 use Rattle.tape_laws.specs.Setup.{Setup}
 use Rattle.tape_laws.specs.World.{place, received, sent}

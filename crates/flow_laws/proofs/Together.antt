@@ -15,7 +15,7 @@ use Rattle.tape_laws.specs.Bounds.{held_from}
 use Rattle.tape_laws.specs.Dispatches.{has, is_some_of, live, started}
 use Rattle.tape_laws.specs.Doomed.{LeavesDoomed}
 use Rattle.tape_laws.specs.Flows.{same_flow}
-use Rattle.tape_laws.specs.History.{EachFollows, History, Marked, Noted, Step}
+use Rattle.tape_laws.specs.History.{EachFollows, History, Noted, Step}
 use Rattle.tape_laws.specs.Setup.{Setup}
 use Rattle.tape_laws.specs.Sources.{live_flows}
 use Rattle.tape_laws.specs.World.{recv}

@@ -17,7 +17,7 @@ use Rattle.std.specs.List.{AllByRecursion}
 use Rattle.std.specs.Prelude.{Bool, List, Some, [], false, filter, flat_map, if◌then◌else◌, map, true, ℕ, ◌&&◌, ◌++◌, ◌+◌, ◌∷◌, ◌≡◌}
 use Rattle.tape_laws.specs.Dispatches.{has, live}
 use Rattle.tape_laws.specs.Flows.{same_buffer}
-use Rattle.tape_laws.specs.History.{History, Marked, Noted, Step}
+use Rattle.tape_laws.specs.History.{History, Noted, Step}
 use Rattle.tape_laws.specs.Pauses.{Owed, due_pauses, pending_lows, place_buffer}
 use Rattle.tape_laws.specs.Setup.{Setup}
 use Rattle.tape_laws.specs.Sources.{is_live, source_buffers, watchers}

@@ -8,7 +8,7 @@ use Rattle.h2_frames.specs.Head.{data_head}
 use Rattle.std.proofs.Common.{ap, arith, inl, inr, length-append, length-take, refl, sym, ◌∙◌}
 use Rattle.std.specs.Prelude.{Bool, List, [], false, if◌then◌else◌, length, max, min, take, true, ℕ, ◌++◌, ◌+◌, ◌<◌, ◌==◌, ◌∷◌, ◌≡◌, ◌≤◌, ◌⊎◌}
 use Rattle.tape_laws.specs.Bounds.{unit_size}
-use Rattle.tape_laws.specs.History.{EachFollows, History, Marked, Noted, Step}
+use Rattle.tape_laws.specs.History.{EachFollows, History, Noted, Step}
 use Rattle.tape_laws.specs.Release.{MayStand}
 use Rattle.tape_laws.specs.Setup.{Setup}
 use Rattle.tape_laws.specs.Watermark.{above}
