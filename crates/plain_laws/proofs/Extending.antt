@@ -9,7 +9,7 @@ use Rattle.std.proofs.Common.{ap, subst, sym}
 use Rattle.std.proofs.Math.Seq.{take-append_seam}
 use Rattle.std.specs.Bool.{OnTrue}
 use Rattle.std.specs.List.{AllByRecursion}
-use Rattle.std.specs.Prelude.{Bool, List, [], drop, false, length, max, nat_lt, true, ℕ, ◌++◌, ◌+◌, ◌-◌, ◌∷◌, ◌≡◌, ◌≤◌}
+use Rattle.std.specs.Prelude.{Bool, List, [], drop, false, length, max, nat_lt, true, ℕ, ◌++◌, ◌+◌, ◌∷◌, ◌≡◌, ◌≤◌}
 use Rattle.plain_laws.specs.Words.{Past, Alive}
 use Rattle.tape_laws.specs.Bounds.{IsBounded, StagesBounded}
 use Rattle.tape_laws.specs.Causes.{HasCause}

@@ -2,7 +2,7 @@
 use Rattle.flow_gate.specs.declared.ids.FlowId.{FlowId}
 use Rattle.std.proofs.Common.{arith, ◌∙◌}
 use Rattle.std.proofs.lemmas.Bool.Decides.{nat_tests}
-use Rattle.std.specs.Prelude.{Bool, [], false, length, true, ℕ, ◌<◌, ◌∷◌, ◌≡◌, ◌≤◌}
+use Rattle.std.specs.Prelude.{Bool, [], false, true, ℕ, ◌<◌, ◌∷◌, ◌≡◌, ◌≤◌}
 use Rattle.plain_laws.specs.Words.{Past, conn_high, conn_out}
 use Rattle.tape_laws.specs.History.{NoMark, Step}
 use Rattle.tape_laws.specs.Plain.{plain_setup}

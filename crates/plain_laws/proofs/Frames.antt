@@ -20,7 +20,7 @@ use Rattle.plain_laws.specs.Regular.{Books, FlowBooks, IsRising, Regular}
 use Rattle.std.proofs.Common.{ap, arith, inl, inr, length-append, length-drop, length-take, refl, sym, ◌∙◌}
 use Rattle.std.proofs.lemmas.List.{append-nil}
 use Rattle.std.specs.Prelude.{Bool, List, [], drop, false, if◌then◌else◌, length, max, min, nat_lt, not, take, true, ℕ, ◌&&◌, ◌++◌, ◌+◌, ◌<◌, ◌==◌, ◌||◌, ◌∷◌, ◌≡◌, ◌≤◌, ◌⊎◌}
-use Rattle.tape_laws.specs.Dispatches.{has, live, started}
+use Rattle.tape_laws.specs.Dispatches.{live, started}
 use Rattle.flow_rules.specs.declared.unit.Unit.TheVariants.{Body as BodyUnit}
 use Rattle.tape_laws.specs.Flows.{request}
 use Rattle.tape_laws.specs.History.{NoMark, Step}

@@ -1,10 +1,7 @@
 use Rattle.plain_laws.proofs.Above.{above_is_flag}
 use Rattle.plain_laws.proofs.laws.above_by_the_past.Goals as goal
-use Rattle.std.proofs.Common.{subst, sym}
-use Rattle.std.specs.Prelude.{Bool, IsTrue, ◌↔◌}
 use Rattle.tape_laws.specs.Plain.{plain_setup}
 use Rattle.tape_laws.specs.Watermark.{lengths, limit}
-use Rattle.wm_buffer.specs.Watermark.{IsAbove}
 
 pub returns : goal.returns
 returns c = λ limits b h.
