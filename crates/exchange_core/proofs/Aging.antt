@@ -28,8 +28,8 @@ chain_sound : (now : ℕ) (chain : Chain) → IsSoundChain chain → IsSoundChai
 chain_sound now chain sound = elim (cases_Bool (nat_lt chain.time now)) [
   | inl is ↦
       let later = ltb-true chain.time now is in
-      subst (λ b. IsSoundChain (cond b (chain_ticked chain now) chain)) (sym is) (ticked_sound now chain (omega arith) sound)
-  | inr is ↦ subst (λ b. IsSoundChain (cond b (chain_ticked chain now) chain)) (sym is) sound
+      rw is (ticked_sound now chain (omega arith) sound)
+  | inr is ↦ rw is sound
 ]
 
 -- ---- a flow

@@ -83,7 +83,7 @@ calm_headed fields true flow = refl
 calm_headed fields false flow = refl
 
 send_holds_none : (place : Place) → place.kind ≡ Send → is_filled_meter place ≡ false
-send_holds_none place is = ap (λ kind. is_meter kind && nat_lt 0 (length place.octets)) is
+send_holds_none place is = cc
 
 last_calm : (n i : ℕ) (places : List Place) → suc i ≡ length places → EndsInSend (kinds places) →
     list_any is_filled_meter (option_map_or (λ place. slice_set places i (losing n place)) (slice_get places i) places) ≡ list_any is_filled_meter places
@@ -92,7 +92,7 @@ last_calm n zero (x ∷ []) is ends = λ i. (send_holds_none (losing n x) ends �
 last_calm n (suc i) (x ∷ []) is ends = absurd (omega arith)
 last_calm n zero (x ∷ y ∷ ys) is ends = absurd (omega arith)
 last_calm n (suc i) (x ∷ y ∷ ys) is ends =
-    behind (slice_get (y ∷ ys) i) ∙ ap (λ b. is_filled_meter x || b) (last_calm n i (y ∷ ys) (omega arith) ends.1)
+    cc (behind (slice_get (y ∷ ys) i), last_calm n i (y ∷ ys) (omega arith) ends.1)
   where
     behind : (o : Option Place) → list_any is_filled_meter (option_map_or (λ place. x ∷ slice_set (y ∷ ys) i (losing n place)) o (x ∷ y ∷ ys))
         ≡ (is_filled_meter x || list_any is_filled_meter (option_map_or (λ place. slice_set (y ∷ ys) i (losing n place)) o (y ∷ ys)))

@@ -6,4 +6,4 @@ use Rattle.std.proofs.Common.{ap, sym, ◌∙◌}
 use Rattle.std.specs.Prelude.{Some, option_map}
 
 pub returns-clause-ends : goal.returns-clause-ends
-returns-clause-ends c = ap (λ (e : Ends). Some e) (c.ends.ensures ∙ sym (exchange_ends c.exchange.ensures.seen.now c.exchange.result.now)) ∙ sym (ap (option_map ends_of) c.exchange.ensures.seen.same)
+returns-clause-ends c = ap Some (c.ends.ensures ∙ sym (exchange_ends c.exchange.ensures.seen.now c.exchange.result.now)) ∙ sym (ap (option_map ends_of) c.exchange.ensures.seen.same)

@@ -6,4 +6,4 @@ use Rattle.std.proofs.Common.{ap, sym, ◌∙◌}
 use Rattle.std.specs.Prelude.{List, Option, Some, option_map}
 
 pub returns : goal.returns
-returns c = ap (λ (o : Option (List Field)). Some o) c.fields.ensures ∙ sym (ap (option_map (λ (f : Flow). fields_of f.message)) c.flow.ensures.same)
+returns c = ap Some c.fields.ensures ∙ sym (ap (option_map (λ (f : Flow). fields_of f.message)) c.flow.ensures.same)

@@ -5,4 +5,4 @@ use Rattle.std.proofs.Common.{ap, sym, ◌∙◌}
 use Rattle.std.specs.Prelude.{Some, option_map, ℕ}
 
 pub returns : goal.returns
-returns c = ap (λ (n : ℕ). Some n) (c.held.ensures ∙ sym (exchange_held c.exchange.ensures.seen.now c.exchange.result.now)) ∙ sym (ap (option_map held_in) c.exchange.ensures.seen.same)
+returns c = ap Some (c.held.ensures ∙ sym (exchange_held c.exchange.ensures.seen.now c.exchange.result.now)) ∙ sym (ap (option_map held_in) c.exchange.ensures.seen.same)

@@ -13,5 +13,4 @@ returns-clause-unit c = let same : to_z w64 (of_z w64 c.args.room) ≡ c.args.ro
     ∙ sym (ap (option_map (next_unit c.args.room c.args.frame)) c.flow.ensures.same)
 
 pub returns-clause-frameable : goal.returns-clause-frameable
-returns-clause-frameable c = subst (λ o. IfSome o (λ f. IsFrameable c.next_unit.result f)) (sym c.flow.ensures.same)
-    (frameable_seen c.flow.ensures.now c.flow.result.now c.next_unit.result c.next_unit.ensures.frameable)
+returns-clause-frameable c = rw c.flow.ensures.same (frameable_seen c.flow.ensures.now c.flow.result.now c.next_unit.result c.next_unit.ensures.frameable)

@@ -4,4 +4,4 @@ use Rattle.std.proofs.Common.{ap, sym, ◌∙◌}
 use Rattle.std.specs.Prelude.{Some, length, option_map, ℕ}
 
 pub returns : goal.returns
-returns c = ap (λ (n : ℕ). Some n) c.left.ensures ∙ sym (ap (option_map (λ (f : Flow). length f.recv)) c.flow.ensures.same)
+returns c = ap Some c.left.ensures ∙ sym (ap (option_map (λ (f : Flow). length f.recv)) c.flow.ensures.same)
