@@ -2,7 +2,7 @@
 use Rattle.exchange_core.proofs.Sources.{later_last, later_step}
 use Rattle.exchange_core.proofs.StageSources.{send_held}
 use Rattle.exchange_core.specs.Flow.{Flow, last_place}
-use Rattle.exchange_core.specs.Moves.{is_free, is_held_at, is_target_above, last_free, last_free_to, later_above, lets_go, may_release}
+use Rattle.exchange_core.specs.Moves.{is_free, is_held_at, is_target_above, last_free, last_free_to, later_above, lets_go}
 use Rattle.filter_chain.specs.Chain.{EndsInSend, kinds}
 use Rattle.flow_gate.specs.Board.{Board, count, is_marked}
 use Rattle.flow_gate.specs.declared.ids.BufferId.TheVariants as buffer

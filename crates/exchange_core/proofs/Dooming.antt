@@ -2,9 +2,8 @@
 use Rattle.exchange_core.proofs.Maps.{lookup_number, seen_of, stored_at, writes_number}
 use Rattle.exchange_core.proofs.Metered.{IsMarked, count_removed, count_values}
 use Rattle.exchange_core.specs.Changes.{Dooms}
-use Rattle.exchange_core.specs.Exchange.{IsSoundExchange, at_moment, is_metered, seen_at}
+use Rattle.exchange_core.specs.Exchange.{is_metered, seen_at}
 use Rattle.exchange_core.specs.Exchanges.{Exchanges, IsSound, exchange_at}
-use Rattle.exchange_core.specs.Flow.{Flow}
 use Rattle.number_set.specs.NumberSet.{NumberSet, has}
 use Rattle.exchange_core.specs.View.{IsKept, exchanges_of, stored}
 use Rattle.exchange_core.specs.declared.exchange.Exchange.{Exchange}
@@ -18,10 +17,10 @@ use Rattle.std.specs.BTreeMap.{is_at}
 use Rattle.std.specs.List.{AllByRecursion}
 use Rattle.std.specs.List.Sorted.{IsStrictlySortedBy}
 use Rattle.std.specs.Map.{keys_of, lookup, remove_entry}
-use Rattle.std.specs.Option.{is_some, option_map_or}
+use Rattle.std.specs.Option.{option_map_or}
 use Rattle.std.specs.Ordering.{nat_cmp}
 use Rattle.std.specs.VecDeque.{deque_capacity, deque_len}
-use Rattle.std.specs.Prelude.{Bool, IfSome, IsSome, List, None, Option, Some, [], cond, count_by, false, length, nat_eq, option_map, true, ℕ, ◌++◌, ◌+◌, ◌∷◌, ◌≡◌, ◌≤◌}
+use Rattle.std.specs.Prelude.{Bool, IsSome, List, None, Some, [], cond, count_by, false, length, nat_eq, option_map, true, ℕ, ◌++◌, ◌+◌, ◌∷◌, ◌≡◌, ◌≤◌}
 
 -- ---- the deferred list
 all_last : {X : Type 0} (P : X → Type 0) (xs : List X) (x : X) → AllByRecursion P xs → P x → AllByRecursion P (xs ++ x ∷ [])

@@ -4,7 +4,7 @@ use Rattle.std.proofs.lemmas.Bool.{false≢true}
 use Rattle.std.proofs.lemmas.Bool.Decides.{nat_tests}
 use Rattle.exchange_core.proofs.FlowSound.{held_at}
 use Rattle.exchange_core.specs.Flow.{Flow, IsHeadAlone, IsSound, held_by, last_place, octets_in, send}
-use Rattle.exchange_core.specs.Message.{head_waits, trailers_wait}
+use Rattle.exchange_core.specs.Message.{head_waits}
 use Rattle.exchange_core.specs.Units.{IsFrameable, empty_before, list_may_end}
 use Rattle.exchange_core.specs.State.{ungated}
 use Rattle.flow_rules.specs.Units.{is_last}

@@ -1,5 +1,5 @@
 -- How many octets a flow holds, counted place by place.
-use Rattle.std.proofs.Common.{◌≡◌, ◌+◌, ◌<◌, ◌∙◌, ℕ, suc, zero, List, [], ◌∷◌, take, length, refl, sym, ap, arith}
+use Rattle.std.proofs.Common.{◌≡◌, ◌+◌, ◌<◌, ◌∙◌, ℕ, suc, zero, List, [], ◌∷◌, take, length, refl, ap, arith}
 use Rattle.std.proofs.lemmas.List.Sums.{sum_by-cons}
 use Rattle.exchange_core.specs.Flow.{Flow, last_place}
 use Rattle.filter_chain.specs.Chain.{octets_at}

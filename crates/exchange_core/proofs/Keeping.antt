@@ -1,18 +1,15 @@
 -- What is kept where nothing is changed but room is made, and where the first of the doomed goes.
 use Rattle.exchange_core.proofs.Dooming.{sound_swept}
-use Rattle.exchange_core.specs.Exchange.{IsSoundExchange, is_metered}
-use Rattle.exchange_core.specs.Exchanges.{IsSound, exchange_at, is_metered_at}
-use Rattle.number_set.specs.NumberSet.{has}
+use Rattle.exchange_core.specs.Exchanges.{IsSound, exchange_at}
 use Rattle.exchange_core.specs.View.{IsKept, exchanges_of, seen_all, stored}
 use Rattle.exchange_core.specs.declared.exchanges.Exchanges.TheInside.{Inside}
-use Rattle.std.proofs.Common.{ap, arith, subst, sym, ◌∙◌}
+use Rattle.std.proofs.Common.{ap, arith, subst, sym}
 use Rattle.std.proofs.lemmas.Bool.{false≢true}
-use Rattle.std.specs.List.{AllByRecursion}
 use Rattle.std.specs.List.Sorted.{IsStrictlySortedBy}
 use Rattle.std.specs.Map.{keys_of, lookup}
-use Rattle.std.specs.Option.{is_some, option_map_or}
+use Rattle.std.specs.Option.{is_some}
 use Rattle.std.specs.Ordering.{nat_cmp}
-use Rattle.std.specs.Prelude.{IfSome, List, None, Option, Some, [], count_by, false, length, nat_eq, option_to_list, true, ℕ, ◌++◌, ◌+◌, ◌≡◌, ◌≤◌}
+use Rattle.std.specs.Prelude.{List, None, Option, Some, [], length, nat_eq, option_to_list, true, ℕ, ◌++◌, ◌≡◌, ◌≤◌}
 use Rattle.std.specs.VecDeque.{deque_capacity, deque_len}
 
 -- ---- room was made

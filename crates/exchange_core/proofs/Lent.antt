@@ -14,11 +14,11 @@ use Rattle.exchange_core.specs.declared.exchange.Exchange.{Exchange}
 use Rattle.exchange_core.specs.declared.exchanges.Exchanges.TheInside.{Inside}
 use Rattle.filter_chain.specs.Chain.{EndsInSend, kinds}
 use Rattle.flow_gate.specs.declared.ids.FlowId.{FlowId}
-use Rattle.std.proofs.Common.{ap, refl, subst, sym, ◌∙◌}
+use Rattle.std.proofs.Common.{refl, subst, sym, ◌∙◌}
 use Rattle.std.specs.BTreeMap.{BTreeMap, WritesThrough, is_at}
 use Rattle.std.specs.Map.{lookup}
 use Rattle.std.specs.Ordering.{nat_cmp}
-use Rattle.std.specs.Prelude.{Bool, IfSome, Option, Some, false, option_map, true, ℕ, ◌≡◌}
+use Rattle.std.specs.Prelude.{IfSome, Option, Some, option_map, ℕ, ◌≡◌}
 
 -- ---- what is said of the flow that is seen
 module _ (P : Flow → Type 0) (c : Inside) (f : FlowId) {found : Exchange} {flow : Flow} (is : Some found ≡ lookup (is_at (nat_cmp f.exchange)) c.live.entries)

@@ -1,5 +1,5 @@
 -- A move that was made, and one that was refused.
-use Rattle.std.proofs.Common.{◌≡◌, ◌<◌, ◌≤◌, ◌∙◌, ℕ, length, sym, ap, subst}
+use Rattle.std.proofs.Common.{◌≡◌, ◌<◌, ◌≤◌, ℕ, length, sym, subst}
 use Rattle.exchange_core.proofs.FlowSound.{moved_sound}
 use Rattle.exchange_core.proofs.Stepping.{stage_moves}
 use Rattle.exchange_core.specs.Flow.{Flow, IsSound, octets_in}

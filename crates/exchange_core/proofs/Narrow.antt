@@ -1,13 +1,12 @@
 -- The next unit within a smaller bound.
 use Rattle.std.proofs.lemmas.Bool.{and_parts}
-use Rattle.std.proofs.Common.{◌≡◌, ◌-◌, ◌≤◌, ◌∙◌, ◌&&◌, ◌==◌, ℕ, length, Bool, true, false, refl, sym, ap, subst, nat_lt, nat_le, arith, min, IsTrue}
-use Rattle.std.proofs.lemmas.Bool.{false≢true}
+use Rattle.std.proofs.Common.{◌≡◌, ◌-◌, ◌≤◌, ◌∙◌, ◌&&◌, ◌==◌, ℕ, length, Bool, true, false, refl, ap, nat_lt, nat_le, arith, min}
 use Rattle.std.proofs.lemmas.Bool.Decides.{nat_tests}
 use Rattle.std.proofs.lemmas.Int.{ints}
 use borrow.Author.Differences.{down, up}
 use Rattle.exchange_core.specs.Flow.{Flow, send}
 use Rattle.exchange_core.specs.State.{ungated}
-use Rattle.exchange_core.specs.Units.{IsFrameable, carries_end, next_unit}
+use Rattle.exchange_core.specs.Units.{IsFrameable, next_unit}
 use Rattle.flow_rules.proofs.Narrow.{unit_narrowed}
 use Rattle.flow_rules.specs.Narrowed.{narrowed, octets_of}
 use Rattle.flow_rules.specs.Units.{next_unit as first_unit}

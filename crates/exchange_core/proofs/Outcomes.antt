@@ -1,6 +1,6 @@
 -- Facts of a result by its outcome.
 use Rattle.std.specs.Prelude.{Err, IfOk, IfSome, Ok, OnErr, OnOk, Option, Result, Some, ◌≡◌}
-use Rattle.std.proofs.Common.{subst, sym}
+use Rattle.std.proofs.Common.{subst}
 
 module _ {T E : Type 0} where
   -- what follows from either outcome

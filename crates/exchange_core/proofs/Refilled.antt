@@ -8,7 +8,7 @@ use Rattle.std.proofs.Common.{ap, arith, refl, sym, ◌∙◌}
 use Rattle.std.proofs.lemmas.List.Sums.{sum_by-cons}
 use Rattle.std.specs.List.{list_any}
 use Rattle.std.specs.Option.{option_map_or}
-use Rattle.std.specs.Prelude.{List, [], false, length, map, slice_get, suc, sum_by, zero, ℕ, ◌+◌, ◌||◌, ◌∷◌, ◌≡◌}
+use Rattle.std.specs.Prelude.{List, [], false, length, map, slice_get, suc, sum_by, zero, ℕ, ◌+◌, ◌∷◌, ◌≡◌}
 
 module _ (n : ℕ) where
   refilled_within : (kind : StageKind) (place : Place) → IsWithinKind kind place → IsWithinKind kind (refilled n place)

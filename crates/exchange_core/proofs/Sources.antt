@@ -1,7 +1,7 @@
 -- Which sources stand behind a place.
 use Rattle.std.proofs.Math.Bool.{or-false}
 use Rattle.std.proofs.lemmas.Bool.Decides.{nat_tests}
-use Rattle.std.proofs.Common.{◌≡◌, ◌+◌, ◌-◌, ◌<◌, ◌≤◌, ◌∙◌, ◌&&◌, ◌||◌, ℕ, suc, zero, List, [], ◌∷◌, length, Bool, true, false, refl, sym, ap, nat_lt, arith}
+use Rattle.std.proofs.Common.{◌≡◌, ◌+◌, ◌<◌, ◌≤◌, ◌∙◌, ◌&&◌, ◌||◌, ℕ, suc, zero, List, [], ◌∷◌, length, Bool, true, false, refl, ap, nat_lt, arith}
 use Rattle.std.proofs.lemmas.List.Folds.{list_any-append}
 use Rattle.exchange_core.specs.Flow.{Flow, last_place}
 use Rattle.exchange_core.specs.Moves.{is_held_at, is_target_above, later_above}

@@ -1,6 +1,6 @@
 -- The source of a place, by its kind.
 use Rattle.std.proofs.Math.Bool.{or-false}
-use Rattle.std.proofs.Common.{◌≡◌, ◌≢◌, ◌<◌, ◌≤◌, ◌∙◌, ◌||◌, ℕ, suc, zero, List, [], ◌∷◌, length, Bool, true, false, refl, ap, arith}
+use Rattle.std.proofs.Common.{◌≡◌, ◌≢◌, ◌<◌, ◌≤◌, ℕ, suc, zero, List, [], ◌∷◌, length, Bool, true, false, refl, arith}
 use Rattle.std.proofs.lemmas.Bool.{false≢true}
 use Rattle.exchange_core.specs.Flow.{Flow, last_place}
 use Rattle.exchange_core.specs.Moves.{is_held_at}

@@ -7,7 +7,6 @@ use Rattle.exchange_core.specs.Changes.{Starts, Ticks, number_for}
 use Rattle.exchange_core.specs.Exchange.{IsFlowOf, IsSoundExchange, at_moment, begun, begun_flow, filters_of, flow_id, is_metered, seen_at, side_filters}
 use Rattle.exchange_core.specs.Exchanges.{Exchanges, IsSound, exchange_at}
 use Rattle.exchange_core.specs.Flow.{Flow, is_filled_meter, meters_hold}
-use Rattle.number_set.specs.NumberSet.{has}
 use Rattle.exchange_core.specs.View.{IsKept, exchanges_of, stored}
 use Rattle.exchange_core.specs.declared.exchange.Exchange.{Exchange}
 use Rattle.exchange_core.specs.declared.exchanges.Exchanges.TheInside.{Inside}

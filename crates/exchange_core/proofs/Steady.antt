@@ -1,6 +1,6 @@
 -- Changes of a flow leave its name and what it was told of the time, and all but a step leave what its Meters hold.
 use Rattle.exchange_core.specs.Effects.{arrived, body_framed, finished, headed, list_framed, moved, received}
-use Rattle.exchange_core.specs.Flow.{Flow, is_filled_meter, is_meter, meters_hold}
+use Rattle.exchange_core.specs.Flow.{Flow, is_filled_meter, meters_hold}
 use Rattle.exchange_core.specs.Moves.{left_from, stepped, may_release, last_free}
 use Rattle.filter_chain.specs.Chain.{EndsInSend, kinds}
 use Rattle.filter_chain.specs.Effects.{last_loses}
@@ -9,10 +9,10 @@ use Rattle.filter_chain.specs.Release.{overfills}
 use Rattle.filter_chain.specs.declared.stage.StageKind.TheVariants.{Send}
 use Rattle.flow_gate.specs.Board.{Board}
 use Rattle.hpack_codec.specs.declared.fields.Field.{Field}
-use Rattle.std.proofs.Common.{ap, arith, refl, sym, ◌∙◌}
+use Rattle.std.proofs.Common.{arith, refl, sym, ◌∙◌}
 use Rattle.std.specs.List.{list_any}
 use Rattle.std.specs.Option.{option_map_or}
-use Rattle.std.specs.Prelude.{Bool, List, None, Option, Some, [], false, if◌then◌else◌, length, nat_le, nat_lt, slice_get, slice_set, suc, true, zero, ℕ, ◌&&◌, ◌+◌, ◌||◌, ◌∷◌, ◌≡◌}
+use Rattle.std.specs.Prelude.{Bool, List, None, Option, Some, [], false, if◌then◌else◌, length, nat_le, slice_get, slice_set, suc, true, zero, ℕ, ◌+◌, ◌||◌, ◌∷◌, ◌≡◌}
 
 -- a change of a flow that leaves its name and what it was told
 pub record IsSteady (change : Flow → Flow) : Type 0 where

@@ -4,7 +4,7 @@ use Rattle.exchange_core.proofs.Refilled.{refilled_length, refilled_octets, refi
 use Rattle.exchange_core.specs.Exchange.{at_moment, ends_of, flow_in, goes_to, held_in, seen_at}
 use Rattle.exchange_core.specs.Flow.{Flow, held_by, last_place, octets_in, send, stages_of}
 use Rattle.exchange_core.specs.Message.{head_waits, trailers_wait}
-use Rattle.exchange_core.specs.Replies.{Word, answer, reckoning, row, said, side_of_cause}
+use Rattle.exchange_core.specs.Replies.{Word, reckoning, row, said, side_of_cause}
 use Rattle.exchange_core.specs.Replies.Word.{Code, CodeUnlessEnded, ReplyOnly, ReplyOr, Silence}
 use Rattle.exchange_core.specs.Seen.{IsFoundAs}
 use Rattle.exchange_core.specs.State.{ungated}
@@ -20,9 +20,9 @@ use Rattle.filter_chain.specs.Place.{Place, kind_of, refilled}
 use Rattle.filter_chain.specs.Release.{is_source_at}
 use Rattle.flow_notes.specs.declared.notes.Cause.{Cause}
 use Rattle.flow_notes.specs.declared.notes.Cause.TheVariants.{ConnLost}
-use Rattle.std.proofs.Common.{ap, refl, subst, sym, ◌∙◌}
+use Rattle.std.proofs.Common.{ap, refl, ◌∙◌}
 use Rattle.std.specs.Option.{option_map_or}
-use Rattle.std.specs.Prelude.{pos, Bool, List, None, Option, Some, [], false, if◌then◌else◌, is_some, length, map, not, option_map, suc, true, zero, ℕ, ℤ, ◌&&◌, ◌+◌, ◌-◌, ◌∷◌, ◌≡◌, ◌≤◌}
+use Rattle.std.specs.Prelude.{pos, Bool, List, None, Option, Some, [], false, if◌then◌else◌, is_some, length, map, not, option_map, suc, true, zero, ℕ, ℤ, ◌&&◌, ◌+◌, ◌∷◌, ◌≡◌}
 
 -- ---- a chain
 octets_ticked : (now : ℕ) (chain : Chain) (p : ℕ) → octets_at (chain_ticked chain now) p ≡ octets_at chain p

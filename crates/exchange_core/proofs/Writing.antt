@@ -9,7 +9,7 @@ use Rattle.exchange_core.specs.Exchange.{IsFlowOf, IsSoundExchange, at_moment, f
 use Rattle.exchange_core.specs.Exchanges.{Exchanges, IsSound, exchange_at, flow_at, is_send_above}
 use Rattle.exchange_core.specs.Flow.{Flow, IsSound as IsSoundFlow, last_place, meters_hold}
 use Rattle.number_set.specs.NumberSet.{NumberSet, has}
-use Rattle.exchange_core.specs.View.{IsKept, exchanges_of, seen_all, stored}
+use Rattle.exchange_core.specs.View.{IsKept, exchanges_of, stored}
 use Rattle.exchange_core.specs.declared.exchange.Exchange.{Exchange}
 use Rattle.exchange_core.specs.declared.exchanges.Exchanges.TheInside.{Inside}
 use Rattle.filter_chain.specs.Chain.{above_at}
@@ -21,12 +21,11 @@ use Rattle.std.proofs.Common.{ap, arith, inl, inr, refl, subst, sym, ◌∙◌}
 use Rattle.std.proofs.lemmas.Bool.{cases_Bool, eq-eqb, eqb-true}
 use Rattle.std.proofs.lemmas.Option.{none-some, same_Some}
 use Rattle.std.specs.BTreeMap.{BTreeMap, WritesThrough, is_at}
-use Rattle.std.specs.List.{AllByRecursion}
 use Rattle.std.specs.List.Sorted.{IsStrictlySortedBy}
 use Rattle.std.specs.Map.{keys_of, lookup}
 use Rattle.std.specs.Option.{option_and_then, option_map_or}
 use Rattle.std.specs.Ordering.{nat_cmp}
-use Rattle.std.specs.Prelude.{Bool, IfSome, IsSome, List, None, Option, Some, [], cond, false, length, nat_eq, option_map, true, ℕ, ◌+◌, ◌<◌, ◌||◌, ◌∷◌, ◌≡◌, ◌≤◌}
+use Rattle.std.specs.Prelude.{Bool, IfSome, IsSome, List, None, Option, Some, cond, false, length, nat_eq, option_map, true, ℕ, ◌+◌, ◌<◌, ◌≡◌, ◌≤◌}
 
 -- ---- one exchange
 response_known : (now : ℕ) (response : Option Flow) → option_map (at_moment now) (option_map (at_moment now) response) ≡ option_map (at_moment now) response

@@ -11,7 +11,7 @@ use Rattle.exchange_core.specs.Exchange.{flow_changed, flow_in, goes_to, seen_at
 use Rattle.exchange_core.specs.Exchanges.{flow_at, target_of}
 use Rattle.exchange_core.specs.Flow.{Flow}
 use Rattle.exchange_core.specs.Moves.{has_room_ahead, next_step, stepped}
-use Rattle.exchange_core.specs.Units.{IsFrameable, next_unit}
+use Rattle.exchange_core.specs.Units.{next_unit}
 use Rattle.exchange_core.specs.View.{IsKept, exchanges_of}
 use Rattle.exchange_core.specs.declared.exchanges.Exchanges.TheInside.{Inside}
 use Rattle.exchange_core.specs.declared.step.Advance.{Advance}
@@ -22,7 +22,7 @@ use Rattle.std.specs.BTreeMap.{is_at}
 use Rattle.std.specs.Map.{lookup}
 use Rattle.std.specs.Option.{option_copied_mut}
 use Rattle.std.specs.Ordering.{nat_cmp}
-use Rattle.std.specs.Prelude.{IfSome, IsOk, IsTrue, None, option_map, ◌≡◌, false, true}
+use Rattle.std.specs.Prelude.{IsOk, IsTrue, None, option_map, ◌≡◌}
 use mir.Val.{of_z, to_z}
 
 -- ---- no exchange was found

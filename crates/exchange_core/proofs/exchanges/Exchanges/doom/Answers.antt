@@ -5,13 +5,11 @@ use Rattle.exchange_core.proofs.Seeing.{seen_sound}
 use Rattle.exchange_core.proofs.Untouched.{reckoning_seen}
 use Rattle.exchange_core.proofs.exchanges.Exchanges.doom.Goals as goal
 use Rattle.exchange_core.specs.declared.exchanges.Exchanges.TheInside.{Inside}
-use Rattle.exchange_core.specs.View.{IsKept}
-use Rattle.exchange_core.specs.Changes.{ForgetsFlows, ForgetsSides, KnowsFlows}
+use Rattle.exchange_core.specs.Changes.{ForgetsFlows, KnowsFlows}
 use Rattle.exchange_core.specs.Exchange.{at_moment, seen_at}
 use Rattle.exchange_core.specs.Replies.{reckoning}
 use Rattle.exchange_core.specs.declared.exchange.Exchange.{Exchange}
-use Rattle.exchange_core.specs.declared.reply.Doomed.{Doomed}
-use Rattle.std.proofs.Common.{ap, arith, refl, subst, sym, ◌∙◌}
+use Rattle.std.proofs.Common.{ap, arith, refl, sym, ◌∙◌}
 use Rattle.std.proofs.lemmas.Bool.{false≢true}
 use Rattle.std.specs.Prelude.{Some, option_map}
 

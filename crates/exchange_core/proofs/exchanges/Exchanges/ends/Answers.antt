@@ -1,7 +1,6 @@
 use Rattle.exchange_core.proofs.Untouched.{exchange_ends}
 use Rattle.exchange_core.proofs.exchanges.Exchanges.ends.Goals as goal
 use Rattle.exchange_core.specs.Exchange.{ends_of}
-use Rattle.exchange_core.specs.declared.exchange.Ends.{Ends}
 use Rattle.std.proofs.Common.{ap, sym, ◌∙◌}
 use Rattle.std.specs.Prelude.{Some, option_map}
 

@@ -1,10 +1,10 @@
 use Rattle.exchange_core.proofs.Finding.{exchange_found, flow_found}
 use Rattle.exchange_core.proofs.Untouched.{flow_seen}
 use Rattle.exchange_core.proofs.exchanges.Exchanges.find.Goals as goal
-use Rattle.exchange_core.specs.Exchange.{at_moment, flow_in, seen_at}
-use Rattle.std.proofs.Common.{ap, refl, sym, ◌∙◌}
+use Rattle.exchange_core.specs.Exchange.{flow_in, seen_at}
+use Rattle.std.proofs.Common.{ap, refl}
 use Rattle.std.specs.Option.{option_and_then}
-use Rattle.std.specs.Prelude.{None, option_map}
+use Rattle.std.specs.Prelude.{None}
 
 pub returns : goal.returns
 returns c = rw (← c.self.view_is) (record {

@@ -12,7 +12,7 @@ use Rattle.exchange_core.proofs.Steady.{calm_framed, steady_framed}
 use Rattle.exchange_core.specs.Effects.{body_framed}
 use Rattle.exchange_core.specs.Flow.{send}
 use Rattle.exchange_core.specs.Message.{head_waits}
-use Rattle.std.specs.Prelude.{OnOk, length, take, ◌+◌, ◌++◌, ◌≤◌}
+use Rattle.std.specs.Prelude.{OnOk, length, take, ◌++◌, ◌≤◌}
 use Rattle.wm_buffer.specs.Buffer.{AppendsOctets}
 use Rattle.exchange_core.specs.View.{exchanges_of, IsKept}
 use Rattle.exchange_core.specs.Changes.{ChangesFlow}

@@ -13,7 +13,6 @@ use Rattle.exchange_core.specs.Message.{head_waits}
 use Rattle.exchange_core.specs.Units.{IsFrameable, next_unit}
 use Rattle.exchange_core.specs.View.{IsKept, exchanges_of}
 use Rattle.exchange_core.specs.declared.exchanges.Exchanges.TheInside.{Inside}
-use Rattle.flow_rules.specs.declared.unit.Unit.{Unit as NextUnit}
 use Rattle.std.proofs.Common.{ap, sym, w64, ◌∙◌}
 use Rattle.std.proofs.lemmas.Int.{to_z-of_z}
 use Rattle.std.specs.Option.{option_copied_mut}

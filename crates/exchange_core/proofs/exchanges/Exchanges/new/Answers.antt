@@ -1,8 +1,7 @@
 use Rattle.exchange_core.proofs.Keeping.{nothing_kept}
 use Rattle.exchange_core.proofs.Seeing.{seen_sound}
 use Rattle.exchange_core.proofs.exchanges.Exchanges.new.Goals as goal
-use Rattle.std.proofs.Common.{ap, arith}
-use Rattle.exchange_core.specs.View.{seen_all}
+use Rattle.std.proofs.Common.{arith}
 
 pub invariant_of-result : goal.invariant_of-result
 invariant_of-result c = nothing_kept _ c.new.ensures.empty c.new-2.ensures.items c.new-3.ensures c.new.ensures.ordered (omega arith) c.new-2.ensures.len

@@ -3,7 +3,7 @@ use Rattle.exchange_core.proofs.Seeing.{seen_sound}
 use Rattle.exchange_core.proofs.Starting.{number_rises, one_more, start_kept, starts}
 use Rattle.exchange_core.proofs.exchanges.Exchanges.start.Goals as goal
 use Rattle.exchange_core.specs.Exchange.{IsSoundExchange, begun}
-use Rattle.exchange_core.specs.View.{exchanges_of, IsKept}
+use Rattle.exchange_core.specs.View.{exchanges_of}
 use Rattle.std.proofs.Common.{ap, arith, refl, subst, ◌∙◌, ◌≡◌, ◌<◌}
 use Rattle.std.specs.BTreeMap.{insert_entry, is_at}
 use Rattle.std.specs.Map.{lookup}

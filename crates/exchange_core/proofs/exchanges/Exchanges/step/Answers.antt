@@ -14,7 +14,7 @@ use Rattle.exchange_core.specs.Exchange.{goes_to, seen_at}
 use Rattle.exchange_core.specs.Flow.{Flow}
 use Rattle.exchange_core.specs.Moves.{has_room_ahead, next_step, stepped}
 use Rattle.exchange_core.specs.View.{exchanges_of}
-use Rattle.std.proofs.Common.{ap, subst, sym, ◌∙◌}
+use Rattle.std.proofs.Common.{ap, sym, ◌∙◌}
 use Rattle.std.specs.Option.{option_copied_mut}
 use Rattle.std.specs.Prelude.{IsOk, IsTrue}
 

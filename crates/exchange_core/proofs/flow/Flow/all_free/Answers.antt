@@ -5,7 +5,7 @@ use Rattle.exchange_core.specs.Flow.{last_place}
 use Rattle.exchange_core.specs.Kept.{flow_of}
 use Rattle.exchange_core.specs.Moves.{lets_go}
 use Rattle.flow_gate.specs.declared.ids.BufferId.TheVariants as buffer
-use Rattle.std.proofs.Common.{ap, arith, false, subst, sym, true, ◌<◌, ◌≡◌, ◌∙◌}
+use Rattle.std.proofs.Common.{ap, arith, false, sym, true, ◌≡◌, ◌∙◌}
 use Rattle.std.specs.Prelude.{min}
 
 pub returns-then-is_clear-clause-place : goal.returns-then-is_clear-clause-place

@@ -1,11 +1,9 @@
-use Rattle.std.proofs.Common.{◌≡◌, ◌<◌, ◌≤◌, ◌∙◌, ap, arith, sym, true}
+use Rattle.std.proofs.Common.{◌≡◌, ◌<◌, ◌≤◌, ◌∙◌, arith, sym, true}
 use Rattle.exchange_core.proofs.StageSources.{send_held, stage_held}
 use Rattle.exchange_core.proofs.flow.Flow.is_held_at.Goals as goal
 use Rattle.exchange_core.specs.Flow.{last_place}
 use Rattle.exchange_core.specs.Kept.{flow_of}
 use Rattle.filter_chain.specs.Release.{is_source_at}
-use Rattle.flow_gate.specs.Board.{is_marked}
-use Rattle.flow_gate.specs.declared.ids.BufferId.TheVariants as buffer
 
 pub returns-then-place-places : goal.returns-then-place-places
 returns-then-place-places c =

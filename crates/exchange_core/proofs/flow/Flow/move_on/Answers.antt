@@ -2,7 +2,7 @@ use Rattle.std.proofs.Common.{◌≡◌, ◌+◌, ◌≤◌, length, subst, arit
 use Rattle.exchange_core.proofs.Holding.{lets_go_few}
 use Rattle.exchange_core.proofs.Moving.{released_kept}
 use Rattle.exchange_core.proofs.flow.Flow.move_on.Goals as goal
-use Rattle.exchange_core.specs.Flow.{Flow, octets_in}
+use Rattle.exchange_core.specs.Flow.{octets_in}
 use Rattle.exchange_core.specs.Kept.{flow_of}
 use Rattle.filter_chain.specs.Chain.{above_at}
 use Rattle.std.specs.Prelude.{IfOk}

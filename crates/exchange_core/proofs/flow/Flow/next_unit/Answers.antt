@@ -3,7 +3,6 @@ use Rattle.exchange_core.proofs.Frames.{head_frameable}
 use Rattle.exchange_core.proofs.flow.Flow.next_unit.Goals as goal
 use Rattle.exchange_core.specs.Flow.{IsSound}
 use Rattle.exchange_core.specs.Message.{head_waits}
-use Rattle.exchange_core.specs.Units.{IsFrameable}
 use Rattle.exchange_core.specs.State.{ungated}
 use Rattle.flow_rules.specs.Units.{head_may_go}
 use Rattle.std.specs.Prelude.{pos}
