@@ -47,13 +47,13 @@ unended q ended framed r s r' s' e f = rw (e, f) refl
 
 pub goes_on : (limits : PlainLimits) (flows : Flows) (x : ℕ) (h : Past) → StreamIs limits x h (exchange_at flows.exchanges x) → GoesOn flows x → plain_ended x h ≡ false
 goes_on limits flows x h s goes =
-    sym s.ended ∙ at_found (λ (f : Flow). f.message.ended ≡ false) (flow_at flows.exchanges (request x)) (plain_flow x s.plain) (ap (option_and_then (flow_in false)) s.is) goes
+    sym s.ended ∙ at_found (λ (f : Flow). f.message.ended ≡ false) (flow_at flows.exchanges (request x)) (plain_flow x s.plain) (cc) goes
 
 module _ (limits : PlainLimits) (k x : ℕ) where
   arrive_piece : (octets : List ℕ) (h : Past) → plain_ended x h ≡ false
       → next_piece limits x (past_body k x octets h) ≡ next_piece limits x h
   arrive_piece octets h goes =
-      ap piece_of (unended limits.quantum (plain_ended x h) (end_out limits x h) _ _ _ _ goes (ap (λ (o : List ℕ). length o) (body_send limits k x octets h)))
+      ap piece_of (unended limits.quantum (plain_ended x h) (end_out limits x h) _ _ _ _ goes (cc (body_send limits k x octets h)))
 
   pub arrives : (octets : List ℕ) (old : Flows) (ex : Exchanges) (holding : BTreeSet ℕ) (h : Past) → Settled limits old h → Alive h x → GoesOn old x
       → ChangesFlow (request x) (arrived octets) old.exchanges ex → AreSoundExchanges ex
@@ -74,7 +74,7 @@ module _ (limits : PlainLimits) (k x : ℕ) where
               limit = s.limit;
               quantum = s.quantum;
               started = s.started;
-              recv = ap (λ (o : List ℕ). o ++ octets) s.recv ∙ sym (body_recv limits k x octets h);
+              recv = cc (body_recv limits k x octets h);
               send = s.send ∙ sym (body_send limits k x octets h);
               above = s.above ∙ sym (body_high limits k x octets h);
               ended = s.ended;
@@ -96,7 +96,7 @@ module _ (limits : PlainLimits) (k x : ℕ) where
 
   -- ---- the end of a stream comes
   end_keeps : (y : ℕ) (h : Past) → (x == y) ≡ false → KeepsStream limits y h (turn_of k (plain.Finish x) ∷ h)
-  end_keeps y h d = turn_keeps limits y k (plain.Finish x) h (ap (λ b. b || plain_ended y h) d) refl
+  end_keeps y h d = turn_keeps limits y k (plain.Finish x) h (cc) refl
 
   ended_stream : (h : Past) (found : Option Exchange) → StreamIs limits x h found
       → StreamIs limits x (turn_of k (plain.Finish x) ∷ h) (option_map (flow_changed (finished None) false) found)
@@ -110,7 +110,7 @@ module _ (limits : PlainLimits) (k x : ℕ) where
     recv = s.recv;
     send = s.send;
     above = s.above ∙ sym (send_same limits (request x) (turn_of k (plain.Finish x)) h refl);
-    ended = sym (ap (λ b. b || plain_ended x h) (same_number x));
+    ended = cc (same_number x);
     end_framed = s.end_framed;
   }
 
@@ -126,10 +126,10 @@ module _ (limits : PlainLimits) (k x : ℕ) where
       let w = turn_keeps_write limits k (plain.Finish x) h in
       let all = changed_exchanges limits x (finished None) old.exchanges ex h (turn ∷ h) st.exchanges c sound (record { lives = refl; begun = refl; doomed = refl }) (λ y d. end_keeps y h d) own in
       record {
-        limits_are = ap (λ (f : Flows). f.limits) rest ∙ st.limits_are;
+        limits_are = cc;
         ranges = st.ranges;
-        exchanges = subst (λ (e : Exchanges). ExchangesAre limits e (turn ∷ h)) (sym (ap (λ (f : Flows). f.exchanges) rest)) all;
-        gates = subst (λ (b : Board). GatesAre limits b (turn ∷ h)) (sym (ap (λ (f : Flows). f.gates) rest)) (gates_kept limits old.gates h (turn ∷ h) st.gates (record {
+        exchanges = subst (λ (e : Exchanges). ExchangesAre limits e (turn ∷ h)) (cc) all;
+        gates = rw (ap (λ (f : Flows). f.gates) rest) (gates_kept limits old.gates h (turn ∷ h) st.gates (record {
           lives = refl;
           counts = λ y e. refl;
           write = w.high;
@@ -139,5 +139,5 @@ module _ (limits : PlainLimits) (k x : ℕ) where
         conn = refreshed_conn limits x (record old { exchanges = ex }) new h (turn ∷ h) st.limits_are rest made
             (record { limit = st.conn.limit; octets = st.conn.octets ∙ sym w.octets; above = st.conn.above ∙ sym w.high; framed_last = st.conn.framed_last })
             (all.there x is) is refl (λ y d. end_keeps y h d) st.conn.ready;
-        holding = subst (λ (v : BTreeSet ℕ). HoldingIs limits v (turn ∷ h)) (sym (ap (λ (f : Flows). f.holding) rest)) (holding_kept limits old.holding h (turn ∷ h) st.holding refl (λ y. refl));
+        holding = rw (ap (λ (f : Flows). f.holding) rest) (holding_kept limits old.holding h (turn ∷ h) st.holding refl (λ y. refl));
       }

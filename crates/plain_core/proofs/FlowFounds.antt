@@ -21,13 +21,13 @@ use Rattle.plain_core.specs.Ready.{IsNewConnection}
 
 none_at : (ex : Exchanges) (x : ℕ) → ex.live ≡ [] → exchange_at ex x ≡ None
 unfolding exchange_at
-none_at ex x e = ap (λ (es : List (ℕ × Exchange)). lookup (nat_eq x) es) e
+none_at ex x e = cc
 
 no_exchanges : (limits : PlainLimits) (ex : Exchanges) → ex.live ≡ [] → ex.doomed ≡ [] → ex.last ≡ 0 → ex.time ≡ 0 → AreSoundExchanges ex → ExchangesAre limits ex []
 no_exchanges limits ex live doomed last time sound = record {
   sound = sound;
   time = time;
-  small = subst (λ (n : ℕ). n < 2 ^ 32) (sym last) (omega arith);
+  small = rw last (omega arith);
   most = record { most = λ y is. absurd (cc) };
   last = inl last;
   doomed = doomed;
@@ -52,9 +52,9 @@ first_gates limits old new e k sound = record {
 
 first_conn : (limits : PlainLimits) (conn : Connection) → IsNewConnection limits.write conn → ConnectionIs limits conn []
 first_conn limits conn c = record {
-  limit = ap (λ (w : Buffer). w.limit) c.write;
-  octets = ap (λ (w : Buffer). w.octets) c.write;
-  above = ap (λ (w : Buffer). w.above) c.write;
+  limit = cc;
+  octets = cc;
+  above = cc;
   framed_last = c.framed_last;
   ready = λ x. c.ready x;
 }

@@ -24,7 +24,7 @@ quantum_some limits l = omega (arith, l.quantum.0)
 
 -- the room of a frame is a quantum, whatever width it is kept in
 pub room_is : (flows : Flows) (room : ℤ) → IsSettled flows → room ≡ pos flows.limits.quantum → to_z w64 (of_z w64 room) ≡ pos flows.limits.quantum
-room_is flows room s e = ap (λ z. to_z w64 (of_z w64 z)) e ∙ to_z_pos w64 flows.limits.quantum small
+room_is flows room s e = cc (to_z_pos w64 flows.limits.quantum small)
   where
     small : flows.limits.quantum < 2 ^ 63
     small =
@@ -52,8 +52,8 @@ conn_kept limits conn h h' c k last lives ready = record {
 }
   where
     same : (x : ℕ) (b : Bool) → has (live h) x ≡ b → (if has (live h) x then next_piece limits x h else None) ≡ (if has (live h') x then next_piece limits x h' else None)
-    same x true e = ap (λ (p : Option Piece). if has (live h) x then p else None) (sym (ready x e)) ∙ ap (λ (xs : List ℕ). if has xs x then next_piece limits x h' else None) (sym lives)
-    same x false e = ap (λ b. if b then next_piece limits x h else None) e ∙ sym (ap (λ b. if b then next_piece limits x h' else None) (ap (λ (xs : List ℕ). has xs x) lives ∙ e))
+    same x true e = cc (ready x e)
+    same x false e = cc
 
 -- one stream was looked at again
 pub refreshed_conn : (limits : PlainLimits) (x : ℕ) (mid new : Flows) (h h' : Past) → mid.limits ≡ limits

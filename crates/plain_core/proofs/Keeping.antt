@@ -35,22 +35,22 @@ pub record OnlyMoves (old new : PlainCore) : Type 0 where
 pub books_kept : (old new : PlainCore) (h k : Past) → OnlyMoves old new → turns k ≡ turns h → ((x : ℕ) → paired_with x k ≡ paired_with x h) → BooksAre old h → BooksAre new k
 books_kept old new h k o t p b = record {
   turn = o.turn ∙ b.turn ∙ sym t;
-  pairs = λ s x. ap (λ (v : List ℕ). has v s) (p x) ∙ b.pairs s x ∙ ap (λ (v : Pairs). is_some_of (get nat_cmp v s) x) (sym o.pairs);
-  routes = subst (λ (c : Config). All IsRoute c.routes) (sym o.config) b.routes;
+  pairs = λ s x. cc (p x, b.pairs s x);
+  routes = rw o.config b.routes;
 }
 
 -- a core with other flows and another agenda
 module _ (old new : PlainCore) (flows : Flows) where
   pub only_moves : HasFlows flows old new → OnlyMoves old new
   only_moves e = record {
-    config = ap (λ (c : PlainCore). c.config) e;
-    turn = ap (λ (c : PlainCore). c.turn) e;
-    pairs = ap (λ (c : PlainCore). c.pairs) e;
-    well = ap (λ (c : PlainCore). c.failed) e;
+    config = cc;
+    turn = cc;
+    pairs = cc;
+    well = cc;
   }
 
   pub flows_are : HasFlows flows old new → new.flows ≡ flows
-  flows_are e = ap (λ (c : PlainCore). c.flows) e
+  flows_are e = cc
 
 -- the core with other flows
 abbrev pub with_flows : PlainCore → Flows → PlainCore
@@ -66,7 +66,7 @@ pub good_of : (limits : PlainLimits) (old new : PlainCore) (h k : Past) → Only
 good_of limits old new h k o t p f s u g = record {
   flows = record { stands = f; lawful = s };
   books = books_kept old new h k o t p g.books;
-  underway = subst (λ (v : Pairs). Underway limits v new.agenda k) (sym o.pairs) u;
+  underway = rw o.pairs u;
 }
 
 -- ---- one step after the other

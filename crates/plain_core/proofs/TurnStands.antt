@@ -42,7 +42,7 @@ module _ (limits : PlainLimits) (x k : ℕ) (e : PlainEvent) (h : Past) where
   turn_piece : plain_ended x (turned k e ∷ h) ≡ plain_ended x h
       → next_piece limits x (turned k e ∷ h) ≡ next_piece limits x h
   turn_piece same =
-      ap (λ b. piece_of (unit_of limits.quantum b (end_out limits x h) (length (recv_at limits x h)) (length (send_at limits x h)))) same
+      cc
 
 live_if : (a : Bool) (b c : Option Piece) → (a ≡ true → b ≡ c) → (if a then c else None) ≡ (if a then b else None)
 live_if true b c f = sym (f refl)

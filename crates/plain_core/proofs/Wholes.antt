@@ -41,7 +41,7 @@ whole_of limits core h g idle swept =
     λ x is. by_case (may_move limits x h) (λ t. not_both _ (u.runs x is t) (no_task (is_run_of (request x)) core.agenda idle)) (λ f. f) in
     let framed : conn_high limits h ≡ false → next_out limits h ≡ Nothing =
     λ low. elim u.rested as (λ s. next_out limits h ≡ Nothing) [
-      | inl e ↦ not_both _ e (ap is_rounded idle)
+      | inl e ↦ not_both _ e (cc)
       | inr e ↦ elim (e.1.none) as (λ s. next_out limits h ≡ Nothing) [ inl a ↦ not_both _ a low | inr r ↦ next_none limits h r ]
     ] in
     let ended : (x : ℕ) → Alive h x → plain_must_end x h ≡ false =

@@ -14,4 +14,4 @@ all_or_none (Err e) old ns new ok err = record { front = []; rest = ns; whole = 
 
 pub returns : goal.returns
 returns c =
-    subst (λ (v : List FlowId). AppendsNotes c.args.notes.now (pauses_of c.args.buffer v) c.push_pauses.new.self c.push_pauses.result) c.watchers.ensures (all_or_none c.push_pauses.result c.args.notes.now (pauses_of c.args.buffer c.watchers.result) c.push_pauses.new.self c.push_pauses.ensures.ok c.push_pauses.ensures.err)
+    rw (← c.watchers.ensures) (all_or_none c.push_pauses.result c.args.notes.now (pauses_of c.args.buffer c.watchers.result) c.push_pauses.new.self c.push_pauses.ensures.ok c.push_pauses.ensures.err)

@@ -12,4 +12,4 @@ pub returns : goal.returns
 returns c =
     let lows = pending_on c.args.flows.now.gates (buffer.Write 0) in
     none_wakes c.args.flows.now lows [] c.len.result (append-nil lows) refl (all_still c.args.flows.now lows c.requires)
-    (c.len.ensures ∙ ap (λ (fs : List FlowId). length fs) c.lows.ensures)
+    (c.len.ensures ∙ ap length c.lows.ensures)

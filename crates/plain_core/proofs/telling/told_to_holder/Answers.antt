@@ -22,6 +22,6 @@ loop-flow-preserved c =
     record {
       all = append_assoc fs (f ∷ []) c.next.new.self ∙ (ap (λ (gs : List FlowId). fs ++ gs) (sym c.in-Some.ensures.steps) ∙ c.loop-flow.invariant.all);
       number = omega (arith, is, l);
-      stay = all_more (λ g. Wakes c.args.flows.now g.exchange false) fs f c.loop-flow.invariant.stay (wakes_unheld c.args.flows.now f.exchange (subst (λ (b : Bool). Holds c.args.flows.now f.exchange b) c.if-holds_past.false c.holds_past.ensures.holds));
+      stay = all_more (λ g. Wakes c.args.flows.now g.exchange false) fs f c.loop-flow.invariant.stay (wakes_unheld c.args.flows.now f.exchange (rw (← c.if-holds_past.false) c.holds_past.ensures.holds));
       gap = c.holds_past.ensures.gap;
     }
