@@ -4,7 +4,7 @@ use Rattle.std.specs.List.{list_any}
 use Rattle.std.specs.Option.{option_map_or}
 use Rattle.std.specs.Ordering.{nat_cmp}
 use Rattle.std.specs.Prelude.{Bool, IfSome, IsSomeAnd, List, Option, [], is_some, length, take, true, ℕ, ◌<◌, ◌≡◌, ◌≤◌}
-use Rattle.wire_state.specs.declared.core.WireCore.{WireCore}
+use Rattle.wire_state.specs.declared.wire_core.WireCore.{WireCore}
 
 -- these octets are a front of those, and there are some where any are there
 pub record IsFront (octets all : List ℕ) : Type 0 where

@@ -9,8 +9,8 @@ use Rattle.tape_laws.specs.declared.limits.PlainLimits.{PlainLimits}
 use Rattle.wire_state.specs.Sound.{IsSound, is_open_at}
 use Rattle.worker_core.specs.Dispatching.{Breaks, Dispatches}
 use Rattle.worker_core.specs.Fronts.{IsFront, IsLeastAbove, has_octets, is_there, octets_at}
-use Rattle.worker_core.specs.declared.core.Kind.{Kind}
-use Rattle.worker_core.specs.declared.core.Kind.TheVariants as kind
+use Rattle.worker_core.specs.declared.worker.Kind.{Kind}
+use Rattle.worker_core.specs.declared.worker.Kind.TheVariants as kind
 
 -- wire sessions before or between dispatches that were carried out
 abbrev pub RestsWire : Kind → Type 0
