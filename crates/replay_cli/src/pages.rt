@@ -3,10 +3,11 @@
 pub const VERSION: &str = "h2replay 0.1.0
 ";
 
-pub const USAGE: &str = "usage: h2replay plain | h2replay drill N
-  plain    reads a plain session from standard input, and writes its tape and summary
-  drill N  runs a session of N streams, 1 to 1000, and writes what it came to
-  --help   says more; --version says which program this is
+pub const USAGE: &str = "usage: h2replay plain | h2replay wire CONFIG | h2replay drill N
+  plain        reads a plain session from standard input, and writes its tape and summary
+  wire CONFIG  reads the configuration in the file CONFIG, then a wire session, and writes the same
+  drill N      runs a session of N streams, 1 to 1000, and writes what it came to
+  --help       says more; --version says which program this is
 ";
 
 pub const HELP: &str =

@@ -13,6 +13,8 @@ const MOST_STREAMS: u32 = 1_000;
 pub enum Form {
     /// `plain`: a plain session that is read.
     Plain,
+    /// `wire CONFIG`: a wire session that is read, under a configuration that is read first.
+    Wire,
     /// `drill N`: the drill of N streams, 1 to 1,000.
     Drill { streams: u32 },
 }
@@ -24,6 +26,7 @@ pub fn read_form(words: &[String]) -> Option<Form>
 {
     match words {
         [word] => plain_form(word.as_str()),
+        [word, _] if word.as_str() == "wire" => Some(Form::Wire),
         [word, number] => drill_form(word.as_str(), number.as_str()),
         _ => None,
     }

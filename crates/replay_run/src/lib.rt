@@ -11,6 +11,7 @@ mod replaying;
 mod short;
 mod tally;
 mod text;
+mod wire;
 
 pub use drill::{Drill, Upcoming, drill_events};
 pub use form::{Form, read_form};
@@ -23,3 +24,4 @@ pub use session_run::{Lines, Player, Run, Status, Went, write_all};
 pub use short::put_short;
 pub use tally::Tally;
 pub use text::session_text;
+pub use wire::end_at_config;

@@ -11,6 +11,7 @@ use crate::drill_run::replay_drill;
 use crate::form::{Form, read_form};
 use crate::play::Play;
 use crate::reason::{Outcome, Reason};
+use crate::wire::replay_wire;
 use io_ports::{Sink, Source};
 use line_faults::{LineFault, explain_plain};
 use session_run::{Lines, Run, Status};
@@ -54,6 +55,7 @@ pub fn replay_with_reason<C: Source, S: Source, K: Sink>(
 {
     match read_form(words) {
         Some(Form::Plain) => replay_plain(alloc, session, out),
+        Some(Form::Wire) => replay_wire(alloc, config, session, out),
         Some(Form::Drill { streams }) => {
             let status = replay_drill(alloc, streams, out);
             Outcome {

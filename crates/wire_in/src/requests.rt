@@ -163,7 +163,7 @@ fn known_row(core: &WireCore, row: Option<u32>) -> Option<u32>
     ensures { IfSome result (λ row. row < length core.now.config.routes) }
 {
     match row {
-        Some(row) if (row as usize) < core.config.routes.len() => Some(row),
+        Some(row) if row < core.config.routes.len() => Some(row),
         _ => None,
     }
 }

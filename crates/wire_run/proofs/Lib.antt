@@ -1,0 +1,4 @@
+pub mod Noting
+pub mod Playing
+pub mod Retelling
+pub mod Staging

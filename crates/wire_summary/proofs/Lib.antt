@@ -1,0 +1,6 @@
+pub mod Exchanging
+pub mod Going
+pub mod Moving
+pub mod Siding
+pub mod Summing
+pub mod Writing
