@@ -1,6 +1,7 @@
 -- Lines that are played.
 use Rattle.flow_notes.specs.Event.{IsEvent, event_spelling}
 use Rattle.flow_notes.specs.Line.{newline}
+use Rattle.flow_notes.specs.Name.{AreNames}
 use Rattle.flow_notes.specs.Note.{IsNote}
 use Rattle.flow_notes.specs.declared.events.Event.{Event}
 use Rattle.flow_notes.specs.declared.notes.Note.{Note}
@@ -139,6 +140,7 @@ header_played old new line text_old text_new r es et el tt_is = record {
         stands = record {
           config = k.config;
           configured = k.configured;
+          named = k.named;
           seen = wire_more k.seen a.item;
           history = k.history;
           read = a.lines;
@@ -203,6 +205,7 @@ event_line_played old mid line e text_old new text_new result r es et el p = rec
           stands = record {
             config = k.config;
             configured = k.configured;
+          named = k.named;
             seen = wire_more k.seen a.item;
             history = d.history;
             read = (let P : WireLines → Type 0 = λ v. WireLinesAre v (names_in k.config) (resources_in k.config) (wire_more k.seen a.item) in subst P (sym d.lines) a.lines);
@@ -219,6 +222,25 @@ event_line_played old mid line e text_old new text_new result r es et el p = rec
 -- what a line was read as
 pub read_as : (old new : WireLines) (line : List ℕ) (found answer : LineRead) → found ≡ answer → ReadsWireLine old line new (Ok found) → ReadsWireLine old line new (Ok answer)
 read_as old new line found answer e r = let P : LineRead → Type 0 = λ v. ReadsWireLine old line new (Ok v) in subst P e r
+
+-- ---- before the first line
+
+pub play_begun : (play : WirePlay) (config : Config) → WireLinesAre play.lines (names_in config) (resources_in config) NoLine → AreNames (names_in config) → PlayRests play config [] → (text : List ℕ) → config_of text ≡ Ok config → Begins wire_kind play text
+play_begun play config r n k text c = record {
+  stands = record {
+    config = config;
+    configured = c;
+    named = n;
+    seen = NoLine;
+    history = [];
+    read = r;
+    rests = k;
+    tape = record { may = tt; shown = refl; in_order = tt; spelled = tt };
+    lines_are = refl;
+    count_is = refl;
+    told_is = refl;
+  };
+}
 
 -- ---- the summary
 

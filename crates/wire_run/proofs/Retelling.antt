@@ -63,7 +63,7 @@ last_of status.Memory play config_text lines count told last k i = record { rows
 
 -- ---- the whole
 
-told_of : (how : Status) (config_text read told : List ℕ) (left : Option (List ℕ)) → run.Tells wire_kind how config_text read told left → TellsWire how config_text read told left
+pub told_of : (how : Status) (config_text read told : List ℕ) (left : Option (List ℕ)) → run.Tells wire_kind how config_text read told left → TellsWire how config_text read told left
 told_of how config_text read told left t =
     let k = t.stands in
     let l = last_of how t.player config_text t.lines t.count t.text t.last k t.is_last in

@@ -1,6 +1,5 @@
 -- What a wire session under way stands for.
-use Rattle.flow_gate.specs.declared.ids.FlowId.{FlowId}
-use Rattle.flow_notes.specs.Note.{IsNote}
+use Rattle.flow_notes.specs.Name.{AreNames}
 use Rattle.flow_notes.specs.declared.events.Event.{Event}
 use Rattle.io_ports.specs.declared.octets.NoMemory.{NoMemory}
 use Rattle.proxy_config.specs.Reading.{config_of}
@@ -9,7 +8,6 @@ use Rattle.session_config.specs.ClusterNames.{names_in, resources_in}
 use Rattle.session_lines.specs.WireLines.{IsWireSeen, SpellsNoWire, WireLinesAre, WireSeen, wire_events, wire_lines, wire_text}
 use Rattle.session_run.specs.Kinds.{Kind, kind_of}
 use Rattle.session_run.specs.declared.player.Went.{Went}
-use Rattle.std.specs.List.{AllByRecursion}
 use Rattle.std.specs.Prelude.{Bool, Err, List, Ok, Option, Result, false, ℕ, ◌++◌, ◌∷◌, ◌≡◌}
 use Rattle.tape_laws.specs.Dispatches.{events_back, turns}
 use Rattle.tape_laws.specs.History.{History, NoMark}
@@ -38,6 +36,7 @@ pub record PlayRests (play : WirePlay) (config : Config) (history : History NoMa
 pub record Played (play : WirePlay) (config_text lines : List ℕ) (count : ℕ) (told : List ℕ) : Type 0 where
   pub config : Config
   pub configured : config_of config_text ≡ Ok config
+  pub named : AreNames (names_in config)
   pub seen : WireSeen
   pub history : History NoMark
   pub read : WireLinesAre play.lines (names_in config) (resources_in config) seen

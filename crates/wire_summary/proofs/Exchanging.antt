@@ -230,3 +230,11 @@ module _ (limits : BufferLimits) (stages : FlowId → List StageKind) where
       response_is = doom_here limits stages x (note.Doom x why) (response x) h s.response (λ p. refl) (equal_is x x refl) k.response_is;
     };
   }
+
+  -- the places that are kept of an exchange stand for those before the step
+  pub kept_before : (h : History NoMark) (old new : Levels) (x : ℕ) (F : Sides → Sides) → KeepsLimits F → SetsSides old x (F (sides_in old x)) new → Agrees stages new
+      → ((y : ℕ) → ExchangeIs limits stages y h (get nat_cmp old.exchanges y)) → SidesAre limits stages x h (sides_in old x)
+  kept_before h old new x F keeps s a was =
+      let P : Option StageLimits → Type 0 = λ v. IfSome v (λ l. (l.request ≡ map kind_limit (stages (request x))) × (l.response ≡ map kind_limit (stages (response x)))) in
+      let agreed = subst P (known_here old x F new keeps s) (a x) in
+      kept_are x h (get nat_cmp old.exchanges x) agreed.0 agreed.1 (was x)

@@ -1,3 +1,4 @@
+pub mod Beginning
 pub mod Exchanging
 pub mod Going
 pub mod Moving

@@ -5,7 +5,7 @@ use Rattle.std.specs.BTreeMap.{get}
 use Rattle.std.specs.Fmt.{decimal}
 use Rattle.std.specs.Option.{option_map}
 use Rattle.std.specs.Ordering.{nat_cmp}
-use Rattle.std.specs.Prelude.{List, None, Option, Some, [], codes, length, suc, ℕ, ◌++◌, ◌+◌, ◌∷◌, ◌≡◌}
+use Rattle.std.specs.Prelude.{List, None, Option, Some, [], codes, length, ℕ, ◌++◌, ◌+◌, ◌∷◌, ◌≡◌}
 use Rattle.tape_laws.specs.Flows.{request, response}
 use Rattle.tape_laws.specs.History.{History, NoMark}
 use Rattle.tape_laws.specs.Report.{peak_line, summary_text}
@@ -21,7 +21,7 @@ use Rattle.wire_summary.specs.declared.log.WireLog.{WireLog}
 -- the lines of the peaks, each where its buffer ever held an octet
 abbrev pub stage_lines : FlowId → List Level → ℕ → List ℕ → List ℕ
 stage_lines f levels p [] = []
-stage_lines f levels p (limit ∷ limits) = peak_line (codes "stage" ∷ flow_word f ∷ decimal p ∷ []) limit (most_at p levels) ++ stage_lines f levels (suc p) limits
+stage_lines f levels p (limit ∷ limits) = peak_line (codes "stage" ∷ flow_word f ∷ decimal p ∷ []) limit (most_at p levels) ++ stage_lines f levels (p + 1) limits
 
 abbrev pub side_lines : BufferLimits → FlowId → Side → List ℕ
 side_lines limits f side =
