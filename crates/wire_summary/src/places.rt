@@ -78,7 +78,10 @@ impl FlowPlaces {
                 self.put(place as usize + 1, moved)?;
                 Ok(0)
             }
-            Change::Frame { n } => Ok(self.take(self.levels.len() - 1, n)),
+            Change::Frame { n } => {
+                let last = self.levels.len() - 1;
+                Ok(self.take(last, n))
+            }
         }
     }
 
