@@ -165,6 +165,32 @@ module _ (names : List (List ℕ)) (resources : ℕ) (are : AreNames names) wher
           let P : List ℕ → Type 0 = λ v. has_newline v ≡ false in
           unlike _ (has_one (wire_line names line.item) line.more) (subst P (sym (append-nil rest) ∙ ap (λ (v : List ℕ). rest ++ v) (sym end) ∙ line.is) no_line)
 
+-- ---- a text spells at most one session
+
+module _ (names : List (List ℕ)) (resources : ℕ) (are : AreNames names) where
+  events_same : (ds es : List Event) → MayFollowWireAll names resources ds → MayFollowWireAll names resources es → wire_event_lines names ds ≡ wire_event_lines names es → ds ≡ es
+  events_same ds es a b e = by (compare names resources are (length ds) (length es))
+    where
+      whole : wire_event_lines names ds ++ [] ≡ wire_event_lines names es ++ []
+      whole = append-nil (wire_event_lines names ds) ∙ e ∙ sym (append-nil (wire_event_lines names es))
+
+      by : (length ds < length es) ⊎ ((length ds ≡ length es) ⊎ (length es < length ds)) → ds ≡ es
+      by (inl less) = let k = next_event names resources are ds es [] [] less a b whole in absurd (nothing_more names resources are _ k.more k.is)
+      by (inr (inl same)) = (same_events names resources are ds es [] [] same a b whole).0
+      by (inr (inr more)) = let k = next_event names resources are es ds [] [] more b a (sym whole) in absurd (nothing_more names resources are _ k.more k.is)
+
+  one_seen : (s t : WireSeen) → IsWireSeen names resources s → IsWireSeen names resources t → wire_text names s ≡ wire_text names t → s ≡ t
+  one_seen NoLine NoLine a b e = refl
+  one_seen NoLine (Behind es) a b e = absurd (nothing_more names resources are wire_header (wire_event_lines names es) (e ∙ opened names resources are wire_header (wire_event_lines names es)))
+  one_seen (Behind ds) NoLine a b e = absurd (nothing_more names resources are wire_header (wire_event_lines names ds) (sym e ∙ opened names resources are wire_header (wire_event_lines names ds)))
+  one_seen (Behind ds) (Behind es) a b e =
+      let k = same_line wire_header wire_header (wire_event_lines names ds) (wire_event_lines names es) refl refl
+      (sym (opened names resources are wire_header (wire_event_lines names ds)) ∙ e ∙ opened names resources are wire_header (wire_event_lines names es)) in
+      ap Behind (events_same ds es a b k.1)
+
+pub one_wire_session : (names : List (List ℕ)) (resources : ℕ) (s t : WireSeen) → AreNames names → IsWireSeen names resources s → IsWireSeen names resources t → wire_text names s ≡ wire_text names t → s ≡ t
+one_wire_session names resources s t are a b e = one_seen names resources are s t a b e
+
 -- ---- the run
 
 same_config : {E : Type 0} (c d : Config) (r : Result Config E) → r ≡ Ok c → r ≡ Ok d → c ≡ d
