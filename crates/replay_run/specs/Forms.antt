@@ -4,18 +4,21 @@ use Rattle.std.specs.Fmt.{decimal}
 use Rattle.std.specs.Prelude.{List, [], codes, ℕ, ◌∷◌, ◌≡◌, ◌≤◌}
 use Rattle.replay_run.specs.declared.form.Form.TheVariants as form
 
-abbrev pub form_words : Form → List (List ℕ)
-form_words form.Plain = codes "plain" ∷ []
-form_words (form.Drill n) = codes "drill" ∷ decimal n ∷ []
+-- the name of a configuration may be any word
+abbrev pub HasWords : Form → List (List ℕ) → Type 0
+HasWords form.Plain words = words ≡ codes "plain" ∷ []
+HasWords form.Relay words = (name : List ℕ) × (words ≡ codes "relay" ∷ name ∷ [])
+HasWords (form.Drill n) words = words ≡ codes "drill" ∷ decimal n ∷ []
 
 -- a drill has 1 to 1,000 streams
 abbrev pub IsForm : Form → Type 0
 IsForm form.Plain = Unit {0}
+IsForm form.Relay = Unit {0}
 IsForm (form.Drill n) = (1 ≤ n) × (n ≤ 1000)
 
 pub record SpellsForm (words : List (List ℕ)) (f : Form) : Type 0 where
   pub ranges : IsForm f
-  pub is : words ≡ form_words f
+  pub is : HasWords f words
 
 pub record HasNoForm (words : List (List ℕ)) : Type 0 where
   pub none : (f : Form) → SpellsForm words f → ⊥

@@ -1,9 +1,11 @@
 // The whole of a replay.
-ghost use Rattle.std.specs.Prelude.{◌≡◌, ◌↔◌, map};
+ghost use Rattle.std.specs.Prelude.{◌≡◌, ◌↔◌, ◌⊎◌, map};
 ghost use Rattle.std.specs.String.{string_bytes};
 ghost use Rattle.io_ports.specs.Faults.{Rose};
 ghost use Rattle.replay_run.specs.Allowed.{Completes};
 ghost use Rattle.replay_run.specs.Forms.{HasNoForm, SpellsForm};
+ghost use Rattle.relay_run.specs.Replays.{ReplaysRelay};
+ghost use Rattle.replay_run.specs.Configured.{ReplaysUnder};
 ghost use Rattle.replay_run.specs.Replays.{Replays};
 ghost use Rattle.replay_run.specs.Told.{ReplaysForm};
 
@@ -11,13 +13,15 @@ use crate::drill_run::replay_drill;
 use crate::form::{Form, read_form};
 use crate::play::Play;
 use crate::reason::{Outcome, Reason};
+use crate::relay::replay_relay;
 use io_ports::{Sink, Source};
 use line_faults::{LineFault, explain_plain};
 use session_run::{Lines, Run, Status};
 use std::alloc::Global;
 
-/// Replays what the words ask for: `plain` reads the session and writes its tape with its summary; `drill N` reads nothing
-/// and writes the short summary of that drill. Other words read and write nothing. `config` isn't read.
+/// Replays what the words ask for: `plain` reads the session and writes its tape with its summary; `relay CONFIG` reads the
+/// configuration first, and does the same for a relay's session; `drill N` reads nothing and writes the short summary of that
+/// drill. Other words read and write nothing. `config` is read for `relay` alone.
 pub fn replay<C: Source, S: Source, K: Sink>(
     alloc: Global,
     words: &[String],
@@ -29,9 +33,10 @@ pub fn replay<C: Source, S: Source, K: Sink>(
     ensures completes { SpellsForm (map string_bytes words.now) Form.Plain → Completes (S.left session.old) result }
     ensures usage { (result ≡ Status.Usage) ↔ HasNoForm (map string_bytes words.now) }
     ensures nothing { result ≡ Status.Usage → (session.new ≡ session.old) × (out.new ≡ out.old) }
-    ensures read_fault { result ≡ Status.ReadFault → Rose (S.faults session.old) (S.faults session.new) }
+    ensures relay { SpellsForm (map string_bytes words.now) Form.Relay → ReplaysUnder (λ text status. ReplaysRelay text (S.left session.old) (S.left session.new) (K.contents out.old) (K.contents out.new) status) (C.left config.old) (C.left config.new) (S.left session.old) (S.left session.new) (K.contents out.old) (K.contents out.new) result }
+    ensures read_fault { result ≡ Status.ReadFault → Rose (S.faults session.old) (S.faults session.new) ⊎ (SpellsForm (map string_bytes words.now) Form.Relay × Rose (C.faults config.old) (C.faults config.new)) }
     ensures write_fault { result ≡ Status.WriteFault → Rose (K.faults out.old) (K.faults out.new) }
-    ensures config { config.new ≡ config.old }
+    ensures config { (SpellsForm (map string_bytes words.now) Form.Relay → ⊥) → config.new ≡ config.old }
 {
     replay_with_reason(alloc, words, config, session, out).status
 }
@@ -48,12 +53,14 @@ pub fn replay_with_reason<C: Source, S: Source, K: Sink>(
     ensures completes { SpellsForm (map string_bytes words.now) Form.Plain → Completes (S.left session.old) result.status }
     ensures usage { (result.status ≡ Status.Usage) ↔ HasNoForm (map string_bytes words.now) }
     ensures nothing { result.status ≡ Status.Usage → (session.new ≡ session.old) × (out.new ≡ out.old) }
-    ensures read_fault { result.status ≡ Status.ReadFault → Rose (S.faults session.old) (S.faults session.new) }
+    ensures relay { SpellsForm (map string_bytes words.now) Form.Relay → ReplaysUnder (λ text status. ReplaysRelay text (S.left session.old) (S.left session.new) (K.contents out.old) (K.contents out.new) status) (C.left config.old) (C.left config.new) (S.left session.old) (S.left session.new) (K.contents out.old) (K.contents out.new) result.status }
+    ensures read_fault { result.status ≡ Status.ReadFault → Rose (S.faults session.old) (S.faults session.new) ⊎ (SpellsForm (map string_bytes words.now) Form.Relay × Rose (C.faults config.old) (C.faults config.new)) }
     ensures write_fault { result.status ≡ Status.WriteFault → Rose (K.faults out.old) (K.faults out.new) }
-    ensures config { config.new ≡ config.old }
+    ensures config { (SpellsForm (map string_bytes words.now) Form.Relay → ⊥) → config.new ≡ config.old }
 {
     match read_form(words) {
         Some(Form::Plain) => replay_plain(alloc, session, out),
+        Some(Form::Relay) => replay_relay(alloc, config, session, out),
         Some(Form::Drill { streams }) => {
             let status = replay_drill(alloc, streams, out);
             Outcome {
