@@ -30,10 +30,11 @@ impl<F: Read> ConfigFile<F> {
 
 impl<F: Read> Source for ConfigFile<F> {
     ghost use Rattle.std.specs.Prelude.{None};
+    ghost use Rattle.replay_cli.specs.Files.{config_faults};
 
     ghost left = { λ _. None };
 
-    ghost faults = { λ _. 0 };
+    ghost faults = { config_faults };
 
     fn read(&mut self, into: &mut [u8]) -> Result<usize, Failed> {
         match self {

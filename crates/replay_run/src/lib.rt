@@ -1,18 +1,21 @@
 //! Replays a session: reads its lines, dispatches its events, and writes the tape with its summary.
 #![tactic(auto)]
 
+mod config_end;
 mod drill;
 mod drill_run;
 mod form;
 mod formats;
 mod play;
 mod reason;
+mod relay;
 mod replaying;
 mod short;
 mod tally;
 mod text;
 mod wire;
 
+pub use config_end::end_at_config;
 pub use drill::{Drill, Upcoming, drill_events};
 pub use form::{Form, read_form};
 pub use formats::{both_formats_spell_one_session, one_session};
@@ -24,4 +27,3 @@ pub use session_run::{Lines, Player, Run, Status, Went, write_all};
 pub use short::put_short;
 pub use tally::Tally;
 pub use text::session_text;
-pub use wire::end_at_config;

@@ -1,6 +1,5 @@
 // The names of a configuration's clusters.
 ghost use Rattle.std.specs.Prelude.{◌≡◌, ◌++◌, ◌∷◌, [], IfOk, OnOk};
-ghost use Rattle.flow_notes.specs.Name.{AreNames};
 ghost use Rattle.session_config.specs.ClusterNames.{names_in};
 
 use flow_notes::Names;
@@ -11,8 +10,7 @@ use std::alloc::Global;
 /// The names of the clusters, in their order. A configuration that was read has names of their form and none twice, so that
 /// they are refused only for want of memory.
 pub fn names_of(alloc: Global, config: &Config) -> Result<Names, NoMemory>
-    ensures are { IfOk result (λ names. names ≡ names_in config.now) }
-    ensures names { IfOk result AreNames }
+    ensures { IfOk result (λ names. names ≡ names_in config.now) }
 {
     let mut names = Names::new(alloc);
     let mut rest = config.clusters.as_slice();
@@ -20,7 +18,6 @@ pub fn names_of(alloc: Global, config: &Config) -> Result<Names, NoMemory>
         push_name(&mut names, cluster.name.as_slice())?;
         rest = after;
     }
-    names.known();
     Ok(names)
 }
 

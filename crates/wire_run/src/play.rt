@@ -42,6 +42,7 @@ impl WirePlay {
         ensures { IfOk result (λ play. (text : List ℕ) → config_of text ≡ Ok config → Begins wire_kind play text) }
     {
         let names = names_of(alloc, &config)?;
+        names.known();
         let lines = WireLines::new(alloc, names, config.overload.resources.as_slice().len());
         let log = WireLog::new(alloc, limits_of(&config));
         Ok(WirePlay {
