@@ -3,7 +3,8 @@
 pub const VERSION: &str = "h2replay 0.1.0
 ";
 
-pub const USAGE: &str = "usage: h2replay plain | h2replay wire CONFIG | h2replay relay CONFIG | h2replay drill N
+pub const USAGE: &str =
+    "usage: h2replay plain | h2replay wire CONFIG | h2replay relay CONFIG | h2replay drill N
   plain         reads a plain session from standard input, and writes its tape and summary
   wire CONFIG   reads the configuration in the file CONFIG, then a session of HTTP/2 connections, and writes the same
   relay CONFIG  reads the configuration in the file CONFIG, then a relay's session, and writes the same

@@ -24,6 +24,7 @@ use Rattle.tape_laws.specs.Dispatches.{events_back, turns}
 use Rattle.tape_laws.specs.History.{History, NoMark, onto}
 use Rattle.tape_laws.specs.Report.{summary_text}
 use Rattle.tape_laws.specs.Text.{tape_text}
+use Rattle.tape_laws.specs.declared.limits.PlainLimits.{PlainLimits}
 use Rattle.tape_summary.specs.NotesText.{notes_text}
 use Rattle.wire_run.proofs.Noting.{Adds, dispatch_adds, onto_text, renamed}
 use Rattle.wire_run.proofs.Staging.{no_row, rows_agree, rows_grow, rows_of}
@@ -167,6 +168,15 @@ pub line_refused : (old : WirePlay) (line : List ℕ) (new : WirePlay) (lines : 
     → PlaysLine wire_kind old line text_old new text_new (Ok went.Refused)
 line_refused old line new lines text_old text_new r et = record { goes = λ config ls count told k. (record { goes = λ names resources seen w. (r.goes names resources seen w).none }, et) }
 
+-- no line of a wire session is a line of limits
+pub limits_refused : (old : WirePlay) (line : List ℕ) (new : WirePlay) (lines : WireLines) (limits : PlainLimits) (text_old text_new : List ℕ) → ReadsWireLine old.lines line lines (Ok (read.Limits limits)) → text_new ≡ text_old
+    → PlaysLine wire_kind old line text_old new text_new (Ok went.Refused)
+limits_refused old line new lines limits text_old text_new r et = record { goes = λ config ls count told k. (record { goes = λ names resources seen w. (let a = r.goes names resources seen w in absurd (other a.item a.read)) }, et) }
+  where
+    other : (item : WireItem) → read.Limits limits ≡ wire_read item → ⊥
+    other WireHeader e = cc
+    other (WireEvent e) q = cc
+
 pub event_sound : (old : WirePlay) → IsPlaying wire_kind old → old.session.failed ≡ false → IsSound old.session.core
 event_sound old k well = k.stands.rests.sound
 
@@ -205,7 +215,7 @@ event_line_played old mid line e text_old new text_new result r es et el p = rec
           stands = record {
             config = k.config;
             configured = k.configured;
-          named = k.named;
+            named = k.named;
             seen = wire_more k.seen a.item;
             history = d.history;
             read = (let P : WireLines → Type 0 = λ v. WireLinesAre v (names_in k.config) (resources_in k.config) (wire_more k.seen a.item) in subst P (sym d.lines) a.lines);

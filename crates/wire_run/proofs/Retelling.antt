@@ -3,14 +3,17 @@ use Rattle.proxy_config.specs.Reading.{config_of}
 use Rattle.proxy_config.specs.declared.config.Config.{Config}
 use Rattle.session_config.specs.ClusterNames.{names_in, resources_in}
 use Rattle.session_lines.specs.WireLines.{NoLine, SpellsNoWire, WireLinesAre, WireSeen, is_headed, wire_lines, wire_text}
-use Rattle.session_run.specs.Ending.{Cut, EndsAs, HasLine, IsRefused, Long, MayNotCome}
+use Rattle.session_run.specs.Ending.{Cut, EndsAs, IsRefused, Long, MayNotCome}
+use Rattle.session_run.specs.Kinds.{Kind}
+use Rattle.session_run.specs.Runs.{HaltsAs, RunIs, Steps}
 use Rattle.session_run.specs.Tells.{IsLast, Replayed, numbered_line}
 use Rattle.session_run.specs.Tells as run
+use Rattle.session_run.specs.declared.run.Run.{Run}
 use Rattle.session_run.specs.declared.status.Status.{Status}
 use Rattle.std.proofs.Common.{ap, inl, inr, refl, subst, sym, ◌∙◌}
 use Rattle.std.proofs.lemmas.List.{append-nil}
 use Rattle.std.specs.Io.KnownBytes.{Appends, Consumes}
-use Rattle.std.specs.Prelude.{Bool, List, None, Ok, Option, Some, [], codes, suc, ℕ, ◌++◌, ◌∷◌, ◌≡◌, ◌⊎◌}
+use Rattle.std.specs.Prelude.{Bool, Err, List, None, Ok, Option, Some, [], codes, suc, ℕ, ◌++◌, ◌∷◌, ◌≡◌, ◌⊎◌}
 use Rattle.tape_laws.specs.History.{History, NoMark}
 use Rattle.tape_laws.specs.Text.{tape_text}
 use Rattle.wire_run.specs.Played.{Played, RefusesLine, SumsPlay, can_end, wire_kind}
@@ -116,8 +119,14 @@ runs_none config config_text left out how e c =
       tells = record { config = config; configured = c; seen = NoLine; rows = no_rows; history = []; rest = []; reads = refl; tape = record { may = tt; shown = refl; in_order = tt; spelled = tt }; ends = tt; is = refl };
     })
 
--- the session's status is never that of the words or of the configuration
-pub other_status : (how result other : Status) → (how ≡ other → ⊥) → (status.Memory ≡ other → ⊥) → (status.WriteFault ≡ other → ⊥) → (result ≡ how) ⊎ (result ≡ status.Memory) ⊎ (result ≡ status.WriteFault) → result ≡ other → ⊥
-other_status how result other a b c (inl e) u = a (sym e ∙ u)
-other_status how result other a b c (inr (inl e)) u = b (sym e ∙ u)
-other_status how result other a b c (inr (inr e)) u = c (sym e ∙ u)
+-- a session's status is never that of a configuration that is refused
+pub not_config : {P : Type 0} {kind : Kind P} (run new : Run P) (config : List ℕ) (left_old left_new out_old out_new : Option (List ℕ)) (how : Status) → RunIs kind run config [] [] → Steps kind run new left_old left_new out_old out_new (Err how)
+    → how ≡ status.Config → ⊥
+not_config {kind = kind} run new config left_old left_new out_old out_new how k s e =
+    let Q : Status → Type 0 = λ v. HaltsAs kind new v config s.got s.wrote left_new in
+    (subst Q e (s.goes config [] [] k)).ends
+
+pub other_config : (how result : Status) → (how ≡ status.Config → ⊥) → (result ≡ how) ⊎ (result ≡ status.Memory) ⊎ (result ≡ status.WriteFault) → result ≡ status.Config → ⊥
+other_config how result n (inl e) u = n (sym e ∙ u)
+other_config how result n (inr (inl e)) u = cc
+other_config how result n (inr (inr e)) u = cc

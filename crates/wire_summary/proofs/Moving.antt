@@ -155,14 +155,14 @@ module _ (limits : BufferLimits) (stages : FlowId → List StageKind) where
           let held_is : held_at r side.levels ≡ length (place (shaped limits stages) f r h) = held_from was 0 r r side.levels (omega arith) within k.levels_are in
           let t_is : t ≡ min n (length (place (shaped limits stages) f r h)) = ap (min n) held_is in
           let left : fallen (was r) t ≡ now r =
-              (let l = moved_length g r n f r h true (r == r + 1) e (itself r) refl in level_fallen f r t (Noted (note.Move g r n)) h (omega (arith, l, t_is))) in
+          (let l = moved_length g r n f r h true (r == r + 1) e (itself r) refl in level_fallen f r t (Noted (note.Move g r n)) h (omega (arith, l, t_is))) in
           let left_mid : fallen (was r) t ≡ mid r = left ∙ sym (ap (λ (b : Bool). if b then now r else was r) (itself r)) in
           let others_mid : (q : ℕ) → (q == r) ≡ false → was q ≡ mid q = λ q d. sym (ap (λ (b : Bool). if b then now q else was q) d) in
           let fell : LevelsFrom mid 0 (fallen_at r t side.levels) = fallen_from was mid 0 r r t side.levels (omega arith) others_mid left_mid k.levels_are in
           let came : risen (mid (suc r)) t ≡ now (suc r) =
-              (let e1 : (suc r == r + 1) ≡ true = ap (λ v. suc r == v) (sym (one_more r)) ∙ itself (suc r) in
-              let l = moved_length g r n f (suc r) h false true e (next_differs r) e1 in
-              ap (λ v. risen v t) (ap (λ (b : Bool). if b then now (suc r) else was (suc r)) (next_differs r)) ∙ level_risen f (suc r) t (Noted (note.Move g r n)) h (l ∙ ap (λ v. length (place (shaped limits stages) f (suc r) h) + v) (sym t_is))) in
+          (let e1 : (suc r == r + 1) ≡ true = ap (λ v. suc r == v) (sym (one_more r)) ∙ itself (suc r) in
+          let l = moved_length g r n f (suc r) h false true e (next_differs r) e1 in
+          ap (λ v. risen v t) (ap (λ (b : Bool). if b then now (suc r) else was (suc r)) (next_differs r)) ∙ level_risen f (suc r) t (Noted (note.Move g r n)) h (l ∙ ap (λ v. length (place (shaped limits stages) f (suc r) h) + v) (sym t_is))) in
           let others_now : (q : ℕ) → (q == suc r) ≡ false → mid q ≡ now q = λ q d. at q d (q == r) refl in
           risen_from mid now 0 (suc r) (suc r) t (fallen_at r t side.levels) (omega arith) others_now came fell
         where
@@ -172,7 +172,7 @@ module _ (limits : BufferLimits) (stages : FlowId → List StageKind) where
       by false there =
           let beyond : length side.levels ≤ r = grind (arith, nat_tests) in
           let same : changed (change.Shift r n) side.levels ≡ side.levels =
-              (ap (risen_at (suc r) t) (fallen_beyond r t side.levels beyond) ∙ risen_beyond (suc r) t side.levels (omega (arith, beyond))) in
+          (ap (risen_at (suc r) t) (fallen_beyond r t side.levels beyond) ∙ risen_beyond (suc r) t side.levels (omega (arith, beyond))) in
           let P : List Level → Type 0 = λ v. LevelsFrom now 0 v in
           subst P (sym same) (same_from was now 0 side.levels (λ q le lt. elsewhere q (before q r (omega (arith, lt, beyond))) (before q (suc r) (omega (arith, lt, beyond)))) k.levels_are)
         where
