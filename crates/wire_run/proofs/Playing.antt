@@ -19,7 +19,7 @@ use Rattle.std.proofs.Common.{ap, append_assoc, arith, refl, subst, sym, ◌∙�
 use Rattle.std.proofs.lemmas.Grind.{common_steps}
 use Rattle.std.proofs.lemmas.List.{append-nil}
 use Rattle.std.specs.List.{AllByRecursion}
-use Rattle.std.specs.Prelude.{Err, List, None, Ok, OnOk, Option, Result, [], false, suc, ℕ, ◌++◌, ◌+◌, ◌<◌, ◌∷◌, ◌≡◌}
+use Rattle.std.specs.Prelude.{Err, IfSome, List, None, Ok, OnOk, Option, Result, [], false, suc, ℕ, ◌++◌, ◌+◌, ◌<◌, ◌∷◌, ◌≡◌}
 use Rattle.tape_laws.specs.Dispatches.{events_back, turns}
 use Rattle.tape_laws.specs.History.{History, NoMark, onto}
 use Rattle.tape_laws.specs.Report.{summary_text}
@@ -28,16 +28,19 @@ use Rattle.tape_laws.specs.declared.limits.PlainLimits.{PlainLimits}
 use Rattle.tape_summary.specs.NotesText.{notes_text}
 use Rattle.wire_run.proofs.Noting.{Adds, dispatch_adds, onto_text, renamed}
 use Rattle.wire_run.proofs.Staging.{no_row, rows_agree, rows_grow, rows_of}
-use Rattle.wire_run.specs.Passing.{CarriesOn}
+use Rattle.wire_run.specs.Passing.{CarriesOn, PassesAll}
 use Rattle.wire_run.specs.Played.{Dispatched, DispatchedAs, PlayRests, Played, PlaysEvent, RefusesLine, SumsPlay, wire_kind}
 use Rattle.wire_run.specs.Rows.{limits_of, passes}
-use Rattle.wire_run.specs.Stages.{AreStages, HaveRows}
+use Rattle.wire_run.specs.Stages.{AreStages, HaveRows, IsRow}
 use Rattle.wire_run.specs.Tapes.{WireTape}
 use Rattle.wire_run.specs.declared.play.WirePlay.{WirePlay}
 use Rattle.wire_run.specs.declared.stages.RouteStages.{RouteStages}
 use Rattle.wire_run.specs.declared.stages.StageTable.{StageTable}
 use Rattle.wire_state.specs.Sound.{IsSound}
-use Rattle.wire_summary.specs.Levels.{shaped}
+use Rattle.wire_summary.specs.Levels.{StageLimits, known_limits, shaped}
+use Rattle.wire_summary.specs.Logging.{WireLogIs, WireLogs}
+use Rattle.wire_summary.specs.declared.log.WireLog.{WireLog}
+use Rattle.worker_core.specs.Dispatching.{Dispatches}
 use Rattle.wire_summary.specs.Summarizes.{Summarizes}
 use Rattle.wire_summary.specs.Levels.{no_limits}
 use Rattle.session_lines.specs.declared.order.LineRead.TheVariants as read
@@ -265,3 +268,17 @@ play_summed play old new (Ok x) s = record {
   };
 }
 play_summed play old new (Err x) s = tt
+
+-- ---- a dispatch that was carried out
+
+pub carried : (old new : WirePlay) (e : Event) (cleared : List Note) (before : WireLog) (r : Result (Unit {0}) NoMemory) → cleared ≡ [] → Dispatches old.session cleared e new.session new.notes → PassesAll old.stages.rows.items old.log before
+    → OnOk r (WireLogs before new.notes new.log) → new.stages ≡ old.stages → new.lines ≡ old.lines → OnOk r (CarriesOn old e new)
+carried old new e cleared before (Ok u) none d p l es el =
+    let P : List Note → Type 0 = λ v. Dispatches old.session v e new.session new.notes in
+    record { before = before; dispatches = subst P none d; passes = p; logs = l; stages = es; lines = el }
+carried old new e cleared before (Err x) none d p l es el = tt
+
+-- before the first line nothing has happened
+pub begun_rests : (play : WirePlay) (config : Config) → play.session.failed ≡ false → IsSound play.session.core → play.session.turn ≡ 0 → WireLogIs (limits_of config) play.log [] → ((x : ℕ) → known_limits play.log.levels x ≡ None)
+    → AreStages play.stages.rows.items config.routes → PlayRests play config []
+begun_rests play config w s t l none a = record { well = w; sound = s; turn = t; logs = l; rows = record { each = λ x. (let P : Option StageLimits → Type 0 = λ v. IfSome v (IsRow config.routes) in subst P (sym (none x)) tt) }; stages = a }

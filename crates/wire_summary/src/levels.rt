@@ -153,12 +153,13 @@ impl Levels {
     ghost use Rattle.std.specs.BTreeMap.{get};
     ghost use Rattle.std.specs.Ordering.{nat_cmp};
     ghost use Rattle.flow_notes.specs.Passages.{notes_of_passage};
-    ghost use Rattle.wire_summary.specs.Levels.{Frames, LevelsAre, LevelsGo, LevelsPass, SetsSides, SetsWrite, is_lost, sides_in, write_in, written};
+    ghost use Rattle.wire_summary.specs.Levels.{Frames, LevelsAre, LevelsGo, LevelsPass, SetsSides, SetsWrite, is_lost, known_limits, sides_in, write_in, written};
     ghost use Rattle.wire_summary.specs.Places.{changed_at, emptied_sides, framed, side_at};
 
     /// Those of an empty tape. Takes no memory.
     pub fn new(alloc: Global, limits: BufferLimits) -> Self
-        ensures { LevelsAre limits result [] }
+        ensures levels { LevelsAre limits result [] }
+        ensures unsaid { (x : ℕ) → known_limits result x ≡ None }
     {
         Levels {
             alloc,

@@ -13,13 +13,14 @@ pub struct WireLog {
 }
 
 impl WireLog {
-    ghost use Rattle.std.specs.Prelude.{[], OnOk};
-    ghost use Rattle.wire_summary.specs.Levels.{StageLimits};
+    ghost use Rattle.std.specs.Prelude.{◌≡◌, [], None, OnOk, ℕ};
+    ghost use Rattle.wire_summary.specs.Levels.{known_limits};
     ghost use Rattle.wire_summary.specs.Logging.{WireLogIs, WireLogPasses, WireLogs};
 
     /// The log of an empty tape. Takes no memory.
     pub fn new(alloc: Global, limits: BufferLimits) -> Self
-        ensures { WireLogIs limits result [] }
+        ensures log { WireLogIs limits result [] }
+        ensures unsaid { (x : ℕ) → known_limits result.levels x ≡ None }
     {
         WireLog {
             levels: Levels::new(alloc, limits),
