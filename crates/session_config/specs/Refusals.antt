@@ -1,11 +1,11 @@
 -- The line that tells of a refused configuration.
-use Rattle.core.specs.Char.{is_ascii_alphanumeric, is_ascii_digit}
-use Rattle.flow_notes.specs.Line.{line_of, newline}
+use Rattle.std.specs.Char.{is_ascii_alphanumeric, is_ascii_digit}
+use Rattle.flow_notes.specs.Line.{newline}
 use Rattle.proxy_config.specs.declared.fault.ConfigFault.{ConfigFault}
 use Rattle.std.specs.Fmt.{decimal}
 use Rattle.std.specs.List.{find, list_all, starts_with}
 use Rattle.std.specs.Option.{option_map_or}
-use Rattle.std.specs.Prelude.{Bool, List, None, Option, Some, [], codes, drop, flat_map, if◌then◌else◌, length, nat_eq, nat_lt, not, position, take, ℕ, ◌%◌, ◌&&◌, ◌++◌, ◌+◌, ◌/◌, ◌==◌, ◌||◌, ◌∷◌}
+use Rattle.std.specs.Prelude.{Bool, List, [], codes, drop, flat_map, if◌then◌else◌, length, nat_eq, nat_lt, not, position, take, ℕ, ◌%◌, ◌&&◌, ◌++◌, ◌+◌, ◌/◌, ◌==◌, ◌||◌, ◌∷◌}
 use Rattle.proxy_config.specs.declared.fault.ConfigFault.TheVariants as fault
 
 -- the kinds of faults are numbered; want of memory, which refuses no configuration, is the last
@@ -32,20 +32,26 @@ begins_with key place = starts_with nat_eq key place
 abbrev pub row_len : List ℕ → ℕ
 row_len text = option_map_or (λ n. n + 1) (position (λ c. not (is_ascii_digit c)) text) 0
 
--- how many octets stand before the key itself: its table, or its list and row
-abbrev pub listed_len : Option (List ℕ) → List ℕ → ℕ
-listed_len None key = option_map_or length (find (begins_with key) table_places) 0
-listed_len (Some list) key = length list + row_len (drop (length list) key)
+-- how many octets the first of these places has that stands in front, 0 where none does
+abbrev pub front_len : List (List ℕ) → List ℕ → ℕ
+front_len places key = option_map_or length (find (begins_with key) places) 0
 
+abbrev pub list_len : List ℕ → ℕ
+list_len key = front_len list_places key
+
+abbrev pub table_len : List ℕ → ℕ
+table_len key = front_len table_places key
+
+-- how many octets stand before the key itself: its table, or its list and row
 abbrev pub place_len : List ℕ → ℕ
-place_len key = listed_len (find (begins_with key) list_places) key
+place_len key = if list_len key == 0 then table_len key else list_len key + row_len (drop (list_len key) key)
 
 -- a bare key of TOML (version 1.0, "Keys")
 abbrev pub is_bare_octet : ℕ → Bool
 is_bare_octet c = is_ascii_alphanumeric c || c == 45 || c == 95
 
 abbrev pub is_bare : List ℕ → Bool
-is_bare name = not (length name == 0) && list_all is_bare_octet name
+is_bare name = nat_lt 0 (length name) && list_all is_bare_octet name
 
 -- an octet of a basic string of TOML (version 1.0, "String"): a control character has an escape of one letter, or its number
 abbrev pub digit : ℕ → ℕ
@@ -84,4 +90,4 @@ key_text (fault.UnknownCluster key) = key
 key_text fault.NoMemory = codes "-"
 
 abbrev pub refusal_line : ConfigFault → List ℕ
-refusal_line why = line_of (codes "refused" ∷ codes "config" ∷ decimal (fault_number why) ∷ key_text why ∷ []) ++ newline
+refusal_line why = codes "refused config " ++ (decimal (fault_number why) ++ (codes " " ++ (key_text why ++ newline)))

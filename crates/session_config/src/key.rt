@@ -1,20 +1,11 @@
 // How an unknown key is spelled.
-ghost use Rattle.std.specs.Prelude.{◌≡◌, ◌≤◌, ◌<◌, ◌++◌, length, OnErr, OnOk};
+ghost use Rattle.std.specs.Prelude.{◌≡◌, ◌≤◌, ◌<◌, ◌++◌, IfSome, length, not, position, OnErr, OnOk};
+ghost use Rattle.std.specs.Char.{is_ascii_digit};
+ghost use Rattle.std.specs.List.{list_all};
 ghost use Rattle.flow_notes.specs.Extends.{Extends};
 ghost use Rattle.session_config.specs.Refusals as spec;
 
 use io_ports::{NoMemory, Octets};
-
-/// What stands before the keys of the tables whose keys are known.
-const TABLES: [&[u8]; 4] = [b"limits.", b"timeouts.", b"overload.", b"proxy."];
-
-/// What stands before a row's number in the lists of tables, whose rows are counted from 0.
-const LISTS: [&[u8]; 4] = [
-    b"clusters.",
-    b"routes.",
-    b"overload.triggers.",
-    b"overload.shed.",
-];
 
 /// Appends a key with its place. A key that is no bare key of TOML (letters, digits, `-` and `_`) is spelled as TOML's basic
 /// string, so that the line that tells it stays one line. Want of memory may leave some of it.
@@ -36,12 +27,47 @@ fn place_len(key: &[u8]) -> usize
     ensures is { result ≡ spec.place_len key.now }
     ensures within { result ≤ length key.now }
 {
-    if let Some(list) = LISTS.iter().find(|list| key.starts_with(list)) {
-        return list.len() + row_len(&key[list.len()..]);
+    let list = list_len(key);
+    if list == 0 {
+        table_len(key)
+    } else {
+        list + row_len(&key[list..])
     }
-    match TABLES.iter().find(|table| key.starts_with(table)) {
-        Some(table) => table.len(),
-        None => 0,
+}
+
+// How many octets the name of the list of tables has with the dot behind it, if the key stands in one. Rows are counted from 0.
+fn list_len(key: &[u8]) -> usize
+    ensures is { result ≡ spec.list_len key.now }
+    ensures within { result ≤ length key.now }
+{
+    if key.starts_with(b"clusters.") {
+        9
+    } else if key.starts_with(b"routes.") {
+        7
+    } else if key.starts_with(b"overload.triggers.") {
+        18
+    } else if key.starts_with(b"overload.shed.") {
+        14
+    } else {
+        0
+    }
+}
+
+// The same of the table whose keys are known.
+fn table_len(key: &[u8]) -> usize
+    ensures is { result ≡ spec.table_len key.now }
+    ensures within { result ≤ length key.now }
+{
+    if key.starts_with(b"limits.") {
+        7
+    } else if key.starts_with(b"timeouts.") {
+        9
+    } else if key.starts_with(b"overload.") {
+        9
+    } else if key.starts_with(b"proxy.") {
+        6
+    } else {
+        0
     }
 }
 
@@ -50,17 +76,30 @@ fn row_len(text: &[u8]) -> usize
     ensures is { result ≡ spec.row_len text.now }
     ensures within { result ≤ length text.now }
 {
-    let digits = text.iter().position(|octet| !octet.is_ascii_digit());
-    match digits {
+    match first_other(text) {
         Some(n) => n + 1,
         None => 0,
     }
 }
 
+// The place of the first octet that is no digit.
+fn first_other(text: &[u8]) -> Option<usize>
+    ensures place { result ≡ position (λ c. not (is_ascii_digit c)) text.now }
+    ensures bound { IfSome result (λ place. place < length text.now) }
+{
+    text.iter().position(|octet| !octet.is_ascii_digit())
+}
+
 fn is_bare(name: &[u8]) -> bool
     ensures { result ≡ spec.is_bare name.now }
 {
-    !name.is_empty() && name.iter().all(|octet| is_bare_octet(*octet))
+    !name.is_empty() && are_bare_octets(name)
+}
+
+fn are_bare_octets(name: &[u8]) -> bool
+    ensures { result ≡ list_all spec.is_bare_octet name.now }
+{
+    name.iter().all(|octet| is_bare_octet(*octet))
 }
 
 fn is_bare_octet(octet: u8) -> bool

@@ -42,6 +42,7 @@ pub fn load_config<C: Source>(alloc: Global, source: &mut C) -> Result<Config, C
 }
 
 // Reads to the end, or until there are too many octets.
+#[tactic(auto, using(crate::proofs::Reading::nothing_consumed, crate::proofs::Reading::read_on, crate::proofs::Reading::read_all, crate::proofs::Reading::read_stop, crate::proofs::Reading::read_much))]
 fn read_whole<C: Source>(alloc: Global, source: &mut C) -> Result<Octets, ConfigEnd>
     ensures reads { ReadsWhole (C.left source.old) (C.left source.new) result }
     ensures cause { CausesFault (C.faults source.old) (C.faults source.new) result }
