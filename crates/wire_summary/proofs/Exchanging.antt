@@ -41,7 +41,7 @@ pub emptied_keeps : KeepsLimits emptied_sides
 emptied_keeps = record { request = λ s. refl; response = λ s. refl }
 
 -- what was said of an exchange, by its sides
-limits_in : Option Sides → Option StageLimits
+abbrev limits_in : Option Sides → Option StageLimits
 limits_in o = option_map (λ s. record { request = s.request.limits; response = s.response.limits }) o
 
 known_by_sides : (o : Option ExchangePlaces) → option_map (λ e. record { request = e.request.limits.items; response = e.response.limits.items }) o ≡ limits_in (option_map sides_of o)

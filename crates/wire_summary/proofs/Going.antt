@@ -51,16 +51,16 @@ one_goes old n new g = record {
 }
 
 -- what a note leaves as it was
-record LeavesWrites (n : Note) : Type 0 where
-  octets : (limits : BufferLimits) (stages : FlowId → List StageKind) (c : ℕ) (h : History NoMark) → out (shaped limits stages) c (Noted n ∷ h) ≡ out (shaped limits stages) c h
-  closed : (c : ℕ) (h : History NoMark) → was_closed c (Noted n ∷ h) ≡ was_closed c h
+pub record LeavesWrites (n : Note) : Type 0 where
+  pub octets : (limits : BufferLimits) (stages : FlowId → List StageKind) (c : ℕ) (h : History NoMark) → out (shaped limits stages) c (Noted n ∷ h) ≡ out (shaped limits stages) c h
+  pub closed : (c : ℕ) (h : History NoMark) → was_closed c (Noted n ∷ h) ≡ was_closed c h
 
-record LeavesPlaces (n : Note) : Type 0 where
-  places : (limits : BufferLimits) (stages : FlowId → List StageKind) (f : FlowId) (p : ℕ) (h : History NoMark) → place (shaped limits stages) f p (Noted n ∷ h) ≡ place (shaped limits stages) f p h
+pub record LeavesPlaces (n : Note) : Type 0 where
+  pub places : (limits : BufferLimits) (stages : FlowId → List StageKind) (f : FlowId) (p : ℕ) (h : History NoMark) → place (shaped limits stages) f p (Noted n ∷ h) ≡ place (shaped limits stages) f p h
 
-record LeavesNames (n : Note) : Type 0 where
-  started_stay : (h : History NoMark) → started (Noted n ∷ h) ≡ started h
-  conns_stay : (limits : BufferLimits) (stages : FlowId → List StageKind) (h : History NoMark) → connections (shaped limits stages) (Noted n ∷ h) ≡ connections (shaped limits stages) h
+pub record LeavesNames (n : Note) : Type 0 where
+  pub started_stay : (h : History NoMark) → started (Noted n ∷ h) ≡ started h
+  pub conns_stay : (limits : BufferLimits) (stages : FlowId → List StageKind) (h : History NoMark) → connections (shaped limits stages) (Noted n ∷ h) ≡ connections (shaped limits stages) h
 
 exchanges_stay : (limits : BufferLimits) (stages : FlowId → List StageKind) (old new : Levels) (n : Note) (h : History NoMark) → LeavesPlaces n → new.exchanges ≡ old.exchanges
     → ((x : ℕ) → ExchangeIs limits stages x h (get nat_cmp old.exchanges x)) → (x : ℕ) → ExchangeIs limits stages x (Noted n ∷ h) (get nat_cmp new.exchanges x)
@@ -301,10 +301,10 @@ close_ends old new m c code why r is w =
     write_ends old new m (note.Close c code why) c (written (put.Close (is_lost why))) r is (record { places = λ l s f p h. refl }) (record { started_stay = λ h. refl; conns_stay = λ l s h. refl }) (λ limits stages h. close_writes limits stages c code why h) w
 
 -- the notes that leave every buffer as it was
-record IsOther (n : Note) : Type 0 where
-  writes : LeavesWrites n
-  places : LeavesPlaces n
-  names : LeavesNames n
+pub record IsOther (n : Note) : Type 0 where
+  pub writes : LeavesWrites n
+  pub places : LeavesPlaces n
+  pub names : LeavesNames n
 
 pub still_goes : (old : Levels) (n : Note) → IsOther n → LevelsGo old (n ∷ []) old
 still_goes old n o = other_goes old n o.writes o.places o.names

@@ -3,13 +3,17 @@ use Rattle.std.proofs.Common.{ap, refl, subst, sym, ◌∙◌}
 use Rattle.std.specs.BTreeMap.{BTreeMap, Updates, WritesThrough, get}
 use Rattle.std.specs.Option.{option_map}
 use Rattle.std.specs.Ordering.{is_eq, nat_cmp}
-use Rattle.std.specs.Prelude.{Bool, Err, IfOk, IsSome, List, None, Ok, OnOk, Option, Result, Some, false, if◌then◌else◌, true, ℕ, ◌==◌, ◌≡◌}
+use Rattle.std.specs.Prelude.{Bool, Err, IfOk, IsSome, List, None, Ok, OnOk, Option, Result, Some, false, if◌then◌else◌, true, ℕ, ◌+◌, ◌==◌, ◌≡◌}
 use Rattle.tape_summary.proofs.Spots.{equal_is, numbers_equal}
-use Rattle.wire_summary.specs.Levels.{SetsSides, kept_sides, sides_in}
-use Rattle.wire_summary.specs.Places.{Side, Sides, bare, framed, side_at, sides_of}
+use Rattle.wire_summary.specs.Levels.{Frames, SetsSides, SetsWrite, kept_sides, sides_in, write_in, written as after}
+use Rattle.wire_summary.specs.Places.{Side, Sides, bare, changed_at, framed, side_at, sides_of}
 use Rattle.wire_summary.specs.declared.levels.ExchangePlaces.{ExchangePlaces}
 use Rattle.wire_summary.specs.declared.levels.Levels.{Levels}
+use Rattle.flow_gate.specs.declared.ids.FlowId.{FlowId}
+use Rattle.io_ports.specs.declared.octets.NoMemory.{NoMemory}
 use Rattle.wire_summary.specs.declared.places.Change.{Change}
+use Rattle.wire_summary.specs.declared.levels.WriteChange.TheVariants as put
+use Rattle.wire_summary.specs.declared.places.Change.TheVariants as change
 
 abbrev Map : Type 0
 Map = BTreeMap ℕ ExchangePlaces
@@ -64,3 +68,11 @@ put_bare old x m w F none u e f = sets old x w (F (sides_in old x)) m (λ q. u.0
 pub put_framed : (old : Levels) (x : ℕ) (back : Bool) (c : Change) (b : ExchangePlaces) (n : ℕ) → None ≡ get nat_cmp old.exchanges x → sides_of b ≡ bare → n ≡ framed c (side_at back (sides_of b)).levels
     → n ≡ framed c (side_at back (sides_in old x)).levels
 put_framed old x back c b n none eb e = e ∙ ap (λ (s : Sides). framed c (side_at back s).levels) (eb ∙ sym (fresh old x none))
+
+-- a frame, with its head
+pub frames_done : (old mid new : Levels) (c n k m : ℕ) (f : FlowId) (r : Result (Unit {0}) NoMemory) → SetsSides old f.exchange (changed_at f.back (change.Frame n) (sides_in old f.exchange)) mid
+    → k ≡ framed (change.Frame n) (side_at f.back (sides_in old f.exchange)).levels → m ≡ k + 9 → OnOk r (SetsWrite mid c (after (put.Put m) (write_in mid c)) new) → OnOk r (Frames old c f n new)
+frames_done old mid new c n k m f (Ok u) s ek em w =
+    let P : ℕ → Type 0 = λ v. SetsWrite mid c (after (put.Put v) (write_in mid c)) new in
+    record { mid = mid; sides = s; write = subst P (em ∙ ap (λ v. v + 9) ek) w }
+frames_done old mid new c n k m f (Err x) s ek em w = tt

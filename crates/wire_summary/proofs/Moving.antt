@@ -109,7 +109,7 @@ module _ (limits : BufferLimits) (stages : FlowId → List StageKind) where
       ∙ ap (λ (b : Bool). if c then length held - n else (if b then length held + min n (length from) else length held)) ed
 
   -- what stands between the octets' leave and their coming
-  between : (g : FlowId) (r n : ℕ) (f : FlowId) (h : History NoMark) → ℕ → Level
+  abbrev between : (g : FlowId) (r n : ℕ) (f : FlowId) (h : History NoMark) → ℕ → Level
   between g r n f h q = if q == r then place_level (shaped limits stages) f (Noted (note.Move g r n) ∷ h) q else place_level (shaped limits stages) f h q
 
   itself : (r : ℕ) → (r == r) ≡ true

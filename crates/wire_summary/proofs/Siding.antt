@@ -1,11 +1,11 @@
 -- Levels of places in a list, as they rise and fall.
 use Rattle.std.proofs.Common.{ap, arith, refl, subst, sym, ◌∙◌}
 use Rattle.std.proofs.lemmas.Bool.Decides.{nat_tests}
-use Rattle.std.specs.Prelude.{Bool, List, [], false, length, map, min, suc, true, zero, ℕ, ◌+◌, ◌-◌, ◌<◌, ◌==◌, ◌∷◌, ◌≡◌, ◌≤◌}
+use Rattle.std.specs.Prelude.{Bool, List, None, Option, Some, [], false, length, map, min, slice_get, slice_set, suc, true, zero, ℕ, ◌+◌, ◌-◌, ◌<◌, ◌==◌, ◌∷◌, ◌≡◌, ◌≤◌}
 use Rattle.tape_summary.specs.Levels.{emptied, fallen, no_level, risen}
 use Rattle.tape_summary.specs.declared.level.Level.{Level}
 use Rattle.wire_summary.specs.Levels.{LevelsFrom}
-use Rattle.wire_summary.specs.Places.{fallen_at, held_at, most_at, risen_at, taken}
+use Rattle.wire_summary.specs.Places.{emptied_to, fallen_at, held_at, most_at, risen_at, taken}
 
 -- ---- the list is as long as before
 
@@ -80,3 +80,76 @@ pub most_from : (a : ℕ → Level) (p t i : ℕ) (ls : List Level) → t ≡ p 
 most_from a p t i [] is lt l = absurd (omega (arith, lt))
 most_from a p t zero (x ∷ ls) is lt l = ap (λ v. v.most) l.0 ∙ ap (λ v. (a v).most) (let k : p ≡ t = omega (arith, is) in k)
 most_from a p t (suc i) (x ∷ ls) is lt l = most_from a (suc p) t i ls (omega (arith, is)) (omega (arith, lt)) l.1
+
+-- ---- one place of a vector
+
+pub fallen_set : (i n : ℕ) (ls : List Level) (l : Level) → slice_get ls i ≡ Some l → slice_set ls i (fallen l (min n l.held)) ≡ fallen_at i (taken i n ls) ls
+fallen_set zero n [] l e = cc
+fallen_set (suc i) n [] l e = cc
+fallen_set zero n (k ∷ ls) l e = let same : k ≡ l = cc in ap (λ (v : Level). fallen v (min n v.held) ∷ ls) (sym same)
+fallen_set (suc i) n (k ∷ ls) l e = ap (λ v. k ∷ v) (fallen_set i n ls l e)
+
+pub risen_set : (i n : ℕ) (ls : List Level) (l : Level) → slice_get ls i ≡ Some l → slice_set ls i (risen l n) ≡ risen_at i n ls
+risen_set zero n [] l e = cc
+risen_set (suc i) n [] l e = cc
+risen_set zero n (k ∷ ls) l e = let same : k ≡ l = cc in ap (λ (v : Level). risen v n ∷ ls) (sym same)
+risen_set (suc i) n (k ∷ ls) l e = ap (λ v. k ∷ v) (risen_set i n ls l e)
+
+pub held_is : (i n : ℕ) (ls : List Level) (l : Level) → slice_get ls i ≡ Some l → min n l.held ≡ taken i n ls
+held_is zero n [] l e = cc
+held_is (suc i) n [] l e = cc
+held_is zero n (k ∷ ls) l e = let same : k ≡ l = cc in ap (λ (v : Level). min n v.held) (sym same)
+held_is (suc i) n (k ∷ ls) l e = held_is i n ls l e
+
+pub most_is : (i : ℕ) (ls : List Level) (l : Level) → slice_get ls i ≡ Some l → l.most ≡ most_at i ls
+most_is zero [] l e = cc
+most_is (suc i) [] l e = cc
+most_is zero (k ∷ ls) l e = let same : k ≡ l = cc in ap (λ (v : Level). v.most) (sym same)
+most_is (suc i) (k ∷ ls) l e = most_is i ls l e
+
+pub most_none : (i : ℕ) (ls : List Level) → slice_get ls i ≡ None → 0 ≡ most_at i ls
+most_none i [] e = refl
+most_none zero (k ∷ ls) e = cc
+most_none (suc i) (k ∷ ls) e = most_none i ls e
+
+pub taken_none : (i n : ℕ) (ls : List Level) → slice_get ls i ≡ None → 0 ≡ taken i n ls
+taken_none i n [] e = omega arith
+taken_none zero n (k ∷ ls) e = cc
+taken_none (suc i) n (k ∷ ls) e = taken_none i n ls e
+
+pub fallen_none : (i n : ℕ) (ls : List Level) → slice_get ls i ≡ None → ls ≡ fallen_at i n ls
+fallen_none i n [] e = refl
+fallen_none zero n (k ∷ ls) e = cc
+fallen_none (suc i) n (k ∷ ls) e = ap (λ v. k ∷ v) (fallen_none i n ls e)
+
+pub risen_none : (i n : ℕ) (ls : List Level) → slice_get ls i ≡ None → ls ≡ risen_at i n ls
+risen_none i n [] e = refl
+risen_none zero n (k ∷ ls) e = cc
+risen_none (suc i) n (k ∷ ls) e = ap (λ v. k ∷ v) (risen_none i n ls e)
+
+-- ---- place after place is emptied
+
+pub emptied_long : (i : ℕ) (ls : List Level) → length (emptied_to i ls) ≡ length ls
+emptied_long zero ls = refl
+emptied_long (suc i) [] = refl
+emptied_long (suc i) (k ∷ ls) = ap suc (emptied_long i ls)
+
+pub emptied_set : (i : ℕ) (ls items : List Level) (l : Level) → items ≡ emptied_to i ls → slice_get items i ≡ Some l → slice_set items i (emptied l) ≡ emptied_to (i + 1) ls
+emptied_set i ls items l is e =
+    let P : List Level → Type 0 = λ v. slice_get v i ≡ Some l → slice_set v i (emptied l) ≡ emptied_to (i + 1) ls in
+    subst P (sym is) (by i ls) e
+  where
+    by : (i : ℕ) (ls : List Level) → slice_get (emptied_to i ls) i ≡ Some l → slice_set (emptied_to i ls) i (emptied l) ≡ emptied_to (suc i) ls
+    by zero [] e = cc
+    by zero (k ∷ ls) e = let same : k ≡ l = cc in ap (λ (v : Level). emptied v ∷ ls) (sym same)
+    by (suc i) [] e = cc
+    by (suc i) (k ∷ ls) e = ap (λ v. emptied k ∷ v) (by i ls e)
+
+pub emptied_all : (i : ℕ) (ls items : List Level) → items ≡ emptied_to i ls → slice_get items i ≡ None → items ≡ map emptied ls
+emptied_all i ls items is e = is ∙ by i ls (let P : List Level → Type 0 = λ v. slice_get v i ≡ None in subst P is e)
+  where
+    by : (i : ℕ) (ls : List Level) → slice_get (emptied_to i ls) i ≡ None → emptied_to i ls ≡ map emptied ls
+    by zero [] e = refl
+    by zero (k ∷ ls) e = cc
+    by (suc i) [] e = refl
+    by (suc i) (k ∷ ls) e = ap (λ v. emptied k ∷ v) (by i ls e)

@@ -68,12 +68,13 @@ module _ (limits : BufferLimits) (stages : FlowId → List StageKind) where
 
   side_is : (f : FlowId) (h : History NoMark) (side : Side) → SideIs limits stages f h side → side_lines limits f side ≡ flow_peaks (shaped limits stages) h f
   side_is f h side k =
-      ap (λ n. peak_line (codes "recv" ∷ flow_word f ∷ []) limits.recv n ++ (stage_lines f side.levels 1 side.limits ++ peak_line (codes "send" ∷ flow_word f ∷ []) limits.send (most_at (length side.limits + 1) side.levels)))
+      (ap (λ n. peak_line (codes "recv" ∷ flow_word f ∷ []) limits.recv n ++ (stage_lines f side.levels 1 side.limits ++ peak_line (codes "send" ∷ flow_word f ∷ []) limits.send (most_at (length side.limits + 1) side.levels)))
       (most_is f h side 0 k (omega arith) ∙ sym (recv_peak f h))
       ∙ ap (λ (v : List ℕ). first ++ (v ++ peak_line (codes "send" ∷ flow_word f ∷ []) limits.send (most_at (length side.limits + 1) side.levels)))
       (ap (stage_lines f side.levels 1) k.limits_are ∙ stages_lines f h side.levels 1 (stages f) (λ p le lt. most_is f h side p k (omega (arith, lt))))
       ∙ ap (λ n. first ++ (stage_peaks (shaped limits stages) f 1 (stages f) h ++ peak_line (codes "send" ∷ flow_word f ∷ []) limits.send n))
-      (ap (λ n. most_at (n + 1) side.levels) (ap length k.limits_are ∙ length-map (stages f) kind_limit) ∙ most_is f h side (length (stages f) + 1) k (omega arith) ∙ sym (send_peak f h))
+      (ap (λ n. most_at (n + 1) side.levels) (ap length k.limits_are ∙ length-map (stages f) kind_limit) ∙ most_is f h side (length (stages f) + 1) k (omega arith) ∙ sym (send_peak f h)))
+      ∙ sym (append_assoc first (stage_peaks (shaped limits stages) f 1 (stages f) h) (peak_line (codes "send" ∷ flow_word f ∷ []) limits.send (peak (shaped limits stages) (buffer.Send f) h)))
     where
       first : List ℕ
       first = peak_line (codes "recv" ∷ flow_word f ∷ []) limits.recv (peak (shaped limits stages) (buffer.Recv f) h)
@@ -86,7 +87,8 @@ module _ (limits : BufferLimits) (stages : FlowId → List StageKind) where
 
   no_lines : (f : FlowId) (h : History NoMark) → ((p : ℕ) → place_level (shaped limits stages) f h p ≡ no_level) → flow_peaks (shaped limits stages) h f ≡ []
   no_lines f h none =
-      ap (λ n. peak_line (codes "recv" ∷ flow_word f ∷ []) limits.recv n ++ (stage_peaks (shaped limits stages) f 1 (stages f) h ++ peak_line (codes "send" ∷ flow_word f ∷ []) limits.send (peak (shaped limits stages) (buffer.Send f) h))) (recv_peak f h ∙ zero 0)
+      append_assoc (peak_line (codes "recv" ∷ flow_word f ∷ []) limits.recv (peak (shaped limits stages) (buffer.Recv f) h)) (stage_peaks (shaped limits stages) f 1 (stages f) h) (peak_line (codes "send" ∷ flow_word f ∷ []) limits.send (peak (shaped limits stages) (buffer.Send f) h))
+      ∙ ap (λ n. peak_line (codes "recv" ∷ flow_word f ∷ []) limits.recv n ++ (stage_peaks (shaped limits stages) f 1 (stages f) h ++ peak_line (codes "send" ∷ flow_word f ∷ []) limits.send (peak (shaped limits stages) (buffer.Send f) h))) (recv_peak f h ∙ zero 0)
       ∙ ap (λ (v : List ℕ). v ++ peak_line (codes "send" ∷ flow_word f ∷ []) limits.send (peak (shaped limits stages) (buffer.Send f) h)) (no_stages f h 1 (stages f) zero)
       ∙ ap (λ n. peak_line (codes "send" ∷ flow_word f ∷ []) limits.send n) (send_peak f h ∙ zero (length (stages f) + 1))
     where

@@ -3,6 +3,7 @@ use Rattle.flow_gate.specs.declared.ids.FlowId.{FlowId}
 use Rattle.flow_notes.specs.declared.events.Event.{Event}
 use Rattle.flow_notes.specs.declared.notes.CloseCause.{CloseCause}
 use Rattle.flow_notes.specs.declared.notes.Note.{Note}
+use Rattle.h2_frames.specs.Head.{data_head}
 use Rattle.std.proofs.Common.{ap, arith, length-append, length-drop, refl, subst, sym, ◌∙◌}
 use Rattle.std.proofs.lemmas.Bool.Decides.{nat_tests}
 use Rattle.std.proofs.lemmas.List.{length-take}
@@ -115,7 +116,7 @@ module _ (limits : BufferLimits) (stages : FlowId → List StageKind) where
       let held = send (shaped limits stages) f h in
       let t = length-take n held in
       puts (note.Frame c f n last) h c (m + 9) (data_frame (shaped limits stages) f n last h) (λ d. refl) (λ d. refl)
-      (length-append _ (take n held) ∙ (let l : 9 + length (take n held) ≡ m + 9 = omega (arith, t, e) in l))
+      (length-append (data_head ((shaped limits stages).stream f h) n last) (take n held) ∙ (let l : 9 + length (take n held) ≡ m + 9 = omega (arith, t, e) in l))
 
   -- ---- octets leave
 

@@ -30,6 +30,12 @@ fallen_at p n [] = []
 fallen_at zero n (l ∷ ls) = fallen l n ∷ ls
 fallen_at (suc p) n (l ∷ ls) = l ∷ fallen_at p n ls
 
+-- the first places are emptied
+abbrev pub emptied_to : ℕ → List Level → List Level
+emptied_to zero ls = ls
+emptied_to (suc p) [] = []
+emptied_to (suc p) (l ∷ ls) = emptied l ∷ emptied_to p ls
+
 -- as many of n octets as the place holds
 abbrev pub taken : ℕ → ℕ → List Level → ℕ
 taken p n ls = min n (held_at p ls)

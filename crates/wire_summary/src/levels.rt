@@ -172,6 +172,7 @@ impl Levels {
     }
 
     /// An exchange passes stages with these limits, which has to be said before its first note; later it changes nothing.
+    #[tactic(auto, using(crate::proofs::Beginning::passed_known))]
     pub fn pass(
         &mut self,
         exchange: u64,
@@ -180,9 +181,23 @@ impl Levels {
     ) -> Result<(), NoMemory>
         ensures { OnOk result (LevelsPass self.old (record { request = request.items; response = response.items }) self.new) }
     {
-        if self.exchanges.contains_key(&exchange) {
-            return Ok(());
+        match self.exchanges.get(&exchange) {
+            Some(_) => Ok(()),
+            None => self.begin(exchange, request, response),
         }
+    }
+
+    // The exchange of which nothing was said passes these stages.
+    #[tactic(auto, using(crate::proofs::Beginning::passed_new))]
+    fn begin(
+        &mut self,
+        exchange: u64,
+        request: Vec<u32>,
+        response: Vec<u32>,
+    ) -> Result<(), NoMemory>
+        requires { get nat_cmp self.old.exchanges exchange ≡ None }
+        ensures { OnOk result (LevelsPass self.old (record { request = request.items; response = response.items }) self.new) }
+    {
         let places = ExchangePlaces {
             request: FlowPlaces::new(self.alloc, request)?,
             response: FlowPlaces::new(self.alloc, response)?,
@@ -319,6 +334,7 @@ impl Levels {
     }
 
     // Octets leave the send buffer behind a frame's head.
+    #[tactic(auto, using(crate::proofs::Lending::frames_done))]
     fn frame(&mut self, conn: u32, flow: FlowId, n: u64) -> Result<(), NoMemory>
         ensures { OnOk result (Frames self.old conn flow n self.new) }
     {

@@ -29,6 +29,7 @@ impl WireLog {
     }
 
     /// An exchange passes stages with these limits, which has to be said before its first note; later it changes nothing.
+    #[tactic(auto, using(crate::proofs::Logging::one_passes))]
     pub fn pass(
         &mut self,
         exchange: u64,
@@ -41,6 +42,7 @@ impl WireLog {
     }
 
     /// Takes up the notes that a tape goes on with. After want of memory the log is to be let go.
+    #[tactic(auto, using(crate::proofs::Logging::both_go))]
     pub fn note_all(&mut self, notes: &Notes) -> Result<(), NoMemory>
         ensures { OnOk result (WireLogs self.old notes.now self.new) }
     {

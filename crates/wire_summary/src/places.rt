@@ -26,7 +26,7 @@ pub struct FlowPlaces {
 }
 
 impl FlowPlaces {
-    ghost use Rattle.std.specs.Prelude.{◌≡◌, ◌+◌, IfOk, OnOk, length, map, replicate};
+    ghost use Rattle.std.specs.Prelude.{◌≡◌, ◌+◌, ◌<◌, IfOk, IfSome, OnOk, length, map, replicate, slice_get};
     ghost use Rattle.tape_summary.specs.Levels.{emptied, no_level};
     ghost use Rattle.wire_summary.specs.Places.{changed, fallen_at, framed, most_at, risen_at, taken};
 
@@ -53,10 +53,11 @@ impl FlowPlaces {
     }
 
     /// The most that a place ever held, in octets; 0 where there is no such place.
+    #[tactic(auto, using(crate::proofs::Siding::most_is, crate::proofs::Siding::most_none))]
     pub fn most(&self, place: usize) -> u64
         ensures { result ≡ most_at place self.now.levels.items }
     {
-        match self.levels.as_slice().get(place) {
+        match self.level(place) {
             Some(level) => level.most,
             None => 0,
         }
@@ -86,37 +87,49 @@ impl FlowPlaces {
     }
 
     /// All octets are dropped.
+    #[tactic(auto, using(crate::proofs::Siding::emptied_set, crate::proofs::Siding::emptied_all, crate::proofs::Siding::emptied_long))]
     pub fn empty(&mut self)
         ensures levels { self.new.levels.items ≡ map emptied self.old.levels.items }
         ensures limits { self.new.limits ≡ self.old.limits }
     {
-        for level in self.levels.iter_mut() {
-            *level = level.empty();
+        let mut place = 0;
+        while let Some(level) = self.level(place) {
+            self.levels[place] = level.empty();
+            place += 1;
         }
     }
 
     // Takes octets from a place, at most those that are there. Answers how many.
+    #[tactic(auto, using(crate::proofs::Siding::fallen_set, crate::proofs::Siding::held_is, crate::proofs::Siding::taken_none, crate::proofs::Siding::fallen_none))]
     fn take(&mut self, place: usize, n: u64) -> u64
         ensures levels { self.new.levels.items ≡ fallen_at place (taken place n self.old.levels.items) self.old.levels.items }
         ensures taken { result ≡ taken place n self.old.levels.items }
         ensures limits { self.new.limits ≡ self.old.limits }
     {
-        if place >= self.levels.len() {
+        let Some(level) = self.level(place) else {
             return 0;
-        }
-        let taken = n.min(self.levels[place].held);
-        self.levels[place] = self.levels[place].fall(taken);
+        };
+        let taken = n.min(level.held);
+        self.levels[place] = level.fall(taken);
         taken
     }
 
     // Octets come into a place, if the flow has it.
+    #[tactic(auto, using(crate::proofs::Siding::risen_set, crate::proofs::Siding::risen_none))]
     fn put(&mut self, place: usize, n: u64) -> Result<(), NoMemory>
         ensures levels { OnOk result (self.new.levels.items ≡ risen_at place n self.old.levels.items) }
         ensures limits { self.new.limits ≡ self.old.limits }
     {
-        if place < self.levels.len() {
-            self.levels[place] = self.levels[place].rise(n)?;
+        if let Some(level) = self.level(place) {
+            self.levels[place] = level.rise(n)?;
         }
         Ok(())
+    }
+
+    fn level(&self, place: usize) -> Option<Level>
+        ensures is { result ≡ slice_get self.now.levels.items place }
+        ensures within { IfSome result (λ level. place < length self.now.levels.items) }
+    {
+        self.levels.as_slice().get(place).copied()
     }
 }
