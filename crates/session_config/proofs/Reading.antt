@@ -2,7 +2,7 @@
 use Rattle.io_ports.specs.Faults.{FailsByFault, Rose}
 use Rattle.proxy_config.specs.Reading.{config_of}
 use Rattle.proxy_config.specs.declared.config.Config.{Config}
-use Rattle.session_config.specs.Loading.{CausesFault, Loads, LoadsAs, ReadsPiece, ReadsWhole, StopsAs}
+use Rattle.session_config.specs.Loading.{CausesFault, Loads, LoadsAs, ReadsPiece, ReadsWhole, StopsAs, longest_config}
 use Rattle.session_config.specs.declared.load.ConfigEnd.{ConfigEnd}
 use Rattle.std.proofs.Common.{ap, append_assoc, arith, refl, subst, sym, ◌∙◌}
 use Rattle.std.proofs.lemmas.List.{append-nil}
@@ -30,7 +30,7 @@ pub read_on : (a b c : Option (List ℕ)) (text new got : List ℕ) → Consumes
 read_on a b c text new got p q e = let P : List ℕ → Type 0 = λ v. Consumes a c v in subst P (sym e) (consumes_more a b c text got p q)
 
 -- nothing more: it was all
-pub read_all : (a b c : Option (List ℕ)) (text new : List ℕ) (n : ℕ) (r : Result ℕ ConfigEnd) → r ≡ Ok n → n ≡ 0 → Consumes a b text → length text ≤ 1048576 → ReadsPiece b c text new r → ReadsWhole a c (Ok new)
+pub read_all : (a b c : Option (List ℕ)) (text new : List ℕ) (n : ℕ) (r : Result ℕ ConfigEnd) → r ≡ Ok n → n ≡ 0 → Consumes a b text → length text ≤ longest_config → ReadsPiece b c text new r → ReadsWhole a c (Ok new)
 read_all a b c text new n r e z p short k =
     let P : Result ℕ ConfigEnd → Type 0 = λ v. ReadsPiece b c text new v in
     let q : ReadsPiece b c text new (Ok n) = subst P e k in
@@ -39,7 +39,7 @@ read_all a b c text new n r e z p short k =
     record {
       text = new;
       consumes = read_on a b c text new q.got p q.consumes q.is.0;
-      is = ((q.is.2 z, (let l = ap length same in omega (arith, l, short))), refl);
+      is = ((q.is.2 z, (let Q : List ℕ → Type 0 = λ v. length v ≤ longest_config in subst Q (sym same) short)), refl);
     }
   where
     none_got : (got : List ℕ) → length got ≡ 0 → got ≡ []
@@ -47,17 +47,17 @@ read_all a b c text new n r e z p short k =
     none_got (x ∷ xs) e = absurd (omega (arith, e))
 
 -- reading stopped
-pub read_stop : (a b c : Option (List ℕ)) (text new : List ℕ) (stop : ConfigEnd) (r : Result ℕ ConfigEnd) → r ≡ Err stop → Consumes a b text → length text ≤ 1048576 → ReadsPiece b c text new r → ReadsWhole a c (Err stop)
+pub read_stop : (a b c : Option (List ℕ)) (text new : List ℕ) (stop : ConfigEnd) (r : Result ℕ ConfigEnd) → r ≡ Err stop → Consumes a b text → length text ≤ longest_config → ReadsPiece b c text new r → ReadsWhole a c (Err stop)
 read_stop a b c text new stop r e p short k = let P : Result ℕ ConfigEnd → Type 0 = λ v. ReadsPiece b c text new v in by stop (subst P e k)
   where
     by : (stop : ConfigEnd) → ReadsPiece b c text new (Err stop) → ReadsWhole a c (Err stop)
     by (end.Refused fault) q = absurd q.is
     by end.TooLong q = absurd q.is
-    by end.ReadFault q = record { text = text ++ q.got; consumes = consumes_more a b c text q.got p q.consumes; is = (let l = ap (λ (v : List ℕ). length (text ++ v)) q.is ∙ ap length (append-nil text) in omega (arith, l, short)) }
+    by end.ReadFault q = record { text = text ++ q.got; consumes = consumes_more a b c text q.got p q.consumes; is = (let Q : List ℕ → Type 0 = λ v. length v ≤ longest_config in subst Q (sym (ap (λ (v : List ℕ). text ++ v) q.is ∙ append-nil text)) short) }
     by end.Memory q = record { text = text ++ q.got; consumes = consumes_more a b c text q.got p q.consumes; is = tt }
 
 -- there are too many octets
-pub read_much : (a b c : Option (List ℕ)) (text new : List ℕ) (n : ℕ) (r : Result ℕ ConfigEnd) → r ≡ Ok n → Consumes a b text → ReadsPiece b c text new r → 1048576 < length new → ReadsWhole a c (Err end.TooLong)
+pub read_much : (a b c : Option (List ℕ)) (text new : List ℕ) (n : ℕ) (r : Result ℕ ConfigEnd) → r ≡ Ok n → Consumes a b text → ReadsPiece b c text new r → longest_config < length new → ReadsWhole a c (Err end.TooLong)
 read_much a b c text new n r e p k much =
     let P : Result ℕ ConfigEnd → Type 0 = λ v. ReadsPiece b c text new v in
     let q : ReadsPiece b c text new (Ok n) = subst P e k in

@@ -33,7 +33,7 @@ abbrev pub row_len : List ℕ → ℕ
 row_len text = option_map_or (λ n. n + 1) (position (λ c. not (is_ascii_digit c)) text) 0
 
 -- how many octets the first of these places has that stands in front, 0 where none does
-abbrev pub front_len : List (List ℕ) → List ℕ → ℕ
+unfoldable pub front_len : List (List ℕ) → List ℕ → ℕ
 front_len places key = option_map_or length (find (begins_with key) places) 0
 
 abbrev pub list_len : List ℕ → ℕ

@@ -36,6 +36,7 @@ fn place_len(key: &[u8]) -> usize
 }
 
 // How many octets the name of the list of tables has with the dot behind it, if the key stands in one. Rows are counted from 0.
+#[tactic(auto, unfolding(crate::specs::Refusals::front_len))]
 fn list_len(key: &[u8]) -> usize
     ensures is { result ≡ spec.list_len key.now }
     ensures within { result ≤ length key.now }
@@ -54,6 +55,7 @@ fn list_len(key: &[u8]) -> usize
 }
 
 // The same of the table whose keys are known.
+#[tactic(auto, unfolding(crate::specs::Refusals::front_len))]
 fn table_len(key: &[u8]) -> usize
     ensures is { result ≡ spec.table_len key.now }
     ensures within { result ≤ length key.now }
