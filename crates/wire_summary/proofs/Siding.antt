@@ -136,8 +136,9 @@ emptied_long (suc i) (k ∷ ls) = ap suc (emptied_long i ls)
 
 pub emptied_set : (i : ℕ) (ls items : List Level) (l : Level) → items ≡ emptied_to i ls → slice_get items i ≡ Some l → slice_set items i (emptied l) ≡ emptied_to (i + 1) ls
 emptied_set i ls items l is e =
-    let P : List Level → Type 0 = λ v. slice_get v i ≡ Some l → slice_set v i (emptied l) ≡ emptied_to (i + 1) ls in
-    subst P (sym is) (by i ls) e
+    let P : List Level → Type 0 = λ v. slice_get v i ≡ Some l → slice_set v i (emptied l) ≡ emptied_to (suc i) ls in
+    let one : suc i ≡ i + 1 = omega arith in
+    subst P (sym is) (by i ls) e ∙ ap (λ k. emptied_to k ls) one
   where
     by : (i : ℕ) (ls : List Level) → slice_get (emptied_to i ls) i ≡ Some l → slice_set (emptied_to i ls) i (emptied l) ≡ emptied_to (suc i) ls
     by zero [] e = cc

@@ -188,7 +188,6 @@ impl Levels {
     }
 
     // The exchange of which nothing was said passes these stages.
-    #[tactic(auto, using(crate::proofs::Beginning::passed_new))]
     fn begin(
         &mut self,
         exchange: u64,
