@@ -1,5 +1,5 @@
 // Reading a configuration.
-ghost use Rattle.std.specs.Prelude.{◌≡◌, ◌≤◌, [], IfOk, length};
+ghost use Rattle.std.specs.Prelude.{◌≡◌, ◌<◌, ◌≤◌, [], IfOk, length};
 ghost use Rattle.proxy_config.specs.Ranges.{IsInRange};
 ghost use Rattle.session_config.specs.Loading.{CausesFault, Loads, ReadsPiece, ReadsWhole};
 
@@ -42,7 +42,6 @@ pub fn load_config<C: Source>(alloc: Global, source: &mut C) -> Result<Config, C
 }
 
 // Reads to the end, or until there are too many octets.
-#[tactic(auto, using(crate::proofs::Reading::nothing_consumed, crate::proofs::Reading::read_on, crate::proofs::Reading::read_all, crate::proofs::Reading::read_stop, crate::proofs::Reading::read_much))]
 fn read_whole<C: Source>(alloc: Global, source: &mut C) -> Result<Octets, ConfigEnd>
     ensures reads { ReadsWhole (C.left source.old) (C.left source.new) result }
     ensures cause { CausesFault (C.faults source.old) (C.faults source.new) result }
@@ -68,7 +67,7 @@ fn read_piece<C: Source>(
     piece: &mut [u8],
     text: &mut Octets,
 ) -> Result<usize, ConfigEnd>
-    requires { length piece.old ≡ 65536 }
+    requires { 0 < length piece.old }
     ensures piece { length piece.new ≡ length piece.old }
     ensures reads { ReadsPiece (C.left source.old) (C.left source.new) text.old text.new result }
     ensures cause { CausesFault (C.faults source.old) (C.faults source.new) result }
