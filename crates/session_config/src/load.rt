@@ -47,7 +47,7 @@ fn read_whole<C: Source>(alloc: Global, source: &mut C) -> Result<Octets, Config
     ensures cause { CausesFault (C.faults source.old) (C.faults source.new) result }
     ensures no_fall { C.faults source.old ≤ C.faults source.new }
 {
-    let Ok(mut piece) = vec![in alloc; 0; PIECE] else {
+    let Ok(mut piece) = new_piece(alloc) else {
         return Err(ConfigEnd::Memory);
     };
     let mut text = Octets::new(alloc);
@@ -59,6 +59,13 @@ fn read_whole<C: Source>(alloc: Global, source: &mut C) -> Result<Octets, Config
             return Err(ConfigEnd::TooLong);
         }
     }
+}
+
+// Room for what is read at once.
+fn new_piece(alloc: Global) -> Result<Vec<u8>, NoMemory>
+    ensures { IfOk result (λ piece. 0 < length piece.items) }
+{
+    Ok(vec![in alloc; 0; PIECE]?)
 }
 
 // Reads once, and answers how many octets came.
