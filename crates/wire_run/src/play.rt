@@ -1,7 +1,7 @@
 // The lines of a wire session, each of which is dispatched.
 ghost use Rattle.std.specs.Prelude.{◌≡◌, OnOk};
 ghost use Rattle.wire_run.specs.Passing.{PassesAll};
-ghost use Rattle.wire_run.specs.Rows as spec;
+ghost use Rattle.wire_run.specs.Rows as rows;
 
 use crate::stages::StageTable;
 use flow_notes::{Event, Note, Notes, Passage};
@@ -117,7 +117,7 @@ impl Player for WirePlay {
 
 // The limits of the buffers that every exchange and every connection has.
 fn limits_of(config: &Config) -> BufferLimits
-    ensures { result ≡ spec.limits_of config.now }
+    ensures { result ≡ rows.limits_of config.now }
 {
     BufferLimits {
         recv: config.limits.stream_window,
