@@ -3,7 +3,8 @@
 //! texts of two short sessions and of a drill, and the code of each status.
 //!
 //! A case begins with a line `## NAME`. The next line has its words behind a dollar sign, as `$ plain`, where a dash is an
-//! empty word. Lines `% read K` and `% write K` say that this read or write, counted from 0, fails. The other lines are the
+//! empty word. Lines `= LINE` are its configuration. Lines `% config K`, `% read K` and `% write K` say that this read of the
+//! configuration or of the session, or this write, counted from 0, fails. The other lines are the
 //! session, in which `aa*3` at a line's end stands for `aaaaaa`; a line `% cut` behind it takes its last newline away.
 #![tactic(auto)]
 

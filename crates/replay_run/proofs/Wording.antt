@@ -1,5 +1,5 @@
 -- The words of a replay.
-use Rattle.replay_run.specs.Forms.{IsDrillWord, IsNoDrill, SpellsForm}
+use Rattle.replay_run.specs.Forms.{HasNoForm, IsDrillWord, IsNoDrill, SpellsForm}
 use Rattle.replay_run.specs.Drills.{DrillsAs}
 use Rattle.replay_run.specs.Replays.{Replays}
 use Rattle.replay_run.specs.Told.{ReplaysForm}
@@ -104,3 +104,22 @@ relay_spelled word name e = record { ranges = tt; is = (name, ap (λ (v : List �
 pub other_source : (A B C : Type 0) → C → A ⊎ B → B ⊎ (C × A)
 other_source A B C c (inl a) = inr (c, a)
 other_source A B C c (inr b) = inl b
+
+-- ---- words that have no form
+pub words_none : (word name : List ℕ) → (word ≡ codes "relay" → ⊥) → (word ≡ codes "drill" → ⊥) → HasNoForm (word ∷ name ∷ [])
+words_none word name relay drill = record { none = by }
+  where
+    by : (f : Form) → SpellsForm (word ∷ name ∷ []) f → ⊥
+    by form.Plain s = let i : word ∷ name ∷ [] ≡ codes "plain" ∷ [] = s.is in cc
+    by form.Relay s = let i : word ∷ name ∷ [] ≡ codes "relay" ∷ s.is.0 ∷ [] = s.is.1 in relay (let k : word ≡ codes "relay" = cc in k)
+    by (form.Drill n) s = let i : word ∷ name ∷ [] ≡ codes "drill" ∷ decimal n ∷ [] = s.is in drill (let k : word ≡ codes "drill" = cc in k)
+
+pub drill_none : (word name : List ℕ) → (word ≡ codes "relay" → ⊥) → IsNoDrill name → HasNoForm (word ∷ name ∷ [])
+drill_none word name relay k = record { none = by }
+  where
+    by : (f : Form) → SpellsForm (word ∷ name ∷ []) f → ⊥
+    by form.Plain s = let i : word ∷ name ∷ [] ≡ codes "plain" ∷ [] = s.is in cc
+    by form.Relay s = let i : word ∷ name ∷ [] ≡ codes "relay" ∷ s.is.0 ∷ [] = s.is.1 in relay (let k : word ≡ codes "relay" = cc in k)
+    by (form.Drill n) s =
+        let i : word ∷ name ∷ [] ≡ codes "drill" ∷ decimal n ∷ [] = s.is in
+        k.none n (record { least = s.ranges.0; most = s.ranges.1; is = (let e : name ≡ decimal n = cc in e) })

@@ -34,7 +34,7 @@ pub returns-in-Some-Relay-clause-read_fault : goal.returns-in-Some-Relay-clause-
 returns-in-Some-Relay-clause-read_fault g c = λ e. other_source _ _ _ (form_given _ _ _ c.in-Some-Relay.field-0-is c.in-Some-Relay.ensures.some) (c.replay_relay.ensures.read_fault e)
 
 pub returns-in-Some-Relay-clause-config : goal.returns-in-Some-Relay-clause-config
-returns-in-Some-Relay-clause-config g c = λ no. absurd (no (form_given _ _ _ c.in-Some-Relay.field-0-is c.in-Some-Relay.ensures.some))
+returns-in-Some-Relay-clause-config g c = λ other. absurd (other (form_given _ _ _ c.in-Some-Relay.field-0-is c.in-Some-Relay.ensures.some))
 
 pub returns-in-Some-Drill-clause-tape : goal.returns-in-Some-Drill-clause-tape
 returns-in-Some-Drill-clause-tape g c =
