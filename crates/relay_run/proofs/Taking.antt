@@ -11,7 +11,9 @@ use Rattle.relay_laws.specs.Pairs.{Tape, goes_to}
 use Rattle.relay_laws.specs.Report.{connections}
 use Rattle.relay_laws.specs.World.{out}
 use Rattle.relay_run.proofs.Levels.{level_emptied, level_fallen, level_risen, level_same}
+use Rattle.relay_run.specs.Logs.{RelayLogs}
 use Rattle.relay_run.specs.Writes.{SetsLevel, TakesClose, TakesOctets, TakesTurn, WritesAre, WritesGo, end_of, kept_level, level_of}
+use Rattle.relay_run.specs.declared.relay_log.RelayLog.{RelayLog}
 use Rattle.relay_run.specs.declared.write_log.Ends.{Ends}
 use Rattle.relay_run.specs.declared.write_log.WriteLog.{WriteLog}
 use Rattle.std.proofs.Common.{Bor, ap, length-append, length-drop, refl, subst, sym, ◌∙◌}
@@ -24,7 +26,9 @@ use Rattle.tape_laws.specs.History.{Noted, onto}
 use Rattle.tape_summary.proofs.Pausing.{onto_more}
 use Rattle.tape_summary.proofs.Spots.{number_is, numbers_equal}
 use Rattle.tape_summary.specs.Levels.{emptied, fallen, risen}
+use Rattle.tape_summary.specs.Pausing.{Logs}
 use Rattle.tape_summary.specs.declared.level.Level.{Level}
+use Rattle.tape_summary.specs.declared.pauses.PauseLog.{PauseLog}
 use Rattle.flow_notes.specs.declared.events.Event.TheVariants as event
 use Rattle.flow_notes.specs.declared.notes.CloseCause.TheVariants as closed
 use Rattle.flow_notes.specs.declared.notes.Note.TheVariants as note
@@ -277,6 +281,12 @@ pub all_writes : (a b : WriteLog) (notes done rest : List Note) → notes ≡ do
 all_writes a b notes done rest e none l =
     let P : List Note → Type 0 = λ v. WritesGo a v b in
     subst P (sym (e ∙ ap (λ (v : List Note). done ++ v) none ∙ append-nil done)) l
+
+-- ---- beside the pauses
+pub both_logged : (old : RelayLog) (ns : List Note) (writes : WriteLog) (pauses : PauseLog) (r : Result (Unit {0}) NoMemory) → WritesGo old.writes ns writes → OnOk r (Logs old.pauses ns pauses)
+    → OnOk r (RelayLogs old ns (record { writes = writes; pauses = pauses }))
+both_logged old ns writes pauses (Ok u) w p = record { goes = λ limit h l. record { writes = w.goes limit h l.writes; pauses = p.goes h l.pauses } }
+both_logged old ns writes pauses (Err x) w p = tt
 
 -- ---- rows of pauses and resumes
 pauses_write : (a : WriteLog) (fs : List FlowId) (b : BufferId) → WritesGo a (map (λ f. note.Pause f b) fs) a
