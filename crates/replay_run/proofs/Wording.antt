@@ -9,7 +9,7 @@ use Rattle.std.proofs.Common.{Decides, ap, arith, inl, inr, refl, subst, sym, �
 use Rattle.std.proofs.lemmas.Fmt.{decimal_injective, parse-decimal}
 use Rattle.std.proofs.lemmas.Slice.Eq.{bytes_eq-Decides}
 use Rattle.std.specs.Fmt.{decimal}
-use Rattle.std.specs.Prelude.{Bool, List, Ok, Option, Result, [], codes, false, true, ℕ, ◌<◌, ◌^◌, ◌∷◌, ◌≡◌, ◌≤◌, ◌⊎◌}
+use Rattle.std.specs.Prelude.{Bool, List, Ok, Option, Result, [], codes, false, get_or, true, ℕ, ◌<◌, ◌^◌, ◌∷◌, ◌≡◌, ◌≤◌, ◌⊎◌}
 use Rattle.std.specs.Str.{bytes_eq}
 use Rattle.std.specs.Str.Parse.{ParsesUnsigned}
 use Rattle.replay_run.specs.declared.form.Form.TheVariants as form
@@ -50,14 +50,18 @@ number_else word digits n r b e p ed eb failed = record { none = by failed }
     by (inr (inl few)) m k = let i = same_number m k in let less = few.1 in let least = k.least in omega (arith, i, less, least)
     by (inr (inr f)) m k = let t = spelled m k in cc
 
+-- told apart by their first octets
+relay_or_drill : (name number : List ℕ) → codes "relay" ∷ name ∷ [] ≡ codes "drill" ∷ number ∷ [] → ⊥
+relay_or_drill name number e = let k : 114 ≡ 100 = ap (λ (v : List (List ℕ)). get_or (get_or v 0 []) 0 0) e in omega (arith, k)
+
 -- two numbers have the same form
 pub same_form : (words : List (List ℕ)) (f g : Form) → SpellsForm words f → SpellsForm words g → f ≡ g
 same_form words form.Plain form.Plain s t = refl
 same_form words form.Plain form.Relay s t = let i : codes "plain" ∷ [] ≡ codes "relay" ∷ t.is.0 ∷ [] = sym s.is ∙ t.is.1 in cc
 same_form words form.Relay form.Plain s t = let i : codes "plain" ∷ [] ≡ codes "relay" ∷ s.is.0 ∷ [] = sym t.is ∙ s.is.1 in cc
 same_form words form.Relay form.Relay s t = refl
-same_form words form.Relay (form.Drill n) s t = let i : codes "relay" ∷ s.is.0 ∷ [] ≡ codes "drill" ∷ decimal n ∷ [] = sym s.is.1 ∙ t.is in cc
-same_form words (form.Drill n) form.Relay s t = let i : codes "relay" ∷ t.is.0 ∷ [] ≡ codes "drill" ∷ decimal n ∷ [] = sym t.is.1 ∙ s.is in cc
+same_form words form.Relay (form.Drill n) s t = absurd (relay_or_drill s.is.0 (decimal n) (sym s.is.1 ∙ t.is))
+same_form words (form.Drill n) form.Relay s t = absurd (relay_or_drill t.is.0 (decimal n) (sym t.is.1 ∙ s.is))
 same_form words form.Plain (form.Drill n) s t = let i : codes "plain" ∷ [] ≡ codes "drill" ∷ decimal n ∷ [] = sym s.is ∙ t.is in cc
 same_form words (form.Drill n) form.Plain s t = let i : codes "plain" ∷ [] ≡ codes "drill" ∷ decimal n ∷ [] = sym t.is ∙ s.is in cc
 same_form words (form.Drill m) (form.Drill n) s t =
