@@ -4,7 +4,7 @@ use Rattle.relay_laws.specs.Report.{peak}
 use Rattle.relay_laws.specs.World.{out}
 use Rattle.relay_run.specs.Writes.{level_of}
 use Rattle.std.proofs.Common.{ap, arith, sym, ◌∙◌}
-use Rattle.std.specs.Prelude.{length, ℕ, ◌+◌, ◌-◌, ◌∷◌, ◌≡◌, ◌≤◌}
+use Rattle.std.specs.Prelude.{[], length, ℕ, ◌+◌, ◌-◌, ◌∷◌, ◌≡◌, ◌≤◌}
 use Rattle.tape_laws.specs.History.{NoMark, Step}
 use Rattle.tape_summary.specs.Levels.{emptied, fallen, risen}
 use Rattle.tape_summary.specs.declared.level.Level.{Level}

@@ -257,7 +257,7 @@ module _ (old mid : RelayPlay) (line : List ℕ) (e : Event) (r : ReadsWireLine 
   abbrev tape : Tape
   tape = seen_tape config seen
 
-  taken : AcceptsWire names (resources_in config) seen line mid.lines (read.Event e)
+  pub taken : AcceptsWire names (resources_in config) seen line mid.lines (read.Event e)
   taken = r.goes names (resources_in config) seen p.lines
 
   next : EventNext config seen taken.item e
@@ -345,9 +345,9 @@ pub read_as : (old new : WireLines) (line : List ℕ) (found answer : LineRead) 
 read_as old new line found answer e r = let P : LineRead → Type 0 = λ v. ReadsWireLine old line new (Ok v) in subst P e r
 
 -- ---- before the first line
-pub play_begun : (config : Config) (play : RelayPlay) (names : List (List ℕ)) (n : ℕ) → names ≡ names_in config → AreNames names → n ≡ resources_in config → WireLinesAre play.lines names n NoLine
-    → ((names : List (List ℕ)) → Rests (limit_of config) names play.relay []) → RelayLogIs (limit_of config) play.log [] → (text : List ℕ) → config_of text ≡ Ok config → Begins relay_kind play text
-play_begun config play names n en are er w r l text configured =
+pub play_begun : (config : Config) (play : RelayPlay) (own : List (List ℕ)) (n : ℕ) → own ≡ names_in config → AreNames own → n ≡ resources_in config → WireLinesAre play.lines own n NoLine
+    → ((ns : List (List ℕ)) → Rests (limit_of config) ns play.relay []) → RelayLogIs (limit_of config) play.log [] → (text : List ℕ) → config_of text ≡ Ok config → Begins relay_kind play text
+play_begun config play own n en are er w r l text configured =
     let A : List (List ℕ) → Type 0 = λ v. AreNames v in
     let W : List (List ℕ) → Type 0 = λ v. WireLinesAre play.lines v n NoLine in
     let V : ℕ → Type 0 = λ v. WireLinesAre play.lines (names_in config) v NoLine in

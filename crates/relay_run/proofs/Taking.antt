@@ -11,7 +11,9 @@ use Rattle.relay_laws.specs.Pairs.{Tape, goes_to}
 use Rattle.relay_laws.specs.Report.{connections}
 use Rattle.relay_laws.specs.World.{out}
 use Rattle.relay_run.proofs.Levels.{level_emptied, level_fallen, level_risen, level_same}
+use Rattle.relay_run.specs.Logs.{RelayLogs}
 use Rattle.relay_run.specs.Writes.{SetsLevel, TakesClose, TakesOctets, TakesTurn, WritesAre, WritesGo, end_of, kept_level, level_of}
+use Rattle.relay_run.specs.declared.relay_log.RelayLog.{RelayLog}
 use Rattle.relay_run.specs.declared.write_log.Ends.{Ends}
 use Rattle.relay_run.specs.declared.write_log.WriteLog.{WriteLog}
 use Rattle.std.proofs.Common.{Bor, ap, length-append, length-drop, refl, subst, sym, ◌∙◌}
@@ -24,7 +26,9 @@ use Rattle.tape_laws.specs.History.{Noted, onto}
 use Rattle.tape_summary.proofs.Pausing.{onto_more}
 use Rattle.tape_summary.proofs.Spots.{number_is, numbers_equal}
 use Rattle.tape_summary.specs.Levels.{emptied, fallen, risen}
+use Rattle.tape_summary.specs.Pausing.{Logs}
 use Rattle.tape_summary.specs.declared.level.Level.{Level}
+use Rattle.tape_summary.specs.declared.pauses.PauseLog.{PauseLog}
 use Rattle.flow_notes.specs.declared.events.Event.TheVariants as event
 use Rattle.flow_notes.specs.declared.notes.CloseCause.TheVariants as closed
 use Rattle.flow_notes.specs.declared.notes.Note.TheVariants as note
@@ -144,13 +148,13 @@ octets_taken old new f n c o was level (Ok u) eo some ew el s =
 octets_taken old new f n c o was level (Err x) eo some ew el s = tt
 
 none_else : (o : Option ℕ) → ((c : ℕ) → o ≡ Some c → ⊥) → o ≡ None
-none_else None no = refl
-none_else (Some c) no = absurd (no c refl)
+none_else None never = refl
+none_else (Some c) never = absurd (never c refl)
 
 pub octets_lost : (log : WriteLog) (f : FlowId) (n : ℕ) (o : Option ℕ) → o ≡ end_of f (get nat_cmp log.pairs f.exchange) → ((c : ℕ) → o ≡ Some c → ⊥) → TakesOctets log f n log
-octets_lost log f n o eo no = record {
+octets_lost log f n o eo never = record {
   goes = λ octets e. same_note log (note.Arrive f octets) (λ h. refl) (λ g h. refl)
-      (λ limit h a c. ap (λ (v : Option ℕ). out c h ++ (if is_some_of v c then octets else [])) (sym (a.ends_are f) ∙ sym eo ∙ none_else o no) ∙ append-nil (out c h));
+      (λ limit h a c. ap (λ (v : Option ℕ). out c h ++ (if is_some_of v c then octets else [])) (sym (a.ends_are f) ∙ sym eo ∙ none_else o never) ∙ append-nil (out c h));
 }
 
 -- ---- a connection is closed
@@ -174,12 +178,12 @@ lost_taken old new c m was level (Ok u) e ew el s =
 lost_taken old new c m was level (Err x) e ew el s = tt
 
 pub other_closed : (log : WriteLog) (c : ℕ) (why : CloseCause) → (why ≡ closed.Lost → ⊥) → TakesClose log c why log
-other_closed log c closed.Lost no = absurd (no refl)
-other_closed log c closed.Protocol no = record { goes = λ code. same_note log (note.Close c code closed.Protocol) (λ h. refl) (λ g h. refl) (λ limit h a d. refl) }
-other_closed log c closed.Drained no = record { goes = λ code. same_note log (note.Close c code closed.Drained) (λ h. refl) (λ g h. refl) (λ limit h a d. refl) }
-other_closed log c closed.Idle no = record { goes = λ code. same_note log (note.Close c code closed.Idle) (λ h. refl) (λ g h. refl) (λ limit h a d. refl) }
-other_closed log c closed.Overload no = record { goes = λ code. same_note log (note.Close c code closed.Overload) (λ h. refl) (λ g h. refl) (λ limit h a d. refl) }
-other_closed log c closed.Flood no = record { goes = λ code. same_note log (note.Close c code closed.Flood) (λ h. refl) (λ g h. refl) (λ limit h a d. refl) }
+other_closed log c closed.Lost never = absurd (never refl)
+other_closed log c closed.Protocol never = record { goes = λ code. same_note log (note.Close c code closed.Protocol) (λ h. refl) (λ g h. refl) (λ limit h a d. refl) }
+other_closed log c closed.Drained never = record { goes = λ code. same_note log (note.Close c code closed.Drained) (λ h. refl) (λ g h. refl) (λ limit h a d. refl) }
+other_closed log c closed.Idle never = record { goes = λ code. same_note log (note.Close c code closed.Idle) (λ h. refl) (λ g h. refl) (λ limit h a d. refl) }
+other_closed log c closed.Overload never = record { goes = λ code. same_note log (note.Close c code closed.Overload) (λ h. refl) (λ g h. refl) (λ limit h a d. refl) }
+other_closed log c closed.Flood never = record { goes = λ code. same_note log (note.Close c code closed.Flood) (λ h. refl) (λ g h. refl) (λ limit h a d. refl) }
 
 -- ---- by how the note was taken up
 as_matched : (old new : WriteLog) (m n : Note) → m ≡ n → WritesGo old (n ∷ []) new → WritesGo old (m ∷ []) new
@@ -247,22 +251,22 @@ start_ends old new m x c s d (Err e) q ps cs ls li = tt
 
 pub other_ends : (log : WriteLog) (n : Note) → ((k : ℕ) (e : Event) → n ≡ note.Turn k e → ⊥) → ((x c s d : ℕ) → n ≡ note.Start x c s d → ⊥) → ((f : FlowId) (o : List ℕ) → n ≡ note.Arrive f o → ⊥)
     → ((c k : ℕ) → n ≡ note.Out c k → ⊥) → ((c code : ℕ) (why : CloseCause) → n ≡ note.Close c code why → ⊥) → WritesGo log (n ∷ []) log
-other_ends log (note.Turn k e) nt ns na no nc = absurd (nt k e refl)
-other_ends log (note.Start x c s d) nt ns na no nc = absurd (ns x c s d refl)
-other_ends log (note.Arrive f o) nt ns na no nc = absurd (na f o refl)
-other_ends log (note.Out c k) nt ns na no nc = absurd (no c k refl)
-other_ends log (note.Close c code why) nt ns na no nc = absurd (nc c code why refl)
-other_ends log (note.Move f p k) nt ns na no nc = same_note log (note.Move f p k) (λ h. refl) (λ g h. refl) (λ limit h a c. refl)
-other_ends log (note.Frame c f k last) nt ns na no nc = same_note log (note.Frame c f k last) (λ h. refl) (λ g h. refl) (λ limit h a d. refl)
-other_ends log (note.Pause f b) nt ns na no nc = same_note log (note.Pause f b) (λ h. refl) (λ g h. refl) (λ limit h a c. refl)
-other_ends log (note.Resume f b) nt ns na no nc = same_note log (note.Resume f b) (λ h. refl) (λ g h. refl) (λ limit h a c. refl)
-other_ends log (note.Credit c s n) nt ns na no nc = same_note log (note.Credit c s n) (λ h. refl) (λ g h. refl) (λ limit h a d. refl)
-other_ends log (note.Head c s o) nt ns na no nc = same_note log (note.Head c s o) (λ h. refl) (λ g h. refl) (λ limit h a d. refl)
-other_ends log (note.Answer c o) nt ns na no nc = same_note log (note.Answer c o) (λ h. refl) (λ g h. refl) (λ limit h a d. refl)
-other_ends log (note.Waste c s n) nt ns na no nc = same_note log (note.Waste c s n) (λ h. refl) (λ g h. refl) (λ limit h a d. refl)
-other_ends log (note.Doom x why) nt ns na no nc = same_note log (note.Doom x why) (λ h. refl) (λ g h. refl) (λ limit h a d. refl)
-other_ends log (note.Gone x) nt ns na no nc = same_note log (note.Gone x) (λ h. refl) (λ g h. refl) (λ limit h a d. refl)
-other_ends log (note.Fire kind id) nt ns na no nc = same_note log (note.Fire kind id) (λ h. refl) (λ g h. refl) (λ limit h a d. refl)
+other_ends log (note.Turn k e) nt ns na never nc = absurd (nt k e refl)
+other_ends log (note.Start x c s d) nt ns na never nc = absurd (ns x c s d refl)
+other_ends log (note.Arrive f o) nt ns na never nc = absurd (na f o refl)
+other_ends log (note.Out c k) nt ns na never nc = absurd (never c k refl)
+other_ends log (note.Close c code why) nt ns na never nc = absurd (nc c code why refl)
+other_ends log (note.Move f p k) nt ns na never nc = same_note log (note.Move f p k) (λ h. refl) (λ g h. refl) (λ limit h a c. refl)
+other_ends log (note.Frame c f k last) nt ns na never nc = same_note log (note.Frame c f k last) (λ h. refl) (λ g h. refl) (λ limit h a d. refl)
+other_ends log (note.Pause f b) nt ns na never nc = same_note log (note.Pause f b) (λ h. refl) (λ g h. refl) (λ limit h a c. refl)
+other_ends log (note.Resume f b) nt ns na never nc = same_note log (note.Resume f b) (λ h. refl) (λ g h. refl) (λ limit h a c. refl)
+other_ends log (note.Credit c s n) nt ns na never nc = same_note log (note.Credit c s n) (λ h. refl) (λ g h. refl) (λ limit h a d. refl)
+other_ends log (note.Head c s o) nt ns na never nc = same_note log (note.Head c s o) (λ h. refl) (λ g h. refl) (λ limit h a d. refl)
+other_ends log (note.Answer c o) nt ns na never nc = same_note log (note.Answer c o) (λ h. refl) (λ g h. refl) (λ limit h a d. refl)
+other_ends log (note.Waste c s n) nt ns na never nc = same_note log (note.Waste c s n) (λ h. refl) (λ g h. refl) (λ limit h a d. refl)
+other_ends log (note.Doom x why) nt ns na never nc = same_note log (note.Doom x why) (λ h. refl) (λ g h. refl) (λ limit h a d. refl)
+other_ends log (note.Gone x) nt ns na never nc = same_note log (note.Gone x) (λ h. refl) (λ g h. refl) (λ limit h a d. refl)
+other_ends log (note.Fire kind id) nt ns na never nc = same_note log (note.Fire kind id) (λ h. refl) (λ g h. refl) (λ limit h a d. refl)
 
 -- ---- note after note
 pub writes_none : (log : WriteLog) → WritesGo log [] log
@@ -277,6 +281,12 @@ pub all_writes : (a b : WriteLog) (notes done rest : List Note) → notes ≡ do
 all_writes a b notes done rest e none l =
     let P : List Note → Type 0 = λ v. WritesGo a v b in
     subst P (sym (e ∙ ap (λ (v : List Note). done ++ v) none ∙ append-nil done)) l
+
+-- ---- beside the pauses
+pub both_logged : (old : RelayLog) (ns : List Note) (writes : WriteLog) (pauses : PauseLog) (r : Result (Unit {0}) NoMemory) → WritesGo old.writes ns writes → OnOk r (Logs old.pauses ns pauses)
+    → OnOk r (RelayLogs old ns (record { writes = writes; pauses = pauses }))
+both_logged old ns writes pauses (Ok u) w p = record { goes = λ limit h l. record { writes = w.goes limit h l.writes; pauses = p.goes h l.pauses } }
+both_logged old ns writes pauses (Err x) w p = tt
 
 -- ---- rows of pauses and resumes
 pauses_write : (a : WriteLog) (fs : List FlowId) (b : BufferId) → WritesGo a (map (λ f. note.Pause f b) fs) a

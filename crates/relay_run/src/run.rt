@@ -19,13 +19,15 @@ pub struct RelayEnd {
     pub fault: Option<LineFault>,
 }
 
-/// Reads a session of a relay under this configuration, relays the octets of its events, and writes the tape with its summary.
+/// Reads a session of a relay under this configuration, which was read from some text, relays the octets of its events, and
+/// writes the tape with its summary.
 pub fn run_relay<S: Source, K: Sink>(
     alloc: Global,
     config: &Config,
     session: &mut S,
     out: &mut K,
 ) -> RelayEnd
+    requires { (text : List ℕ) × (config_of text ≡ Ok config.now) }
     ensures tape { (text : List ℕ) → config_of text ≡ Ok config.now → ReplaysRelay text (S.left session.old) (S.left session.new) (K.contents out.old) (K.contents out.new) result.status }
     ensures read_fault { result.status ≡ Status.ReadFault → Rose (S.faults session.old) (S.faults session.new) }
     ensures write_fault { result.status ≡ Status.WriteFault → Rose (K.faults out.old) (K.faults out.new) }

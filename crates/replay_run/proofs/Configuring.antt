@@ -68,6 +68,12 @@ end_write_fault end.Memory how e r = let i : status.Memory ≡ status.WriteFault
 abbrev Answer : Type 0
 Answer = Result Config ConfigEnd
 
+pub loaded : (config_old config_new : Option (List ℕ)) (r : Answer) (config : Config) → r ≡ Ok config → Loads config_old config_new r → (text : List ℕ) × (config_of text ≡ Ok config)
+loaded config_old config_new r config e l =
+    let P : Answer → Type 0 = λ v. Loads config_old config_new v in
+    let k : Loads config_old config_new (Ok config) = subst P e l in
+    (k.text, k.is.1)
+
 pub run_under : (Run : List ℕ → Status → Type 0) (config_old config_new left_old left_new out_old out_new : Option (List ℕ)) (how : Status) (r : Answer) (config : Config) → r ≡ Ok config → Loads config_old config_new r
     → ((text : List ℕ) → config_of text ≡ Ok config → Run text how) → ReplaysUnder Run config_old config_new left_old left_new out_old out_new how
 run_under Run config_old config_new left_old left_new out_old out_new how r config e l run =

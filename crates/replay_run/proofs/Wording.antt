@@ -1,5 +1,5 @@
 -- The words of a replay.
-use Rattle.replay_run.specs.Forms.{IsDrillWord, IsNoDrill, SpellsForm}
+use Rattle.replay_run.specs.Forms.{HasNoForm, IsDrillWord, IsNoDrill, SpellsForm}
 use Rattle.replay_run.specs.Drills.{DrillsAs}
 use Rattle.replay_run.specs.Replays.{Replays}
 use Rattle.replay_run.specs.Told.{ReplaysForm}
@@ -9,7 +9,7 @@ use Rattle.std.proofs.Common.{Decides, ap, arith, inl, inr, refl, subst, sym, �
 use Rattle.std.proofs.lemmas.Fmt.{decimal_injective, parse-decimal}
 use Rattle.std.proofs.lemmas.Slice.Eq.{bytes_eq-Decides}
 use Rattle.std.specs.Fmt.{decimal}
-use Rattle.std.specs.Prelude.{Bool, List, Ok, Option, Result, [], codes, false, true, ℕ, ◌<◌, ◌^◌, ◌∷◌, ◌≡◌, ◌≤◌, ◌⊎◌}
+use Rattle.std.specs.Prelude.{Bool, List, Ok, Option, Result, [], codes, false, get_or, true, ℕ, ◌<◌, ◌^◌, ◌∷◌, ◌≡◌, ◌≤◌, ◌⊎◌}
 use Rattle.std.specs.Str.{bytes_eq}
 use Rattle.std.specs.Str.Parse.{ParsesUnsigned}
 use Rattle.replay_run.specs.declared.form.Form.TheVariants as form
@@ -50,6 +50,10 @@ number_else word digits n r b e p ed eb failed = record { none = by failed }
     by (inr (inl few)) m k = let i = same_number m k in let less = few.1 in let least = k.least in omega (arith, i, less, least)
     by (inr (inr f)) m k = let t = spelled m k in cc
 
+-- told apart by their first octets
+relay_or_drill : (name number : List ℕ) → codes "relay" ∷ name ∷ [] ≡ codes "drill" ∷ number ∷ [] → ⊥
+relay_or_drill name number e = let k : 114 ≡ 100 = ap (λ (v : List (List ℕ)). get_or (get_or v 0 []) 0 0) e in omega (arith, k)
+
 -- two numbers have the same form
 pub same_form : (words : List (List ℕ)) (f g : Form) → SpellsForm words f → SpellsForm words g → f ≡ g
 same_form words form.Plain form.Plain s t = refl
@@ -63,8 +67,8 @@ same_form words form.Relay form.Wire s t = let i : codes "relay" ∷ s.is.0 ∷ 
 same_form words form.Wire form.Relay s t = let i : codes "relay" ∷ t.is.0 ∷ [] ≡ codes "wire" ∷ s.is.0 ∷ [] = sym t.is.1 ∙ s.is.1 in cc
 same_form words form.Wire (form.Drill n) s t = let i : codes "wire" ∷ s.is.0 ∷ [] ≡ codes "drill" ∷ decimal n ∷ [] = sym s.is.1 ∙ t.is in cc
 same_form words (form.Drill n) form.Wire s t = let i : codes "wire" ∷ t.is.0 ∷ [] ≡ codes "drill" ∷ decimal n ∷ [] = sym t.is.1 ∙ s.is in cc
-same_form words form.Relay (form.Drill n) s t = let i : codes "relay" ∷ s.is.0 ∷ [] ≡ codes "drill" ∷ decimal n ∷ [] = sym s.is.1 ∙ t.is in cc
-same_form words (form.Drill n) form.Relay s t = let i : codes "relay" ∷ t.is.0 ∷ [] ≡ codes "drill" ∷ decimal n ∷ [] = sym t.is.1 ∙ s.is in cc
+same_form words form.Relay (form.Drill n) s t = absurd (relay_or_drill s.is.0 (decimal n) (sym s.is.1 ∙ t.is))
+same_form words (form.Drill n) form.Relay s t = absurd (relay_or_drill t.is.0 (decimal n) (sym t.is.1 ∙ s.is))
 same_form words form.Plain (form.Drill n) s t = let i : codes "plain" ∷ [] ≡ codes "drill" ∷ decimal n ∷ [] = sym s.is ∙ t.is in cc
 same_form words (form.Drill n) form.Plain s t = let i : codes "plain" ∷ [] ≡ codes "drill" ∷ decimal n ∷ [] = sym t.is ∙ s.is in cc
 same_form words (form.Drill m) (form.Drill n) s t =
@@ -133,3 +137,22 @@ wire_spelled word name e = record { ranges = tt; is = (name, ap (λ (v : List �
 pub other_source : (A B C : Type 0) → C → A ⊎ B → B ⊎ (C × A)
 other_source A B C c (inl a) = inr (c, a)
 other_source A B C c (inr b) = inl b
+
+-- ---- words that have no form
+pub words_none : (word name : List ℕ) → (word ≡ codes "relay" → ⊥) → (word ≡ codes "drill" → ⊥) → HasNoForm (word ∷ name ∷ [])
+words_none word name relay drill = record { none = by }
+  where
+    by : (f : Form) → SpellsForm (word ∷ name ∷ []) f → ⊥
+    by form.Plain s = let i : word ∷ name ∷ [] ≡ codes "plain" ∷ [] = s.is in cc
+    by form.Relay s = let i : word ∷ name ∷ [] ≡ codes "relay" ∷ s.is.0 ∷ [] = s.is.1 in relay (let k : word ≡ codes "relay" = cc in k)
+    by (form.Drill n) s = let i : word ∷ name ∷ [] ≡ codes "drill" ∷ decimal n ∷ [] = s.is in drill (let k : word ≡ codes "drill" = cc in k)
+
+pub drill_none : (word name : List ℕ) → (word ≡ codes "relay" → ⊥) → IsNoDrill name → HasNoForm (word ∷ name ∷ [])
+drill_none word name relay k = record { none = by }
+  where
+    by : (f : Form) → SpellsForm (word ∷ name ∷ []) f → ⊥
+    by form.Plain s = let i : word ∷ name ∷ [] ≡ codes "plain" ∷ [] = s.is in cc
+    by form.Relay s = let i : word ∷ name ∷ [] ≡ codes "relay" ∷ s.is.0 ∷ [] = s.is.1 in relay (let k : word ≡ codes "relay" = cc in k)
+    by (form.Drill n) s =
+        let i : word ∷ name ∷ [] ≡ codes "drill" ∷ decimal n ∷ [] = s.is in
+        k.none n (record { least = s.ranges.0; most = s.ranges.1; is = (let e : name ≡ decimal n = cc in e) })

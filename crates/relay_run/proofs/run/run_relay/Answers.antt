@@ -2,10 +2,13 @@
 use Rattle.io_ports.specs.Faults.{Rose}
 use Rattle.relay_run.proofs.Telling.{replays_none, replays_of}
 use Rattle.session_run.proofs.Running.{read_cause, replayed_by, write_cause}
-use Rattle.std.proofs.Common.{refl}
+use Rattle.std.proofs.Common.{[], refl}
 use Rattle.tcp_relay.proofs.Promises.{keeps_promise}
 use Rattle.tcp_relay.proofs.Tracked.{whole}
 use Rattle.relay_run.proofs.run.run_relay.Goals as goal
+
+pub play_all-status-requires : goal.play_all-status-requires
+play_all-status-requires g c = record { run = (c.requires.0, [], [], c.new-run.ensures.run c.requires.0 (c.in-Ok.ensures c.requires.0 c.requires.1)) }
 
 pub returns-clause-tape : goal.returns-clause-tape
 returns-clause-tape g c = λ text configured. replays_of whole keeps_promise text _ _ _ _ _ (replayed_by _ _ text _ _ _ _ _ _ _ (c.new-run.ensures.run text (c.in-Ok.ensures text configured)) c.play_all-status.ensures.steps c.finish-status.ensures.finishes)

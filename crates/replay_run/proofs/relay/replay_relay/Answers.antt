@@ -1,7 +1,10 @@
 -- The session was run under the configuration that was read, or there is none.
-use Rattle.replay_run.proofs.Configuring.{config_fault, none_under, relay_not_usage, run_under}
+use Rattle.replay_run.proofs.Configuring.{config_fault, loaded, none_under, relay_not_usage, run_under}
 use Rattle.std.proofs.Common.{inl, inr}
 use Rattle.replay_run.proofs.relay.replay_relay.Goals as goal
+
+pub run_relay-end-requires : goal.run_relay-end-requires
+run_relay-end-requires g c = loaded _ _ _ c.in-Ok.keys c.in-Ok.is c.load_config.ensures.loads
 
 pub returns-in-Ok-clause-tape : goal.returns-in-Ok-clause-tape
 returns-in-Ok-clause-tape g c = run_under _ _ _ _ _ _ _ _ _ c.in-Ok.keys c.in-Ok.is c.load_config.ensures.loads (λ text e. c.run_relay-end.ensures.tape text e)
