@@ -8,9 +8,9 @@ use Rattle.plain_laws.proofs.Quiets.{rests_told}
 use Rattle.plain_laws.proofs.Streams.{by_case, has_was, own_or_other}
 use Rattle.plain_laws.specs.Regular.{IsUnborn}
 use Rattle.plain_laws.specs.StepNotes.{begin_notes as step_notes}
-use Rattle.std.proofs.Common.{ap, arith, inl, inr, refl, subst, sym, ◌∙◌}
+use Rattle.std.proofs.Common.{arith, inl, inr, refl, subst, sym, ◌∙◌}
 use Rattle.std.specs.List.{AllByRecursion}
-use Rattle.std.specs.Prelude.{Bool, List, [], false, true, ℕ, ◌++◌, ◌+◌, ◌<◌, ◌∷◌, ◌≡◌, ◌≤◌}
+use Rattle.std.specs.Prelude.{Bool, [], false, true, ℕ, ◌++◌, ◌+◌, ◌<◌, ◌∷◌, ◌≡◌, ◌≤◌}
 use Rattle.plain_laws.specs.Words.{Past, Alive}
 use Rattle.tape_laws.specs.Dispatches.{events_back, has, live, started}
 use Rattle.tape_laws.specs.Following.{MayFollowEvent, may_follow}

@@ -1,19 +1,14 @@
 -- Octets of a stream come.
 use Rattle.std.proofs.lemmas.Bool.{or_left}
-use Rattle.exchange_core.specs.Exchange.{flow_in}
-use Rattle.exchange_core.specs.declared.exchange.Exchange.{Exchange}
 use Rattle.flow_notes.specs.declared.events.PlainEvent.{PlainEvent}
-use Rattle.plain_laws.proofs.Dooms.{without}
 use Rattle.plain_laws.proofs.EventChanges.{body_keeps, body_keeps_write, cut_keeps, over_keeps}
 use Rattle.plain_laws.proofs.EventSteps.{body_late_step, body_step, cut_late_step, cut_step, finish_step, over_step}
 use Rattle.plain_laws.proofs.Followings.{body_flowing, finish_flowing}
 use Rattle.plain_laws.proofs.Quiets.{rests_told}
 use Rattle.plain_laws.proofs.Streams.{apart_from, by_case, differs_back, has_left, not_both, same_request}
-use Rattle.std.proofs.Common.{ap, arith, inl, refl, subst, sym, ◌∙◌}
-use Rattle.std.proofs.lemmas.Bool.Decides.{nat_tests}
+use Rattle.std.proofs.Common.{arith, inl, refl, sym, ◌∙◌}
 use Rattle.std.specs.List.{list_any}
-use Rattle.std.specs.Option.{option_and_then}
-use Rattle.std.specs.Prelude.{Bool, IfSome, List, Option, [], false, length, true, ℕ, ◌+◌, ◌==◌, ◌||◌, ◌∷◌, ◌≡◌}
+use Rattle.std.specs.Prelude.{Bool, List, [], false, length, true, ℕ, ◌+◌, ◌==◌, ◌∷◌, ◌≡◌}
 use Rattle.plain_laws.specs.Words.{Past, Alive, conn_lows}
 use Rattle.tape_laws.specs.Dispatches.{events_back, has, live}
 use Rattle.tape_laws.specs.Flows.{request, same_flow}
@@ -27,12 +22,11 @@ use Rattle.plain_core.proofs.Rested.{at_rest, may_same, rest_still, rest_unended
 use Rattle.plain_core.proofs.TurnStands.{turn_stands, turned}
 use Rattle.plain_core.specs.Agenda.{is_run_of, with_run}
 use Rattle.plain_core.specs.Carries.{Arrives, Ends, Fits, GivesUp, GoesOn, IsOverrunBy, Lives}
-use Rattle.plain_core.specs.Flows.{FlowsStand, Settled}
+use Rattle.plain_core.specs.Flows.{Settled}
 use Rattle.plain_core.specs.Noting.{doom_of}
 use Rattle.plain_core.specs.Stands.{Rests}
 use Rattle.plain_core.specs.declared.flows.Flows.{Flows}
 use Rattle.plain_core.specs.declared.plain.PlainCore.{PlainCore}
-use Rattle.flow_gate.specs.declared.ids.BufferId.TheVariants as buffer
 use Rattle.flow_notes.specs.declared.events.Event.TheVariants as event
 use Rattle.flow_notes.specs.declared.events.PlainEvent.TheVariants as plain
 use Rattle.flow_notes.specs.declared.notes.Cause.TheVariants as cause

@@ -4,12 +4,11 @@ use Rattle.tape_laws.specs.Doomed.{is_swept}
 use Rattle.flow_gate.specs.declared.ids.FlowId.{FlowId}
 use Rattle.plain_laws.proofs.Streams.{not_both}
 use Rattle.plain_laws.specs.Settled.{Settled as IsSettledHistory}
-use Rattle.proxy_config.specs.Ranges.{IsRoute}
-use Rattle.std.proofs.Common.{ap, inl, inr, refl, subst, sym, ◌∙◌}
+use Rattle.std.proofs.Common.{inl, inr, refl, subst, sym, ◌∙◌}
 use Rattle.std.specs.BTreeMap.{get}
 use Rattle.std.specs.List.{AllByRecursion, list_any}
 use Rattle.std.specs.Ordering.{nat_cmp}
-use Rattle.std.specs.Prelude.{All, Bool, List, [], false, true, ℕ, ◌+◌, ◌∷◌, ◌≡◌, ◌⊎◌}
+use Rattle.std.specs.Prelude.{Bool, [], false, true, ℕ, ◌+◌, ◌∷◌, ◌≡◌, ◌⊎◌}
 use Rattle.tape_laws.specs.Dispatches.{has, is_some_of, turns}
 use Rattle.tape_laws.specs.Flows.{request}
 use Rattle.tape_laws.specs.Plain.{paired_with}
@@ -22,7 +21,6 @@ use Rattle.plain_core.specs.Progress.{HasReason, Pairs, Underway}
 use Rattle.plain_core.specs.Stands.{Good, Rests}
 use Rattle.plain_core.specs.declared.flows.Flows.{Flows}
 use Rattle.plain_core.specs.declared.plain.PlainCore.{PlainCore}
-use Rattle.flow_gate.specs.declared.ids.BufferId.TheVariants as buffer
 use Rattle.plain_core.specs.declared.agenda.Task.TheVariants as task
 
 -- the flows, pairs and agenda are these, and one more dispatch began

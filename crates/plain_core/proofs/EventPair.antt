@@ -7,10 +7,9 @@ use Rattle.plain_laws.proofs.Quiets.{rests_told}
 use Rattle.plain_laws.proofs.Streams.{by_case, same_number}
 use Rattle.plain_laws.specs.Pairs.{seconds}
 use Rattle.std.proofs.Common.{Equal, Greater, Less, ap, arith, refl, subst, sym, ◌∙◌}
-use Rattle.std.proofs.lemmas.Bool.Decides.{nat_tests}
 use Rattle.std.specs.BTreeMap.{Updates, get, is_at}
 use Rattle.std.specs.Ordering.{is_eq, nat_cmp}
-use Rattle.std.specs.Prelude.{Bool, List, Option, Some, [], cond, false, if◌then◌else◌, nat_lt, true, ℕ, ◌++◌, ◌+◌, ◌==◌, ◌||◌, ◌∷◌, ◌≡◌}
+use Rattle.std.specs.Prelude.{Bool, List, Option, Some, [], cond, false, if◌then◌else◌, nat_lt, true, ℕ, ◌++◌, ◌+◌, ◌==◌, ◌∷◌, ◌≡◌}
 use Rattle.plain_laws.specs.Words.{Past}
 use Rattle.tape_laws.specs.Dispatches.{has, is_some_of}
 use Rattle.tape_laws.specs.Plain.{paired_with}

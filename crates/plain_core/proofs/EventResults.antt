@@ -2,7 +2,7 @@
 use Rattle.flow_gate.specs.declared.ids.FlowId.{FlowId}
 use Rattle.flow_notes.specs.declared.events.PlainEvent.{PlainEvent}
 use Rattle.flow_notes.specs.declared.notes.Note.{Note}
-use Rattle.std.proofs.Common.{ap, subst, sym, ◌∙◌}
+use Rattle.std.proofs.Common.{ap, subst, sym}
 use Rattle.std.specs.Prelude.{Bool, List, OnOk, [], true, ℕ, ◌++◌, ◌+◌, ◌∷◌, ◌≡◌}
 use Rattle.tape_laws.specs.Flows.{request}
 use Rattle.plain_core.proofs.EventBody.{arrive_opened, finish_opened}

@@ -4,12 +4,12 @@ use Rattle.exchange_core.specs.Changes.{Dooms as DoomsExchange, ForgetsFlows, Kn
 use Rattle.exchange_core.specs.Exchanges.{Exchanges, IsSound as AreSoundExchanges, exchange_at}
 use Rattle.exchange_core.specs.Plain.{plain_exchange}
 use Rattle.exchange_core.specs.declared.exchange.Exchange.{Exchange}
-use Rattle.flow_gate.specs.Board.{Board, IsSound as IsSoundBoard, count as count_on, is_known, is_marked, pending_on, watchers_of}
+use Rattle.flow_gate.specs.Board.{Board, IsSound as IsSoundBoard, is_known, is_marked, pending_on, watchers_of}
 use Rattle.flow_gate.specs.Changes.{Forgets, goes_with, without as without_flow}
 use Rattle.flow_gate.specs.declared.ids.FlowId.{FlowId}
 use Rattle.flow_notes.specs.declared.notes.Cause.{Cause}
 use Rattle.plain_laws.proofs.Counts.{doom_low, is_live_is}
-use Rattle.plain_laws.proofs.Keepings.{doom_high, doom_out}
+use Rattle.plain_laws.proofs.Keepings.{doom_high}
 use Rattle.plain_laws.proofs.Streams.{by_case, has_left, has_lost, has_stays, not_both, own_or_other, same_number}
 use Rattle.plain_laws.specs.Keeping.{KeepsStream}
 use Rattle.plain_laws.specs.Regular.{IsLiveFlow}
@@ -19,24 +19,21 @@ use Rattle.std.specs.BTreeSet.{BTreeSet, contains}
 use Rattle.std.specs.List.{AllByRecursion}
 use Rattle.std.specs.Option.{option_map_or}
 use Rattle.std.specs.Ordering.{nat_cmp}
-use Rattle.std.specs.Prelude.{Bool, IfSome, List, None, Option, [], false, filter, if◌then◌else◌, length, map, nat_lt, not, true, ℕ, ◌&&◌, ◌*◌, ◌++◌, ◌+◌, ◌<◌, ◌==◌, ◌^◌, ◌∷◌, ◌≡◌, ◌≤◌}
-use Rattle.plain_laws.specs.Words.{Past, Alive, conn_lows, lows_of, recv_at, send_high, turn_of}
+use Rattle.std.specs.Prelude.{Bool, IfSome, List, None, Option, [], false, filter, if◌then◌else◌, length, map, nat_lt, not, true, ℕ, ◌&&◌, ◌*◌, ◌+◌, ◌==◌, ◌∷◌, ◌≡◌, ◌≤◌}
+use Rattle.plain_laws.specs.Words.{Past, Alive, conn_lows, lows_of, send_high, turn_of}
 use Rattle.tape_laws.specs.Dispatches.{has, live, started}
 use Rattle.tape_laws.specs.Flows.{request, same_flow}
 use Rattle.tape_laws.specs.History.{Noted}
-use Rattle.tape_laws.specs.Watermark.{above}
 use Rattle.tape_laws.specs.declared.limits.PlainLimits.{PlainLimits}
-use Rattle.wm_buffer.specs.Buffer.{Buffer}
 use Rattle.plain_core.specs.Carries.{Dooms, Lives}
-use Rattle.plain_core.specs.Flows.{ConnectionIs, ExchangesAre, FlowsStand, GatesAre, HoldingIs, IsSettled, StreamIs, next_piece}
+use Rattle.plain_core.specs.Flows.{ConnectionIs, ExchangesAre, FlowsStand, GatesAre, HoldingIs, IsSettled}
 use Rattle.plain_core.specs.declared.conn.Connection.{Connection}
 use Rattle.plain_core.specs.declared.flows.Flows.{Flows}
 use Rattle.flow_gate.specs.declared.ids.BufferId.TheVariants as buffer
-use Rattle.flow_notes.specs.declared.events.Event.TheVariants as event
 use Rattle.flow_notes.specs.declared.notes.Note.TheVariants as note
 use Rattle.plain_core.proofs.FlowStreams.{last_kept, stream_kept}
 use Rattle.plain_core.proofs.FlowMeasure.{ahead_changes, fewer}
-use Rattle.plain_laws.proofs.Dooms.{doom_leaves, without}
+use Rattle.plain_laws.proofs.Dooms.{doom_leaves}
 use Rattle.plain_laws.proofs.Keepings.{keeps_stream}
 use Rattle.std.proofs.lemmas.Bool.Decides.{nat_tests}
 use Rattle.plain_core.specs.Measure.{ahead, left_in, way}

@@ -2,12 +2,11 @@
 use Rattle.exchange_core.proofs.Outcomes.{at_found}
 use Rattle.exchange_core.specs.Changes.{ChangesFlow}
 use Rattle.exchange_core.specs.Effects.{arrived, finished}
-use Rattle.exchange_core.specs.Exchange.{flow_changed, flow_in}
+use Rattle.exchange_core.specs.Exchange.{flow_changed}
 use Rattle.exchange_core.specs.Exchanges.{Exchanges, IsSound as AreSoundExchanges, exchange_at, flow_at}
 use Rattle.exchange_core.specs.Flow.{Flow}
 use Rattle.exchange_core.specs.Plain.{plain_arrived, plain_finished, plain_flow}
 use Rattle.exchange_core.specs.declared.exchange.Exchange.{Exchange}
-use Rattle.flow_gate.specs.Board.{Board}
 use Rattle.plain_laws.proofs.EventChanges.{body_high, body_keeps, body_keeps_write, body_recv, body_send}
 use Rattle.plain_laws.proofs.Flags.{send_same}
 use Rattle.plain_laws.proofs.Keepings.{turn_keeps, turn_keeps_write}
@@ -17,24 +16,18 @@ use Rattle.plain_laws.specs.Next.{unit_of}
 use Rattle.std.proofs.Common.{ap, refl, subst, sym, ◌∙◌}
 use Rattle.std.specs.BTreeMap.{get}
 use Rattle.std.specs.BTreeSet.{BTreeSet, contains}
-use Rattle.std.specs.Option.{option_and_then}
 use Rattle.std.specs.Ordering.{nat_cmp}
-use Rattle.std.specs.Prelude.{Bool, List, None, Option, false, if◌then◌else◌, length, nat_lt, option_map, ℕ, ◌&&◌, ◌++◌, ◌==◌, ◌||◌, ◌∷◌, ◌≡◌}
+use Rattle.std.specs.Prelude.{Bool, List, None, Option, false, if◌then◌else◌, length, nat_lt, option_map, ℕ, ◌&&◌, ◌==◌, ◌||◌, ◌∷◌, ◌≡◌}
 use Rattle.plain_laws.specs.Words.{Past, Alive, end_out, past_body, send_high, turn_of}
-use Rattle.tape_laws.specs.Ends.{end_framed}
 use Rattle.tape_laws.specs.Flows.{request}
 use Rattle.tape_laws.specs.History.{NoMark, Step}
 use Rattle.tape_laws.specs.Plain.{plain_ended}
-use Rattle.tape_laws.specs.Watermark.{above}
 use Rattle.tape_laws.specs.declared.limits.PlainLimits.{PlainLimits}
 use Rattle.plain_core.specs.Carries.{GoesOn}
-use Rattle.plain_core.specs.Flows.{ExchangesAre, FlowsStand, GatesAre, HoldingIs, Settled, StreamIs, next_piece, piece_of}
+use Rattle.plain_core.specs.Flows.{ExchangesAre, FlowsStand, Settled, StreamIs, next_piece, piece_of}
 use Rattle.plain_core.specs.UnitsOf.{piece_at}
 use Rattle.plain_core.specs.declared.flows.Flows.{Flows}
-use Rattle.flow_gate.specs.declared.ids.BufferId.TheVariants as buffer
-use Rattle.flow_notes.specs.declared.events.Event.TheVariants as event
 use Rattle.flow_notes.specs.declared.events.PlainEvent.TheVariants as plain
-use Rattle.flow_notes.specs.declared.notes.Note.TheVariants as note
 use Rattle.plain_core.proofs.FlowStreams.{changed_exchanges, changed_plain}
 use Rattle.plain_core.proofs.FlowGates.{gates_kept}
 use Rattle.plain_core.proofs.FlowHolds.{holding_arrived, holding_kept}

@@ -1,12 +1,12 @@
 -- What becomes of octets that come for a stream.
-use Rattle.exchange_core.specs.Changes.{Changes, ChangesFlow}
+use Rattle.exchange_core.specs.Changes.{ChangesFlow}
 use Rattle.exchange_core.specs.Effects.{arrived, received as received_octets, received_by}
 use Rattle.exchange_core.specs.Exchange.{flow_changed, flow_in}
 use Rattle.exchange_core.specs.Exchanges.{Exchanges, IsLiveFlow, IsSound as AreSoundExchanges, exchange_at, flow_at}
 use Rattle.exchange_core.specs.declared.exchange.Exchange.{Exchange}
 use Rattle.exchange_core.specs.declared.step.Received.{Received}
 use Rattle.plain_laws.proofs.Streams.{by_case}
-use Rattle.std.proofs.Common.{ap, arith, refl, subst, sym, ◌∙◌}
+use Rattle.std.proofs.Common.{ap, arith, refl, sym, ◌∙◌}
 use Rattle.std.proofs.lemmas.Bool.Decides.{nat_tests}
 use Rattle.std.specs.BTreeSet.{BTreeSet, contains}
 use Rattle.std.specs.Option.{option_and_then}

@@ -8,7 +8,7 @@ use Rattle.exchange_core.specs.Exchanges.{Exchanges, IsSound as AreSoundExchange
 use Rattle.exchange_core.specs.Flow.{Flow, send as send_of}
 use Rattle.exchange_core.specs.Plain.{Plain, plain_exchange, plain_flow, plain_framed}
 use Rattle.exchange_core.specs.declared.exchange.Exchange.{Exchange}
-use Rattle.flow_gate.specs.Board.{Board, IsSound as IsSoundBoard, count as count_on, is_known, is_marked, is_open as is_there, pending_on, times, watchers_of}
+use Rattle.flow_gate.specs.Board.{Board, IsSound as IsSoundBoard, count as count_on, is_known, is_marked, pending_on, times, watchers_of}
 use Rattle.flow_gate.specs.declared.ids.BufferId.{BufferId}
 use Rattle.flow_gate.specs.declared.ids.FlowId.{FlowId}
 use Rattle.plain_laws.proofs.Changes.{frame_end_framed, frame_ended, frame_framed_last, frame_high, frame_keeps, frame_keeps_lists, frame_out, frame_recv, frame_send, frame_write_high, frame_write_lows}
@@ -24,18 +24,15 @@ use Rattle.std.proofs.Math.Bool.{or_comm}
 use Rattle.std.proofs.Common.{ap, arith, refl, subst, sym, ◌∙◌}
 use Rattle.std.proofs.lemmas.List.{append-nil}
 use Rattle.std.specs.BTreeMap.{get}
-use Rattle.std.specs.BTreeSet.{BTreeSet}
 use Rattle.std.specs.Option.{option_and_then, option_map_or}
 use Rattle.std.specs.Ordering.{nat_cmp}
-use Rattle.std.specs.Prelude.{Bool, IfSome, IsSome, List, Option, Some, [], drop, false, if◌then◌else◌, length, min, nat_lt, not, option_map, take, true, ℕ, ◌&&◌, ◌*◌, ◌++◌, ◌+◌, ◌-◌, ◌<◌, ◌==◌, ◌^◌, ◌||◌, ◌∷◌, ◌≡◌, ◌≤◌}
+use Rattle.std.specs.Prelude.{Bool, IfSome, List, Option, Some, [], drop, false, if◌then◌else◌, length, min, nat_lt, not, option_map, take, true, ℕ, ◌&&◌, ◌*◌, ◌++◌, ◌+◌, ◌-◌, ◌<◌, ◌==◌, ◌^◌, ◌||◌, ◌∷◌, ◌≡◌, ◌≤◌}
 use Rattle.plain_laws.specs.Words.{Past, Alive, conn_high, conn_out, conn_rises, end_out, frame_of, past_frame, recv_at, send_at, send_drains, send_high}
-use Rattle.tape_laws.specs.Dispatches.{has, live}
-use Rattle.tape_laws.specs.Ends.{end_framed}
+use Rattle.tape_laws.specs.Dispatches.{live}
 use Rattle.flow_rules.specs.declared.unit.Unit.TheVariants.{Body as BodyUnit}
 use Rattle.tape_laws.specs.Flows.{request}
 use Rattle.tape_laws.specs.History.{NoMark, Step}
 use Rattle.tape_laws.specs.Plain.{plain_ended}
-use Rattle.tape_laws.specs.Watermark.{above}
 use Rattle.tape_laws.specs.declared.limits.PlainLimits.{PlainLimits}
 use Rattle.wm_buffer.specs.Buffer.{AppendsOctets, Buffer}
 use Rattle.wm_buffer.specs.Watermark.{above_after, crossing}
@@ -43,13 +40,12 @@ use Rattle.wm_buffer.specs.declared.buffer.Shifted.{Shifted}
 use Rattle.wm_buffer.specs.declared.watermark.Crossed.{Crossed}
 use Rattle.wm_buffer.specs.declared.watermark.Crossed.TheVariants as crossed
 use Rattle.plain_core.specs.Carries.{Frames, FramesAt, IsNextFrame, NextIs}
-use Rattle.plain_core.specs.Flows.{ConnectionIs, ExchangesAre, GatesAre, HoldingIs, IsSettled, Settled, StreamIs}
+use Rattle.plain_core.specs.Flows.{ConnectionIs, ExchangesAre, GatesAre, IsSettled, Settled, StreamIs}
 use Rattle.plain_core.specs.UnitsOf.{piece_at}
 use Rattle.plain_core.specs.declared.conn.Connection.{Connection}
 use Rattle.plain_core.specs.declared.flows.Flows.{Flows}
 use Rattle.plain_core.specs.declared.flows.Framed.{Framed}
 use Rattle.flow_gate.specs.declared.ids.BufferId.TheVariants as buffer
-use Rattle.flow_notes.specs.declared.notes.Note.TheVariants as note
 use Rattle.plain_core.proofs.FlowSteps.{high_of}
 use Rattle.plain_core.proofs.FlowStreams.{changed_exchanges, changed_plain}
 use Rattle.plain_core.proofs.FlowUnits.{refreshed}
@@ -64,8 +60,6 @@ use Rattle.std.proofs.lemmas.Bool.Decides.{nat_tests}
 use Rattle.plain_core.proofs.FlowLeaves.{flag_same}
 use Rattle.plain_core.proofs.FlowMeasure.{ahead_changes}
 use Rattle.plain_core.specs.Measure.{ahead, left_in, way}
-use Rattle.filter_chain.specs.Chain.{above_at}
-use Rattle.exchange_core.specs.Flow.{last_place}
 use Rattle.plain_core.proofs.Tellings.{times_one}
 use Rattle.plain_core.specs.Crossings.{DrainsIf, MarksCrossed, RisesIf, is_high, is_low}
 

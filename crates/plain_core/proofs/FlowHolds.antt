@@ -1,8 +1,5 @@
 -- Which streams' receive buffers hold octets, from one history to the next.
-use Rattle.exchange_core.specs.Exchange.{flow_in}
 use Rattle.exchange_core.specs.Exchanges.{exchange_at}
-use Rattle.exchange_core.specs.Flow.{Flow}
-use Rattle.exchange_core.specs.declared.exchange.Exchange.{Exchange}
 use Rattle.plain_laws.proofs.Changes.{move_keeps, move_keeps_lists}
 use Rattle.plain_laws.proofs.EventChanges.{begin_keeps, begin_live, body_keeps, body_recv}
 use Rattle.plain_laws.proofs.Streams.{by_case, has_more, own_or_other, same_number}
@@ -14,9 +11,8 @@ use Rattle.std.proofs.Math.Bool.{or-false}
 use Rattle.std.proofs.Common.{ap, arith, length-append, refl, sym, ◌∙◌}
 use Rattle.std.proofs.lemmas.Bool.Decides.{nat_tests}
 use Rattle.std.specs.BTreeSet.{BTreeSet, contains}
-use Rattle.std.specs.Option.{option_and_then, option_map_or}
 use Rattle.std.specs.Ordering.{nat_cmp}
-use Rattle.std.specs.Prelude.{Bool, List, Option, false, length, min, nat_lt, not, true, ℕ, ◌&&◌, ◌++◌, ◌+◌, ◌-◌, ◌<◌, ◌==◌, ◌||◌, ◌≡◌}
+use Rattle.std.specs.Prelude.{Bool, List, false, length, min, nat_lt, not, true, ℕ, ◌&&◌, ◌++◌, ◌+◌, ◌-◌, ◌<◌, ◌==◌, ◌||◌, ◌≡◌}
 use Rattle.plain_laws.specs.Words.{Past, Alive, past_begin, past_body, past_move, recv_at}
 use Rattle.tape_laws.specs.Dispatches.{has, live}
 use Rattle.tape_laws.specs.declared.limits.PlainLimits.{PlainLimits}

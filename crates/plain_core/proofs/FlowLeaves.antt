@@ -1,19 +1,18 @@
 -- What the flows are after octets left the write buffer.
-use Rattle.flow_gate.specs.Board.{Board, IsSound as IsSoundBoard, count as count_on, is_known, is_marked, is_open as is_there, pending_on, watchers_of}
+use Rattle.flow_gate.specs.Board.{Board, IsSound as IsSoundBoard}
 use Rattle.flow_gate.specs.Changes.{Drains}
 use Rattle.flow_gate.specs.declared.ids.FlowId.{FlowId}
-use Rattle.plain_laws.proofs.EventChanges.{room_high, room_keeps, room_out}
+use Rattle.plain_laws.proofs.EventChanges.{room_high, room_keeps}
 use Rattle.plain_laws.proofs.Keepings.{turn_keeps_write}
 use Rattle.plain_laws.proofs.Outs.{out_lows}
 use Rattle.plain_laws.specs.StepNotes.{room_notes}
 use Rattle.std.proofs.Common.{ap, arith, refl, sym, ◌∙◌}
 use Rattle.std.proofs.lemmas.List.{append-nil}
-use Rattle.std.specs.Prelude.{Bool, List, None, Option, [], drop, false, if◌then◌else◌, length, map, not, true, ℕ, ◌&&◌, ◌++◌, ◌∷◌, ◌≡◌, ◌≤◌}
+use Rattle.std.specs.Prelude.{Bool, List, [], drop, false, if◌then◌else◌, length, map, not, true, ℕ, ◌&&◌, ◌++◌, ◌∷◌, ◌≡◌, ◌≤◌}
 use Rattle.plain_laws.specs.Words.{Past, conn_drains, conn_high, conn_lows, conn_out, turn_of}
-use Rattle.tape_laws.specs.Dispatches.{has, live}
+use Rattle.tape_laws.specs.Dispatches.{live}
 use Rattle.tape_laws.specs.Flows.{request}
 use Rattle.tape_laws.specs.History.{NoMark, Noted, Step, onto}
-use Rattle.tape_laws.specs.Watermark.{above}
 use Rattle.tape_laws.specs.declared.limits.PlainLimits.{PlainLimits}
 use Rattle.wm_buffer.specs.Buffer.{Buffer, DropsOctets}
 use Rattle.wm_buffer.specs.Watermark.{above_after}
@@ -22,7 +21,6 @@ use Rattle.plain_core.specs.Flows.{ConnectionIs, GatesAre}
 use Rattle.plain_core.specs.declared.conn.Connection.{Connection}
 use Rattle.plain_core.specs.declared.flows.Flows.{Flows}
 use Rattle.flow_gate.specs.declared.ids.BufferId.TheVariants as buffer
-use Rattle.flow_notes.specs.declared.events.Event.TheVariants as event
 use Rattle.flow_notes.specs.declared.events.PlainEvent.TheVariants as plain
 use Rattle.flow_notes.specs.declared.notes.Note.TheVariants as note
 use Rattle.plain_core.proofs.FlowStreams.{same_exchanges}
@@ -31,7 +29,6 @@ use Rattle.plain_laws.proofs.Flags.{no_rise, write_now}
 use Rattle.std.proofs.Common.{length-drop}
 use Rattle.plain_core.proofs.FlowHolds.{holding_kept}
 use Rattle.plain_core.proofs.FlowUnits.{keeps_piece}
-use Rattle.exchange_core.specs.declared.step.Piece.{Piece}
 
 abbrev pub DrainsWrite : Bool → Board → Board → Type 0
 DrainsWrite true old new = Drains (buffer.Write 0) old new

@@ -4,7 +4,7 @@ use Rattle.flow_gate.specs.Changes.{Drains, Rises, Same, Tells as TellsFlow}
 use Rattle.flow_gate.specs.declared.ids.BufferId.{BufferId}
 use Rattle.flow_gate.specs.declared.ids.FlowId.{FlowId}
 use Rattle.plain_laws.proofs.Streams.{same_number}
-use Rattle.std.proofs.Common.{ap, refl, subst, sym, ◌∙◌}
+use Rattle.std.proofs.Common.{ap, refl, sym, ◌∙◌}
 use Rattle.std.specs.Prelude.{Bool, IsNone, List, None, Option, Some, [], false, if◌then◌else◌, not, option_to_list, true, ◌&&◌, ◌++◌, ◌==◌, ◌∷◌, ◌≡◌, ◌↔◌}
 use Rattle.tape_laws.specs.Flows.{same_flow}
 use Rattle.wm_buffer.specs.declared.watermark.Crossed.{Crossed}

@@ -1,8 +1,8 @@
 -- The frame that goes next is that of the history.
 use Rattle.plain_laws.proofs.Rotation.{next_above, next_around, next_none}
 use Rattle.plain_laws.specs.Next.{is_ready}
-use Rattle.std.proofs.Common.{ap, inl, inr, refl, subst, sym, ◌∙◌}
-use Rattle.std.specs.Prelude.{Bool, None, Option, Some, false, if◌then◌else◌, is_some, length, min, nat_lt, not, true, ℕ, ◌&&◌, ◌<◌, ◌==◌, ◌||◌, ◌≡◌, ◌≤◌}
+use Rattle.std.proofs.Common.{ap, inl, inr, refl, sym, ◌∙◌}
+use Rattle.std.specs.Prelude.{Bool, None, Option, Some, false, if◌then◌else◌, is_some, length, min, nat_lt, not, true, ℕ, ◌&&◌, ◌==◌, ◌||◌, ◌≡◌}
 use Rattle.plain_laws.specs.Words.{Past, Alive, end_out, next_out, recv_at, send_at}
 use Rattle.tape_laws.specs.Dispatches.{has, live}
 use Rattle.tape_laws.specs.Framing.{next_unit}

@@ -5,18 +5,14 @@ use Rattle.std.proofs.Common.{ap, arith, of_z, refl, sym, to_z, w64, ◌∙◌}
 use Rattle.std.proofs.lemmas.Int.{to_z_pos}
 use Rattle.std.specs.BTreeMap.{get}
 use Rattle.std.specs.Ordering.{nat_cmp}
-use Rattle.std.specs.Prelude.{Bool, List, None, Option, false, if◌then◌else◌, pos, true, ℕ, ℤ, ◌<◌, ◌==◌, ◌^◌, ◌≡◌}
+use Rattle.std.specs.Prelude.{Bool, None, false, if◌then◌else◌, pos, true, ℕ, ℤ, ◌<◌, ◌==◌, ◌^◌, ◌≡◌}
 use Rattle.plain_laws.specs.Words.{Past, Alive, conn_high, conn_out, last_out}
 use Rattle.tape_laws.specs.Dispatches.{has, live}
-use Rattle.tape_laws.specs.Order.{framed_last}
-use Rattle.tape_laws.specs.Watermark.{above}
 use Rattle.tape_laws.specs.declared.limits.PlainLimits.{PlainLimits}
 use Rattle.plain_core.specs.Flows.{AreLimits, ConnectionIs, IsSettled, StreamIs, next_piece}
 use Rattle.plain_core.specs.UnitsOf.{piece_at}
 use Rattle.plain_core.specs.declared.conn.Connection.{Connection}
-use Rattle.exchange_core.specs.declared.step.Piece.{Piece}
 use Rattle.plain_core.specs.declared.flows.Flows.{Flows}
-use Rattle.flow_gate.specs.declared.ids.BufferId.TheVariants as buffer
 use Rattle.plain_core.proofs.FlowUnits.{refreshed}
 
 pub quantum_some : (limits : PlainLimits) → AreLimits limits → 0 < limits.quantum

@@ -1,7 +1,7 @@
 -- What the flows are after octets of a stream moved.
 use Rattle.exchange_core.proofs.PlainStreams.{free_is, goes, plain_free, stays as flow_stays}
 use Rattle.exchange_core.specs.Changes.{ChangesFlow}
-use Rattle.exchange_core.specs.Exchange.{flow_changed, flow_in, goes_to}
+use Rattle.exchange_core.specs.Exchange.{flow_changed, flow_in}
 use Rattle.exchange_core.specs.Exchanges.{Exchanges, IsLiveFlow, IsSound as AreSoundExchanges, exchange_at, flow_at, target_of}
 use Rattle.exchange_core.specs.Flow.{Flow}
 use Rattle.exchange_core.specs.Moves.{next_step, stepped}
@@ -9,9 +9,8 @@ use Rattle.exchange_core.specs.Plain.{Plain, plain_crossed, plain_flow, plain_mo
 use Rattle.exchange_core.specs.declared.exchange.Exchange.{Exchange}
 use Rattle.exchange_core.specs.declared.step.Step.{Step as MoveStep}
 use Rattle.exchange_core.specs.declared.step.Step.TheVariants as step
-use Rattle.flow_gate.specs.Board.{Board, IsSound as IsSoundBoard, count as count_on, is_known, is_marked, is_open as is_there, pending_on, times, watchers_of}
+use Rattle.flow_gate.specs.Board.{Board, IsSound as IsSoundBoard, count as count_on, is_known, is_marked, pending_on, times}
 use Rattle.flow_gate.specs.Changes.{Rises}
-use Rattle.flow_gate.specs.declared.ids.FlowId.{FlowId}
 use Rattle.plain_laws.proofs.Changes.{move_end_framed, move_ended, move_framed_last, move_high, move_keeps, move_keeps_lists, move_keeps_write, move_recv, move_send}
 use Rattle.plain_laws.proofs.Counting.{one_if}
 use Rattle.plain_laws.proofs.Counts.{move_count}
@@ -25,21 +24,19 @@ use Rattle.std.specs.BTreeMap.{get}
 use Rattle.std.specs.BTreeSet.{BTreeSet, contains}
 use Rattle.std.specs.Option.{option_and_then, option_map_or}
 use Rattle.std.specs.Ordering.{nat_cmp}
-use Rattle.std.specs.Prelude.{Bool, IsNone, IsSome, List, None, Option, Some, [], drop, false, if◌then◌else◌, length, min, nat_lt, not, option_map, take, true, ℕ, ◌&&◌, ◌*◌, ◌++◌, ◌+◌, ◌-◌, ◌<◌, ◌==◌, ◌||◌, ◌∷◌, ◌≡◌, ◌≤◌}
+use Rattle.std.specs.Prelude.{Bool, IsNone, IsSome, None, Option, Some, [], drop, false, if◌then◌else◌, length, min, nat_lt, not, option_map, take, true, ℕ, ◌&&◌, ◌*◌, ◌++◌, ◌+◌, ◌-◌, ◌<◌, ◌==◌, ◌||◌, ◌∷◌, ◌≡◌, ◌≤◌}
 use Rattle.plain_laws.specs.Words.{Past, Alive, move_of, past_move, recv_at, send_at, send_high, send_rises}
 use Rattle.tape_laws.specs.Dispatches.{has, live}
 use Rattle.tape_laws.specs.Flows.{request}
 use Rattle.tape_laws.specs.Pauses.{count}
-use Rattle.tape_laws.specs.Watermark.{above}
 use Rattle.tape_laws.specs.declared.limits.PlainLimits.{PlainLimits}
 use Rattle.wm_buffer.specs.Watermark.{above_after, crossing}
 use Rattle.wm_buffer.specs.declared.buffer.Shifted.{Shifted}
 use Rattle.plain_core.specs.Carries.{MovesAt, StaysAt, Steps}
-use Rattle.plain_core.specs.Flows.{ExchangesAre, FlowsStand, GatesAre, HoldingIs, IsSettled, Settled, StreamIs}
+use Rattle.plain_core.specs.Flows.{ExchangesAre, GatesAre, HoldingIs, IsSettled, Settled, StreamIs}
 use Rattle.plain_core.specs.UnitsOf.{is_emptied, piece_at}
 use Rattle.plain_core.specs.declared.flows.Flows.{Flows}
 use Rattle.flow_gate.specs.declared.ids.BufferId.TheVariants as buffer
-use Rattle.flow_notes.specs.declared.notes.Note.TheVariants as note
 use Rattle.plain_core.specs.declared.flows.Outcome.TheVariants as outcome
 use Rattle.plain_core.proofs.FlowStreams.{changed_exchanges, changed_plain}
 use Rattle.plain_core.proofs.FlowGates.{CountsAre, KeepsNames, gates_from}

@@ -7,8 +7,8 @@ use Rattle.exchange_core.specs.Plain.{Plain, plain_exchange, plain_flow}
 use Rattle.exchange_core.specs.declared.exchange.Exchange.{Exchange}
 use Rattle.plain_laws.proofs.Streams.{own_or_other, same_number}
 use Rattle.plain_laws.specs.Keeping.{KeepsStream}
-use Rattle.std.proofs.Common.{ap, inl, inr, refl, subst, sym, ◌∙◌}
-use Rattle.std.specs.Prelude.{List, None, Option, Some, false, if◌then◌else◌, option_map, true, ℕ, ◌<◌, ◌==◌, ◌^◌, ◌≡◌, ◌≤◌, ◌⊎◌}
+use Rattle.std.proofs.Common.{inl, inr, refl, subst, sym, ◌∙◌}
+use Rattle.std.specs.Prelude.{List, None, Option, Some, false, option_map, true, ℕ, ◌==◌, ◌≡◌, ◌≤◌, ◌⊎◌}
 use Rattle.plain_laws.specs.Words.{Past, Alive}
 use Rattle.tape_laws.specs.Dispatches.{has, live, started}
 use Rattle.tape_laws.specs.Doomed.{condemned}

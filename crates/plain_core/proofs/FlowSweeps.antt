@@ -4,8 +4,8 @@ use Rattle.exchange_core.specs.Exchanges.{Exchanges, IsSound as AreSoundExchange
 use Rattle.flow_gate.specs.Board.{Board}
 use Rattle.plain_laws.proofs.Keepings.{gone_keeps, gone_keeps_write}
 use Rattle.plain_laws.specs.Keeping.{KeepsStream}
-use Rattle.std.proofs.Common.{ap, arith, refl, subst, sym, ◌∙◌}
-use Rattle.std.specs.Prelude.{IsNone, List, None, Option, Some, [], drop, length, ℕ, ◌<◌, ◌∷◌, ◌≡◌, ◌↔◌}
+use Rattle.std.proofs.Common.{arith, refl, sym, ◌∙◌}
+use Rattle.std.specs.Prelude.{IsNone, List, None, Option, Some, [], length, ℕ, ◌<◌, ◌∷◌, ◌≡◌, ◌↔◌}
 use Rattle.plain_laws.specs.Words.{Past}
 use Rattle.tape_laws.specs.Doomed.{condemned}
 use Rattle.tape_laws.specs.History.{Noted}

@@ -4,9 +4,8 @@ use Rattle.tape_laws.specs.Doomed.{is_swept}
 use Rattle.flow_gate.specs.Board.{Board, IsSound as IsSoundBoard, pending_on}
 use Rattle.flow_gate.specs.Changes.{Tells as TellsFlows}
 use Rattle.flow_gate.specs.declared.ids.FlowId.{FlowId}
-use Rattle.std.proofs.Common.{ap, arith, inl, inr, subst, sym, ◌∙◌}
-use Rattle.std.specs.Prelude.{List, None, Option, false, if◌then◌else◌, take, true, ℕ, ◌+◌, ◌≡◌}
-use Rattle.tape_laws.specs.Dispatches.{has, live}
+use Rattle.std.proofs.Common.{arith, inl, inr, sym, ◌∙◌}
+use Rattle.std.specs.Prelude.{List, false, take, true, ℕ, ◌+◌, ◌≡◌}
 use Rattle.tape_laws.specs.Flows.{request}
 use Rattle.tape_laws.specs.declared.limits.PlainLimits.{PlainLimits}
 use Rattle.plain_core.proofs.FlowHolds.{holding_kept}
@@ -14,12 +13,11 @@ use Rattle.plain_core.proofs.FlowGates.{gates_from}
 use Rattle.plain_core.proofs.FlowStreams.{same_exchanges}
 use Rattle.plain_core.proofs.Tellings.{AreTold, are_told, with_all_told}
 use Rattle.plain_core.specs.Carries.{Holds, Tells, Wakes}
-use Rattle.plain_core.specs.Flows.{ConnectionIs, FlowsStand, GatesAre, Settled, next_piece}
+use Rattle.plain_core.specs.Flows.{ConnectionIs, FlowsStand, GatesAre, Settled}
 use Rattle.plain_core.specs.declared.conn.Connection.{Connection}
 use Rattle.plain_core.specs.declared.flows.Flows.{Flows}
 use Rattle.flow_gate.specs.declared.ids.BufferId.TheVariants as buffer
 use Rattle.plain_core.proofs.FlowUnits.{keeps_piece}
-use Rattle.exchange_core.specs.declared.step.Piece.{Piece}
 
 told_gates : (limits : PlainLimits) (fs : List FlowId) (old new : Board) (h : Past) → GatesAre limits old h → TellsFlows (buffer.Write 0) fs old new → IsSoundBoard new
     → AreTold limits fs (pending_on new (buffer.Write 0)) h (with_all_told fs h) → GatesAre limits new (with_all_told fs h)

@@ -8,9 +8,9 @@ use Rattle.flow_gate.specs.declared.ids.FlowId.{FlowId}
 use Rattle.plain_laws.proofs.Streams.{own_or_other, same_number}
 use Rattle.plain_laws.specs.Keeping.{KeepsStream}
 use Rattle.plain_laws.specs.Next.{state_by, unit_of}
-use Rattle.std.proofs.Common.{ap, arith, sym, ◌∙◌}
+use Rattle.std.proofs.Common.{ap, arith, ◌∙◌}
 use Rattle.std.specs.Option.{option_and_then}
-use Rattle.std.specs.Prelude.{List, None, Option, Some, false, if◌then◌else◌, length, min, option_map, pos, ℕ, ℤ, ◌==◌, ◌≡◌}
+use Rattle.std.specs.Prelude.{None, Option, Some, false, if◌then◌else◌, length, min, option_map, pos, ℕ, ℤ, ◌==◌, ◌≡◌}
 use Rattle.plain_laws.specs.Words.{Past, Alive}
 use Rattle.tape_laws.specs.Dispatches.{has, live}
 use Rattle.tape_laws.specs.Framing.{next_unit}

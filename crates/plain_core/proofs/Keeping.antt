@@ -4,21 +4,17 @@ use Rattle.flow_gate.specs.declared.ids.FlowId.{FlowId}
 use Rattle.flow_notes.specs.Buffer.{CanPause}
 use Rattle.flow_notes.specs.declared.notes.Note.{Note}
 use Rattle.plain_laws.specs.Settled.{Settled as IsSettledHistory}
-use Rattle.proxy_config.specs.Ranges.{IsRoute}
-use Rattle.proxy_config.specs.declared.config.Config.{Config}
-use Rattle.std.proofs.Common.{ap, refl, subst, sym, ◌∙◌}
-use Rattle.std.specs.BTreeMap.{get}
+use Rattle.std.proofs.Common.{refl, sym, ◌∙◌}
 use Rattle.std.specs.List.{AllByRecursion}
-use Rattle.std.specs.Ordering.{nat_cmp}
-use Rattle.std.specs.Prelude.{All, Bool, Err, List, Ok, OnOk, [], false, true, ℕ, ◌∷◌, ◌≡◌}
+use Rattle.std.specs.Prelude.{Bool, Err, List, Ok, OnOk, [], false, true, ℕ, ◌∷◌, ◌≡◌}
 use Rattle.plain_laws.specs.Words.{Past}
-use Rattle.tape_laws.specs.Dispatches.{has, is_some_of, turns}
+use Rattle.tape_laws.specs.Dispatches.{turns}
 use Rattle.tape_laws.specs.Plain.{paired_with}
 use Rattle.tape_laws.specs.declared.limits.PlainLimits.{PlainLimits}
 use Rattle.plain_core.proofs.Fronts.{NoTurn, appends_more}
 use Rattle.plain_core.specs.Flows.{FlowsStand}
 use Rattle.plain_core.specs.Noting.{pauses_of, rise_of}
-use Rattle.plain_core.specs.Progress.{Pairs, Underway}
+use Rattle.plain_core.specs.Progress.{Underway}
 use Rattle.plain_core.specs.Runs.{AreSpelled, Cuts, Keeps}
 use Rattle.plain_core.specs.Stands.{BooksAre, Good}
 use Rattle.plain_core.specs.declared.flows.Flows.{Flows}

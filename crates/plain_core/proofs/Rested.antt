@@ -2,9 +2,8 @@
 use Rattle.plain_laws.proofs.Streams.{by_case, not_both}
 use Rattle.plain_laws.specs.Regular.{Rests as IsAtRest}
 use Rattle.std.proofs.Math.Bool.{and-false}
-use Rattle.std.proofs.Common.{ap, refl, ◌∙◌}
 use Rattle.std.specs.List.{list_any}
-use Rattle.std.specs.Prelude.{Bool, [], false, length, nat_lt, true, ℕ, ◌&&◌, ◌==◌, ◌≡◌}
+use Rattle.std.specs.Prelude.{Bool, [], false, ℕ, ◌==◌, ◌≡◌}
 use Rattle.plain_laws.specs.Words.{Past, Alive, recv_at}
 use Rattle.tape_laws.specs.Flows.{request}
 use Rattle.tape_laws.specs.Pauses.{count}

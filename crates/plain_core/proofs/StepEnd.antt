@@ -1,12 +1,11 @@
 -- A stream is given up: its end was framed, or that of the stream that dooms it.
 use Rattle.flow_notes.specs.declared.notes.Cause.{Cause}
 use Rattle.flow_notes.specs.declared.notes.Note.{Note}
-use Rattle.plain_laws.proofs.Dooms.{without}
 use Rattle.plain_laws.proofs.Keepings.{doom_keeps}
 use Rattle.plain_laws.proofs.Steps.{done_step, early_pair_step}
 use Rattle.plain_laws.proofs.Streams.{apart_from, differs_back, has_left, same_number}
 use Rattle.plain_laws.specs.Settled.{Settled as IsSettledHistory}
-use Rattle.std.proofs.Common.{ap, arith, inl, inr, refl, subst, sym, ◌∙◌}
+use Rattle.std.proofs.Common.{ap, arith, inl, inr, refl, sym, ◌∙◌}
 use Rattle.std.proofs.lemmas.List.Sums.{sum_by-cons}
 use Rattle.std.specs.BTreeMap.{get}
 use Rattle.std.specs.List.{AllByRecursion, list_any, sum_by}
@@ -23,7 +22,6 @@ use Rattle.plain_core.proofs.Rested.{may_same}
 use Rattle.plain_core.proofs.UnderwayMoves.{LeavesWork, leaves_same, reasons_kept, rounded_top, unswept_at}
 use Rattle.plain_core.specs.Agenda.{Agenda, after_end, is_telling}
 use Rattle.plain_core.specs.Carries.{GivesUp, may_move}
-use Rattle.plain_core.specs.Flows.{FlowsStand}
 use Rattle.plain_core.specs.Measure.{left_in, to_go, weight}
 use Rattle.plain_core.specs.Noting.{AppendsNotes, doom_of}
 use Rattle.plain_core.specs.Progress.{EndedHere, PairEndedHere, Pairs, Underway, will_doom}
@@ -31,7 +29,6 @@ use Rattle.plain_core.specs.Runs.{AreSpelled, Cuts, Keeps}
 use Rattle.plain_core.specs.Stands.{BooksAre, Good}
 use Rattle.plain_core.specs.declared.flows.Flows.{Flows}
 use Rattle.plain_core.specs.declared.plain.PlainCore.{PlainCore}
-use Rattle.flow_gate.specs.declared.ids.BufferId.TheVariants as buffer
 use Rattle.flow_notes.specs.declared.notes.Cause.TheVariants as cause
 use Rattle.flow_notes.specs.declared.notes.Note.TheVariants as note
 use Rattle.plain_core.specs.declared.agenda.Task.TheVariants as task

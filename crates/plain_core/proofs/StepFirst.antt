@@ -1,14 +1,12 @@
 -- A core before its first event.
 use Rattle.plain_laws.proofs.Founding.{none_rests}
 use Rattle.proxy_config.specs.Ranges.{IsRoute}
-use Rattle.std.proofs.Common.{ap, inl, inr, refl, subst, sym}
-use Rattle.std.specs.BTreeMap.{get, is_at}
-use Rattle.std.specs.Map.{lookup}
+use Rattle.std.proofs.Common.{inl, inr, refl, sym}
+use Rattle.std.specs.BTreeMap.{get}
 use Rattle.std.specs.Ordering.{nat_cmp}
-use Rattle.std.specs.Prelude.{All, List, [], false, ℕ, ◌≡◌}
+use Rattle.std.specs.Prelude.{All, [], false, ℕ, ◌≡◌}
 use Rattle.tape_laws.specs.Dispatches.{is_some_of}
 use Rattle.tape_laws.specs.declared.limits.PlainLimits.{PlainLimits}
-use Rattle.plain_core.specs.Agenda.{Agenda}
 use Rattle.plain_core.specs.Flows.{Settled}
 use Rattle.plain_core.specs.Progress.{Pairs, Underway}
 use Rattle.plain_core.specs.Stands.{BooksAre, Rests}

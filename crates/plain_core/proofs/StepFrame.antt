@@ -22,7 +22,6 @@ use Rattle.plain_core.proofs.Keeping.{cuts_more, flows_are, good_of, keeps_then,
 use Rattle.plain_core.proofs.UnderwayMoves.{rounded_next, underway_end_drain, underway_end_round, underway_frame, underway_same, unswept_rounded}
 use Rattle.plain_core.specs.Agenda.{Agenda, after_frame}
 use Rattle.plain_core.specs.Carries.{Frames, FramesAt, IsNextFrame, NextIs, NoNext}
-use Rattle.plain_core.specs.Flows.{FlowsStand}
 use Rattle.plain_core.specs.Measure.{left_in, of_frame, to_go, weight}
 use Rattle.plain_core.specs.Noting.{AppendsNotes, AppendsSome, low_of, pauses_of, rise_of}
 use Rattle.plain_core.specs.Progress.{Underway}

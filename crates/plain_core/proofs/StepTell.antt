@@ -3,7 +3,7 @@ use Rattle.flow_gate.specs.Board.{pending_on}
 use Rattle.flow_gate.specs.declared.ids.FlowId.{FlowId}
 use Rattle.flow_notes.specs.declared.notes.Note.{Note}
 use Rattle.plain_laws.specs.Regular.{IsLiveFlow}
-use Rattle.std.proofs.Common.{ap, arith, refl, subst, sym, ◌∙◌}
+use Rattle.std.proofs.Common.{ap, arith, refl, sym, ◌∙◌}
 use Rattle.std.proofs.Math.Seq.{take-append_seam}
 use Rattle.std.proofs.lemmas.List.{append-nil, length-append}
 use Rattle.std.specs.List.{AllByRecursion, sum_by}
@@ -22,7 +22,6 @@ use Rattle.plain_core.specs.Carries.{IsStill, Tells, Wakes}
 use Rattle.plain_core.specs.Flows.{FlowsStand, Settled}
 use Rattle.plain_core.specs.Measure.{left_in, to_go, weight}
 use Rattle.plain_core.specs.Noting.{AppendsSome, resumes_of}
-use Rattle.plain_core.specs.Progress.{Underway}
 use Rattle.plain_core.specs.Runs.{AreSpelled, Cuts, Keeps}
 use Rattle.plain_core.specs.Telling.{TellsUpTo}
 use Rattle.plain_core.specs.declared.flows.Flows.{Flows}

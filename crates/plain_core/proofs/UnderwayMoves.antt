@@ -32,8 +32,6 @@ use Rattle.plain_core.specs.Progress.{EndedHere, HasFramed, HasReason, Pairs, Un
 use Rattle.plain_core.specs.declared.agenda.Task.{Task}
 use Rattle.plain_core.specs.declared.flows.Framed.{Framed}
 use Rattle.plain_core.specs.declared.flows.NextFrame.{NextFrame}
-use Rattle.flow_gate.specs.declared.ids.BufferId.TheVariants as buffer
-use Rattle.flow_notes.specs.declared.notes.Note.TheVariants as note
 use Rattle.plain_core.specs.declared.agenda.Task.TheVariants as task
 use Rattle.plain_core.specs.Words.{OnTop}
 

@@ -9,7 +9,7 @@ use Rattle.plain_laws.specs.Settled.{Settled}
 use Rattle.std.proofs.lemmas.Bool.{and_left}
 use Rattle.std.proofs.Common.{ap, arith, inl, inr, refl, subst, sym, ◌∙◌}
 use Rattle.std.proofs.lemmas.Bool.Decides.{nat_tests}
-use Rattle.std.specs.List.{AllByRecursion, list_any}
+use Rattle.std.specs.List.{AllByRecursion}
 use Rattle.std.specs.Prelude.{Bool, IfNone, List, None, Option, Some, [], drop, false, length, nat_lt, option_to_list, true, ℕ, ◌&&◌, ◌++◌, ◌+◌, ◌==◌, ◌∷◌, ◌≡◌, ◌≤◌, ◌⊎◌}
 use Rattle.plain_laws.specs.Words.{Past, Alive, conn_high, conn_lows, recv_at}
 use Rattle.tape_laws.specs.Flows.{request}
@@ -19,7 +19,7 @@ use Rattle.tape_laws.specs.declared.limits.PlainLimits.{PlainLimits}
 use Rattle.plain_core.proofs.Agendas.{after_telling, grounds_run, grounds_same, holds_run, holds_same, run_is, runs_run, top_is}
 use Rattle.plain_core.proofs.Tellings.{first_is, tell_settled, with_all_told, with_told}
 use Rattle.plain_core.proofs.UnderwayMoves.{LeavesWork, moves_back, same_length, underway_end_tell, underway_of, unswept_rounded}
-use Rattle.plain_core.specs.Agenda.{Agenda, is_rounded, is_run_of, with_run}
+use Rattle.plain_core.specs.Agenda.{Agenda, is_rounded, with_run}
 use Rattle.plain_core.specs.Carries.{IsStill, may_move}
 use Rattle.plain_core.specs.Progress.{Pairs, Underway}
 use Rattle.flow_gate.specs.declared.ids.BufferId.TheVariants as buffer

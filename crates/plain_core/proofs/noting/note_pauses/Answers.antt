@@ -1,7 +1,6 @@
 -- All pauses are written, or none.
-use Rattle.flow_gate.specs.declared.ids.FlowId.{FlowId}
 use Rattle.flow_notes.specs.declared.notes.Note.{Note}
-use Rattle.std.proofs.Common.{refl, subst, sym, ◌∙◌}
+use Rattle.std.proofs.Common.{refl, sym, ◌∙◌}
 use Rattle.std.proofs.lemmas.List.{append-nil}
 use Rattle.std.specs.Prelude.{Err, List, Ok, OnErr, OnOk, [], ◌++◌, ◌≡◌}
 use Rattle.plain_core.specs.Noting.{AppendsNotes, pauses_of}

@@ -1,11 +1,11 @@
 -- The flows that are to be told, up to the first whose receive buffer holds octets.
 use Rattle.flow_gate.specs.declared.ids.FlowId.{FlowId}
-use Rattle.std.proofs.Common.{ap, append_assoc, arith, subst, sym, ◌∙◌}
+use Rattle.std.proofs.Common.{ap, append_assoc, arith, sym, ◌∙◌}
 use Rattle.std.proofs.lemmas.List.{length-append}
-use Rattle.std.specs.Prelude.{Bool, List, [], false, ◌++◌, ◌∷◌}
+use Rattle.std.specs.Prelude.{List, [], false, ◌++◌, ◌∷◌}
 use Rattle.plain_core.proofs.FlowTells.{wakes_unheld}
 use Rattle.plain_core.proofs.Resumes.{all_more, next_wakes}
-use Rattle.plain_core.specs.Carries.{Holds, Wakes}
+use Rattle.plain_core.specs.Carries.{Wakes}
 use Rattle.plain_core.proofs.telling.told_to_holder.Goals as goal
 
 pub returns-then-holds_past : goal.returns-then-holds_past

@@ -1,7 +1,6 @@
 use Rattle.exchange_core.proofs.Outcomes.{if_ok}
 use Rattle.exchange_core.specs.Changes.{Starts}
 use Rattle.flow_gate.specs.Board.{is_open as is_there, times, watchers_of}
-use Rattle.flow_gate.specs.Changes.{Begins as BeginsFlow, Knows, Watches}
 use Rattle.std.proofs.Common.{ap, subst, ◌∙◌}
 use Rattle.tape_laws.specs.Flows.{request}
 use Rattle.flow_gate.specs.declared.ids.BufferId.TheVariants as buffer

@@ -1,8 +1,3 @@
-use Rattle.std.proofs.Common.{subst, sym}
-use Rattle.std.specs.Prelude.{◌≤◌}
-use Rattle.plain_core.specs.Carries.{Dooms}
-use Rattle.plain_core.specs.Measure.{left_in}
-use Rattle.plain_core.specs.declared.flows.Flows.{Flows}
 use Rattle.plain_core.proofs.FlowDooms.{dooms, doom_known, doom_less}
 use Rattle.plain_core.proofs.flows.Flows.doom.Goals as goal
 

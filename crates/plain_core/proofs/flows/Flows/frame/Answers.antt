@@ -2,11 +2,11 @@ use Rattle.exchange_core.specs.Changes.{ChangesFlow}
 use Rattle.exchange_core.specs.Effects.{body_framed}
 use Rattle.exchange_core.specs.Exchanges.{flow_at, is_send_above}
 use Rattle.exchange_core.specs.Flow.{send as send_of}
-use Rattle.flow_gate.specs.Board.{IsSound as IsSoundBoard, is_known, is_marked, pending_on, watchers_of}
+use Rattle.flow_gate.specs.Board.{IsSound as IsSoundBoard, is_marked, pending_on, watchers_of}
 use Rattle.std.proofs.Common.{ap, subst, sym, ◌∙◌}
 use Rattle.std.specs.BTreeMap.{get}
 use Rattle.std.specs.Ordering.{nat_cmp}
-use Rattle.std.specs.Prelude.{IfSome, [], false, length, take, true, ◌++◌, ◌∷◌, ◌≡◌, ◌≤◌}
+use Rattle.std.specs.Prelude.{IfSome, [], take, true, ◌++◌, ◌∷◌, ◌≡◌}
 use Rattle.tape_laws.specs.Flows.{request}
 use Rattle.wm_buffer.specs.Buffer.{AppendsOctets}
 use Rattle.wm_buffer.specs.Watermark.{crossing}

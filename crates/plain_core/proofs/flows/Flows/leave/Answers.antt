@@ -1,9 +1,9 @@
-use Rattle.std.proofs.Common.{refl, rules, subst, sym, ◌∙◌}
+use Rattle.std.proofs.Common.{refl, rules, sym, ◌∙◌}
 use Rattle.std.specs.Prelude.{Bool, false, not, true, ◌&&◌, ◌≡◌}
 use Rattle.wm_buffer.specs.Watermark.{crossing}
 use Rattle.wm_buffer.specs.declared.watermark.Crossed.{Crossed}
 use Rattle.wm_buffer.specs.declared.watermark.Crossed.TheVariants as crossed
-use Rattle.plain_core.proofs.FlowLeaves.{DrainsWrite, leaves}
+use Rattle.plain_core.proofs.FlowLeaves.{leaves}
 use Rattle.plain_core.proofs.flows.Flows.leave.Goals as goal
 
 when_low : (a b : Bool) → crossed.Low ≡ crossing a b → true ≡ (a && not b)

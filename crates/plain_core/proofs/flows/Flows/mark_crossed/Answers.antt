@@ -7,7 +7,7 @@ use Rattle.flow_gate.specs.declared.ids.BufferId.TheVariants as buffer
 use Rattle.plain_core.proofs.FlowMarks.{RisesOrSame, drains_tells, not_high, not_low, risen, unrisen}
 use Rattle.plain_core.proofs.flows.Flows.mark_crossed.Goals as goal
 use Rattle.plain_core.proofs.flows.Flows.mark_crossed.Goals.{else-rose, then-rose}
-use Rattle.plain_core.specs.Crossings.{DrainsIf, RisesIf, is_high, is_low}
+use Rattle.plain_core.specs.Crossings.{DrainsIf, is_high, is_low}
 
 pub returns-then-drained-clause-marks : goal.returns-then-drained-clause-marks
 returns-then-drained-clause-marks c =

@@ -2,7 +2,6 @@ use Rattle.std.proofs.Common.{ap, refl}
 use Rattle.std.specs.BTreeMap.{is_at}
 use Rattle.std.specs.List.{list_any}
 use Rattle.std.specs.Ordering.{nat_cmp}
-use Rattle.std.specs.Prelude.{List, ℕ}
 use Rattle.plain_core.proofs.FlowFounds.{founds}
 use Rattle.plain_core.proofs.flows.Flows.new.Goals as goal
 use Rattle.plain_laws.proofs.Founding.{none_regular}

@@ -10,7 +10,6 @@ use Rattle.plain_core.proofs.FlowFits.{receives}
 use Rattle.plain_core.proofs.FlowHolds.{held_more, held_same}
 use Rattle.plain_core.proofs.flows.Flows.receive.Goals as goal
 use Rattle.plain_core.proofs.flows.Flows.receive.Goals.{else-eq-via-else-eq, else-eq-via-then-eq+else-not-is_empty}
-use Rattle.plain_core.specs.Carries.{Receives}
 
 pub returns-in_ok-hold : goal.returns-in_ok-hold
 returns-in_ok-hold c =

@@ -11,9 +11,8 @@ use Rattle.plain_laws.proofs.Counts.{is_live_is}
 use Rattle.std.proofs.Common.{ap, refl, rules, subst, sym, ◌∙◌}
 use Rattle.std.specs.BTreeMap.{get}
 use Rattle.std.specs.Ordering.{nat_cmp}
-use Rattle.std.specs.Prelude.{IsNone, Option, Some, false, if◌then◌else◌, option_map, true, ℕ, ◌==◌, ◌≡◌}
+use Rattle.std.specs.Prelude.{IsNone, Option, Some, if◌then◌else◌, option_map, ℕ, ◌==◌, ◌≡◌}
 use Rattle.tape_laws.specs.Flows.{request}
-use Rattle.wm_buffer.specs.declared.watermark.Crossed.{Crossed}
 use Rattle.wm_buffer.specs.declared.watermark.Crossed.TheVariants as crossed
 use Rattle.plain_core.specs.Flows.{piece_of}
 use Rattle.plain_core.specs.declared.flows.Flows.{Flows}

@@ -1,7 +1,4 @@
 -- The octets that wait are those of the connection's write buffer.
-use Rattle.std.proofs.Common.{subst, sym}
-use Rattle.std.specs.Prelude.{List, length, take, ℕ, ◌<◌, ◌≡◌}
-use Rattle.plain_core.specs.Stands.{Rests, WaitsInFront}
 use Rattle.plain_core.proofs.plain.PlainCore.out_front.Goals as goal
 
 pub returns : goal.returns
