@@ -1,7 +1,7 @@
 -- A connection whose write buffer and waiting list are as they were.
 use Rattle.proxy_config.specs.declared.config.LimitKeys.{LimitKeys}
 use Rattle.std.proofs.Common.{ap, subst, sym, ◌∙◌}
-use Rattle.std.specs.Prelude.{List, length, ℕ, ◌≡◌, ◌≤◌}
+use Rattle.std.specs.Prelude.{List, length, ◌≡◌, ◌≤◌}
 use Rattle.wire_outlet.specs.Outgoing.{IsReady, Outgoing}
 use Rattle.wire_outlet.specs.declared.waiting.Waiting.{Waiting}
 use Rattle.wire_state.specs.Sound.{IsKept, unit_of}

@@ -1,6 +1,6 @@
 -- Which exchanges are linked and live, where one begins.
 use Rattle.std.proofs.Common.{ap, refl, sym, ◌∙◌}
-use Rattle.std.specs.Prelude.{Bool, Option, Some, false, if◌then◌else◌, is_some, nat_eq, true, ℕ, ◌==◌, ◌||◌, ◌≡◌}
+use Rattle.std.specs.Prelude.{Bool, None, Option, Some, false, if◌then◌else◌, is_some, nat_eq, true, ℕ, ◌==◌, ◌||◌, ◌≡◌}
 use Rattle.wire_links.proofs.Under.{under_insert}
 use Rattle.wire_links.specs.Links.{Links, ends_of, started}
 use Rattle.wire_links.specs.declared.ends.Ends.{Ends}

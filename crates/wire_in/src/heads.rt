@@ -1,6 +1,6 @@
 // Heads of responses, and trailers.
 ghost use Rattle.std.specs.Option.{ForSome, option_copied, option_map_or};
-ghost use Rattle.std.specs.Prelude.{◌≡◌, ◌<◌, ◌≤◌, ◌+◌, ◌^◌, IfSome, OnOk, false, length, not, true};
+ghost use Rattle.std.specs.Prelude.{◌≡◌, ◌<◌, ◌≤◌, ◌+◌, ◌^◌, OnOk, false, length, not, true};
 ghost use Rattle.exchange_core.specs.Message.{head_came};
 ghost use Rattle.wire_flows.specs.Flows.{flow_in};
 ghost use Rattle.wire_state.specs.Noting.{Appends};
