@@ -1,0 +1,99 @@
+// How a case ends.
+use crate::case::Case;
+use flow_notes::Names;
+use io_ports::MemSink;
+use relay_ports::{Kept, MemTaps, Room};
+use relay_work::{RelayEnded, relay_work};
+use std::io;
+use tcp_relay::Relay;
+use worker_ports::Wired;
+
+/// How much the record has room for.
+const ROOM: Room = Room {
+    steps: 1_000,
+    octets: 100_000,
+};
+
+/// How many octets the journal has room for.
+const JOURNAL: usize = 100_000;
+
+/// The greatest connection whose state is printed.
+const CONNECTIONS: u32 = 6;
+
+/// Runs a case, and prints how it ends.
+pub fn show_case<R: Print + AllocGlobal>(rt: &R, case: Case) -> io::Result<()> {
+    let mut names = Names::new(rt.alloc());
+    let _ = names.push(b"a");
+    let made = MemTaps::new(rt.alloc(), 1, case.answers, ROOM, case.taps);
+    let (Ok(mut taps), Ok(mut journal)) = (made, MemSink::new(rt.alloc(), JOURNAL, case.journal))
+    else {
+        return println!(rt; "no memory");
+    };
+    taps.take_at_most(case.most);
+    let mut relay = Relay::new(rt.alloc(), case.limit);
+    for _run in 0..case.runs {
+        let ended = relay_work(
+            rt.alloc(),
+            &mut relay,
+            &mut taps,
+            &mut journal,
+            &names,
+            case.turns,
+        );
+        println!(rt; "ended by {}", ended_word(ended))?;
+    }
+    print!(rt;
+        "{}",
+        std::str::from_utf8(journal.octets()).unwrap_or("no text\n")
+    )?;
+    show_record(rt, &taps)?;
+    show_connections(rt, &taps)
+}
+
+fn ended_word(ended: RelayEnded) -> &'static str {
+    match ended {
+        RelayEnded::Turns => "turns",
+        RelayEnded::Stopped => "stop",
+        RelayEnded::TapsFault => "a fault of the connections",
+        RelayEnded::JournalFault => "a fault of the journal",
+        RelayEnded::Memory => "want of memory",
+    }
+}
+
+fn show_record<R: Print>(rt: &R, taps: &MemTaps) -> io::Result<()> {
+    let mut rest = taps.pieces();
+    for step in taps.record() {
+        match step {
+            Kept::Gave(wired) => show_wired(rt, wired)?,
+            Kept::Offered { conn, len, taken } => {
+                let (piece, after) = rest.split_at((*len).min(rest.len()));
+                rest = after;
+                let first = piece.first().copied().unwrap_or(0);
+                println!(rt; "> offer {conn} {first} {len} taken {taken}")?;
+            }
+            Kept::Closed(conn) => println!(rt; "> close {conn}")?,
+        }
+    }
+    Ok(())
+}
+
+fn show_wired<R: Print>(rt: &R, wired: &Wired) -> io::Result<()> {
+    match wired {
+        Wired::Accept(conn) => println!(rt; "< accept {conn}"),
+        Wired::Join(conn, cluster) => println!(rt; "< join {conn} {cluster}"),
+        Wired::Read(conn, octets) => println!(rt; "< read {conn} {}", octets.len()),
+        Wired::Lost(conn) => println!(rt; "< lost {conn}"),
+        Wired::Idle => println!(rt; "< idle"),
+        Wired::Stop => println!(rt; "< stop"),
+    }
+}
+
+fn show_connections<R: Print>(rt: &R, taps: &MemTaps) -> io::Result<()> {
+    for conn in 1..CONNECTIONS {
+        if taps.is_live(conn) {
+            let held = if taps.is_held(conn) { ", held" } else { "" };
+            println!(rt; "{conn} live{held}")?;
+        }
+    }
+    println!(rt; "faults {}", taps.faults())
+}

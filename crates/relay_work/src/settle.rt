@@ -1,0 +1,21 @@
+// What the connections are told of the relay: which of them are held, and which have ended.
+use relay_ports::Taps;
+use tcp_relay::Relay;
+
+/// After an event of a connection that fed `was`: that one, and the other one of its pair, are closed where the relay has
+/// closed them, and else held exactly where they don't read. No other connection has changed.
+pub fn settle<T: Taps>(relay: &Relay, taps: &mut T, conn: u32, was: Option<u32>) {
+    settle_one(relay, taps, conn);
+    if let Some(other) = was.or(relay.peer(conn)) {
+        settle_one(relay, taps, other);
+    }
+}
+
+// A closed connection has an empty write buffer.
+fn settle_one<T: Taps>(relay: &Relay, taps: &mut T, conn: u32) {
+    if relay.closing(conn) {
+        taps.close(conn);
+    } else {
+        taps.hold(conn, !relay.reads(conn));
+    }
+}
