@@ -67,7 +67,7 @@ impl Reason {
 }
 
 /// Appends why a replay ended, in one line without its newline; nothing where it was replayed to its end, or the words have no
-/// form. Want of memory may leave some of it.
+/// form. Running out of memory may leave some of it.
 pub fn put_reason(reason: &Reason, into: &mut Octets) -> Result<(), NoMemory>
     ensures ok { OnOk result (Extends into.old into.new) }
     ensures err { OnErr result (Extends into.old into.new) }

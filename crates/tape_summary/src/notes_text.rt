@@ -27,7 +27,7 @@ pub fn append_notes(notes: &Notes, names: &Names, text: &mut Octets) -> Result<(
     Ok(())
 }
 
-/// Appends a line for each note. Want of memory leaves some of it.
+/// Appends a line for each note. Running out of memory leaves some of it.
 pub fn tell(notes: &Notes, names: &Names, into: &mut Octets) -> Result<(), NoMemory>
     requires { AllByRecursion (IsNote names.now) notes.now }
     ensures ok { OnOk result (into.new ≡ into.old ++ notes_text names.now notes.now) }

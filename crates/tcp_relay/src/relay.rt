@@ -38,7 +38,7 @@ impl Relay {
     }
 
     /// Dispatches one event, and appends its notes. An event that reads a connection whose flow is paused is refused with
-    /// `Paused`: nothing has changed then, and no note was written. After want of memory the notes so far stand, and each
+    /// `Paused`: nothing has changed then, and no note was written. After running out of memory the notes so far stand, and each
     /// later call answers `Failed`.
     pub fn dispatch(&mut self, event: &Event, notes: &mut Notes) -> Result<(), RelayFault>
         ensures ok { OnOk result (GoesOnFrom self.old notes.old event.now self.new notes.new) }
