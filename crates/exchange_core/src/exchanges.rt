@@ -126,7 +126,7 @@ impl Exchanges {
     }
 
     /// Octets came into the receive buffer of a flow, whose end hasn't come. Within its window they aren't refused. After
-    /// out of memory nothing has changed.
+    /// running out of memory nothing has changed.
     pub fn arrive(&mut self, flow: FlowId, octets: &[u8]) -> Result<(), NoMemory>
         requires live { IsLiveFlow self.old flow }
         requires goes_on { IfSome (flow_at self.old flow) (λ f. f.message.ended ≡ false) }

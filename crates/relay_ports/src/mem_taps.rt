@@ -152,7 +152,7 @@ impl MemTaps {
         }
     }
 
-    // An answer has come. After want of memory nothing has changed.
+    // An answer has come. After running out of memory nothing has changed.
     fn change(&mut self, wired: &Wired) -> Result<(), NoMemory> {
         match wired {
             Wired::Accept(conn) => self.come(*conn),

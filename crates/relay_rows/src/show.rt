@@ -56,7 +56,7 @@ fn ended_word(ended: RelayEnded) -> &'static str {
         RelayEnded::Stopped => "stop",
         RelayEnded::TapsFault => "a fault of the connections",
         RelayEnded::JournalFault => "a fault of the journal",
-        RelayEnded::Memory => "want of memory",
+        RelayEnded::Memory => "out of memory",
     }
 }
 

@@ -116,7 +116,7 @@ module _ (lawful : AreLawful) (promise : KeepPromise) where
       → ReplaysRelay config_text left_old left_new out_old out_new how
   replays_of config_text left_old left_new out_old out_new how r = record { read = r.read; text = r.text; consumes = r.consumes; appends = r.appends; tells = tells_of how config_text r.read r.text left_new r.tells }
 
-  -- want of memory before the first line
+  -- out of memory before the first line
   pub replays_none : (config : Config) (config_text : List ℕ) (left out : Option (List ℕ)) (how : Status) → config_of config_text ≡ Ok config → how ≡ status.Memory → ReplaysRelay config_text left left out out how
   replays_none config config_text left out how configured e =
       let P : Status → Type 0 = λ v. ReplaysRelay config_text left left out out v in

@@ -72,7 +72,7 @@ pub data ReplaysUnder (Run : List ℕ → Status → Type 0) (config_old config_
   Configured : (text : List ℕ) → Consumes config_old config_new text → IsWhole text config_new → Run text status → ReplaysUnder Run config_old config_new left_old left_new out_old out_new status
   Unconfigured : HasNoConfig config_old config_new left_old left_new out_old out_new status → ReplaysUnder Run config_old config_new left_old left_new out_old out_new status
 
--- an allowed wire session under an allowed configuration is run to its end, but for want of memory and a source or sink that fails
+-- an allowed wire session under an allowed configuration is run to its end, but for lack of memory and a source or sink that fails
 abbrev pub WireCompletes : (config session : Option (List ℕ)) → Status → Type 0
 WireCompletes (Some text) session how = (config : Config) → config_of text ≡ Ok config → length text ≤ longest_config → Completes config session how
 WireCompletes None session how = Unit {0}

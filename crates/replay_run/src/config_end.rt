@@ -44,7 +44,7 @@ fn write_end<K: Sink>(end: ConfigEnd, text: &[u8], out: &mut K) -> Outcome
     }
 }
 
-// Want of memory may leave some of the line.
+// Running out of memory may leave some of the line.
 fn put_end(end: &ConfigEnd, text: &mut Octets) -> Result<(), NoMemory>
     ensures { OnOk result (text.new ≡ text.old ++ end_text end.now) }
 {

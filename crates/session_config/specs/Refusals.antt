@@ -8,7 +8,7 @@ use Rattle.std.specs.Option.{option_map_or}
 use Rattle.std.specs.Prelude.{Bool, List, [], codes, drop, flat_map, if◌then◌else◌, length, nat_eq, nat_lt, not, position, take, ℕ, ◌%◌, ◌&&◌, ◌++◌, ◌+◌, ◌/◌, ◌==◌, ◌||◌, ◌∷◌}
 use Rattle.proxy_config.specs.declared.fault.ConfigFault.TheVariants as fault
 
--- the kinds of faults are numbered; want of memory, which refuses no configuration, is the last
+-- the kinds of faults are numbered; out of memory, which refuses no configuration, is the last
 abbrev pub fault_number : ConfigFault → ℕ
 fault_number fault.NotToml = 1
 fault_number (fault.Missing key) = 2

@@ -8,7 +8,7 @@ ghost use Rattle.session_config.specs.Refusals as spec;
 use io_ports::{NoMemory, Octets};
 
 /// Appends a key with its place. A key that is no bare key of TOML (letters, digits, `-` and `_`) is spelled as TOML's basic
-/// string, so that the line that tells it stays one line. Want of memory may leave some of it.
+/// string, so that the line that tells it stays one line. Running out of memory may leave some of it.
 pub fn put_unknown(into: &mut Octets, key: &[u8]) -> Result<(), NoMemory>
     ensures ok { OnOk result (into.new ≡ into.old ++ spec.unknown_text key.now) }
     ensures err { OnErr result (Extends into.old into.new) }

@@ -22,7 +22,7 @@ pub enum ConfigEnd {
     TooLong,
     /// The source failed.
     ReadFault,
-    /// Want of memory.
+    /// Out of memory.
     Memory,
 }
 

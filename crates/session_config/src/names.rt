@@ -8,7 +8,7 @@ use proxy_config::Config;
 use std::alloc::Global;
 
 /// The names of the clusters, in their order. A configuration that was read has names of their form and none twice, so that
-/// they are refused only for want of memory.
+/// they are refused only for lack of memory.
 pub fn names_of(alloc: Global, config: &Config) -> Result<Names, NoMemory>
     ensures { IfOk result (λ names. names ≡ names_in config.now) }
 {

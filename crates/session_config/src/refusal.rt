@@ -9,7 +9,7 @@ use itoa::Buffer;
 use proxy_config::ConfigFault;
 
 /// Appends `refused config N KEY` and a newline: the fault's number, 1 to 6 in the order of their kinds, and its key. Want of
-/// memory, which refuses no configuration, has the number 7. Want of memory here may leave some of the line.
+/// memory, which refuses no configuration, has the number 7. Running out of memory here may leave some of the line.
 pub fn put_refusal(fault: &ConfigFault, into: &mut Octets) -> Result<(), NoMemory>
     ensures ok { OnOk result (into.new ≡ into.old ++ refusal_line fault.now) }
     ensures err { OnErr result (Extends into.old into.new) }
@@ -22,7 +22,7 @@ pub fn put_refusal(fault: &ConfigFault, into: &mut Octets) -> Result<(), NoMemor
     into.push_all(b"\n")
 }
 
-/// Appends the key of a fault; a dash where it has none. Want of memory may leave some of it.
+/// Appends the key of a fault; a dash where it has none. Running out of memory may leave some of it.
 pub fn put_key(fault: &ConfigFault, into: &mut Octets) -> Result<(), NoMemory>
     ensures ok { OnOk result (into.new ≡ into.old ++ key_text fault.now) }
     ensures err { OnErr result (Extends into.old into.new) }

@@ -26,7 +26,7 @@ IsUnrefused status.ReadFault = Unit {0}
 IsUnrefused status.WriteFault = Unit {0}
 IsUnrefused status = ⊥
 
--- such a session is run to its end, but for want of memory and a source or sink that fails
+-- such a session is run to its end, but for lack of memory and a source or sink that fails
 abbrev pub Completes : Config → Option (List ℕ) → Status → Type 0
 Completes config None how = Unit {0}
 Completes config (Some text) how = IsAllowedWire config text → IsUnrefused how

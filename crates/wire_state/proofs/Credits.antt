@@ -103,7 +103,7 @@ credit_grants x w = omega (arith, changed_go (on_window regranted) x w.streams, 
     less None = refl
     less (Some s) = omega arith
 
--- ---- with want of memory
+-- ---- with out of memory
 pub late_go : {E : Type 0} (r : Result (Unit {0}) E) (n : ℕ) (old new : RecvWindows) → OnOk r (new ≡ comes_late n old) → OnErr r (new ≡ old) → credit_go new ≤ credit_go old + n
 late_go (Ok u) n old new ok err = let e : credit_go new ≡ credit_go (comes_late n old) = ap credit_go ok in omega (arith, e, credit_late n old)
 late_go (Err x) n old new ok err = let e : credit_go new ≡ credit_go old = ap credit_go err in omega (arith, e)

@@ -101,7 +101,7 @@ impl Agenda {
         self.tasks.last().copied()
     }
 
-    /// Begins a task. After want of memory nothing has changed.
+    /// Begins a task. After running out of memory nothing has changed.
     pub fn push(&mut self, task: Task) -> Result<(), NoMemory>
         ensures ok { OnOk result (self.new ≡ task ∷ self.old) }
         ensures err { OnErr result (self.new ≡ self.old) }

@@ -65,7 +65,7 @@ pub struct WireCore {
 }
 
 impl WireCore {
-    /// The core before its first event. Refused only for want of memory.
+    /// The core before its first event. Refused only for lack of memory.
     pub fn new(alloc: Global, config: Config) -> Result<Self, NoMemory>
         requires { IsInRange config }
         ensures sound { IfOk result (λ core. IsSound core) }

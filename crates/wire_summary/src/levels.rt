@@ -205,7 +205,7 @@ impl Levels {
         Ok(())
     }
 
-    /// Takes up the notes that a tape goes on with. After want of memory the levels are to be let go.
+    /// Takes up the notes that a tape goes on with. After running out of memory the levels are to be let go.
     pub fn note_all(&mut self, notes: &Notes) -> Result<(), NoMemory>
         ensures { OnOk result (LevelsGo self.old notes.now self.new) }
     {

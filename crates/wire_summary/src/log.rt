@@ -41,7 +41,7 @@ impl WireLog {
         self.levels.pass(exchange, request, response)
     }
 
-    /// Takes up the notes that a tape goes on with. After want of memory the log is to be let go.
+    /// Takes up the notes that a tape goes on with. After running out of memory the log is to be let go.
     #[tactic(auto, using(crate::proofs::Logging::both_go))]
     pub fn note_all(&mut self, notes: &Notes) -> Result<(), NoMemory>
         ensures { OnOk result (WireLogs self.old notes.now self.new) }

@@ -11,7 +11,7 @@ use io_ports::{NoMemory, Octets};
 use std::alloc::Global;
 use tape_summary::{put_done, put_flow_peak, put_pauses, put_stage_peak, put_write_peak};
 
-/// Appends the summary of the tape that a log stands for. After want of memory the text is as it was.
+/// Appends the summary of the tape that a log stands for. After running out of memory the text is as it was.
 pub fn write_wire_summary(alloc: Global, log: &WireLog, into: &mut Octets) -> Result<(), NoMemory>
     ensures ok { OnOk result (Summarizes log.now into.old into.new) }
     ensures err { OnErr result (into.new ≡ into.old) }

@@ -22,7 +22,7 @@ abbrev pub RestsPlain : PlainLimits → Kind → Type 0
 RestsPlain limits (kind.Plain core) = Rests limits core []
 RestsPlain limits (kind.Wire session) = ⊥
 
--- it met want of memory in an earlier dispatch
+-- it ran out of memory in an earlier dispatch
 abbrev pub has_failed : Kind → Bool
 has_failed (kind.Plain core) = core.failed
 has_failed (kind.Wire session) = session.failed

@@ -34,7 +34,7 @@ pub struct WireSession {
 }
 
 impl WireSession {
-    /// The core before its session's first event. Refused only for want of memory.
+    /// The core before its session's first event. Refused only for lack of memory.
     pub fn new(alloc: Global, config: Config) -> Result<Self, NoMemory>
         requires { IsInRange config }
         ensures sound { IfOk result (λ session. IsSound session.core) }
@@ -55,7 +55,7 @@ impl WireSession {
         &self.core.config
     }
 
-    /// Dispatches one event, and appends its notes. After want of memory the notes so far stand, and each later call answers
+    /// Dispatches one event, and appends its notes. After running out of memory the notes so far stand, and each later call answers
     /// `Failed`, which comes only then.
     pub fn dispatch(&mut self, event: &Event, notes: &mut Notes) -> Result<(), CoreFault>
         requires { self.old.failed ≡ false → IsSound self.old.core }

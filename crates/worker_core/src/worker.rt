@@ -29,7 +29,7 @@ enum Kind {
 }
 
 impl Core {
-    /// The core before the first event of wire sessions. Refused only for want of memory.
+    /// The core before the first event of wire sessions. Refused only for lack of memory.
     pub fn new(alloc: Global, config: Config) -> Result<Self, NoMemory>
         requires { IsInRange config }
         ensures { IfOk result (λ core. RestsWire core.kind) }
@@ -39,7 +39,7 @@ impl Core {
         })
     }
 
-    /// The core before the first event of a plain session. Refused only for want of memory.
+    /// The core before the first event of a plain session. Refused only for lack of memory.
     pub fn plain(alloc: Global, limits: PlainLimits) -> Result<Self, NoMemory>
         requires { AreLimits limits }
         ensures { IfOk result (λ core. RestsPlain limits core.kind) }
@@ -49,7 +49,7 @@ impl Core {
         })
     }
 
-    /// Dispatches one event, and appends its notes. After want of memory the notes so far stand, and each later call answers
+    /// Dispatches one event, and appends its notes. After running out of memory the notes so far stand, and each later call answers
     /// `Failed`. An event of a connection, stream or exchange that isn't there has its turn note alone.
     pub fn dispatch(&mut self, event: &Event, notes: &mut Notes) -> Result<(), CoreFault>
         requires { MayTake self.old.kind notes.old event.now }
