@@ -1,8 +1,8 @@
 // Permits, and the seats of the threads that ask for them.
 ghost use Rattle.std.specs.Prelude.{◌≡◌};
 
-use atomic_table::{Seat, Table};
 use crate::permit_rule::{AtMostMax, PermitView};
+use atomic_table::{Seat, Table};
 use std::alloc::Global;
 use std::error::Error;
 use std::fmt;
