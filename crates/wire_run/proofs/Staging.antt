@@ -1,10 +1,11 @@
 -- The stages of the rows.
+use Rattle.io_ports.specs.declared.octets.NoMemory.{NoMemory}
 use Rattle.proxy_config.specs.declared.routes.Filter.{Filter}
 use Rattle.proxy_config.specs.declared.routes.Route.{Route}
 use Rattle.std.proofs.Common.{ap, append_assoc, inl, inr, refl, subst, sym, ◌∙◌}
 use Rattle.std.proofs.lemmas.List.{append-nil, map-append}
 use Rattle.std.proofs.lemmas.Option.{slice_get_past, slice_get_read}
-use Rattle.std.specs.Prelude.{Bool, IfSome, List, None, Option, Some, [], false, length, map, slice_get, suc, true, zero, ℕ, ◌++◌, ◌∷◌, ◌≡◌, ◌≤◌, ◌⊎◌}
+use Rattle.std.specs.Prelude.{Bool, Err, IfSome, List, None, Ok, OnOk, Option, Result, Some, [], false, length, map, slice_get, suc, true, zero, ℕ, ◌++◌, ◌∷◌, ◌≡◌, ◌≤◌, ◌⊎◌}
 use Rattle.std.specs.Slice.{IsItemAt}
 use Rattle.std.specs.Borrow.{Bor}
 use Rattle.tape_laws.specs.Units.{StageKind}
@@ -140,6 +141,11 @@ passes_one rows row request response old new q r p = record {
   goes = p.goes;
   keeps = λ routes a k. rows_grow routes old.levels new.levels (record { request = request; response = response }) k p.grow (record { row = row; request_is = q.goes routes a; response_is = r.goes routes a });
 }
+
+pub pass_told : (r : Result (Unit {0}) NoMemory) (rows : List RouteStages) (row : Option ℕ) (request response : List ℕ) (old new : WireLog) → Gives rows row false request → Gives rows row true response
+    → OnOk r (WireLogPasses old (record { request = request; response = response }) new) → OnOk r (PassesAll rows old new)
+pass_told (Ok x) rows row request response old new q s p = passes_one rows row request response old new q s p
+pass_told (Err x) rows row request response old new q s p = tt
 
 -- the rows of all exchanges of which stages are known
 abbrev row_of : (routes : List Route) (known : Option StageLimits) → IfSome known (IsRow routes) → Option ℕ
