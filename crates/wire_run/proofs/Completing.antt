@@ -212,8 +212,10 @@ completed status.Session config config_text text None out_old out_new c u f r a 
 completed status.Session config config_text text (Some ys) out_old out_new c u f r a =
     let k = r.tells.stands in
     let t = told_of status.Session config_text r.read r.text (Some ys) r.tells in
-    let b = as_configured config config_text text k.config c k.configured a in
-    unrefused (names_in k.config) (resources_in k.config) k.named text r.read ys t.rest t.seen b.events b.may b.is b.short t.tape.may r.consumes t.reads t.ends
+    let b = as_configured config config_text text t.config c t.configured a in
+    let P : Config → Type 0 = λ v. AreNames (names_in v) in
+    let named = subst P (same_config k.config t.config (config_of config_text) k.configured t.configured) k.named in
+    unrefused (names_in t.config) (resources_in t.config) named text r.read ys t.rest t.seen b.events b.may b.is b.short t.tape.may r.consumes t.reads t.ends
 completed status.TooLong config config_text text None out_old out_new c u f r a = r.consumes
 completed status.TooLong config config_text text (Some ys) out_old out_new c u f r a =
     let t = r.tells in

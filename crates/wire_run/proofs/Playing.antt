@@ -15,11 +15,11 @@ use Rattle.session_lines.specs.declared.wire_lines.WireLines.{WireLines}
 use Rattle.session_run.specs.Players.{AddsSummary, IsPlaying, PlayedAs, PlaysLine}
 use Rattle.session_run.specs.Runs.{Begins}
 use Rattle.session_run.specs.declared.player.Went.{Went}
-use Rattle.std.proofs.Common.{ap, append_assoc, arith, refl, subst, sym, ◌∙◌}
+use Rattle.std.proofs.Common.{ap, append_assoc, arith, inl, inr, refl, subst, sym, ◌∙◌}
 use Rattle.std.proofs.lemmas.Grind.{common_steps}
 use Rattle.std.proofs.lemmas.List.{append-nil}
 use Rattle.std.specs.List.{AllByRecursion}
-use Rattle.std.specs.Prelude.{Err, IfSome, List, None, Ok, OnOk, Option, Result, [], false, suc, ℕ, ◌++◌, ◌+◌, ◌<◌, ◌∷◌, ◌≡◌}
+use Rattle.std.specs.Prelude.{Err, IfSome, List, None, Ok, OnOk, Option, Result, [], false, suc, ℕ, ◌++◌, ◌+◌, ◌<◌, ◌∷◌, ◌≡◌, ◌⊎◌}
 use Rattle.tape_laws.specs.Dispatches.{events_back, turns}
 use Rattle.tape_laws.specs.History.{History, NoMark, onto}
 use Rattle.tape_laws.specs.Report.{summary_text}
@@ -74,26 +74,31 @@ carried_tape old new e config h seen after c k is t next may =
     }
 
 -- the notes have a spelling with the names of the lines
-pub notes_spelled : (old new : WirePlay) (e : Event) → CarriesOn old e new → IsEvent old.lines.names e → AllByRecursion (IsNote new.lines.names) new.notes
-notes_spelled old new e c is =
+pub notes_spelled : (old new : WirePlay) (e : Event) (names : List (List ℕ)) → CarriesOn old e new → IsEvent old.lines.names e → names ≡ new.lines.names → AllByRecursion (IsNote names) new.notes
+notes_spelled old new e names c is same =
     let adds = dispatch_adds (old.session.turn + 1) e new.notes [] c.dispatches.notes in
-    let P : WireLines → Type 0 = λ v. AllByRecursion (IsNote v.names) new.notes in
-    subst P (sym c.lines) (adds.spelled old.lines.names (omega arith) is)
+    let P : List (List ℕ) → Type 0 = λ v. AllByRecursion (IsNote v) new.notes in
+    subst P (sym (same ∙ ap (λ v. v.names) c.lines)) (adds.spelled old.lines.names (omega arith) is)
 
-pub event_played : (old new : WirePlay) (e : Event) (text_old text_new : List ℕ) → CarriesOn old e new → IsEvent old.lines.names e → text_new ≡ text_old ++ notes_text new.lines.names new.notes → PlaysEvent old e text_old new text_new (Ok went.On)
-event_played old new e text_old text_new c is told = record {
+pub event_played : (old new : WirePlay) (e : Event) (names : List (List ℕ)) (text_old text_new : List ℕ) → CarriesOn old e new → IsEvent old.lines.names e → names ≡ new.lines.names → text_new ≡ text_old ++ notes_text names new.notes
+    → PlaysEvent old e text_old new text_new (Ok went.On)
+event_played old new e names text_old text_new c is same told = record {
   goes = λ config h named k. record {
     history = onto new.notes h;
     added = notes_text (names_in config) new.notes;
     rests = carried_rests old new e config h c k;
     tape = λ seen after t next may. carried_tape old new e config h seen after c k (renamed old.lines.names (names_in config) e named is) t next may;
     told = onto_text (names_in config) new.notes h;
-    text = told ∙ ap (λ (v : List (List ℕ)). text_old ++ notes_text v new.notes) (ap (λ v. v.names) c.lines ∙ named);
+    text = told ∙ ap (λ (v : List (List ℕ)). text_old ++ notes_text v new.notes) (same ∙ ap (λ v. v.names) c.lines ∙ named);
     lines = c.lines;
   };
 }
 
 -- ---- lines
+
+-- what a line was read as
+pub read_as : (old new : WireLines) (line : List ℕ) (found answer : LineRead) → found ≡ answer → ReadsWireLine old line new (Ok found) → ReadsWireLine old line new (Ok answer)
+read_as old new line found answer e r = let P : LineRead → Type 0 = λ v. ReadsWireLine old line new (Ok v) in subst P e r
 
 -- the text of the lines with one more
 pub text_more : (names : List (List ℕ)) (resources : ℕ) (seen : WireSeen) (line : List ℕ) (item : WireItem) → SpellsWire names resources seen line item
@@ -180,6 +185,12 @@ limits_refused old line new lines limits text_old text_new r et = record { goes 
     other WireHeader e = cc
     other (WireEvent e) q = cc
 
+-- it is either
+pub none_played : (old : WirePlay) (line : List ℕ) (new : WirePlay) (lines : WireLines) (found : LineRead) (text_old text_new : List ℕ) → ((limits : PlainLimits) × (found ≡ read.Limits limits)) ⊎ (found ≡ read.Refused) → ReadsWireLine old.lines line lines (Ok found)
+    → text_new ≡ text_old → PlaysLine wire_kind old line text_old new text_new (Ok went.Refused)
+none_played old line new lines found text_old text_new (inl p) r e = limits_refused old line new lines p.0 text_old text_new (read_as old.lines lines line found (read.Limits p.0) p.1 r) e
+none_played old line new lines found text_old text_new (inr p) r e = line_refused old line new lines text_old text_new (read_as old.lines lines line found read.Refused p r) e
+
 pub event_sound : (old : WirePlay) → IsPlaying wire_kind old → old.session.failed ≡ false → IsSound old.session.core
 event_sound old k well = k.stands.rests.sound
 
@@ -231,10 +242,6 @@ event_line_played old mid line e text_old new text_new result r es et el p = rec
         }
     by config lines count told k (Ok went.Refused) d = absurd d
     by config lines count told k (Err x) d = d
-
--- what a line was read as
-pub read_as : (old new : WireLines) (line : List ℕ) (found answer : LineRead) → found ≡ answer → ReadsWireLine old line new (Ok found) → ReadsWireLine old line new (Ok answer)
-read_as old new line found answer e r = let P : LineRead → Type 0 = λ v. ReadsWireLine old line new (Ok v) in subst P e r
 
 -- ---- before the first line
 
