@@ -14,7 +14,6 @@ use Rattle.std.proofs.lemmas.List.{append-nil}
 use Rattle.std.specs.Io.KnownBytes.{Appends, Consumes, IsAtEnd}
 use Rattle.std.specs.Prelude.{Err, List, None, Ok, Option, Result, Some, [], length, ℕ, ◌++◌, ◌≡◌, ◌≤◌, ◌⊎◌}
 use Rattle.wire_run.specs.Allowed.{Completes, IsUnrefused}
-use Rattle.wire_run.specs.Tapes.{RunsWire}
 use Rattle.session_config.specs.declared.load.ConfigEnd.TheVariants as end
 use Rattle.session_run.specs.declared.status.Status.TheVariants as status
 
@@ -89,14 +88,18 @@ none_under Run config_old config_new left out_old out_new how r stop e l ends =
     Unconfigured (record { text = k.text; told = ends.told; consumes = k.consumes; appends = ends.appends; unread = refl; ends = ends.goes k.text config_new k.is })
 
 -- the status isn't that of other words
-pub relay_not_usage : (config_old config_new left_old left_new out_old out_new : Option (List ℕ)) (how : Status)
-    → ReplaysUnder (λ text s. ReplaysRelay text left_old left_new out_old out_new s) config_old config_new left_old left_new out_old out_new how → how ≡ status.Usage → ⊥
-relay_not_usage config_old config_new left_old left_new out_old out_new how (Configured text consumes whole run) e =
+pub relay_not_usage : (text : List ℕ) (left_old left_new out_old out_new : Option (List ℕ)) (how : Status) → ReplaysRelay text left_old left_new out_old out_new how → how ≡ status.Usage → ⊥
+relay_not_usage text left_old left_new out_old out_new how run e =
     let P : Status → Type 0 = λ v. ReplaysRelay text left_old left_new out_old out_new v in
     (subst P e run).tells.ends
-relay_not_usage config_old config_new left_old left_new out_old out_new how (Unconfigured none) e =
-    let P : Status → Type 0 = λ v. HasNoConfig config_old config_new left_old left_new out_old out_new v in
-    (subst P e none).ends
+
+pub end_not_usage : (stop : ConfigEnd) (how : Status) → (how ≡ end_status stop) ⊎ (how ≡ status.Memory) ⊎ (how ≡ status.WriteFault) → how ≡ status.Usage → ⊥
+end_not_usage stop how (inr (inl e)) u = let i : status.Memory ≡ status.Usage = sym e ∙ u in cc
+end_not_usage stop how (inr (inr e)) u = let i : status.WriteFault ≡ status.Usage = sym e ∙ u in cc
+end_not_usage (end.Refused fault) how (inl e) u = let i : status.Config ≡ status.Usage = sym e ∙ u in cc
+end_not_usage end.TooLong how (inl e) u = let i : status.TooLong ≡ status.Usage = sym e ∙ u in cc
+end_not_usage end.ReadFault how (inl e) u = let i : status.ReadFault ≡ status.Usage = sym e ∙ u in cc
+end_not_usage end.Memory how (inl e) u = let i : status.Memory ≡ status.Usage = sym e ∙ u in cc
 
 -- a fault of the configuration's source has its cause
 pub config_fault : (old new : ℕ) (r : Answer) (stop : ConfigEnd) → r ≡ Err stop → CausesFault old new r → stop ≡ end.ReadFault → Rose old new
@@ -106,15 +109,6 @@ config_fault old new r stop e c is =
     subst Q is (subst P e c)
 
 -- ---- a wire session
-
-pub wire_not_usage : (config_old config_new left_old left_new out_old out_new : Option (List ℕ)) (how : Status)
-    → ReplaysUnder (λ text s. RunsWire text left_old left_new out_old out_new s) config_old config_new left_old left_new out_old out_new how → how ≡ status.Usage → ⊥
-wire_not_usage config_old config_new left_old left_new out_old out_new how (Configured text consumes whole run) e =
-    let P : Status → Type 0 = λ v. RunsWire text left_old left_new out_old out_new v in
-    (subst P e run).tells.ends
-wire_not_usage config_old config_new left_old left_new out_old out_new how (Unconfigured none) e =
-    let P : Status → Type 0 = λ v. HasNoConfig config_old config_new left_old left_new out_old out_new v in
-    (subst P e none).ends
 
 -- what was read to its end was the whole of it
 whole_text : (given text : List ℕ) (left : Option (List ℕ)) → Consumes (Some given) left text → IsAtEnd left → given ≡ text

@@ -1,5 +1,5 @@
 -- The words of a replay.
-use Rattle.replay_run.specs.Forms.{HasNoForm, IsDrillWord, IsNoDrill, SpellsForm}
+use Rattle.replay_run.specs.Forms.{IsDrillWord, IsNoDrill, SpellsForm}
 use Rattle.replay_run.specs.Drills.{DrillsAs}
 use Rattle.replay_run.specs.Replays.{Replays}
 use Rattle.replay_run.specs.Told.{ReplaysForm}
@@ -51,8 +51,17 @@ number_else word digits n r b e p ed eb failed = record { none = by failed }
     by (inr (inr f)) m k = let t = spelled m k in cc
 
 -- told apart by their first octets
+abbrev first_octet : List (List ℕ) → ℕ
+first_octet words = get_or (get_or words 0 []) 0 0
+
 relay_or_drill : (name number : List ℕ) → codes "relay" ∷ name ∷ [] ≡ codes "drill" ∷ number ∷ [] → ⊥
-relay_or_drill name number e = let k : 114 ≡ 100 = ap (λ (v : List (List ℕ)). get_or (get_or v 0 []) 0 0) e in omega (arith, k)
+relay_or_drill name number e = let k : 114 ≡ 100 = ap first_octet e in omega (arith, k)
+
+wire_or_drill : (name number : List ℕ) → codes "wire" ∷ name ∷ [] ≡ codes "drill" ∷ number ∷ [] → ⊥
+wire_or_drill name number e = let k : 119 ≡ 100 = ap first_octet e in omega (arith, k)
+
+wire_or_relay : (name other : List ℕ) → codes "wire" ∷ name ∷ [] ≡ codes "relay" ∷ other ∷ [] → ⊥
+wire_or_relay name other e = let k : 119 ≡ 114 = ap first_octet e in omega (arith, k)
 
 -- two numbers have the same form
 pub same_form : (words : List (List ℕ)) (f g : Form) → SpellsForm words f → SpellsForm words g → f ≡ g
@@ -63,10 +72,10 @@ same_form words form.Relay form.Relay s t = refl
 same_form words form.Wire form.Wire s t = refl
 same_form words form.Plain form.Wire s t = let i : codes "plain" ∷ [] ≡ codes "wire" ∷ t.is.0 ∷ [] = sym s.is ∙ t.is.1 in cc
 same_form words form.Wire form.Plain s t = let i : codes "plain" ∷ [] ≡ codes "wire" ∷ s.is.0 ∷ [] = sym t.is ∙ s.is.1 in cc
-same_form words form.Relay form.Wire s t = let i : codes "relay" ∷ s.is.0 ∷ [] ≡ codes "wire" ∷ t.is.0 ∷ [] = sym s.is.1 ∙ t.is.1 in cc
-same_form words form.Wire form.Relay s t = let i : codes "relay" ∷ t.is.0 ∷ [] ≡ codes "wire" ∷ s.is.0 ∷ [] = sym t.is.1 ∙ s.is.1 in cc
-same_form words form.Wire (form.Drill n) s t = let i : codes "wire" ∷ s.is.0 ∷ [] ≡ codes "drill" ∷ decimal n ∷ [] = sym s.is.1 ∙ t.is in cc
-same_form words (form.Drill n) form.Wire s t = let i : codes "wire" ∷ t.is.0 ∷ [] ≡ codes "drill" ∷ decimal n ∷ [] = sym t.is.1 ∙ s.is in cc
+same_form words form.Relay form.Wire s t = absurd (wire_or_relay t.is.0 s.is.0 (sym t.is.1 ∙ s.is.1))
+same_form words form.Wire form.Relay s t = absurd (wire_or_relay s.is.0 t.is.0 (sym s.is.1 ∙ t.is.1))
+same_form words form.Wire (form.Drill n) s t = absurd (wire_or_drill s.is.0 (decimal n) (sym s.is.1 ∙ t.is))
+same_form words (form.Drill n) form.Wire s t = absurd (wire_or_drill t.is.0 (decimal n) (sym t.is.1 ∙ s.is))
 same_form words form.Relay (form.Drill n) s t = absurd (relay_or_drill s.is.0 (decimal n) (sym s.is.1 ∙ t.is))
 same_form words (form.Drill n) form.Relay s t = absurd (relay_or_drill t.is.0 (decimal n) (sym t.is.1 ∙ s.is))
 same_form words form.Plain (form.Drill n) s t = let i : codes "plain" ∷ [] ≡ codes "drill" ∷ decimal n ∷ [] = sym s.is ∙ t.is in cc
@@ -127,32 +136,7 @@ relay_no_plain e = cc
 pub other_words : (words : List (List ℕ)) (f g : Form) (P : Type 0) → (f ≡ g → ⊥) → SpellsForm words f → SpellsForm words g → P
 other_words words f g P other s t = absurd (other (same_form words f g s t))
 
-pub relay_spelled : (word name : List ℕ) → word ≡ codes "relay" → SpellsForm (word ∷ name ∷ []) form.Relay
-relay_spelled word name e = record { ranges = tt; is = (name, ap (λ (v : List ℕ). v ∷ name ∷ []) e) }
-
-pub wire_spelled : (word name : List ℕ) → word ≡ codes "wire" → SpellsForm (word ∷ name ∷ []) form.Wire
-wire_spelled word name e = record { ranges = tt; is = (name, ap (λ (v : List ℕ). v ∷ name ∷ []) e) }
-
 -- one of two sources failed
 pub other_source : (A B C : Type 0) → C → A ⊎ B → B ⊎ (C × A)
 other_source A B C c (inl a) = inr (c, a)
 other_source A B C c (inr b) = inl b
-
--- ---- words that have no form
-pub words_none : (word name : List ℕ) → (word ≡ codes "relay" → ⊥) → (word ≡ codes "drill" → ⊥) → HasNoForm (word ∷ name ∷ [])
-words_none word name relay drill = record { none = by }
-  where
-    by : (f : Form) → SpellsForm (word ∷ name ∷ []) f → ⊥
-    by form.Plain s = let i : word ∷ name ∷ [] ≡ codes "plain" ∷ [] = s.is in cc
-    by form.Relay s = let i : word ∷ name ∷ [] ≡ codes "relay" ∷ s.is.0 ∷ [] = s.is.1 in relay (let k : word ≡ codes "relay" = cc in k)
-    by (form.Drill n) s = let i : word ∷ name ∷ [] ≡ codes "drill" ∷ decimal n ∷ [] = s.is in drill (let k : word ≡ codes "drill" = cc in k)
-
-pub drill_none : (word name : List ℕ) → (word ≡ codes "relay" → ⊥) → IsNoDrill name → HasNoForm (word ∷ name ∷ [])
-drill_none word name relay k = record { none = by }
-  where
-    by : (f : Form) → SpellsForm (word ∷ name ∷ []) f → ⊥
-    by form.Plain s = let i : word ∷ name ∷ [] ≡ codes "plain" ∷ [] = s.is in cc
-    by form.Relay s = let i : word ∷ name ∷ [] ≡ codes "relay" ∷ s.is.0 ∷ [] = s.is.1 in relay (let k : word ≡ codes "relay" = cc in k)
-    by (form.Drill n) s =
-        let i : word ∷ name ∷ [] ≡ codes "drill" ∷ decimal n ∷ [] = s.is in
-        k.none n (record { least = s.ranges.0; most = s.ranges.1; is = (let e : name ≡ decimal n = cc in e) })

@@ -1,5 +1,4 @@
 -- What the words ask for was done, and words without a form ask for nothing.
-use Rattle.replay_run.proofs.Completing.{completes_words}
 use Rattle.replay_run.proofs.Wording.{drill_no_relay, drill_no_wire, drill_told, form_given, other_source, other_words, plain_no_relay, plain_no_wire, plain_told, relay_no_plain, relay_no_wire, relay_told, wire_no_plain, wire_no_relay, wire_told}
 use Rattle.replay_run.specs.declared.form.Form.TheVariants as form
 use Rattle.std.proofs.Common.{inl, inr}
@@ -93,7 +92,7 @@ returns-in-Some-Drill-clause-wire_completes g c =
     λ s. other_words _ (form.Drill c.in-Some-Drill.streams) form.Wire _ (drill_no_wire c.in-Some-Drill.streams) (form_given _ _ _ c.in-Some-Drill.field-0-is c.in-Some-Drill.ensures.some) s
 
 pub returns-in-None-clause-completes : goal.returns-in-None-clause-completes
-returns-in-None-clause-completes g c = completes_words _ _ c.in-None.ensures.none
+returns-in-None-clause-completes g c = λ s. absurd (c.in-None.ensures.none.none form.Plain s)
 
 pub returns-in-None-clause-relay : goal.returns-in-None-clause-relay
 returns-in-None-clause-relay g c = λ s. absurd (c.in-None.ensures.none.none form.Relay s)

@@ -1,5 +1,5 @@
 -- The session was run under the configuration that was read, or there is none.
-use Rattle.replay_run.proofs.Configuring.{config_fault, none_under, run_under, wire_completed, wire_not_usage, wire_unconfigured}
+use Rattle.replay_run.proofs.Configuring.{config_fault, end_not_usage, none_under, run_under, wire_completed, wire_unconfigured}
 use Rattle.std.proofs.Common.{inl, inr}
 use Rattle.replay_run.proofs.wire.replay_wire.Goals as goal
 
@@ -19,7 +19,7 @@ pub returns-in-Err-clause-completes : goal.returns-in-Err-clause-completes
 returns-in-Err-clause-completes g c = wire_unconfigured _ _ _ _ _ c.in-Err.end c.in-Err.is c.load_config.ensures.loads c.end_at_config.ensures.status
 
 pub returns-in-Err-clause-some : goal.returns-in-Err-clause-some
-returns-in-Err-clause-some g c = wire_not_usage _ _ _ _ _ _ _ (none_under _ _ _ _ _ _ _ _ c.in-Err.end c.in-Err.is c.load_config.ensures.loads c.end_at_config.ensures.ends)
+returns-in-Err-clause-some g c = end_not_usage c.in-Err.end _ c.end_at_config.ensures.status
 
 pub returns-in-Err-clause-read_fault : goal.returns-in-Err-clause-read_fault
 returns-in-Err-clause-read_fault g c = λ e. inl (config_fault _ _ _ c.in-Err.end c.in-Err.is c.load_config.ensures.cause (c.end_at_config.ensures.read_fault e))
