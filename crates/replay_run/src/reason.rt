@@ -24,6 +24,8 @@ pub enum Reason {
     Words,
     /// The configuration is refused.
     Config(ConfigFault),
+    /// The configuration is refused, and it isn't known why.
+    SomeConfig,
     /// The configuration has more than 1,048,576 octets.
     LongConfig,
     /// The configuration couldn't be read.
@@ -48,7 +50,7 @@ impl Reason {
         match status {
             Status::Done => Reason::Done,
             Status::Usage => Reason::Words,
-            Status::Config => Reason::LongConfig,
+            Status::Config => Reason::SomeConfig,
             Status::Session => Reason::SomeLine,
             Status::ReadFault => Reason::SessionRead,
             Status::WriteFault => Reason::Write,
@@ -76,6 +78,7 @@ pub fn put_reason(reason: &Reason, into: &mut Octets) -> Result<(), NoMemory>
         Reason::Done => Ok(()),
         Reason::Words => Ok(()),
         Reason::Config(fault) => put_config_fault(fault, into),
+        Reason::SomeConfig => into.push_all(b"the configuration is refused"),
         Reason::LongConfig => into.push_all(b"the configuration has more than 1,048,576 octets"),
         Reason::ConfigRead => into.push_all(b"the configuration can't be read"),
         Reason::Line(fault) => put_line_fault(fault, into),
@@ -87,7 +90,10 @@ pub fn put_reason(reason: &Reason, into: &mut Octets) -> Result<(), NoMemory>
     }
 }
 
-fn put_config_fault(fault: &ConfigFault, into: &mut Octets) -> Result<(), NoMemory> {
+fn put_config_fault(fault: &ConfigFault, into: &mut Octets) -> Result<(), NoMemory>
+    ensures ok { OnOk result (Extends into.old into.new) }
+    ensures err { OnErr result (Extends into.old into.new) }
+{
     into.push_all(b"configuration: ")?;
     match fault {
         ConfigFault::NotToml => into.push_all(b"the text is no TOML document in UTF-8"),
@@ -100,7 +106,10 @@ fn put_config_fault(fault: &ConfigFault, into: &mut Octets) -> Result<(), NoMemo
     }
 }
 
-fn put_key_fault(fault: &ConfigFault, what: &[u8], into: &mut Octets) -> Result<(), NoMemory> {
+fn put_key_fault(fault: &ConfigFault, what: &[u8], into: &mut Octets) -> Result<(), NoMemory>
+    ensures ok { OnOk result (Extends into.old into.new) }
+    ensures err { OnErr result (Extends into.old into.new) }
+{
     put_key(fault, into)?;
     into.push_all(what)
 }
