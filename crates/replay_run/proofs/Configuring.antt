@@ -1,11 +1,10 @@
 -- A configuration that isn't there, and a session that is run under one.
-use Rattle.flow_notes.specs.Line.{newline}
 use Rattle.io_ports.specs.Faults.{Rose}
 use Rattle.proxy_config.specs.Reading.{config_of}
 use Rattle.proxy_config.specs.declared.config.Config.{Config}
 use Rattle.relay_run.specs.Replays.{ReplaysRelay}
-use Rattle.replay_run.specs.Configured.{ConfigEnds, ConfigEndsAs, Configured, EndsAtConfig, HasNoConfig, ReplaysUnder, Unconfigured, WireCompletes, end_status, end_text}
-use Rattle.session_config.specs.Loading.{CausesFault, IsWhole, Loads, StopsAs, longest_config}
+use Rattle.replay_run.specs.Configured.{ConfigEnds, ConfigEndsAs, Configured, EndsAtConfig, ReplaysUnder, Unconfigured, WireCompletes, end_status, end_text}
+use Rattle.session_config.specs.Loading.{CausesFault, Loads, StopsAs, longest_config}
 use Rattle.session_config.specs.declared.load.ConfigEnd.{ConfigEnd}
 use Rattle.session_run.specs.Ends.{AppendsFront}
 use Rattle.session_run.specs.declared.status.Status.{Status}
