@@ -4,7 +4,7 @@ use flow_gate::FlowId;
 use flow_notes::Cause;
 
 /// What is done to exchanges, or asked of them.
-#[derive(Clone, Copy, Debug)]
+#[derive(Clone, Copy)]
 pub enum Act {
     Start {
         row: Option<u32>,

@@ -9,9 +9,8 @@ use flow_notes::{
     Cause, CloseCause, Event, FireKind, Job, NameRefusal, Names, Note, PlainEvent, event_text,
     note_text,
 };
-use io_ports::Octets;
+use io_ports::{NoMemory, Octets};
 use std::alloc::Global;
-use std::test::Fail;
 
 const REQUEST: FlowId = FlowId {
     exchange: 1,
@@ -23,14 +22,16 @@ const RESPONSE: FlowId = FlowId {
     back: true,
 };
 
-fn some_names(alloc: Global) -> Result<Names, Fail> {
+// The names `web` and `api-2_b`.
+fn some_names(alloc: Global) -> Result<Names, NoMemory> {
     let mut names = Names::new(alloc);
-    names.push(b"web")?;
-    names.push(b"api-2_b")?;
+    if names.push(b"web").is_err() || names.push(b"api-2_b").is_err() {
+        return Err(NoMemory);
+    }
     Ok(names)
 }
 
-fn push_bodies(alloc: Global, names: &Names, text: &mut Octets) -> Result<(), Fail> {
+fn push_bodies(alloc: Global, names: &Names, text: &mut Octets) -> Result<(), NoMemory> {
     let octets = Octets::from_slice(alloc, &[0xaa, 0x01])?;
     note_text(
         &Note::Arrive {
@@ -55,7 +56,7 @@ fn push_bodies(alloc: Global, names: &Names, text: &mut Octets) -> Result<(), Fa
     Ok(())
 }
 
-fn push_flows(names: &Names, text: &mut Octets) -> Result<(), Fail> {
+fn push_flows(names: &Names, text: &mut Octets) -> Result<(), NoMemory> {
     note_text(
         &Note::Move {
             flow: RESPONSE,
@@ -115,7 +116,7 @@ fn push_flows(names: &Names, text: &mut Octets) -> Result<(), Fail> {
     Ok(())
 }
 
-fn push_others(names: &Names, text: &mut Octets) -> Result<(), Fail> {
+fn push_others(names: &Names, text: &mut Octets) -> Result<(), NoMemory> {
     note_text(&Note::Out { conn: 0, n: 34 }, names, text)?;
     note_text(
         &Note::Credit {
@@ -189,7 +190,7 @@ fn push_others(names: &Names, text: &mut Octets) -> Result<(), Fail> {
 }
 
 #[test]
-fn notes_are_written(rt: HostRuntime) -> Result<(), Fail> {
+fn notes_are_written(rt: HostRuntime) -> Result<(), NoMemory> {
     let alloc = rt.alloc();
     let names = some_names(alloc)?;
     let mut text = Octets::new(alloc);
@@ -209,7 +210,7 @@ fire connection-idle 7\nturn 1 open 1\n";
 }
 
 #[test]
-fn events_are_written(rt: HostRuntime) -> Result<(), Fail> {
+fn events_are_written(rt: HostRuntime) -> Result<(), NoMemory> {
     let alloc = rt.alloc();
     let names = some_names(alloc)?;
     let mut text = Octets::new(alloc);
@@ -250,7 +251,7 @@ fn events_are_written(rt: HostRuntime) -> Result<(), Fail> {
 
 // Names that are refused leave the list as it is.
 #[test]
-fn names_are_kept(rt: HostRuntime) -> Result<(), Fail> {
+fn names_are_kept(rt: HostRuntime) -> Result<(), NoMemory> {
     let alloc = rt.alloc();
     let mut names = some_names(alloc)?;
     let long = vec![in alloc; b'a'; 65]?;

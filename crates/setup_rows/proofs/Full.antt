@@ -6,7 +6,7 @@ use Rattle.flow_laws.specs.Made.{Asks, Came, Made, made_body, made_session}
 use Rattle.flow_laws.specs.Suits.{IsSound}
 use Rattle.setup_rows.specs.Rows.{before_full, fills, many}
 use Rattle.std.proofs.Common.{arith, refl}
-use Rattle.std.specs.Prelude.{[], if◌then◌else◌, ℕ, ◌∷◌}
+use Rattle.std.specs.Prelude.{[], if◌then◌else◌, ◌∷◌}
 use Rattle.tape_laws.specs.Flows.{request, same_flow}
 use Rattle.tape_laws.specs.History.{Marked, Noted}
 use Rattle.tape_laws.specs.Tied.{IsFront}

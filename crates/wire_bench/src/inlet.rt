@@ -1,11 +1,10 @@
 // How fast octets that come in become acts.
-use crate::stopwatch::{CpuStopwatch, per_second};
-use anyhow::{Result, bail, ensure};
+use anyhow::Result;
+use bench_tools::{CpuStopwatch, check, enough, per_second, print_figure};
 use h2_frames::frame_head;
 use h2_session::Act;
 use io_ports::{NoMemory, Octets};
 use std::alloc::Global;
-use std::time::CpuClock;
 use wire_inlet::{Inlet, Intake, Peer, Reading};
 
 /// The greatest payload.
@@ -37,12 +36,17 @@ fn connection(alloc: Global) -> std::result::Result<Inlet, NoMemory> {
     Ok(inlet)
 }
 
+// Appends a frame: its head, and what it carries.
+fn add(into: &mut Octets, head: &[u8], payload: &[u8]) -> std::result::Result<(), NoMemory> {
+    into.push_all(head)?;
+    into.push_all(payload)
+}
+
 // DATA of 16,384 octets on stream 1.
 fn bodies(alloc: Global) -> std::result::Result<Octets, NoMemory> {
     let mut into = Octets::new(alloc);
     for _ in 0..BODIES {
-        into.push_all(&frame_head(16384, 0, 0, 1))?;
-        into.push_all(&[7; 16384])?;
+        add(&mut into, &frame_head(16384, 0, 0, 1), &[7; 16384])?;
     }
     Ok(into)
 }
@@ -51,21 +55,36 @@ fn bodies(alloc: Global) -> std::result::Result<Octets, NoMemory> {
 fn heads(alloc: Global) -> std::result::Result<Octets, NoMemory> {
     let mut into = Octets::new(alloc);
     for n in 0..HEADS {
-        into.push_all(&frame_head(4, 1, 5, 2 * n + 3))?;
-        into.push_all(&[0x82, 0x86, 0x84, 0x81])?;
+        let head = frame_head(4, 1, 5, 2 * n + 3);
+        add(&mut into, &head, &[0x82, 0x86, 0x84, 0x81])?;
     }
     Ok(into)
 }
 
 // A number that each frame gives to a sum, so that none is left out.
 fn weight(act: &Act, reading: &Reading) -> u64 {
-    let fields = match reading {
-        Reading::Fields(list) => list.len() as u64,
-        _ => 0,
-    };
     match act {
         Act::Body { octets, .. } => octets.len() as u64,
-        _ => fields,
+        _ => fields_in(reading),
+    }
+}
+
+fn fields_in(reading: &Reading) -> u64 {
+    match reading {
+        Reading::Fields(list) => list.len() as u64,
+        _ => 0,
+    }
+}
+
+// The stream that a frame begins and ends.
+fn ended_stream(act: &Act) -> Option<u32> {
+    match act {
+        Act::Head {
+            stream,
+            last: true,
+            ..
+        } => Some(*stream),
+        _ => None,
     }
 }
 
@@ -77,12 +96,7 @@ fn take_all(inlet: &mut Inlet) -> std::result::Result<(u64, u64), NoMemory> {
     'take: while let Intake::Taken(taken) = inlet.next(MAX)? {
         frames = frames.wrapping_add(1);
         sum = sum.wrapping_add(weight(&taken.act, &taken.reading));
-        if let Act::Head {
-            stream,
-            last: true,
-            ..
-        } = taken.act
-        {
+        if let Some(stream) = ended_stream(&taken.act) {
             inlet.end_local(stream);
         }
     }
@@ -106,32 +120,33 @@ fn come(
     Ok((frames, sum))
 }
 
-// The octets come in so often: the frames and the octets a second of the best turn, and the sum.
-fn best_turn(
-    rt: &(impl CpuClock + AllocGlobal),
-    octets: &[u8],
-    rounds: u32,
-    read: usize,
-) -> Result<(u64, u64, u64)> {
-    let mut best = (0u64, 0u64);
-    let mut total: u64 = 0;
+// The frames and the octets a second of the best turn, and the sum of all.
+#[derive(Clone, Copy)]
+struct Best {
+    frames: u64,
+    octets: u64,
+    sum: u64,
+}
+
+// The octets come in so often, in so many turns.
+fn best_turn(rt: &HostRuntime, octets: &[u8], rounds: u32, read: usize) -> Result<Best> {
+    let came = u64::from(rounds).saturating_mul(octets.len() as u64);
+    let mut best = Best {
+        frames: 0,
+        octets: 0,
+        sum: 0,
+    };
     for _ in 0..TURNS {
-        let Ok(mut inlet) = connection(rt.alloc()) else {
-            bail!("out of memory");
-        };
-        let watch = CpuStopwatch::start(rt)?;
-        let Ok((frames, sum)) = come_often(&mut inlet, octets, rounds, read) else {
-            bail!("out of memory");
-        };
-        let nanos = watch.nanos(rt)?;
-        let came = u64::from(rounds).saturating_mul(octets.len() as u64);
-        let rate = per_second(came, nanos);
-        if rate > best.1 {
-            best = (per_second(frames, nanos), rate);
-        }
-        total = total.wrapping_add(sum);
+        let mut inlet = enough(connection(rt.alloc()))?;
+        let watch = CpuStopwatch::start(rt);
+        let taken = come_often(&mut inlet, octets, rounds, read);
+        let nanos = watch.nanos(rt);
+        let (frames, sum) = enough(taken)?;
+        best.frames = best.frames.max(per_second(frames, nanos));
+        best.octets = best.octets.max(per_second(came, nanos));
+        best.sum = best.sum.wrapping_add(sum);
     }
-    Ok((best.0, best.1, total))
+    Ok(best)
 }
 
 fn come_often(
@@ -159,40 +174,60 @@ fn copy_blocks(octets: &[u8], copy: &mut Octets) -> std::result::Result<(), NoMe
     Ok(())
 }
 
+fn copy_often(octets: &[u8], copy: &mut Octets) -> std::result::Result<(), NoMemory> {
+    for _ in 0..ROUNDS {
+        copy_blocks(octets, copy)?;
+    }
+    Ok(())
+}
+
 // The octets a second of such copies in the best turn.
-fn best_copy(rt: &(impl CpuClock + AllocGlobal), octets: &[u8]) -> Result<u64> {
-    let mut best = 0;
+fn best_copy(rt: &HostRuntime, octets: &[u8]) -> Result<u64> {
+    let copied = u64::from(ROUNDS).saturating_mul(octets.len() as u64);
+    let mut best = 0u64;
     let mut copy = Octets::new(rt.alloc());
     for _ in 0..TURNS {
-        let watch = CpuStopwatch::start(rt)?;
-        for _ in 0..ROUNDS {
-            if copy_blocks(octets, &mut copy).is_err() {
-                bail!("out of memory");
-            }
-        }
-        let copied = u64::from(ROUNDS).saturating_mul(octets.len() as u64);
-        best = best.max(per_second(copied, watch.nanos(rt)?));
+        let watch = CpuStopwatch::start(rt);
+        let done = copy_often(octets, &mut copy);
+        let nanos = watch.nanos(rt);
+        enough(done)?;
+        best = best.max(per_second(copied, nanos));
     }
-    ensure!(!copy.is_empty(), "nothing was copied");
+    check(!copy.is_empty(), "nothing was copied")?;
     Ok(best)
+}
+
+fn report_bodies(
+    rt: &HostRuntime,
+    name: &str,
+    bodies: &[u8],
+    read: usize,
+    copied: u64,
+) -> Result<()> {
+    let best = best_turn(rt, bodies, ROUNDS, read)?;
+    let share = best.octets.saturating_mul(100) / copied.max(1);
+    print_figure(rt, name, best.octets, "octets a second")?;
+    print_figure(rt, name, share, "% of the copy")?;
+    print_figure(rt, name, best.sum, "is the sum")
 }
 
 /// DATA frames of 16,384 octets in reads of whole frames and of 16,384 octets, beside a plain copy, and
 /// small HEADERS.
-pub fn run(rt: &(impl Print + CpuClock + AllocGlobal)) -> Result<()> {
-    let (Ok(bodies), Ok(heads)) = (bodies(rt.alloc()), heads(rt.alloc())) else {
-        bail!("out of memory");
-    };
-    let copied = best_copy(rt, bodies.as_slice())?;
-    println!(rt; "inlet: a plain copy of blocks of 16,384 octets: {copied} octets a second")?;
-    for read in [READ + 9, READ, 1460] {
-        let (_, octets, sum) = best_turn(rt, bodies.as_slice(), ROUNDS, read)?;
-        let share = octets.saturating_mul(100) / copied.max(1);
-        println!(rt;
-            "inlet: DATA of 16,384 octets in reads of {read}: {octets} octets a second, {share} % of the copy (sum {sum})"
-        )?;
-    }
-    let (frames, _, sum) = best_turn(rt, heads.as_slice(), 1, READ)?;
-    println!(rt; "inlet: HEADERS of 4 octets: {frames} frames a second (sum {sum})")?;
-    Ok(())
+pub fn run(rt: &HostRuntime) -> Result<()> {
+    let bodies = enough(bodies(rt.alloc()))?;
+    let bodies = bodies.as_slice();
+    let copied = best_copy(rt, bodies)?;
+    print_figure(
+        rt,
+        "a plain copy of blocks of 16,384 octets",
+        copied,
+        "octets a second",
+    )?;
+    report_bodies(rt, "DATA in reads of 16,393", bodies, READ + 9, copied)?;
+    report_bodies(rt, "DATA in reads of 16,384", bodies, READ, copied)?;
+    report_bodies(rt, "DATA in reads of 1,460", bodies, 1460, copied)?;
+    let heads = enough(heads(rt.alloc()))?;
+    let best = best_turn(rt, heads.as_slice(), 1, READ)?;
+    print_figure(rt, "HEADERS of 4 octets", best.frames, "frames a second")?;
+    print_figure(rt, "HEADERS of 4 octets", best.sum, "is the sum")
 }

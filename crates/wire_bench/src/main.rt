@@ -4,7 +4,6 @@
 
 mod inlet;
 mod outlet;
-mod stopwatch;
 
 use std::env;
 
@@ -17,9 +16,20 @@ fn main(rt: HostRuntime) -> anyhow::Result<()> {
     let mut words = env::args(&rt)?;
     let _program = words.next();
     match words.next() {
-        Some(word) if word.as_str() == "inlet" => inlet::run(&rt)?,
-        Some(word) if word.as_str() == "outlet" => outlet::run(&rt)?,
-        Some(_) | None => rt.print(USAGE)?,
+        Some(word) => run(&rt, word.as_str()),
+        None => usage(&rt),
     }
+}
+
+fn run(rt: &HostRuntime, bench: &str) -> anyhow::Result<()> {
+    match bench {
+        "inlet" => inlet::run(rt),
+        "outlet" => outlet::run(rt),
+        _ => usage(rt),
+    }
+}
+
+fn usage(rt: &HostRuntime) -> anyhow::Result<()> {
+    rt.print(USAGE)?;
     Ok(())
 }

@@ -1,6 +1,8 @@
 // DATA frames, heads and answers through an outlet.
-use crate::stopwatch::{CpuStopwatch, per_second};
-use anyhow::{Result, anyhow, bail, ensure};
+ghost use Rattle.std.specs.Prelude.{◌≡◌, false};
+
+use anyhow::{Result, bail};
+use bench_tools::{CpuStopwatch, enough, per_second, print_figure};
 use h2_frames::data_head;
 use hpack_codec::{Decoder, FieldList};
 use io_ports::NoMemory;
@@ -41,20 +43,30 @@ const BLOCK: &str = concat!(
     "32623664356134633366396237653b207468656d653d6461726b",
 );
 
-fn block(alloc: Global, octets: u32) -> Result<Vec<u8>, AllocError> {
+fn block(alloc: Global, octets: u32) -> std::result::Result<Vec<u8>, AllocError> {
     vec![in alloc; 7; octets as usize]
+}
+
+fn first_octet(octets: &[u8]) -> u64 {
+    match octets.first() {
+        Some(octet) => u64::from(*octet),
+        None => 0,
+    }
 }
 
 /// All octets for the socket leave: how many, and the first of them.
 fn leave_all(outlet: &mut Outlet) -> u64 {
-    let first = outlet.front().first().map_or(0, |octet| u64::from(*octet));
+    let first = first_octet(outlet.front());
     let n = outlet.len();
     outlet.leave(n);
     u64::from(n).wrapping_add(first)
 }
 
 /// Frames a round's octets of a send buffer as DATA, each of which leaves at once, and sums what left.
-fn frame_round(send: &mut WatermarkBuffer, outlet: &mut Outlet) -> Result<u64, NoMemory> {
+fn frame_round(
+    send: &mut WatermarkBuffer,
+    outlet: &mut Outlet,
+) -> std::result::Result<u64, NoMemory> {
     let mut left = 0u64;
     for _piece in 0..PIECES_A_ROUND {
         let n = send.len().min(PIECE);
@@ -82,93 +94,178 @@ fn copy(from: &[u8], to: &mut [u8]) {
     to[..n].copy_from_slice(&from[..n]);
 }
 
-fn no_memory(_: NoMemory) -> anyhow::Error {
-    anyhow!("out of memory")
+/// A send buffer and a write buffer, and the nanoseconds of processor time that framing took.
+#[derive(Drop)]
+struct Framing {
+    send: WatermarkBuffer,
+    outlet: Outlet,
+    nanos: u64,
+}
+
+impl Framing {
+    fn new(alloc: Global) -> std::result::Result<Self, NoMemory> {
+        let mut send = WatermarkBuffer::new(alloc, OCTETS_A_ROUND);
+        send.ready(PIECE)?;
+        let outlet = Outlet::new(alloc, LIMIT, UNIT)?;
+        Ok(Framing {
+            send,
+            outlet,
+            nanos: 0,
+        })
+    }
+
+    /// Frames a round's octets, and adds the processor time that it took.
+    fn timed_round(
+        &mut self,
+        clock: &impl CpuClock,
+        octets: &[u8],
+    ) -> std::result::Result<u64, NoMemory> {
+        self.send.add(octets)?;
+        let watch = CpuStopwatch::start(clock);
+        let left = frame_round(&mut self.send, &mut self.outlet);
+        self.nanos = self.nanos.saturating_add(watch.nanos(clock));
+        left
+    }
+}
+
+/// All rounds: frames and copies in turn. The nanoseconds of the copies; none where octets were missing.
+fn take_turns(
+    clock: &impl CpuClock,
+    framing: &mut Framing,
+    octets: &[u8],
+    copied_to: &mut [u8],
+) -> std::result::Result<Option<u64>, NoMemory> {
+    let mut copying = 0u64;
+    for _round in 0..ROUNDS {
+        let left = framing.timed_round(clock, octets)?;
+        let watch = CpuStopwatch::start(clock);
+        let copied = copy_round(octets, copied_to);
+        copying = copying.saturating_add(watch.nanos(clock));
+        if left <= copied {
+            return Ok(None);
+        }
+    }
+    Ok(Some(copying))
 }
 
 /// Frames and copies in turn, and prints how many octets each does in a second of processor time.
-fn run_data(rt: &(impl AllocGlobal + Print + CpuClock)) -> Result<()> {
+fn run_data(rt: &HostRuntime) -> Result<()> {
     let octets = block(rt.alloc(), OCTETS_A_ROUND)?;
     let mut copied_to = block(rt.alloc(), PIECE)?;
-    let mut send = WatermarkBuffer::new(rt.alloc(), OCTETS_A_ROUND);
-    send.ready(PIECE).map_err(no_memory)?;
-    let mut outlet = Outlet::new(rt.alloc(), LIMIT, UNIT).map_err(no_memory)?;
-    let mut framing = 0u64;
-    let mut copying = 0u64;
-    for _round in 0..ROUNDS {
-        send.add(&octets).map_err(no_memory)?;
-        let watch = CpuStopwatch::start(rt)?;
-        let left = frame_round(&mut send, &mut outlet).map_err(no_memory)?;
-        framing = framing.saturating_add(watch.nanos(rt)?);
-        let watch = CpuStopwatch::start(rt)?;
-        let copied = copy_round(&octets, &mut copied_to);
-        copying = copying.saturating_add(watch.nanos(rt)?);
-        ensure!(left > copied, "octets are missing");
-    }
-    let octets = ROUNDS * u64::from(OCTETS_A_ROUND);
-    let framed = per_second(octets, framing.max(1));
-    let copied = per_second(octets, copying.max(1));
-    let percent = u128::from(framed) * 100 / u128::from(copied.max(1));
-    println!(rt; "outlet: DATA of 16,384 octets: {framed} octets in a second of processor time")?;
-    println!(rt; "outlet: a plain copy of such blocks: {copied}; ratio {percent} %")?;
-    Ok(())
+    let mut framing = enough(Framing::new(rt.alloc()))?;
+    let turns = take_turns(
+        rt,
+        &mut framing,
+        octets.as_slice(),
+        copied_to.as_mut_slice(),
+    );
+    let Some(copying) = enough(turns)? else {
+        bail!("octets are missing");
+    };
+    let all = ROUNDS * u64::from(OCTETS_A_ROUND);
+    let framed = per_second(all, framing.nanos);
+    let copied = per_second(all, copying);
+    let share = framed.saturating_mul(100) / copied.max(1);
+    print_figure(
+        rt,
+        "DATA of 16,384 octets",
+        framed,
+        "octets in a second of processor time",
+    )?;
+    print_figure(
+        rt,
+        "a plain copy of such blocks",
+        copied,
+        "octets in a second of processor time",
+    )?;
+    print_figure(rt, "DATA", share, "% of the copy")
 }
 
-/// Frames a head so often, and sums what left.
-fn head_turn(outlet: &mut Outlet, fields: &FieldList) -> Result<u64> {
+/// Frames a head so often, and sums what left. None where nothing leaves, or memory ran out.
+fn head_turn(outlet: &mut Outlet, fields: &FieldList) -> Option<u64> {
     let mut left = 0u64;
     for _head in 0..TURN {
         if outlet.is_above() {
             left = left.wrapping_add(leave_all(outlet));
         }
-        ensure!(!outlet.is_above(), "nothing leaves");
-        let Ok(_framed) = outlet.frame_block(1, false, fields) else {
-            bail!("out of memory");
-        };
+        if outlet.is_above() || outlet.frame_block(1, false, fields).is_err() {
+            return None;
+        }
     }
-    Ok(left.wrapping_add(leave_all(outlet)))
+    Some(left.wrapping_add(leave_all(outlet)))
 }
 
-/// Puts a PING's answer and frames it so often, and sums what left.
-fn answer_turn(alloc: Global, outlet: &mut Outlet) -> Result<u64> {
+/// Puts a PING's answer and frames it. Whether there was memory.
+fn answer_once(alloc: Global, outlet: &mut Outlet) -> bool
+    requires { outlet.old.write.above ≡ false }
+{
+    match Control::ping_ack(alloc, &[7; 8]) {
+        Ok(control) => {
+            outlet.put(Waiting::Answer(control), 1000).is_ok() && outlet.frame_waiting().is_ok()
+        }
+        Err(_) => false,
+    }
+}
+
+/// Puts and frames so many answers, and sums what left. None where nothing leaves, or memory ran out.
+fn answer_turn(alloc: Global, outlet: &mut Outlet) -> Option<u64> {
     let mut left = 0u64;
     for _answer in 0..TURN {
         if outlet.is_above() {
             left = left.wrapping_add(leave_all(outlet));
         }
-        ensure!(!outlet.is_above(), "nothing leaves");
-        let control = Control::ping_ack(alloc, &[7; 8]).map_err(no_memory)?;
-        outlet
-            .put(Waiting::Answer(control), 1000)
-            .map_err(no_memory)?;
-        outlet.frame_waiting().map_err(no_memory)?;
+        if outlet.is_above() || !answer_once(alloc, outlet) {
+            return None;
+        }
     }
-    Ok(left.wrapping_add(leave_all(outlet)))
+    Some(left.wrapping_add(leave_all(outlet)))
+}
+
+/// The best heads and answers a second, and the octets of a head. None where nothing leaves, or memory ran out.
+fn best_turns(
+    rt: &HostRuntime,
+    outlet: &mut Outlet,
+    fields: &FieldList,
+) -> Option<(u64, u64, u64)> {
+    let (mut heads, mut answers, mut octets) = (0u64, 0u64, 0u64);
+    for _turn in 0..TURNS {
+        let watch = CpuStopwatch::start(rt);
+        octets = head_turn(outlet, fields)? / TURN;
+        heads = heads.max(per_second(TURN, watch.nanos(rt)));
+        let watch = CpuStopwatch::start(rt);
+        answer_turn(rt.alloc(), outlet)?;
+        answers = answers.max(per_second(TURN, watch.nanos(rt)));
+    }
+    Some((heads, answers, octets))
 }
 
 /// Prints the best number of heads, and of answers, in a second of processor time.
-fn run_units(rt: &(impl AllocGlobal + Print + CpuClock)) -> Result<()> {
+fn run_units(rt: &HostRuntime) -> Result<()> {
     let block = hex::decode(rt.alloc(), BLOCK)?;
     let Ok(fields) = Decoder::new(rt.alloc(), 4096, 61_440).decode(block.as_slice()) else {
         bail!("a block isn't read");
     };
-    let mut outlet = Outlet::new(rt.alloc(), LIMIT, UNIT).map_err(no_memory)?;
-    let (mut heads, mut answers, mut octets) = (0u64, 0u64, 0u64);
-    for _turn in 0..TURNS {
-        let watch = CpuStopwatch::start(rt)?;
-        octets = head_turn(&mut outlet, &fields)? / TURN;
-        heads = heads.max(per_second(TURN, watch.nanos(rt)?));
-        let watch = CpuStopwatch::start(rt)?;
-        let _left = answer_turn(rt.alloc(), &mut outlet)?;
-        answers = answers.max(per_second(TURN, watch.nanos(rt)?));
-    }
-    println!(rt; "outlet: heads of ten fields: {heads} in a second, {octets} octets each")?;
-    println!(rt; "outlet: answers to PING, put and framed: {answers} in a second")?;
-    Ok(())
+    let mut outlet = enough(Outlet::new(rt.alloc(), LIMIT, UNIT))?;
+    let Some((heads, answers, octets)) = best_turns(rt, &mut outlet, &fields) else {
+        bail!("nothing leaves, or memory ran out");
+    };
+    print_figure(
+        rt,
+        "heads of ten fields",
+        heads,
+        "in a second of processor time",
+    )?;
+    print_figure(rt, "heads of ten fields", octets, "octets each")?;
+    print_figure(
+        rt,
+        "answers to PING, put and framed",
+        answers,
+        "in a second of processor time",
+    )
 }
 
 /// DATA, and then heads and answers.
-pub fn run(rt: &(impl AllocGlobal + Print + CpuClock)) -> Result<()> {
+pub fn run(rt: &HostRuntime) -> Result<()> {
     run_data(rt)?;
     run_units(rt)
 }

@@ -2,11 +2,10 @@
 
 use crate::said::holds;
 use flow_notes::{Event, Job, PlainEvent};
-use io_ports::{Octets, PressureList};
-use std::test::Fail;
+use io_ports::{NoMemory, Octets, PressureList};
 
 #[test]
-fn events_are_copied(rt: HostRuntime) -> Result<(), Fail> {
+fn events_are_copied(rt: HostRuntime) -> Result<(), NoMemory> {
     let alloc = rt.alloc();
     let octets = Octets::from_slice(alloc, &[0xaa, 1])?;
     let copy = Event::Read { conn: 7, octets }.copied(alloc)?;

@@ -2,9 +2,8 @@
 use super::some_names;
 use crate::said::{holds, holds_in, same};
 use flow_notes::{event_text, note_text, read_event, read_note, read_numbers};
-use io_ports::Octets;
+use io_ports::{NoMemory, Octets};
 use std::process::Abort;
-use std::test::Fail;
 
 const NOTES: [&str; 36] = [
     "turn 1 open 1",
@@ -137,7 +136,7 @@ const NO_PLAIN: [&str; 9] = [
     "end 1\n",
 ];
 
-fn line_is_kept(rt: &impl Abort, line: &str, written: &Octets) -> Result<(), Fail> {
+fn line_is_kept(rt: &impl Abort, line: &str, written: &Octets) -> Result<(), NoMemory> {
     let (text, newline) = written.as_slice().split_at(line.len().min(written.len()));
     same(rt, &text, &line.as_bytes());
     same(rt, &newline, &b"\n".as_slice());
@@ -145,7 +144,7 @@ fn line_is_kept(rt: &impl Abort, line: &str, written: &Octets) -> Result<(), Fai
 }
 
 #[test]
-fn notes_are_read(rt: HostRuntime) -> Result<(), Fail> {
+fn notes_are_read(rt: HostRuntime) -> Result<(), NoMemory> {
     let alloc = rt.alloc();
     let names = some_names(alloc)?;
     for line in NOTES {
@@ -168,7 +167,7 @@ fn notes_are_read(rt: HostRuntime) -> Result<(), Fail> {
 }
 
 #[test]
-fn events_are_read(rt: HostRuntime) -> Result<(), Fail> {
+fn events_are_read(rt: HostRuntime) -> Result<(), NoMemory> {
     let alloc = rt.alloc();
     let names = some_names(alloc)?;
     for (lines, plain) in [(WIRE.as_slice(), false), (PLAIN.as_slice(), true)] {
@@ -201,7 +200,7 @@ fn events_are_read(rt: HostRuntime) -> Result<(), Fail> {
 }
 
 #[test]
-fn numbers_are_read(rt: HostRuntime) -> Result<(), Fail> {
+fn numbers_are_read(rt: HostRuntime) -> Result<(), NoMemory> {
     let alloc = rt.alloc();
     let Some(numbers) = read_numbers(alloc, b"limits", b"limits 65535 0 4294967295")? else {
         holds(&rt, false);

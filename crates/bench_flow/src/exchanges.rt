@@ -1,0 +1,206 @@
+// Exchanges that start, are used once and are doomed, while one and while many others live.
+ghost use Rattle.proxy_config.specs.Ranges.{IsInRange};
+
+use anyhow::{Result, bail};
+use bench_tools::{CpuStopwatch, check, enough, per_second, print_figure, print_times};
+use exchange_core::{Exchanges, StartSpec, Step};
+use flow_gate::{FlowId, Gates};
+use flow_notes::Cause;
+use io_ports::NoMemory;
+use proxy_config::Config;
+use std::alloc::Global;
+use std::time::CpuClock;
+
+/// How many exchanges live beside the one that comes and goes.
+const ONE: u64 = 1;
+
+const MANY: u64 = 50_000;
+
+/// The exchanges that come and go on each side.
+const USES: u64 = 100_000;
+
+const USES_A_ROUND: u64 = 1_000;
+
+/// A use is a start, octets that arrive, a move, a doom and a sweep.
+const CALLS: u64 = 5 * USES;
+
+const SPEC: StartSpec = StartSpec {
+    plain: false,
+    from_conn: 1,
+    from_stream: 1,
+    to_conn: Some(2),
+    row: None,
+    recv: 1_000,
+    send: 0,
+    quantum: 16_384,
+    now: 0,
+};
+
+/// Starts an exchange whose flows watch nothing. None where the exchanges were told of a later moment.
+fn start(
+    exchanges: &mut Exchanges,
+    gates: &mut Gates,
+    config: &Config,
+) -> std::result::Result<Option<u64>, NoMemory>
+    requires { IsInRange config.now }
+{
+    if exchanges.time() > SPEC.now {
+        return Ok(None);
+    }
+    let exchange = exchanges.start(&SPEC, config)?;
+    for back in [false, true] {
+        let flow = FlowId { exchange, back };
+        if !gates.is_open(flow) {
+            gates.open_flow(flow)?;
+        }
+    }
+    Ok(Some(exchange))
+}
+
+/// Ten octets arrive and move. Answers how many moved.
+fn feed(
+    exchanges: &mut Exchanges,
+    gates: &Gates,
+    flow: FlowId,
+) -> std::result::Result<u32, NoMemory> {
+    if !exchanges.has_flow(flow) || exchanges.has_ended(flow) || !gates.is_open(flow) {
+        return Ok(0);
+    }
+    exchanges.arrive(flow, &[7; 10])?;
+    if !exchanges.has_flow(flow) {
+        return Ok(0);
+    }
+    match exchanges.step(flow, gates)? {
+        Step::Moved { n, .. } => Ok(n),
+        Step::Still | Step::TooLarge => Ok(0),
+    }
+}
+
+/// Dooms an exchange and sweeps it. Answers whether it was live.
+fn end(exchanges: &mut Exchanges, gates: &mut Gates, exchange: u64) -> bool {
+    let request = FlowId {
+        exchange,
+        back: false,
+    };
+    let response = FlowId {
+        exchange,
+        back: true,
+    };
+    if !exchanges.is_live(exchange) || !gates.is_open(request) || !gates.is_open(response) {
+        return false;
+    }
+    let _ = exchanges.doom(exchange, Cause::Done, false, gates);
+    exchanges.sweep() == Some(exchange)
+}
+
+/// Exchanges of which so many live.
+#[derive(Drop)]
+struct Side {
+    exchanges: Exchanges,
+    gates: Gates,
+    /// Nanoseconds of processor time that the uses took.
+    nanos: u64,
+}
+
+impl Side {
+    fn new(alloc: Global, config: &Config, living: u64) -> std::result::Result<Self, NoMemory>
+        requires { IsInRange config.now }
+    {
+        let mut exchanges = Exchanges::new(alloc);
+        let mut gates = Gates::new(alloc);
+        for _exchange in 0..living {
+            let _ = start(&mut exchanges, &mut gates, config)?;
+        }
+        Ok(Side {
+            exchanges,
+            gates,
+            nanos: 0,
+        })
+    }
+
+    /// An exchange comes, takes ten octets, moves them, and goes. Answers whether all went so.
+    fn use_one(&mut self, config: &Config) -> std::result::Result<bool, NoMemory>
+        requires { IsInRange config.now }
+    {
+        let Some(exchange) = start(&mut self.exchanges, &mut self.gates, config)? else {
+            return Ok(false);
+        };
+        let request = FlowId {
+            exchange,
+            back: false,
+        };
+        let moved = feed(&mut self.exchanges, &self.gates, request)?;
+        Ok(end(&mut self.exchanges, &mut self.gates, exchange) && moved == 10)
+    }
+
+    /// Uses a round's exchanges. Answers whether each came and went.
+    fn round(&mut self, config: &Config) -> std::result::Result<bool, NoMemory>
+        requires { IsInRange config.now }
+    {
+        let mut went = true;
+        for _use in 0..USES_A_ROUND {
+            went = self.use_one(config)? && went;
+        }
+        Ok(went)
+    }
+
+    /// Uses a round's exchanges, and adds the processor time that they took.
+    fn timed_round(
+        &mut self,
+        config: &Config,
+        clock: &impl CpuClock,
+    ) -> std::result::Result<bool, NoMemory>
+        requires { IsInRange config.now }
+    {
+        let watch = CpuStopwatch::start(clock);
+        let went = self.round(config);
+        self.nanos = self.nanos.saturating_add(watch.nanos(clock));
+        went
+    }
+
+    fn calls_per_second(&self) -> u64 {
+        per_second(CALLS, self.nanos)
+    }
+}
+
+/// All rounds of both sides, in turns. Answers whether each exchange came and went.
+fn take_turns(
+    config: &Config,
+    clock: &impl CpuClock,
+    one: &mut Side,
+    many: &mut Side,
+) -> std::result::Result<bool, NoMemory>
+    requires { IsInRange config.now }
+{
+    let mut went = true;
+    for _round in 0..USES / USES_A_ROUND {
+        went = one.timed_round(config, clock)? && went;
+        went = many.timed_round(config, clock)? && went;
+    }
+    Ok(went)
+}
+
+/// Uses exchanges on both sides in turns, and prints how many calls each does in a second of processor time.
+pub fn run(rt: &HostRuntime) -> Result<()> {
+    let Ok(config) = Config::of_defaults(rt.alloc()) else {
+        bail!("out of memory");
+    };
+    let mut one = enough(Side::new(rt.alloc(), &config, ONE))?;
+    let mut many = enough(Side::new(rt.alloc(), &config, MANY))?;
+    let went = enough(take_turns(&config, rt, &mut one, &mut many))?;
+    check(went, "an exchange did not come and go")?;
+    let (one, many) = (one.calls_per_second(), many.calls_per_second());
+    print_figure(rt, "1 live", one, "calls in a second of processor time")?;
+    print_figure(
+        rt,
+        "50,000 live",
+        many,
+        "calls in a second of processor time",
+    )?;
+    print_times(
+        rt,
+        "a call with 50,000 live exchanges, in calls with 1",
+        one,
+        many,
+    )
+}
