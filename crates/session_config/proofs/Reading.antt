@@ -1,8 +1,5 @@
 -- Pieces of a configuration that are read.
-use Rattle.io_ports.specs.Faults.{FailsByFault, Rose}
-use Rattle.proxy_config.specs.Reading.{config_of}
-use Rattle.proxy_config.specs.declared.config.Config.{Config}
-use Rattle.session_config.specs.Loading.{CausesFault, Loads, LoadsAs, ReadsPiece, ReadsWhole, StopsAs, longest_config}
+use Rattle.session_config.specs.Loading.{ReadsPiece, ReadsWhole, longest_config}
 use Rattle.session_config.specs.declared.load.ConfigEnd.{ConfigEnd}
 use Rattle.std.proofs.Common.{ap, append_assoc, arith, refl, subst, sym, ◌∙◌}
 use Rattle.std.proofs.lemmas.List.{append-nil}

@@ -3,7 +3,10 @@ use Rattle.proxy_config.specs.declared.routes.Filter.{Filter}
 use Rattle.proxy_config.specs.declared.routes.Route.{Route}
 use Rattle.std.proofs.Common.{ap, append_assoc, inl, inr, refl, subst, sym, ◌∙◌}
 use Rattle.std.proofs.lemmas.List.{append-nil, map-append}
-use Rattle.std.specs.Prelude.{Bool, IfSome, List, None, Option, Some, [], false, map, slice_get, suc, true, zero, ℕ, ◌++◌, ◌∷◌, ◌≡◌, ◌⊎◌}
+use Rattle.std.proofs.lemmas.Option.{slice_get_past, slice_get_read}
+use Rattle.std.specs.Prelude.{Bool, IfSome, List, None, Option, Some, [], false, length, map, slice_get, suc, true, zero, ℕ, ◌++◌, ◌∷◌, ◌≡◌, ◌≤◌, ◌⊎◌}
+use Rattle.std.specs.Slice.{IsItemAt}
+use Rattle.std.specs.Borrow.{Bor}
 use Rattle.tape_laws.specs.Units.{StageKind}
 use Rattle.tape_laws.specs.Watermark.{kind_limit}
 use Rattle.wire_run.specs.Passing.{PassesAll}
@@ -39,6 +42,13 @@ rows_more [] [] s r a i = (i, tt)
 rows_more [] (q ∷ rs) s r a i = absurd a
 rows_more (t ∷ ss) [] s r a i = absurd a
 rows_more (t ∷ ss) (q ∷ rs) s r a i = (a.0, rows_more ss rs s r a.1 i)
+
+-- one more route was taken up
+pub rows_taken : (routes done rest after : List Route) (r : Route) (ss more : List RouteStages) (s : RouteStages) → routes ≡ done ++ rest → AreStages ss done → rest ≡ r ∷ after → IsStages s r → more ≡ ss ++ s ∷ []
+    → (all : List Route) × (routes ≡ all ++ after) × AreStages more all
+rows_taken routes done rest after r ss more s e a k i m =
+    let P : List RouteStages → Type 0 = λ v. AreStages v (done ++ r ∷ []) in
+    (done ++ r ∷ [], e ∙ ap (λ (v : List Route). done ++ v) k ∙ sym (append_assoc done (r ∷ []) after), subst P (sym m) (rows_more ss done s r a i))
 
 -- what stands at a row
 abbrev AtRow : Option RouteStages → Option Route → Type 0
@@ -79,6 +89,23 @@ gives_response rows i s limits some is = record { goes = λ routes a. is ∙ by 
     by None r e k = cc
     by (Some t) None e k = absurd k
     by (Some t) (Some r) e k = let same : t ≡ s = cc in ap (λ v. v.response.items) (sym same) ∙ k.response_is
+
+-- in what was lent of the rows
+pub gives_nowhere : (rows lent : List RouteStages) (i : ℕ) (back : Bool) (r : Option (Bor RouteStages)) (limits : List ℕ) → lent ≡ rows → IsItemAt lent i r → ((s : Bor RouteStages) → r ≡ Some s → ⊥) → limits ≡ [] → Gives rows (Some i) back limits
+gives_nowhere rows lent i back None limits same at never e =
+    let P : List ℕ → Type 0 = λ v. Gives rows (Some i) back v in
+    let past : length lent ≤ i = at.3 in
+    subst P (sym e) (gives_no_row rows i back (ap (λ (v : List RouteStages). slice_get v i) (sym same) ∙ slice_get_past lent i past))
+gives_nowhere rows lent i back (Some s) limits same at never e = absurd (never s refl)
+
+there : (rows lent : List RouteStages) (i : ℕ) (s : Bor RouteStages) → lent ≡ rows → IsItemAt lent i (Some s) → slice_get rows i ≡ Some s.now
+there rows lent i s same at = ap (λ (v : List RouteStages). slice_get v i) (sym same) ∙ slice_get_read lent (length lent) i s.now refl at.3.0 at.1
+
+pub gives_lent_request : (rows lent : List RouteStages) (i : ℕ) (back : Bool) (s : Bor RouteStages) (items limits : List ℕ) → lent ≡ rows → IsItemAt lent i (Some s) → back ≡ false → items ≡ s.now.request.items → limits ≡ items → Gives rows (Some i) back limits
+gives_lent_request rows lent i back s items limits kept at e is same = let P : Bool → Type 0 = λ b. Gives rows (Some i) b limits in subst P (sym e) (gives_request rows i s.now limits (there rows lent i s kept at) (same ∙ is))
+
+pub gives_lent_response : (rows lent : List RouteStages) (i : ℕ) (back : Bool) (s : Bor RouteStages) (items limits : List ℕ) → lent ≡ rows → IsItemAt lent i (Some s) → back ≡ true → items ≡ s.now.response.items → limits ≡ items → Gives rows (Some i) back limits
+gives_lent_response rows lent i back s items limits kept at e is same = let P : Bool → Type 0 = λ b. Gives rows (Some i) b limits in subst P (sym e) (gives_response rows i s.now limits (there rows lent i s kept at) (same ∙ is))
 
 -- ---- exchanges
 
