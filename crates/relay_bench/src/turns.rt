@@ -4,7 +4,8 @@ use crate::stopwatch::CpuStopwatch;
 use anyhow::{anyhow, ensure};
 use flow_notes::Names;
 use io_ports::{MemSink, Octets};
-use relay_ports::{MemTaps, Room};
+use mem_ports::Room;
+use relay_ports::MemTaps;
 use relay_work::{RelayEnded, relay_work};
 use std::alloc::Global;
 use std::collections::VecDeque;
@@ -46,10 +47,10 @@ impl Work {
             answers.push_back(Wired::Accept(2 * pair + 2))?;
         }
         let room = Room {
-            steps: 400_000,
-            octets: 4_000_000,
+            offers: 100,
+            octets: 100_000,
         };
-        let taps = MemTaps::new(alloc, 1, answers, room, Vec::new(alloc)).map_err(out_of_memory)?;
+        let taps = MemTaps::new(alloc, 1, answers, room, Vec::new(alloc));
         let mut work = Work {
             relay: Relay::new(alloc, LIMIT),
             taps,

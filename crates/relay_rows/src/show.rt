@@ -2,15 +2,16 @@
 use crate::case::Case;
 use flow_notes::Names;
 use io_ports::MemSink;
-use relay_ports::{Kept, MemTaps, Room};
+use mem_ports::{Kept, Room};
+use relay_ports::MemTaps;
 use relay_work::{RelayEnded, relay_work};
 use std::io;
 use tcp_relay::Relay;
 use worker_ports::Wired;
 
-/// How much the record has room for.
+/// For how many offers of a turn the record has room.
 const ROOM: Room = Room {
-    steps: 1_000,
+    offers: 1_000,
     octets: 100_000,
 };
 
@@ -24,9 +25,8 @@ const CONNECTIONS: u32 = 6;
 pub fn show_case<R: Print + AllocGlobal>(rt: &R, case: Case) -> io::Result<()> {
     let mut names = Names::new(rt.alloc());
     let _ = names.push(b"a");
-    let made = MemTaps::new(rt.alloc(), 1, case.answers, ROOM, case.taps);
-    let (Ok(mut taps), Ok(mut journal)) = (made, MemSink::new(rt.alloc(), JOURNAL, case.journal))
-    else {
+    let mut taps = MemTaps::new(rt.alloc(), 1, case.answers, ROOM, case.taps);
+    let Ok(mut journal) = MemSink::new(rt.alloc(), JOURNAL, case.journal) else {
         return println!(rt; "no memory");
     };
     taps.take_at_most(case.most);
@@ -61,8 +61,8 @@ fn ended_word(ended: RelayEnded) -> &'static str {
 }
 
 fn show_record<R: Print>(rt: &R, taps: &MemTaps) -> io::Result<()> {
-    let mut rest = taps.pieces();
-    for step in taps.record() {
+    let (steps, mut rest) = taps.record();
+    for step in steps {
         match step {
             Kept::Gave(wired) => show_wired(rt, wired)?,
             Kept::Offered { conn, len, taken } => {

@@ -1,13 +1,22 @@
 // The turns of a live relay.
+ghost use Rattle.std.specs.Prelude.{◌≡◌, ◌≤◌, Err, length};
+ghost use Rattle.io_ports.specs.Faults.{Rose};
+ghost use Rattle.relay_work.specs.Belonging.{Belongs};
+ghost use Rattle.relay_work.specs.Carrying.{CarriesFrom, IsReady};
+ghost use Rattle.relay_work.specs.Live.{live_of};
+ghost use Rattle.relay_work.specs.Offering.{OffersAllFrom, OffersOneFrom, Waits};
+ghost use Rattle.relay_work.specs.Turning.{AnswersFrom, TurnsFrom};
+ghost use Rattle.relay_work.specs.Works.{WorksFrom};
+ghost use Rattle.tcp_relay.specs.Seen.{IsFront};
+
 use crate::ended::RelayEnded;
-use crate::events::{Pad, dispatch, event_of};
+use crate::events::{Pad, dispatch, event_of, is_stop};
 use crate::settle::settle;
 use flow_notes::{Event, Names};
-use io_ports::Sink;
-use relay_ports::Taps;
+use relay_ports::{Journal, Taps};
 use std::alloc::Global;
 use tcp_relay::Relay;
-use worker_ports::{WireRefusal, Wired};
+use worker_ports::WireRefusal;
 
 /// How many octets leave at once at most, as an event of room tells it.
 const MOST_ROOM: usize = 2_147_483_647;
@@ -16,17 +25,25 @@ const MOST_ROOM: usize = 2_147_483_647;
 /// dispatched; then, by their numbers, each connection for which octets wait is offered a front of them once, and what it
 /// took is dispatched as room. Connections that the relay has closed are closed, and of the live ones those are held that
 /// don't read. After a turn in which the work is to stop it ends.
-pub fn relay_work<T: Taps, J: Sink>(
+///
+/// The relay and the connections are new, or come together from earlier work that ended by `Turns` or `Stopped`. The names are
+/// those of the clusters.
+pub fn relay_work<T: Taps, J: Journal>(
     alloc: Global,
     relay: &mut Relay,
     taps: &mut T,
     journal: &mut J,
     names: &Names,
     turns: u64,
-) -> RelayEnded {
+) -> RelayEnded
+    requires { Belongs names.now relay.old (T.seen taps.old) }
+    ensures works { WorksFrom names.now turns (live_of relay.old (T.seen taps.old) (J.contents journal.old)) result (live_of relay.new (T.seen taps.new) (J.contents journal.new)) }
+    ensures taps_fault { result ≡ RelayEnded.TapsFault → Rose (T.faults taps.old) (T.faults taps.new) }
+    ensures journal_fault { result ≡ RelayEnded.JournalFault → Rose (J.faults journal.old) (J.faults journal.new) }
+{
     let mut pad = Pad::new(alloc);
-    for _turn in 0..turns {
-        match turn(alloc, relay, taps, journal, names, &mut pad) {
+    'turns: for _turn in 0..turns {
+        match turn(relay, taps, journal, names, &mut pad) {
             Ok(false) => {}
             Ok(true) => return RelayEnded::Stopped,
             Err(end) => return end,
@@ -36,29 +53,55 @@ pub fn relay_work<T: Taps, J: Sink>(
 }
 
 // One turn. Answers whether the work is to stop.
-fn turn<T: Taps, J: Sink>(
-    alloc: Global,
+fn turn<T: Taps, J: Journal>(
     relay: &mut Relay,
     taps: &mut T,
     journal: &mut J,
     names: &Names,
     pad: &mut Pad,
-) -> Result<bool, RelayEnded> {
+) -> Result<bool, RelayEnded>
+    requires { Belongs names.now relay.old (T.seen taps.old) }
+    ensures turns { TurnsFrom names.now (live_of relay.old (T.seen taps.old) (J.contents journal.old)) result (live_of relay.new (T.seen taps.new) (J.contents journal.new)) }
+    ensures taps_fault { result ≡ Err RelayEnded.TapsFault → Rose (T.faults taps.old) (T.faults taps.new) }
+    ensures journal_fault { result ≡ Err RelayEnded.JournalFault → Rose (J.faults journal.old) (J.faults journal.new) }
+    ensures taps_rise { T.faults taps.old ≤ T.faults taps.new }
+    ensures journal_rises { J.faults journal.old ≤ J.faults journal.new }
+{
+    let stops = answer(relay, taps, journal, names, pad)?;
+    offer_all(relay, taps, journal, names, pad)?;
+    Ok(stops)
+}
+
+// Asks the connections what came, and carries it out. Answers whether the work is to stop.
+fn answer<T: Taps, J: Journal>(
+    relay: &mut Relay,
+    taps: &mut T,
+    journal: &mut J,
+    names: &Names,
+    pad: &mut Pad,
+) -> Result<bool, RelayEnded>
+    requires { Belongs names.now relay.old (T.seen taps.old) }
+    ensures answers { AnswersFrom names.now (live_of relay.old (T.seen taps.old) (J.contents journal.old)) result (live_of relay.new (T.seen taps.new) (J.contents journal.new)) }
+    ensures taps_fault { result ≡ Err RelayEnded.TapsFault → Rose (T.faults taps.old) (T.faults taps.new) }
+    ensures journal_fault { result ≡ Err RelayEnded.JournalFault → Rose (J.faults journal.old) (J.faults journal.new) }
+    ensures taps_rise { T.faults taps.old ≤ T.faults taps.new }
+    ensures journal_rises { J.faults journal.old ≤ J.faults journal.new }
+{
     let wired = match taps.next() {
         Ok(wired) => wired,
         Err(WireRefusal::Failed) => return Err(RelayEnded::TapsFault),
         Err(WireRefusal::NoMemory) => return Err(RelayEnded::Memory),
     };
-    let stops = matches!(wired, Wired::Stop);
-    if let Some((conn, event)) = event_of(wired) {
-        carry_out(relay, taps, journal, names, pad, conn, &event)?;
-    }
-    offer_all(relay, taps, journal, names, pad)?;
+    let stops = is_stop(&wired);
+    let Some((conn, event)) = event_of(wired) else {
+        return Ok(stops);
+    };
+    carry_out(relay, taps, journal, names, pad, conn, &event)?;
     Ok(stops)
 }
 
 // Dispatches an event of a connection, and tells the connections what that changed.
-fn carry_out<T: Taps, J: Sink>(
+fn carry_out<T: Taps, J: Journal>(
     relay: &mut Relay,
     taps: &mut T,
     journal: &mut J,
@@ -66,7 +109,13 @@ fn carry_out<T: Taps, J: Sink>(
     pad: &mut Pad,
     conn: u32,
     event: &Event,
-) -> Result<(), RelayEnded> {
+) -> Result<(), RelayEnded>
+    requires { IsReady names.now relay.old (T.seen taps.old) conn event.now }
+    ensures carries { CarriesFrom names.now conn event.now (live_of relay.old (T.seen taps.old) (J.contents journal.old)) result (live_of relay.new (T.seen taps.new) (J.contents journal.new)) }
+    ensures journal_fault { result ≡ Err RelayEnded.JournalFault → Rose (J.faults journal.old) (J.faults journal.new) }
+    ensures taps_rise { T.faults taps.old ≤ T.faults taps.new }
+    ensures journal_rises { J.faults journal.old ≤ J.faults journal.new }
+{
     let was = relay.peer(conn);
     dispatch(relay, journal, names, pad, event)?;
     settle(relay, taps, conn, was);
@@ -74,31 +123,45 @@ fn carry_out<T: Taps, J: Sink>(
 }
 
 // Offers what waits, once to each connection, by their numbers.
-fn offer_all<T: Taps, J: Sink>(
+fn offer_all<T: Taps, J: Journal>(
     relay: &mut Relay,
     taps: &mut T,
     journal: &mut J,
     names: &Names,
     pad: &mut Pad,
-) -> Result<(), RelayEnded> {
-    let mut after = 0;
-    while let Some(conn) = relay.out_after(after) {
+) -> Result<(), RelayEnded>
+    requires { Belongs names.now relay.old (T.seen taps.old) }
+    ensures offers { OffersAllFrom names.now (live_of relay.old (T.seen taps.old) (J.contents journal.old)) result (live_of relay.new (T.seen taps.new) (J.contents journal.new)) }
+    ensures taps_fault { result ≡ Err RelayEnded.TapsFault → Rose (T.faults taps.old) (T.faults taps.new) }
+    ensures journal_fault { result ≡ Err RelayEnded.JournalFault → Rose (J.faults journal.old) (J.faults journal.new) }
+    ensures taps_rise { T.faults taps.old ≤ T.faults taps.new }
+    ensures journal_rises { J.faults journal.old ≤ J.faults journal.new }
+{
+    let mut last = 0;
+    while let Some(conn) = relay.out_after(last) {
         offer_one(relay, taps, journal, names, pad, conn)?;
-        after = conn;
+        last = conn;
     }
     Ok(())
 }
 
-fn offer_one<T: Taps, J: Sink>(
+// Offers a front of what waits for a connection, and dispatches what it took.
+fn offer_one<T: Taps, J: Journal>(
     relay: &mut Relay,
     taps: &mut T,
     journal: &mut J,
     names: &Names,
     pad: &mut Pad,
     conn: u32,
-) -> Result<(), RelayEnded> {
-    let front = relay.out_front(conn);
-    let Ok(took) = taps.offer(conn, &front[..front.len().min(MOST_ROOM)]) else {
+) -> Result<(), RelayEnded>
+    requires { Waits names.now relay.old (T.seen taps.old) conn }
+    ensures offers { OffersOneFrom names.now conn (live_of relay.old (T.seen taps.old) (J.contents journal.old)) result (live_of relay.new (T.seen taps.new) (J.contents journal.new)) }
+    ensures taps_fault { result ≡ Err RelayEnded.TapsFault → Rose (T.faults taps.old) (T.faults taps.new) }
+    ensures journal_fault { result ≡ Err RelayEnded.JournalFault → Rose (J.faults journal.old) (J.faults journal.new) }
+    ensures taps_rise { T.faults taps.old ≤ T.faults taps.new }
+    ensures journal_rises { J.faults journal.old ≤ J.faults journal.new }
+{
+    let Ok(took) = taps.offer(conn, first_of(relay.out_front(conn))) else {
         return Err(RelayEnded::TapsFault);
     };
     if took == 0 {
@@ -109,4 +172,12 @@ fn offer_one<T: Taps, J: Sink>(
         n: took as u32,
     };
     carry_out(relay, taps, journal, names, pad, conn, &event)
+}
+
+// As much of a front as may leave at once.
+fn first_of(front: &[u8]) -> &[u8]
+    ensures front { IsFront front.now result.now }
+    ensures most { length result.now ≤ 2147483647 }
+{
+    &front[..front.len().min(MOST_ROOM)]
 }
