@@ -1,0 +1,5 @@
+pub mod Lanes
+pub mod Levels
+pub mod Reading
+pub mod Spans
+pub mod Tops
