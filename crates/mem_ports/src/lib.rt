@@ -4,6 +4,7 @@
 
 mod clock;
 mod gauge;
+mod live;
 mod steps;
 mod wires;
 

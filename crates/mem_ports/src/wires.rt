@@ -8,6 +8,7 @@ ghost use Rattle.mem_ports.specs.Steps.{steps_in};
 ghost use Rattle.worker_ports.specs.Wires.{Gives, closed, greatest_after, is_live, live_after, offered};
 ghost use Rattle.worker_ports.specs.declared.wires.WireRefusal.TheVariants as refusal;
 
+use crate::live::{has, insert, remove};
 use crate::steps::{Kept, Room, Steps};
 use io_ports::{Failed, NoMemory};
 use std::alloc::Global;
@@ -92,7 +93,7 @@ impl MemWires {
     pub fn is_live(&self, conn: u32) -> bool
         ensures { result ≡ is_live conn (seen_of self.now) }
     {
-        self.live.contains(&conn)
+        has(&self.live, conn)
     }
 
     /// How many calls failed.
@@ -154,11 +155,11 @@ fn change(live: &mut BTreeSet<u32>, greatest: &mut u32, wired: &Wired) -> Result
 {
     match wired {
         Wired::Accept(conn) | Wired::Join(conn, _) => {
-            live.insert(*conn)?;
+            insert(live, *conn)?;
             *greatest = *conn;
         }
         Wired::Lost(conn) => {
-            live.remove(conn);
+            remove(live, *conn);
         }
         _ => {}
     }
@@ -238,7 +239,7 @@ impl Wires for MemWires {
         ensures no_fall { self.old.faults ≤ self.new.faults }
         ensures ended { self.new ≡ ended conn self.old }
     {
-        if self.live.remove(&conn) {
+        if remove(&mut self.live, conn) {
             self.steps.closed(conn);
         }
     }

@@ -69,7 +69,10 @@ impl<'a, W: Wires> Wires for MeteredWires<'a, W> {
                 self.greatest = conn;
                 Ok(Wired::Join(conn, cluster))
             }
-            other => Ok(other),
+            Wired::Read(conn, octets) => Ok(Wired::Read(conn, octets)),
+            Wired::Lost(conn) => Ok(Wired::Lost(conn)),
+            Wired::Idle => Ok(Wired::Idle),
+            Wired::Stop => Ok(Wired::Stop),
         }
     }
 

@@ -39,7 +39,7 @@ pub record Carried (e : Event) (k : Kind) (ds : List Did) (new : Kind) : Type 0 
 -- one event after the other
 abbrev pub CarriedAll : List Event → Kind → List Did → Kind → Type 0
 CarriedAll [] k ds new = (ds ≡ []) × (new ≡ k)
-CarriedAll (e ∷ es) k ds new = (first rest : List Did) (mid : Kind) × Carried e k first mid × CarriedAll es mid rest new × (ds ≡ first ++ rest)
+CarriedAll (e ∷ es) k ds new = (first : List Did) × (rest : List Did) × (mid : Kind) × Carried e k first mid × CarriedAll es mid rest new × (ds ≡ first ++ rest)
 
 -- the event, if there is one
 abbrev pub CarriedSome : Option Event → Kind → List Did → Kind → Type 0
