@@ -87,6 +87,7 @@ impl Steps {
     }
 
     /// This was given.
+    #[tactic(auto, using(crate::proofs::Recording::gave_behind, crate::proofs::Recording::octets_behind))]
     pub fn gave(&mut self, wired: Wired)
         requires { 0 < self.old.others }
         ensures { self.new ≡ record self.old { steps = self.old.steps ++ step.Gave wired ∷ []; others = self.old.others - 1 } }
@@ -96,6 +97,7 @@ impl Steps {
     }
 
     /// This connection was closed.
+    #[tactic(auto, using(crate::proofs::Recording::closed_behind, crate::proofs::Recording::octets_behind))]
     pub fn closed(&mut self, conn: u32)
         requires { 0 < self.old.others }
         ensures { self.new ≡ record self.old { steps = self.old.steps ++ step.Closed conn ∷ []; others = self.old.others - 1 } }
@@ -105,6 +107,7 @@ impl Steps {
     }
 
     /// This piece was offered, and so many octets of it were taken.
+    #[tactic(auto, using(crate::proofs::Recording::offered_behind, crate::proofs::Recording::octets_behind))]
     pub fn offered(&mut self, conn: u32, piece: &[u8], taken: usize)
         requires { (0 < self.old.offers) × (length piece.now ≤ self.old.octets) }
         ensures steps { self.new.steps ≡ self.old.steps ++ step.Offered conn piece.now taken ∷ [] }

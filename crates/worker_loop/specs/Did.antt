@@ -5,13 +5,8 @@ use Rattle.post_queue.specs.declared.posts.Post.{Post}
 use Rattle.std.specs.Prelude.{List, [], suc, ℕ, ◌++◌, ◌∷◌}
 use Rattle.worker_ports.specs.declared.wires.Wired.{Wired}
 
+-- at the connections, the permits and the journal
 pub data Did : Type 0 where
-  -- the clock gave this moment
-  Asked : ℕ → Did
-  -- the box was drained, and gave these posts
-  Drained : List Post → Did
-  -- the follower answered this version, with its pressures
-  Followed : ℕ → List ℕ → Did
   -- the connections gave this
   Gave : Wired → Did
   -- a permit was asked for this connection and given, or refused
@@ -21,7 +16,7 @@ pub data Did : Type 0 where
   TurnedAway : ℕ → Did
   -- the permit of a lost connection was left, if it had one
   Left : ℕ → Did
-  -- the line of this event was written, and it was dispatched
+  -- the line of this event was written, and the event dispatched
   Dispatched : Event → Did
   -- a connection that is done with was closed, and its permit left, if it had one
   Ended : ℕ → Did
@@ -42,29 +37,6 @@ abbrev pub notes_of : List Did → List Note
 notes_of [] = []
 notes_of (Noted notes ∷ ds) = notes ++ notes_of ds
 notes_of (d ∷ ds) = notes_of ds
-
--- the moments that the clock gave
-abbrev pub moments_of : List Did → List ℕ
-moments_of [] = []
-moments_of (Asked m ∷ ds) = m ∷ moments_of ds
-moments_of (d ∷ ds) = moments_of ds
-
--- the posts that were drained
-abbrev pub posts_of : List Did → List Post
-posts_of [] = []
-posts_of (Drained posts ∷ ds) = posts ++ posts_of ds
-posts_of (d ∷ ds) = posts_of ds
-
--- how often the box was drained, and the follower asked
-abbrev pub drains_of : List Did → ℕ
-drains_of [] = 0
-drains_of (Drained posts ∷ ds) = suc (drains_of ds)
-drains_of (d ∷ ds) = drains_of ds
-
-abbrev pub asks_of : List Did → ℕ
-asks_of [] = 0
-asks_of (Followed v pressures ∷ ds) = suc (asks_of ds)
-asks_of (d ∷ ds) = asks_of ds
 
 -- how many permits were refused
 abbrev pub refusals_of : List Did → ℕ

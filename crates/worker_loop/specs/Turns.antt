@@ -1,59 +1,23 @@
--- The turns of a worker: what it does in which order, and what that makes of its core.
+-- The turns of a worker.
 use Rattle.flow_notes.specs.declared.events.Event.{Event}
 use Rattle.flow_notes.specs.declared.events.Event.TheVariants as event
-use Rattle.flow_notes.specs.declared.notes.Note.{Note}
-use Rattle.flow_notes.specs.declared.notes.Note.TheVariants as note
+use Rattle.post_queue.specs.declared.hand.Hand.{Hand}
 use Rattle.post_queue.specs.declared.posts.Post.{Post}
-use Rattle.std.specs.Prelude.{Bool, List, None, Option, Some, [], filter, false, if◌then◌else◌, length, map, min, nat_eq, nat_lt, suc, take, true, ℕ, ◌&&◌, ◌++◌, ◌<◌, ◌∷◌, ◌≡◌, ◌≤◌, ◌^◌}
-use Rattle.worker_core.specs.Fronts.{octets_at}
-use Rattle.worker_core.specs.Sessions.{CarriesOut, IsNextOut, LendsFront, is_closing, takes_clients, version_of}
+use Rattle.shared_state.specs.Version.{looked}
+use Rattle.shared_state.specs.declared.entry.Entry.{Entry}
+use Rattle.shared_state.specs.declared.version_word.VersionView.{VersionView}
+use Rattle.std.specs.Prelude.{Bool, List, None, Option, Some, [], false, length, map, suc, take, true, ℕ, ◌++◌, ◌+◌, ◌<◌, ◌∷◌, ◌≡◌, ◌≤◌}
+use Rattle.worker_core.specs.Sessions.{IsNextOut, takes_clients}
 use Rattle.worker_core.specs.declared.worker.Kind.{Kind}
-use Rattle.worker_core.specs.declared.worker.Kind.TheVariants as kind
-use Rattle.worker_loop.specs.Did.{Did, Admitted, Asked, Dispatched, Drained, Ended, Followed, Gave, Left, Noted, Offered, Refused, TurnedAway}
+use Rattle.worker_loop.specs.Carrying.{Carried, CarriedAll, events_in, obeyed_event, post_event, room_event, waiting_at}
+use Rattle.worker_loop.specs.Did.{Did, Admitted, Gave, Left, Offered, Refused, TurnedAway}
+use Rattle.worker_loop.specs.Places.{Becomes, Place}
+use Rattle.worker_ports.specs.Told.{TellsLast}
 use Rattle.worker_ports.specs.declared.wires.Wired.{Wired}
 use Rattle.worker_ports.specs.declared.wires.Wired.TheVariants as wired
 
--- the octets that wait for a connection
-abbrev pub waiting_at : ℕ → Kind → List ℕ
-waiting_at c (kind.Plain core) = []
-waiting_at c (kind.Wire session) = octets_at c session.core
-
--- the core has closed the connection, and nothing waits for it
-abbrev pub is_done : Kind → ℕ → Bool
-is_done k c = is_closing k c && nat_eq (length (waiting_at c k)) 0
-
--- the connections that are closed, or of which octets left, in these notes
-abbrev pub named_in : List Note → List ℕ
-named_in [] = []
-named_in (note.Close c code cause ∷ ns) = c ∷ named_in ns
-named_in (note.Out c n ∷ ns) = c ∷ named_in ns
-named_in (n ∷ ns) = named_in ns
-
--- An event was dispatched, whole. Each connection that its notes name and that is done with was ended, and the notes were handed
--- over.
-pub record Carried (e : Event) (k : Kind) (ds : List Did) (new : Kind) : Type 0 where
-  pub notes : List Note
-  pub carries : CarriesOut k [] e new notes
-  pub is : ds ≡ Dispatched e ∷ map Ended (filter (is_done new) (named_in notes)) ++ Noted notes ∷ []
-
--- one event after the other
-abbrev pub CarriedAll : List Event → Kind → List Did → Kind → Type 0
-CarriedAll [] k ds new = (ds ≡ []) × (new ≡ k)
-CarriedAll (e ∷ es) k ds new = (first : List Did) × (rest : List Did) × (mid : Kind) × Carried e k first mid × CarriedAll es mid rest new × (ds ≡ first ++ rest)
-
--- the event, if there is one
-abbrev pub CarriedSome : Option Event → Kind → List Did → Kind → Type 0
-CarriedSome None k ds new = (ds ≡ []) × (new ≡ k)
-CarriedSome (Some e) k ds new = Carried e k ds new
-
-abbrev pub post_event : Post → Event
-post_event p = event.Post p.poster p.number p.job
-
--- a version is obeyed where it is newer than the one that was obeyed last
-abbrev pub obeyed_event : Kind → ℕ → List ℕ → Option Event
-obeyed_event k version pressures = if nat_lt (version_of k) version then Some (event.Obey version pressures) else None
-
--- What was given was taken up. A client's connection is turned away where the core takes none, or where no permit was given.
+-- ---- what came
+-- It was taken up. A client's connection is turned away where the core takes none, or where no permit was given.
 pub data TakesUp (k : Kind) : Wired → List Did → Kind → Type 0 where
   Closed : (c : ℕ) → takes_clients k ≡ false → TakesUp k (wired.Accept c) (TurnedAway c ∷ []) k
   Full : (c : ℕ) → takes_clients k ≡ true → TakesUp k (wired.Accept c) (Refused c ∷ TurnedAway c ∷ []) k
@@ -64,24 +28,47 @@ pub data TakesUp (k : Kind) : Wired → List Did → Kind → Type 0 where
   Idled : TakesUp k wired.Idle [] k
   Stopped : TakesUp k wired.Stop [] k
 
--- what a connection took is an event of room
-abbrev pub room_event : ℕ → ℕ → Option Event
-room_event c n = if nat_lt 0 n then Some (event.Room c n) else None
+abbrev pub is_stop : Wired → Bool
+is_stop wired.Stop = true
+is_stop w = false
+
+-- ---- what waits
+-- a front of what waits for the connection, which isn't empty
+pub record IsPiece (k : Kind) (c : ℕ) (piece : List ℕ) : Type 0 where
+  pub front : piece ≡ take (length piece) (waiting_at c k)
+  pub some : 0 < length piece
 
 -- Each connection above `after` for which octets wait when its number comes was offered a front of them, once.
 pub data Offers : ℕ → Kind → List Did → Kind → Type 0 where
   NoMore : (after : ℕ) (k : Kind) → IsNextOut k after None → Offers after k [] k
   Empty : (after c : ℕ) (k new : Kind) (ds : List Did) → IsNextOut k after (Some c) → waiting_at c k ≡ [] → Offers c k ds new → Offers after k ds new
-  One : (after c n : ℕ) (piece : List ℕ) (k mid new : Kind) (es ds : List Did) → IsNextOut k after (Some c)
-      → piece ≡ take (length piece) (waiting_at c k) → 0 < length piece → n ≤ length piece
-      → CarriedSome (room_event c n) k es mid → Offers c mid ds new → Offers after k (Offered c piece n ∷ es ++ ds) new
+  One : (after c n : ℕ) (piece : List ℕ) (k mid new : Kind) (es ds : List Did) → IsNextOut k after (Some c) → IsPiece k c piece → n ≤ length piece
+      → CarriedAll (events_in (room_event c n)) k es mid → Offers c mid ds new → Offers after k (Offered c piece n ∷ (es ++ ds)) new
 
-abbrev pub is_stop : Wired → Bool
-is_stop wired.Stop = true
-is_stop w = false
+-- ---- a turn
+-- what the clock gave, what the runner's pass and the follower's seat know, and the newest entry that the follower read or learnt
+pub record Sides : Type 0 where
+  pub moments : Option (List ℕ)
+  pub pass : Hand
+  pub looks : VersionView
+  pub kept : Entry
+
+abbrev pub sides_of : Option (List ℕ) → Hand → VersionView → Entry → Sides
+sides_of moments pass looks kept = record { moments = moments; pass = pass; looks = looks; kept = kept }
+
+-- the clock was asked once, the box drained once, and the follower asked once
+pub record Asks (old : Sides) (moment : ℕ) (posts : List Post) (version : ℕ) (pressures : List ℕ) (new : Sides) : Type 0 where
+  pub clock : TellsLast old.moments moment new.moments
+  pub ran : new.pass.ran ≡ old.pass.ran ++ posts
+  pub drains : new.pass.drains ≡ old.pass.drains + 1
+  pub looks : new.looks ≡ looked old.looks new.looks.found
+  pub version : version ≡ new.kept.version
+  pub pressures : pressures ≡ take (length pressures) new.kept.pressures
+  pub rising : old.kept.version ≤ version
+  pub fresh : new.looks.found ≤ version
 
 -- one turn, and whether the worker is to stop
-pub record IsTurn (k : Kind) (ds : List Did) (new : Kind) (stops : Bool) : Type 0 where
+pub record IsTurn (names : List (List ℕ)) (old : Sides) (k : Kind) (v : Place) (new : Sides) (k' : Kind) (w : Place) (stops : Bool) : Type 0 where
   pub moment : ℕ
   pub posts : List Post
   pub version : ℕ
@@ -96,15 +83,16 @@ pub record IsTurn (k : Kind) (ds : List Did) (new : Kind) (stops : Bool) : Type 
   pub k2 : Kind
   pub k3 : Kind
   pub k4 : Kind
-  pub is : ds ≡ Asked moment ∷ ticks ++ (Drained posts ∷ runs ++ (Followed version pressures ∷ obeys ++ (Gave given ∷ takes ++ offers)))
+  pub asks : Asks old moment posts version pressures new
   pub ticked : Carried (event.Tick moment) k ticks k1
   pub ran : CarriedAll (map post_event posts) k1 runs k2
-  pub obeyed : CarriedSome (obeyed_event k2 version pressures) k2 obeys k3
+  pub obeyed : CarriedAll (events_in (obeyed_event k2 version pressures)) k2 obeys k3
   pub taken : TakesUp k3 given takes k4
-  pub offered : Offers 0 k4 offers new
+  pub offered : Offers 0 k4 offers k'
+  pub becomes : Becomes names v (ticks ++ (runs ++ (obeys ++ (Gave given ∷ (takes ++ offers))))) w
   pub stop : stops ≡ is_stop given
 
 -- so many whole turns, in none of which it was to stop
-pub data AreTurns : ℕ → Kind → List Did → Kind → Type 0 where
-  Nothing : (k : Kind) → AreTurns 0 k [] k
-  More : (n : ℕ) (k mid new : Kind) (ds es : List Did) → AreTurns n k ds mid → IsTurn mid es new false → AreTurns (suc n) k (ds ++ es) new
+pub data AreTurns (names : List (List ℕ)) (old : Sides) (k : Kind) (v : Place) : ℕ → Sides → Kind → Place → Type 0 where
+  NoTurns : AreTurns names old k v 0 old k v
+  More : (n : ℕ) (mid new : Sides) (k1 k2 : Kind) (u w : Place) → AreTurns names old k v n mid k1 u → IsTurn names mid k1 u new k2 w false → AreTurns names old k v (suc n) new k2 w

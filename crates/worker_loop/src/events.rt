@@ -1,4 +1,13 @@
 // Events of a live worker: each has its line in the journal before it is dispatched.
+ghost use Rattle.flow_notes.specs.Event.{IsEvent};
+ghost use Rattle.io_ports.specs.Faults.{Rose};
+ghost use Rattle.std.specs.Io.KnownBytes.{Appends};
+ghost use Rattle.std.specs.Prelude.{◌≡◌, ◌≤◌, [], Err, IfErr, OnOk};
+ghost use Rattle.worker_core.specs.Sessions.{CarriesOut, RestsWire};
+ghost use Rattle.worker_loop.specs.Clauses.{CutsLine};
+ghost use Rattle.worker_loop.specs.Places.{event_line};
+ghost use Rattle.worker_loop.specs.declared.ended.Ended.TheVariants as ended;
+
 use crate::ended::Ended;
 use flow_notes::{Event, Names, Notes, event_text};
 use io_ports::Octets;
@@ -30,7 +39,17 @@ pub(crate) fn dispatch<J: Journal>(
     names: &Names,
     pad: &mut Pad,
     event: &Event,
-) -> Result<(), Ended> {
+) -> Result<(), Ended>
+    requires core { RestsWire core.old.kind }
+    requires event { IsEvent names.now event.now }
+    ensures core { OnOk result (RestsWire core.new.kind) }
+    ensures carries { OnOk result (CarriesOut core.old.kind [] event.now core.new.kind pad.new.notes) }
+    ensures line { OnOk result (Appends (J.contents journal.old) (J.contents journal.new) (event_line names.now event.now)) }
+    ensures cut { IfErr result (λ end. CutsLine end (event_line names.now event.now) (J.contents journal.old) (J.contents journal.new)) }
+    ensures told { J.told journal.new ≡ J.told journal.old }
+    ensures cause { result ≡ Err ended.JournalFault → Rose (J.faults journal.old) (J.faults journal.new) }
+    ensures no_fall { J.faults journal.old ≤ J.faults journal.new }
+{
     pad.line.clear();
     event_text(event, names, &mut pad.line)?;
     if journal.line(pad.line.as_slice()).is_err() {

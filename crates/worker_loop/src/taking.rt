@@ -1,4 +1,13 @@
 // What the connections tell.
+ghost use Rattle.io_ports.specs.Faults.{Rose};
+ghost use Rattle.number_set.specs.NumberSet.{has};
+ghost use Rattle.shared_state.specs.PermitSeats.{view};
+ghost use Rattle.std.specs.Prelude.{◌≡◌, ◌≢◌, ◌≤◌, Err, IfErr, IfOk, OnOk, false, length};
+ghost use Rattle.worker_core.specs.Sessions.{RestsWire};
+ghost use Rattle.worker_loop.specs.Clauses.{Admits, AreUpTo, Holds, Takes};
+ghost use Rattle.worker_loop.specs.Places.{place_of};
+ghost use Rattle.worker_loop.specs.declared.ended.Ended.TheVariants as ended;
+
 use crate::ended::Ended;
 use crate::events::Pad;
 use crate::settling::carry_out;
@@ -18,7 +27,21 @@ pub(crate) fn take_next<W: Wires, J: Journal>(
     journal: &mut J,
     names: &Names,
     pad: &mut Pad,
-) -> Result<bool, Ended> {
+) -> Result<bool, Ended>
+    requires core { RestsWire core.old.kind }
+    requires names { (W.seen wires.old).clusters ≡ length names.now }
+    requires holds { Holds permits.now seat.old held.old }
+    requires below { AreUpTo (W.seen wires.old).greatest held.old }
+    ensures core { OnOk result (RestsWire core.new.kind) }
+    ensures names { (W.seen wires.new).clusters ≡ (W.seen wires.old).clusters }
+    ensures holds { Holds permits.now seat.new held.new }
+    ensures below { AreUpTo (W.seen wires.new).greatest held.new }
+    ensures takes { IfOk result (λ stops. Takes names.now core.old.kind (place_of (J.contents journal.old) (J.told journal.old) (W.seen wires.old) held.old (view seat.old)) core.new.kind (place_of (J.contents journal.new) (J.told journal.new) (W.seen wires.new) held.new (view seat.new)) stops) }
+    ensures wires_fault { result ≡ Err ended.WiresFault → Rose (W.faults wires.old) (W.faults wires.new) }
+    ensures journal_fault { result ≡ Err ended.JournalFault → Rose (J.faults journal.old) (J.faults journal.new) }
+    ensures ends { result ≢ Err ended.Turns × result ≢ Err ended.Stopped }
+    ensures no_fall { (W.faults wires.old ≤ W.faults wires.new) × (J.faults journal.old ≤ J.faults journal.new) }
+{
     let event = match wires.next() {
         Ok(Wired::Accept(conn)) => {
             if !admits(core, permits, seat, held, conn)? {
@@ -51,7 +74,13 @@ fn admits(
     seat: &mut PermitSeat,
     held: &mut HeldPermits,
     conn: u32,
-) -> Result<bool, Ended> {
+) -> Result<bool, Ended>
+    requires holds { Holds permits.now seat.old held.old }
+    requires none { has held.old conn ≡ false }
+    ensures holds { Holds permits.now seat.new held.new }
+    ensures admits { IfOk result (λ taken. Admits core.now.kind permits.now conn (view seat.old) held.old taken (view seat.new) held.new) }
+    ensures err { IfErr result (λ end. (end ≡ ended.Memory) × (seat.new ≡ seat.old) × (held.new ≡ held.old)) }
+{
     if !core.takes_accepts() {
         return Ok(false);
     }

@@ -1,4 +1,19 @@
 // The turns of a live worker.
+ghost use Rattle.io_ports.specs.Faults.{Rose};
+ghost use Rattle.post_queue.specs.Clauses.{IsRunnerOf};
+ghost use Rattle.post_queue.specs.Pass as pass;
+ghost use Rattle.post_queue.specs.Posts.{IsAllowed};
+ghost use Rattle.shared_state.specs.Following.{looks};
+ghost use Rattle.shared_state.specs.PermitSeats.{view};
+ghost use Rattle.std.specs.Prelude.{◌≡◌, ◌≢◌, ◌≤◌, ◌<◌, ◌^◌, All, Err, IfOk, OnOk, length, map};
+ghost use Rattle.worker_core.specs.Sessions.{RestsWire};
+ghost use Rattle.worker_loop.specs.Carrying.{events_in, obeyed_event, post_event};
+ghost use Rattle.worker_loop.specs.Clauses.{AreUpTo, Carries, Holds};
+ghost use Rattle.worker_loop.specs.Places.{place_of};
+ghost use Rattle.worker_loop.specs.Turns.{AreTurns, IsTurn, sides_of};
+ghost use Rattle.worker_loop.specs.Works.{Works};
+ghost use Rattle.worker_loop.specs.declared.ended.Ended.TheVariants as ended;
+
 use crate::ended::Ended;
 use crate::events::Pad;
 use crate::offers::offer_all;
@@ -38,7 +53,21 @@ pub fn work<R: Wait, W: Wires, C: Clock, G: Gate, J: Journal>(
     journal: &mut J,
     names: &Names,
     turns: u64,
-) -> Ended {
+) -> Ended
+    requires core { RestsWire core.old.kind }
+    requires pass { IsRunnerOf posts.now pass.old }
+    requires names { (W.seen wires.old).clusters ≡ length names.now }
+    requires holds { Holds permits.now seat.old held.old }
+    requires below { AreUpTo (W.seen wires.old).greatest held.old }
+    ensures core { result ≢ ended.Memory → RestsWire core.new.kind }
+    ensures pass { IsRunnerOf posts.now pass.new }
+    ensures names { (W.seen wires.new).clusters ≡ (W.seen wires.old).clusters }
+    ensures holds { Holds permits.now seat.new held.new }
+    ensures below { AreUpTo (W.seen wires.new).greatest held.new }
+    ensures works { Works names.now turns (sides_of (C.moments clock.old) (pass.view pass.old.pass) (looks follower.old) follower.old.kept) core.old.kind (place_of (J.contents journal.old) (J.told journal.old) (W.seen wires.old) held.old (view seat.old)) result (sides_of (C.moments clock.new) (pass.view pass.new.pass) (looks follower.new) follower.new.kept) core.new.kind (place_of (J.contents journal.new) (J.told journal.new) (W.seen wires.new) held.new (view seat.new)) }
+    ensures wires_fault { result ≡ ended.WiresFault → Rose (W.faults wires.old) (W.faults wires.new) }
+    ensures journal_fault { result ≡ ended.JournalFault → Rose (J.faults journal.old) (J.faults journal.new) }
+{
     let mut pad = Pad::new(alloc);
     for turn in 0..turns {
         gate.pass(point_of(turn));
@@ -77,7 +106,23 @@ fn take_turn<R: Wait, W: Wires, C: Clock, J: Journal>(
     journal: &mut J,
     names: &Names,
     pad: &mut Pad,
-) -> Result<bool, Ended> {
+) -> Result<bool, Ended>
+    requires core { RestsWire core.old.kind }
+    requires pass { IsRunnerOf posts.now pass.old }
+    requires names { (W.seen wires.old).clusters ≡ length names.now }
+    requires holds { Holds permits.now seat.old held.old }
+    requires below { AreUpTo (W.seen wires.old).greatest held.old }
+    ensures core { OnOk result (RestsWire core.new.kind) }
+    ensures pass { IsRunnerOf posts.now pass.new }
+    ensures names { (W.seen wires.new).clusters ≡ (W.seen wires.old).clusters }
+    ensures holds { Holds permits.now seat.new held.new }
+    ensures below { AreUpTo (W.seen wires.new).greatest held.new }
+    ensures turn { IfOk result (λ stops. IsTurn names.now (sides_of (C.moments clock.old) (pass.view pass.old.pass) (looks follower.old) follower.old.kept) core.old.kind (place_of (J.contents journal.old) (J.told journal.old) (W.seen wires.old) held.old (view seat.old)) (sides_of (C.moments clock.new) (pass.view pass.new.pass) (looks follower.new) follower.new.kept) core.new.kind (place_of (J.contents journal.new) (J.told journal.new) (W.seen wires.new) held.new (view seat.new)) stops) }
+    ensures wires_fault { result ≡ Err ended.WiresFault → Rose (W.faults wires.old) (W.faults wires.new) }
+    ensures journal_fault { result ≡ Err ended.JournalFault → Rose (J.faults journal.old) (J.faults journal.new) }
+    ensures ends { result ≢ Err ended.Turns × result ≢ Err ended.Stopped }
+    ensures no_fall { (W.faults wires.old ≤ W.faults wires.new) × (J.faults journal.old ≤ J.faults journal.new) }
+{
     let tick = Event::Tick { now: clock.now() };
     carry_out(core, permits, seat, held, wires, journal, names, pad, &tick)?;
     let drained = posts.drain(rt, alloc, pass)?;
@@ -112,7 +157,18 @@ fn run_posts<W: Wires, J: Journal>(
     names: &Names,
     pad: &mut Pad,
     posts: &[Post],
-) -> Result<(), Ended> {
+) -> Result<(), Ended>
+    requires core { RestsWire core.old.kind }
+    requires posts { All IsAllowed posts.now }
+    requires holds { Holds permits.now seat.old held.old }
+    ensures core { OnOk result (RestsWire core.new.kind) }
+    ensures holds { Holds permits.now seat.new held.new }
+    ensures carries { OnOk result (Carries names.now (map post_event posts.now) core.old.kind (place_of (J.contents journal.old) (J.told journal.old) (W.seen wires.old) held.old (view seat.old)) core.new.kind (place_of (J.contents journal.new) (J.told journal.new) (W.seen wires.new) held.new (view seat.new))) }
+    ensures wires_fault { result ≡ Err ended.WiresFault → Rose (W.faults wires.old) (W.faults wires.new) }
+    ensures journal_fault { result ≡ Err ended.JournalFault → Rose (J.faults journal.old) (J.faults journal.new) }
+    ensures ends { result ≢ Err ended.Turns × result ≢ Err ended.Stopped }
+    ensures no_fall { (W.faults wires.old ≤ W.faults wires.new) × (J.faults journal.old ≤ J.faults journal.new) }
+{
     for post in posts {
         let event = Event::Post {
             poster: post.poster,
@@ -137,7 +193,18 @@ fn obey<W: Wires, J: Journal>(
     names: &Names,
     pad: &mut Pad,
     snapshot: Snapshot,
-) -> Result<(), Ended> {
+) -> Result<(), Ended>
+    requires core { RestsWire core.old.kind }
+    requires version { snapshot.version < 2 ^ 63 }
+    requires holds { Holds permits.now seat.old held.old }
+    ensures core { OnOk result (RestsWire core.new.kind) }
+    ensures holds { Holds permits.now seat.new held.new }
+    ensures carries { OnOk result (Carries names.now (events_in (obeyed_event core.old.kind snapshot.version snapshot.pressures)) core.old.kind (place_of (J.contents journal.old) (J.told journal.old) (W.seen wires.old) held.old (view seat.old)) core.new.kind (place_of (J.contents journal.new) (J.told journal.new) (W.seen wires.new) held.new (view seat.new))) }
+    ensures wires_fault { result ≡ Err ended.WiresFault → Rose (W.faults wires.old) (W.faults wires.new) }
+    ensures journal_fault { result ≡ Err ended.JournalFault → Rose (J.faults journal.old) (J.faults journal.new) }
+    ensures ends { result ≢ Err ended.Turns × result ≢ Err ended.Stopped }
+    ensures no_fall { (W.faults wires.old ≤ W.faults wires.new) × (J.faults journal.old ≤ J.faults journal.new) }
+{
     if snapshot.version <= core.obeyed() {
         return Ok(());
     }
