@@ -1,0 +1,3 @@
+mod Living
+mod Recording
+mod Tests
