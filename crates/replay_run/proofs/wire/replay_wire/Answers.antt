@@ -1,7 +1,10 @@
 -- The session was run under the configuration that was read, or there is none.
-use Rattle.replay_run.proofs.Configuring.{config_fault, end_not_usage, none_under, run_under, wire_completed, wire_unconfigured}
+use Rattle.replay_run.proofs.Configuring.{config_fault, end_not_usage, loaded, none_under, run_under, wire_completed, wire_unconfigured}
 use Rattle.std.proofs.Common.{inl, inr}
 use Rattle.replay_run.proofs.wire.replay_wire.Goals as goal
+
+pub run_wire-end-requires-clause-configured : goal.run_wire-end-requires-clause-configured
+run_wire-end-requires-clause-configured g c = loaded _ _ _ c.in-Ok.keys c.in-Ok.is c.load_config.ensures.loads
 
 pub returns-in-Ok-clause-tape : goal.returns-in-Ok-clause-tape
 returns-in-Ok-clause-tape g c = run_under _ _ _ _ _ _ _ _ _ c.in-Ok.keys c.in-Ok.is c.load_config.ensures.loads (λ text e. c.run_wire-end.ensures.tape text e)
