@@ -1,3 +1,0 @@
-mod Living
-mod Recording
-mod Tests

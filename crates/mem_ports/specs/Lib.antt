@@ -1,4 +1,0 @@
-pub mod Memory
-pub mod Moments
-pub mod Pressures
-pub mod Steps

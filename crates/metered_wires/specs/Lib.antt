@@ -1,2 +1,0 @@
-pub mod Metering
-pub mod Rising

@@ -1,5 +1,0 @@
-pub mod Lanes
-pub mod Levels
-pub mod Reading
-pub mod Spans
-pub mod Tops

@@ -1,4 +1,0 @@
-pub mod Held
-pub mod Journals
-pub mod Memory
-pub mod Samples
