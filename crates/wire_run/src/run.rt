@@ -20,14 +20,15 @@ pub struct WireEnd {
     pub fault: Option<LineFault>,
 }
 
-/// Reads a session, and writes its tape with its summary.
+/// Reads a session under this configuration, which was read from some text, and writes its tape with its summary.
 pub fn run_wire<S: Source, K: Sink>(
     alloc: Global,
     config: Config,
     session: &mut S,
     out: &mut K,
 ) -> WireEnd
-    requires { IsInRange config }
+    requires in_range { IsInRange config }
+    requires configured { (text : List ℕ) × (config_of text ≡ Ok config) }
     ensures tape { (text : List ℕ) → config_of text ≡ Ok config → RunsWire text (S.left session.old) (S.left session.new) (K.contents out.old) (K.contents out.new) result.status }
     ensures completes { (text : List ℕ) → config_of text ≡ Ok config → Completes config (S.left session.old) result.status }
     ensures usage { result.status ≡ Status.Usage → ⊥ }
