@@ -2,8 +2,8 @@
 ghost use Rattle.std.specs.Prelude.{◌≤◌};
 
 use crate::said::{holds, holds_in, same, same_in};
-use io_ports::NoMemory;
 use std::alloc::{AllocError, Global};
+use std::test::*;
 use wm_buffer::{Crossed, Shifted, WatermarkBuffer};
 
 const NOTHING: Crossed = Crossed::Nothing;
@@ -100,7 +100,7 @@ const CHANGES: [(u32, [(u32, u32, Crossed, Crossed, bool); 4]); 6] = [
 ];
 
 #[test]
-fn one_buffer_crosses_its_marks(rt: HostRuntime) -> Result<(), NoMemory> {
+fn one_buffer_crosses_its_marks(rt: HostRuntime) -> Result<(), Fail> {
     for (limit, changes) in CHANGES {
         let mut buffer = WatermarkBuffer::new(rt.alloc(), limit);
         same(&rt, &buffer.limit(), &limit);
@@ -117,7 +117,7 @@ fn one_buffer_crosses_its_marks(rt: HostRuntime) -> Result<(), NoMemory> {
 
 // A ready buffer over its ring's seam, the octets added and then taken.
 #[test]
-fn a_ready_buffer_takes_what_it_has_room_for(rt: HostRuntime) -> Result<(), NoMemory> {
+fn a_ready_buffer_takes_what_it_has_room_for(rt: HostRuntime) -> Result<(), Fail> {
     let mut buffer = WatermarkBuffer::new(rt.alloc(), 10);
     holds(&rt, buffer.is_empty());
     same(&rt, &buffer.ready(65_536), &Ok(()));
@@ -150,7 +150,7 @@ const MOVES: [((u32, u32), (u32, u32), (u32, u32), (Crossed, Crossed)); 8] = [
 ];
 
 #[test]
-fn a_move_is_one_change_of_both(rt: HostRuntime) -> Result<(), NoMemory> {
+fn a_move_is_one_change_of_both(rt: HostRuntime) -> Result<(), Fail> {
     let alloc = rt.alloc();
     for ((from_limit, had), (to_limit, has), (ahead, n), (drained, raised)) in MOVES {
         let mut from = WatermarkBuffer::new(alloc, from_limit);

@@ -9,8 +9,9 @@ use flow_notes::{
     Cause, CloseCause, Event, FireKind, Job, NameRefusal, Names, Note, PlainEvent, event_text,
     note_text,
 };
-use io_ports::{NoMemory, Octets};
+use io_ports::Octets;
 use std::alloc::Global;
+use std::test::Fail;
 
 const REQUEST: FlowId = FlowId {
     exchange: 1,
@@ -22,16 +23,14 @@ const RESPONSE: FlowId = FlowId {
     back: true,
 };
 
-// The names `web` and `api-2_b`.
-fn some_names(alloc: Global) -> Result<Names, NoMemory> {
+fn some_names(alloc: Global) -> Result<Names, Fail> {
     let mut names = Names::new(alloc);
-    if names.push(b"web").is_err() || names.push(b"api-2_b").is_err() {
-        return Err(NoMemory);
-    }
+    names.push(b"web")?;
+    names.push(b"api-2_b")?;
     Ok(names)
 }
 
-fn push_bodies(alloc: Global, names: &Names, text: &mut Octets) -> Result<(), NoMemory> {
+fn push_bodies(alloc: Global, names: &Names, text: &mut Octets) -> Result<(), Fail> {
     let octets = Octets::from_slice(alloc, &[0xaa, 0x01])?;
     note_text(
         &Note::Arrive {
@@ -56,7 +55,7 @@ fn push_bodies(alloc: Global, names: &Names, text: &mut Octets) -> Result<(), No
     Ok(())
 }
 
-fn push_flows(names: &Names, text: &mut Octets) -> Result<(), NoMemory> {
+fn push_flows(names: &Names, text: &mut Octets) -> Result<(), Fail> {
     note_text(
         &Note::Move {
             flow: RESPONSE,
@@ -116,7 +115,7 @@ fn push_flows(names: &Names, text: &mut Octets) -> Result<(), NoMemory> {
     Ok(())
 }
 
-fn push_others(names: &Names, text: &mut Octets) -> Result<(), NoMemory> {
+fn push_others(names: &Names, text: &mut Octets) -> Result<(), Fail> {
     note_text(&Note::Out { conn: 0, n: 34 }, names, text)?;
     note_text(
         &Note::Credit {
@@ -190,7 +189,7 @@ fn push_others(names: &Names, text: &mut Octets) -> Result<(), NoMemory> {
 }
 
 #[test]
-fn notes_are_written(rt: HostRuntime) -> Result<(), NoMemory> {
+fn notes_are_written(rt: HostRuntime) -> Result<(), Fail> {
     let alloc = rt.alloc();
     let names = some_names(alloc)?;
     let mut text = Octets::new(alloc);
@@ -210,7 +209,7 @@ fire connection-idle 7\nturn 1 open 1\n";
 }
 
 #[test]
-fn events_are_written(rt: HostRuntime) -> Result<(), NoMemory> {
+fn events_are_written(rt: HostRuntime) -> Result<(), Fail> {
     let alloc = rt.alloc();
     let names = some_names(alloc)?;
     let mut text = Octets::new(alloc);
@@ -251,7 +250,7 @@ fn events_are_written(rt: HostRuntime) -> Result<(), NoMemory> {
 
 // Names that are refused leave the list as it is.
 #[test]
-fn names_are_kept(rt: HostRuntime) -> Result<(), NoMemory> {
+fn names_are_kept(rt: HostRuntime) -> Result<(), Fail> {
     let alloc = rt.alloc();
     let mut names = some_names(alloc)?;
     let long = vec![in alloc; b'a'; 65]?;

@@ -14,7 +14,7 @@ use std::thread::Threads;
 const TAKES: u32 = 1000;
 
 /// A step on a bucket with one seat, and what is answered.
-#[derive(Clone, Copy)]
+#[derive(Clone, Copy, Debug)]
 enum Step {
     Put(u64, u64),
     Take(Result<(), NoToken>),

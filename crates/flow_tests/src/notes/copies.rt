@@ -2,10 +2,11 @@
 
 use crate::said::holds;
 use flow_notes::{Event, Job, PlainEvent};
-use io_ports::{NoMemory, Octets, PressureList};
+use io_ports::{Octets, PressureList};
+use std::test::Fail;
 
 #[test]
-fn events_are_copied(rt: HostRuntime) -> Result<(), NoMemory> {
+fn events_are_copied(rt: HostRuntime) -> Result<(), Fail> {
     let alloc = rt.alloc();
     let octets = Octets::from_slice(alloc, &[0xaa, 1])?;
     let copy = Event::Read { conn: 7, octets }.copied(alloc)?;

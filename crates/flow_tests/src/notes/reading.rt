@@ -2,8 +2,9 @@
 use super::some_names;
 use crate::said::{holds, holds_in, same};
 use flow_notes::{event_text, note_text, read_event, read_note, read_numbers};
-use io_ports::{NoMemory, Octets};
+use io_ports::Octets;
 use std::process::Abort;
+use std::test::Fail;
 
 const NOTES: [&str; 36] = [
     "turn 1 open 1",
@@ -136,7 +137,7 @@ const NO_PLAIN: [&str; 9] = [
     "end 1\n",
 ];
 
-fn line_is_kept(rt: &impl Abort, line: &str, written: &Octets) -> Result<(), NoMemory> {
+fn line_is_kept(rt: &impl Abort, line: &str, written: &Octets) -> Result<(), Fail> {
     let (text, newline) = written.as_slice().split_at(line.len().min(written.len()));
     same(rt, &text, &line.as_bytes());
     same(rt, &newline, &b"\n".as_slice());
@@ -144,7 +145,7 @@ fn line_is_kept(rt: &impl Abort, line: &str, written: &Octets) -> Result<(), NoM
 }
 
 #[test]
-fn notes_are_read(rt: HostRuntime) -> Result<(), NoMemory> {
+fn notes_are_read(rt: HostRuntime) -> Result<(), Fail> {
     let alloc = rt.alloc();
     let names = some_names(alloc)?;
     for line in NOTES {
@@ -167,7 +168,7 @@ fn notes_are_read(rt: HostRuntime) -> Result<(), NoMemory> {
 }
 
 #[test]
-fn events_are_read(rt: HostRuntime) -> Result<(), NoMemory> {
+fn events_are_read(rt: HostRuntime) -> Result<(), Fail> {
     let alloc = rt.alloc();
     let names = some_names(alloc)?;
     for (lines, plain) in [(WIRE.as_slice(), false), (PLAIN.as_slice(), true)] {
@@ -200,7 +201,7 @@ fn events_are_read(rt: HostRuntime) -> Result<(), NoMemory> {
 }
 
 #[test]
-fn numbers_are_read(rt: HostRuntime) -> Result<(), NoMemory> {
+fn numbers_are_read(rt: HostRuntime) -> Result<(), Fail> {
     let alloc = rt.alloc();
     let Some(numbers) = read_numbers(alloc, b"limits", b"limits 65535 0 4294967295")? else {
         holds(&rt, false);
