@@ -14,12 +14,11 @@ use Rattle.session_run.specs.Tells.{Replayed}
 use Rattle.session_run.specs.declared.status.Status.{Status}
 use Rattle.std.proofs.Common.{ap, append_assoc, arith, inl, inr, length-append, refl, subst, sym, ◌∙◌}
 use Rattle.std.proofs.lemmas.List.{append-nil, take-append-le}
-use Rattle.std.specs.Prelude.{Bool, Err, IsTrue, List, None, Ok, Option, Result, Some, [], false, length, suc, take, true, zero, ℕ, ◌++◌, ◌+◌, ◌<◌, ◌==◌, ◌||◌, ◌∷◌, ◌≡◌, ◌≤◌, ◌⊎◌}
-use Rattle.wire_run.proofs.Retelling.{runs_of, told_of}
+use Rattle.std.specs.Prelude.{Bool, IsTrue, List, None, Ok, Option, Result, Some, [], false, length, suc, take, true, zero, ℕ, ◌++◌, ◌+◌, ◌<◌, ◌==◌, ◌||◌, ◌∷◌, ◌≡◌, ◌≤◌, ◌⊎◌}
+use Rattle.wire_run.proofs.Retelling.{told_of}
 use Rattle.wire_run.proofs.Spelling.{IsWhole, event_whole, same_event, same_line}
 use Rattle.wire_run.specs.Allowed.{Completes, IsAllowedWire, IsUnrefused}
-use Rattle.wire_run.specs.Played.{Played, wire_kind}
-use Rattle.wire_run.specs.Tapes.{TellsWire}
+use Rattle.wire_run.specs.Played.{wire_kind}
 use Rattle.session_run.specs.declared.status.Status.TheVariants as status
 
 module _ (names : List (List ℕ)) (resources : ℕ) (are : AreNames names) where

@@ -9,35 +9,30 @@ use Rattle.io_ports.specs.declared.octets.NoMemory.{NoMemory}
 use Rattle.proxy_config.specs.Reading.{config_of}
 use Rattle.proxy_config.specs.declared.config.Config.{Config}
 use Rattle.session_config.specs.ClusterNames.{names_in, resources_in}
-use Rattle.session_lines.specs.WireLines.{AcceptsWire, Behind, IsWireSeen, NoLine, ReadsWireLine, SpellsWire, WireEvent, WireHeader, WireItem, WireLinesAre, WireSeen, wire_event_lines, wire_events, wire_header, wire_lines, wire_more, wire_read, wire_text}
+use Rattle.session_lines.specs.WireLines.{Behind, IsWireSeen, NoLine, ReadsWireLine, SpellsWire, WireEvent, WireHeader, WireItem, WireLinesAre, WireSeen, wire_event_lines, wire_events, wire_header, wire_lines, wire_more, wire_read, wire_text}
 use Rattle.session_lines.specs.declared.order.LineRead.{LineRead}
 use Rattle.session_lines.specs.declared.wire_lines.WireLines.{WireLines}
 use Rattle.session_run.specs.Players.{AddsSummary, IsPlaying, PlayedAs, PlaysLine}
 use Rattle.session_run.specs.Runs.{Begins}
 use Rattle.session_run.specs.declared.player.Went.{Went}
 use Rattle.std.proofs.Common.{ap, append_assoc, arith, inl, inr, refl, subst, sym, ◌∙◌}
-use Rattle.std.proofs.lemmas.Grind.{common_steps}
 use Rattle.std.proofs.lemmas.List.{append-nil}
 use Rattle.std.specs.List.{AllByRecursion}
-use Rattle.std.specs.Prelude.{Err, IfSome, List, None, Ok, OnOk, Option, Result, [], false, suc, ℕ, ◌++◌, ◌+◌, ◌<◌, ◌∷◌, ◌≡◌, ◌⊎◌}
-use Rattle.tape_laws.specs.Dispatches.{events_back, turns}
+use Rattle.std.specs.Prelude.{Err, IfSome, List, None, Ok, OnOk, Option, Result, [], false, suc, ℕ, ◌++◌, ◌+◌, ◌∷◌, ◌≡◌, ◌⊎◌}
 use Rattle.tape_laws.specs.History.{History, NoMark, onto}
-use Rattle.tape_laws.specs.Report.{summary_text}
-use Rattle.tape_laws.specs.Text.{tape_text}
 use Rattle.tape_laws.specs.declared.limits.PlainLimits.{PlainLimits}
 use Rattle.tape_summary.specs.NotesText.{notes_text}
-use Rattle.wire_run.proofs.Noting.{Adds, dispatch_adds, onto_text, renamed}
+use Rattle.wire_run.proofs.Noting.{dispatch_adds, onto_text, renamed}
 use Rattle.wire_run.proofs.Staging.{no_row, rows_agree, rows_grow, rows_of}
 use Rattle.wire_run.specs.Passing.{CarriesOn, PassesAll}
-use Rattle.wire_run.specs.Played.{Dispatched, DispatchedAs, PlayRests, Played, PlaysEvent, RefusesLine, SumsPlay, wire_kind}
+use Rattle.wire_run.specs.Played.{DispatchedAs, PlayRests, Played, PlaysEvent, wire_kind}
 use Rattle.wire_run.specs.Rows.{limits_of, passes}
-use Rattle.wire_run.specs.Stages.{AreStages, HaveRows, IsRow}
+use Rattle.wire_run.specs.Stages.{AreStages, IsRow}
 use Rattle.wire_run.specs.Tapes.{WireTape}
 use Rattle.wire_run.specs.declared.play.WirePlay.{WirePlay}
-use Rattle.wire_run.specs.declared.stages.RouteStages.{RouteStages}
 use Rattle.wire_run.specs.declared.stages.StageTable.{StageTable}
 use Rattle.wire_state.specs.Sound.{IsSound}
-use Rattle.wire_summary.specs.Levels.{StageLimits, known_limits, shaped}
+use Rattle.wire_summary.specs.Levels.{StageLimits, known_limits}
 use Rattle.wire_summary.specs.Logging.{WireLogIs, WireLogs}
 use Rattle.wire_summary.specs.declared.log.WireLog.{WireLog}
 use Rattle.worker_core.specs.Dispatching.{Dispatches}

@@ -2,7 +2,7 @@
 use Rattle.proxy_config.specs.Reading.{config_of}
 use Rattle.proxy_config.specs.declared.config.Config.{Config}
 use Rattle.session_config.specs.ClusterNames.{names_in, resources_in}
-use Rattle.session_lines.specs.WireLines.{NoLine, SpellsNoWire, WireLinesAre, WireSeen, is_headed, wire_lines, wire_text}
+use Rattle.session_lines.specs.WireLines.{NoLine, SpellsNoWire, WireLinesAre, WireSeen, is_headed, wire_text}
 use Rattle.session_run.specs.Ending.{Cut, EndsAs, IsRefused, Long, MayNotCome}
 use Rattle.session_run.specs.Kinds.{Kind}
 use Rattle.session_run.specs.Runs.{HaltsAs, RunIs, Steps}
@@ -16,8 +16,8 @@ use Rattle.std.specs.Io.KnownBytes.{Appends, Consumes}
 use Rattle.std.specs.Prelude.{Bool, Err, List, None, Ok, Option, Some, [], codes, suc, ℕ, ◌++◌, ◌∷◌, ◌≡◌, ◌⊎◌}
 use Rattle.tape_laws.specs.History.{History, NoMark}
 use Rattle.tape_laws.specs.Text.{tape_text}
-use Rattle.wire_run.specs.Played.{Played, RefusesLine, SumsPlay, can_end, wire_kind}
-use Rattle.wire_run.specs.Tapes.{RunsWire, TellsWire, TellsWireAs, TellsWireFront, WireTape, last_wire_text}
+use Rattle.wire_run.specs.Played.{Played, RefusesLine, can_end, wire_kind}
+use Rattle.wire_run.specs.Tapes.{RunsWire, TellsWire, TellsWireAs, TellsWireFront, last_wire_text}
 use Rattle.wire_run.specs.declared.play.WirePlay.{WirePlay}
 use Rattle.session_run.specs.declared.status.Status.TheVariants as status
 

@@ -3,25 +3,25 @@ use Rattle.flow_notes.proofs.Lines.{line_of_cons}
 use Rattle.flow_notes.proofs.NoteLines.{event_one}
 use Rattle.flow_notes.proofs.Numbers.{own}
 use Rattle.flow_notes.proofs.Octets.{and_left, and_right, hex_all}
-use Rattle.flow_notes.specs.Event.{HasEventSpelling, IsEvent, event_spelling, event_words}
-use Rattle.flow_notes.specs.Fields.{Fits32, FitsEvent, FitsJob}
-use Rattle.flow_notes.specs.Job.{IsJob, job_words}
-use Rattle.flow_notes.specs.Line.{line_of, newline, spaced}
+use Rattle.flow_notes.specs.Event.{event_spelling, event_words}
+use Rattle.flow_notes.specs.Fields.{Fits32, FitsJob}
+use Rattle.flow_notes.specs.Job.{job_words}
+use Rattle.flow_notes.specs.Line.{line_of, spaced}
 use Rattle.flow_notes.specs.Name.{AreNames, IsName, cluster_name, is_name_octet}
 use Rattle.flow_notes.specs.declared.events.Event.{Event}
 use Rattle.flow_notes.specs.declared.events.Job.{Job}
 use Rattle.hex.specs.Hex.{IsBytes, encode_lower}
-use Rattle.session_lines.specs.WireOrder.{MayFollowWire, may_follow_wire}
+use Rattle.session_lines.specs.WireOrder.{MayFollowWire}
 use Rattle.session_run.specs.Newlines.{has_newline}
-use Rattle.std.proofs.Common.{ap, arith, eqb, refl, subst, sym, true≢false, ◌∙◌}
-use Rattle.std.proofs.lemmas.Bool.{eqb-true, false_from_ne_true}
+use Rattle.std.proofs.Common.{ap, arith, refl, subst, sym, true≢false, ◌∙◌}
+use Rattle.std.proofs.lemmas.Bool.{false_from_ne_true}
 use Rattle.std.proofs.lemmas.Fmt.{digits_decimal}
 use Rattle.std.proofs.lemmas.List.{get_or_default}
 use Rattle.std.proofs.lemmas.List.Sums.{list_all-from_AllPass}
 use Rattle.std.proofs.lemmas.Str.Parse.{not_in_digits}
 use Rattle.std.specs.Fmt.{decimal}
 use Rattle.std.specs.List.{AllByRecursion, list_all}
-use Rattle.std.specs.Prelude.{Bool, IsTrue, List, [], codes, false, length, map, not, true, ℕ, ◌++◌, ◌<◌, ◌==◌, ◌^◌, ◌||◌, ◌∷◌, ◌≡◌, ◌≢◌}
+use Rattle.std.specs.Prelude.{Bool, IsTrue, List, [], false, map, not, true, ℕ, ◌++◌, ◌<◌, ◌==◌, ◌^◌, ◌||◌, ◌∷◌, ◌≡◌, ◌≢◌}
 use Rattle.tape_summary.proofs.Spots.{number_is}
 use Rattle.flow_notes.specs.declared.events.Event.TheVariants as event
 use Rattle.flow_notes.specs.declared.events.Job.TheVariants as job

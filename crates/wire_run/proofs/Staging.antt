@@ -3,15 +3,14 @@ use Rattle.io_ports.specs.declared.octets.NoMemory.{NoMemory}
 use Rattle.proxy_config.specs.declared.routes.Filter.{Filter}
 use Rattle.proxy_config.specs.declared.routes.Route.{Route}
 use Rattle.std.proofs.Common.{ap, append_assoc, inl, inr, refl, subst, sym, ◌∙◌}
-use Rattle.std.proofs.lemmas.List.{append-nil, map-append}
+use Rattle.std.proofs.lemmas.List.{map-append}
 use Rattle.std.proofs.lemmas.Option.{slice_get_past, slice_get_read}
 use Rattle.std.specs.Prelude.{Bool, Err, IfSome, List, None, Ok, OnOk, Option, Result, Some, [], false, length, map, slice_get, suc, true, zero, ℕ, ◌++◌, ◌∷◌, ◌≡◌, ◌≤◌, ◌⊎◌}
 use Rattle.std.specs.Slice.{IsItemAt}
 use Rattle.std.specs.Borrow.{Bor}
-use Rattle.tape_laws.specs.Units.{StageKind}
 use Rattle.tape_laws.specs.Watermark.{kind_limit}
 use Rattle.wire_run.specs.Passing.{PassesAll}
-use Rattle.wire_run.specs.Rows.{route_stages, row_at, stages_of}
+use Rattle.wire_run.specs.Rows.{route_stages, stages_of}
 use Rattle.wire_run.specs.Stages.{AreStages, Gives, HaveRows, IsRow, IsStages, row_limits}
 use Rattle.wire_run.specs.declared.stages.RouteStages.{RouteStages}
 use Rattle.wire_summary.specs.Levels.{LimitsGrow, StageLimits, known_limits, no_limits}

@@ -1,8 +1,7 @@
 -- What a dispatch does to a wire session under way, before its notes are written.
 use Rattle.flow_notes.specs.declared.events.Event.{Event}
-use Rattle.flow_notes.specs.declared.notes.Note.{Note}
 use Rattle.proxy_config.specs.declared.routes.Route.{Route}
-use Rattle.std.specs.Prelude.{List, [], ◌+◌, ◌≡◌}
+use Rattle.std.specs.Prelude.{List, [], ◌≡◌}
 use Rattle.tape_laws.specs.History.{History, NoMark}
 use Rattle.wire_run.specs.Stages.{AreStages, HaveRows}
 use Rattle.wire_run.specs.declared.play.WirePlay.{WirePlay}

@@ -9,7 +9,7 @@ use Rattle.session_lines.specs.WireLines.{IsWireSeen, SpellsNoWire, WireLinesAre
 use Rattle.session_run.specs.Kinds.{Kind, kind_of}
 use Rattle.session_run.specs.declared.player.Went.{Went}
 use Rattle.std.specs.Prelude.{Bool, Err, List, Ok, Option, Result, false, ℕ, ◌++◌, ◌∷◌, ◌≡◌}
-use Rattle.tape_laws.specs.Dispatches.{events_back, turns}
+use Rattle.tape_laws.specs.Dispatches.{turns}
 use Rattle.tape_laws.specs.History.{History, NoMark}
 use Rattle.tape_laws.specs.Report.{summary_text}
 use Rattle.tape_laws.specs.Text.{tape_text}
