@@ -136,16 +136,15 @@ fn take_turns(
     copied_to: &mut [u8],
 ) -> std::result::Result<Option<u64>, NoMemory> {
     let mut copying = 0u64;
+    let mut whole = true;
     for _round in 0..ROUNDS {
         let left = framing.timed_round(clock, octets)?;
         let watch = CpuStopwatch::start(clock);
         let copied = copy_round(octets, copied_to);
         copying = copying.saturating_add(watch.nanos(clock));
-        if left <= copied {
-            return Ok(None);
-        }
+        whole &= copied < left;
     }
-    Ok(Some(copying))
+    Ok(whole.then_some(copying))
 }
 
 /// Frames and copies in turn, and prints how many octets each does in a second of processor time.
