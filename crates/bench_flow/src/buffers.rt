@@ -46,7 +46,9 @@ fn wandering_buffer(alloc: Global) -> std::result::Result<WatermarkBuffer, NoMem
 }
 
 fn block(alloc: Global, octet: u8) -> std::result::Result<Vec<u8>, AllocError> {
-    vec![in alloc; octet; PIECE as usize]
+    let mut made = Vec::new(alloc);
+    made.resize(PIECE as usize, octet)?;
+    Ok(made)
 }
 
 impl Moving {
@@ -140,7 +142,7 @@ fn take_turns(
     let mut same = true;
     for _round in 0..ROUNDS {
         let moved = moving.timed_round(clock, piece)?;
-        same = copying.timed_round(clock, piece) == moved && same;
+        same &= copying.timed_round(clock, piece) == moved;
     }
     Ok(same)
 }

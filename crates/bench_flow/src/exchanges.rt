@@ -139,23 +139,19 @@ impl Side {
     {
         let mut went = true;
         for _use in 0..USES_A_ROUND {
-            went = self.use_one(config)? && went;
+            went = self.use_one(config)? & went;
         }
         Ok(went)
     }
 
-    /// Uses a round's exchanges, and adds the processor time that they took.
-    fn timed_round(
-        &mut self,
-        config: &Config,
-        clock: &impl CpuClock,
-    ) -> std::result::Result<bool, NoMemory>
+    /// Uses a round's exchanges, and adds the processor time that they took. Answers whether each came and went.
+    fn timed_round(&mut self, config: &Config, clock: &impl CpuClock) -> bool
         requires { IsInRange config.now }
     {
         let watch = CpuStopwatch::start(clock);
         let went = self.round(config);
         self.nanos = self.nanos.saturating_add(watch.nanos(clock));
-        went
+        matches!(went, Ok(true))
     }
 
     fn calls_per_second(&self) -> u64 {
@@ -164,20 +160,15 @@ impl Side {
 }
 
 /// All rounds of both sides, in turns. Answers whether each exchange came and went.
-fn take_turns(
-    config: &Config,
-    clock: &impl CpuClock,
-    one: &mut Side,
-    many: &mut Side,
-) -> std::result::Result<bool, NoMemory>
+fn take_turns(config: &Config, clock: &impl CpuClock, one: &mut Side, many: &mut Side) -> bool
     requires { IsInRange config.now }
 {
     let mut went = true;
     for _round in 0..USES / USES_A_ROUND {
-        went = one.timed_round(config, clock)? && went;
-        went = many.timed_round(config, clock)? && went;
+        went &= one.timed_round(config, clock);
+        went &= many.timed_round(config, clock);
     }
-    Ok(went)
+    went
 }
 
 /// Uses exchanges on both sides in turns, and prints how many calls each does in a second of processor time.
@@ -187,7 +178,7 @@ pub fn run(rt: &HostRuntime) -> Result<()> {
     };
     let mut one = enough(Side::new(rt.alloc(), &config, ONE))?;
     let mut many = enough(Side::new(rt.alloc(), &config, MANY))?;
-    let went = enough(take_turns(&config, rt, &mut one, &mut many))?;
+    let went = take_turns(&config, rt, &mut one, &mut many);
     check(went, "an exchange did not come and go")?;
     let (one, many) = (one.calls_per_second(), many.calls_per_second());
     print_figure(rt, "1 live", one, "calls in a second of processor time")?;

@@ -121,9 +121,9 @@ fn turn(gates: &mut Gates, flow: FlowId) -> u64
 fn take_turns(clock: &impl CpuClock, few: &mut Side, some: &mut Side, many: &mut Side) -> bool {
     let mut told = true;
     for _round in 0..ROUNDS {
-        told = few.timed_round(clock) && told;
-        told = some.timed_round(clock) && told;
-        told = many.timed_round(clock) && told;
+        told &= few.timed_round(clock);
+        told &= some.timed_round(clock);
+        told &= many.timed_round(clock);
     }
     told
 }
