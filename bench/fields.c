@@ -1,4 +1,4 @@
-/* Decodes with libnghttp2 the blocks that `bench_http fields` decodes, and tells how long that took.
+/* Decodes with libnghttp2 the blocks that `bench_main fields` decodes, and tells how long that took.
    Usage: fields NAME HEX ... */
 #include <nghttp2/nghttp2.h>
 #include <stdio.h>

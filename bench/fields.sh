@@ -13,10 +13,10 @@ if ! printf '#include <nghttp2/nghttp2.h>\nint main(void) { return nghttp2_versi
     exit 0
 fi
 "$compiler" -O3 -o "$made/fields" bench/fields.c -lnghttp2
-cd crates/bench_http
+cd crates/bench_main
 rt run >/dev/null
 for turn in 1 2 3; do
-    out/bench_http fields
+    out/bench_main fields
     # shellcheck disable=SC2046
-    "$made/fields" $(out/bench_http blocks)
+    "$made/fields" $(out/bench_main fields blocks)
 done

@@ -1,0 +1,146 @@
+// A drill from end to end, beside its octets through two watermark buffers.
+use crate::buffers::{first_octet, ready_buffer};
+use crate::stopwatch::{CpuStopwatch, per_second};
+use anyhow::{anyhow, ensure};
+use flow_notes::{Event, EventList, PlainEvent};
+use io_ports::{MemSink, MemSource, NoMemory};
+use replay_run::{Status, drill_events, replay};
+use std::alloc::Global;
+use std::time::CpuClock;
+use wm_buffer::WatermarkBuffer;
+
+/// The streams of the drill.
+const STREAMS: u32 = 1_000;
+
+/// How often each side is measured; the best counts.
+const TURNS: u32 = 7;
+
+/// The octets of a great piece.
+const PIECE: usize = 16_384;
+
+/// Room for the short summary.
+const ROOM: usize = 4_096;
+
+/// Runs the drill and passes its octets through two buffers, in turn, and prints the best of each.
+pub fn run(rt: &(impl AllocGlobal + Print + CpuClock)) -> anyhow::Result<()> {
+    let no_memory = |_: NoMemory| anyhow!("out of memory");
+    let events = drill_events(rt.alloc(), STREAMS).map_err(no_memory)?;
+    let octets = octets_in(&events);
+    let mut drill = u64::MAX;
+    let mut bodies = u64::MAX;
+    let mut pieces = u64::MAX;
+    for _turn in 0..TURNS {
+        drill = drill.min(drill_once(rt)?);
+        bodies = bodies.min(bodies_once(rt, &events)?);
+        pieces = pieces.min(pieces_once(rt, octets)?);
+    }
+    report(rt, events.len() as u64, octets, drill, bodies, pieces)
+}
+
+/// How many body octets the events bring.
+fn octets_in(events: &EventList) -> u64 {
+    let mut octets = 0u64;
+    for event in events.as_slice() {
+        octets = octets.saturating_add(body_of(event).len() as u64);
+    }
+    octets
+}
+
+/// The body octets of an event, none of most.
+fn body_of(event: &Event) -> &[u8] {
+    match event {
+        Event::Plain(PlainEvent::Body { octets, .. }) => octets.as_slice(),
+        _ => &[],
+    }
+}
+
+/// Runs the drill once, and answers the nanoseconds of processor time.
+fn drill_once(rt: &(impl AllocGlobal + CpuClock)) -> anyhow::Result<u64> {
+    let alloc = rt.alloc();
+    let words = vec![in alloc;
+        format!(in alloc; "drill")?,
+        format!(in alloc; "{STREAMS}")?,
+    ]?;
+    let mut config = MemSource::new(Vec::new(alloc), Vec::new(alloc));
+    let mut session = MemSource::new(Vec::new(alloc), Vec::new(alloc));
+    let Ok(mut out) = MemSink::new(alloc, ROOM, Vec::new(alloc)) else {
+        return Err(anyhow!("out of memory"));
+    };
+    let watch = CpuStopwatch::start(rt)?;
+    let status = replay(alloc, &words, &mut config, &mut session, &mut out);
+    let spent = watch.nanos(rt)?;
+    ensure!(status == Status::Done, "the drill was not done");
+    Ok(spent)
+}
+
+/// Passes each body through two buffers, and answers the nanoseconds of processor time.
+fn bodies_once(rt: &(impl AllocGlobal + CpuClock), events: &EventList) -> anyhow::Result<u64> {
+    let no_memory = |_: NoMemory| anyhow!("out of memory");
+    let mut first = ready_buffer(rt.alloc()).map_err(no_memory)?;
+    let mut second = ready_buffer(rt.alloc()).map_err(no_memory)?;
+    let mut sum = 0u64;
+    let watch = CpuStopwatch::start(rt)?;
+    for event in events.as_slice() {
+        let body = body_of(event);
+        if !body.is_empty() {
+            sum = sum.wrapping_add(pass(&mut first, &mut second, body).map_err(no_memory)?);
+        }
+    }
+    let spent = watch.nanos(rt)?;
+    ensure!(sum > 0, "the buffers gave nothing");
+    Ok(spent)
+}
+
+/// Passes so many octets through two buffers in great pieces, and answers the nanoseconds of processor time.
+fn pieces_once(rt: &(impl AllocGlobal + CpuClock), octets: u64) -> anyhow::Result<u64> {
+    let no_memory = |_: NoMemory| anyhow!("out of memory");
+    let piece = vec![in rt.alloc(); 7u8; PIECE]?;
+    let mut first = ready_buffer(rt.alloc()).map_err(no_memory)?;
+    let mut second = ready_buffer(rt.alloc()).map_err(no_memory)?;
+    let mut sum = 0u64;
+    let watch = CpuStopwatch::start(rt)?;
+    for _piece in 0..octets / PIECE as u64 {
+        sum = sum.wrapping_add(pass(&mut first, &mut second, &piece).map_err(no_memory)?);
+    }
+    let spent = watch.nanos(rt)?;
+    ensure!(sum > 0, "the buffers gave nothing");
+    Ok(spent)
+}
+
+/// Passes a piece into the first buffer, on to the second and out of it, and answers its first octet.
+fn pass(
+    first: &mut WatermarkBuffer,
+    second: &mut WatermarkBuffer,
+    piece: &[u8],
+) -> Result<u64, NoMemory> {
+    first.add(piece)?;
+    let n = first.len();
+    first.move_to(second, &[], n)?;
+    let octet = first_octet(second.front());
+    let n = second.len();
+    second.take(n);
+    Ok(octet)
+}
+
+fn report(
+    rt: &(impl AllocGlobal + Print),
+    events: u64,
+    octets: u64,
+    drill: u64,
+    bodies: u64,
+    pieces: u64,
+) -> anyhow::Result<()> {
+    let a_second = per_second(events, drill.max(1));
+    println!(rt;
+        "drill {STREAMS}: {events} events with {octets} octets in {drill} ns, {a_second} events a second"
+    )?;
+    println!(rt;
+        "the same bodies through two buffers: {bodies} ns, the drill takes {} times that",
+        drill / bodies.max(1)
+    )?;
+    println!(rt;
+        "as many octets in pieces of {PIECE}: {pieces} ns, the drill takes {} times that",
+        drill / pieces.max(1)
+    )?;
+    Ok(())
+}

@@ -1,0 +1,187 @@
+// Exchanges that start, are used once and are doomed, while one and while many others live.
+ghost use Rattle.proxy_config.specs.Ranges.{IsInRange};
+
+use crate::stopwatch::{CpuStopwatch, per_second};
+use anyhow::{anyhow, bail, ensure};
+use exchange_core::{Exchanges, StartSpec, Step};
+use flow_gate::{FlowId, Gates};
+use flow_notes::Cause;
+use io_ports::NoMemory;
+use proxy_config::Config;
+use std::alloc::Global;
+use std::time::CpuClock;
+
+/// How many exchanges live beside the one that comes and goes.
+const ONE: u64 = 1;
+
+const MANY: u64 = 50_000;
+
+/// The exchanges that come and go on each side.
+const USES: u64 = 100_000;
+
+const USES_A_ROUND: u64 = 1_000;
+
+/// A use is a start, octets that arrive, a move, a doom and a sweep.
+const CALLS: u64 = 5 * USES;
+
+const SPEC: StartSpec = StartSpec {
+    plain: false,
+    from_conn: 1,
+    from_stream: 1,
+    to_conn: Some(2),
+    row: None,
+    recv: 1_000,
+    send: 0,
+    quantum: 16_384,
+    now: 0,
+};
+
+/// Starts an exchange whose flows watch nothing. None where the exchanges were told of a later moment.
+fn start(
+    exchanges: &mut Exchanges,
+    gates: &mut Gates,
+    config: &Config,
+) -> Result<Option<u64>, NoMemory>
+    requires { IsInRange config.now }
+{
+    if exchanges.time() > SPEC.now {
+        return Ok(None);
+    }
+    let exchange = exchanges.start(&SPEC, config)?;
+    for back in [false, true] {
+        let flow = FlowId { exchange, back };
+        if !gates.is_open(flow) {
+            gates.open_flow(flow)?;
+        }
+    }
+    Ok(Some(exchange))
+}
+
+/// Ten octets arrive and move. Answers how many moved.
+fn feed(exchanges: &mut Exchanges, gates: &Gates, flow: FlowId) -> Result<u32, NoMemory> {
+    if !exchanges.has_flow(flow) || exchanges.has_ended(flow) || !gates.is_open(flow) {
+        return Ok(0);
+    }
+    exchanges.arrive(flow, &[7; 10])?;
+    if !exchanges.has_flow(flow) {
+        return Ok(0);
+    }
+    match exchanges.step(flow, gates)? {
+        Step::Moved { n, .. } => Ok(n),
+        Step::Still | Step::TooLarge => Ok(0),
+    }
+}
+
+/// Dooms an exchange and sweeps it. Answers whether it was live.
+fn end(exchanges: &mut Exchanges, gates: &mut Gates, exchange: u64) -> bool {
+    let request = FlowId {
+        exchange,
+        back: false,
+    };
+    let response = FlowId {
+        exchange,
+        back: true,
+    };
+    if !exchanges.is_live(exchange) || !gates.is_open(request) || !gates.is_open(response) {
+        return false;
+    }
+    let _ = exchanges.doom(exchange, Cause::Done, false, gates);
+    exchanges.sweep() == Some(exchange)
+}
+
+/// Exchanges of which so many live.
+#[derive(Drop)]
+struct Side {
+    exchanges: Exchanges,
+    gates: Gates,
+    living: u64,
+    /// Nanoseconds of processor time that the uses took.
+    nanos: u64,
+}
+
+impl Side {
+    fn new(alloc: Global, config: &Config, living: u64) -> Result<Self, NoMemory>
+        requires { IsInRange config.now }
+    {
+        let mut exchanges = Exchanges::new(alloc);
+        let mut gates = Gates::new(alloc);
+        for _exchange in 0..living {
+            let _ = start(&mut exchanges, &mut gates, config)?;
+        }
+        Ok(Side {
+            exchanges,
+            gates,
+            living,
+            nanos: 0,
+        })
+    }
+
+    /// An exchange comes, takes ten octets, moves them, and goes. Answers whether all went so.
+    fn use_one(&mut self, config: &Config) -> Result<bool, NoMemory>
+        requires { IsInRange config.now }
+    {
+        let Some(exchange) = start(&mut self.exchanges, &mut self.gates, config)? else {
+            return Ok(false);
+        };
+        let request = FlowId {
+            exchange,
+            back: false,
+        };
+        let moved = feed(&mut self.exchanges, &self.gates, request)?;
+        Ok(end(&mut self.exchanges, &mut self.gates, exchange) && moved == 10)
+    }
+
+    /// Uses a round's exchanges, and adds the processor time that they took.
+    fn timed_round(&mut self, config: &Config, clock: &impl CpuClock) -> anyhow::Result<()>
+        requires { IsInRange config.now }
+    {
+        let watch = CpuStopwatch::start(clock)?;
+        for _use in 0..USES_A_ROUND {
+            let went = self.use_one(config).map_err(|_| anyhow!("out of memory"))?;
+            ensure!(went, "an exchange did not come and go");
+        }
+        self.nanos = self.nanos.saturating_add(watch.nanos(clock)?);
+        Ok(())
+    }
+
+    fn calls_per_second(&self) -> u64 {
+        per_second(CALLS, self.nanos.max(1))
+    }
+}
+
+fn both_sides(alloc: Global, config: &Config) -> Result<(Side, Side), NoMemory>
+    requires { IsInRange config.now }
+{
+    let one = Side::new(alloc, config, ONE)?;
+    Ok((one, Side::new(alloc, config, MANY)?))
+}
+
+fn report(rt: &impl Print, one: &Side, many: &Side) -> anyhow::Result<()> {
+    for side in [one, many] {
+        let rate = side.calls_per_second();
+        println!(rt;
+            "{} live: {rate} calls in a second of processor time",
+            side.living
+        )?;
+    }
+    let hundredths = u128::from(one.calls_per_second()) * 100
+        / u128::from(many.calls_per_second().max(1));
+    let (whole, rest) = (hundredths / 100, hundredths % 100);
+    println!(rt; "a call with {MANY} live exchanges costs {whole}.{rest:02} times one with {ONE}")?;
+    Ok(())
+}
+
+/// Uses exchanges on both sides in turns, and prints how many calls each does in a second of processor time.
+pub fn run(rt: &(impl AllocGlobal + Print + CpuClock)) -> anyhow::Result<()> {
+    let Ok(config) = Config::of_defaults(rt.alloc()) else {
+        bail!("out of memory");
+    };
+    let Ok((mut one, mut many)) = both_sides(rt.alloc(), &config) else {
+        bail!("out of memory");
+    };
+    for _round in 0..USES / USES_A_ROUND {
+        one.timed_round(&config, rt)?;
+        many.timed_round(&config, rt)?;
+    }
+    report(rt, &one, &many)
+}
