@@ -6,7 +6,7 @@ use std::alloc::Global;
 use std::io;
 
 /// How many octets a sink has room for.
-const ROOM: usize = 200_000;
+const ROOM: usize = 1_000_000;
 
 /// The most octets of a line that are shown.
 const SHOWN: usize = 200;
