@@ -23,7 +23,7 @@ fn none_held(alloc: Global, timers: &Timers) -> VecDeque<Timer>
     VecDeque::new(alloc)
 }
 
-/// Arms a timer and keeps it behind the others. False after want of memory.
+/// Arms a timer and keeps it behind the others. False after running out of memory.
 fn arm_one<L: Ledger>(
     timers: &mut Timers,
     held: &mut VecDeque<Timer>,

@@ -17,7 +17,7 @@ use Rattle.std.specs.BTreeMap.{BTreeMap, is_at}
 use Rattle.std.specs.Map.{lookup}
 use Rattle.std.specs.Option.{option_and_then}
 use Rattle.std.specs.Ordering.{nat_cmp}
-use Rattle.std.specs.Prelude.{Bool, IfSome, None, Option, Some, cond, false, is_some, nat_eq, option_map, true, ℕ, ◌≡◌}
+use Rattle.std.specs.Prelude.{Bool, IfSome, None, Option, Some, false, is_some, nat_eq, option_map, true, ℕ, ◌≡◌}
 
 -- a change of a flow that isn't there
 pub absent_changed : (back : Bool) (change : Flow → Flow) (exchange : Exchange) → flow_in back exchange ≡ None → flow_changed change back exchange ≡ exchange
@@ -26,20 +26,20 @@ absent_changed true change exchange none = ap (λ response. record exchange { re
 
 absent_at : (back : Bool) (change : Flow → Flow) (o : Option Exchange) → option_and_then (flow_in back) o ≡ None → option_map (flow_changed change back) o ≡ o
 absent_at back change None none = refl
-absent_at back change (Some exchange) none = ap (λ e. Some e) (absent_changed back change exchange none)
+absent_at back change (Some exchange) none = cc (absent_changed back change exchange none)
 
 pub absent_flow : (f : FlowId) (change : Flow → Flow) (old new : Exchanges) → flow_at old f ≡ None → new ≡ old → ChangesFlow f change old new
 absent_flow f change old new none same = record {
   flow = record {
     live = λ y. ap (λ e. exchange_at e y) same ∙ elim (cases_Bool (nat_eq f.exchange y)) [
       | inl itself ↦ ap (exchange_at old) (sym (eqb-true f.exchange y itself)) ∙ sym (absent_at f.back change (exchange_at old f.exchange) none)
-          ∙ sym (ap (λ b. cond b (option_map (flow_changed change f.back) (exchange_at old f.exchange)) (exchange_at old y)) itself)
-      | inr other ↦ sym (ap (λ b. cond b (option_map (flow_changed change f.back) (exchange_at old f.exchange)) (exchange_at old y)) other)
+          ∙ (cc)
+      | inr other ↦ (cc)
     ];
-    last = ap (λ e. e.last) same;
-    time = ap (λ e. e.time) same;
+    last = cc;
+    time = cc;
   };
-  doomed = ap (λ e. e.doomed) same;
+  doomed = cc;
 }
 
 -- ---- what the map doesn't find
@@ -47,7 +47,7 @@ pub left_alone : (c : Inside) (lent : BTreeMap ℕ Exchange) → lent ≡ c.live
 left_alone c lent same = λ i. exchanges_of (record c { live = same i })
 
 pub not_there : (c : Inside) (f : FlowId) → None ≡ lookup (is_at (nat_cmp f.exchange)) c.live.entries → flow_at (exchanges_of c) f ≡ None
-not_there c f none = ap (option_and_then (flow_in f.back)) (exchange_found c f.exchange None none)
+not_there c f none = cc (exchange_found c f.exchange None none)
 
 -- ---- whether there is a flow
 some_mapped : {A C : Type 0} (g : A → C) (o : Option A) → is_some (option_map g o) ≡ is_some o
@@ -55,7 +55,7 @@ some_mapped g None = refl
 some_mapped g (Some x) = refl
 
 pub same_there : {A B C : Type 0} (g : A → C) (h : B → C) (a : Option A) (b : Option B) → option_map g a ≡ option_map h b → is_some a ≡ is_some b
-same_there g h a b is = sym (some_mapped g a) ∙ ap is_some is ∙ some_mapped h b
+same_there g h a b is = cc (some_mapped g a, some_mapped h b)
 
 pub none_of : {A : Type 0} (o : Option A) → is_some o ≡ false → o ≡ None
 none_of None none = refl

@@ -11,7 +11,7 @@ use Rattle.proxy_config.specs.Ranges.{IsBetween}
 use Rattle.std.proofs.Common.{ap, arith, inl, inr, refl, subst, sym, ◌∙◌}
 use Rattle.std.proofs.lemmas.Bool.{cases_Bool, ltb-true}
 use Rattle.std.proofs.lemmas.List.Elements.{All-map, All-weaker}
-use Rattle.std.specs.Prelude.{Bool, IfSome, None, Option, Some, cond, false, length, nat_lt, option_map, true, ℕ, ◌+◌, ◌≤◌}
+use Rattle.std.specs.Prelude.{Bool, IfSome, None, Option, Some, false, length, nat_lt, option_map, true, ℕ, ◌+◌, ◌≤◌}
 
 -- ---- a chain
 ticked_sound : (now : ℕ) (chain : Chain) → chain.time ≤ now → IsSoundChain chain → IsSoundChain (chain_ticked chain now)
@@ -28,8 +28,8 @@ chain_sound : (now : ℕ) (chain : Chain) → IsSoundChain chain → IsSoundChai
 chain_sound now chain sound = elim (cases_Bool (nat_lt chain.time now)) [
   | inl is ↦
       let later = ltb-true chain.time now is in
-      subst (λ b. IsSoundChain (cond b (chain_ticked chain now) chain)) (sym is) (ticked_sound now chain (omega arith) sound)
-  | inr is ↦ subst (λ b. IsSoundChain (cond b (chain_ticked chain now) chain)) (sym is) sound
+      rw is (ticked_sound now chain (omega arith) sound)
+  | inr is ↦ rw is sound
 ]
 
 -- ---- a flow

@@ -2,7 +2,7 @@
 use Rattle.exchange_core.proofs.Sources.{later_last, later_step}
 use Rattle.exchange_core.proofs.StageSources.{send_held}
 use Rattle.exchange_core.specs.Flow.{Flow, last_place}
-use Rattle.exchange_core.specs.Moves.{is_free, is_held_at, is_target_above, last_free, last_free_to, later_above, lets_go, may_release}
+use Rattle.exchange_core.specs.Moves.{is_free, is_held_at, is_target_above, last_free, last_free_to, later_above, lets_go}
 use Rattle.filter_chain.specs.Chain.{EndsInSend, kinds}
 use Rattle.flow_gate.specs.Board.{Board, count, is_marked}
 use Rattle.flow_gate.specs.declared.ids.BufferId.TheVariants as buffer
@@ -45,7 +45,7 @@ module _ (board : Board) (to : Option ℕ) (flow : Flow) (alone : last_place flo
   send_alone = send_held board flow 1 (omega arith) (sym alone) ends
 
   target_alone : later_above board to flow 1 ≡ is_target_above board to
-  target_alone = ap (later_above board to flow) (sym alone) ∙ later_last board to flow
+  target_alone = cc (later_last board to flow)
 
   later_alone : later_above board to flow 0 ≡ (is_marked board (buffer.Send flow.chain.flow) || is_marked board (asked flow.chain.flow to))
   later_alone =
@@ -59,8 +59,7 @@ module _ (board : Board) (to : Option ℕ) (flow : Flow) (alone : last_place flo
       by_target (Some c) = refl
 
   free_alone : is_free board to flow 0 ≡ (nat_lt 0 (lets_go flow 0) && is_clear board flow.chain.flow (asked flow.chain.flow to))
-  free_alone = ap (λ b. nat_lt 0 (may_release board flow 0) && not b) later_alone
-      ∙ one_test (lets_go flow 0) (count board flow.chain.flow == 0) (is_marked board (buffer.Send flow.chain.flow)) (is_marked board (asked flow.chain.flow to))
+  free_alone = cc (later_alone, one_test (lets_go flow 0) (count board flow.chain.flow == 0) (is_marked board (buffer.Send flow.chain.flow)) (is_marked board (asked flow.chain.flow to)))
 
   last_alone : (free : Bool) → is_free board to flow 0 ≡ free → last_free board to flow ≡ (if free then Some 0 else None)
   last_alone free is =
@@ -73,7 +72,7 @@ module _ (board : Board) (to : Option ℕ) (flow : Flow) (alone : last_place flo
       last_alone true (free_alone ∙ (λ i. lets i && clear i))
 
   pub alone_held : is_clear board flow.chain.flow (asked flow.chain.flow to) ≡ false → last_free board to flow ≡ None
-  alone_held held = last_alone false (free_alone ∙ ap (λ b. nat_lt 0 (lets_go flow 0) && b) held ∙ sym (and_none (nat_lt 0 (lets_go flow 0))))
+  alone_held held = last_alone false (cc (free_alone, and_none (nat_lt 0 (lets_go flow 0))))
 
   pub alone_empty : lets_go flow 0 ≡ 0 → last_free board to flow ≡ None
-  alone_empty none = last_alone false (free_alone ∙ ap (λ n. nat_lt 0 n && is_clear board flow.chain.flow (asked flow.chain.flow to)) none)
+  alone_empty none = last_alone false (cc free_alone)

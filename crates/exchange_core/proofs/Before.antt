@@ -1,4 +1,5 @@
 -- Whether the places before one are empty.
+use Rattle.std.proofs.Math.Bool.{and-false}
 use Rattle.std.proofs.lemmas.Bool.Decides.{nat_tests}
 use Rattle.std.proofs.Common.{◌≡◌, ◌+◌, ◌<◌, ◌≤◌, ◌∙◌, ◌&&◌, ◌==◌, ℕ, suc, zero, Bool, true, false, length, refl, sym, ap, arith}
 use Rattle.exchange_core.specs.Flow.{Flow, octets_in}
@@ -7,24 +8,20 @@ use Rattle.filter_chain.specs.Chain.{octets_at}
 
 -- a place that is empty adds nothing
 pub before_next : (flow : Flow) (p : ℕ) → (length (octets_in flow p) == 0) ≡ true → empty_before flow (suc p) ≡ empty_before flow p
-before_next flow p e = ap (λ b. b && empty_before flow p) e
+before_next flow p e = cc
 
 -- one that isn't stands before all later ones
 pub not_before : (flow : Flow) (p q : ℕ) → p < q → (length (octets_in flow p) == 0) ≡ false → empty_before flow q ≡ false
 not_before flow p zero h e = absurd (omega arith)
 not_before flow p (suc q) h e = by_place (p == q) refl (λ apart. not_before flow p q apart e)
   where
-    and_false : (b : Bool) → (b && false) ≡ false
-    and_false true = refl
-    and_false false = refl
-
     by_place : (b : Bool) → (p == q) ≡ b → (p < q → empty_before flow q ≡ false) → empty_before flow (suc q) ≡ false
     by_place true s rest =
         let here : p ≡ q = grind (arith, nat_tests) in
         ap (λ b. b && empty_before flow q) (ap (λ n. length (octets_in flow n) == 0) (sym here) ∙ e)
     by_place false s rest =
         let apart : p < q = grind (arith, nat_tests) in
-        ap (λ b. (length (octets_in flow q) == 0) && b) (rest apart) ∙ and_false (length (octets_in flow q) == 0)
+        ap (λ b. (length (octets_in flow q) == 0) && b) (rest apart) ∙ and-false (length (octets_in flow q) == 0)
 
 -- ---- by the number of a place behind the receive buffer
 stage_octets : (flow : Flow) (p : ℕ) → 1 ≤ p → octets_in flow p ≡ octets_at flow.chain p
@@ -34,7 +31,7 @@ stage_octets flow (suc p) first = refl
 pub before_more : (flow : Flow) (p : ℕ) → 1 ≤ p → length (octets_at flow.chain p) ≡ 0 → empty_before flow (p + 1) ≡ empty_before flow p
 before_more flow p first e =
     let one : p + 1 ≡ suc p = omega arith in
-    let here : length (octets_in flow p) ≡ 0 = ap length (stage_octets flow p first) ∙ e in
+    let here : length (octets_in flow p) ≡ 0 = cc (stage_octets flow p first) in
     let none : (length (octets_in flow p) == 0) ≡ true = grind (arith, nat_tests) in
     ap (empty_before flow) one ∙ before_next flow p none
 

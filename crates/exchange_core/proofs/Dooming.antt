@@ -2,13 +2,13 @@
 use Rattle.exchange_core.proofs.Maps.{lookup_number, seen_of, stored_at, writes_number}
 use Rattle.exchange_core.proofs.Metered.{IsMarked, count_removed, count_values}
 use Rattle.exchange_core.specs.Changes.{Dooms}
-use Rattle.exchange_core.specs.Exchange.{IsSoundExchange, at_moment, is_metered, seen_at}
+use Rattle.exchange_core.specs.Exchange.{is_metered, seen_at}
 use Rattle.exchange_core.specs.Exchanges.{Exchanges, IsSound, exchange_at}
-use Rattle.exchange_core.specs.Flow.{Flow}
 use Rattle.number_set.specs.NumberSet.{NumberSet, has}
 use Rattle.exchange_core.specs.View.{IsKept, exchanges_of, stored}
 use Rattle.exchange_core.specs.declared.exchange.Exchange.{Exchange}
 use Rattle.exchange_core.specs.declared.exchanges.Exchanges.TheInside.{Inside}
+use Rattle.flow_gate.proofs.Places.{weaken}
 use Rattle.std.proofs.Common.{ap, arith, inl, inr, refl, subst, sym, ◌∙◌}
 use Rattle.std.proofs.lemmas.Bool.{cases_Bool, eq-eqb, false≢true, eqb-false, eqb-true, ne_eqb}
 use Rattle.std.proofs.lemmas.List.Sums.{sum_by-cons, sum_by_push}
@@ -17,19 +17,15 @@ use Rattle.std.specs.BTreeMap.{is_at}
 use Rattle.std.specs.List.{AllByRecursion}
 use Rattle.std.specs.List.Sorted.{IsStrictlySortedBy}
 use Rattle.std.specs.Map.{keys_of, lookup, remove_entry}
-use Rattle.std.specs.Option.{is_some, option_map_or}
+use Rattle.std.specs.Option.{option_map_or}
 use Rattle.std.specs.Ordering.{nat_cmp}
 use Rattle.std.specs.VecDeque.{deque_capacity, deque_len}
-use Rattle.std.specs.Prelude.{Bool, IfSome, IsSome, List, None, Option, Some, [], cond, count_by, false, length, nat_eq, option_map, true, ℕ, ◌++◌, ◌+◌, ◌∷◌, ◌≡◌, ◌≤◌}
+use Rattle.std.specs.Prelude.{Bool, IsSome, List, None, Some, [], cond, count_by, false, length, nat_eq, option_map, true, ℕ, ◌++◌, ◌+◌, ◌∷◌, ◌≡◌, ◌≤◌}
 
 -- ---- the deferred list
 all_last : {X : Type 0} (P : X → Type 0) (xs : List X) (x : X) → AllByRecursion P xs → P x → AllByRecursion P (xs ++ x ∷ [])
 all_last P [] x all last = (last, tt)
 all_last P (y ∷ ys) x all last = (all.0, all_last P ys x all.1 last)
-
-weaken : {X : Type 0} (P Q : X → Type 0) (xs : List X) → ((x : X) → P x → Q x) → AllByRecursion P xs → AllByRecursion Q xs
-weaken P Q [] f all = tt
-weaken P Q (x ∷ xs) f all = (f x all.0, weaken P Q xs f all.1)
 
 module _ (y x : ℕ) (doomed : List ℕ) where
   count_last : count_by (nat_eq y) (doomed ++ x ∷ []) ≡ count_by (nat_eq y) doomed + cond (nat_eq y x) 1 0
@@ -48,15 +44,15 @@ module _ (x : ℕ) (found : Exchange) (old : Exchanges) (live : List (ℕ × Exc
     (order : IsStrictlySortedBy nat_cmp (keys_of live)) where
   apart : (y : ℕ) → exchange_at old y ≡ None → nat_eq x y ≡ false
   apart y none = elim (cases_Bool (nat_eq x y)) [
-    | inl same ↦ absurd (none-some found (sym none ∙ ap (exchange_at old) (sym (eqb-true x y same)) ∙ there))
+    | inl same ↦ absurd (none-some found (cc (eqb-true x y same)))
     | inr other ↦ other
   ]
 
   at_other : (y : ℕ) → nat_eq x y ≡ false → exchange_at (record old { live = live }) y ≡ exchange_at old y
-  at_other y other = writes y ∙ ap (λ b. cond b None (exchange_at old y)) other
+  at_other y other = cc (writes y)
 
   at_itself : (y : ℕ) → nat_eq x y ≡ true → exchange_at (record old { live = live }) y ≡ None
-  at_itself y same = writes y ∙ ap (λ b. cond b None (exchange_at old y)) same
+  at_itself y same = cc (writes y)
 
   not_twice : (doomed : List ℕ) → AllByRecursion (λ y. (y ≤ old.last) × (exchange_at old y ≡ None)) doomed → count_by (nat_eq x) doomed ≡ 0
   not_twice [] all = refl
@@ -73,16 +69,16 @@ module _ (x : ℕ) (found : Exchange) (old : Exchanges) (live : List (ℕ × Exc
       | inr other ↦ sound.below y (subst IsSome (at_other y other) some)
     ];
     each = λ y. elim (cases_Bool (nat_eq x y)) [
-      | inl same ↦ subst (λ o. IfSome o (IsSoundExchange y old.time)) (sym (at_itself y same)) tt
-      | inr other ↦ subst (λ o. IfSome o (IsSoundExchange y old.time)) (sym (at_other y other)) (sound.each y)
+      | inl same ↦ rw (at_itself y same) tt
+      | inr other ↦ rw (at_other y other) (sound.each y)
     ];
     dead = all_last _ old.doomed x
-        (weaken _ _ old.doomed (λ y is. (is.0, at_other y (apart y is.1) ∙ is.1)) sound.dead)
+        (weaken old.doomed (λ y is. (is.0, at_other y (apart y is.1) ∙ is.1)) sound.dead)
         (sound.below x (subst IsSome (sym there) refl), at_itself x (eq-eqb x x refl));
     once = λ y. elim (cases_Bool (nat_eq x y)) [
       | inl same ↦
           let e : x ≡ y = eqb-true x y same in
-          let none : count_by (nat_eq y) old.doomed ≡ 0 = subst (λ n. count_by (nat_eq n) old.doomed ≡ 0) e (not_twice old.doomed sound.dead) in
+          let none : count_by (nat_eq y) old.doomed ≡ 0 = rw (← e) (not_twice old.doomed sound.dead) in
           omega (arith, none, count_last y x old.doomed, at_most_one (nat_eq y x))
       | inr other ↦
           let apart : cond (nat_eq y x) 1 0 ≡ 0 = ap {B = ℕ} (λ b. cond b 1 0) (ne_eqb y x (λ e. eqb-false x y other (sym e))) in
@@ -97,7 +93,7 @@ module _ (c a : Inside) (x : ℕ) (found : Exchange) (kept : IsKept c)
   leaves_at = writes_number x None c.live.entries a.live.entries updates
 
   stored_leaves : (y : ℕ) → exchange_at (record (stored c) { live = a.live.entries }) y ≡ cond (nat_eq x y) None (exchange_at (stored c) y)
-  stored_leaves y = stored_at (record c { live = a.live }) y ∙ leaves_at y ∙ ap (λ o. cond (nat_eq x y) None o) (sym (stored_at c y))
+  stored_leaves y = cc (stored_at (record c { live = a.live }) y, leaves_at y, stored_at c y)
 
   in_map : exchange_at (stored c) x ≡ Some found
   in_map = stored_at c x ∙ sym (lookup_number c.live.entries x) ∙ sym found_is
@@ -121,10 +117,10 @@ module _ (c a : Inside) (x : ℕ) (found : Exchange) (kept : IsKept c)
     told = omega (arith, same, time, kept.told);
     room = omega (arith, long, more, room, kept.room);
     metered = λ y. marks.items y ∙ elim (nat_eq x y) as (λ b. cond b false (has c.metered.items y) ≡ option_map_or is_metered (cond b None (exchange_at (stored c) y)) false) [ true ↦ refl | false ↦ kept.metered y ]
-        ∙ ap (λ o. option_map_or is_metered o false) (ap (λ o. cond (nat_eq x y) None o) (stored_at c y) ∙ sym (leaves_at y) ∙ sym (stored_at a y));
+        ∙ ap (λ o. option_map_or is_metered o false) (ap (cond (nat_eq x y) None) (stored_at c y) ∙ sym (leaves_at y) ∙ sym (stored_at a y));
     counted =
         let left : count_values is_metered a.live.entries + cond (is_metered found) 1 0 ≡ count_values is_metered c.live.entries =
-        ap (λ es. count_values is_metered es + cond (is_metered found) 1 0) entries ∙ count_removed is_metered (is_at (nat_cmp x)) c.live.entries found found_is in
+        cc (count_removed is_metered (is_at (nat_cmp x)) c.live.entries found found_is) in
         omega (arith, left, marks.counted, kept.counted);
     ready = omega (arith, long, kept.ready, marks.room);
   }
@@ -134,12 +130,8 @@ pub is_unmarked : (c : Inside) (x : ℕ) (found : Exchange) → IsKept c → Som
     IsMarked x (is_metered found) false c.metered marked
 is_unmarked c x found kept found_is marked items len room =
     let is : has c.metered.items x ≡ is_metered found =
-    kept.metered x ∙ ap (λ o. option_map_or is_metered o false) (stored_at c x ∙ sym (lookup_number c.live.entries x) ∙ sym found_is) in
-    record { items = items; counted = ap (λ b. length marked.items + cond b 1 0) (sym is) ∙ len; room = room }
-
-pub response_known : (now : ℕ) (response : Option Flow) → is_some (option_map (at_moment now) response) ≡ is_some response
-response_known now None = refl
-response_known now (Some flow) = refl
+    cc (kept.metered x, stored_at c x, lookup_number c.live.entries x) in
+    record { items = items; counted = cc; room = room }
 
 -- ---- a sweep
 pub sound_swept : (x : ℕ) (rest : List ℕ) (old : Exchanges) → old.doomed ≡ x ∷ rest → IsSound old → IsSound (record old { doomed = rest })

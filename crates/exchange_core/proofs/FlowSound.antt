@@ -1,5 +1,5 @@
 -- A flow stays as it should be, whatever is done to it.
-use Rattle.std.proofs.Common.{◌≡◌, ◌-◌, ◌<◌, ◌≤◌, ℕ, suc, zero, List, [], ◌∷◌, length, true, refl, arith}
+use Rattle.std.proofs.Common.{◌≡◌, ◌<◌, ◌≤◌, ℕ, suc, zero, List, [], ◌∷◌, length, true, refl, arith}
 use Rattle.std.proofs.lemmas.List.Sums.{sum_by-cons}
 use Rattle.exchange_core.specs.Effects.{moved}
 use Rattle.exchange_core.specs.Flow.{Flow, IsSound, held_by, octets_in}

@@ -4,7 +4,7 @@ use Rattle.std.proofs.lemmas.Bool.{false≢true}
 use Rattle.std.proofs.lemmas.Bool.Decides.{nat_tests}
 use Rattle.exchange_core.proofs.FlowSound.{held_at}
 use Rattle.exchange_core.specs.Flow.{Flow, IsHeadAlone, IsSound, held_by, last_place, octets_in, send}
-use Rattle.exchange_core.specs.Message.{head_waits, trailers_wait}
+use Rattle.exchange_core.specs.Message.{head_waits}
 use Rattle.exchange_core.specs.Units.{IsFrameable, empty_before, list_may_end}
 use Rattle.exchange_core.specs.State.{ungated}
 use Rattle.flow_rules.specs.Units.{is_last}
@@ -28,14 +28,12 @@ none_left flow empty =
 
 -- ---- a head
 no_trailers : (b : Bool) (o : Option (List Field)) → o ≡ None → not (b && is_some o) ≡ true
-no_trailers true o e = ap (λ x. not (is_some x)) e
+no_trailers true o e = cc
 no_trailers false o e = refl
 
 head_alone : (flow : Flow) → IsHeadAlone flow → list_may_end flow ≡ true
 head_alone flow alone =
-    ap (λ ended. (ended && is_last (ungated (pos 0) 0 flow) 0) && not (head_waits flow.message && trailers_wait flow.message)) alone.ended
-    ∙ (ap (λ last. last && not (head_waits flow.message && trailers_wait flow.message)) (none_left flow alone.empty)
-    ∙ no_trailers (head_waits flow.message) flow.message.trailers alone.bare)
+    cc (none_left flow alone.empty, no_trailers (head_waits flow.message) flow.message.trailers alone.bare)
 
 first_list : (head trailers : Option (List Field)) → is_some head ≡ true → is_some (if is_some head then head else trailers) ≡ true
 first_list None trailers e = absurd (false≢true e)

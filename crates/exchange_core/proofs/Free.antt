@@ -1,6 +1,6 @@
 -- Which place moves next.
 use Rattle.std.proofs.lemmas.Bool.Decides.{nat_tests}
-use Rattle.std.proofs.Common.{◌≡◌, ◌-◌, ◌<◌, ◌≤◌, ◌∙◌, ◌&&◌, ◌||◌, ℕ, suc, zero, Bool, true, false, refl, sym, ap, nat_lt, arith}
+use Rattle.std.proofs.Common.{◌≡◌, ◌-◌, ◌<◌, ◌≤◌, ◌∙◌, ◌&&◌, ◌||◌, ℕ, suc, zero, Bool, true, false, refl, ap, nat_lt, arith}
 use Rattle.exchange_core.proofs.Sources.{later_last, later_step}
 use Rattle.exchange_core.specs.Flow.{Flow, last_place}
 use Rattle.exchange_core.specs.Moves.{is_free, is_held_at, is_target_above, last_free, last_free_to, later_above, may_release}
@@ -22,14 +22,14 @@ and_not_true false = refl
 
 -- a place with a source above behind it isn't free
 held_back : (board : Board) (to : Option ℕ) (flow : Flow) (p : ℕ) → later_above board to flow p ≡ true → is_free board to flow p ≡ false
-held_back board to flow p e = ap (λ b. nat_lt 0 (may_release board flow p) && not b) e ∙ and_not_true (nat_lt 0 (may_release board flow p))
+held_back board to flow p e = cc (and_not_true (nat_lt 0 (may_release board flow p)))
 
 -- nor is any before it
 pub none_free : (board : Board) (to : Option ℕ) (flow : Flow) (p : ℕ) → p < last_place flow → later_above board to flow p ≡ true → last_free_to board to flow p ≡ None
-none_free board to flow zero h e = ap (λ b. if b then Some 0 else None) (held_back board to flow 0 e)
+none_free board to flow zero h e = cc (held_back board to flow 0 e)
 none_free board to flow (suc p) h e =
     let before : later_above board to flow p ≡ true =
-    later_step board to flow p (omega arith) ∙ (ap (λ b. is_held_at board flow (suc p) || b) e ∙ or_true (is_held_at board flow (suc p))) in
+    cc (later_step board to flow p (omega arith), or_true (is_held_at board flow (suc p))) in
     ap (λ b. if b then Some (suc p) else last_free_to board to flow p) (held_back board to flow (suc p) e)
     ∙ none_free board to flow p (omega arith) before
 
@@ -37,29 +37,29 @@ none_free board to flow (suc p) h e =
 module _ (board : Board) (to : Option ℕ) (flow : Flow) where
   pub clear_step : (q : ℕ) → q < last_place flow → is_held_at board flow (suc q) ≡ false → later_above board to flow (suc q) ≡ false → later_above board to flow q ≡ false
   clear_step q h held clear =
-      later_step board to flow q h ∙ (ap (λ b. b || later_above board to flow (suc q)) held ∙ clear)
+      cc (later_step board to flow q h)
 
   pub held_step : (q : ℕ) → q < last_place flow → is_held_at board flow (suc q) ≡ true → free_before board to flow (suc q) ≡ None
   held_step q h held =
-      none_free board to flow q h (later_step board to flow q h ∙ ap (λ b. b || later_above board to flow (suc q)) held)
+      none_free board to flow q h (cc (later_step board to flow q h))
 
   free_if : (p : ℕ) (some : Bool) → nat_lt 0 (may_release board flow p) ≡ some → later_above board to flow p ≡ false → is_free board to flow p ≡ some
-  free_if p true e clear = ap (λ b. b && not (later_above board to flow p)) e ∙ ap not clear
-  free_if p false e clear = ap (λ b. b && not (later_above board to flow p)) e
+  free_if p true e clear = cc
+  free_if p false e clear = cc
 
   -- a place that lets octets go, with no source above behind it, is the last one that is free up to itself
   pub found_free : (p : ℕ) → 0 < may_release board flow p → later_above board to flow p ≡ false → last_free_to board to flow p ≡ Some p
   found_free zero h clear =
-      ap (λ b. if b then Some 0 else None) (free_if 0 true (grind (arith, nat_tests)) clear)
+      cc (free_if 0 true (grind (arith, nat_tests)) clear)
   found_free (suc p) h clear =
-      ap (λ b. if b then Some (suc p) else last_free_to board to flow p) (free_if (suc p) true (grind (arith, nat_tests)) clear)
+      cc (free_if (suc p) true (grind (arith, nat_tests)) clear)
 
   -- one that lets nothing go is passed over
   pub passed_over : (p : ℕ) → may_release board flow p ≡ 0 → later_above board to flow p ≡ false → last_free_to board to flow p ≡ free_before board to flow p
   passed_over zero h clear =
-      ap (λ b. if b then Some 0 else None) (free_if 0 false (grind (arith, nat_tests)) clear)
+      cc (free_if 0 false (grind (arith, nat_tests)) clear)
   passed_over (suc p) h clear =
-      ap (λ b. if b then Some (suc p) else last_free_to board to flow p) (free_if (suc p) false (grind (arith, nat_tests)) clear)
+      cc (free_if (suc p) false (grind (arith, nat_tests)) clear)
 
   -- ---- by the place that a search has reached
   pub free_start : (p : ℕ) → 1 ≤ p → p ≡ last_place flow → last_free board to flow ≡ free_before board to flow p
@@ -73,13 +73,12 @@ module _ (board : Board) (to : Option ℕ) (flow : Flow) where
   target_holds some above =
       let before : last_place flow ≡ suc (last_place flow - 1) = omega arith in
       let last : later_above board to flow (suc (last_place flow - 1)) ≡ true =
-      ap (later_above board to flow) (sym before) ∙ (later_last board to flow ∙ above) in
+      cc (later_last board to flow) in
       none_free board to flow (last_place flow - 1) (omega arith)
-      (later_step board to flow (last_place flow - 1) (omega arith)
-      ∙ (ap (λ b. is_held_at board flow (suc (last_place flow - 1)) || b) last ∙ or_true (is_held_at board flow (suc (last_place flow - 1)))))
+      (cc (later_step board to flow (last_place flow - 1) (omega arith), or_true (is_held_at board flow (suc (last_place flow - 1)))))
 
   pub target_clear : (p : ℕ) → p ≡ last_place flow → is_target_above board to ≡ false → later_above board to flow p ≡ false
-  target_clear p e low = ap (later_above board to flow) e ∙ (later_last board to flow ∙ low)
+  target_clear p e low = cc (later_last board to flow)
 
   -- the place that the search has reached is above
   pub held_here : (p : ℕ) → 1 ≤ p → p ≤ last_place flow → is_held_at board flow p ≡ true → free_before board to flow p ≡ None

@@ -1,5 +1,5 @@
 -- How many octets a flow holds, counted place by place.
-use Rattle.std.proofs.Common.{◌≡◌, ◌+◌, ◌<◌, ◌∙◌, ℕ, suc, zero, List, [], ◌∷◌, take, length, refl, sym, ap, arith}
+use Rattle.std.proofs.Common.{◌≡◌, ◌+◌, ◌<◌, ◌∙◌, ℕ, suc, zero, List, [], ◌∷◌, take, length, refl, ap, arith}
 use Rattle.std.proofs.lemmas.List.Sums.{sum_by-cons}
 use Rattle.exchange_core.specs.Flow.{Flow, last_place}
 use Rattle.filter_chain.specs.Chain.{octets_at}
@@ -24,7 +24,7 @@ held_more (x ∷ places) (suc i) h = omega (
 pub held_next : (flow : Flow) (i : ℕ) → i < last_place flow → held_in_first (i + 1) flow.chain.places ≡ held_in_first i flow.chain.places + length (octets_at flow.chain (i + 1))
 held_next flow i h =
     let one : i + 1 ≡ suc i = omega arith in
-    ap (λ k. held_in_first k flow.chain.places) one ∙ (held_more flow.chain.places i h ∙ ap (λ k. held_in_first i flow.chain.places + length (octets_at flow.chain k)) (sym one))
+    ap (λ k. held_in_first k flow.chain.places) one ∙ (cc (held_more flow.chain.places i h))
 
 take_all : (places : List Place) (i : ℕ) → i ≡ length places → held_in_first i places ≡ sum_by (λ place. length place.octets) places
 take_all [] zero e = refl

@@ -1,18 +1,15 @@
 -- What is kept where nothing is changed but room is made, and where the first of the doomed goes.
 use Rattle.exchange_core.proofs.Dooming.{sound_swept}
-use Rattle.exchange_core.specs.Exchange.{IsSoundExchange, is_metered}
-use Rattle.exchange_core.specs.Exchanges.{IsSound, exchange_at, is_metered_at}
-use Rattle.number_set.specs.NumberSet.{has}
+use Rattle.exchange_core.specs.Exchanges.{IsSound, exchange_at}
 use Rattle.exchange_core.specs.View.{IsKept, exchanges_of, seen_all, stored}
 use Rattle.exchange_core.specs.declared.exchanges.Exchanges.TheInside.{Inside}
-use Rattle.std.proofs.Common.{ap, arith, subst, sym, ◌∙◌}
+use Rattle.std.proofs.Common.{ap, arith, subst, sym}
 use Rattle.std.proofs.lemmas.Bool.{false≢true}
-use Rattle.std.specs.List.{AllByRecursion}
 use Rattle.std.specs.List.Sorted.{IsStrictlySortedBy}
 use Rattle.std.specs.Map.{keys_of, lookup}
-use Rattle.std.specs.Option.{is_some, option_map_or}
+use Rattle.std.specs.Option.{is_some}
 use Rattle.std.specs.Ordering.{nat_cmp}
-use Rattle.std.specs.Prelude.{IfSome, List, None, Option, Some, [], count_by, false, length, nat_eq, option_to_list, true, ℕ, ◌++◌, ◌+◌, ◌≡◌, ◌≤◌}
+use Rattle.std.specs.Prelude.{List, None, Option, Some, [], length, nat_eq, option_to_list, true, ℕ, ◌++◌, ◌≡◌, ◌≤◌}
 use Rattle.std.specs.VecDeque.{deque_capacity, deque_len}
 
 -- ---- room was made
@@ -25,8 +22,8 @@ room_made c a kept live doomed last time ticked marks len more ready = (
     sound = subst IsSound (sym same) kept.sound;
     told = omega (arith, ticked, time, kept.told);
     room = omega (arith, ap length live, len, more, kept.room);
-    metered = λ x. ap (λ items. has items x) marks ∙ kept.metered x ∙ ap (λ e. is_metered_at e x) (sym same);
-    counted = ap length marks ∙ kept.counted ∙ ap (λ es. count_by (λ e. is_metered e.1) es) (sym live);
+    metered = λ x. cc (kept.metered x, same);
+    counted = cc;
     ready = omega (arith, ap length live, ready, kept.ready);
   },
 )
@@ -36,7 +33,7 @@ room_made c a kept live doomed last time ticked marks len more ready = (
 
 -- ---- a sweep
 pub swept_sound : (c : Inside) (swept : Option ℕ) (rest : List ℕ) → c.doomed.items ≡ option_to_list swept ++ rest → IsSound (stored c) → IsSound (record (stored c) { doomed = rest })
-swept_sound c None rest is sound = subst (λ ds. IsSound (record (stored c) { doomed = ds })) is sound
+swept_sound c None rest is sound = rw (← is) sound
 swept_sound c (Some x) rest is sound = sound_swept x rest (stored c) is sound
 
 pub swept_kept : (c a : Inside) (swept : Option ℕ) → IsKept c → c.doomed.items ≡ option_to_list swept ++ a.doomed.items → deque_len a.doomed ≤ deque_len c.doomed
@@ -47,8 +44,8 @@ swept_kept c a swept kept items len more live last time ticked marks ready = rec
   sound = subst IsSound (λ i. record { live = sym live i; doomed = a.doomed.items; last = sym last i; time = sym time i }) (swept_sound c swept a.doomed.items items kept.sound);
   told = omega (arith, ticked, time, kept.told);
   room = omega (arith, ap length live, len, more, kept.room);
-  metered = λ x. ap (λ items. has items x) marks ∙ kept.metered x ∙ ap (λ es. option_map_or is_metered (lookup (nat_eq x) es) false) (sym live);
-  counted = ap length marks ∙ kept.counted ∙ ap (λ es. count_by (λ e. is_metered e.1) es) (sym live);
+  metered = λ x. cc (kept.metered x);
+  counted = cc;
   ready = omega (arith, ap length live, ready, kept.ready);
 }
 
@@ -60,13 +57,13 @@ nothing_kept c live doomed marks order told none = record {
   sound = record {
     order = order;
     below = λ x some. absurd (false≢true (subst (λ es. is_some (lookup (nat_eq x) es) ≡ true) live some));
-    each = λ x. subst (λ es. IfSome (lookup (nat_eq x) es) (IsSoundExchange x c.time)) (sym live) tt;
-    dead = subst (λ ds. AllByRecursion (λ x. (x ≤ c.last) × (exchange_at (stored c) x ≡ None)) ds) (sym doomed) tt;
-    once = λ x. subst (λ ds. count_by (nat_eq x) ds ≤ 1) (sym doomed) (omega arith);
+    each = λ x. rw live tt;
+    dead = rw doomed tt;
+    once = λ x. rw doomed (omega arith);
   };
   told = told;
   room = omega (arith, none, ap length live);
-  metered = λ x. ap (λ items. has items x) marks ∙ sym (ap (λ es. option_map_or is_metered (lookup (nat_eq x) es) false) live);
-  counted = ap length marks ∙ sym (ap (λ es. count_by (λ e. is_metered e.1) es) live);
+  metered = λ x. cc;
+  counted = cc;
   ready = omega (arith, ap length live);
 }

@@ -3,7 +3,7 @@ use Rattle.exchange_core.proofs.Finding.{flow_found, target_found}
 use Rattle.exchange_core.proofs.Metered.{IsMarked}
 use Rattle.exchange_core.proofs.Outcomes.{at_found, from_found}
 use Rattle.exchange_core.proofs.Steady.{IsSteady, steady_same}
-use Rattle.exchange_core.proofs.Writing.{change_kept, change_none, changes_flow, flow_after, found_sound, not_marked, sound_changed, unchanged, with_changed}
+use Rattle.exchange_core.proofs.Writing.{change_kept, change_none, changed_in, changes_flow, flow_after, found_sound, not_marked, sound_changed, unchanged, with_changed}
 use Rattle.exchange_core.specs.Changes.{ChangesFlow}
 use Rattle.exchange_core.specs.Exchange.{flow_changed, flow_in, goes_to, is_metered, seen_at, with_flow}
 use Rattle.exchange_core.specs.Exchanges.{flow_at, target_of}
@@ -14,11 +14,11 @@ use Rattle.exchange_core.specs.declared.exchange.Exchange.{Exchange}
 use Rattle.exchange_core.specs.declared.exchanges.Exchanges.TheInside.{Inside}
 use Rattle.filter_chain.specs.Chain.{EndsInSend, kinds}
 use Rattle.flow_gate.specs.declared.ids.FlowId.{FlowId}
-use Rattle.std.proofs.Common.{ap, refl, subst, sym, ◌∙◌}
+use Rattle.std.proofs.Common.{refl, subst, sym, ◌∙◌}
 use Rattle.std.specs.BTreeMap.{BTreeMap, WritesThrough, is_at}
 use Rattle.std.specs.Map.{lookup}
 use Rattle.std.specs.Ordering.{nat_cmp}
-use Rattle.std.specs.Prelude.{Bool, IfSome, Option, Some, false, option_map, true, ℕ, ◌≡◌}
+use Rattle.std.specs.Prelude.{IfSome, Option, Some, option_map, ℕ, ◌≡◌}
 
 -- ---- what is said of the flow that is seen
 module _ (P : Flow → Type 0) (c : Inside) (f : FlowId) {found : Exchange} {flow : Flow} (is : Some found ≡ lookup (is_at (nat_cmp f.exchange)) c.live.entries)
@@ -41,7 +41,7 @@ module _ (c : Inside) (f : FlowId) {found : Exchange} (is : Some found ≡ looku
   map_seen g = λ i. option_map (g (sym aimed_is i)) (sym seen_is i)
 
   pub says_aimed : (P : Option ℕ → Flow → Type 0) → IfSome (flow_in f.back (seen_at c.ticked found)) (P (goes_to f.back found)) → IfSome (flow_at (exchanges_of c) f) (P (target_of (exchanges_of c) f))
-  says_aimed P h = subst (λ o. IfSome o (P (target_of (exchanges_of c) f))) (sym seen_is) (subst (λ t. IfSome (flow_in f.back (seen_at c.ticked found)) (P t)) (sym aimed_is) h)
+  says_aimed P h = rw seen_is (subst (λ t. IfSome (flow_in f.back (seen_at c.ticked found)) (P t)) (sym aimed_is) h)
 
 -- ---- a flow
 pub record Lent (c : Inside) (lender : Exchange → BTreeMap ℕ Exchange) (f : FlowId) (found : Exchange) (flow written : Flow) : Type 0 where
@@ -63,8 +63,8 @@ module _ {c : Inside} {lender : Exchange → BTreeMap ℕ Exchange} {f : FlowId}
   lent_done change steady is same =
       let w = with_flow f.back written (seen_at c.ticked found) in
       let e : w ≡ flow_changed change f.back (seen_at c.ticked found) = with_changed f.back change (seen_at c.ticked found) flow written (sym l.there) is in
-      let ok : IfSome (flow_in f.back (seen_at c.ticked found)) (λ g. IsSoundFlow (change g)) = subst (λ o. IfSome o (λ g. IsSoundFlow (change g))) l.there (subst IsSoundFlow is l.sound) in
-      let calm : IfSome (flow_in f.back (seen_at c.ticked found)) (λ g. meters_hold (change g) ≡ meters_hold g) = subst (λ o. IfSome o (λ g. meters_hold (change g) ≡ meters_hold g)) l.there same in (
+      let ok : IfSome (flow_in f.back (seen_at c.ticked found)) (λ g. IsSoundFlow (change g)) = rw (← l.there) (subst IsSoundFlow is l.sound) in
+      let calm : IfSome (flow_in f.back (seen_at c.ticked found)) (λ g. meters_hold (change g) ≡ meters_hold g) = rw (← l.there) same in (
         changes_flow c (lender w) c.metered f change found w l.kept steady l.is e ok l.through,
         change_kept c (lender w) c.metered f change found w l.kept steady l.is e ok l.through (not_marked c (lender w) c.metered f change found w l.kept steady l.is e ok l.through calm),
       )
@@ -72,14 +72,13 @@ module _ {c : Inside} {lender : Exchange → BTreeMap ℕ Exchange} {f : FlowId}
   -- the flow that is seen then
   pub lent_seen : (change : Flow → Flow) → IsSteady change → written ≡ change flow → meters_hold (change flow) ≡ meters_hold flow → flow_at (exchanges_of (left c lender f found written)) f ≡ Some written
   lent_seen change steady is same =
-      flow_after f change (exchanges_of c) (exchanges_of (left c lender f found written)) (lent_done change steady is same).0
-      ∙ ap (option_map change) (flow_found c f found (Some flow) l.is l.there) ∙ ap (λ (g : Flow). Some g) (sym is)
+      cc (flow_after f change (exchanges_of c) (exchanges_of (left c lender f found written)) (lent_done change steady is same).0, flow_found c f found (Some flow) l.is l.there, is)
 
   pub lent_refused : written ≡ flow → (exchanges_of (left c lender f found written) ≡ exchanges_of c) × IsKept (left c lender f found written)
   lent_refused is =
       let w = with_flow f.back written (seen_at c.ticked found) in
       let e : w ≡ flow_changed (λ g. g) f.back (seen_at c.ticked found) = with_changed f.back (λ g. g) (seen_at c.ticked found) flow written (sym l.there) is in
-      let ok : IfSome (flow_in f.back (seen_at c.ticked found)) (λ g. IsSoundFlow g) = subst (λ o. IfSome o (λ g. IsSoundFlow g)) l.there (subst IsSoundFlow is l.sound) in (
+      let ok : IfSome (flow_in f.back (seen_at c.ticked found)) IsSoundFlow = rw (← l.there) (subst IsSoundFlow is l.sound) in (
         change_none c (lender w) c.metered f (λ g. g) found w l.kept steady_same l.is e ok l.through (unchanged f.back (seen_at c.ticked found)),
         (lent_done (λ g. g) steady_same is refl).1,
       )
@@ -116,10 +115,4 @@ module _ {c : Inside} {lender : Exchange → BTreeMap ℕ Exchange} {marked : Nu
   pub whole_seen : (change : Flow → Flow) → IsSteady change → written ≡ flow_changed change f.back (seen_at c.ticked found) →
       flow_at (exchanges_of (left_whole c lender marked written)) f ≡ flow_in f.back written
   whole_seen change steady is =
-      flow_after f change (exchanges_of c) (exchanges_of (left_whole c lender marked written)) (whole_done change steady is).0
-      ∙ ap (option_map change) (flow_found c f found (flow_in f.back (seen_at c.ticked found)) l.is refl)
-      ∙ sym (ap (flow_in f.back) is ∙ changed_in f.back change (seen_at c.ticked found))
-    where
-      changed_in : (back : Bool) (change : Flow → Flow) (exchange : Exchange) → flow_in back (flow_changed change back exchange) ≡ option_map change (flow_in back exchange)
-      changed_in false change exchange = refl
-      changed_in true change exchange = refl
+      cc (flow_after f change (exchanges_of c) (exchanges_of (left_whole c lender marked written)) (whole_done change steady is).0, flow_found c f found (flow_in f.back (seen_at c.ticked found)) l.is refl, is, changed_in f.back change (seen_at c.ticked found))

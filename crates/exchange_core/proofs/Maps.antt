@@ -35,12 +35,12 @@ pub seen_same : {X Y : Type 0} (g : X → Y) (test : ℕ → Bool) (es : List (�
 seen_same g test [] v w is same = refl
 seen_same {X} {Y} g test (e ∷ es) v w is same = elim (cases_Bool (test e.0)) [
   | inl here ↦
-      let value : v ≡ e.1 = same_Some v e.1 (is ∙ ap (λ t. cond t (Some e.1) (lookup test es)) here) in
+      let value : v ≡ e.1 = same_Some v e.1 (cc) in
       ap (λ t. map {B = ℕ × Y} (λ d. (d.0, g d.1)) (cond t ((e.0, w) ∷ es) (e ∷ set_value test es w))) here
-      ∙ ap (λ y. (e.0, y) ∷ map {B = ℕ × Y} (λ d. (d.0, g d.1)) es) (same ∙ ap g value)
+      ∙ ap (λ y. (e.0, y) ∷ map {B = ℕ × Y} (λ d. (d.0, g d.1)) es) (cc)
   | inr other ↦
       ap (λ t. map {B = ℕ × Y} (λ d. (d.0, g d.1)) (cond t ((e.0, w) ∷ es) (e ∷ set_value test es w))) other
-      ∙ ap (λ ys. (e.0, g e.1) ∷ ys) (seen_same g test es v w (is ∙ ap (λ t. cond t (Some e.1) (lookup test es)) other) same)
+      ∙ ap (λ ys. (e.0, g e.1) ∷ ys) (seen_same g test es v w (cc) same)
 ]
 
 -- ---- what is seen

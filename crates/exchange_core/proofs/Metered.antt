@@ -47,13 +47,13 @@ module _ {X : Type 0} (p : X → Bool) where
   count_set test [] v w is = absurd (none-some v (sym is))
   count_set test (e ∷ es) v w is = elim (cases_Bool (test e.0)) [
     | inl here ↦
-        let value : v ≡ e.1 = same_Some v e.1 (is ∙ ap (λ t. cond t (Some e.1) (lookup test es)) here) in
-        let set : count_values (set_value test (e ∷ es) w) ≡ count_values ((e.0, w) ∷ es) = ap (λ t. count_values (cond t ((e.0, w) ∷ es) (e ∷ set_value test es w))) here in
+        let value : v ≡ e.1 = same_Some v e.1 (cc) in
+        let set : count_values (set_value test (e ∷ es) w) ≡ count_values ((e.0, w) ∷ es) = cc in
         let same : cond (p v) 1 0 ≡ cond (p e.1) 1 0 = ap {B = ℕ} (λ x. cond (p x) 1 0) value in
         omega (arith, set, same, count_cons e es, count_cons (e.0, w) es)
     | inr other ↦
-        let set : count_values (set_value test (e ∷ es) w) ≡ count_values (e ∷ set_value test es w) = ap (λ t. count_values (cond t ((e.0, w) ∷ es) (e ∷ set_value test es w))) other in
-        let rest = count_set test es v w (is ∙ ap (λ t. cond t (Some e.1) (lookup test es)) other) in
+        let set : count_values (set_value test (e ∷ es) w) ≡ count_values (e ∷ set_value test es w) = cc in
+        let rest = count_set test es v w (cc) in
         omega (arith, set, rest, count_cons e es, count_cons e (set_value test es w))
   ]
 
@@ -62,13 +62,13 @@ module _ {X : Type 0} (p : X → Bool) where
   count_removed test [] v is = absurd (none-some v (sym is))
   count_removed test (e ∷ es) v is = elim (cases_Bool (test e.0)) [
     | inl here ↦
-        let value : v ≡ e.1 = same_Some v e.1 (is ∙ ap (λ t. cond t (Some e.1) (lookup test es)) here) in
-        let left : count_values (remove_entry test (e ∷ es)) ≡ count_values es = ap (λ t. count_values (cond t es (e ∷ remove_entry test es))) here in
+        let value : v ≡ e.1 = same_Some v e.1 (cc) in
+        let left : count_values (remove_entry test (e ∷ es)) ≡ count_values es = cc in
         let same : cond (p v) 1 0 ≡ cond (p e.1) 1 0 = ap {B = ℕ} (λ x. cond (p x) 1 0) value in
         omega (arith, left, same, count_cons e es)
     | inr other ↦
-        let left : count_values (remove_entry test (e ∷ es)) ≡ count_values (e ∷ remove_entry test es) = ap (λ t. count_values (cond t es (e ∷ remove_entry test es))) other in
-        let rest = count_removed test es v (is ∙ ap (λ t. cond t (Some e.1) (lookup test es)) other) in
+        let left : count_values (remove_entry test (e ∷ es)) ≡ count_values (e ∷ remove_entry test es) = cc in
+        let rest = count_removed test es v (cc) in
         omega (arith, left, rest, count_cons e es, count_cons e (remove_entry test es))
   ]
 
@@ -77,11 +77,11 @@ module _ {X : Type 0} (p : X → Bool) where
   count_room test [] v is quiet = absurd (none-some v (sym is))
   count_room test (e ∷ es) v is quiet = elim (cases_Bool (test e.0)) [
     | inl here ↦
-        let value : v ≡ e.1 = same_Some v e.1 (is ∙ ap (λ t. cond t (Some e.1) (lookup test es)) here) in
+        let value : v ≡ e.1 = same_Some v e.1 (cc) in
         let none : cond (p e.1) 1 0 ≡ 0 = ap {B = ℕ} (λ x. cond (p x) 1 0) (sym value) ∙ ap (λ b. cond b 1 0) quiet in
         omega (arith, none, count_cons e es, count_most es)
     | inr other ↦
-        let rest = count_room test es v (is ∙ ap (λ t. cond t (Some e.1) (lookup test es)) other) quiet in
+        let rest = count_room test es v (cc) quiet in
         omega (arith, rest, count_cons e es, at_most_one (p e.1))
   ]
     where

@@ -25,7 +25,7 @@ meter_is Send other = absurd (other refl)
 filled_is : (o : Option Place) → option_map_or (λ place. place.kind) o Hold ≢ Send
     → option_map_or is_filled_meter o false ≡ (option_map_or (λ place. is_source place.kind) o false && nat_lt 0 (length (option_map_or (λ place. place.octets) o [])))
 filled_is None other = refl
-filled_is (Some x) other = ap (λ b. b && nat_lt 0 (length x.octets)) (meter_is x.kind other)
+filled_is (Some x) other = cc (meter_is x.kind other)
 
 filled_next : (places : List Place) (i : ℕ) → i < length places → filled_from i places ≡ (option_map_or is_filled_meter (slice_get places i) false || filled_from (suc i) places)
 filled_next [] i h = absurd (omega arith)
@@ -37,15 +37,12 @@ found_filled : (flow : Flow) (i : ℕ) → suc i < last_place flow → EndsInSen
 found_filled flow i last ends source some =
     let more : nat_lt 0 (length (octets_at flow.chain (suc i))) ≡ true = grind (arith, nat_tests) in
     filled_next flow.chain.places i (omega arith)
-    ∙ (ap (λ b. b || filled_from (suc i) flow.chain.places) (filled_is (slice_get flow.chain.places i) (not_last flow.chain.places i last ends))
-    ∙ (ap (λ b. (b && nat_lt 0 (length (octets_at flow.chain (suc i)))) || filled_from (suc i) flow.chain.places) source
-    ∙ ap (λ b. b || filled_from (suc i) flow.chain.places) more))
+    ∙ (cc (filled_is (slice_get flow.chain.places i) (not_last flow.chain.places i last ends)))
 
 none_filled : (flow : Flow) (i : ℕ) → suc i < last_place flow → EndsInSend (kinds flow.chain.places) → (is_source_at flow.chain (suc i) && nat_lt 0 (length (octets_at flow.chain (suc i)))) ≡ false
     → filled_from i flow.chain.places ≡ filled_from (suc i) flow.chain.places
 none_filled flow i last ends none =
-    filled_next flow.chain.places i (omega arith)
-    ∙ ap (λ b. b || filled_from (suc i) flow.chain.places) (filled_is (slice_get flow.chain.places i) (not_last flow.chain.places i last ends) ∙ none)
+    cc (filled_next flow.chain.places i (omega arith), filled_is (slice_get flow.chain.places i) (not_last flow.chain.places i last ends))
 
 -- the same of the place p
 pub found_at : (flow : Flow) (p : ℕ) → 1 ≤ p → p < last_place flow → EndsInSend (kinds flow.chain.places) → is_source_at flow.chain p ≡ true → 0 < length (octets_at flow.chain p)
@@ -65,7 +62,7 @@ none_at flow p first last ends none =
 -- the send buffer is none
 last_filled : (o : Option Place) → option_map_or (λ place. place.kind) o Hold ≡ Send → option_map_or is_filled_meter o false ≡ false
 last_filled None e = refl
-last_filled (Some x) e = ap (λ kind. is_meter kind && nat_lt 0 (length x.octets)) e
+last_filled (Some x) e = cc
 
 beyond : (places : List Place) (i : ℕ) → length places ≤ i → filled_from i places ≡ false
 beyond [] zero h = refl
@@ -75,7 +72,4 @@ beyond (x ∷ places) (suc i) h = beyond places i (omega arith)
 
 pub last_none : (flow : Flow) (p : ℕ) → p ≡ last_place flow → 1 ≤ last_place flow → EndsInSend (kinds flow.chain.places) → filled_from (p - 1) flow.chain.places ≡ false
 last_none flow p e some ends =
-    filled_next flow.chain.places (p - 1) (omega arith)
-    ∙ (ap (λ b. b || filled_from (suc (p - 1)) flow.chain.places)
-    (last_filled (slice_get flow.chain.places (p - 1)) (last_is flow.chain.places (p - 1) (omega arith) ends))
-    ∙ beyond flow.chain.places (suc (p - 1)) (omega arith))
+    cc (filled_next flow.chain.places (p - 1) (omega arith), last_filled (slice_get flow.chain.places (p - 1)) (last_is flow.chain.places (p - 1) (omega arith) ends), beyond flow.chain.places (suc (p - 1)) (omega arith))

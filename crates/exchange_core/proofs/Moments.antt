@@ -13,10 +13,10 @@ chain_at now chain = cond (nat_lt chain.time now) (chain_ticked chain now) chain
 
 module _ (now : ℕ) (chain : Chain) where
   pub chain_known : now ≤ chain.time → chain_at now chain ≡ chain
-  chain_known knows = ap (λ b. cond b (chain_ticked chain now) chain) (le-ltb chain.time now knows)
+  chain_known knows = cc (le-ltb chain.time now knows)
 
   pub chain_told : chain.time < now → chain_at now chain ≡ chain_ticked chain now
-  chain_told later = ap (λ b. cond b (chain_ticked chain now) chain) (lt-ltb chain.time now later)
+  chain_told later = cc (lt-ltb chain.time now later)
 
 -- ---- a flow
 module _ (now : ℕ) (flow : Flow) where
@@ -61,4 +61,4 @@ chain_later sums now later chain after clock = elim (cases_Bool (nat_lt chain.ti
 ]
 
 pub flow_later : AddUp → (now later : ℕ) (flow : Flow) → now ≤ later → flow.chain.started ≤ flow.chain.time → at_moment later (at_moment now flow) ≡ at_moment later flow
-flow_later sums now later flow after clock = ap (λ chain. record flow { chain = chain }) (chain_later sums now later flow.chain after clock)
+flow_later sums now later flow after clock = cc (chain_later sums now later flow.chain after clock)

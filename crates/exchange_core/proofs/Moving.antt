@@ -1,5 +1,5 @@
 -- A move that was made, and one that was refused.
-use Rattle.std.proofs.Common.{◌≡◌, ◌<◌, ◌≤◌, ◌∙◌, ℕ, length, sym, ap, subst}
+use Rattle.std.proofs.Common.{◌≡◌, ◌<◌, ◌≤◌, ℕ, length, sym, subst}
 use Rattle.exchange_core.proofs.FlowSound.{moved_sound}
 use Rattle.exchange_core.proofs.Stepping.{stage_moves}
 use Rattle.exchange_core.specs.Flow.{Flow, IsSound, octets_in}
@@ -16,18 +16,17 @@ pub released_kept : (inside : Inside) (p n : ℕ) (chain : Chain) (r : Result Sh
     → OnOk r (chain ≡ released inside.chain p n) → OnErr r (chain ≡ inside.chain) → IsSoundChain chain
     → IsKeptFlow (record inside { chain = chain })
 released_kept inside p n chain (Ok x) kept first some few moves err sound = record {
-  sound = subst (λ c. IsSound (record (flow_of inside) { chain = c })) (sym moves)
-      (subst IsSound (stage_moves (flow_of inside) p n first)
+  sound = rw moves (subst IsSound (stage_moves (flow_of inside) p n first)
       (moved_sound p n (flow_of inside) kept.sound some few (subst (λ (flow : Flow). IsSoundChain flow.chain) (sym (stage_moves (flow_of inside) p n first)) (subst IsSoundChain moves sound))));
   ready = kept.ready;
   limit = kept.limit;
   low = kept.low;
-  quantum = kept.quantum ∙ sym (ap (λ (c : Chain). c.quantum) moves);
+  quantum = cc;
 }
 released_kept inside p n chain (Err e) kept first some few moves err sound = record {
-  sound = subst (λ c. IsSound (record (flow_of inside) { chain = c })) (sym err) kept.sound;
+  sound = rw err kept.sound;
   ready = kept.ready;
   limit = kept.limit;
   low = kept.low;
-  quantum = kept.quantum ∙ sym (ap (λ (c : Chain). c.quantum) err);
+  quantum = cc;
 }

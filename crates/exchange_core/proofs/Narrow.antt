@@ -1,12 +1,12 @@
 -- The next unit within a smaller bound.
-use Rattle.std.proofs.Common.{◌≡◌, ◌-◌, ◌≤◌, ◌∙◌, ◌&&◌, ◌==◌, ℕ, length, Bool, true, false, refl, sym, ap, subst, nat_lt, nat_le, arith, min, IsTrue}
-use Rattle.std.proofs.lemmas.Bool.{false≢true}
+use Rattle.std.proofs.lemmas.Bool.{and_parts}
+use Rattle.std.proofs.Common.{◌≡◌, ◌-◌, ◌≤◌, ◌∙◌, ◌&&◌, ◌==◌, ℕ, length, Bool, true, false, refl, ap, nat_lt, nat_le, arith, min}
 use Rattle.std.proofs.lemmas.Bool.Decides.{nat_tests}
 use Rattle.std.proofs.lemmas.Int.{ints}
 use borrow.Author.Differences.{down, up}
 use Rattle.exchange_core.specs.Flow.{Flow, send}
 use Rattle.exchange_core.specs.State.{ungated}
-use Rattle.exchange_core.specs.Units.{IsFrameable, carries_end, next_unit}
+use Rattle.exchange_core.specs.Units.{IsFrameable, next_unit}
 use Rattle.flow_rules.proofs.Narrow.{unit_narrowed}
 use Rattle.flow_rules.specs.Narrowed.{narrowed, octets_of}
 use Rattle.flow_rules.specs.Units.{next_unit as first_unit}
@@ -40,11 +40,7 @@ room_narrows a b frame flow =
 
 pub frame_narrows : (room : ℤ) (a b : ℕ) (flow : Flow) → next_unit room (min a b) flow ≡ narrowed b (next_unit room a flow)
 frame_narrows room a b flow =
-    ap (λ m. first_unit (record (ungated room a flow) { frame = m })) (less_frame a b (octets_of room)) ∙ unit_narrowed b (ungated room a flow)
-
-both : (a b : Bool) → (a && b) ≡ true → (a ≡ true) × (b ≡ true)
-both true b h = (refl, h)
-both false b h = absurd (false≢true h)
+    cc (less_frame a b (octets_of room), unit_narrowed b (ungated room a flow))
 
 pub still_frameable : (most : ℕ) (unit : NextUnit) (flow : Flow) → IsFrameable unit flow → IsFrameable (narrowed most unit) flow
 still_frameable most Nothing flow is = is
@@ -56,5 +52,5 @@ still_frameable most (Body n last) flow is = by (nat_lt 0 n && (most == 0))
     by false =
         let within : n ≤ length (send flow) = is.1 in
         let whole : nat_le n most ≡ true → min n most ≡ n = λ e. grind (arith, nat_tests) in
-        (is.0, omega arith, λ h. let b = both last (nat_le n most) h in subst (λ k. IsTrue (carries_end k flow)) (sym (whole b.1)) (is.2 b.0))
+        (is.0, omega arith, λ h. let b = and_parts last (nat_le n most) h in rw (whole b.1) (is.2 b.0))
 still_frameable most Trailers flow is = is

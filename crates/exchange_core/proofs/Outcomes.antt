@@ -1,6 +1,6 @@
 -- Facts of a result by its outcome.
 use Rattle.std.specs.Prelude.{Err, IfOk, IfSome, Ok, OnErr, OnOk, Option, Result, Some, ◌≡◌}
-use Rattle.std.proofs.Common.{subst, sym}
+use Rattle.std.proofs.Common.{subst}
 
 module _ {T E : Type 0} where
   -- what follows from either outcome
@@ -25,4 +25,4 @@ pub at_found : {X : Type 0} (P : X → Type 0) (o : Option X) (x : X) → o ≡ 
 at_found P o x is h = subst (λ v. IfSome v P) is h
 
 pub from_found : {X : Type 0} (P : X → Type 0) (o : Option X) (x : X) → o ≡ Some x → P x → IfSome o P
-from_found P o x is h = subst (λ v. IfSome v P) (sym is) h
+from_found P o x is h = rw is h

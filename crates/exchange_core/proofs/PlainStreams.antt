@@ -49,7 +49,7 @@ pub goes : (board : Board) (x : ℕ) (p : Plain) → plain_free board x p ≡ tr
     × (stepped board (Some 0) (plain_flow x p) ≡ plain_flow x (plain_moved (min p.quantum (length p.recv)) p))
 goes board x p e =
     let n = min p.quantum (length p.recv) in
-    let all : may_release board (plain_flow x p) 0 ≡ n = ap (λ c. if c == 0 then n else 0) (free_is board x p e).read in (
+    let all : may_release board (plain_flow x p) 0 ≡ n = cc ((free_is board x p e).read) in (
       ap (λ b. option_map_or (λ q. step_from (plain_flow x p) q (may_release board (plain_flow x p) q)) (if b then Some 0 else None) Still) e ∙ ap (step_from (plain_flow x p) 0) all,
       ap (λ b. option_map_or (λ q. left_from (plain_flow x p) q (may_release board (plain_flow x p) q)) (if b then Some 0 else None) (plain_flow x p)) e ∙ ap (left_from (plain_flow x p) 0) all,
     )

@@ -8,7 +8,7 @@ use Rattle.std.proofs.Common.{ap, arith, refl, sym, ◌∙◌}
 use Rattle.std.proofs.lemmas.List.Sums.{sum_by-cons}
 use Rattle.std.specs.List.{list_any}
 use Rattle.std.specs.Option.{option_map_or}
-use Rattle.std.specs.Prelude.{List, [], false, length, map, slice_get, suc, sum_by, zero, ℕ, ◌+◌, ◌||◌, ◌∷◌, ◌≡◌}
+use Rattle.std.specs.Prelude.{List, [], false, length, map, slice_get, suc, sum_by, zero, ℕ, ◌+◌, ◌∷◌, ◌≡◌}
 
 module _ (n : ℕ) where
   refilled_within : (kind : StageKind) (place : Place) → IsWithinKind kind place → IsWithinKind kind (refilled n place)
@@ -21,7 +21,7 @@ module _ (n : ℕ) where
 
   pub refilled_kinds : (places : List Place) → kinds (map (refilled n) places) ≡ kinds places
   refilled_kinds [] = refl
-  refilled_kinds (place ∷ places) = ap (λ ks. place.kind ∷ ks) (refilled_kinds places)
+  refilled_kinds (place ∷ places) = cc (refilled_kinds places)
 
   pub refilled_length : (places : List Place) → length (map (refilled n) places) ≡ length places
   refilled_length [] = refl
@@ -48,4 +48,4 @@ module _ (n : ℕ) where
 
   pub refilled_any : (places : List Place) → list_any is_filled_meter (map (refilled n) places) ≡ list_any is_filled_meter places
   refilled_any [] = refl
-  refilled_any (place ∷ places) = ap (λ b. is_filled_meter place || b) (refilled_any places)
+  refilled_any (place ∷ places) = cc (refilled_any places)

@@ -20,7 +20,7 @@ module _ (flow : Flow) (sound : IsSound flow) where
   empty_is known (suc p) = refl
 
   whole_is : (p : ℕ) → is_whole_at (ungated (pos 0) 0 flow) p ≡ is_whole_for flow.chain p
-  whole_is p = by flow.message.ended refl ∙ ap (λ b. b && chain_empty_before flow.chain p) (sym sound.ended)
+  whole_is p = cc (by flow.message.ended refl)
     where
       by : (ended : Bool) → flow.message.ended ≡ ended → (ended && empty_before flow p) ≡ (ended && chain_empty_before flow.chain p)
       by true e = λ i. all_empty (λ q. empty_is (sound.whole e) q i) p

@@ -1,4 +1,5 @@
 -- What is seen of exchanges that are kept is sound.
+use Rattle.exchange_core.proofs.Finding.{some_mapped}
 use Rattle.exchange_core.proofs.Aging.{exchange_later}
 use Rattle.exchange_core.proofs.Maps.{seen_of, stored_at}
 use Rattle.exchange_core.proofs.Metered.{exchange_metered}
@@ -12,21 +13,17 @@ use Rattle.std.proofs.Common.{ap, refl, subst, sym, ◌∙◌}
 use Rattle.std.specs.List.{AllByRecursion}
 use Rattle.std.specs.List.Sorted.{IsStrictlySortedBy}
 use Rattle.std.specs.Map.{keys_of, lookup}
-use Rattle.std.specs.Option.{is_some, option_map_or}
+use Rattle.std.specs.Option.{option_map_or}
 use Rattle.std.specs.Ordering.{nat_cmp}
 use Rattle.std.specs.Prelude.{IfSome, IsSomeAnd, List, None, Option, Some, [], false, nat_eq, option_map, true, ℕ, ◌<◌, ◌∷◌, ◌≡◌, ◌≤◌}
 
 keys_seen : (now : ℕ) (live : List (ℕ × Exchange)) → keys_of (seen_all now live) ≡ keys_of live
 keys_seen now [] = refl
-keys_seen now (e ∷ live) = ap (λ ks. e.0 ∷ ks) (keys_seen now live)
+keys_seen now (e ∷ live) = cc (keys_seen now live)
 
 module _ (c : Inside) (kept : IsKept c) where
   seen_from : (x : ℕ) → exchange_at (exchanges_of c) x ≡ option_map (seen_at c.ticked) (exchange_at (stored c) x)
-  seen_from x = seen_of c x ∙ ap (option_map (seen_at c.ticked)) (sym (stored_at c x))
-
-  some_seen : (o : Option Exchange) → is_some (option_map (seen_at c.ticked) o) ≡ is_some o
-  some_seen None = refl
-  some_seen (Some exchange) = refl
+  seen_from x = cc (seen_of c x, stored_at c x)
 
   each_seen : (x : ℕ) (o : Option Exchange) → IfSome o (IsSoundExchange x c.time) → IfSome (option_map (seen_at c.ticked) o) (IsSoundExchange x c.time)
   each_seen x None is = is
@@ -39,15 +36,15 @@ module _ (c : Inside) (kept : IsKept c) where
   pub seen_sound : IsSound (exchanges_of c)
   seen_sound = record {
     order = subst (IsStrictlySortedBy nat_cmp) (sym (keys_seen c.ticked c.live.entries)) kept.sound.order;
-    below = λ x some. kept.sound.below x (sym (some_seen (exchange_at (stored c) x)) ∙ ap is_some (sym (seen_from x)) ∙ some);
-    each = λ x. subst (λ o. IfSome o (IsSoundExchange x c.time)) (sym (seen_from x)) (each_seen x (exchange_at (stored c) x) (kept.sound.each x));
+    below = λ x some. kept.sound.below x (cc (some_mapped (seen_at c.ticked) (exchange_at (stored c) x), seen_from x));
+    each = λ x. rw (seen_from x) (each_seen x (exchange_at (stored c) x) (kept.sound.each x));
     dead = dead_seen c.doomed.items kept.sound.dead;
     once = kept.sound.once;
   }
 
 -- ---- whose Meters hold octets
 metered_seen : (c : Inside) (x : ℕ) → is_metered_at (exchanges_of c) x ≡ is_metered_at (stored c) x
-metered_seen c x = ap (λ o. option_map_or is_metered o false) (seen_of c x) ∙ by_found (lookup (nat_eq x) c.live.entries) ∙ ap (λ o. option_map_or is_metered o false) (sym (stored_at c x))
+metered_seen c x = cc (seen_of c x, by_found (lookup (nat_eq x) c.live.entries), stored_at c x)
   where
     by_found : (o : Option Exchange) → option_map_or is_metered (option_map (seen_at c.ticked) o) false ≡ option_map_or is_metered o false
     by_found None = refl

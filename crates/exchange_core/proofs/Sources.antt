@@ -1,6 +1,7 @@
 -- Which sources stand behind a place.
+use Rattle.std.proofs.Math.Bool.{or-false}
 use Rattle.std.proofs.lemmas.Bool.Decides.{nat_tests}
-use Rattle.std.proofs.Common.{◌≡◌, ◌+◌, ◌-◌, ◌<◌, ◌≤◌, ◌∙◌, ◌&&◌, ◌||◌, ℕ, suc, zero, List, [], ◌∷◌, length, Bool, true, false, refl, sym, ap, nat_lt, arith}
+use Rattle.std.proofs.Common.{◌≡◌, ◌+◌, ◌<◌, ◌≤◌, ◌∙◌, ◌&&◌, ◌||◌, ℕ, suc, zero, List, [], ◌∷◌, length, Bool, true, false, refl, ap, nat_lt, arith}
 use Rattle.std.proofs.lemmas.List.Folds.{list_any-append}
 use Rattle.exchange_core.specs.Flow.{Flow, last_place}
 use Rattle.exchange_core.specs.Moves.{is_held_at, is_target_above, later_above}
@@ -47,8 +48,7 @@ module _ (board : Board) (f : FlowId) where
 
   later_cons : (q k : ℕ) (x : Place) (xs : List Place) → later board f q k (x ∷ xs) ≡ ((nat_lt q k && marked_source board f k x.kind) || later board f q (k + 1) xs)
   later_cons q k x xs =
-      list_any-append (is_later board q) (source_of f k (kind_of x.kind)) (sources_from f (k + 1) xs)
-      ∙ ap (λ b. b || later board f q (k + 1) xs) (one_source k q x.kind)
+      cc (list_any-append (is_later board q) (source_of f k (kind_of x.kind)) (sources_from f (k + 1) xs), one_source k q x.kind)
 
   -- the place k is behind q, or isn't
   pub cons_behind : (q k : ℕ) (x : Place) (xs : List Place) → q < k → later board f q k (x ∷ xs) ≡ (marked_source board f k x.kind || later board f q (k + 1) xs)
@@ -65,9 +65,7 @@ module _ (board : Board) (f : FlowId) where
   far : (places : List Place) (k q r : ℕ) → q < k → r < k → later board f q k places ≡ later board f r k places
   far [] k q r h g = refl
   far (x ∷ xs) k q r h g =
-      cons_behind q k x xs h
-      ∙ (ap (λ b. marked_source board f k x.kind || b) (far xs (k + 1) q r (omega arith) (omega arith))
-      ∙ sym (cons_behind r k x xs g))
+      cc (cons_behind q k x xs h, far xs (k + 1) q r (omega arith) (omega arith), cons_behind r k x xs g)
 
   -- all places are before q
   none_behind : (places : List Place) (k q : ℕ) → k + length places ≤ q + 1 → later board f q k places ≡ false
@@ -81,29 +79,20 @@ module _ (board : Board) (f : FlowId) where
   behind (x ∷ xs) zero k p q e s h =
       let here : k ≡ p = omega arith in
       cons_behind q k x xs (omega arith)
-      ∙ (ap (λ n. marked_source board f n x.kind || later board f q (k + 1) xs) here
-      ∙ (ap (λ b. marked_source board f p x.kind || b) (far xs (k + 1) q p (omega arith) (omega arith))
-      ∙ ap (λ b. marked_source board f p x.kind || b) (sym (cons_before p k x xs (omega arith)))))
+      ∙ (cc (far xs (k + 1) q p (omega arith) (omega arith), cons_before p k x xs (omega arith)))
   behind (x ∷ xs) (suc i) k p q e s h =
-      cons_before q k x xs (omega arith)
-      ∙ (behind xs i (k + 1) p q (omega arith) s (omega arith)
-      ∙ ap (λ b. marked_at board f xs i p || b) (sym (cons_before p k x xs (omega arith))))
+      cc (cons_before q k x xs (omega arith), behind xs i (k + 1) p q (omega arith) s (omega arith), cons_before p k x xs (omega arith))
 
 write_later : (board : Board) (q p : ℕ) (to : Option ℕ) → q < p → list_any (is_later board q) (write_source p to) ≡ is_target_above board to
 write_later board q p None h = refl
 write_later board q p (Some c) h =
     let e : nat_lt q p ≡ true = grind (arith, nat_tests) in
-    ap (λ b. (b && is_marked board (buffer.Write c)) || false) e ∙ or_none (is_marked board (buffer.Write c))
-  where
-    or_none : (b : Bool) → (b || false) ≡ b
-    or_none true = refl
-    or_none false = refl
+    ap (λ b. (b && is_marked board (buffer.Write c)) || false) e ∙ or-false (is_marked board (buffer.Write c))
 
 -- behind a place of the chain stand the places that follow it, and the write buffer
 pub parts : (board : Board) (to : Option ℕ) (flow : Flow) (q : ℕ) → q ≤ last_place flow → later_above board to flow q ≡ (later board flow.chain.flow q 1 flow.chain.places || is_target_above board to)
 parts board to flow q h =
-    list_any-append (is_later board q) (sources_from flow.chain.flow 1 flow.chain.places) (write_source (last_place flow + 1) to)
-    ∙ ap (λ b. later board flow.chain.flow q 1 flow.chain.places || b) (write_later board q (last_place flow + 1) to (omega arith))
+    cc (list_any-append (is_later board q) (sources_from flow.chain.flow 1 flow.chain.places) (write_source (last_place flow + 1) to), write_later board q (last_place flow + 1) to (omega arith))
 
 or_assoc : (a b c : Bool) → ((a || b) || c) ≡ (a || (b || c))
 or_assoc true b c = refl
@@ -113,13 +102,9 @@ or_assoc false b c = refl
 module _ (board : Board) (to : Option ℕ) (flow : Flow) where
   pub later_last : later_above board to flow (last_place flow) ≡ is_target_above board to
   later_last =
-      parts board to flow (last_place flow) (omega arith)
-      ∙ ap (λ b. b || is_target_above board to) (none_behind board flow.chain.flow flow.chain.places 1 (last_place flow) (omega arith))
+      cc (parts board to flow (last_place flow) (omega arith), none_behind board flow.chain.flow flow.chain.places 1 (last_place flow) (omega arith))
 
   -- behind a place stands the next one, and what is behind that
   pub later_step : (q : ℕ) → q < last_place flow → later_above board to flow q ≡ (is_held_at board flow (suc q) || later_above board to flow (suc q))
   later_step q h =
-      parts board to flow q (omega arith)
-      ∙ (ap (λ b. b || is_target_above board to) (behind board flow.chain.flow flow.chain.places q 1 (suc q) q (omega arith) (omega arith) h)
-      ∙ (or_assoc (is_held_at board flow (suc q)) (later board flow.chain.flow (suc q) 1 flow.chain.places) (is_target_above board to)
-      ∙ ap (λ b. is_held_at board flow (suc q) || b) (sym (parts board to flow (suc q) h))))
+      cc (parts board to flow q (omega arith), behind board flow.chain.flow flow.chain.places q 1 (suc q) q (omega arith) (omega arith) h, or_assoc (is_held_at board flow (suc q)) (later board flow.chain.flow (suc q) 1 flow.chain.places) (is_target_above board to), parts board to flow (suc q) h)

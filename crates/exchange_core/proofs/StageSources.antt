@@ -1,5 +1,6 @@
 -- The source of a place, by its kind.
-use Rattle.std.proofs.Common.{◌≡◌, ◌≢◌, ◌<◌, ◌≤◌, ◌∙◌, ◌||◌, ℕ, suc, zero, List, [], ◌∷◌, length, Bool, true, false, refl, ap, arith}
+use Rattle.std.proofs.Math.Bool.{or-false}
+use Rattle.std.proofs.Common.{◌≡◌, ◌≢◌, ◌<◌, ◌≤◌, ℕ, suc, zero, List, [], ◌∷◌, length, Bool, true, false, refl, arith}
 use Rattle.std.proofs.lemmas.Bool.{false≢true}
 use Rattle.exchange_core.specs.Flow.{Flow, last_place}
 use Rattle.exchange_core.specs.Moves.{is_held_at}
@@ -15,10 +16,6 @@ use Rattle.flow_rules.specs.Sources.{source_of}
 use Rattle.std.specs.List.{list_any}
 use Rattle.std.specs.Option.{option_map_or}
 use Rattle.std.specs.Prelude.{None, Option, Some, slice_get}
-
-or_none : (b : Bool) → (b || false) ≡ b
-or_none true = refl
-or_none false = refl
 
 -- only the last place is the send buffer
 pub last_is : (places : List Place) (i : ℕ) → suc i ≡ length places → EndsInSend (kinds places) → option_map_or (λ place. place.kind) (slice_get places i) Hold ≡ Send
@@ -41,11 +38,11 @@ held board f p kind = list_any (λ s. is_marked board s.buffer) (source_of f p (
 module _ (board : Board) (f : FlowId) (p : ℕ) where
   send_held_is : (o : Option Place) → option_map_or (λ place. place.kind) o Hold ≡ Send → option_map_or (λ place. held board f p place.kind) o false ≡ is_marked board (buffer.Send f)
   send_held_is None e = absurd cc
-  send_held_is (Some x) e = ap (held board f p) e ∙ or_none (is_marked board (buffer.Send f))
+  send_held_is (Some x) e = cc (or-false (is_marked board (buffer.Send f)))
 
   meter_held : (kind : StageKind) → is_source kind ≡ true → kind ≢ Send → held board f p kind ≡ is_marked board (buffer.Stage f p)
   meter_held Hold source other = absurd (false≢true source)
-  meter_held (Meter rate) source other = or_none (is_marked board (buffer.Stage f p))
+  meter_held (Meter rate) source other = or-false (is_marked board (buffer.Stage f p))
   meter_held Send source other = absurd (other refl)
 
   stage_held_is : (o : Option Place) → option_map_or (λ place. is_source place.kind) o false ≡ true → option_map_or (λ place. place.kind) o Hold ≢ Send → option_map_or (λ place. held board f p place.kind) o false ≡ is_marked board (buffer.Stage f p)

@@ -7,7 +7,6 @@ use Rattle.exchange_core.specs.Changes.{Starts, Ticks, number_for}
 use Rattle.exchange_core.specs.Exchange.{IsFlowOf, IsSoundExchange, at_moment, begun, begun_flow, filters_of, flow_id, is_metered, seen_at, side_filters}
 use Rattle.exchange_core.specs.Exchanges.{Exchanges, IsSound, exchange_at}
 use Rattle.exchange_core.specs.Flow.{Flow, is_filled_meter, meters_hold}
-use Rattle.number_set.specs.NumberSet.{has}
 use Rattle.exchange_core.specs.View.{IsKept, exchanges_of, stored}
 use Rattle.exchange_core.specs.declared.exchange.Exchange.{Exchange}
 use Rattle.exchange_core.specs.declared.exchanges.Exchanges.TheInside.{Inside}
@@ -41,16 +40,16 @@ begun_seen x now spec config by = λ i. record (begun x spec config) {
   where
     by_side : (plain : Bool) → option_map (at_moment now) (if plain then None else Some (begun_back x spec config)) ≡ (if plain then None else Some (begun_back x spec config))
     by_side true = refl
-    by_side false = ap (λ flow. Some flow) (known now (begun_back x spec config) by)
+    by_side false = cc (known now (begun_back x spec config) by)
 
 module _ (x : ℕ) (begins : Exchange) (old : Exchanges) (live : List (ℕ × Exchange)) (now : ℕ) (rises : old.last < x) (later : old.time ≤ now)
     (writes : (y : ℕ) → exchange_at (record old { live = live }) y ≡ cond (nat_eq x y) (Some begins) (exchange_at old y))
     (order : IsStrictlySortedBy nat_cmp (keys_of live)) where
   at_itself : (y : ℕ) → nat_eq x y ≡ true → exchange_at (record old { live = live }) y ≡ Some begins
-  at_itself y same = writes y ∙ ap (λ b. cond b (Some begins) (exchange_at old y)) same
+  at_itself y same = cc (writes y)
 
   at_other : (y : ℕ) → nat_eq x y ≡ false → exchange_at (record old { live = live }) y ≡ exchange_at old y
-  at_other y other = writes y ∙ ap (λ b. cond b (Some begins) (exchange_at old y)) other
+  at_other y other = cc (writes y)
 
   each_after : (y : ℕ) (o : Option Exchange) → IfSome o (IsSoundExchange y old.time) → IfSome o (IsSoundExchange y now)
   each_after y None is = is
@@ -73,8 +72,8 @@ module _ (x : ℕ) (begins : Exchange) (old : Exchanges) (live : List (ℕ × Ex
       | inr other ↦ (let known : y ≤ old.last = sound.below y (subst IsSome (at_other y other) some) in omega arith)
     ];
     each = λ y. elim (cases_Bool (nat_eq x y)) [
-      | inl same ↦ subst (λ o. IfSome o (IsSoundExchange y now)) (sym (at_itself y same)) (subst (λ n. IsSoundExchange n now begins) (eqb-true x y same) ok)
-      | inr other ↦ subst (λ o. IfSome o (IsSoundExchange y now)) (sym (at_other y other)) (each_after y (exchange_at old y) (sound.each y))
+      | inl same ↦ rw (at_itself y same) (subst (λ n. IsSoundExchange n now begins) (eqb-true x y same) ok)
+      | inr other ↦ rw (at_other y other) (each_after y (exchange_at old y) (sound.each y))
     ];
     dead = dead_after old.doomed sound.dead;
     once = sound.once;
@@ -83,8 +82,8 @@ module _ (x : ℕ) (begins : Exchange) (old : Exchanges) (live : List (ℕ × Ex
 -- ---- a start
 pub number_rises : (x : ℕ) (spec : StartSpec) (exchanges : Exchanges) → x ≡ number_for spec exchanges → (spec.plain ≡ true → exchanges.last < spec.from_stream) → exchanges.last < x
 number_rises x spec exchanges is plain = elim (cases_Bool spec.plain) [
-  | inl told ↦ (let e : x ≡ spec.from_stream = is ∙ ap (λ b. cond b spec.from_stream (exchanges.last + 1)) told in omega (arith, plain told))
-  | inr wired ↦ (let e : x ≡ exchanges.last + 1 = is ∙ ap (λ b. cond b spec.from_stream (exchanges.last + 1)) wired in omega arith)
+  | inl told ↦ (let e : x ≡ spec.from_stream = cc in omega (arith, plain told))
+  | inr wired ↦ (let e : x ≡ exchanges.last + 1 = cc in omega arith)
 ]
 
 pub one_more : (b : Bool) (n m : ℕ) → n ≡ m + cond b 0 1 → n ≤ m + 1
@@ -112,7 +111,7 @@ module _ (c a : Inside) (x : ℕ) (spec : StartSpec) (config : Config) (kept : I
   starts_at = writes_number x (Some (begun x spec config)) c.live.entries a.live.entries updates
 
   stored_starts : (y : ℕ) → exchange_at (record (stored c) { live = a.live.entries }) y ≡ cond (nat_eq x y) (Some (begun x spec config)) (exchange_at (stored c) y)
-  stored_starts y = stored_at (record c { live = a.live }) y ∙ starts_at y ∙ ap (λ o. cond (nat_eq x y) (Some (begun x spec config)) o) (sym (stored_at c y))
+  stored_starts y = cc (stored_at (record c { live = a.live }) y, starts_at y, stored_at c y)
 
   pub none_yet : exchange_at (stored c) x ≡ None
   none_yet = by_found (exchange_at (stored c) x) refl
@@ -124,7 +123,7 @@ module _ (c a : Inside) (x : ℕ) (spec : StartSpec) (config : Config) (kept : I
   begins_seen : (y : ℕ) → a.ticked ≡ c.ticked → exchange_at (exchanges_of a) y ≡ cond (nat_eq x y) (Some (begun x spec config)) (exchange_at (exchanges_of c) y)
   begins_seen y same = seen_of a y ∙ (λ i. option_map (seen_at (same i)) (starts_at y i))
       ∙ elim (nat_eq x y) as (λ b. option_map (seen_at c.ticked) (cond b (Some (begun x spec config)) (lookup (nat_eq y) c.live.entries)) ≡ cond b (Some (begun x spec config)) (exchange_at (exchanges_of c) y)) [
-        | true ↦ ap (λ e. Some e) (begun_seen x c.ticked spec config (omega (arith, kept.told)))
+        | true ↦ ap Some (begun_seen x c.ticked spec config (omega (arith, kept.told)))
         | false ↦ sym (seen_of c y)
       ]
 
@@ -140,7 +139,7 @@ module _ (c a : Inside) (x : ℕ) (spec : StartSpec) (config : Config) (kept : I
         (sound_begun x (begun x spec config) (stored c) a.live.entries spec.now rises later stored_starts order ok kept.sound);
     told = omega (arith, same, time, kept.told);
     room = omega (arith, long, room);
-    metered = λ y. ap (λ items. has items y) marks ∙ kept.metered y ∙ metered_at y ∙ ap (λ o. option_map_or is_metered o false) (sym (stored_at a y));
+    metered = λ y. cc (kept.metered y, metered_at y, stored_at a y);
     counted =
         let none : cond (is_metered (begun x spec config)) 1 0 ≡ 0 = ap {B = ℕ} (λ b. cond b 1 0) (begun_metered x spec config) in
         omega (
@@ -159,7 +158,7 @@ module _ (c a : Inside) (x : ℕ) (spec : StartSpec) (config : Config) (kept : I
       metered_at y = elim (cases_Bool (nat_eq x y)) [
         | inl itself ↦ ap (λ n. option_map_or is_metered (exchange_at (stored c) n) false) (sym (eqb-true x y itself)) ∙ ap (λ o. option_map_or is_metered o false) none_yet
             ∙ sym (begun_metered x spec config)
-            ∙ sym (ap (λ o. option_map_or is_metered o false) (starts_at y ∙ ap (λ b. cond b (Some (begun x spec config)) (lookup (nat_eq y) c.live.entries)) itself))
+            ∙ (cc (starts_at y))
         | inr other ↦ ap (λ o. option_map_or is_metered o false) (stored_at c y ∙ sym (starts_at y ∙ ap (λ b. cond b (Some (begun x spec config)) (lookup (nat_eq y) c.live.entries)) other))
       ]
 
@@ -167,7 +166,7 @@ module _ (c a : Inside) (x : ℕ) (spec : StartSpec) (config : Config) (kept : I
 response_ticked : AddUp → (x before now time : ℕ) (response : Option Flow) → before ≤ now → IfSome response (IsFlowOf x true time) →
     option_map (at_moment now) (option_map (at_moment before) response) ≡ option_map (at_moment now) response
 response_ticked sums x before now time None later is = refl
-response_ticked sums x before now time (Some flow) later is = ap (λ f. Some f) (flow_later sums before now flow later is.sound.chain.clock)
+response_ticked sums x before now time (Some flow) later is = cc (flow_later sums before now flow later is.sound.chain.clock)
 
 exchange_ticked : AddUp → (x before now time : ℕ) (exchange : Exchange) → before ≤ now → IsSoundExchange x time exchange →
     seen_at now (seen_at before exchange) ≡ seen_at now exchange
@@ -179,7 +178,7 @@ exchange_ticked sums x before now time exchange later is = λ i. record exchange
 found_ticked : AddUp → (x before now time : ℕ) (found : Option Exchange) → before ≤ now → IfSome found (IsSoundExchange x time) →
     option_map (seen_at now) found ≡ option_map (seen_at now) (option_map (seen_at before) found)
 found_ticked sums x before now time None later is = refl
-found_ticked sums x before now time (Some exchange) later is = ap (λ e. Some e) (sym (exchange_ticked sums x before now time exchange later is))
+found_ticked sums x before now time (Some exchange) later is = cc (exchange_ticked sums x before now time exchange later is)
 
 module _ (sums : AddUp) (c : Inside) (now : ℕ) (kept : IsKept c) (later : c.time ≤ now) where
   sound_at : (x : ℕ) (o : Option Exchange) → IfSome o (IsSoundExchange x c.time) → IfSome o (IsSoundExchange x now)
@@ -189,7 +188,7 @@ module _ (sums : AddUp) (c : Inside) (now : ℕ) (kept : IsKept c) (later : c.ti
   pub ticks : Ticks now (exchanges_of c) (exchanges_of (record c { ticked = now; time = now }))
   ticks = record {
     live = λ x. seen_of (record c { ticked = now; time = now }) x
-        ∙ found_ticked sums x c.ticked now c.time (lookup (nat_eq x) c.live.entries) (omega (arith, kept.told)) (subst (λ o. IfSome o (IsSoundExchange x c.time)) (stored_at c x) (kept.sound.each x))
+        ∙ found_ticked sums x c.ticked now c.time (lookup (nat_eq x) c.live.entries) (omega (arith, kept.told)) (rw (← stored_at c x) (kept.sound.each x))
         ∙ ap (option_map (seen_at now)) (sym (seen_of c x));
     doomed = refl;
     last = refl;

@@ -1,6 +1,6 @@
 -- Changes of a flow leave its name and what it was told of the time, and all but a step leave what its Meters hold.
 use Rattle.exchange_core.specs.Effects.{arrived, body_framed, finished, headed, list_framed, moved, received}
-use Rattle.exchange_core.specs.Flow.{Flow, is_filled_meter, is_meter, meters_hold}
+use Rattle.exchange_core.specs.Flow.{Flow, is_filled_meter, meters_hold}
 use Rattle.exchange_core.specs.Moves.{left_from, stepped, may_release, last_free}
 use Rattle.filter_chain.specs.Chain.{EndsInSend, kinds}
 use Rattle.filter_chain.specs.Effects.{last_loses}
@@ -9,10 +9,10 @@ use Rattle.filter_chain.specs.Release.{overfills}
 use Rattle.filter_chain.specs.declared.stage.StageKind.TheVariants.{Send}
 use Rattle.flow_gate.specs.Board.{Board}
 use Rattle.hpack_codec.specs.declared.fields.Field.{Field}
-use Rattle.std.proofs.Common.{ap, arith, refl, sym, ◌∙◌}
+use Rattle.std.proofs.Common.{arith, refl, sym, ◌∙◌}
 use Rattle.std.specs.List.{list_any}
 use Rattle.std.specs.Option.{option_map_or}
-use Rattle.std.specs.Prelude.{Bool, List, None, Option, Some, [], false, if◌then◌else◌, length, nat_le, nat_lt, slice_get, slice_set, suc, true, zero, ℕ, ◌&&◌, ◌+◌, ◌||◌, ◌∷◌, ◌≡◌}
+use Rattle.std.specs.Prelude.{Bool, List, None, Option, Some, [], false, if◌then◌else◌, length, nat_le, slice_get, slice_set, suc, true, zero, ℕ, ◌+◌, ◌||◌, ◌∷◌, ◌≡◌}
 
 -- a change of a flow that leaves its name and what it was told
 pub record IsSteady (change : Flow → Flow) : Type 0 where
@@ -83,7 +83,7 @@ calm_headed fields true flow = refl
 calm_headed fields false flow = refl
 
 send_holds_none : (place : Place) → place.kind ≡ Send → is_filled_meter place ≡ false
-send_holds_none place is = ap (λ kind. is_meter kind && nat_lt 0 (length place.octets)) is
+send_holds_none place is = cc
 
 last_calm : (n i : ℕ) (places : List Place) → suc i ≡ length places → EndsInSend (kinds places) →
     list_any is_filled_meter (option_map_or (λ place. slice_set places i (losing n place)) (slice_get places i) places) ≡ list_any is_filled_meter places
@@ -92,7 +92,7 @@ last_calm n zero (x ∷ []) is ends = λ i. (send_holds_none (losing n x) ends �
 last_calm n (suc i) (x ∷ []) is ends = absurd (omega arith)
 last_calm n zero (x ∷ y ∷ ys) is ends = absurd (omega arith)
 last_calm n (suc i) (x ∷ y ∷ ys) is ends =
-    behind (slice_get (y ∷ ys) i) ∙ ap (λ b. is_filled_meter x || b) (last_calm n i (y ∷ ys) (omega arith) ends.1)
+    cc (behind (slice_get (y ∷ ys) i), last_calm n i (y ∷ ys) (omega arith) ends.1)
   where
     behind : (o : Option Place) → list_any is_filled_meter (option_map_or (λ place. x ∷ slice_set (y ∷ ys) i (losing n place)) o (x ∷ y ∷ ys))
         ≡ (is_filled_meter x || list_any is_filled_meter (option_map_or (λ place. slice_set (y ∷ ys) i (losing n place)) o (y ∷ ys)))

@@ -4,7 +4,7 @@ use Rattle.exchange_core.proofs.Refilled.{refilled_length, refilled_octets, refi
 use Rattle.exchange_core.specs.Exchange.{at_moment, ends_of, flow_in, goes_to, held_in, seen_at}
 use Rattle.exchange_core.specs.Flow.{Flow, held_by, last_place, octets_in, send, stages_of}
 use Rattle.exchange_core.specs.Message.{head_waits, trailers_wait}
-use Rattle.exchange_core.specs.Replies.{Word, answer, reckoning, row, said, side_of_cause}
+use Rattle.exchange_core.specs.Replies.{Word, reckoning, row, said, side_of_cause}
 use Rattle.exchange_core.specs.Replies.Word.{Code, CodeUnlessEnded, ReplyOnly, ReplyOr, Silence}
 use Rattle.exchange_core.specs.Seen.{IsFoundAs}
 use Rattle.exchange_core.specs.State.{ungated}
@@ -20,9 +20,9 @@ use Rattle.filter_chain.specs.Place.{Place, kind_of, refilled}
 use Rattle.filter_chain.specs.Release.{is_source_at}
 use Rattle.flow_notes.specs.declared.notes.Cause.{Cause}
 use Rattle.flow_notes.specs.declared.notes.Cause.TheVariants.{ConnLost}
-use Rattle.std.proofs.Common.{ap, refl, subst, sym, ◌∙◌}
+use Rattle.std.proofs.Common.{ap, refl, ◌∙◌}
 use Rattle.std.specs.Option.{option_map_or}
-use Rattle.std.specs.Prelude.{pos, Bool, List, None, Option, Some, [], false, if◌then◌else◌, is_some, length, map, not, option_map, suc, true, zero, ℕ, ℤ, ◌&&◌, ◌+◌, ◌-◌, ◌∷◌, ◌≡◌, ◌≤◌}
+use Rattle.std.specs.Prelude.{pos, Bool, List, None, Option, Some, [], false, if◌then◌else◌, is_some, length, map, not, option_map, suc, true, zero, ℕ, ℤ, ◌&&◌, ◌+◌, ◌∷◌, ◌≡◌}
 
 -- ---- a chain
 octets_ticked : (now : ℕ) (chain : Chain) (p : ℕ) → octets_at (chain_ticked chain now) p ≡ octets_at chain p
@@ -31,7 +31,7 @@ octets_ticked now chain (suc i) = refilled_octets _ chain.places i
 
 kinds_kept : (n : ℕ) (places : List Place) → map (λ place. kind_of place.kind) (map (refilled n) places) ≡ map (λ place. kind_of place.kind) places
 kinds_kept n [] = refl
-kinds_kept n (place ∷ places) = ap (λ kinds. kind_of place.kind ∷ kinds) (kinds_kept n places)
+kinds_kept n (place ∷ places) = cc (kinds_kept n places)
 
 -- ---- a flow
 module _ (now : ℕ) (flow : Flow) where
@@ -46,7 +46,7 @@ module _ (now : ℕ) (flow : Flow) where
   octets_later (suc p) = octets_ticked now flow.chain (suc p)
 
   sent_later : send later ≡ send flow
-  sent_later = ap (octets_in later) places_later ∙ octets_later (last_place flow)
+  sent_later = cc (places_later, octets_later (last_place flow))
 
   kinds_later : map (λ place. kind_of place.kind) later.chain.places ≡ map (λ place. kind_of place.kind) flow.chain.places
   kinds_later = kinds_kept _ flow.chain.places
@@ -69,7 +69,7 @@ module _ (now : ℕ) (flow : Flow) where
   frameable_seen (Head last) is = (is.0, λ h. ap (λ b. b && not (head_waits flow.message && trailers_wait flow.message)) (ends_seen 0) ∙ is.1 h)
   frameable_seen (Body n last) is = (
     is.0,
-    subst (λ octets. n ≤ length octets) (sym sent_seen) is.1,
+    rw sent_seen is.1,
     λ h. ap (λ b. b && not (trailers_wait flow.message)) (ends_seen n) ∙ is.2 h,
   )
   frameable_seen Trailers is = (is.0, ap (λ b. b && not (head_waits flow.message && trailers_wait flow.message)) (ends_seen 0) ∙ is.1)
@@ -78,7 +78,7 @@ module _ (now : ℕ) (flow : Flow) where
   held_seen = chain_kept (λ chain. held_by (record flow { chain = chain })) now flow.chain (ap (λ m. length flow.recv + m) (refilled_sum _ flow.chain.places))
 
 pub stages_seen : (now : ℕ) (flow : Flow) → stages_of (at_moment now flow) ≡ stages_of flow
-stages_seen now flow = chain_kept (λ chain. stages_of (record flow { chain = chain })) now flow.chain (ap (λ m. m - 1) (places_later now flow))
+stages_seen now flow = chain_kept (λ chain. stages_of (record flow { chain = chain })) now flow.chain (cc (places_later now flow))
 
 source_later : (now : ℕ) (chain : Chain) (p : ℕ) → is_source_at (chain_ticked chain now) p ≡ is_source_at chain p
 source_later now chain zero = refl
@@ -90,14 +90,14 @@ source_seen p now flow = chain_kept (λ chain. is_source_at chain p) now flow.ch
 -- ---- a flow that was found, read where the moment leaves it as it is
 module _ {X : Type 0} (read : Flow → X) (kept : (now : ℕ) (flow : Flow) → read (at_moment now flow) ≡ read flow) where
   pub read_some : (found seen : Option Flow) → IsFoundAs found seen → option_map read seen ≡ option_map read found
-  read_some found seen is = ap (option_map read) is.same ∙ by found
+  read_some found seen is = cc (by found)
     where
       by : (o : Option Flow) → option_map read (option_map (at_moment is.now) o) ≡ option_map read o
       by None = refl
-      by (Some flow) = ap (λ x. Some x) (kept is.now flow)
+      by (Some flow) = cc (kept is.now flow)
 
   pub read_or : (other : X) (found seen : Option Flow) → IsFoundAs found seen → option_map_or read seen other ≡ option_map_or read found other
-  read_or other found seen is = ap (λ o. option_map_or read o other) is.same ∙ by found
+  read_or other found seen is = cc (by found)
     where
       by : (o : Option Flow) → option_map_or read (option_map (at_moment is.now) o) other ≡ option_map_or read o other
       by None = refl
@@ -113,7 +113,7 @@ module _ (now : ℕ) (exchange : Exchange) where
   exchange_held = λ i. held_seen now exchange.request i + response_held now exchange.response i
 
   pub exchange_ends : ends_of (seen_at now exchange) ≡ ends_of exchange
-  exchange_ends = ap (λ b. record { request = exchange.request.message.end_framed; response = b }) (by_response exchange.response)
+  exchange_ends = cc (by_response exchange.response)
     where
       by_response : (response : Option Flow) → option_map_or (λ flow. flow.message.end_framed) (option_map (at_moment now) response) false ≡ option_map_or (λ flow. flow.message.end_framed) response false
       by_response None = refl
@@ -140,7 +140,7 @@ module _ (now : ℕ) where
   said_seen : (word : Word) (exchange : Exchange) → said word (seen_at now exchange) ≡ said word exchange
   said_seen Silence exchange = refl
   said_seen (ReplyOnly status) exchange = refl
-  said_seen (ReplyOr status code) exchange = ap (λ b. if b then reply.Reset code else answer status exchange) (framed_seen exchange.response)
+  said_seen (ReplyOr status code) exchange = cc (framed_seen exchange.response)
   said_seen (Code code) exchange = refl
   said_seen (CodeUnlessEnded code) exchange = refl
 
@@ -161,5 +161,4 @@ reckoning_seen now cause back exchange = λ i. record {
         (if is_some to then said (row cause (side_of_cause cause back (seen_at now exchange))).1 (seen_at now exchange) else reply.Nothing)
         ≡ (if is_some to then said (row cause (side_of_cause cause back exchange)).1 exchange else reply.Nothing)
     up None = refl
-    up (Some conn) = said_seen now (row cause (side_of_cause cause back (seen_at now exchange))).1 exchange
-        ∙ ap (λ side. said (row cause side).1 exchange) (side_seen now cause back exchange)
+    up (Some conn) = cc (said_seen now (row cause (side_of_cause cause back (seen_at now exchange))).1 exchange, side_seen now cause back exchange)

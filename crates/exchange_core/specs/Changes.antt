@@ -8,7 +8,7 @@ use Rattle.flow_gate.specs.Board.{Board, is_open}
 use Rattle.flow_gate.specs.Changes.{Forgets}
 use Rattle.flow_gate.specs.declared.ids.FlowId.{FlowId}
 use Rattle.proxy_config.specs.declared.config.Config.{Config}
-use Rattle.std.specs.Prelude.{Bool, List, None, Option, Some, [], false, if◌then◌else◌, is_some, option_map, option_to_list, true, ℕ, ◌++◌, ◌+◌, ◌==◌, ◌∷◌, ◌≡◌}
+use Rattle.std.specs.Prelude.{Bool, None, Option, Some, [], false, if◌then◌else◌, is_some, option_map, option_to_list, true, ℕ, ◌++◌, ◌+◌, ◌==◌, ◌∷◌, ◌≡◌}
 
 -- the exchange is this one, or is no longer live; the others are as they were
 pub record Changes (x : ℕ) (exchange : Option Exchange) (old new : Exchanges) : Type 0 where

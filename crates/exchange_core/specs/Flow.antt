@@ -1,12 +1,11 @@
 -- What a flow is seen as: the octets on their way, from its receive buffer to its send buffer, and its message.
-use Rattle.exchange_core.specs.Message.{empty_message}
 use Rattle.exchange_core.specs.declared.message.Message.{Message}
 use Rattle.filter_chain.specs.Chain.{Chain, IsSound as IsSoundChain, octets_at, send_place}
 use Rattle.filter_chain.specs.Place.{Place}
 use Rattle.filter_chain.specs.declared.stage.StageKind.{StageKind}
 use Rattle.filter_chain.specs.declared.stage.StageKind.TheVariants.{Hold, Meter, Send}
 use Rattle.std.specs.List.{list_any}
-use Rattle.std.specs.Prelude.{Bool, IsSome, List, None, [], false, length, nat_lt, suc, sum_by, true, zero, ℕ, ◌&&◌, ◌+◌, ◌-◌, ◌==◌, ◌≡◌}
+use Rattle.std.specs.Prelude.{Bool, IsSome, List, None, false, length, nat_lt, suc, sum_by, true, zero, ℕ, ◌&&◌, ◌+◌, ◌-◌, ◌==◌, ◌≡◌}
 
 pub record Flow : Type 0 where
   -- for how many octets its receive buffer has room, and what it holds: this is place 0

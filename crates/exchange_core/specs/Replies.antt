@@ -6,7 +6,7 @@ use Rattle.exchange_core.specs.declared.reply.Reply.TheVariants as reply
 use Rattle.flow_notes.specs.declared.notes.Cause.{Cause}
 use Rattle.flow_notes.specs.declared.notes.Cause.TheVariants.{Done, PeerReset, StreamError, TooLarge, Timeout, Overload, Overflow, ConnLost, EarlyEnd, Posted, Refused}
 use Rattle.std.specs.Option.{option_map_or}
-use Rattle.std.specs.Prelude.{Bool, None, Option, Some, false, if◌then◌else◌, is_some, length, not, true, ℕ, ◌&&◌, ◌==◌}
+use Rattle.std.specs.Prelude.{Bool, Option, false, if◌then◌else◌, is_some, length, not, ℕ, ◌==◌}
 
 -- what a row of the table says
 pub data Word : Type 0 where

@@ -5,12 +5,11 @@ use Rattle.filter_chain.specs.Chain.{limit_at, place_at}
 use Rattle.filter_chain.specs.Place.{Place, kind_of}
 use Rattle.flow_gate.specs.Board.{Board, count, is_marked}
 use Rattle.flow_gate.specs.declared.ids.FlowId.{FlowId}
-use Rattle.flow_rules.specs.Kinds.{Kind}
 use Rattle.flow_rules.specs.Narrowed.{octets_of}
 use Rattle.flow_rules.specs.Sources.{SourceAt, sources_from as in_order, write_source}
 use Rattle.flow_rules.specs.State.{FlowState}
 use Rattle.std.specs.Option.{option_map_or}
-use Rattle.std.specs.Prelude.{List, None, Option, [], false, length, map, min, pos, ℕ, ℤ, ◌++◌, ◌+◌}
+use Rattle.std.specs.Prelude.{List, Option, [], false, length, map, min, pos, ℕ, ℤ, ◌++◌, ◌+◌}
 
 -- its sources: its Meters, its send buffer, and the write buffer of the connection that it goes to, if any
 abbrev pub sources_from : FlowId → ℕ → List Place → List SourceAt

@@ -77,7 +77,7 @@ impl Exchanges {
     }
 
     /// Begins an exchange, and answers its number: `from_stream` in a plain session, else one more than the last number,
-    /// from 1. Its flows pass the filters of the route row, and are empty. After want of memory, to which the number 2^63
+    /// from 1. Its flows pass the filters of the route row, and are empty. After running out of memory, to which the number 2^63
     /// counts too, nothing has changed.
     ///
     /// Here each receive buffer gets the room for its window, and each buffer with a limit that for its limit and, but
@@ -126,7 +126,7 @@ impl Exchanges {
     }
 
     /// Octets came into the receive buffer of a flow, whose end hasn't come. Within its window they aren't refused. After
-    /// want of memory nothing has changed.
+    /// running out of memory nothing has changed.
     pub fn arrive(&mut self, flow: FlowId, octets: &[u8]) -> Result<(), NoMemory>
         requires live { IsLiveFlow self.old flow }
         requires goes_on { IfSome (flow_at self.old flow) (λ f. f.message.ended ≡ false) }

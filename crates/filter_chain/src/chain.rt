@@ -198,7 +198,7 @@ impl Chain {
     }
 
     /// Appends `head` and the first n octets of the send buffer to `out` as one change, and drops them
-    /// here. Both crossings are answered. After want of memory nothing has changed, and there is none
+    /// here. Both crossings are answered. After running out of memory nothing has changed, and there is none
     /// where `out` has room for both.
     pub fn frame(
         &mut self,

@@ -1,5 +1,7 @@
 // Why octets don't move.
 use io_ports::NoMemory;
+use std::error::Error;
+use std::fmt;
 
 /// Why a place doesn't take octets. Nothing has moved.
 #[derive(Clone, Copy, Debug, PartialEq, Eq)]
@@ -21,3 +23,14 @@ impl From<NoMemory> for OfferFault {
         OfferFault::NoMemory
     }
 }
+
+impl fmt::Display for OfferFault {
+    fn fmt<W: fmt::Write>(&self, f: &mut fmt::Formatter<W>) -> fmt::Result {
+        f.write_str(match self {
+            OfferFault::TooLarge => "the octets would pass the limit of a Hold",
+            OfferFault::NoMemory => "out of memory",
+        })
+    }
+}
+
+impl Error for OfferFault {}

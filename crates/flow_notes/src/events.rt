@@ -170,7 +170,7 @@ impl EventList {
         }
     }
 
-    /// Appends an event. After want of memory the list is as it was.
+    /// Appends an event. After running out of memory the list is as it was.
     pub fn push(&mut self, event: Event) -> Result<(), NoMemory>
         ensures ok { OnOk result (self.new ≡ self.old ++ event ∷ []) }
         ensures err { OnErr result (self.new ≡ self.old) }

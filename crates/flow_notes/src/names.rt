@@ -7,6 +7,8 @@ ghost use Rattle.flow_notes.specs.declared.names.NameRefusal.TheVariants as refu
 
 use io_ports::{NoMemory, Octets};
 use std::alloc::Global;
+use std::error::Error;
+use std::fmt;
 use std::marker::Model;
 
 /// Why a name was refused.
@@ -28,6 +30,19 @@ impl From<NoMemory> for NameRefusal {
         NameRefusal::NoMemory
     }
 }
+
+impl fmt::Display for NameRefusal {
+    fn fmt<W: fmt::Write>(&self, f: &mut fmt::Formatter<W>) -> fmt::Result {
+        f.write_str(match self {
+            NameRefusal::NoMemory => "out of memory",
+            NameRefusal::BadForm => "a name has 1 to 64 octets of a to z, 0 to 9, - and _",
+            NameRefusal::Doubled => "the name is listed already",
+            NameRefusal::Full => "the list of names is full",
+        })
+    }
+}
+
+impl Error for NameRefusal {}
 
 /// The names of clusters, in the configuration's order: fewer than 2^32, and none twice.
 #[derive(Debug, Drop)]

@@ -189,7 +189,7 @@ impl Notes {
         }
     }
 
-    /// Appends a note. After want of memory the list is as it was.
+    /// Appends a note. After running out of memory the list is as it was.
     pub fn push(&mut self, note: Note) -> Result<(), NoMemory>
         ensures ok { OnOk result (self.new ≡ self.old ++ note ∷ []) }
         ensures err { OnErr result (self.new ≡ self.old) }
@@ -199,7 +199,7 @@ impl Notes {
         Ok(())
     }
 
-    /// Appends a pause of each flow for the buffer. After want of memory the list is as it was.
+    /// Appends a pause of each flow for the buffer. After running out of memory the list is as it was.
     pub fn push_pauses(&mut self, flows: Watchers<'_>, buffer: BufferId) -> Result<(), NoMemory>
         ensures ok { OnOk result (self.new ≡ self.old ++ map (λ f. Note.Pause f buffer) flows.entry) }
         ensures err { OnErr result (self.new ≡ self.old) }
@@ -209,7 +209,7 @@ impl Notes {
         end_row(&mut self.items, &mut self.flows, row)
     }
 
-    /// Appends a resume of each of the first `n` flows for the buffer. After want of memory the list is
+    /// Appends a resume of each of the first `n` flows for the buffer. After running out of memory the list is
     /// as it was.
     pub fn push_resumes(
         &mut self,
@@ -256,7 +256,7 @@ impl Notes {
     }
 }
 
-// Appends the flows, and counts them. After want of memory the list is as it was.
+// Appends the flows, and counts them. After running out of memory the list is as it was.
 fn append_all(list: &mut Vec<FlowId>, flows: Watchers<'_>) -> Result<usize, NoMemory>
     ensures ok { IfOk result (λ count. (list.new.items ≡ list.old.items ++ flows.entry)
         × (count ≡ length flows.entry)) }
@@ -268,7 +268,7 @@ fn append_all(list: &mut Vec<FlowId>, flows: Watchers<'_>) -> Result<usize, NoMe
     }
 }
 
-// Appends the first `n` flows, and counts them. After want of memory the list is as it was.
+// Appends the first `n` flows, and counts them. After running out of memory the list is as it was.
 fn append_first(list: &mut Vec<FlowId>, flows: Watchers<'_>, n: usize) -> Result<usize, NoMemory>
     ensures ok { IfOk result (λ count. (list.new.items ≡ list.old.items ++ take n flows.entry)
         × (count ≡ length (take n flows.entry))) }
@@ -280,7 +280,7 @@ fn append_first(list: &mut Vec<FlowId>, flows: Watchers<'_>, n: usize) -> Result
     }
 }
 
-// Appends a row of flows, and counts them. After want of memory the list is as it was.
+// Appends a row of flows, and counts them. After running out of memory the list is as it was.
 fn append_row(list: &mut Vec<FlowId>, row: &[FlowId]) -> Result<usize, NoMemory>
     ensures ok { IfOk result (λ count. (list.new.items ≡ list.old.items ++ row.now)
         × (count ≡ length row.now)) }
@@ -290,7 +290,7 @@ fn append_row(list: &mut Vec<FlowId>, row: &[FlowId]) -> Result<usize, NoMemory>
     Ok(row.len())
 }
 
-// Appends the flows of an iterator, and counts them. After want of memory the list is as it was.
+// Appends the flows of an iterator, and counts them. After running out of memory the list is as it was.
 fn append<I: Iterator<Item = FlowId> + Drop>(
     list: &mut Vec<FlowId>,
     flows: I,
@@ -309,7 +309,7 @@ fn append<I: Iterator<Item = FlowId> + Drop>(
     Ok(list.len() - start)
 }
 
-// Appends the row of the last flows, unless it is empty. After want of memory they are let go.
+// Appends the row of the last flows, unless it is empty. After running out of memory they are let go.
 fn end_row(items: &mut Vec<Item>, flows: &mut Vec<FlowId>, row: Item) -> Result<(), NoMemory>
     requires { flows_in row ≤ length flows.old.items }
     ensures ok { OnOk result ((flows.new.items ≡ flows.old.items)

@@ -11,7 +11,7 @@ const PIECE: usize = 16_384;
 
 /// Appends the frames of a field block on a stream: HEADERS, with END_STREAM where it is the last
 /// of the stream, and CONTINUATION. Each has 16,384 octets of the block but the last one, which has
-/// what is left and END_HEADERS. None has padding or a priority. After want of memory the octets are
+/// what is left and END_HEADERS. None has padding or a priority. After running out of memory the octets are
 /// as they were.
 pub fn block_frames(
     stream: u32,
@@ -32,7 +32,7 @@ pub fn block_frames(
     written
 }
 
-// After want of memory some frames may stand behind what was there.
+// After running out of memory some frames may stand behind what was there.
 fn put_block(stream: u32, last: bool, block: &[u8], into: &mut Octets) -> Result<(), NoMemory>
     requires on_stream { 0 < stream }
     requires fits { stream < 2 ^ 31 }

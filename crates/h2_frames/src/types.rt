@@ -6,6 +6,8 @@ ghost use Rattle.h2_frames.specs.Spelling.{IsWritable};
 ghost use Rattle.h2_frames.specs.View.{view};
 
 use crate::codes::{FRAME_SIZE_ERROR, PROTOCOL_ERROR};
+use std::error::Error;
+use std::fmt;
 
 /// What a priority says (RFC 9113 section 6.3). The weight is the octet as it stands.
 #[derive(Clone, Copy, Debug, PartialEq, Eq)]
@@ -121,6 +123,19 @@ impl FrameFault {
         }
     }
 }
+
+impl fmt::Display for FrameFault {
+    fn fmt<W: fmt::Write>(&self, f: &mut fmt::Formatter<W>) -> fmt::Result {
+        f.write_str(match self {
+            FrameFault::TooLong => "a payload that is too long",
+            FrameFault::BadStream => "a stream number that the type forbids",
+            FrameFault::BadSize => "a length that the type forbids",
+            FrameFault::BadPadding => "more padding than payload",
+        })
+    }
+}
+
+impl Error for FrameFault {}
 
 /// What stands at the front of some octets.
 #[derive(Clone, Copy, Debug, PartialEq, Eq)]

@@ -58,7 +58,7 @@ fn word_octets(bit: bool, n: u32) -> [u8; 4]
     number.to_be_bytes()
 }
 
-// A frame with this head, whose payload is the front and the rest. After want of memory the octets
+// A frame with this head, whose payload is the front and the rest. After running out of memory the octets
 // are as they were.
 fn put(
     into: &mut Octets,

@@ -2,6 +2,9 @@
 ghost use Rattle.std.specs.Prelude.{◌≡◌, ◌<◌, ◌^◌};
 ghost use Rattle.h2_heads.specs.Kinds.{number_of};
 
+use std::error::Error;
+use std::fmt;
+
 /// Which rule is broken, with its number (RFC 9113 sections 8.2 and 8.3).
 #[derive(Clone, Copy, Debug, PartialEq, Eq)]
 pub enum Kind {
@@ -43,6 +46,14 @@ pub struct Malformed {
     pub place: u32,
     pub kind: u8,
 }
+
+impl fmt::Display for Malformed {
+    fn fmt<W: fmt::Write>(&self, f: &mut fmt::Formatter<W>) -> fmt::Result {
+        write!(f, "field {} breaks rule {}", self.place, self.kind)
+    }
+}
+
+impl Error for Malformed {}
 
 impl Malformed {
     /// The fault of this kind at this place.

@@ -51,7 +51,7 @@ impl SettingList {
         self.settings
     }
 
-    /// Appends a setting. After want of memory the list is as it was.
+    /// Appends a setting. After running out of memory the list is as it was.
     pub fn push(&mut self, setting: Setting) -> Result<(), NoMemory>
         ensures ok { OnOk result (self.new ≡ self.old ++ setting ∷ []) }
         ensures err { OnErr result (self.new ≡ self.old) }

@@ -15,7 +15,7 @@ pub struct HeaderBlock {
 impl HeaderBlock {
     ghost use Rattle.h2_session.specs.Blocks.{grown_in};
 
-    /// One more frame of the block. After want of memory the block is as it was.
+    /// One more frame of the block. After running out of memory the block is as it was.
     pub fn grow(&mut self, more: &[u8]) -> Result<(), NoMemory>
         ensures ok { OnOk result (self.new ≡ grown_in more.now self.old) }
         ensures err { OnErr result (self.new ≡ self.old) }

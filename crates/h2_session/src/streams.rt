@@ -71,7 +71,7 @@ impl Streams {
         self.open.get(&stream).copied()
     }
 
-    /// Opens a stream. After want of memory nothing is changed.
+    /// Opens a stream. After running out of memory nothing is changed.
     pub fn open(&mut self, stream: u32, state: Stream) -> Result<(), NoMemory>
         ensures ok { OnOk result (Puts stream (Some state) self.old self.new) }
         ensures err { OnErr result (self.new ≡ self.old) }

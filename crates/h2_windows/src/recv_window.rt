@@ -1,11 +1,21 @@
 // The window that this side grants to its peer.
 ghost use Rattle.std.specs.Prelude.{◌≡◌, ◌≤◌, ◌+◌, ◌-◌, ◌↔◌, IsOk, OnOk, OnErr};
 
+use std::error::Error;
+use std::fmt;
 use std::marker::Model;
 
 /// More octets came than the window had left.
 #[derive(Clone, Copy, Debug, PartialEq, Eq)]
 pub struct Overrun;
+
+impl fmt::Display for Overrun {
+    fn fmt<W: fmt::Write>(&self, f: &mut fmt::Formatter<W>) -> fmt::Result {
+        f.write_str("more octets came than the window had left")
+    }
+}
+
+impl Error for Overrun {}
 
 /// What a peer may send on a stream or on a whole connection, in octets (RFC 9113 section 5.2).
 ///

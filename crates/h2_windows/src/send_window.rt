@@ -3,6 +3,8 @@ ghost use Rattle.std.specs.Prelude.{◌≡◌, ◌≤◌, ◌+ℤ◌, ◌-ℤ◌
 ghost use Rattle.h2_windows.specs.InitialWindows.{greatest, last, moved_through, moved_to};
 ghost use Rattle.h2_windows.specs.SendWindow.{Change, Sending, Spend, Widen, Shift, after, begun, changed, shifts, spent, widened};
 
+use std::error::Error;
+use std::fmt;
 use std::marker::Model;
 
 /// The largest window, in octets (RFC 9113 section 6.9.1).
@@ -11,6 +13,14 @@ pub const MAX_WINDOW: u32 = 2_147_483_647;
 /// The room would have passed the largest window.
 #[derive(Clone, Copy, Debug, PartialEq, Eq)]
 pub struct Overflow;
+
+impl fmt::Display for Overflow {
+    fn fmt<W: fmt::Write>(&self, f: &mut fmt::Formatter<W>) -> fmt::Result {
+        f.write_str("the window would pass 2,147,483,647 octets")
+    }
+}
+
+impl Error for Overflow {}
 
 /// What this side may send on a stream or on a whole connection, in octets (RFC 9113 section 6.9).
 ///

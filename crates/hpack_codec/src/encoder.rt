@@ -45,7 +45,7 @@ impl Encoder {
     /// the static table that isn't never-indexed is its lowest index; every other is a literal
     /// without indexing, or never indexed, with the lowest index of its name or a plain string,
     /// and a plain string as its value. It has at most one octet more than the list counts. After
-    /// want of memory the encoder is as it was.
+    /// running out of memory the encoder is as it was.
     pub fn encode(&mut self, fields: &FieldList) -> Result<Octets, NoMemory>
         ensures spelling { IfOk result (λ block. block ≡ encode_block self.old fields.now) }
 

@@ -4,9 +4,11 @@ ghost use Rattle.hpack_codec.specs.declared.fault.HpackFault.TheVariants.{NoMemo
 
 use io_ports::NoMemory;
 use std::alloc::{AllocError, AllocFailed};
+use std::error::Error;
+use std::fmt;
 
 /// Why a block gives no list. Of the faults of a block, 1 to 5, the first in reading order counts.
-/// They and the want of memory are final: the dynamic table is lost, and so is the connection.
+/// They and running out of memory are final: the dynamic table is lost, and so is the connection.
 #[derive(Clone, Copy, Debug, PartialEq, Eq)]
 pub enum HpackFault {
     /// An index is 0 or past the last entry of the tables.
@@ -21,7 +23,7 @@ pub enum HpackFault {
     Truncated = 5,
     /// The block was read whole, and its list is longer than the greatest list size. The decoder goes on.
     ListTooLong = 6,
-    /// The want of memory.
+    /// Out of memory.
     NoMemory = 7,
     /// An earlier call ended in a fault that is final.
     Failed = 8,
@@ -50,3 +52,20 @@ impl From<NoMemory> for HpackFault {
         HpackFault::NoMemory
     }
 }
+
+impl fmt::Display for HpackFault {
+    fn fmt<W: fmt::Write>(&self, f: &mut fmt::Formatter<W>) -> fmt::Result {
+        f.write_str(match self {
+            HpackFault::BadIndex => "an index that names no entry",
+            HpackFault::BadInteger => "an integer that is too great",
+            HpackFault::BadHuffman => "no Huffman string",
+            HpackFault::BadUpdate => "a table size update that is misplaced or too great",
+            HpackFault::Truncated => "the block ends within a field",
+            HpackFault::ListTooLong => "the list of fields is too long",
+            HpackFault::NoMemory => "out of memory",
+            HpackFault::Failed => "an earlier block broke the decoder",
+        })
+    }
+}
+
+impl Error for HpackFault {}

@@ -65,7 +65,7 @@ impl FieldList {
         })
     }
 
-    /// Appends a field. One that has no spelling is refused as want of memory is. After a refusal
+    /// Appends a field. One that has no spelling is refused as out of memory is. After a refusal
     /// the list is as it was.
     pub fn push(&mut self, field: Field) -> Result<(), NoMemory>
         ensures ok { OnOk result (self.new ≡ self.old ++ field ∷ []) }
@@ -78,7 +78,7 @@ impl FieldList {
         self.keep(field)
     }
 
-    /// Appends a field that has a spelling. After want of memory the list is as it was.
+    /// Appends a field that has a spelling. After running out of memory the list is as it was.
     pub(crate) fn keep(&mut self, field: Field) -> Result<(), NoMemory>
         requires { HasSpelling field }
         ensures ok { OnOk result (self.new ≡ self.old ++ field ∷ []) }

@@ -62,7 +62,7 @@ impl DynamicTable {
     }
 
     /// Adds the newest entry, and evicts the oldest until all fit. One that is larger than the
-    /// table empties it. After want of memory some entries may be evicted already.
+    /// table empties it. After running out of memory some entries may be evicted already.
     pub fn insert(&mut self, newest: Line) -> Result<(), NoMemory>
         ensures { OnOk result (self.new ≡ added newest self.old) }
     {

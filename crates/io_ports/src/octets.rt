@@ -1,12 +1,22 @@
-// Lists of octets and of pressures, and the want of memory.
+// Lists of octets and of pressures, and out of memory.
 ghost use Rattle.std.specs.Prelude.{◌≡◌, ◌==◌, ◌∷◌, List, ℕ, [], ◌++◌, length, take, IfOk, OnOk, OnErr};
 
 use std::alloc::{AllocError, AllocFailed, Global};
+use std::error::Error;
+use std::fmt;
 use std::marker::Model;
 
-/// The want of memory.
+/// Out of memory.
 #[derive(Clone, Copy, Debug, PartialEq, Eq)]
 pub struct NoMemory;
+
+impl fmt::Display for NoMemory {
+    fn fmt<W: fmt::Write>(&self, f: &mut fmt::Formatter<W>) -> fmt::Result {
+        f.write_str("out of memory")
+    }
+}
+
+impl Error for NoMemory {}
 
 impl From<AllocError> for NoMemory {
     fn from(_: AllocError) -> Self {
@@ -58,7 +68,7 @@ impl Octets {
         })
     }
 
-    /// Appends a piece. After want of memory the octets are as they were.
+    /// Appends a piece. After running out of memory the octets are as they were.
     pub fn push_all(&mut self, piece: &[u8]) -> Result<(), NoMemory>
         ensures ok { OnOk result (self.new ≡ self.old ++ piece.now) }
         ensures err { OnErr result (self.new ≡ self.old) }
@@ -145,7 +155,7 @@ impl PressureList {
         })
     }
 
-    /// Appends a pressure. After want of memory the list is as it was.
+    /// Appends a pressure. After running out of memory the list is as it was.
     pub fn push(&mut self, pressure: u32) -> Result<(), NoMemory>
         ensures ok { OnOk result (self.new ≡ self.old ++ pressure ∷ []) }
         ensures err { OnErr result (self.new ≡ self.old) }

@@ -65,7 +65,7 @@ pub fn at_place(alloc: Global, line: &[u8], place: Option<Place>) -> Result<Faul
 }
 
 /// Appends `line 4, column 6: in: 16,385 octets, at most 16,384`, without a newline: the line, the place, the event, what is
-/// wrong, and what stands there. Want of memory may leave some of it.
+/// wrong, and what stands there. Running out of memory may leave some of it.
 pub fn put_line_fault(fault: &LineFault, into: &mut Octets) -> Result<(), NoMemory>
     ensures ok { OnOk result (Extends into.old into.new) }
     ensures err { OnErr result (Extends into.old into.new) }

@@ -61,7 +61,7 @@ impl<T: Drop> Lists<T> {
         Ok(Lists { rings })
     }
 
-    /// A new node with this value becomes the last of the list. After want of memory the value is handed back.
+    /// A new node with this value becomes the last of the list. After running out of memory the value is handed back.
     pub fn insert_back<L: Ledger>(
         &mut self,
         list: u32,

@@ -72,7 +72,7 @@ impl<T: Drop> Rings<T> {
         Ok(())
     }
 
-    /// A new node becomes the last of the ring. After want of memory the value is handed back.
+    /// A new node becomes the last of the ring. After running out of memory the value is handed back.
     pub fn push_back<L: Ledger>(
         &mut self,
         ring: usize,

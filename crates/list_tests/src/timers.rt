@@ -28,7 +28,7 @@ fn set_state(timers: &mut Timers, held: &VecDeque<Timer>, ppm: u32)
     timers.set_state(ppm);
 }
 
-/// Arms a timer and keeps it behind the others. False after want of memory.
+/// Arms a timer and keeps it behind the others. False after running out of memory.
 fn arm<L: Ledger>(
     timers: &mut Timers,
     held: &mut VecDeque<Timer>,

@@ -8,9 +8,9 @@ use Rattle.plain_laws.proofs.Quiets.{rests_told}
 use Rattle.plain_laws.proofs.Streams.{by_case, has_was, own_or_other}
 use Rattle.plain_laws.specs.Regular.{IsUnborn}
 use Rattle.plain_laws.specs.StepNotes.{begin_notes as step_notes}
-use Rattle.std.proofs.Common.{ap, arith, inl, inr, refl, subst, sym, ◌∙◌}
+use Rattle.std.proofs.Common.{arith, inl, inr, refl, subst, sym, ◌∙◌}
 use Rattle.std.specs.List.{AllByRecursion}
-use Rattle.std.specs.Prelude.{Bool, List, [], false, true, ℕ, ◌++◌, ◌+◌, ◌<◌, ◌∷◌, ◌≡◌, ◌≤◌}
+use Rattle.std.specs.Prelude.{Bool, [], false, true, ℕ, ◌++◌, ◌+◌, ◌<◌, ◌∷◌, ◌≡◌, ◌≤◌}
 use Rattle.plain_laws.specs.Words.{Past, Alive}
 use Rattle.tape_laws.specs.Dispatches.{events_back, has, live, started}
 use Rattle.tape_laws.specs.Following.{MayFollowEvent, may_follow}
@@ -84,10 +84,10 @@ begin_opened old new x k held f o b ek = record {
       let unborn = r.good.flows.lawful.regular.books.unborn x not_yet in
       let s = b.goes limits k h r.good.flows not_yet in
       let is_live : (y : ℕ) → Alive (onto (step_notes limits k x h) h) y → has (live h ++ x ∷ []) y ≡ true =
-      λ y is. sym (ap (λ (v : List ℕ). has v y) (begin_live limits k x h)) ∙ is in
+      λ y is. cc (begin_live limits k x h) in
       subst (λ (v : Bool). Good limits new (onto (turn_note k (plain.Begin x) ∷ begin_notes x v) h)) (sym s.held)
-      (good_of limits old new f old.pairs (task.Round ∷ old.agenda) (task.Round ∷ []) h (onto (step_notes limits k x h) h) o r (λ e. ap (λ v. task.Round ∷ v) e)
-      s.stands (begin_step limits k x h rest n (some_number x m.0.0) m.2) (begin_turns limits k x h) (pairs_kept limits old h (onto (step_notes limits k x h) h) r (λ y. begin_paired limits k x h y))
+      (good_of limits old new f old.pairs (task.Round ∷ old.agenda) (task.Round ∷ []) h (onto (step_notes limits k x h) h) o r (λ e. cc)
+      s.stands (begin_step limits k x h rest n (some_number x m.0.0) m.2) (begin_turns limits k x h) (pairs_kept limits old h (onto (step_notes limits k x h) h) r (begin_paired limits k x h))
       (underway_round limits old.pairs _ (λ y is. still limits old k x y h r unborn (is_live y is)) ((begin_keeps_write limits k x h).lows ∙ rests_told limits h rest)
       (λ y is. unended limits old k x y h r unborn (is_live y is)) (begin_unswept limits k x h)));
   well = o.failed;

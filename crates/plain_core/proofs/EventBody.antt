@@ -1,18 +1,14 @@
 -- Octets of a stream come.
-use Rattle.exchange_core.specs.Exchange.{flow_in}
-use Rattle.exchange_core.specs.declared.exchange.Exchange.{Exchange}
+use Rattle.std.proofs.lemmas.Bool.{or_left}
 use Rattle.flow_notes.specs.declared.events.PlainEvent.{PlainEvent}
-use Rattle.plain_laws.proofs.Dooms.{without}
 use Rattle.plain_laws.proofs.EventChanges.{body_keeps, body_keeps_write, cut_keeps, over_keeps}
 use Rattle.plain_laws.proofs.EventSteps.{body_late_step, body_step, cut_late_step, cut_step, finish_step, over_step}
 use Rattle.plain_laws.proofs.Followings.{body_flowing, finish_flowing}
 use Rattle.plain_laws.proofs.Quiets.{rests_told}
-use Rattle.plain_laws.proofs.Streams.{apart_from, by_case, differs_back, has_left, not_both, or_left, same_request}
-use Rattle.std.proofs.Common.{ap, arith, inl, refl, subst, sym, ◌∙◌}
-use Rattle.std.proofs.lemmas.Bool.Decides.{nat_tests}
+use Rattle.plain_laws.proofs.Streams.{apart_from, by_case, differs_back, has_left, not_both, same_request}
+use Rattle.std.proofs.Common.{arith, inl, refl, sym, ◌∙◌}
 use Rattle.std.specs.List.{list_any}
-use Rattle.std.specs.Option.{option_and_then}
-use Rattle.std.specs.Prelude.{Bool, IfSome, List, Option, [], false, length, true, ℕ, ◌+◌, ◌==◌, ◌||◌, ◌∷◌, ◌≡◌}
+use Rattle.std.specs.Prelude.{Bool, List, [], false, length, true, ℕ, ◌+◌, ◌==◌, ◌∷◌, ◌≡◌}
 use Rattle.plain_laws.specs.Words.{Past, Alive, conn_lows}
 use Rattle.tape_laws.specs.Dispatches.{events_back, has, live}
 use Rattle.tape_laws.specs.Flows.{request, same_flow}
@@ -26,12 +22,11 @@ use Rattle.plain_core.proofs.Rested.{at_rest, may_same, rest_still, rest_unended
 use Rattle.plain_core.proofs.TurnStands.{turn_stands, turned}
 use Rattle.plain_core.specs.Agenda.{is_run_of, with_run}
 use Rattle.plain_core.specs.Carries.{Arrives, Ends, Fits, GivesUp, GoesOn, IsOverrunBy, Lives}
-use Rattle.plain_core.specs.Flows.{FlowsStand, Settled}
+use Rattle.plain_core.specs.Flows.{Settled}
 use Rattle.plain_core.specs.Noting.{doom_of}
 use Rattle.plain_core.specs.Stands.{Rests}
 use Rattle.plain_core.specs.declared.flows.Flows.{Flows}
 use Rattle.plain_core.specs.declared.plain.PlainCore.{PlainCore}
-use Rattle.flow_gate.specs.declared.ids.BufferId.TheVariants as buffer
 use Rattle.flow_notes.specs.declared.events.Event.TheVariants as event
 use Rattle.flow_notes.specs.declared.events.PlainEvent.TheVariants as plain
 use Rattle.flow_notes.specs.declared.notes.Cause.TheVariants as cause
@@ -51,7 +46,7 @@ module _ (limits : PlainLimits) (flows : Flows) (x : ℕ) (h : Past) where
   goes_on_at : Settled limits flows h → Alive h x → plain_ended x h ≡ false → GoesOn flows x
   goes_on_at s is e =
       let i = s.stands.exchanges.there x is in
-      subst (λ (v : Option Exchange). IfSome (option_and_then (flow_in false) v) (λ f. f.message.ended ≡ false)) (sym i.is) (i.ended ∙ e)
+      rw i.is (i.ended ∙ e)
 
 -- the end of a stream hasn't come where octets may, if it is live
 module _ (limits : PlainLimits) (core : PlainCore) where
@@ -60,7 +55,7 @@ module _ (limits : PlainLimits) (core : PlainCore) where
   body_goes_on x octets h r m =
       by_case (has (live h) x)
       (λ is. goes_on_at limits core.flows x h r.good.flows is (body_flowing limits x octets h r.good.flows.lawful.regular m.2).goes_on)
-      (λ d. subst (λ (v : Option Exchange). IfSome (option_and_then (flow_in false) v) (λ f. f.message.ended ≡ false)) (sym (r.good.flows.stands.exchanges.gone x d)) tt)
+      (λ d. rw (r.good.flows.stands.exchanges.gone x d) tt)
 
   pub finish_goes_on : (x : ℕ) (h : Past) → Rests limits core h → Lives core.flows x true
       → MayFollowEvent (events_back h) (event.Plain (plain.Finish x)) → GoesOn core.flows x
@@ -81,7 +76,7 @@ late_opened old new x k octets o l ek = record {
   silent = tt;
   goes = λ limits h r m.
       let is = dead_at limits old.flows x h l r.good.flows in
-      good_of limits old new old.flows old.pairs (task.Round ∷ old.agenda) (task.Round ∷ []) h (turned k (plain.Body x octets) ∷ h) o r (λ e. ap (λ v. task.Round ∷ v) e)
+      good_of limits old new old.flows old.pairs (task.Round ∷ old.agenda) (task.Round ∷ []) h (turned k (plain.Body x octets) ∷ h) o r (λ e. cc)
       (turn_stands limits k (plain.Body x octets) h old.flows (λ y e. refl) r.good.flows.stands)
       (body_late_step limits k x octets h (at_rest limits old h r) (turn_number limits old k h r ek) m.2 is) refl (pairs_kept limits old h (turned k (plain.Body x octets) ∷ h) r (λ y. refl))
       (underway_round limits old.pairs _ (λ y e. rest_still limits old y h r e) (told_none limits old k (plain.Body x octets) h r) (λ y e. rest_unended limits old y h r e) refl);
@@ -96,8 +91,8 @@ late_finished old new x k o l ek = record {
   silent = tt;
   goes = λ limits h r m.
       let is = dead_at limits old.flows x h l r.good.flows in
-      good_of limits old new old.flows old.pairs (task.Round ∷ old.agenda) (task.Round ∷ []) h (turned k (plain.Finish x) ∷ h) o r (λ e. ap (λ v. task.Round ∷ v) e)
-      (turn_stands limits k (plain.Finish x) h old.flows (λ y e. ap (λ b. b || plain_ended y h) (differs_back y x (apart_from (live h) y x e is))) r.good.flows.stands)
+      good_of limits old new old.flows old.pairs (task.Round ∷ old.agenda) (task.Round ∷ []) h (turned k (plain.Finish x) ∷ h) o r (λ e. cc)
+      (turn_stands limits k (plain.Finish x) h old.flows (λ y e. cc (differs_back y x (apart_from (live h) y x e is))) r.good.flows.stands)
       (finish_step limits k x h (at_rest limits old h r) (turn_number limits old k h r ek) m.2) refl (pairs_kept limits old h (turned k (plain.Finish x) ∷ h) r (λ y. refl))
       (underway_round limits old.pairs _ (λ y e. rest_still limits old y h r e) (told_none limits old k (plain.Finish x) h r) (λ y e. rest_unended limits old y h r e) refl);
   well = o.failed;
@@ -118,11 +113,11 @@ arrive_opened old new x k octets f o l fits a ek = record {
       let rest = at_rest limits old h r in
       let agenda = task.Run (request x) ∷ task.Round ∷ [] in
       good_of limits old new f old.pairs (with_run (request x) (task.Round ∷ old.agenda)) agenda h (Noted (note.Arrive (request x) octets) ∷ turned k (plain.Body x octets) ∷ h) o r
-      (λ e. ap (λ v. with_run (request x) (task.Round ∷ v)) e)
+      (λ e. cc)
       (a.goes limits k h r.good.flows is)
       (body_step limits k x octets h rest (turn_number limits old k h r ek) is m.0.1.0 (fits.yes limits h r.good.flows is refl)) refl (pairs_kept limits old h (Noted (note.Arrive (request x) octets) ∷ turned k (plain.Body x octets) ∷ h) r (λ y. refl))
       (underway_of limits old.pairs agenda _
-      (λ y e t. by_case (x == y) (λ s. subst (λ (v : ℕ). list_any (is_run_of (request v)) agenda ≡ true) (eq_of x y s) (run_own x))
+      (λ y e t. by_case (x == y) (λ s. rw (← eq_of x y s) (run_own x))
       (λ d. not_both _ t (may_same limits y h (Noted (note.Arrive (request x) octets) ∷ turned k (plain.Body x octets) ∷ h) refl (body_keeps limits k x y octets h d).recv ∙ rest_still limits old y h r e)))
       (inl ((body_keeps_write limits k x octets h).lows ∙ rests_told limits h rest)) (λ y e. rest_unended limits old y h r e) (tt, (tt, tt)) refl refl);
   well = o.failed;
@@ -138,7 +133,7 @@ module _ (old new : PlainCore) (x k : ℕ) where
     goes = λ limits h r m.
         let is = lives_at limits old.flows x h l r.good.flows in
         let agenda = task.Run (request x) ∷ task.Round ∷ [] in
-        good_of limits old new f old.pairs (with_run (request x) (task.Round ∷ old.agenda)) agenda h (turned k (plain.Finish x) ∷ h) o r (λ e. ap (λ v. with_run (request x) (task.Round ∷ v)) e)
+        good_of limits old new f old.pairs (with_run (request x) (task.Round ∷ old.agenda)) agenda h (turned k (plain.Finish x) ∷ h) o r (λ e. cc)
         (a.goes limits k h r.good.flows is)
         (finish_step limits k x h (at_rest limits old h r) (turn_number limits old k h r ek) m.2) refl (pairs_kept limits old h (turned k (plain.Finish x) ∷ h) r (λ y. refl))
         (underway_of limits old.pairs agenda _ (λ y e t. not_both _ t (rest_still limits old y h r e)) (inl (told_none limits old k (plain.Finish x) h r)) (λ y e. rest_unended limits old y h r e)
@@ -163,20 +158,20 @@ module _ (old new : PlainCore) (x k : ℕ) where
     goes = λ limits h r m.
         let is = lives_at limits old.flows x h l r.good.flows in
         let e = plain.Body x octets in
-        good_of limits old new f old.pairs (task.Round ∷ old.agenda) (task.Round ∷ []) h (Noted (note.Doom x (cause.StreamError 3)) ∷ turned k e ∷ h) o r (λ e. ap (λ v. task.Round ∷ v) e)
+        good_of limits old new f old.pairs (task.Round ∷ old.agenda) (task.Round ∷ []) h (Noted (note.Doom x (cause.StreamError 3)) ∷ turned k e ∷ h) o r (λ e. cc)
         (g.is.1.turned limits k e h r.good.flows is (turn_stands limits k e h old.flows (λ y e. refl) r.good.flows.stands))
         (over_step limits k x octets h (at_rest limits old h r) (turn_number limits old k h r ek) is (fits.no limits h r.good.flows is refl)) refl (pairs_kept limits old h (Noted (note.Doom x (cause.StreamError 3)) ∷ turned k e ∷ h) r (λ y. refl))
         (underway_round limits old.pairs _
         (λ y t. let k2 = has_left (live h) x y t in may_same limits y h (Noted (note.Doom x (cause.StreamError 3)) ∷ turned k e ∷ h) refl (over_keeps limits k x y octets h r.good.flows.lawful k2.1).recv
         ∙ rest_still limits old y h r k2.0)
-        (ap (without x) (told_none limits old k e h r)) (λ y t. rest_unended limits old y h r (has_left (live h) x y t).0) refl);
+        (cc (told_none limits old k e h r)) (λ y t. rest_unended limits old y h r (has_left (live h) x y t).0) refl);
     well = o.failed;
   }
 
   pub over_any : (e : PlainEvent) (b : Bool) (f : Flows) → IsOpened old f old.pairs (task.Round ∷ old.agenda) new → Lives old.flows x true → IsOverrunBy old.flows x e
       → GivesUp x (cause.StreamError 3) old.flows b f → k ≡ old.turn + 1 → Opened old k e (doom_of b x (cause.StreamError 3)) new
   over_any (plain.Body y octets) b f o l over g ek =
-      subst (λ (v : ℕ). Opened old k (plain.Body v octets) (doom_of b x (cause.StreamError 3)) new) (sym over.0) (over_opened octets b f o l over.1 g ek)
+      rw over.0 (over_opened octets b f o l over.1 g ek)
   over_any (plain.Begin y) b f o l over g ek = absurd over
   over_any (plain.Pair y z) b f o l over g ek = absurd over
   over_any (plain.Finish y) b f o l over g ek = absurd over
@@ -191,8 +186,8 @@ cut_opened old new x k false f o g ek = record {
   silent = tt;
   goes = λ limits h r m.
       let is = dead_at limits old.flows x h g.is.0 r.good.flows in
-      good_of limits old new f old.pairs (task.Round ∷ old.agenda) (task.Round ∷ []) h (turned k (plain.Cut x) ∷ h) o r (λ e. ap (λ v. task.Round ∷ v) e)
-      (subst (λ (v : Flows). FlowsStand limits v (turned k (plain.Cut x) ∷ h)) (sym g.is.1) (turn_stands limits k (plain.Cut x) h old.flows (λ y e. refl) r.good.flows.stands))
+      good_of limits old new f old.pairs (task.Round ∷ old.agenda) (task.Round ∷ []) h (turned k (plain.Cut x) ∷ h) o r (λ e. cc)
+      (rw g.is.1 (turn_stands limits k (plain.Cut x) h old.flows (λ y e. refl) r.good.flows.stands))
       (cut_late_step limits k x h (at_rest limits old h r) (turn_number limits old k h r ek) is) refl (pairs_kept limits old h (turned k (plain.Cut x) ∷ h) r (λ y. refl))
       (underway_round limits old.pairs _ (λ y e. rest_still limits old y h r e) (told_none limits old k (plain.Cut x) h r) (λ y e. rest_unended limits old y h r e) refl);
   well = o.failed;
@@ -204,12 +199,12 @@ cut_opened old new x k true f o g ek = record {
   goes = λ limits h r m.
       let is = lives_at limits old.flows x h g.is.0 r.good.flows in
       let e = plain.Cut x in
-      good_of limits old new f old.pairs (task.Round ∷ old.agenda) (task.Round ∷ []) h (Noted (note.Doom x (cause.PeerReset 8)) ∷ turned k e ∷ h) o r (λ e. ap (λ v. task.Round ∷ v) e)
+      good_of limits old new f old.pairs (task.Round ∷ old.agenda) (task.Round ∷ []) h (Noted (note.Doom x (cause.PeerReset 8)) ∷ turned k e ∷ h) o r (λ e. cc)
       (g.is.1.turned limits k e h r.good.flows is (turn_stands limits k e h old.flows (λ y e. refl) r.good.flows.stands))
       (cut_step limits k x h (at_rest limits old h r) (turn_number limits old k h r ek) is) refl (pairs_kept limits old h (Noted (note.Doom x (cause.PeerReset 8)) ∷ turned k e ∷ h) r (λ y. refl))
       (underway_round limits old.pairs _
       (λ y t. let k2 = has_left (live h) x y t in may_same limits y h (Noted (note.Doom x (cause.PeerReset 8)) ∷ turned k e ∷ h) refl (cut_keeps limits k x y h r.good.flows.lawful k2.1).recv
       ∙ rest_still limits old y h r k2.0)
-      (ap (without x) (told_none limits old k e h r)) (λ y t. rest_unended limits old y h r (has_left (live h) x y t).0) refl);
+      (cc (told_none limits old k e h r)) (λ y t. rest_unended limits old y h r (has_left (live h) x y t).0) refl);
   well = o.failed;
 }

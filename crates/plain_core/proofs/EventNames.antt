@@ -27,24 +27,24 @@ use Rattle.plain_core.specs.Words.{Written}
 
 -- ---- the event
 pub take_named : (core : PlainCore) (notes : List Note) (e said : Event) → e ≡ said → CanTake core said notes → CanTake core e notes
-take_named core notes e said eq t = subst (λ (v : Event). CanTake core v notes) (sym eq) t
+take_named core notes e said eq t = rw eq t
 
 pub opens_named : (old new : PlainCore) (before after : List Note) (e said : Event) (r : Written) → e ≡ said → OnOk r (Opens old before e new after)
     → OnOk r (Opens old before said new after)
-opens_named old new before after e said r eq o = subst (λ (v : Event). OnOk r (Opens old before v new after)) eq o
+opens_named old new before after e said r eq o = rw (← eq) o
 
 pub cut_named : (old : PlainCore) (before after : List Note) (e said : Event) → e ≡ said → CutsTurn old before e after → CutsTurn old before said after
-cut_named old before after e said eq o = subst (λ (v : Event). CutsTurn old before v after) eq o
+cut_named old before after e said eq o = rw (← eq) o
 
 -- octets of a stream, by another number and kept apart
 pub body_same : (s x : ℕ) (o octets : List ℕ) → x ≡ s → o ≡ octets → plain.Body s o ≡ plain.Body x octets
-body_same s x o octets es eo = ap (λ v. plain.Body v o) (sym es) ∙ ap (λ (v : List ℕ). plain.Body x v) eo
+body_same s x o octets es eo = cc
 
 pub body_said : (s : ℕ) (o octets : List ℕ) → o ≡ octets → event.Plain (plain.Body s o) ≡ event.Plain (plain.Body s octets)
-body_said s o octets eo = ap (λ (v : List ℕ). event.Plain (plain.Body s v)) eo
+body_said s o octets eo = cc
 
 pub plain_is : (e : Event) (p said : PlainEvent) → e ≡ event.Plain p → p ≡ said → event.Plain said ≡ e
-plain_is e p said ep es = sym (ep ∙ ap event.Plain es)
+plain_is e p said ep es = cc
 
 -- no other event may be taken
 pub plain_alone : (core : PlainCore) (e : Event) (notes : List Note) → CanTake core e notes → (tag_of the_type e ≡ 8 → ⊥) → ⊥
@@ -66,23 +66,23 @@ plain_alone core e notes t none = alone (events_back (onto notes t.history)) e t
 module _ (core : PlainCore) (notes : List Note) (s x : ℕ) where
   pub finish_goes : (b : Bool) → x ≡ s → b ≡ true → Lives core.flows x b → CanTake core (event.Plain (plain.Finish s)) notes → GoesOn core.flows x
   finish_goes b es eb l t =
-      finish_goes_on t.limits core x (onto notes t.history) t.rests (lives_is core.flows x b true eb l) (subst (λ (v : ℕ). MayFollowEvent (events_back (onto notes t.history)) (event.Plain (plain.Finish v))) (sym es) t.follows.0)
+      finish_goes_on t.limits core x (onto notes t.history) t.rests (lives_is core.flows x b true eb l) (rw es t.follows.0)
 
   pub body_goes : (octets : List ℕ) → x ≡ s → CanTake core (event.Plain (plain.Body s octets)) notes → GoesOn core.flows x
   body_goes octets es t =
-      body_goes_on t.limits core x octets (onto notes t.history) t.rests (subst (λ (v : ℕ). MayFollowEvent (events_back (onto notes t.history)) (event.Plain (plain.Body v octets))) (sym es) t.follows.0)
+      body_goes_on t.limits core x octets (onto notes t.history) t.rests (rw es t.follows.0)
 
 -- what became of octets that came
 pub received_as : (x : ℕ) (octets : List ℕ) (answer said : Received) (old new : Flows) → answer ≡ said → Receives x octets answer old new → ReceivesAs x octets said old new
-received_as x octets answer said old new e r = subst (λ (v : Received). ReceivesAs x octets v old new) e r.is
+received_as x octets answer said old new e r = rw (← e) r.is
 
 -- they are too many
 pub over_lives : (old new : Flows) (x : ℕ) (octets : List ℕ) → ReceivesAs x octets received.TooMany old new → Lives new x true
-over_lives old new x octets r = subst (λ (v : Flows). Lives v x true) (sym r.2) r.0
+over_lives old new x octets r = rw r.2 r.0
 
 pub over_named : (old new : Flows) (s x : ℕ) (o p octets : List ℕ) → x ≡ s → o ≡ octets → p ≡ octets → ReceivesAs x p received.TooMany old new → IsOverrun new x (plain.Body s o)
 over_named old new s x o p octets es eo ep r =
-    record { is = (sym es, subst (λ (v : Flows). Fits v x (length o) false) (sym r.2) (subst (λ (v : List ℕ). Fits old x (length v) false) (ep ∙ sym eo) r.1)) }
+    record { is = (sym es, rw r.2 (subst (λ (v : List ℕ). Fits old x (length v) false) (ep ∙ sym eo) r.1)) }
 
 -- ---- a core whose flows are as they were
 module _ (old : PlainCore) where
@@ -90,14 +90,14 @@ module _ (old : PlainCore) where
   core_same f e = ap (λ (v : Flows). record old { flows = v }) e
 
   pub take_same : (f : Flows) (e : Event) (notes : List Note) → f ≡ old.flows → CanTake old e notes → CanTake (record old { flows = f }) e notes
-  take_same f e notes eq t = subst (λ (v : PlainCore). CanTake v e notes) (sym (core_same f eq)) t
+  take_same f e notes eq t = rw (core_same f eq) t
 
   pub opens_same : (new : PlainCore) (f : Flows) (before after : List Note) (e : Event) (r : Written) → f ≡ old.flows
       → OnOk r (Opens (record old { flows = f }) before e new after) → OnOk r (Opens old before e new after)
-  opens_same new f before after e r eq o = subst (λ (v : PlainCore). OnOk r (Opens v before e new after)) (core_same f eq) o
+  opens_same new f before after e r eq o = rw (← core_same f eq) o
 
   pub cut_same : (f : Flows) (before after : List Note) (e : Event) → f ≡ old.flows → CutsTurn (record old { flows = f }) before e after → CutsTurn old before e after
-  cut_same f before after e eq o = subst (λ (v : PlainCore). CutsTurn v before e after) (core_same f eq) o
+  cut_same f before after e eq o = rw (← core_same f eq) o
 
 -- ---- octets of a stream that isn't live any more
 pub late_result : (old new : PlainCore) (f : Flows) (before after : List Note) (s x k : ℕ) (o octets : List ℕ) (r : Written) → x ≡ s → o ≡ octets
@@ -107,4 +107,4 @@ late_result old new f before after s x k o octets r es eo a op l ek =
     let A : List ℕ → Type 0 = λ v. AppendsNotes before (turn_note k (plain.Body s v) ∷ []) after r in
     let d : Opened old k (plain.Body s octets) [] new =
     event_is old new k (plain.Body x octets) (plain.Body s octets) [] (ap (λ v. plain.Body v octets) es) (late_opened old new x k octets (subst (λ (v : Flows). IsOpened old v old.pairs (task.Round ∷ old.agenda) new) l.1 op) l.0 ek) in
-    (opens_result old new before after k (plain.Body s octets) [] r (subst A eo a) d, turn_result old new before after k (plain.Body s octets) [] r (subst A eo a) d)
+    (opens_result old new before after k (plain.Body s octets) [] r (rw (← eo) a) d, turn_result old new before after k (plain.Body s octets) [] r (rw (← eo) a) d)

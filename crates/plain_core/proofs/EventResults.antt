@@ -2,7 +2,7 @@
 use Rattle.flow_gate.specs.declared.ids.FlowId.{FlowId}
 use Rattle.flow_notes.specs.declared.events.PlainEvent.{PlainEvent}
 use Rattle.flow_notes.specs.declared.notes.Note.{Note}
-use Rattle.std.proofs.Common.{ap, subst, sym, ◌∙◌}
+use Rattle.std.proofs.Common.{ap, subst, sym}
 use Rattle.std.specs.Prelude.{Bool, List, OnOk, [], true, ℕ, ◌++◌, ◌+◌, ◌∷◌, ◌≡◌}
 use Rattle.tape_laws.specs.Flows.{request}
 use Rattle.plain_core.proofs.EventBody.{arrive_opened, finish_opened}
@@ -34,12 +34,12 @@ pub arrive_named : (old new : PlainCore) (x k : ℕ) (e : PlainEvent) (octets o 
     → Opened old k e (note.Arrive g o ∷ []) new
 arrive_named old new x k e octets o p g f eo ep eg ee op came ek =
     let all = subst (λ (v : List ℕ). ReceivesAs x v received.Arrived old.flows f) ep came in
-    subst (λ (v : FlowId). Opened old k e (note.Arrive v o ∷ []) new) (sym eg) (subst (λ (v : List ℕ). Opened old k e (note.Arrive (request x) v ∷ []) new) (sym eo) (event_is old new k (plain.Body x octets) e (note.Arrive (request x) octets ∷ []) (sym ee) (arrive_opened old new x k octets f (subst (λ (v : FlowId). IsOpened old f old.pairs (with_run v (task.Round ∷ old.agenda)) new) eg op) all.0 all.1 all.2 ek)))
+    rw eg (subst (λ (v : List ℕ). Opened old k e (note.Arrive (request x) v ∷ []) new) (sym eo) (event_is old new k (plain.Body x octets) e (note.Arrive (request x) octets ∷ []) (sym ee) (arrive_opened old new x k octets f (subst (λ (v : FlowId). IsOpened old f old.pairs (with_run v (task.Round ∷ old.agenda)) new) eg op) all.0 all.1 all.2 ek)))
 
 -- the telling is begun
 pub opened_telling : (old mid new : PlainCore) (f : Flows) (p : Pairs) (a : Agenda) (low : Bool) → IsOpened old f p a mid → new.agenda ≡ with_telling low mid.agenda → new ≡ record mid { agenda = new.agenda }
     → IsOpened old f p (with_telling low a) new
-opened_telling old mid new f p a low o na rest = opened_more old mid new f p a (with_telling low a) o (λ e. na ∙ ap (λ (v : Agenda). with_telling low v) e) rest
+opened_telling old mid new f p a low o na rest = opened_more old mid new f p a (with_telling low a) o (λ e. cc) rest
 
 pub finish_named : (old new : PlainCore) (x s k : ℕ) (g : FlowId) (f : Flows) → x ≡ s → g ≡ request x → IsOpened old f old.pairs (with_run g (task.Round ∷ old.agenda)) new → Lives old.flows x true
     → Ends x old.flows f → k ≡ old.turn + 1 → Opened old k (plain.Finish s) [] new

@@ -30,13 +30,13 @@ use Rattle.flow_notes.specs.declared.notes.Note.TheVariants as note
 use Rattle.plain_core.specs.declared.agenda.Task.TheVariants as task
 
 octets_of : (limits : PlainLimits) (core : PlainCore) (h : Past) → Rests limits core h → length core.flows.conn.write.octets ≡ length (conn_out limits h)
-octets_of limits core h r = ap length r.good.flows.stands.conn.octets
+octets_of limits core h r = cc
 
 least_of : (a n b c : ℕ) → a ≡ min n b → b ≡ c → a ≡ min n c
-least_of a n b c e f = e ∙ ap (λ v. min n v) f
+least_of a n b c e f = cc
 
 none_least : (n b c : ℕ) → min n b ≡ 0 → b ≡ c → min n c ≡ 0
-none_least n b c e f = sym (ap (λ v. min n v) f) ∙ e
+none_least n b c e f = cc
 
 -- nothing may leave
 pub none_opened : (old new : PlainCore) (n k : ℕ) → IsOpened old old.flows old.pairs (task.Round ∷ old.agenda) new → min n (length old.flows.conn.write.octets) ≡ 0 → k ≡ old.turn + 1
@@ -47,7 +47,7 @@ none_opened old new n k o none ek = record {
   silent = tt;
   goes = λ limits h r m.
       let rest = at_rest limits old h r in
-      good_of limits old new old.flows old.pairs (task.Round ∷ old.agenda) (task.Round ∷ []) h (turned k (plain.Room n) ∷ h) o r (λ e. ap (λ v. task.Round ∷ v) e)
+      good_of limits old new old.flows old.pairs (task.Round ∷ old.agenda) (task.Round ∷ []) h (turned k (plain.Room n) ∷ h) o r (λ e. cc)
       (turn_stands limits k (plain.Room n) h old.flows (λ y e. refl) r.good.flows.stands)
       (room_none_step limits k n h rest (turn_number limits old k h r ek) (none_least n _ _ none (octets_of limits old h r))) refl (pairs_kept limits old h (turned k (plain.Room n) ∷ h) r (λ y. refl))
       (underway_round limits old.pairs _ (λ y e. rest_still limits old y h r e) (rests_told limits h rest)
@@ -83,11 +83,11 @@ room_opened old new n m k low f o l em some ek = record {
       let b = buffer.Write 0 in
       let new_h = Noted (note.Out 0 m) ∷ turned k (plain.Room n) ∷ h in
       let drained : low ≡ (above (plain_setup limits) b h && not (above (plain_setup limits) b new_h)) = s.drains ∙ ap (λ v. above (plain_setup limits) b h && not v) (sym (room_high limits k n m h)) in
-      good_of limits old new f old.pairs (with_telling low (task.Round ∷ old.agenda)) (with_telling low (task.Round ∷ [])) h new_h o r (λ e. ap (λ v. with_telling low (task.Round ∷ v)) e)
+      good_of limits old new f old.pairs (with_telling low (task.Round ∷ old.agenda)) (with_telling low (task.Round ∷ [])) h new_h o r (λ e. cc)
       s.stands (room_step limits k n m h rest (turn_number limits old k h r ek) (least_of m n _ _ em (octets_of limits old h r)) some) refl (pairs_kept limits old h new_h r (λ y. refl))
       (underway_of limits old.pairs (with_telling low (task.Round ∷ [])) new_h
       (λ y e t. not_both _ t (may_same limits y h new_h refl (room_keeps limits k n m y h).recv ∙ rest_still limits old y h r e))
-      (telling_told low (map request (live h)) _ (room_lows limits k n m h rest ∙ ap (λ v. if v then map request (live h) else []) (sym drained)))
+      (telling_told low (map request (live h)) _ (cc (room_lows limits k n m h rest)))
       (λ y e. rest_unended limits old y h r e) (telling_reasons limits new_h low) (telling_rounded low) refl);
   well = o.failed;
 }

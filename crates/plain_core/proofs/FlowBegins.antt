@@ -1,4 +1,5 @@
 -- What the flows are after a stream began.
+use Rattle.std.proofs.lemmas.Bool.{or_right as or_true}
 use Rattle.exchange_core.specs.Changes.{Starts}
 use Rattle.exchange_core.specs.Exchange.{begun}
 use Rattle.exchange_core.specs.Exchanges.{Exchanges, IsSound as AreSoundExchanges, exchange_at}
@@ -13,6 +14,7 @@ use Rattle.plain_laws.proofs.EventChanges.{begin_condemned, begin_framed_last, b
 use Rattle.plain_laws.proofs.Streams.{by_case, has_last, has_more, has_not, has_was, not_both, own_or_other, same_number}
 use Rattle.plain_laws.specs.Regular.{IsUnborn}
 use Rattle.plain_laws.specs.Settled.{Settled as IsSettledHistory}
+use Rattle.std.proofs.Math.Bool.{or-false}
 use Rattle.std.proofs.Common.{ap, arith, inr, refl, subst, sym, ◌∙◌}
 use Rattle.std.proofs.lemmas.Bool.Decides.{nat_tests}
 use Rattle.std.proofs.lemmas.List.{append-nil}
@@ -20,12 +22,10 @@ use Rattle.std.specs.Option.{option_map_or}
 use Rattle.std.specs.Prelude.{Bool, List, None, Option, Some, [], false, if◌then◌else◌, is_some, length, map, min, nat_lt, not, true, ℕ, ◌&&◌, ◌++◌, ◌+◌, ◌<◌, ◌==◌, ◌^◌, ◌||◌, ◌∷◌, ◌≡◌, ◌≤◌}
 use Rattle.plain_laws.specs.Words.{Past, Alive, conn_high, end_out, past_begin, send_at}
 use Rattle.tape_laws.specs.Dispatches.{has, live, started}
-use Rattle.tape_laws.specs.Ends.{end_framed}
 use Rattle.flow_rules.specs.declared.unit.Unit.TheVariants.{Body as BodyUnit, Nothing as NoUnit}
-use Rattle.tape_laws.specs.Flows.{request, same_flow}
+use Rattle.tape_laws.specs.Flows.{request}
 use Rattle.tape_laws.specs.Pauses.{count}
 use Rattle.tape_laws.specs.Plain.{plain_ended}
-use Rattle.tape_laws.specs.Watermark.{above}
 use Rattle.tape_laws.specs.declared.limits.PlainLimits.{PlainLimits}
 use Rattle.plain_core.specs.Carries.{Begins}
 use Rattle.plain_core.specs.Flows.{ConnectionIs, ExchangesAre, GatesAre, IsSettled, Settled, StreamIs, next_piece, piece_of}
@@ -38,7 +38,6 @@ use Rattle.plain_core.proofs.FlowHolds.{holding_begun}
 use Rattle.plain_core.proofs.FlowUnits.{keeps_piece}
 use Rattle.plain_laws.proofs.Tellings.{told_all}
 use Rattle.proxy_config.specs.declared.config.Config.{Config}
-use Rattle.plain_laws.proofs.Streams.{or_right as or_true}
 
 -- ---- who is live
 module _ (limits : PlainLimits) (x : ℕ) where
@@ -60,8 +59,7 @@ pub unwatched : (x : ℕ) (old : Flows) (b1 b2 b3 : Board) → IsSettled old →
 unwatched x old b1 b2 b3 s l begins knows watches =
     let h = s.history in
     let same = watches.watchers (buffer.Write 0) ∙ (append-nil _ ∙ (knows.watchers (buffer.Write 0) ∙ (begins.watchers (buffer.Write 0) ∙ s.settled.stands.gates.write_watchers))) in
-    ap (times (request x)) same ∙ (told_all (live h) x s.settled.lawful.regular.books.rising
-    ∙ ap one_if (not_live s.limits x h s.settled.lawful (not_started s.limits x old h s.settled l)))
+    ap (times (request x)) same ∙ (cc (told_all (live h) x s.settled.lawful.regular.books.rising, not_live s.limits x h s.settled.lawful (not_started s.limits x old h s.settled l)))
 
 -- ---- the exchanges
 module _ (limits : PlainLimits) (k x : ℕ) (h : Past) where
@@ -75,9 +73,9 @@ module _ (limits : PlainLimits) (k x : ℕ) (h : Past) where
       record {
         plain = plain_begun flows.limits.recv flows.limits.send flows.limits.quantum 0;
         is = refl;
-        window = ap (λ (v : PlainLimits). v.recv) l;
-        limit = ap (λ (v : PlainLimits). v.send) l;
-        quantum = ap (λ (v : PlainLimits). v.quantum) l;
+        window = cc;
+        limit = cc;
+        quantum = cc;
         started = refl;
         recv = sym (kept.recv ∙ u.recv);
         send = sym (kept.send ∙ u.send);
@@ -87,28 +85,28 @@ module _ (limits : PlainLimits) (k x : ℕ) (h : Past) where
       }
 
   lives : (y : ℕ) → has (live after) y ≡ (has (live h) y || (x == y))
-  lives y = ap (λ (xs : List ℕ). has xs y) (begin_live limits k x h) ∙ has_more (live h) x y
+  lives y = cc (begin_live limits k x h, has_more (live h) x y)
 
   begun_exchanges : (config : Config) (old : Flows) (ex : Exchanges) → old.limits ≡ limits → ExchangesAre limits old.exchanges h → IsUnborn limits x h → old.exchanges.last < x → x < 2 ^ 32
       → Starts x (plain_spec x old.limits.recv old.limits.send old.limits.quantum 0) config old.exchanges ex → AreSoundExchanges ex → ExchangesAre limits ex after
   begun_exchanges config old ex l e u rises small c sound = record {
     sound = sound;
     time = c.time;
-    small = subst (λ (n : ℕ). n < 2 ^ 32) (sym c.last) small;
+    small = rw c.last small;
     most = record {
       most = λ y. own_or_other (λ v. has (started after) v ≡ true → v ≤ ex.last) x y
-          (λ is. subst (λ (n : ℕ). x ≤ n) (sym c.last) (itself x))
+          (λ is. rw c.last (itself x))
           (λ d is. subst (λ (n : ℕ). y ≤ n) (sym c.last) (between y old.exchanges.last x
-          (e.most.most y (has_was (started h) x y (sym (ap (λ (xs : List ℕ). has xs y) (begin_started limits k x h)) ∙ is) d)) rises));
+          (e.most.most y (has_was (started h) x y (cc (begin_started limits k x h)) d)) rises));
     };
-    last = inr (ap (λ v. has (started after) v) c.last ∙ (ap (λ (xs : List ℕ). has xs x) (begin_started limits k x h) ∙ has_last (started h) x));
+    last = inr (cc (begin_started limits k x h, has_last (started h) x));
     doomed = c.doomed ∙ (e.doomed ∙ sym (begin_condemned limits k x h));
     there = λ y. own_or_other (λ v. Alive after v → StreamIs limits v after (exchange_at ex v)) x y
-        (λ is. subst (StreamIs limits x after) (sym own_is) (begun_stream config old l u))
+        (λ is. rw own_is (begun_stream config old l u))
         (λ d is. subst (StreamIs limits y after) (sym (other_is y d)) (stream_kept limits y h after (exchange_at old.exchanges y) (begin_keeps limits k x h y)
-        (e.there y (has_was (live h) x y (sym (ap (λ (xs : List ℕ). has xs y) (begin_live limits k x h)) ∙ is) d))));
+        (e.there y (has_was (live h) x y (cc (begin_live limits k x h)) d))));
     gone = λ y is.
-        let none = has_not (live h) x y (sym (ap (λ (xs : List ℕ). has xs y) (begin_live limits k x h)) ∙ is) in
+        let none = has_not (live h) x y (cc (begin_live limits k x h)) in
         other_is y none.1 ∙ e.gone y none.0;
   }
     where
@@ -119,10 +117,10 @@ module _ (limits : PlainLimits) (k x : ℕ) (h : Past) where
       between a b c p q = omega (arith, p, q)
 
       own_is : exchange_at ex x ≡ Some (begun x (plain_spec x old.limits.recv old.limits.send old.limits.quantum 0) config)
-      own_is = c.live x ∙ ap (λ b. if b then Some (begun x (plain_spec x old.limits.recv old.limits.send old.limits.quantum 0) config) else exchange_at old.exchanges x) (same_number x)
+      own_is = cc (c.live x, same_number x)
 
       other_is : (y : ℕ) → (x == y) ≡ false → exchange_at ex y ≡ exchange_at old.exchanges y
-      other_is y d = c.live y ∙ ap (λ b. if b then Some (begun x (plain_spec x old.limits.recv old.limits.send old.limits.quantum 0) config) else exchange_at old.exchanges y) d
+      other_is y d = cc (c.live y)
 
   -- ---- the connection
   begun_conn : (conn : Connection) → ConnectionIs limits conn h → has (live h) x ≡ false → IsUnborn limits x h → ConnectionIs limits conn after
@@ -135,7 +133,7 @@ module _ (limits : PlainLimits) (k x : ℕ) (h : Past) where
         ∙ sym (ap (λ b. if b then next_piece limits y after else None) (lives y)
         ∙ own_or_other (λ v. (if has (live h) v || (x == v) then next_piece limits v after else None) ≡ (if has (live h) v then next_piece limits v after else None)) x y
         (none (has (live h) x || (x == x)) (has (live h) x) (next_piece limits x after) idle)
-        (λ d. ap (λ b. if has (live h) y || b then next_piece limits y after else None) d ∙ ap (λ b. if b then next_piece limits y after else None) (or_false (has (live h) y)))));
+        (λ d. cc (or-false (has (live h) y)))));
   }
     where
       none : (a b : Bool) (p : Option Piece) → p ≡ None → (if a then p else None) ≡ (if b then p else None)
@@ -143,10 +141,6 @@ module _ (limits : PlainLimits) (k x : ℕ) (h : Past) where
       none true false p e = e
       none false true p e = sym e
       none false false p e = refl
-
-      or_false : (b : Bool) → (b || false) ≡ b
-      or_false true = refl
-      or_false false = refl
 
       nothing : (b e fr c l : Bool) (n : ℕ) → b ≡ false → e ≡ false → piece_of (if b then BodyUnit n l else if not (e && c) || fr then NoUnit else BodyUnit 0 true) ≡ None
       nothing false false fr c l n p q = refl
@@ -160,7 +154,7 @@ module _ (limits : PlainLimits) (k x : ℕ) (h : Past) where
       idle =
           let s = length (send_at limits x h) in
           keeps_piece limits x h after (begin_keeps limits k x h x)
-          ∙ nothing _ (plain_ended x h) (end_out limits x h) _ _ (min (min limits.quantum limits.quantum) s) (no_octets limits.quantum s (ap (λ (o : List ℕ). length o) u.send)) u.goes_on
+          ∙ nothing _ (plain_ended x h) (end_out limits x h) _ _ (min (min limits.quantum limits.quantum) s) (no_octets limits.quantum s (cc)) u.goes_on
 
   -- ---- the gates
 
@@ -182,34 +176,32 @@ module _ (limits : PlainLimits) (k x : ℕ) (h : Past) where
 
   map_more : (xs : List ℕ) → map request xs ++ request x ∷ [] ≡ map request (xs ++ x ∷ [])
   map_more [] = refl
-  map_more (y ∷ ys) = ap (λ (fs : List FlowId). request y ∷ fs) (map_more ys)
+  map_more (y ∷ ys) = cc (map_more ys)
 
   begun_gates : (old b1 b2 b3 b4 : Board) → IsSettledHistory limits h → GatesAre limits old h → has (live h) x ≡ false → has (started h) x ≡ false → IsUnborn limits x h → BeginsFlow (request x) old b1
       → Knows (buffer.Send (request x)) b1 b2 → Watches (request x) (buffer.Send (request x)) b2 b3 → Watches (request x) (buffer.Write 0) b3 b4 → IsSoundBoard b4 → GatesAre limits b4 after
   begun_gates old b1 b2 b3 b4 s g new unstarted u c1 c2 c3 c4 sound = record {
     sound = sound;
-    flows = λ f. c4.flows f ∙ (c3.flows f ∙ (c2.flows f ∙ (c1.flows f ∙ (ap (λ b. same_flow (request x) f || b) (g.flows f ∙ is_live_is limits f h)
-        ∙ (begun_flow (x == f.exchange) f.back (has (live h) f.exchange) ∙ sym (is_live_is limits f after ∙ ap (λ b. not f.back && b) (lives f.exchange)))))));
+    flows = λ f. cc (c4.flows f, c3.flows f, c2.flows f, c1.flows f, g.flows f, is_live_is limits f h, begun_flow (x == f.exchange) f.back (has (live h) f.exchange), is_live_is limits f after, lives f.exchange);
     counts = λ y. own_or_other (λ v. Alive after v → count_on b4 (request v) ≡ count (request v) after) x y
         (λ is. c4.counts (request x) ∙ (own_sum _ _ _ _ _ (c3.counts (request x)) (c2.counts (request x) ∙ (c1.counts (request x) ∙ shut_count old (request x) shut_flow))
-        (ap (λ b. one_if (((x == x) && true) && b)) send_low ∙ no_one ((x == x) && true)) (ap (λ b. one_if (((x == x) && true) && b)) write_mark ∙ ap (λ b. one_if ((b && true) && conn_high limits h)) (same_number x))
+        (cc (send_low, no_one ((x == x) && true))) (cc (write_mark, same_number x))
         ∙ sym (begin_count_own limits k x h s unstarted)))
-        (λ d is. c4.counts (request y) ∙ (other_sum _ _ _ _ (c3.counts (request y)) (ap (λ b. one_if ((b && true) && is_marked b2 (buffer.Send (request x)))) d) (ap (λ b. one_if ((b && true) && is_marked b3 (buffer.Write 0))) d)
-        ∙ (c2.counts (request y) ∙ (c1.counts (request y) ∙ (g.counts y (has_was (live h) x y (sym (ap (λ (xs : List ℕ). has xs y) (begin_live limits k x h)) ∙ is) d) ∙ sym (begin_count limits k x y h d))))));
+        (λ d is. c4.counts (request y) ∙ (other_sum _ _ _ _ (c3.counts (request y)) (cc) (cc)
+        ∙ (c2.counts (request y) ∙ (c1.counts (request y) ∙ (g.counts y (has_was (live h) x y (cc (begin_live limits k x h)) d) ∙ sym (begin_count limits k x y h d))))));
     write_known = c4.buffers (buffer.Write 0) ∙ (c3.buffers (buffer.Write 0) ∙ (c2.buffers (buffer.Write 0) ∙ (c1.buffers (buffer.Write 0) ∙ g.write_known)));
     write_mark = c4.marks (buffer.Write 0) ∙ (write_mark ∙ sym (begin_keeps_write limits k x h).high);
     write_watchers = c4.watchers (buffer.Write 0) ∙ (ap (λ (fs : List FlowId). fs ++ request x ∷ [])
         (c3.watchers (buffer.Write 0) ∙ (append-nil _ ∙ (c2.watchers (buffer.Write 0) ∙ (c1.watchers (buffer.Write 0) ∙ g.write_watchers))))
-        ∙ (map_more (live h) ∙ sym (ap (λ (xs : List ℕ). map request xs) (begin_live limits k x h))));
+        ∙ (cc (map_more (live h), begin_live limits k x h)));
     write_pending = pending_same (buffer.Write 0) ∙ (g.write_pending ∙ sym (begin_keeps_write limits k x h).lows);
-    send_known = λ y. c4.buffers (buffer.Send (request y)) ∙ (c3.buffers (buffer.Send (request y)) ∙ (c2.buffers (buffer.Send (request y))
-        ∙ (ap (λ b. ((x == y) && true) || b) (c1.buffers (buffer.Send (request y)) ∙ g.send_known y) ∙ (turned (x == y) (has (live h) y) ∙ sym (lives y)))));
+    send_known = λ y. cc (c4.buffers (buffer.Send (request y)), c3.buffers (buffer.Send (request y)), c2.buffers (buffer.Send (request y)), c1.buffers (buffer.Send (request y)), g.send_known y, turned (x == y) (has (live h) y), lives y);
     send_mark = λ y. c4.marks (buffer.Send (request y)) ∙ (c3.marks (buffer.Send (request y)) ∙ (c2.marks (buffer.Send (request y)) ∙ (c1.marks (buffer.Send (request y)) ∙ (g.send_mark y ∙ sym (begin_keeps limits k x h y).high))));
     send_watchers = λ y. c4.watchers (buffer.Send (request y)) ∙ (append-nil _ ∙ (c3.watchers (buffer.Send (request y))
         ∙ (ap (λ (fs : List FlowId). fs ++ (if (x == y) && true then request x ∷ [] else [])) (c2.watchers (buffer.Send (request y)) ∙ (c1.watchers (buffer.Send (request y)) ∙ g.send_watchers y))
         ∙ own_or_other (λ v. (if has (live h) v then request v ∷ [] else []) ++ (if (x == v) && true then request x ∷ [] else []) ≡ (if has (live after) v then request v ∷ [] else [])) x y
         (one_more (has (live h) x) (x == x) (has (live after) x) new (same_number x) (lives x ∙ or_true (has (live h) x) (x == x) (same_number x)))
-        (λ d. no_more y (has (live h) y) (x == y) d ∙ sym (ap (λ b. if b then request y ∷ [] else []) (lives y ∙ (ap (λ b. has (live h) y || b) d ∙ or_false (has (live h) y))))))));
+        (λ d. cc (no_more y (has (live h) y) (x == y) d, lives y, or-false (has (live h) y))))));
     send_pending = λ y. pending_same (buffer.Send (request y)) ∙ g.send_pending y;
   }
     where
@@ -228,10 +220,6 @@ module _ (limits : PlainLimits) (k x : ℕ) (h : Past) where
       no_one : (b : Bool) → one_if (b && false) ≡ 0
       no_one true = refl
       no_one false = refl
-
-      or_false : (b : Bool) → (b || false) ≡ b
-      or_false true = refl
-      or_false false = refl
 
       turned : (a b : Bool) → ((a && true) || b) ≡ (b || a)
       turned true true = refl

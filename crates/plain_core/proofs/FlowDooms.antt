@@ -4,12 +4,12 @@ use Rattle.exchange_core.specs.Changes.{Dooms as DoomsExchange, ForgetsFlows, Kn
 use Rattle.exchange_core.specs.Exchanges.{Exchanges, IsSound as AreSoundExchanges, exchange_at}
 use Rattle.exchange_core.specs.Plain.{plain_exchange}
 use Rattle.exchange_core.specs.declared.exchange.Exchange.{Exchange}
-use Rattle.flow_gate.specs.Board.{Board, IsSound as IsSoundBoard, count as count_on, is_known, is_marked, pending_on, watchers_of}
+use Rattle.flow_gate.specs.Board.{Board, IsSound as IsSoundBoard, is_known, is_marked, pending_on, watchers_of}
 use Rattle.flow_gate.specs.Changes.{Forgets, goes_with, without as without_flow}
 use Rattle.flow_gate.specs.declared.ids.FlowId.{FlowId}
 use Rattle.flow_notes.specs.declared.notes.Cause.{Cause}
 use Rattle.plain_laws.proofs.Counts.{doom_low, is_live_is}
-use Rattle.plain_laws.proofs.Keepings.{doom_high, doom_out}
+use Rattle.plain_laws.proofs.Keepings.{doom_high}
 use Rattle.plain_laws.proofs.Streams.{by_case, has_left, has_lost, has_stays, not_both, own_or_other, same_number}
 use Rattle.plain_laws.specs.Keeping.{KeepsStream}
 use Rattle.plain_laws.specs.Regular.{IsLiveFlow}
@@ -19,24 +19,21 @@ use Rattle.std.specs.BTreeSet.{BTreeSet, contains}
 use Rattle.std.specs.List.{AllByRecursion}
 use Rattle.std.specs.Option.{option_map_or}
 use Rattle.std.specs.Ordering.{nat_cmp}
-use Rattle.std.specs.Prelude.{Bool, IfSome, List, None, Option, [], false, filter, if◌then◌else◌, length, map, nat_lt, not, true, ℕ, ◌&&◌, ◌*◌, ◌++◌, ◌+◌, ◌<◌, ◌==◌, ◌^◌, ◌∷◌, ◌≡◌, ◌≤◌}
-use Rattle.plain_laws.specs.Words.{Past, Alive, conn_lows, lows_of, recv_at, send_high, turn_of}
+use Rattle.std.specs.Prelude.{Bool, IfSome, List, None, Option, [], false, filter, if◌then◌else◌, length, map, nat_lt, not, true, ℕ, ◌&&◌, ◌*◌, ◌+◌, ◌==◌, ◌∷◌, ◌≡◌, ◌≤◌}
+use Rattle.plain_laws.specs.Words.{Past, Alive, conn_lows, lows_of, send_high, turn_of}
 use Rattle.tape_laws.specs.Dispatches.{has, live, started}
 use Rattle.tape_laws.specs.Flows.{request, same_flow}
 use Rattle.tape_laws.specs.History.{Noted}
-use Rattle.tape_laws.specs.Watermark.{above}
 use Rattle.tape_laws.specs.declared.limits.PlainLimits.{PlainLimits}
-use Rattle.wm_buffer.specs.Buffer.{Buffer}
 use Rattle.plain_core.specs.Carries.{Dooms, Lives}
-use Rattle.plain_core.specs.Flows.{ConnectionIs, ExchangesAre, FlowsStand, GatesAre, HoldingIs, IsSettled, StreamIs, next_piece}
+use Rattle.plain_core.specs.Flows.{ConnectionIs, ExchangesAre, FlowsStand, GatesAre, HoldingIs, IsSettled}
 use Rattle.plain_core.specs.declared.conn.Connection.{Connection}
 use Rattle.plain_core.specs.declared.flows.Flows.{Flows}
 use Rattle.flow_gate.specs.declared.ids.BufferId.TheVariants as buffer
-use Rattle.flow_notes.specs.declared.events.Event.TheVariants as event
 use Rattle.flow_notes.specs.declared.notes.Note.TheVariants as note
 use Rattle.plain_core.proofs.FlowStreams.{last_kept, stream_kept}
 use Rattle.plain_core.proofs.FlowMeasure.{ahead_changes, fewer}
-use Rattle.plain_laws.proofs.Dooms.{doom_leaves, without}
+use Rattle.plain_laws.proofs.Dooms.{doom_leaves}
 use Rattle.plain_laws.proofs.Keepings.{keeps_stream}
 use Rattle.std.proofs.lemmas.Bool.Decides.{nat_tests}
 use Rattle.plain_core.specs.Measure.{ahead, left_in, way}
@@ -49,9 +46,9 @@ swapped x y = grind (arith, nat_tests)
 
 left_is : (xs : List ℕ) (x y : ℕ) → has (filter (λ z. not (z == x)) xs) y ≡ (not (x == y) && has xs y)
 left_is xs x y = by_case (x == y)
-    (λ t. by_case (has (filter (λ z. not (z == x)) xs) y) (λ e. not_both (x == y) t (has_left xs x y e).1) (λ e. e) ∙ sym (ap (λ b. not b && has xs y) t))
+    (λ t. by_case (has (filter (λ z. not (z == x)) xs) y) (λ e. not_both (x == y) t (has_left xs x y e).1) (λ e. e) ∙ (cc))
     (λ d. by_case (has xs y) (λ e. has_stays xs x y e d ∙ sym e)
-    (λ n. by_case (has (filter (λ z. not (z == x)) xs) y) (λ e. not_both (has xs y) (has_left xs x y e).0 n) (λ e. e) ∙ sym n) ∙ sym (ap (λ b. not b && has xs y) d))
+    (λ n. by_case (has (filter (λ z. not (z == x)) xs) y) (λ e. not_both (has xs y) (has_left xs x y e).0 n) (λ e. e) ∙ sym n) ∙ (cc))
 
 without_map : (x : ℕ) (xs : List ℕ) → filter (λ (g : FlowId). not (same_flow (request x) g)) (map request xs) ≡ map request (filter (λ z. not (z == x)) xs)
 without_map x [] = refl
@@ -59,7 +56,7 @@ without_map x (z ∷ zs) = pick z (x == z) (z == x) _ _ (swapped x z) (without_m
   where
     pick : (z : ℕ) (a b : Bool) (fs : List FlowId) (ys : List ℕ) → a ≡ b → fs ≡ map request ys → (if not (a && true) then request z ∷ fs else fs) ≡ map request (if not b then z ∷ ys else ys)
     pick z true true fs ys e r = r
-    pick z false false fs ys e r = ap (λ (v : List FlowId). request z ∷ v) r
+    pick z false false fs ys e r = cc
     pick z true false fs ys e r = cc
     pick z false true fs ys e r = cc
 
@@ -74,7 +71,7 @@ without_live xs x (f ∷ fs) a = pick f _ _ _ _ (test f a.0.is) (without_live xs
     joined false true e = cc
 
     test : (f : FlowId) → f ≡ request f.exchange → not (same_flow (request x) f) ≡ not (f.exchange == x)
-    test f e = ap (λ (g : FlowId). not (same_flow (request x) g)) e ∙ joined (x == f.exchange) (f.exchange == x) (swapped x f.exchange)
+    test f e = cc (joined (x == f.exchange) (f.exchange == x) (swapped x f.exchange))
 
     pick : (f : FlowId) (a b : Bool) (fs gs : List FlowId) → a ≡ b → fs ≡ gs → (if a then f ∷ fs else fs) ≡ (if b then f ∷ gs else gs)
     pick f a b fs gs e r = rw (e, r) refl
@@ -89,20 +86,20 @@ module _ (limits : PlainLimits) (x : ℕ) (why : Cause) (h : Past) where
   doomed_exchanges old new e c sound others = record {
     sound = sound;
     time = c.gone.time ∙ e.time;
-    small = subst (λ (n : ℕ). n < 2 ^ 32) (sym c.gone.last) e.small;
-    most = record { most = λ y is. subst (λ (n : ℕ). y ≤ n) (sym c.gone.last) (e.most.most y is) };
+    small = rw c.gone.last e.small;
+    most = record { most = λ y is. rw c.gone.last (e.most.most y is) };
     last = last_kept old.last new.last (started h) (started h) c.gone.last refl e.last;
-    doomed = c.doomed ∙ ap (λ (xs : List ℕ). xs ++ x ∷ []) e.doomed;
+    doomed = cc;
     there = λ y is.
         let k = has_left (live h) x y is in
-        subst (StreamIs limits y after) (sym (other_is y k.1)) (stream_kept limits y h after (exchange_at old y) (others y k.1) (e.there y k.0));
+        rw (other_is y k.1) (stream_kept limits y h after (exchange_at old y) (others y k.1) (e.there y k.0));
     gone = λ y. own_or_other (λ v. has (live after) v ≡ false → exchange_at new v ≡ None) x y
-        (λ is. c.gone.live x ∙ ap (λ b. if b then None else exchange_at old x) (same_number x))
+        (λ is. cc (c.gone.live x, same_number x))
         (λ d is. other_is y d ∙ e.gone y (has_lost (live h) x y is d));
   }
     where
       other_is : (y : ℕ) → (x == y) ≡ false → exchange_at new y ≡ exchange_at old y
-      other_is y d = c.gone.live y ∙ ap (λ b. if b then None else exchange_at old y) d
+      other_is y d = cc (c.gone.live y)
 
   -- ---- the gates
   doomed_flow : (a b c : Bool) → (not (a && not b) && (not b && c)) ≡ (not b && (not a && c))
@@ -115,31 +112,30 @@ module _ (limits : PlainLimits) (x : ℕ) (why : Cause) (h : Past) where
       → ((y : ℕ) → (x == y) ≡ false → KeepsStream limits y h after) → AllByRecursion (IsLiveFlow (live h)) (conn_lows limits h) → GatesAre limits new after
   doomed_gates old new g c sound is others lows = record {
     sound = sound;
-    flows = λ f. c.flows f ∙ (ap (λ b. not (same_flow (request x) f) && b) (g.flows f ∙ is_live_is limits f h)
-        ∙ (doomed_flow (x == f.exchange) f.back (has (live h) f.exchange) ∙ sym (is_live_is limits f after ∙ ap (λ b. not f.back && b) (left_is (live h) x f.exchange))));
+    flows = λ f. cc (c.flows f, g.flows f, is_live_is limits f h, doomed_flow (x == f.exchange) f.back (has (live h) f.exchange), is_live_is limits f after, left_is (live h) x f.exchange);
     counts = λ y e. let k = has_left (live h) x y e in
-        c.counts (request y) ∙ (ap (λ b. if b && true then 0 else count_on old (request y)) k.1 ∙ g.counts y k.0);
+        c.counts (request y) ∙ (cc (g.counts y k.0));
     write_known = c.buffers (buffer.Write 0) ∙ g.write_known;
     write_mark = c.marks (buffer.Write 0) ∙ (g.write_mark ∙ sym (doom_high limits x why h));
-    write_watchers = c.watchers (buffer.Write 0) ∙ (ap (without_flow (request x)) g.write_watchers ∙ without_map x (live h));
-    write_pending = c.pending (buffer.Write 0) ∙ (ap (without_flow (request x)) g.write_pending ∙ without_live (live h) x (conn_lows limits h) lows);
+    write_watchers = cc (c.watchers (buffer.Write 0), without_map x (live h));
+    write_pending = cc (c.pending (buffer.Write 0), without_live (live h) x (conn_lows limits h) lows);
     send_known = λ y. own_or_other (λ v. is_known new (buffer.Send (request v)) ≡ has (live after) v) x y
-        (c.buffers (buffer.Send (request x)) ∙ (ap (λ b. not b && is_known old (buffer.Send (request x))) goes ∙ sym own_gone))
-        (λ d. c.buffers (buffer.Send (request y)) ∙ (ap (λ b. not b && is_known old (buffer.Send (request y))) (stays y d) ∙ (g.send_known y ∙ sym (other_there y d))));
+        (cc (c.buffers (buffer.Send (request x)), goes, own_gone))
+        (λ d. cc (c.buffers (buffer.Send (request y)), stays y d, g.send_known y, other_there y d));
     send_mark = λ y. own_or_other (λ v. is_marked new (buffer.Send (request v)) ≡ send_high limits v after) x y
-        (c.marks (buffer.Send (request x)) ∙ (ap (λ b. not b && is_marked old (buffer.Send (request x))) goes ∙ sym (doom_low limits x why h)))
-        (λ d. c.marks (buffer.Send (request y)) ∙ (ap (λ b. not b && is_marked old (buffer.Send (request y))) (stays y d) ∙ (g.send_mark y ∙ sym (others y d).high)));
+        (cc (c.marks (buffer.Send (request x)), goes, doom_low limits x why h))
+        (λ d. cc (c.marks (buffer.Send (request y)), stays y d, g.send_mark y, (others y d).high));
     send_watchers = λ y. own_or_other (λ v. watchers_of new (buffer.Send (request v)) ≡ (if has (live after) v then request v ∷ [] else [])) x y
-        (c.watchers (buffer.Send (request x)) ∙ (none_watch ∙ sym (ap (λ b. if b then request x ∷ [] else []) own_gone)))
-        (λ d. c.watchers (buffer.Send (request y)) ∙ (ap (without_flow (request x)) (g.send_watchers y) ∙ (one_stays y (has (live h) y) d ∙ sym (ap (λ b. if b then request y ∷ [] else []) (other_there y d)))));
-    send_pending = λ y. c.pending (buffer.Send (request y)) ∙ ap (without_flow (request x)) (g.send_pending y);
+        (cc (c.watchers (buffer.Send (request x)), none_watch, own_gone))
+        (λ d. cc (c.watchers (buffer.Send (request y)), g.send_watchers y, one_stays y (has (live h) y) d, other_there y d));
+    send_pending = λ y. cc (c.pending (buffer.Send (request y)), g.send_pending y);
   }
     where
       own_gone : has (live after) x ≡ false
-      own_gone = left_is (live h) x x ∙ ap (λ b. not b && has (live h) x) (same_number x)
+      own_gone = cc (left_is (live h) x x, same_number x)
 
       other_there : (y : ℕ) → (x == y) ≡ false → has (live after) y ≡ has (live h) y
-      other_there y d = left_is (live h) x y ∙ ap (λ b. not b && has (live h) y) d
+      other_there y d = cc (left_is (live h) x y)
 
       none_watch : without_flow (request x) (watchers_of old (buffer.Send (request x))) ≡ []
       none_watch =
@@ -148,10 +144,10 @@ module _ (limits : PlainLimits) (x : ℕ) (why : Cause) (h : Past) where
 
       goes : goes_with (request x) old (buffer.Send (request x)) ≡ true
       goes =
-          ap (λ (fs : List FlowId). ((x == x) && true) && (length fs == 0)) none_watch ∙ ap (λ b. (b && true) && true) (same_number x)
+          cc (none_watch, same_number x)
 
       stays : (y : ℕ) → (x == y) ≡ false → goes_with (request x) old (buffer.Send (request y)) ≡ false
-      stays y d = ap (λ b. (b && true) && (length (without_flow (request x) (watchers_of old (buffer.Send (request y)))) == 0)) d
+      stays y d = cc
 
       one_stays : (y : ℕ) (b : Bool) → (x == y) ≡ false → without_flow (request x) (if b then request y ∷ [] else []) ≡ (if b then request y ∷ [] else [])
       one_stays y true d = ap {B = List FlowId} (λ b. if not (b && true) then request y ∷ [] else []) d
@@ -161,12 +157,12 @@ module _ (limits : PlainLimits) (x : ℕ) (why : Cause) (h : Past) where
   pub doomed_conn : (old new : Connection) → ConnectionIs limits old h → new.write ≡ old.write → new.framed_last ≡ old.framed_last
       → ((y : ℕ) → get nat_cmp new.ready y ≡ (if x == y then None else get nat_cmp old.ready y)) → ((y : ℕ) → (x == y) ≡ false → KeepsStream limits y h after) → ConnectionIs limits new after
   doomed_conn old new c write last made others = record {
-    limit = ap (λ (w : Buffer). w.limit) write ∙ c.limit;
-    octets = ap (λ (w : Buffer). w.octets) write ∙ (c.octets ∙ sym (doom_out limits x why h));
-    above = ap (λ (w : Buffer). w.above) write ∙ (c.above ∙ sym (doom_high limits x why h));
+    limit = cc;
+    octets = cc;
+    above = cc (doom_high limits x why h);
     framed_last = last ∙ c.framed_last;
     ready = λ y. made y ∙ (ap (λ (p : Option Piece). if x == y then None else p) (c.ready y) ∙ (apart (x == y) (has (live h) y) _ _ (λ d. sym (keeps_piece limits y h after (others y d)))
-        ∙ sym (ap (λ b. if b then next_piece limits y after else None) (left_is (live h) x y))));
+        ∙ (cc (left_is (live h) x y))));
   }
     where
       apart : (a b : Bool) (p q : Option Piece) → (a ≡ false → p ≡ q) → (if a then None else if b then p else None) ≡ (if not a && b then q else None)
@@ -178,7 +174,7 @@ module _ (limits : PlainLimits) (x : ℕ) (why : Cause) (h : Past) where
       → ((y : ℕ) → (x == y) ≡ false → KeepsStream limits y h after) → HoldingIs limits new after
   doomed_holding old new k made others = record {
     holds = λ y. made y ∙ (ap (λ b. not (x == y) && b) (k.holds y) ∙ (apart (x == y) (has (live h) y) _ _ (λ d. ap (λ (o : List ℕ). nat_lt 0 (length o)) (sym (others y d).recv))
-        ∙ sym (ap (λ b. b && nat_lt 0 (length (recv_at limits y after))) (left_is (live h) x y))));
+        ∙ (cc (left_is (live h) x y))));
   }
     where
       apart : (a b c d : Bool) → (a ≡ false → c ≡ d) → (not a && (b && c)) ≡ ((not a && b) && d)
@@ -197,7 +193,7 @@ module _ (limits : PlainLimits) (x : ℕ) (why : Cause) (h : Past) where
       let sides = at_found (λ (e : Exchange). ForgetsFlows x e old.gates b) (exchange_at old.exchanges x) (plain_exchange x s.plain) s.is forgets in
       let forgot = subst (Forgets (request x) old.gates) (sym sides.response_gone) sides.request_gone in
       let others : (y : ℕ) → (x == y) ≡ false → KeepsStream limits y h after = λ y d.
-      keeps_stream limits y (Noted (note.Doom x why)) h (doom_leaves limits x y why h d (ap (without x) (quiet y) ∙ sym (quiet y))) refl refl in
+      keeps_stream limits y (Noted (note.Doom x why)) h (doom_leaves limits x y why h d (cc (quiet y))) refl refl in
       record {
         limits_are = st.limits_are;
         ranges = st.ranges;
@@ -236,9 +232,9 @@ doom_less x old ex b conn holding was c sound settled lives forgets =
     let s = settled.settled.stands.exchanges.there x is in
     let sides = at_found (λ (e : Exchange). ForgetsFlows x e old.gates b) (exchange_at old.exchanges x) (plain_exchange x s.plain) s.is forgets in
     let pending : pending_on b (buffer.Write 0) ≡ without_flow (request x) (pending_on old.gates (buffer.Write 0)) =
-    ap (λ (v : Board). pending_on v (buffer.Write 0)) sides.response_gone ∙ sides.request_gone.pending (buffer.Write 0) in
+    cc (sides.request_gone.pending (buffer.Write 0)) in
     less (ahead (record old { exchanges = ex })) (option_map_or way (exchange_at old.exchanges x) 0) (ahead old) _ _ _
-    (ahead_changes x None old.exchanges ex was sound c.gone.live) (ap (λ (fs : List FlowId). length fs) pending) (fewer (λ (g : FlowId). not (same_flow (request x) g)) (pending_on old.gates (buffer.Write 0)))
+    (ahead_changes x None old.exchanges ex was sound c.gone.live) (cc) (fewer (λ (g : FlowId). not (same_flow (request x) g)) (pending_on old.gates (buffer.Write 0)))
   where
     less : (a v b n k m : ℕ) → a + v ≡ b + 0 → n ≡ k → k ≤ m → a + 4 * n ≤ b + 4 * m
     less a v b n k m e f l = omega (arith, e, f, l)

@@ -2,12 +2,11 @@
 use Rattle.exchange_core.proofs.Outcomes.{at_found}
 use Rattle.exchange_core.specs.Changes.{ChangesFlow}
 use Rattle.exchange_core.specs.Effects.{arrived, finished}
-use Rattle.exchange_core.specs.Exchange.{flow_changed, flow_in}
+use Rattle.exchange_core.specs.Exchange.{flow_changed}
 use Rattle.exchange_core.specs.Exchanges.{Exchanges, IsSound as AreSoundExchanges, exchange_at, flow_at}
 use Rattle.exchange_core.specs.Flow.{Flow}
 use Rattle.exchange_core.specs.Plain.{plain_arrived, plain_finished, plain_flow}
 use Rattle.exchange_core.specs.declared.exchange.Exchange.{Exchange}
-use Rattle.flow_gate.specs.Board.{Board}
 use Rattle.plain_laws.proofs.EventChanges.{body_high, body_keeps, body_keeps_write, body_recv, body_send}
 use Rattle.plain_laws.proofs.Flags.{send_same}
 use Rattle.plain_laws.proofs.Keepings.{turn_keeps, turn_keeps_write}
@@ -17,24 +16,18 @@ use Rattle.plain_laws.specs.Next.{unit_of}
 use Rattle.std.proofs.Common.{ap, refl, subst, sym, ◌∙◌}
 use Rattle.std.specs.BTreeMap.{get}
 use Rattle.std.specs.BTreeSet.{BTreeSet, contains}
-use Rattle.std.specs.Option.{option_and_then}
 use Rattle.std.specs.Ordering.{nat_cmp}
-use Rattle.std.specs.Prelude.{Bool, List, None, Option, false, if◌then◌else◌, length, nat_lt, option_map, ℕ, ◌&&◌, ◌++◌, ◌==◌, ◌||◌, ◌∷◌, ◌≡◌}
+use Rattle.std.specs.Prelude.{Bool, List, None, Option, false, if◌then◌else◌, length, nat_lt, option_map, ℕ, ◌&&◌, ◌==◌, ◌||◌, ◌∷◌, ◌≡◌}
 use Rattle.plain_laws.specs.Words.{Past, Alive, end_out, past_body, send_high, turn_of}
-use Rattle.tape_laws.specs.Ends.{end_framed}
 use Rattle.tape_laws.specs.Flows.{request}
 use Rattle.tape_laws.specs.History.{NoMark, Step}
 use Rattle.tape_laws.specs.Plain.{plain_ended}
-use Rattle.tape_laws.specs.Watermark.{above}
 use Rattle.tape_laws.specs.declared.limits.PlainLimits.{PlainLimits}
 use Rattle.plain_core.specs.Carries.{GoesOn}
-use Rattle.plain_core.specs.Flows.{ExchangesAre, FlowsStand, GatesAre, HoldingIs, Settled, StreamIs, next_piece, piece_of}
+use Rattle.plain_core.specs.Flows.{ExchangesAre, FlowsStand, Settled, StreamIs, next_piece, piece_of}
 use Rattle.plain_core.specs.UnitsOf.{piece_at}
 use Rattle.plain_core.specs.declared.flows.Flows.{Flows}
-use Rattle.flow_gate.specs.declared.ids.BufferId.TheVariants as buffer
-use Rattle.flow_notes.specs.declared.events.Event.TheVariants as event
 use Rattle.flow_notes.specs.declared.events.PlainEvent.TheVariants as plain
-use Rattle.flow_notes.specs.declared.notes.Note.TheVariants as note
 use Rattle.plain_core.proofs.FlowStreams.{changed_exchanges, changed_plain}
 use Rattle.plain_core.proofs.FlowGates.{gates_kept}
 use Rattle.plain_core.proofs.FlowHolds.{holding_arrived, holding_kept}
@@ -47,13 +40,13 @@ unended q ended framed r s r' s' e f = rw (e, f) refl
 
 pub goes_on : (limits : PlainLimits) (flows : Flows) (x : ℕ) (h : Past) → StreamIs limits x h (exchange_at flows.exchanges x) → GoesOn flows x → plain_ended x h ≡ false
 goes_on limits flows x h s goes =
-    sym s.ended ∙ at_found (λ (f : Flow). f.message.ended ≡ false) (flow_at flows.exchanges (request x)) (plain_flow x s.plain) (ap (option_and_then (flow_in false)) s.is) goes
+    sym s.ended ∙ at_found (λ (f : Flow). f.message.ended ≡ false) (flow_at flows.exchanges (request x)) (plain_flow x s.plain) (cc) goes
 
 module _ (limits : PlainLimits) (k x : ℕ) where
   arrive_piece : (octets : List ℕ) (h : Past) → plain_ended x h ≡ false
       → next_piece limits x (past_body k x octets h) ≡ next_piece limits x h
   arrive_piece octets h goes =
-      ap piece_of (unended limits.quantum (plain_ended x h) (end_out limits x h) _ _ _ _ goes (ap (λ (o : List ℕ). length o) (body_send limits k x octets h)))
+      ap piece_of (unended limits.quantum (plain_ended x h) (end_out limits x h) _ _ _ _ goes (cc (body_send limits k x octets h)))
 
   pub arrives : (octets : List ℕ) (old : Flows) (ex : Exchanges) (holding : BTreeSet ℕ) (h : Past) → Settled limits old h → Alive h x → GoesOn old x
       → ChangesFlow (request x) (arrived octets) old.exchanges ex → AreSoundExchanges ex
@@ -74,7 +67,7 @@ module _ (limits : PlainLimits) (k x : ℕ) where
               limit = s.limit;
               quantum = s.quantum;
               started = s.started;
-              recv = ap (λ (o : List ℕ). o ++ octets) s.recv ∙ sym (body_recv limits k x octets h);
+              recv = cc (body_recv limits k x octets h);
               send = s.send ∙ sym (body_send limits k x octets h);
               above = s.above ∙ sym (body_high limits k x octets h);
               ended = s.ended;
@@ -96,7 +89,7 @@ module _ (limits : PlainLimits) (k x : ℕ) where
 
   -- ---- the end of a stream comes
   end_keeps : (y : ℕ) (h : Past) → (x == y) ≡ false → KeepsStream limits y h (turn_of k (plain.Finish x) ∷ h)
-  end_keeps y h d = turn_keeps limits y k (plain.Finish x) h (ap (λ b. b || plain_ended y h) d) refl
+  end_keeps y h d = turn_keeps limits y k (plain.Finish x) h (cc) refl
 
   ended_stream : (h : Past) (found : Option Exchange) → StreamIs limits x h found
       → StreamIs limits x (turn_of k (plain.Finish x) ∷ h) (option_map (flow_changed (finished None) false) found)
@@ -110,7 +103,7 @@ module _ (limits : PlainLimits) (k x : ℕ) where
     recv = s.recv;
     send = s.send;
     above = s.above ∙ sym (send_same limits (request x) (turn_of k (plain.Finish x)) h refl);
-    ended = sym (ap (λ b. b || plain_ended x h) (same_number x));
+    ended = cc (same_number x);
     end_framed = s.end_framed;
   }
 
@@ -126,10 +119,10 @@ module _ (limits : PlainLimits) (k x : ℕ) where
       let w = turn_keeps_write limits k (plain.Finish x) h in
       let all = changed_exchanges limits x (finished None) old.exchanges ex h (turn ∷ h) st.exchanges c sound (record { lives = refl; begun = refl; doomed = refl }) (λ y d. end_keeps y h d) own in
       record {
-        limits_are = ap (λ (f : Flows). f.limits) rest ∙ st.limits_are;
+        limits_are = cc;
         ranges = st.ranges;
-        exchanges = subst (λ (e : Exchanges). ExchangesAre limits e (turn ∷ h)) (sym (ap (λ (f : Flows). f.exchanges) rest)) all;
-        gates = subst (λ (b : Board). GatesAre limits b (turn ∷ h)) (sym (ap (λ (f : Flows). f.gates) rest)) (gates_kept limits old.gates h (turn ∷ h) st.gates (record {
+        exchanges = subst (λ (e : Exchanges). ExchangesAre limits e (turn ∷ h)) (cc) all;
+        gates = rw (ap (λ (f : Flows). f.gates) rest) (gates_kept limits old.gates h (turn ∷ h) st.gates (record {
           lives = refl;
           counts = λ y e. refl;
           write = w.high;
@@ -139,5 +132,5 @@ module _ (limits : PlainLimits) (k x : ℕ) where
         conn = refreshed_conn limits x (record old { exchanges = ex }) new h (turn ∷ h) st.limits_are rest made
             (record { limit = st.conn.limit; octets = st.conn.octets ∙ sym w.octets; above = st.conn.above ∙ sym w.high; framed_last = st.conn.framed_last })
             (all.there x is) is refl (λ y d. end_keeps y h d) st.conn.ready;
-        holding = subst (λ (v : BTreeSet ℕ). HoldingIs limits v (turn ∷ h)) (sym (ap (λ (f : Flows). f.holding) rest)) (holding_kept limits old.holding h (turn ∷ h) st.holding refl (λ y. refl));
+        holding = rw (ap (λ (f : Flows). f.holding) rest) (holding_kept limits old.holding h (turn ∷ h) st.holding refl (λ y. refl));
       }

@@ -1,12 +1,12 @@
 -- What becomes of octets that come for a stream.
-use Rattle.exchange_core.specs.Changes.{Changes, ChangesFlow}
+use Rattle.exchange_core.specs.Changes.{ChangesFlow}
 use Rattle.exchange_core.specs.Effects.{arrived, received as received_octets, received_by}
 use Rattle.exchange_core.specs.Exchange.{flow_changed, flow_in}
 use Rattle.exchange_core.specs.Exchanges.{Exchanges, IsLiveFlow, IsSound as AreSoundExchanges, exchange_at, flow_at}
 use Rattle.exchange_core.specs.declared.exchange.Exchange.{Exchange}
 use Rattle.exchange_core.specs.declared.step.Received.{Received}
 use Rattle.plain_laws.proofs.Streams.{by_case}
-use Rattle.std.proofs.Common.{ap, arith, refl, subst, sym, ◌∙◌}
+use Rattle.std.proofs.Common.{ap, arith, refl, sym, ◌∙◌}
 use Rattle.std.proofs.lemmas.Bool.Decides.{nat_tests}
 use Rattle.std.specs.BTreeSet.{BTreeSet, contains}
 use Rattle.std.specs.Option.{option_and_then}
@@ -43,23 +43,22 @@ came n found = received_by n (option_and_then (flow_in false) found)
 not_live : (flows : Flows) (x n : ℕ) → received.NotLive ≡ came n (exchange_at flows.exchanges x) → Lives flows x false
 not_live flows x n e = record {
   goes = λ limits h s. by_case (has (live h) x)
-      (λ t. let i = s.stands.exchanges.there x t in absurd (taken_live (nat_le (length i.plain.recv + n) i.plain.window) (e ∙ ap (came n) i.is)))
-      (λ f. sym f);
+      (λ t. let i = s.stands.exchanges.there x t in absurd (taken_live (nat_le (length i.plain.recv + n) i.plain.window) (cc)))
+      sym;
 }
 
 is_live : (flows : Flows) (x n : ℕ) (fits : Bool) → taken fits ≡ came n (exchange_at flows.exchanges x) → Lives flows x true
 is_live flows x n fits e = record {
   goes = λ limits h s. by_case (has (live h) x)
-      (λ t. sym t)
-      (λ f. absurd (taken_live fits (sym (e ∙ ap (came n) (s.stands.exchanges.gone x f)))));
+      sym
+      (λ f. absurd (taken_live fits (cc (s.stands.exchanges.gone x f))));
 }
 
 -- ---- whether they fit
 fits_is : (limits : PlainLimits) (flows : Flows) (x n : ℕ) (fits : Bool) (h : Past) → taken fits ≡ came n (exchange_at flows.exchanges x)
     → StreamIs limits x h (exchange_at flows.exchanges x) → fits ≡ nat_le (length (recv_at limits x h) + n) limits.recv
 fits_is limits flows x n fits h e s =
-    taken_same fits (nat_le (length s.plain.recv + n) s.plain.window) (e ∙ ap (came n) s.is)
-    ∙ ap (λ (w : ℕ). nat_le (length s.plain.recv + n) w) s.window ∙ ap (λ (o : List ℕ). nat_le (length o + n) limits.recv) s.recv
+    cc (taken_same fits (nat_le (length s.plain.recv + n) s.plain.window) (e ∙ ap (came n) s.is))
 
 they_fit : (flows : Flows) (x n : ℕ) (fits : Bool) → taken fits ≡ came n (exchange_at flows.exchanges x) → Fits flows x n fits
 they_fit flows x n fits e = record {
@@ -86,14 +85,13 @@ by_answer old new x octets received.Arrived e arrives same =
 arrived_change : (octets : List ℕ) (x : ℕ) (old new : Exchanges) → received.Arrived ≡ received_by (length octets) (flow_at old (request x))
     → ChangesFlow (request x) (received_octets octets) old new → ChangesFlow (request x) (arrived octets) old new
 arrived_change octets x old new e c =
-    record { flow = subst (λ (v : Option Exchange). Changes x v old new) (same (exchange_at old x) e) c.flow; doomed = c.doomed }
+    record { flow = rw (← same (exchange_at old x) e) c.flow; doomed = c.doomed }
   where
     same : (found : Option Exchange) → received.Arrived ≡ came (length octets) found
         → option_map (flow_changed (received_octets octets) false) found ≡ option_map (flow_changed (arrived octets) false) found
     same None e = refl
     same (Some exchange) e =
-        ap (λ (b : Bool). Some (record exchange { request = if b then arrived octets exchange.request else exchange.request }))
-        (sym (taken_same true (nat_le (length exchange.request.recv + length octets) exchange.request.window) e))
+        cc (taken_same true (nat_le (length exchange.request.recv + length octets) exchange.request.window) e)
 
 is_live_flow : (octets : List ℕ) (x : ℕ) (old : Exchanges) → received.Arrived ≡ received_by (length octets) (flow_at old (request x)) → IsLiveFlow old (request x)
 is_live_flow octets x old e = seen (exchange_at old x) e
@@ -115,5 +113,5 @@ receives x octets old ex holding answer e goes change same sound made kept =
             goes = λ limits k h settled lives. arrives limits k x octets old ex holding h settled lives goes
                 (arrived_change octets x old.exchanges ex fits (change (is_live_flow octets x old.exchanges fits))) sound (made a);
           })
-          (λ a. ap (λ (u : Exchanges). F u holding) (same a) ∙ ap (λ (v : BTreeSet ℕ). F old.exchanges v) (kept a));
+          (λ a. ap (λ (u : Exchanges). F u holding) (same a) ∙ ap (F old.exchanges) (kept a));
     }

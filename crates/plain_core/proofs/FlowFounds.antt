@@ -1,33 +1,29 @@
 -- What the flows are at first.
 use Rattle.exchange_core.specs.Exchanges.{Exchanges, IsSound as AreSoundExchanges, exchange_at}
-use Rattle.exchange_core.specs.declared.exchange.Exchange.{Exchange}
 use Rattle.flow_gate.specs.Board.{Board, IsSound as IsSoundBoard}
 use Rattle.flow_gate.specs.Changes.{Knows}
-use Rattle.std.proofs.Common.{ap, arith, inl, refl, subst, sym, ◌∙◌}
+use Rattle.std.proofs.Common.{arith, inl, refl, ◌∙◌}
 use Rattle.std.specs.BTreeSet.{BTreeSet, contains}
 use Rattle.std.specs.Ordering.{nat_cmp}
-use Rattle.std.specs.Prelude.{List, None, [], false, ℕ, ◌<◌, ◌^◌, ◌≡◌}
+use Rattle.std.specs.Prelude.{None, [], false, ℕ, ◌≡◌}
 use Rattle.tape_laws.specs.Dispatches.{live}
 use Rattle.tape_laws.specs.Flows.{request}
 use Rattle.tape_laws.specs.declared.limits.PlainLimits.{PlainLimits}
-use Rattle.wm_buffer.specs.Buffer.{Buffer}
 use Rattle.plain_core.specs.Flows.{AreLimits, ConnectionIs, ExchangesAre, FlowsStand, GatesAre}
 use Rattle.plain_core.specs.declared.conn.Connection.{Connection}
 use Rattle.flow_gate.specs.declared.ids.BufferId.TheVariants as buffer
 use Rattle.flow_gate.specs.Changes.{IsEmpty}
-use Rattle.std.specs.Map.{lookup}
-use Rattle.std.specs.Prelude.{nat_eq}
 use Rattle.plain_core.specs.Ready.{IsNewConnection}
 
 none_at : (ex : Exchanges) (x : ℕ) → ex.live ≡ [] → exchange_at ex x ≡ None
 unfolding exchange_at
-none_at ex x e = ap (λ (es : List (ℕ × Exchange)). lookup (nat_eq x) es) e
+none_at ex x e = cc
 
 no_exchanges : (limits : PlainLimits) (ex : Exchanges) → ex.live ≡ [] → ex.doomed ≡ [] → ex.last ≡ 0 → ex.time ≡ 0 → AreSoundExchanges ex → ExchangesAre limits ex []
 no_exchanges limits ex live doomed last time sound = record {
   sound = sound;
   time = time;
-  small = subst (λ (n : ℕ). n < 2 ^ 32) (sym last) (omega arith);
+  small = rw last (omega arith);
   most = record { most = λ y is. absurd (cc) };
   last = inl last;
   doomed = doomed;
@@ -52,9 +48,9 @@ first_gates limits old new e k sound = record {
 
 first_conn : (limits : PlainLimits) (conn : Connection) → IsNewConnection limits.write conn → ConnectionIs limits conn []
 first_conn limits conn c = record {
-  limit = ap (λ (w : Buffer). w.limit) c.write;
-  octets = ap (λ (w : Buffer). w.octets) c.write;
-  above = ap (λ (w : Buffer). w.above) c.write;
+  limit = cc;
+  octets = cc;
+  above = cc;
   framed_last = c.framed_last;
   ready = λ x. c.ready x;
 }

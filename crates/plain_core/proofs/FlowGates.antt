@@ -3,10 +3,10 @@ use Rattle.flow_gate.specs.Board.{Board, IsSound as IsSoundBoard, count as count
 use Rattle.flow_gate.specs.Changes.{Same}
 use Rattle.flow_gate.specs.declared.ids.FlowId.{FlowId}
 use Rattle.plain_laws.proofs.Counts.{is_live_is}
-use Rattle.std.proofs.Common.{ap, refl, sym, ◌∙◌}
-use Rattle.std.specs.Prelude.{List, [], if◌then◌else◌, map, not, ℕ, ◌&&◌, ◌∷◌, ◌≡◌}
+use Rattle.std.proofs.Common.{refl, sym, ◌∙◌}
+use Rattle.std.specs.Prelude.{[], ℕ, ◌≡◌}
 use Rattle.plain_laws.specs.Words.{Past, Alive, conn_high, conn_lows, send_high}
-use Rattle.tape_laws.specs.Dispatches.{has, live}
+use Rattle.tape_laws.specs.Dispatches.{live}
 use Rattle.tape_laws.specs.Flows.{request}
 use Rattle.tape_laws.specs.Pauses.{count}
 use Rattle.tape_laws.specs.Plain.{plain_setup}
@@ -33,7 +33,7 @@ pub same_names : (board : Board) → KeepsNames board board
 same_names board = record { flows = λ f. refl; buffers = λ b. refl; watchers = λ b. refl }
 
 live_flow : (limits : PlainLimits) (f : FlowId) (h h' : Past) → live h' ≡ live h → is_live (plain_setup limits) f h' ≡ is_live (plain_setup limits) f h
-live_flow limits f h h' e = is_live_is limits f h' ∙ (ap (λ (xs : List ℕ). not f.back && has xs f.exchange) e ∙ sym (is_live_is limits f h))
+live_flow limits f h h' e = cc (is_live_is limits f h', is_live_is limits f h)
 
 pub gates_from : (limits : PlainLimits) (old new : Board) (h h' : Past) → GatesAre limits old h → IsSoundBoard new → KeepsNames old new → live h' ≡ live h
     → CountsAre limits new h' → GatesAre limits new h'
@@ -43,11 +43,11 @@ gates_from limits old new h h' g sound k lives c = record {
   counts = c.counts;
   write_known = k.buffers (buffer.Write 0) ∙ g.write_known;
   write_mark = c.write_mark;
-  write_watchers = k.watchers (buffer.Write 0) ∙ (g.write_watchers ∙ sym (ap (λ (xs : List ℕ). map request xs) lives));
+  write_watchers = cc (k.watchers (buffer.Write 0), lives);
   write_pending = c.write_pending;
-  send_known = λ x. k.buffers (buffer.Send (request x)) ∙ (g.send_known x ∙ sym (ap (λ (xs : List ℕ). has xs x) lives));
+  send_known = λ x. cc (k.buffers (buffer.Send (request x)), g.send_known x, lives);
   send_mark = c.send_mark;
-  send_watchers = λ x. k.watchers (buffer.Send (request x)) ∙ (g.send_watchers x ∙ sym (ap (λ (xs : List ℕ). if has xs x then request x ∷ [] else []) lives));
+  send_watchers = λ x. cc (k.watchers (buffer.Send (request x)), g.send_watchers x, lives);
   send_pending = c.send_pending;
 }
 
@@ -61,7 +61,7 @@ pub record KeepsSources (limits : PlainLimits) (old new : Past) : Type 0 where
 
 pub gates_kept : (limits : PlainLimits) (board : Board) (h h' : Past) → GatesAre limits board h → KeepsSources limits h h' → GatesAre limits board h'
 gates_kept limits board h h' g k = gates_from limits board board h h' g g.sound (same_names board) k.lives (record {
-  counts = λ x is. let was = sym (ap (λ (xs : List ℕ). has xs x) k.lives) ∙ is in g.counts x was ∙ sym (k.counts x was);
+  counts = λ x is. let was = (cc) ∙ is in g.counts x was ∙ sym (k.counts x was);
   write_mark = g.write_mark ∙ sym k.write;
   write_pending = g.write_pending ∙ sym k.lows;
   send_mark = λ x. g.send_mark x ∙ sym (k.sends x);

@@ -1,19 +1,18 @@
 -- Which streams' receive buffers hold octets, from one history to the next.
-use Rattle.exchange_core.specs.Exchange.{flow_in}
 use Rattle.exchange_core.specs.Exchanges.{exchange_at}
-use Rattle.exchange_core.specs.Flow.{Flow}
-use Rattle.exchange_core.specs.declared.exchange.Exchange.{Exchange}
 use Rattle.plain_laws.proofs.Changes.{move_keeps, move_keeps_lists}
 use Rattle.plain_laws.proofs.EventChanges.{begin_keeps, begin_live, body_keeps, body_recv}
 use Rattle.plain_laws.proofs.Streams.{by_case, has_more, own_or_other, same_number}
 use Rattle.plain_laws.specs.Keeping.{KeepsStream}
 use Rattle.plain_laws.specs.Regular.{IsUnborn}
+use Rattle.std.proofs.lemmas.Bool.{ltb-true}
+use Rattle.std.proofs.Math.Bool.{and-false}
+use Rattle.std.proofs.Math.Bool.{or-false}
 use Rattle.std.proofs.Common.{ap, arith, length-append, refl, sym, ◌∙◌}
 use Rattle.std.proofs.lemmas.Bool.Decides.{nat_tests}
 use Rattle.std.specs.BTreeSet.{BTreeSet, contains}
-use Rattle.std.specs.Option.{option_and_then, option_map_or}
 use Rattle.std.specs.Ordering.{nat_cmp}
-use Rattle.std.specs.Prelude.{Bool, List, Option, false, length, min, nat_lt, not, true, ℕ, ◌&&◌, ◌++◌, ◌+◌, ◌-◌, ◌<◌, ◌==◌, ◌||◌, ◌≡◌}
+use Rattle.std.specs.Prelude.{Bool, List, false, length, min, nat_lt, not, true, ℕ, ◌&&◌, ◌++◌, ◌+◌, ◌-◌, ◌<◌, ◌==◌, ◌||◌, ◌≡◌}
 use Rattle.plain_laws.specs.Words.{Past, Alive, past_begin, past_body, past_move, recv_at}
 use Rattle.tape_laws.specs.Dispatches.{has, live}
 use Rattle.tape_laws.specs.declared.limits.PlainLimits.{PlainLimits}
@@ -32,7 +31,7 @@ alone false = refl
 pub holding_kept : (limits : PlainLimits) (holding : BTreeSet ℕ) (h h' : Past) → HoldingIs limits holding h → live h' ≡ live h
     → ((y : ℕ) → recv_at limits y h' ≡ recv_at limits y h) → HoldingIs limits holding h'
 holding_kept limits holding h h' k lives same = record {
-  holds = λ y. k.holds y ∙ (ap (λ (o : List ℕ). has (live h) y && nat_lt 0 (length o)) (sym (same y)) ∙ ap (λ (xs : List ℕ). has xs y && holds_some limits y h') (sym lives));
+  holds = λ y. cc (k.holds y, same y);
 }
 
 -- that of one live stream did
@@ -41,8 +40,8 @@ pub holding_changed : (limits : PlainLimits) (x : ℕ) (old new : BTreeSet ℕ) 
     → ((y : ℕ) → (x == y) ≡ false → contains nat_cmp new y ≡ contains nat_cmp old y) → HoldingIs limits new h'
 holding_changed limits x old new h h' k is lives others own rest = record {
   holds = λ y. own_or_other (λ v. contains nat_cmp new v ≡ (has (live h') v && holds_some limits v h')) x y
-      (own ∙ sym (ap (λ b. b && holds_some limits x h') (ap (λ (xs : List ℕ). has xs x) lives ∙ is)))
-      (λ d. rest y d ∙ (k.holds y ∙ (ap (λ (o : List ℕ). has (live h) y && nat_lt 0 (length o)) (sym (others y d).recv) ∙ ap (λ (xs : List ℕ). has xs y && holds_some limits y h') (sym lives))));
+      (cc)
+      (λ d. cc (rest y d, k.holds y, (others y d).recv));
 }
 
 -- a stream began
@@ -52,10 +51,10 @@ holding_begun limits k x holding h k' u =
     let h' = past_begin limits k x h in
     record {
       holds = λ y. k'.holds y ∙ (ap (λ (o : List ℕ). has (live h) y && nat_lt 0 (length o)) (sym (begin_keeps limits k x h y).recv)
-          ∙ sym (ap (λ b. b && holds_some limits y h') (ap (λ (xs : List ℕ). has xs y) (begin_live limits k x h) ∙ has_more (live h) x y)
+          ∙ sym (ap (λ b. b && holds_some limits y h') (cc (begin_live limits k x h, has_more (live h) x y))
           ∙ own_or_other (λ v. ((has (live h) v || (x == v)) && holds_some limits v h') ≡ (has (live h) v && holds_some limits v h')) x y
           (none _ _ _ (ap (λ (o : List ℕ). nat_lt 0 (length o)) ((begin_keeps limits k x h x).recv ∙ u.recv)))
-          (λ d. ap (λ b. (has (live h) y || b) && holds_some limits y h') d ∙ ap (λ b. b && holds_some limits y h') (or_false (has (live h) y)))));
+          (λ d. cc (or-false (has (live h) y)))));
     }
   where
     none : (a b c : Bool) → c ≡ false → (a && c) ≡ (b && c)
@@ -64,27 +63,19 @@ holding_begun limits k x holding h k' u =
     none true false c e = e
     none false true c e = sym e
 
-    or_false : (b : Bool) → (b || false) ≡ b
-    or_false true = refl
-    or_false false = refl
-
 -- octets arrived, some or none
 module _ (a c : Bool) (octets : List ℕ) where
   pub held_more : (length octets == 0) ≡ false → (a || c) ≡ ((a && nat_lt 0 (length octets)) || c)
-  held_more e = ap (λ b. b || c) (sym (ap (λ b. a && b) (some (length octets) e) ∙ alone a))
+  held_more e = cc (some (length octets) e, alone a)
     where
       some : (l : ℕ) → (l == 0) ≡ false → nat_lt 0 l ≡ true
       some l e = grind (arith, nat_tests)
 
   pub held_same : (length octets == 0) ≡ true → c ≡ ((a && nat_lt 0 (length octets)) || c)
-  held_same e = ap (λ b. b || c) (sym (ap (λ b. a && b) (none (length octets) e) ∙ neither a))
+  held_same e = cc (none (length octets) e, and-false a)
     where
       none : (l : ℕ) → (l == 0) ≡ true → nat_lt 0 l ≡ false
       none l e = grind (arith, nat_tests)
-
-      neither : (b : Bool) → (b && false) ≡ false
-      neither true = refl
-      neither false = refl
 
 pub holding_arrived : (limits : PlainLimits) (k x : ℕ) (octets : List ℕ) (old new : BTreeSet ℕ) (h : Past) → HoldingIs limits old h → Alive h x
     → ((y : ℕ) → contains nat_cmp new y ≡ (((x == y) && nat_lt 0 (length octets)) || contains nat_cmp old y)) → HoldingIs limits new (past_body k x octets h)
@@ -93,12 +84,12 @@ holding_arrived limits k x octets old new h was is made =
     (made x ∙ (ap (λ b. (b && nat_lt 0 (length octets)) || contains nat_cmp old x) (same_number x)
     ∙ (ap (λ b. nat_lt 0 (length octets) || b) (was.holds x ∙ ap (λ b. b && holds_some limits x h) is)
     ∙ (some_of (recv_at limits x h) octets ∙ sym (ap (λ (o : List ℕ). nat_lt 0 (length o)) (body_recv limits k x octets h))))))
-    (λ y d. made y ∙ ap (λ b. (b && nat_lt 0 (length octets)) || contains nat_cmp old y) d)
+    (λ y d. cc (made y))
   where
     some : (a b c : ℕ) → c ≡ a + b → (nat_lt 0 b || nat_lt 0 a) ≡ nat_lt 0 c
     some a b c e = by_case (nat_lt 0 b)
-        (λ t. ap (λ v. v || nat_lt 0 a) t ∙ sym (more a b c e t))
-        (λ f. ap (λ v. v || nat_lt 0 a) f ∙ ap (λ v. nat_lt 0 v) (same a b c e f))
+        (λ t. cc (more a b c e t))
+        (λ f. cc (same a b c e f))
       where
         more : (a b c : ℕ) → c ≡ a + b → nat_lt 0 b ≡ true → nat_lt 0 c ≡ true
         more a b c e t = grind (arith, nat_tests)
@@ -124,20 +115,17 @@ some_there n q r p e = test r (more n q r p e)
 pub emptied_is : (limits : PlainLimits) (flows : Flows) (x : ℕ) (h : Past) → StreamIs limits x h (exchange_at flows.exchanges x)
     → is_emptied flows x ≡ (length (recv_at limits x h) == 0)
 emptied_is limits flows x h s =
-    ap (λ (o : Option Exchange). option_map_or (λ (f : Flow). length f.recv == 0) (option_and_then (flow_in false) o) false) s.is ∙ ap (λ (o : List ℕ). length o == 0) s.recv
+    cc
 
 -- a move of n octets, of r that were there, left l
 pub left_some : (n q r l : ℕ) → n ≡ min q r → l ≡ r - n → not (nat_lt n q || (l == 0)) ≡ nat_lt 0 l
 left_some n q r l e f = by_case (nat_lt n q)
-    (λ t. ap (λ b. not (b || (l == 0))) t ∙ sym (none n q r l e f t))
-    (λ t. ap (λ b. not (b || (l == 0))) t ∙ some l)
+    (λ t. cc (none n q r l e f t))
+    (λ t. cc (some l))
   where
     none : (n q r l : ℕ) → n ≡ min q r → l ≡ r - n → nat_lt n q ≡ true → nat_lt 0 l ≡ false
-    none n q r l e f t = by_case (nat_lt 0 l) (λ b. absurd (both n q r l e f (less n q t) (less 0 l b))) (λ b. b)
+    none n q r l e f t = by_case (nat_lt 0 l) (λ b. absurd (both n q r l e f (ltb-true n q t) (ltb-true 0 l b))) (λ b. b)
       where
-        less : (a b : ℕ) → nat_lt a b ≡ true → a < b
-        less a b e = grind (arith, nat_tests)
-
         both : (n q r l : ℕ) → n ≡ min q r → l ≡ r - n → n < q → 0 < l → ⊥
         both n q r l e f t b = omega (arith, e, f, t, b)
 
@@ -150,4 +138,4 @@ pub holding_moved : (limits : PlainLimits) (x n : ℕ) (took : Bool) (old new : 
 holding_moved limits x n took old new h was is there left made =
     holding_changed limits x old new h (past_move limits x n h) was is (move_keeps_lists limits x n h).lives (λ y d. move_keeps limits x n h y d)
     (made x ∙ (ap (λ b. not (b && took) && contains nat_cmp old x) (same_number x) ∙ (ap (λ b. not took && b) (was.holds x ∙ (ap (λ b. b && holds_some limits x h) is ∙ there)) ∙ (alone (not took) ∙ left))))
-    (λ y d. made y ∙ ap (λ b. not (b && took) && contains nat_cmp old y) d)
+    (λ y d. cc (made y))

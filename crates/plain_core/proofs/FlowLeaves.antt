@@ -1,19 +1,18 @@
 -- What the flows are after octets left the write buffer.
-use Rattle.flow_gate.specs.Board.{Board, IsSound as IsSoundBoard, count as count_on, is_known, is_marked, is_open as is_there, pending_on, watchers_of}
+use Rattle.flow_gate.specs.Board.{Board, IsSound as IsSoundBoard}
 use Rattle.flow_gate.specs.Changes.{Drains}
 use Rattle.flow_gate.specs.declared.ids.FlowId.{FlowId}
-use Rattle.plain_laws.proofs.EventChanges.{room_high, room_keeps, room_out}
+use Rattle.plain_laws.proofs.EventChanges.{room_high, room_keeps}
 use Rattle.plain_laws.proofs.Keepings.{turn_keeps_write}
 use Rattle.plain_laws.proofs.Outs.{out_lows}
 use Rattle.plain_laws.specs.StepNotes.{room_notes}
 use Rattle.std.proofs.Common.{ap, arith, refl, sym, ◌∙◌}
 use Rattle.std.proofs.lemmas.List.{append-nil}
-use Rattle.std.specs.Prelude.{Bool, List, None, Option, [], drop, false, if◌then◌else◌, length, map, not, true, ℕ, ◌&&◌, ◌++◌, ◌∷◌, ◌≡◌, ◌≤◌}
+use Rattle.std.specs.Prelude.{Bool, List, [], drop, false, if◌then◌else◌, length, map, not, true, ℕ, ◌&&◌, ◌++◌, ◌∷◌, ◌≡◌, ◌≤◌}
 use Rattle.plain_laws.specs.Words.{Past, conn_drains, conn_high, conn_lows, conn_out, turn_of}
-use Rattle.tape_laws.specs.Dispatches.{has, live}
+use Rattle.tape_laws.specs.Dispatches.{live}
 use Rattle.tape_laws.specs.Flows.{request}
 use Rattle.tape_laws.specs.History.{NoMark, Noted, Step, onto}
-use Rattle.tape_laws.specs.Watermark.{above}
 use Rattle.tape_laws.specs.declared.limits.PlainLimits.{PlainLimits}
 use Rattle.wm_buffer.specs.Buffer.{Buffer, DropsOctets}
 use Rattle.wm_buffer.specs.Watermark.{above_after}
@@ -22,7 +21,6 @@ use Rattle.plain_core.specs.Flows.{ConnectionIs, GatesAre}
 use Rattle.plain_core.specs.declared.conn.Connection.{Connection}
 use Rattle.plain_core.specs.declared.flows.Flows.{Flows}
 use Rattle.flow_gate.specs.declared.ids.BufferId.TheVariants as buffer
-use Rattle.flow_notes.specs.declared.events.Event.TheVariants as event
 use Rattle.flow_notes.specs.declared.events.PlainEvent.TheVariants as plain
 use Rattle.flow_notes.specs.declared.notes.Note.TheVariants as note
 use Rattle.plain_core.proofs.FlowStreams.{same_exchanges}
@@ -31,7 +29,6 @@ use Rattle.plain_laws.proofs.Flags.{no_rise, write_now}
 use Rattle.std.proofs.Common.{length-drop}
 use Rattle.plain_core.proofs.FlowHolds.{holding_kept}
 use Rattle.plain_core.proofs.FlowUnits.{keeps_piece}
-use Rattle.exchange_core.specs.declared.step.Piece.{Piece}
 
 abbrev pub DrainsWrite : Bool → Board → Board → Type 0
 DrainsWrite true old new = Drains (buffer.Write 0) old new
@@ -44,11 +41,11 @@ flag_same l l' a a' o o' e f g = rw (e, f, g) refl
 module _ (limits : PlainLimits) (n : ℕ) where
   left_flag : (conn : Connection) (w : Buffer) (h : Past) → ConnectionIs limits conn h → DropsOctets conn.write w n
       → w.above ≡ above_after limits.write (conn_high limits h) (length (drop n (conn_out limits h)))
-  left_flag conn w h c d = d.above ∙ flag_same _ _ _ _ _ _ c.limit c.above (d.octets ∙ ap (λ (o : List ℕ). drop n o) c.octets)
+  left_flag conn w h c d = d.above ∙ flag_same _ _ _ _ _ _ c.limit c.above (cc)
 
   drains_is : (low : Bool) (conn : Connection) (w : Buffer) (h : Past) → ConnectionIs limits conn h → DropsOctets conn.write w n
       → low ≡ (conn.write.above && not w.above) → low ≡ conn_drains limits (Noted (note.Out 0 n)) h
-  drains_is low conn w h c d is = is ∙ (ap (λ b. b && not w.above) c.above ∙ ap (λ b. conn_high limits h && not b) (left_flag conn w h c d))
+  drains_is low conn w h c d is = cc (left_flag conn w h c d)
 
 module _ (limits : PlainLimits) (k m n : ℕ) (h : Past) where
   abbrev after : Past
@@ -85,7 +82,7 @@ module _ (limits : PlainLimits) (k m n : ℕ) (h : Past) where
   left_counts true old new is g d none = record {
     counts = λ y e. d.counts (request y) ∙ g.counts y e;
     write_mark = d.marks (buffer.Write 0) ∙ sym (room_high limits k m n h ∙ drained _ _ (sym is));
-    write_pending = d.pending (buffer.Write 0) ∙ (joined _ _ _ (g.write_pending ∙ none) g.write_watchers ∙ sym (lows_after none ∙ ap (λ b. if b then map request (live h) else []) (sym is)));
+    write_pending = d.pending (buffer.Write 0) ∙ (joined _ _ _ (g.write_pending ∙ none) g.write_watchers ∙ (cc (lows_after none)));
     send_mark = λ y. d.marks (buffer.Send (request y)) ∙ (g.send_mark y ∙ sym (room_keeps limits k m n y h).high);
     send_pending = λ y. d.pending (buffer.Send (request y)) ∙ (append-nil _ ∙ g.send_pending y);
   }
@@ -98,16 +95,16 @@ module _ (limits : PlainLimits) (k m n : ℕ) (h : Past) where
       joined : (a b d : List FlowId) → a ≡ [] → b ≡ d → a ++ b ≡ d
       joined a b d e f = rw (e, f) refl
   left_counts false old new is g d none = record {
-    counts = λ y e. ap (λ (b : Board). count_on b (request y)) d ∙ g.counts y e;
-    write_mark = ap (λ (b : Board). is_marked b (buffer.Write 0)) d ∙ (g.write_mark ∙ flag_stays (sym is));
-    write_pending = ap (λ (b : Board). pending_on b (buffer.Write 0)) d ∙ (g.write_pending ∙ (none ∙ sym (lows_after none ∙ ap (λ b. if b then map request (live h) else []) (sym is))));
-    send_mark = λ y. ap (λ (b : Board). is_marked b (buffer.Send (request y))) d ∙ (g.send_mark y ∙ sym (room_keeps limits k m n y h).high);
-    send_pending = λ y. ap (λ (b : Board). pending_on b (buffer.Send (request y))) d ∙ g.send_pending y;
+    counts = λ y e. cc (g.counts y e);
+    write_mark = cc (flag_stays (sym is));
+    write_pending = cc (lows_after none);
+    send_mark = λ y. cc (g.send_mark y, (room_keeps limits k m n y h).high);
+    send_pending = λ y. cc (g.send_pending y);
   }
 
 names_left : (low : Bool) (old new : Board) → DrainsWrite low old new → KeepsNames old new
 names_left true old new d = record { flows = d.flows; buffers = d.buffers; watchers = d.watchers }
-names_left false old new d = record { flows = λ f. ap (λ (b : Board). is_there b f) d; buffers = λ c. ap (λ (b : Board). is_known b c) d; watchers = λ c. ap (λ (b : Board). watchers_of b c) d }
+names_left false old new d = record { flows = λ f. cc; buffers = λ c. cc; watchers = λ c. cc }
 
 pub leaves : (n : ℕ) (low : Bool) (old : Flows) (w : Buffer) (b : Board) → DropsOctets old.conn.write w n → low ≡ (old.conn.write.above && not w.above) → DrainsWrite low old.gates b → IsSoundBoard b
     → Leaves n low old (record old { gates = b; conn = record old.conn { write = w } })
@@ -126,10 +123,10 @@ leaves n low old w b d is change sound = record {
           gates = gates_from limits old.gates b h h' st.gates sound (names_left low old.gates b change) refl (left_counts limits k m n h low old.gates b drains st.gates change none);
           conn = record {
             limit = d.limit ∙ c.limit;
-            octets = d.octets ∙ (ap (λ (o : List ℕ). drop n o) c.octets ∙ sym (room_out limits k m n h));
+            octets = cc;
             above = left_flag limits n old.conn w h c d ∙ sym (room_high limits k m n h);
             framed_last = c.framed_last;
-            ready = λ y. c.ready y ∙ ap (λ (p : Option Piece). if has (live h) y then p else None) (sym (keeps_piece limits y h h' (room_keeps limits k m n y h)));
+            ready = λ y. cc (c.ready y, keeps_piece limits y h h' (room_keeps limits k m n y h));
           };
           holding = holding_kept limits old.holding h h' st.holding refl (λ y. (room_keeps limits k m n y h).recv);
         };

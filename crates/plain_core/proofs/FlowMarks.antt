@@ -4,7 +4,7 @@ use Rattle.flow_gate.specs.Changes.{Drains, Rises, Same, Tells as TellsFlow}
 use Rattle.flow_gate.specs.declared.ids.BufferId.{BufferId}
 use Rattle.flow_gate.specs.declared.ids.FlowId.{FlowId}
 use Rattle.plain_laws.proofs.Streams.{same_number}
-use Rattle.std.proofs.Common.{ap, refl, subst, sym, ◌∙◌}
+use Rattle.std.proofs.Common.{ap, refl, sym, ◌∙◌}
 use Rattle.std.specs.Prelude.{Bool, IsNone, List, None, Option, Some, [], false, if◌then◌else◌, not, option_to_list, true, ◌&&◌, ◌++◌, ◌==◌, ◌∷◌, ◌≡◌, ◌↔◌}
 use Rattle.tape_laws.specs.Flows.{same_flow}
 use Rattle.wm_buffer.specs.declared.watermark.Crossed.{Crossed}
@@ -24,7 +24,7 @@ own_flow f = both (f.exchange == f.exchange) f.back (same_number f.exchange)
 told_own : (f : FlowId) (told : Option FlowId) (rest p : List FlowId) (t : Bool) → t ≡ true → p ≡ f ∷ [] → (IsNone told ↔ (p ≡ [])) → p ≡ (if t then option_to_list told else []) ++ rest → option_to_list told ≡ f ∷ []
 told_own f None rest p t e w none is = let empty : p ≡ [] = none.0 refl in absurd (cc)
 told_own f (Some g) rest p t e w none is =
-    let all : f ∷ [] ≡ g ∷ rest = sym w ∙ (is ∙ ap (λ b. (if b then g ∷ [] else []) ++ rest) e) in
+    let all : f ∷ [] ≡ g ∷ rest = cc in
     let same : f ≡ g = cc in
     ap (λ v. v ∷ []) (sym same)
 
@@ -43,10 +43,9 @@ pub drains_tells : (f : FlowId) (told : Option FlowId) (old mid between new : Bo
     → watchers_of old (buffer.Send f) ≡ f ∷ [] → (IsNone told ↔ (pending_on between (buffer.Send f) ≡ [])) → TellsFlow (buffer.Send f) (option_to_list told) between new → DrainsAndTells f mid new
 drains_tells f told old mid between new same d none one is t =
     let w = same.watchers (buffer.Send f) ∙ one in
-    let p = d.pending (buffer.Send f) ∙ (ap (λ (fs : List FlowId). fs ++ (if same_flow f f then watchers_of mid (buffer.Send f) else [])) (same.pending (buffer.Send f) ∙ none)
-    ∙ (ap (λ b. if b then watchers_of mid (buffer.Send f) else []) (own_flow f) ∙ w)) in
+    let p = d.pending (buffer.Send f) ∙ (cc (same.pending (buffer.Send f), own_flow f)) in
     let list = told_own f told (pending_on new (buffer.Send f)) (pending_on between (buffer.Send f)) (same_flow f f) (own_flow f) p is (t.pending (buffer.Send f)) in
-    record { between = between; drains = d; tells = subst (λ (fs : List FlowId). TellsFlow (buffer.Send f) fs between new) list t }
+    record { between = between; drains = d; tells = rw (← list) t }
 
 pub not_high : (d : Crossed) → (d ≡ crossed.High → ⊥) → is_high d ≡ false
 not_high crossed.High n = absurd (n refl)

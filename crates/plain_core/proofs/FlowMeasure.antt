@@ -6,7 +6,7 @@ use Rattle.std.proofs.Common.{ap, arith, refl, sym, ◌∙◌}
 use Rattle.std.specs.List.{AllByRecursion}
 use Rattle.std.specs.Option.{option_map_or}
 use Rattle.std.specs.Ordering.{nat_cmp}
-use Rattle.std.specs.Prelude.{Bool, List, None, Option, Some, [], false, filter, if◌then◌else◌, length, true, ℕ, ◌+◌, ◌<◌, ◌==◌, ◌∷◌, ◌≡◌, ◌≤◌}
+use Rattle.std.specs.Prelude.{Bool, List, None, Option, [], false, filter, if◌then◌else◌, length, true, ℕ, ◌+◌, ◌<◌, ◌==◌, ◌∷◌, ◌≡◌, ◌≤◌}
 use Rattle.exchange_core.proofs.Maps.{eq_by_number}
 use Rattle.std.proofs.lemmas.List.Sums.{sum_by-cons}
 use Rattle.std.proofs.lemmas.Bool.Decides.{nat_tests}
@@ -14,8 +14,7 @@ use Rattle.std.specs.List.{sum_by}
 use Rattle.std.specs.List.Sorted.{IsStrictlySortedBy}
 use Rattle.std.specs.Map.{keys_of, lookup}
 use Rattle.std.proofs.Common.{Less}
-use Rattle.std.specs.Ordering.{is_eq}
-use Rattle.std.specs.Prelude.{cond, nat_eq, suc, zero}
+use Rattle.std.specs.Prelude.{nat_eq, suc, zero}
 use Rattle.plain_core.specs.Measure.{way}
 
 -- ---- sums over numbers
@@ -69,7 +68,7 @@ module _ {X : Type 0} (f : X → ℕ) where
 
   not_there : (k : ℕ) (es : List (ℕ × X)) → AllByRecursion (λ y. nat_cmp k y ≡ Less) (keys_of es) → lookup (nat_eq k) es ≡ None
   not_there k [] all = refl
-  not_there k (e ∷ es) all = ap (λ b. cond b (Some e.1) (lookup (nat_eq k) es)) (sym (eq_by_number k e.0) ∙ ap is_eq all.0) ∙ not_there k es all.1
+  not_there k (e ∷ es) all = cc (eq_by_number k e.0, not_there k es all.1)
 
   sum_of : (es : List (ℕ × X)) (n : ℕ) → IsStrictlySortedBy nat_cmp (keys_of es) → sum_by (λ (e : ℕ × X). e.0) es < n → sum_by (λ (e : ℕ × X). f e.1) es ≡ total (at_key es) n
   unfolding IsStrictlySortedBy
@@ -78,9 +77,9 @@ module _ {X : Type 0} (f : X → ℕ) where
       let key = sum_by-cons (λ (d : ℕ × X). d.0) e es in
       let rest = sum_of es n s.1 (tail_below e.0 (sum_by (λ (d : ℕ × X). d.0) es) (sum_by (λ (d : ℕ × X). d.0) (e ∷ es)) n key l) in
       let one = changed_total (at_key (e ∷ es)) (at_key es) e.0 n (head_below e.0 (sum_by (λ (d : ℕ × X). d.0) es) (sum_by (λ (d : ℕ × X). d.0) (e ∷ es)) n key l)
-      (λ y d. ap (λ b. option_map_or f (cond b (Some e.1) (lookup (nat_eq y) es)) 0) (differs_back e.0 y d)) in
-      let own : at_key (e ∷ es) e.0 ≡ f e.1 = ap (λ b. option_map_or f (cond b (Some e.1) (lookup (nat_eq e.0) es)) 0) (same_number e.0) in
-      let none : at_key es e.0 ≡ 0 = ap (λ o. option_map_or f o 0) (not_there e.0 es s.0) in
+      (λ y d. cc (differs_back e.0 y d)) in
+      let own : at_key (e ∷ es) e.0 ≡ f e.1 = cc (same_number e.0) in
+      let none : at_key es e.0 ≡ 0 = cc (not_there e.0 es s.0) in
       sum_by-cons (λ (d : ℕ × X). f d.1) e es ∙ sums (f e.1) _ _ _ _ _ rest one own none
     where
       tail_below : (k a b n : ℕ) → b ≡ k + a → b < n → a < n
@@ -99,8 +98,8 @@ module _ {X : Type 0} (f : X → ℕ) where
       let a = sum_by (λ (e : ℕ × X). e.0) es in
       let b = sum_by (λ (e : ℕ × X). e.0) fs in
       let n = suc (x + (a + b)) in
-      let c = changed_total (at_key fs) (at_key es) x n (first x a b) (λ y d. ap (λ v. option_map_or f v 0) (same y ∙ ap (λ b. if b then o else lookup (nat_eq y) es) d)) in
-      let own = ap (λ v. option_map_or f v 0) (same x ∙ ap (λ b. if b then o else lookup (nat_eq x) es) (same_number x)) in
+      let c = changed_total (at_key fs) (at_key es) x n (first x a b) (λ y d. cc (same y)) in
+      let own = ap (λ v. option_map_or f v 0) (cc (same x, same_number x)) in
       sums _ _ _ _ _ _ _ (sum_of es n s (second x a b)) (sum_of fs n t (third x a b)) c own
     where
       first : (x a b : ℕ) → x < suc (x + (a + b))

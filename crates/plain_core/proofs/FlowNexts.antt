@@ -1,8 +1,8 @@
 -- The frame that goes next is that of the history.
 use Rattle.plain_laws.proofs.Rotation.{next_above, next_around, next_none}
 use Rattle.plain_laws.specs.Next.{is_ready}
-use Rattle.std.proofs.Common.{ap, inl, inr, refl, subst, sym, ◌∙◌}
-use Rattle.std.specs.Prelude.{Bool, None, Option, Some, false, if◌then◌else◌, is_some, length, min, nat_lt, not, true, ℕ, ◌&&◌, ◌<◌, ◌==◌, ◌||◌, ◌≡◌, ◌≤◌}
+use Rattle.std.proofs.Common.{ap, inl, inr, refl, sym, ◌∙◌}
+use Rattle.std.specs.Prelude.{Bool, None, Option, Some, false, if◌then◌else◌, is_some, length, min, nat_lt, not, true, ℕ, ◌&&◌, ◌==◌, ◌||◌, ◌≡◌}
 use Rattle.plain_laws.specs.Words.{Past, Alive, end_out, next_out, recv_at, send_at}
 use Rattle.tape_laws.specs.Dispatches.{has, live}
 use Rattle.tape_laws.specs.Framing.{next_unit}
@@ -56,7 +56,7 @@ unit_some limits x h =
 module _ (limits : PlainLimits) (flows : Flows) where
   is_there_ready : (h : Past) → Settled limits flows h → (x : ℕ) → Alive h x → is_ready limits x h ≡ true → is_ready_on flows.conn x
   is_there_ready h s x e r =
-      ap (λ (p : Option Piece). is_some p) (s.stands.conn.ready x ∙ ap (λ b. if b then next_piece limits x h else None) e) ∙ (unit_some limits x h ∙ r)
+      ap is_some (s.stands.conn.ready x ∙ ap (λ b. if b then next_piece limits x h else None) e) ∙ (unit_some limits x h ∙ r)
 
   next_ready : (next : NextFrame) (h : Past) → Settled limits flows h → IsNext flows.conn (Some next)
       → (Alive h next.exchange) × (next_unit (plain_setup limits) (request next.exchange) h ≡ BodyUnit next.n next.last)
@@ -71,9 +71,9 @@ module _ (limits : PlainLimits) (flows : Flows) where
       let last = s.stands.conn.framed_last in
       next_above limits x h s.lawful.regular.books.rising (record {
         lives = k.0;
-        ready = ap is_unit k.1;
-        after = subst (λ (n : ℕ). n < x) last l.after;
-        least = λ y e r a. l.least y (is_there_ready h s y e r) (subst (λ (n : ℕ). n < y) (sym last) a);
+        ready = cc;
+        after = rw (← last) l.after;
+        least = λ y e r a. l.least y (is_there_ready h s y e r) (rw last a);
       })
   next_turn next h s (inr r) =
       let x = next.exchange in
@@ -81,8 +81,8 @@ module _ (limits : PlainLimits) (flows : Flows) where
       let last = s.stands.conn.framed_last in
       next_around limits x h s.lawful.regular.books.rising (record {
         lives = k.0;
-        ready = ap is_unit k.1;
-        none = λ y e t. subst (λ (n : ℕ). y ≤ n) last (r.0 y (is_there_ready h s y e t));
+        ready = cc;
+        none = λ y e t. rw (← last) (r.0 y (is_there_ready h s y e t));
         least = λ y e t. r.1.least y (is_there_ready h s y e t);
       })
 
@@ -90,11 +90,11 @@ pub next_some : (flows : Flows) (next : NextFrame) → flows.conn.write.above �
 next_some flows next low is = record {
   goes = λ limits h s.
       let k = next_ready limits flows next h s is in
-      record { live = k.0; low = sym s.stands.conn.above ∙ low; turn = next_turn limits flows next h s is ∙ ap (FlowsNext (request next.exchange)) k.1 };
+      record { live = k.0; low = sym s.stands.conn.above ∙ low; turn = cc (next_turn limits flows next h s is) };
 }
 
 none_ready : (a : Bool) (p : Option Piece) → a ≡ true → None ≡ (if a then p else None) → is_some p ≡ false
-none_ready true p e f = ap (λ (o : Option Piece). is_some o) (sym f)
+none_ready true p e f = cc
 none_ready false p e f = cc
 
 pub next_nothing : (flows : Flows) → IsNext flows.conn None → IsNextFrame flows None

@@ -5,18 +5,14 @@ use Rattle.std.proofs.Common.{ap, arith, of_z, refl, sym, to_z, w64, ◌∙◌}
 use Rattle.std.proofs.lemmas.Int.{to_z_pos}
 use Rattle.std.specs.BTreeMap.{get}
 use Rattle.std.specs.Ordering.{nat_cmp}
-use Rattle.std.specs.Prelude.{Bool, List, None, Option, false, if◌then◌else◌, pos, true, ℕ, ℤ, ◌<◌, ◌==◌, ◌^◌, ◌≡◌}
+use Rattle.std.specs.Prelude.{Bool, None, false, if◌then◌else◌, pos, true, ℕ, ℤ, ◌<◌, ◌==◌, ◌^◌, ◌≡◌}
 use Rattle.plain_laws.specs.Words.{Past, Alive, conn_high, conn_out, last_out}
 use Rattle.tape_laws.specs.Dispatches.{has, live}
-use Rattle.tape_laws.specs.Order.{framed_last}
-use Rattle.tape_laws.specs.Watermark.{above}
 use Rattle.tape_laws.specs.declared.limits.PlainLimits.{PlainLimits}
 use Rattle.plain_core.specs.Flows.{AreLimits, ConnectionIs, IsSettled, StreamIs, next_piece}
 use Rattle.plain_core.specs.UnitsOf.{piece_at}
 use Rattle.plain_core.specs.declared.conn.Connection.{Connection}
-use Rattle.exchange_core.specs.declared.step.Piece.{Piece}
 use Rattle.plain_core.specs.declared.flows.Flows.{Flows}
-use Rattle.flow_gate.specs.declared.ids.BufferId.TheVariants as buffer
 use Rattle.plain_core.proofs.FlowUnits.{refreshed}
 
 pub quantum_some : (limits : PlainLimits) → AreLimits limits → 0 < limits.quantum
@@ -24,7 +20,7 @@ quantum_some limits l = omega (arith, l.quantum.0)
 
 -- the room of a frame is a quantum, whatever width it is kept in
 pub room_is : (flows : Flows) (room : ℤ) → IsSettled flows → room ≡ pos flows.limits.quantum → to_z w64 (of_z w64 room) ≡ pos flows.limits.quantum
-room_is flows room s e = ap (λ z. to_z w64 (of_z w64 z)) e ∙ to_z_pos w64 flows.limits.quantum small
+room_is flows room s e = cc (to_z_pos w64 flows.limits.quantum small)
   where
     small : flows.limits.quantum < 2 ^ 63
     small =
@@ -52,8 +48,8 @@ conn_kept limits conn h h' c k last lives ready = record {
 }
   where
     same : (x : ℕ) (b : Bool) → has (live h) x ≡ b → (if has (live h) x then next_piece limits x h else None) ≡ (if has (live h') x then next_piece limits x h' else None)
-    same x true e = ap (λ (p : Option Piece). if has (live h) x then p else None) (sym (ready x e)) ∙ ap (λ (xs : List ℕ). if has xs x then next_piece limits x h' else None) (sym lives)
-    same x false e = ap (λ b. if b then next_piece limits x h else None) e ∙ sym (ap (λ b. if b then next_piece limits x h' else None) (ap (λ (xs : List ℕ). has xs x) lives ∙ e))
+    same x true e = cc (ready x e)
+    same x false e = cc
 
 -- one stream was looked at again
 pub refreshed_conn : (limits : PlainLimits) (x : ℕ) (mid new : Flows) (h h' : Past) → mid.limits ≡ limits

@@ -7,8 +7,8 @@ use Rattle.exchange_core.specs.Plain.{Plain, plain_exchange, plain_flow}
 use Rattle.exchange_core.specs.declared.exchange.Exchange.{Exchange}
 use Rattle.plain_laws.proofs.Streams.{own_or_other, same_number}
 use Rattle.plain_laws.specs.Keeping.{KeepsStream}
-use Rattle.std.proofs.Common.{ap, inl, inr, refl, subst, sym, ◌∙◌}
-use Rattle.std.specs.Prelude.{List, None, Option, Some, false, if◌then◌else◌, option_map, true, ℕ, ◌<◌, ◌==◌, ◌^◌, ◌≡◌, ◌≤◌, ◌⊎◌}
+use Rattle.std.proofs.Common.{inl, inr, refl, subst, sym, ◌∙◌}
+use Rattle.std.specs.Prelude.{List, None, Option, Some, false, option_map, true, ℕ, ◌==◌, ◌≡◌, ◌≤◌, ◌⊎◌}
 use Rattle.plain_laws.specs.Words.{Past, Alive}
 use Rattle.tape_laws.specs.Dispatches.{has, live, started}
 use Rattle.tape_laws.specs.Doomed.{condemned}
@@ -24,7 +24,7 @@ pub record KeepsStreams (old new : Past) : Type 0 where
 
 pub last_kept : (a b : ℕ) (xs ys : List ℕ) → b ≡ a → ys ≡ xs → (a ≡ 0) ⊎ (has xs a ≡ true) → (b ≡ 0) ⊎ (has ys b ≡ true)
 last_kept a b xs ys e f (inl z) = inl (e ∙ z)
-last_kept a b xs ys e f (inr t) = inr (ap (λ v. has ys v) e ∙ (ap (λ (v : List ℕ). has v a) f ∙ t))
+last_kept a b xs ys e f (inr t) = inr (cc)
 
 pub stream_kept : (limits : PlainLimits) (x : ℕ) (h h' : Past) (found : Option Exchange) → KeepsStream limits x h h' → StreamIs limits x h found → StreamIs limits x h' found
 stream_kept limits x h h' found k s = record {
@@ -43,7 +43,7 @@ stream_kept limits x h h' found k s = record {
 
 pub changed_plain : (x : ℕ) (change : Flow → Flow) (found : Option Exchange) (p q : Plain) → found ≡ Some (plain_exchange x p) → change (plain_flow x p) ≡ plain_flow x q
     → option_map (flow_changed change false) found ≡ Some (plain_exchange x q)
-changed_plain x change found p q is e = ap (option_map (flow_changed change false)) is ∙ ap (λ (f : Flow). Some (record (plain_exchange x p) { request = f })) e
+changed_plain x change found p q is e = cc
 
 -- one stream changed, the others stand as they did
 pub changed_exchanges : (limits : PlainLimits) (x : ℕ) (change : Flow → Flow) (old new : Exchanges) (h h' : Past) → ExchangesAre limits old h
@@ -52,29 +52,29 @@ pub changed_exchanges : (limits : PlainLimits) (x : ℕ) (change : Flow → Flow
 changed_exchanges limits x change old new h h' e c sound lists others own = record {
   sound = sound;
   time = c.flow.time ∙ e.time;
-  small = subst (λ (n : ℕ). n < 2 ^ 32) (sym c.flow.last) e.small;
-  most = record { most = λ y is. subst (λ (n : ℕ). y ≤ n) (sym c.flow.last) (e.most.most y (sym (begun y) ∙ is)) };
+  small = rw c.flow.last e.small;
+  most = record { most = λ y is. rw c.flow.last (e.most.most y (sym (begun y) ∙ is)) };
   last = last_kept old.last new.last (started h) (started h') c.flow.last lists.begun e.last;
   doomed = c.doomed ∙ (e.doomed ∙ sym lists.doomed);
   there = λ y. own_or_other (λ v. Alive h' v → StreamIs limits v h' (exchange_at new v)) x y
-      (λ is. subst (StreamIs limits x h') (sym own_is) own)
-      (λ d is. subst (StreamIs limits y h') (sym (other_is y d)) (stream_kept limits y h h' (exchange_at old y) (others y d) (e.there y (sym (lives y) ∙ is))));
+      (λ is. rw own_is own)
+      (λ d is. rw (other_is y d) (stream_kept limits y h h' (exchange_at old y) (others y d) (e.there y (sym (lives y) ∙ is))));
   gone = λ y. own_or_other (λ v. has (live h') v ≡ false → exchange_at new v ≡ None) x y
-      (λ is. own_is ∙ ap (option_map (flow_changed change false)) (e.gone x (sym (lives x) ∙ is)))
+      (λ is. cc (own_is, e.gone x (sym (lives x) ∙ is)))
       (λ d is. other_is y d ∙ e.gone y (sym (lives y) ∙ is));
 }
   where
     lives : (y : ℕ) → has (live h') y ≡ has (live h) y
-    lives y = ap (λ (xs : List ℕ). has xs y) lists.lives
+    lives y = cc
 
     begun : (y : ℕ) → has (started h') y ≡ has (started h) y
-    begun y = ap (λ (xs : List ℕ). has xs y) lists.begun
+    begun y = cc
 
     own_is : exchange_at new x ≡ option_map (flow_changed change false) (exchange_at old x)
-    own_is = c.flow.live x ∙ ap (λ b. if b then option_map (flow_changed change false) (exchange_at old x) else exchange_at old x) (same_number x)
+    own_is = cc (c.flow.live x, same_number x)
 
     other_is : (y : ℕ) → (x == y) ≡ false → exchange_at new y ≡ exchange_at old y
-    other_is y d = c.flow.live y ∙ ap (λ b. if b then option_map (flow_changed change false) (exchange_at old x) else exchange_at old y) d
+    other_is y d = cc (c.flow.live y)
 
 -- no stream changed
 pub same_exchanges : (limits : PlainLimits) (exchanges : Exchanges) (h h' : Past) → ExchangesAre limits exchanges h → KeepsStreams h h'
@@ -83,11 +83,11 @@ same_exchanges limits exchanges h h' e lists all = record {
   sound = e.sound;
   time = e.time;
   small = e.small;
-  most = record { most = λ y is. e.most.most y (sym (ap (λ (xs : List ℕ). has xs y) lists.begun) ∙ is) };
+  most = record { most = λ y is. e.most.most y (cc) };
   last = last_kept exchanges.last exchanges.last (started h) (started h') refl lists.begun e.last;
   doomed = e.doomed ∙ sym lists.doomed;
-  there = λ y is. stream_kept limits y h h' (exchange_at exchanges y) (all y) (e.there y (sym (ap (λ (xs : List ℕ). has xs y) lists.lives) ∙ is));
-  gone = λ y is. e.gone y (sym (ap (λ (xs : List ℕ). has xs y) lists.lives) ∙ is);
+  there = λ y is. stream_kept limits y h h' (exchange_at exchanges y) (all y) (e.there y (cc));
+  gone = λ y is. e.gone y (cc);
 }
 
 -- no stream changed, and of the doomed some are gone
@@ -97,10 +97,10 @@ pub swept_exchanges : (limits : PlainLimits) (old new : Exchanges) (h h' : Past)
 swept_exchanges limits old new h h' e sound same last time doomed lives begun all = record {
   sound = sound;
   time = time ∙ e.time;
-  small = subst (λ (n : ℕ). n < 2 ^ 32) (sym last) e.small;
-  most = record { most = λ y is. subst (λ (n : ℕ). y ≤ n) (sym last) (e.most.most y (sym (ap (λ (xs : List ℕ). has xs y) begun) ∙ is)) };
+  small = rw last e.small;
+  most = record { most = λ y is. subst (λ (n : ℕ). y ≤ n) (sym last) (e.most.most y (cc begun)) };
   last = last_kept old.last new.last (started h) (started h') last begun e.last;
   doomed = doomed;
-  there = λ y is. subst (StreamIs limits y h') (sym (same y)) (stream_kept limits y h h' (exchange_at old y) (all y) (e.there y (sym (ap (λ (xs : List ℕ). has xs y) lives) ∙ is)));
-  gone = λ y is. same y ∙ e.gone y (sym (ap (λ (xs : List ℕ). has xs y) lives) ∙ is);
+  there = λ y is. subst (StreamIs limits y h') (sym (same y)) (stream_kept limits y h h' (exchange_at old y) (all y) (e.there y (cc lives)));
+  gone = λ y is. same y ∙ e.gone y (cc lives);
 }

@@ -4,8 +4,8 @@ use Rattle.exchange_core.specs.Exchanges.{Exchanges, IsSound as AreSoundExchange
 use Rattle.flow_gate.specs.Board.{Board}
 use Rattle.plain_laws.proofs.Keepings.{gone_keeps, gone_keeps_write}
 use Rattle.plain_laws.specs.Keeping.{KeepsStream}
-use Rattle.std.proofs.Common.{ap, arith, refl, subst, sym, ◌∙◌}
-use Rattle.std.specs.Prelude.{IsNone, List, None, Option, Some, [], drop, length, ℕ, ◌<◌, ◌∷◌, ◌≡◌, ◌↔◌}
+use Rattle.std.proofs.Common.{arith, refl, sym, ◌∙◌}
+use Rattle.std.specs.Prelude.{IsNone, List, None, Option, Some, [], length, ℕ, ◌<◌, ◌∷◌, ◌≡◌, ◌↔◌}
 use Rattle.plain_laws.specs.Words.{Past}
 use Rattle.tape_laws.specs.Doomed.{condemned}
 use Rattle.tape_laws.specs.History.{Noted}
@@ -36,7 +36,7 @@ sweeps_one limits x old ex h settled c sound =
       stands = record {
         limits_are = st.limits_are;
         ranges = st.ranges;
-        exchanges = swept_exchanges limits old.exchanges ex h (Noted (note.Gone x) ∷ h) st.exchanges sound c.live c.last c.time (sym (ap (λ (xs : List ℕ). drop 1 xs) first)) refl refl (λ y. gone_keeps limits x y h);
+        exchanges = swept_exchanges limits old.exchanges ex h (Noted (note.Gone x) ∷ h) st.exchanges sound c.live c.last c.time (cc) refl refl (λ y. gone_keeps limits x y h);
         gates = sweep_gates limits old.gates x h st.gates;
         conn = conn_kept limits old.conn h (Noted (note.Gone x) ∷ h) st.conn (gone_keeps_write limits x h) refl refl (λ y e. keeps_piece limits y h (Noted (note.Gone x) ∷ h) (gone_keeps limits x y h));
         holding = holding_kept limits old.holding h (Noted (note.Gone x) ∷ h) st.holding refl (λ y. (gone_keeps limits x y h).recv);
@@ -63,7 +63,7 @@ sweeps_none limits old ex h settled c sound none =
     }
 
 pub one_fewer : (x : ℕ) (old new : List ℕ) → old ≡ x ∷ new → length new < length old
-one_fewer x old new e = subst (λ (xs : List ℕ). length new < length xs) (sym e) (omega arith)
+one_fewer x old new e = rw e (omega arith)
 
 pub sweeps : (swept : Option ℕ) (old : Flows) (ex : Exchanges) → (IsNone swept ↔ (old.exchanges.doomed ≡ [])) → SweepsExchanges swept old.exchanges ex → AreSoundExchanges ex
     → Sweeps swept old (record old { exchanges = ex })

@@ -4,9 +4,8 @@ use Rattle.tape_laws.specs.Doomed.{is_swept}
 use Rattle.flow_gate.specs.Board.{Board, IsSound as IsSoundBoard, pending_on}
 use Rattle.flow_gate.specs.Changes.{Tells as TellsFlows}
 use Rattle.flow_gate.specs.declared.ids.FlowId.{FlowId}
-use Rattle.std.proofs.Common.{ap, arith, inl, inr, subst, sym, ◌∙◌}
-use Rattle.std.specs.Prelude.{List, None, Option, false, if◌then◌else◌, take, true, ℕ, ◌+◌, ◌≡◌}
-use Rattle.tape_laws.specs.Dispatches.{has, live}
+use Rattle.std.proofs.Common.{arith, inl, inr, sym, ◌∙◌}
+use Rattle.std.specs.Prelude.{List, false, take, true, ℕ, ◌+◌, ◌≡◌}
 use Rattle.tape_laws.specs.Flows.{request}
 use Rattle.tape_laws.specs.declared.limits.PlainLimits.{PlainLimits}
 use Rattle.plain_core.proofs.FlowHolds.{holding_kept}
@@ -14,18 +13,17 @@ use Rattle.plain_core.proofs.FlowGates.{gates_from}
 use Rattle.plain_core.proofs.FlowStreams.{same_exchanges}
 use Rattle.plain_core.proofs.Tellings.{AreTold, are_told, with_all_told}
 use Rattle.plain_core.specs.Carries.{Holds, Tells, Wakes}
-use Rattle.plain_core.specs.Flows.{ConnectionIs, FlowsStand, GatesAre, Settled, next_piece}
+use Rattle.plain_core.specs.Flows.{ConnectionIs, FlowsStand, GatesAre, Settled}
 use Rattle.plain_core.specs.declared.conn.Connection.{Connection}
 use Rattle.plain_core.specs.declared.flows.Flows.{Flows}
 use Rattle.flow_gate.specs.declared.ids.BufferId.TheVariants as buffer
 use Rattle.plain_core.proofs.FlowUnits.{keeps_piece}
-use Rattle.exchange_core.specs.declared.step.Piece.{Piece}
 
 told_gates : (limits : PlainLimits) (fs : List FlowId) (old new : Board) (h : Past) → GatesAre limits old h → TellsFlows (buffer.Write 0) fs old new → IsSoundBoard new
     → AreTold limits fs (pending_on new (buffer.Write 0)) h (with_all_told fs h) → GatesAre limits new (with_all_told fs h)
 told_gates limits fs old new h g t sound is =
     gates_from limits old new h (with_all_told fs h) g sound (record { flows = t.flows; buffers = t.buffers; watchers = t.watchers }) is.lists.lives (record {
-      counts = λ y l. let was = sym (ap (λ (xs : List ℕ). has xs y) is.lists.lives) ∙ l in fewer_by _ _ _ _ _ (t.counts (request y)) (g.counts y was) (is.counts y was);
+      counts = λ y l. let was = (cc) ∙ l in fewer_by _ _ _ _ _ (t.counts (request y)) (g.counts y was) (is.counts y was);
       write_mark = t.marks (buffer.Write 0) ∙ (g.write_mark ∙ sym is.high);
       write_pending = sym is.lows;
       send_mark = λ y. t.marks (buffer.Send (request y)) ∙ (g.send_mark y ∙ sym (is.streams y).high);
@@ -42,8 +40,7 @@ told_conn limits fs rest conn h c is = record {
   octets = c.octets ∙ sym is.octets;
   above = c.above ∙ sym is.high;
   framed_last = c.framed_last ∙ sym is.last;
-  ready = λ y. c.ready y ∙ (ap (λ (p : Option Piece). if has (live h) y then p else None) (sym (keeps_piece limits y h (with_all_told fs h) (is.streams y)))
-      ∙ ap (λ (xs : List ℕ). if has xs y then next_piece limits y (with_all_told fs h) else None) (sym is.lists.lives));
+  ready = λ y. cc (c.ready y, keeps_piece limits y h (with_all_told fs h) (is.streams y));
 }
 
 told_stand : (limits : PlainLimits) (fs : List FlowId) (old : Flows) (b : Board) (h : Past) → Settled limits old h → is_swept h ≡ false → TellsFlows (buffer.Write 0) fs old.gates b → IsSoundBoard b
@@ -64,7 +61,7 @@ told_stand limits fs old b h settled fresh t sound =
 pub tells : (n : ℕ) (old : Flows) (b : Board) → TellsFlows (buffer.Write 0) (take n (pending_on old.gates (buffer.Write 0))) old.gates b → IsSoundBoard b → Tells n old (record old { gates = b })
 tells n old b t sound = record {
   goes = λ limits h s fresh.
-      subst (λ (fs : List FlowId). FlowsStand limits (record old { gates = b }) (with_all_told (take n fs) h)) s.stands.gates.write_pending (told_stand limits (take n (pending_on old.gates (buffer.Write 0))) old b h s fresh t sound);
+      rw (← s.stands.gates.write_pending) (told_stand limits (take n (pending_on old.gates (buffer.Write 0))) old b h s fresh t sound);
 }
 
 -- ---- which go on

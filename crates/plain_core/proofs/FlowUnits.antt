@@ -8,9 +8,9 @@ use Rattle.flow_gate.specs.declared.ids.FlowId.{FlowId}
 use Rattle.plain_laws.proofs.Streams.{own_or_other, same_number}
 use Rattle.plain_laws.specs.Keeping.{KeepsStream}
 use Rattle.plain_laws.specs.Next.{state_by, unit_of}
-use Rattle.std.proofs.Common.{ap, arith, sym, ◌∙◌}
+use Rattle.std.proofs.Common.{ap, arith, ◌∙◌}
 use Rattle.std.specs.Option.{option_and_then}
-use Rattle.std.specs.Prelude.{List, None, Option, Some, false, if◌then◌else◌, length, min, option_map, pos, ℕ, ℤ, ◌==◌, ◌≡◌}
+use Rattle.std.specs.Prelude.{None, Option, Some, false, if◌then◌else◌, length, min, option_map, pos, ℕ, ℤ, ◌==◌, ◌≡◌}
 use Rattle.plain_laws.specs.Words.{Past, Alive}
 use Rattle.tape_laws.specs.Dispatches.{has, live}
 use Rattle.tape_laws.specs.Framing.{next_unit}
@@ -28,7 +28,7 @@ module _ (limits : PlainLimits) (flows : Flows) (x : ℕ) (h : Past) where
       → unit_at flows x ≡ Some (next_unit (plain_setup limits) (request x) h)
   unit_found l s =
       let q = flows.limits.quantum in
-      let frame : min q q ≡ limits.quantum = twice q ∙ ap (λ (v : PlainLimits). v.quantum) l in
+      let frame : min q q ≡ limits.quantum = cc (twice q) in
       ap (λ (o : Option Exchange). option_map (next_of (pos q) q) (option_and_then (flow_in false) o)) s.is
       ∙ λ i. Some (first_unit (record (state_by (s.quantum i) (s.ended i) (s.end_framed i) (length (s.recv i)) (length (s.send i))) { frame = frame i }))
     where
@@ -37,19 +37,19 @@ module _ (limits : PlainLimits) (flows : Flows) (x : ℕ) (h : Past) where
 
   pub piece_is : flows.limits ≡ limits → StreamIs limits x h (exchange_at flows.exchanges x)
       → piece_at flows x ≡ next_piece limits x h
-  piece_is l s = ap (λ (o : Option NextUnit). option_and_then piece_of o) (unit_found l s)
+  piece_is l s = cc (unit_found l s)
 
 -- the unit that was answered is that of the stream
 pub unit_named : (flows : Flows) (x : ℕ) (f : FlowId) (room : ℤ) (u : NextUnit) → f ≡ request x → room ≡ pos flows.limits.quantum
     → Some u ≡ option_map (next_of room flows.limits.quantum) (flow_at flows.exchanges f) → Some u ≡ unit_at flows x
 unit_named flows x f room u named all e =
     let q = flows.limits.quantum in
-    e ∙ (ap (λ r. option_map (next_of r q) (flow_at flows.exchanges f)) all ∙ ap (λ g. option_map (next_of (pos q) q) (flow_at flows.exchanges g)) named)
+    e ∙ (cc)
 
 -- a connection that was told the next unit of a stream has its piece
 pub piece_seen : (flows : Flows) (x : ℕ) (u : NextUnit) (old new : ℕ → Option Piece) → Some u ≡ unit_at flows x
     → ((y : ℕ) → new y ≡ (if x == y then piece_of u else old y)) → (y : ℕ) → new y ≡ (if x == y then piece_at flows x else old y)
-piece_seen flows x u old new e made y = made y ∙ ap (λ (o : Option NextUnit). if x == y then option_and_then piece_of o else old y) e
+piece_seen flows x u old new e made y = cc (made y)
 
 pub keeps_piece : (limits : PlainLimits) (x : ℕ) (a b : Past) → KeepsStream limits x a b → next_piece limits x b ≡ next_piece limits x a
 keeps_piece limits x a b k = λ i. piece_of (unit_of limits.quantum (k.ended i) (k.framed i) (length (k.recv i)) (length (k.send i)))
@@ -61,7 +61,5 @@ pub refreshed : (limits : PlainLimits) (flows : Flows) (x : ℕ) (h h' : Past) (
     → (y : ℕ) → new y ≡ (if has (live h') y then next_piece limits y h' else None)
 refreshed limits flows x h h' old new l s is lives others made was y =
     own_or_other (λ v. new v ≡ (if has (live h') v then next_piece limits v h' else None)) x y
-    (made x ∙ (ap (λ b. if b then piece_at flows x else old x) (same_number x)
-    ∙ (piece_is limits flows x h' l s ∙ sym (ap (λ b. if b then next_piece limits x h' else None) (ap (λ (xs : List ℕ). has xs x) lives ∙ is)))))
-    (λ d. made y ∙ (ap (λ b. if b then piece_at flows x else old y) d ∙ (was y
-    ∙ (ap (λ (p : Option Piece). if has (live h) y then p else None) (sym (keeps_piece limits y h h' (others y d))) ∙ ap (λ b. if b then next_piece limits y h' else None) (sym (ap (λ (xs : List ℕ). has xs y) lives))))))
+    (cc (made x, same_number x, piece_is limits flows x h' l s))
+    (λ d. cc (made y, was y, keeps_piece limits y h h' (others y d)))

@@ -5,7 +5,7 @@ use Rattle.flow_notes.specs.declared.events.Event.{Event}
 use Rattle.flow_notes.specs.declared.events.PlainEvent.{PlainEvent}
 use Rattle.flow_notes.specs.declared.notes.Note.{Note}
 use Rattle.plain_laws.proofs.Ontos.{front_lawful, onto_append}
-use Rattle.std.proofs.Common.{ap, append_assoc, inl, inr, refl, subst, sym, ◌∙◌}
+use Rattle.std.proofs.Common.{append_assoc, inl, inr, refl, subst, sym, ◌∙◌}
 use Rattle.std.proofs.lemmas.List.{append-nil}
 use Rattle.std.specs.List.{AllByRecursion}
 use Rattle.std.specs.Prelude.{Err, List, Ok, OnErr, OnOk, [], ℕ, ◌++◌, ◌∷◌, ◌≡◌, ◌≤◌, ◌⊎◌}
@@ -48,7 +48,7 @@ pub front_more : (before ms ns after : List Note) → AppendsSome before ms afte
 front_more before ms ns after a = record {
   front = a.front;
   rest = a.rest ++ ns;
-  whole = ap (λ (v : List Note). v ++ ns) a.whole ∙ append_assoc a.front a.rest ns;
+  whole = cc (append_assoc a.front a.rest ns);
   is = a.is;
 }
 
@@ -57,12 +57,12 @@ module _ (before ms ns mid after : List Note) where
   front_after e a = record {
     front = ms ++ a.front;
     rest = a.rest;
-    whole = ap (λ (v : List Note). ms ++ v) a.whole ∙ sym (append_assoc ms a.front a.rest);
-    is = a.is ∙ ap (λ (v : List Note). v ++ a.front) e ∙ append_assoc before ms a.front;
+    whole = cc (append_assoc ms a.front a.rest);
+    is = cc (append_assoc before ms a.front);
   }
 
   pub whole_after : mid ≡ before ++ ms → after ≡ mid ++ ns → after ≡ before ++ (ms ++ ns)
-  whole_after e a = a ∙ ap (λ (v : List Note). v ++ ns) e ∙ append_assoc before ms ns
+  whole_after e a = cc (append_assoc before ms ns)
 
   -- some notes, and then others
   pub appends_both : (r : Written) → mid ≡ before ++ ms → AppendsNotes mid ns after r → AppendsNotes before (ms ++ ns) after r
@@ -98,11 +98,11 @@ pub record Stepped (old : PlainCore) (ns : List Note) (new : PlainCore) : Type 0
 
 pub keeps_of : (old new : PlainCore) (before ns after : List Note) → after ≡ before ++ ns → Stepped old ns new → Keeps old before new after
 keeps_of old new before ns after e s =
-    subst (λ (v : List Note). Keeps old before new v) (sym e) (record {
+    subst (Keeps old before new) (sym e) (record {
       appends = record { added = ns; is = refl };
       spelled = λ b. spelled_both before ns b s.spelled;
-      events = λ h. ap events_back (onto_append before ns h) ∙ events_same ns (onto before h) s.silent;
-      goes = λ limits h g. subst (λ (v : Past). Good limits new v) (sym (onto_append before ns h)) (s.goes limits (onto before h) g);
+      events = λ h. cc (onto_append before ns h, events_same ns (onto before h) s.silent);
+      goes = λ limits h g. subst (Good limits new) (sym (onto_append before ns h)) (s.goes limits (onto before h) g);
       well = s.well;
     })
 
@@ -110,14 +110,14 @@ keeps_of old new before ns after e s =
 pub cuts_lawful : (old : PlainCore) (before ns after : List Note) → AppendsSome before ns after → AreSpelled ns → AllByRecursion NoTurn ns
     → ((limits : PlainLimits) (h : Past) → Good limits old h → IsPlainLawful limits (onto ns h)) → Cuts old before after
 cuts_lawful old before ns after a sp si lawful =
-    let spelled : AreSpelled (a.front ++ a.rest) = let Q : List Note → Type 0 = AreSpelled in subst Q a.whole sp in
-    let silent : AllByRecursion NoTurn (a.front ++ a.rest) = subst (AllByRecursion NoTurn) a.whole si in
-    subst (λ (v : List Note). Cuts old before v) (sym a.is) (record {
+    let spelled : AreSpelled (a.front ++ a.rest) = let Q : List Note → Type 0 = AreSpelled in rw (← a.whole) sp in
+    let silent : AllByRecursion NoTurn (a.front ++ a.rest) = rw (← a.whole) si in
+    subst (Cuts old before) (sym a.is) (record {
       appends = record { added = a.front; is = refl };
-      spelled = λ b. spelled_both before a.front b (all_front (λ n. IsNote [] n) a.front a.rest spelled);
-      events = λ h. ap events_back (onto_append before a.front h) ∙ events_same a.front (onto before h) (all_front NoTurn a.front a.rest silent);
+      spelled = λ b. spelled_both before a.front b (all_front (IsNote []) a.front a.rest spelled);
+      events = λ h. cc (onto_append before a.front h, events_same a.front (onto before h) (all_front NoTurn a.front a.rest silent));
       lawful = λ limits h g.
-          subst (λ (v : Past). IsPlainLawful limits v) (sym (onto_append before a.front h)) (front_lawful limits a.front a.rest (onto before h) (subst (λ (v : List Note). IsPlainLawful limits (onto v (onto before h))) a.whole (lawful limits (onto before h) g)));
+          subst (IsPlainLawful limits) (sym (onto_append before a.front h)) (front_lawful limits a.front a.rest (onto before h) (subst (λ (v : List Note). IsPlainLawful limits (onto v (onto before h))) a.whole (lawful limits (onto before h) g)));
     })
 
 pub cuts_front : (old new : PlainCore) (before ns after : List Note) → AppendsSome before ns after → Stepped old ns new → Cuts old before after
@@ -150,12 +150,12 @@ pub record Opened (old : PlainCore) (k : ℕ) (e : PlainEvent) (ns : List Note) 
 pub opens_of : (old new : PlainCore) (before after : List Note) (k : ℕ) (e : PlainEvent) (ns : List Note) → after ≡ before ++ turn_note k e ∷ ns → Opened old k e ns new
     → Opens old before (event.Plain e) new after
 opens_of old new before after k e ns eq o =
-    subst (λ (v : List Note). Opens old before (event.Plain e) new v) (sym eq) (record {
+    subst (Opens old before (event.Plain e) new) (sym eq) (record {
       appends = record { number = k; added = ns; is = refl };
       spelled = λ i b. spelled_both before (turn_note k e ∷ ns) b ((o.number, i), o.spelled i);
-      shows = λ h. ap events_back (onto_append before (turn_note k e ∷ ns) h) ∙ events_same ns (Noted (turn_note k e) ∷ onto before h) o.silent;
+      shows = λ h. cc (onto_append before (turn_note k e ∷ ns) h, events_same ns (Noted (turn_note k e) ∷ onto before h) o.silent);
       goes = λ limits h g m.
-          subst (λ (v : Past). Good limits new v) (sym (onto_append before (turn_note k e ∷ ns) h)) (o.goes limits (onto before h) g m.0);
+          subst (Good limits new) (sym (onto_append before (turn_note k e ∷ ns) h)) (o.goes limits (onto before h) g m.0);
       well = o.well;
     })
 
@@ -169,16 +169,16 @@ front_shows [] rest k e ns h w s = inl refl
 front_shows (n ∷ front) rest k e ns h w s =
     let first : turn_note k e ≡ n = cc in
     let others : ns ≡ front ++ rest = cc in
-    inr (events_same front (Noted n ∷ h) (all_front NoTurn front rest (subst (AllByRecursion NoTurn) others s)) ∙ ap (λ (m : Note). events_back (Noted m ∷ h)) (sym first))
+    inr (cc (events_same front (Noted n ∷ h) (all_front NoTurn front rest (subst (AllByRecursion NoTurn) others s))))
 
 front_spelled : (front rest : List Note) (k : ℕ) (e : PlainEvent) (ns : List Note) → turn_note k e ∷ ns ≡ front ++ rest → AreSpelled (turn_note k e ∷ ns) → AreSpelled front
-front_spelled front rest k e ns w s = all_front (λ n. IsNote [] n) front rest (subst AreSpelled w s)
+front_spelled front rest k e ns w s = all_front (IsNote []) front rest (rw (← w) s)
 
 module _ (old new : PlainCore) (before after : List Note) where
   pub turn_front : (k : ℕ) (e : PlainEvent) (ns : List Note) → AppendsSome before (turn_note k e ∷ ns) after → Opened old k e ns new
       → CutsTurn old before (event.Plain e) after
   turn_front k e ns a o =
-      subst (λ (v : List Note). CutsTurn old before (event.Plain e) v) (sym a.is) (record {
+      rw a.is (record {
         appends = record { added = a.front; is = refl };
         spelled = λ i b. spelled_both before a.front b (front_spelled a.front a.rest k e ns a.whole ((o.number, i), o.spelled i));
         shows = λ h.
@@ -200,7 +200,7 @@ module _ (old new : PlainCore) (before after : List Note) where
 
 -- the same event
 pub event_is : (old new : PlainCore) (k : ℕ) (e said : PlainEvent) (ns : List Note) → e ≡ said → Opened old k e ns new → Opened old k said ns new
-event_is old new k e said ns eq o = subst (λ (v : PlainEvent). Opened old k v ns new) eq o
+event_is old new k e said ns eq o = rw (← eq) o
 
 -- the turn note, and then others
 module _ (old new : PlainCore) (before mid after : List Note) (k : ℕ) (e : PlainEvent) (ns : List Note) (r : Written) where

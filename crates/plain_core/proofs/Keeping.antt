@@ -4,21 +4,17 @@ use Rattle.flow_gate.specs.declared.ids.FlowId.{FlowId}
 use Rattle.flow_notes.specs.Buffer.{CanPause}
 use Rattle.flow_notes.specs.declared.notes.Note.{Note}
 use Rattle.plain_laws.specs.Settled.{Settled as IsSettledHistory}
-use Rattle.proxy_config.specs.Ranges.{IsRoute}
-use Rattle.proxy_config.specs.declared.config.Config.{Config}
-use Rattle.std.proofs.Common.{ap, refl, subst, sym, ◌∙◌}
-use Rattle.std.specs.BTreeMap.{get}
+use Rattle.std.proofs.Common.{refl, sym, ◌∙◌}
 use Rattle.std.specs.List.{AllByRecursion}
-use Rattle.std.specs.Ordering.{nat_cmp}
-use Rattle.std.specs.Prelude.{All, Bool, Err, List, Ok, OnOk, [], false, true, ℕ, ◌∷◌, ◌≡◌}
+use Rattle.std.specs.Prelude.{Bool, Err, List, Ok, OnOk, [], false, true, ℕ, ◌∷◌, ◌≡◌}
 use Rattle.plain_laws.specs.Words.{Past}
-use Rattle.tape_laws.specs.Dispatches.{has, is_some_of, turns}
+use Rattle.tape_laws.specs.Dispatches.{turns}
 use Rattle.tape_laws.specs.Plain.{paired_with}
 use Rattle.tape_laws.specs.declared.limits.PlainLimits.{PlainLimits}
 use Rattle.plain_core.proofs.Fronts.{NoTurn, appends_more}
 use Rattle.plain_core.specs.Flows.{FlowsStand}
 use Rattle.plain_core.specs.Noting.{pauses_of, rise_of}
-use Rattle.plain_core.specs.Progress.{Pairs, Underway}
+use Rattle.plain_core.specs.Progress.{Underway}
 use Rattle.plain_core.specs.Runs.{AreSpelled, Cuts, Keeps}
 use Rattle.plain_core.specs.Stands.{BooksAre, Good}
 use Rattle.plain_core.specs.declared.flows.Flows.{Flows}
@@ -35,22 +31,22 @@ pub record OnlyMoves (old new : PlainCore) : Type 0 where
 pub books_kept : (old new : PlainCore) (h k : Past) → OnlyMoves old new → turns k ≡ turns h → ((x : ℕ) → paired_with x k ≡ paired_with x h) → BooksAre old h → BooksAre new k
 books_kept old new h k o t p b = record {
   turn = o.turn ∙ b.turn ∙ sym t;
-  pairs = λ s x. ap (λ (v : List ℕ). has v s) (p x) ∙ b.pairs s x ∙ ap (λ (v : Pairs). is_some_of (get nat_cmp v s) x) (sym o.pairs);
-  routes = subst (λ (c : Config). All IsRoute c.routes) (sym o.config) b.routes;
+  pairs = λ s x. cc (p x, b.pairs s x);
+  routes = rw o.config b.routes;
 }
 
 -- a core with other flows and another agenda
 module _ (old new : PlainCore) (flows : Flows) where
   pub only_moves : HasFlows flows old new → OnlyMoves old new
   only_moves e = record {
-    config = ap (λ (c : PlainCore). c.config) e;
-    turn = ap (λ (c : PlainCore). c.turn) e;
-    pairs = ap (λ (c : PlainCore). c.pairs) e;
-    well = ap (λ (c : PlainCore). c.failed) e;
+    config = cc;
+    turn = cc;
+    pairs = cc;
+    well = cc;
   }
 
   pub flows_are : HasFlows flows old new → new.flows ≡ flows
-  flows_are e = ap (λ (c : PlainCore). c.flows) e
+  flows_are e = cc
 
 -- the core with other flows
 abbrev pub with_flows : PlainCore → Flows → PlainCore
@@ -66,7 +62,7 @@ pub good_of : (limits : PlainLimits) (old new : PlainCore) (h k : Past) → Only
 good_of limits old new h k o t p f s u g = record {
   flows = record { stands = f; lawful = s };
   books = books_kept old new h k o t p g.books;
-  underway = subst (λ (v : Pairs). Underway limits v new.agenda k) (sym o.pairs) u;
+  underway = rw o.pairs u;
 }
 
 -- ---- one step after the other

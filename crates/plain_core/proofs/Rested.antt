@@ -1,9 +1,9 @@
 -- What a core at rest stands for.
 use Rattle.plain_laws.proofs.Streams.{by_case, not_both}
 use Rattle.plain_laws.specs.Regular.{Rests as IsAtRest}
-use Rattle.std.proofs.Common.{ap, refl, ◌∙◌}
+use Rattle.std.proofs.Math.Bool.{and-false}
 use Rattle.std.specs.List.{list_any}
-use Rattle.std.specs.Prelude.{Bool, [], false, length, nat_lt, true, ℕ, ◌&&◌, ◌==◌, ◌≡◌}
+use Rattle.std.specs.Prelude.{Bool, [], false, ℕ, ◌==◌, ◌≡◌}
 use Rattle.plain_laws.specs.Words.{Past, Alive, recv_at}
 use Rattle.tape_laws.specs.Flows.{request}
 use Rattle.tape_laws.specs.Pauses.{count}
@@ -20,7 +20,7 @@ at_rest limits core h r = record { regular = r.good.flows.lawful.regular; quiet 
 
 -- of an agenda that is empty
 pub no_task : (p : Task → Bool) (agenda : Agenda) → agenda ≡ [] → list_any p agenda ≡ false
-no_task p agenda e = ap (list_any p) e
+no_task p agenda e = cc
 
 -- no octets may move
 module _ (limits : PlainLimits) (core : PlainCore) (x : ℕ) (h : Past) where
@@ -35,13 +35,8 @@ module _ (limits : PlainLimits) (core : PlainCore) (x : ℕ) (h : Past) where
 pub may_same : (limits : PlainLimits) (x : ℕ) (old new : Past) → count (request x) new ≡ count (request x) old
     → recv_at limits x new ≡ recv_at limits x old → may_move limits x new ≡ may_move limits x old
 may_same limits x old new ec ep =
-    ap (λ n. (n == 0) && nat_lt 0 (length (recv_at limits x new))) ec
-    ∙ ap (λ os. (count (request x) old == 0) && nat_lt 0 (length os)) ep
+    cc
 
 -- an empty receive buffer
 pub may_not : (limits : PlainLimits) (x : ℕ) (h : Past) → recv_at limits x h ≡ [] → may_move limits x h ≡ false
-may_not limits x h e = ap (λ os. (count (request x) h == 0) && nat_lt 0 (length os)) e ∙ neither (count (request x) h == 0)
-  where
-    neither : (a : Bool) → (a && false) ≡ false
-    neither true = refl
-    neither false = refl
+may_not limits x h e = cc (and-false (count (request x) h == 0))

@@ -36,8 +36,8 @@ pub none_wakes : (flows : Flows) (fs rest : List FlowId) (n : ℕ) → fs ++ res
 none_wakes flows fs rest n e none stay is = record {
   still = fs;
   rest = rest;
-  whole = sym e ∙ ap (λ (gs : List FlowId). gs ++ rest) (sym (append-nil fs));
-  number = is ∙ ap (λ (gs : List FlowId). length gs) (sym (append-nil fs));
+  whole = cc (append-nil fs);
+  number = cc (append-nil fs);
   stay = stay;
   last = none;
 }
@@ -53,11 +53,11 @@ module _ (flows : Flows) (told : Told) where
   told_are : (t : IsToldNext flows told) → take told.n (pending_on flows.gates (buffer.Write 0)) ≡ t.still ++ option_to_list told.next
   told_are t =
       let fs = t.still ++ option_to_list told.next in
-      ap (λ (v : List FlowId). take told.n v) t.whole ∙ ap (λ (n : ℕ). take n (fs ++ t.rest)) t.number ∙ take-append_seam fs t.rest
+      ap (take told.n) t.whole ∙ ap (λ (n : ℕ). take n (fs ++ t.rest)) t.number ∙ take-append_seam fs t.rest
 
   pub told_noted : (lows : List FlowId) (old new : List Note) → lows ≡ pending_on flows.gates (buffer.Write 0) → IsToldNext flows told
       → new ≡ old ++ resumes_of (buffer.Write 0) (take told.n lows) → TellsUpTo flows old told new
   told_noted lows old new e t is = record {
     is = t;
-    notes = is ∙ ap (λ (fs : List FlowId). old ++ resumes_of (buffer.Write 0) fs) (ap (λ (fs : List FlowId). take told.n fs) e ∙ told_are t);
+    notes = cc (told_are t);
   }

@@ -1,12 +1,11 @@
 -- A stream is given up: its end was framed, or that of the stream that dooms it.
 use Rattle.flow_notes.specs.declared.notes.Cause.{Cause}
 use Rattle.flow_notes.specs.declared.notes.Note.{Note}
-use Rattle.plain_laws.proofs.Dooms.{without}
 use Rattle.plain_laws.proofs.Keepings.{doom_keeps}
 use Rattle.plain_laws.proofs.Steps.{done_step, early_pair_step}
 use Rattle.plain_laws.proofs.Streams.{apart_from, differs_back, has_left, same_number}
 use Rattle.plain_laws.specs.Settled.{Settled as IsSettledHistory}
-use Rattle.std.proofs.Common.{ap, arith, inl, inr, refl, subst, sym, ◌∙◌}
+use Rattle.std.proofs.Common.{ap, arith, inl, inr, refl, sym, ◌∙◌}
 use Rattle.std.proofs.lemmas.List.Sums.{sum_by-cons}
 use Rattle.std.specs.BTreeMap.{get}
 use Rattle.std.specs.List.{AllByRecursion, list_any, sum_by}
@@ -23,7 +22,6 @@ use Rattle.plain_core.proofs.Rested.{may_same}
 use Rattle.plain_core.proofs.UnderwayMoves.{LeavesWork, leaves_same, reasons_kept, rounded_top, unswept_at}
 use Rattle.plain_core.specs.Agenda.{Agenda, after_end, is_telling}
 use Rattle.plain_core.specs.Carries.{GivesUp, may_move}
-use Rattle.plain_core.specs.Flows.{FlowsStand}
 use Rattle.plain_core.specs.Measure.{left_in, to_go, weight}
 use Rattle.plain_core.specs.Noting.{AppendsNotes, doom_of}
 use Rattle.plain_core.specs.Progress.{EndedHere, PairEndedHere, Pairs, Underway, will_doom}
@@ -31,7 +29,6 @@ use Rattle.plain_core.specs.Runs.{AreSpelled, Cuts, Keeps}
 use Rattle.plain_core.specs.Stands.{BooksAre, Good}
 use Rattle.plain_core.specs.declared.flows.Flows.{Flows}
 use Rattle.plain_core.specs.declared.plain.PlainCore.{PlainCore}
-use Rattle.flow_gate.specs.declared.ids.BufferId.TheVariants as buffer
 use Rattle.flow_notes.specs.declared.notes.Cause.TheVariants as cause
 use Rattle.flow_notes.specs.declared.notes.Note.TheVariants as note
 use Rattle.plain_core.specs.declared.agenda.Task.TheVariants as task
@@ -43,7 +40,7 @@ pub doom_leaves_work : (limits : PlainLimits) (x : ℕ) (why : Cause) (h : Past)
 doom_leaves_work limits x why h = record {
   lives = λ y l. (has_left (live h) x y l).0;
   unswept = λ e. refl;
-  told = λ e. ap (without x) e;
+  told = λ e. cc;
   must = λ y l e. e;
   ends = record { framed = λ y e. e; before = refl; paired = λ y. refl };
 }
@@ -79,7 +76,7 @@ underway_ended limits pairs x None a h k ep w apart moves named u = record {
   runs = λ y l m. u.runs y (w.lives y l) (moves y l m);
   tells = told_as limits a h k w u.tells;
   ends = λ y l e.
-      rest_of (x == y) (is_some_of (get nat_cmp pairs x) y) (list_any (will_doom pairs y) a) (u.ends y (w.lives y l) (w.must y l e)) (apart y l) (ap (λ (v : Option ℕ). is_some_of v y) ep);
+      rest_of (x == y) (is_some_of (get nat_cmp pairs x) y) (list_any (will_doom pairs y) a) (u.ends y (w.lives y l) (w.must y l e)) (apart y l) (cc);
   reasons = reasons_kept limits a h k w.ends u.reasons.1;
   unswept = inr (w.unswept (unswept_at (task.End x ∷ a) (task.End x) h refl u.unswept));
   rested = inl (rounded_top limits pairs (task.End x) a h u);
@@ -88,8 +85,7 @@ underway_ended limits pairs x (Some z) a h k ep w apart moves named u = record {
   runs = λ y l m. u.runs y (w.lives y l) (moves y l m);
   tells = told_as limits a h k w u.tells;
   ends = λ y l e.
-      sym (ap (λ (v : Option ℕ). is_some_of v y || list_any (will_doom pairs y) a) ep)
-      ∙ pair_of (x == y) (is_some_of (get nat_cmp pairs x) y) (list_any (will_doom pairs y) a) (u.ends y (w.lives y l) (w.must y l e)) (apart y l);
+      cc (pair_of (x == y) (is_some_of (get nat_cmp pairs x) y) (list_any (will_doom pairs y) a) (u.ends y (w.lives y l) (w.must y l e)) (apart y l));
   reasons = (named z (same_number z), reasons_kept limits a h k w.ends u.reasons.1);
   unswept = inr (w.unswept (unswept_at (task.End x ∷ a) (task.End x) h refl u.unswept));
   rested = inl (rounded_top limits pairs (task.End x) a h u);
@@ -112,7 +108,7 @@ pair_ended : (limits : PlainLimits) (core : PlainCore) (x y : ℕ) (h k : Past) 
     → is_some_of (get nat_cmp core.pairs x) y ≡ true → PairEndedHere limits y k
 pair_ended limits core x y h k b w e s = record {
   first = x;
-  paired = ap (λ (v : List ℕ). has v x) (w.ends.paired y) ∙ b.pairs x y ∙ s;
+  paired = cc (w.ends.paired y, b.pairs x y);
   ended = (reasons_kept limits (task.End x ∷ []) h k w.ends (e, tt)).0;
 }
 
@@ -138,22 +134,20 @@ end_good : (limits : PlainLimits) (old new : PlainCore) (x : ℕ) (b : Bool) (fl
 end_good limits old new x true flows h e top ea gives g =
     let k = Noted (note.Doom x cause.Done) ∷ h in
     let A : Agenda → Type 0 = λ v. Underway limits old.pairs v h in
-    let u : Underway limits old.pairs (task.End x ∷ drop 1 old.agenda) h = subst A (top_is (task.End x) old.agenda top) g.underway in
+    let u : Underway limits old.pairs (task.End x ∷ drop 1 old.agenda) h = rw (← top_is (task.End x) old.agenda top) g.underway in
     let is : Alive h x = sym (gives.is.0.goes limits h g.flows) in
     let w = doom_leaves_work limits x cause.Done h in
-    good_of limits old new h k (only_moves old new flows e) refl (λ y. refl) (subst (λ (v : Flows). FlowsStand limits v k) (sym (flows_are old new flows e)) (gives.is.1.goes limits h g.flows is))
+    good_of limits old new h k (only_moves old new flows e) refl (λ y. refl) (rw (flows_are old new flows e) (gives.is.1.goes limits h g.flows is))
     (done_step limits x h g.flows.lawful (unswept_at old.agenda (task.End x) h top g.underway.unswept) is u.reasons.0.framed)
-    (subst (λ (v : Agenda). Underway limits old.pairs v k) (sym (ea ∙ after_is (get nat_cmp old.pairs x) old.agenda))
-    (underway_ended limits old.pairs x (get nat_cmp old.pairs x) (drop 1 old.agenda) h k refl w (λ y l. (has_left (live h) x y l).1) (λ y l m. doom_moves limits x y cause.Done h g.flows.lawful l m)
+    (rw (ea ∙ after_is (get nat_cmp old.pairs x) old.agenda) (underway_ended limits old.pairs x (get nat_cmp old.pairs x) (drop 1 old.agenda) h k refl w (λ y l. (has_left (live h) x y l).1) (λ y l m. doom_moves limits x y cause.Done h g.flows.lawful l m)
     (λ y s. pair_ended limits old x y h k g.books w u.reasons.0 s) u)) g
 end_good limits old new x false flows h e top ea gives g =
     let A : Agenda → Type 0 = λ v. Underway limits old.pairs v h in
-    let u : Underway limits old.pairs (task.End x ∷ drop 1 old.agenda) h = subst A (top_is (task.End x) old.agenda top) g.underway in
+    let u : Underway limits old.pairs (task.End x ∷ drop 1 old.agenda) h = rw (← top_is (task.End x) old.agenda top) g.underway in
     let dead : has (live h) x ≡ false = sym (gives.is.0.goes limits h g.flows) in
     let w = leaves_same limits h in
-    good_of limits old new h h (only_moves old new flows e) refl (λ y. refl) (subst (λ (v : Flows). FlowsStand limits v h) (sym (flows_are old new flows e ∙ gives.is.1)) g.flows.stands) g.flows.lawful
-    (subst A (sym (ea ∙ after_is (get nat_cmp old.pairs x) old.agenda))
-    (underway_ended limits old.pairs x (get nat_cmp old.pairs x) (drop 1 old.agenda) h h refl w (λ y l. not_live (live h) x y dead l) (λ y l m. m)
+    good_of limits old new h h (only_moves old new flows e) refl (λ y. refl) (rw (flows_are old new flows e ∙ gives.is.1) g.flows.stands) g.flows.lawful
+    (rw (ea ∙ after_is (get nat_cmp old.pairs x) old.agenda) (underway_ended limits old.pairs x (get nat_cmp old.pairs x) (drop 1 old.agenda) h h refl w (λ y l. not_live (live h) x y dead l) (λ y l m. m)
     (λ y s. pair_ended limits old x y h h g.books w u.reasons.0 s) u)) g
 
 pub end_steps : (old new : PlainCore) (x : ℕ) (b : Bool) (flows : Flows) → HasFlows flows old new → OnTop (task.End x) old.agenda
@@ -162,7 +156,7 @@ end_steps old new x b flows e top ea gives = record {
   spelled = doom_spelled b x cause.Done;
   silent = doom_silent b x cause.Done;
   goes = λ limits h g. end_good limits old new x b flows h e top ea gives g;
-  well = ap (λ (v : PlainCore). v.failed) e;
+  well = cc;
 }
 
 early_good : (limits : PlainLimits) (old new : PlainCore) (x : ℕ) (b : Bool) (flows : Flows) (h : Past) → HasFlows flows old new
@@ -171,19 +165,19 @@ early_good : (limits : PlainLimits) (old new : PlainCore) (x : ℕ) (b : Bool) (
 early_good limits old new x true flows h e top ea gives g =
     let k = Noted (note.Doom x cause.EarlyEnd) ∷ h in
     let A : Agenda → Type 0 = λ v. Underway limits old.pairs v h in
-    let u : Underway limits old.pairs (task.EarlyEnd x ∷ drop 1 old.agenda) h = subst A (top_is (task.EarlyEnd x) old.agenda top) g.underway in
+    let u : Underway limits old.pairs (task.EarlyEnd x ∷ drop 1 old.agenda) h = rw (← top_is (task.EarlyEnd x) old.agenda top) g.underway in
     let is : Alive h x = sym (gives.is.0.goes limits h g.flows) in
     let why = u.reasons.0 in
-    good_of limits old new h k (only_moves old new flows e) refl (λ y. refl) (subst (λ (v : Flows). FlowsStand limits v k) (sym (flows_are old new flows e)) (gives.is.1.goes limits h g.flows is))
+    good_of limits old new h k (only_moves old new flows e) refl (λ y. refl) (rw (flows_are old new flows e) (gives.is.1.goes limits h g.flows is))
     (early_pair_step limits why.first x h g.flows.lawful (unswept_at old.agenda (task.EarlyEnd x) h top g.underway.unswept) is why.paired why.ended.framed why.ended.here)
-    (subst (λ (v : Agenda). Underway limits old.pairs v k) (sym ea) (underway_early limits old.pairs x (drop 1 old.agenda) h k (doom_leaves_work limits x cause.EarlyEnd h) (λ y l. (has_left (live h) x y l).1)
+    (rw ea (underway_early limits old.pairs x (drop 1 old.agenda) h k (doom_leaves_work limits x cause.EarlyEnd h) (λ y l. (has_left (live h) x y l).1)
     (λ y l m. doom_moves limits x y cause.EarlyEnd h g.flows.lawful l m) u)) g
 early_good limits old new x false flows h e top ea gives g =
     let A : Agenda → Type 0 = λ v. Underway limits old.pairs v h in
-    let u : Underway limits old.pairs (task.EarlyEnd x ∷ drop 1 old.agenda) h = subst A (top_is (task.EarlyEnd x) old.agenda top) g.underway in
+    let u : Underway limits old.pairs (task.EarlyEnd x ∷ drop 1 old.agenda) h = rw (← top_is (task.EarlyEnd x) old.agenda top) g.underway in
     let dead : has (live h) x ≡ false = sym (gives.is.0.goes limits h g.flows) in
-    good_of limits old new h h (only_moves old new flows e) refl (λ y. refl) (subst (λ (v : Flows). FlowsStand limits v h) (sym (flows_are old new flows e ∙ gives.is.1)) g.flows.stands) g.flows.lawful
-    (subst A (sym ea) (underway_early limits old.pairs x (drop 1 old.agenda) h h (leaves_same limits h) (λ y l. not_live (live h) x y dead l) (λ y l m. m) u)) g
+    good_of limits old new h h (only_moves old new flows e) refl (λ y. refl) (rw (flows_are old new flows e ∙ gives.is.1) g.flows.stands) g.flows.lawful
+    (rw ea (underway_early limits old.pairs x (drop 1 old.agenda) h h (leaves_same limits h) (λ y l. not_live (live h) x y dead l) (λ y l m. m) u)) g
 
 pub early_steps : (old new : PlainCore) (x : ℕ) (b : Bool) (flows : Flows) → HasFlows flows old new → OnTop (task.EarlyEnd x) old.agenda
     → new.agenda ≡ drop 1 old.agenda → GivesUp x cause.EarlyEnd old.flows b flows → Stepped old (doom_of b x cause.EarlyEnd) new
@@ -191,7 +185,7 @@ early_steps old new x b flows e top ea gives = record {
   spelled = doom_spelled b x cause.EarlyEnd;
   silent = doom_silent b x cause.EarlyEnd;
   goes = λ limits h g. early_good limits old new x b flows h e top ea gives g;
-  well = ap (λ (v : PlainCore). v.failed) e;
+  well = cc;
 }
 
 -- ---- the measure
@@ -204,22 +198,22 @@ module _ (old new : PlainCore) (x : ℕ) (flows : Flows) where
       → new.agenda ≡ after_end (get nat_cmp old.pairs x) old.agenda → left_in flows ≤ left_in old.flows → to_go new < to_go old
   end_less e top ea n =
       let w = weight_top (task.End x) old.agenda top in
-      let b = ap (λ (v : Agenda). sum_by weight v) (ea ∙ after_is (get nat_cmp old.pairs x) old.agenda) in
+      let b = ap (sum_by weight) (ea ∙ after_is (get nat_cmp old.pairs x) old.agenda) in
       let t = next_weight (get nat_cmp old.pairs x) (drop 1 old.agenda) in
-      let l = ap (λ (v : Flows). left_in v) (flows_are old new flows e) in
+      let l = ap left_in (flows_are old new flows e) in
       omega (arith, n, w, b, t, l)
 
   pub early_less : HasFlows flows old new → OnTop (task.EarlyEnd x) old.agenda
       → new.agenda ≡ drop 1 old.agenda → left_in flows ≤ left_in old.flows → to_go new < to_go old
   early_less e top ea n =
       let w = weight_top (task.EarlyEnd x) old.agenda top in
-      let b = ap (λ (v : Agenda). sum_by weight v) ea in
-      let l = ap (λ (v : Flows). left_in v) (flows_are old new flows e) in
+      let b = ap (sum_by weight) ea in
+      let l = ap left_in (flows_are old new flows e) in
       omega (arith, n, w, b, l)
 
 -- ---- what the functions answer
 flows_agenda : (old mid new : PlainCore) → mid ≡ record old { flows = mid.flows } → new ≡ record mid { agenda = new.agenda } → new ≡ record old { flows = mid.flows; agenda = new.agenda }
-flows_agenda old mid new e f = f ∙ ap (λ (v : PlainCore). record v { agenda = new.agenda }) e
+flows_agenda old mid new e f = cc
 
 module _ (old mid new : PlainCore) (before after : List Note) (x : ℕ) (b : Bool) (r : Written) where
   pub end_result : mid ≡ record old { flows = mid.flows } → new ≡ record mid { agenda = new.agenda }

@@ -1,21 +1,19 @@
 -- A core before its first event.
 use Rattle.plain_laws.proofs.Founding.{none_rests}
 use Rattle.proxy_config.specs.Ranges.{IsRoute}
-use Rattle.std.proofs.Common.{ap, inl, inr, refl, subst, sym}
-use Rattle.std.specs.BTreeMap.{get, is_at}
-use Rattle.std.specs.Map.{lookup}
+use Rattle.std.proofs.Common.{inl, inr, refl, sym}
+use Rattle.std.specs.BTreeMap.{get}
 use Rattle.std.specs.Ordering.{nat_cmp}
-use Rattle.std.specs.Prelude.{All, List, [], false, ℕ, ◌≡◌}
+use Rattle.std.specs.Prelude.{All, [], false, ℕ, ◌≡◌}
 use Rattle.tape_laws.specs.Dispatches.{is_some_of}
 use Rattle.tape_laws.specs.declared.limits.PlainLimits.{PlainLimits}
-use Rattle.plain_core.specs.Agenda.{Agenda}
 use Rattle.plain_core.specs.Flows.{Settled}
 use Rattle.plain_core.specs.Progress.{Pairs, Underway}
 use Rattle.plain_core.specs.Stands.{BooksAre, Rests}
 use Rattle.plain_core.specs.declared.plain.PlainCore.{PlainCore}
 
 none_there : (pairs : Pairs) (s x : ℕ) → pairs.entries ≡ [] → is_some_of (get nat_cmp pairs s) x ≡ false
-none_there pairs s x e = ap (λ (es : List (ℕ × ℕ)). is_some_of (lookup (is_at (nat_cmp s)) es) x) e
+none_there pairs s x e = cc
 
 first_books : (core : PlainCore) → core.turn ≡ 0 → core.pairs.entries ≡ [] → All IsRoute core.config.routes → BooksAre core []
 first_books core turn pairs routes = record { turn = turn; pairs = λ s x. sym (none_there core.pairs s x pairs); routes = routes }
@@ -34,7 +32,7 @@ pub core_rests : (limits : PlainLimits) (core : PlainCore) → Settled limits co
     → core.failed ≡ false → Rests limits core []
 core_rests limits core flows turn pairs routes idle well =
     record {
-      good = record { flows = flows; books = first_books core turn pairs routes; underway = subst (λ (v : Agenda). Underway limits core.pairs v []) (sym idle) (first_underway limits core.pairs) };
+      good = record { flows = flows; books = first_books core turn pairs routes; underway = rw idle (first_underway limits core.pairs) };
       whole = record { lawful = (none_rests limits).regular.lawful; quiet = (none_rests limits).quiet };
       idle = idle;
       well = well;

@@ -22,7 +22,6 @@ use Rattle.plain_core.proofs.Keeping.{cuts_more, flows_are, good_of, keeps_then,
 use Rattle.plain_core.proofs.UnderwayMoves.{rounded_next, underway_end_drain, underway_end_round, underway_frame, underway_same, unswept_rounded}
 use Rattle.plain_core.specs.Agenda.{Agenda, after_frame}
 use Rattle.plain_core.specs.Carries.{Frames, FramesAt, IsNextFrame, NextIs, NoNext}
-use Rattle.plain_core.specs.Flows.{FlowsStand}
 use Rattle.plain_core.specs.Measure.{left_in, of_frame, to_go, weight}
 use Rattle.plain_core.specs.Noting.{AppendsNotes, AppendsSome, low_of, pauses_of, rise_of}
 use Rattle.plain_core.specs.Progress.{Underway}
@@ -61,20 +60,17 @@ can_all (f ∷ fs) = (tt, can_all fs)
 
 pauses_each : (xs : List ℕ) → pauses_of (buffer.Write 0) (map request xs) ≡ map (λ y. note.Pause (request y) (buffer.Write 0)) xs
 pauses_each [] = refl
-pauses_each (x ∷ xs) = ap (λ (v : List Note). note.Pause (request x) (buffer.Write 0) ∷ v) (pauses_each xs)
+pauses_each (x ∷ xs) = cc (pauses_each xs)
 
 module _ (limits : PlainLimits) (next : NextFrame) (framed : Framed) (flows : Flows) (h : Past) where
   rise_is : FramesAt next framed limits flows h
       → rise_of framed.rose (buffer.Write 0) (watchers_of flows.gates (buffer.Write 0)) ≡ rise_notes limits next.exchange next.n next.last h
   rise_is s =
-      ap (λ (fs : List FlowId). rise_of framed.rose (buffer.Write 0) fs)
-      (s.stands.gates.write_watchers ∙ ap (λ (xs : List ℕ). map request xs) (frame_keeps_lists limits next.exchange next.n next.last h).lives)
-      ∙ ap (λ (ns : List Note). if framed.rose then ns else []) (pauses_each (live h))
-      ∙ ap (λ (b : Bool). if b then map (λ y. note.Pause (request y) (buffer.Write 0)) (live h) else []) s.rises
+      cc ((frame_keeps_lists limits next.exchange next.n next.last h).lives, pauses_each (live h))
 
   low_is : FramesAt next framed limits flows h
       → low_of framed.drained (request next.exchange) ≡ drain_notes limits next.exchange next.n next.last h
-  low_is s = ap (λ (b : Bool). low_of b (request next.exchange)) s.drains
+  low_is s = cc
 
   frame_noted : FramesAt next framed limits flows h
       → noted_frame next framed flows ≡ frame_notes limits next.exchange next.n next.last h
@@ -90,10 +86,10 @@ frame_good : (limits : PlainLimits) (old new : PlainCore) (flows : Flows) (next 
 frame_good limits old new flows next framed h e a g i s =
     let x = next.exchange in
     let k = past_frame limits x next.n next.last h in
-    good_of limits old new h k (only_moves old new flows e) (frame_keeps_lists limits x next.n next.last h).numbers (λ y. frame_paired limits x next.n next.last h y)
-    (subst (λ (v : Flows). FlowsStand limits v k) (sym (flows_are old new flows e)) s.stands)
+    good_of limits old new h k (only_moves old new flows e) (frame_keeps_lists limits x next.n next.last h).numbers (frame_paired limits x next.n next.last h)
+    (rw (flows_are old new flows e) s.stands)
     (frame_step limits x next.n next.last h g.flows.lawful (unswept_rounded old.agenda h (rounded_next limits old.pairs old.agenda next h i g.underway) g.underway.unswept) i.live i.low i.turn)
-    (subst (λ (v : Agenda). Underway limits old.pairs v k) (sym a) (underway_frame limits old.pairs old.agenda next framed h g.flows.lawful i s.drains g.books.pairs g.underway)) g
+    (rw a (underway_frame limits old.pairs old.agenda next framed h g.flows.lawful i s.drains g.books.pairs g.underway)) g
 
 pub frame_steps : (old new : PlainCore) (flows : Flows) (next : NextFrame) (framed : Framed) → HasFlows flows old new
     → new.agenda ≡ after_frame next framed old.agenda → IsNextFrame old.flows (Some next) → Frames next framed old.flows flows → Stepped old (noted_frame next framed flows) new
@@ -107,7 +103,7 @@ frame_steps old new flows next framed e a i s = record {
   goes = λ limits h g.
       let is : NextIs next limits h = i.goes limits h g.flows in
       let frames : FramesAt next framed limits flows h = s.goes limits h g.flows is in
-      subst (λ (v : List Note). Good limits new (onto v h)) (sym (frame_noted limits next framed flows h frames)) (frame_good limits old new flows next framed h e a g is frames);
+      rw (frame_noted limits next framed flows h frames) (frame_good limits old new flows next framed h e a g is frames);
   well = (only_moves old new flows e).well;
 }
 
@@ -116,15 +112,15 @@ pub rise_appends : (before after : List Note) (next : NextFrame) (framed : Frame
     → AppendsNotes before (note.Frame 0 f next.n next.last ∷ rise_of framed.rose (buffer.Write 0) (watchers_of flows.gates (buffer.Write 0))) after r
     → AppendsNotes before (noted_rise next framed flows) after r
 rise_appends before after next framed flows f r e a =
-    subst (λ (v : FlowId). AppendsNotes before (note.Frame 0 v next.n next.last ∷ rise_of framed.rose (buffer.Write 0) (watchers_of flows.gates (buffer.Write 0))) after r) e a
+    rw (← e) a
 
 pub frame_result : (old new : PlainCore) (before mid after : List Note) (flows : Flows) (next : NextFrame) (framed : Framed) (f : FlowId) (r : Written) → f ≡ request next.exchange
     → HasFlows flows old new → new.agenda ≡ after_frame next framed old.agenda → IsNextFrame old.flows (Some next) → Frames next framed old.flows flows
     → mid ≡ before ++ (note.Frame 0 f next.n next.last ∷ rise_of framed.rose (buffer.Write 0) (watchers_of new.flows.gates (buffer.Write 0)))
     → AppendsNotes mid (low_of framed.drained f) after r → OnOk r (Keeps old before new after) × Cuts old before after
 frame_result old new before mid after flows next framed f r is e a i s m n =
-    let first : mid ≡ before ++ noted_rise next framed flows = rise_appends before mid next framed flows f (Ok tt) is (subst (λ (v : Flows). mid ≡ before ++ (note.Frame 0 f next.n next.last ∷ rise_of framed.rose (buffer.Write 0) (watchers_of v.gates (buffer.Write 0)))) (flows_are old new flows e) m) in
-    let all = appends_both before (noted_rise next framed flows) (low_of framed.drained (request next.exchange)) mid after r first (subst (λ (v : FlowId). AppendsNotes mid (low_of framed.drained v) after r) is n) in
+    let first : mid ≡ before ++ noted_rise next framed flows = rise_appends before mid next framed flows f (Ok tt) is (rw (← flows_are old new flows e) m) in
+    let all = appends_both before (noted_rise next framed flows) (low_of framed.drained (request next.exchange)) mid after r first (rw (← is) n) in
     let st = frame_steps old new flows next framed e a i s in
     (keeps_result old new before (noted_frame next framed flows) after r all st, cuts_result old new before (noted_frame next framed flows) after r all st)
 
@@ -133,7 +129,7 @@ pub frame_cuts : (old new : PlainCore) (before after : List Note) (flows : Flows
     → AppendsSome before (note.Frame 0 f next.n next.last ∷ rise_of framed.rose (buffer.Write 0) (watchers_of new.flows.gates (buffer.Write 0))) after → Cuts old before after
 frame_cuts old new before after flows next framed f is e a i s n =
     cuts_front old new before (noted_frame next framed flows) after
-    (front_more before (noted_rise next framed flows) (low_of framed.drained (request next.exchange)) after (subst (λ (v : FlowId). AppendsSome before (note.Frame 0 v next.n next.last ∷ rise_of framed.rose (buffer.Write 0) (watchers_of flows.gates (buffer.Write 0))) after) is (subst (λ (v : Flows). AppendsSome before (note.Frame 0 f next.n next.last ∷ rise_of framed.rose (buffer.Write 0) (watchers_of v.gates (buffer.Write 0))) after) (flows_are old new flows e) n))) (frame_steps old new flows next framed e a i s)
+    (front_more before (noted_rise next framed flows) (low_of framed.drained (request next.exchange)) after (rw (← is) (subst (λ (v : Flows). AppendsSome before (note.Frame 0 f next.n next.last ∷ rise_of framed.rose (buffer.Write 0) (watchers_of v.gates (buffer.Write 0))) after) (flows_are old new flows e) n))) (frame_steps old new flows next framed e a i s)
 
 frame_sums : (last : Bool) (a b w v : ℕ) → a + (if last then 7 else 5) ≤ b → w ≤ (if last then 2 else 0) + (1 + v) → (a + w) + 2 ≤ b + v
 frame_sums true a b w v e f = omega arith
@@ -142,19 +138,19 @@ frame_sums false a b w v e f = omega arith
 pub frame_less : (old new : PlainCore) (flows : Flows) (next : NextFrame) (framed : Framed) → HasFlows flows old new
     → new.agenda ≡ after_frame next framed old.agenda → left_in flows + of_frame next ≤ left_in old.flows → to_go new + 2 ≤ to_go old
 frame_less old new flows next framed e a less =
-    let b = ap (λ (v : Agenda). sum_by weight v) a in
-    let l = ap (λ (v : Flows). left_in v) (flows_are old new flows e) in
+    let b = ap (sum_by weight) a in
+    let l = ap left_in (flows_are old new flows e) in
     let s = frame_sums next.last (left_in flows) (left_in old.flows) (sum_by weight (after_frame next framed old.agenda)) (sum_by weight old.agenda) less (weight_frame next framed old.agenda) in
     omega (arith, b, l, s)
 
 -- ---- nothing to frame
 no_next : (old : PlainCore) (next : Option NextFrame) (limits : PlainLimits) (h : Past) → next ≡ None → IsNextFrame old.flows next → Good limits old h → NoNext limits h
 no_next old next limits h e i g =
-    let j : IsNextFrame old.flows None = subst (λ (v : Option NextFrame). IsNextFrame old.flows v) e i in
+    let j : IsNextFrame old.flows None = rw (← e) i in
     j.goes limits h g.flows
 
 pub some_next : (old : PlainCore) (next : NextFrame) (found : Option NextFrame) → found ≡ Some next → IsNextFrame old.flows found → IsNextFrame old.flows (Some next)
-some_next old next found e i = subst (λ (v : Option NextFrame). IsNextFrame old.flows v) e i
+some_next old next found e i = rw (← e) i
 
 -- the task on top ends, and all else stays
 pub end_steps : (old new : PlainCore) (t : Task) → new ≡ record old { flows = old.flows; agenda = new.agenda } → OnTop t old.agenda → new.agenda ≡ drop 1 old.agenda
@@ -164,8 +160,8 @@ end_steps old new t e top a ends = record {
   silent = tt;
   goes = λ limits h g.
       good_of limits old new h h (only_moves old new old.flows e) refl (λ x. refl)
-      (subst (λ (v : Flows). FlowsStand limits v h) (sym (flows_are old new old.flows e)) g.flows.stands) g.flows.lawful
-      (subst (λ (v : Agenda). Underway limits old.pairs v h) (sym a) (ends limits h g (subst (λ (v : Agenda). Underway limits old.pairs v h) (top_is t old.agenda top) g.underway))) g;
+      (rw (flows_are old new old.flows e) g.flows.stands) g.flows.lawful
+      (rw a (ends limits h g (subst (λ (v : Agenda). Underway limits old.pairs v h) (top_is t old.agenda top) g.underway))) g;
   well = (only_moves old new old.flows e).well;
 }
 
@@ -190,8 +186,8 @@ pub end_less : (old new : PlainCore) (t : Task) → new ≡ record old { flows =
     → to_go new < to_go old
 end_less old new t e top a o =
     let w = one_weight t old.agenda top o in
-    let b = ap (λ (v : Agenda). sum_by weight v) a in
-    let l = ap (λ (v : Flows). left_in v) (flows_are old new old.flows e) in
+    let b = ap (sum_by weight) a in
+    let l = ap left_in (flows_are old new old.flows e) in
     omega (arith, w, b, l)
 
 -- ---- a connection is drained
@@ -216,11 +212,11 @@ pushed old a = record old { agenda = a }
 module _ (old : PlainCore) (a : Agenda) (next : NextFrame) (before : List Note) where
   pub drain_is_good : a ≡ task.Drain 0 ∷ old.agenda → IsNextFrame old.flows (Some next) → IsGood old before → IsGood (pushed old a) before
   drain_is_good e i g =
-      subst (λ (v : Agenda). IsGood (pushed old v) before) (sym e) (record { limits = g.limits; history = g.history; good = drain_good g.limits old next (onto before g.history) i g.good })
+      rw e (record { limits = g.limits; history = g.history; good = drain_good g.limits old next (onto before g.history) i g.good })
 
   drain_keeps : a ≡ task.Drain 0 ∷ old.agenda → IsNextFrame old.flows (Some next) → Keeps old before (pushed old a) before
   drain_keeps e i =
-      subst (λ (v : Agenda). Keeps old before (pushed old v) before) (sym e) (keeps_silent old (draining old) before (record { spelled = tt; silent = tt; goes = λ limits h g. drain_good limits old next h i g; well = refl }))
+      rw e (keeps_silent old (draining old) before (record { spelled = tt; silent = tt; goes = λ limits h g. drain_good limits old next h i g; well = refl }))
 
 pub drain_from_keeps : (old new : PlainCore) (a : Agenda) (next : NextFrame) (before after : List Note) (r : Written) → a ≡ task.Drain 0 ∷ old.agenda → IsNextFrame old.flows (Some next)
     → OnOk r (Keeps (pushed old a) before new after) → OnOk r (Keeps old before new after)
@@ -232,7 +228,7 @@ drain_from_cuts old a next before after e i k = cuts_more old (pushed old a) bef
 
 module _ (old new : PlainCore) where
   pub drain_from_less : (a : Agenda) (r : Written) → a ≡ task.Drain 0 ∷ old.agenda → OnOk r (to_go new + 2 ≤ to_go (pushed old a)) → OnOk r (to_go new < to_go old)
-  drain_from_less a (Ok u) e l = let b = ap (λ (v : Agenda). sum_by weight v) e in let w = sum_by-cons weight (task.Drain 0) old.agenda in omega (arith, l, b, w)
+  drain_from_less a (Ok u) e l = let b = ap (sum_by weight) e in let w = sum_by-cons weight (task.Drain 0) old.agenda in omega (arith, l, b, w)
   drain_from_less a (Err x) e l = tt
 
   pub drain_less : (r : Written) → OnOk r (to_go new + 2 ≤ to_go old) → OnOk r (to_go new < to_go old)

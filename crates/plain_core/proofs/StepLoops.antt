@@ -1,7 +1,7 @@
 -- Small steps one after the other, until nothing is under way, and the sweep after them.
 use Rattle.flow_notes.specs.declared.events.Event.{Event}
 use Rattle.flow_notes.specs.declared.notes.Note.{Note}
-use Rattle.std.proofs.Common.{refl, subst, sym}
+use Rattle.std.proofs.Common.{refl, sym}
 use Rattle.std.proofs.lemmas.List.{append-nil}
 use Rattle.std.specs.List.{slice_get}
 use Rattle.std.specs.Prelude.{List, None, Option, Some, [], length, ℕ, ◌++◌, ◌<◌, ◌∷◌, ◌≡◌}
@@ -21,7 +21,7 @@ pub keeps_none : (core : PlainCore) (notes : List Note) → Keeps core notes cor
 keeps_none core notes = record { appends = appends_none notes; spelled = λ s. s; events = λ h. refl; goes = λ limits h g. g; well = refl }
 
 pub cuts_same : (first old : PlainCore) (start before after : List Note) → Keeps first start old before → after ≡ before → Cuts first start after
-cuts_same first old start before after k e = subst (λ (v : List Note). Cuts first start v) (sym e) (cuts_keeps first old start before k)
+cuts_same first old start before after k e = rw e (cuts_keeps first old start before k)
 
 pub opened_good : (old new : PlainCore) (before after : List Note) (e : Event) → CanTake old e before → Opens old before e new after → IsGood new after
 opened_good old new before after e c o = record { limits = c.limits; history = c.history; good = o.goes c.limits c.history c.rests c.follows }
@@ -51,5 +51,5 @@ module _ (first old : PlainCore) (start before : List Note) (flows : Flows) (swe
 
 pub fewer : (x : ℕ) (swept : Option ℕ) (old new : Flows) → swept ≡ Some x → Sweeps swept old new → length new.exchanges.doomed < length old.exchanges.doomed
 fewer x swept old new some s =
-    let t : Sweeps (Some x) old new = subst (λ (v : Option ℕ). Sweeps v old new) some s in
+    let t : Sweeps (Some x) old new = rw (← some) s in
     t.less

@@ -8,11 +8,11 @@ use Rattle.plain_laws.proofs.Steps.{move_step}
 use Rattle.plain_laws.proofs.Streams.{not_both}
 use Rattle.plain_laws.specs.Settled.{Settled as IsSettledHistory}
 use Rattle.plain_laws.specs.StepNotes.{move_notes}
+use Rattle.std.proofs.lemmas.Bool.{ltb-true}
 use Rattle.std.proofs.Common.{ap, arith, refl, subst, sym, ◌∙◌}
-use Rattle.std.proofs.lemmas.Bool.Decides.{nat_tests}
 use Rattle.std.proofs.lemmas.List.{append-nil, drop_all}
 use Rattle.std.specs.List.{AllByRecursion, sum_by}
-use Rattle.std.specs.Prelude.{Bool, Err, List, Ok, OnOk, Option, Some, [], drop, false, if◌then◌else◌, length, min, nat_lt, true, ℕ, ◌+◌, ◌<◌, ◌∷◌, ◌≡◌, ◌≤◌}
+use Rattle.std.specs.Prelude.{Bool, Err, List, Ok, OnOk, Option, Some, [], drop, false, length, min, nat_lt, true, ℕ, ◌+◌, ◌<◌, ◌∷◌, ◌≡◌, ◌≤◌}
 use Rattle.plain_laws.specs.Words.{Past, Alive, past_move, recv_at}
 use Rattle.tape_laws.specs.Dispatches.{has, live}
 use Rattle.tape_laws.specs.Flows.{request}
@@ -48,12 +48,9 @@ use Rattle.plain_core.specs.Words.{HasFlows, OnTop, Written}
 -- ---- what is under way
 -- at the top of an agenda, what is under way with the task spelled out
 at_top : (limits : PlainLimits) (pairs : Pairs) (t : Task) (a : Agenda) (h : Past) → OnTop t a → Underway limits pairs a h → Underway limits pairs (t ∷ drop 1 a) h
-at_top limits pairs t a h e u = subst (λ (v : Agenda). Underway limits pairs v h) (top_is t a e) u
+at_top limits pairs t a h e u = rw (← top_is t a e) u
 
 -- a move of less than a quantum leaves nothing
-is_less : (m q : ℕ) → nat_lt m q ≡ true → m < q
-is_less m q e = grind (arith, nat_tests)
-
 all_of : (m q l : ℕ) → m ≡ min q l → m < q → l ≤ m
 all_of m q l e f = omega (arith, e, f)
 
@@ -61,7 +58,7 @@ all_moved : (limits : PlainLimits) (x n : ℕ) (h : Past) → n ≡ min limits.q
     → may_move limits x (past_move limits x n h) ≡ false
 all_moved limits x n h e f =
     may_not limits x (past_move limits x n h)
-    (move_recv limits x n h ∙ drop_all n (recv_at limits x h) (all_of n limits.quantum _ e (is_less n limits.quantum f)))
+    (move_recv limits x n h ∙ drop_all n (recv_at limits x h) (all_of n limits.quantum _ e (ltb-true n limits.quantum f)))
 
 -- the connection is drained, and the run ends where nothing is left to move
 move_underway : (limits : PlainLimits) (pairs : Pairs) (f : FlowId) (n : ℕ) (a : Agenda) (h : Past) (is_all : Bool) → IsSettledHistory limits h → OnTop (task.Run f) a
@@ -91,7 +88,7 @@ idle_underway limits old f h top g still =
 
 -- the outcome of a step, named
 steps_as : (x : ℕ) (did known : Outcome) (old new : Flows) → did ≡ known → Steps x did old new → Steps x known old new
-steps_as x did known old new e s = subst (λ (v : Outcome). Steps x v old new) e s
+steps_as x did known old new e s = rw (← e) s
 
 module _ (old new : PlainCore) where
   idle_steps : (flows : Flows) (f : FlowId) → HasFlows flows old new → OnTop (task.Run f) old.agenda → new.agenda ≡ drop 1 old.agenda
@@ -102,9 +99,8 @@ module _ (old new : PlainCore) where
     goes = λ limits h g.
         let idles : IdlesAt f.exchange limits flows h = s.goes limits h g.flows in
         good_of limits old new h h (only_moves old new flows e) refl (λ x. refl)
-        (subst (λ (v : Flows). FlowsStand limits v h) (sym (flows_are old new flows e)) idles.stands) g.flows.lawful
-        (subst (λ (v : Agenda). Underway limits old.pairs v h) (sym a)
-        (idle_underway limits old f h top g (λ x is lx m. not_both (has (live h) f.exchange) (ap (λ (v : FlowId). has (live h) v.exchange) is ∙ lx) idles.dead))) g;
+        (rw (flows_are old new flows e) idles.stands) g.flows.lawful
+        (rw a (idle_underway limits old f h top g (λ x is lx m. not_both (has (live h) f.exchange) (ap (λ (v : FlowId). has (live h) v.exchange) is ∙ lx) idles.dead))) g;
     well = (only_moves old new flows e).well;
   }
 
@@ -121,9 +117,8 @@ module _ (old new : PlainCore) where
     silent = tt;
     goes = λ limits h g.
         good_of limits old new h h (only_moves old new old.flows e) refl (λ x. refl)
-        (subst (λ (v : Flows). FlowsStand limits v h) (sym (flows_are old new old.flows e)) g.flows.stands) g.flows.lawful
-        (subst (λ (v : Agenda). Underway limits old.pairs v h) (sym a)
-        (idle_underway limits old f h top g (λ x is lx m. not_both (may_move limits x h) m (still_above limits x h g.flows.lawful lx (sym g.flows.stands.conn.above ∙ (sym held ∙ high)))))) g;
+        (rw (flows_are old new old.flows e) g.flows.stands) g.flows.lawful
+        (rw a (idle_underway limits old f h top g (λ x is lx m. not_both (may_move limits x h) m (still_above limits x h g.flows.lawful lx (sym g.flows.stands.conn.above ∙ (sym held ∙ high)))))) g;
     well = (only_moves old new old.flows e).well;
   }
 
@@ -145,8 +140,8 @@ stay_steps old new flows f e top a s = record {
   goes = λ limits h g.
       let stays : StaysAt f.exchange limits flows h = s.goes limits h g.flows in
       good_of limits old new h h (only_moves old new flows e) refl (λ x. refl)
-      (subst (λ (v : Flows). FlowsStand limits v h) (sym (flows_are old new flows e)) stays.stands) g.flows.lawful
-      (subst (λ (v : Agenda). Underway limits old.pairs v h) (sym a) (stay_underway limits old f h top g stays.still)) g;
+      (rw (flows_are old new flows e) stays.stands) g.flows.lawful
+      (rw a (stay_underway limits old f h top g stays.still)) g;
   well = (only_moves old new flows e).well;
 }
 
@@ -187,7 +182,7 @@ settled_of core notes g = record { limits = g.limits; history = onto notes g.his
 -- a frame goes next where the connection isn't drained
 pub undrained_next : (is_drained : Bool) (flows : Flows) (next : NextFrame) (found : Option NextFrame) → found ≡ Some next → IsNextUnless is_drained flows found → IsNextFrame flows (Some next)
 undrained_next true flows next found e i = cc
-undrained_next false flows next found e i = subst (λ (v : Option NextFrame). IsNextFrame flows v) e i
+undrained_next false flows next found e i = rw (← e) i
 
 pub still_less : (old new : PlainCore) (flows : Flows) (did : Outcome) (r : Written) → did ≡ outcome.Still → LessByStep did old.flows flows
     → OnOk r (to_go new < to_go (with_flows old flows)) → OnOk r (to_go new < to_go old)
@@ -200,7 +195,7 @@ still_less old new flows did (Ok u) still less l =
 -- the watchers of the send buffer of a live stream
 watched : (limits : PlainLimits) (x : ℕ) (flows : Flows) (h : Past) → FlowsStand limits flows h → Alive h x
     → watchers_of flows.gates (buffer.Send (request x)) ≡ request x ∷ []
-watched limits x flows h s l = s.gates.send_watchers x ∙ ap (λ b. if b then request x ∷ [] else []) l
+watched limits x flows h s l = cc (s.gates.send_watchers x)
 
 -- the notes of a move
 abbrev pub noted_move : ℕ → Moved → Flows → List Note
@@ -209,12 +204,11 @@ noted_move x m flows = note.Move (request x) 0 m.n ∷ rise_of m.rose (buffer.Se
 module _ (limits : PlainLimits) (x : ℕ) (m : Moved) (flows : Flows) (h : Past) where
   move_watched : MovesAt x m limits flows h → watchers_of flows.gates (buffer.Send (request x)) ≡ request x ∷ []
   move_watched s =
-      watched limits x flows (past_move limits x m.n h) s.stands (ap (λ (v : List ℕ). has v x) (move_keeps_lists limits x m.n h).lives ∙ s.live)
+      watched limits x flows (past_move limits x m.n h) s.stands (cc ((move_keeps_lists limits x m.n h).lives))
 
   move_noted : MovesAt x m limits flows h → noted_move x m flows ≡ move_notes limits x m.n h
   move_noted s =
-      ap (λ (fs : List FlowId). note.Move (request x) 0 m.n ∷ rise_of m.rose (buffer.Send (request x)) fs) (move_watched s)
-      ∙ ap (λ (b : Bool). note.Move (request x) 0 m.n ∷ (if b then note.Pause (request x) (buffer.Send (request x)) ∷ [] else [])) s.rises
+      cc (move_watched s)
 
 move_good : (limits : PlainLimits) (old new : PlainCore) (flows : Flows) (f : FlowId) (m : Moved) (h : Past) → HasFlows flows old new
     → OnTop (task.Run f) old.agenda → new.agenda ≡ after_move (nat_lt m.n flows.limits.quantum) old.agenda
@@ -222,11 +216,11 @@ move_good : (limits : PlainLimits) (old new : PlainCore) (flows : Flows) (f : Fl
 move_good limits old new flows f m h e top a g s =
     let x = f.exchange in
     let k = past_move limits x m.n h in
-    good_of limits old new h k (only_moves old new flows e) (move_keeps_lists limits x m.n h).numbers (λ y. move_paired limits x m.n h y)
-    (subst (λ (v : Flows). FlowsStand limits v k) (sym (flows_are old new flows e)) s.stands)
+    good_of limits old new h k (only_moves old new flows e) (move_keeps_lists limits x m.n h).numbers (move_paired limits x m.n h)
+    (rw (flows_are old new flows e) s.stands)
     (move_step limits x m.n h g.flows.lawful (unswept_at old.agenda (task.Run f) h top g.underway.unswept) s.live s.free s.some s.all)
     (subst (λ (v : Agenda). Underway limits old.pairs v k) (sym a) (move_underway limits old.pairs f m.n old.agenda h (nat_lt m.n flows.limits.quantum) g.flows.lawful top
-    (λ t. all_moved limits x m.n h s.all (ap (λ (v : PlainLimits). nat_lt m.n v.quantum) (sym s.stands.limits_are) ∙ t)) g.underway)) g
+    (λ t. all_moved limits x m.n h s.all (cc)) g.underway)) g
 
 pub move_steps : (old new : PlainCore) (before : List Note) (flows : Flows) (f : FlowId) (m : Moved) → HasFlows flows old new
     → OnTop (task.Run f) old.agenda → new.agenda ≡ after_move (nat_lt m.n flows.limits.quantum) old.agenda
@@ -236,7 +230,7 @@ move_steps old new before flows f m e top a s good = record {
   silent = (record { events = λ h. refl }, silent_rise m.rose (buffer.Send (request f.exchange)) (watchers_of flows.gates (buffer.Send (request f.exchange))));
   goes = λ limits h g.
       let moves : MovesAt f.exchange m limits flows h = s.goes limits h g.flows in
-      subst (λ (v : List Note). Good limits new (onto v h)) (sym (move_noted limits f.exchange m flows h moves)) (move_good limits old new flows f m h e top a g moves);
+      rw (move_noted limits f.exchange m flows h moves) (move_good limits old new flows f m h e top a g moves);
   well = (only_moves old new flows e).well;
 }
   where
@@ -244,13 +238,13 @@ move_steps old new before flows f m e top a s good = record {
     can =
         let h = onto before good.history in
         let moves : MovesAt f.exchange m good.limits flows h = s.goes good.limits h good.good.flows in
-        subst (AllByRecursion (λ g. CanPause g (buffer.Send (request f.exchange)))) (sym (move_watched good.limits f.exchange m flows h moves)) (refl, tt)
+        rw (move_watched good.limits f.exchange m flows h moves) (refl, tt)
 
 -- what the notes of the code are
 pub move_appends : (before after : List Note) (x : ℕ) (g : FlowId) (m : Moved) (flows : Flows) (r : Written) → g ≡ request x
     → AppendsNotes before (note.Move g 0 m.n ∷ rise_of m.rose (buffer.Send g) (watchers_of flows.gates (buffer.Send g))) after r → AppendsNotes before (noted_move x m flows) after r
 move_appends before after x g m flows r e a =
-    subst (λ (v : FlowId). AppendsNotes before (note.Move v 0 m.n ∷ rise_of m.rose (buffer.Send v) (watchers_of flows.gates (buffer.Send v))) after r) e a
+    rw (← e) a
 
 -- ---- the measure
 -- the run ends, and nothing is more
@@ -259,8 +253,8 @@ module _ (old new : PlainCore) (flows : Flows) (f : FlowId) where
       → OnTop (task.Run f) old.agenda → new.agenda ≡ drop 1 old.agenda → to_go new < to_go old
   rest_less n e top a =
       let w = weight_top (task.Run f) old.agenda top in
-      let b = ap (λ (v : Agenda). sum_by weight v) a in
-      let l = ap (λ (v : Flows). left_in v) (flows_are old new flows e) in
+      let b = ap (sum_by weight) a in
+      let l = ap left_in (flows_are old new flows e) in
       omega (arith, n, w, b, l)
 
   pub idle_less : (did : Outcome) → did ≡ outcome.NotLive → HasFlows flows old new
@@ -276,8 +270,8 @@ pub move_less : (old new : PlainCore) (flows : Flows) (did : Outcome) (m : Moved
 move_less old new flows did m some e a less =
     let n : left_in flows + 4 ≤ left_in old.flows = subst (λ (v : Outcome). LessByStep v old.flows flows) some less in
     let t = weight_move (nat_lt m.n flows.limits.quantum) old.agenda in
-    let b = ap (λ (v : Agenda). sum_by weight v) a in
-    let l = ap (λ (v : Flows). left_in v) (flows_are old new flows e) in
+    let b = ap (sum_by weight) a in
+    let l = ap left_in (flows_are old new flows e) in
     omega (arith, n, t, b, l)
 
 pub move_result : (old new : PlainCore) (before after : List Note) (flows : Flows) (f g : FlowId) (did : Outcome) (m : Moved) (r : Written) → g ≡ request f.exchange
@@ -287,5 +281,5 @@ pub move_result : (old new : PlainCore) (before after : List Note) (flows : Flow
     → OnOk r (Keeps old before new after) × Cuts old before after
 move_result old new before after flows f g did m r is some e top a s good n =
     let st = move_steps old new before flows f m e top a (steps_as f.exchange did (outcome.Moved m) old.flows flows some s) good in
-    let all = move_appends before after f.exchange g m flows r is (subst (λ (v : Flows). AppendsNotes before (note.Move g 0 m.n ∷ rise_of m.rose (buffer.Send g) (watchers_of v.gates (buffer.Send g))) after r) (flows_are old new flows e) n) in
+    let all = move_appends before after f.exchange g m flows r is (rw (← flows_are old new flows e) n) in
     (keeps_result old new before (noted_move f.exchange m flows) after r all st, cuts_result old new before (noted_move f.exchange m flows) after r all st)

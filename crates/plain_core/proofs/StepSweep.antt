@@ -3,7 +3,7 @@ use Rattle.flow_notes.specs.declared.notes.Note.{Note}
 use Rattle.plain_laws.proofs.Keepings.{gone_keeps, gone_keeps_write}
 use Rattle.plain_laws.proofs.Readiness.{keeps_ready}
 use Rattle.plain_laws.proofs.Steps.{gone_step}
-use Rattle.std.proofs.Common.{ap, inl, inr, refl, subst, sym, ◌∙◌}
+use Rattle.std.proofs.Common.{inl, inr, refl, subst, ◌∙◌}
 use Rattle.std.specs.List.{list_any}
 use Rattle.std.specs.Prelude.{List, None, Option, Some, [], false, true, ℕ, ◌∷◌, ◌≡◌, ◌⊎◌}
 use Rattle.plain_laws.specs.Next.{is_ready}
@@ -19,7 +19,6 @@ use Rattle.plain_core.specs.Progress.{HasFramed, Pairs, Underway}
 use Rattle.plain_core.specs.Runs.{IsGood, Keeps}
 use Rattle.plain_core.specs.declared.flows.Flows.{Flows}
 use Rattle.plain_core.specs.declared.plain.PlainCore.{PlainCore}
-use Rattle.flow_gate.specs.declared.ids.BufferId.TheVariants as buffer
 use Rattle.flow_notes.specs.declared.notes.Note.TheVariants as note
 use Rattle.plain_core.specs.Words.{HasFlows}
 
@@ -64,9 +63,9 @@ sweep_steps old new x flows swept some e same idle sweeps = record {
   goes = λ limits h g.
       let s = sweeps_at x swept old.flows flows limits h some (sweeps.goes limits h g.flows) in
       let k = Noted (note.Gone x) ∷ h in
-      good_of limits old new h k (only_moves old new flows e) refl (λ y. refl) (subst (λ (v : Flows). FlowsStand limits v k) (sym (ap (λ (v : PlainCore). v.flows) e)) s.stands) (gone_step limits x s.rest h g.flows.lawful s.first)
-      (subst (λ (v : Agenda). Underway limits old.pairs v k) (sym (same ∙ idle)) (underway_gone limits old.pairs x h (subst (λ (v : Agenda). Underway limits old.pairs v h) idle g.underway))) g;
-  well = ap (λ (v : PlainCore). v.failed) e;
+      good_of limits old new h k (only_moves old new flows e) refl (λ y. refl) (subst (λ (v : Flows). FlowsStand limits v k) (cc) s.stands) (gone_step limits x s.rest h g.flows.lawful s.first)
+      (rw (same ∙ idle) (underway_gone limits old.pairs x h (subst (λ (v : Agenda). Underway limits old.pairs v h) idle g.underway))) g;
+  well = cc;
 }
 
 -- nothing is doomed any more
@@ -85,8 +84,8 @@ none_steps old new flows swept none e same sweeps = record {
   silent = tt;
   goes = λ limits h g.
       let n = none_at swept old.flows flows limits h none (sweeps.goes limits h g.flows) in
-      good_of limits old new h h (only_moves old new flows e) refl (λ y. refl) (subst (λ (v : Flows). FlowsStand limits v h) (sym (ap (λ (v : PlainCore). v.flows) e)) n.stands) g.flows.lawful (subst (λ (v : Agenda). Underway limits old.pairs v h) (sym same) g.underway) g;
-  well = ap (λ (v : PlainCore). v.failed) e;
+      good_of limits old new h h (only_moves old new flows e) refl (λ y. refl) (subst (λ (v : Flows). FlowsStand limits v h) (cc) n.stands) g.flows.lawful (rw same g.underway) g;
+  well = cc;
 }
 
 -- a core that goes on is still good

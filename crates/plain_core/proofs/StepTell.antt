@@ -3,7 +3,7 @@ use Rattle.flow_gate.specs.Board.{pending_on}
 use Rattle.flow_gate.specs.declared.ids.FlowId.{FlowId}
 use Rattle.flow_notes.specs.declared.notes.Note.{Note}
 use Rattle.plain_laws.specs.Regular.{IsLiveFlow}
-use Rattle.std.proofs.Common.{ap, arith, refl, subst, sym, ◌∙◌}
+use Rattle.std.proofs.Common.{ap, arith, refl, sym, ◌∙◌}
 use Rattle.std.proofs.Math.Seq.{take-append_seam}
 use Rattle.std.proofs.lemmas.List.{append-nil, length-append}
 use Rattle.std.specs.List.{AllByRecursion, sum_by}
@@ -22,7 +22,6 @@ use Rattle.plain_core.specs.Carries.{IsStill, Tells, Wakes}
 use Rattle.plain_core.specs.Flows.{FlowsStand, Settled}
 use Rattle.plain_core.specs.Measure.{left_in, to_go, weight}
 use Rattle.plain_core.specs.Noting.{AppendsSome, resumes_of}
-use Rattle.plain_core.specs.Progress.{Underway}
 use Rattle.plain_core.specs.Runs.{AreSpelled, Cuts, Keeps}
 use Rattle.plain_core.specs.Telling.{TellsUpTo}
 use Rattle.plain_core.specs.declared.flows.Flows.{Flows}
@@ -73,15 +72,15 @@ module _ (old new : PlainCore) (before after : List Note) (flows : Flows) (told 
             let lows : conn_lows limits h ≡ fs ++ u.is.rest = sym g.flows.stands.gates.write_pending ∙ u.is.whole in
             let is : AreTold limits fs u.is.rest h (with_all_told fs h) = are_told limits fs u.is.rest h g.flows.lawful fresh lows in
             let first : take told.n (conn_lows limits h) ≡ fs =
-            ap (λ (v : List FlowId). take told.n v) lows ∙ ap (λ (n : ℕ). take n (fs ++ u.is.rest)) u.is.number ∙ take-append_seam fs u.is.rest in
+            cc (take-append_seam fs u.is.rest) in
             let stands : FlowsStand limits flows (with_all_told fs h) =
-            (subst (λ (v : List FlowId). FlowsStand limits flows (with_all_told v h)) first (tells.goes limits h g.flows fresh)) in
+            (rw (← first) (tells.goes limits h g.flows fresh)) in
             let live : AllByRecursion (IsLiveFlow (live h)) u.is.still =
-            (front_live (IsLiveFlow (live h)) u.is.still (option_to_list told.next) u.is.rest (subst (AllByRecursion (IsLiveFlow (live h))) lows g.flows.lawful.regular.books.write_lows)) in
+            (front_live (IsLiveFlow (live h)) u.is.still (option_to_list told.next) u.is.rest (rw (← lows) g.flows.lawful.regular.books.write_lows)) in
             good_of limits old new h (with_all_told fs h) (only_moves old new flows e) is.lists.numbers is.paired
-            (subst (λ (v : Flows). FlowsStand limits v (with_all_told fs h)) (sym (flows_are old new flows e)) stands)
+            (rw (flows_are old new flows e) stands)
             is.settled
-            (subst (λ (v : Agenda). Underway limits old.pairs v (with_all_told fs h)) (sym a) (underway_telling limits old.pairs c old.agenda u.is.still told.next u.is.rest h g.flows.lawful lows u.is.last top
+            (rw a (underway_telling limits old.pairs c old.agenda u.is.still told.next u.is.rest h g.flows.lawful lows u.is.last top
             (rounded_at limits old.pairs (task.Tell c) old.agenda h top g.underway) (still_of limits old.flows u.is.still h g.flows live u.is.stay) g.underway)) g;
         well = (only_moves old new flows e).well;
       }
@@ -97,7 +96,7 @@ told_first : (old : Flows) (before after : List Note) (told : Told) (u : TellsUp
     → length (take told.n (pending_on old.gates (buffer.Write 0))) ≡ length (u.is.still ++ option_to_list told.next)
 told_first old before after told u =
     let fs = u.is.still ++ option_to_list told.next in
-    ap (λ (v : List FlowId). length (take told.n v)) u.is.whole ∙ ap (λ (n : ℕ). length (take n (fs ++ u.is.rest))) u.is.number ∙ ap (λ (v : List FlowId). length v) (take-append_seam fs u.is.rest)
+    ap (λ (v : List FlowId). length (take told.n v)) u.is.whole ∙ ap (λ (n : ℕ). length (take n (fs ++ u.is.rest))) u.is.number ∙ ap length (take-append_seam fs u.is.rest)
 
 told_some : (fs : List FlowId) (f : FlowId) → 1 ≤ length (fs ++ f ∷ [])
 told_some fs f = let n = length-append fs (f ∷ []) in omega (arith, n)
@@ -107,11 +106,11 @@ tell_weight : (a b : Agenda) (c : ℕ) (next : Option FlowId) (fs : List FlowId)
 tell_weight a b c (Some f) fs l m top e n =
     let s = told_some fs f in
     let w = weight_run f a in
-    let g = ap (λ (v : Agenda). sum_by weight v) e in
+    let g = ap (sum_by weight) e in
     omega (arith, n, s, w, g)
 tell_weight a b c None fs l m top e n =
     let w = weight_top (task.Tell c) a top in
-    let g = ap (λ (v : Agenda). sum_by weight v) e in
+    let g = ap (sum_by weight) e in
     omega (arith, n, w, g)
 
 module _ (old new : PlainCore) (before after : List Note) (flows : Flows) (told : Told) where
@@ -120,9 +119,9 @@ module _ (old new : PlainCore) (before after : List Note) (flows : Flows) (told 
       → TellsUpTo old.flows before told after → to_go new < to_go old
   tell_less c e top a n u =
       let t = told_first old.flows before after told u in
-      let k : left_in flows + 4 * length (u.is.still ++ option_to_list told.next) ≤ left_in old.flows = (subst (λ (v : ℕ). left_in flows + 4 * v ≤ left_in old.flows) t n) in
+      let k : left_in flows + 4 * length (u.is.still ++ option_to_list told.next) ≤ left_in old.flows = (rw (← t) n) in
       let w = tell_weight old.agenda new.agenda c told.next u.is.still (left_in flows) (left_in old.flows) top a k in
-      let l = ap (λ (v : Flows). left_in v) (flows_are old new flows e) in
+      let l = ap left_in (flows_are old new flows e) in
       omega (arith, w, l)
 
   -- ---- the one that goes on is run, where memory isn't refused
@@ -130,16 +129,16 @@ module _ (old new : PlainCore) (before after : List Note) (flows : Flows) (told 
       → OnTop (task.Tell c) old.agenda → told.next ≡ Some f → OnOk r (new.agenda ≡ with_run f old.agenda) → Tells told.n old.flows flows → TellsUpTo old.flows before told after
       → OnOk r (Keeps old before new after)
   run_keeps f c (Ok k) e top some a tells u =
-      tell_keeps old new before after flows told c e top (a ∙ ap (λ (v : Option FlowId). after_telling v old.agenda) (sym some)) tells u
+      tell_keeps old new before after flows told c e top (cc) tells u
   run_keeps f c (Err k) e top some a tells u = tt
 
   pub run_less : (f : FlowId) (c : ℕ) (r : Written) → HasFlows flows old new
       → OnTop (task.Tell c) old.agenda → told.next ≡ Some f → OnOk r (new.agenda ≡ with_run f old.agenda)
       → left_in flows + 4 * length (take told.n (pending_on old.flows.gates (buffer.Write 0))) ≤ left_in old.flows → TellsUpTo old.flows before told after → OnOk r (to_go new < to_go old)
   run_less f c (Ok k) e top some a n u =
-      tell_less c e top (a ∙ ap (λ (v : Option FlowId). after_telling v old.agenda) (sym some)) n u
+      tell_less c e top (cc) n u
   run_less f c (Err k) e top some a n u = tt
 
 -- none is left to be told
 pub none_goes_on : (a b : Agenda) (next : Option FlowId) → next ≡ None → b ≡ drop 1 a → b ≡ after_telling next a
-none_goes_on a b next none e = e ∙ ap (λ (v : Option FlowId). after_telling v a) (sym none)
+none_goes_on a b next none e = cc

@@ -14,7 +14,7 @@ use Rattle.std.proofs.Common.{ap, arith, refl, subst, sym, ◌∙◌}
 use Rattle.std.proofs.lemmas.Bool.Decides.{nat_tests}
 use Rattle.std.proofs.lemmas.List.Sums.{sum_by-cons}
 use Rattle.std.specs.List.{AllByRecursion}
-use Rattle.std.specs.Prelude.{Bool, List, [], cond, drop, false, true, ℕ, ◌&&◌, ◌++◌, ◌+◌, ◌==◌, ◌∷◌, ◌≡◌}
+use Rattle.std.specs.Prelude.{Bool, List, [], cond, false, true, ℕ, ◌&&◌, ◌++◌, ◌+◌, ◌==◌, ◌∷◌, ◌≡◌}
 use Rattle.tape_laws.specs.Dispatches.{live}
 use Rattle.tape_laws.specs.Flows.{request, same_flow}
 use Rattle.tape_laws.specs.History.{Noted, onto}
@@ -43,7 +43,7 @@ module _ (limits : PlainLimits) (f : FlowId) (rest : List FlowId) (h : Past) whe
       → conn_lows limits h ≡ f ∷ rest → Settled limits (with_told f h)
   tell_settled s fresh first =
       let is = (first_is s first).is in
-      subst (λ (g : FlowId). Settled limits (with_told g h)) (sym is) (tell_step limits f.exchange rest h s fresh (first ∙ ap (λ (g : FlowId). g ∷ rest) is))
+      subst (λ (g : FlowId). Settled limits (with_told g h)) (sym is) (tell_step limits f.exchange rest h s fresh (cc))
 
 -- what stays, and what is told of
 pub record AreTold (limits : PlainLimits) (fs rest : List FlowId) (h k : Past) : Type 0 where
@@ -115,5 +115,5 @@ are_told limits [] rest h s fresh e = none_told limits rest h s e
 are_told limits (f ∷ fs) rest h s fresh e =
     let is = (first_is limits f (fs ++ rest) h s e).is in
     let next : Settled limits (with_told f h) = tell_settled limits f (fs ++ rest) h s fresh e in
-    let all : AreTold limits fs rest (with_told f h) (with_all_told fs (with_told f h)) = are_told limits fs rest (with_told f h) next refl (ap (λ (v : List FlowId). drop 1 v) e) in
-    subst (λ (g : FlowId). AreTold limits (g ∷ fs) rest h (with_all_told fs (with_told f h))) (sym is) (more_told limits f.exchange fs rest h (with_all_told fs (with_told f h)) s (e ∙ ap (λ (g : FlowId). g ∷ (fs ++ rest)) is) (subst (λ (g : FlowId). AreTold limits fs rest (with_told g h) (with_all_told fs (with_told f h))) is all))
+    let all : AreTold limits fs rest (with_told f h) (with_all_told fs (with_told f h)) = are_told limits fs rest (with_told f h) next refl (cc) in
+    subst (λ (g : FlowId). AreTold limits (g ∷ fs) rest h (with_all_told fs (with_told f h))) (sym is) (more_told limits f.exchange fs rest h (with_all_told fs (with_told f h)) s (cc) (subst (λ (g : FlowId). AreTold limits fs rest (with_told g h) (with_all_told fs (with_told f h))) is all))

@@ -1,22 +1,18 @@
 -- Flows that a turn note leaves as they were.
 use Rattle.flow_notes.specs.declared.events.PlainEvent.{PlainEvent}
 use Rattle.plain_laws.proofs.Flags.{send_same, write_same}
-use Rattle.plain_laws.specs.Next.{unit_of}
 use Rattle.exchange_core.specs.declared.exchange.Exchange.{Exchange}
-use Rattle.std.proofs.Common.{ap, refl, sym, ◌∙◌}
-use Rattle.std.specs.Prelude.{Bool, None, Option, false, if◌then◌else◌, length, true, ℕ, ◌∷◌, ◌≡◌}
-use Rattle.plain_laws.specs.Words.{Past, Alive, end_out, recv_at, send_at, turn_of}
+use Rattle.std.proofs.Common.{refl, sym, ◌∙◌}
+use Rattle.std.specs.Prelude.{Bool, None, Option, false, if◌then◌else◌, true, ℕ, ◌∷◌, ◌≡◌}
+use Rattle.plain_laws.specs.Words.{Past, Alive, turn_of}
 use Rattle.tape_laws.specs.Dispatches.{has, live}
-use Rattle.tape_laws.specs.Ends.{end_framed}
 use Rattle.tape_laws.specs.Flows.{request}
 use Rattle.tape_laws.specs.History.{NoMark, Step}
 use Rattle.tape_laws.specs.Plain.{plain_ended}
 use Rattle.tape_laws.specs.declared.limits.PlainLimits.{PlainLimits}
-use Rattle.plain_core.specs.Flows.{ConnectionIs, FlowsStand, GatesAre, StreamIs, next_piece, piece_of}
+use Rattle.plain_core.specs.Flows.{ConnectionIs, FlowsStand, GatesAre, StreamIs, next_piece}
 use Rattle.exchange_core.specs.declared.step.Piece.{Piece}
 use Rattle.plain_core.specs.declared.flows.Flows.{Flows}
-use Rattle.flow_notes.specs.declared.events.Event.TheVariants as event
-use Rattle.flow_notes.specs.declared.notes.Note.TheVariants as note
 use Rattle.plain_core.proofs.FlowHolds.{holding_kept}
 
 abbrev pub turned : ℕ → PlainEvent → Step NoMark
@@ -42,7 +38,7 @@ module _ (limits : PlainLimits) (x k : ℕ) (e : PlainEvent) (h : Past) where
   turn_piece : plain_ended x (turned k e ∷ h) ≡ plain_ended x h
       → next_piece limits x (turned k e ∷ h) ≡ next_piece limits x h
   turn_piece same =
-      ap (λ b. piece_of (unit_of limits.quantum b (end_out limits x h) (length (recv_at limits x h)) (length (send_at limits x h)))) same
+      cc
 
 live_if : (a : Bool) (b c : Option Piece) → (a ≡ true → b ≡ c) → (if a then c else None) ≡ (if a then b else None)
 live_if true b c f = sym (f refl)

@@ -1,4 +1,5 @@
 -- What is under way, from one history to the next.
+use Rattle.std.proofs.lemmas.Bool.{and_parts, or_left, or_right, and_parts as and_is}
 use Rattle.plain_laws.proofs.Unswept.{frame_unswept, move_unswept}
 use Rattle.plain_laws.specs.Words.{Past, Alive, conn_high, conn_lows, end_out, frame_of, past_frame, past_move, recv_at, send_drains}
 use Rattle.tape_laws.specs.Doomed.{is_swept}
@@ -7,7 +8,7 @@ use Rattle.plain_laws.proofs.Counting.{one_if}
 use Rattle.plain_laws.proofs.Counts.{frame_count, move_count}
 use Rattle.plain_laws.proofs.Pairing.{must_frame_is}
 use Rattle.plain_laws.proofs.Rotation.{next_is_unit, none_next}
-use Rattle.plain_laws.proofs.Streams.{both_of, by_case, not_both, number_is, or_left, or_right, own_or_other}
+use Rattle.plain_laws.proofs.Streams.{by_case, not_both, number_is, own_or_other}
 use Rattle.plain_laws.specs.Next.{is_ready}
 use Rattle.plain_laws.specs.Settled.{Settled}
 use Rattle.std.proofs.Common.{ap, arith, inl, inr, length-drop, refl, subst, sym, ◌∙◌}
@@ -31,11 +32,8 @@ use Rattle.plain_core.specs.Progress.{EndedHere, HasFramed, HasReason, Pairs, Un
 use Rattle.plain_core.specs.declared.agenda.Task.{Task}
 use Rattle.plain_core.specs.declared.flows.Framed.{Framed}
 use Rattle.plain_core.specs.declared.flows.NextFrame.{NextFrame}
-use Rattle.flow_gate.specs.declared.ids.BufferId.TheVariants as buffer
-use Rattle.flow_notes.specs.declared.notes.Note.TheVariants as note
 use Rattle.plain_core.specs.declared.agenda.Task.TheVariants as task
 use Rattle.plain_core.specs.Words.{OnTop}
-use Rattle.plain_laws.proofs.Streams.{both_of as and_is}
 
 -- where something is under way, the round is at the bottom
 module _ (limits : PlainLimits) (pairs : Pairs) (t : Task) where
@@ -44,7 +42,7 @@ module _ (limits : PlainLimits) (pairs : Pairs) (t : Task) where
 
   pub rounded_at : (a : Agenda) (h : Past) → OnTop t a → Underway limits pairs a h → is_rounded a ≡ true
   rounded_at a h top u =
-      subst (λ (v : Agenda). is_rounded v ≡ true) (sym (top_is t a top)) (rounded_top (drop 1 a) h (subst (λ (v : Agenda). Underway limits pairs v h) (top_is t a top) u))
+      rw (top_is t a top) (rounded_top (drop 1 a) h (subst (λ (v : Agenda). Underway limits pairs v h) (top_is t a top) u))
 
 -- ---- the ends that were framed, and what they doom
 pub record KeepsEnds (limits : PlainLimits) (old new : Past) : Type 0 where
@@ -54,7 +52,7 @@ pub record KeepsEnds (limits : PlainLimits) (old new : Past) : Type 0 where
 
 module _ (limits : PlainLimits) where
   ended_kept : (s : ℕ) (h k : Past) → KeepsEnds limits h k → EndedHere limits s h → EndedHere limits s k
-  ended_kept s h k e r = record { framed = e.framed s r.framed; here = ap (λ (v : Past). end_out limits s v) e.before ∙ r.here }
+  ended_kept s h k e r = record { framed = e.framed s r.framed; here = cc }
 
   reason_kept : (t : Task) (h k : Past) → KeepsEnds limits h k → HasReason limits h t → HasReason limits k t
   reason_kept task.Round h k e r = tt
@@ -62,7 +60,7 @@ module _ (limits : PlainLimits) where
   reason_kept (task.Tell c) h k e r = tt
   reason_kept (task.Run f) h k e r = tt
   reason_kept (task.End s) h k e r = ended_kept s h k e r
-  reason_kept (task.EarlyEnd x) h k e r = record { first = r.first; paired = ap (λ (v : List ℕ). has v r.first) (e.paired x) ∙ r.paired; ended = ended_kept r.first h k e r.ended }
+  reason_kept (task.EarlyEnd x) h k e r = record { first = r.first; paired = cc (e.paired x); ended = ended_kept r.first h k e r.ended }
 
   pub reasons_kept : (a : Agenda) (h k : Past) → KeepsEnds limits h k → AllByRecursion (HasReason limits h) a → AllByRecursion (HasReason limits k) a
   reasons_kept [] h k e r = tt
@@ -188,13 +186,13 @@ some_more m n l e = grind (arith, nat_tests)
 pub moves_back : (limits : PlainLimits) (x : ℕ) (h k : Past) → (count (request x) k ≡ 0 → count (request x) h ≡ 0)
     → length (recv_at limits x k) ≤ length (recv_at limits x h) → may_move limits x k ≡ true → may_move limits x h ≡ true
 moves_back limits x h k c l m =
-    let p = both_of (count (request x) k == 0) (nat_lt 0 (length (recv_at limits x k))) m in
+    let p = and_parts (count (request x) k == 0) (nat_lt 0 (length (recv_at limits x k))) m in
     both (count (request x) h == 0) (nat_lt 0 (length (recv_at limits x h))) (is_zero (count (request x) h) (c (number_is (count (request x) k) 0 p.0)))
     (some_more _ _ l p.1)
 
 -- ---- a move
 live_of : (h k : Past) (x : ℕ) → live k ≡ live h → Alive k x → Alive h x
-live_of h k x e l = ap (λ (v : List ℕ). has v x) (sym e) ∙ l
+live_of h k x e l = cc
 
 pub move_leaves_work : (limits : PlainLimits) (x n : ℕ) (h : Past) → LeavesWork limits h (past_move limits x n h)
 move_leaves_work limits x n h = record {
@@ -222,7 +220,7 @@ module _ (limits : PlainLimits) (x : ℕ) where
   pub moves_after_move : (y n : ℕ) (h : Past) → Settled limits h → Alive h y → may_move limits y (past_move limits x n h) ≡ true
       → may_move limits y h ≡ true
   moves_after_move y n h s l m =
-      moves_back limits y h (past_move limits x n h) (λ e. was_none _ _ _ (move_count limits x y n h s l) e)
+      moves_back limits y h (past_move limits x n h) (was_none _ _ _ (move_count limits x y n h s l))
       (own_or_other (λ v. length (recv_at limits v (past_move limits x n h)) ≤ length (recv_at limits v h)) x y
       (shorter _ _ n (move_recv limits x n h)) (λ d. same_length _ _ (move_keeps limits x n h y d).recv)) m
 
@@ -248,7 +246,7 @@ pub moves_after_frame : (limits : PlainLimits) (x y n : ℕ) (last : Bool) (h : 
     → ((x == y) && send_drains limits x (frame_of x n last) h) ≡ false
     → may_move limits y (past_frame limits x n last h) ≡ true → may_move limits y h ≡ true
 moves_after_frame limits x y n last h s lx ly d m =
-    moves_back limits y h (past_frame limits x n last h) (λ e. none_left _ _ _ _ (frame_count limits x y n last h s lx ly) (ap one_if d) e)
+    moves_back limits y h (past_frame limits x n last h) (none_left _ _ _ _ (frame_count limits x y n last h s lx ly) (ap one_if d))
     (own_or_other (λ v. length (recv_at limits v (past_frame limits x n last h)) ≤ length (recv_at limits v h)) x y
     (same_length _ _ (frame_recv limits x n last h)) (λ e. same_length _ _ (frame_keeps limits x n last h y e).recv)) m
 
@@ -266,8 +264,7 @@ module _ (limits : PlainLimits) (pairs : Pairs) (a : Agenda) (next : NextFrame) 
       let x = next.exchange in
       let w = send_drains limits x (frame_of x next.n next.last) h in
       by_case ((x == y) && w)
-      (λ e. subst (λ (v : ℕ). list_any (is_run_of (request v)) (after_frame next framed a) ≡ true) (number_is x y (and_is (x == y) w e).0)
-      (drained_runs next framed a (drained ∙ (and_is (x == y) w e).1)))
+      (λ e. rw (← number_is x y (and_is (x == y) w e).0) (drained_runs next framed a (drained ∙ (and_is (x == y) w e).1)))
       (λ d. (runs_frame next framed a).runs (request y) (u.runs y ly (moves_after_frame limits x y next.n next.last h s lx ly d m)))
 
   -- the write buffer isn't above, and its turn is that of a flow: the round isn't over
@@ -314,7 +311,7 @@ underway_frame limits pairs a next framed h s i drained books u =
       tells = elim u.tells as (λ s. (conn_lows limits k ≡ []) ⊎ (list_any (is_telling 0) (after_frame next framed a) ≡ true))
           [ inl e ↦ inl (frame_write_lows limits x next.n next.last h ∙ e) | inr e ↦ inr ((holds_frame next framed a).tells e) ];
       ends = λ y l e. frame_ends limits pairs a next framed y h books (lives y l) u e;
-      reasons = frame_reasons next framed a limits k (λ last. ended_now limits x next.n next.last h s i.live last)
+      reasons = frame_reasons next framed a limits k (ended_now limits x next.n next.last h s i.live)
           (reasons_kept limits a h k (frame_keeps_ends limits x next.n next.last h) u.reasons);
       unswept = inr (frame_unswept limits x next.n next.last h);
       rested = inl ((holds_frame next framed a).rounds (rounded_next limits pairs a next h i u));

@@ -4,7 +4,7 @@ use Rattle.flow_notes.specs.declared.notes.Note.{Note}
 use Rattle.plain_laws.proofs.Rotation.{next_none}
 use Rattle.plain_laws.proofs.Steps.{settled_done}
 use Rattle.plain_laws.proofs.Streams.{by_case, not_both}
-use Rattle.std.proofs.Common.{ap, arith, inl, inr, refl, sym, ◌∙◌}
+use Rattle.std.proofs.Common.{arith, inl, inr, refl, sym, ◌∙◌}
 use Rattle.std.proofs.lemmas.Bool.Decides.{nat_tests}
 use Rattle.std.specs.Prelude.{List, [], false, length, nat_lt, true, ℕ, ◌&&◌, ◌<◌, ◌==◌, ◌∷◌, ◌≡◌}
 use Rattle.plain_laws.specs.Words.{Past, Alive, conn_high, conn_lows, next_out, recv_at}
@@ -16,13 +16,12 @@ use Rattle.tape_laws.specs.PlainTape.{IsPlainWhole}
 use Rattle.tape_laws.specs.declared.limits.PlainLimits.{PlainLimits}
 use Rattle.plain_core.proofs.Fronts.{appends_more, turn_appended, turn_more}
 use Rattle.plain_core.proofs.Rested.{no_task}
-use Rattle.plain_core.specs.Agenda.{is_rounded, is_run_of, is_telling}
+use Rattle.plain_core.specs.Agenda.{is_run_of, is_telling}
 use Rattle.plain_core.specs.Carries.{may_move}
 use Rattle.plain_core.specs.Progress.{will_doom}
 use Rattle.plain_core.specs.Runs.{Cuts, CutsTurn, Keeps, Opens, Turns}
 use Rattle.plain_core.specs.Stands.{Good}
 use Rattle.plain_core.specs.declared.plain.PlainCore.{PlainCore}
-use Rattle.flow_gate.specs.declared.ids.BufferId.TheVariants as buffer
 
 some_test : (c n : ℕ) → c ≡ 0 → 0 < n → ((c == 0) && nat_lt 0 n) ≡ true
 some_test c n e f = grind (arith, nat_tests)
@@ -41,7 +40,7 @@ whole_of limits core h g idle swept =
     λ x is. by_case (may_move limits x h) (λ t. not_both _ (u.runs x is t) (no_task (is_run_of (request x)) core.agenda idle)) (λ f. f) in
     let framed : conn_high limits h ≡ false → next_out limits h ≡ Nothing =
     λ low. elim u.rested as (λ s. next_out limits h ≡ Nothing) [
-      | inl e ↦ not_both _ e (ap is_rounded idle)
+      | inl e ↦ not_both _ e (cc)
       | inr e ↦ elim (e.1.none) as (λ s. next_out limits h ≡ Nothing) [ inl a ↦ not_both _ a low | inr r ↦ next_none limits h r ]
     ] in
     let ended : (x : ℕ) → Alive h x → plain_must_end x h ≡ false =

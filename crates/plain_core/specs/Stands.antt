@@ -42,7 +42,7 @@ pub record CanTake (core : PlainCore) (e : Event) (notes : List Note) : Type 0 w
   pub rests : Rests limits core (onto notes history)
   pub follows : MayFollowAll (e ∷ events_back (onto notes history))
 
--- the core met want of memory, or not
+-- the core ran out of memory, or not
 abbrev pub HasFailed : PlainCore → Bool → Type 0
 HasFailed core failed = core.failed ≡ failed
 

@@ -4,7 +4,7 @@ use Rattle.exchange_core.specs.Flow.{Flow}
 use Rattle.exchange_core.specs.Units.{next_unit}
 use Rattle.flow_rules.specs.declared.unit.Unit.{Unit as NextUnit}
 use Rattle.std.specs.Option.{option_and_then, option_map_or}
-use Rattle.std.specs.Prelude.{Bool, None, Option, Some, false, length, option_map, pos, ℕ, ◌==◌}
+use Rattle.std.specs.Prelude.{Bool, Option, false, length, option_map, pos, ℕ, ◌==◌}
 use Rattle.tape_laws.specs.Flows.{request}
 use Rattle.exchange_core.specs.declared.step.Piece.{Piece}
 use Rattle.plain_core.specs.Flows.{piece_of}

@@ -32,7 +32,7 @@ pub struct PlainCore {
 }
 
 impl PlainCore {
-    /// The core before its session's first event. Refused only for want of memory.
+    /// The core before its session's first event. Refused only for lack of memory.
     pub fn new(alloc: Global, limits: PlainLimits) -> Result<Self, NoMemory>
         requires { AreLimits limits }
         ensures { IfOk result (λ core. Rests limits core []) }
@@ -51,7 +51,7 @@ impl PlainCore {
         })
     }
 
-    /// Dispatches one event, and appends its notes. After want of memory the notes so far stand, and
+    /// Dispatches one event, and appends its notes. After running out of memory the notes so far stand, and
     /// each later call answers `Failed`.
     pub fn dispatch(&mut self, event: &Event, notes: &mut Notes) -> Result<(), CoreFault>
         requires { HasFailed self.old false → CanTake self.old event.now notes.old }

@@ -1,25 +1,20 @@
 -- Octets arrive in a receive buffer.
+use Rattle.plain_laws.proofs.Leaving.{flow_kept}
 use Rattle.plain_laws.specs.Words.{Past, Alive, conn_lows, conn_out, lows_of, recv_at, send_at}
 use Rattle.tape_laws.specs.Doomed.{is_swept}
-use Rattle.plain_laws.proofs.Counting.{flow_tally, one_if, told_of}
-use Rattle.plain_laws.proofs.Extending.{MayAdd, counted_of, one_owed, regular_more}
-use Rattle.plain_laws.proofs.Flags.{send_same, write_same}
-use Rattle.plain_laws.proofs.Leaving.{Leaves, flow_other, lows_kept, once_kept, only_other, only_own, room_kept, same_len_if, send_low_kept, unborn_kept}
+use Rattle.plain_laws.proofs.Extending.{MayAdd, one_owed, regular_more}
+use Rattle.plain_laws.proofs.Leaving.{Leaves, lows_kept, once_kept, only_other, only_own, room_kept, same_len_if, send_low_kept, unborn_kept}
 use Rattle.plain_laws.proofs.Streams.{apart_from, flow_is_live, own_or_other, same_number}
 use Rattle.plain_laws.specs.Owing.{arriving, nothing}
 use Rattle.plain_laws.specs.Regular.{Books, FlowBooks, Regular}
-use Rattle.std.proofs.Common.{ap, arith, length-append, refl, subst, sym, ◌∙◌}
+use Rattle.std.proofs.Common.{ap, arith, length-append, refl, sym, ◌∙◌}
 use Rattle.std.proofs.lemmas.List.{append-nil}
 use Rattle.std.specs.Prelude.{List, [], false, length, nat_lt, ℕ, ◌++◌, ◌+◌, ◌<◌, ◌==◌, ◌∷◌, ◌≡◌, ◌≤◌}
-use Rattle.tape_laws.specs.Demands.{MeetsFirst}
 use Rattle.tape_laws.specs.Dispatches.{live, started}
 use Rattle.tape_laws.specs.Flows.{request}
 use Rattle.tape_laws.specs.History.{NoMark, Noted, Step}
-use Rattle.tape_laws.specs.Plain.{plain_setup}
-use Rattle.tape_laws.specs.Units.{Demand}
 use Rattle.tape_laws.specs.World.{received}
 use Rattle.tape_laws.specs.declared.limits.PlainLimits.{PlainLimits}
-use Rattle.flow_gate.specs.declared.ids.BufferId.TheVariants as buffer
 use Rattle.flow_notes.specs.declared.notes.Note.TheVariants as note
 
 pub arrive_leaves : (limits : PlainLimits) (x y : ℕ) (octets : List ℕ) (h : Past) → (x == y) ≡ false → Leaves limits y (Noted (note.Arrive (request x) octets)) h
@@ -40,12 +35,11 @@ arrive_may : (limits : PlainLimits) (x : ℕ) (octets : List ℕ) (h : Past) →
 arrive_may limits x octets h s fresh is some = record {
   allowed = (flow_is_live limits x h is, some);
   paused = s.due;
-  counted = counted_of limits (arriving x octets) h s refl;
   ends = tt;
   in_turn = tt;
   doomed = is;
   swept = fresh;
-  answered = subst (λ (ds : List Demand). MeetsFirst {Mark = NoMark} (plain_setup limits) ds (Noted (note.Arrive (request x) octets))) (sym s.asks) refl;
+  answered = rw s.asks refl;
   only = tt;
   quiet = tt;
   licensed = tt;
@@ -61,23 +55,15 @@ arrive_own limits x octets h f some room =
     rw (same_number x) (append-nil (send_at limits x h)) in
     let received_is : received (request x) (step ∷ h) ≡ received (request x) h ++ octets = rw (same_number x) refl in
     let lows_is : lows_of limits x (step ∷ h) ≡ lows_of limits x h = refl in
-    let write_is : conn_lows limits (step ∷ h) ≡ conn_lows limits h = refl in
     record {
-      tally = flow_tally limits [] [] x step h
-          (same _ _ _ _ _ _ _ _ _ _ _ (ap one_if (send_same limits (request x) step h send_is)) (ap one_if (write_same limits step h refl))
-          (ap (told_of x) lows_is) (ap (told_of x) write_is)) f.tally;
       send_low = send_low_kept limits x step h send_is lows_is f.send_low;
       recv_room = fits _ _ _ _ recv_is room;
       send_room = same_len_if (nat_lt 0 limits.send) _ _ (limits.send + limits.quantum) send_is f.send_room;
-      read = f.read ∙ ap (λ v. received (request x) h ++ v) (only_own x octets) ∙ sym received_is ∙ sym (append-nil (received (request x) (step ∷ h)));
+      read = cc (only_own x octets, append-nil (received (request x) (step ∷ h)));
       over = λ t. absurd (never _ (sym (only_own x octets) ∙ (f.over t).2) some);
       unframed = f.unframed;
     }
   where
-    same : (p r o a w s m a' w' s' m' : ℕ) → a' ≡ a → w' ≡ w → s' ≡ s → m' ≡ m
-        → (p + o) + (r + ((a + w) + (s + m))) ≡ (p + o) + (r + ((a' + w') + (s' + m')))
-    same p r o a w s m a' w' s' m' ea ew es em = omega arith
-
     fits : (xs ys zs : List ℕ) (n : ℕ) → zs ≡ xs ++ ys → length xs + length ys ≤ n → length zs ≤ n
     fits xs ys zs n e le = let l : length zs ≡ length xs + length ys = ap length e ∙ length-append xs ys in omega (arith, l, le)
 
@@ -102,7 +88,7 @@ module _ (limits : PlainLimits) (x : ℕ) (octets : List ℕ) (h : Past) where
         born = s.born;
         said = s.said;
         each = λ y e. own_or_other (λ z. FlowBooks limits nothing z (step ∷ h)) x y (arrive_own limits x octets h (s.each x is) some room)
-            (λ d. flow_other limits (arriving x octets) nothing y step h (arrive_leaves limits x y octets h d) (s.each y e) out_same (ap (told_of y) lows_same) refl
+            (λ d. flow_kept limits (arriving x octets) nothing y step h (arrive_leaves limits x y octets h d) (s.each y e)
             (sym (only_other x y octets d)) (s.each y e).unframed);
         unborn = λ y e. let d = apart_from (started h) x y (s.born x is) e in
             unborn_kept limits y step h (arrive_leaves limits x y octets h d) (record { ended = refl; pairs = refl; must = refl }) (s.unborn y e);

@@ -64,21 +64,21 @@ module _ (limits : PlainLimits) (x n : ℕ) (h : Past) where
   pub move_high : send_high limits x after ≡ above_after limits.send (send_high limits x h) (length (send_at limits x h ++ take n (recv_at limits x h)))
   move_high =
       moved (λ v. send_high limits x v ≡ above_after limits.send (send_high limits x h) (length (send_at limits x h ++ take n (recv_at limits x h))))
-      (pauses_send_above limits (request x) due (move_of x n ∷ h) ∙ ap (λ (o : List ℕ). above_after limits.send (send_high limits x h) (length o)) (send_move limits x n h))
+      (cc (pauses_send_above limits (request x) due (move_of x n ∷ h), send_move limits x n h))
 
   pub move_keeps : (y : ℕ) → (x == y) ≡ false → KeepsStream limits y h after
   move_keeps y d =
-      moved (λ v. KeepsStream limits y h v)
+      moved (KeepsStream limits y h)
       (stream_more limits y h (move_of x n ∷ h) _ (keeps_stream limits y (move_of x n) h (move_leaves limits x y n h d) refl refl) (pauses_keep limits y due (move_of x n ∷ h)))
 
   pub move_keeps_write : KeepsWrite limits h after
   move_keeps_write =
-      moved (λ v. KeepsWrite limits h v)
+      moved (KeepsWrite limits h)
       (write_more limits h (move_of x n ∷ h) _ (keeps_write limits (move_of x n) h refl (append-nil _)) (pauses_keep_write limits due (move_of x n ∷ h)))
 
   pub move_keeps_lists : KeepsLists h after
   move_keeps_lists =
-      moved (λ v. KeepsLists h v)
+      moved (KeepsLists h)
       (lists_more h (move_of x n ∷ h) _ (record { lives = refl; begun = refl; doomed = refl; numbers = refl; events = refl }) (pauses_keep_lists due (move_of x n ∷ h)))
 
   -- what a move leaves as any pause does: what a note that isn't a pause may tell of no pause
@@ -86,34 +86,34 @@ module _ (limits : PlainLimits) (x n : ℕ) (h : Past) where
   move_same F same e = ap F move_onto ∙ pauses_leave F same due (move_of x n ∷ h) ∙ e
 
   pub move_ended : (y : ℕ) → plain_ended y after ≡ plain_ended y h
-  move_ended y = move_same (λ v. plain_ended y v) (λ f b v. refl) refl
+  move_ended y = move_same (plain_ended y) (λ f b v. refl) refl
 
   pub move_end_framed : (y : ℕ) → end_out limits y after ≡ end_out limits y h
-  move_end_framed y = move_same (λ v. end_out limits y v) (λ f b v. refl) refl
+  move_end_framed y = move_same (end_out limits y) (λ f b v. refl) refl
 
   pub move_must : (y : ℕ) → plain_must_end y after ≡ plain_must_end y h
-  move_must y = move_same (λ v. plain_must_end y v) (λ f b v. refl) refl
+  move_must y = move_same (plain_must_end y) (λ f b v. refl) refl
 
   pub move_paired : (y : ℕ) → paired_with y after ≡ paired_with y h
-  move_paired y = move_same (λ v. paired_with y v) (λ f b v. refl) refl
+  move_paired y = move_same (paired_with y) (λ f b v. refl) refl
 
   pub move_before : before_dispatch after ≡ before_dispatch h
-  move_before = move_same (λ v. before_dispatch v) (λ f b v. refl) refl
+  move_before = move_same before_dispatch (λ f b v. refl) refl
 
   pub move_framed_last : last_out limits after ≡ last_out limits h
-  move_framed_last = move_same (λ v. last_out limits v) (λ f b v. refl) refl
+  move_framed_last = move_same (last_out limits) (λ f b v. refl) refl
 
   pub move_resumed : (y : ℕ) → resumes (request y) after ≡ resumes (request y) h
-  move_resumed y = move_same (λ v. resumes (request y) v) (λ f b v. refl) refl
+  move_resumed y = move_same (resumes (request y)) (λ f b v. refl) refl
 
   pub move_paused : (y : ℕ) → pauses (request y) after ≡ one_if ((x == y) && send_rises limits x (move_of x n) h) + pauses (request y) h
   move_paused y =
       let rises = send_rises limits x (move_of x n) h in
       moved (λ v. pauses (request y) v ≡ one_if ((x == y) && rises) + pauses (request y) h)
-      (pauses_written y due (move_of x n ∷ h) ∙ ap (λ k. k + pauses (request y) h) (times rises (x == y) refl))
+      (cc (pauses_written y due (move_of x n ∷ h), times rises (x == y) refl))
     where
       times : (r b : Bool) → (x == y) ≡ b → owed_times y (due_if r (buffer.Send (request x)) (x ∷ [])) ≡ one_if (b && r)
-      times r true e = subst (λ (v : ℕ). owed_times v (due_if r (buffer.Send (request x)) (x ∷ [])) ≡ one_if r) (number_is x y e) (owed_one r (buffer.Send (request x)) x)
+      times r true e = rw (← number_is x y e) (owed_one r (buffer.Send (request x)) x)
       times r false e = owed_none r (buffer.Send (request x)) x y e
 
 -- ---- a frame
@@ -151,29 +151,29 @@ module _ (limits : PlainLimits) (x n : ℕ) (last : Bool) (h : Past) where
       drained false g = refl
 
   pub frame_recv : recv_at limits x behind ≡ recv_at limits x h
-  frame_recv = frame_same (λ v. recv_at limits x v) (λ f b v. refl) (λ f g v. refl) ∙ recv_frame limits x n last h
+  frame_recv = frame_same (recv_at limits x) (λ f b v. refl) (λ f g v. refl) ∙ recv_frame limits x n last h
 
   pub frame_send : send_at limits x behind ≡ drop n (send_at limits x h)
-  frame_send = frame_same (λ v. send_at limits x v) (λ f b v. refl) (λ f g v. refl) ∙ send_frame limits x n last h
+  frame_send = frame_same (send_at limits x) (λ f b v. refl) (λ f g v. refl) ∙ send_frame limits x n last h
 
   pub frame_high : send_high limits x behind ≡ above_after limits.send (send_high limits x h) (length (drop n (send_at limits x h)))
   frame_high =
-      frame_same (λ v. send_high limits x v) (λ f b v. send_same limits (request x) (Noted (note.Pause f b)) v refl) (λ f g v. send_same limits (request x) (Noted (note.Resume f (buffer.Send g))) v refl)
+      frame_same (send_high limits x) (λ f b v. send_same limits (request x) (Noted (note.Pause f b)) v refl) (λ f g v. send_same limits (request x) (Noted (note.Resume f (buffer.Send g))) v refl)
       ∙ ap (λ (o : List ℕ). above_after limits.send (send_high limits x h) (length o)) (send_frame limits x n last h)
 
   pub frame_out : conn_out limits behind ≡ conn_out limits h ++ (data_head x n last ++ take n (send_at limits x h))
-  frame_out = frame_same (λ v. conn_out limits v) (λ f b v. refl) (λ f g v. refl)
+  frame_out = frame_same (conn_out limits) (λ f b v. refl) (λ f g v. refl)
 
   pub frame_write_high : conn_high limits behind ≡ above_after limits.write (conn_high limits h) (length (conn_out limits h ++ (data_head x n last ++ take n (send_at limits x h))))
   frame_write_high =
-      frame_same (λ v. conn_high limits v) (λ f b v. write_same limits (Noted (note.Pause f b)) v refl) (λ f g v. write_same limits (Noted (note.Resume f (buffer.Send g))) v refl)
+      frame_same (conn_high limits) (λ f b v. write_same limits (Noted (note.Pause f b)) v refl) (λ f g v. write_same limits (Noted (note.Resume f (buffer.Send g))) v refl)
 
   pub frame_write_lows : conn_lows limits behind ≡ conn_lows limits h
-  frame_write_lows = frame_same (λ v. conn_lows limits v) (λ f b v. refl) (λ f g v. refl) ∙ append-nil (conn_lows limits h)
+  frame_write_lows = frame_same (conn_lows limits) (λ f b v. refl) (λ f g v. refl) ∙ append-nil (conn_lows limits h)
 
   pub frame_keeps : (y : ℕ) → (x == y) ≡ false → KeepsStream limits y h behind
   frame_keeps y d =
-      framed (λ v. KeepsStream limits y h v)
+      framed (KeepsStream limits y h)
       (stream_more limits y h paused _
       (stream_more limits y h (step ∷ h) paused (keeps_stream limits y step h (frame_leaves limits x y n last h d) refl refl) (pauses_keep limits y (frame_due limits x n last h) (step ∷ h)))
       (drained (send_drains limits x step h) paused))
@@ -184,30 +184,30 @@ module _ (limits : PlainLimits) (x n : ℕ) (last : Bool) (h : Past) where
 
   pub frame_keeps_lists : KeepsLists h behind
   frame_keeps_lists = record {
-    lives = frame_same (λ v. live v) (λ f b v. refl) (λ f g v. refl);
-    begun = frame_same (λ v. started v) (λ f b v. refl) (λ f g v. refl);
-    doomed = frame_same (λ v. condemned v) (λ f b v. refl) (λ f g v. refl);
-    numbers = frame_same (λ v. turns v) (λ f b v. refl) (λ f g v. refl);
-    events = frame_same (λ v. events_back v) (λ f b v. refl) (λ f g v. refl);
+    lives = frame_same live (λ f b v. refl) (λ f g v. refl);
+    begun = frame_same started (λ f b v. refl) (λ f g v. refl);
+    doomed = frame_same condemned (λ f b v. refl) (λ f g v. refl);
+    numbers = frame_same turns (λ f b v. refl) (λ f g v. refl);
+    events = frame_same events_back (λ f b v. refl) (λ f g v. refl);
   }
 
   pub frame_framed_last : last_out limits behind ≡ x
-  frame_framed_last = frame_same (λ v. last_out limits v) (λ f b v. refl) (λ f g v. refl)
+  frame_framed_last = frame_same (last_out limits) (λ f b v. refl) (λ f g v. refl)
 
   pub frame_ended : (y : ℕ) → plain_ended y behind ≡ plain_ended y h
-  frame_ended y = frame_same (λ v. plain_ended y v) (λ f b v. refl) (λ f g v. refl)
+  frame_ended y = frame_same (plain_ended y) (λ f b v. refl) (λ f g v. refl)
 
   pub frame_paired : (y : ℕ) → paired_with y behind ≡ paired_with y h
-  frame_paired y = frame_same (λ v. paired_with y v) (λ f b v. refl) (λ f g v. refl)
+  frame_paired y = frame_same (paired_with y) (λ f b v. refl) (λ f g v. refl)
 
   pub frame_end_framed : end_out limits x behind ≡ (last || end_out limits x h)
-  frame_end_framed = frame_same (λ v. end_out limits x v) (λ f b v. refl) (λ f g v. refl) ∙ end_frame limits x n last h
+  frame_end_framed = frame_same (end_out limits x) (λ f b v. refl) (λ f g v. refl) ∙ end_frame limits x n last h
 
   pub frame_before : before_dispatch behind ≡ before_dispatch h
-  frame_before = frame_same (λ v. before_dispatch v) (λ f b v. refl) (λ f g v. refl)
+  frame_before = frame_same before_dispatch (λ f b v. refl) (λ f g v. refl)
 
   pub frame_must : (y : ℕ) → plain_must_end y behind ≡ plain_must_end y (step ∷ h)
-  frame_must y = frame_same (λ v. plain_must_end y v) (λ f b v. refl) (λ f g v. refl)
+  frame_must y = frame_same (plain_must_end y) (λ f b v. refl) (λ f g v. refl)
 
   -- each live stream is paused where the write buffer rises
   pub frame_paused : (y : ℕ) → IsRising (live h) → Alive h y → pauses (request y) behind ≡ one_if (conn_rises limits step h) + pauses (request y) h
@@ -225,7 +225,7 @@ module _ (limits : PlainLimits) (x n : ℕ) (last : Bool) (h : Past) where
   frame_resumed y =
       let drains = send_drains limits x step h in
       framed (λ v. resumes (request y) v ≡ one_if ((x == y) && drains) + resumes (request y) h)
-      (drained drains _ ∙ ap (λ k. one_if ((x == y) && drains) + k) (pauses_leave (λ v. resumes (request y) v) (λ f b v. refl) (frame_due limits x n last h) (step ∷ h)))
+      (drained drains _ ∙ ap (λ k. one_if ((x == y) && drains) + k) (pauses_leave (resumes (request y)) (λ f b v. refl) (frame_due limits x n last h) (step ∷ h)))
     where
       neither : (b : Bool) (n : ℕ) → n ≡ one_if (b && false) + n
       neither true n = omega arith
@@ -238,4 +238,4 @@ module _ (limits : PlainLimits) (x n : ℕ) (last : Bool) (h : Past) where
 
   -- where the frame is the last, the end of the stream was framed, in this dispatch
   pub frame_here : Settled limits h → Alive h x → end_out limits x (before_dispatch behind) ≡ false
-  frame_here s is = ap (λ (v : Past). end_out limits x v) frame_before ∙ (s.regular.books.each x is).unframed
+  frame_here s is = ap (end_out limits x) frame_before ∙ (s.regular.books.each x is).unframed

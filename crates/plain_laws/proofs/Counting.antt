@@ -1,14 +1,10 @@
 -- The count of a flow, by what it is made of.
 use Rattle.flow_gate.specs.declared.ids.FlowId.{FlowId}
-use Rattle.plain_laws.specs.Owing.{owed_times}
 use Rattle.std.proofs.Common.{arith, refl}
 use Rattle.std.specs.Prelude.{Bool, List, [], count_by, false, if◌then◌else◌, true, ℕ, ◌+◌, ◌∷◌, ◌≡◌}
 use Rattle.plain_laws.specs.Words.{Past, conn_high, conn_lows, disabled_at, lows_at, lows_of, send_high}
 use Rattle.tape_laws.specs.Flows.{request, same_flow}
-use Rattle.tape_laws.specs.History.{NoMark, Step}
-use Rattle.tape_laws.specs.Pauses.{Owed, pauses, resumes}
 use Rattle.tape_laws.specs.declared.limits.PlainLimits.{PlainLimits}
-use Rattle.flow_gate.specs.declared.ids.BufferId.TheVariants as buffer
 
 abbrev pub one_if : Bool → ℕ
 one_if b = if b then 1 else 0
@@ -45,19 +41,3 @@ module _ (limits : PlainLimits) (x : ℕ) (h : Past) where
     where
       two : (a b : ℕ) → 0 + a + b ≡ a + b
       two a b = omega arith
-
-stepped : (p o r d l a w s m p' o' r' d' l' a' w' s' m' : ℕ) → d ≡ a + w → l ≡ s + m → d' ≡ a' + w' → l' ≡ s' + m'
-    → (p' + o') + (r + ((a + w) + (s + m))) ≡ (p + o) + (r' + ((a' + w') + (s' + m'))) → p + o ≡ r + (d + l) → p' + o' ≡ r' + (d' + l')
-stepped p o r d l a w s m p' o' r' d' l' a' w' s' m' e f e' f' g t = omega arith
-
--- what a step adds to either side of the tally is the same
-pub flow_tally : (limits : PlainLimits) (due due' : List Owed) (x : ℕ) (step : Step NoMark) (h : Past)
-    → (pauses (request x) (step ∷ h) + owed_times x due')
-    + (resumes (request x) h + ((send_flag limits x h + write_flag limits h) + (send_left limits x h + write_left limits x h)))
-    ≡ (pauses (request x) h + owed_times x due)
-    + (resumes (request x) (step ∷ h) + ((send_flag limits x (step ∷ h) + write_flag limits (step ∷ h)) + (send_left limits x (step ∷ h) + write_left limits x (step ∷ h))))
-    → pauses (request x) h + owed_times x due ≡ resumes (request x) h + (disabled_at limits x h + lows_at limits x h)
-    → pauses (request x) (step ∷ h) + owed_times x due'
-    ≡ resumes (request x) (step ∷ h) + (disabled_at limits x (step ∷ h) + lows_at limits x (step ∷ h))
-flow_tally limits due due' x step h e t =
-    stepped _ _ _ _ _ _ _ _ _ _ _ _ _ _ _ _ _ _ (disabled_is limits x h) (lows_are limits x h) (disabled_is limits x (step ∷ h)) (lows_are limits x (step ∷ h)) e t

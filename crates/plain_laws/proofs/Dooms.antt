@@ -1,19 +1,20 @@
 -- A stream is doomed.
+use Rattle.plain_laws.proofs.Leaving.{flow_kept}
+use Rattle.std.proofs.lemmas.Bool.{or_left, or_right}
 use Rattle.plain_laws.specs.Words.{Past, Alive, conn_lows, conn_out, end_out, lows_of, send_high, turn_of}
 use Rattle.tape_laws.specs.Doomed.{is_swept}
 use Rattle.flow_gate.specs.declared.ids.FlowId.{FlowId}
 use Rattle.flow_notes.specs.declared.notes.Cause.{Cause}
-use Rattle.plain_laws.proofs.Extending.{MayAdd, counted_of, free_meets, nothing_owed, one_owed, regular_more}
-use Rattle.plain_laws.proofs.Leaving.{Leaves, flow_other, only_other, room_kept, unborn_kept}
+use Rattle.plain_laws.proofs.Extending.{MayAdd, free_meets, nothing_owed, one_owed, regular_more}
+use Rattle.plain_laws.proofs.Leaving.{Leaves, only_other, room_kept, unborn_kept}
 use Rattle.plain_laws.proofs.Rising.{rising_filter}
-use Rattle.plain_laws.proofs.Streams.{apart_from, by_case, differs_back, has_left, has_lost, has_stays, not_both, number_is, or_left, or_right, same_number}
-use Rattle.plain_laws.proofs.Tellings.{told_without}
-use Rattle.plain_laws.specs.Owing.{OwesDoom, Owing, asking, nothing, overrun, owed_times, starts}
+use Rattle.plain_laws.proofs.Streams.{apart_from, by_case, differs_back, has_left, has_lost, has_stays, not_both, number_is, same_number}
+use Rattle.plain_laws.specs.Owing.{OwesDoom, Owing, asking, nothing, overrun, starts}
 use Rattle.plain_laws.specs.Regular.{Books, FlowBooks, IsLiveFlow, IsRising, Regular}
-use Rattle.std.proofs.Common.{ap, inl, inr, refl, subst, sym, ◌∙◌}
+use Rattle.std.proofs.Common.{inl, inr, refl, subst, sym, ◌∙◌}
 use Rattle.std.specs.Bool.{OnTrue}
 use Rattle.std.specs.List.{AllByRecursion, list_any}
-use Rattle.std.specs.Prelude.{Bool, List, [], drop, false, filter, if◌then◌else◌, map, not, true, ℕ, ◌&&◌, ◌==◌, ◌||◌, ◌∷◌, ◌≡◌, ◌⊎◌}
+use Rattle.std.specs.Prelude.{Bool, List, [], drop, false, filter, if◌then◌else◌, map, not, true, ℕ, ◌&&◌, ◌==◌, ◌∷◌, ◌≡◌, ◌⊎◌}
 use Rattle.tape_laws.specs.Causes.{MayDoom, end_framed_here}
 use Rattle.tape_laws.specs.Demands.{MeetsFirst, is_at_once, obligations}
 use Rattle.tape_laws.specs.Dispatches.{before_dispatch, has, live, started}
@@ -22,10 +23,8 @@ use Rattle.tape_laws.specs.History.{NoMark, Noted, Step}
 use Rattle.tape_laws.specs.Pauses.{Heads}
 use Rattle.tape_laws.specs.Plain.{paired_with, plain_setup}
 use Rattle.tape_laws.specs.PlainSession.{plain_session}
-use Rattle.tape_laws.specs.Units.{Demand, WantsDoom}
+use Rattle.tape_laws.specs.Units.{WantsDoom}
 use Rattle.tape_laws.specs.declared.limits.PlainLimits.{PlainLimits}
-use Rattle.flow_gate.specs.declared.ids.BufferId.TheVariants as buffer
-use Rattle.flow_notes.specs.declared.events.Event.TheVariants as event
 use Rattle.flow_notes.specs.declared.events.PlainEvent.TheVariants as plain
 use Rattle.flow_notes.specs.declared.notes.Cause.TheVariants as cause
 use Rattle.flow_notes.specs.declared.notes.Note.TheVariants as note
@@ -38,10 +37,10 @@ abbrev pub without : ℕ → List FlowId → List FlowId
 without x fs = filter (λ (f : FlowId). not (f.exchange == x)) fs
 
 without_other : (x y : ℕ) → (x == y) ≡ false → without x (request y ∷ []) ≡ request y ∷ []
-without_other x y e = ap (λ b. if not b then request y ∷ [] else []) (differs_back x y e)
+without_other x y e = cc (differs_back x y e)
 
 without_own : (x : ℕ) → without x (request x ∷ []) ≡ []
-without_own x = ap (λ b. if not b then request x ∷ [] else []) (same_number x)
+without_own x = cc (same_number x)
 
 without_exchanges : (x : ℕ) (fs : List FlowId) → map (λ (f : FlowId). f.exchange) (without x fs) ≡ filter (λ y. not (y == x)) (map (λ (f : FlowId). f.exchange) fs)
 without_exchanges x [] = refl
@@ -50,7 +49,7 @@ without_exchanges x (f ∷ fs) = pick (not (f.exchange == x)) (without_exchanges
     pick : (b : Bool) → map (λ (f : FlowId). f.exchange) (without x fs) ≡ filter (λ y. not (y == x)) (map (λ (f : FlowId). f.exchange) fs)
         → map (λ (f : FlowId). f.exchange) (if b then f ∷ without x fs else without x fs)
         ≡ (if b then f.exchange ∷ filter (λ y. not (y == x)) (map (λ (f : FlowId). f.exchange) fs) else filter (λ y. not (y == x)) (map (λ (f : FlowId). f.exchange) fs))
-    pick true e = ap (λ ys. f.exchange ∷ ys) e
+    pick true e = cc
     pick false e = e
 
 pub without_live : (x : ℕ) (xs : List ℕ) (fs : List FlowId) → AllByRecursion (IsLiveFlow xs) fs → AllByRecursion (IsLiveFlow (filter (λ y. not (y == x)) xs)) (without x fs)
@@ -86,8 +85,8 @@ lows_stay limits o x y h d f = pick f.send_low
     pick : (lows_of limits y h ≡ [])
         ⊎ ((lows_of limits y h ≡ request y ∷ []) × (send_high limits y h ≡ false))
         → without x (lows_of limits y h) ≡ lows_of limits y h
-    pick (inl e) = ap (without x) e ∙ sym e
-    pick (inr e) = ap (without x) e.0 ∙ without_other x y d ∙ sym e.0
+    pick (inl e) = cc
+    pick (inr e) = cc (without_other x y d)
 
 pub lows_vanish : (limits : PlainLimits) (o : Owing) (x : ℕ) (h : Past) → FlowBooks limits o x h → without x (lows_of limits x h) ≡ []
 lows_vanish limits o x h f = pick f.send_low
@@ -95,15 +94,14 @@ lows_vanish limits o x h f = pick f.send_low
     pick : (lows_of limits x h ≡ [])
         ⊎ ((lows_of limits x h ≡ request x ∷ []) × (send_high limits x h ≡ false))
         → without x (lows_of limits x h) ≡ []
-    pick (inl e) = ap (without x) e
-    pick (inr e) = ap (without x) e.0 ∙ without_own x
+    pick (inl e) = cc
+    pick (inr e) = cc (without_own x)
 
 doom_may : (limits : PlainLimits) (o : Owing) (x : ℕ) (why : Cause) (h : Past) → Books limits o h → is_swept h ≡ false → OwesDoom x why h o → Alive h x
     → MayDoom (plain_setup limits) x why h → MayAdd limits (note.Doom x why) h
 doom_may limits o x why h s fresh ow is may = record {
   allowed = tt;
   paused = s.due ∙ ow.due;
-  counted = counted_of limits o h s ow.due;
   ends = tt;
   in_turn = tt;
   doomed = is;
@@ -117,7 +115,7 @@ doom_may limits o x why h s fresh ow is may = record {
     meets : ((o.asks ≡ []) × (is_at_once why ≡ false)) ⊎ (o.asks ≡ WantsDoom x why ∷ [])
         → MeetsFirst {Mark = NoMark} (plain_setup limits) (obligations (plain_session limits) h) (Noted (note.Doom x why))
     meets (inl e) = free_meets limits _ (note.Doom x why) (s.asks ∙ e.0) tt
-    meets (inr e) = subst (λ (ds : List Demand). MeetsFirst {Mark = NoMark} (plain_setup limits) ds (Noted (note.Doom x why))) (sym (s.asks ∙ e)) refl
+    meets (inr e) = rw (s.asks ∙ e) refl
 
     never : (b : Bool) (A : Type 0) → b ≡ false → OnTrue b A
     never true A e = cc
@@ -142,19 +140,18 @@ doom_books limits o x why h s ow is =
       write_room = room_kept limits out_same s.write_room;
       rising = rising_filter (λ y. not (y == x)) (live h) s.rising;
       born = λ y e. s.born y (has_left (live h) x y e).0;
-      said = λ y. s.said y ∙ ap (λ b. b || has (started h) y) (unstarting y ow.asks);
+      said = λ y. cc (s.said y, unstarting y ow.asks);
       each = λ y e. let k = has_left (live h) x y e in let f = s.each y k.0 in
-          flow_other limits o nothing y step h (doom_leaves limits x y why h k.1 (lows_stay limits o x y h k.1 f)) f out_same
-          (told_without x y (conn_lows limits h) k.1) (sym (ap (owed_times y) ow.due)) (sym (ow.extra y k.0 k.1)) f.unframed;
+          flow_kept limits o nothing y step h (doom_leaves limits x y why h k.1 (lows_stay limits o x y h k.1 f)) f (sym (ow.extra y k.0 k.1)) f.unframed;
       unborn = λ y e. let d = apart_from (started h) x y (s.born x is) e in
           let quiet = s.hushed y (never_live y e) in
-          unborn_kept limits y step h (doom_leaves limits x y why h d (ap (without x) quiet ∙ sym quiet)) (record { ended = refl; pairs = refl; must = refl }) (s.unborn y e);
+          unborn_kept limits y step h (doom_leaves limits x y why h d (cc)) (record { ended = refl; pairs = refl; must = refl }) (s.unborn y e);
       owed = tt;
       write_lows = without_live x (live h) _ s.write_lows;
       write_once = subst IsRising (sym (without_exchanges x (conn_lows limits h))) (rising_filter (λ y. not (y == x)) _ s.write_once);
       hushed = λ y e. by_case (x == y)
           (λ t. subst (λ (v : ℕ). without x (lows_of limits v h) ≡ []) (number_is x y t) (lows_vanish limits o x h (s.each x is)))
-          (λ d. ap (without x) (s.hushed y (has_lost (live h) x y e d)));
+          (λ d. cc (s.hushed y (has_lost (live h) x y e d)));
     }
   where
     met : ((o.asks ≡ []) × (is_at_once why ≡ false)) ⊎ (o.asks ≡ WantsDoom x why ∷ []) → drop 1 (obligations (plain_session limits) h) ≡ []
@@ -162,8 +159,8 @@ doom_books limits o x why h s ow is =
     met (inr e) = one_owed _ _ (s.asks ∙ e)
 
     unstarting : (y : ℕ) → ((o.asks ≡ []) × (is_at_once why ≡ false)) ⊎ (o.asks ≡ WantsDoom x why ∷ []) → starts o.asks y ≡ false
-    unstarting y (inl e) = ap (λ d. starts d y) e.0
-    unstarting y (inr e) = ap (λ d. starts d y) e
+    unstarting y (inl e) = cc
+    unstarting y (inr e) = cc
 
     never_live : (y : ℕ) → has (started h) y ≡ false → has (live h) y ≡ false
     never_live y e = by_case (has (live h) y) (λ t. not_both (has (started h) y) (s.born y t) e) (λ f. f)
@@ -217,5 +214,5 @@ doom_early limits s x h r fresh is pair e before =
     some : (p : ℕ → Bool) (xs : List ℕ) (s : ℕ) → has xs s ≡ true → p s ≡ true → list_any p xs ≡ true
     some p [] s e t = cc
     some p (y ∷ ys) s e t =
-        by_case (y == s) (λ u. or_left (p y) _ (subst (λ (v : ℕ). p v ≡ true) (sym (number_is y s u)) t))
+        by_case (y == s) (λ u. or_left (p y) _ (rw (number_is y s u) t))
         (λ d. or_right (p y) _ (some p ys s (later (y == s) (has ys s) e d) t))

@@ -3,9 +3,8 @@ use Rattle.flow_gate.specs.declared.ids.BufferId.{BufferId}
 use Rattle.flow_gate.specs.declared.ids.FlowId.{FlowId}
 use Rattle.flow_notes.specs.declared.events.PlainEvent.{PlainEvent}
 use Rattle.flow_notes.specs.declared.notes.Cause.{Cause}
-use Rattle.flow_notes.specs.declared.notes.Note.{Note}
 use Rattle.plain_laws.proofs.Counting.{one_if}
-use Rattle.plain_laws.proofs.Dooms.{doom_leaves, without}
+use Rattle.plain_laws.proofs.Dooms.{doom_leaves}
 use Rattle.plain_laws.proofs.Flags.{send_same}
 use Rattle.plain_laws.proofs.Keepings.{arrive_keeps, arrive_keeps_write, keeps_stream, out_keeps, pauses_keep, pauses_keep_write, start_keeps, start_keeps_write, stream_more, turn_keeps, turn_keeps_write, write_more}
 use Rattle.plain_laws.proofs.Onto.{pauses_leave}
@@ -22,7 +21,7 @@ use Rattle.plain_laws.specs.Pairs.{seconds}
 use Rattle.plain_laws.specs.Regular.{Rests}
 use Rattle.plain_laws.specs.Settled.{Settled}
 use Rattle.plain_laws.specs.StepNotes.{cut_notes, over_notes, room_notes}
-use Rattle.std.proofs.Common.{ap, refl, subst, sym, ◌∙◌}
+use Rattle.std.proofs.Common.{ap, refl, ◌∙◌}
 use Rattle.std.specs.Prelude.{Bool, List, [], drop, false, if◌then◌else◌, length, map, not, true, ℕ, ◌&&◌, ◌++◌, ◌+◌, ◌==◌, ◌∷◌, ◌≡◌}
 use Rattle.plain_laws.specs.Words.{Past, conn_high, conn_lows, conn_out, last_out, lows_of, past_begin, past_body, recv_at, send_at, send_high, turn_of}
 use Rattle.tape_laws.specs.Dispatches.{live, started, turns}
@@ -35,7 +34,6 @@ use Rattle.tape_laws.specs.PlainSession.{plain_must_end}
 use Rattle.tape_laws.specs.declared.limits.PlainLimits.{PlainLimits}
 use Rattle.wm_buffer.specs.Watermark.{above_after}
 use Rattle.flow_gate.specs.declared.ids.BufferId.TheVariants as buffer
-use Rattle.flow_notes.specs.declared.events.Event.TheVariants as event
 use Rattle.flow_notes.specs.declared.events.PlainEvent.TheVariants as plain
 use Rattle.flow_notes.specs.declared.notes.Cause.TheVariants as cause
 use Rattle.flow_notes.specs.declared.notes.Note.TheVariants as note
@@ -56,7 +54,7 @@ module _ (limits : PlainLimits) (k x : ℕ) (h : Past) where
   due = begin_due limits x h
 
   begin_onto : after ≡ onto (pause_notes due) begun
-  begin_onto = ap (λ (ns : List Note). onto ns begun) (one_pause (buffer.Write 0) x (conn_high limits h) (conn_high limits h) refl)
+  begin_onto = cc (one_pause (buffer.Write 0) x (conn_high limits h) (conn_high limits h) refl)
 
   -- what pauses leave, these notes leave as the turn and the start did
   pub begin_same : {A : Type 0} (F : Past → A) → ((f : FlowId) (b : BufferId) (h : Past) → F (Noted (note.Pause f b) ∷ h) ≡ F h) → F after ≡ F begun
@@ -64,48 +62,46 @@ module _ (limits : PlainLimits) (k x : ℕ) (h : Past) where
 
   pub begin_keeps : (y : ℕ) → KeepsStream limits y h after
   begin_keeps y =
-      subst (λ (v : Past). KeepsStream limits y h v) (sym begin_onto)
-      (stream_more limits y h begun _
+      rw begin_onto (stream_more limits y h begun _
       (stream_more limits y h (turn_of k (plain.Begin x) ∷ h) begun (turn_keeps limits y k (plain.Begin x) h refl refl) (start_keeps limits x y (turn_of k (plain.Begin x) ∷ h)))
       (pauses_keep limits y due begun))
 
   pub begin_keeps_write : KeepsWrite limits h after
   begin_keeps_write =
-      subst (λ (v : Past). KeepsWrite limits h v) (sym begin_onto)
-      (write_more limits h begun _ (write_more limits h (turn_of k (plain.Begin x) ∷ h) begun (turn_keeps_write limits k (plain.Begin x) h) (start_keeps_write limits x (turn_of k (plain.Begin x) ∷ h)))
+      rw begin_onto (write_more limits h begun _ (write_more limits h (turn_of k (plain.Begin x) ∷ h) begun (turn_keeps_write limits k (plain.Begin x) h) (start_keeps_write limits x (turn_of k (plain.Begin x) ∷ h)))
       (pauses_keep_write limits due begun))
 
   pub begin_live : live after ≡ live h ++ x ∷ []
-  begin_live = begin_same (λ v. live v) (λ f b v. refl)
+  begin_live = begin_same live (λ f b v. refl)
 
   pub begin_started : started after ≡ started h ++ x ∷ []
-  begin_started = begin_same (λ v. started v) (λ f b v. refl)
+  begin_started = begin_same started (λ f b v. refl)
 
   pub begin_condemned : condemned after ≡ condemned h
-  begin_condemned = begin_same (λ v. condemned v) (λ f b v. refl)
+  begin_condemned = begin_same condemned (λ f b v. refl)
 
   pub begin_turns : turns after ≡ turns h + 1
-  begin_turns = begin_same (λ v. turns v) (λ f b v. refl)
+  begin_turns = begin_same turns (λ f b v. refl)
 
   pub begin_framed_last : last_out limits after ≡ last_out limits h
-  begin_framed_last = begin_same (λ v. last_out limits v) (λ f b v. refl)
+  begin_framed_last = begin_same (last_out limits) (λ f b v. refl)
 
   pub begin_must : (y : ℕ) → plain_must_end y after ≡ plain_must_end y h
-  begin_must y = begin_same (λ v. plain_must_end y v) (λ f b v. refl)
+  begin_must y = begin_same (plain_must_end y) (λ f b v. refl)
 
   pub begin_paired : (y : ℕ) → paired_with y after ≡ paired_with y h
-  begin_paired y = begin_same (λ v. paired_with y v) (λ f b v. refl)
+  begin_paired y = begin_same (paired_with y) (λ f b v. refl)
 
   pub begin_resumed : (y : ℕ) → resumes (request y) after ≡ resumes (request y) h
-  begin_resumed y = begin_same (λ v. resumes (request y) v) (λ f b v. refl)
+  begin_resumed y = begin_same (resumes (request y)) (λ f b v. refl)
 
   pub begin_paused : (y : ℕ) → pauses (request y) after ≡ one_if ((x == y) && conn_high limits h) + pauses (request y) h
   begin_paused y =
-      ap (λ (v : Past). pauses (request y) v) begin_onto ∙ pauses_written y due begun
+      ap (pauses (request y)) begin_onto ∙ pauses_written y due begun
       ∙ ap (λ n. n + pauses (request y) h) (times (conn_high limits h) (x == y) refl)
     where
       times : (r b : Bool) → (x == y) ≡ b → owed_times y (due_if r (buffer.Write 0) (x ∷ [])) ≡ one_if (b && r)
-      times r true e = subst (λ (v : ℕ). owed_times v (due_if r (buffer.Write 0) (x ∷ [])) ≡ one_if r) (number_is x y e) (owed_one r (buffer.Write 0) x)
+      times r true e = rw (← number_is x y e) (owed_one r (buffer.Write 0) x)
       times r false e = owed_none r (buffer.Write 0) x y e
 
 -- ---- octets arrive
@@ -142,7 +138,7 @@ module _ (limits : PlainLimits) (k x : ℕ) where
       let turn : Step NoMark = turn_of k e in
       let quiet : lows_of limits y (turn ∷ h) ≡ [] = s.untold y in
       stream_more limits y h (turn ∷ h) (Noted (note.Doom x why) ∷ turn ∷ h) (turn_keeps limits y k e h ended pairs)
-      (keeps_stream limits y (Noted (note.Doom x why)) (turn ∷ h) (doom_leaves limits x y why (turn ∷ h) d (ap (without x) quiet ∙ sym quiet)) refl refl)
+      (keeps_stream limits y (Noted (note.Doom x why)) (turn ∷ h) (doom_leaves limits x y why (turn ∷ h) d (cc)) refl refl)
 
   pub over_keeps : (y : ℕ) (octets : List ℕ) (h : Past) → Settled limits h → (x == y) ≡ false → KeepsStream limits y h (onto (over_notes k x octets) h)
   over_keeps y octets h s d = doomed_keeps y (plain.Body x octets) (cause.StreamError 3) h s d refl refl

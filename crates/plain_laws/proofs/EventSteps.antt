@@ -1,8 +1,7 @@
 -- The effect of each event, from rest to a settled history.
 use Rattle.flow_notes.specs.declared.events.PlainEvent.{PlainEvent}
-use Rattle.flow_notes.specs.declared.notes.Note.{Note}
 use Rattle.plain_laws.proofs.Arrivals.{arrive_regular}
-use Rattle.plain_laws.proofs.Dooms.{doom_cut, doom_over, without}
+use Rattle.plain_laws.proofs.Dooms.{doom_cut, doom_over}
 use Rattle.plain_laws.proofs.Flags.{write_same}
 use Rattle.plain_laws.proofs.Followings.{begin_most, body_flowing, finish_flowing, pair_may}
 use Rattle.plain_laws.proofs.Outs.{out_regular}
@@ -14,7 +13,7 @@ use Rattle.plain_laws.specs.Owing.{due_if, nothing, owed}
 use Rattle.plain_laws.specs.Regular.{Regular, Rests}
 use Rattle.plain_laws.specs.Settled.{Settled}
 use Rattle.plain_laws.specs.StepNotes.{cut_notes, over_notes, room_notes}
-use Rattle.std.proofs.Common.{ap, arith, refl, subst, sym, ◌∙◌}
+use Rattle.std.proofs.Common.{arith, refl, subst, ◌∙◌}
 use Rattle.std.proofs.lemmas.List.{append-nil}
 use Rattle.std.specs.Prelude.{Bool, List, [], false, length, min, true, ℕ, ◌+◌, ◌-◌, ◌<◌, ◌∷◌, ◌≡◌, ◌≤◌}
 use Rattle.plain_laws.specs.Words.{Past, Alive, conn_high, conn_out, lows_of, past_begin, past_body, recv_at, turn_of}
@@ -23,7 +22,6 @@ use Rattle.tape_laws.specs.Following.{may_follow}
 use Rattle.tape_laws.specs.History.{NoMark, Noted, Step, onto}
 use Rattle.tape_laws.specs.declared.limits.PlainLimits.{PlainLimits}
 use Rattle.flow_gate.specs.declared.ids.BufferId.TheVariants as buffer
-use Rattle.flow_notes.specs.declared.events.Event.TheVariants as event
 use Rattle.flow_notes.specs.declared.events.PlainEvent.TheVariants as plain
 use Rattle.flow_notes.specs.declared.notes.Note.TheVariants as note
 
@@ -47,8 +45,7 @@ module _ (limits : PlainLimits) (k : ℕ) where
       let same : conn_high limits (turn ∷ h) ≡ high = write_same limits turn h refl in
       let most = begin_most limits x h r.regular m in
       let s = start_regular limits x (x - 1) (turn ∷ h) (turn_begin limits k x h r ek) refl most (less x some) in
-      subst (λ (ns : List Note). Settled limits (onto ns (start ∷ turn ∷ h))) (sym (one_pause (buffer.Write 0) x high high refl))
-      (pauses_settled limits _ (start ∷ turn ∷ h) (subst (λ (b : Bool). Regular limits (owed (due_if b (buffer.Write 0) (x ∷ []))) (start ∷ turn ∷ h)) same s) refl
+      rw (one_pause (buffer.Write 0) x high high refl) (pauses_settled limits _ (start ∷ turn ∷ h) (subst (λ (b : Bool). Regular limits (owed (due_if b (buffer.Write 0) (x ∷ []))) (start ∷ turn ∷ h)) same s) refl
       (λ y. turn_untold limits k y (plain.Begin x) h (rests_settled limits h r)))
     where
       less : (a : ℕ) → 0 < a → a - 1 < a
@@ -77,7 +74,7 @@ module _ (limits : PlainLimits) (k x : ℕ) (octets : List ℕ) (h : Past) where
       → limits.recv < length (recv_at limits x h) + length octets → Settled limits (onto (over_notes k x octets) h)
   over_step r ek is over = record {
     regular = doom_over limits k x octets h (turn_body_over limits k x octets h r ek is over) is;
-    untold = λ y. ap (without x) (turn_untold limits k y (plain.Body x octets) h (rests_settled limits h r));
+    untold = λ y. cc (turn_untold limits k y (plain.Body x octets) h (rests_settled limits h r));
   }
 
   -- octets of a stream that isn't live any more
@@ -90,7 +87,7 @@ module _ (limits : PlainLimits) (k : ℕ) where
   pub cut_step : (x : ℕ) (h : Past) → Rests limits h → k ≡ turns h + 1 → Alive h x → Settled limits (onto (cut_notes k x) h)
   cut_step x h r ek is = record {
     regular = doom_cut limits k x h (turn_cut limits k x h r ek is) is;
-    untold = λ y. ap (without x) (turn_untold limits k y (plain.Cut x) h (rests_settled limits h r));
+    untold = λ y. cc (turn_untold limits k y (plain.Cut x) h (rests_settled limits h r));
   }
 
   pub cut_late_step : (x : ℕ) (h : Past) → Rests limits h → k ≡ turns h + 1 → has (live h) x ≡ false

@@ -1,30 +1,31 @@
 -- One more note: what it needs of each law, and that the history with it is regular.
+use Rattle.plain_laws.proofs.Balances.{counted_at_step}
 use Rattle.flow_gate.specs.declared.ids.FlowId.{FlowId}
 use Rattle.flow_notes.specs.declared.notes.Note.{Note}
 use Rattle.plain_laws.proofs.Streams.{each_live}
-use Rattle.plain_laws.specs.Owing.{Owing, owed_times}
-use Rattle.plain_laws.specs.Regular.{Books, FlowBooks, Regular}
-use Rattle.std.proofs.Common.{ap, arith, subst, sym}
+use Rattle.plain_laws.specs.Owing.{Owing}
+use Rattle.plain_laws.specs.Regular.{Books, Regular}
+use Rattle.std.proofs.Common.{ap, subst, sym}
 use Rattle.std.proofs.Math.Seq.{take-append_seam}
 use Rattle.std.specs.Bool.{OnTrue}
 use Rattle.std.specs.List.{AllByRecursion}
-use Rattle.std.specs.Prelude.{Bool, List, [], drop, false, length, max, nat_lt, true, ℕ, ◌++◌, ◌+◌, ◌-◌, ◌∷◌, ◌≡◌, ◌≤◌}
-use Rattle.plain_laws.specs.Words.{Past, Alive, disabled_at, lows_at}
+use Rattle.std.specs.Prelude.{Bool, List, [], drop, false, length, max, nat_lt, true, ℕ, ◌++◌, ◌+◌, ◌∷◌, ◌≡◌, ◌≤◌}
+use Rattle.plain_laws.specs.Words.{Past, Alive}
 use Rattle.tape_laws.specs.Bounds.{IsBounded, StagesBounded}
 use Rattle.tape_laws.specs.Causes.{HasCause}
 use Rattle.tape_laws.specs.Demands.{Answers, MeetsFirst, OnlyAsked}
 use Rattle.tape_laws.specs.Doomed.{LeavesDoomed, SweepsLast}
 use Rattle.tape_laws.specs.Framing.{KeepsEnds}
 use Rattle.tape_laws.specs.Flows.{request}
-use Rattle.tape_laws.specs.History.{BeforeOthers, BeforeTurn, NoMark, Noted}
+use Rattle.tape_laws.specs.History.{BeforeTurn, NoMark, Noted}
 use Rattle.tape_laws.specs.Order.{InTurn}
-use Rattle.tape_laws.specs.Pauses.{IsCounted, PausesInOrder, count, lows, pauses, resumes}
+use Rattle.tape_laws.specs.Pauses.{PausesInOrder}
 use Rattle.tape_laws.specs.Plain.{plain_body, plain_setup}
 use Rattle.tape_laws.specs.PlainSession.{plain_session}
 use Rattle.tape_laws.specs.PlainTape.{IsPlainLawful}
 use Rattle.tape_laws.specs.Quiet.{IsQuiet}
 use Rattle.tape_laws.specs.Release.{MayStand}
-use Rattle.tape_laws.specs.Sources.{EachLive, disabled}
+use Rattle.tape_laws.specs.Sources.{EachLive}
 use Rattle.tape_laws.specs.Tied.{IsFront, IsTied}
 use Rattle.tape_laws.specs.Units.{Demand}
 use Rattle.tape_laws.specs.World.{out, received, recv, send}
@@ -34,7 +35,6 @@ use Rattle.tape_laws.specs.declared.limits.PlainLimits.{PlainLimits}
 pub record MayAdd (limits : PlainLimits) (n : Note) (h : Past) : Type 0 where
   pub allowed : MayStand (plain_setup limits) (Noted n) h
   pub paused : PausesInOrder (plain_setup limits) (Noted n) h
-  pub counted : BeforeOthers (IsCounted (plain_setup limits)) (Noted n) h
   pub ends : KeepsEnds (plain_setup limits) (Noted n) h
   pub in_turn : InTurn (plain_setup limits) (Noted n) h
   pub doomed : LeavesDoomed (Noted n) h
@@ -49,7 +49,7 @@ lawful_more : (limits : PlainLimits) (n : Note) (h : Past) → IsPlainLawful lim
 lawful_more limits n h l m bounded tied = record {
   allowed = (m.allowed, l.allowed);
   paused = (m.paused, l.paused);
-  counted = (m.counted, l.counted);
+  counted = (counted_at_step limits n h l m.paused, l.counted);
   bounded = (bounded, l.bounded);
   tied = (tied, l.tied);
   ends = (m.ends, l.ends);
@@ -90,21 +90,7 @@ pub tied_of : (limits : PlainLimits) (o : Owing) (h : Past) → Books limits o h
 tied_of limits o h s =
     each_live limits (λ g. IsFront (received g h) (plain_body g.exchange h)) h (λ x e. front_of _ _ (o.extra x) (s.each x e).read)
 
-settled : (p r d l n : ℕ) → n ≡ 0 → p + n ≡ r + (d + l) → p - r ≡ d + l
-settled p r d l n e t = omega (arith, e, t)
-
--- where no pause is due each count is that of its sources and lows
 module _ (limits : PlainLimits) (o : Owing) where
-  pub count_is : (x : ℕ) (h : Past) → FlowBooks limits o x h → o.due ≡ []
-      → count (request x) h ≡ disabled_at limits x h + lows_at limits x h
-  count_is x h f e =
-      settled (pauses (request x) h) (resumes (request x) h) (disabled_at limits x h) (lows_at limits x h)
-      (owed_times x o.due) (ap (owed_times x) e) f.tally
-
-  pub counted_of : (h : Past) → Books limits o h → o.due ≡ [] → IsCounted (plain_setup limits) h
-  counted_of h s e =
-      each_live limits (λ g. count g h ≡ disabled (plain_setup limits) g h + lows (plain_setup limits) g h) h (λ x is. count_is x h (s.each x is) e)
-
   pub regular_more : (o' : Owing) (n : Note) (h : Past) → Regular limits o h → MayAdd limits n h → Books limits o' (Noted n ∷ h)
       → Regular limits o' (Noted n ∷ h)
   regular_more o' n h r m s = record {

@@ -1,8 +1,8 @@
 -- The flag of a buffer, step by step.
 use Rattle.flow_gate.specs.declared.ids.FlowId.{FlowId}
-use Rattle.std.proofs.Common.{ap, arith, ◌∙◌}
+use Rattle.std.proofs.Common.{arith, ◌∙◌}
 use Rattle.std.proofs.lemmas.Bool.Decides.{nat_tests}
-use Rattle.std.specs.Prelude.{Bool, List, [], false, length, true, ℕ, ◌<◌, ◌∷◌, ◌≡◌, ◌≤◌}
+use Rattle.std.specs.Prelude.{Bool, [], false, true, ℕ, ◌<◌, ◌∷◌, ◌≡◌, ◌≤◌}
 use Rattle.plain_laws.specs.Words.{Past, conn_high, conn_out}
 use Rattle.tape_laws.specs.History.{NoMark, Step}
 use Rattle.tape_laws.specs.Plain.{plain_setup}
@@ -49,13 +49,13 @@ module _ (limits : PlainLimits) where
   pub send_same : (f : FlowId) (step : Step NoMark) (h : Past) → place (plain_setup limits) f 1 (step ∷ h) ≡ place (plain_setup limits) f 1 h
       → above (plain_setup limits) (buffer.Send f) (step ∷ h) ≡ above (plain_setup limits) (buffer.Send f) h
   send_same f step h e =
-      ap (λ (o : List ℕ). above_after limits.send (above (plain_setup limits) (buffer.Send f) h) (length o)) e ∙ send_now f h
+      cc (send_now f h)
 
   pub write_same : (step : Step NoMark) (h : Past) → conn_out limits (step ∷ h) ≡ conn_out limits h
       → conn_high limits (step ∷ h) ≡ conn_high limits h
   write_same step h e =
-      ap (λ (o : List ℕ). above_after limits.write (conn_high limits h) (length o)) e ∙ write_now h
+      cc (write_now h)
 
 -- a step that makes a buffer shorter doesn't make it rise
 pub no_rise : (l : ℕ) (w : Bool) (n k : ℕ) → above_after l w n ≡ w → k ≤ n → w ≡ false → above_after l w k ≡ false
-no_rise l w n k now le low = ap (λ v. above_after l v k) low ∙ low_less l w n k (now ∙ low) le
+no_rise l w n k now le low = cc (low_less l w n k (now ∙ low) le)

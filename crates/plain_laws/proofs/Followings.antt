@@ -1,12 +1,13 @@
 -- What the order of the events tells of the streams.
-use Rattle.plain_laws.proofs.Streams.{both_of, by_case, number_is, or_none}
+use Rattle.std.proofs.lemmas.Bool.{and_parts, or_parts, not-true}
+use Rattle.plain_laws.proofs.Streams.{by_case, number_is}
 use Rattle.plain_laws.specs.Owing.{nothing}
 use Rattle.plain_laws.specs.Pairs.{seconds}
 use Rattle.plain_laws.specs.Regular.{AtMost, Regular}
-use Rattle.std.proofs.Common.{ap, arith, refl, subst, sym, ◌∙◌}
-use Rattle.std.proofs.lemmas.Bool.Decides.{nat_tests}
+use Rattle.std.proofs.lemmas.Bool.{ltb-true}
+use Rattle.std.proofs.Common.{ap, arith, refl, sym, ◌∙◌}
 use Rattle.std.specs.List.{list_all}
-use Rattle.std.specs.Prelude.{Bool, List, [], false, if◌then◌else◌, nat_lt, not, true, ℕ, ◌&&◌, ◌++◌, ◌-◌, ◌<◌, ◌==◌, ◌||◌, ◌∷◌, ◌≡◌, ◌≤◌}
+use Rattle.std.specs.Prelude.{Bool, List, [], false, if◌then◌else◌, nat_lt, not, true, ℕ, ◌&&◌, ◌++◌, ◌-◌, ◌<◌, ◌==◌, ◌∷◌, ◌≡◌, ◌≤◌}
 use Rattle.plain_laws.specs.Words.{Past}
 use Rattle.tape_laws.specs.Dispatches.{events_back, has, started}
 use Rattle.tape_laws.specs.Following.{begun, cut, finished, is_flowing, may_follow, paired}
@@ -17,19 +18,18 @@ use Rattle.flow_notes.specs.declared.events.Event.TheVariants as event
 use Rattle.flow_notes.specs.declared.events.PlainEvent.TheVariants as plain
 use Rattle.flow_notes.specs.declared.notes.Note.TheVariants as note
 use Rattle.plain_laws.proofs.Streams.{or_true as later}
-use Rattle.plain_laws.proofs.Streams.{not_so}
 
 -- the end of a stream came where an event said so
 pub ended_is : (x : ℕ) (h : Past) → plain_ended x h ≡ has (finished (events_back h)) x
 ended_is x [] = refl
-ended_is x (Noted (note.Turn k (event.Plain (plain.Finish s))) ∷ past) = ap (λ b. (s == x) || b) (ended_is x past)
+ended_is x (Noted (note.Turn k (event.Plain (plain.Finish s))) ∷ past) = cc (ended_is x past)
 ended_is x (step ∷ past) = ended_is x past
 
 -- a stream that has no pair yet has no seconds
 pub seconds_none : (s : ℕ) (h : Past) → has (paired (events_back h)) s ≡ false → seconds s h ≡ []
 seconds_none s [] e = refl
 seconds_none s (Noted (note.Turn k (event.Plain (plain.Pair first second))) ∷ past) e =
-    let d = or_none (first == s) (has (paired (events_back past)) s) e in
+    let d = or_parts (first == s) (has (paired (events_back past)) s) e in
     ap (λ b. (if b then second ∷ [] else []) ++ seconds s past) d.0 ∙ seconds_none s past d.1
 seconds_none s (step ∷ past) e = seconds_none s past e
 
@@ -40,11 +40,8 @@ begun_is limits x h r = r.books.said x
 each_below : (s : ℕ) (xs : List ℕ) (y : ℕ) → list_all (λ t. nat_lt t s) xs ≡ true → has xs y ≡ true → y < s
 each_below s [] y a e = cc
 each_below s (x ∷ xs) y a e =
-    let k = both_of (nat_lt x s) (list_all (λ t. nat_lt t s) xs) a in
-    by_case (x == y) (λ t. subst (λ (v : ℕ). v < s) (number_is x y t) (below x s k.0)) (λ d. each_below s xs y k.1 (later (x == y) (has xs y) e d))
-  where
-    below : (a b : ℕ) → nat_lt a b ≡ true → a < b
-    below a b e = grind (arith, nat_tests)
+    let k = and_parts (nat_lt x s) (list_all (λ t. nat_lt t s) xs) a in
+    by_case (x == y) (λ t. rw (← number_is x y t) (ltb-true x s k.0)) (λ d. each_below s xs y k.1 (later (x == y) (has xs y) e d))
 
 -- a stream that may begin is above each that was started
 module _ (limits : PlainLimits) (s : ℕ) (h : Past) where
@@ -68,7 +65,7 @@ module _ (limits : PlainLimits) (s : ℕ) where
   flowing h r m =
       let es = events_back h in
       let k = three (has (begun es) s) (not (has (finished es) s)) (not (has (cut es) s)) m in
-      record { was = sym (begun_is limits s h r) ∙ k.0; goes_on = ended_is s h ∙ not_so (has (finished es) s) k.1 }
+      record { was = sym (begun_is limits s h r) ∙ k.0; goes_on = ended_is s h ∙ not-true (has (finished es) s) k.1 }
     where
       three : (a b c : Bool) → (a && b && c) ≡ true → (a ≡ true) × (b ≡ true)
       three true true c e = (refl, refl)

@@ -1,27 +1,26 @@
 -- A frame of the flow whose turn it is.
+use Rattle.plain_laws.proofs.Leaving.{flow_kept}
+use Rattle.std.proofs.lemmas.Bool.{and_parts as both_true}
 use Rattle.h2_frames.specs.Head.{data_head}
 use Rattle.plain_laws.specs.Words.{Past, Alive, conn_high, conn_lows, conn_out, end_out, frame_of, lows_of, next_out, recv_at, send_at, send_high}
 use Rattle.tape_laws.specs.Doomed.{is_swept}
 use Rattle.flow_gate.specs.declared.ids.FlowId.{FlowId}
-use Rattle.plain_laws.proofs.Counting.{flow_tally, one_if, send_flag, send_left, told_of}
-use Rattle.plain_laws.proofs.Extending.{MayAdd, counted_of, free_meets, nothing_owed, regular_more, under_test}
+use Rattle.plain_laws.proofs.Extending.{MayAdd, free_meets, nothing_owed, regular_more, under_test}
 use Rattle.plain_laws.proofs.Flags.{no_rise, send_now}
 use Rattle.plain_laws.proofs.Greatest.{dropped}
-use Rattle.plain_laws.proofs.Leaving.{Leaves, LeavesWords, flow_kept, lows_kept, once_kept, same_len, unborn_kept}
+use Rattle.plain_laws.proofs.Leaving.{Leaves, LeavesWords, lows_kept, once_kept, same_len, unborn_kept}
 use Rattle.plain_laws.proofs.Moves.{where_limited, write_within}
-use Rattle.plain_laws.proofs.Outs.{drain_books}
 use Rattle.plain_laws.proofs.Rises.{low_rises, rise_due}
 use Rattle.plain_laws.proofs.Rotation.{IsBodyUnit, body_unit, carried_is, carries_is, next_is_unit}
 use Rattle.plain_laws.proofs.Streams.{apart_from, by_case, differs_back, flow_is_live, not_both, own_or_other, same_number, same_request}
-use Rattle.plain_laws.proofs.Tellings.{live_owed, owed_if, told_append, told_own}
+use Rattle.plain_laws.proofs.Tellings.{live_owed}
 use Rattle.plain_laws.proofs.Watching.{send_watchers, write_watchers}
 use Rattle.plain_laws.specs.Owing.{Owing, due_if, nothing, owed}
 use Rattle.plain_laws.specs.Regular.{Books, FlowBooks, IsRising, Regular}
 use Rattle.std.proofs.Common.{ap, arith, inl, inr, length-append, length-drop, length-take, refl, sym, ◌∙◌}
-use Rattle.std.proofs.lemmas.Bool.Decides.{nat_tests}
 use Rattle.std.proofs.lemmas.List.{append-nil}
 use Rattle.std.specs.Prelude.{Bool, List, [], drop, false, if◌then◌else◌, length, max, min, nat_lt, not, take, true, ℕ, ◌&&◌, ◌++◌, ◌+◌, ◌<◌, ◌==◌, ◌||◌, ◌∷◌, ◌≡◌, ◌≤◌, ◌⊎◌}
-use Rattle.tape_laws.specs.Dispatches.{has, live, started}
+use Rattle.tape_laws.specs.Dispatches.{live, started}
 use Rattle.flow_rules.specs.declared.unit.Unit.TheVariants.{Body as BodyUnit}
 use Rattle.tape_laws.specs.Flows.{request}
 use Rattle.tape_laws.specs.History.{NoMark, Step}
@@ -32,7 +31,6 @@ use Rattle.tape_laws.specs.Sources.{watchers}
 use Rattle.tape_laws.specs.declared.limits.PlainLimits.{PlainLimits}
 use Rattle.flow_gate.specs.declared.ids.BufferId.TheVariants as buffer
 use Rattle.flow_notes.specs.declared.notes.Note.TheVariants as note
-use Rattle.plain_laws.proofs.Streams.{both_of as both_true}
 use Rattle.plain_laws.proofs.Streams.{number_is as zero_of}
 
 pub frame_leaves : (limits : PlainLimits) (x y n : ℕ) (last : Bool) (h : Past) → (x == y) ≡ false → Leaves limits y (frame_of x n last) h
@@ -52,7 +50,7 @@ pub frame_words : (x y n : ℕ) (last : Bool) (h : Past) → (x == y) ≡ false 
 frame_words x y n last h e alone = record {
   ended = refl;
   pairs = refl;
-  must = ap (λ ps. (last && has (y ∷ ps) x) || plain_must_end y h) alone ∙ neither last (y == x) (plain_must_end y h) (differs_back x y e);
+  must = cc (neither last (y == x) (plain_must_end y h) (differs_back x y e));
 }
   where
     neither : (l d m : Bool) → d ≡ false → ((l && (d || false)) || m) ≡ m
@@ -86,12 +84,11 @@ frame_may limits x n last h s fresh is low next =
       allowed = record {
         live = flow_is_live limits x h is;
         to = refl;
-        write = record { opened = ap (λ (cs : List ℕ). has cs 0) s.opened; low = low };
+        write = record { opened = cc; low = low };
         all = u.all ∙ sym (carried_is limits x h);
         some = u.some;
       };
       paused = s.due;
-      counted = counted_of limits nothing h s refl;
       ends = record { exactly = u.ends ∙ sym (carries_is limits x n h); once = frame_once limits nothing x n last h (s.each x is) next; after_head = refl };
       in_turn = next;
       doomed = is;
@@ -156,10 +153,7 @@ told_once limits o x n last h r is f =
         → (lows_of limits x (frame_of x n last ∷ h) ≡ [])
         ⊎ ((lows_of limits x (frame_of x n last ∷ h) ≡ request x ∷ [])
         × (send_high limits x (frame_of x n last ∷ h) ≡ false))
-    was_high true e t none = inl (lows_after limits x n last h r is ∙ ap (λ (fs : List FlowId). fs ++ (if send_high limits x h
-        && not (send_high limits x (frame_of x n last ∷ h)) then request x ∷ [] else [])) none
-        ∙ ap (λ b. if b && not (send_high limits x (frame_of x n last ∷ h)) then request x ∷ [] else []) t
-        ∙ ap (λ b. if not b then request x ∷ [] else []) e)
+    was_high true e t none = inl (cc (lows_after limits x n last h r is))
     was_high false e t none = inr (
       lows_after limits x n last h r is ∙ ap (λ (fs : List FlowId). fs ++ (if send_high limits x h
           && not (send_high limits x (frame_of x n last ∷ h)) then request x ∷ [] else [])) none
@@ -170,9 +164,7 @@ told_once limits o x n last h r is f =
 
     kept : send_high limits x h ≡ false
         → lows_of limits x (frame_of x n last ∷ h) ≡ lows_of limits x h
-    kept d = lows_after limits x n last h r is
-        ∙ ap (λ b. lows_of limits x h ++ (if b && not (send_high limits x (frame_of x n last ∷ h)) then request x ∷ [] else [])) d
-        ∙ append-nil (lows_of limits x h)
+    kept d = cc (lows_after limits x n last h r is, append-nil (lows_of limits x h))
 
     was_low : send_high limits x h ≡ false
         → (lows_of limits x h ≡ [])
@@ -183,25 +175,6 @@ told_once limits o x n last h r is f =
     was_low d (inl e) = inl (kept d ∙ e)
     was_low d (inr e) = inr (kept d ∙ e.0, frame_low limits x n last h d)
 
--- how often the send buffer is to be told, and its flag, make one
-send_balance : (limits : PlainLimits) (x n : ℕ) (last : Bool) (h : Past) → IsRising (live h) → Alive h x
-    → send_flag limits x (frame_of x n last ∷ h) + send_left limits x (frame_of x n last ∷ h) ≡ send_flag limits x h + send_left limits x h
-send_balance limits x n last h r is =
-    let w = send_high limits x h in
-    let a = send_high limits x (frame_of x n last ∷ h) in
-    sums _ _ _ _ _
-    (ap (told_of x) (lows_after limits x n last h r is)
-    ∙ told_append x (lows_of limits x h) (if w && not a then request x ∷ [] else [])
-    ∙ ap (λ k. send_left limits x h + k) (once (w && not a)))
-    (drain_books w a (frame_low limits x n last h))
-  where
-    once : (b : Bool) → told_of x (if b then request x ∷ [] else []) ≡ one_if b
-    once true = told_own x []
-    once false = refl
-
-    sums : (a w s s' d : ℕ) → s' ≡ s + d → w ≡ a + d → a + s' ≡ w + s
-    sums a w s s' d e f = omega arith
-
 frame_own : (limits : PlainLimits) (x n : ℕ) (last : Bool) (h : Past) → Books limits nothing h → Alive h x
     → conn_high limits h ≡ false → next_out limits h ≡ Flows (request x) (BodyUnit n last)
     → FlowBooks limits (after_frame limits x n last h) x (frame_of x n last ∷ h)
@@ -211,15 +184,11 @@ frame_own limits x n last h s is low next =
     let u = frame_unit limits x n last h next in
     let once = frame_once limits nothing x n last h f next in
     let recv_is : recv_at limits x (step ∷ h) ≡ recv_at limits x h = rw (same_number x) refl in
-    let write_is : conn_lows limits (step ∷ h) ≡ conn_lows limits h = append-nil _ in
     let framed_is : end_out limits x (step ∷ h) ≡ (last || end_out limits x h) = rw (same_number x) refl in
     record {
-      tally = flow_tally limits [] (after_frame limits x n last h).due x step h
-          (balance _ _ _ _ _ _ _ _ _ _ _ (ap one_if low)
-          (owed_if (conn_high limits (step ∷ h)) (buffer.Write 0) (live h) x s.rising is) (ap (told_of x) write_is) (send_balance limits x n last h s.rising is)) f.tally;
       send_low = told_once limits nothing x n last h s.rising is f;
       recv_room = same_len _ _ limits.recv recv_is f.recv_room;
-      send_room = under_test (nat_lt 0 limits.send) _ _ (λ le. less _ _ _ (send_less limits x n last h) le) f.send_room;
+      send_room = under_test (nat_lt 0 limits.send) _ _ (less _ _ _ (send_less limits x n last h)) f.send_room;
       read = f.read;
       over = λ t.
           let ended : last ≡ true = by_case last (λ t. t) (λ d. not_both (end_out limits x h) (sym (ap (λ b. b || end_out limits x h) d) ∙ sym framed_is ∙ t) once) in
@@ -228,10 +197,6 @@ frame_own limits x n last h s is low next =
       unframed = f.unframed;
     }
   where
-    balance : (p r a w s m o' a' w' s' m' : ℕ) → w ≡ 0 → o' ≡ w' → m' ≡ m → a' + s' ≡ a + s
-        → (p + o') + (r + ((a + w) + (s + m))) ≡ (p + 0) + (r + ((a' + w') + (s' + m')))
-    balance p r a w s m o' a' w' s' m' ew eo em e = omega arith
-
     less : (a b l : ℕ) → a ≤ b → b ≤ l → a ≤ l
     less a b l e f = omega arith
 
@@ -265,8 +230,7 @@ frame_books limits x n last h s is low next =
       born = s.born;
       said = s.said;
       each = λ y e. own_or_other (λ z. FlowBooks limits (after_frame limits x n last h) z (step ∷ h)) x y (frame_own limits x n last h s is low next)
-          (λ d. flow_kept limits nothing (after_frame limits x n last h) y step h (frame_leaves limits x y n last h d) (s.each y e)
-          (risen _ _ _ _ _ (ap one_if low) (owed_if a (buffer.Write 0) (live h) y s.rising e) (ap (told_of y) lows_same)) refl (s.each y e).unframed);
+          (λ d. flow_kept limits nothing (after_frame limits x n last h) y step h (frame_leaves limits x y n last h d) (s.each y e) refl (s.each y e).unframed);
       unborn = λ y e. let d = apart_from (started h) x y (s.born x is) e in let v = s.unborn y e in
           unborn_kept limits y step h (frame_leaves limits x y n last h d) (frame_words x y n last h d v.alone) v;
       owed = live_owed a (buffer.Write 0) (live h) (live h) (λ y e. e);
@@ -275,16 +239,13 @@ frame_books limits x n last h s is low next =
       hushed = λ y e. (frame_leaves limits x y n last h (apart_from (live h) x y is e)).send_lows ∙ s.hushed y e;
     }
   where
-    risen : (w m o' w' m' : ℕ) → w ≡ 0 → o' ≡ w' → m' ≡ m → o' + (w + m) ≡ 0 + (w' + m')
-    risen w m o' w' m' ew eo em = omega arith
-
     few : (n q l : ℕ) → n ≡ min q l → n ≤ q
     few n q l e = omega (arith, e)
 
     grown : (xs ys : List ℕ) (n l q : ℕ) → length xs ≤ l → n ≤ q → length (xs ++ (data_head x n last ++ take n ys)) ≤ l + max 65536 (q + 9)
     grown xs ys n l q le fits =
         let k : length (xs ++ (data_head x n last ++ take n ys)) ≡ length xs + (9 + length (take n ys)) =
-        length-append xs (data_head x n last ++ take n ys) ∙ ap (λ m. length xs + m) (length-append (data_head x n last) (take n ys)) in
+        cc (length-append xs (data_head x n last ++ take n ys), length-append (data_head x n last) (take n ys)) in
         omega (arith, k, le, fits, length-take n ys)
 
 pub frame_regular : (limits : PlainLimits) (x n : ℕ) (last : Bool) (h : Past) → Regular limits nothing h → is_swept h ≡ false → Alive h x

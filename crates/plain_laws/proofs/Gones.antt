@@ -1,10 +1,10 @@
 -- A doomed stream is gone.
-use Rattle.plain_laws.proofs.Counting.{told_of}
-use Rattle.plain_laws.proofs.Extending.{MayAdd, counted_of, free_meets, nothing_owed, regular_more}
-use Rattle.plain_laws.proofs.Leaving.{Leaves, flow_other, lows_kept, once_kept, room_kept, unborn_kept}
+use Rattle.plain_laws.proofs.Leaving.{flow_kept}
+use Rattle.plain_laws.proofs.Extending.{MayAdd, free_meets, nothing_owed, regular_more}
+use Rattle.plain_laws.proofs.Leaving.{Leaves, lows_kept, once_kept, room_kept, unborn_kept}
 use Rattle.plain_laws.specs.Owing.{nothing}
 use Rattle.plain_laws.specs.Regular.{Books, Regular}
-use Rattle.std.proofs.Common.{ap, refl, subst, sym}
+use Rattle.std.proofs.Common.{refl, subst, sym}
 use Rattle.std.specs.Prelude.{List, ℕ, ◌∷◌, ◌≡◌}
 use Rattle.plain_laws.specs.Words.{Past, conn_lows, conn_out}
 use Rattle.tape_laws.specs.Dispatches.{live}
@@ -12,7 +12,6 @@ use Rattle.tape_laws.specs.Doomed.{condemned}
 use Rattle.tape_laws.specs.History.{NoMark, Noted, Step}
 use Rattle.tape_laws.specs.Pauses.{Heads}
 use Rattle.tape_laws.specs.declared.limits.PlainLimits.{PlainLimits}
-use Rattle.flow_gate.specs.declared.ids.BufferId.TheVariants as buffer
 use Rattle.flow_notes.specs.declared.notes.Note.TheVariants as note
 
 pub gone_leaves : (limits : PlainLimits) (x y : ℕ) (h : Past) → Leaves limits y (Noted (note.Gone x)) h
@@ -31,7 +30,6 @@ gone_may : (limits : PlainLimits) (x : ℕ) (rest : List ℕ) (h : Past) → Boo
 gone_may limits x rest h s e = record {
   allowed = tt;
   paused = s.due;
-  counted = counted_of limits nothing h s refl;
   ends = tt;
   in_turn = tt;
   doomed = subst (Heads x) (sym e) refl;
@@ -57,7 +55,7 @@ gone_books limits x h s =
       rising = s.rising;
       born = s.born;
       said = s.said;
-      each = λ y e. flow_other limits nothing nothing y step h (gone_leaves limits x y h) (s.each y e) out_same (ap (told_of y) lows_same) refl refl (s.each y e).unframed;
+      each = λ y e. flow_kept limits nothing nothing y step h (gone_leaves limits x y h) (s.each y e) refl (s.each y e).unframed;
       unborn = λ y e. unborn_kept limits y step h (gone_leaves limits x y h) (record { ended = refl; pairs = refl; must = refl }) (s.unborn y e);
       owed = tt;
       write_lows = lows_kept (live h) lows_same s.write_lows;

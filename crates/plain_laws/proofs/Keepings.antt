@@ -4,7 +4,7 @@ use Rattle.flow_gate.specs.declared.ids.FlowId.{FlowId}
 use Rattle.flow_notes.specs.declared.events.PlainEvent.{PlainEvent}
 use Rattle.flow_notes.specs.declared.notes.Cause.{Cause}
 use Rattle.plain_laws.proofs.Arrivals.{arrive_leaves}
-use Rattle.plain_laws.proofs.Dooms.{doom_leaves, without}
+use Rattle.plain_laws.proofs.Dooms.{doom_leaves}
 use Rattle.plain_laws.proofs.Flags.{send_same, write_same}
 use Rattle.plain_laws.proofs.Gones.{gone_leaves}
 use Rattle.plain_laws.proofs.Greatest.{peak_kept}
@@ -17,7 +17,7 @@ use Rattle.plain_laws.specs.Keeping.{KeepsLists, KeepsStream, KeepsWrite}
 use Rattle.plain_laws.specs.Owing.{pause_notes}
 use Rattle.plain_laws.specs.Pairs.{seconds}
 use Rattle.plain_laws.specs.Settled.{Settled}
-use Rattle.std.proofs.Common.{ap, refl, sym, ◌∙◌}
+use Rattle.std.proofs.Common.{refl, ◌∙◌}
 use Rattle.std.specs.Prelude.{List, [], drop, false, ℕ, ◌==◌, ◌∷◌, ◌≡◌}
 use Rattle.plain_laws.specs.Words.{Past, conn_high, conn_lows, conn_out, turn_of}
 use Rattle.tape_laws.specs.Flows.{request}
@@ -26,7 +26,6 @@ use Rattle.tape_laws.specs.Pauses.{Owed}
 use Rattle.tape_laws.specs.Plain.{plain_ended}
 use Rattle.tape_laws.specs.declared.limits.PlainLimits.{PlainLimits}
 use Rattle.flow_gate.specs.declared.ids.BufferId.TheVariants as buffer
-use Rattle.flow_notes.specs.declared.events.Event.TheVariants as event
 use Rattle.flow_notes.specs.declared.notes.Note.TheVariants as note
 
 pub keeps_stream : (limits : PlainLimits) (x : ℕ) (step : Step NoMark) (h : Past) → Leaves limits x step h → plain_ended x (step ∷ h) ≡ plain_ended x h
@@ -166,7 +165,7 @@ module _ (limits : PlainLimits) where
   -- another stream than the doomed one, whose send buffer's low isn't pending
   pub doom_keeps : (x y : ℕ) (why : Cause) (h : Past) → Settled limits h → (x == y) ≡ false → KeepsStream limits y h (Noted (note.Doom x why) ∷ h)
   doom_keeps x y why h s d =
-      keeps_stream limits y (Noted (note.Doom x why)) h (doom_leaves limits x y why h d (ap (without x) (s.untold y) ∙ sym (s.untold y))) refl refl
+      keeps_stream limits y (Noted (note.Doom x why)) h (doom_leaves limits x y why h d (cc (s.untold y))) refl refl
 
 module _ (limits : PlainLimits) (x : ℕ) (why : Cause) (h : Past) where
   pub doom_out : conn_out limits (Noted (note.Doom x why) ∷ h) ≡ conn_out limits h

@@ -1,15 +1,14 @@
 -- What a step leaves of a stream that it isn't about.
-use Rattle.plain_laws.proofs.Counting.{flow_tally, one_if, told_of, write_flag, write_left}
 use Rattle.plain_laws.proofs.Extending.{under_test}
-use Rattle.plain_laws.proofs.Flags.{send_same, write_same}
+use Rattle.plain_laws.proofs.Flags.{send_same}
 use Rattle.plain_laws.proofs.Greatest.{peak_kept}
 use Rattle.plain_laws.proofs.Streams.{same_number}
-use Rattle.plain_laws.specs.Owing.{Owing, only, owed_times}
+use Rattle.plain_laws.specs.Owing.{Owing, only}
 use Rattle.plain_laws.specs.Regular.{FlowBooks, IsUnborn, IsLiveFlow, IsRising}
-use Rattle.std.proofs.Common.{ap, arith, inl, inr, refl, subst, sym, ◌∙◌, map}
+use Rattle.std.proofs.Common.{inl, inr, refl, subst, sym, ◌∙◌, map}
 use Rattle.std.specs.Bool.{OnTrue}
-use Rattle.std.specs.Prelude.{Bool, List, [], false, if◌then◌else◌, length, nat_lt, ℕ, ◌++◌, ◌+◌, ◌==◌, ◌∷◌, ◌≡◌, ◌≤◌, ◌⊎◌, max}
-use Rattle.plain_laws.specs.Words.{Past, conn_out, end_out, lows_of, recv_at, send_at, send_high}
+use Rattle.std.specs.Prelude.{Bool, List, [], false, length, nat_lt, ℕ, ◌++◌, ◌+◌, ◌==◌, ◌∷◌, ◌≡◌, ◌≤◌, ◌⊎◌, max}
+use Rattle.plain_laws.specs.Words.{Past, end_out, lows_of, recv_at, send_at, send_high}
 use Rattle.tape_laws.specs.Dispatches.{before_dispatch}
 use Rattle.tape_laws.specs.Flows.{request}
 use Rattle.tape_laws.specs.History.{NoMark, Step}
@@ -51,15 +50,15 @@ unborn_kept limits x step h l w u = record {
   alone = w.pairs ∙ u.alone;
   unframed = l.framed ∙ u.unframed;
   may_live = w.must ∙ u.may_live;
-  recv_peak = peak_kept limits (buffer.Recv (request x)) step h (ap length l.recv) refl ∙ u.recv_peak;
-  send_peak = peak_kept limits (buffer.Send (request x)) step h (ap length l.send) refl ∙ u.send_peak;
+  recv_peak = peak_kept limits (buffer.Recv (request x)) step h (cc) refl ∙ u.recv_peak;
+  send_peak = peak_kept limits (buffer.Send (request x)) step h (cc) refl ∙ u.send_peak;
 }
 
 pub same_len : (xs ys : List ℕ) (n : ℕ) → xs ≡ ys → length ys ≤ n → length xs ≤ n
-same_len xs ys n e h = subst (λ (v : List ℕ). length v ≤ n) (sym e) h
+same_len xs ys n e h = rw e h
 
 pub same_len_if : (b : Bool) (xs ys : List ℕ) (n : ℕ) → xs ≡ ys → OnTrue b (length ys ≤ n) → OnTrue b (length xs ≤ n)
-same_len_if b xs ys n e t = under_test b (length ys ≤ n) (length xs ≤ n) (λ le. same_len xs ys n e le) t
+same_len_if b xs ys n e t = under_test b (length ys ≤ n) (length xs ≤ n) (same_len xs ys n e) t
 
 -- a write buffer that stays as it was is within its bound, and is to be told to the same flows, each once
 pub room_kept : (limits : PlainLimits) {xs ys : List ℕ} → xs ≡ ys → OnTrue (nat_lt 0 limits.write) (length ys ≤ limits.write + max 65536 (limits.quantum + 9)) → OnTrue (nat_lt 0 limits.write) (length xs ≤ limits.write + max 65536 (limits.quantum + 9))
@@ -69,7 +68,7 @@ pub lows_kept : (streams : List ℕ) {xs ys : List FlowId} → xs ≡ ys → All
 lows_kept streams e all = subst (AllByRecursion (IsLiveFlow streams)) (sym e) all
 
 pub once_kept : {xs ys : List FlowId} → xs ≡ ys → IsRising (map (λ f. f.exchange) ys) → IsRising (map (λ f. f.exchange) xs)
-once_kept e r = subst (λ (fs : List FlowId). IsRising (map (λ f. f.exchange) fs)) (sym e) r
+once_kept e r = rw e r
 
 -- a send buffer that stays as it was is still to be told at most once
 pub send_low_kept : (limits : PlainLimits) (x : ℕ) (step : Step NoMark) (h : Past)
@@ -82,13 +81,10 @@ pub send_low_kept : (limits : PlainLimits) (x : ℕ) (step : Step NoMark) (h : P
 send_low_kept limits x step h es el (inl e) = inl (el ∙ e)
 send_low_kept limits x step h es el (inr e) = inr (el ∙ e.0, send_same limits (request x) step h es ∙ e.1)
 
--- the books of a stream that the step isn't about: what the write buffer adds to its count is owed
+-- the books of a stream that the step isn't about
 pub flow_kept : (limits : PlainLimits) (o o' : Owing) (x : ℕ) (step : Step NoMark) (h : Past) → Leaves limits x step h → FlowBooks limits o x h
-    → owed_times x o'.due + (write_flag limits h + write_left limits x h) ≡ owed_times x o.due + (write_flag limits (step ∷ h) + write_left limits x (step ∷ h))
     → o'.extra x ≡ o.extra x → end_out limits x (before_dispatch (step ∷ h)) ≡ false → FlowBooks limits o' x (step ∷ h)
-flow_kept limits o o' x step h l f e extra before = record {
-  tally = flow_tally limits o.due o'.due x step h
-      (stepped _ _ _ _ _ _ _ _ _ _ _ _ _ _ l.paused l.resumed (ap one_if (send_same limits (request x) step h l.send)) (ap (told_of x) l.send_lows) e) f.tally;
+flow_kept limits o o' x step h l f extra before = record {
   send_low = send_low_kept limits x step h l.send l.send_lows f.send_low;
   recv_room = same_len _ _ limits.recv l.recv f.recv_room;
   send_room = same_len_if (nat_lt 0 limits.send) _ _ (limits.send + limits.quantum) l.send f.send_room;
@@ -97,28 +93,13 @@ flow_kept limits o o' x step h l f e extra before = record {
   unframed = before;
 }
   where
-    stepped : (p o r a w s m p' o' r' a' w' s' m' : ℕ) → p' ≡ p → r' ≡ r → a' ≡ a → s' ≡ s → o' + (w + m) ≡ o + (w' + m')
-        → (p' + o') + (r + ((a + w) + (s + m))) ≡ (p + o) + (r' + ((a' + w') + (s' + m')))
-    stepped p o r a w s m p' o' r' a' w' s' m' ep er ea es e = omega arith
-
     rests : (r e r' e' : List ℕ) → r' ≡ r → e' ≡ e → r ++ e ≡ r' ++ e'
     rests r e r' e' er ee = rw (er, ee) refl
-
--- where the write buffer stays as it was
-pub flow_other : (limits : PlainLimits) (o o' : Owing) (x : ℕ) (step : Step NoMark) (h : Past) → Leaves limits x step h → FlowBooks limits o x h
-    → conn_out limits (step ∷ h) ≡ conn_out limits h → write_left limits x (step ∷ h) ≡ write_left limits x h
-    → owed_times x o'.due ≡ owed_times x o.due → o'.extra x ≡ o.extra x → end_out limits x (before_dispatch (step ∷ h)) ≡ false
-    → FlowBooks limits o' x (step ∷ h)
-flow_other limits o o' x step h l f eo ew ed extra before =
-    flow_kept limits o o' x step h l f (same _ _ _ _ _ _ ed (ap one_if (write_same limits step h eo)) ew) extra before
-  where
-    same : (o w m o' w' m' : ℕ) → o' ≡ o → w' ≡ w → m' ≡ m → o' + (w + m) ≡ o + (w' + m')
-    same o w m o' w' m' eo ew em = omega arith
 
 -- ---- what came of a stream's body
 
 pub only_own : (s : ℕ) (octets : List ℕ) → only s octets s ≡ octets
-only_own s octets = ap (λ b. if b then octets else []) (same_number s)
+only_own s octets = cc (same_number s)
 
 pub only_other : (s x : ℕ) (octets : List ℕ) → (s == x) ≡ false → only s octets x ≡ []
-only_other s x octets e = ap (λ b. if b then octets else []) e
+only_other s x octets e = cc

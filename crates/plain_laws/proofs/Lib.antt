@@ -1,6 +1,6 @@
 pub mod Above
 pub mod Arrivals
-pub mod Carrying
+pub mod Balances
 pub mod Changes
 pub mod Counting
 pub mod Counts

@@ -1,17 +1,20 @@
 -- A readable flow moves what its receive buffer may release.
+use Rattle.plain_laws.proofs.Leaving.{flow_kept}
+use Rattle.plain_laws.proofs.Balances.{count_is}
 use Rattle.plain_laws.specs.Words.{Past, Alive, conn_high, conn_lows, conn_out, lows_of, move_of, recv_at, send_at, send_high}
 use Rattle.tape_laws.specs.Doomed.{is_swept}
-use Rattle.plain_laws.proofs.Counting.{disabled_is, flow_tally, lows_are, one_if, send_left, told_of, write_left}
-use Rattle.plain_laws.proofs.Extending.{MayAdd, count_is, counted_of, free_meets, nothing_owed, regular_more}
-use Rattle.plain_laws.proofs.Flags.{low_len, send_now, write_now, write_same}
-use Rattle.plain_laws.proofs.Leaving.{Leaves, flow_other, lows_kept, once_kept, room_kept, unborn_kept}
+use Rattle.plain_laws.proofs.Counting.{disabled_is, lows_are, one_if, send_left, told_of, write_left}
+use Rattle.plain_laws.proofs.Extending.{MayAdd, free_meets, nothing_owed, regular_more}
+use Rattle.plain_laws.proofs.Flags.{low_len, send_now, write_now}
+use Rattle.plain_laws.proofs.Leaving.{Leaves, lows_kept, once_kept, room_kept, unborn_kept}
 use Rattle.plain_laws.proofs.Rises.{low_rises, rise_due}
 use Rattle.plain_laws.proofs.Streams.{apart_from, flow_is_live, has_one, number_is, own_or_other, same_number}
-use Rattle.plain_laws.proofs.Tellings.{live_owed, owed_none, owed_one, told_own}
+use Rattle.plain_laws.proofs.Tellings.{live_owed, told_own}
 use Rattle.plain_laws.proofs.Watching.{send_watchers}
 use Rattle.plain_laws.specs.Owing.{Owing, due_if, nothing, owed}
 use Rattle.plain_laws.specs.Regular.{Books, FlowBooks, Regular}
-use Rattle.std.proofs.Common.{ap, arith, inl, inr, length-append, length-drop, length-take, refl, subst, sym, ◌∙◌}
+use Rattle.std.proofs.lemmas.Bool.{lt-ltb}
+use Rattle.std.proofs.Common.{ap, arith, inl, inr, length-append, length-drop, length-take, refl, sym, ◌∙◌}
 use Rattle.std.proofs.lemmas.Bool.Decides.{nat_tests}
 use Rattle.std.proofs.lemmas.List.{append-nil}
 use Rattle.std.specs.Bool.{OnTrue}
@@ -37,15 +40,15 @@ sums_none : (c d l a w s m : ℕ) → c ≡ d + l → d ≡ a + w → l ≡ s + 
 sums_none c d l a w s m e ed el z = omega arith
 
 module _ (limits : PlainLimits) (x : ℕ) (h : Past) where
-  readable_none : FlowBooks limits nothing x h → count (request x) h ≡ 0
+  readable_none : Regular limits nothing h → Alive h x → count (request x) h ≡ 0
       → (send_high limits x h ≡ false) × (conn_high limits h ≡ false) × (send_left limits x h ≡ 0)
-  readable_none f z =
-      low_of _ _ (send_left limits x h) (write_left limits x h) (sums_none _ _ _ _ _ _ _ (count_is limits nothing x h f refl) (disabled_is limits x h) (lows_are limits x h) z)
+  readable_none r is z =
+      low_of _ _ (send_left limits x h) (write_left limits x h) (sums_none _ _ _ _ _ _ _ (count_is limits x h r.lawful r.books.due is) (disabled_is limits x h) (lows_are limits x h) z)
 
   -- a readable flow has no source above, and nothing to be told
   pub readable_low : Regular limits nothing h → Alive h x → count (request x) h ≡ 0
       → (send_high limits x h ≡ false) × (conn_high limits h ≡ false)
-  readable_low r is readable = let k = readable_none (r.books.each x is) readable in (k.0, k.1)
+  readable_low r is readable = let k = readable_none r is readable in (k.0, k.1)
 
 -- a send buffer that isn't to be told is empty of lows
 pub untold : (limits : PlainLimits) (o : Owing) (x : ℕ) (h : Past) → FlowBooks limits o x h → send_left limits x h ≡ 0 → lows_of limits x h ≡ []
@@ -55,7 +58,7 @@ untold limits o x h f z = pick f.send_low z
         ⊎ ((lows_of limits x h ≡ request x ∷ []) × (send_high limits x h ≡ false))
         → send_left limits x h ≡ 0 → lows_of limits x h ≡ []
     pick (inl e) z = e
-    pick (inr e) z = absurd (one_isnt (told_of x (request x ∷ [])) (told_own x []) (sym (ap (told_of x) e.0) ∙ z))
+    pick (inr e) z = absurd (one_isnt (told_of x (request x ∷ [])) (told_own x []) (cc))
       where
         one_isnt : (n : ℕ) → n ≡ 1 + 0 → n ≡ 0 → ⊥
         one_isnt n e f = omega (arith, e, f)
@@ -67,21 +70,18 @@ let_go_at c n = if c == 0 then n else 0
 abbrev pub first_place : Bool → Option ℕ
 first_place b = if b then Some 0 else None
 
-positive : (n : ℕ) → 0 < n → nat_lt 0 n ≡ true
-positive n e = grind (arith, nat_tests)
-
-move_may : (limits : PlainLimits) (x n : ℕ) (h : Past) → Books limits nothing h → is_swept h ≡ false → Alive h x → count (request x) h ≡ 0
+move_may : (limits : PlainLimits) (x n : ℕ) (h : Past) → Regular limits nothing h → is_swept h ≡ false → Alive h x → count (request x) h ≡ 0
     → 0 < n → n ≡ min limits.quantum (length (recv_at limits x h)) → MayAdd limits (note.Move (request x) 0 n) h
-move_may limits x n h s fresh is readable some all =
-    let k = readable_none limits x h (s.each x is) readable in
+move_may limits x n h r fresh is readable some all =
+    let s = r.books in
+    let k = readable_none limits x h r is readable in
     record {
       allowed = record {
         live = flow_is_live limits x h is;
-        last = free_first (count (request x) h) _ _ _ readable (subst (λ (v : ℕ). 0 < v) all some) k.0 k.1;
-        all = all ∙ sym (ap (λ c. let_go_at c (min limits.quantum (length (recv_at limits x h)))) readable);
+        last = free_first (count (request x) h) _ _ _ readable (rw (← all) some) k.0 k.1;
+        all = cc;
       };
       paused = s.due;
-      counted = counted_of limits nothing h s refl;
       ends = tt;
       in_turn = tt;
       doomed = is;
@@ -94,7 +94,7 @@ move_may limits x n h s fresh is readable some all =
   where
     free_first : (c n : ℕ) (a w : Bool) → c ≡ 0 → 0 < n → a ≡ false → w ≡ false
         → first_place (nat_lt 0 (let_go_at c n) && not ((true && a) || ((true && w) || false))) ≡ Some 0
-    free_first c n a w ec en ea ew = rw (ec, ea, ew) (rw (positive n en) refl)
+    free_first c n a w ec en ea ew = rw (ec, ea, ew) (rw (lt-ltb 0 n en) refl)
 
 pub move_leaves : (limits : PlainLimits) (x y n : ℕ) (h : Past) → (x == y) ≡ false → Leaves limits y (move_of x n) h
 move_leaves limits x y n h e = record {
@@ -133,19 +133,16 @@ where_limited l A f = under_eq (nat_lt 0 l) A (λ e. f (some l e))
     some : (k : ℕ) → nat_lt 0 k ≡ true → 0 < k
     some k e = grind (arith, nat_tests)
 
-move_own : (limits : PlainLimits) (x n : ℕ) (h : Past) → FlowBooks limits nothing x h → count (request x) h ≡ 0
+move_own : (limits : PlainLimits) (x n : ℕ) (h : Past) → Regular limits nothing h → Alive h x → count (request x) h ≡ 0
     → 0 < n → n ≡ min limits.quantum (length (recv_at limits x h)) → FlowBooks limits (after_move limits x n h) x (move_of x n ∷ h)
-move_own limits x n h f readable some all =
+move_own limits x n h r is readable some all =
+    let f = r.books.each x is in
     let step : Step NoMark = move_of x n in
-    let k = readable_none limits x h f readable in
+    let k = readable_none limits x h r is readable in
     let recv_is : recv_at limits x (step ∷ h) ≡ drop n (recv_at limits x h) = rw (same_number x) refl in
     let send_is : send_at limits x (step ∷ h) ≡ send_at limits x h ++ take n (recv_at limits x h) = rw (same_number x) refl in
     let lows_is : lows_of limits x (step ∷ h) ≡ lows_of limits x h = append-nil _ in
-    let write_is : conn_lows limits (step ∷ h) ≡ conn_lows limits h = append-nil _ in
     record {
-      tally = flow_tally limits [] (after_move limits x n h).due x step h
-          (grown _ _ _ _ _ _ _ _ _ _ _ (ap one_if k.0) (owed_one (send_high limits x (step ∷ h)) (buffer.Send (request x)) x)
-          (ap one_if (write_same limits step h refl)) (ap (told_of x) lows_is) (ap (told_of x) write_is)) f.tally;
       send_low = inl (lows_is ∙ untold limits nothing x h f k.2);
       recv_room = less _ _ _ n recv_is f.recv_room;
       send_room = where_limited limits.send _ (λ p. more _ _ _ n limits.send limits.quantum send_is (send_within limits x h k.0 p) (few _ _ _ all));
@@ -154,10 +151,6 @@ move_own limits x n h f readable some all =
       unframed = f.unframed;
     }
   where
-    grown : (p r a w s m o' a' w' s' m' : ℕ) → a ≡ 0 → o' ≡ a' → w' ≡ w → s' ≡ s → m' ≡ m
-        → (p + o') + (r + ((a + w) + (s + m))) ≡ (p + 0) + (r + ((a' + w') + (s' + m')))
-    grown p r a w s m o' a' w' s' m' ea eo ew es em = omega arith
-
     less : (xs ys : List ℕ) (l n : ℕ) → xs ≡ drop n ys → length ys ≤ l → length xs ≤ l
     less xs ys l n e le = let k : length xs ≡ length ys - n = ap length e ∙ length-drop n ys in omega (arith, k, le)
 
@@ -170,11 +163,12 @@ move_own limits x n h f readable some all =
     empty : (n q : ℕ) (xs : List ℕ) → xs ≡ [] → 0 < n → n ≡ min q (length xs) → ⊥
     empty n q xs e some all = let k : length xs ≡ 0 = ap length e in omega (arith, k, some, all)
 
-move_books : (limits : PlainLimits) (x n : ℕ) (h : Past) → Books limits nothing h → Alive h x → count (request x) h ≡ 0
+move_books : (limits : PlainLimits) (x n : ℕ) (h : Past) → Regular limits nothing h → Alive h x → count (request x) h ≡ 0
     → 0 < n → n ≡ min limits.quantum (length (recv_at limits x h)) → Books limits (after_move limits x n h) (move_of x n ∷ h)
-move_books limits x n h s is readable some all =
+move_books limits x n h r is readable some all =
+    let s = r.books in
     let step : Step NoMark = move_of x n in
-    let k = readable_none limits x h (s.each x is) readable in
+    let k = readable_none limits x h r is readable in
     let a = send_high limits x (step ∷ h) in
     let out_same : conn_out limits (step ∷ h) ≡ conn_out limits h = refl in
     let lows_same : conn_lows limits (step ∷ h) ≡ conn_lows limits h = append-nil _ in
@@ -190,12 +184,11 @@ move_books limits x n h s is readable some all =
       rising = s.rising;
       born = s.born;
       said = s.said;
-      each = λ y e. own_or_other (λ z. FlowBooks limits (after_move limits x n h) z (step ∷ h)) x y (move_own limits x n h (s.each x is) readable some all)
-          (λ d. flow_other limits nothing (after_move limits x n h) y step h (move_leaves limits x y n h d) (s.each y e) out_same (ap (told_of y) lows_same)
-          (owed_none a (buffer.Send (request x)) x y d) refl (s.each y e).unframed);
+      each = λ y e. own_or_other (λ z. FlowBooks limits (after_move limits x n h) z (step ∷ h)) x y (move_own limits x n h r is readable some all)
+          (λ d. flow_kept limits nothing (after_move limits x n h) y step h (move_leaves limits x y n h d) (s.each y e) refl (s.each y e).unframed);
       unborn = λ y e. let d = apart_from (started h) x y (s.born x is) e in
           unborn_kept limits y step h (move_leaves limits x y n h d) (record { ended = refl; pairs = refl; must = refl }) (s.unborn y e);
-      owed = live_owed a (buffer.Send (request x)) (x ∷ []) (live h) (λ y e. subst (λ (v : ℕ). Alive h v) (number_is x y (sym (has_one x y) ∙ e)) is);
+      owed = live_owed a (buffer.Send (request x)) (x ∷ []) (live h) (λ y e. rw (← (number_is x y (sym (has_one x y) ∙ e))) is);
       write_lows = lows_kept (live h) lows_same s.write_lows;
       write_once = once_kept lows_same s.write_once;
       hushed = λ y e. append-nil (lows_of limits y h) ∙ s.hushed y e;
@@ -206,4 +199,4 @@ pub move_regular : (limits : PlainLimits) (x n : ℕ) (h : Past) → Regular lim
     → Regular limits (owed (due_if (send_high limits x (move_of x n ∷ h)) (buffer.Send (request x)) (x ∷ [])))
     (move_of x n ∷ h)
 move_regular limits x n h r fresh is readable some all =
-    regular_more limits nothing (after_move limits x n h) (note.Move (request x) 0 n) h r (move_may limits x n h r.books fresh is readable some all) (move_books limits x n h r.books is readable some all)
+    regular_more limits nothing (after_move limits x n h) (note.Move (request x) 0 n) h r (move_may limits x n h r fresh is readable some all) (move_books limits x n h r is readable some all)

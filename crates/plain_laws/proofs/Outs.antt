@@ -1,28 +1,23 @@
 -- Octets leave the write buffer.
-use Rattle.plain_laws.specs.Words.{Past, Alive, conn_high, conn_lows, conn_out, lows_of}
+use Rattle.plain_laws.specs.Words.{Past, conn_high, conn_lows, conn_out, lows_of}
 use Rattle.tape_laws.specs.Doomed.{is_swept}
 use Rattle.flow_gate.specs.declared.ids.FlowId.{FlowId}
-use Rattle.plain_laws.proofs.Counting.{one_if, told_of, write_left}
-use Rattle.plain_laws.proofs.Extending.{MayAdd, counted_of, one_owed, regular_more, under_test}
-use Rattle.plain_laws.proofs.Flags.{no_rise, write_now}
+use Rattle.plain_laws.proofs.Extending.{MayAdd, one_owed, regular_more, under_test}
 use Rattle.plain_laws.proofs.Leaving.{Leaves, flow_kept, once_kept, unborn_kept}
-use Rattle.plain_laws.proofs.Tellings.{all_requests, told_all}
+use Rattle.plain_laws.proofs.Tellings.{all_requests}
 use Rattle.plain_laws.proofs.Watching.{write_watchers}
 use Rattle.plain_laws.specs.Owing.{asking, nothing}
 use Rattle.plain_laws.specs.Regular.{Books, IsLiveFlow, IsRising, Regular}
-use Rattle.std.proofs.Common.{ap, arith, length-drop, refl, subst, sym, ◌∙◌}
+use Rattle.std.proofs.Common.{arith, length-drop, refl, subst, sym, ◌∙◌}
 use Rattle.std.proofs.lemmas.List.{append-nil}
 use Rattle.std.specs.List.{AllByRecursion}
-use Rattle.std.specs.Prelude.{Bool, List, [], drop, false, if◌then◌else◌, length, map, nat_lt, not, true, ℕ, ◌&&◌, ◌++◌, ◌+◌, ◌∷◌, ◌≡◌, ◌≤◌}
-use Rattle.tape_laws.specs.Demands.{MeetsFirst}
+use Rattle.std.specs.Prelude.{Bool, List, [], false, if◌then◌else◌, length, map, nat_lt, not, true, ℕ, ◌&&◌, ◌++◌, ◌∷◌, ◌≡◌, ◌≤◌}
 use Rattle.tape_laws.specs.Dispatches.{live}
 use Rattle.tape_laws.specs.Flows.{request}
 use Rattle.tape_laws.specs.History.{NoMark, Noted, Step}
 use Rattle.tape_laws.specs.Pauses.{Heads}
-use Rattle.tape_laws.specs.Plain.{plain_setup}
-use Rattle.tape_laws.specs.Units.{Demand, WantsOut}
+use Rattle.tape_laws.specs.Units.{WantsOut}
 use Rattle.tape_laws.specs.declared.limits.PlainLimits.{PlainLimits}
-use Rattle.flow_gate.specs.declared.ids.BufferId.TheVariants as buffer
 use Rattle.flow_notes.specs.declared.notes.Note.TheVariants as note
 
 -- where it drains, all live flows are to be told
@@ -53,44 +48,18 @@ module _ (limits : PlainLimits) (n : ℕ) (h : Past) where
   out_may s fresh = record {
     allowed = tt;
     paused = s.due;
-    counted = counted_of limits (asking (WantsOut 0 n ∷ [])) h s refl;
     ends = tt;
     in_turn = tt;
     doomed = tt;
     swept = fresh;
-    answered = subst (λ (ds : List Demand). MeetsFirst {Mark = NoMark} (plain_setup limits) ds (Noted (note.Out 0 n))) (sym s.asks) refl;
+    answered = rw s.asks refl;
     only = subst (Heads (WantsOut 0 n)) (sym s.asks) refl;
     quiet = tt;
     licensed = tt;
   }
 
   pub out_less : length (conn_out limits (Noted (note.Out 0 n) ∷ h)) ≤ length (conn_out limits h)
-  out_less = less n (conn_out limits h)
-    where
-      less : (n : ℕ) (xs : List ℕ) → length (drop n xs) ≤ length xs
-      less n xs = omega (arith, length-drop n xs)
-
-  -- a buffer that only lost octets doesn't rise
-  pub out_low : conn_high limits h ≡ false → conn_high limits (Noted (note.Out 0 n) ∷ h) ≡ false
-  out_low low = no_rise limits.write _ _ _ (write_now limits h) (out_less) low
-
--- the flag and what is to be told of a live stream are one more or one less
-pub drain_books : (w a : Bool) → (w ≡ false → a ≡ false) → one_if w ≡ one_if a + one_if (w && not a)
-drain_books true true e = refl
-drain_books true false e = refl
-drain_books false true e = let k = e refl in cc
-drain_books false false e = refl
-
-out_left : (limits : PlainLimits) (n x : ℕ) (h : Past) → IsRising (live h) → Alive h x → conn_lows limits h ≡ []
-    → write_left limits x (Noted (note.Out 0 n) ∷ h)
-    ≡ one_if (conn_high limits h && not (conn_high limits (Noted (note.Out 0 n) ∷ h)))
-out_left limits n x h r is none =
-    ap (told_of x) (out_lows limits n h none)
-    ∙ all_if (conn_high limits h && not (conn_high limits (Noted (note.Out 0 n) ∷ h)))
-  where
-    all_if : (b : Bool) → told_of x (if b then map request (live h) else []) ≡ one_if b
-    all_if true = told_all (live h) x r ∙ ap one_if is
-    all_if false = refl
+  out_less = omega (arith, length-drop n (conn_out limits h))
 
 out_books : (limits : PlainLimits) (n : ℕ) (h : Past) → Books limits (asking (WantsOut 0 n ∷ [])) h → conn_lows limits h ≡ []
     → Books limits nothing (Noted (note.Out 0 n) ∷ h)
@@ -103,12 +72,11 @@ out_books limits n h s none =
       opened = s.opened;
       known = s.known;
       unclosed = s.unclosed;
-      write_room = under_test (nat_lt 0 limits.write) _ _ (λ le. less _ _ _ (out_less limits n h) le) s.write_room;
+      write_room = under_test (nat_lt 0 limits.write) _ _ (less _ _ _ (out_less limits n h)) s.write_room;
       rising = s.rising;
       born = s.born;
       said = s.said;
-      each = λ x e. flow_kept limits (asking (WantsOut 0 n ∷ [])) nothing x step h (out_leaves limits n x h) (s.each x e)
-          (same _ _ _ _ _ (drain_books _ _ (out_low limits n h)) (ap (told_of x) none) (out_left limits n x h s.rising e none)) refl (s.each x e).unframed;
+      each = λ x e. flow_kept limits (asking (WantsOut 0 n ∷ [])) nothing x step h (out_leaves limits n x h) (s.each x e) refl (s.each x e).unframed;
       unborn = λ x e. unborn_kept limits x step h (out_leaves limits n x h) (record { ended = refl; pairs = refl; must = refl }) (s.unborn x e);
       owed = tt;
       write_lows = subst (AllByRecursion (IsLiveFlow (live h))) (sym (out_lows limits n h none)) (all_if drained);
@@ -119,16 +87,13 @@ out_books limits n h s none =
     less : (a b l : ℕ) → a ≤ b → b ≤ l → a ≤ l
     less a b l e f = omega arith
 
-    same : (w m w' m' d : ℕ) → w ≡ w' + d → m ≡ 0 → m' ≡ d → 0 + (w + m) ≡ 0 + (w' + m')
-    same w m w' m' d ew em em' = omega arith
-
     all_if : (b : Bool) → AllByRecursion (IsLiveFlow (live h)) (if b then map request (live h) else [])
     all_if true = all_requests (live h) (live h) (λ x e. e)
     all_if false = tt
 
     exchanges : (xs : List ℕ) → map (λ (f : FlowId). f.exchange) (map request xs) ≡ xs
     exchanges [] = refl
-    exchanges (x ∷ xs) = ap (λ ys. x ∷ ys) (exchanges xs)
+    exchanges (x ∷ xs) = cc (exchanges xs)
 
     once_if : (b : Bool) → IsRising (map (λ (f : FlowId). f.exchange) (if b then map request (live h) else []))
     once_if true = subst IsRising (sym (exchanges (live h))) s.rising

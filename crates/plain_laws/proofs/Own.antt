@@ -5,9 +5,9 @@ use Rattle.plain_laws.proofs.Flags.{send_same}
 use Rattle.plain_laws.proofs.Greatest.{peak_kept}
 use Rattle.plain_laws.proofs.Leaving.{Leaves}
 use Rattle.plain_laws.proofs.Streams.{same_number}
-use Rattle.std.proofs.Common.{ap, refl}
+use Rattle.std.proofs.Common.{refl}
 use Rattle.std.proofs.lemmas.List.{append-nil}
-use Rattle.std.specs.Prelude.{Bool, List, [], drop, length, take, ℕ, ◌++◌, ◌||◌, ◌∷◌, ◌≡◌}
+use Rattle.std.specs.Prelude.{Bool, List, [], drop, take, ℕ, ◌++◌, ◌||◌, ◌∷◌, ◌≡◌}
 use Rattle.plain_laws.specs.Words.{Past, conn_out, end_out, frame_of, move_of, recv_at, send_at, send_high}
 use Rattle.tape_laws.specs.Flows.{request}
 use Rattle.tape_laws.specs.History.{NoMark, Noted, Step}
@@ -58,8 +58,8 @@ module _ (limits : PlainLimits) (x : ℕ) (step : Step NoMark) (h : Past) where
 
   pub leaves_recv_peak : Leaves limits x step h
       → peak (plain_setup limits) (buffer.Recv (request x)) (step ∷ h) ≡ peak (plain_setup limits) (buffer.Recv (request x)) h
-  leaves_recv_peak l = peak_kept limits (buffer.Recv (request x)) step h (ap length l.recv) refl
+  leaves_recv_peak l = peak_kept limits (buffer.Recv (request x)) step h (cc) refl
 
   pub leaves_send_peak : Leaves limits x step h
       → peak (plain_setup limits) (buffer.Send (request x)) (step ∷ h) ≡ peak (plain_setup limits) (buffer.Send (request x)) h
-  leaves_send_peak l = peak_kept limits (buffer.Send (request x)) step h (ap length l.send) refl
+  leaves_send_peak l = peak_kept limits (buffer.Send (request x)) step h (cc) refl

@@ -1,6 +1,6 @@
 -- Which streams must end once the end of one was framed.
 use Rattle.plain_laws.specs.Pairs.{seconds}
-use Rattle.std.proofs.Common.{ap, refl}
+use Rattle.std.proofs.Common.{refl}
 use Rattle.std.specs.Prelude.{Bool, List, [], false, if◌then◌else◌, true, ℕ, ◌&&◌, ◌++◌, ◌==◌, ◌||◌, ◌∷◌, ◌≡◌}
 use Rattle.plain_laws.specs.Words.{Past}
 use Rattle.tape_laws.specs.Dispatches.{has}
@@ -20,7 +20,7 @@ pairs_agree x y (Noted (note.Turn k (event.Plain (plain.Pair first second))) ∷
   where
     joined : (a b : Bool) (us vs : List ℕ) → has us y ≡ has vs x → a ≡ (first == x) → b ≡ (second == y)
         → has ((if a then second ∷ [] else []) ++ us) y ≡ has ((if b then first ∷ [] else []) ++ vs) x
-    joined true true us vs e fa fb = rw (← fa, ← fb) (ap (λ c. true || c) e)
+    joined true true us vs e fa fb = rw (← fa, ← fb) (cc)
     joined true false us vs e fa fb = rw (← fb) e
     joined false true us vs e fa fb = rw (← fa) e
     joined false false us vs e fa fb = e

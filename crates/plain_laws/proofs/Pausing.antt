@@ -3,23 +3,20 @@ use Rattle.plain_laws.specs.Words.{Past, Alive, conn_lows, conn_out, lows_of}
 use Rattle.tape_laws.specs.Doomed.{is_swept}
 use Rattle.flow_gate.specs.declared.ids.BufferId.{BufferId}
 use Rattle.flow_gate.specs.declared.ids.FlowId.{FlowId}
-use Rattle.plain_laws.proofs.Counting.{flow_tally, one_if, told_of}
 use Rattle.plain_laws.proofs.Extending.{MayAdd, regular_more}
-use Rattle.plain_laws.proofs.Flags.{send_same, write_same}
 use Rattle.plain_laws.proofs.Leaving.{Leaves, lows_kept, once_kept, room_kept, send_low_kept, unborn_kept}
 use Rattle.plain_laws.proofs.Streams.{apart_from}
-use Rattle.plain_laws.proofs.Tellings.{owed_cons}
-use Rattle.plain_laws.specs.Owing.{Owing, nothing, owed, owed_times, pause_notes}
+use Rattle.plain_laws.specs.Owing.{Owing, nothing, owed, pause_notes}
 use Rattle.plain_laws.specs.Regular.{Books, FlowBooks, IsLiveFlow, Regular}
-use Rattle.std.proofs.Common.{ap, arith, refl, subst, sym, ◌∙◌}
+use Rattle.std.proofs.Math.Nat.{zero-add}
+use Rattle.std.proofs.Common.{refl, subst, sym, ◌∙◌}
 use Rattle.std.specs.List.{AllByRecursion}
-use Rattle.std.specs.Prelude.{List, [], drop, false, if◌then◌else◌, true, ℕ, ◌&&◌, ◌+◌, ◌==◌, ◌∷◌, ◌≡◌}
+use Rattle.std.specs.Prelude.{List, [], false, ℕ, ◌==◌, ◌∷◌, ◌≡◌}
 use Rattle.tape_laws.specs.Dispatches.{live, started}
-use Rattle.tape_laws.specs.Flows.{request, same_flow}
+use Rattle.tape_laws.specs.Flows.{request}
 use Rattle.tape_laws.specs.History.{NoMark, Noted, Step, onto}
 use Rattle.tape_laws.specs.Pauses.{Heads, Owed, pauses}
 use Rattle.tape_laws.specs.declared.limits.PlainLimits.{PlainLimits}
-use Rattle.flow_gate.specs.declared.ids.BufferId.TheVariants as buffer
 use Rattle.flow_notes.specs.declared.notes.Note.TheVariants as note
 
 module _ (limits : PlainLimits) (owing : Owing) (f : FlowId) (b : BufferId) (rest : List Owed) where
@@ -28,7 +25,6 @@ module _ (limits : PlainLimits) (owing : Owing) (f : FlowId) (b : BufferId) (res
   pause_may h s fresh e is = record {
     allowed = tt;
     paused = subst (Heads (record { flow = f; buffer = b })) (sym (s.due ∙ e)) refl;
-    counted = tt;
     ends = tt;
     in_turn = tt;
     doomed = is;
@@ -40,16 +36,11 @@ module _ (limits : PlainLimits) (owing : Owing) (f : FlowId) (b : BufferId) (res
   }
 
   -- the books of each stream: what is owed becomes what was paused
-  pause_flow : (x : ℕ) (h : Past) → FlowBooks limits owing x h
-      → owing.due ≡ record { flow = f; buffer = b } ∷ rest → FlowBooks limits (record owing { due = rest }) x (Noted (note.Pause f b) ∷ h)
-  pause_flow x h s e =
+  pause_flow : (x : ℕ) (h : Past) → FlowBooks limits owing x h → FlowBooks limits (record owing { due = rest }) x (Noted (note.Pause f b) ∷ h)
+  pause_flow x h s =
       let step : Step NoMark = Noted (note.Pause f b) in
       let lows_is : lows_of limits x (step ∷ h) ≡ lows_of limits x h = refl in
-      let write_is : conn_lows limits (step ∷ h) ≡ conn_lows limits h = refl in
       record {
-        tally = flow_tally limits owing.due rest x step h
-            (written _ _ _ _ _ _ _ _ _ _ _ _ (one_if (same_flow f (request x))) (ap (owed_times x) e ∙ owed_cons x (record { flow = f; buffer = b }) rest)
-            (ap one_if (send_same limits (request x) step h refl)) (ap one_if (write_same limits step h refl)) (ap (told_of x) lows_is) (ap (told_of x) write_is)) s.tally;
         send_low = send_low_kept limits x step h refl lows_is s.send_low;
         recv_room = s.recv_room;
         send_room = s.send_room;
@@ -57,25 +48,18 @@ module _ (limits : PlainLimits) (owing : Owing) (f : FlowId) (b : BufferId) (res
         over = s.over;
         unframed = s.unframed;
       }
-    where
-      written : (p o r a w s m o' a' w' s' m' k : ℕ) → o ≡ k + o' → a' ≡ a → w' ≡ w → s' ≡ s → m' ≡ m
-          → (k + p + o') + (r + ((a + w) + (s + m))) ≡ (p + o) + (r + ((a' + w') + (s' + m')))
-      written p o r a w s m o' a' w' s' m' k eo ea ew es em = omega arith
 
 pub pause_leaves : (limits : PlainLimits) (f : FlowId) (b : BufferId) (x : ℕ) (h : Past) → (f.exchange == x) ≡ false → Leaves limits x (Noted (note.Pause f b)) h
 pause_leaves limits f b x h e = record {
   recv = refl;
   send = refl;
   send_lows = refl;
-  paused = ap (λ c. one_if (c && (if f.back then false else true)) + pauses (request x) h) e ∙ none (pauses (request x) h);
+  paused = cc (zero-add (pauses (request x) h));
   resumed = refl;
   body = refl;
   received = refl;
   framed = refl;
 }
-  where
-    none : (n : ℕ) → 0 + n ≡ n
-    none n = omega arith
 
 pause_books : (limits : PlainLimits) (owing : Owing) (f : FlowId) (b : BufferId) (rest : List Owed) (h : Past) → Books limits owing h
     → owing.due ≡ record { flow = f; buffer = b } ∷ rest → AllByRecursion (λ (o : Owed). IsLiveFlow (live h) o.flow) (record { flow = f; buffer = b } ∷ rest)
@@ -85,7 +69,7 @@ pause_books limits owing f b rest h s e l =
     let out_same : conn_out limits (step ∷ h) ≡ conn_out limits h = refl in
     let lows_same : conn_lows limits (step ∷ h) ≡ conn_lows limits h = refl in
     record {
-      due = ap (drop 1) (s.due ∙ e);
+      due = cc;
       asks = s.asks;
       opened = s.opened;
       known = s.known;
@@ -94,7 +78,7 @@ pause_books limits owing f b rest h s e l =
       rising = s.rising;
       born = s.born;
       said = s.said;
-      each = λ y is. pause_flow limits owing f b rest y h (s.each y is) e;
+      each = λ y is. pause_flow limits owing f b rest y h (s.each y is);
       unborn = λ y new. let d = apart_from (started h) f.exchange y (s.born f.exchange l.0.live) new in
           unborn_kept limits y step h (pause_leaves limits f b y h d) (record { ended = refl; pairs = refl; must = refl }) (s.unborn y new);
       owed = l.1;

@@ -1,7 +1,8 @@
 -- When a dispatch is whole, and what follows from that.
+use Rattle.plain_laws.proofs.Balances.{count_is}
 use Rattle.flow_gate.specs.declared.ids.FlowId.{FlowId}
 use Rattle.plain_laws.proofs.Counting.{lows_are, send_left, told_of, write_left}
-use Rattle.plain_laws.proofs.Extending.{count_is}
+use Rattle.plain_laws.proofs.Extending.{}
 use Rattle.plain_laws.proofs.Moves.{first_place}
 use Rattle.plain_laws.proofs.Streams.{all_of, each_live, live_each}
 use Rattle.plain_laws.proofs.Tellings.{told_own}
@@ -44,7 +45,7 @@ release_none c q n f = pick (c == 0) refl
 
 -- what may not be released isn't free
 not_free : (r : ℕ) (b : Bool) → r ≡ 0 → first_place (nat_lt 0 r && b) ≡ None
-not_free r b e = ap (λ k. first_place (nat_lt 0 k && b)) e
+not_free r b e = cc
 
 pub on_true : (b : Bool) (A : Type 0) → A → OnTrue b A
 on_true true A a = a
@@ -62,7 +63,7 @@ counted_alone c d l e z = omega arith
 
 module _ (limits : PlainLimits) where
   done_lows : (x : ℕ) (h : Past) → IsDone limits h → Alive h x → lows_at limits x h ≡ 0
-  done_lows x h d e = sum_none _ _ _ (lows_are limits x h) (ap (told_of x) (d.send_told x e)) (ap (told_of x) d.write_told)
+  done_lows x h d e = sum_none _ _ _ (lows_are limits x h) (cc (d.send_told x e)) (cc)
 
   done_still : (x : ℕ) (h : Past) → IsDone limits h → Alive h x → may_release (plain_setup limits) (request x) 0 h ≡ 0
   done_still x h d e = release_none (count (request x) h) limits.quantum (length (recv_at limits x h)) (λ z. ap length (d.moved x e z))
@@ -73,7 +74,7 @@ module _ (limits : PlainLimits) where
       record {
         paused = s.due;
         told = each_live limits (λ g. lows (plain_setup limits) g h ≡ 0) h (λ x e. done_lows x h d e);
-        counted = each_live limits (λ g. count g h ≡ disabled (plain_setup limits) g h) h (λ x e. counted_alone _ _ _ (count_is limits nothing x h (s.each x e) refl) (done_lows x h d e));
+        counted = each_live limits (λ g. count g h ≡ disabled (plain_setup limits) g h) h (λ x e. counted_alone _ _ _ (count_is limits x h r.lawful r.books.due e) (done_lows x h d e));
         still = each_live limits (λ g. OnTrue (count g h == 0) (EachPlace (λ p. may_release (plain_setup limits) g p h ≡ 0) 0)) h (λ x e. on_true _ _ (done_still x h d e));
         behind = each_live limits (λ g. last_free (plain_setup limits) g h ≡ None) h (λ x e. not_free _ _ (done_still x h d e));
         framed = subst (AllByRecursion (λ c. OnFalse (above (plain_setup limits) (buffer.Write c) h) (next_on (plain_setup limits) c h ≡ Nothing))) (sym s.opened) (on_false (conn_high limits h) _ d.framed, tt);

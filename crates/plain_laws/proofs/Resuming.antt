@@ -1,22 +1,21 @@
 -- The next flow that is pending on a buffer is told of its drain.
+use Rattle.plain_laws.proofs.Leaving.{flow_kept}
 use Rattle.plain_laws.specs.Words.{Past, Alive, conn_lows, conn_out, lows_of}
 use Rattle.tape_laws.specs.Doomed.{is_swept}
 use Rattle.flow_gate.specs.declared.ids.BufferId.{BufferId}
 use Rattle.flow_gate.specs.declared.ids.FlowId.{FlowId}
-use Rattle.plain_laws.proofs.Counting.{flow_tally, one_if, send_flag, told_of, write_flag}
-use Rattle.plain_laws.proofs.Extending.{MayAdd, counted_of, free_meets, nothing_owed, regular_more}
-use Rattle.plain_laws.proofs.Flags.{send_same, write_same}
-use Rattle.plain_laws.proofs.Leaving.{Leaves, flow_other, room_kept, send_low_kept, unborn_kept}
+use Rattle.plain_laws.proofs.Extending.{MayAdd, free_meets, nothing_owed, regular_more}
+use Rattle.plain_laws.proofs.Leaving.{Leaves, room_kept, send_low_kept, unborn_kept}
 use Rattle.plain_laws.proofs.Streams.{apart_from, own_or_other, same_number}
-use Rattle.plain_laws.proofs.Tellings.{live_flows_drop, one_own, told_cons, told_own}
+use Rattle.plain_laws.proofs.Tellings.{live_flows_drop}
 use Rattle.plain_laws.specs.Owing.{nothing}
 use Rattle.plain_laws.specs.Regular.{Books, FlowBooks, IsLiveFlow, IsRising, Regular}
-use Rattle.std.proofs.Common.{ap, arith, inl, refl, subst, sym, ◌∙◌}
-use Rattle.std.proofs.lemmas.Bool.Decides.{nat_tests}
+use Rattle.std.proofs.Math.Nat.{zero-add}
+use Rattle.std.proofs.Common.{ap, inl, refl, subst, sym, ◌∙◌}
 use Rattle.std.specs.List.{AllByRecursion}
-use Rattle.std.specs.Prelude.{List, [], drop, false, if◌then◌else◌, map, true, ℕ, ◌&&◌, ◌+◌, ◌==◌, ◌∷◌, ◌≡◌}
+use Rattle.std.specs.Prelude.{List, [], drop, false, if◌then◌else◌, map, true, ℕ, ◌&&◌, ◌==◌, ◌∷◌, ◌≡◌}
 use Rattle.tape_laws.specs.Dispatches.{live, started}
-use Rattle.tape_laws.specs.Flows.{request, same_flow}
+use Rattle.tape_laws.specs.Flows.{request}
 use Rattle.tape_laws.specs.History.{NoMark, Noted, Step}
 use Rattle.tape_laws.specs.Pauses.{Heads, is_silent, pending_lows, resumes}
 use Rattle.tape_laws.specs.Plain.{plain_setup}
@@ -34,28 +33,15 @@ module _ (limits : PlainLimits) (x y : ℕ) (b : BufferId) (h : Past) where
     send = refl;
     send_lows = el;
     paused = refl;
-    resumed = ap (λ c. one_if (c && true) + resumes (request y) h) e ∙ none (resumes (request y) h);
+    resumed = cc (zero-add (resumes (request y) h));
     body = refl;
     received = refl;
     framed = refl;
   }
-    where
-      none : (n : ℕ) → 0 + n ≡ n
-      none n = omega arith
-
-  same_flags : send_flag limits y (Noted (note.Resume (request x) b) ∷ h) ≡ send_flag limits y h
-  same_flags = ap one_if (send_same limits (request y) (Noted (note.Resume (request x) b)) h refl)
 
 module _ (limits : PlainLimits) (x : ℕ) (b : BufferId) (h : Past) where
   same_out : conn_out limits (Noted (note.Resume (request x) b) ∷ h) ≡ conn_out limits h
   same_out = refl
-
-  same_write : write_flag limits (Noted (note.Resume (request x) b) ∷ h) ≡ write_flag limits h
-  same_write = ap one_if (write_same limits (Noted (note.Resume (request x) b)) h (same_out))
-
-told : (p r a w s m a' w' s' m' k : ℕ) → a' ≡ a → w' ≡ w → s + m ≡ k + (s' + m')
-    → (p + 0) + (r + ((a + w) + (s + m))) ≡ (p + 0) + ((k + r) + ((a' + w') + (s' + m')))
-told p r a w s m a' w' s' m' k ea ew e = omega arith
 
 module _ (limits : PlainLimits) (x : ℕ) where
   resume_may : (b : BufferId) (h : Past) → Books limits nothing h → is_swept h ≡ false → Alive h x
@@ -63,7 +49,6 @@ module _ (limits : PlainLimits) (x : ℕ) where
   resume_may b h s fresh is first loud = record {
     allowed = tt;
     paused = (s.due, first, loud);
-    counted = counted_of limits nothing h s refl;
     ends = tt;
     in_turn = tt;
     doomed = is;
@@ -78,7 +63,7 @@ module _ (limits : PlainLimits) (x : ℕ) where
 
   pub own_lows : (h : Past) → lows_of limits x h ≡ request x ∷ []
       → lows_of limits x (Noted (note.Resume (request x) (buffer.Send (request x))) ∷ h) ≡ []
-  own_lows h e = ap (λ b. drop (if b && true then 1 else 0) (lows_of limits x h)) (same_number x) ∙ ap (drop 1) e
+  own_lows h e = cc (same_number x)
 
   pub other_lows : (y : ℕ) (h : Past) → (x == y) ≡ false
       → lows_of limits y (Noted (note.Resume (request x) (buffer.Send (request x))) ∷ h) ≡ lows_of limits y h
@@ -90,9 +75,6 @@ module _ (limits : PlainLimits) (x : ℕ) where
       let b = buffer.Send (request x) in
       let step : Step NoMark = Noted (note.Resume (request x) b) in
       record {
-        tally = flow_tally limits [] [] x step h
-            (told _ _ _ _ _ _ _ _ _ _ (one_if (same_flow (request x) (request x))) (same_flags limits x x b h) (same_write limits x b h)
-            (less _ _ _ _ (one_own x) (ap (told_of x) e ∙ told_own x []) (ap (told_of x) (own_lows h e)))) f.tally;
         send_low = inl (own_lows h e);
         recv_room = f.recv_room;
         send_room = f.send_room;
@@ -100,9 +82,6 @@ module _ (limits : PlainLimits) (x : ℕ) where
         over = f.over;
         unframed = f.unframed;
       }
-    where
-      less : (k s m s' : ℕ) → k ≡ 1 → s ≡ 1 + 0 → s' ≡ 0 → s + m ≡ k + (s' + m)
-      less k s m s' ek es es' = omega arith
 
 send_books : (limits : PlainLimits) (x : ℕ) (h : Past) → Books limits nothing h → Alive h x
     → lows_of limits x h ≡ request x ∷ [] → Books limits nothing (Noted (note.Resume (request x) (buffer.Send (request x))) ∷ h)
@@ -120,7 +99,7 @@ send_books limits x h s is e =
       born = s.born;
       said = s.said;
       each = λ y ey. own_or_other (λ z. FlowBooks limits nothing z (step ∷ h)) x y (send_own limits x h (s.each x is) e)
-          (λ d. flow_other limits nothing nothing y step h (resume_leaves limits x y b h d (other_lows limits x y h d)) (s.each y ey) (same_out limits x b h) refl refl refl (s.each y ey).unframed);
+          (λ d. flow_kept limits nothing nothing y step h (resume_leaves limits x y b h d (other_lows limits x y h d)) (s.each y ey) refl (s.each y ey).unframed);
       unborn = λ y ey. let d = apart_from (started h) x y (s.born x is) ey in
           unborn_kept limits y step h (resume_leaves limits x y b h d (other_lows limits x y h d)) (record { ended = refl; pairs = refl; must = refl }) (s.unborn y ey);
       owed = tt;
@@ -138,15 +117,11 @@ resume_send_regular limits x h r fresh is e =
 
 -- ---- of the write buffer
 
-write_flow : (limits : PlainLimits) (x y : ℕ) (rest : List FlowId) (h : Past) → FlowBooks limits nothing y h → conn_lows limits h ≡ request x ∷ rest
-    → FlowBooks limits nothing y (Noted (note.Resume (request x) (buffer.Write 0)) ∷ h)
-write_flow limits x y rest h f e =
+write_flow : (limits : PlainLimits) (x y : ℕ) (h : Past) → FlowBooks limits nothing y h → FlowBooks limits nothing y (Noted (note.Resume (request x) (buffer.Write 0)) ∷ h)
+write_flow limits x y h f =
     let b = buffer.Write 0 in
     let step : Step NoMark = Noted (note.Resume (request x) b) in
     record {
-      tally = flow_tally limits [] [] y step h
-          (told _ _ _ _ _ _ _ _ _ _ (one_if (same_flow (request x) (request y))) (same_flags limits x y b h) (same_write limits x b h)
-          (less _ _ _ _ _ _ (ap (told_of y) e ∙ told_cons y (request x) rest) (swapped x y) (ap (λ fs. told_of y (drop 1 fs)) e))) f.tally;
       send_low = send_low_kept limits y step h refl refl f.send_low;
       recv_room = f.recv_room;
       send_room = f.send_room;
@@ -154,15 +129,6 @@ write_flow limits x y rest h f e =
       over = f.over;
       unframed = f.unframed;
     }
-  where
-    less : (s m k k' m' t : ℕ) → m ≡ k' + t → k' ≡ k → m' ≡ t → s + m ≡ k + (s + m')
-    less s m k k' m' t em ek et = omega arith
-
-    swapped : (a c : ℕ) → one_if (same_flow (request c) (request a)) ≡ one_if (same_flow (request a) (request c))
-    swapped a c = ap (λ b. one_if (b && true)) (numbers c a)
-      where
-        numbers : (a b : ℕ) → (a == b) ≡ (b == a)
-        numbers a b = grind (arith, nat_tests)
 
 write_books : (limits : PlainLimits) (x : ℕ) (rest : List FlowId) (h : Past) → Books limits nothing h → Alive h x
     → conn_lows limits h ≡ request x ∷ rest → Books limits nothing (Noted (note.Resume (request x) (buffer.Write 0)) ∷ h)
@@ -179,7 +145,7 @@ write_books limits x rest h s is e =
       rising = s.rising;
       born = s.born;
       said = s.said;
-      each = λ y ey. write_flow limits x y rest h (s.each y ey) e;
+      each = λ y ey. write_flow limits x y h (s.each y ey);
       unborn = λ y ey. let d = apart_from (started h) x y (s.born x is) ey in
           unborn_kept limits y step h (resume_leaves limits x y b h d refl) (record { ended = refl; pairs = refl; must = refl }) (s.unborn y ey);
       owed = tt;

@@ -1,9 +1,12 @@
 -- Which flow is next on the connection.
+use Rattle.std.proofs.lemmas.Bool.{or_left, or_right, and_parts as and_true}
 use Rattle.flow_gate.specs.declared.ids.FlowId.{FlowId}
-use Rattle.plain_laws.proofs.Streams.{all_at, by_case, not_both, number_is, or_left, or_right, same_number}
+use Rattle.plain_laws.proofs.Streams.{all_at, by_case, not_both, number_is, same_number}
 use Rattle.plain_laws.specs.Next.{IsNextAbove, IsNextAround, is_ready, unit_of}
 use Rattle.plain_laws.specs.Regular.{IsRising}
-use Rattle.std.proofs.Common.{ap, arith, refl, subst, sym, ◌∙◌}
+use Rattle.plain_laws.proofs.Streams.{or_true as later}
+use Rattle.std.proofs.lemmas.Bool.{ltb-true}
+use Rattle.std.proofs.Common.{ap, arith, refl, sym, ◌∙◌}
 use Rattle.std.proofs.lemmas.Bool.Decides.{nat_tests}
 use Rattle.std.specs.Prelude.{Bool, List, [], false, filter, flat_map, if◌then◌else◌, length, min, nat_le, nat_lt, not, true, ℕ, ◌&&◌, ◌++◌, ◌<◌, ◌==◌, ◌||◌, ◌∷◌, ◌≡◌, ◌≤◌}
 use Rattle.plain_laws.specs.Words.{Past, Alive, last_out, next_out, recv_at, send_at}
@@ -18,7 +21,6 @@ use Rattle.tape_laws.specs.Order.{Flows, Nothing, first_flow}
 use Rattle.tape_laws.specs.Plain.{plain_ended, plain_setup}
 use Rattle.tape_laws.specs.State.{state_of}
 use Rattle.tape_laws.specs.declared.limits.PlainLimits.{PlainLimits}
-use Rattle.plain_laws.proofs.Streams.{both_of as and_true}
 
 -- ---- the unit of a flow
 
@@ -65,10 +67,10 @@ body_unit q r s n e fr last =
     by true b t _ f _ u =
         let same : min (min q q) s ≡ n = cc in
         let end : ((e && (((r == 0) && true) && (s == min (min q q) s))) && true) ≡ last = cc in
-        let more : nat_lt 0 n ≡ true = ap (λ k. nat_lt 0 k) (sym same) ∙ b in
+        let more : nat_lt 0 n ≡ true = cc in
         record {
           all = sym same ∙ twice q s;
-          ends = sym end ∙ (same_end e (r == 0) (s == min (min q q) s) ∙ ap (λ k. e && ((r == 0) && (s == k))) same);
+          ends = cc (same_end e (r == 0) (s == min (min q q) s));
           some = or_left (nat_lt 0 n) last more;
           again = λ g. positive more;
         }
@@ -77,7 +79,7 @@ body_unit q r s n e fr last =
         let end : true ≡ last = cc in
         record {
           all = none b same;
-          ends = sym end ∙ (sym t ∙ (ap (λ k. e && k) (shorter (r == 0) (s == 0)) ∙ ap (λ m. e && ((r == 0) && (s == m))) same));
+          ends = cc (shorter (r == 0) (s == 0));
           some = or_right (nat_lt 0 n) last (sym end);
           again = λ g. not_both fr g f;
         }
@@ -95,12 +97,12 @@ module _ (p q : FlowId → Bool) (f : FlowId) (fs : List FlowId) where
       and_false false b e f = cc
 
       pick : (b : Bool) → p f ≡ b → filter q (if b then f ∷ filter p fs else filter p fs) ≡ filter q (filter p fs)
-      pick true t = ap (λ b. if b then f ∷ filter q (filter p fs) else filter q (filter p fs)) (and_false (p f) (q f) e t)
+      pick true t = cc (and_false (p f) (q f) e t)
       pick false t = refl
 
   take_first : p f ≡ true → q f ≡ true → filter q (filter p (f ∷ fs)) ≡ f ∷ filter q (filter p fs)
   take_first ep eq =
-      ap (λ b. filter q (if b then f ∷ filter p fs else filter p fs)) ep ∙ ap (λ b. if b then f ∷ filter q (filter p fs) else filter q (filter p fs)) eq
+      cc
 
 -- those that pass both tests begin with x, where it passes them and none before it does
 first_passing : (p q : FlowId → Bool) (xs : List ℕ) (x : ℕ) → IsRising xs → has xs x ≡ true → p (request x) ≡ true → q (request x) ≡ true
@@ -110,13 +112,9 @@ first_passing p q [] x r e ep eq least = cc
 first_passing p q (y ∷ ys) x r e ep eq least =
     by_case (y == x) (λ t. own (number_is y x t)) (λ d. other (later (y == x) (has ys x) e d) (first_passing p q ys x r.1 (later (y == x) (has ys x) e d) ep eq (λ z ez. least z (or_right (y == z) (has ys z) ez))))
   where
-    later : (a b : Bool) → (a || b) ≡ true → a ≡ false → b ≡ true
-    later true b e f = cc
-    later false b e f = e
-
     own : y ≡ x → (rest : List FlowId) × (filter q (filter p (flat_map (λ z. request z ∷ []) (y ∷ ys))) ≡ request x ∷ rest)
     own e =
-        subst (λ (v : ℕ). (rest : List FlowId) × (filter q (filter p (flat_map (λ z. request z ∷ []) (v ∷ ys))) ≡ request x ∷ rest)) (sym e) (filter q (filter p (flat_map (λ z. request z ∷ []) ys)), take_first p q (request x) (flat_map (λ z. request z ∷ []) ys) ep eq)
+        rw e (filter q (filter p (flat_map (λ z. request z ∷ []) ys)), take_first p q (request x) (flat_map (λ z. request z ∷ []) ys) ep eq)
 
     greater : (a b : ℕ) → a < b → b ≤ a → ⊥
     greater a b e f = omega arith
@@ -150,20 +148,17 @@ within last f = nat_le f.exchange last
 
 module _ (limits : PlainLimits) where
   first_of_two : (h : Past) (f : FlowId) (ds bs cs : List FlowId) → ds ≡ f ∷ cs → first_flow (plain_setup limits) (ds ++ bs) h ≡ Flows f (next_unit (plain_setup limits) f h)
-  first_of_two h f ds bs cs e = ap (λ (fs : List FlowId). first_flow (plain_setup limits) (fs ++ bs) h) e
+  first_of_two h f ds bs cs e = cc
 
   pub next_above : (x : ℕ) (h : Past) → IsRising (live h) → IsNextAbove limits x h
       → next_out limits h ≡ Flows (request x) (next_unit (plain_setup limits) (request x) h)
   next_above x h r n =
       let last = last_out limits h in
-      let k = first_passing (ready_flow limits h) (beyond last) (live h) x r n.lives n.ready (beyond_is last x n.after) (λ y e ep eq. n.least y e ep (beyond_of last y eq)) in
+      let k = first_passing (ready_flow limits h) (beyond last) (live h) x r n.lives n.ready (beyond_is last x n.after) (λ y e ep eq. n.least y e ep (ltb-true last y eq)) in
       first_of_two h (request x) _ _ k.0 k.1
     where
       beyond_is : (a b : ℕ) → a < b → nat_lt a b ≡ true
       beyond_is a b e = grind (arith, nat_tests)
-
-      beyond_of : (a b : ℕ) → nat_lt a b ≡ true → a < b
-      beyond_of a b e = grind (arith, nat_tests)
 
   pub next_around : (x : ℕ) (h : Past) → IsRising (live h) → IsNextAround limits x h
       → next_out limits h ≡ Flows (request x) (next_unit (plain_setup limits) (request x) h)
@@ -209,27 +204,23 @@ not_passing p q [] x none e eq = cc
 not_passing p q (y ∷ ys) x none e eq =
     by_case (y == x) (λ t. own (number_is y x t)) (λ d. not_passing p q ys x (rest_none (p (request y)) (q (request y)) refl refl) (later (y == x) (has ys x) e d) eq)
   where
-    later : (a b : Bool) → (a || b) ≡ true → a ≡ false → b ≡ true
-    later true b e f = cc
-    later false b e f = e
-
     some : (g : FlowId) (gs : List FlowId) → g ∷ gs ≡ [] → ⊥
     some g gs e = cc
 
     rest_none : (a b : Bool) → p (request y) ≡ a → q (request y) ≡ b → filter q (filter p (flat_map (λ z. request z ∷ []) ys)) ≡ []
     rest_none true true ep eq = absurd (some _ _ (sym (take_first p q (request y) (flat_map (λ z. request z ∷ []) ys) ep eq) ∙ none))
-    rest_none true false ep eq = sym (skip_first p q (request y) (flat_map (λ z. request z ∷ []) ys) (ap (λ b. p (request y) && b) eq ∙ ap (λ b. b && false) ep)) ∙ none
-    rest_none false b ep eq = sym (skip_first p q (request y) (flat_map (λ z. request z ∷ []) ys) (ap (λ b. b && q (request y)) ep)) ∙ none
+    rest_none true false ep eq = sym (skip_first p q (request y) (flat_map (λ z. request z ∷ []) ys) (cc)) ∙ none
+    rest_none false b ep eq = sym (skip_first p q (request y) (flat_map (λ z. request z ∷ []) ys) (cc)) ∙ none
 
     own : y ≡ x → p (request x) ≡ false
     own e =
-        by_case (p (request x)) (λ t. absurd (some _ _ (sym (take_first p q (request x) (flat_map (λ z. request z ∷ []) ys) t eq) ∙ subst (λ (v : ℕ). filter q (filter p (request v ∷ flat_map (λ z. request z ∷ []) ys)) ≡ []) e none))) (λ f. f)
+        by_case (p (request x)) (λ t. absurd (some _ _ (sym (take_first p q (request x) (flat_map (λ z. request z ∷ []) ys) t eq) ∙ rw (← e) none))) (λ f. f)
 
 pub none_next : (limits : PlainLimits) (x : ℕ) (h : Past) → next_out limits h ≡ Nothing → Alive h x → is_ready limits x h ≡ false
 none_next limits x h none is =
     let last = last_out limits h in
     let k = both_empty (filter (beyond last) (filter (ready_flow limits h) (flat_map (λ y. request y ∷ []) (live h)))) _ (no_first limits h _ none) in
-    by_case (nat_lt last x) (λ t. not_passing (ready_flow limits h) (beyond last) (live h) x k.0 is t)
+    by_case (nat_lt last x) (not_passing (ready_flow limits h) (beyond last) (live h) x k.0 is)
     (λ f. not_passing (ready_flow limits h) (within last) (live h) x k.1 is (then_within x last f))
   where
     then_within : (x last : ℕ) → nat_lt last x ≡ false → nat_le x last ≡ true

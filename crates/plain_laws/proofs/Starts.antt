@@ -1,29 +1,30 @@
 -- A stream starts, above every number before it.
+use Rattle.plain_laws.proofs.Leaving.{flow_kept}
+use Rattle.std.proofs.lemmas.Bool.{or_parts}
 use Rattle.plain_laws.specs.Words.{Past, conn_high, conn_lows, conn_out, end_out, lows_of}
 use Rattle.tape_laws.specs.Doomed.{is_swept}
 use Rattle.flow_gate.specs.declared.ids.BufferId.{BufferId}
 use Rattle.flow_gate.specs.declared.ids.FlowId.{FlowId}
-use Rattle.plain_laws.proofs.Counting.{disabled_is, lows_are, one_if, told_of}
-use Rattle.plain_laws.proofs.Extending.{MayAdd, counted_of, one_owed, regular_more}
+use Rattle.plain_laws.proofs.Extending.{MayAdd, one_owed, regular_more}
 use Rattle.plain_laws.proofs.Flags.{send_same, write_same}
-use Rattle.plain_laws.proofs.Leaving.{Leaves, flow_other, once_kept, room_kept, same_len, unborn_kept}
+use Rattle.plain_laws.proofs.Leaving.{Leaves, once_kept, room_kept, same_len, unborn_kept}
 use Rattle.plain_laws.proofs.Moves.{where_limited}
 use Rattle.plain_laws.proofs.Rising.{rising_more}
-use Rattle.plain_laws.proofs.Streams.{all_of, by_case, has_kept, has_last, has_more, has_not, has_one, has_was, not_both, number_is, or_none, own_or_other}
-use Rattle.plain_laws.proofs.Tellings.{live_flows_kept, live_owed, owed_none, owed_one, told_absent}
+use Rattle.plain_laws.proofs.Streams.{all_of, by_case, has_kept, has_last, has_more, has_not, has_one, has_was, not_both, number_is, own_or_other}
+use Rattle.plain_laws.proofs.Tellings.{live_flows_kept, live_owed}
 use Rattle.plain_laws.specs.Owing.{Owing, asking, due_if, owed}
 use Rattle.plain_laws.specs.Regular.{AtMost, Books, FlowBooks, IsLiveFlow, Regular}
-use Rattle.std.proofs.Common.{ap, arith, inl, refl, subst, sym, ◌∙◌}
+use Rattle.std.proofs.Math.Bool.{or_comm}
+use Rattle.std.proofs.Common.{arith, inl, refl, subst, sym, ◌∙◌}
 use Rattle.std.specs.List.{AllByRecursion}
-use Rattle.std.specs.Prelude.{Bool, List, [], false, if◌then◌else◌, map, true, ℕ, ◌&&◌, ◌++◌, ◌+◌, ◌<◌, ◌==◌, ◌||◌, ◌∷◌, ◌≡◌, ◌≤◌}
-use Rattle.tape_laws.specs.Demands.{MeetsFirst}
+use Rattle.std.specs.Prelude.{Bool, [], false, if◌then◌else◌, map, true, ℕ, ◌&&◌, ◌++◌, ◌+◌, ◌<◌, ◌==◌, ◌∷◌, ◌≡◌, ◌≤◌}
 use Rattle.tape_laws.specs.Dispatches.{before_dispatch, has, live, started}
 use Rattle.tape_laws.specs.Ends.{end_framed}
 use Rattle.tape_laws.specs.Flows.{request, same_flow}
 use Rattle.tape_laws.specs.History.{NoMark, Noted, Step}
 use Rattle.tape_laws.specs.Pauses.{Heads, Owed}
 use Rattle.tape_laws.specs.Plain.{plain_setup}
-use Rattle.tape_laws.specs.Units.{Demand, WantsStart}
+use Rattle.tape_laws.specs.Units.{WantsStart}
 use Rattle.tape_laws.specs.declared.limits.PlainLimits.{PlainLimits}
 use Rattle.flow_gate.specs.declared.ids.BufferId.TheVariants as buffer
 use Rattle.flow_notes.specs.declared.notes.Note.TheVariants as note
@@ -50,12 +51,11 @@ start_may : (limits : PlainLimits) (x : ℕ) (h : Past) → Books limits (asking
 start_may limits x h s fresh new = record {
   allowed = tt;
   paused = s.due;
-  counted = counted_of limits (asking (WantsStart x 0 x 0 ∷ [])) h s refl;
   ends = tt;
   in_turn = tt;
   doomed = new;
   swept = fresh;
-  answered = subst (λ (ds : List Demand). MeetsFirst {Mark = NoMark} (plain_setup limits) ds (Noted (note.Start x 0 x 0))) (sym s.asks) refl;
+  answered = rw s.asks refl;
   only = subst (Heads (WantsStart x 0 x 0)) (sym s.asks) refl;
   quiet = tt;
   licensed = tt;
@@ -78,7 +78,7 @@ start_due x false false false e f = refl
 pub unframed_before : (limits : PlainLimits) (f : FlowId) (h : Past) → end_framed (plain_setup limits) f h ≡ false → end_framed (plain_setup limits) f (before_dispatch h) ≡ false
 unframed_before limits f [] e = refl
 unframed_before limits f (Noted (note.Turn k ev) ∷ h) e = e
-unframed_before limits f (Noted (note.Frame c g n last) ∷ h) e = unframed_before limits f h (or_none (same_flow g f && last) (end_framed (plain_setup limits) f h) e).1
+unframed_before limits f (Noted (note.Frame c g n last) ∷ h) e = unframed_before limits f h (or_parts (same_flow g f && last) (end_framed (plain_setup limits) f h) e).1
 unframed_before limits f (step ∷ h) e = unframed_before limits f h e
 
 start_own : (limits : PlainLimits) (x : ℕ) (h : Past) → Books limits (asking (WantsStart x 0 x 0 ∷ [])) h → has (started h) x ≡ false
@@ -88,23 +88,15 @@ start_own limits x h s new =
     let u = s.unborn x new in
     let dead : has (live h) x ≡ false = by_case (has (live h) x) (λ t. not_both (has (started h) x) (s.born x t) new) (λ f. f) in
     let lows_is : lows_of limits x (step ∷ h) ≡ lows_of limits x h = refl in
-    let write_is : conn_lows limits (step ∷ h) ≡ conn_lows limits h = refl in
     record {
-      tally = balance _ _ _ _ _ _ _ _ _ (disabled_is limits x (step ∷ h)) (lows_are limits x (step ∷ h)) u.paused u.resumed
-          (owed_one (conn_high limits h) (buffer.Write 0) x ∙ sym (ap one_if (write_same limits step h refl)))
-          (ap one_if (send_same limits (request x) step h refl ∙ u.low)) (ap (told_of x) (lows_is ∙ s.hushed x dead))
-          (ap (told_of x) write_is ∙ told_absent x (live h) _ s.write_lows dead);
       send_low = inl (lows_is ∙ s.hushed x dead);
       recv_room = same_len _ _ limits.recv u.recv (none limits.recv);
       send_room = where_limited limits.send _ (λ p. same_len _ _ (limits.send + limits.quantum) u.send (none _));
-      read = u.body ∙ sym (ap (λ v. v ++ []) u.received);
+      read = cc;
       over = λ t. not_both (end_out limits x h) t u.unframed;
       unframed = unframed_before limits (request x) h u.unframed;
     }
   where
-    balance : (p r o d l a w s m : ℕ) → d ≡ a + w → l ≡ s + m → p ≡ 0 → r ≡ 0 → o ≡ w → a ≡ 0 → s ≡ 0 → m ≡ 0 → p + o ≡ r + (d + l)
-    balance p r o d l a w s m ed el ep er eo ea es em = omega arith
-
     none : (n : ℕ) → 0 ≤ n
     none n = omega arith
 
@@ -124,27 +116,20 @@ start_books limits x last h s most less =
       unclosed = s.unclosed;
       write_room = room_kept limits out_same s.write_room;
       rising = rising_more (live h) x s.rising (all_of (λ y. y < x) (live h) (λ y e. under _ _ _ (most.most y (s.born y e)) less));
-      born = λ y e. by_case (x == y) (λ t. subst (λ (v : ℕ). has (started h ++ x ∷ []) v ≡ true) (number_is x y t) (has_last (started h) x))
+      born = λ y e. by_case (x == y) (λ t. rw (← number_is x y t) (has_last (started h) x))
           (λ d. has_kept (started h) x y (s.born y (has_was (live h) x y e d)));
-      said = λ y. s.said y ∙ swapped (x == y) (has (started h) y) ∙ sym (has_more (started h) x y);
+      said = λ y. s.said y ∙ or_comm (x == y) (has (started h) y) ∙ sym (has_more (started h) x y);
       each = λ y e. own_or_other (λ z. FlowBooks limits (after_start limits x h) z (step ∷ h)) x y (start_own limits x h s new)
           (λ d. let f = s.each y (has_was (live h) x y e d) in
-          flow_other limits (asking (WantsStart x 0 x 0 ∷ [])) (after_start limits x h) y step h (start_leaves limits x y h) f out_same (ap (told_of y) lows_same)
-          (owed_none b (buffer.Write 0) x y d) refl f.unframed);
+          flow_kept limits (asking (WantsStart x 0 x 0 ∷ [])) (after_start limits x h) y step h (start_leaves limits x y h) f refl f.unframed);
       unborn = λ y e. unborn_kept limits y step h (start_leaves limits x y h) (record { ended = refl; pairs = refl; must = refl }) (s.unborn y (has_not (started h) x y e).0);
       owed = live_owed b (buffer.Write 0) (x ∷ []) (live h ++ x ∷ [])
-          (λ y e. subst (λ (v : ℕ). has (live h ++ x ∷ []) v ≡ true) (number_is x y (sym (has_one x y) ∙ e)) (has_last (live h) x));
+          (λ y e. rw (← (number_is x y (sym (has_one x y) ∙ e))) (has_last (live h) x));
       write_lows = subst (AllByRecursion (IsLiveFlow (live h ++ x ∷ []))) (sym lows_same) (live_flows_kept (live h) (live h ++ x ∷ []) _ (λ y e. has_kept (live h) x y e) s.write_lows);
       write_once = once_kept lows_same s.write_once;
       hushed = λ y e. s.hushed y (has_not (live h) x y e).0;
     }
   where
-    swapped : (a b : Bool) → (a || b) ≡ (b || a)
-    swapped true true = refl
-    swapped true false = refl
-    swapped false true = refl
-    swapped false false = refl
-
     under : (a b c : ℕ) → a ≤ b → b < c → a < c
     under a b c e f = omega arith
 

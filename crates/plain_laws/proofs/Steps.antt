@@ -1,11 +1,12 @@
 -- The steps of a core, each from a settled history to one.
+use Rattle.plain_laws.proofs.Balances.{count_is}
 use Rattle.flow_gate.specs.declared.ids.BufferId.{BufferId}
 use Rattle.flow_gate.specs.declared.ids.FlowId.{FlowId}
 use Rattle.flow_notes.specs.declared.notes.Cause.{Cause}
 use Rattle.flow_notes.specs.declared.notes.Note.{Note}
-use Rattle.plain_laws.proofs.Counting.{disabled_is, lows_are, send_flag, told_of, write_flag, write_left}
-use Rattle.plain_laws.proofs.Dooms.{doom_done, doom_early, without}
-use Rattle.plain_laws.proofs.Extending.{count_is}
+use Rattle.plain_laws.proofs.Counting.{disabled_is, lows_are, send_flag, write_flag, write_left}
+use Rattle.plain_laws.proofs.Dooms.{doom_done, doom_early}
+use Rattle.plain_laws.proofs.Extending.{}
 use Rattle.plain_laws.proofs.Frames.{frame_leaves, frame_regular, lows_after}
 use Rattle.plain_laws.proofs.Gones.{gone_regular}
 use Rattle.plain_laws.proofs.Moves.{move_regular, readable_low, untold}
@@ -21,9 +22,9 @@ use Rattle.plain_laws.specs.Owing.{due_if, nothing, owed, pause_notes, pauses_fo
 use Rattle.plain_laws.specs.Regular.{Regular, Rests}
 use Rattle.plain_laws.specs.Settled.{Settled}
 use Rattle.plain_laws.specs.StepNotes.{drain_notes, move_notes, rise_notes}
-use Rattle.std.proofs.Common.{ap, arith, refl, subst, sym, ◌∙◌}
+use Rattle.std.proofs.Common.{ap, arith, refl, subst, ◌∙◌}
 use Rattle.std.proofs.lemmas.List.{append-nil}
-use Rattle.std.specs.Prelude.{Bool, List, [], false, if◌then◌else◌, length, map, min, true, ℕ, ◌&&◌, ◌++◌, ◌+◌, ◌<◌, ◌==◌, ◌∷◌, ◌≡◌}
+use Rattle.std.specs.Prelude.{Bool, List, [], false, if◌then◌else◌, length, map, min, true, ℕ, ◌&&◌, ◌+◌, ◌<◌, ◌==◌, ◌∷◌, ◌≡◌}
 use Rattle.plain_laws.specs.Words.{Past, Alive, conn_high, conn_lows, end_out, frame_of, lows_of, move_of, next_out, past_frame, past_move, recv_at, send_drains, send_high}
 use Rattle.tape_laws.specs.Dispatches.{before_dispatch, has, live}
 use Rattle.tape_laws.specs.Doomed.{condemned, is_swept}
@@ -44,7 +45,7 @@ use Rattle.flow_notes.specs.declared.notes.Note.TheVariants as note
 pub rests_settled : (limits : PlainLimits) (h : Past) → Rests limits h → Settled limits h
 rests_settled limits h r = record {
   regular = r.regular;
-  untold = λ x. by_case (has (live h) x) (λ t. untold limits nothing x h (r.regular.books.each x t) (told_none limits x h r.quiet t).0) (λ f. r.regular.books.hushed x f);
+  untold = λ x. by_case (has (live h) x) (λ t. untold limits nothing x h (r.regular.books.each x t) (told_none limits x h r.quiet t).0) (r.regular.books.hushed x);
 }
 
 pub one_pause : (b : BufferId) (x : ℕ) (rises high : Bool) → rises ≡ high → (if rises then note.Pause (request x) b ∷ [] else []) ≡ pause_notes (due_if high b (x ∷ []))
@@ -55,7 +56,7 @@ one_pause b x false false e = refl
 
 all_pauses : (b : BufferId) (xs : List ℕ) → map (λ y. note.Pause (request y) b) xs ≡ pause_notes (pauses_for b xs)
 all_pauses b [] = refl
-all_pauses b (x ∷ xs) = ap (λ (ns : List Note). note.Pause (request x) b ∷ ns) (all_pauses b xs)
+all_pauses b (x ∷ xs) = cc (all_pauses b xs)
 
 pub many_pauses : (b : BufferId) (xs : List ℕ) (rises high : Bool) → rises ≡ high → (if rises then map (λ y. note.Pause (request y) b) xs else []) ≡ pause_notes (due_if high b xs)
 many_pauses b xs true true e = all_pauses b xs
@@ -84,8 +85,7 @@ module _ (limits : PlainLimits) where
   move_step x n h s fresh is readable some all =
       let step : Step NoMark = move_of x n in
       let low = (readable_low limits x h s.regular is readable).0 in
-      subst (λ (ns : List Note). Settled limits (onto ns h)) (sym (move_pauses x n h low))
-      (pauses_settled _ (step ∷ h) (move_regular limits x n h s.regular fresh is readable some all) refl
+      rw (move_pauses x n h low) (pauses_settled _ (step ∷ h) (move_regular limits x n h s.regular fresh is readable some all) refl
       (λ y. append-nil (lows_of limits y h) ∙ s.untold y))
 
   pub rise_pauses : (x n : ℕ) (last : Bool) (h : Past) → conn_high limits h ≡ false
@@ -100,19 +100,18 @@ module _ (limits : PlainLimits) where
   frame_pending x y n last h s is =
       let drains = send_drains limits x (frame_of x n last) h in
       own_or_other (λ z. lows_of limits z (frame_of x n last ∷ h) ≡ (if (x == z) && drains then request x ∷ [] else [])) x y
-      (lows_after limits x n last h s.regular.books.rising is ∙ ap (λ (fs : List FlowId). fs ++ (if drains then request x ∷ [] else [])) (s.untold x)
-      ∙ sym (ap (λ b. if b && drains then request x ∷ [] else []) (same_number x)))
-      (λ d. (frame_leaves limits x y n last h d).send_lows ∙ s.untold y ∙ sym (ap (λ b. if b && drains then request x ∷ [] else []) d))
+      (cc (lows_after limits x n last h s.regular.books.rising is, s.untold x, same_number x))
+      (λ d. cc ((frame_leaves limits x y n last h d).send_lows, s.untold y))
 
   drain_settled : (x : ℕ) (drains : Bool) (h : Past) → Regular limits nothing h → is_swept h ≡ false → Alive h x
       → ((y : ℕ) → lows_of limits y h ≡ (if (x == y) && drains then request x ∷ [] else []))
       → Settled limits (onto (if drains then note.Resume (request x) (buffer.Send (request x)) ∷ [] else []) h)
   drain_settled x true h r fresh is pend =
-      let own : lows_of limits x h ≡ request x ∷ [] = pend x ∙ ap (λ b. if b && true then request x ∷ [] else []) (same_number x) in
+      let own : lows_of limits x h ≡ request x ∷ [] = cc (pend x, same_number x) in
       record {
         regular = resume_send_regular limits x h r fresh is own;
         untold = λ y. own_or_other (λ z. lows_of limits z (Noted (note.Resume (request x) (buffer.Send (request x))) ∷ h) ≡ []) x y
-            (own_lows limits x h own) (λ d. other_lows limits x y h d ∙ pend y ∙ ap (λ b. if b && true then request x ∷ [] else []) d);
+            (own_lows limits x h own) (λ d. cc (other_lows limits x y h d, pend y));
       }
   drain_settled x false h r fresh is pend = record { regular = r; untold = λ y. pend y ∙ none (x == y) }
     where
@@ -128,9 +127,8 @@ module _ (limits : PlainLimits) where
       let due = due_if (conn_high limits (step ∷ h)) (buffer.Write 0) (live h) in
       let h' = onto (pause_notes due) (step ∷ h) in
       let r = pauses_regular limits due (step ∷ h) (frame_regular limits x n last h s.regular fresh is low next) refl in
-      let lives : Alive h' x = ap (λ (xs : List ℕ). has xs x) (pauses_live due (step ∷ h)) ∙ is in
-      subst (Settled limits) (sym (onto_append (rise_notes limits x n last h) (drain_notes limits x n last h) (step ∷ h)
-      ∙ ap (λ (ns : List Note). onto (drain_notes limits x n last h) (onto ns (step ∷ h))) (rise_pauses x n last h low)))
+      let lives : Alive h' x = cc (pauses_live due (step ∷ h)) in
+      subst (Settled limits) (cc (onto_append (rise_notes limits x n last h) (drain_notes limits x n last h) (step ∷ h), rise_pauses x n last h low))
       (drain_settled x (send_drains limits x step h) h' r (pauses_unswept due (step ∷ h) refl) lives (λ y. pauses_lows limits (buffer.Send (request y)) due (step ∷ h) ∙ frame_pending x y n last h s is))
 
   -- the next stream that waits for the write buffer's low is told
@@ -141,7 +139,7 @@ module _ (limits : PlainLimits) where
 
   doom_untold : (x y : ℕ) (why : Cause) (h : Past) → Settled limits h
       → lows_of limits y (Noted (note.Doom x why) ∷ h) ≡ []
-  doom_untold x y why h s = ap (without x) (s.untold y)
+  doom_untold x y why h s = cc (s.untold y)
 
   pub done_step : (x : ℕ) (h : Past) → Settled limits h → is_swept h ≡ false → Alive h x → end_out limits x h ≡ true
       → Settled limits (Noted (note.Doom x cause.Done) ∷ h)
@@ -156,7 +154,7 @@ module _ (limits : PlainLimits) where
   pub settled_count : (x : ℕ) (h : Past) → Settled limits h → Alive h x
       → count (request x) h ≡ (send_flag limits x h + write_flag limits h) + write_left limits x h
   settled_count x h s is =
-      sums _ _ _ _ _ _ _ (count_is limits nothing x h (s.regular.books.each x is) refl) (disabled_is limits x h) (lows_are limits x h) (ap (told_of x) (s.untold x))
+      sums _ _ _ _ _ _ _ (count_is limits x h s.regular.lawful s.regular.books.due is) (disabled_is limits x h) (lows_are limits x h) (cc (s.untold x))
     where
       sums : (c d l a w s m : ℕ) → c ≡ d + l → d ≡ a + w → l ≡ s + m → s ≡ 0 → c ≡ (a + w) + m
       sums c d l a w s m e1 e2 e3 e4 = omega arith

@@ -1,6 +1,8 @@
 -- Streams told apart by their numbers, and what holds of each.
 use Rattle.flow_gate.specs.declared.ids.FlowId.{FlowId}
+use Rattle.std.proofs.Math.Bool.{or-false}
 use Rattle.std.proofs.Common.{ap, arith, refl, subst, sym, ◌∙◌}
+use Rattle.std.proofs.lemmas.Bool.{and_parts, not-true, or_left, or_parts, or_right}
 use Rattle.std.proofs.lemmas.Bool.Decides.{nat_tests}
 use Rattle.std.proofs.lemmas.List.Folds.{list_any-append}
 use Rattle.std.proofs.lemmas.Map.Views.{any-filter_same}
@@ -23,6 +25,9 @@ number_is a b e = grind (arith, nat_tests)
 pub same_number : (x : ℕ) → (x == x) ≡ true
 same_number x = grind (arith, nat_tests)
 
+pub swapped : (a b : ℕ) → (a == b) ≡ (b == a)
+swapped a b = grind (arith, nat_tests)
+
 pub differs_back : (a b : ℕ) → (a == b) ≡ false → (b == a) ≡ false
 differs_back a b e = grind (arith, nat_tests)
 
@@ -35,16 +40,12 @@ pub own_or_other : (P : ℕ → Type 0) (x y : ℕ) → P x → ((x == y) ≡ fa
 own_or_other P x y own other = by_case (x == y) (λ e. subst P (number_is x y e) own) other
 
 pub same_request : (x : ℕ) → same_flow (request x) (request x) ≡ true
-same_request x = ap (λ b. b && true) (same_number x)
+same_request x = cc (same_number x)
 
 -- ---- which numbers a list has
 
 pub has_one : (x y : ℕ) → has (x ∷ []) y ≡ (x == y)
-has_one x y = or_false (x == y)
-  where
-    or_false : (b : Bool) → (b || false) ≡ b
-    or_false true = refl
-    or_false false = refl
+has_one x y = or-false (x == y)
 
 pub has_more : (xs : List ℕ) (x y : ℕ) → has (xs ++ x ∷ []) y ≡ (has xs y || (x == y))
 has_more xs x y = list_any-append (λ z. z == y) xs (x ∷ []) ∙ ap (λ b. has xs y || b) (has_one x y)
@@ -52,18 +53,6 @@ has_more xs x y = list_any-append (λ z. z == y) xs (x ∷ []) ∙ ap (λ b. has
 pub or_true : (a b : Bool) → (a || b) ≡ true → a ≡ false → b ≡ true
 or_true true b e f = cc
 or_true false b e f = e
-
-pub or_left : (a b : Bool) → a ≡ true → (a || b) ≡ true
-or_left true b e = refl
-or_left false b e = cc
-
-pub or_right : (a b : Bool) → b ≡ true → (a || b) ≡ true
-or_right true b e = refl
-or_right false b e = e
-
-pub or_none : (a b : Bool) → (a || b) ≡ false → (a ≡ false) × (b ≡ false)
-or_none true b e = cc
-or_none false b e = (refl, e)
 
 -- what is in a list that grew by x is x, or was there
 module _ (xs : List ℕ) (x : ℕ) where
@@ -77,23 +66,15 @@ module _ (xs : List ℕ) (x : ℕ) where
   has_last = has_more xs x x ∙ or_right (has xs x) (x == x) (same_number x)
 
   pub has_not : (y : ℕ) → has (xs ++ x ∷ []) y ≡ false → (has xs y ≡ false) × ((x == y) ≡ false)
-  has_not y e = or_none (has xs y) (x == y) (sym (has_more xs x y) ∙ e)
-
-pub both_of : (a b : Bool) → (a && b) ≡ true → (a ≡ true) × (b ≡ true)
-both_of true b e = (refl, e)
-both_of false b e = cc
-
-pub not_so : (b : Bool) → not b ≡ true → b ≡ false
-not_so true e = cc
-not_so false e = refl
+  has_not y e = or_parts (has xs y) (x == y) (sym (has_more xs x y) ∙ e)
 
 module _ (xs : List ℕ) (x y : ℕ) where
   has_without : has (filter (λ z. not (z == x)) xs) y ≡ (not (y == x) && has xs y)
-  has_without = any-filter_same (λ z. z == y) (λ z. not (z == x)) (not (y == x)) (λ z t. ap (λ w. not (w == x)) (number_is z y t)) xs
+  has_without = any-filter_same (λ z. z == y) (λ z. not (z == x)) (not (y == x)) (λ z t. cc (number_is z y t)) xs
 
   -- what is left without x was there, and isn't x
   pub has_left : has (filter (λ z. not (z == x)) xs) y ≡ true → (has xs y ≡ true) × ((x == y) ≡ false)
-  has_left e = let k = both_of (not (y == x)) (has xs y) (sym has_without ∙ e) in (k.1, differs_back y x (not_so (y == x) k.0))
+  has_left e = let k = and_parts (not (y == x)) (has xs y) (sym has_without ∙ e) in (k.1, differs_back y x (not-true (y == x) k.0))
 
   pub has_stays : has xs y ≡ true → (x == y) ≡ false → has (filter (λ z. not (z == x)) xs) y ≡ true
   has_stays e d = has_without ∙ both (not (y == x)) (has xs y) (ap not (differs_back x y d)) e
@@ -108,7 +89,7 @@ module _ (xs : List ℕ) (x y : ℕ) where
 
 -- a stream that was started isn't one that wasn't
 pub apart_from : (xs : List ℕ) (s x : ℕ) → has xs s ≡ true → has xs x ≡ false → (s == x) ≡ false
-apart_from xs s x is isnt = by_case (s == x) (λ t. not_both (has xs x) (subst (λ (v : ℕ). has xs v ≡ true) (number_is s x t) is) isnt) (λ f. f)
+apart_from xs s x is isnt = by_case (s == x) (λ t. not_both (has xs x) (rw (← number_is s x t) is) isnt) (λ f. f)
 
 -- ---- what holds of each
 
@@ -143,7 +124,7 @@ flow_is_live limits x h e = among (live h) e
     among : (xs : List ℕ) → has xs x ≡ true → list_any (same_flow (request x)) (flat_map (λ y. request y ∷ []) xs) ≡ true
     among [] e = cc
     among (y ∷ ys) e =
-        by_case (y == x) (λ t. or_left (same_flow (request x) (request y)) _ (ap (λ z. same_flow (request x) (request z)) (number_is y x t) ∙ same_request x))
+        by_case (y == x) (λ t. or_left (same_flow (request x) (request y)) _ (cc (number_is y x t, same_request x)))
         (λ d. or_right (same_flow (request x) (request y)) _ (among ys (or_true (y == x) (has ys x) e d)))
 
 -- ---- flows told apart by their names
@@ -156,6 +137,6 @@ bool_is false false e = refl
 
 pub flow_is : (f g : FlowId) → same_flow f g ≡ true → f ≡ g
 flow_is f g e =
-    let k = both_of (f.exchange == g.exchange) (if f.back then g.back else not g.back) e in
+    let k = and_parts (f.exchange == g.exchange) (if f.back then g.back else not g.back) e in
     ap (λ (x : ℕ). let r : FlowId = record { exchange = x; back = f.back } in r) (number_is f.exchange g.exchange k.0)
     ∙ ap (λ (b : Bool). let r : FlowId = record { exchange = g.exchange; back = b } in r) (bool_is f.back g.back k.1)

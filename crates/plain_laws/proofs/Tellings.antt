@@ -1,15 +1,17 @@
 -- How often a stream stands among flows that are to be told, and among pauses that are due.
+use Rattle.std.proofs.Math.Nat.{zero-add}
+use Rattle.std.proofs.lemmas.Bool.{or_left, or_right}
 use Rattle.flow_gate.specs.declared.ids.BufferId.{BufferId}
 use Rattle.flow_gate.specs.declared.ids.FlowId.{FlowId}
 use Rattle.plain_laws.proofs.Counting.{one_if, told_of}
 use Rattle.plain_laws.proofs.Rising.{rising_apart}
-use Rattle.plain_laws.proofs.Streams.{by_case, differs_back, has_one, not_both, number_is, or_left, or_right, same_number, same_request}
+use Rattle.plain_laws.proofs.Streams.{by_case, differs_back, has_one, number_is, same_number, same_request}
 use Rattle.plain_laws.specs.Owing.{due_if, owed_times, pauses_for}
 use Rattle.plain_laws.specs.Regular.{IsLiveFlow, IsRising}
-use Rattle.std.proofs.Common.{ap, arith, refl, subst, sym, ◌∙◌}
-use Rattle.std.proofs.lemmas.List.Sums.{sum_by-append, sum_by-cons}
+use Rattle.std.proofs.Common.{ap, arith, refl, subst, ◌∙◌}
+use Rattle.std.proofs.lemmas.List.Sums.{sum_by-cons}
 use Rattle.std.specs.List.{AllByRecursion}
-use Rattle.std.specs.Prelude.{Bool, List, [], drop, false, filter, if◌then◌else◌, map, not, suc, true, zero, ℕ, ◌&&◌, ◌++◌, ◌+◌, ◌==◌, ◌||◌, ◌∷◌, ◌≡◌}
+use Rattle.std.specs.Prelude.{Bool, List, [], drop, false, map, suc, true, zero, ℕ, ◌&&◌, ◌+◌, ◌==◌, ◌||◌, ◌∷◌, ◌≡◌}
 use Rattle.tape_laws.specs.Dispatches.{has}
 use Rattle.tape_laws.specs.Flows.{request, same_flow}
 use Rattle.tape_laws.specs.Pauses.{Owed}
@@ -17,63 +19,29 @@ use Rattle.tape_laws.specs.Pauses.{Owed}
 pub told_cons : (x : ℕ) (f : FlowId) (fs : List FlowId) → told_of x (f ∷ fs) ≡ one_if (same_flow (request x) f) + told_of x fs
 told_cons x f fs = sum_by-cons (λ (g : FlowId). one_if (same_flow (request x) g)) f fs
 
-pub told_append : (x : ℕ) (fs gs : List FlowId) → told_of x (fs ++ gs) ≡ told_of x fs + told_of x gs
-told_append x fs gs = sum_by-append (λ (g : FlowId). one_if (same_flow (request x) g)) fs gs
-
 pub one_other : (x y : ℕ) → (x == y) ≡ false → one_if (same_flow (request y) (request x)) ≡ 0
-one_other x y e = ap (λ b. one_if (b && true)) (differs_back x y e)
+one_other x y e = cc (differs_back x y e)
 
 pub one_own : (x : ℕ) → one_if (same_flow (request x) (request x)) ≡ 1
 one_own x = ap one_if (same_request x)
 
 pub told_own : (x : ℕ) (fs : List FlowId) → told_of x (request x ∷ fs) ≡ 1 + told_of x fs
-told_own x fs = told_cons x (request x) fs ∙ ap (λ n. n + told_of x fs) (one_own x)
+told_own x fs = cc (told_cons x (request x) fs, one_own x)
 
 pub told_other : (x y : ℕ) (fs : List FlowId) → (x == y) ≡ false → told_of y (request x ∷ fs) ≡ told_of y fs
-told_other x y fs e = told_cons y (request x) fs ∙ ap (λ n. n + told_of y fs) (one_other x y e) ∙ none (told_of y fs)
-  where
-    none : (n : ℕ) → 0 + n ≡ n
-    none n = omega arith
-
--- a stream that isn't live stands among no live flows
-pub told_absent : (x : ℕ) (xs : List ℕ) (fs : List FlowId) → AllByRecursion (IsLiveFlow xs) fs → has xs x ≡ false → told_of x fs ≡ 0
-told_absent x xs [] a e = refl
-told_absent x xs (f ∷ fs) a e =
-    let i = a.0 in
-    let away : (f.exchange == x) ≡ false = by_case (f.exchange == x) (λ t. not_both (has xs x) (subst (λ (v : ℕ). has xs v ≡ true) (number_is f.exchange x t) i.live) e) (λ d. d) in
-    told_cons x f fs ∙ both _ _ (ap (λ (g : FlowId). one_if (same_flow (request x) g)) i.is ∙ one_other f.exchange x away) (told_absent x xs fs a.1 e)
-  where
-    both : (a b : ℕ) → a ≡ 0 → b ≡ 0 → a + b ≡ 0
-    both a b e f = omega arith
+told_other x y fs e = cc (told_cons y (request x) fs, one_other x y e, zero-add (told_of y fs))
 
 -- each stream of a rising list stands once among the flows of all
 pub told_all : (xs : List ℕ) (x : ℕ) → IsRising xs → told_of x (map request xs) ≡ one_if (has xs x)
 told_all [] x r = refl
-told_all (y ∷ ys) x r = by_case (y == x) (λ t. own (number_is y x t) (told_all ys y r.1)) (λ d. told_other y x (map request ys) d ∙ told_all ys x r.1 ∙ ap (λ b. one_if (b || has ys x)) (sym d))
+told_all (y ∷ ys) x r = by_case (y == x) (λ t. own (number_is y x t) (told_all ys y r.1)) (λ d. cc (told_other y x (map request ys) d, told_all ys x r.1))
   where
     more : (m : ℕ) → m ≡ 0 → 1 + m ≡ 1
     more m e = omega (arith, e)
 
     own : y ≡ x → told_of y (map request ys) ≡ one_if (has ys y) → told_of x (map request (y ∷ ys)) ≡ one_if (has (y ∷ ys) x)
     own e later =
-        subst (λ (v : ℕ). told_of v (map request (y ∷ ys)) ≡ one_if (has (y ∷ ys) v)) e (told_own y (map request ys) ∙ more _ (later ∙ ap one_if (rising_apart y ys r.0)) ∙ sym (ap (λ b. one_if (b || has ys y)) (same_number y)))
-
--- without another stream
-pub told_without : (x y : ℕ) (fs : List FlowId) → (x == y) ≡ false → told_of y (filter (λ (f : FlowId). not (f.exchange == x)) fs) ≡ told_of y fs
-told_without x y [] e = refl
-told_without x y (f ∷ fs) e = pick (f.exchange == x) refl (told_without x y fs e)
-  where
-    none : (m n : ℕ) → m ≡ 0 → m + n ≡ n
-    none m n e = omega (arith, e)
-
-    away : (f.exchange == x) ≡ true → one_if (same_flow (request y) f) ≡ 0
-    away t = ap (λ b. one_if (b && (if false then f.back else not f.back))) (ap (λ v. y == v) (number_is f.exchange x t) ∙ differs_back x y e)
-
-    pick : (b : Bool) → (f.exchange == x) ≡ b → told_of y (filter (λ (g : FlowId). not (g.exchange == x)) fs) ≡ told_of y fs
-        → told_of y (if not b then f ∷ filter (λ (g : FlowId). not (g.exchange == x)) fs else filter (λ (g : FlowId). not (g.exchange == x)) fs) ≡ told_of y (f ∷ fs)
-    pick true t rest = rest ∙ sym (told_cons y f fs ∙ none _ _ (away t))
-    pick false t rest =
-        told_cons y f (filter (λ (g : FlowId). not (g.exchange == x)) fs) ∙ ap (λ n. one_if (same_flow (request y) f) + n) rest ∙ sym (told_cons y f fs)
+        subst (λ (v : ℕ). told_of v (map request (y ∷ ys)) ≡ one_if (has (y ∷ ys) v)) e (told_own y (map request ys) ∙ more _ (cc (rising_apart y ys r.0)) ∙ (cc (same_number y)))
 
 -- ---- the pauses
 
@@ -85,14 +53,11 @@ pub owed_all : (b : BufferId) (xs : List ℕ) (x : ℕ) → IsRising xs → owed
 owed_all b [] x r = refl
 owed_all b (y ∷ ys) x r =
     owed_cons x (record { flow = request y; buffer = b }) (pauses_for b ys) ∙ ap (λ n. one_if (same_flow (request y) (request x)) + n) (owed_all b ys x r.1)
-    ∙ by_case (y == x) (λ t. own (number_is y x t)) (λ d. other (y == x) (has ys x) d)
+    ∙ by_case (y == x) (λ t. own (number_is y x t)) (other (y == x) (has ys x))
   where
     other : (c h : Bool) → c ≡ false → one_if (c && true) + one_if h ≡ one_if (c || h)
     other true h e = cc
-    other false h e = none (one_if h)
-      where
-        none : (n : ℕ) → 0 + n ≡ n
-        none n = omega arith
+    other false h e = zero-add (one_if h)
 
     whole : (c h : Bool) → c ≡ true → h ≡ false → one_if (c && true) + one_if h ≡ one_if (c || h)
     whole true true e f = cc
@@ -111,7 +76,7 @@ pub owed_one : (a : Bool) (b : BufferId) (x : ℕ) → owed_times x (due_if a b 
 owed_one a b x = owed_if a b (x ∷ []) x (tt, tt) (has_one x x ∙ same_number x)
 
 pub owed_none : (a : Bool) (b : BufferId) (x y : ℕ) → (x == y) ≡ false → owed_times y (due_if a b (x ∷ [])) ≡ 0
-owed_none true b x y e = owed_all b (x ∷ []) y (tt, tt) ∙ ap one_if (has_one x y ∙ e)
+owed_none true b x y e = cc (owed_all b (x ∷ []) y (tt, tt), has_one x y)
 owed_none false b x y e = refl
 
 -- the pauses of live streams are of live flows

@@ -1,13 +1,13 @@
 -- A turn note, at rest: the event asks for what has to follow.
+use Rattle.plain_laws.proofs.Leaving.{flow_kept}
 use Rattle.flow_notes.specs.declared.events.PlainEvent.{PlainEvent}
-use Rattle.plain_laws.proofs.Counting.{flow_tally, one_if, told_of}
-use Rattle.plain_laws.proofs.Extending.{MayAdd, counted_of, free_meets, nothing_owed, regular_more}
-use Rattle.plain_laws.proofs.Flags.{send_same, write_same}
-use Rattle.plain_laws.proofs.Leaving.{Leaves, LeavesWords, flow_other, lows_kept, once_kept, only_other, only_own, room_kept, send_low_kept, unborn_kept}
+use Rattle.plain_laws.proofs.Extending.{MayAdd, free_meets, nothing_owed, regular_more}
+use Rattle.plain_laws.proofs.Leaving.{Leaves, LeavesWords, lows_kept, once_kept, only_other, only_own, room_kept, send_low_kept, unborn_kept}
 use Rattle.plain_laws.proofs.Streams.{apart_from, by_case, not_both, number_is, same_number}
 use Rattle.plain_laws.proofs.Unended.{rests_unframed}
-use Rattle.plain_laws.specs.Owing.{Owing, arriving, asking, nothing, overrun, owed_times, starts}
+use Rattle.plain_laws.specs.Owing.{Owing, arriving, asking, nothing, overrun, starts}
 use Rattle.plain_laws.specs.Regular.{Books, FlowBooks, IsLiveFlow, IsUnborn, Regular, Rests}
+use Rattle.std.proofs.lemmas.Bool.{lt-ltb}
 use Rattle.std.proofs.Common.{ap, arith, refl, subst, sym, ◌∙◌}
 use Rattle.std.proofs.lemmas.Bool.Decides.{nat_tests}
 use Rattle.std.proofs.lemmas.List.{append-nil}
@@ -18,12 +18,11 @@ use Rattle.tape_laws.specs.Dispatches.{events_back, has, live, started, turns}
 use Rattle.tape_laws.specs.Flows.{request}
 use Rattle.tape_laws.specs.Following.{begun}
 use Rattle.tape_laws.specs.History.{NoMark, Step}
-use Rattle.tape_laws.specs.Plain.{paired_with, plain_body, plain_ended, plain_setup}
+use Rattle.tape_laws.specs.Plain.{plain_body, plain_setup}
 use Rattle.tape_laws.specs.PlainSession.{ask_if, plain_demand}
 use Rattle.tape_laws.specs.Units.{Demand, WantsArrive, WantsDoom, WantsOut, WantsStart}
 use Rattle.tape_laws.specs.World.{received, recv}
 use Rattle.tape_laws.specs.declared.limits.PlainLimits.{PlainLimits}
-use Rattle.flow_gate.specs.declared.ids.BufferId.TheVariants as buffer
 use Rattle.flow_notes.specs.declared.events.Event.TheVariants as event
 use Rattle.flow_notes.specs.declared.events.PlainEvent.TheVariants as plain
 use Rattle.flow_notes.specs.declared.notes.Cause.TheVariants as cause
@@ -53,8 +52,7 @@ module _ (limits : PlainLimits) where
   turn_flow : (o : Owing) (x k : ℕ) (e : PlainEvent) (h : Past) → Rests limits h → Alive h x
       → plain_body x (turn_of k e ∷ h) ≡ plain_body x h → o.due ≡ [] → o.extra x ≡ [] → FlowBooks limits o x (turn_of k e ∷ h)
   turn_flow o x k e h r is eb ed ex =
-      flow_other limits nothing o x (turn_of k e) h (turn_leaves x k e h eb) (r.regular.books.each x is) (same_out k e h)
-      (ap (told_of x) (same_lows k e h)) (ap (owed_times x) ed) ex (rests_unframed limits x h r.quiet is)
+      flow_kept limits nothing o x (turn_of k e) h (turn_leaves x k e h eb) (r.regular.books.each x is) ex (rests_unframed limits x h r.quiet is)
 
   -- a turn may stand at rest
   turn_may : (k : ℕ) (e : PlainEvent) (h : Past) → Rests limits h → k ≡ turns h + 1 → MayAdd limits (note.Turn k (event.Plain e)) h
@@ -63,7 +61,6 @@ module _ (limits : PlainLimits) where
       record {
         allowed = ek;
         paused = s.due;
-        counted = counted_of limits nothing h s refl;
         ends = tt;
         in_turn = tt;
         doomed = r.quiet.gone;
@@ -125,33 +122,33 @@ module _ (limits : PlainLimits) where
   pub turn_begin : (k s : ℕ) (h : Past) → Rests limits h → k ≡ turns h + 1
       → Regular limits (asking (WantsStart s 0 s 0 ∷ [])) (turn_of k (plain.Begin s) ∷ h)
   turn_begin k s h r e =
-      turn_bare (WantsStart s 0 s 0 ∷ []) k (plain.Begin s) h r e refl (λ x. ap (λ b. (s == x) || b) (r.regular.books.said x)) (λ x. refl) (λ x is. record { ended = refl; pairs = refl; must = refl })
+      turn_bare (WantsStart s 0 s 0 ∷ []) k (plain.Begin s) h r e refl (λ x. cc (r.regular.books.said x)) (λ x. refl) (λ x is. record { ended = refl; pairs = refl; must = refl })
 
   -- the stream that the pair may end was started
   pub turn_pair : (k s t : ℕ) (h : Past) → Rests limits h → k ≡ turns h + 1 → has (started h) t ≡ true
       → Regular limits nothing (turn_of k (plain.Pair s t) ∷ h)
   turn_pair k s t h r e is =
       turn_bare [] k (plain.Pair s t) h r e refl r.regular.books.said (λ x. refl)
-      (λ x new. record { ended = refl; pairs = ap (λ b. (if b then s ∷ [] else []) ++ paired_with x h) (apart_from (started h) t x is new); must = refl })
+      (λ x new. record { ended = refl; pairs = cc (apart_from (started h) t x is new); must = refl })
 
 module _ (limits : PlainLimits) (k s : ℕ) (h : Past) where
   pub turn_finish : Rests limits h → k ≡ turns h + 1 → has (started h) s ≡ true
       → Regular limits nothing (turn_of k (plain.Finish s) ∷ h)
   turn_finish r e is =
       turn_bare limits [] k (plain.Finish s) h r e refl r.regular.books.said (λ x. refl)
-      (λ x new. record { ended = ap (λ b. b || plain_ended x h) (apart_from (started h) s x is new); pairs = refl; must = refl })
+      (λ x new. record { ended = cc (apart_from (started h) s x is new); pairs = refl; must = refl })
 
   -- a live stream is reset
   pub turn_cut : Rests limits h → k ≡ turns h + 1 → Alive h s
       → Regular limits (asking (WantsDoom s (cause.PeerReset 8) ∷ [])) (turn_of k (plain.Cut s) ∷ h)
   turn_cut r e is =
-      turn_bare limits (WantsDoom s (cause.PeerReset 8) ∷ []) k (plain.Cut s) h r e (ap (λ b. ask_if b (WantsDoom s (cause.PeerReset 8))) is) r.regular.books.said (λ x. refl) (λ x new. record { ended = refl; pairs = refl; must = refl })
+      turn_bare limits (WantsDoom s (cause.PeerReset 8) ∷ []) k (plain.Cut s) h r e (cc) r.regular.books.said (λ x. refl) (λ x new. record { ended = refl; pairs = refl; must = refl })
 
   -- a stream that isn't live is
   pub turn_cut_late : Rests limits h → k ≡ turns h + 1 → has (live h) s ≡ false
       → Regular limits nothing (turn_of k (plain.Cut s) ∷ h)
   turn_cut_late r e is =
-      turn_bare limits [] k (plain.Cut s) h r e (ap (λ b. ask_if b (WantsDoom s (cause.PeerReset 8))) is) r.regular.books.said (λ x. refl) (λ x new. record { ended = refl; pairs = refl; must = refl })
+      turn_bare limits [] k (plain.Cut s) h r e (cc) r.regular.books.said (λ x. refl) (λ x new. record { ended = refl; pairs = refl; must = refl })
 
 -- octets leave
 pub turn_room : (limits : PlainLimits) (k n m : ℕ) (h : Past) → Rests limits h → k ≡ turns h + 1 → m ≡ min n (length (conn_out limits h)) → 0 < m
@@ -159,17 +156,14 @@ pub turn_room : (limits : PlainLimits) (k n m : ℕ) (h : Past) → Rests limits
 turn_room limits k n m h r e is some =
     turn_bare limits (WantsOut 0 m ∷ []) k (plain.Room n) h r e (asks m (min n (length (conn_out limits h))) is some) r.regular.books.said (λ x. refl) (λ x new. record { ended = refl; pairs = refl; must = refl })
   where
-    positive : (m : ℕ) → 0 < m → nat_lt 0 m ≡ true
-    positive m e = grind (arith, nat_tests)
-
     asks : (m l : ℕ) → m ≡ l → 0 < m → (if nat_lt 0 l then WantsOut 0 l ∷ [] else []) ≡ WantsOut 0 m ∷ []
-    asks m l e some = rw (← e) (ap (λ b. if b then WantsOut 0 m ∷ [] else []) (positive m some))
+    asks m l e some = rw (← e) (cc (lt-ltb 0 m some))
 
 -- there is nothing that might leave
 pub turn_room_none : (limits : PlainLimits) (k n : ℕ) (h : Past) → Rests limits h → k ≡ turns h + 1 → min n (length (conn_out limits h)) ≡ 0
     → Regular limits nothing (turn_of k (plain.Room n) ∷ h)
 turn_room_none limits k n h r e none =
-    turn_bare limits [] k (plain.Room n) h r e (ap (λ l. if nat_lt 0 l then WantsOut 0 l ∷ [] else []) none) r.regular.books.said (λ x. refl) (λ x new. record { ended = refl; pairs = refl; must = refl })
+    turn_bare limits [] k (plain.Room n) h r e (cc) r.regular.books.said (λ x. refl) (λ x new. record { ended = refl; pairs = refl; must = refl })
 
 -- what is asked for where octets of a live stream come
 body_asks : (limits : PlainLimits) (s : ℕ) (octets : List ℕ) (h : Past) (over : Bool) → Alive h s
@@ -178,7 +172,7 @@ body_asks : (limits : PlainLimits) (s : ℕ) (octets : List ℕ) (h : Past) (ove
 body_asks limits s octets h over is e = rw (is, e) refl
 
 body_other : (k s x : ℕ) (octets : List ℕ) (h : Past) → (s == x) ≡ false → plain_body x (turn_of k (plain.Body s octets) ∷ h) ≡ plain_body x h
-body_other k s x octets h e = ap (λ b. plain_body x h ++ (if b then octets else [])) e ∙ append-nil (plain_body x h)
+body_other k s x octets h e = cc (append-nil (plain_body x h))
 
 -- the stream whose octets come
 body_own : (limits : PlainLimits) (o : Owing) (k s : ℕ) (octets : List ℕ) (h : Past) → Rests limits h → Alive h s → o.due ≡ [] → o.extra s ≡ octets
@@ -189,9 +183,6 @@ body_own limits o k s octets h r is ed ex =
     let ends_not = rests_unframed limits s h r.quiet is in
     let lows_same = refl in
     record {
-      tally = flow_tally limits [] o.due s step h
-          (same _ _ _ _ _ _ _ _ _ _ _ _ (ap (owed_times s) ed) (ap one_if (send_same limits (request s) step h refl)) (ap one_if (write_same limits step h (same_out limits k (plain.Body s octets) h)))
-          (ap (told_of s) lows_same) (ap (told_of s) (same_lows limits k (plain.Body s octets) h))) f.tally;
       send_low = send_low_kept limits s step h refl lows_same f.send_low;
       recv_room = f.recv_room;
       send_room = f.send_room;
@@ -200,10 +191,6 @@ body_own limits o k s octets h r is ed ex =
       over = λ t. not_both (end_out limits s h) t ends_not;
       unframed = ends_not;
     }
-  where
-    same : (p r o a w s m o' a' w' s' m' : ℕ) → o' ≡ o → a' ≡ a → w' ≡ w → s' ≡ s → m' ≡ m
-        → (p + o') + (r + ((a + w) + (s + m))) ≡ (p + o) + (r + ((a' + w') + (s' + m')))
-    same p r o a w s m o' a' w' s' m' eo ea ew es em = omega arith
 
 -- octets of a stream that began
 body_regular : (limits : PlainLimits) (o : Owing) (k s : ℕ) (octets : List ℕ) (h : Past) → Rests limits h → k ≡ turns h + 1
@@ -211,10 +198,10 @@ body_regular : (limits : PlainLimits) (o : Owing) (k s : ℕ) (octets : List ℕ
     → (Alive h s → o.extra s ≡ octets) → ((x : ℕ) → (s == x) ≡ false → o.extra x ≡ [])
     → Regular limits o (turn_of k (plain.Body s octets) ∷ h)
 body_regular limits o k s octets h r ek d ed st was own other =
-    turn_regular limits o k (plain.Body s octets) h r ek d ed (λ x. r.regular.books.said x ∙ sym (ap (λ b. b || has (started h) x) (st x)))
+    turn_regular limits o k (plain.Body s octets) h r ek d ed (λ x. cc (r.regular.books.said x, st x))
     (λ x is. by_case (s == x)
-    (λ t. let live_s = subst (λ (v : ℕ). Alive h v) (sym (number_is s x t)) is in
-    subst (λ (v : ℕ). FlowBooks limits o v (turn_of k (plain.Body s octets) ∷ h)) (number_is s x t) (body_own limits o k s octets h r live_s ed (own live_s)))
+    (λ t. let live_s = subst (Alive h) (sym (number_is s x t)) is in
+    rw (← number_is s x t) (body_own limits o k s octets h r live_s ed (own live_s)))
     (λ f. turn_flow limits o x k (plain.Body s octets) h r is (body_other k s x octets h f) ed (other x f)))
     (λ x new. let f = apart_from (started h) s x was new in
     turn_unborn limits x k (plain.Body s octets) h r new (body_other k s x octets h f) (record { ended = refl; pairs = refl; must = refl }))

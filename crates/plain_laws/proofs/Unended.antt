@@ -1,8 +1,11 @@
 -- A stream that need not end.
+use Rattle.std.proofs.lemmas.Bool.{or_parts}
+use Rattle.plain_laws.proofs.Streams.{swapped}
+use Rattle.std.proofs.lemmas.Bool.{or_from}
+use Rattle.std.proofs.Math.Bool.{and-false}
 use Rattle.flow_gate.specs.declared.ids.FlowId.{FlowId}
-use Rattle.plain_laws.proofs.Streams.{all_at, or_none}
-use Rattle.std.proofs.Common.{ap, arith, refl, ◌∙◌}
-use Rattle.std.proofs.lemmas.Bool.Decides.{nat_tests}
+use Rattle.plain_laws.proofs.Streams.{all_at}
+use Rattle.std.proofs.Common.{refl}
 use Rattle.std.specs.Prelude.{Bool, List, [], false, if◌then◌else◌, true, ℕ, ◌&&◌, ◌==◌, ◌||◌, ◌∷◌, ◌≡◌}
 use Rattle.plain_laws.specs.Words.{Past, Alive, end_out}
 use Rattle.tape_laws.specs.Dispatches.{has, live}
@@ -18,33 +21,18 @@ use Rattle.flow_notes.specs.declared.notes.Note.TheVariants as note
 pub unframed_of : (limits : PlainLimits) (x : ℕ) (h : Past) → plain_must_end x h ≡ false → end_out limits x h ≡ false
 unframed_of limits x [] e = refl
 unframed_of limits x (Noted (note.Frame c f n last) ∷ past) e =
-    let k = or_none (last && has (x ∷ paired_with x past) f.exchange) (plain_must_end x past) e in
-    both (same_flow f (request x) && last) _ (not_last f last (paired_with x past) k.0) (unframed_of limits x past k.1)
+    let k = or_parts (last && has (x ∷ paired_with x past) f.exchange) (plain_must_end x past) e in
+    or_from (same_flow f (request x) && last) _ (not_last f last (paired_with x past) k.0) (unframed_of limits x past k.1)
   where
-    both : (a b : Bool) → a ≡ false → b ≡ false → (a || b) ≡ false
-    both true b e f = cc
-    both false b e f = f
-
     none : (a b c l : Bool) → (l && (a || b)) ≡ false → ((a && c) && l) ≡ false
     none true b c true e = cc
-    none true true c false e = refl' c
-      where
-        refl' : (c : Bool) → (c && false) ≡ false
-        refl' true = refl
-        refl' false = refl
-    none true false c false e = refl' c
-      where
-        refl' : (c : Bool) → (c && false) ≡ false
-        refl' true = refl
-        refl' false = refl
+    none true true c false e = and-false c
+    none true false c false e = and-false c
     none false b c l e = refl
-
-    swapped : (a b : ℕ) → (a == b) ≡ (b == a)
-    swapped a b = grind (arith, nat_tests)
 
     not_last : (f : FlowId) (last : Bool) (xs : List ℕ) → (last && has (x ∷ xs) f.exchange) ≡ false → (same_flow f (request x) && last) ≡ false
     not_last f last xs e =
-        none (f.exchange == x) (has xs f.exchange) (if f.back then false else true) last (ap (λ b. last && (b || has xs f.exchange)) (swapped f.exchange x) ∙ e)
+        none (f.exchange == x) (has xs f.exchange) (if f.back then false else true) last (cc (swapped f.exchange x))
 unframed_of limits x (step ∷ past) e = unframed_of limits x past e
 
 -- at the end of a dispatch no live stream need end

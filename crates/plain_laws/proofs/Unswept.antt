@@ -4,7 +4,7 @@ use Rattle.flow_notes.specs.declared.notes.Note.{Note}
 use Rattle.plain_laws.proofs.Ontos.{onto_append}
 use Rattle.plain_laws.specs.Owing.{pause_notes}
 use Rattle.plain_laws.specs.StepNotes.{drain_notes, rise_notes}
-use Rattle.std.proofs.Common.{ap, refl, ◌∙◌}
+use Rattle.std.proofs.Common.{refl}
 use Rattle.std.specs.Prelude.{Bool, List, [], false, if◌then◌else◌, map, true, ℕ, ◌∷◌, ◌≡◌}
 use Rattle.plain_laws.specs.Words.{Past, conn_high, conn_rises, frame_of, move_of, past_begin, past_frame, past_move, send_drains, send_rises, turn_of}
 use Rattle.tape_laws.specs.Dispatches.{live}
@@ -14,7 +14,6 @@ use Rattle.tape_laws.specs.History.{Noted, onto}
 use Rattle.tape_laws.specs.Pauses.{Owed}
 use Rattle.tape_laws.specs.declared.limits.PlainLimits.{PlainLimits}
 use Rattle.flow_gate.specs.declared.ids.BufferId.TheVariants as buffer
-use Rattle.flow_notes.specs.declared.events.Event.TheVariants as event
 use Rattle.flow_notes.specs.declared.events.PlainEvent.TheVariants as plain
 use Rattle.flow_notes.specs.declared.notes.Note.TheVariants as note
 
@@ -51,6 +50,8 @@ module _ (limits : PlainLimits) (x n : ℕ) (last : Bool) (h : Past) where
 
   pub frame_unswept : is_swept (past_frame limits x n last h) ≡ false
   frame_unswept =
-      ap (λ (v : Past). is_swept v) (onto_append (rise_notes limits x n last h) (drain_notes limits x n last h) (frame_of x n last ∷ h))
-      ∙ if_unswept (send_drains limits x (frame_of x n last) h) (note.Resume (request x) (buffer.Send (request x)))
-      (onto (rise_notes limits x n last h) (frame_of x n last ∷ h)) (rise_unswept (frame_of x n last ∷ h) refl) refl
+      cc (
+        onto_append (rise_notes limits x n last h) (drain_notes limits x n last h) (frame_of x n last ∷ h),
+        if_unswept (send_drains limits x (frame_of x n last) h) (note.Resume (request x) (buffer.Send (request x)))
+            (onto (rise_notes limits x n last h) (frame_of x n last ∷ h)) (rise_unswept (frame_of x n last ∷ h) refl) refl,
+      )

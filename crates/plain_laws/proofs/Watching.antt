@@ -1,11 +1,12 @@
 -- Which flows watch a buffer.
+use Rattle.std.proofs.lemmas.Bool.{or_parts}
 use Rattle.flow_gate.specs.declared.ids.FlowId.{FlowId}
 use Rattle.plain_laws.proofs.Rising.{rising_apart}
-use Rattle.plain_laws.proofs.Streams.{by_case, differs_back, number_is, or_none, same_number}
+use Rattle.plain_laws.proofs.Streams.{by_case, differs_back, number_is, same_number}
 use Rattle.plain_laws.specs.Regular.{IsRising}
 use Rattle.std.proofs.Common.{ap, refl, subst, ◌∙◌}
 use Rattle.std.specs.List.{list_any}
-use Rattle.std.specs.Prelude.{Bool, List, [], false, filter, flat_map, if◌then◌else◌, map, true, ℕ, ◌&&◌, ◌==◌, ◌||◌, ◌∷◌, ◌≡◌}
+use Rattle.std.specs.Prelude.{List, [], false, filter, flat_map, if◌then◌else◌, map, true, ℕ, ◌&&◌, ◌==◌, ◌||◌, ◌∷◌, ◌≡◌}
 use Rattle.plain_laws.specs.Words.{Past, Alive}
 use Rattle.tape_laws.specs.Dispatches.{has, live}
 use Rattle.tape_laws.specs.Flows.{request, same_buffer}
@@ -20,7 +21,7 @@ write_watchers limits h = each (live h)
   where
     each : (xs : List ℕ) → filter (λ (f : FlowId). list_any (same_buffer (buffer.Write 0)) (buffer.Send f ∷ buffer.Write 0 ∷ [])) (flat_map (λ x. request x ∷ []) xs) ≡ map request xs
     each [] = refl
-    each (x ∷ xs) = ap (λ (fs : List FlowId). request x ∷ fs) (each xs)
+    each (x ∷ xs) = cc (each xs)
 
 -- the flows of these streams that watch the send buffer of x
 abbrev watching : ℕ → List ℕ → List FlowId
@@ -29,7 +30,7 @@ watching x xs = filter (λ (f : FlowId). list_any (same_buffer (buffer.Send (req
 none_watching : (x : ℕ) (xs : List ℕ) → has xs x ≡ false → watching x xs ≡ []
 none_watching x [] e = refl
 none_watching x (y ∷ ys) e =
-    let k = or_none (y == x) (has ys x) e in
+    let k = or_parts (y == x) (has ys x) e in
     ap (λ b. if (b && true) || false then request y ∷ watching x ys else watching x ys) (differs_back y x k.0) ∙ none_watching x ys k.1
 
 one_watching : (x : ℕ) (xs : List ℕ) → IsRising xs → has xs x ≡ true → watching x xs ≡ request x ∷ []
@@ -37,12 +38,11 @@ one_watching x [] r e = cc
 one_watching x (y ∷ ys) r e =
     by_case (y == x)
     (λ t. own (number_is y x t) (none_watching y ys (rising_apart y ys r.0)))
-    (λ d. ap (λ b. if (b && true) || false then request y ∷ watching x ys else watching x ys) (differs_back y x d)
-    ∙ one_watching x ys r.1 (has_was_tail (y == x) (has ys x) e d))
+    (λ d. cc (differs_back y x d, one_watching x ys r.1 (has_was_tail (y == x) (has ys x) e d)))
   where
     own : y ≡ x → watching y ys ≡ [] → watching x (y ∷ ys) ≡ request x ∷ []
     own e none =
-        subst (λ (v : ℕ). watching v (y ∷ ys) ≡ request v ∷ []) e (ap (λ b. if (b && true) || false then request y ∷ watching y ys else watching y ys) (same_number y) ∙ ap (λ (fs : List FlowId). request y ∷ fs) none)
+        subst (λ (v : ℕ). watching v (y ∷ ys) ≡ request v ∷ []) e (cc (same_number y))
 
 pub send_watchers : (limits : PlainLimits) (x : ℕ) (h : Past) → IsRising (live h) → Alive h x
     → watchers (plain_setup limits) (buffer.Send (request x)) h ≡ request x ∷ []

@@ -1,6 +1,6 @@
 -- What holds of each history of a plain session, of which this is owed.
 use Rattle.flow_gate.specs.declared.ids.FlowId.{FlowId}
-use Rattle.plain_laws.specs.Owing.{Owing, nothing, owed_times, starts}
+use Rattle.plain_laws.specs.Owing.{Owing, nothing, starts}
 use Rattle.std.specs.Bool.{OnTrue}
 use Rattle.std.specs.List.{AllByRecursion}
 use Rattle.std.specs.Prelude.{List, [], false, length, map, max, nat_lt, true, ℕ, ◌++◌, ◌+◌, ◌<◌, ◌||◌, ◌∷◌, ◌≡◌, ◌≤◌, ◌⊎◌}
@@ -11,12 +11,11 @@ use Rattle.tape_laws.specs.Ends.{end_framed}
 use Rattle.tape_laws.specs.Flows.{request}
 use Rattle.tape_laws.specs.Following.{begun}
 use Rattle.tape_laws.specs.History.{History, NoMark}
-use Rattle.tape_laws.specs.Pauses.{due_pauses, lows, pauses, pending_lows, resumes}
+use Rattle.tape_laws.specs.Pauses.{due_pauses, pauses, pending_lows, resumes}
 use Rattle.tape_laws.specs.Plain.{paired_with, plain_body, plain_ended, plain_setup}
 use Rattle.tape_laws.specs.PlainSession.{plain_must_end, plain_session}
 use Rattle.tape_laws.specs.PlainTape.{IsPlainLawful}
 use Rattle.tape_laws.specs.Quiet.{IsQuiet}
-use Rattle.tape_laws.specs.Sources.{disabled}
 use Rattle.tape_laws.specs.Summary.{peak}
 use Rattle.tape_laws.specs.Watermark.{above}
 use Rattle.tape_laws.specs.World.{out, place, received}
@@ -39,9 +38,6 @@ pub record IsLiveFlow (streams : List ℕ) (f : FlowId) : Type 0 where
 
 -- what holds of a live stream
 pub record FlowBooks (limits : PlainLimits) (owing : Owing) (x : ℕ) (h : History NoMark) : Type 0 where
-  -- its count, with the pauses that are due, is that of its sources above and its pending lows
-  pub tally : pauses (request x) h + owed_times x owing.due
-      ≡ resumes (request x) h + (disabled (plain_setup limits) (request x) h + lows (plain_setup limits) (request x) h)
   -- its send buffer is to be told at most once, and then it isn't above
   pub send_low : (pending_lows (plain_setup limits) (buffer.Send (request x)) h ≡ [])
       ⊎ ((pending_lows (plain_setup limits) (buffer.Send (request x)) h ≡ request x ∷ [])

@@ -2,6 +2,8 @@
 ghost use Rattle.std.specs.Prelude.{◌≡◌, ◌==◌, length};
 
 use flow_notes::Job;
+use std::error::Error;
+use std::fmt;
 use std::marker::Model;
 
 /// A job that a poster posted. The posts of each poster are numbered from 0.
@@ -19,6 +21,14 @@ pub enum PostRefusal {
     /// There is no memory for the post, or no number: a poster posts at most 2^63 - 1 jobs.
     NoMemory(Job),
 }
+
+impl fmt::Display for PostRefusal {
+    fn fmt<W: fmt::Write>(&self, f: &mut fmt::Formatter<W>) -> fmt::Result {
+        f.write_str("out of memory, or of numbers for posts")
+    }
+}
+
+impl Error for PostRefusal {}
 
 /// A list of posts.
 #[derive(Debug, Drop)]

@@ -14,7 +14,7 @@ abbrev pub first : {X : Type 0} → List X → Option X
 first [] = None
 first (x ∷ xs) = Some x
 
--- Ok exactly where there are none of these faults, and otherwise the first of them; want of memory aside
+-- Ok exactly where there are none of these faults, and otherwise the first of them; running out of memory aside
 abbrev pub Checks : {T : Type 0} → List ConfigFault → Result T ConfigFault → Type 0
 Checks faults (Ok x) = faults ≡ []
 Checks faults (Err fault) = fault ≢ NoMemory → first faults ≡ Some fault

@@ -17,7 +17,7 @@ pub enum ConfigFault {
     Unknown(Octets),
     /// The route's cluster isn't in the list of clusters.
     UnknownCluster(Octets),
-    /// Memory is wanting.
+    /// Out of memory.
     NoMemory,
 }
 

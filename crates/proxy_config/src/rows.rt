@@ -39,7 +39,7 @@ impl<T> Rows<T> {
         Rows { rows }
     }
 
-    /// Appends a row. After want of memory, to which a full list counts too, the list is as it was.
+    /// Appends a row. After running out of memory, to which a full list counts too, the list is as it was.
     pub fn push(&mut self, row: T) -> Result<(), NoMemory>
     where
         T: Drop,

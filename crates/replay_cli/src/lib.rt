@@ -1,23 +1,26 @@
 //! The command line of `h2replay`: its words are those behind the program's name.
 #![tactic(auto)]
 
+mod config;
 mod outside;
 mod pages;
 mod tell;
 
+use crate::config::ConfigFile;
 use crate::pages::{HELP, USAGE, VERSION};
 use crate::tell::tell_outcome;
-use io_ports::StdSource;
 pub use outside::{Input, Output};
 use replay_run::{Status, replay_with_reason};
 use std::env::{self, Env};
-use std::io::{self, Eprint, ErrorKind, Read, Write};
+use std::fs;
+use std::io::{Eprint, ErrorKind, Read, Write};
 use std::process::ExitCode;
+use std::rt::Files;
 
 /// Replays what the words ask for, from the input to the output, and answers the exit code of the
 /// replay's status. Why it isn't 0 is told in a line on standard error; where the words have no form, that is the usage.
 /// `--help` and `--version` are answered on the output.
-pub fn replay_words<R: Env + Eprint + AllocGlobal, I: Read + Drop, O: Write + Drop>(
+pub fn replay_words<R: Env + Eprint + Files + AllocGlobal, I: Read + Drop, O: Write + Drop>(
     rt: &R,
     input: I,
     output: O,
@@ -32,13 +35,13 @@ pub fn replay_words<R: Env + Eprint + AllocGlobal, I: Read + Drop, O: Write + Dr
     }
 }
 
-fn replay_session<R: Eprint + AllocGlobal, I: Read + Drop, O: Write + Drop>(
+fn replay_session<R: Eprint + Files + AllocGlobal, I: Read + Drop, O: Write + Drop>(
     rt: &R,
     words: &[String],
     input: I,
     output: O,
 ) -> ExitCode {
-    let mut config = StdSource::new(io::empty());
+    let mut config = open_config(rt, words);
     let mut session = Input::new(input);
     let mut out = Output::new(output);
     let outcome = replay_with_reason(rt.alloc(), words, &mut config, &mut session, &mut out);
@@ -46,7 +49,7 @@ fn replay_session<R: Eprint + AllocGlobal, I: Read + Drop, O: Write + Drop>(
         // Where standard error is closed there is nobody to tell.
         let _ = rt.eprint(USAGE);
     } else {
-        tell_outcome(rt, &outcome, session.kind(), out.kind());
+        tell_outcome(rt, &outcome, config.kind(), session.kind(), out.kind());
     }
     ExitCode::from(outcome.status.code())
 }
@@ -74,6 +77,17 @@ fn show_page<O: Write + Drop>(mut output: O, text: &str) -> ExitCode {
     match output.write_all(text.as_bytes()) {
         Ok(()) => ExitCode::from(Status::Done.code()),
         Err(_) => ExitCode::from(Status::WriteFault.code()),
+    }
+}
+
+// The file that the second word names. One that can't be opened is a source whose reads fail.
+fn open_config<R: Files>(rt: &R, words: &[String]) -> ConfigFile<R::File> {
+    match words {
+        [_, path] => match fs::open(rt, path.as_str()) {
+            Ok(file) => ConfigFile::Open(Input::new(file)),
+            Err(error) => ConfigFile::shut(Some(error.kind())),
+        },
+        _ => ConfigFile::shut(None),
     }
 }
 

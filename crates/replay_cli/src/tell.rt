@@ -7,6 +7,7 @@ use std::io::{Eprint, ErrorKind};
 pub fn tell_outcome<R: Eprint + AllocGlobal>(
     rt: &R,
     outcome: &Outcome,
+    config: Option<ErrorKind>,
     session: Option<ErrorKind>,
     out: Option<ErrorKind>,
 ) {
@@ -18,6 +19,7 @@ pub fn tell_outcome<R: Eprint + AllocGlobal>(
     match (told, std::str::from_utf8(text.as_slice())) {
         (Ok(()), Ok(line)) => {
             let kind = match outcome.reason {
+                Reason::ConfigRead => config,
                 Reason::SessionRead => session,
                 Reason::Write => out,
                 _ => None,

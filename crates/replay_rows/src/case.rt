@@ -1,41 +1,49 @@
-// A case: the words of a replay, its session, and what fails of its outside.
+// A case: the words of a replay, its configuration and its session, and what fails of its outside.
 ghost use Rattle.std.specs.Prelude.{◌≡◌};
 
 use io_ports::{NoMemory, Octets};
 use std::alloc::Global;
 
-/// A case under way. Its source and its sink fail at the calls with these numbers, counted from 0.
+/// A case under way. Its sources and its sink fail at the calls with these numbers, counted from 0.
 #[derive(Drop)]
 pub struct Case {
     alloc: Global,
     pub words: Vec<String>,
+    pub config_reads: Vec<u64>,
     pub reads: Vec<u64>,
     pub writes: Vec<u64>,
+    pub config: Octets,
     pub session: Octets,
 }
 
 impl Case {
-    /// No words, an empty session, and no faults. Takes no memory.
+    /// No words, an empty configuration and session, and no faults. Takes no memory.
     pub fn new(alloc: Global) -> Self {
         Case {
             alloc,
             words: Vec::new(alloc),
+            config_reads: Vec::new(alloc),
             reads: Vec::new(alloc),
             writes: Vec::new(alloc),
+            config: Octets::new(alloc),
             session: Octets::new(alloc),
         }
     }
 
-    /// Whether neither the source nor the sink fails.
+    /// Whether neither a source nor the sink fails.
     pub fn is_sound(&self) -> bool {
-        self.reads.is_empty() && self.writes.is_empty()
+        self.config_reads.is_empty() && self.reads.is_empty() && self.writes.is_empty()
     }
 
     /// Takes up a line behind the case's name, given without its newline: the words, a fault, the cut of
-    /// the last newline, or a line of the session.
+    /// the last newline, or a line of the configuration or of the session.
     pub fn line(&mut self, line: &str) -> Result<(), NoMemory> {
         if let Some(words) = line.strip_prefix("$ ") {
             self.take_words(words)
+        } else if let Some(text) = line.strip_prefix("| ") {
+            self.config_line(text)
+        } else if let Some(call) = line.strip_prefix("% config ") {
+            Ok(self.config_reads.push(number(call))?)
         } else if let Some(call) = line.strip_prefix("% read ") {
             Ok(self.reads.push(number(call))?)
         } else if let Some(call) = line.strip_prefix("% write ") {
@@ -57,6 +65,11 @@ impl Case {
             self.words.push(String::from_str(self.alloc, word)?)?;
         }
         Ok(())
+    }
+
+    fn config_line(&mut self, text: &str) -> Result<(), NoMemory> {
+        self.config.push_all(text.as_bytes())?;
+        self.config.push_all(b"\n")
     }
 
     // A line of the session. `*N` at its end says that the two digits before it stand N times.

@@ -3,8 +3,9 @@
 //! texts of two short sessions and of a drill, and the code of each status.
 //!
 //! A case begins with a line `## NAME`. The next line has its words behind a dollar sign, as `$ plain`, where a dash is an
-//! empty word. Lines `% read K` and `% write K` say that this read or write, counted from 0, fails. The other lines are the
-//! session, in which `aa*3` at a line's end stands for `aaaaaa`; a line `% cut` behind it takes its last newline away.
+//! empty word. Lines `| TEXT` are the configuration's. Lines `% config K`, `% read K` and `% write K` say that this read of the
+//! configuration, read of the session or write, counted from 0, fails. The other lines are the session, in which `aa*3` at a
+//! line's end stands for `aaaaaa`; a line `% cut` behind it takes its last newline away.
 #![tactic(auto)]
 
 mod case;

@@ -6,7 +6,7 @@ use std::alloc::Global;
 use std::io;
 
 /// How many octets a sink has room for.
-const ROOM: usize = 200_000;
+const ROOM: usize = 1_000_000;
 
 /// The most octets of a line that are shown.
 const SHOWN: usize = 200;
@@ -14,7 +14,7 @@ const SHOWN: usize = 200;
 /// The most octets of a session that is replayed in small pieces too.
 const SMALL: usize = 4_096;
 
-/// The outside of a replay: a configuration that isn't there, the session of a case, and what is written.
+/// The outside of a replay: the configuration and the session of a case, and what is written.
 #[derive(Drop)]
 pub struct Outside {
     pub config: MemSource,
@@ -24,14 +24,16 @@ pub struct Outside {
 
 /// That of a case, where each read gives and each write takes at most so many octets.
 fn open_outside(alloc: Global, case: &Case, most: usize) -> Result<Outside, NoMemory> {
+    let mut config = source(alloc, case.config.as_slice(), case.config_reads.as_slice())?;
     let mut session = source(alloc, case.session.as_slice(), case.reads.as_slice())?;
     let mut writes = Vec::new(alloc);
     writes.extend_from_slice(case.writes.as_slice())?;
     let mut out = MemSink::new(alloc, ROOM, writes)?;
+    config.give_at_most(most.max(1));
     session.give_at_most(most.max(1));
     out.take_at_most(most);
     Ok(Outside {
-        config: source(alloc, b"", &[])?,
+        config,
         session,
         out,
     })

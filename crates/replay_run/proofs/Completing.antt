@@ -13,7 +13,6 @@ use Rattle.tape_summary.proofs.Spots.{number_is}
 use Rattle.session_lines.proofs.Readings.{in_ranges, numbers_fit}
 use Rattle.replay_run.specs.Allowed.{Completes, IsAllowed, IsUnrefused}
 use Rattle.session_run.specs.Ending.{Cut, IsRefused, Long, MayNotCome, longest_line}
-use Rattle.replay_run.specs.Forms.{HasNoForm, SpellsForm}
 use Rattle.session_run.specs.Newlines.{has_newline}
 use Rattle.replay_run.specs.Replays.{Replays}
 use Rattle.replay_run.specs.Lawfully.{IsSeen}
@@ -34,7 +33,6 @@ use Rattle.tape_laws.specs.Following.{MayFollowAll, MayFollowEvent}
 use Rattle.tape_laws.specs.declared.limits.PlainLimits.{PlainLimits}
 use Rattle.flow_notes.specs.declared.events.Event.TheVariants as event
 use Rattle.flow_notes.specs.declared.events.PlainEvent.TheVariants as plain
-use Rattle.replay_run.specs.declared.form.Form.TheVariants as form
 use Rattle.session_lines.specs.declared.order.Format.TheVariants as format
 use Rattle.session_run.specs.declared.status.Status.TheVariants as status
 
@@ -308,6 +306,3 @@ completes (Some text) left_new out_old out_new how some r = completed how text l
 pub completes_memory : (left : Option (List ℕ)) → Completes left status.Memory
 completes_memory None = tt
 completes_memory (Some text) = λ k. tt
-
-pub completes_words : (words : List (List ℕ)) (P : Type 0) → HasNoForm words → SpellsForm words form.Plain → P
-completes_words words P none s = absurd (none.none form.Plain s)

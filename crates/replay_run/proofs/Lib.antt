@@ -1,4 +1,5 @@
 pub mod Completing
+pub mod Configuring
 pub mod Connected
 pub mod DrillFollows
 pub mod DrillRuns

@@ -1,6 +1,7 @@
 -- The words of a replay.
 use Rattle.replay_run.specs.Forms.{IsDrillWord, IsNoDrill, SpellsForm}
 use Rattle.replay_run.specs.Drills.{DrillsAs}
+use Rattle.replay_run.specs.Replays.{Replays}
 use Rattle.replay_run.specs.Told.{ReplaysForm}
 use Rattle.replay_run.specs.declared.form.Form.{Form}
 use Rattle.session_run.specs.declared.status.Status.{Status}
@@ -8,7 +9,7 @@ use Rattle.std.proofs.Common.{Decides, ap, arith, inl, inr, refl, subst, sym, �
 use Rattle.std.proofs.lemmas.Fmt.{decimal_injective, parse-decimal}
 use Rattle.std.proofs.lemmas.Slice.Eq.{bytes_eq-Decides}
 use Rattle.std.specs.Fmt.{decimal}
-use Rattle.std.specs.Prelude.{Bool, List, Ok, Option, Result, [], codes, false, true, ℕ, ◌<◌, ◌^◌, ◌∷◌, ◌≡◌, ◌≤◌, ◌⊎◌}
+use Rattle.std.specs.Prelude.{Bool, List, Ok, Option, Result, [], codes, false, get_or, true, ℕ, ◌<◌, ◌^◌, ◌∷◌, ◌≡◌, ◌≤◌, ◌⊎◌}
 use Rattle.std.specs.Str.{bytes_eq}
 use Rattle.std.specs.Str.Parse.{ParsesUnsigned}
 use Rattle.replay_run.specs.declared.form.Form.TheVariants as form
@@ -49,9 +50,34 @@ number_else word digits n r b e p ed eb failed = record { none = by failed }
     by (inr (inl few)) m k = let i = same_number m k in let less = few.1 in let least = k.least in omega (arith, i, less, least)
     by (inr (inr f)) m k = let t = spelled m k in cc
 
+-- told apart by their first octets
+abbrev first_octet : List (List ℕ) → ℕ
+first_octet words = get_or (get_or words 0 []) 0 0
+
+relay_or_drill : (name number : List ℕ) → codes "relay" ∷ name ∷ [] ≡ codes "drill" ∷ number ∷ [] → ⊥
+relay_or_drill name number e = let k : 114 ≡ 100 = ap first_octet e in omega (arith, k)
+
+wire_or_drill : (name number : List ℕ) → codes "wire" ∷ name ∷ [] ≡ codes "drill" ∷ number ∷ [] → ⊥
+wire_or_drill name number e = let k : 119 ≡ 100 = ap first_octet e in omega (arith, k)
+
+wire_or_relay : (name other : List ℕ) → codes "wire" ∷ name ∷ [] ≡ codes "relay" ∷ other ∷ [] → ⊥
+wire_or_relay name other e = let k : 119 ≡ 114 = ap first_octet e in omega (arith, k)
+
 -- two numbers have the same form
 pub same_form : (words : List (List ℕ)) (f g : Form) → SpellsForm words f → SpellsForm words g → f ≡ g
 same_form words form.Plain form.Plain s t = refl
+same_form words form.Plain form.Relay s t = let i : codes "plain" ∷ [] ≡ codes "relay" ∷ t.is.0 ∷ [] = sym s.is ∙ t.is.1 in cc
+same_form words form.Relay form.Plain s t = let i : codes "plain" ∷ [] ≡ codes "relay" ∷ s.is.0 ∷ [] = sym t.is ∙ s.is.1 in cc
+same_form words form.Relay form.Relay s t = refl
+same_form words form.Wire form.Wire s t = refl
+same_form words form.Plain form.Wire s t = let i : codes "plain" ∷ [] ≡ codes "wire" ∷ t.is.0 ∷ [] = sym s.is ∙ t.is.1 in cc
+same_form words form.Wire form.Plain s t = let i : codes "plain" ∷ [] ≡ codes "wire" ∷ s.is.0 ∷ [] = sym t.is ∙ s.is.1 in cc
+same_form words form.Relay form.Wire s t = absurd (wire_or_relay t.is.0 s.is.0 (sym t.is.1 ∙ s.is.1))
+same_form words form.Wire form.Relay s t = absurd (wire_or_relay s.is.0 t.is.0 (sym s.is.1 ∙ t.is.1))
+same_form words form.Wire (form.Drill n) s t = absurd (wire_or_drill s.is.0 (decimal n) (sym s.is.1 ∙ t.is))
+same_form words (form.Drill n) form.Wire s t = absurd (wire_or_drill t.is.0 (decimal n) (sym t.is.1 ∙ s.is))
+same_form words form.Relay (form.Drill n) s t = absurd (relay_or_drill s.is.0 (decimal n) (sym s.is.1 ∙ t.is))
+same_form words (form.Drill n) form.Relay s t = absurd (relay_or_drill t.is.0 (decimal n) (sym t.is.1 ∙ s.is))
 same_form words form.Plain (form.Drill n) s t = let i : codes "plain" ∷ [] ≡ codes "drill" ∷ decimal n ∷ [] = sym s.is ∙ t.is in cc
 same_form words (form.Drill n) form.Plain s t = let i : codes "plain" ∷ [] ≡ codes "drill" ∷ decimal n ∷ [] = sym t.is ∙ s.is in cc
 same_form words (form.Drill m) (form.Drill n) s t =
@@ -68,3 +94,49 @@ pub drill_told : (words : List (List ℕ)) (n : ℕ) (left out_old out_new : Opt
     → (f : Form) → SpellsForm words f → ReplaysForm f left left out_old out_new how
 drill_told words n left out_old out_new how k d f s =
     let P : Form → Type 0 = λ v. ReplaysForm v left left out_old out_new how in subst P (same_form words (form.Drill n) f k s) (refl, d)
+
+pub plain_told : (words : List (List ℕ)) (left_old left_new out_old out_new : Option (List ℕ)) (how : Status) → SpellsForm words form.Plain → Replays left_old left_new out_old out_new how
+    → (f : Form) → SpellsForm words f → ReplaysForm f left_old left_new out_old out_new how
+plain_told words left_old left_new out_old out_new how k r f s =
+    let P : Form → Type 0 = λ v. ReplaysForm v left_old left_new out_old out_new how in subst P (same_form words form.Plain f k s) r
+
+pub relay_told : (words : List (List ℕ)) (left_old left_new out_old out_new : Option (List ℕ)) (how : Status) → SpellsForm words form.Relay → (f : Form) → SpellsForm words f → ReplaysForm f left_old left_new out_old out_new how
+relay_told words left_old left_new out_old out_new how k f s =
+    let P : Form → Type 0 = λ v. ReplaysForm v left_old left_new out_old out_new how in subst P (same_form words form.Relay f k s) tt
+
+pub wire_told : (words : List (List ℕ)) (left_old left_new out_old out_new : Option (List ℕ)) (how : Status) → SpellsForm words form.Wire → (f : Form) → SpellsForm words f → ReplaysForm f left_old left_new out_old out_new how
+wire_told words left_old left_new out_old out_new how k f s =
+    let P : Form → Type 0 = λ v. ReplaysForm v left_old left_new out_old out_new how in subst P (same_form words form.Wire f k s) tt
+
+-- ---- words have one form
+pub plain_no_wire : form.Plain ≡ form.Wire → ⊥
+plain_no_wire e = cc
+
+pub drill_no_wire : (n : ℕ) → form.Drill n ≡ form.Wire → ⊥
+drill_no_wire n e = cc
+
+pub wire_no_plain : form.Wire ≡ form.Plain → ⊥
+wire_no_plain e = cc
+
+pub wire_no_relay : form.Wire ≡ form.Relay → ⊥
+wire_no_relay e = cc
+
+pub relay_no_wire : form.Relay ≡ form.Wire → ⊥
+relay_no_wire e = cc
+
+pub plain_no_relay : form.Plain ≡ form.Relay → ⊥
+plain_no_relay e = cc
+
+pub drill_no_relay : (n : ℕ) → form.Drill n ≡ form.Relay → ⊥
+drill_no_relay n e = cc
+
+pub relay_no_plain : form.Relay ≡ form.Plain → ⊥
+relay_no_plain e = cc
+
+pub other_words : (words : List (List ℕ)) (f g : Form) (P : Type 0) → (f ≡ g → ⊥) → SpellsForm words f → SpellsForm words g → P
+other_words words f g P other s t = absurd (other (same_form words f g s t))
+
+-- one of two sources failed
+pub other_source : (A B C : Type 0) → C → A ⊎ B → B ⊎ (C × A)
+other_source A B C c (inl a) = inr (c, a)
+other_source A B C c (inr b) = inl b

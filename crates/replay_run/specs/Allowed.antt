@@ -28,7 +28,7 @@ IsUnrefused status.ReadFault = Unit {0}
 IsUnrefused status.WriteFault = Unit {0}
 IsUnrefused status = ⊥
 
--- such a session is replayed to its end, but for want of memory and a source or sink that fails
+-- such a session is replayed to its end, but for lack of memory and a source or sink that fails
 abbrev pub Completes : Option (List ℕ) → Status → Type 0
 Completes None how = Unit {0}
 Completes (Some text) how = IsAllowed text → IsUnrefused how

@@ -52,7 +52,7 @@ pub record WritesFront (n : ℕ) (out_old out_new : Option (List ℕ)) : Type 0 
   pub summary : IsDrillSummary n (front ++ rest)
   pub appends : Appends out_old out_new front
 
--- by the status; after want of memory nothing was written
+-- by the status; after running out of memory nothing was written
 abbrev pub DrillsAs : ℕ → (out_old out_new : Option (List ℕ)) → Status → Type 0
 DrillsAs n out_old out_new status.Done = WritesDrill n out_old out_new
 DrillsAs n out_old out_new status.WriteFault = WritesFront n out_old out_new

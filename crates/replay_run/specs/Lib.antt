@@ -1,4 +1,5 @@
 pub mod Allowed
+pub mod Configured
 pub mod Drill
 pub mod Drilling
 pub mod Drills

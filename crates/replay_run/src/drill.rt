@@ -53,7 +53,7 @@ impl Drill {
         }
     }
 
-    /// The next event. After want of memory the drill is as it was.
+    /// The next event. After running out of memory the drill is as it was.
     pub fn next(&mut self, alloc: Global) -> Result<Option<Event>, NoMemory>
         requires { (es : List EventValue) × DrillIs self.old es }
         ensures { IfOk result (λ given. Yields self.old given self.new) }

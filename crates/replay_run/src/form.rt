@@ -13,6 +13,10 @@ const MOST_STREAMS: u32 = 1_000;
 pub enum Form {
     /// `plain`: a plain session that is read.
     Plain,
+    /// `wire CONFIG`: a wire session that is read, under a configuration that is read first.
+    Wire,
+    /// `relay CONFIG`: a relay's session that is read, under a configuration that is read first.
+    Relay,
     /// `drill N`: the drill of N streams, 1 to 1,000.
     Drill { streams: u32 },
 }
@@ -24,7 +28,7 @@ pub fn read_form(words: &[String]) -> Option<Form>
 {
     match words {
         [word] => plain_form(word.as_str()),
-        [word, number] => drill_form(word.as_str(), number.as_str()),
+        [word, name] => two_word_form(word.as_str(), name.as_str()),
         _ => None,
     }
 }
@@ -40,14 +44,21 @@ fn plain_form(word: &str) -> Option<Form>
     }
 }
 
-fn drill_form(word: &str, number: &str) -> Option<Form>
-    ensures some { IfSome result (SpellsForm (word.now ∷ number.now ∷ [])) }
-    ensures none { IfNone result (HasNoForm (word.now ∷ number.now ∷ [])) }
+// The name of a configuration may be any word.
+fn two_word_form(word: &str, name: &str) -> Option<Form>
+    ensures some { IfSome result (SpellsForm (word.now ∷ name.now ∷ [])) }
+    ensures none { IfNone result (HasNoForm (word.now ∷ name.now ∷ [])) }
 {
+    if word == "wire" {
+        return Some(Form::Wire);
+    }
+    if word == "relay" {
+        return Some(Form::Relay);
+    }
     if word != "drill" {
         return None;
     }
-    let streams = drill_streams(number)?;
+    let streams = drill_streams(name)?;
     Some(Form::Drill { streams })
 }
 

@@ -1,17 +1,21 @@
 //! Replays a session: reads its lines, dispatches its events, and writes the tape with its summary.
 #![tactic(auto)]
 
+mod config_end;
 mod drill;
 mod drill_run;
 mod form;
 mod formats;
 mod play;
 mod reason;
+mod relay;
 mod replaying;
 mod short;
 mod tally;
 mod text;
+mod wire;
 
+pub use config_end::end_at_config;
 pub use drill::{Drill, Upcoming, drill_events};
 pub use form::{Form, read_form};
 pub use formats::{both_formats_spell_one_session, one_session};

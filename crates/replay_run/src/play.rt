@@ -1,17 +1,12 @@
 // The lines of a session, each of which is dispatched.
-ghost use Rattle.std.specs.List.{AllByRecursion};
-ghost use Rattle.std.specs.Prelude.{◌≡◌, ◌++◌, [], OnOk, OnErr};
-ghost use Rattle.flow_notes.specs.Note.{IsNote};
-ghost use Rattle.tape_summary.specs.NotesText.{notes_text};
-
-use flow_notes::{Event, Names, Notes};
+use flow_notes::{Event, Notes};
 use io_ports::{NoMemory, Octets};
 use plain_core::PlainCore;
 use session_lines::{LineRead, Order, read_session_line};
 use session_run::{Player, Went};
 use std::alloc::Global;
 use tape_laws::PlainLimits;
-use tape_summary::{TapeLog, tell, write_summary};
+use tape_summary::{TapeLog, append_notes, write_summary};
 
 /// The limits before any are read.
 const NO_LIMITS: PlainLimits = PlainLimits {
@@ -99,18 +94,4 @@ impl Player for Play {
     fn summarize(&mut self, text: &mut Octets) -> Result<(), NoMemory> {
         write_summary(self.alloc, &self.log, text)
     }
-}
-
-/// Appends the lines of all notes, or nothing.
-pub fn append_notes(notes: &Notes, names: &Names, text: &mut Octets) -> Result<(), NoMemory>
-    requires { AllByRecursion (IsNote names.now) notes.now }
-    ensures ok { OnOk result (text.new ≡ text.old ++ notes_text names.now notes.now) }
-    ensures err { OnErr result (text.new ≡ text.old) }
-{
-    let whole = text.len();
-    if let Err(error) = tell(notes, names, text) {
-        text.truncate(whole);
-        return Err(error);
-    }
-    Ok(())
 }

@@ -4,6 +4,8 @@ ghost use Rattle.flow_notes.specs.Extends.{Extends};
 
 use io_ports::{NoMemory, Octets};
 use line_faults::{LineFault, put_line_fault};
+use proxy_config::ConfigFault;
+use session_config::put_key;
 use session_run::Status;
 
 /// How a replay ended, and why.
@@ -21,7 +23,13 @@ pub enum Reason {
     /// The words have no form.
     Words,
     /// The configuration is refused.
-    Config,
+    Config(ConfigFault),
+    /// The configuration is refused, and it isn't known why.
+    SomeConfig,
+    /// The configuration has more than 1,048,576 octets.
+    LongConfig,
+    /// The configuration couldn't be read.
+    ConfigRead,
     /// A line is refused.
     Line(LineFault),
     /// A line is refused, and there was no memory to say why.
@@ -42,7 +50,7 @@ impl Reason {
         match status {
             Status::Done => Reason::Done,
             Status::Usage => Reason::Words,
-            Status::Config => Reason::Config,
+            Status::Config => Reason::SomeConfig,
             Status::Session => Reason::SomeLine,
             Status::ReadFault => Reason::SessionRead,
             Status::WriteFault => Reason::Write,
@@ -61,7 +69,7 @@ impl Reason {
 }
 
 /// Appends why a replay ended, in one line without its newline; nothing where it was replayed to its end, or the words have no
-/// form. Want of memory may leave some of it.
+/// form. Running out of memory may leave some of it.
 pub fn put_reason(reason: &Reason, into: &mut Octets) -> Result<(), NoMemory>
     ensures ok { OnOk result (Extends into.old into.new) }
     ensures err { OnErr result (Extends into.old into.new) }
@@ -69,7 +77,10 @@ pub fn put_reason(reason: &Reason, into: &mut Octets) -> Result<(), NoMemory>
     match reason {
         Reason::Done => Ok(()),
         Reason::Words => Ok(()),
-        Reason::Config => into.push_all(b"the configuration is refused"),
+        Reason::Config(fault) => put_config_fault(fault, into),
+        Reason::SomeConfig => into.push_all(b"the configuration is refused"),
+        Reason::LongConfig => into.push_all(b"the configuration has more than 1,048,576 octets"),
+        Reason::ConfigRead => into.push_all(b"the configuration can't be read"),
         Reason::Line(fault) => put_line_fault(fault, into),
         Reason::SomeLine => into.push_all(b"the session is refused"),
         Reason::LongSession => into.push_all(b"the session has more than 67,108,864 octets"),
@@ -77,4 +88,28 @@ pub fn put_reason(reason: &Reason, into: &mut Octets) -> Result<(), NoMemory>
         Reason::Write => into.push_all(b"the output can't be written"),
         Reason::Memory => into.push_all(b"out of memory"),
     }
+}
+
+fn put_config_fault(fault: &ConfigFault, into: &mut Octets) -> Result<(), NoMemory>
+    ensures ok { OnOk result (Extends into.old into.new) }
+    ensures err { OnErr result (Extends into.old into.new) }
+{
+    into.push_all(b"configuration: ")?;
+    match fault {
+        ConfigFault::NotToml => into.push_all(b"the text is no TOML document in UTF-8"),
+        ConfigFault::NoMemory => into.push_all(b"out of memory"),
+        ConfigFault::Missing(_) => put_key_fault(fault, b" is missing", into),
+        ConfigFault::WrongKind(_) => put_key_fault(fault, b" has a value of another kind", into),
+        ConfigFault::OutOfRange(_) => put_key_fault(fault, b" is out of its range", into),
+        ConfigFault::Unknown(_) => put_key_fault(fault, b" is no key of it", into),
+        ConfigFault::UnknownCluster(_) => put_key_fault(fault, b" names no cluster of it", into),
+    }
+}
+
+fn put_key_fault(fault: &ConfigFault, what: &[u8], into: &mut Octets) -> Result<(), NoMemory>
+    ensures ok { OnOk result (Extends into.old into.new) }
+    ensures err { OnErr result (Extends into.old into.new) }
+{
+    put_key(fault, into)?;
+    into.push_all(what)
 }

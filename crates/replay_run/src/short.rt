@@ -7,7 +7,7 @@ use crate::tally::Tally;
 use io_ports::{NoMemory, Octets};
 use tape_summary::put_behind;
 
-/// Appends the six lines of a tally. Want of memory may leave some of them.
+/// Appends the six lines of a tally. Running out of memory may leave some of them.
 pub fn put_short(into: &mut Octets, tally: Tally) -> Result<(), NoMemory>
     ensures { OnOk result (into.new ≡ into.old ++ tally_text tally) }
 {

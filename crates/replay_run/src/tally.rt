@@ -117,7 +117,7 @@ fn resets_by(cause: Cause) -> u64
     }
 }
 
-// A sum past the end of its type counts as want of memory.
+// A sum past the end of its type counts as out of memory.
 fn add(a: u64, b: u64) -> Result<u64, NoMemory>
     ensures { IfOk result (λ sum. sum ≡ a + b) }
 {

@@ -11,7 +11,7 @@ use tape_laws::PlainLimits;
 use tape_summary::put_behind;
 
 /// Appends the whole text of a session: of a plain one with these limits, in format 2, or of a wire
-/// one, which has none. Each event has to have a spelling with these names. After want of memory
+/// one, which has none. Each event has to have a spelling with these names. After running out of memory
 /// `into` is as it was.
 pub fn session_text(
     events: &EventList,
@@ -31,7 +31,7 @@ pub fn session_text(
     Ok(())
 }
 
-// The same, but want of memory may leave some of it.
+// The same, but running out of memory may leave some of it.
 fn put_session(
     events: &EventList,
     plain: Option<PlainLimits>,

@@ -47,7 +47,7 @@ impl FrontQueue {
         self.heap.is_empty()
     }
 
-    /// Adds a front. Want of memory comes only where there is no room.
+    /// Adds a front. Memory runs out only where there is no room.
     pub fn insert(&mut self, front: Front) -> Result<(), NoMemory>
         ensures ok { OnOk result (IsPermutation (front ∷ self.old.fronts) self.new.fronts) }
         ensures err { OnErr result (self.new.fronts ≡ self.old.fronts) }

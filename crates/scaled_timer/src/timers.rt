@@ -117,7 +117,7 @@ impl Timers {
         }
     }
 
-    /// Arms a timer of the kind, which has the number `id`. Want of memory is also answered once 2^63 − 1 timers were armed.
+    /// Arms a timer of the kind, which has the number `id`. Out of memory is also answered once 2^63 − 1 timers were armed.
     pub fn arm(&mut self, kind: u32, id: u64, now: u64) -> Result<Timer, NoMemory>
         requires kind { kind < length self.old.kinds }
         requires later { self.old.latest ≤ now }

@@ -54,7 +54,7 @@ impl WireLines {
         self.headed
     }
 
-    /// Reads the next line, given without its newline. A line that is refused, and want of memory, leave all as it was.
+    /// Reads the next line, given without its newline. A refused line leaves all as it was, and so does running out of memory.
     pub fn read(&mut self, line: &[u8]) -> Result<LineRead, NoMemory>
         ensures { ReadsWireLine self.old line.now self.new result }
     {

@@ -112,7 +112,7 @@ impl WireOrder {
         }
     }
 
-    // A number past the end of its type counts as want of memory.
+    // A number past the end of its type counts as out of memory.
     fn post(&mut self, poster: u32, number: u64) -> Result<bool, NoMemory>
         ensures { (job : Job) → FollowsWire self.old (Event.Post poster number job) self.new result }
     {

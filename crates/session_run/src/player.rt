@@ -39,7 +39,7 @@ pub trait Player {
     fn may_end(&self) -> bool
         ensures { result ≡ can_end self.now };
 
-    /// Appends the summary. After want of memory the text is as it was.
+    /// Appends the summary. After running out of memory the text is as it was.
     fn summarize(&mut self, text: &mut Octets) -> Result<(), NoMemory>
         ensures ok { OnOk result (AddsSummary (kind_of stands refuses can_end sums) self.old text.old text.new) }
         ensures err { OnErr result (text.new ≡ text.old) };

@@ -15,7 +15,7 @@ pub enum Status {
     ReadFault,
     /// The sink failed, or took nothing.
     WriteFault,
-    /// Want of memory.
+    /// Out of memory.
     Memory,
     /// The session is longer than 67,108,864 octets, or the configuration than 1,048,576.
     TooLong,

@@ -4,6 +4,8 @@ ghost use Rattle.std.specs.Prelude.{◌≡◌};
 use crate::permit_rule::{AtMostMax, PermitView};
 use atomic_table::{Seat, Table};
 use std::alloc::Global;
+use std::error::Error;
+use std::fmt;
 
 // The first word is what is held and owed, the second is `max`, and no step changes it.
 pub(crate) type PermitTable = Table<(), PermitView, u64, AtMostMax, Global>;
@@ -39,6 +41,14 @@ pub struct Refused {
     /// What the fetch found, at least `max`.
     pub found: u64,
 }
+
+impl fmt::Display for Refused {
+    fn fmt<W: fmt::Write>(&self, f: &mut fmt::Formatter<W>) -> fmt::Result {
+        write!(f, "{} permits are held already", self.found)
+    }
+}
+
+impl Error for Refused {}
 
 impl PermitSeat {
     /// The seat at the permits' word. Its view has the permits that are held by it, what its last fetch found, and how

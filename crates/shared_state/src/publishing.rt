@@ -17,7 +17,7 @@ use std::sync::Wait;
 // The greatest number of a version.
 const MOST: u64 = (1 << 63) - 1;
 
-// Shows one entry to all readers. After want of memory they see what they saw.
+// Shows one entry to all readers. After running out of memory they see what they saw.
 fn show<R: Wait>(rt: &R, mut press: Press, entry: Entry) -> (Press, Result<(), NoMemory>)
     requires pending { drop press.behind press.log.items ≡ [] }
     requires last { IsLast press.desk.shown.value (view press.desk.place) }

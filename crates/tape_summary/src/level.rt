@@ -26,7 +26,7 @@ impl Level {
         Level { held: 0, most: 0 }
     }
 
-    /// Octets come. A length past the end of its type counts as want of memory.
+    /// Octets come. A length past the end of its type counts as out of memory.
     pub fn rise(self, n: u64) -> Result<Self, NoMemory>
         ensures { IfOk result (λ level. level ≡ risen self n) }
     {

@@ -15,7 +15,7 @@ mod words;
 
 pub use level::{Level, write_after};
 pub use line_end::LineEnd;
-pub use notes_text::tell;
+pub use notes_text::{append_notes, tell};
 pub use pauses::{Pause, PauseLog, Spot};
 pub use peaks::{FlowLevels, PeakLog};
 pub use report::{put_done, put_flow_peak, put_stage_peak, put_write_peak};

@@ -13,7 +13,21 @@ use flow_gate::{BufferId, FlowId};
 use flow_notes::{Names, Note, Notes, Passage, note_text};
 use io_ports::{NoMemory, Octets};
 
-/// Appends a line for each note. Want of memory leaves some of it.
+/// Appends the lines of all notes, or nothing.
+pub fn append_notes(notes: &Notes, names: &Names, text: &mut Octets) -> Result<(), NoMemory>
+    requires { AllByRecursion (IsNote names.now) notes.now }
+    ensures ok { OnOk result (text.new ≡ text.old ++ notes_text names.now notes.now) }
+    ensures err { OnErr result (text.new ≡ text.old) }
+{
+    let whole = text.len();
+    if let Err(error) = tell(notes, names, text) {
+        text.truncate(whole);
+        return Err(error);
+    }
+    Ok(())
+}
+
+/// Appends a line for each note. Running out of memory leaves some of it.
 pub fn tell(notes: &Notes, names: &Names, into: &mut Octets) -> Result<(), NoMemory>
     requires { AllByRecursion (IsNote names.now) notes.now }
     ensures ok { OnOk result (into.new ≡ into.old ++ notes_text names.now notes.now) }

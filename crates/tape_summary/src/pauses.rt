@@ -46,7 +46,7 @@ impl PauseLog {
         }
     }
 
-    /// Takes up the notes that a tape goes on with. After want of memory the log is to be let go.
+    /// Takes up the notes that a tape goes on with. After running out of memory the log is to be let go.
     pub fn note_all(&mut self, notes: &Notes) -> Result<(), NoMemory>
         ensures { OnOk result (Logs self.old notes.now self.new) }
     {
@@ -170,7 +170,7 @@ impl PauseLog {
     }
 }
 
-// The number after n. One past the end of its type counts as want of memory.
+// The number after n. One past the end of its type counts as out of memory.
 fn next(n: u64) -> Result<u64, NoMemory>
     ensures { IfOk result (λ next. next ≡ n + 1) }
 {

@@ -1,4 +1,4 @@
-// Lines of a summary, written behind what stands in a text. Want of memory may leave some of a line.
+// Lines of a summary, written behind what stands in a text. Running out of memory may leave some of a line.
 ghost use Rattle.std.specs.Prelude.{◌≡◌, ◌++◌, ◌∷◌, [], codes, decimal, OnOk};
 ghost use Rattle.flow_notes.specs.Flow.{flow_word};
 ghost use Rattle.flow_notes.specs.Line.{newline};

@@ -10,7 +10,7 @@ use flow_gate::FlowId;
 use io_ports::{NoMemory, Octets};
 use std::alloc::Global;
 
-/// Appends the summary of the tape that a log stands for. After want of memory the text is as it was.
+/// Appends the summary of the tape that a log stands for. After running out of memory the text is as it was.
 pub fn write_summary(alloc: Global, log: &TapeLog, into: &mut Octets) -> Result<(), NoMemory>
     ensures ok { OnOk result (Summarizes log.now into.old into.new) }
     ensures err { OnErr result (into.new ≡ into.old) }

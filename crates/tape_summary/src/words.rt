@@ -1,4 +1,4 @@
-// Words of a summary, written behind what stands in a text. Want of memory may leave some of a word.
+// Words of a summary, written behind what stands in a text. Running out of memory may leave some of a word.
 ghost use Rattle.std.specs.Prelude.{◌≡◌, ◌++◌, decimal, OnOk, OnErr};
 ghost use Rattle.flow_notes.specs.Extends.{Extends};
 ghost use Rattle.flow_notes.specs.Flow.{flow_word};

@@ -68,7 +68,7 @@ lived_resume true (Some f) c h is l = record { lives = l.lives; few = l.few; non
 lived_resume false (Some f) c h is l = l
 
 -- ---- a pair starts
-one_of : {A : Type 0} (a b : Bool) (p q : Feed) (o : Option Feed) (f : Feed) → (if a then Some p else (if b then Some q else o)) ≡ Some f
+pub one_of : {A : Type 0} (a b : Bool) (p q : Feed) (o : Option Feed) (f : Feed) → (if a then Some p else (if b then Some q else o)) ≡ Some f
     → (p ≡ f → A) → (q ≡ f → A) → (o ≡ Some f → A) → A
 one_of true b p q o f e first second third = first (same_Some p f e)
 one_of false true p q o f e first second third = second (same_Some q f e)

@@ -34,7 +34,7 @@ use Rattle.flow_notes.specs.declared.notes.Note.TheVariants as note
 
 -- ---- turn notes, and closes of connections for which nothing waits
 module _ (limit : ℕ) (h : Tape) (v : IsEven limit h) where
-  even_turn_accept : (k c : ℕ) → IsEven limit (Noted (note.Turn k (event.Accept c)) ∷ h)
+  pub even_turn_accept : (k c : ℕ) → IsEven limit (Noted (note.Turn k (event.Accept c)) ∷ h)
   even_turn_accept k c = even_kept limit h (Noted (note.Turn k (event.Accept c)) ∷ h) (record {
     fed = λ d f e. e;
     level = λ d f e. above_same limit d (Noted (note.Turn k (event.Accept c))) h refl;

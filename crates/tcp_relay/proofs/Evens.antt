@@ -63,11 +63,11 @@ back_same : (b : Bool) → (if b then b else not b) ≡ true
 back_same true = refl
 back_same false = refl
 
-same_self : (f : FlowId) → same_flow f f ≡ true
+pub same_self : (f : FlowId) → same_flow f f ≡ true
 same_self f = ap (λ t. t && (if f.back then f.back else not f.back)) (same_number f.exchange) ∙ back_same f.back
 
 -- flows that go to two connections are two
-apart : (f g : FlowId) (c d : ℕ) (h : Tape) → goes_to f h ≡ Some c → goes_to g h ≡ Some d → (c == d) ≡ false → same_flow f g ≡ false
+pub apart : (f g : FlowId) (c d : ℕ) (h : Tape) → goes_to f h ≡ Some c → goes_to g h ≡ Some d → (c == d) ≡ false → same_flow f g ≡ false
 apart f g c d h to at n = by_case (same_flow f g)
     (λ t. not_both (c == d) (subst (λ v. (c == v) ≡ true) (same_Some c d (sym to ∙ ap (λ v. goes_to v h) (same_is f g t) ∙ at)) (same_number c)) n)
     (λ y. y)

@@ -22,3 +22,5 @@ pub mod TieComes
 pub mod TieLosses
 pub mod TieReads
 pub mod TieRooms
+pub mod Tolds
+pub mod Tracked

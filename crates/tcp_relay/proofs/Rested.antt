@@ -12,7 +12,7 @@ use Rattle.relay_laws.specs.declared.feed.Feed.{Feed}
 use Rattle.std.specs.BTreeSet.{contains}
 use Rattle.std.specs.Ordering.{nat_cmp}
 use Rattle.std.proofs.Common.{ap, refl, subst, sym, ◌∙◌}
-use Rattle.std.specs.Prelude.{Bool, Err, List, None, Ok, OnOk, Option, Result, Some, [], false, if◌then◌else◌, is_none, is_some, length, nat_lt, not, true, ℕ, ◌+◌, ◌++◌, ◌||◌, ◌∷◌, ◌≡◌}
+use Rattle.std.specs.Prelude.{Bool, Err, List, None, Ok, OnOk, Option, Result, Some, [], false, if◌then◌else◌, is_none, is_some, length, nat_lt, not, option_map, true, ℕ, ◌+◌, ◌++◌, ◌||◌, ◌∷◌, ◌≡◌}
 use Rattle.tape_laws.specs.Dispatches.{events_back}
 use Rattle.tape_laws.specs.History.{onto}
 use Rattle.tcp_relay.proofs.Boards.{feeds_seen, onto_append, seen_same}
@@ -24,7 +24,7 @@ use Rattle.tcp_relay.specs.Board.{IsSeenAs, board_after, board_of, effect_of, he
 use Rattle.tcp_relay.specs.Effects.{notes_of}
 use Rattle.tcp_relay.specs.Lines.{feeds_of, held_in, line_in, octets_of}
 use Rattle.tcp_relay.specs.Noting.{AppendsSome}
-use Rattle.tcp_relay.specs.Rests.{GoesOnFrom, RefusesFrom, Rests, ShowsClosing, ShowsConn, ShowsFront, ShowsOut, ShowsReads, StopsFrom, goes_on as reads_on, has_octets, held_behind, held_by}
+use Rattle.tcp_relay.specs.Rests.{GoesOnFrom, RefusesFrom, Rests, ShowsClosing, ShowsConn, ShowsFront, ShowsOut, ShowsPeer, ShowsReads, StopsFrom, goes_on as reads_on, has_octets, held_behind, held_by}
 use Rattle.tcp_relay.specs.Seen.{IsFront, IsLeast}
 use Rattle.tcp_relay.specs.Stands.{line_if, line_of, tape_board}
 use Rattle.tcp_relay.specs.Ties.{Tied}
@@ -187,6 +187,9 @@ module _ (limit : ℕ) (names : List (List ℕ)) (relay : Relay) (h : Tape) (r :
   waits_at : (c : ℕ) → contains nat_cmp relay.table.waiting c ≡ has_octets c h
   waits_at c = λ i. (r.board i).waits c
 
+  fed_at : (c : ℕ) → feeds_of (line_in relay.table.conns c) ≡ feed c h
+  fed_at c = ap (λ l. feeds_of l) (line_at c) ∙ feeds_seen limit c h whole
+
   -- octets wait for open connections alone
   open_or_waits : (c : ℕ) → is_open c h ≡ (is_open c h || has_octets c h)
   open_or_waits c = by_case (is_open c h)
@@ -216,6 +219,11 @@ shows_front relay c front k = record { goes = λ limit names h r. subst (λ v. I
 
 pub shows_reads : (relay : Relay) (c : ℕ) (answer : Bool) → answer ≡ is_reading (feeds_of (line_in relay.table.conns c)) (board_of relay.table) → ShowsReads relay c answer
 shows_reads relay c answer k = record { goes = λ limit names h r. k ∙ reads_at limit names relay h r c }
+
+pub shows_peer : (relay : Relay) (c : ℕ) (answer : Option ℕ) → answer ≡ option_map (λ f. f.to) (feeds_of (line_in relay.table.conns c)) → ShowsPeer relay c answer
+shows_peer relay c answer k = record {
+  goes = λ limit names h r. k ∙ ap (λ (o : Option Feed). option_map (λ f. f.to) o) (fed_at limit names relay h r c);
+}
 
 pub shows_closing : (relay : Relay) (c : ℕ) (there answer : Bool) → there ≡ is_some (line_in relay.table.conns c) → answer ≡ not there → ShowsClosing relay c answer
 shows_closing relay c there answer k e = record { goes = λ limit names h r. e ∙ ap (λ b. not b) (k ∙ open_at limit names relay h r c) }

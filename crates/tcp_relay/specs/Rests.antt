@@ -8,7 +8,7 @@ use Rattle.relay_laws.specs.Session.{IsTape}
 use Rattle.relay_laws.specs.Watermark.{above}
 use Rattle.relay_laws.specs.World.{out}
 use Rattle.relay_laws.specs.declared.feed.Feed.{Feed}
-use Rattle.std.specs.Prelude.{Bool, List, None, Option, Result, Some, false, if◌then◌else◌, length, nat_lt, not, ℕ, ◌++◌, ◌||◌, ◌∷◌, ◌≡◌}
+use Rattle.std.specs.Prelude.{Bool, List, None, Option, Result, Some, false, if◌then◌else◌, length, nat_lt, not, option_map, ℕ, ◌++◌, ◌||◌, ◌∷◌, ◌≡◌}
 use Rattle.tape_laws.specs.Dispatches.{events_back, turns}
 use Rattle.tape_laws.specs.History.{onto}
 use Rattle.tcp_relay.specs.Board.{board_of}
@@ -76,6 +76,9 @@ pub record ShowsFront (relay : Relay) (c : ℕ) (front : List ℕ) : Type 0 wher
 
 pub record ShowsReads (relay : Relay) (c : ℕ) (answer : Bool) : Type 0 where
   pub goes : (limit : ℕ) (names : List (List ℕ)) (h : Tape) → Rests limit names relay h → answer ≡ goes_on limit (feed c h) h
+
+pub record ShowsPeer (relay : Relay) (c : ℕ) (answer : Option ℕ) : Type 0 where
+  pub goes : (limit : ℕ) (names : List (List ℕ)) (h : Tape) → Rests limit names relay h → answer ≡ option_map (λ f. f.to) (feed c h)
 
 pub record ShowsClosing (relay : Relay) (c : ℕ) (answer : Bool) : Type 0 where
   pub goes : (limit : ℕ) (names : List (List ℕ)) (h : Tape) → Rests limit names relay h → answer ≡ not (is_open c h)

@@ -17,7 +17,7 @@ use Rattle.tcp_relay.specs.declared.fault.RelayFault.TheVariants as fault
 abbrev pub AreSpelled : List (List ℕ) → List Note → Type 0
 AreSpelled names notes = AllByRecursion (IsNote names) notes
 
--- the relay met want of memory, or not
+-- the relay ran out of memory, or not
 abbrev pub HasFailed : Relay → Bool → Type 0
 HasFailed relay failed = relay.failed ≡ failed
 

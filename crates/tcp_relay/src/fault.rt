@@ -1,5 +1,8 @@
 // Why a relay didn't carry out an event.
 
+use std::error::Error;
+use std::fmt;
+
 /// Why a dispatch wasn't carried to its end.
 #[derive(Clone, Copy, Debug, PartialEq, Eq)]
 pub enum RelayFault {
@@ -10,6 +13,22 @@ pub enum RelayFault {
     },
     /// Memory was refused. The notes so far stand.
     NoMemory,
-    /// An earlier dispatch of this relay met want of memory.
+    /// An earlier dispatch of this relay ran out of memory.
     Failed,
 }
+
+impl fmt::Display for RelayFault {
+    fn fmt<W: fmt::Write>(&self, f: &mut fmt::Formatter<W>) -> fmt::Result {
+        match self {
+            RelayFault::Paused { held } => write!(
+                f,
+                "the connection's flow is paused: {} octets wait",
+                held
+            ),
+            RelayFault::NoMemory => f.write_str("out of memory"),
+            RelayFault::Failed => f.write_str("an earlier dispatch ran out of memory"),
+        }
+    }
+}
+
+impl Error for RelayFault {}

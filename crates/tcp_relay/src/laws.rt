@@ -1,4 +1,5 @@
 // Laws of a relay's tapes: they are told by contracts, and do nothing.
+ghost use Rattle.relay_laws.specs.Lawful.{IsRelayWhole};
 ghost use Rattle.relay_laws.specs.Pairs.{Tape};
 ghost use Rattle.relay_laws.specs.Promise.{Relays};
 ghost use Rattle.relay_laws.specs.Session.{IsTape};
@@ -17,6 +18,13 @@ pub fn tapes_are_sound()
 /// is untouched until it is gone, in the same dispatch.
 pub fn tapes_are_as_given()
     ensures { (limit : ℕ) (names : List (List ℕ)) (h : Tape) → IsTape limit names h → IsAsGiven h }
+{}
+
+/// A session's tape is a lawful relay tape of whole dispatches. Beside what `tapes_are_as_given` says: nothing is read from a
+/// paused flow; at each settled moment the flow to a connection in a live pair was paused as often as that one's write buffer
+/// rose since the pair's start, and resumed at most as often as it drained, and at each end of a dispatch just as often.
+pub fn tapes_are_lawful()
+    ensures { (limit : ℕ) (names : List (List ℕ)) (h : Tape) → IsTape limit names h → IsRelayWhole limit h }
 {}
 
 /// A session's tape keeps what is promised to an operator. At the end of each dispatch what left and what waits for the one

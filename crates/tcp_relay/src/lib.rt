@@ -11,5 +11,5 @@ mod relay;
 mod table;
 
 pub use fault::RelayFault;
-pub use laws::{tapes_are_as_given, tapes_are_sound, tapes_keep_their_promise};
+pub use laws::{tapes_are_as_given, tapes_are_lawful, tapes_are_sound, tapes_keep_their_promise};
 pub use relay::Relay;

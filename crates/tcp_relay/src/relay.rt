@@ -1,7 +1,7 @@
 // The relay and its dispatch.
 ghost use Rattle.std.specs.Prelude.{◌≡◌, ◌≢◌, ℕ, Err, List, OnOk, [], false, true};
 ghost use Rattle.tcp_relay.specs.Board.{board_of, held_for};
-ghost use Rattle.tcp_relay.specs.Rests.{GoesOnFrom, RefusesFrom, Rests, ShowsClosing, ShowsConn, ShowsFront, ShowsOut, ShowsReads, StopsFrom};
+ghost use Rattle.tcp_relay.specs.Rests.{GoesOnFrom, RefusesFrom, Rests, ShowsClosing, ShowsConn, ShowsFront, ShowsOut, ShowsPeer, ShowsReads, StopsFrom};
 ghost use Rattle.tcp_relay.specs.Turns.{CarriesOut, CutsTurn, HasFailed, RefusesPaused, Turns};
 
 use crate::fault::RelayFault;
@@ -38,7 +38,7 @@ impl Relay {
     }
 
     /// Dispatches one event, and appends its notes. An event that reads a connection whose flow is paused is refused with
-    /// `Paused`: nothing has changed then, and no note was written. After want of memory the notes so far stand, and each
+    /// `Paused`: nothing has changed then, and no note was written. After running out of memory the notes so far stand, and each
     /// later call answers `Failed`.
     pub fn dispatch(&mut self, event: &Event, notes: &mut Notes) -> Result<(), RelayFault>
         ensures ok { OnOk result (GoesOnFrom self.old notes.old event.now self.new notes.new) }
@@ -115,6 +115,13 @@ impl Relay {
         ensures { ShowsReads self.now conn result }
     {
         self.table.reads(conn)
+    }
+
+    /// The other connection of the connection's pair, if it is in a live one: its octets go there.
+    pub fn peer(&self, conn: u32) -> Option<u32>
+        ensures { ShowsPeer self.now conn result }
+    {
+        self.table.peer(conn)
     }
 
     /// Whether the relay has closed the connection, which was accepted or joined.

@@ -1,7 +1,7 @@
 // The connections of a relay, and what each event does to them.
 ghost use Rattle.std.specs.BTreeSet.{contains};
 ghost use Rattle.std.specs.Ordering.{nat_cmp};
-ghost use Rattle.std.specs.Prelude.{◌≡◌, ℕ, [], IfOk, None, OnOk, Some, false, is_some};
+ghost use Rattle.std.specs.Prelude.{◌≡◌, ℕ, [], IfOk, None, OnOk, Some, false, is_some, option_map};
 ghost use Rattle.tcp_relay.specs.Board.{IsSeenAs, Takes, accepted, board_of, carried, carried_as, ends_as, held_at, is_reading, joined, left, left_as, lost, lost_as, met, parted_from, request_feed, response_feed, resumed_flow};
 ghost use Rattle.tcp_relay.specs.Lines.{feeds_of, line_in, octets_of, taken_of};
 ghost use Rattle.tcp_relay.specs.Seen.{IsFront, IsLeast};
@@ -180,6 +180,14 @@ impl Table {
     {
         let feed = conns::feeds(&self.conns, conn)?;
         conns::held(&self.conns, feed.to)
+    }
+
+    /// Where the octets of a connection go to, if its pair is live.
+    pub(crate) fn peer(&self, conn: u32) -> Option<u32>
+        ensures { result ≡ option_map (λ f. f.to) (feeds_of (line_in self.now.conns conn)) }
+    {
+        let feed = conns::feeds(&self.conns, conn)?;
+        Some(feed.to)
     }
 
     /// Whether a connection is in a live pair, and what it feeds isn't above.

@@ -140,7 +140,7 @@ waits_of f old last may = if_found (IsFrameable (Head last)) (λ flow. IsSome (f
 pub may_end : (f : FlowId) (old : Flows) (last : Bool) → IfSome (flow_in old f) (IsFrameable (Head last)) → last ≡ true → IfSome (flow_in old f) (λ flow. IsTrue (list_may_end flow))
 may_end f old last may is = if_found (IsFrameable (Head last)) (λ flow. IsTrue (list_may_end flow)) (flow_in old f) (λ flow found m. m.1 is) may
 
--- ---- want of memory
+-- ---- out of memory
 pub err_same : (old : Flows) (ex : Exchanges) (r : Result (Unit {0}) NoMemory) → OnErr r (ex ≡ old.exchanges) → OnErr r (◌≡◌ {A = Flows} (record { exchanges = ex; gates = old.gates }) old)
 err_same old ex r err = on_err _ _ r err (λ e. ap (λ x. record { exchanges = x; gates = old.gates }) e)
 

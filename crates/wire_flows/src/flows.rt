@@ -55,7 +55,7 @@ impl WireFlows {
     }
 
     /// From now on the write buffer of a connection, which isn't above, may hold flows back. Nothing has changed where it is
-    /// known, and after want of memory.
+    /// known, and after running out of memory.
     pub fn open_write(&mut self, conn: u32) -> Result<(), NoMemory>
         ensures ok { OnOk result (write_at conn self.old ≡ None → ChangesWrite conn (Some new_write) self.old self.new) }
         ensures known { (write_at conn self.old ≡ None → ⊥) → self.new ≡ self.old }

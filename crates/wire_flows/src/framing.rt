@@ -80,7 +80,7 @@ impl WireFlows {
     /// Frames the body octets of a flow that go next, on the stream of a connection with this write buffer, where its stream has
     /// `room` octets, it may have `most` (by the connection's window, say), and the peer takes `frame` in one frame. The answer
     /// has what goes next then, under the room that the stream has left. None, and nothing has changed, where something else
-    /// goes next. After want of memory nothing has changed, and there is none where the write buffer has room for the frame.
+    /// goes next. After running out of memory nothing has changed, and there is none where the write buffer has room for the frame.
     pub fn frame_body(
         &mut self,
         flow: FlowId,

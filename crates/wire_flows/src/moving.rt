@@ -48,7 +48,7 @@ impl WireFlows {
     /// buffer lets go only while nothing holds the flow back. Where a Meter drained, its flow is told at once, but not where the
     /// move overflowed. `Still` where the flow isn't live: then nothing has changed.
     ///
-    /// After want of memory nothing has changed, and there is none where the next place is a Hold, or has a limit and isn't
+    /// After running out of memory nothing has changed, and there is none where the next place is a Hold, or has a limit and isn't
     /// above it.
     pub fn step(&mut self, flow: FlowId) -> Result<Outcome, NoMemory>
         ensures outcome { IfOk result (λ o. o ≡ option_map_or (λ f. outcome_of flow f (next_step self.old.gates (goes_to self.old flow) f)) (flow_in self.old flow) Outcome.Still) }

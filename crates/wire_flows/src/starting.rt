@@ -30,7 +30,7 @@ pub struct Started {
 impl WireFlows {
     /// Begins an exchange of a wire session between two connections that are known, and answers its number, one more than
     /// the last. Its flows pass the filters of the route row, and are empty; each watches its Meters in order, its send
-    /// buffer, and then the write buffer that it goes to. After want of memory nothing has changed.
+    /// buffer, and then the write buffer that it goes to. After running out of memory nothing has changed.
     pub fn start(&mut self, spec: &StartSpec, config: &Config) -> Result<Started, NoMemory>
         requires wire { spec.now.plain ≡ false }
         requires recv { spec.now.recv ≤ most_octets }

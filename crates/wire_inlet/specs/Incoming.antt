@@ -8,7 +8,7 @@ use Rattle.wire_inlet.specs.declared.intake.Peer.{Peer}
 use Rattle.wire_inlet.specs.declared.intake.Peer.TheVariants.{Client, Cluster}
 
 -- The octets that came and aren't read; whether no preface is to be read any more; the session and the decoder after
--- the frames that were taken; and whether memory was wanted within a block: then no further frame is taken.
+-- the frames that were taken; and whether memory ran out within a block: then no further frame is taken.
 pub record Incoming : Type 0 where
   pub unread : List ℕ
   pub prefaced : Bool

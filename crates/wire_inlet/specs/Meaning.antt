@@ -15,7 +15,7 @@ use Rattle.wire_inlet.specs.declared.intake.Reading.{Reading}
 use Rattle.wire_inlet.specs.declared.intake.Reading.TheVariants as reading
 use Rattle.wire_inlet.specs.declared.intake.Taken.{Taken}
 
--- The session and the decoder after the frames that were taken, and whether memory was wanted within a block.
+-- The session and the decoder after the frames that were taken, and whether memory ran out within a block.
 pub record Meaning : Type 0 where
   pub session : Summary
   pub table : Decoding

@@ -93,7 +93,7 @@ impl Inlet {
         }
     }
 
-    /// Octets came. After want of memory nothing changed.
+    /// Octets came. After running out of memory nothing changed.
     pub fn push(&mut self, octets: &[u8]) -> Result<(), NoMemory>
         ensures ok { OnOk result (self.new ≡ record self.old { unread = self.old.unread ++ octets.now }) }
         ensures err { OnErr result (self.new ≡ self.old) }
@@ -106,7 +106,7 @@ impl Inlet {
     /// means, and with its header block decoded, also where its stream is refused or closed.
     /// Nothing changes at `Need` and at a fault.
     ///
-    /// After want of memory nothing changed, or the inlet is lost: then each call answers it, and
+    /// After running out of memory nothing changed, or the inlet is lost: then each call answers it, and
     /// the connection can only be dropped.
     pub fn next(&mut self, max: u32) -> Result<Intake, NoMemory>
         ensures next { IfOk result (λ intake. NextOf max self.old intake self.new) }
@@ -155,7 +155,7 @@ impl Inlet {
     }
 
     /// Opens the next stream of this side: 1, 3, 5 and so on, and none where 2^31 - 1 was given. On
-    /// a connection from a client the numbers are given, and nothing is opened. After want of memory
+    /// a connection from a client the numbers are given, and nothing is opened. After running out of memory
     /// nothing changed.
     pub fn open_stream(&mut self) -> Result<Option<u32>, NoMemory>
         ensures given { (past : List Happening) → StandsFor past self.old.session → IfOk result (λ given. given ≡ next_stream past) }

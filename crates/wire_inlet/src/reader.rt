@@ -86,7 +86,7 @@ impl Reader {
         }
     }
 
-    /// Whether memory was wanted within a block, which the decoder can't go on without.
+    /// Whether memory ran out within a block, which the decoder can't go on without.
     pub fn is_lost(&self) -> bool
         ensures { result ≡ self.now.lost }
     {
@@ -101,7 +101,7 @@ impl Reader {
         self.session.take_preface(octets)
     }
 
-    /// What a frame means. After want of memory nothing changed, or the reader is lost.
+    /// What a frame means. After running out of memory nothing changed, or the reader is lost.
     pub fn take(&mut self, frame: &Frame) -> Result<Taken, NoMemory>
         requires writable { IsWritable (view frame.now) }
         requires padding { padding_of (view frame.now) ≤ 256 }
@@ -123,7 +123,7 @@ impl Reader {
         })
     }
 
-    // What the header block of an act gives. After want of memory the reader is lost.
+    // What the header block of an act gives. After running out of memory the reader is lost.
     fn read(&mut self, act: &Act) -> Result<Reading, NoMemory>
         ensures reads { IfOk result (λ reading. ReadsBlockOf (block_of act.now) self.old.table reading self.new.table) }
         ensures few { IfOk result IsKnown }

@@ -41,7 +41,7 @@ impl Unread {
         unread
     }
 
-    /// Appends octets. After want of memory the octets are as they were.
+    /// Appends octets. After running out of memory the octets are as they were.
     pub fn push_all(&mut self, more: &[u8]) -> Result<(), NoMemory>
         ensures ok { OnOk result (self.new ≡ self.old ++ more.now) }
         ensures err { OnErr result (self.new ≡ self.old) }

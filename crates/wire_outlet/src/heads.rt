@@ -56,7 +56,7 @@ impl HeadWriter {
         self.anew
     }
 
-    /// The frames of a list. After want of memory nothing has changed.
+    /// The frames of a list. After running out of memory nothing has changed.
     pub fn frames(
         &mut self,
         stream: u32,

@@ -72,7 +72,7 @@ impl Outlet {
     }
 
     /// Puts a unit at the end of the waiting list, where fewer than `most` wait. Else the answer is
-    /// false and nothing changes, as after want of memory.
+    /// false and nothing changes, as after running out of memory.
     pub fn put(&mut self, unit: Waiting, most: u32) -> Result<bool, NoMemory>
         requires { IsFrameable unit }
         ensures taken { IfOk result (λ taken. taken ≡ has_place most self.old) }

@@ -52,7 +52,7 @@ impl WaitingList {
         self.units.len() as u32
     }
 
-    /// Appends a unit. After want of memory the list is as it was.
+    /// Appends a unit. After running out of memory the list is as it was.
     pub fn push(&mut self, unit: Waiting) -> Result<(), NoMemory>
         requires unit { IsFrameable unit }
         requires room { length self.old + 1 < 2 ^ 32 }

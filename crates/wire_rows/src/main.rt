@@ -2,6 +2,7 @@
 //! written.
 #![tactic(auto)]
 
+mod flows;
 mod heads;
 mod inlet;
 mod links;
@@ -31,6 +32,7 @@ fn show_line(rt: &HostRuntime, line: &str) -> anyhow::Result<()> {
     }
     let (machine, _) = line.split_once(' ').unwrap_or((line, ""));
     match machine {
+        "flows" => flows::show(rt, line),
         "heads" => heads::show(rt, line),
         "inlet" => inlet::show(rt, line),
         "links" => links::show(rt, line),

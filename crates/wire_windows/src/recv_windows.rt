@@ -88,7 +88,7 @@ impl RecvWindows {
         self.stray
     }
 
-    /// The stream of an exchange begins, with all of its window left. After want of memory nothing has changed.
+    /// The stream of an exchange begins, with all of its window left. After running out of memory nothing has changed.
     pub fn begin(&mut self, x: u64) -> Result<(), NoMemory>
         requires { is_begun x self.old ≡ false }
         ensures ok { OnOk result (self.new ≡ begins x self.old) }

@@ -55,7 +55,7 @@ impl SendWindows {
         }
     }
 
-    /// The stream of an exchange opens, with the room that the peer's initial window gives now. After want of memory
+    /// The stream of an exchange opens, with the room that the peer's initial window gives now. After running out of memory
     /// nothing has changed.
     pub fn open(&mut self, x: u64) -> Result<(), NoMemory>
         requires { is_open x self.old ≡ false }

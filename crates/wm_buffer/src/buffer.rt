@@ -20,7 +20,7 @@ pub struct Shifted {
 
 /// Octets in order, with a high watermark at their limit and a low one at half of it.
 ///
-/// It has places for 2^31 - 1 octets. An append that finds no place is want of memory.
+/// It has places for 2^31 - 1 octets. An append that finds no place is out of memory.
 #[derive(Debug, Drop)]
 pub struct WatermarkBuffer {
     store: Store,

@@ -26,7 +26,7 @@ impl Exchanges {
     ///
     /// It is `Still` exactly where there is no such place, and `TooLarge` exactly where the next place is a Hold whose
     /// limit the move would pass. `overflow` is true exactly where a multiple is set, and the Meter or send buffer that
-    /// was fed has a limit and holds more than so many times it. After want of memory nothing has changed, and there is
+    /// was fed has a limit and holds more than so many times it. After running out of memory nothing has changed, and there is
     /// none where the next place is a Hold, or has a limit and isn't above it.
     pub fn step(&mut self, flow: FlowId, gates: &Gates) -> Result<Step, NoMemory>
         requires live { IsLiveFlow self.old flow }
@@ -115,7 +115,7 @@ impl Exchanges {
     }
 
     /// Appends `head` and the first n octets of a flow's send buffer to `out` as one change, and drops them here. Where
-    /// `last` holds the flow's end is framed with them. Both crossings are answered. After want of memory nothing has
+    /// `last` holds the flow's end is framed with them. Both crossings are answered. After running out of memory nothing has
     /// changed, and there is none where `out` has room for both.
     pub fn frame_body(
         &mut self,

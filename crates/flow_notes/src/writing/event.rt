@@ -63,7 +63,7 @@ fn push_post(
     }
 }
 
-/// Appends the line of an event, or of the turn in which it happens. After want of memory a part
+/// Appends the line of an event, or of the turn in which it happens. After running out of memory a part
 /// of it may stand behind the octets from before.
 pub fn push_event(
     turn: Option<u64>,
@@ -106,7 +106,7 @@ pub fn push_event(
     }
 }
 
-/// Appends the line of an event, with its newline. After want of memory `into` is as it was.
+/// Appends the line of an event, with its newline. After running out of memory `into` is as it was.
 pub fn event_text(event: &Event, names: &Names, into: &mut Octets) -> Result<(), NoMemory>
     requires { IsEvent names.now event.now }
     ensures ok { OnOk result (into.new ≡ into.old ++ (event_spelling names.now event.now ++ newline)) }

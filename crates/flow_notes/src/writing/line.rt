@@ -34,7 +34,7 @@ fn push_turn(turn: Option<u64>, into: &mut Octets) -> Result<(), NoMemory>
     into.push_all(b" ")
 }
 
-/// Appends a line, which shows an event's turn where there is one. After want of memory a part of
+/// Appends a line, which shows an event's turn where there is one. After running out of memory a part of
 /// it may stand behind the octets from before.
 pub fn push_line(
     turn: Option<u64>,

@@ -222,7 +222,7 @@ fn push_note(note: &Note, names: &Names, into: &mut Octets) -> Result<(), NoMemo
     }
 }
 
-/// Appends the line of a note, with its newline. After want of memory `into` is as it was.
+/// Appends the line of a note, with its newline. After running out of memory `into` is as it was.
 pub fn note_text(note: &Note, names: &Names, into: &mut Octets) -> Result<(), NoMemory>
     requires { IsNote names.now note.now }
     ensures ok { OnOk result (into.new ≡ into.old ++ (note_spelling names.now note.now ++ newline)) }

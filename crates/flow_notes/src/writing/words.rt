@@ -99,7 +99,7 @@ fn push_numbers(numbers: &[u32], into: &mut Octets) -> Result<(), NoMemory>
     Ok(())
 }
 
-/// Appends the words of this one, each behind a space. After want of memory a part of them may
+/// Appends the words of this one, each behind a space. After running out of memory a part of them may
 /// stand behind the octets from before.
 pub fn push_word(word: &Word, into: &mut Octets) -> Result<(), NoMemory>
     ensures ok { OnOk result (into.new ≡ into.old ++ spaced (words_of word.now)) }

@@ -21,7 +21,7 @@ use std::alloc::Global;
 
 impl Session {
     /// What a frame means, after all that came before it. Once one was a connection error, each has
-    /// the same error again. The streams of acts are numbers of 31 bits. After want of memory the
+    /// the same error again. The streams of acts are numbers of 31 bits. After running out of memory the
     /// session is as it was, and the frame may be given again.
     pub fn accept(&mut self, frame: &Frame) -> Result<Act, NoMemory>
         requires writable { IsWritable (view frame.now) }

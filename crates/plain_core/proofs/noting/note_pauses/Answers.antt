@@ -1,7 +1,6 @@
 -- All pauses are written, or none.
-use Rattle.flow_gate.specs.declared.ids.FlowId.{FlowId}
 use Rattle.flow_notes.specs.declared.notes.Note.{Note}
-use Rattle.std.proofs.Common.{refl, subst, sym, ◌∙◌}
+use Rattle.std.proofs.Common.{refl, sym, ◌∙◌}
 use Rattle.std.proofs.lemmas.List.{append-nil}
 use Rattle.std.specs.Prelude.{Err, List, Ok, OnErr, OnOk, [], ◌++◌, ◌≡◌}
 use Rattle.plain_core.specs.Noting.{AppendsNotes, pauses_of}
@@ -14,4 +13,4 @@ all_or_none (Err e) old ns new ok err = record { front = []; rest = ns; whole = 
 
 pub returns : goal.returns
 returns c =
-    subst (λ (v : List FlowId). AppendsNotes c.args.notes.now (pauses_of c.args.buffer v) c.push_pauses.new.self c.push_pauses.result) c.watchers.ensures (all_or_none c.push_pauses.result c.args.notes.now (pauses_of c.args.buffer c.watchers.result) c.push_pauses.new.self c.push_pauses.ensures.ok c.push_pauses.ensures.err)
+    rw (← c.watchers.ensures) (all_or_none c.push_pauses.result c.args.notes.now (pauses_of c.args.buffer c.watchers.result) c.push_pauses.new.self c.push_pauses.ensures.ok c.push_pauses.ensures.err)

@@ -1,11 +1,11 @@
 -- The flows that are to be told, up to the first whose receive buffer holds octets.
 use Rattle.flow_gate.specs.declared.ids.FlowId.{FlowId}
-use Rattle.std.proofs.Common.{ap, append_assoc, arith, subst, sym, ◌∙◌}
+use Rattle.std.proofs.Common.{ap, append_assoc, arith, sym, ◌∙◌}
 use Rattle.std.proofs.lemmas.List.{length-append}
-use Rattle.std.specs.Prelude.{Bool, List, [], false, ◌++◌, ◌∷◌}
+use Rattle.std.specs.Prelude.{List, [], false, ◌++◌, ◌∷◌}
 use Rattle.plain_core.proofs.FlowTells.{wakes_unheld}
 use Rattle.plain_core.proofs.Resumes.{all_more, next_wakes}
-use Rattle.plain_core.specs.Carries.{Holds, Wakes}
+use Rattle.plain_core.specs.Carries.{Wakes}
 use Rattle.plain_core.proofs.telling.told_to_holder.Goals as goal
 
 pub returns-then-holds_past : goal.returns-then-holds_past
@@ -22,6 +22,6 @@ loop-flow-preserved c =
     record {
       all = append_assoc fs (f ∷ []) c.next.new.self ∙ (ap (λ (gs : List FlowId). fs ++ gs) (sym c.in-Some.ensures.steps) ∙ c.loop-flow.invariant.all);
       number = omega (arith, is, l);
-      stay = all_more (λ g. Wakes c.args.flows.now g.exchange false) fs f c.loop-flow.invariant.stay (wakes_unheld c.args.flows.now f.exchange (subst (λ (b : Bool). Holds c.args.flows.now f.exchange b) c.if-holds_past.false c.holds_past.ensures.holds));
+      stay = all_more (λ g. Wakes c.args.flows.now g.exchange false) fs f c.loop-flow.invariant.stay (wakes_unheld c.args.flows.now f.exchange (rw (← c.if-holds_past.false) c.holds_past.ensures.holds));
       gap = c.holds_past.ensures.gap;
     }

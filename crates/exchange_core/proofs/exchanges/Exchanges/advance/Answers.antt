@@ -11,7 +11,7 @@ use Rattle.exchange_core.specs.Exchange.{flow_changed, flow_in, goes_to, seen_at
 use Rattle.exchange_core.specs.Exchanges.{flow_at, target_of}
 use Rattle.exchange_core.specs.Flow.{Flow}
 use Rattle.exchange_core.specs.Moves.{has_room_ahead, next_step, stepped}
-use Rattle.exchange_core.specs.Units.{IsFrameable, next_unit}
+use Rattle.exchange_core.specs.Units.{next_unit}
 use Rattle.exchange_core.specs.View.{IsKept, exchanges_of}
 use Rattle.exchange_core.specs.declared.exchanges.Exchanges.TheInside.{Inside}
 use Rattle.exchange_core.specs.declared.step.Advance.{Advance}
@@ -22,7 +22,7 @@ use Rattle.std.specs.BTreeMap.{is_at}
 use Rattle.std.specs.Map.{lookup}
 use Rattle.std.specs.Option.{option_copied_mut}
 use Rattle.std.specs.Ordering.{nat_cmp}
-use Rattle.std.specs.Prelude.{IfSome, IsOk, IsTrue, None, option_map, ◌≡◌, false, true}
+use Rattle.std.specs.Prelude.{IsOk, IsTrue, None, option_map, ◌≡◌}
 use mir.Val.{of_z, to_z}
 
 -- ---- no exchange was found
@@ -74,9 +74,6 @@ IsDone c = c.advance-advance.new.self ≡ flow_changed (change c) c.args.flow.ba
 done : (c : goal.After-mark) → IsDone c → ChangesFlow c.args.flow (change c) (exchanges_of c.self.inside) (exchanges_of (after c)) × IsKept (after c)
 done c = whole_done (lends c) (change c) (steady_stepped c.args.gates.now (goes_to c.args.flow.back c.in-Some.exchange.now))
 
-kept : (c : goal.After-mark) → IsKept (after c)
-kept c = either _ _ _ c.advance-advance.result c.advance-advance.ensures.exchange c.advance-advance.ensures.err (λ is. (done c is).1) (λ is. (whole_refused (lends c) is).1)
-
 seen_then : (c : goal.After-mark) → IsDone c → flow_at (exchanges_of (after c)) c.args.flow ≡ flow_in c.args.flow.back c.advance-advance.new.self
 seen_then c = whole_seen (lends c) (change c) (steady_stepped c.args.gates.now (goes_to c.args.flow.back c.in-Some.exchange.now))
 
@@ -88,12 +85,11 @@ returns-clause-live c = rw (← c.self.view_is) (if_ok _ _ _ c.advance-advance.r
 pub returns-clause-unit : goal.returns-clause-unit
 returns-clause-unit c = let same : to_z w64 (of_z w64 c.args.room) ≡ c.args.room = to_z-of_z w64 c.args.room (assumption c.ranges.room) in
     if_ok _ _ _ c.advance-advance.result c.advance-advance.ensures.exchange c.advance-advance.ensures.unit
-    (λ advance is e. e ∙ ap (λ z. option_map (next_unit z c.args.frame) (flow_in c.args.flow.back c.advance-advance.new.self)) same
-    ∙ ap (option_map (next_unit c.args.room c.args.frame)) (sym (seen_then c is)))
+    (λ advance is e. cc (seen_then c is))
 
 pub returns-clause-frameable : goal.returns-clause-frameable
 returns-clause-frameable c = if_ok _ _ _ c.advance-advance.result c.advance-advance.ensures.exchange c.advance-advance.ensures.frameable
-    (λ advance is e. subst (λ o. IfSome advance (λ a. IfSome o (λ f. IsFrameable a.unit f))) (sym (seen_then c is)) e)
+    (λ advance is e. rw (seen_then c is) e)
 
 pub returns-clause-gone : goal.returns-clause-gone
 returns-clause-gone c = rw (← c.self.view_is) (λ none.
@@ -104,20 +100,20 @@ returns-clause-gone c = rw (← c.self.view_is) (λ none.
     ))
 
 pub invariant_of-self-2 : goal.invariant_of-self-2
-invariant_of-self-2 c = kept c
+invariant_of-self-2 c = either _ _ _ c.advance-advance.result c.advance-advance.ensures.exchange c.advance-advance.ensures.err (λ is. (done c is).1) (λ is. (whole_refused (lends c) is).1)
 
 pub returns-clause-step : goal.returns-clause-step
 returns-clause-step c = rw (← c.self.view_is) (if_ok _ _ _ c.advance-advance.result c.advance-advance.ensures.exchange c.advance-advance.ensures.step (λ step is e. e ∙ map_seen c.self.inside c.args.flow c.in-Some.ensures.value (next_step c.args.gates.now)))
 
 pub returns-clause-flow : goal.returns-clause-flow
 returns-clause-flow c = rw (← c.self.view_is) (on_ok _ _ c.advance-advance.result c.advance-advance.ensures.exchange
-    (λ is. subst (λ to. ChangesFlow c.args.flow (stepped c.args.gates.now to) (exchanges_of c.self.inside) (exchanges_of (after c))) (sym (aimed_is c.self.inside c.args.flow c.in-Some.ensures.value)) (done c is).0))
+    (λ is. rw (aimed_is c.self.inside c.args.flow c.in-Some.ensures.value) (done c is).0))
 
 pub returns-clause-covered : goal.returns-clause-covered
 returns-clause-covered c = rw (← c.self.view_is) (says_aimed c.self.inside c.args.flow c.in-Some.ensures.value (λ to f. IsTrue (has_room_ahead c.args.gates.now to f) → IsOk c.advance-advance.result) c.advance-advance.ensures.covered)
 
 pub returns-clause-sound : goal.returns-clause-sound
-returns-clause-sound c = seen_sound _ (kept c)
+returns-clause-sound c = seen_sound _ (invariant_of-self-2 c)
 
 pub returns-clause-err : goal.returns-clause-err
 returns-clause-err c = rw (← c.self.view_is) (on_err _ _ c.advance-advance.result c.advance-advance.ensures.err (λ is. (whole_refused (lends c) is).0))

@@ -32,17 +32,14 @@ after c = left c.self.inside c.get_mut.follows.lender c.args.flow c.in-Some.exch
 done : (c : goal.After-self-2-1) → c.arrive.new.self ≡ arrived c.args.octets.now c.in-Some-touch.flow.now → ChangesFlow c.args.flow (arrived c.args.octets.now) (exchanges_of c.self.inside) (exchanges_of (after c)) × IsKept (after c)
 done c is = lent_done (lends c) (arrived c.args.octets.now) (steady_arrived c.args.octets.now) is refl
 
-kept : (c : goal.After-self-2-1) → IsKept (after c)
-kept c = either _ _ _ c.arrive.result c.arrive.ensures.ok c.arrive.ensures.err (λ is. (done c is).1) (λ is. (lent_refused (lends c) is).1)
-
 pub invariant_of-self : goal.invariant_of-self
-invariant_of-self c = kept c
+invariant_of-self c = either _ _ _ c.arrive.result c.arrive.ensures.ok c.arrive.ensures.err (λ is. (done c is).1) (λ is. (lent_refused (lends c) is).1)
 
 pub returns-clause-ok : goal.returns-clause-ok
 returns-clause-ok c = rw (← c.self.view_is) (on_ok _ _ c.arrive.result c.arrive.ensures.ok (λ is. (done c is).0))
 
 pub returns-clause-sound : goal.returns-clause-sound
-returns-clause-sound c = seen_sound _ (kept c)
+returns-clause-sound c = seen_sound _ (invariant_of-self c)
 
 pub returns-clause-covered : goal.returns-clause-covered
 returns-clause-covered c = rw (← c.self.view_is) (says_seen (λ f. length f.recv + length c.args.octets.now ≤ f.window → IsOk c.arrive.result) c.self.inside c.args.flow (lends c).is (lends c).there c.arrive.ensures.covered)

@@ -1,17 +1,15 @@
-use Rattle.exchange_core.proofs.Dooming.{doom_kept, dooms, is_unmarked, response_known}
-use Rattle.exchange_core.proofs.Finding.{exchange_found, not_live}
+use Rattle.exchange_core.proofs.Dooming.{doom_kept, dooms, is_unmarked}
+use Rattle.exchange_core.proofs.Finding.{exchange_found, not_live, some_mapped}
 use Rattle.exchange_core.proofs.Outcomes.{at_found, from_found}
 use Rattle.exchange_core.proofs.Seeing.{seen_sound}
 use Rattle.exchange_core.proofs.Untouched.{reckoning_seen}
 use Rattle.exchange_core.proofs.exchanges.Exchanges.doom.Goals as goal
 use Rattle.exchange_core.specs.declared.exchanges.Exchanges.TheInside.{Inside}
-use Rattle.exchange_core.specs.View.{IsKept}
-use Rattle.exchange_core.specs.Changes.{ForgetsFlows, ForgetsSides, KnowsFlows}
-use Rattle.exchange_core.specs.Exchange.{seen_at}
+use Rattle.exchange_core.specs.Changes.{ForgetsFlows, KnowsFlows}
+use Rattle.exchange_core.specs.Exchange.{at_moment, seen_at}
 use Rattle.exchange_core.specs.Replies.{reckoning}
 use Rattle.exchange_core.specs.declared.exchange.Exchange.{Exchange}
-use Rattle.exchange_core.specs.declared.reply.Doomed.{Doomed}
-use Rattle.std.proofs.Common.{ap, arith, refl, subst, sym, ◌∙◌}
+use Rattle.std.proofs.Common.{ap, arith, refl, sym, ◌∙◌}
 use Rattle.std.proofs.lemmas.Bool.{false≢true}
 use Rattle.std.specs.Prelude.{Some, option_map}
 
@@ -31,21 +29,18 @@ pub forget_flows-requires-clause-request : goal.forget_flows-requires-clause-req
 forget_flows-requires-clause-request c = (known c).0
 
 pub forget_flows-requires-clause-response : goal.forget_flows-requires-clause-response
-forget_flows-requires-clause-response c = λ some. (known c).1 (response_known c.self.inside.ticked c.in-Some.ended.response ∙ sym c.is_some.ensures ∙ some)
+forget_flows-requires-clause-response c = λ some. (known c).1 (some_mapped (at_moment c.self.inside.ticked) c.in-Some.ended.response ∙ sym c.is_some.ensures ∙ some)
 
 abbrev after : goal.Joined-ended-4 → Inside
 after c = record c.self.inside { live = c.remove.new.self; doomed = c.push_back_reserved.new.self; metered = c.mark.new.self }
 
-kept : (c : goal.Joined-ended-4) → IsKept (after c)
-kept c = doom_kept c.self.inside (after c) c.args.exchange c.in-Some.ended c.self.invariant c.in-Some.ensures.value c.remove.ensures.updates.0 c.remove.ensures.ordered c.remove.ensures.entries c.in-Some.ensures.len
+pub invariant_of-self : goal.invariant_of-self
+invariant_of-self c = doom_kept c.self.inside (after c) c.args.exchange c.in-Some.ended c.self.invariant c.in-Some.ensures.value c.remove.ensures.updates.0 c.remove.ensures.ordered c.remove.ensures.entries c.in-Some.ensures.len
     refl refl refl c.push_back_reserved.ensures.items c.push_back_reserved.ensures.len c.push_back_reserved.ensures.capacity
     (is_unmarked c.self.inside c.args.exchange c.in-Some.ended c.self.invariant c.in-Some.ensures.value c.mark.new.self c.mark.ensures.members c.mark.ensures.len c.mark.ensures.room)
 
-pub invariant_of-self : goal.invariant_of-self
-invariant_of-self c = kept c
-
 pub returns-clause-answer : goal.returns-clause-answer
-returns-clause-answer c = rw (← c.self.view_is) (ap (λ (d : Doomed). Some d) (c.reckoning.ensures ∙ sym (reckoning_seen c.self.inside.ticked c.args.cause c.args.back c.in-Some.ended))
+returns-clause-answer c = rw (← c.self.view_is) (ap Some (c.reckoning.ensures ∙ sym (reckoning_seen c.self.inside.ticked c.args.cause c.args.back c.in-Some.ended))
     ∙ sym (ap (option_map (reckoning c.args.cause c.args.back)) (exchange_found c.self.inside c.args.exchange (Some c.in-Some.ended) c.in-Some.ensures.value)))
 
 pub returns-clause-dooms : goal.returns-clause-dooms
@@ -55,7 +50,7 @@ returns-clause-dooms c = rw (← c.self.view_is) (dooms c.self.inside (after c) 
 pub returns-clause-gates : goal.returns-clause-gates
 returns-clause-gates c = rw (← c.self.view_is) (from_found (λ (e : Exchange). ForgetsFlows c.args.exchange e c.args.gates.now c.forget_flows.new.gates) _ (seen_at c.self.inside.ticked c.in-Some.ended)
     (exchange_found c.self.inside c.args.exchange (Some c.in-Some.ended) c.in-Some.ensures.value)
-    (subst (λ both. ForgetsSides c.args.exchange both c.args.gates.now c.forget_flows.new.gates) (c.is_some.ensures ∙ sym (response_known c.self.inside.ticked c.in-Some.ended.response)) c.forget_flows.ensures.gone))
+    (rw (← c.is_some.ensures ∙ sym (some_mapped (at_moment c.self.inside.ticked) c.in-Some.ended.response)) c.forget_flows.ensures.gone))
 
 pub returns-clause-sound : goal.returns-clause-sound
-returns-clause-sound c = seen_sound _ (kept c)
+returns-clause-sound c = seen_sound _ (invariant_of-self c)

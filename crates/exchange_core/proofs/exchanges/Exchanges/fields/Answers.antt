@@ -1,9 +1,8 @@
 use Rattle.exchange_core.proofs.exchanges.Exchanges.fields.Goals as goal
 use Rattle.exchange_core.specs.Flow.{Flow}
 use Rattle.exchange_core.specs.Message.{fields_of}
-use Rattle.hpack_codec.specs.declared.fields.Field.{Field}
 use Rattle.std.proofs.Common.{ap, sym, ◌∙◌}
-use Rattle.std.specs.Prelude.{List, Option, Some, option_map}
+use Rattle.std.specs.Prelude.{Some, option_map}
 
 pub returns : goal.returns
-returns c = ap (λ (o : Option (List Field)). Some o) c.fields.ensures ∙ sym (ap (option_map (λ (f : Flow). fields_of f.message)) c.flow.ensures.same)
+returns c = ap Some c.fields.ensures ∙ sym (ap (option_map (λ (f : Flow). fields_of f.message)) c.flow.ensures.same)

@@ -28,4 +28,4 @@ pub returns-clause-ok : goal.returns-clause-ok
 returns-clause-ok c = rw (← c.self.view_is) (lent_done (lends c) (finished c.args.trailers) (steady_finished c.args.trailers) c.finish.ensures.finished refl).0
 
 pub returns-clause-sound : goal.returns-clause-sound
-returns-clause-sound c = seen_sound _ (lent_done (lends c) (finished c.args.trailers) (steady_finished c.args.trailers) c.finish.ensures.finished refl).1
+returns-clause-sound c = seen_sound _ (invariant_of-self c)

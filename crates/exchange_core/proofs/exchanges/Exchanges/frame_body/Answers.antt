@@ -12,7 +12,7 @@ use Rattle.exchange_core.proofs.Steady.{calm_framed, steady_framed}
 use Rattle.exchange_core.specs.Effects.{body_framed}
 use Rattle.exchange_core.specs.Flow.{send}
 use Rattle.exchange_core.specs.Message.{head_waits}
-use Rattle.std.specs.Prelude.{OnOk, length, take, ◌+◌, ◌++◌, ◌≤◌}
+use Rattle.std.specs.Prelude.{OnOk, length, take, ◌++◌, ◌≤◌}
 use Rattle.wm_buffer.specs.Buffer.{AppendsOctets}
 use Rattle.exchange_core.specs.View.{exchanges_of, IsKept}
 use Rattle.exchange_core.specs.Changes.{ChangesFlow}
@@ -46,11 +46,8 @@ calm c = calm_framed c.args.n c.args.last c.in-Some-touch.flow.now (lent_order (
 done : (c : goal.After-self-2-1) → c.frame_body.new.self ≡ change c c.in-Some-touch.flow.now → ChangesFlow c.args.flow (change c) (exchanges_of c.self.inside) (exchanges_of (after c)) × IsKept (after c)
 done c is = lent_done (lends c) (change c) (steady_framed c.args.n c.args.last) is (calm c)
 
-kept : (c : goal.After-self-2-1) → IsKept (after c)
-kept c = either _ _ _ c.frame_body.result c.frame_body.ensures.frames c.frame_body.ensures.err (λ is. (done c is).1) (λ is. (lent_refused (lends c) is.0).1)
-
 pub invariant_of-self : goal.invariant_of-self
-invariant_of-self c = kept c
+invariant_of-self c = either _ _ _ c.frame_body.result c.frame_body.ensures.frames c.frame_body.ensures.err (λ is. (done c is).1) (λ is. (lent_refused (lends c) is.0).1)
 
 pub returns-clause-frames : goal.returns-clause-frames
 returns-clause-frames c = rw (← c.self.view_is) (on_ok _ _ c.frame_body.result c.frame_body.ensures.frames (λ is. (done c is).0))
@@ -63,7 +60,7 @@ returns-clause-from c = rw (← c.self.view_is) (if_ok _ _ _ c.frame_body.result
     (λ framed is e. e ∙ send_crossed c.args.flow (change c) _ _ c.in-Some-touch.flow.now c.frame_body.new.self (done c is).0 (flow_found c.self.inside c.args.flow _ _ (lends c).is (lends c).there) is))
 
 pub returns-clause-sound : goal.returns-clause-sound
-returns-clause-sound c = seen_sound _ (kept c)
+returns-clause-sound c = seen_sound _ (invariant_of-self c)
 
 pub returns-clause-err : goal.returns-clause-err
 returns-clause-err c = rw (← c.self.view_is) (on_err _ _ c.frame_body.result c.frame_body.ensures.err (λ is. ((lent_refused (lends c) is.0).0, is.1)))

@@ -13,7 +13,6 @@ use Rattle.exchange_core.specs.Message.{head_waits}
 use Rattle.exchange_core.specs.Units.{IsFrameable, next_unit}
 use Rattle.exchange_core.specs.View.{IsKept, exchanges_of}
 use Rattle.exchange_core.specs.declared.exchanges.Exchanges.TheInside.{Inside}
-use Rattle.flow_rules.specs.declared.unit.Unit.{Unit as NextUnit}
 use Rattle.std.proofs.Common.{ap, sym, w64, ◌∙◌}
 use Rattle.std.proofs.lemmas.Int.{to_z-of_z}
 use Rattle.std.specs.Option.{option_copied_mut}
@@ -49,11 +48,8 @@ calm c = calm_framed c.args.piece.n c.args.piece.last c.in-Some-touch.flow.now (
 done : (c : goal.After-self-2-1) → c.frame_unit.new.self ≡ change c c.in-Some-touch.flow.now → ChangesFlow c.args.flow (change c) (exchanges_of c.self.inside) (exchanges_of (after c)) × IsKept (after c)
 done c is = lent_done (lends c) (change c) (steady_framed c.args.piece.n c.args.piece.last) is (calm c)
 
-kept : (c : goal.After-self-2-1) → IsKept (after c)
-kept c = either _ _ _ c.frame_unit.result c.frame_unit.ensures.frames c.frame_unit.ensures.err (λ is. (done c is).1) (λ is. (lent_refused (lends c) is.0).1)
-
 pub invariant_of-self : goal.invariant_of-self
-invariant_of-self c = kept c
+invariant_of-self c = either _ _ _ c.frame_unit.result c.frame_unit.ensures.frames c.frame_unit.ensures.err (λ is. (done c is).1) (λ is. (lent_refused (lends c) is.0).1)
 
 pub returns-clause-frames : goal.returns-clause-frames
 returns-clause-frames c = rw (← c.self.view_is) (on_ok _ _ c.frame_unit.result c.frame_unit.ensures.frames (λ is. (done c is).0))
@@ -71,14 +67,14 @@ seen_then c is = lent_seen (lends c) (change c) (steady_framed c.args.piece.n c.
 pub returns-clause-unit : goal.returns-clause-unit
 returns-clause-unit c = let same : to_z w64 (of_z w64 c.args.room) ≡ c.args.room = to_z-of_z w64 c.args.room (assumption c.ranges.room) in
     if_ok _ _ _ c.frame_unit.result c.frame_unit.ensures.frames c.frame_unit.ensures.unit
-    (λ framed is e. ap (λ (u : NextUnit). Some u) (e ∙ ap (λ z. next_unit z c.args.frame c.frame_unit.new.self) same) ∙ ap (option_map (next_unit c.args.room c.args.frame)) (sym (seen_then c is)))
+    (λ framed is e. ap Some (e ∙ ap (λ z. next_unit z c.args.frame c.frame_unit.new.self) same) ∙ ap (option_map (next_unit c.args.room c.args.frame)) (sym (seen_then c is)))
 
 pub returns-clause-frameable : goal.returns-clause-frameable
 returns-clause-frameable c = if_ok _ _ _ c.frame_unit.result c.frame_unit.ensures.frames c.frame_unit.ensures.frameable
-    (λ framed is e. from_found (λ f. IsFrameable framed.1 f) _ c.frame_unit.new.self (seen_then c is) e)
+    (λ framed is e. from_found (IsFrameable framed.1) _ c.frame_unit.new.self (seen_then c is) e)
 
 pub returns-clause-sound : goal.returns-clause-sound
-returns-clause-sound c = seen_sound _ (kept c)
+returns-clause-sound c = seen_sound _ (invariant_of-self c)
 
 pub returns-clause-err : goal.returns-clause-err
 returns-clause-err c = rw (← c.self.view_is) (on_err _ _ c.frame_unit.result c.frame_unit.ensures.err (λ is. ((lent_refused (lends c) is.0).0, is.1)))

@@ -24,4 +24,4 @@ pub returns-clause-framed : goal.returns-clause-framed
 returns-clause-framed c = rw (← c.self.view_is) (lent_done (lends c) (list_framed c.args.last) (steady_listed c.args.last) c.list_framed.ensures.framed refl).0
 
 pub returns-clause-sound : goal.returns-clause-sound
-returns-clause-sound c = seen_sound _ (lent_done (lends c) (list_framed c.args.last) (steady_listed c.args.last) c.list_framed.ensures.framed refl).1
+returns-clause-sound c = seen_sound _ (invariant_of-self c)

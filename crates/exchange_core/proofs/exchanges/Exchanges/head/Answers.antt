@@ -32,4 +32,4 @@ pub returns-clause-ok : goal.returns-clause-ok
 returns-clause-ok c = rw (← c.self.view_is) (lent_done (lends c) (headed c.args.fields c.args.last) (steady_headed c.args.fields c.args.last) c.head.ensures.headed (calm_headed c.args.fields c.args.last c.in-Some-touch.flow.now)).0
 
 pub returns-clause-sound : goal.returns-clause-sound
-returns-clause-sound c = seen_sound _ (lent_done (lends c) (headed c.args.fields c.args.last) (steady_headed c.args.fields c.args.last) c.head.ensures.headed (calm_headed c.args.fields c.args.last c.in-Some-touch.flow.now)).1
+returns-clause-sound c = seen_sound _ (invariant_of-self c)

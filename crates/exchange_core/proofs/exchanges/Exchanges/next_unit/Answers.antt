@@ -1,11 +1,11 @@
 use Rattle.exchange_core.proofs.Untouched.{frameable_seen, unit_seen}
 use Rattle.exchange_core.proofs.exchanges.Exchanges.next_unit.Goals as goal
-use Rattle.exchange_core.specs.Units.{IsFrameable, next_unit}
+use Rattle.exchange_core.specs.Units.{next_unit}
 use Rattle.flow_rules.specs.declared.unit.Unit.{Unit as NextUnit}
-use Rattle.std.proofs.Common.{ap, subst, sym, w64, ◌∙◌}
+use Rattle.std.proofs.Common.{ap, sym, w64, ◌∙◌}
 use Rattle.std.proofs.lemmas.Int.{to_z-of_z}
 use mir.Val.{of_z, to_z}
-use Rattle.std.specs.Prelude.{IfSome, Some, option_map, ◌≡◌}
+use Rattle.std.specs.Prelude.{Some, option_map, ◌≡◌}
 
 pub returns-clause-unit : goal.returns-clause-unit
 returns-clause-unit c = let same : to_z w64 (of_z w64 c.args.room) ≡ c.args.room = to_z-of_z w64 c.args.room (assumption c.ranges.room) in
@@ -13,5 +13,4 @@ returns-clause-unit c = let same : to_z w64 (of_z w64 c.args.room) ≡ c.args.ro
     ∙ sym (ap (option_map (next_unit c.args.room c.args.frame)) c.flow.ensures.same)
 
 pub returns-clause-frameable : goal.returns-clause-frameable
-returns-clause-frameable c = subst (λ o. IfSome o (λ f. IsFrameable c.next_unit.result f)) (sym c.flow.ensures.same)
-    (frameable_seen c.flow.ensures.now c.flow.result.now c.next_unit.result c.next_unit.ensures.frameable)
+returns-clause-frameable c = rw c.flow.ensures.same (frameable_seen c.flow.ensures.now c.flow.result.now c.next_unit.result c.next_unit.ensures.frameable)

@@ -78,4 +78,4 @@ pub returns-clause-same : goal.returns-clause-same
 returns-clause-same c = rw (← c.self.view_is) (λ other. (lent_refused (lends c) (c.receive.ensures.flow ∙ not_received c.args.octets.now c.in-Some-touch.flow.now c.receive.result c.receive.ensures.answer other)).0)
 
 pub returns-clause-sound : goal.returns-clause-sound
-returns-clause-sound c = seen_sound _ (lent_done (lends c) (received c.args.octets.now) (steady_received c.args.octets.now) c.receive.ensures.flow (calm_received c.args.octets.now c.in-Some-touch.flow.now)).1
+returns-clause-sound c = seen_sound _ (invariant_of-self-2 c)

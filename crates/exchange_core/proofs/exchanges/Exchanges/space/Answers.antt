@@ -18,8 +18,7 @@ room_seen now (Some flow) = refl
 pub returns-in-Some : goal.returns-in-Some
 returns-in-Some c = rw (← c.self.view_is) (
     let there = flow_found c.self.inside c.args.flow c.in-Some.exchange.now (flow_in c.args.flow.back (seen_at c.self.inside.ticked c.in-Some.exchange.now)) c.in-Some.ensures.value refl in
-    c.space.ensures ∙ sym (ap room (there ∙ flow_seen c.self.inside.ticked c.args.flow.back c.in-Some.exchange.now)
-    ∙ room_seen c.self.inside.ticked (flow_in c.args.flow.back c.in-Some.exchange.now)))
+    c.space.ensures ∙ (cc (flow_seen c.self.inside.ticked c.args.flow.back c.in-Some.exchange.now, room_seen c.self.inside.ticked (flow_in c.args.flow.back c.in-Some.exchange.now))))
 
 pub returns-in-None : goal.returns-in-None
 returns-in-None c = rw (← c.self.view_is) (sym (ap (λ o. room (option_and_then (flow_in c.args.flow.back) o)) (exchange_found c.self.inside c.args.flow.exchange None c.in-None.ensures.value)))

@@ -14,7 +14,7 @@ use Rattle.exchange_core.specs.Exchange.{goes_to, seen_at}
 use Rattle.exchange_core.specs.Flow.{Flow}
 use Rattle.exchange_core.specs.Moves.{has_room_ahead, next_step, stepped}
 use Rattle.exchange_core.specs.View.{exchanges_of}
-use Rattle.std.proofs.Common.{ap, subst, sym, ◌∙◌}
+use Rattle.std.proofs.Common.{ap, sym, ◌∙◌}
 use Rattle.std.specs.Option.{option_copied_mut}
 use Rattle.std.specs.Prelude.{IsOk, IsTrue}
 
@@ -51,24 +51,21 @@ IsDone c = c.step-step.new.self ≡ flow_changed (change c) c.args.flow.back (se
 done : (c : goal.After-mark) → IsDone c → ChangesFlow c.args.flow (change c) (exchanges_of c.self.inside) (exchanges_of (after c)) × IsKept (after c)
 done c = whole_done (lends c) (change c) (steady_stepped c.args.gates.now (goes_to c.args.flow.back c.in-Some.exchange.now))
 
-kept : (c : goal.After-mark) → IsKept (after c)
-kept c = either _ _ _ c.step-step.result c.step-step.ensures.exchange c.step-step.ensures.err (λ is. (done c is).1) (λ is. (whole_refused (lends c) is).1)
-
 pub invariant_of-self : goal.invariant_of-self
-invariant_of-self c = kept c
+invariant_of-self c = either _ _ _ c.step-step.result c.step-step.ensures.exchange c.step-step.ensures.err (λ is. (done c is).1) (λ is. (whole_refused (lends c) is).1)
 
 pub returns-clause-step : goal.returns-clause-step
 returns-clause-step c = rw (← c.self.view_is) (if_ok _ _ _ c.step-step.result c.step-step.ensures.exchange c.step-step.ensures.step (λ step is e. e ∙ map_seen c.self.inside c.args.flow c.in-Some.ensures.value (next_step c.args.gates.now)))
 
 pub returns-clause-flow : goal.returns-clause-flow
 returns-clause-flow c = rw (← c.self.view_is) (on_ok _ _ c.step-step.result c.step-step.ensures.exchange
-    (λ is. subst (λ to. ChangesFlow c.args.flow (stepped c.args.gates.now to) (exchanges_of c.self.inside) (exchanges_of (after c))) (sym (aimed_is c.self.inside c.args.flow c.in-Some.ensures.value)) (done c is).0))
+    (λ is. rw (aimed_is c.self.inside c.args.flow c.in-Some.ensures.value) (done c is).0))
 
 pub returns-clause-covered : goal.returns-clause-covered
 returns-clause-covered c = rw (← c.self.view_is) (says_aimed c.self.inside c.args.flow c.in-Some.ensures.value (λ to f. IsTrue (has_room_ahead c.args.gates.now to f) → IsOk c.step-step.result) c.step-step.ensures.covered)
 
 pub returns-clause-sound : goal.returns-clause-sound
-returns-clause-sound c = seen_sound _ (kept c)
+returns-clause-sound c = seen_sound _ (invariant_of-self c)
 
 pub returns-clause-err : goal.returns-clause-err
 returns-clause-err c = rw (← c.self.view_is) (on_err _ _ c.step-step.result c.step-step.ensures.err (λ is. (whole_refused (lends c) is).0))

@@ -13,5 +13,4 @@ unfolding exchange_at
 returns-clause-sweeps c = rw (← c.self.view_is) (record { doomed = c.pop_front.ensures.items; live = λ x. refl; last = refl; time = refl })
 
 pub returns-clause-sound : goal.returns-clause-sound
-returns-clause-sound c = seen_sound (record c.self.inside { doomed = c.pop_front.new.self }) (swept_kept c.self.inside (record c.self.inside { doomed = c.pop_front.new.self }) c.pop_front.result c.self.invariant c.pop_front.ensures.items
-    (omega (arith, c.pop_front.ensures.len)) c.pop_front.ensures.capacity refl refl refl refl refl refl)
+returns-clause-sound c = seen_sound _ (invariant_of-self c)

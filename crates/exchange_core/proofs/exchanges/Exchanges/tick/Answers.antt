@@ -9,4 +9,4 @@ pub returns-clause-ticks : goal.returns-clause-ticks
 returns-clause-ticks c = rw (← c.self.view_is) (ticks c.ticks_add_up.ensures c.self.inside c.args.now c.self.invariant (rw (← c.self.view_is) at c.requires))
 
 pub returns-clause-sound : goal.returns-clause-sound
-returns-clause-sound c = seen_sound _ (kept_ticked c.ticks_add_up.ensures c.self.inside c.args.now c.self.invariant (rw (← c.self.view_is) at c.requires))
+returns-clause-sound c = seen_sound _ (invariant_of-self c)

@@ -5,7 +5,7 @@ use Rattle.exchange_core.specs.Flow.{last_place}
 use Rattle.exchange_core.specs.Kept.{flow_of}
 use Rattle.exchange_core.specs.Moves.{lets_go}
 use Rattle.flow_gate.specs.declared.ids.BufferId.TheVariants as buffer
-use Rattle.std.proofs.Common.{ap, arith, false, subst, sym, true, ◌<◌, ◌≡◌, ◌∙◌}
+use Rattle.std.proofs.Common.{ap, arith, false, sym, true, ◌≡◌, ◌∙◌}
 use Rattle.std.specs.Prelude.{min}
 
 pub returns-then-is_clear-clause-place : goal.returns-then-is_clear-clause-place
@@ -14,12 +14,12 @@ returns-then-is_clear-clause-place c = rw (← c.self.view_is) (
     let lets : c.min-n.result ≡ lets_go (flow_of c.self.inside) 0 = c.min-n.ensures ∙ (λ i. min (c.self.invariant.quantum i) (c.len.ensures.len i)) in
     let target : c.match-to.target ≡ asked c.self.inside.chain.flow c.args.to = elim c.match-to.branch [
       | in-Some w ↦ w.target-is ∙ sym (ap (asked c.self.inside.chain.flow) w.in-Some.is)
-      | in-None w ↦ w.target-is ∙ ap (λ f. buffer.Send f) c.flow.ensures ∙ sym (ap (asked c.self.inside.chain.flow) w.in-None.is)
+      | in-None w ↦ w.target-is ∙ ap buffer.Send c.flow.ensures ∙ (cc)
     ] in
     let clear : is_clear c.args.gates.now c.self.inside.chain.flow (asked c.self.inside.chain.flow c.args.to) ≡ true =
     answered c.args.gates.now c.self.inside.chain.flow c.flow-then-n-gt0.result c.flow.result c.match-to.target (asked c.self.inside.chain.flow c.args.to) c.is_clear.result true
     c.is_clear.ensures c.flow-then-n-gt0.ensures c.flow.ensures target c.if-is_clear.true in
-    sym (alone_found c.args.gates.now c.args.to (flow_of c.self.inside) alone c.self.invariant.sound.chain.order (subst (λ n. 0 < n) lets c.if-n-gt0.true) clear))
+    sym (alone_found c.args.gates.now c.args.to (flow_of c.self.inside) alone c.self.invariant.sound.chain.order (rw (← lets) c.if-n-gt0.true) clear))
 
 pub returns-else-n-gt0-clause-place : goal.returns-else-n-gt0-clause-place
 returns-else-n-gt0-clause-place c = rw (← c.self.view_is) (
@@ -27,7 +27,7 @@ returns-else-n-gt0-clause-place c = rw (← c.self.view_is) (
     let lets : c.min-n.result ≡ lets_go (flow_of c.self.inside) 0 = c.min-n.ensures ∙ (λ i. min (c.self.invariant.quantum i) (c.len.ensures.len i)) in
     let target : c.match-to.target ≡ asked c.self.inside.chain.flow c.args.to = elim c.match-to.branch [
       | in-Some w ↦ w.target-is ∙ sym (ap (asked c.self.inside.chain.flow) w.in-Some.is)
-      | in-None w ↦ w.target-is ∙ ap (λ f. buffer.Send f) c.flow.ensures ∙ sym (ap (asked c.self.inside.chain.flow) w.in-None.is)
+      | in-None w ↦ w.target-is ∙ ap buffer.Send c.flow.ensures ∙ (cc)
     ] in
     elim c.else-n-gt0.branch [
       | else-n-gt0-via-then-n-gt0+else-is_clear w ↦ sym (alone_held c.args.gates.now c.args.to (flow_of c.self.inside) alone c.self.invariant.sound.chain.order

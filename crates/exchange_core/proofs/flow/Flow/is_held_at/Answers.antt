@@ -1,24 +1,18 @@
-use Rattle.std.proofs.Common.{◌≡◌, ◌<◌, ◌≤◌, ◌∙◌, ap, arith, sym, true}
+use Rattle.std.proofs.Common.{◌≡◌, ◌<◌, ◌≤◌, ◌∙◌, arith, sym, true}
 use Rattle.exchange_core.proofs.StageSources.{send_held, stage_held}
 use Rattle.exchange_core.proofs.flow.Flow.is_held_at.Goals as goal
 use Rattle.exchange_core.specs.Flow.{last_place}
 use Rattle.exchange_core.specs.Kept.{flow_of}
 use Rattle.filter_chain.specs.Release.{is_source_at}
-use Rattle.flow_gate.specs.Board.{is_marked}
-use Rattle.flow_gate.specs.declared.ids.BufferId.TheVariants as buffer
 
 pub returns-then-place-places : goal.returns-then-place-places
 returns-then-place-places c =
     let last : c.args.place ≡ last_place (flow_of c.self.inside) = omega arith in
-    rw (← c.self.view_is) (c.is_marked.ensures
-    ∙ (ap (λ f. is_marked c.args.gates.now (buffer.Send f)) c.flow-flow.ensures
-    ∙ sym (send_held c.args.gates.now (flow_of c.self.inside) c.args.place c.requires.first last c.places.ensures.sound.order)))
+    rw (← c.self.view_is) (cc (send_held c.args.gates.now (flow_of c.self.inside) c.args.place c.requires.first last c.places.ensures.sound.order))
 
 pub returns-then-is_source : goal.returns-then-is_source
 returns-then-is_source c =
     let at_most : c.args.place ≤ last_place (flow_of c.self.inside) = rw (← c.self.view_is) at c.requires.last in
     let stage : c.args.place < last_place (flow_of c.self.inside) = omega arith in
     let source : is_source_at c.self.inside.chain c.args.place ≡ true = sym c.is_source.ensures ∙ c.if-is_source.true in
-    rw (← c.self.view_is) (c.is_marked-then-is_source.ensures
-    ∙ (ap (λ f. is_marked c.args.gates.now (buffer.Stage f c.args.place)) c.flow-flow.ensures
-    ∙ sym (stage_held c.args.gates.now (flow_of c.self.inside) c.args.place c.requires.first stage source c.places.ensures.sound.order)))
+    rw (← c.self.view_is) (cc (stage_held c.args.gates.now (flow_of c.self.inside) c.args.place c.requires.first stage source c.places.ensures.sound.order))

@@ -2,7 +2,7 @@ use Rattle.std.proofs.Common.{◌≡◌, ◌-◌, ◌<◌, ◌≤◌, ◌∙◌,
 use Rattle.exchange_core.proofs.Free.{clear_here, found_here, free_start, held_here, passed_here, target_clear, target_holds}
 use Rattle.exchange_core.proofs.flow.Flow.last_free.Goals as goal
 use Rattle.exchange_core.specs.Flow.{last_place}
-use Rattle.exchange_core.specs.Moves.{is_held_at, is_target_above, later_above, may_release}
+use Rattle.exchange_core.specs.Moves.{is_held_at, later_above, may_release}
 
 pub returns-then-is_target_above-clause-place : goal.returns-then-is_target_above-clause-place
 returns-then-is_target_above-clause-place c =

@@ -1,4 +1,4 @@
-use Rattle.std.proofs.Common.{◌∙◌, ◌<◌, ◌≤◌, arith, sym}
+use Rattle.std.proofs.Common.{◌∙◌, arith, sym}
 use Rattle.exchange_core.proofs.Ruled.{stage_releases}
 use Rattle.exchange_core.proofs.flow.Flow.may_release.Goals as goal
 use Rattle.exchange_core.specs.Kept.{flow_of}

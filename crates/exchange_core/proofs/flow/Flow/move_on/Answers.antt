@@ -2,7 +2,7 @@ use Rattle.std.proofs.Common.{◌≡◌, ◌+◌, ◌≤◌, length, subst, arit
 use Rattle.exchange_core.proofs.Holding.{lets_go_few}
 use Rattle.exchange_core.proofs.Moving.{released_kept}
 use Rattle.exchange_core.proofs.flow.Flow.move_on.Goals as goal
-use Rattle.exchange_core.specs.Flow.{Flow, octets_in}
+use Rattle.exchange_core.specs.Flow.{octets_in}
 use Rattle.exchange_core.specs.Kept.{flow_of}
 use Rattle.filter_chain.specs.Chain.{above_at}
 use Rattle.std.specs.Prelude.{IfOk}
@@ -17,8 +17,7 @@ invariant_of-self c =
 pub returns-else-place-gt0-clause-to : goal.returns-else-place-gt0-clause-to
 returns-else-place-gt0-clause-to c =
     let first : 1 ≡ c.args.place + 1 = omega arith in
-    subst (λ (flow : Flow). IfOk c.offer.result (λ shifted. shifted.to ≡ crossing (above_at flow.chain (c.args.place + 1)) (above_at c.offer.new.self (c.args.place + 1)))) c.self.view_is
-    (subst (λ k. IfOk c.offer.result (λ shifted. shifted.to ≡ crossing (above_at c.self.inside.chain k) (above_at c.offer.new.self k))) first c.offer.ensures.to)
+    rw (← c.self.view_is) (subst (λ k. IfOk c.offer.result (λ shifted. shifted.to ≡ crossing (above_at c.self.inside.chain k) (above_at c.offer.new.self k))) first c.offer.ensures.to)
 
 pub returns-then-place-gt0-clause-sound : goal.returns-then-place-gt0-clause-sound
 returns-then-place-gt0-clause-sound c = (invariant_of-self c).sound

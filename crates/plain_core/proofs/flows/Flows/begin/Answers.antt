@@ -1,7 +1,6 @@
 use Rattle.exchange_core.proofs.Outcomes.{if_ok}
 use Rattle.exchange_core.specs.Changes.{Starts}
 use Rattle.flow_gate.specs.Board.{is_open as is_there, times, watchers_of}
-use Rattle.flow_gate.specs.Changes.{Begins as BeginsFlow, Knows, Watches}
 use Rattle.std.proofs.Common.{ap, subst, ◌∙◌}
 use Rattle.tape_laws.specs.Flows.{request}
 use Rattle.flow_gate.specs.declared.ids.BufferId.TheVariants as buffer
@@ -22,9 +21,9 @@ watch-requires-2-clause-apart c =
     let old = c.args.self.now in
     ap (λ f. times f (watchers_of c.watch.new.self (buffer.Write 0))) flow
     ∙ unwatched c.args.stream old c.open_flow.new.self c.open_buffer.new.self c.watch.new.self c.requires.settled c.requires.rises
-    (subst (λ f. BeginsFlow f old.gates c.open_flow.new.self) flow (c.in_ok-open_flow.ensures {u = tt}).ok)
-    (subst (λ f. Knows (buffer.Send f) c.open_flow.new.self c.open_buffer.new.self) flow (c.in_ok-open_buffer.ensures {u = tt}).ok)
-    (subst (λ f. Watches f (buffer.Send f) c.open_buffer.new.self c.watch.new.self) flow (c.in_ok-_low.ensures {u = tt}).ok)
+    (rw (← flow) (c.in_ok-open_flow.ensures {u = tt}).ok)
+    (rw (← flow) (c.in_ok-open_buffer.ensures {u = tt}).ok)
+    (rw (← flow) (c.in_ok-_low.ensures {u = tt}).ok)
 
 pub returns : goal.returns
 returns c =
@@ -32,11 +31,11 @@ returns c =
     let flow = c.request-flow.ensures ∙ ap request number in
     let old = c.args.self.now in
     let starts = subst (λ s. Starts c.args.stream s c.args.config.now old.exchanges c.start.new.self) c.spec-spec.ensures
-    (subst (λ x. Starts x c.spec-spec.result c.args.config.now old.exchanges c.start.new.self) number (c.in_ok-exchange.ensures {u = tt}).starts) in
+    (rw (← number) (c.in_ok-exchange.ensures {u = tt}).starts) in
     if_ok _ _ _ c.watch-2.result c.watch-2.ensures.ok c.watch-2.ensures.answer (λ held watches is.
     begins c.args.stream held old c.args.config.now c.start.new.self c.open_flow.new.self c.open_buffer.new.self c.watch.new.self c.watch-2.new.self c.requires.rises c.ranges.stream.fits
     starts c.start.ensures.sound
-    (subst (λ f. BeginsFlow f old.gates c.open_flow.new.self) flow (c.in_ok-open_flow.ensures {u = tt}).ok)
-    (subst (λ f. Knows (buffer.Send f) c.open_flow.new.self c.open_buffer.new.self) flow (c.in_ok-open_buffer.ensures {u = tt}).ok)
-    (subst (λ f. Watches f (buffer.Send f) c.open_buffer.new.self c.watch.new.self) flow (c.in_ok-_low.ensures {u = tt}).ok)
-    (subst (λ f. Watches f (buffer.Write 0) c.watch.new.self c.watch-2.new.self) flow watches) c.watch-2.ensures.sound is)
+    (rw (← flow) (c.in_ok-open_flow.ensures {u = tt}).ok)
+    (rw (← flow) (c.in_ok-open_buffer.ensures {u = tt}).ok)
+    (rw (← flow) (c.in_ok-_low.ensures {u = tt}).ok)
+    (rw (← flow) watches) c.watch-2.ensures.sound is)

@@ -2,11 +2,11 @@ use Rattle.exchange_core.specs.Changes.{ChangesFlow}
 use Rattle.exchange_core.specs.Effects.{body_framed}
 use Rattle.exchange_core.specs.Exchanges.{flow_at, is_send_above}
 use Rattle.exchange_core.specs.Flow.{send as send_of}
-use Rattle.flow_gate.specs.Board.{IsSound as IsSoundBoard, is_known, is_marked, pending_on, watchers_of}
+use Rattle.flow_gate.specs.Board.{IsSound as IsSoundBoard, is_marked, pending_on, watchers_of}
 use Rattle.std.proofs.Common.{ap, subst, sym, ◌∙◌}
 use Rattle.std.specs.BTreeMap.{get}
 use Rattle.std.specs.Ordering.{nat_cmp}
-use Rattle.std.specs.Prelude.{IfSome, [], false, length, take, true, ◌++◌, ◌∷◌, ◌≡◌, ◌≤◌}
+use Rattle.std.specs.Prelude.{IfSome, [], take, true, ◌++◌, ◌∷◌, ◌≡◌}
 use Rattle.tape_laws.specs.Flows.{request}
 use Rattle.wm_buffer.specs.Buffer.{AppendsOctets}
 use Rattle.wm_buffer.specs.Watermark.{crossing}
@@ -23,8 +23,7 @@ overflow_cast-exchange c = record { fits = next_small c.args.self.now c.args.nex
 
 pub frame_unit-requires-clause-octets : goal.frame_unit-requires-clause-octets
 frame_unit-requires-clause-octets c =
-    subst (λ f. IfSome (flow_at c.args.self.now.exchanges f) (λ g. c.args.next.n ≤ length (send_of g))) (sym c.request-flow.ensures)
-    (next_octets c.args.self.now c.args.next.exchange c.args.next.n c.args.next.last c.requires.settled c.requires.next)
+    rw c.request-flow.ensures (next_octets c.args.self.now c.args.next.exchange c.args.next.n c.args.next.last c.requires.settled c.requires.next)
 
 pub returns-clause-frames : goal.returns-clause-frames
 returns-clause-frames c =
@@ -55,13 +54,10 @@ returns-clause-less c =
 
 pub mark_crossed-requires-clause-rises : goal.mark_crossed-requires-clause-rises
 mark_crossed-requires-clause-rises c = λ high.
-    subst (λ b. (is_known b (buffer.Write 0) ≡ true) × (is_marked b (buffer.Write 0) ≡ false)) (sym (ap (λ (f : Flows). f.gates) c.record_unit.ensures.rest))
-    (rise_allowed c.args.self.now c.frame_unit.new.out.above c.requires.settled (sym high ∙ (c.in_ok-shifted.ensures {u = tt}).to))
+    rw (ap (λ (f : Flows). f.gates) c.record_unit.ensures.rest) (rise_allowed c.args.self.now c.frame_unit.new.out.above c.requires.settled (sym high ∙ (c.in_ok-shifted.ensures {u = tt}).to))
 
 pub mark_crossed-requires-clause-drains : goal.mark_crossed-requires-clause-drains
 mark_crossed-requires-clause-drains c = λ low.
     let from = subst (λ f. c.in_ok-shifted.shifted.from ≡ crossing (is_send_above c.args.self.now.exchanges f) (is_send_above c.frame_unit.new.self f)) c.request-flow.ensures (c.in_ok-shifted.ensures {u = tt}).from in
-    subst (λ b. (is_marked b (buffer.Send c.request-flow.result) ≡ true) × (pending_on b (buffer.Send c.request-flow.result) ≡ []) × (watchers_of b (buffer.Send c.request-flow.result) ≡ c.request-flow.result ∷ []))
-    (sym (ap (λ (f : Flows). f.gates) c.record_unit.ensures.rest))
-    (subst (λ f. (is_marked c.args.self.now.gates (buffer.Send f) ≡ true) × (pending_on c.args.self.now.gates (buffer.Send f) ≡ []) × (watchers_of c.args.self.now.gates (buffer.Send f) ≡ f ∷ [])) (sym c.request-flow.ensures)
+    rw (ap (λ (f : Flows). f.gates) c.record_unit.ensures.rest) (subst (λ f. (is_marked c.args.self.now.gates (buffer.Send f) ≡ true) × (pending_on c.args.self.now.gates (buffer.Send f) ≡ []) × (watchers_of c.args.self.now.gates (buffer.Send f) ≡ f ∷ [])) (sym c.request-flow.ensures)
     (drain_allowed c.args.self.now c.args.next.exchange c.args.next.n c.args.next.last (is_send_above c.frame_unit.new.self (request c.args.next.exchange)) c.requires.settled c.requires.next (sym low ∙ from)))

@@ -1,9 +1,9 @@
-use Rattle.std.proofs.Common.{refl, rules, subst, sym, ◌∙◌}
+use Rattle.std.proofs.Common.{refl, rules, sym, ◌∙◌}
 use Rattle.std.specs.Prelude.{Bool, false, not, true, ◌&&◌, ◌≡◌}
 use Rattle.wm_buffer.specs.Watermark.{crossing}
 use Rattle.wm_buffer.specs.declared.watermark.Crossed.{Crossed}
 use Rattle.wm_buffer.specs.declared.watermark.Crossed.TheVariants as crossed
-use Rattle.plain_core.proofs.FlowLeaves.{DrainsWrite, leaves}
+use Rattle.plain_core.proofs.FlowLeaves.{leaves}
 use Rattle.plain_core.proofs.flows.Flows.leave.Goals as goal
 
 when_low : (a b : Bool) → crossed.Low ≡ crossing a b → true ≡ (a && not b)
@@ -21,10 +21,10 @@ pub returns-then-drained : goal.returns-then-drained
 returns-then-drained c =
     let low : c.take.result ≡ crossed.Low = search rules in
     leaves c.args.n c.eq-drained.result c.args.self.now c.take.new.self c.begin_low.new.self c.take.ensures.drops (c.if-drained.true ∙ when_low _ _ (sym low ∙ c.take.ensures.crossed))
-    (subst (λ l. DrainsWrite l c.args.self.now.gates c.begin_low.new.self) (sym c.if-drained.true) c.begin_low.ensures.drains) c.begin_low.ensures.sound
+    (rw c.if-drained.true c.begin_low.ensures.drains) c.begin_low.ensures.sound
 
 pub returns-else-drained : goal.returns-else-drained
 returns-else-drained c =
     let other : (c.take.result ≡ crossed.Low → ⊥) = search rules in
     leaves c.args.n c.eq-drained.result c.args.self.now c.take.new.self c.args.self.now.gates c.take.ensures.drops (c.if-drained.false ∙ when_not _ _ c.take.result c.take.ensures.crossed other)
-    (subst (λ l. DrainsWrite l c.args.self.now.gates c.args.self.now.gates) (sym c.if-drained.false) refl) c.requires.settled.settled.stands.gates.sound
+    (rw c.if-drained.false refl) c.requires.settled.settled.stands.gates.sound

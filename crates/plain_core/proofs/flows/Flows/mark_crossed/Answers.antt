@@ -7,7 +7,7 @@ use Rattle.flow_gate.specs.declared.ids.BufferId.TheVariants as buffer
 use Rattle.plain_core.proofs.FlowMarks.{RisesOrSame, drains_tells, not_high, not_low, risen, unrisen}
 use Rattle.plain_core.proofs.flows.Flows.mark_crossed.Goals as goal
 use Rattle.plain_core.proofs.flows.Flows.mark_crossed.Goals.{else-rose, then-rose}
-use Rattle.plain_core.specs.Crossings.{DrainsIf, RisesIf, is_high, is_low}
+use Rattle.plain_core.specs.Crossings.{DrainsIf, is_high, is_low}
 
 pub returns-then-drained-clause-marks : goal.returns-then-drained-clause-marks
 returns-then-drained-clause-marks c =
@@ -19,14 +19,13 @@ returns-then-drained-clause-marks c =
       | then-rose w ↦
           let high : c.args.shifted.to ≡ crossed.High = search rules in
           let mid : c.if-rose.self.gates ≡ w.high.new.self = ap (λ (f : Flows). f.gates) w.self-is in
-          let rise = subst (λ b. Rises (buffer.Write 0) old b) (sym mid) w.high.ensures.rises in
+          let rise = subst (Rises (buffer.Write 0) old) (sym mid) w.high.ensures.rises in
           record {
             rose = w.if-rose.true ∙ sym (ap is_high high);
             drained = drained;
             between = c.if-rose.self.gates;
-            rises = subst (λ r. RisesIf r old c.if-rose.self.gates) (sym w.if-rose.true) rise;
-            drains = subst (λ r. DrainsIf r c.args.flow c.if-rose.self.gates c.next_low-flow.new.self) (sym c.if-drained.true)
-                (drains_tells c.args.flow c.next_low-flow.result old c.if-rose.self.gates c.begin_low.new.self c.next_low-flow.new.self (risen (buffer.Write 0) old c.if-rose.self.gates rise)
+            rises = rw w.if-rose.true rise;
+            drains = rw c.if-drained.true (drains_tells c.args.flow c.next_low-flow.result old c.if-rose.self.gates c.begin_low.new.self c.next_low-flow.new.self (risen (buffer.Write 0) old c.if-rose.self.gates rise)
                 c.begin_low.ensures.drains k.1 k.2 c.next_low-flow.ensures.none c.next_low-flow.ensures.tells);
           }
       | else-rose w ↦
@@ -36,9 +35,8 @@ returns-then-drained-clause-marks c =
             rose = w.if-rose.false ∙ sym (not_high c.args.shifted.to other);
             drained = drained;
             between = c.if-rose.self.gates;
-            rises = subst (λ r. RisesIf r old c.if-rose.self.gates) (sym w.if-rose.false) mid;
-            drains = subst (λ r. DrainsIf r c.args.flow c.if-rose.self.gates c.next_low-flow.new.self) (sym c.if-drained.true)
-                (drains_tells c.args.flow c.next_low-flow.result old c.if-rose.self.gates c.begin_low.new.self c.next_low-flow.new.self (subst (λ b. RisesOrSame old b) (sym mid) (unrisen old))
+            rises = rw w.if-rose.false mid;
+            drains = rw c.if-drained.true (drains_tells c.args.flow c.next_low-flow.result old c.if-rose.self.gates c.begin_low.new.self c.next_low-flow.new.self (subst (λ b. RisesOrSame old b) (sym mid) (unrisen old))
                 c.begin_low.ensures.drains k.1 k.2 c.next_low-flow.ensures.none c.next_low-flow.ensures.tells);
           }
     ]
@@ -57,7 +55,7 @@ returns-else-drained-clause-marks c =
             rose = w.if-rose.true ∙ sym (ap is_high high);
             drained = drained;
             between = c.if-rose.self.gates;
-            rises = subst (λ r. RisesIf r old c.if-rose.self.gates) (sym w.if-rose.true) (subst (λ b. Rises (buffer.Write 0) old b) (sym mid) w.high.ensures.rises);
+            rises = rw w.if-rose.true (subst (λ b. Rises (buffer.Write 0) old b) (sym mid) w.high.ensures.rises);
             drains = drains;
           }
       | else-rose w ↦
@@ -66,7 +64,7 @@ returns-else-drained-clause-marks c =
             rose = w.if-rose.false ∙ sym (not_high c.args.shifted.to other);
             drained = drained;
             between = c.if-rose.self.gates;
-            rises = subst (λ r. RisesIf r old c.if-rose.self.gates) (sym w.if-rose.false) (ap (λ (f : Flows). f.gates) w.self-is);
+            rises = rw w.if-rose.false (ap (λ (f : Flows). f.gates) w.self-is);
             drains = drains;
           }
     ]

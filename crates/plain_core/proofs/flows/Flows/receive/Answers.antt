@@ -10,7 +10,6 @@ use Rattle.plain_core.proofs.FlowFits.{receives}
 use Rattle.plain_core.proofs.FlowHolds.{held_more, held_same}
 use Rattle.plain_core.proofs.flows.Flows.receive.Goals as goal
 use Rattle.plain_core.proofs.flows.Flows.receive.Goals.{else-eq-via-else-eq, else-eq-via-then-eq+else-not-is_empty}
-use Rattle.plain_core.specs.Carries.{Receives}
 
 pub returns-in_ok-hold : goal.returns-in_ok-hold
 returns-in_ok-hold c =
@@ -21,8 +20,7 @@ returns-in_ok-hold c =
     let is : came.result ≡ received.Arrived = search rules in
     let said = subst (λ f. came.result ≡ received_by (length octets) (flow_at old.exchanges f)) c.request.ensures came.ensures.answer in
     let change = subst (λ f. IsLiveFlow old.exchanges f → ChangesFlow f (received_octets octets) old.exchanges came.new.self) c.request.ensures came.ensures.flow in
-    subst (λ v. Receives x octets came.result old v) (sym c.hold.ensures.rest)
-    (receives x octets old came.new.self c.hold.new.self.holding came.result said c.requires.goes_on change came.ensures.same came.ensures.sound
+    rw c.hold.ensures.rest (receives x octets old came.new.self c.hold.new.self.holding came.result said c.requires.goes_on change came.ensures.same came.ensures.sound
     (λ a y. (c.in_ok-hold.ensures {u = tt}).holding y ∙ held_more (x == y) (contains nat_cmp old.holding y) octets (sym c.is_empty.ensures ∙ c.if-not-is_empty.true)) (λ other. absurd (other is)))
 
 pub returns-else-eq : goal.returns-else-eq

@@ -11,14 +11,13 @@ use Rattle.plain_laws.proofs.Counts.{is_live_is}
 use Rattle.std.proofs.Common.{ap, refl, rules, subst, sym, ◌∙◌}
 use Rattle.std.specs.BTreeMap.{get}
 use Rattle.std.specs.Ordering.{nat_cmp}
-use Rattle.std.specs.Prelude.{IsNone, Option, Some, false, if◌then◌else◌, option_map, true, ℕ, ◌==◌, ◌≡◌}
+use Rattle.std.specs.Prelude.{IsNone, Option, Some, if◌then◌else◌, option_map, ℕ, ◌==◌, ◌≡◌}
 use Rattle.tape_laws.specs.Flows.{request}
-use Rattle.wm_buffer.specs.declared.watermark.Crossed.{Crossed}
 use Rattle.wm_buffer.specs.declared.watermark.Crossed.TheVariants as crossed
 use Rattle.plain_core.specs.Flows.{piece_of}
 use Rattle.plain_core.specs.declared.flows.Flows.{Flows}
 use Rattle.flow_gate.specs.declared.ids.BufferId.TheVariants as buffer
-use Rattle.plain_core.proofs.FlowSteps.{RisesSend, found_lives, high_allowed, idle_less_all, idles_all, moves_all, moves_less_all, no_step, stay_less_all, stays_all, step_found}
+use Rattle.plain_core.proofs.FlowSteps.{RisesSend, found_lives, high_allowed, idle_less_all, idles_all, moves_all, no_step, stay_less_all, stays_all, step_found}
 use Rattle.plain_core.proofs.FlowParts.{room_is}
 use Rattle.plain_core.proofs.FlowUnits.{piece_seen, unit_named}
 use Rattle.plain_core.proofs.flows.Flows.step.Goals as goal
@@ -94,44 +93,32 @@ returns c =
     let change = subst (λ f. ChangesFlow f (stepped old.gates (target_of old.exchanges f)) old.exchanges ex) c.request-flow.ensures (c.in_ok-step.ensures {u = tt}).flow in
     let moved = ap (λ (v : MoveStep). Some v) (sym c.in-Moved.is) ∙ is in
     let unit = unit_of c.in_ok-step.field-0 c.in-Some.field-0 _ c.in-Some.is (c.in_ok-step.ensures {u = tt}).unit in
-    record {
-      steps = elim c.if-rose.branch [
-        | then-rose w ↦
-            let mid = w.self-is ∙ ap (λ (f : Flows). record f { gates = w.high.new.self }) c.record_left.ensures.rest in
-            let high : c.in-Moved.shifted.to ≡ crossed.High = search rules in
-            moves_all x c.in-Moved.place c.in-Moved.n c.in-Moved.shifted c.in-Moved.overflow c.eq-rose.result old c.record_unit.new.self ex w.high.new.self c.record_left.new.self.holding moved change c.advance.ensures.sound
-            (w.if-rose.true ∙ sym (ap is_high high))
-            (subst (λ r. RisesSend r x old.gates w.high.new.self) (sym w.if-rose.true) (subst (λ f. Rises (buffer.Send f) old.gates w.high.new.self) c.request-flow.ensures
-            (subst (λ b. Rises (buffer.Send c.request-flow.result) b w.high.new.self) (ap (λ (f : Flows). f.gates) c.record_left.ensures.rest) w.high.ensures.rises)))
-            (λ was. w.high.ensures.sound)
-            (with_ready c.record_unit.ensures.rest mid)
-            (piece_seen (record old { exchanges = ex; gates = w.high.new.self; holding = c.record_left.new.self.holding }) x c.in-Some.field-0.unit (get nat_cmp old.conn.ready) (get nat_cmp c.record_unit.new.self.conn.ready)
-            (unit_named (record old { exchanges = ex; gates = w.high.new.self; holding = c.record_left.new.self.holding }) x c.request-flow.result _ c.in-Some.field-0.unit c.request-flow.ensures (room_is old c.from.result c.requires c.from.ensures) unit)
-            (subst (λ (f : Flows). (y : ℕ) → get nat_cmp c.record_unit.new.self.conn.ready y ≡ (if x == y then piece_of c.in-Some.field-0.unit else get nat_cmp f.conn.ready y)) mid (c.in_ok-record_unit.ensures {u = tt}).ready))
-            c.record_left.ensures.holding
-        | else-rose w ↦
-            let mid = w.self-is ∙ c.record_left.ensures.rest in
-            let other : (c.in-Moved.shifted.to ≡ crossed.High → ⊥) = search rules in
-            moves_all x c.in-Moved.place c.in-Moved.n c.in-Moved.shifted c.in-Moved.overflow c.eq-rose.result old c.record_unit.new.self ex old.gates c.record_left.new.self.holding moved change c.advance.ensures.sound
-            (w.if-rose.false ∙ sym (not_high c.in-Moved.shifted.to other))
-            (subst (λ r. RisesSend r x old.gates old.gates) (sym w.if-rose.false) refl)
-            (λ was. was)
-            (with_ready c.record_unit.ensures.rest mid)
-            (piece_seen (record old { exchanges = ex; holding = c.record_left.new.self.holding }) x c.in-Some.field-0.unit (get nat_cmp old.conn.ready) (get nat_cmp c.record_unit.new.self.conn.ready)
-            (unit_named (record old { exchanges = ex; holding = c.record_left.new.self.holding }) x c.request-flow.result _ c.in-Some.field-0.unit c.request-flow.ensures (room_is old c.from.result c.requires c.from.ensures) unit)
-            (subst (λ (f : Flows). (y : ℕ) → get nat_cmp c.record_unit.new.self.conn.ready y ≡ (if x == y then piece_of c.in-Some.field-0.unit else get nat_cmp f.conn.ready y)) mid (c.in_ok-record_unit.ensures {u = tt}).ready))
-            c.record_left.ensures.holding
-      ];
-      less = elim c.if-rose.branch [
-        | then-rose w ↦
-            let mid = w.self-is ∙ ap (λ (f : Flows). record f { gates = w.high.new.self }) c.record_left.ensures.rest in
-            moves_less_all x c.in-Moved.place c.in-Moved.n c.in-Moved.shifted c.in-Moved.overflow true old c.record_unit.new.self ex w.high.new.self c.record_left.new.self.holding c.requires moved change
-            c.advance.ensures.sound (subst (λ f. Rises (buffer.Send f) old.gates w.high.new.self) c.request-flow.ensures
-            (subst (λ b. Rises (buffer.Send c.request-flow.result) b w.high.new.self) (ap (λ (f : Flows). f.gates) c.record_left.ensures.rest) w.high.ensures.rises))
-            (with_ready c.record_unit.ensures.rest mid)
-        | else-rose w ↦
-            let mid = w.self-is ∙ c.record_left.ensures.rest in
-            moves_less_all x c.in-Moved.place c.in-Moved.n c.in-Moved.shifted c.in-Moved.overflow false old c.record_unit.new.self ex old.gates c.record_left.new.self.holding c.requires moved change
-            c.advance.ensures.sound refl (with_ready c.record_unit.ensures.rest mid)
-      ];
-    }
+    elim c.if-rose.branch [
+      | then-rose w ↦
+          let mid = w.self-is ∙ ap (λ (f : Flows). record f { gates = w.high.new.self }) c.record_left.ensures.rest in
+          let high : c.in-Moved.shifted.to ≡ crossed.High = search rules in
+          let both = moves_all x c.in-Moved.place c.in-Moved.n c.in-Moved.shifted c.in-Moved.overflow c.eq-rose.result old c.record_unit.new.self ex w.high.new.self c.record_left.new.self.holding c.requires moved change c.advance.ensures.sound
+          (w.if-rose.true ∙ sym (ap is_high high))
+          (subst (λ r. RisesSend r x old.gates w.high.new.self) (sym w.if-rose.true) (subst (λ f. Rises (buffer.Send f) old.gates w.high.new.self) c.request-flow.ensures
+          (subst (λ b. Rises (buffer.Send c.request-flow.result) b w.high.new.self) (ap (λ (f : Flows). f.gates) c.record_left.ensures.rest) w.high.ensures.rises)))
+          (λ was. w.high.ensures.sound)
+          (with_ready c.record_unit.ensures.rest mid)
+          (piece_seen (record old { exchanges = ex; gates = w.high.new.self; holding = c.record_left.new.self.holding }) x c.in-Some.field-0.unit (get nat_cmp old.conn.ready) (get nat_cmp c.record_unit.new.self.conn.ready)
+          (unit_named (record old { exchanges = ex; gates = w.high.new.self; holding = c.record_left.new.self.holding }) x c.request-flow.result _ c.in-Some.field-0.unit c.request-flow.ensures (room_is old c.from.result c.requires c.from.ensures) unit)
+          (subst (λ (f : Flows). (y : ℕ) → get nat_cmp c.record_unit.new.self.conn.ready y ≡ (if x == y then piece_of c.in-Some.field-0.unit else get nat_cmp f.conn.ready y)) mid (c.in_ok-record_unit.ensures {u = tt}).ready))
+          c.record_left.ensures.holding in
+          record { steps = both.0; less = both.1 }
+      | else-rose w ↦
+          let mid = w.self-is ∙ c.record_left.ensures.rest in
+          let other : (c.in-Moved.shifted.to ≡ crossed.High → ⊥) = search rules in
+          let both = moves_all x c.in-Moved.place c.in-Moved.n c.in-Moved.shifted c.in-Moved.overflow c.eq-rose.result old c.record_unit.new.self ex old.gates c.record_left.new.self.holding c.requires moved change c.advance.ensures.sound
+          (w.if-rose.false ∙ sym (not_high c.in-Moved.shifted.to other))
+          (subst (λ r. RisesSend r x old.gates old.gates) (sym w.if-rose.false) refl)
+          (λ was. was)
+          (with_ready c.record_unit.ensures.rest mid)
+          (piece_seen (record old { exchanges = ex; holding = c.record_left.new.self.holding }) x c.in-Some.field-0.unit (get nat_cmp old.conn.ready) (get nat_cmp c.record_unit.new.self.conn.ready)
+          (unit_named (record old { exchanges = ex; holding = c.record_left.new.self.holding }) x c.request-flow.result _ c.in-Some.field-0.unit c.request-flow.ensures (room_is old c.from.result c.requires c.from.ensures) unit)
+          (subst (λ (f : Flows). (y : ℕ) → get nat_cmp c.record_unit.new.self.conn.ready y ≡ (if x == y then piece_of c.in-Some.field-0.unit else get nat_cmp f.conn.ready y)) mid (c.in_ok-record_unit.ensures {u = tt}).ready))
+          c.record_left.ensures.holding in
+          record { steps = both.0; less = both.1 }
+    ]

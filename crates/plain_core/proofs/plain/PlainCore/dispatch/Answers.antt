@@ -1,4 +1,4 @@
--- A dispatch, unless an earlier one met want of memory.
+-- A dispatch, unless an earlier one ran out of memory.
 use Rattle.plain_core.proofs.Fronts.{no_turn}
 use Rattle.plain_core.proofs.plain.PlainCore.dispatch.Goals as goal
 

@@ -1,11 +1,8 @@
 -- The octets that wait are those of the connection's write buffer.
-use Rattle.std.proofs.Common.{subst, sym}
-use Rattle.std.specs.Prelude.{List, length, take, ℕ, ◌<◌, ◌≡◌}
-use Rattle.plain_core.specs.Stands.{Rests, WaitsInFront}
 use Rattle.plain_core.proofs.plain.PlainCore.out_front.Goals as goal
 
 pub returns : goal.returns
 returns c = record {
-  front = λ limits h r. subst (λ octets. c.front.result.now ≡ take (length c.front.result.now) octets) r.good.flows.stands.conn.octets c.front.ensures.prefix;
-  some = λ limits h r more. c.front.ensures.nonempty (subst (λ octets. 0 < length octets) (sym r.good.flows.stands.conn.octets) more);
+  front = λ limits h r. rw (← r.good.flows.stands.conn.octets) c.front.ensures.prefix;
+  some = λ limits h r more. c.front.ensures.nonempty (rw r.good.flows.stands.conn.octets more);
 }

@@ -1,24 +1,26 @@
--- More came than the receive buffer has room for: a turn note, and the doom.
 use Rattle.flow_notes.specs.declared.notes.Cause.TheVariants as cause
 use Rattle.plain_core.proofs.EventBody.{over_any}
 use Rattle.plain_core.proofs.EventOpens.{number_given, opened_given}
-use Rattle.plain_core.proofs.Fronts.{opens_after, turn_after, turn_refused}
 use Rattle.plain_core.specs.Noting.{doom_of}
 use Rattle.plain_core.proofs.plain.PlainCore.overrun.Goals as goal
+use Rattle.plain_core.proofs.Fronts.{Opened, turn_refused}
+use Rattle.plain_core.proofs.EventResults.{event_result}
+use Rattle.plain_core.proofs.plain.PlainCore.overrun.Goals.{After-note_turn}
+
+-- More came than the receive buffer has room for: a turn note, and the doom.
+
+opened : (c : After-note_turn) → Opened c.args.self.now c.in_ok-number.number c.args.event (doom_of c.give_up-gives_up.result c.args.exchange (cause.StreamError 3)) c.open_turn.new.self
+opened c =
+    over_any c.args.self.now c.open_turn.new.self c.args.exchange c.in_ok-number.number c.args.event c.give_up-gives_up.result c.give_up-gives_up.new.self.flows
+    (opened_given c.args.self.now c.give_up-gives_up.new.self c.open_turn.new.self c.give_up-gives_up.ensures.rest c.in_ok-number.ensures.turn c.in_ok-number.ensures.agenda c.open_turn.ensures.rest)
+    c.requires.lives c.requires.over.is c.give_up-gives_up.ensures.flows
+    (number_given c.args.self.now c.give_up-gives_up.new.self c.in_ok-number.number c.give_up-gives_up.ensures.rest c.in_ok-number.ensures.number)
 
 pub returns-in_err-note_turn-clause-cut : goal.returns-in_err-note_turn-clause-cut
 returns-in_err-note_turn-clause-cut c =
-    turn_refused c.args.self.now c.open_turn.new.self _ _ c.in_ok-number.number c.args.event (doom_of c.give_up-gives_up.result c.args.exchange (cause.StreamError 3)) c.in_err-note_turn.ensures
-    (over_any c.args.self.now c.open_turn.new.self c.args.exchange c.in_ok-number.number c.args.event c.give_up-gives_up.result c.give_up-gives_up.new.self.flows
-    (opened_given c.args.self.now c.give_up-gives_up.new.self c.open_turn.new.self c.give_up-gives_up.ensures.rest c.in_ok-number.ensures.turn c.in_ok-number.ensures.agenda c.open_turn.ensures.rest)
-    c.requires.lives c.requires.over.is c.give_up-gives_up.ensures.flows
-    (number_given c.args.self.now c.give_up-gives_up.new.self c.in_ok-number.number c.give_up-gives_up.ensures.rest c.in_ok-number.ensures.number))
+    turn_refused c.args.self.now c.open_turn.new.self _ _ c.in_ok-number.number c.args.event _ c.in_err-note_turn.ensures (opened (goal.at.returns-in_err-note_turn-clause-cut c).After-note_turn)
 
 pub returns : goal.returns
 returns c =
-    let s = doom_of c.give_up-gives_up.result c.args.exchange (cause.StreamError 3) in
-    let r = over_any c.args.self.now c.open_turn.new.self c.args.exchange c.in_ok-number.number c.args.event c.give_up-gives_up.result c.give_up-gives_up.new.self.flows (opened_given c.args.self.now c.give_up-gives_up.new.self c.open_turn.new.self c.give_up-gives_up.ensures.rest c.in_ok-number.ensures.turn c.in_ok-number.ensures.agenda c.open_turn.ensures.rest) c.requires.lives c.requires.over.is c.give_up-gives_up.ensures.flows (number_given c.args.self.now c.give_up-gives_up.new.self c.in_ok-number.number c.give_up-gives_up.ensures.rest c.in_ok-number.ensures.number) in
-    record {
-      ok = opens_after c.args.self.now c.open_turn.new.self _ _ _ c.in_ok-number.number c.args.event s c.note_doom.result c.in_ok-note_turn.ensures c.note_doom.ensures r;
-      cut = turn_after c.args.self.now c.open_turn.new.self _ _ _ c.in_ok-number.number c.args.event s c.note_doom.result c.in_ok-note_turn.ensures c.note_doom.ensures r;
-    }
+    let r = event_result c.args.self.now c.open_turn.new.self _ _ _ c.in_ok-number.number c.args.event _ c.note_doom.result c.in_ok-note_turn.ensures c.note_doom.ensures (opened (goal.at.returns c).After-note_turn) in
+    record { ok = r.0; cut = r.1 }

@@ -108,7 +108,7 @@ overflow_sub-rest c = let room_same : to_z w64 (of_z w64 c.args.room) ≡ c.args
     let fits_raw : SFits w64 (to_z w64 (of_z w64 c.args.room) -ℤ to_z w64 (of_z w64 c.from.result)) = subst (SFits w64) (sym gap) fits in
     fits_raw
 
--- ---- want of memory
+-- ---- out of memory
 pub invariant_of-self : goal.invariant_of-self
 invariant_of-self c = (done_same 0 (flows_of c.self.inside) c.frame_unit.new.self c.self.invariant (c.in_err-shifted.ensures {u = tt}).err.0).sound
 

@@ -11,7 +11,7 @@ use Rattle.wire_flows.specs.declared.moving.Outcome.TheVariants as outcome
 pub advance-requires : goal.advance-requires
 advance-requires c = record { «open» = λ live. c.self.invariant.there c.args.flow ∙ live }
 
--- ---- want of memory
+-- ---- out of memory
 pub invariant_of-self : goal.invariant_of-self
 invariant_of-self c = (same_leaves c.args.flow (flows_of c.self.inside) c.advance.new.self c.self.invariant (c.in_err-step.ensures {u = tt}).err).sound
 

@@ -1,0 +1,12 @@
+pub mod Balance
+pub mod Endings
+pub mod Facts
+pub mod Fitting
+pub mod Laws
+pub mod Made
+pub mod Octets
+pub mod Rest
+pub mod Steps
+pub mod Suits
+pub mod Tellings
+pub mod Ways

@@ -1,0 +1,111 @@
+// The lines of a relay's session, each of which is dispatched.
+ghost use Rattle.std.specs.List.{AllByRecursion};
+ghost use Rattle.std.specs.Prelude.{◌≡◌, ◌++◌, OnOk, OnErr};
+ghost use Rattle.flow_notes.specs.Note.{IsNote};
+ghost use Rattle.tape_summary.specs.NotesText.{notes_text};
+
+use crate::relay_log::RelayLog;
+use crate::summary::write_relay_summary;
+use flow_notes::{Event, Names, Notes};
+use io_ports::{NoMemory, Octets};
+use proxy_config::Config;
+use session_config::names_of;
+use session_lines::{LineRead, WireLines};
+use session_run::{Player, Went};
+use std::alloc::Global;
+use tape_summary::tell;
+use tcp_relay::{Relay, RelayFault};
+
+/// A relay's session under way: what its lines say of the next one, the relay, and what the summary tells of the tape so far.
+#[derive(Drop)]
+pub struct RelayPlay {
+    pub alloc: Global,
+    pub lines: WireLines,
+    pub relay: Relay,
+    pub log: RelayLog,
+    pub notes: Notes,
+}
+
+impl RelayPlay {
+    ghost use Rattle.std.specs.Prelude.{◌≡◌, IfOk, List, Ok, ℕ};
+    ghost use Rattle.proxy_config.specs.Reading.{config_of};
+    ghost use Rattle.relay_run.specs.Played.{CanTake, PlaysEvent, relay_kind};
+    ghost use Rattle.session_run.specs.Runs.{Begins};
+
+    /// Before the first line of a session under this configuration.
+    pub fn new(alloc: Global, config: &Config) -> Result<Self, NoMemory>
+        ensures { IfOk result (λ play. (text : List ℕ) → config_of text ≡ Ok config.now → Begins relay_kind play text) }
+    {
+        let names = names_of(alloc, config)?;
+        names.known();
+        let resources = config.overload.resources.as_slice().len();
+        let limit = config.limits.write_buffer;
+        Ok(RelayPlay {
+            alloc,
+            lines: WireLines::new(alloc, names, resources),
+            relay: Relay::new(alloc, limit),
+            log: RelayLog::new(alloc, limit),
+            notes: Notes::new(alloc),
+        })
+    }
+
+    // Dispatches an event and appends its notes, or leaves the text as it was.
+    fn event(&mut self, event: &Event, text: &mut Octets) -> Result<Went, NoMemory>
+        requires { CanTake self.old event.now }
+        ensures { PlaysEvent self.old event.now text.old self.new text.new result }
+    {
+        self.notes.clear();
+        match self.relay.dispatch(event, &mut self.notes) {
+            Ok(()) => {
+                self.log.note_all(&self.notes)?;
+                append_notes(&self.notes, self.lines.names(), text)?;
+                Ok(Went::On)
+            }
+            Err(RelayFault::Paused { .. }) => Ok(Went::Refused),
+            Err(_) => Err(NoMemory),
+        }
+    }
+}
+
+impl Player for RelayPlay {
+    ghost use Rattle.relay_run.specs.Played as spec;
+
+    ghost stands = { spec.Played };
+
+    ghost refuses = { spec.RefusesLine };
+
+    ghost can_end = { spec.can_end };
+
+    ghost sums = { spec.SumsPlay };
+
+    fn line(&mut self, line: &[u8], text: &mut Octets) -> Result<Went, NoMemory> {
+        match self.lines.read(line)? {
+            LineRead::Header => Ok(Went::On),
+            LineRead::Event(event) => self.event(&event, text),
+            LineRead::Limits(_) => Ok(Went::Refused),
+            LineRead::Refused => Ok(Went::Refused),
+        }
+    }
+
+    fn may_end(&self) -> bool {
+        self.lines.is_playing()
+    }
+
+    fn summarize(&mut self, text: &mut Octets) -> Result<(), NoMemory> {
+        write_relay_summary(self.alloc, &self.log, text)
+    }
+}
+
+/// Appends the lines of all notes, or nothing.
+pub fn append_notes(notes: &Notes, names: &Names, text: &mut Octets) -> Result<(), NoMemory>
+    requires { AllByRecursion (IsNote names.now) notes.now }
+    ensures ok { OnOk result (text.new ≡ text.old ++ notes_text names.now notes.now) }
+    ensures err { OnErr result (text.new ≡ text.old) }
+{
+    let whole = text.len();
+    if let Err(error) = tell(notes, names, text) {
+        text.truncate(whole);
+        return Err(error);
+    }
+    Ok(())
+}

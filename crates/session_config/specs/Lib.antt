@@ -1,0 +1,3 @@
+pub mod ClusterNames
+pub mod Loading
+pub mod Refusals

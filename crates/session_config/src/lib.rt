@@ -1,0 +1,11 @@
+//! The configuration of a session, read from a source, and what is told where it is refused.
+#![tactic(auto)]
+
+mod key;
+mod load;
+mod names;
+mod refusal;
+
+pub use load::{ConfigEnd, load_config};
+pub use names::names_of;
+pub use refusal::{put_key, put_refusal};

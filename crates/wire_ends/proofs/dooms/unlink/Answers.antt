@@ -1,0 +1,37 @@
+use Rattle.std.proofs.Common.{ap, arith, subst, sym, ◌∙◌}
+use Rattle.std.specs.Prelude.{is_some, length, ℕ, ◌≤◌}
+use Rattle.wire_ends.proofs.Unlinking.{live_doomed}
+use Rattle.wire_ends.proofs.dooms.unlink.Goals as goal
+use Rattle.wire_flows.specs.Flows.{is_live_in}
+use Rattle.wire_links.specs.Links.{Links, ends_of}
+use Rattle.wire_state.proofs.Timing.{gone_fewer}
+use Rattle.wire_state.specs.Progress.{to_go}
+use Rattle.wire_timers.specs.Armed.{Timeouts}
+
+pub doom-doomed-requires : goal.doom-doomed-requires
+doom-doomed-requires c = sym (c.requires.sound.live c.args.exchange) ∙ ap is_some (sym c.in-Some.ensures)
+
+pub returns-clause-sound : goal.returns-clause-sound
+returns-clause-sound c =
+    let t = ap (λ (v : Timeouts). v.latest) c.drop_exchange.ensures in
+    let linked = λ (y : ℕ). ap (λ (l : Links). is_some (ends_of y l)) c.doom.ensures.gone in
+    record {
+      range = c.requires.sound.range;
+      moment = c.requires.sound.moment;
+      armed = omega (arith, t, c.requires.sound.armed);
+      metered = subst (λ (m : ℕ). m ≤ c.args.core.now.now) (sym c.doom-doomed.ensures.time) c.requires.sound.metered;
+      live = λ y. linked y ∙ live_doomed c.args.exchange c.args.core.now.links (is_live_in c.args.core.now.flows) (is_live_in c.doom-doomed.new.self) c.are_sound.ensures c.requires.sound.live c.doom-doomed.ensures.live y;
+      kept = c.requires.sound.kept;
+    }
+
+pub returns-clause-go : goal.returns-clause-go
+unfolding to_go
+returns-clause-go c =
+    let f = ap (λ (t : Timeouts). length t.armed) c.drop_exchange.ensures in
+    omega (arith, f, c.doom-doomed.ensures.less, gone_fewer c.args.exchange c.args.core.now.timers)
+
+pub returns-clause-less : goal.returns-clause-less
+unfolding to_go
+returns-clause-less c =
+    let f = ap (λ (t : Timeouts). length t.armed) c.drop_exchange.ensures in
+    omega (arith, f, c.doom-doomed.ensures.less, gone_fewer c.args.exchange c.args.core.now.timers)

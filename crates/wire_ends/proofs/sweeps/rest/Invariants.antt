@@ -1,0 +1,15 @@
+use Rattle.std.specs.Prelude.{length}
+use Rattle.wire_ends.proofs.sweeps.rest.Given as goal
+use Rattle.wire_state.specs.Sound.{IsSound}
+
+abbrev pub invariant-loop-exchange : goal.invariant-loop-exchange
+invariant-loop-exchange l = IsSound l.core
+
+abbrev pub decreases-loop-exchange : goal.decreases-loop-exchange
+decreases-loop-exchange l = length l.core.load.touched
+
+abbrev pub invariant-loop-conn : goal.invariant-loop-conn
+invariant-loop-conn l = IsSound l.core
+
+abbrev pub decreases-loop-conn : goal.decreases-loop-conn
+decreases-loop-conn l = length l.core.stirred.conns.keys

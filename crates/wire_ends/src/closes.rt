@@ -1,0 +1,271 @@
+// Closes: a connection is given up, with a GOAWAY where one goes, and its exchanges are lost; and the GOAWAY before, by
+// which a connection begins to drain (RFC 9113 section 6.8).
+ghost use Rattle.std.specs.Prelude.{◌≡◌, ◌≤◌, ◌<◌, ◌+◌, ◌^◌, IfSome, OnOk, true};
+ghost use Rattle.wire_state.specs.Agenda.{top_go};
+ghost use Rattle.wire_state.specs.Noting.{Appends};
+ghost use Rattle.wire_state.specs.Progress.{to_go};
+ghost use Rattle.wire_state.specs.Sound.{IsSound, is_open_at};
+
+use crate::dooms::doom;
+use crate::lists::{append, flood};
+use flow_notes::{Cause, CloseCause, FireKind, Note, Notes};
+use h2_frames::codes::NO_ERROR;
+use io_ports::{NoMemory, Octets};
+use wire_outlet::{Control, Waiting};
+use wire_state::{Task, WireCore, note, note_answer};
+use wm_buffer::Crossed;
+
+/// The task Close: the connection is closed, unless it is.
+pub fn close_task(
+    core: &mut WireCore,
+    conn: u32,
+    code: u32,
+    cause: CloseCause,
+    notes: &mut Notes,
+) -> Result<(), NoMemory>
+    requires sound { IsSound core.old }
+    requires top { top_go core.old.agenda ≡ 1 }
+    ensures sound { OnOk result (IsSound core.new) }
+    ensures go { OnOk result (to_go core.new < to_go core.old) }
+    ensures notes { Appends notes.old notes.new }
+{
+    core.end_task();
+    close(core, conn, code, cause, notes)
+}
+
+/// Closes a connection, unless it is closed; its exchanges are lost next.
+pub fn close(
+    core: &mut WireCore,
+    number: u32,
+    code: u32,
+    cause: CloseCause,
+    notes: &mut Notes,
+) -> Result<(), NoMemory>
+    requires sound { IsSound core.old }
+    ensures sound { OnOk result (IsSound core.new) }
+    ensures go { OnOk result (to_go core.new ≤ to_go core.old) }
+    ensures less { is_open_at number core.old ≡ true → OnOk result (to_go core.new < to_go core.old) }
+    ensures notes { Appends notes.old notes.new }
+{
+    if !core.is_open(number) {
+        return Ok(());
+    }
+    shut(core, number);
+    say_farewell(core, number, code, cause, notes)?;
+    core.stir(number)?;
+    core.disarm(FireKind::ConnectionIdle, u64::from(number));
+    core.begin(Task::Losses {
+        conn: number,
+        last: None,
+    })?;
+    note(
+        notes,
+        Note::Close {
+            conn: number,
+            code,
+            cause,
+        },
+    )
+}
+
+// Whether the peer is told of a close by a GOAWAY.
+fn is_told(cause: CloseCause) -> bool {
+    matches!(
+        cause,
+        CloseCause::Protocol | CloseCause::Idle | CloseCause::Flood
+    )
+}
+
+// The GOAWAY of a close, where the peer is told and the write buffer isn't above. It names the last stream of the first GOAWAY, where the connection is
+// draining, and 0 towards a cluster.
+fn say_farewell(
+    core: &mut WireCore,
+    number: u32,
+    code: u32,
+    cause: CloseCause,
+    notes: &mut Notes,
+) -> Result<(), NoMemory>
+    requires sound { IsSound core.old }
+    ensures sound { OnOk result (IsSound core.new) }
+    ensures go { OnOk result (to_go core.new ≤ to_go core.old) }
+    ensures notes { Appends notes.old notes.new }
+{
+    if !is_told(cause) {
+        return Ok(());
+    }
+    let Some((octets, crossed)) = write_farewell(core, number, code)? else {
+        return Ok(());
+    };
+    note_answer(notes, number, octets)?;
+    if crossed == Crossed::High {
+        return core.rise(number, notes);
+    }
+    Ok(())
+}
+
+// The GOAWAY goes into the write buffer, unless that is above.
+fn write_farewell(
+    core: &mut WireCore,
+    number: u32,
+    code: u32,
+) -> Result<Option<(Octets, Crossed)>, NoMemory>
+    requires sound { IsSound core.old }
+    ensures sound { OnOk result (IsSound core.new) }
+    ensures go { to_go core.new ≤ to_go core.old }
+{
+    match core.conns.get_mut(&number) {
+        Some(conn) => conn.farewell(code),
+        None => Ok(None),
+    }
+}
+
+// From now on the connection isn't open, and nothing waits.
+fn shut(core: &mut WireCore, number: u32)
+    requires sound { IsSound core.old }
+    requires open { is_open_at number core.old ≡ true }
+    ensures sound { IsSound core.new }
+    ensures go { to_go core.new + 4 ≤ to_go core.old }
+{
+    core.links.close(number);
+    match core.conns.get_mut(&number) {
+        Some(conn) => conn.shut(),
+        None => {}
+    }
+}
+
+/// A connection is lost: it is closed, and its octets go nowhere. Where they held flows back, these are never told: their
+/// exchanges are lost too.
+pub fn lose(core: &mut WireCore, number: u32, notes: &mut Notes) -> Result<(), NoMemory>
+    requires sound { IsSound core.old }
+    ensures sound { OnOk result (IsSound core.new) }
+    ensures notes { Appends notes.old notes.new }
+{
+    if !core.is_open(number) {
+        return Ok(());
+    }
+    close(core, number, 0, CloseCause::Lost, notes)?;
+    lose_octets(core, number);
+    Ok(())
+}
+
+// The octets of a connection go nowhere.
+fn lose_octets(core: &mut WireCore, number: u32)
+    requires sound { IsSound core.old }
+    ensures sound { IsSound core.new }
+{
+    if !drop_octets(core, number) {
+        return;
+    }
+    core.flows.write_drained(number);
+}
+
+// The answer is whether the write buffer was above.
+fn drop_octets(core: &mut WireCore, number: u32) -> bool
+    requires sound { IsSound core.old }
+    ensures sound { IsSound core.new }
+{
+    match core.conns.get_mut(&number) {
+        Some(conn) => conn.drop_octets(),
+        None => false,
+    }
+}
+
+/// The task Losses: the next exchange of the connection that is lost.
+pub fn losses(
+    core: &mut WireCore,
+    conn: u32,
+    last: Option<u32>,
+    notes: &mut Notes,
+) -> Result<(), NoMemory>
+    requires sound { IsSound core.old }
+    requires top { top_go core.old.agenda ≡ 1 }
+    ensures sound { OnOk result (IsSound core.new) }
+    ensures go { OnOk result (to_go core.new < to_go core.old) }
+    ensures notes { Appends notes.old notes.new }
+{
+    match next_lost(core, conn, last) {
+        Some(exchange) if core.flows.is_live(exchange) => {
+            doom(core, exchange, Cause::ConnLost { conn }, false, notes)
+        }
+        _ => {
+            core.end_task();
+            Ok(())
+        }
+    }
+}
+
+// The least live exchange of a connection; by a GOAWAY of a cluster the least that isn't on a stream up to `last`.
+fn next_lost(core: &WireCore, conn: u32, last: Option<u32>) -> Option<u64> {
+    let Some(last) = last else {
+        return core.links.least_of(conn);
+    };
+    let mut after = 0;
+    for _exchange in 0..core.links.exchanges_of(conn) {
+        let exchange = core.links.next_of(conn, after)?;
+        if is_left_out(core, exchange, last) {
+            return Some(exchange);
+        }
+        after = exchange;
+    }
+    None
+}
+
+// Whether the peer hasn't taken up the request of an exchange.
+fn is_left_out(core: &WireCore, exchange: u64, last: u32) -> bool {
+    match core.links.ends_of(exchange) {
+        Some(ends) => match ends.cluster_stream {
+            Some(stream) => stream > last,
+            None => true,
+        },
+        None => false,
+    }
+}
+
+/// A client connection takes no later streams: it gets one GOAWAY, and is closed once nothing is left to do.
+pub fn begin_draining(core: &mut WireCore, conn: u32) -> Result<(), NoMemory>
+    requires sound { IsSound core.old }
+    ensures sound { OnOk result (IsSound core.new) }
+    ensures go { OnOk result (to_go core.new ≤ to_go core.old + 6) }
+{
+    if start_draining(core, conn)? {
+        return Ok(());
+    }
+    flood(core, conn)
+}
+
+/// As `begin_draining`; the answer is false where the list was full.
+pub(crate) fn start_draining(core: &mut WireCore, number: u32) -> Result<bool, NoMemory>
+    requires sound { IsSound core.old }
+    ensures sound { OnOk result (IsSound core.new) }
+    ensures go { OnOk result (to_go core.new ≤ to_go core.old + 5) }
+{
+    let Some(last) = drain_link(core, number) else {
+        return Ok(true);
+    };
+    let goaway = Control::goaway(core.alloc, last, NO_ERROR)?;
+    append(core, number, Waiting::Answer(goaway))
+}
+
+// An open connection that isn't draining begins to. The answer is the last stream that its GOAWAY names.
+fn drain_link(core: &mut WireCore, number: u32) -> Option<u32>
+    requires sound { IsSound core.old }
+    ensures sound { IsSound core.new }
+    ensures go { to_go core.new ≤ to_go core.old }
+    ensures last { IfSome result (λ last. last < 2 ^ 31) }
+{
+    let last = begin_at(core, number)?;
+    core.links.drain(number, last);
+    Some(last)
+}
+
+fn begin_at(core: &mut WireCore, number: u32) -> Option<u32>
+    requires sound { IsSound core.old }
+    ensures sound { IsSound core.new }
+    ensures go { to_go core.new ≤ to_go core.old }
+    ensures last { IfSome result (λ last. last < 2 ^ 31) }
+{
+    match core.conns.get_mut(&number) {
+        Some(conn) => conn.begin_draining(),
+        None => None,
+    }
+}

@@ -1,0 +1,4 @@
+pub mod Opening
+pub mod Paying
+pub mod Settled
+pub mod Starting

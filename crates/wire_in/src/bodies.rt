@@ -1,0 +1,233 @@
+// DATA frames.
+ghost use Rattle.std.specs.Prelude.{◌≡◌, ◌≤◌, ◌+◌, ◌*◌, OnOk, length, true};
+ghost use Rattle.wire_state.specs.Noting.{Appends};
+ghost use Rattle.wire_state.specs.Progress.{to_go};
+ghost use Rattle.wire_state.specs.Sound.{IsSound};
+
+use crate::faults::{close_with, counts_late, owe, stream_fault};
+use crate::heads::{end_where, finish};
+use exchange_core::Received;
+use flow_notes::{Note, Notes};
+use h2_frames::codes::{FLOW_CONTROL_ERROR, PROTOCOL_ERROR};
+use io_ports::{NoMemory, Octets};
+use wire_state::{Course, WireCore, note};
+use wire_windows::Came;
+
+/// What a DATA frame carries: octets and padding, and how many of both count against the windows.
+#[derive(Drop)]
+pub(crate) struct Content {
+    pub(crate) octets: Octets,
+    pub(crate) padded: u32,
+    pub(crate) counted: u32,
+}
+
+impl Content {
+    pub(crate) fn of(octets: Octets, padded: u32, counted: u32) -> Self
+        ensures octets { result.octets ≡ octets }
+        ensures counted { result.counted ≡ counted }
+    {
+        Content {
+            octets,
+            padded,
+            counted,
+        }
+    }
+
+    // Whether no more is carried than is counted.
+    fn is_counted(&self) -> bool
+        ensures { result ≡ true → length self.now.octets ≤ self.now.counted }
+    {
+        match self.counted.checked_sub(self.padded) {
+            Some(room) => self.octets.len() <= room as usize,
+            None => false,
+        }
+    }
+}
+
+/// Content of an open stream.
+pub(crate) fn body(
+    core: &mut WireCore,
+    number: u32,
+    stream: u32,
+    content: Content,
+    last: bool,
+    notes: &mut Notes,
+) -> Result<(), NoMemory>
+    requires sound { IsSound core.old }
+    ensures sound { OnOk result (IsSound core.new) }
+    ensures go { OnOk result (to_go core.new ≤ to_go core.old + 60 + 228 * content.counted) }
+    ensures notes { Appends notes.old notes.new }
+{
+    let Some(course) = core.flow_from(number, stream) else {
+        return Ok(());
+    };
+    if !content.is_counted() || !core.flows.goes_on(course.flow) {
+        return Ok(());
+    }
+    let came = count(core, number, course, content.counted);
+    if came == Came::ConnOver {
+        return close_with(core, number, FLOW_CONTROL_ERROR, notes);
+    }
+    core.ask_run(course)?;
+    if let Some(code) = fault_in(core, course, came, content.octets.len(), last) {
+        // What the stream counted is, with its doom, the connection's.
+        let fault = stream_fault(stream, code, content.counted, false);
+        return fault.end(core, number, notes);
+    }
+    enter(core, number, course, content, stream, notes)?;
+    if last {
+        finish(core, course.flow, None)?;
+    }
+    end_where(core, last, course, stream)?;
+    core.refresh(course)
+}
+
+// The windows count content.
+fn count(core: &mut WireCore, number: u32, course: Course, n: u32) -> Came
+    requires sound { IsSound core.old }
+    ensures sound { IsSound core.new }
+    ensures go { to_go core.new ≤ to_go core.old + 8 * n }
+    ensures rest { core.new ≡ record core.old { conns = core.new.conns } }
+{
+    match core.conns.get_mut(&number) {
+        Some(conn) => conn.came(course.flow.exchange, n),
+        None => Came::ConnOver,
+    }
+}
+
+// The stream error that n octets of a body are, if they are one.
+fn fault_in(core: &mut WireCore, course: Course, came: Came, n: usize, last: bool) -> Option<u32>
+    requires sound { IsSound core.old }
+    ensures sound { IsSound core.new }
+    ensures go { to_go core.new ≤ to_go core.old }
+    ensures rest { core.new ≡ record core.old { lengths = core.new.lengths } }
+{
+    if came == Came::StreamOver {
+        return Some(FLOW_CONTROL_ERROR);
+    }
+    if fits(core, course, n, last) {
+        None
+    } else {
+        Some(PROTOCOL_ERROR)
+    }
+}
+
+// Whether a body may have these octets: it comes behind its head, and with a length that was declared.
+fn fits(core: &mut WireCore, course: Course, n: usize, last: bool) -> bool
+    requires sound { IsSound core.old }
+    ensures sound { IsSound core.new }
+    ensures go { to_go core.new ≤ to_go core.old }
+    ensures rest { core.new ≡ record core.old { lengths = core.new.lengths } }
+{
+    if !core.flows.head_came(course.flow) {
+        return false;
+    }
+    match core.lengths.get_mut(&course.flow.exchange) {
+        Some(lengths) if course.flow.back => lengths.response.grows(n, last),
+        Some(lengths) => lengths.request.grows(n, last),
+        None => true,
+    }
+}
+
+// The octets enter the receive buffer, and the padding is owed.
+fn enter(
+    core: &mut WireCore,
+    number: u32,
+    course: Course,
+    content: Content,
+    stream: u32,
+    notes: &mut Notes,
+) -> Result<(), NoMemory>
+    requires sound { IsSound core.old }
+    ensures sound { OnOk result (IsSound core.new) }
+    ensures go { OnOk result (to_go core.new ≤ to_go core.old + 220 * length content.octets) }
+    ensures notes { Appends notes.old notes.new }
+{
+    let Content { octets, padded, .. } = content;
+    arrive(core, course, octets, notes)?;
+    pad(core, number, course, stream, padded, notes)
+}
+
+// The octets enter the receive buffer.
+fn arrive(
+    core: &mut WireCore,
+    course: Course,
+    octets: Octets,
+    notes: &mut Notes,
+) -> Result<(), NoMemory>
+    requires sound { IsSound core.old }
+    ensures sound { OnOk result (IsSound core.new) }
+    ensures go { OnOk result (to_go core.new ≤ to_go core.old + 220 * length octets) }
+    ensures notes { Appends notes.old notes.new }
+{
+    if octets.is_empty() {
+        return Ok(());
+    }
+    let flow = course.flow;
+    if !core.flows.goes_on(flow) || !core.flows.head_came(flow) {
+        return Ok(());
+    }
+    if core.flows.receive(flow, octets.as_slice()) != Received::Arrived {
+        return Ok(());
+    }
+    core.touch(flow.exchange)?;
+    note(notes, Note::Arrive { flow, octets })
+}
+
+// Padding is owed to its stream and to the connection at once.
+fn pad(
+    core: &mut WireCore,
+    number: u32,
+    course: Course,
+    stream: u32,
+    padded: u32,
+    notes: &mut Notes,
+) -> Result<(), NoMemory>
+    requires sound { IsSound core.old }
+    ensures sound { OnOk result (IsSound core.new) }
+    ensures go { OnOk result (to_go core.new ≤ to_go core.old) }
+    ensures notes { Appends notes.old notes.new }
+{
+    if padded == 0 {
+        return Ok(());
+    }
+    owe_padding(core, number, course.flow.exchange, padded)?;
+    note(
+        notes,
+        Note::Waste {
+            conn: number,
+            stream,
+            n: padded,
+        },
+    )
+}
+
+fn owe_padding(core: &mut WireCore, number: u32, exchange: u64, n: u32) -> Result<(), NoMemory>
+    requires sound { IsSound core.old }
+    ensures sound { OnOk result (IsSound core.new) }
+    ensures go { to_go core.new ≤ to_go core.old }
+{
+    match core.conns.get_mut(&number) {
+        Some(conn) => conn.moved(exchange, n),
+        None => Ok(()),
+    }
+}
+
+/// Content of a stream that is closed.
+pub(crate) fn late(
+    core: &mut WireCore,
+    number: u32,
+    stream: u32,
+    n: u32,
+    notes: &mut Notes,
+) -> Result<(), NoMemory>
+    requires sound { IsSound core.old }
+    ensures sound { OnOk result (IsSound core.new) }
+    ensures go { OnOk result (to_go core.new ≤ to_go core.old + 1 + 4 * n) }
+    ensures notes { Appends notes.old notes.new }
+{
+    if !counts_late(core, number, n) {
+        return close_with(core, number, FLOW_CONTROL_ERROR, notes);
+    }
+    owe(core, number, stream, n, notes)
+}

@@ -1,0 +1,247 @@
+// Events: what each does before anything is run.
+ghost use Rattle.std.specs.Prelude.{◌≤◌, ◌*◌, IfOk, OnOk, length};
+ghost use Rattle.wire_state.specs.Noting.{Appends};
+ghost use Rattle.wire_state.specs.Sound.{IsSound};
+
+use flow_notes::{Cause, CloseCause, Event, FireKind, Job, Note, Notes};
+use io_ports::{NoMemory, Octets, PressureList};
+use proxy_config::LimitKeys;
+use std::alloc::Global;
+use wire_ends::{close, doom, lose, put};
+use wire_inlet::Peer;
+use wire_load::Action;
+use wire_outlet::Control;
+use wire_state::{Conn, Task, WireCore, note};
+use wm_buffer::Crossed;
+
+/// The settings that are named beside those of the session (RFC 9113 section 6.5.2).
+const ENABLE_PUSH: u16 = 2;
+
+const MAX_CONCURRENT_STREAMS: u16 = 3;
+
+const INITIAL_WINDOW_SIZE: u16 = 4;
+
+const MAX_FRAME_SIZE: u16 = 5;
+
+const MAX_HEADER_LIST_SIZE: u16 = 6;
+
+/// The greatest payload of a frame that needs no setting.
+const LEAST_FRAME_SIZE: u32 = 16_384;
+
+/// Moments are at most this, in ms.
+const LAST_MOMENT: u64 = (1 << 60) - 1;
+
+/// How many exchanges a published state resets at most.
+const RESETS: u32 = 50;
+
+/// The event's own effect, with its notes; the turn note stands already.
+pub fn take_event(core: &mut WireCore, event: &Event, notes: &mut Notes) -> Result<(), NoMemory>
+    requires sound { IsSound core.old }
+    ensures sound { OnOk result (IsSound core.new) }
+    ensures notes { Appends notes.old notes.new }
+{
+    match event {
+        Event::Accept { conn } => accept(core, *conn, notes),
+        Event::Join { conn, cluster } => join(core, *conn, *cluster),
+        Event::Read { conn, octets } => read(core, *conn, octets),
+        Event::Gone { conn } => lose(core, *conn, notes),
+        Event::Room { conn, n } => room(core, *conn, *n, notes),
+        Event::Tick { now } => tick(core, *now),
+        Event::Post {
+            poster,
+            number,
+            job,
+        } => post(core, *poster, *number, *job, notes),
+        Event::Obey { version, pressures } => obey(core, *version, pressures),
+        Event::Plain(_) => Ok(()),
+    }
+}
+
+// A client connection came, unless its number is taken.
+fn accept(core: &mut WireCore, number: u32, notes: &mut Notes) -> Result<(), NoMemory>
+    requires sound { IsSound core.old }
+    ensures sound { OnOk result (IsSound core.new) }
+    ensures notes { Appends notes.old notes.new }
+{
+    if core.links.is_known(number) {
+        return Ok(());
+    }
+    core.links.accept(number)?;
+    open(core, number, Peer::Client)?;
+    if core.load.is_saturated(Action::RejectIncoming) {
+        return close(core, number, 0, CloseCause::Overload, notes);
+    }
+    core.arm(FireKind::ConnectionIdle, u64::from(number))?;
+    core.begin(Task::AskDrain(number))?;
+    let limits = &core.config.limits;
+    let first = (MAX_CONCURRENT_STREAMS, limits.max_streams);
+    let settings = settings_of(core.alloc, first, limits)?;
+    let control = Control::settings(core.alloc, settings.as_slice())?;
+    put(core, number, control)
+}
+
+// A connection to a cluster came, unless its number is taken.
+fn join(core: &mut WireCore, number: u32, cluster: u32) -> Result<(), NoMemory>
+    requires sound { IsSound core.old }
+    ensures sound { OnOk result (IsSound core.new) }
+{
+    if core.links.is_known(number) {
+        return Ok(());
+    }
+    core.links.join(number, cluster)?;
+    open(core, number, Peer::Cluster)?;
+    core.begin(Task::AskDrain(number))?;
+    let settings = settings_of(core.alloc, (ENABLE_PUSH, 0), &core.config.limits)?;
+    let control = Control::preface_settings(core.alloc, settings.as_slice())?;
+    put(core, number, control)
+}
+
+// The settings of this side: the first, and those that both kinds of connections are told.
+fn settings_of(
+    alloc: Global,
+    first: (u16, u32),
+    limits: &LimitKeys,
+) -> Result<Vec<(u16, u32)>, NoMemory>
+    ensures { IfOk result (λ list. 6 * length list.items ≤ 16384) }
+{
+    let mut settings = Vec::with_capacity(alloc, 4)?;
+    settings.push(first)?;
+    settings.push((INITIAL_WINDOW_SIZE, limits.stream_window))?;
+    if limits.frame_size > LEAST_FRAME_SIZE {
+        settings.push((MAX_FRAME_SIZE, limits.frame_size))?;
+    }
+    settings.push((MAX_HEADER_LIST_SIZE, limits.field_list))?;
+    Ok(settings)
+}
+
+// The octets and windows of a new connection.
+fn open(core: &mut WireCore, number: u32, peer: Peer) -> Result<(), NoMemory>
+    requires sound { IsSound core.old }
+    ensures sound { OnOk result (IsSound core.new) }
+{
+    let conn = Conn::new(core.alloc, peer, &core.config.limits)?;
+    core.flows.open_write(number)?;
+    let _ = core.conns.insert(number, conn)?;
+    core.stir(number)
+}
+
+// Octets came.
+fn read(core: &mut WireCore, number: u32, octets: &Octets) -> Result<(), NoMemory>
+    requires sound { IsSound core.old }
+    ensures sound { OnOk result (IsSound core.new) }
+{
+    if read_at(core, number, octets)? {
+        return core.begin(Task::Read(number));
+    }
+    Ok(())
+}
+
+// The octets are kept, unless the connection is closed. The answer is whether they are.
+fn read_at(core: &mut WireCore, number: u32, octets: &Octets) -> Result<bool, NoMemory>
+    requires sound { IsSound core.old }
+    ensures sound { OnOk result (IsSound core.new) }
+{
+    match core.conns.get_mut(&number) {
+        Some(conn) => conn.read(octets.as_slice()),
+        None => Ok(false),
+    }
+}
+
+// Up to n octets leave the write buffer.
+fn room(core: &mut WireCore, number: u32, n: u32, notes: &mut Notes) -> Result<(), NoMemory>
+    requires sound { IsSound core.old }
+    ensures sound { OnOk result (IsSound core.new) }
+    ensures notes { Appends notes.old notes.new }
+{
+    let Some((n, crossed)) = leave_at(core, number, n) else {
+        return Ok(());
+    };
+    core.stir(number)?;
+    core.begin(Task::AskDrain(number))?;
+    note_out(notes, number, n)?;
+    if crossed == Crossed::Low {
+        core.flows.write_drained(number);
+        return core.begin(Task::Tell(number));
+    }
+    Ok(())
+}
+
+fn leave_at(core: &mut WireCore, number: u32, n: u32) -> Option<(u32, Crossed)>
+    requires sound { IsSound core.old }
+    ensures sound { IsSound core.new }
+{
+    match core.conns.get_mut(&number) {
+        Some(conn) => Some(conn.leave_write(n)),
+        None => None,
+    }
+}
+
+// The note of octets that went to the socket. Without octets there is nothing to say.
+fn note_out(notes: &mut Notes, conn: u32, n: u32) -> Result<(), NoMemory>
+    ensures notes { Appends notes.old notes.new }
+{
+    if n == 0 {
+        return Ok(());
+    }
+    note(notes, Note::Out { conn, n })
+}
+
+// The clock goes on: timers may be due, and octets in Meters may be released.
+fn tick(core: &mut WireCore, now: u64) -> Result<(), NoMemory>
+    requires sound { IsSound core.old }
+    ensures sound { OnOk result (IsSound core.new) }
+{
+    set_clock(core, now);
+    core.begin(Task::Fires)?;
+    core.begin(Task::Ticks {
+        exchange: 0,
+        back: true,
+    })
+}
+
+// The clock doesn't go back, and not beyond the last moment.
+fn set_clock(core: &mut WireCore, now: u64)
+    requires sound { IsSound core.old }
+    ensures sound { IsSound core.new }
+{
+    core.now = core.now.max(now).min(LAST_MOMENT);
+    core.flows.tick(core.now);
+}
+
+// A posted job.
+fn post(
+    core: &mut WireCore,
+    poster: u32,
+    number: u64,
+    job: Job,
+    notes: &mut Notes,
+) -> Result<(), NoMemory>
+    requires sound { IsSound core.old }
+    ensures sound { OnOk result (IsSound core.new) }
+    ensures notes { Appends notes.old notes.new }
+{
+    match job {
+        Job::Drain => core.begin(Task::Drains(0)),
+        Job::Cancel { exchange } => {
+            doom(
+                core,
+                exchange,
+                Cause::Posted { poster, number },
+                false,
+                notes,
+            )
+        }
+        Job::Look => Ok(()),
+    }
+}
+
+// A published state is obeyed.
+fn obey(core: &mut WireCore, version: u64, pressures: &PressureList) -> Result<(), NoMemory>
+    requires sound { IsSound core.old }
+    ensures sound { OnOk result (IsSound core.new) }
+{
+    core.obeyed = version;
+    core.load.obey(&core.config, pressures.as_slice());
+    core.timers.set_state(core.load.timeouts_state());
+    core.begin(Task::Resets(RESETS))
+}

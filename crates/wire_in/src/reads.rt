@@ -1,0 +1,53 @@
+// The frames of the octets that were read.
+ghost use Rattle.std.specs.Prelude.{◌≡◌, ◌<◌, IfOk, OnOk};
+ghost use Rattle.wire_state.specs.Intakes.{PaysFor};
+ghost use Rattle.wire_state.specs.Agenda.{top_go};
+ghost use Rattle.wire_state.specs.Noting.{Appends};
+ghost use Rattle.wire_state.specs.Progress.{to_go};
+ghost use Rattle.wire_state.specs.Sound.{IsSound};
+
+use crate::acts::take_act;
+use flow_notes::{CloseCause, Notes};
+use io_ports::NoMemory;
+use wire_ends::close;
+use wire_inlet::Intake;
+use wire_state::{Task, WireCore};
+
+/// The task Read: the next frame of the connection is taken.
+pub fn read(core: &mut WireCore, number: u32, notes: &mut Notes) -> Result<(), NoMemory>
+    requires sound { IsSound core.old }
+    requires top { top_go core.old.agenda ≡ 4 }
+    ensures sound { OnOk result (IsSound core.new) }
+    ensures go { OnOk result (to_go core.new < to_go core.old) }
+    ensures notes { Appends notes.old notes.new }
+{
+    match next(core, number)? {
+        Intake::Need => {
+            core.end_task();
+            Ok(())
+        }
+        Intake::Fault(code) => {
+            core.end_task();
+            close(core, number, code, CloseCause::Protocol, notes)
+        }
+        Intake::Taken(taken) => {
+            core.stir(number)?;
+            core.begin(Task::AskDrain(number))?;
+            take_act(core, number, taken, notes)
+        }
+    }
+}
+
+// What stands at the front of the octets of a connection: nothing where it is closed.
+fn next(core: &mut WireCore, number: u32) -> Result<Intake, NoMemory>
+    requires sound { IsSound core.old }
+    ensures sound { OnOk result (IsSound core.new) }
+    ensures go { IfOk result (λ intake. PaysFor intake (to_go core.old) (to_go core.new)) }
+    ensures agenda { core.new.agenda ≡ core.old.agenda }
+{
+    let most = core.config.limits.frame_size;
+    match core.conns.get_mut(&number) {
+        Some(conn) => conn.take_frame(most),
+        None => Ok(Intake::Need),
+    }
+}

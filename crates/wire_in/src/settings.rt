@@ -1,0 +1,142 @@
+// SETTINGS frames (RFC 9113 section 6.5.2).
+ghost use Rattle.std.specs.Prelude.{◌≡◌, ◌≤◌, ◌+◌, OnOk};
+ghost use Rattle.wire_state.specs.Noting.{Appends};
+ghost use Rattle.wire_state.specs.Progress.{conn_go, to_go};
+ghost use Rattle.wire_state.specs.Sound.{IsSound};
+
+use crate::faults::close_with;
+use flow_notes::Notes;
+use h2_frames::codes::FLOW_CONTROL_ERROR;
+use h2_session::SettingList;
+use io_ports::NoMemory;
+use wire_ends::put;
+use wire_outlet::Control;
+use wire_state::{Conn, Course, WireCore};
+
+const HEADER_TABLE_SIZE: u16 = 1;
+
+const INITIAL_WINDOW_SIZE: u16 = 4;
+
+const MAX_FRAME_SIZE: u16 = 5;
+
+const MAX_CONCURRENT_STREAMS: u16 = 3;
+
+/// What a SETTINGS frame comes to: each setting that it names has its last value, and of the initial windows the greatest is
+/// looked at too, since no stream may pass it on the way.
+#[derive(Clone, Copy)]
+struct Named {
+    table: bool,
+    concurrent: Option<u32>,
+    payload: Option<u32>,
+    initial: Option<(u32, u32)>,
+}
+
+/// The peer's settings.
+pub(crate) fn settings(
+    core: &mut WireCore,
+    number: u32,
+    list: &SettingList,
+    notes: &mut Notes,
+) -> Result<(), NoMemory>
+    requires sound { IsSound core.old }
+    ensures sound { OnOk result (IsSound core.new) }
+    ensures go { OnOk result (to_go core.new ≤ to_go core.old + 6) }
+    ensures notes { Appends notes.old notes.new }
+{
+    let named = named_in(list);
+    if let Some(concurrent) = named.concurrent {
+        core.links.set_concurrent(number, concurrent);
+    }
+    if !set_windows(core, number, named) {
+        return close_with(core, number, FLOW_CONTROL_ERROR, notes);
+    }
+    if named.payload.is_some() || named.initial.is_some() {
+        refresh_all(core, number)?;
+    }
+    let ack = Control::settings_ack(core.alloc)?;
+    put(core, number, ack)
+}
+
+// The greatest payload, and the initial window of each stream. The answer is false where a window would be too large.
+fn set_windows(core: &mut WireCore, number: u32, named: Named) -> bool
+    requires sound { IsSound core.old }
+    ensures sound { IsSound core.new }
+    ensures go { to_go core.new ≤ to_go core.old }
+{
+    match core.conns.get_mut(&number) {
+        Some(conn) => set_windows_of(conn, named),
+        None => true,
+    }
+}
+
+fn set_windows_of(conn: &mut Conn, named: Named) -> bool
+    ensures write { conn.new.outlet.write ≡ conn.old.outlet.write }
+    ensures waiting { conn.new.outlet.waiting ≡ conn.old.outlet.waiting }
+    ensures go { conn_go conn.new ≤ conn_go conn.old }
+{
+    if named.table {
+        conn.table_size_named();
+    }
+    if let Some(payload) = named.payload {
+        conn.set_payload(payload);
+    }
+    match named.initial {
+        Some((greatest, last)) => conn.set_initial(greatest, last),
+        None => true,
+    }
+}
+
+fn named_in(list: &SettingList) -> Named {
+    let mut named = Named {
+        table: false,
+        concurrent: None,
+        payload: None,
+        initial: None,
+    };
+    for setting in list.as_slice() {
+        let value = setting.value;
+        match setting.id {
+            HEADER_TABLE_SIZE => named.table = true,
+            MAX_CONCURRENT_STREAMS => named.concurrent = Some(value),
+            MAX_FRAME_SIZE => named.payload = Some(value),
+            INITIAL_WINDOW_SIZE => {
+                let greatest = match named.initial {
+                    Some((greatest, _)) => greatest.max(value),
+                    None => value,
+                };
+                named.initial = Some((greatest, value));
+            }
+            _ => {}
+        }
+    }
+    named
+}
+
+// What goes next of each flow that goes to the connection, whose windows are others now.
+fn refresh_all(core: &mut WireCore, number: u32) -> Result<(), NoMemory>
+    requires sound { IsSound core.old }
+    ensures sound { OnOk result (IsSound core.new) }
+    ensures go { OnOk result (to_go core.new ≤ to_go core.old) }
+{
+    let mut after = 0;
+    for _exchange in 0..core.links.exchanges_of(number) {
+        let Some(exchange) = core.links.next_of(number, after) else {
+            return Ok(());
+        };
+        refresh_one(core, number, exchange)?;
+        after = exchange;
+    }
+    Ok(())
+}
+
+// What goes next of the flow of an exchange that goes to the connection.
+fn refresh_one(core: &mut WireCore, number: u32, exchange: u64) -> Result<(), NoMemory>
+    requires sound { IsSound core.old }
+    ensures sound { OnOk result (IsSound core.new) }
+    ensures go { OnOk result (to_go core.new ≤ to_go core.old) }
+{
+    match core.links.ends_of(exchange) {
+        Some(ends) => core.refresh(Course::of(exchange, ends.client == number, ends)),
+        None => Ok(()),
+    }
+}

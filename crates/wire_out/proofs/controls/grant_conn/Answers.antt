@@ -1,0 +1,9 @@
+use Rattle.std.proofs.Common.{arith}
+use Rattle.wire_state.proofs.Weights.{conn_changed}
+use Rattle.wire_state.specs.Progress.{to_go}
+use Rattle.wire_out.proofs.controls.grant_conn.Goals as goal
+
+pub returns-in-Some-clause-go : goal.returns-in-Some-clause-go
+unfolding to_go
+returns-in-Some-clause-go c =
+    omega (arith, conn_changed c.args.number c.args.core.now.conns.entries (c.get_mut.follows.lender c.grant_conn.new.self).entries c.in-Some.conn.now c.grant_conn.new.self c.in-Some.ensures.value (c.get_mut.follows.holds c.grant_conn.new.self).0, c.grant_conn.ensures.go)

@@ -1,0 +1,11 @@
+use Rattle.std.proofs.Common.{arith}
+use Rattle.wire_out.proofs.Framing.{match_ok}
+use Rattle.wire_state.proofs.Weights.{conn_changed}
+use Rattle.wire_state.specs.Progress.{to_go}
+use Rattle.wire_out.proofs.units.write_body_on.Goals as goal
+
+pub returns-in-Some-clause-go : goal.returns-in-Some-clause-go
+unfolding to_go
+returns-in-Some-clause-go c =
+    let k = conn_changed c.args.number c.args.core.now.conns.entries (c.get_mut.follows.lender c.write_body.new.self).entries c.in-Some.conn.now c.write_body.new.self c.in-Some.ensures.value (c.get_mut.follows.holds c.write_body.new.self).0 in
+    match_ok c.write_body.result (λ a. omega (arith, k, a)) (λ b. omega (arith, k, b)) c.write_body.ensures.go

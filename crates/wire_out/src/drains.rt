@@ -1,0 +1,130 @@
+// Drains: the units of a connection are framed.
+ghost use Rattle.std.specs.Prelude.{◌≡◌, ◌≤◌, ◌<◌, ◌+◌, OnOk};
+ghost use Rattle.wire_state.specs.Agenda.{stirred_at, top_go};
+ghost use Rattle.wire_state.specs.Noting.{Appends};
+ghost use Rattle.wire_state.specs.Progress.{to_go, conn_go};
+ghost use Rattle.wire_state.specs.Sound.{IsSound};
+
+use crate::controls::{frame_credit, frame_first_credit, frame_stream_credit, frame_waiting};
+use crate::units::frame_flow;
+use flow_notes::Notes;
+use io_ports::NoMemory;
+use wire_flows::WireFlows;
+use wire_state::{Conn, NextUnit, Task, WireCore};
+use wm_buffer::Crossed;
+
+/// The task AskDrain: the connection is drained, unless it is being drained. Its first unit is framed at once.
+pub fn ask_drain(core: &mut WireCore, number: u32, notes: &mut Notes) -> Result<(), NoMemory>
+    requires sound { IsSound core.old }
+    requires top { top_go core.old.agenda ≡ 2 }
+    ensures sound { OnOk result (IsSound core.new) }
+    ensures go { OnOk result (to_go core.new < to_go core.old) }
+    ensures notes { Appends notes.old notes.new }
+{
+    core.end_task();
+    if core.agenda.is_draining(number) {
+        return Ok(());
+    }
+    match next_unit(core, number) {
+        Some(unit) => begin_drain(core, number, unit, notes),
+        None => Ok(()),
+    }
+}
+
+/// A connection is drained from now on, beginning with this unit, which goes next there.
+pub fn begin_drain(
+    core: &mut WireCore,
+    number: u32,
+    unit: NextUnit,
+    notes: &mut Notes,
+) -> Result<(), NoMemory>
+    requires sound { IsSound core.old }
+    ensures sound { OnOk result (IsSound core.new) }
+    ensures go { OnOk result (to_go core.new + stirred_at number core.old.stirred.conns.keys ≤ to_go core.old) }
+    ensures notes { Appends notes.old notes.new }
+{
+    core.begin(Task::Drain(number))?;
+    frame_next(core, number, unit, notes)
+}
+
+/// The task Drain: the next unit of the connection is framed, unless its write buffer is above or it is closed.
+pub fn drain(core: &mut WireCore, number: u32, notes: &mut Notes) -> Result<(), NoMemory>
+    requires sound { IsSound core.old }
+    requires top { top_go core.old.agenda ≡ 1 }
+    ensures sound { OnOk result (IsSound core.new) }
+    ensures go { OnOk result (to_go core.new < to_go core.old) }
+    ensures notes { Appends notes.old notes.new }
+{
+    match next_unit(core, number) {
+        Some(unit) => frame_next(core, number, unit, notes),
+        None => {
+            core.end_task();
+            Ok(())
+        }
+    }
+}
+
+// Frames what goes next at a connection that is drained. Where that can't be framed, the drain is given up.
+fn frame_next(
+    core: &mut WireCore,
+    number: u32,
+    unit: NextUnit,
+    notes: &mut Notes,
+) -> Result<(), NoMemory>
+    requires sound { IsSound core.old }
+    requires top { top_go core.old.agenda ≡ 1 }
+    ensures sound { OnOk result (IsSound core.new) }
+    ensures go { OnOk result (to_go core.new + (1 + stirred_at number core.old.stirred.conns.keys) ≤ to_go core.old) }
+    ensures notes { Appends notes.old notes.new }
+{
+    match unit {
+        NextUnit::Waiting => frame_waiting(core, number, notes),
+        NextUnit::FirstCredit => frame_first_credit(core, number, notes),
+        NextUnit::Credit => frame_credit(core, number, notes),
+        NextUnit::StreamCredit(exchange) => frame_stream_credit(core, number, exchange, notes),
+        NextUnit::Flow(exchange) => frame_flow(core, number, exchange, notes),
+    }
+}
+
+/// What may be framed at a connection now.
+pub fn next_unit(core: &mut WireCore, number: u32) -> Option<NextUnit>
+    requires sound { IsSound core.old }
+    ensures sound { IsSound core.new }
+    ensures go { to_go core.new ≤ to_go core.old }
+    ensures rest { core.new ≡ record core.old { conns = core.new.conns } }
+{
+    match core.conns.get_mut(&number) {
+        Some(conn) => unit_at(conn, &core.flows),
+        None => None,
+    }
+}
+
+fn unit_at(conn: &mut Conn, flows: &WireFlows) -> Option<NextUnit>
+    ensures rest { conn.new ≡ record conn.old { credits = conn.new.credits } }
+    ensures go { conn_go conn.new ≡ conn_go conn.old }
+{
+    if conn.may_write() {
+        conn.next_unit(flows)
+    } else {
+        None
+    }
+}
+
+/// A unit was framed at a connection. Where the write buffer rose by it, its flows are held back.
+pub(crate) fn unit_framed(
+    core: &mut WireCore,
+    conn: u32,
+    crossed: Crossed,
+    notes: &mut Notes,
+) -> Result<(), NoMemory>
+    requires sound { IsSound core.old }
+    ensures sound { OnOk result (IsSound core.new) }
+    ensures go { OnOk result (to_go core.new ≤ to_go core.old + 1) }
+    ensures notes { Appends notes.old notes.new }
+{
+    core.stir(conn)?;
+    if crossed == Crossed::High {
+        return core.rise(conn, notes);
+    }
+    Ok(())
+}

@@ -1,0 +1,13 @@
+//! How the octets of wire sessions go out: runs, units in rotation, and what is told when buffers drain.
+#![tactic(auto)]
+
+mod controls;
+mod drains;
+mod lists;
+mod runs;
+mod telling;
+mod units;
+
+pub use crate::drains::{ask_drain, begin_drain, drain, next_unit};
+pub use crate::runs::{ask_run, run};
+pub use crate::telling::tell;

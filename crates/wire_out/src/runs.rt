@@ -1,0 +1,285 @@
+// Runs: the octets of a flow go on.
+ghost use Rattle.std.specs.Prelude.{◌≡◌, ◌≤◌, ◌<◌, ◌+◌, IfSome, OnOk, if◌then◌else◌, true};
+ghost use Rattle.wire_flows.specs.Flows.{is_live_in};
+ghost use Rattle.wire_flows.specs.Moves.{IsMove};
+ghost use Rattle.wire_state.specs.Agenda.{top_go};
+ghost use Rattle.wire_state.specs.Noting.{Appends};
+ghost use Rattle.wire_state.specs.Progress.{to_go};
+ghost use Rattle.wire_state.specs.Sound.{IsSound};
+ghost use Rattle.flow_notes.specs.Buffer.{CanPause};
+
+use flow_gate::{BufferId, FlowId};
+use flow_notes::{Cause, Note, Notes};
+use io_ports::NoMemory;
+use wire_ends::doom;
+use wire_flows::{Moved, Outcome};
+use wire_state::{Course, Task, WireCore, note};
+
+/// The task AskRun: the flow is run, unless it is being run.
+pub fn ask_run(core: &mut WireCore, course: Course) -> Result<(), NoMemory>
+    requires sound { IsSound core.old }
+    requires top { top_go core.old.agenda ≡ 7 }
+    ensures sound { OnOk result (IsSound core.new) }
+    ensures go { OnOk result (to_go core.new < to_go core.old) }
+{
+    core.end_task();
+    if core.agenda.is_running(course.flow) {
+        return Ok(());
+    }
+    core.begin(Task::Run {
+        course,
+        tried: false,
+    })
+}
+
+/// The task Run: a move; where none may go, its connections are drained, and it is looked at once more.
+pub fn run(
+    core: &mut WireCore,
+    course: Course,
+    tried: bool,
+    notes: &mut Notes,
+) -> Result<(), NoMemory>
+    requires sound { IsSound core.old }
+    requires top { top_go core.old.agenda ≡ (if tried then 1 else 6) }
+    ensures sound { OnOk result (IsSound core.new) }
+    ensures go { OnOk result (to_go core.new < to_go core.old) }
+    ensures notes { Appends notes.old notes.new }
+{
+    match core.flows.step(course.flow)? {
+        Outcome::Moved(moved) => go_on(core, course, moved, notes),
+        Outcome::TooLarge => overfull(core, course, tried, notes),
+        Outcome::Still => stop(core, course, tried),
+    }
+}
+
+// A Hold can't take the body of a flow.
+fn overfull(
+    core: &mut WireCore,
+    course: Course,
+    tried: bool,
+    notes: &mut Notes,
+) -> Result<(), NoMemory>
+    requires sound { IsSound core.old }
+    requires top { top_go core.old.agenda ≡ (if tried then 1 else 6) }
+    ensures sound { OnOk result (IsSound core.new) }
+    ensures go { OnOk result (to_go core.new < to_go core.old) }
+    ensures notes { Appends notes.old notes.new }
+{
+    if core.flows.is_live(course.flow.exchange) {
+        return too_large(core, course, notes);
+    }
+    stop(core, course, tried)
+}
+
+// Nothing may move: it is looked at once more, unless it has been.
+fn stop(core: &mut WireCore, course: Course, tried: bool) -> Result<(), NoMemory>
+    requires sound { IsSound core.old }
+    requires top { top_go core.old.agenda ≡ (if tried then 1 else 6) }
+    ensures sound { OnOk result (IsSound core.new) }
+    ensures go { OnOk result (to_go core.new < to_go core.old) }
+{
+    if tried {
+        core.end_task();
+        return Ok(());
+    }
+    stand_still(core, course)
+}
+
+// Nothing may move: where something may be framed at one of its connections, they are drained. Else the run has ended.
+fn stand_still(core: &mut WireCore, course: Course) -> Result<(), NoMemory>
+    requires sound { IsSound core.old }
+    requires top { top_go core.old.agenda ≡ 6 }
+    ensures sound { OnOk result (IsSound core.new) }
+    ensures go { OnOk result (to_go core.new < to_go core.old) }
+{
+    if may_frame(core, course.to) {
+        return drain_ends(core, course);
+    }
+    if may_frame(core, course.from) {
+        return drain_ends(core, course);
+    }
+    core.end_task();
+    Ok(())
+}
+
+// Both connections are drained, the one that the flow goes to first, and then it is looked at once more.
+fn drain_ends(core: &mut WireCore, course: Course) -> Result<(), NoMemory>
+    requires sound { IsSound core.old }
+    requires top { top_go core.old.agenda ≡ 6 }
+    ensures sound { OnOk result (IsSound core.new) }
+    ensures go { OnOk result (to_go core.new < to_go core.old) }
+{
+    core.go_on(Task::Run {
+        course,
+        tried: true,
+    })?;
+    ask_drain(core, course.from)?;
+    ask_drain(core, course.to)
+}
+
+// Whether something may be framed at a connection, if there is one.
+fn may_frame(core: &mut WireCore, conn: Option<u32>) -> bool
+    requires sound { IsSound core.old }
+    ensures sound { IsSound core.new }
+    ensures go { to_go core.new ≤ to_go core.old }
+    ensures rest { core.new ≡ record core.old { conns = core.new.conns } }
+{
+    match conn {
+        Some(conn) => core.may_frame(conn),
+        None => false,
+    }
+}
+
+// A connection, if there is one, is to be drained.
+fn ask_drain(core: &mut WireCore, conn: Option<u32>) -> Result<(), NoMemory>
+    requires sound { IsSound core.old }
+    ensures sound { OnOk result (IsSound core.new) }
+    ensures go { OnOk result (to_go core.new ≤ to_go core.old + 2) }
+    ensures rest { core.new ≡ record core.old { agenda = core.new.agenda } }
+{
+    match conn {
+        Some(conn) => core.begin(Task::AskDrain(conn)),
+        None => Ok(()),
+    }
+}
+
+// A Hold can't take the body: the exchange is doomed.
+fn too_large(core: &mut WireCore, course: Course, notes: &mut Notes) -> Result<(), NoMemory>
+    requires sound { IsSound core.old }
+    requires top { 1 ≤ top_go core.old.agenda }
+    requires live { is_live_in core.old.flows course.flow.exchange ≡ true }
+    ensures sound { OnOk result (IsSound core.new) }
+    ensures go { OnOk result (to_go core.new < to_go core.old) }
+    ensures notes { Appends notes.old notes.new }
+{
+    core.go_on(Task::Run {
+        course,
+        tried: false,
+    })?;
+    ask_drain(core, course.to)?;
+    let FlowId { exchange, back } = course.flow;
+    doom(core, exchange, Cause::TooLarge, back, notes)
+}
+
+// What a move begins, and its notes.
+fn go_on(
+    core: &mut WireCore,
+    course: Course,
+    moved: Moved,
+    notes: &mut Notes,
+) -> Result<(), NoMemory>
+    requires sound { IsSound core.old }
+    requires top { 1 ≤ top_go core.old.agenda }
+    requires moved { IsMove course.flow (Outcome.Moved moved) }
+    ensures sound { OnOk result (IsSound core.new) }
+    ensures go { OnOk result (to_go core.new ≤ to_go core.old + 11) }
+    ensures notes { Appends notes.old notes.new }
+{
+    core.go_on(Task::Run {
+        course,
+        tried: false,
+    })?;
+    ask_drain(core, course.to)?;
+    core.touch(course.flow.exchange)?;
+    owe_moved(core, course, moved)?;
+    core.stir_some(course.to)?;
+    core.refresh(course)?;
+    note(
+        notes,
+        Note::Move {
+            flow: course.flow,
+            place: moved.place,
+            n: moved.n,
+        },
+    )?;
+    cross(core, course, moved, notes)
+}
+
+// Octets that left the receive buffer are owed to the stream and the connection that they came from.
+fn owe_moved(core: &mut WireCore, course: Course, moved: Moved) -> Result<(), NoMemory>
+    requires sound { IsSound core.old }
+    ensures sound { OnOk result (IsSound core.new) }
+    ensures go { OnOk result (to_go core.new ≤ to_go core.old + 1) }
+{
+    match course.from {
+        Some(from) if moved.place == 0 => owe_from(core, from, course.flow.exchange, moved.n),
+        _ => Ok(()),
+    }
+}
+
+fn owe_from(core: &mut WireCore, from: u32, exchange: u64, n: u32) -> Result<(), NoMemory>
+    requires sound { IsSound core.old }
+    ensures sound { OnOk result (IsSound core.new) }
+    ensures go { OnOk result (to_go core.new ≤ to_go core.old + 1) }
+{
+    core.stir(from)?;
+    moved_at(core, from, exchange, n)
+}
+
+fn moved_at(core: &mut WireCore, number: u32, exchange: u64, n: u32) -> Result<(), NoMemory>
+    requires sound { IsSound core.old }
+    ensures sound { OnOk result (IsSound core.new) }
+    ensures go { OnOk result (to_go core.new ≤ to_go core.old) }
+    ensures rest { core.new ≡ record core.old { conns = core.new.conns } }
+{
+    match core.conns.get_mut(&number) {
+        Some(conn) => conn.moved(exchange, n),
+        None => Ok(()),
+    }
+}
+
+// What a move crossed: the pauses, and then the doom of an overflow, or the telling of a Meter that drained.
+fn cross(
+    core: &mut WireCore,
+    course: Course,
+    moved: Moved,
+    notes: &mut Notes,
+) -> Result<(), NoMemory>
+    requires sound { IsSound core.old }
+    requires moved { IsMove course.flow (Outcome.Moved moved) }
+    ensures sound { OnOk result (IsSound core.new) }
+    ensures go { OnOk result (to_go core.new ≤ to_go core.old + 1) }
+    ensures notes { Appends notes.old notes.new }
+{
+    note_pause(course.flow, moved.rose, notes)?;
+    if moved.overflow {
+        return core.begin(Task::Doom {
+            exchange: course.flow.exchange,
+            cause: Cause::Overflow,
+            back: false,
+        });
+    }
+    match moved.drained {
+        Some(buffer) => resume(core, course, buffer, notes),
+        None => Ok(()),
+    }
+}
+
+// The buffer of a flow that its octets went to became above.
+fn note_pause(flow: FlowId, rose: Option<BufferId>, notes: &mut Notes) -> Result<(), NoMemory>
+    requires { IfSome rose (CanPause flow) }
+    ensures { Appends notes.old notes.new }
+{
+    match rose {
+        Some(buffer) => note(notes, Note::Pause { flow, buffer }),
+        None => Ok(()),
+    }
+}
+
+// The Meter of a flow has drained, and the flow was told.
+fn resume(
+    core: &mut WireCore,
+    course: Course,
+    buffer: BufferId,
+    notes: &mut Notes,
+) -> Result<(), NoMemory>
+    requires sound { IsSound core.old }
+    requires own { CanPause course.flow buffer }
+    ensures sound { OnOk result (IsSound core.new) }
+    ensures go { OnOk result (to_go core.new ≤ to_go core.old) }
+    ensures notes { Appends notes.old notes.new }
+{
+    let flow = course.flow;
+    core.look_due(course)?;
+    note(notes, Note::Resume { flow, buffer })
+}

@@ -1,0 +1,46 @@
+// Flows are told that a write buffer drained.
+ghost use Rattle.std.specs.Prelude.{◌≡◌, ◌≤◌, ◌<◌, ◌+◌, OnOk};
+ghost use Rattle.wire_state.specs.Agenda.{top_go};
+ghost use Rattle.wire_state.specs.Noting.{Appends};
+ghost use Rattle.wire_state.specs.Progress.{to_go};
+ghost use Rattle.wire_state.specs.Sound.{IsSound};
+
+use flow_gate::{BufferId, FlowId};
+use flow_notes::{Note, Notes};
+use io_ports::NoMemory;
+use wire_state::{WireCore, note};
+
+/// The task Tell: the next flow that watches the connection's write buffer is told that it drained, and is run.
+pub fn tell(core: &mut WireCore, conn: u32, notes: &mut Notes) -> Result<(), NoMemory>
+    requires sound { IsSound core.old }
+    requires top { top_go core.old.agenda ≡ 1 }
+    ensures sound { OnOk result (IsSound core.new) }
+    ensures go { OnOk result (to_go core.new < to_go core.old) }
+    ensures notes { Appends notes.old notes.new }
+{
+    let Some(flow) = core.flows.next_told(conn) else {
+        core.end_task();
+        return Ok(());
+    };
+    run_told(core, flow)?;
+    note(
+        notes,
+        Note::Resume {
+            flow,
+            buffer: BufferId::Write(conn),
+        },
+    )
+}
+
+// A flow that was told runs.
+fn run_told(core: &mut WireCore, flow: FlowId) -> Result<(), NoMemory>
+    requires sound { IsSound core.old }
+    ensures sound { OnOk result (IsSound core.new) }
+    ensures go { OnOk result (to_go core.new ≤ to_go core.old + 9) }
+{
+    let Some(course) = core.course(flow) else {
+        return Ok(());
+    };
+    core.look_due(course)?;
+    core.ask_run(course)
+}

@@ -1,0 +1,261 @@
+// Units of flows: heads, bodies and trailers.
+ghost use Rattle.exchange_core.specs.Units.{IsFrameable};
+ghost use Rattle.std.specs.Prelude.{◌≡◌, ◌≤◌, ◌+◌, IfNone, IfOk, IfSome, MatchOption, OnOk, true};
+ghost use Rattle.wire_flows.specs.Flows.{IsThere, flow_in, is_live_in};
+ghost use Rattle.wire_out.specs.Opening.{IsUnframed};
+ghost use Rattle.wire_state.specs.Agenda.{stirred_at, top_go};
+ghost use Rattle.wire_state.specs.Noting.{Appends};
+ghost use Rattle.wire_state.specs.Progress.{conn_go, to_go};
+ghost use Rattle.wire_state.specs.Sound.{IsSound};
+
+use crate::lists::frame_list;
+use exchange_core::Unit;
+use flow_gate::{BufferId, FlowId};
+use flow_notes::{Note, Notes};
+use io_ports::NoMemory;
+use wire_flows::Framed;
+use wire_state::{Conn, Course, Task, WireCore, note, note_pauses};
+
+/// A flow at the connection that it goes to: its stream there is none until a request's head is framed.
+#[derive(Clone, Copy)]
+pub(crate) struct Going {
+    pub(crate) conn: u32,
+    pub(crate) course: Course,
+    pub(crate) stream: Option<u32>,
+}
+
+/// The next unit of the flow of an exchange that goes to a connection that is drained. Where there is none, the exchange isn't
+/// ready any more.
+#[tactic(auto, using(crate::proofs::Framing::as_list))]
+pub(crate) fn frame_flow(
+    core: &mut WireCore,
+    conn: u32,
+    exchange: u64,
+    notes: &mut Notes,
+) -> Result<(), NoMemory>
+    requires sound { IsSound core.old }
+    requires top { top_go core.old.agenda ≡ 1 }
+    ensures sound { OnOk result (IsSound core.new) }
+    ensures go { OnOk result (to_go core.new + (1 + stirred_at conn core.old.stirred.conns.keys) ≤ to_go core.old) }
+    ensures notes { Appends notes.old notes.new }
+{
+    let Some(going) = going_to(core, conn, exchange) else {
+        unready(core, conn, exchange);
+        return Ok(());
+    };
+    match unit_of(core, going) {
+        Unit::Nothing => {
+            unready(core, conn, exchange);
+            Ok(())
+        }
+        Unit::Head { last } => frame_list(core, going, last, notes),
+        Unit::Trailers => frame_list(core, going, true, notes),
+        Unit::Body { .. } => frame_body(core, going, notes),
+    }
+}
+
+// The flow of a live exchange that goes to a connection.
+fn going_to(core: &WireCore, conn: u32, exchange: u64) -> Option<Going>
+    ensures live { IfSome result (λ going. is_live_in core.entry.now.flows going.course.flow.exchange ≡ true) }
+    ensures conn { IfSome result (λ going. going.conn ≡ conn) }
+    ensures exchange { IfSome result (λ going. going.course.flow.exchange ≡ exchange) }
+    ensures there { IfSome result (λ going. IsThere core.entry.now.flows going.course.flow) }
+    ensures unframed { IfSome result (λ going. IfNone going.stream (IsUnframed conn exchange core.entry.now.links)) }
+{
+    if !core.flows.is_live(exchange) {
+        return None;
+    }
+    let ends = core.links.ends_of(exchange)?;
+    if ends.client == conn {
+        let course = Course {
+            flow: FlowId {
+                exchange,
+                back: true,
+            },
+            from: ends.cluster,
+            to: Some(conn),
+        };
+        return Some(Going {
+            conn,
+            course,
+            stream: Some(ends.stream),
+        });
+    }
+    if ends.cluster != Some(conn) {
+        return None;
+    }
+    let course = Course {
+        flow: FlowId {
+            exchange,
+            back: false,
+        },
+        from: Some(ends.client),
+        to: Some(conn),
+    };
+    Some(Going {
+        conn,
+        course,
+        stream: ends.cluster_stream,
+    })
+}
+
+// What of a flow may be framed now.
+fn unit_of(core: &WireCore, going: Going) -> Unit
+    requires { IsThere core.now.flows going.course.flow }
+    ensures { IfSome (flow_in core.entry.now.flows going.course.flow) (IsFrameable result) }
+{
+    let flow = going.course.flow;
+    match core.conns.get(&going.conn) {
+        Some(conn) => {
+            let room = conn.room(flow.exchange);
+            core.flows
+                .next_unit(flow, room, conn.windows.send.payload())
+        }
+        None => Unit::Nothing,
+    }
+}
+
+/// The exchange has no unit for a connection that is drained.
+pub(crate) fn unready(core: &mut WireCore, number: u32, exchange: u64)
+    requires sound { IsSound core.old }
+    requires top { top_go core.old.agenda ≡ 1 }
+    ensures sound { IsSound core.new }
+    ensures go { to_go core.new + (1 + stirred_at number core.old.stirred.conns.keys) ≤ to_go core.old }
+{
+    forget_hint(core, number, exchange);
+    core.give_up(number);
+}
+
+fn forget_hint(core: &mut WireCore, number: u32, exchange: u64)
+    requires sound { IsSound core.old }
+    ensures sound { IsSound core.new }
+    ensures go { to_go core.new ≤ to_go core.old }
+    ensures rest { core.new ≡ record core.old { conns = core.new.conns } }
+{
+    match core.conns.get_mut(&number) {
+        Some(conn) => drop_hint(conn, exchange),
+        None => {}
+    }
+}
+
+#[tactic(auto, unfolding(wire_state::specs::Progress::conn_go))]
+fn drop_hint(conn: &mut Conn, exchange: u64)
+    ensures rest { conn.new ≡ record conn.old { ready = conn.new.ready } }
+    ensures go { conn_go conn.new ≡ conn_go conn.old }
+{
+    conn.ready.remove(exchange);
+}
+
+// A DATA frame of a flow, and what it begins.
+fn frame_body(core: &mut WireCore, going: Going, notes: &mut Notes) -> Result<(), NoMemory>
+    requires sound { IsSound core.old }
+    requires top { top_go core.old.agenda ≡ 1 }
+    requires there { IsThere core.old.flows going.course.flow }
+    ensures sound { OnOk result (IsSound core.new) }
+    ensures go { OnOk result (to_go core.new + (1 + stirred_at going.conn core.old.stirred.conns.keys) ≤ to_go core.old) }
+    ensures notes { Appends notes.old notes.new }
+{
+    let flow = going.course.flow;
+    let Some(framed) = write_body(core, going)? else {
+        unready(core, going.conn, flow.exchange);
+        return Ok(());
+    };
+    core.stir_course(going.course)?;
+    core.touch(flow.exchange)?;
+    end_where(core, flow.exchange, framed.last)?;
+    note(
+        notes,
+        Note::Frame {
+            conn: going.conn,
+            flow,
+            n: framed.n,
+            last: framed.last,
+        },
+    )?;
+    note_risen(core, going.conn, framed.rose, notes)?;
+    resume_where(core, going.course, framed.drained, notes)
+}
+
+// The octets of a DATA frame go from the send buffer into the write buffer, under both windows. None where there is no such
+// frame.
+fn write_body(core: &mut WireCore, going: Going) -> Result<Option<Framed>, NoMemory>
+    requires sound { IsSound core.old }
+    requires there { IsThere core.old.flows going.course.flow }
+    ensures sound { OnOk result (IsSound core.new) }
+    ensures go { IfOk result (λ framed. MatchOption framed (to_go core.new ≤ to_go core.old) (λ f. to_go core.new + 40 ≤ to_go core.old)) }
+    ensures rest { core.new ≡ record core.old { conns = core.new.conns; flows = core.new.flows } }
+{
+    match going.stream {
+        Some(stream) => write_body_on(core, going.conn, going.course.flow, stream),
+        None => Ok(None),
+    }
+}
+
+fn write_body_on(
+    core: &mut WireCore,
+    number: u32,
+    flow: FlowId,
+    stream: u32,
+) -> Result<Option<Framed>, NoMemory>
+    requires sound { IsSound core.old }
+    requires there { IsThere core.old.flows flow }
+    ensures sound { OnOk result (IsSound core.new) }
+    ensures go { IfOk result (λ framed. MatchOption framed (to_go core.new ≤ to_go core.old) (λ f. to_go core.new + 40 ≤ to_go core.old)) }
+    ensures rest { core.new ≡ record core.old { conns = core.new.conns; flows = core.new.flows } }
+{
+    let quantum = core.config.limits.quantum;
+    match core.conns.get_mut(&number) {
+        Some(conn) => conn.write_body(&mut core.flows, flow, number, stream, quantum),
+        None => Ok(None),
+    }
+}
+
+/// Where the end of a flow of the exchange was framed, it is looked at whether it is done.
+pub(crate) fn end_where(core: &mut WireCore, exchange: u64, last: bool) -> Result<(), NoMemory>
+    requires sound { IsSound core.old }
+    ensures sound { OnOk result (IsSound core.new) }
+    ensures go { OnOk result (to_go core.new ≤ to_go core.old + 1) }
+    ensures rest { core.new ≡ record core.old { agenda = core.new.agenda } }
+{
+    if last {
+        return core.begin(Task::End(exchange));
+    }
+    Ok(())
+}
+
+// Where the write buffer rose, the flows that go to the connection are held back.
+fn note_risen(core: &WireCore, conn: u32, rose: bool, notes: &mut Notes) -> Result<(), NoMemory>
+    ensures { Appends notes.old notes.new }
+{
+    if rose {
+        return note_pauses(&core.flows, conn, notes);
+    }
+    Ok(())
+}
+
+// Where the send buffer of a flow has drained, the flow is told, and runs.
+fn resume_where(
+    core: &mut WireCore,
+    course: Course,
+    drained: bool,
+    notes: &mut Notes,
+) -> Result<(), NoMemory>
+    requires sound { IsSound core.old }
+    ensures sound { OnOk result (IsSound core.new) }
+    ensures go { OnOk result (to_go core.new ≤ to_go core.old + 9) }
+    ensures notes { Appends notes.old notes.new }
+{
+    if !drained {
+        return Ok(());
+    }
+    let flow = course.flow;
+    core.look_due(course)?;
+    core.ask_run(course)?;
+    note(
+        notes,
+        Note::Resume {
+            flow,
+            buffer: BufferId::Send(flow),
+        },
+    )
+}

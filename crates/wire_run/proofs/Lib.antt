@@ -1,0 +1,6 @@
+pub mod Completing
+pub mod Noting
+pub mod Playing
+pub mod Retelling
+pub mod Spelling
+pub mod Staging

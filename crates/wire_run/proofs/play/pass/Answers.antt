@@ -1,0 +1,6 @@
+-- The exchange passes the stages of its row.
+use Rattle.wire_run.proofs.Staging.{pass_told}
+use Rattle.wire_run.proofs.play.pass.Goals as goal
+
+pub returns : goal.returns
+returns c = pass_told c.pass.result _ c.row-row.result _ _ _ _ c.in_ok-limits.ensures c.in_ok-limits-2.ensures c.pass.ensures

@@ -1,0 +1,9 @@
+pub mod Credits
+pub mod Keeping
+pub mod Notings
+pub mod Results
+pub mod Rooms
+pub mod Soundness
+pub mod Tasks
+pub mod Timing
+pub mod Weights

@@ -1,0 +1,9 @@
+use Rattle.flow_gate.specs.declared.ids.BufferId.TheVariants as buffer
+use Rattle.flow_notes.specs.declared.notes.Note.TheVariants as note
+use Rattle.std.specs.Prelude.{map}
+use Rattle.wire_state.proofs.Notings.{appends_of, pauses_are_steps}
+use Rattle.wire_state.proofs.noting.note_pauses.Goals as goal
+
+pub returns : goal.returns
+returns c =
+    appends_of c.push_pauses.result c.args.notes.now (map (λ f. note.Pause f (buffer.Write c.args.conn)) c.watchers.result) c.push_pauses.new.self (pauses_are_steps c.args.conn c.watchers.result) c.push_pauses.ensures.ok c.push_pauses.ensures.err

@@ -1,0 +1,16 @@
+use Rattle.std.proofs.Common.{ap, arith}
+use Rattle.wire_state.proofs.Soundness.{empty_kept, empty_live}
+use Rattle.wire_state.proofs.wire_core.WireCore.new.Goals as goal
+use Rattle.wire_timers.specs.Armed.{Timeouts}
+
+pub returns-clause-sound : goal.returns-clause-sound
+returns-clause-sound c =
+    let t = ap (λ (v : Timeouts). v.latest) c.in_ok-timers.ensures.none in
+    record {
+      range = c.requires;
+      moment = omega arith;
+      armed = omega (arith, t);
+      metered = omega (arith, c.new-6.ensures.empty.time);
+      live = empty_live c.new-3.result c.new-6.result c.new-3.ensures c.new-6.ensures.empty.live;
+      kept = empty_kept c.args.config.limits c.new-4.result c.new-4.ensures.empty;
+    }

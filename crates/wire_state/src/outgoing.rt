@@ -1,0 +1,186 @@
+// What goes out on a connection.
+ghost use Rattle.exchange_core.specs.Units.{IsFrameable as IsFrameableUnit};
+ghost use Rattle.flow_rules.specs.declared.unit.Unit.TheVariants.{Head};
+ghost use Rattle.h2_windows.specs.SendWindow.{Spend, changed};
+ghost use Rattle.proxy_config.specs.declared.config.LimitKeys.{LimitKeys as Limits};
+ghost use Rattle.std.specs.Prelude.{◌≡◌, ◌<◌, ◌≤◌, ◌+◌, ◌^◌, IfOk, IfSome, MatchOption, OnOk, false, true};
+ghost use Rattle.wire_flows.specs.Flows.{IsThere, KeepsLive, flow_in, time_of};
+ghost use Rattle.wire_flows.specs.Measure.{to_go};
+ghost use Rattle.wire_outlet.specs.Waiting.{IsFrameable};
+ghost use Rattle.wire_state.specs.Progress.{conn_go};
+ghost use Rattle.wire_state.specs.Sound.{IsKept};
+
+use crate::conn::{Conn, is_stream};
+use flow_gate::FlowId;
+use io_ports::{NoMemory, Octets};
+use wire_flows::{Framed as FramedBody, WireFlows};
+use wire_outlet::{Framed, Waiting};
+use wm_buffer::Crossed;
+
+/// The most octets that a list of fields counts, beside which its frames fit into a unit.
+const MOST_LIST: usize = 61_440;
+
+impl Conn {
+    /// Appends a unit to the waiting list, where fewer than `most` wait and the connection is open. The answer is false where the
+    /// list is full: then the unit is dropped.
+    pub fn put(&mut self, unit: Waiting, most: u32) -> Result<bool, NoMemory>
+        requires { IsFrameable unit }
+        ensures kept { (limits : Limits) → most ≡ limits.control_frames → IsKept limits self.old.outlet → IsKept limits self.new.outlet }
+        ensures rest { self.new ≡ record self.old { outlet = self.new.outlet } }
+        ensures go { conn_go self.new ≤ conn_go self.old + 4 }
+    {
+        if !self.open {
+            return Ok(true);
+        }
+        self.outlet.put(unit, most)
+    }
+
+    /// The GOAWAY of a close goes into the write buffer, unless that is above. It names the last stream of the first GOAWAY, where
+    /// the connection is draining, and 0 towards a cluster. The frame is given too.
+    pub fn farewell(&mut self, code: u32) -> Result<Option<(Octets, Crossed)>, NoMemory>
+        ensures kept { (limits : Limits) → IsKept limits self.old.outlet → IsKept limits self.new.outlet }
+        ensures rest { self.new ≡ record self.old { outlet = self.new.outlet } }
+        ensures go { conn_go self.new ≤ conn_go self.old }
+    {
+        if self.outlet.is_above() {
+            return Ok(None);
+        }
+        let last = self.goaway_last();
+        Ok(Some(self.outlet.farewell(last, code)?))
+    }
+
+    /// From now on the connection isn't open, and nothing waits.
+    pub fn shut(&mut self)
+        ensures kept { (limits : Limits) → IsKept limits self.old.outlet → IsKept limits self.new.outlet }
+        ensures less { self.old.open ≡ true → conn_go self.new + 4 ≤ conn_go self.old }
+    {
+        self.open = false;
+        self.outlet.drop_waiting();
+    }
+
+    /// The octets for the socket and the units that wait go nowhere. The answer is whether the write buffer was above.
+    pub fn drop_octets(&mut self) -> bool
+        ensures kept { (limits : Limits) → IsKept limits self.old.outlet → IsKept limits self.new.outlet }
+    {
+        let was_above = self.outlet.is_above();
+        self.outlet.drop_all();
+        was_above
+    }
+
+    /// An open connection that isn't draining begins to. The answer is the last stream that its GOAWAY names; none where it
+    /// isn't open, or draining already: then nothing changes.
+    pub fn begin_draining(&mut self) -> Option<u32>
+        ensures rest { self.new ≡ record self.old { draining = self.new.draining } }
+        ensures go { conn_go self.new ≡ conn_go self.old }
+        ensures last { IfSome result (λ last. last < 2 ^ 31) }
+    {
+        if !self.open || self.draining.is_some() {
+            return None;
+        }
+        let last = self.goaway_last();
+        self.draining = Some(last);
+        Some(last)
+    }
+
+    /// The first unit that waits goes into the write buffer. None where none waits, or the connection may not write.
+    pub fn write_waiting(&mut self) -> Result<Option<(Framed, Crossed)>, NoMemory>
+        ensures kept { (limits : Limits) → IsKept limits self.old.outlet → IsKept limits self.new.outlet }
+        ensures rest { self.new ≡ record self.old { outlet = self.new.outlet } }
+        ensures go { IfOk result (λ framed. MatchOption framed (conn_go self.new ≤ conn_go self.old) (λ f. conn_go self.new + 4 ≤ conn_go self.old)) }
+    {
+        if !self.may_write() {
+            return Ok(None);
+        }
+        self.outlet.frame_waiting()
+    }
+
+    /// A WINDOW_UPDATE frame on a stream, or with 0 on the connection, goes into the write buffer. None where it would grant
+    /// nothing, no frame can name the stream, or the connection may not write.
+    pub fn write_update(&mut self, stream: u32, n: u32) -> Result<Option<Crossed>, NoMemory>
+        requires { n < 2 ^ 31 }
+        ensures kept { (limits : Limits) → IsKept limits self.old.outlet → IsKept limits self.new.outlet }
+        ensures rest { self.new ≡ record self.old { outlet = self.new.outlet } }
+        ensures go { conn_go self.new ≤ conn_go self.old }
+        ensures some { IfOk result (λ crossed. IfSome crossed (λ c. 0 < n)) }
+    {
+        if n == 0 || stream != 0 && !is_stream(stream) || !self.may_write() {
+            return Ok(None);
+        }
+        Ok(Some(self.outlet.frame_update(stream, n)?))
+    }
+
+    /// The list that waits of a flow goes into the write buffer, on its stream and with its end where `last` holds. The frames are
+    /// given too. None where no list waits, it is too long, no frame can name the stream, or the connection may not write.
+    pub fn write_list(
+        &mut self,
+        flows: &mut WireFlows,
+        flow: FlowId,
+        stream: u32,
+        last: bool,
+    ) -> Result<Option<(Octets, Crossed)>, NoMemory>
+        requires live { IsThere flows.old flow }
+        requires unit { IfSome (flow_in flows.old flow) (IsFrameableUnit (Head last)) }
+        ensures kept { (limits : Limits) → IsKept limits self.old.outlet → OnOk result (IsKept limits self.new.outlet) }
+        ensures open { self.new.open ≡ self.old.open }
+        ensures keeps { OnOk result (KeepsLive flows.old flows.new) }
+        ensures time { OnOk result (time_of flows.new ≡ time_of flows.old) }
+        ensures go { IfOk result (λ framed. MatchOption framed (conn_go self.new + to_go flows.new ≤ conn_go self.old + to_go flows.old) (λ f. conn_go self.new + (to_go flows.new + 40) ≤ conn_go self.old + to_go flows.old)) }
+    {
+        let Some(fields) = flows.fields(flow) else {
+            return Ok(None);
+        };
+        if !is_stream(stream) || !self.may_write() || fields.size() > MOST_LIST {
+            return Ok(None);
+        }
+        let framed = self.outlet.frame_block(stream, last, fields)?;
+        flows.list_framed(flow, last);
+        let room = self.windows.send.room(flow.exchange).unwrap_or(0);
+        let next = flows.next_unit(flow, room, self.windows.send.payload());
+        self.framed(flow.exchange, stream, last, next)?;
+        Ok(Some(framed))
+    }
+
+    /// The next octets of a flow go from its send buffer into the write buffer of this connection, as a DATA frame on its stream,
+    /// under both windows and at most a quantum. None where no octets and no end go next, no frame can name the stream, or the
+    /// connection may not write.
+    pub fn write_body(
+        &mut self,
+        flows: &mut WireFlows,
+        flow: FlowId,
+        number: u32,
+        stream: u32,
+        quantum: u32,
+    ) -> Result<Option<FramedBody>, NoMemory>
+        requires { IsThere flows.old flow }
+        ensures kept { (limits : Limits) → quantum ≡ limits.quantum → IsKept limits self.old.outlet → OnOk result (IsKept limits self.new.outlet) }
+        ensures open { self.new.open ≡ self.old.open }
+        ensures keeps { OnOk result (KeepsLive flows.old flows.new) }
+        ensures time { OnOk result (time_of flows.new ≡ time_of flows.old) }
+        ensures spent { IfOk result (λ framed. IfSome framed (λ f. self.new.windows.send.conn ≡ changed (Spend f.n) self.old.windows.send.conn)) }
+        ensures go { IfOk result (λ framed. MatchOption framed (conn_go self.new + to_go flows.new ≤ conn_go self.old + to_go flows.old) (λ f. conn_go self.new + (to_go flows.new + 40) ≤ conn_go self.old + to_go flows.old)) }
+    {
+        if !is_stream(stream) || !self.may_write() {
+            return Ok(None);
+        }
+        let within = self.room(flow.exchange);
+        let most = within.min(i64::from(quantum));
+        let room = self.windows.send.room(flow.exchange).unwrap_or(0);
+        let payload = self.windows.send.payload();
+        let out = self.outlet.write_mut();
+        let Some(framed) = flows.frame_body(flow, number, stream, out, room, most, payload)? else {
+            return Ok(None);
+        };
+        self.windows.send.spend(flow.exchange, framed.n);
+        self.framed(flow.exchange, stream, framed.last, framed.next)?;
+        Ok(Some(framed))
+    }
+
+    /// Up to n octets left the write buffer. Answers how many did, and what that crossed.
+    pub fn leave_write(&mut self, n: u32) -> (u32, Crossed)
+        ensures kept { (limits : Limits) → IsKept limits self.old.outlet → IsKept limits self.new.outlet }
+        ensures rest { self.new ≡ record self.old { outlet = self.new.outlet } }
+    {
+        let n = n.min(self.outlet.len());
+        (n, self.outlet.leave(n))
+    }
+}

@@ -1,0 +1,379 @@
+// The state of a worker's wire sessions.
+ghost use Rattle.proxy_config.specs.Ranges.{IsInRange};
+ghost use Rattle.std.specs.Prelude.{◌≡◌, ◌≤◌, ◌+◌, ◌∷◌, [], IfOk, OnOk};
+ghost use Rattle.wire_state.specs.Agenda.{stirred_at, top_go};
+ghost use Rattle.wire_state.specs.Courses.{comes_from, course_at, course_in, goes_to, row_of};
+ghost use Rattle.wire_state.specs.Noting.{Appends};
+ghost use Rattle.wire_state.specs.Progress.{task_go, to_go};
+ghost use Rattle.wire_state.specs.Sound.{IsSound, is_open_at};
+
+use crate::agenda::{Agenda, Task};
+use crate::conn::Conn;
+use crate::course::Course;
+use crate::noting::note_pauses;
+use crate::stirred::Stirred;
+use crate::walk::Walk;
+use flow_gate::FlowId;
+use flow_notes::{FireKind, Notes};
+use io_ports::NoMemory;
+use proxy_config::Config;
+use std::alloc::Global;
+use std::collections::{BTreeMap, BTreeSet};
+use wire_flows::WireFlows;
+use wire_heads::Expected;
+use wire_links::Links;
+use wire_load::Load;
+use wire_timers::{DueList, WireTimers};
+
+/// What the bodies of an exchange's messages have to be, and what came of them.
+#[derive(Clone, Copy, Debug)]
+pub struct Lengths {
+    pub request: Expected,
+    pub response: Expected,
+}
+
+/// The state of a worker's wire sessions.
+#[derive(Drop)]
+pub struct WireCore {
+    pub alloc: Global,
+    pub config: Config,
+    /// The greatest moment that a tick told, in ms.
+    pub now: u64,
+    /// The last published version that was obeyed, 0 before the first.
+    pub obeyed: u64,
+    pub links: Links,
+    /// The open connections, and closed ones with octets in their write buffer.
+    pub conns: BTreeMap<u32, Conn>,
+    /// Of these, at rest, the ones with octets in their write buffer.
+    pub outs: BTreeSet<u32>,
+    pub flows: WireFlows,
+    /// By live exchange.
+    pub lengths: BTreeMap<u64, Lengths>,
+    pub timers: WireTimers,
+    pub load: Load,
+    pub agenda: Agenda,
+    /// The greatest exchange before this dispatch, and the route rows of those that began in it.
+    pub before: u64,
+    pub rows: Vec<Option<u32>>,
+    pub stirred: Stirred,
+    /// What a tick goes through.
+    pub walk: Walk,
+    /// From which connection on the round goes on.
+    pub cursor: u32,
+    /// The timers that are due in this dispatch and haven't fired.
+    pub due: DueList,
+}
+
+impl WireCore {
+    /// The core before its first event. Refused only for lack of memory.
+    pub fn new(alloc: Global, config: Config) -> Result<Self, NoMemory>
+        requires { IsInRange config }
+        ensures sound { IfOk result (λ core. IsSound core) }
+        ensures idle { IfOk result (λ core. core.agenda ≡ []) }
+    {
+        let load = Load::new(alloc, config.overload.class_start)?;
+        let timers = WireTimers::new(alloc, &config)?;
+        Ok(WireCore {
+            alloc,
+            config,
+            now: 0,
+            obeyed: 0,
+            links: Links::new(alloc),
+            conns: BTreeMap::new(alloc),
+            outs: BTreeSet::new(alloc),
+            flows: WireFlows::new(alloc),
+            lengths: BTreeMap::new(alloc),
+            timers,
+            load,
+            agenda: Agenda::new(alloc),
+            before: 0,
+            rows: Vec::new(alloc),
+            stirred: Stirred::new(alloc),
+            walk: Walk::new(alloc),
+            cursor: 0,
+            due: DueList::none(alloc),
+        })
+    }
+
+    /// Whether a connection is there and hasn't been closed.
+    pub fn is_open(&self, conn: u32) -> bool
+        ensures { result ≡ is_open_at conn self.entry.now }
+    {
+        match self.conns.get(&conn) {
+            Some(conn) => conn.open,
+            None => false,
+        }
+    }
+
+    /// Begins a task.
+    pub fn begin(&mut self, task: Task) -> Result<(), NoMemory>
+        requires sound { IsSound self.old }
+        ensures sound { OnOk result (IsSound self.new) }
+        ensures go { OnOk result (to_go self.new ≡ to_go self.old + task_go task) }
+        ensures agenda { OnOk result (self.new.agenda ≡ task ∷ self.old.agenda) }
+        ensures rest { self.new ≡ record self.old { agenda = self.new.agenda } }
+    {
+        self.agenda.push(task)
+    }
+
+    /// Ends the task on top.
+    pub fn end_task(&mut self)
+        requires sound { IsSound self.old }
+        ensures sound { IsSound self.new }
+        ensures go { to_go self.new + top_go self.old.agenda ≡ to_go self.old }
+        ensures rest { self.new ≡ record self.old { agenda = self.new.agenda } }
+    {
+        self.agenda.pop();
+    }
+
+    /// The task on top goes on as another.
+    pub fn go_on(&mut self, task: Task) -> Result<(), NoMemory>
+        requires sound { IsSound self.old }
+        ensures sound { OnOk result (IsSound self.new) }
+        ensures go { OnOk result (to_go self.new + top_go self.old.agenda ≡ to_go self.old + task_go task) }
+        ensures rest { self.new ≡ record self.old { agenda = self.new.agenda } }
+    {
+        self.end_task();
+        self.begin(task)
+    }
+
+    /// Something changed at a connection in this dispatch.
+    pub fn stir(&mut self, conn: u32) -> Result<(), NoMemory>
+        requires sound { IsSound self.old }
+        ensures sound { OnOk result (IsSound self.new) }
+        ensures go { OnOk result (to_go self.new ≤ to_go self.old + 1) }
+        ensures rest { self.new ≡ record self.old { stirred = self.new.stirred } }
+    {
+        self.stirred.add(conn)
+    }
+
+    /// The task on top, which frames the units of a connection, has found none that can be framed: it ends, and the connection
+    /// isn't looked at again in this dispatch unless something changes there.
+    pub fn give_up(&mut self, conn: u32)
+        requires sound { IsSound self.old }
+        ensures sound { IsSound self.new }
+        ensures go { to_go self.new + (top_go self.old.agenda + stirred_at conn self.old.stirred.conns.keys) ≡ to_go self.old }
+    {
+        self.end_task();
+        self.stirred.remove(conn);
+    }
+
+    /// Something changed at both ends of a flow.
+    pub fn stir_course(&mut self, course: Course) -> Result<(), NoMemory>
+        requires sound { IsSound self.old }
+        ensures sound { OnOk result (IsSound self.new) }
+        ensures go { OnOk result (to_go self.new ≤ to_go self.old + 2) }
+        ensures rest { self.new ≡ record self.old { stirred = self.new.stirred } }
+    {
+        self.stir_some(course.from)?;
+        self.stir_some(course.to)
+    }
+
+    /// Something changed at a connection, if there is one.
+    pub fn stir_some(&mut self, conn: Option<u32>) -> Result<(), NoMemory>
+        requires sound { IsSound self.old }
+        ensures sound { OnOk result (IsSound self.new) }
+        ensures go { OnOk result (to_go self.new ≤ to_go self.old + 1) }
+        ensures rest { self.new ≡ record self.old { stirred = self.new.stirred } }
+    {
+        match conn {
+            Some(conn) => self.stir(conn),
+            None => Ok(()),
+        }
+    }
+
+    /// The flow is to be run.
+    pub fn ask_run(&mut self, course: Course) -> Result<(), NoMemory>
+        requires sound { IsSound self.old }
+        ensures sound { OnOk result (IsSound self.new) }
+        ensures go { OnOk result (to_go self.new ≤ to_go self.old + 9) }
+        ensures rest { self.new ≡ record self.old { stirred = self.new.stirred; agenda = self.new.agenda } }
+    {
+        self.stir_course(course)?;
+        self.begin(Task::AskRun(course))
+    }
+
+    /// This dispatch touches the exchange: it goes on, or holds more or fewer octets.
+    pub fn touch(&mut self, exchange: u64) -> Result<(), NoMemory>
+        requires sound { IsSound self.old }
+        ensures sound { OnOk result (IsSound self.new) }
+        ensures go { OnOk result (to_go self.new ≡ to_go self.old) }
+        ensures rest { self.new ≡ record self.old { load = self.new.load } }
+    {
+        self.load.touch(exchange)
+    }
+
+    /// Arms a timer of an exchange or a connection, from the moment of the last tick on.
+    pub fn arm(&mut self, kind: FireKind, id: u64) -> Result<(), NoMemory>
+        requires sound { IsSound self.old }
+        ensures sound { OnOk result (IsSound self.new) }
+        ensures go { OnOk result (to_go self.new ≤ to_go self.old + 1) }
+        ensures rest { self.new ≡ record self.old { timers = self.new.timers } }
+    {
+        self.timers.arm(kind, id, self.now)
+    }
+
+    /// The timer of an exchange or a connection isn't armed any more.
+    pub fn disarm(&mut self, kind: FireKind, id: u64)
+        requires sound { IsSound self.old }
+        ensures sound { IsSound self.new }
+        ensures go { to_go self.new ≤ to_go self.old }
+        ensures rest { self.new ≡ record self.old { timers = self.new.timers } }
+    {
+        self.timers.disarm(kind, id);
+    }
+
+    /// The write buffer of a connection rose: its flows are held back once more, each with its note.
+    pub fn rise(&mut self, conn: u32, notes: &mut Notes) -> Result<(), NoMemory>
+        requires sound { IsSound self.old }
+        ensures sound { OnOk result (IsSound self.new) }
+        ensures go { OnOk result (to_go self.new ≤ to_go self.old) }
+        ensures notes { Appends notes.old notes.new }
+        ensures rest { self.new ≡ record self.old { flows = self.new.flows } }
+    {
+        self.flows.write_rose(conn);
+        note_pauses(&self.flows, conn, notes)
+    }
+
+    /// The course of a flow of a live exchange.
+    pub fn course(&self, flow: FlowId) -> Option<Course>
+        ensures { result ≡ course_in self.entry.now.links flow }
+    {
+        match self.links.ends_of(flow.exchange) {
+            Some(ends) => Some(Course::of(flow.exchange, flow.back, ends)),
+            None => None,
+        }
+    }
+
+    /// The flow that comes from a stream of a connection.
+    pub fn flow_from(&self, conn: u32, stream: u32) -> Option<Course>
+        ensures { result ≡ course_at (comes_from conn) conn stream self.entry.now.links }
+    {
+        let exchange = self.links.exchange_at(conn, stream)?;
+        let ends = self.links.ends_of(exchange)?;
+        Some(Course::of(exchange, ends.client != conn, ends))
+    }
+
+    /// The flow that goes to a stream of a connection.
+    pub fn flow_to(&self, conn: u32, stream: u32) -> Option<Course>
+        ensures { result ≡ course_at (goes_to conn) conn stream self.entry.now.links }
+    {
+        let exchange = self.links.exchange_at(conn, stream)?;
+        let ends = self.links.ends_of(exchange)?;
+        Some(Course::of(exchange, ends.client == conn, ends))
+    }
+
+    /// Whether something may be framed at a connection.
+    pub fn may_frame(&mut self, conn: u32) -> bool
+        requires sound { IsSound self.old }
+        ensures sound { IsSound self.new }
+        ensures go { to_go self.new ≡ to_go self.old }
+        ensures rest { self.new ≡ record self.old { conns = self.new.conns } }
+    {
+        match self.conns.get_mut(&conn) {
+            Some(conn) => conn.may_frame(&self.flows),
+            None => false,
+        }
+    }
+
+    /// Nothing holds the flow back any more: where its stream is due a WINDOW_UPDATE, that may be framed.
+    pub fn look_due(&mut self, course: Course) -> Result<(), NoMemory>
+        requires sound { IsSound self.old }
+        ensures sound { OnOk result (IsSound self.new) }
+        ensures go { to_go self.new ≤ to_go self.old }
+        ensures rest { self.new ≡ record self.old { conns = self.new.conns } }
+    {
+        match course.from {
+            Some(from) => self.look_due_at(from, course.flow.exchange),
+            None => Ok(()),
+        }
+    }
+
+    fn look_due_at(&mut self, number: u32, exchange: u64) -> Result<(), NoMemory>
+        requires sound { IsSound self.old }
+        ensures sound { OnOk result (IsSound self.new) }
+        ensures go { to_go self.new ≤ to_go self.old }
+        ensures rest { self.new ≡ record self.old { conns = self.new.conns } }
+    {
+        match self.conns.get_mut(&number) {
+            Some(conn) => conn.look_due(exchange),
+            None => Ok(()),
+        }
+    }
+
+    /// Looks up what goes next of a flow of a live exchange, for the connection that it goes to.
+    pub fn refresh(&mut self, course: Course) -> Result<(), NoMemory>
+        requires sound { IsSound self.old }
+        ensures sound { OnOk result (IsSound self.new) }
+        ensures go { to_go self.new ≤ to_go self.old }
+        ensures rest { self.new ≡ record self.old { conns = self.new.conns } }
+    {
+        match course.to {
+            Some(to) => self.refresh_at(to, course.flow),
+            None => Ok(()),
+        }
+    }
+
+    fn refresh_at(&mut self, number: u32, flow: FlowId) -> Result<(), NoMemory>
+        requires sound { IsSound self.old }
+        ensures sound { OnOk result (IsSound self.new) }
+        ensures go { to_go self.new ≤ to_go self.old }
+        ensures rest { self.new ≡ record self.old { conns = self.new.conns } }
+    {
+        match self.conns.get_mut(&number) {
+            Some(conn) => conn.refresh(&self.flows, flow),
+            None => Ok(()),
+        }
+    }
+
+    /// The message of the flow ended: no more is owed to its stream, and a request's response is awaited from now on.
+    pub fn flow_ended(&mut self, course: Course, stream: u32) -> Result<(), NoMemory>
+        requires sound { IsSound self.old }
+        ensures sound { OnOk result (IsSound self.new) }
+        ensures go { OnOk result (to_go self.new ≤ to_go self.old + 1) }
+        ensures rest { self.new ≡ record self.old { conns = self.new.conns; timers = self.new.timers } }
+    {
+        let exchange = course.flow.exchange;
+        self.peer_ended(course.from, exchange, stream);
+        if course.flow.back {
+            return Ok(());
+        }
+        self.arm(FireKind::Route, exchange)
+    }
+
+    // The peer's side of a stream of a connection, if there is one, ended.
+    fn peer_ended(&mut self, from: Option<u32>, exchange: u64, stream: u32)
+        requires sound { IsSound self.old }
+        ensures sound { IsSound self.new }
+        ensures go { to_go self.new ≤ to_go self.old }
+        ensures rest { self.new ≡ record self.old { conns = self.new.conns } }
+    {
+        match from {
+            Some(from) => self.peer_ended_at(from, exchange, stream),
+            None => {}
+        }
+    }
+
+    fn peer_ended_at(&mut self, number: u32, exchange: u64, stream: u32)
+        requires sound { IsSound self.old }
+        ensures sound { IsSound self.new }
+        ensures go { to_go self.new ≤ to_go self.old }
+        ensures rest { self.new ≡ record self.old { conns = self.new.conns } }
+    {
+        match self.conns.get_mut(&number) {
+            Some(conn) => conn.peer_ended(exchange, stream),
+            None => {}
+        }
+    }
+
+    /// The route row of an exchange that began in the last dispatch: none where its request was refused before one was found.
+    pub fn row(&self, exchange: u64) -> Option<u32>
+        ensures { result ≡ row_of exchange self.entry.now.before self.entry.now.rows.items }
+    {
+        if exchange <= self.before {
+            return None;
+        }
+        let place = usize::try_from(exchange - self.before - 1).ok()?;
+        *self.rows.get(place)?
+    }
+}

@@ -1,0 +1,4 @@
+pub mod Levels
+pub mod Logging
+pub mod Places
+pub mod Summarizes

@@ -1,0 +1,3 @@
+pub mod Agendas
+pub mod Answering
+pub mod Turning

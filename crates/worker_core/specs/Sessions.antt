@@ -1,0 +1,74 @@
+-- A core of plain sessions, or of wire sessions.
+use Rattle.flow_notes.specs.declared.events.Event.{Event}
+use Rattle.flow_notes.specs.declared.notes.Note.{Note}
+use Rattle.plain_core.specs.Runs.{CutsTurn, Turns}
+use Rattle.plain_core.specs.Stands.{CanTake, Rests, WaitsInFront}
+use Rattle.overload_core.specs.ActionStates.{is_saturated}
+use Rattle.std.specs.Prelude.{Bool, List, None, Option, [], false, not, true, ℕ, ◌<◌, ◌≡◌}
+use Rattle.tape_laws.specs.declared.limits.PlainLimits.{PlainLimits}
+use Rattle.wire_state.specs.Sound.{IsSound, is_open_at}
+use Rattle.worker_core.specs.Dispatching.{Breaks, Dispatches}
+use Rattle.worker_core.specs.Fronts.{IsFront, IsLeastAbove, has_octets, is_there, octets_at}
+use Rattle.worker_core.specs.declared.worker.Kind.{Kind}
+use Rattle.worker_core.specs.declared.worker.Kind.TheVariants as kind
+
+-- wire sessions before or between dispatches that were carried out
+abbrev pub RestsWire : Kind → Type 0
+RestsWire (kind.Plain core) = ⊥
+RestsWire (kind.Wire session) = (session.failed ≡ false) × IsSound session.core
+
+-- a plain session before its first event
+abbrev pub RestsPlain : PlainLimits → Kind → Type 0
+RestsPlain limits (kind.Plain core) = Rests limits core []
+RestsPlain limits (kind.Wire session) = ⊥
+
+-- it ran out of memory in an earlier dispatch
+abbrev pub has_failed : Kind → Bool
+has_failed (kind.Plain core) = core.failed
+has_failed (kind.Wire session) = session.failed
+
+-- it may take the event
+abbrev pub MayTake : Kind → List Note → Event → Type 0
+MayTake (kind.Plain core) notes e = core.failed ≡ false → CanTake core e notes
+MayTake (kind.Wire session) notes e = session.failed ≡ false → IsSound session.core
+
+-- it carried the event out
+abbrev pub CarriesOut : Kind → List Note → Event → Kind → List Note → Type 0
+CarriesOut (kind.Plain old) before e (kind.Plain new) after = Turns old before e new after
+CarriesOut (kind.Wire old) before e (kind.Wire new) after = Dispatches old before e new after
+CarriesOut old before e new after = ⊥
+
+-- what was told of it, also where memory was refused
+abbrev pub BreaksOff : Kind → List Note → Event → List Note → Type 0
+BreaksOff (kind.Plain old) before e after = CutsTurn old before e after
+BreaksOff (kind.Wire old) before e after = Breaks old before e after
+
+-- a plain session has connection 0 alone
+abbrev pub LendsFront : Kind → ℕ → List ℕ → Type 0
+LendsFront (kind.Plain core) c octets = (c ≡ 0 → WaitsInFront core octets) × (0 < c → octets ≡ [])
+LendsFront (kind.Wire session) c octets = IsFront octets (octets_at c session.core)
+
+-- the connection, which came, isn't open any more
+abbrev pub is_closing : Kind → ℕ → Bool
+is_closing (kind.Plain core) c = false
+is_closing (kind.Wire session) c = not (is_open_at c session.core)
+
+-- the version that was obeyed last
+abbrev pub version_of : Kind → ℕ
+version_of (kind.Plain core) = 0
+version_of (kind.Wire session) = session.core.obeyed
+
+-- whether `stop_accepting` isn't saturated
+abbrev pub takes_clients : Kind → Bool
+takes_clients (kind.Plain core) = true
+takes_clients (kind.Wire session) = not (is_saturated session.core.load.actions.stop_accepting)
+
+-- a plain session has no connection above 0
+abbrev pub IsNextConn : Kind → ℕ → Option ℕ → Type 0
+IsNextConn (kind.Plain core) after next = next ≡ None
+IsNextConn (kind.Wire session) after next = IsLeastAbove after (is_there session.core) next
+
+-- the next connection with octets that wait for its socket
+abbrev pub IsNextOut : Kind → ℕ → Option ℕ → Type 0
+IsNextOut (kind.Plain core) after next = next ≡ None
+IsNextOut (kind.Wire session) after next = IsLeastAbove after (has_octets session.core) next

@@ -1,0 +1,73 @@
+// Small steps.
+ghost use Rattle.std.specs.Prelude.{◌≡◌, ◌<◌, IfOk, OnOk, true};
+ghost use Rattle.wire_state.specs.Agenda.{top_go};
+ghost use Rattle.wire_state.specs.Noting.{Appends};
+ghost use Rattle.wire_state.specs.Progress.{task_go, to_go};
+ghost use Rattle.wire_state.specs.Sound.{IsSound};
+
+use crate::rounds::next_round;
+use flow_notes::Notes;
+use io_ports::NoMemory;
+use wire_ends::{close_task, doom_task, drains, end, fire, fires, losses, resets};
+use wire_in::{read, ticks, waste};
+use wire_out::{ask_drain, ask_run, drain, run, tell};
+use wire_state::{Task, WireCore};
+
+/// Small steps until nothing is under way and no connection has anything to do.
+pub(crate) fn settle(core: &mut WireCore, notes: &mut Notes) -> Result<(), NoMemory>
+    requires sound { IsSound core.old }
+    ensures sound { OnOk result (IsSound core.new) }
+    ensures notes { Appends notes.old notes.new }
+{
+    while go_on(core, notes)? {}
+    Ok(())
+}
+
+// One small step. The answer is false where there was nothing to do.
+#[tactic(auto, using(crate::proofs::Agendas::top_weight))]
+fn go_on(core: &mut WireCore, notes: &mut Notes) -> Result<bool, NoMemory>
+    requires sound { IsSound core.old }
+    ensures sound { OnOk result (IsSound core.new) }
+    ensures go { IfOk result (λ more. more ≡ true → to_go core.new < to_go core.old) }
+    ensures notes { Appends notes.old notes.new }
+{
+    match core.agenda.top() {
+        Some(task) => {
+            step(core, task, notes)?;
+            Ok(true)
+        }
+        None => next_round(core, notes),
+    }
+}
+
+// One small step of the task on top.
+fn step(core: &mut WireCore, task: Task, notes: &mut Notes) -> Result<(), NoMemory>
+    requires sound { IsSound core.old }
+    requires top { top_go core.old.agenda ≡ task_go task }
+    ensures sound { OnOk result (IsSound core.new) }
+    ensures go { OnOk result (to_go core.new < to_go core.old) }
+    ensures notes { Appends notes.old notes.new }
+{
+    match task {
+        Task::AskDrain(conn) => ask_drain(core, conn, notes),
+        Task::Drain(conn) => drain(core, conn, notes),
+        Task::AskRun(course) => ask_run(core, course),
+        Task::Run { course, tried } => run(core, course, tried, notes),
+        Task::Tell(conn) => tell(core, conn, notes),
+        Task::End(exchange) => end(core, exchange, notes),
+        Task::Doom {
+            exchange,
+            cause,
+            back,
+        } => doom_task(core, exchange, cause, back, notes),
+        Task::Close { conn, code, cause } => close_task(core, conn, code, cause, notes),
+        Task::Losses { conn, last } => losses(core, conn, last, notes),
+        Task::Read(conn) => read(core, conn, notes),
+        Task::Waste { conn, stream, n } => waste(core, conn, stream, n, notes),
+        Task::Ticks { exchange, back } => ticks(core, exchange, back),
+        Task::Fires => fires(core),
+        Task::Fire => fire(core, notes),
+        Task::Resets(left) => resets(core, left, notes),
+        Task::Drains(after) => drains(core, after),
+    }
+}

@@ -1,0 +1,183 @@
+// A wire session and its dispatch.
+ghost use Rattle.proxy_config.specs.Ranges.{IsInRange};
+ghost use Rattle.std.specs.Prelude.{◌≡◌, ◌≢◌, ◌++◌, ◌+◌, ◌<◌, ◌∷◌, ◌⊎◌, [], Err, IfOk, OnErr, OnOk, false, not, true};
+ghost use Rattle.flow_notes.specs.declared.notes.Note.TheVariants as note;
+ghost use Rattle.wire_state.specs.Noting.{Appends};
+ghost use Rattle.wire_state.specs.Sound.{IsSound, is_open_at};
+ghost use Rattle.overload_core.specs.ActionStates.{is_saturated};
+ghost use Rattle.worker_core.specs.Dispatching.{Breaks, Dispatches, Tells};
+ghost use Rattle.worker_core.specs.Fronts.{IsFront, IsLeastAbove, has_octets, is_there, octets_at};
+
+use crate::steps::settle;
+use flow_notes::{Event, Note, Notes};
+use io_ports::NoMemory;
+use plain_core::CoreFault;
+use proxy_config::Config;
+use std::alloc::Global;
+use std::ops::Bound;
+use wire_ends::{rest, sweep};
+use wire_in::take_event;
+use wire_load::Action;
+use wire_state::WireCore;
+
+/// The greatest number of a dispatch.
+const LAST_TURN: u64 = (1 << 63) - 1;
+
+/// The core of wire sessions.
+#[derive(Drop)]
+pub struct WireSession {
+    core: WireCore,
+    /// The number of the last dispatch, 0 before the first.
+    turn: u64,
+    /// Whether memory was refused: then each dispatch is.
+    failed: bool,
+}
+
+impl WireSession {
+    /// The core before its session's first event. Refused only for lack of memory.
+    pub fn new(alloc: Global, config: Config) -> Result<Self, NoMemory>
+        requires { IsInRange config }
+        ensures sound { IfOk result (λ session. IsSound session.core) }
+        ensures well { IfOk result (λ session. session.failed ≡ false) }
+        ensures turn { IfOk result (λ session. session.turn ≡ 0) }
+    {
+        Ok(WireSession {
+            core: WireCore::new(alloc, config)?,
+            turn: 0,
+            failed: false,
+        })
+    }
+
+    /// The configuration.
+    pub fn config(&self) -> &Config
+        ensures { result.now ≡ self.now.core.config }
+    {
+        &self.core.config
+    }
+
+    /// Dispatches one event, and appends its notes. After running out of memory the notes so far stand, and each later call answers
+    /// `Failed`, which comes only then.
+    pub fn dispatch(&mut self, event: &Event, notes: &mut Notes) -> Result<(), CoreFault>
+        requires { self.old.failed ≡ false → IsSound self.old.core }
+        ensures ok { OnOk result (Dispatches self.old notes.old event.now self.new notes.new) }
+        ensures cut { Breaks self.old notes.old event.now notes.new }
+        ensures fails { OnErr result (self.new.failed ≡ true) }
+        ensures failed { self.old.failed ≡ true → (result ≡ Err CoreFault.Failed) × (notes.new ≡ notes.old) }
+        ensures well { self.old.failed ≡ false → result ≢ Err CoreFault.Failed }
+    {
+        if self.failed {
+            return Err(CoreFault::Failed);
+        }
+        match self.carry_out(event, notes) {
+            Ok(()) => Ok(()),
+            Err(NoMemory) => {
+                self.failed = true;
+                Err(CoreFault::NoMemory)
+            }
+        }
+    }
+
+    // A whole dispatch, with the next number.
+    #[tactic(auto, using(crate::proofs::Turning::told))]
+    fn carry_out(&mut self, event: &Event, notes: &mut Notes) -> Result<(), NoMemory>
+        requires { IsSound self.old.core }
+        ensures turn { OnOk result (self.new.turn ≡ self.old.turn + 1) }
+        ensures notes { OnOk result (Tells (self.old.turn + 1) event.now notes.old notes.new) }
+        ensures sound { OnOk result (IsSound self.new.core) }
+        ensures cut { Breaks self.old notes.old event.now notes.new }
+        ensures well { self.new.failed ≡ self.old.failed }
+    {
+        if self.turn >= LAST_TURN {
+            return Err(NoMemory);
+        }
+        self.turn += 1;
+        note_turn(self.core.alloc, self.turn, event, notes)?;
+        work(&mut self.core, event, notes)
+    }
+
+    /// A prefix of a connection's write buffer, nonempty where that is; empty for a connection that isn't there.
+    pub fn out_front(&self, conn: u32) -> &[u8]
+        ensures { IsFront result.now (octets_at conn self.now.core) }
+    {
+        match self.core.conns.get(&conn) {
+            Some(conn) => conn.outlet.front(),
+            None => &[],
+        }
+    }
+
+    /// The least number above `after` of a connection with octets in its write buffer.
+    pub fn out_after(&self, after: u32) -> Option<u32>
+        ensures { IsLeastAbove after (has_octets self.now.core) result }
+    {
+        let above = (Bound::Excluded(after), Bound::Unbounded);
+        self.core.outs.range(above).next().copied()
+    }
+
+    /// The least number above `after` of a connection that is open or has octets in its write buffer.
+    pub fn conn_after(&self, after: u32) -> Option<u32>
+        ensures { IsLeastAbove after (is_there self.now.core) result }
+    {
+        let above = (Bound::Excluded(after), Bound::Unbounded);
+        match self.core.conns.range(above).next() {
+            Some((conn, _)) => Some(*conn),
+            None => None,
+        }
+    }
+
+    /// Whether the connection, which came, isn't open any more.
+    pub fn closing(&self, conn: u32) -> bool
+        ensures { result ≡ not (is_open_at conn self.now.core) }
+    {
+        !self.core.is_open(conn)
+    }
+
+    /// Whether client connections are taken: false exactly where `stop_accepting` is saturated.
+    pub fn takes_accepts(&self) -> bool
+        ensures { result ≡ not (is_saturated self.now.core.load.actions.stop_accepting) }
+    {
+        !self.core.load.is_saturated(Action::StopAccepting)
+    }
+
+    /// The version of the published state that was obeyed last, 0 before the first.
+    pub fn obeyed(&self) -> u64
+        ensures { result ≡ self.now.core.obeyed }
+    {
+        self.core.obeyed
+    }
+
+    /// The route row of an exchange that began in the last dispatch.
+    pub fn row(&self, exchange: u64) -> Option<u32> {
+        self.core.row(exchange)
+    }
+}
+
+// The turn note.
+fn note_turn(alloc: Global, number: u64, event: &Event, notes: &mut Notes) -> Result<(), NoMemory>
+    ensures ok { OnOk result (notes.new ≡ notes.old ++ note.Turn number event.now ∷ []) }
+    ensures err { OnErr result (notes.new ≡ notes.old) }
+{
+    let event = event.copied(alloc)?;
+    notes.push(Note::Turn { number, event })
+}
+
+// The event's effect, small steps to the end, then the sweep.
+fn work(core: &mut WireCore, event: &Event, notes: &mut Notes) -> Result<(), NoMemory>
+    requires sound { IsSound core.old }
+    ensures sound { OnOk result (IsSound core.new) }
+    ensures notes { Appends notes.old notes.new }
+{
+    begin_rows(core);
+    take_event(core, event, notes)?;
+    settle(core, notes)?;
+    sweep(core, notes)?;
+    rest(core)
+}
+
+// No exchange has begun yet.
+fn begin_rows(core: &mut WireCore)
+    requires sound { IsSound core.old }
+    ensures sound { IsSound core.new }
+{
+    core.before = core.flows.last();
+    core.rows.clear();
+}

@@ -1,0 +1,8 @@
+//! The outside of a worker: its connections, a clock, gauges and a gate.
+#![tactic(auto)]
+
+mod ports;
+mod wires;
+
+pub use ports::{Clock, Gate, Gauge, OpenGate};
+pub use wires::{WireRefusal, WireStep, Wired, Wires};
