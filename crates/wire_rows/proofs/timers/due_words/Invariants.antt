@@ -1,5 +1,0 @@
-use Rattle.std.proofs.Common.{length}
-use Rattle.wire_rows.proofs.timers.due_words.Given as goal
-
-abbrev pub decreases-take : goal.decreases-take
-decreases-take l = length l.due
