@@ -1,15 +1,14 @@
 -- A configuration that isn't there.
 use Rattle.io_ports.specs.Faults.{Rose}
-use Rattle.proxy_config.specs.Reading.{config_of}
 use Rattle.proxy_config.specs.declared.config.Config.{Config}
-use Rattle.proxy_site.specs.Serving.{HasConfig, HasNoConfig, ServesUnder, TellsEnd, end_line, end_status}
+use Rattle.proxy_site.specs.Serving.{ServesUnder, TellsEnd, end_line, end_status}
 use Rattle.session_config.specs.Loading.{CausesFault, Loads}
 use Rattle.session_config.specs.declared.load.ConfigEnd.{ConfigEnd}
 use Rattle.session_run.specs.Ends.{AppendsFront}
 use Rattle.session_run.specs.declared.status.Status.{Status}
 use Rattle.std.proofs.Common.{inl, inr, refl, subst, sym, ◌∙◌}
 use Rattle.std.specs.Io.KnownBytes.{Appends}
-use Rattle.std.specs.Prelude.{Err, List, Ok, Option, Result, ℕ, ◌≡◌, ◌⊎◌}
+use Rattle.std.specs.Prelude.{Err, List, Ok, Option, Result, ℕ, ◌≡◌}
 use Rattle.session_config.specs.declared.load.ConfigEnd.TheVariants as end
 use Rattle.session_run.specs.declared.status.Status.TheVariants as status
 

@@ -1,7 +1,7 @@
 -- A relay that was run, or wasn't begun.
 use Rattle.io_ports.specs.Faults.{Rose}
 use Rattle.proxy_config.specs.declared.config.Config.{Config}
-use Rattle.proxy_site.specs.Relaying.{IsCutShort, Listened, NotBegun, NotGiven, Ran, Relays, RelaysOver, ServesRelay, ended_status, journal_head, listening_line}
+use Rattle.proxy_site.specs.Relaying.{IsCutShort, Relays, RelaysOver, ServesRelay, ended_status, journal_head, listening_line}
 use Rattle.proxy_site.proofs.Telling.{all_told}
 use Rattle.proxy_site.specs.Sites.{IsUnused, TellsBack, TellsGiven, TellsListening, Told}
 use Rattle.relay_laws.specs.Pairs.{is_open}
@@ -16,10 +16,10 @@ use Rattle.std.proofs.Common.{ap, arith, inl, inr, refl, subst, sym, ◌∙◌}
 use Rattle.std.proofs.lemmas.List.{append-nil, length-map}
 use Rattle.std.specs.Io.KnownBytes.{Appends}
 use Rattle.std.specs.List.{list_any}
-use Rattle.std.specs.Prelude.{List, None, Option, Some, [], length, map, nat_eq, false, true, ℕ, ◌++◌, ◌-◌, ◌<◌, ◌^◌, ◌≡◌, ◌≤◌, ◌⊎◌}
+use Rattle.std.specs.Prelude.{List, None, Option, Some, [], length, nat_eq, false, true, ℕ, ◌-◌, ◌<◌, ◌^◌, ◌≡◌, ◌≤◌, ◌⊎◌}
 use Rattle.tcp_relay.specs.Rests.{Rests}
 use Rattle.tcp_relay.specs.declared.relay.Relay.{Relay}
-use Rattle.worker_ports.specs.Wires.{Seen, is_held, is_live}
+use Rattle.worker_ports.specs.Wires.{Seen, is_live}
 use Rattle.relay_work.specs.declared.ended.RelayEnded.TheVariants as ended
 use Rattle.session_run.specs.declared.status.Status.TheVariants as status
 

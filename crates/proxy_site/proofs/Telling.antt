@@ -1,8 +1,8 @@
 -- What a site tells.
 use Rattle.proxy_site.specs.Memory.{listens_of}
-use Rattle.proxy_site.specs.Sites.{TellsAll, TellsBack, TellsGiven, TellsListening, TellsNoMore, Told, with_back, with_given, with_listening}
+use Rattle.proxy_site.specs.Sites.{TellsAll, TellsBack, TellsGiven, TellsListening, TellsNoMore, Told, with_back, with_given}
 use Rattle.std.proofs.Common.{ap, inl, inr, refl, ◌∙◌}
-use Rattle.std.specs.Prelude.{List, None, Option, [], ℕ, ◌++◌, ◌∷◌, ◌≡◌, ◌⊎◌}
+use Rattle.std.specs.Prelude.{List, Option, [], ℕ, ◌++◌, ◌∷◌, ◌≡◌}
 
 module _ {T J : Type 0} where
   -- it listened, gave to a relay, and got back
