@@ -61,10 +61,10 @@ class Refused(Exception):
     pass
 
 
-# The words of notes and of a summary's lines. A capital letter is a number below 2^32, but X, K and T (2^64) and W (2^16); f is a
-# flow, h octets, n a name, b a buffer that pauses a flow. A `+` says that it is 1 at least.
-WIRE = ["accept C", "join C n", "read C h", "gone C", "room C N+", "tick T", "post C X drain", "post C X cancel X", "post C X look", "obey X+ P..."]
-PLAIN = ["open S+", "pair S+ S+", "in S+ h", "end S+", "reset S+", "room N+"]
+# The words of notes and of a summary's lines. A capital letter is a number below 2^32, but X and K (2^64), V
+# (2^63), T (2^60), W (2^16) and S+ (2^31); f is a flow, h octets, n a name, b a buffer that pauses a flow. A `+` says that it is 1 at least.
+WIRE = ["accept C", "join C n", "read C h", "gone C", "room C S+", "tick T", "post C V drain", "post C V cancel V", "post C V look", "obey V P..."]
+PLAIN = ["open S+", "pair S+ S+", "in S+ h", "end S+", "reset S+", "room S+"]
 CAUSES = ["done", "too-large", "overload", "overflow", "early-end", "peer-reset C", "stream-error C", "timeout route", "timeout stream-idle",
           "timeout connection-idle", "conn-lost C", "refused W", "posted C X"]
 NOTES = ["turn K+ " + e for e in WIRE + PLAIN] + ["doom X " + c for c in CAUSES] + [
@@ -90,7 +90,7 @@ def is_word(word, form):
         return re.fullmatch(r"([0-9a-f]{2})+", word)
     if kind == "n":
         return re.fullmatch(r"[a-z0-9_-]{1,64}", word)
-    return number(word, {"X": 2**64 - 1, "K": 2**64 - 1, "T": 2**60 - 1, "W": 2**16 - 1, "S": 2**31 - 1 if least else 2**32 - 1}.get(kind, 2**32 - 1), least)
+    return number(word, {"X": 2**64 - 1, "K": 2**64 - 1, "T": 2**60 - 1, "V": 2**63 - 1, "W": 2**16 - 1, "S": 2**31 - 1 if least else 2**32 - 1}.get(kind, 2**32 - 1), least)
 
 
 def has_form(line, form):
