@@ -1,13 +1,11 @@
 -- A limit that is told of a place leaves its lane.
-use Rattle.std.proofs.Common.{ap, arith, refl, subst, sym, ◌∙◌}
+use Rattle.std.proofs.Common.{ap, subst, sym, ◌∙◌}
 use Rattle.std.proofs.lemmas.List.{get_or-map, map-set, set-get_or}
-use Rattle.std.specs.Prelude.{List, length, map, set, slice_index_or, ℕ, ◌<◌, ◌≡◌}
-use Rattle.tape_laws.specs.History.{History, NoMark}
-use Rattle.tape_plot.specs.Flows.{FlowIs, LanesAre, lane_at, lanes_of}
+use Rattle.std.specs.Prelude.{List, length, set, slice_index_or, ℕ, ◌<◌, ◌≡◌}
+use Rattle.tape_plot.specs.Flows.{LanesAre, lane_at, lanes_of}
 use Rattle.tape_plot.specs.Goes.{FlowStays}
 use Rattle.tape_plot.specs.Lanes.{Drawn, LaneIs, drawn_of, fresh}
 use Rattle.tape_plot.specs.Levels.{places, shown_count}
-use Rattle.flow_gate.specs.declared.ids.FlowId.{FlowId}
 use Rattle.tape_plot.specs.declared.flow.Flow.{Flow}
 use Rattle.tape_plot.specs.declared.flow.Place.{Place}
 

@@ -5,20 +5,17 @@ use Rattle.std.proofs.Common.{ap, arith, refl, subst, sym, true≢false, ◌∙�
 use Rattle.std.proofs.lemmas.Bool.Decides.{nat_tests}
 use Rattle.std.proofs.lemmas.Bool.{eqb-false, eqb-true}
 use Rattle.std.specs.BTreeMap.{BTreeMap, get, is_at}
-use Rattle.std.specs.Map.{lookup}
 use Rattle.std.specs.Ordering.{nat_cmp}
-use Rattle.std.specs.Prelude.{Bool, List, None, Option, Some, [], cond, false, if◌then◌else◌, is_some, nat_eq, true, ℕ, ◌+◌, ◌==◌, ◌∷◌, ◌≡◌, ◌≤◌}
-use Rattle.tape_laws.specs.Connections.{was_closed}
-use Rattle.tape_laws.specs.Dispatches.{turns}
-use Rattle.tape_laws.specs.History.{History, NoMark, Noted, Step}
+use Rattle.std.specs.Prelude.{Bool, List, None, Option, Some, cond, false, if◌then◌else◌, is_some, nat_eq, true, ℕ, ◌+◌, ◌∷◌, ◌≡◌}
+use Rattle.tape_laws.specs.History.{History, NoMark, Noted}
 use Rattle.tape_plot.proofs.Columns.{eq_false, eq_true}
-use Rattle.tape_plot.proofs.Standing.{StillConnection, closed_stays, connection_still, exchange_still, not_both, not_nothing, nothing_not, quiet, same_connection, same_exchange, turns_stay}
-use Rattle.tape_plot.specs.Flows.{FlowIs, IsFresh, LanesAre, lanes_of}
-use Rattle.tape_plot.specs.Goes.{ConnectionGoes, ConnectionStays, ConnectionsFill, ConnectionsGo, ConnectionsStay, ExchangeFills, ExchangeGoes, ExchangeStays, ExchangesFill, ExchangesGo, ExchangesStay, IsNew, LevelsGo, LevelsStay, level_of}
-use Rattle.tape_plot.specs.Kept.{ConnectionAt, ConnectionIs, ConnectionsAre, ExchangeAt, ExchangeIs, ExchangesAre, IsQuiet, IsUntold, LevelsAre, goes_to}
-use Rattle.tape_plot.specs.Lanes.{Drawn, LaneIs, Sets, drawn_of, fresh}
-use Rattle.tape_plot.specs.Levels.{at, places, shown_count, written}
-use Rattle.tape_plot.specs.Subjects.{filled_at, flow_id, subject_of}
+use Rattle.tape_plot.proofs.Standing.{StillConnection, connection_still, exchange_still, not_both, not_nothing, nothing_not, quiet, same_connection, same_exchange}
+use Rattle.tape_plot.specs.Flows.{FlowIs, IsFresh, LanesAre}
+use Rattle.tape_plot.specs.Goes.{ConnectionGoes, ConnectionsFill, ConnectionsGo, ConnectionsStay, ExchangeGoes, ExchangesGo, ExchangesStay, IsNew, LevelsGo, level_of}
+use Rattle.tape_plot.specs.Kept.{ConnectionAt, ConnectionIs, ExchangeAt, ExchangeIs, ExchangesAre, IsUntold, goes_to}
+use Rattle.tape_plot.specs.Lanes.{Drawn, LaneIs, Sets, drawn_of}
+use Rattle.tape_plot.specs.Levels.{places, shown_count, written}
+use Rattle.tape_plot.specs.Subjects.{flow_id, subject_of}
 use Rattle.tape_plot.specs.declared.clock.Clock.{Clock}
 use Rattle.tape_plot.specs.declared.connection.Connection.{Connection}
 use Rattle.tape_plot.specs.declared.connections.Connections.{Connections}
@@ -77,35 +74,11 @@ exchange_known old new x e is none puts = record {
   };
 }
 
-pub exchanges_same : (old new : Exchanges) → new.items ≡ old.items → ExchangesStay old new
-exchanges_same old new e = record { goes = λ first h are. record { each = λ y. subst (λ (m : BTreeMap ℕ Exchange). ExchangeAt (get nat_cmp m y) y first h) (sym e) (are.each y) } }
-
-pub connection_known : (old new : Connections) (c : ℕ) (k : Connection) → drawn_of k.write.lane ≡ fresh → k.is_closed ≡ false → get nat_cmp old.items c ≡ None → PutAt c (Some k) old.items new.items → ConnectionsStay old new
-connection_known old new c k ew ec none puts = record {
-  goes = λ first h are.
-      let u : IsQuiet c first h = subst (λ (o : Option Connection). ConnectionAt o c first h) none (are.each c) in record {
-        each = each_put (λ o y. ConnectionAt o y first h) (λ o y. ConnectionAt o y first h) old.items new.items c (Some k) puts (λ y differ p. p)
-            (record { write = subst (λ (v : Drawn). LaneIs v (written c) first h) (sym ew) u.write; closed = ec ∙ u.closed }) are.each;
-      };
-}
-
-pub connections_same : (old new : Connections) → new.items ≡ old.items → ConnectionsStay old new
-connections_same old new e = record { goes = λ first h are. record { each = λ y. subst (λ (m : BTreeMap ℕ Connection). ConnectionAt (get nat_cmp m y) y first h) (sym e) (are.each y) } }
-
 -- ---- one that is lent
 
 pub not_there : {A : Type 0} (o : Option A) (b : Bool) → b ≡ is_some o → b ≡ false → o ≡ None
 not_there None b e f = refl
 not_there (Some x) b e f = absurd (true≢false (sym e ∙ f))
-
-pub exchange_stays : (old mid new : Exchanges) (x : ℕ) (e f : Exchange) → ExchangesStay old mid → Some e ≡ get nat_cmp mid.items x → PutAt x (Some f) mid.items new.items → ExchangeStays e f → ExchangesStay old new
-exchange_stays old mid new x e f stay is puts s = record {
-  goes = λ first h are.
-      let m = stay.goes first h are in record {
-        each = each_put (λ o y. ExchangeAt o y first h) (λ o y. ExchangeAt o y first h) mid.items new.items x (Some f) puts (λ y differ k. k)
-            (s.goes x first h (subst (λ (o : Option Exchange). ExchangeAt o x first h) (sym is) (m.each x))) m.each;
-      };
-}
 
 pub exchange_goes : (old mid new : Exchanges) (x : ℕ) (e f : Exchange) (n : Note) (clock : Clock) → ExchangesStay old mid → Some e ≡ get nat_cmp mid.items x → PutAt x (Some f) mid.items new.items
     → subject_of n ≡ subject.Exchange x → ExchangeGoes e n clock f → ExchangesGo old n clock new
@@ -115,21 +88,6 @@ exchange_goes old mid new x e f n clock stay is puts s g = record {
         each = each_put (λ o y. ExchangeAt o y clock.first h) (λ o y. ExchangeAt o y clock.first (Noted n ∷ h)) mid.items new.items x (Some f) puts
             (λ y differ k. exchange_still (get nat_cmp mid.items y) y clock.first n h (λ u. differ (same_exchange x y (sym s ∙ u))) k)
             (g.goes x h s t (subst (λ (o : Option Exchange). ExchangeAt o x clock.first h) (sym is) (m.each x))) m.each;
-      };
-}
-
-pub exchange_fills : (old mid : Exchanges) (x : ℕ) (e : Exchange) (n : Note) (fill : Option Fill) → ExchangesStay old mid → Some e ≡ get nat_cmp mid.items x → subject_of n ≡ subject.Exchange x → ExchangeFills e n fill
-    → ExchangesFill old n fill
-exchange_fills old mid x e n fill stay is s f = record {
-  fills = λ first h are c. f.fills x first h s (subst (λ (o : Option Exchange). ExchangeAt o x first h) (sym is) ((stay.goes first h are).each x)) c;
-}
-
-pub connection_stays : (old mid new : Connections) (c : ℕ) (k l : Connection) → ConnectionsStay old mid → Some k ≡ get nat_cmp mid.items c → PutAt c (Some l) mid.items new.items → ConnectionStays k l → ConnectionsStay old new
-connection_stays old mid new c k l stay is puts s = record {
-  goes = λ first h are.
-      let m = stay.goes first h are in record {
-        each = each_put (λ o y. ConnectionAt o y first h) (λ o y. ConnectionAt o y first h) mid.items new.items c (Some l) puts (λ y differ p. p)
-            (s.goes c first h (subst (λ (o : Option Connection). ConnectionAt o c first h) (sym is) (m.each c))) m.each;
       };
 }
 
@@ -179,15 +137,6 @@ nothing_fills old new clock e = record {
 
 -- ---- all of it
 
-pub levels_filled : (old new : Levels) (n : Note) (x : ℕ) (fill : Option Fill) (clock : Clock) → subject_of n ≡ subject.Exchange x → ExchangesGo old.exchanges n clock new.exchanges → ExchangesFill old.exchanges n fill
-    → ConnectionsFill old.connections fill clock new.connections → LevelsGo old n clock new
-levels_filled old new n x fill clock s g f k = record {
-  goes = λ h t are. record {
-    exchanges = g.goes h (sym (turns_stay n x h s) ∙ t) are.exchanges;
-    connections = k.goes (Noted n) h t (f.fills clock.first h are.exchanges) (λ c. closed_stays n x c h s) are.connections;
-  };
-}
-
 exchanges_still : (es : Exchanges) (first : ℕ) (n : Note) (h : History NoMark) → ((x : ℕ) → subject_of n ≡ subject.Exchange x → ⊥) → ExchangesAre es first h → ExchangesAre es first (Noted n ∷ h)
 exchanges_still es first n h none are = record { each = λ x. exchange_still (get nat_cmp es.items x) x first n h (none x) (are.each x) }
 
@@ -209,42 +158,4 @@ levels_still old n clock s = record {
           connection_still (get nat_cmp old.connections.items y) y clock.first (Noted n) h q.write q.closed (are.connections.each y);
     };
   };
-}
-
-pub exchanges_stay : (old new : Levels) → ExchangesStay old.exchanges new.exchanges → new.connections ≡ old.connections → LevelsStay old new
-exchanges_stay old new s e = record {
-  goes = λ first h are. record {
-    exchanges = s.goes first h are.exchanges;
-    connections = subst (λ (v : Connections). ConnectionsAre v first h) (sym e) are.connections;
-  };
-}
-
-pub connections_stay : (old new : Levels) → new.exchanges ≡ old.exchanges → ConnectionsStay old.connections new.connections → LevelsStay old new
-connections_stay old new e s = record {
-  goes = λ first h are. record {
-    exchanges = subst (λ (v : Exchanges). ExchangesAre v first h) (sym e) are.exchanges;
-    connections = s.goes first h are.connections;
-  };
-}
-
--- ---- before the first note
-
-fresh_is : (L : History NoMark → ℕ) (first : ℕ) → 0 ≡ L [] → LaneIs fresh L first []
-fresh_is L first e = record { wide = omega arith; starts = e; now = e; points = λ j. refl; rise = omega arith }
-
-untold : (f : FlowId) (first : ℕ) → IsUntold f first []
-untold f first = record {
-  held = refl;
-  lanes = record { lanes = λ p. fresh_is (λ v. at (places f v) p) first refl };
-  pauses = refl;
-  resumes = refl;
-  doomed = refl;
-  count = fresh_is (shown_count f) first refl;
-  relay = refl;
-}
-
-pub levels_new : (levels : Levels) (first : ℕ) → levels.exchanges.items.entries ≡ [] → levels.connections.items.entries ≡ [] → LevelsAre levels first []
-levels_new levels first e f = record {
-  exchanges = record { each = λ x. subst (λ (es : List (ℕ × Exchange)). ExchangeAt (lookup (is_at (nat_cmp x)) es) x first []) (sym e) (λ back. untold (flow_id x back) first) };
-  connections = record { each = λ c. subst (λ (ks : List (ℕ × Connection)). ConnectionAt (lookup (is_at (nat_cmp c)) ks) c first []) (sym f) (record { write = fresh_is (written c) first refl; closed = refl }) };
 }

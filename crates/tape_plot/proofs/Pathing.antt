@@ -1,6 +1,6 @@
 -- A path is put point after point.
 use Rattle.io_ports.specs.declared.octets.NoMemory.{NoMemory}
-use Rattle.std.proofs.Common.{ap, append_assoc, arith, refl, sym, ◌∙◌}
+use Rattle.std.proofs.Common.{ap, append_assoc, arith, sym, ◌∙◌}
 use Rattle.std.proofs.lemmas.List.{append-nil}
 use Rattle.std.specs.Fmt.{decimal}
 use Rattle.std.specs.Prelude.{Err, List, Ok, OnOk, Result, [], length, ℕ, ◌++◌, ◌∷◌, ◌≡◌}

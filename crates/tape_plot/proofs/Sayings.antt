@@ -183,17 +183,3 @@ reads_failed of left_old left_new begun tape first last how o k g f e =
 pub reads_nothing : (left : Option (List ℕ)) (o : Outcome) → o ≡ ended status.Memory → Reads left left o
 reads_nothing left o e =
     subst (Reads left left) (sym e) (record { read = []; said = []; rest = []; consumes = consumes_none left; tells = tt; reads = refl; ends = tt })
-
--- ---- a tape that was read whole
-
-pub reads_done : (left_old left_new : Option (List ℕ)) (first last : ℕ) (tape : Tape) (o : Outcome) → ReadsTape left_old left_new first last tape → o ≡ ended status.Done → Reads left_old left_new o
-reads_done left_old left_new first last tape o r e =
-    subst (Reads left_old left_new) (sym e) (record { read = r.read; said = r.said; rest = r.rest; consumes = r.consumes; tells = r.tells; reads = r.reads; ends = (r.cut, r.end) })
-
-pub reads_short : (left_old left_new : Option (List ℕ)) (first last : ℕ) (tape : Tape) (o : Outcome) → ReadsTape left_old left_new first last tape → o ≡ ended status.Memory → Reads left_old left_new o
-reads_short left_old left_new first last tape o r e =
-    subst (Reads left_old left_new) (sym e) (record { read = r.read; said = r.said; rest = r.rest; consumes = r.consumes; tells = r.tells; reads = r.reads; ends = tt })
-
-pub reads_unwritten : (left_old left_new : Option (List ℕ)) (first last : ℕ) (tape : Tape) (o : Outcome) → ReadsTape left_old left_new first last tape → o ≡ ended status.WriteFault → Reads left_old left_new o
-reads_unwritten left_old left_new first last tape o r e =
-    subst (Reads left_old left_new) (sym e) (record { read = r.read; said = r.said; rest = r.rest; consumes = r.consumes; tells = r.tells; reads = r.reads; ends = tt })

@@ -2,19 +2,18 @@
 use Rattle.flow_gate.specs.declared.ids.FlowId.{FlowId}
 use Rattle.flow_notes.specs.declared.notes.Note.{Note}
 use Rattle.std.proofs.Common.{ap, arith, refl, sym, ◌∙◌}
-use Rattle.std.specs.Prelude.{Bool, List, None, Option, Some, [], false, if◌then◌else◌, length, true, ℕ, ◌&&◌, ◌+◌, ◌∷◌, ◌≡◌}
+use Rattle.std.specs.Prelude.{Bool, List, None, Option, Some, [], false, if◌then◌else◌, true, ℕ, ◌+◌, ◌∷◌, ◌≡◌}
 use Rattle.tape_laws.specs.Connections.{was_closed}
-use Rattle.tape_laws.specs.Dispatches.{turns}
 use Rattle.tape_laws.specs.Flows.{same_flow}
 use Rattle.tape_laws.specs.History.{History, NoMark, Noted, Step}
 use Rattle.tape_laws.specs.Pauses.{pauses, resumes}
-use Rattle.tape_plot.proofs.Columns.{eq_false, eq_true}
+use Rattle.tape_plot.proofs.Columns.{eq_false}
 use Rattle.tape_plot.proofs.Flowing.{lanes_still, shown_same}
 use Rattle.tape_plot.proofs.Laning.{still}
 use Rattle.tape_plot.specs.Flows.{FlowIs, lanes_of}
-use Rattle.tape_plot.specs.Kept.{ConnectionAt, ExchangeAt, ExchangeIs, IsUntold}
+use Rattle.tape_plot.specs.Kept.{ConnectionAt, ExchangeAt, IsUntold}
 use Rattle.tape_plot.specs.Lanes.{drawn_of, fresh}
-use Rattle.tape_plot.specs.Levels.{entered, places, relayed, shown_count, was_doomed, written}
+use Rattle.tape_plot.specs.Levels.{places, relayed, shown_count, was_doomed, written}
 use Rattle.tape_plot.specs.Subjects.{flow_id, flow_named, subject_of}
 use Rattle.tape_plot.specs.declared.connection.Connection.{Connection}
 use Rattle.tape_plot.specs.declared.exchange.Exchange.{Exchange}
@@ -185,14 +184,3 @@ quiet (note.Close d code why) c h none other = record { write = refl; closed = r
 quiet (note.Turn k (event.Gone d)) c h none other = record { write = rw (eq_false d c _ refl (λ e. other (ap subject.Connection e))) refl; closed = refl }
 quiet (note.Turn k e) c h none other = record { write = refl; closed = refl }
 quiet n c h none other = record { write = refl; closed = refl }
-
--- ---- a note of an exchange begins no dispatch and closes no connection
-
-pub turns_stay : (n : Note) (x : ℕ) (h : History NoMark) → subject_of n ≡ subject.Exchange x → turns (Noted n ∷ h) ≡ turns h
-turns_stay (note.Turn k (event.Gone c)) x h e = absurd (not_both _ c x refl e)
-turns_stay (note.Turn k v) x h e = absurd (not_nothing _ x refl e)
-turns_stay n x h e = refl
-
-pub closed_stays : (n : Note) (x c : ℕ) (h : History NoMark) → subject_of n ≡ subject.Exchange x → was_closed c (Noted n ∷ h) ≡ was_closed c h
-closed_stays (note.Close d code why) x c h e = absurd (not_both _ d x refl e)
-closed_stays n x c h e = refl

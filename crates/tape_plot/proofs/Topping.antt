@@ -1,7 +1,6 @@
 -- On a lawful tape of a plain session octets are framed from the last place that octets came to.
 use Rattle.flow_gate.specs.declared.ids.FlowId.{FlowId}
-use Rattle.flow_rules.specs.Units.{carried}
-use Rattle.std.proofs.Common.{ap, arith, inl, inr, length-append, refl, subst, sym, ◌∙◌}
+use Rattle.std.proofs.Common.{arith, inl, inr, length-append, refl}
 use Rattle.std.proofs.lemmas.Bool.{eqb-true}
 use Rattle.std.proofs.lemmas.List.{length-map, length-set}
 use Rattle.std.specs.Prelude.{Bool, List, None, Option, Some, [], false, if◌then◌else◌, length, map, min, set, true, ℕ, ◌++◌, ◌+◌, ◌-◌, ◌<◌, ◌==◌, ◌∷◌, ◌≡◌, ◌≤◌, ◌⊎◌}
@@ -14,7 +13,7 @@ use Rattle.tape_laws.specs.declared.limits.PlainLimits.{PlainLimits}
 use Rattle.tape_plot.proofs.Holding.{lt_or_le, place_lengths}
 use Rattle.std.proofs.Math.ListN.{get_or-eq_default}
 use Rattle.tape_plot.specs.Levels.{at, entered, filled, framed, moved, places, relayed, top}
-use Rattle.tape_plot.specs.Tops.{AreFromTop, HasStream, HaveStreams}
+use Rattle.tape_plot.specs.Tops.{AreFromTop, HaveStreams}
 use Rattle.flow_notes.specs.declared.notes.Note.TheVariants as note
 
 -- ---- a flow has two places

@@ -2,8 +2,8 @@
 use Rattle.flow_notes.specs.declared.events.Event.{Event}
 use Rattle.flow_notes.specs.declared.notes.CloseCause.{CloseCause}
 use Rattle.flow_notes.specs.declared.notes.Note.{Note}
-use Rattle.std.proofs.Common.{ap, arith, refl, subst, sym, true≢false, ◌∙◌}
-use Rattle.std.specs.Prelude.{Bool, List, [], false, if◌then◌else◌, length, nat_lt, true, ℕ, ◌&&◌, ◌+◌, ◌-◌, ◌==◌, ◌||◌, ◌∷◌, ◌≡◌}
+use Rattle.std.proofs.Common.{ap, arith, refl, subst, sym, ◌∙◌}
+use Rattle.std.specs.Prelude.{Bool, List, [], false, if◌then◌else◌, length, nat_lt, true, ℕ, ◌+◌, ◌-◌, ◌==◌, ◌∷◌, ◌≡◌}
 use Rattle.std.proofs.lemmas.Bool.{le-ltb, ltb-false}
 use Rattle.tape_laws.specs.Connections.{was_closed}
 use Rattle.tape_laws.specs.Dispatches.{turns}
@@ -11,8 +11,8 @@ use Rattle.tape_laws.specs.History.{History, NoMark, Noted, Step}
 use Rattle.tape_plot.proofs.Columns.{eq_true, turns_rise}
 use Rattle.tape_plot.proofs.Laning.{still}
 use Rattle.tape_plot.proofs.Standing.{nothing_not, same_connection}
-use Rattle.tape_plot.specs.Goes.{Closes, ConnectionGoes, Forgets, LevelsGo, LevelsStay, PlotGoes, PlotStays, Turns, level_of}
-use Rattle.tape_plot.specs.Kept.{ConnectionIs, LevelsAre, PlotIs, until}
+use Rattle.tape_plot.specs.Goes.{Closes, ConnectionGoes, Forgets, LevelsGo, LevelsStay, PlotGoes, Turns, level_of}
+use Rattle.tape_plot.specs.Kept.{ConnectionIs, LevelsAre, until}
 use Rattle.tape_plot.specs.Lanes.{Drawn, LaneIs, Sets, drawn_of}
 use Rattle.tape_plot.specs.Levels.{written}
 use Rattle.tape_plot.specs.Subjects.{subject_of}
@@ -141,9 +141,6 @@ turns_more : (n : Note) (h : History NoMark) → turns h + turns_of n ≡ turns 
 turns_more (note.Turn k e) h = refl
 turns_more n h = omega arith
 
-until_past : (last : ℕ) (step : Step NoMark) (h : History NoMark) → nat_lt last (turns (step ∷ h)) ≡ true → until last (step ∷ h) ≡ until last h
-until_past last step h e = rw e refl
-
 until_all : (last : ℕ) (h : History NoMark) → nat_lt last (turns h) ≡ false → until last h ≡ h
 until_all last [] e = refl
 until_all last (step ∷ past) e = rw e refl
@@ -153,18 +150,6 @@ not_yet last step h e = le-ltb last (turns h) (omega (arith, ltb-false last (tur
 
 ticked : (old new : Clock) (n : Note) (h : History NoMark) → Ticks old (turns_of n) new → old.turn ≡ turns h → new.turn ≡ turns (Noted n ∷ h)
 ticked old new n h t e = t.turn ∙ ap (λ (v : ℕ). v + turns_of n) e ∙ turns_more n h
-
-pub plot_past : (old new : Plot) (n : Note) → Ticks old.clock (turns_of n) new.clock → true ≡ nat_lt new.clock.last new.clock.turn → new.levels ≡ old.levels → PlotGoes old n new
-plot_past old new n t past e = record {
-  goes = λ first last h is.
-      let now : new.clock.turn ≡ turns (Noted n ∷ h) = ticked old.clock new.clock n h t is.turn in
-      let lt : nat_lt last (turns (Noted n ∷ h)) ≡ true = ap (λ (v : ℕ). nat_lt v (turns (Noted n ∷ h))) (sym (t.last ∙ is.ends)) ∙ ap (nat_lt new.clock.last) (sym now) ∙ sym past in record {
-        starts = t.first ∙ is.starts;
-        ends = t.last ∙ is.ends;
-        turn = now;
-        levels = subst (λ (v : Levels). LevelsAre v first (until last (Noted n ∷ h))) (sym e) (subst (λ (v : History NoMark). LevelsAre old.levels first v) (sym (until_past last (Noted n) h lt)) is.levels);
-      };
-}
 
 pub plot_on : (old new : Plot) (n : Note) (clock : Clock) (mid : Levels) → Ticks old.clock (turns_of n) clock → false ≡ nat_lt clock.last clock.turn → LevelsGo old.levels n clock mid → LevelsStay mid new.levels → new.clock ≡ clock
     → PlotGoes old n new
@@ -179,17 +164,4 @@ plot_on old new n clock mid t on g s e = record {
         levels = subst (λ (v : History NoMark). LevelsAre new.levels first v) (sym (until_all last (Noted n ∷ h) ge))
             (subst (λ (v : ℕ). LevelsAre new.levels v (Noted n ∷ h)) (t.first ∙ is.starts) (s.goes clock.first (Noted n ∷ h) (g.goes h (sym now) was)));
       };
-}
-
-pub plot_new : (plot : Plot) (first last : ℕ) → plot.clock.turn ≡ 0 → plot.clock.first ≡ first → plot.clock.last ≡ last → LevelsAre plot.levels first [] → PlotIs plot first last []
-plot_new plot first last t f l is = record { starts = f; ends = l; turn = t; levels = is }
-
-pub plot_stays : (old new : Plot) → new.clock ≡ old.clock → LevelsStay old.levels new.levels → PlotStays old new
-plot_stays old new e s = record {
-  goes = λ first last h is. record {
-    starts = ap (λ (v : Clock). v.first) e ∙ is.starts;
-    ends = ap (λ (v : Clock). v.last) e ∙ is.ends;
-    turn = ap (λ (v : Clock). v.turn) e ∙ is.turn;
-    levels = s.goes first (until last h) is.levels;
-  };
 }

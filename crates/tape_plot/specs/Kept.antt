@@ -1,22 +1,21 @@
 -- What is kept of a tape: the lanes of all places, counts and write buffers stand for what the tape tells.
 use Rattle.flow_gate.specs.declared.ids.FlowId.{FlowId}
-use Rattle.std.specs.BTreeMap.{BTreeMap, get}
+use Rattle.std.specs.BTreeMap.{get}
 use Rattle.std.specs.Ordering.{nat_cmp}
 use Rattle.std.specs.Prelude.{Bool, None, Option, Some, [], false, if◌then◌else◌, nat_lt, true, ℕ, ◌∷◌, ◌≡◌}
 use Rattle.tape_laws.specs.Connections.{was_closed}
 use Rattle.tape_laws.specs.Dispatches.{turns}
 use Rattle.tape_laws.specs.History.{History, NoMark}
 use Rattle.tape_laws.specs.Pauses.{pauses, resumes}
-use Rattle.tape_plot.specs.Flows.{FlowIs, LanesAre, lane_at, lanes_of}
-use Rattle.tape_plot.specs.Lanes.{Drawn, LaneIs, drawn_of, fresh}
-use Rattle.tape_plot.specs.Levels.{at, places, relayed, shown_count, was_doomed, written}
+use Rattle.tape_plot.specs.Flows.{FlowIs, LanesAre}
+use Rattle.tape_plot.specs.Lanes.{LaneIs, drawn_of, fresh}
+use Rattle.tape_plot.specs.Levels.{places, relayed, shown_count, was_doomed, written}
 use Rattle.tape_plot.specs.Subjects.{flow_id}
 use Rattle.tape_plot.specs.declared.connection.Connection.{Connection}
 use Rattle.tape_plot.specs.declared.connections.Connections.{Connections}
 use Rattle.tape_plot.specs.declared.exchange.Exchange.{Exchange}
 use Rattle.tape_plot.specs.declared.exchange.Relay.{Relay}
 use Rattle.tape_plot.specs.declared.exchanges.Exchanges.{Exchanges}
-use Rattle.tape_plot.specs.declared.flow.Flow.{Flow}
 use Rattle.tape_plot.specs.declared.levels.Levels.{Levels}
 use Rattle.tape_plot.specs.declared.plot.Plot.{Plot}
 

@@ -2,7 +2,7 @@
 use Rattle.flow_gate.specs.declared.ids.FlowId.{FlowId}
 use Rattle.std.specs.BTreeMap.{get}
 use Rattle.std.specs.Ordering.{nat_cmp}
-use Rattle.std.specs.Prelude.{Bool, None, Option, Some, if◌then◌else◌, ℕ, ◌≡◌}
+use Rattle.std.specs.Prelude.{Bool, None, Option, Some, if◌then◌else◌, ℕ}
 use Rattle.tape_laws.specs.History.{History, NoMark}
 use Rattle.tape_plot.specs.Flows.{lane_at, lanes_of}
 use Rattle.tape_plot.specs.Lanes.{Drawn, LaneIs, drawn_of, fresh}
