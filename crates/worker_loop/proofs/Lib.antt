@@ -1,0 +1,7 @@
+mod Becoming
+mod Breaking
+mod Carrying
+mod Offering
+mod Parted
+mod Settling
+mod Turning
