@@ -1,7 +1,11 @@
 mod Becoming
-mod Breaking
 mod Carrying
+mod Dispatching
+mod Keeping
+mod Matching
 mod Offering
 mod Parted
+mod Running
 mod Settling
+mod Taking
 mod Turning
