@@ -2,7 +2,7 @@
 use Rattle.mem_ports.specs.Memory.{WiresMemory, ended}
 use Rattle.std.proofs.Common.{ap, sym, ◌∙◌}
 use Rattle.std.specs.List.{list_any}
-use Rattle.std.specs.Prelude.{Bool, List, [], false, if◌then◌else◌, nat_eq, ℕ, ◌++◌, ◌∷◌, ◌≡◌}
+use Rattle.std.specs.Prelude.{List, [], false, if◌then◌else◌, nat_eq, ℕ, ◌++◌, ◌∷◌, ◌≡◌}
 use Rattle.worker_ports.specs.Told.{with_last}
 use Rattle.worker_ports.specs.Wires.{Seen, closed, is_live, without}
 use Rattle.worker_ports.specs.declared.wires.WireStep.TheVariants as step

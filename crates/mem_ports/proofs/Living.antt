@@ -5,9 +5,9 @@ use Rattle.std.proofs.Common.{ap, arith, inl, inr, refl, sym, ◌∙◌, ◌⊎�
 use Rattle.std.proofs.lemmas.Bool.{false≢true}
 use Rattle.std.specs.BTreeMap.{is_at}
 use Rattle.std.specs.BTreeSet.{insert_key}
-use Rattle.std.specs.List.{filter, list_any}
+use Rattle.std.specs.List.{list_any}
 use Rattle.std.specs.Ordering.{match_ordering, nat_cmp}
-use Rattle.std.specs.Prelude.{Bool, List, [], cond, false, length, nat_eq, not, suc, true, ℕ, ◌+◌, ◌++◌, ◌<◌, ◌≤◌, ◌||◌, ◌∷◌, ◌≡◌}
+use Rattle.std.specs.Prelude.{Bool, List, [], cond, false, length, nat_eq, not, suc, true, ℕ, ◌+◌, ◌++◌, ◌||◌, ◌∷◌, ◌≡◌}
 use Rattle.std.specs.Set.{remove_key}
 use Rattle.worker_ports.specs.Wires.{without}
 

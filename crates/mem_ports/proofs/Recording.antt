@@ -2,11 +2,10 @@
 use Rattle.mem_ports.specs.Steps.{octets_in, steps_in}
 use Rattle.mem_ports.specs.declared.steps.Kept.{Kept}
 use Rattle.mem_ports.specs.declared.steps.Kept.TheVariants as kept
-use Rattle.std.proofs.Common.{ap, arith, refl, sym, ◌∙◌}
+use Rattle.std.proofs.Common.{ap, arith, refl, ◌∙◌}
 use Rattle.std.proofs.Math.Seq.{take-length}
 use Rattle.std.proofs.lemmas.List.{drop-append-le, length-drop, take-append-le}
 use Rattle.std.specs.Prelude.{List, [], drop, length, take, ℕ, ◌+◌, ◌++◌, ◌∷◌, ◌≡◌, ◌≤◌}
-use Rattle.worker_ports.specs.declared.wires.WireStep.{WireStep}
 use Rattle.worker_ports.specs.declared.wires.WireStep.TheVariants as step
 use Rattle.worker_ports.specs.declared.wires.Wired.{Wired}
 

@@ -1,9 +1,9 @@
 -- The tests on numbers, and what they say.
-use Rattle.std.proofs.Common.{arith, inl, inr, ◌⊎◌}
+use Rattle.std.proofs.Common.{arith}
 use Rattle.std.proofs.lemmas.Bool.Decides.{nat_tests}
 use Rattle.std.specs.BTreeMap.{is_at}
 use Rattle.std.specs.Ordering.{nat_cmp}
-use Rattle.std.specs.Prelude.{Bool, false, nat_eq, refl, true, ℕ, ◌<◌, ◌≡◌}
+use Rattle.std.specs.Prelude.{nat_eq, true, ℕ, ◌<◌, ◌≡◌}
 use Rattle.std.specs.declared.cmp.Ordering.TheVariants.{Greater}
 
 pub at_eq : (m n : ℕ) → is_at (nat_cmp m) n ≡ nat_eq m n

@@ -3,7 +3,7 @@ use Rattle.io_ports.specs.Memory.{counted}
 use Rattle.mem_ports.specs.declared.steps.Room.{Room}
 use Rattle.mem_ports.specs.declared.wires.MemWires.TheInside.{Inside}
 use Rattle.std.specs.List.{list_any}
-use Rattle.std.specs.Prelude.{Bool, List, Some, [], drop, false, if◌then◌else◌, length, nat_eq, nat_le, nat_lt, suc, true, ℕ, ◌&&◌, ◌++◌, ◌-◌, ◌<◌, ◌∷◌, ◌≡◌, ◌≤◌}
+use Rattle.std.specs.Prelude.{Bool, List, Some, [], drop, if◌then◌else◌, length, nat_eq, nat_le, nat_lt, suc, true, ℕ, ◌&&◌, ◌++◌, ◌-◌, ◌<◌, ◌∷◌, ◌≡◌, ◌≤◌}
 use Rattle.worker_ports.specs.Wires.{Seen, greatest_after, is_live, live_after, without}
 use Rattle.worker_ports.specs.declared.wires.WireStep.{WireStep}
 use Rattle.worker_ports.specs.declared.wires.WireStep.TheVariants as step

@@ -2,7 +2,7 @@
 use Rattle.io_ports.specs.declared.ports.Failed.{Failed}
 use Rattle.metered_wires.proofs.Rises.{same_rises}
 use Rattle.metered_wires.specs.Rising.{IsRising, untold}
-use Rattle.std.proofs.Common.{ap, arith, refl, subst, sym}
+use Rattle.std.proofs.Common.{ap, arith, subst, sym}
 use Rattle.std.specs.Prelude.{Err, IfOk, List, Ok, OnErr, Result, ℕ, ◌≡◌, ◌≤◌}
 use Rattle.worker_ports.specs.Wires.{Seen, offered}
 

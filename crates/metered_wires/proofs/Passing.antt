@@ -1,10 +1,10 @@
 -- What the inner connections gave, answered or not.
-use Rattle.metered_wires.proofs.Rises.{given_grows, given_rises, turned_away}
+use Rattle.metered_wires.proofs.Rises.{given_grows, turned_away}
 use Rattle.metered_wires.specs.Metering.{Accepted, Closed, Metered, Passed, is_accept}
 use Rattle.metered_wires.specs.Rising.{IsRising, untold}
 use Rattle.shared_tokens.specs.Seats.{Granted, Refused}
 use Rattle.shared_tokens.specs.declared.token.Token.{Token}
-use Rattle.std.proofs.Common.{ap, arith, refl, subst, sym, ◌∙◌}
+use Rattle.std.proofs.Common.{ap, arith, subst, sym, ◌∙◌}
 use Rattle.std.specs.Prelude.{None, false, ℕ, ◌<◌, ◌≡◌, ◌≤◌}
 use Rattle.worker_ports.specs.Wires.{Gives, MayCome, Seen, closed, given, greatest_after, held_after, live_after}
 use Rattle.worker_ports.specs.declared.wires.Wired.{Wired}

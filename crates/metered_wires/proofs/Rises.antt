@@ -3,11 +3,11 @@ use Rattle.metered_wires.specs.Rising.{IsRising, untold}
 use Rattle.std.proofs.Common.{ap, arith, inl, inr, refl, sym, ◌∙◌, ◌⊎◌}
 use Rattle.std.proofs.lemmas.Bool.{false≢true}
 use Rattle.std.proofs.lemmas.Bool.Decides.{nat_tests}
-use Rattle.std.specs.List.{filter, list_any}
+use Rattle.std.specs.List.{list_any}
 use Rattle.std.specs.Prelude.{Bool, List, None, [], cond, false, if◌then◌else◌, nat_eq, not, true, ℕ, ◌++◌, ◌<◌, ◌||◌, ◌∷◌, ◌≡◌, ◌≤◌}
 use Rattle.worker_ports.specs.Told.{with_last}
 use Rattle.worker_ports.specs.declared.wires.WireStep.TheVariants as step
-use Rattle.worker_ports.specs.Wires.{Gives, Seen, closed, given, greatest_after, held_after, is_live, live_after, without}
+use Rattle.worker_ports.specs.Wires.{Gives, Seen, closed, given, is_live, without}
 use Rattle.worker_ports.specs.declared.wires.Wired.{Wired}
 use Rattle.worker_ports.specs.declared.wires.Wired.TheVariants as wired
 

@@ -10,6 +10,7 @@ use Rattle.post_queue.specs.declared.posts.Post.{Post}
 use Rattle.std.proofs.Common.{All, ap, append_assoc, arith, inl, inr, refl, subst, sym, ◌∙◌}
 use Rattle.std.proofs.lemmas.Bool.Decides.{nat_tests}
 use Rattle.std.proofs.lemmas.List.{append-nil, map-append}
+use Rattle.std.proofs.lemmas.List.Elements.{All-head, All-tail}
 use Rattle.std.specs.Prelude.{Bool, Err, List, None, Ok, Option, Result, Some, [], false, if◌then◌else◌, map, nat_lt, true, ℕ, ◌++◌, ◌<◌, ◌∷◌, ◌≡◌, ◌≤◌}
 use Rattle.worker_core.specs.Sessions.{RestsWire, version_of}
 use Rattle.worker_core.specs.declared.worker.Kind.{Kind}
@@ -34,6 +35,12 @@ job_is job.Look may = tt
 
 pub post_is : (names : List (List ℕ)) (p : Post) → IsAllowed p → IsEvent names (post_event p)
 post_is names p may = (may.0, job_is p.job may.1)
+
+pub first_allowed : (p : Post) (rest after : List Post) → rest ≡ p ∷ after → All IsAllowed rest → IsAllowed p
+first_allowed p rest after e all = All-head IsAllowed p after (subst (λ (ps : List Post). All IsAllowed ps) e all)
+
+pub rest_allowed : (p : Post) (rest after : List Post) → rest ≡ p ∷ after → All IsAllowed rest → All IsAllowed after
+rest_allowed p rest after e all = All-tail IsAllowed p after (subst (λ (ps : List Post). All IsAllowed ps) e all)
 
 -- so many of them were carried out
 pub record RunsSoFar (names : List (List ℕ)) (posts rest : List Post) (k : Kind) (v : Place) (k' : Kind) (w : Place) : Type 0 where

@@ -180,3 +180,6 @@ rises_wires w w' j j' wires journal rose = record { at_wires = wires; at_journal
 -- an event that broke off isn't a fault of the connections
 pub rises_event : {T : Type 0} (end : End) (w w' j j' : ℕ) → (end ≡ ended.WiresFault → ⊥) → w ≤ w' → j ≤ j' → (◌≡◌ {A = Result T End} (Err end) (Err ended.JournalFault) → Rose j j') → Rises {T = T} (Err end) w w' j j'
 rises_event {T} end w w' j j' other wires journal rose = record { at_wires = wires; at_journal = journal; wires_fault = λ e. absurd (other (same_end {T = T} end ended.WiresFault e)); journal_fault = rose }
+
+pub rises_same : {T : Type 0} (end : End) (w j : ℕ) → end ≡ ended.Memory → Rises {T = T} (Err end) w w j j
+rises_same {T} end w j e = subst (λ (x : End). Rises {T = T} (Err x) w w j j) (sym e) (rises_memory {T = T} w w j j (omega arith) (omega arith))

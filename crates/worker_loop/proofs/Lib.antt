@@ -1,6 +1,7 @@
 mod Becoming
 mod Carrying
 mod Dispatching
+mod Ending
 mod Keeping
 mod Matching
 mod Offering
@@ -9,3 +10,4 @@ mod Running
 mod Settling
 mod Taking
 mod Turning
+mod Working

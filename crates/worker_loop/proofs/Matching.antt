@@ -25,10 +25,10 @@ use Rattle.worker_ports.specs.declared.wires.Wired.{Wired}
 use Rattle.worker_ports.specs.declared.wires.Wired.TheVariants as wired
 
 -- these steps were added
-abbrev Grows : Seen → List WireStep → Seen → Type 0
+abbrev pub Grows : Seen → List WireStep → Seen → Type 0
 Grows old ss new = new.steps ≡ option_map (λ before. before ++ ss) old.steps
 
-grows_none : (s : Seen) → Grows s [] s
+pub grows_none : (s : Seen) → Grows s [] s
 grows_none s = none_added s.steps
   where
     none_added : (t : Option (List WireStep)) → t ≡ option_map (λ before. before ++ []) t
@@ -39,7 +39,7 @@ map_twice : (t : Option (List WireStep)) (xs ys : List WireStep) → option_map 
 map_twice None xs ys = refl
 map_twice (Some us) xs ys = ap (λ (zs : List WireStep). Some zs) (append_assoc us xs ys)
 
-grows_more : (a b c : Seen) (xs ys : List WireStep) → Grows a xs b → Grows b ys c → Grows a (xs ++ ys) c
+pub grows_more : (a b c : Seen) (xs ys : List WireStep) → Grows a xs b → Grows b ys c → Grows a (xs ++ ys) c
 grows_more a b c xs ys one two = two ∙ ap (option_map (λ (before : List WireStep). before ++ ys)) one ∙ map_twice a.steps xs ys
 
 grows_as : (a b c : Seen) (xs : List WireStep) → b ≡ a → Grows b xs c → Grows a xs c
@@ -67,17 +67,17 @@ closes_append (step.Closed c ∷ xs) ys a b = closes_append xs ys a b
 closes_append (step.Gave w ∷ xs) ys a b = absurd a
 closes_append (step.Offered c piece n ∷ xs) ys a b = absurd a
 
-close_none : (s : Seen) → Closes s s
+pub close_none : (s : Seen) → Closes s s
 close_none s = record { steps = []; over = tt; grows = grows_none s }
 
 close_more : (a b c : Seen) → Closes a b → Closes b c → Closes a c
 close_more a b c one two = record { steps = one.steps ++ two.steps; over = closes_append one.steps two.steps one.over two.over; grows = grows_more a b c one.steps two.steps one.grows two.grows }
 
-close_as : (a b c : Seen) → b ≡ a → Closes b c → Closes a c
+pub close_as : (a b c : Seen) → b ≡ a → Closes b c → Closes a c
 close_as a b c e one = subst (λ (s : Seen). Closes s c) e one
 
 -- what is done for an event: nothing but closes
-ended_closes : (names : List (List ℕ)) (cs : List ℕ) (ds : List Did) (v w : Place) → ((u : Place) → Becomes names u ds w → Closes u.seen w.seen) → Becomes names v (map Ended cs ++ ds) w → Closes v.seen w.seen
+pub ended_closes : (names : List (List ℕ)) (cs : List ℕ) (ds : List Did) (v w : Place) → ((u : Place) → Becomes names u ds w → Closes u.seen w.seen) → Becomes names v (map Ended cs ++ ds) w → Closes v.seen w.seen
 ended_closes names [] ds v w rest b = rest v b
 ended_closes names (c ∷ cs) ds v w rest b = close_more v.seen b.0.seen w.seen (close_one c v.seen b.0.seen (ap (λ (p : Place). p.seen) b.1)) (ended_closes names cs ds b.0 w rest b.2)
 

@@ -36,6 +36,10 @@ pub nothing_waits : (k : Kind) (c : ℕ) (octets front : List ℕ) → RestsWire
 nothing_waits (kind.Plain core) c octets front rests lends some none = absurd rests
 nothing_waits (kind.Wire session) c octets front rests lends some none = empty_front octets front (octets_at c session.core) lends some none
 
+pub some_there : (xs : List ℕ) → (length xs ≡ 0 → ⊥) → 0 < length xs
+some_there [] no = absurd (no refl)
+some_there (x ∷ xs) no = omega arith
+
 pub offers_nothing : (names : List (List ℕ)) (c : ℕ) (k : Kind) (v : Place) → RestsWire k → waiting_at c k ≡ [] → OffersAs names c k v (Ok tt) k v
 offers_nothing names c k v rests none = (NothingWaits none, rests)
 
@@ -107,3 +111,13 @@ cut_offers names last c k0 k k' v0 v w end so cuts = record { last = last; kind 
 pub next_above : (k : Kind) (last c : ℕ) → RestsWire k → IsNextOut k last (Some c) → last < c
 next_above (kind.Plain core) last c rests next = absurd rests
 next_above (kind.Wire session) last c rests next = next.found.0
+
+-- ---- a front
+pub least : (n m : ℕ) → n ≤ m → min n m ≡ n
+least n m less = omega (arith, less)
+
+pub first_front : (xs : List ℕ) (n : ℕ) → n ≤ length xs → take n xs ≡ take (length (take n xs)) xs
+first_front xs n less = ap (λ (m : ℕ). take m xs) (sym (length-take n xs ∙ least n (length xs) less))
+
+pub first_some : (xs : List ℕ) (n : ℕ) → n ≤ length xs → 0 < n → 0 < length (take n xs)
+first_some xs n less some = let l : length (take n xs) ≡ n = length-take n xs ∙ least n (length xs) less in omega (arith, l, some)

@@ -12,7 +12,7 @@ use Rattle.shared_state.specs.declared.permit_rule.PermitView.{PermitView}
 use Rattle.std.proofs.Common.{ap, append_assoc, arith, refl, subst, sym, ◌∙◌}
 use Rattle.std.proofs.lemmas.List.{append-nil, map-append}
 use Rattle.std.specs.List.{flat_map}
-use Rattle.std.specs.Prelude.{Bool, List, Option, [], cond, false, filter, if◌then◌else◌, length, map, nat_eq, true, ℕ, ◌&&◌, ◌++◌, ◌∷◌, ◌≡◌}
+use Rattle.std.specs.Prelude.{Bool, List, Option, [], cond, false, filter, if◌then◌else◌, length, map, nat_eq, true, ℕ, ◌&&◌, ◌+◌, ◌++◌, ◌<◌, ◌∷◌, ◌≡◌, ◌≤◌}
 use Rattle.worker_core.specs.Fronts.{IsFront, octets_at}
 use Rattle.worker_core.specs.Sessions.{LendsFront, is_closing}
 use Rattle.worker_core.specs.declared.worker.Kind.{Kind}
@@ -21,6 +21,7 @@ use Rattle.worker_loop.proofs.Becoming.{becomes_append}
 use Rattle.worker_loop.specs.Carrying.{is_done, named_in, waiting_at}
 use Rattle.worker_loop.specs.Clauses.{EndsAll, EndsOne, ends_in}
 use Rattle.worker_loop.specs.Did.{Did, Ended}
+use Rattle.worker_loop.specs.Keeping.{Permitted}
 use Rattle.worker_loop.specs.Places.{Becomes, Place, closed_at, place_of, without_permit}
 use Rattle.worker_parts.specs.Held.{with_fewer}
 use Rattle.worker_ports.specs.Wires.{Seen, closed}
@@ -49,6 +50,9 @@ pub left_one : (k : Kind) (c : ℕ) (seen : Seen) (held : List ℕ) (seat : Perm
 left_one k c seen held seat done = record {
   goes = λ text told. let v : Place = place_of text told seen held seat in if_false (is_done k c) v (without_permit c (closed_at c v)) done;
 }
+
+pub left_permitted : (held held' : List ℕ) (seat seat' : PermitView) → seat'.held + length held ≡ seat.held + length held' → seat' ≡ with_fewer (length held) (length held') seat → Permitted held seat held' seat'
+left_permitted held held' seat seat' balance left = let same : seat'.refusals ≡ seat.refusals = ap (λ (v : PermitView). v.refusals) left in record { kept = balance; refused = omega (arith, same) }
 
 -- whether it is done with
 pub open_still : (k : Kind) (c : ℕ) → is_closing k c ≡ false → false ≡ is_done k c

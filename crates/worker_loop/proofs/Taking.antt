@@ -5,7 +5,7 @@ use Rattle.flow_notes.specs.declared.events.Event.TheVariants as event
 use Rattle.flow_notes.specs.declared.notes.Note.{Note}
 use Rattle.number_set.specs.NumberSet.{has, marked}
 use Rattle.shared_state.specs.PermitRule.{granted}
-use Rattle.shared_state.specs.PermitSeats.{refused_and_paid, view}
+use Rattle.shared_state.specs.PermitSeats.{IsSeatOf, refused_and_paid, view}
 use Rattle.shared_state.specs.declared.permit_rule.PermitView.{PermitView}
 use Rattle.shared_state.specs.declared.permits.PermitSeat.{PermitSeat}
 use Rattle.shared_state.specs.declared.permits.Permits.{Permits}
@@ -39,6 +39,9 @@ asked_refused c permits old new before after false a = let e : new.refusals ≡ 
 
 pub asked_permitted : (c : ℕ) (permits : Permits) (old new : PermitView) (before after : List ℕ) (taken : Bool) → new.held + length before ≡ old.held + length after → Asked c permits old before taken new after → Permitted before old after new
 asked_permitted c permits old new before after taken balance a = record { kept = balance; refused = asked_refused c permits old new before after taken a }
+
+pub asked_holds : (permits : Permits) (old new : PermitSeat) (before after : List ℕ) → IsSeatOf permits new → (view new).held + length before ≡ (view old).held + length after → Holds permits old before → Holds permits new after
+asked_holds permits old new before after seat balance holds = let given = holds.given in record { is_seat = seat; given = omega (arith, balance, given) }
 
 pub same_holds : (permits : Permits) (old new : PermitSeat) (before after : List ℕ) → new ≡ old → after ≡ before → Holds permits old before → Holds permits new after
 same_holds permits old new before after at_seat at_held holds =
@@ -141,6 +144,13 @@ idle_as names k v rests = record { did = []; takes = Idled; becomes = refl; rest
 
 pub stop_as : (names : List (List ℕ)) (k : Kind) (v : Place) → RestsWire k → TakesUpAs names wired.Stop k v (Ok tt) k v
 stop_as names k v rests = record { did = []; takes = Stopped; becomes = refl; rests = rests }
+
+-- the same under the name that was matched
+pub given_as : (names : List (List ℕ)) (given w : Wired) (k k' : Kind) (v x : Place) (r : Result (Unit {0}) End) → given ≡ w → TakesUpAs names w k v r k' x → TakesUpAs names given k v r k' x
+given_as names given w k k' v x r e takes = subst (λ (y : Wired). TakesUpAs names y k v r k' x) (sym e) takes
+
+pub may_as : (names : List (List ℕ)) (seen : Seen) (held : List ℕ) (given w : Wired) → given ≡ w → MayTakeUp names seen held given → MayTakeUp names seen held w
+may_as names seen held given w e may = subst (λ (y : Wired). MayTakeUp names seen held y) e may
 
 -- ---- it may be taken up
 pub may_take_up : (names : List (List ℕ)) (old new : Seen) (held : List ℕ) (w : Wired) → old.clusters ≡ length names → AreUpTo old.greatest held → Gives old w new → MayTakeUp names new held w

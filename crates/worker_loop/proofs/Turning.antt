@@ -1,13 +1,15 @@
 -- A turn, whole or broken off.
 use Rattle.flow_notes.specs.declared.events.Event.{Event}
 use Rattle.flow_notes.specs.declared.events.Event.TheVariants as event
+use Rattle.post_queue.specs.Posts.{IsAllowed}
 use Rattle.post_queue.specs.declared.hand.Hand.{Hand}
 use Rattle.post_queue.specs.declared.posts.Post.{Post}
+use Rattle.shared_state.specs.Version.{looked}
 use Rattle.shared_state.specs.declared.entry.Entry.{Entry}
 use Rattle.shared_state.specs.declared.version_word.VersionView.{VersionView}
-use Rattle.std.proofs.Common.{ap, append_assoc, inl, inr, refl, subst, sym, ◌∙◌}
+use Rattle.std.proofs.Common.{All, ap, append_assoc, arith, inl, inr, refl, subst, sym, ◌∙◌}
 use Rattle.std.proofs.lemmas.List.{append-nil}
-use Rattle.std.specs.Prelude.{Bool, Err, List, Ok, Option, Result, [], map, ℕ, ◌++◌, ◌+◌, ◌∷◌, ◌≡◌, ◌≤◌}
+use Rattle.std.specs.Prelude.{Bool, Err, List, Ok, Option, Result, [], length, map, take, ℕ, ◌++◌, ◌+◌, ◌∷◌, ◌≡◌, ◌≤◌}
 use Rattle.worker_core.specs.declared.worker.Kind.{Kind}
 use Rattle.worker_loop.proofs.Becoming.{becomes_append}
 use Rattle.worker_loop.proofs.Running.{AreQuiet, all_events, events_append, inner_obeyed, inner_posts, offers_quiet, offers_run, posts_append, quiet_append, quiet_as, quiet_none, quiet_obeyed, taken_quiet, ticks_append}
@@ -136,7 +138,25 @@ module _ (names : List (List ℕ)) (end : End) (old new : Sides) (moment : ℕ) 
             (quiet_as (events_of (obey.did ++ Gave takes.given ∷ outer)) (events_of obey.did ++ events_of outer) (events_append obey.did (Gave takes.given ∷ outer)) (quiet_append (events_of obey.did) (events_of outer) obeys_quiet quiet))
             cut.cuts
 
+-- without memory before anything
+pub cuts_memory : (names : List (List ℕ)) (k k' : Kind) (v : Place) → Cuts names k v ended.Memory k' v
+cuts_memory names k k' v = Midway ended.Memory [] v k' v NoneBegun refl (record { did = []; is = inl refl; becomes = refl })
+
 -- ---- a whole turn
+pub drained_as : (lent posts : List Post) (old new : Hand) → lent ≡ posts → new.ran ≡ old.ran ++ posts → new.ran ≡ old.ran ++ lent
+drained_as lent posts old new e ran = ran ∙ ap (λ (ps : List Post). old.ran ++ ps) (sym e)
+
+pub allowed_as : (lent posts : List Post) → lent ≡ posts → All IsAllowed posts → All IsAllowed lent
+allowed_as lent posts e all = subst (λ (ps : List Post). All IsAllowed ps) (sym e) all
+
+pub front_of_kept : (ps xs : List ℕ) (n : ℕ) → ps ≡ take n xs → length ps ≡ n → ps ≡ take (length ps) xs
+front_of_kept ps xs n is len = is ∙ ap (λ (m : ℕ). take m xs) (sym len)
+
+pub asks_once : (old new : Sides) (moment : ℕ) (posts : List Post) (version : ℕ) (pressures : List ℕ) → TellsLast old.moments moment new.moments → new.pass.ran ≡ old.pass.ran ++ posts → new.pass.drains ≡ old.pass.drains + 1
+    → new.looks ≡ looked old.looks new.looks.found → version ≡ new.kept.version → pressures ≡ take (length pressures) new.kept.pressures → old.kept.version ≤ new.kept.version → new.looks.found ≤ version → Asks old moment posts version pressures new
+asks_once old new moment posts version pressures clock ran drains look newest front rising fresh =
+    record { clock = clock; ran = ran; drains = drains; look = look; newest = newest; front = front; rising = omega (arith, rising, newest); fresh = fresh }
+
 pub turn_is : (names : List (List ℕ)) (old new : Sides) (moment version : ℕ) (posts : List Post) (pressures : List ℕ) (k k1 k2 k3 k4 k' : Kind) (v v1 v2 v3 v4 w : Place) (stops : Bool) → Asks old moment posts version pressures new
     → Carries names (event.Tick moment ∷ []) k v k1 v1 → Carries names (map post_event posts) k1 v1 k2 v2 → Carries names (events_in (obeyed_event k2 version pressures)) k2 v2 k3 v3
     → Takes names k3 v3 k4 v4 stops → OffersAll names k4 v4 k' w → TurnsAs names old k v (Ok stops) new k' w

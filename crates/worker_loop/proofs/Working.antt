@@ -137,7 +137,7 @@ turns_ran names old k0 v0 (More n mid new k1 k2 u w turns turn) =
     ran_suc n names old k0 v0 new k2 w (ran_more names n 1 old mid new k0 k1 k2 v0 u w (turns_ran names old k0 v0 turns) (ran_turn names mid new k1 k2 u w false turn))
 
 -- ---- how it ended
-abbrev EndsAt : List (List ℕ) → End → Kind → Place → Kind → Place → Type 0
+abbrev pub EndsAt : List (List ℕ) → End → Kind → Place → Kind → Place → Type 0
 EndsAt names ended.Turns k v k' w = (k' ≡ k) × (w ≡ v)
 EndsAt names ended.Stopped k v k' w = (k' ≡ k) × (w ≡ v)
 EndsAt names end k v k' w = Cuts names k v end k' w

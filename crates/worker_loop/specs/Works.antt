@@ -2,7 +2,8 @@
 use Rattle.flow_notes.specs.declared.events.Event.{Event}
 use Rattle.flow_notes.specs.declared.events.Event.TheVariants as event
 use Rattle.post_queue.specs.declared.posts.Post.{Post}
-use Rattle.std.specs.Prelude.{List, [], false, map, true, ℕ, ◌++◌, ◌<◌, ◌∷◌, ◌≡◌, ◌⊎◌}
+use Rattle.std.specs.List.{AllByRecursion}
+use Rattle.std.specs.Prelude.{Bool, List, [], false, length, map, true, ℕ, ◌++◌, ◌<◌, ◌∷◌, ◌≡◌, ◌≤◌, ◌⊎◌}
 use Rattle.worker_core.specs.declared.worker.Kind.{Kind}
 use Rattle.worker_loop.specs.Carrying.{CarriedAll, events_in, post_event, room_event}
 use Rattle.worker_loop.specs.Cutting.{Cuts}
@@ -13,8 +14,6 @@ use Rattle.worker_loop.specs.declared.ended.Ended.{Ended}
 use Rattle.worker_loop.specs.declared.ended.Ended.TheVariants as ended
 use Rattle.worker_ports.specs.Told.{TellsLast}
 use Rattle.worker_ports.specs.declared.wires.Wired.{Wired}
-use Rattle.std.specs.List.{AllByRecursion}
-use Rattle.std.specs.Prelude.{Bool, length, ◌≤◌}
 
 -- an event of the clock, of a post or of what is published, and of no connection
 abbrev pub is_inner : Event → Bool

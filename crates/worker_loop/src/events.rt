@@ -8,7 +8,7 @@ ghost use Rattle.worker_loop.specs.declared.ended.Ended.TheVariants as ended;
 
 use crate::ended::Ended;
 use flow_notes::{Event, Names, Notes, event_text};
-use io_ports::{Failed, NoMemory, Octets};
+use io_ports::{Failed, Octets};
 use std::alloc::Global;
 use worker_core::Core;
 use worker_parts::Journal;
@@ -69,9 +69,9 @@ fn keep_line<J: Journal>(
     ensures no_fall { J.faults journal.old ≤ J.faults journal.new }
 {
     line.clear();
-    if let Err(NoMemory) = event_text(event, names, line) {
+    let Ok(()) = event_text(event, names, line) else {
         return Err(Ended::Memory);
-    }
+    };
     match journal.line(line.as_slice()) {
         Ok(()) => Ok(()),
         Err(Failed) => Err(Ended::JournalFault),

@@ -88,12 +88,13 @@ fn settle_passage<W: Wires>(
 fn named_by(passage: Passage<'_>) -> Option<u32>
     ensures { named_in (notes_of_passage passage.entry) ≡ numbers_in result }
 {
-    match passage {
-        Passage::One(note) => match note {
-            Note::Close { conn, .. } | Note::Out { conn, .. } => Some(*conn),
-            _ => None,
-        },
-        Passage::Pauses(..) | Passage::Resumes(..) => None,
+    let Passage::One(note) = passage else {
+        return None;
+    };
+    match note {
+        Note::Close { conn, .. } => Some(*conn),
+        Note::Out { conn, .. } => Some(*conn),
+        _ => None,
     }
 }
 
@@ -112,14 +113,14 @@ fn end_done<W: Wires>(
     ensures keeps { Keeps permits.now (W.seen wires.old) held.old (view seat.old) (W.seen wires.new) held.new seat.new }
     ensures no_fall { W.faults wires.old ≤ W.faults wires.new }
 {
-    if is_done(core, conn) {
+    if is_done_with(core, conn) {
         wires.close(conn);
         held.leave(permits, seat, conn);
     }
 }
 
 // Whether the core has closed a connection, and no octets wait for it.
-fn is_done(core: &Core, conn: u32) -> bool
+fn is_done_with(core: &Core, conn: u32) -> bool
     ensures { result ≡ is_done core.now.kind conn }
 {
     if !core.closing(conn) {

@@ -6,7 +6,7 @@ ghost use Rattle.worker_core.specs.Sessions.{RestsWire};
 ghost use Rattle.worker_loop.specs.Clauses.{Admits, MayTakeUp, TakesAs, TakesUpAs};
 ghost use Rattle.worker_loop.specs.Keeping.{AreUpTo, Holds, Keeps, Permitted, Rises};
 ghost use Rattle.worker_loop.specs.Places.{place_of};
-ghost use Rattle.worker_loop.specs.Turns as turns;
+ghost use Rattle.worker_loop.specs.Turns as spec;
 ghost use Rattle.worker_loop.specs.declared.ended.Ended.TheVariants as ended;
 ghost use Rattle.worker_ports.specs.declared.wires.Wired.TheVariants as wired;
 
@@ -50,7 +50,7 @@ pub(crate) fn take_next<W: Wires, J: Journal>(
 }
 
 fn is_stop(given: &Wired) -> bool
-    ensures { result ≡ turns.is_stop given.now }
+    ensures { result ≡ spec.is_stop given.now }
 {
     matches!(given, Wired::Stop)
 }
@@ -96,7 +96,8 @@ fn take_up<W: Wires, J: Journal>(
                 core, permits, seat, held, wires, journal, names, pad, &event,
             )
         }
-        Wired::Idle | Wired::Stop => Ok(()),
+        Wired::Idle => Ok(()),
+        Wired::Stop => Ok(()),
     }
 }
 

@@ -5,7 +5,7 @@ ghost use Rattle.post_queue.specs.Pass as hands;
 ghost use Rattle.post_queue.specs.Posts.{IsAllowed};
 ghost use Rattle.shared_state.specs.Following.{looks};
 ghost use Rattle.shared_state.specs.PermitSeats.{view};
-ghost use Rattle.std.specs.Prelude.{◌<◌, ◌^◌, ◌≡◌, ◌≢◌, All, length, map};
+ghost use Rattle.std.specs.Prelude.{◌<◌, ◌^◌, ◌≡◌, ◌≢◌, All, length};
 ghost use Rattle.worker_core.specs.Sessions.{RestsWire};
 ghost use Rattle.worker_loop.specs.Carrying.{events_in, obeyed_event};
 ghost use Rattle.worker_loop.specs.Clauses.{CarriesAs, RunsAs, TurnsAs};
@@ -22,6 +22,7 @@ use crate::offers::offer_all;
 use crate::settling::carry_out;
 use crate::taking::take_next;
 use flow_notes::{Event, Names};
+use io_ports::NoMemory;
 use post_queue::{Post, PostBox, RunnerPass};
 use shared_state::{Follower, PermitSeat, Permits, Snapshot};
 use std::alloc::Global;
@@ -123,15 +124,17 @@ fn take_turn<R: Wait, W: Wires, C: Clock, J: Journal>(
 {
     let tick = Event::Tick { now: clock.now() };
     carry_out(core, permits, seat, held, wires, journal, names, pad, &tick)?;
-    let Ok(drained) = posts.drain(rt, alloc, pass) else {
-        return Err(Ended::Memory);
+    let drained = match posts.drain(rt, alloc, pass) {
+        Ok(drained) => drained,
+        Err(NoMemory) => return Err(Ended::Memory),
     };
     let drained = drained.as_slice();
     run_posts(
         core, permits, seat, held, wires, journal, names, pad, drained,
     )?;
-    let Ok(snapshot) = follower.current(rt, alloc) else {
-        return Err(Ended::Memory);
+    let snapshot = match follower.current(rt, alloc) {
+        Ok(snapshot) => snapshot,
+        Err(NoMemory) => return Err(Ended::Memory),
     };
     obey(
         core, permits, seat, held, wires, journal, names, pad, snapshot,

@@ -1,8 +1,8 @@
 -- Readings so far, and one more.
 use Rattle.io_ports.specs.Faults.{Rose}
-use Rattle.std.proofs.Common.{ap, arith, inl, inr, refl, sym, ◌∙◌, ◌⊎◌}
+use Rattle.std.proofs.Common.{ap, arith, inl, inr, refl, sym, ◌∙◌}
 use Rattle.std.specs.List.{AllByRecursion}
-use Rattle.std.specs.Prelude.{IfSome, List, None, Option, Some, [], length, slice_set, suc, zero, ℕ, ◌+◌, ◌++◌, ◌-◌, ◌<◌, ◌∷◌, ◌^◌, ◌≡◌, ◌≤◌}
+use Rattle.std.specs.Prelude.{IfSome, List, None, Option, Some, [], length, slice_set, ℕ, ◌+◌, ◌++◌, ◌<◌, ◌∷◌, ◌≡◌, ◌≤◌}
 use Rattle.worker_parts.specs.Samples.{AreSampled, FailedByFaults, count_failed, replaced}
 
 abbrev IsReading : Option ℕ → Type 0

@@ -4,7 +4,7 @@ use Rattle.shared_state.specs.PermitRule.{granted}
 use Rattle.shared_state.specs.PermitSeats.{refused_and_paid}
 use Rattle.shared_state.specs.declared.permit_rule.PermitView.{PermitView}
 use Rattle.shared_state.specs.declared.permits.Permits.{Permits}
-use Rattle.std.specs.Prelude.{Bool, List, false, true, ℕ, ◌+◌, ◌-◌, ◌<◌, ◌≡◌, ◌≤◌}
+use Rattle.std.specs.Prelude.{Bool, List, false, true, ℕ, ◌-◌, ◌<◌, ◌≡◌, ◌≤◌}
 
 -- the seat asked for one for the connection: it is kept where it was given
 abbrev pub Asked : ℕ → Permits → PermitView → List ℕ → Bool → PermitView → List ℕ → Type 0

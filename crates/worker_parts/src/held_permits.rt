@@ -63,12 +63,14 @@ impl HeldPermits {
     {
         self.conns.reserve_one()?;
         self.permits.reserve(1)?;
-        let Ok(permit) = permits.enter(seat) else {
-            return Ok(false);
-        };
-        self.permits.push_reserved(permit);
-        self.conns.mark(u64::from(conn), true);
-        Ok(true)
+        match permits.enter(seat) {
+            Ok(permit) => {
+                self.permits.push_reserved(permit);
+                self.conns.mark(u64::from(conn), true);
+                Ok(true)
+            }
+            Err(_) => Ok(false),
+        }
     }
 
     /// Leaves the permit of a connection, if it has one.

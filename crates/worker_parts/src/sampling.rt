@@ -27,10 +27,14 @@ fn read_into<G: Gauge>(gauge: &mut G, pressures: &mut [u32]) -> u32
 {
     let mut failed = 0;
     for resource in 0..pressures.len() {
-        match gauge.read(resource as u32) {
-            Ok(pressure) => pressures[resource] = pressure,
-            Err(Failed) => failed += 1,
-        }
+        let pressure = match gauge.read(resource as u32) {
+            Ok(pressure) => pressure,
+            Err(Failed) => {
+                failed += 1;
+                continue;
+            }
+        };
+        pressures[resource] = pressure;
     }
     failed
 }

@@ -3,7 +3,7 @@ use Rattle.metered_wires.proofs.Passing.{below_accept, below_after, below_join, 
 use Rattle.metered_wires.proofs.Rises.{closed_greatest, closed_rises, given_rises}
 use Rattle.metered_wires.specs.Rising.{untold}
 use Rattle.shared_tokens.specs.Seats.{known_of}
-use Rattle.std.proofs.Common.{ap, arith, refl, sym}
+use Rattle.std.proofs.Common.{ap, arith, refl}
 use Rattle.std.proofs.lemmas.Result.{err_from_is_err_and}
 use Rattle.worker_ports.specs.declared.wires.Wired.TheVariants as wired
 use Rattle.metered_wires.proofs.metering.MeteredWiresWires.next.Goals as goal

@@ -1,0 +1,13 @@
+-- Resource after resource is read.
+use Rattle.std.proofs.Common.{arith, refl}
+use Rattle.worker_parts.proofs.Sampling.{all_read, none_yet, one_failed, one_read}
+use Rattle.worker_parts.proofs.sampling.read_into.Goals as goal
+
+pub loop-resource-init : goal.loop-resource-init
+loop-resource-init g c = none_yet c.args.pressures.now (g.G.Gauge.faults c.args.gauge.now)
+
+pub returns-clause-sampled : goal.returns-clause-sampled
+returns-clause-sampled g c = all_read c.loop-resource.invariant (omega arith)
+
+pub returns-clause-cause : goal.returns-clause-cause
+returns-clause-cause g c = c.loop-resource.invariant.cause
