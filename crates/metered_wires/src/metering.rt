@@ -33,8 +33,8 @@ impl<'a, W: Wires> MeteredWires<'a, W> {
 
     /// The inner connections and the seat, as they stand.
     pub fn into_inner(self) -> (W, TokenSeat)
-        ensures inner { result.0 ≡ self.inner }
-        ensures seat { result.1 ≡ self.seat }
+        ensures inner { result.0 ≡ self.entry.inner }
+        ensures seat { result.1 ≡ self.entry.seat }
     {
         (self.inner, self.seat)
     }

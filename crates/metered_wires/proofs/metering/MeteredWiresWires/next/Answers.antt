@@ -9,7 +9,7 @@ use Rattle.worker_ports.specs.declared.wires.Wired.TheVariants as wired
 use Rattle.metered_wires.proofs.metering.MeteredWiresWires.next.Goals as goal
 
 pub take-requires : goal.take-requires
-take-requires g c = c.args.self.now.seat_of
+take-requires g c = record { seat = c.args.self.now.seat_of }
 
 -- ---- refused
 pub invariant_of-self : goal.invariant_of-self
@@ -23,7 +23,7 @@ invariant_of-self g c =
 pub returns-in_err-conn-clause-err : goal.returns-in_err-conn-clause-err
 returns-in_err-conn-clause-err g c =
     let p = err_from_is_err_and c.from_residual.result c.from_residual.ensures.1 in
-    rw (p.1, p.2) (ap (untold c.args.self.now.greatest) c.in_err-conn.ensures.err)
+    rw p.1 (ap (untold c.args.self.now.greatest) c.in_err-conn.ensures.err)
 
 pub returns-in_err-conn-clause-cause : goal.returns-in_err-conn-clause-cause
 returns-in_err-conn-clause-cause g c =
@@ -33,7 +33,7 @@ returns-in_err-conn-clause-cause g c =
 pub returns-in_err-conn-clause-refused : goal.returns-in_err-conn-clause-refused
 returns-in_err-conn-clause-refused g c =
     let p = err_from_is_err_and c.from_residual.result c.from_residual.ensures.1 in
-    rw (p.1, p.2) (c.in_err-conn.ensures.err, refl)
+    rw p.1 (c.in_err-conn.ensures.err, refl)
 
 -- ---- an Accept
 pub invariant_of-self-in-Ok : goal.invariant_of-self-in-Ok
@@ -105,6 +105,14 @@ returns-in-Lost-clause-ok g c =
 pub returns-in-Lost-clause-metered : goal.returns-in-Lost-clause-metered
 returns-in-Lost-clause-metered g c =
     metered_on (g.W.Wires.seen c.args.self.now.inner) (g.W.Wires.seen c.next.new.self) (known_of c.args.self.now.seat) (known_of c.args.self.now.seat) _ (wired.Lost c.in-Lost.conn) c.in-Lost.is refl c.in_ok-conn.ensures.ok refl
+
+pub invariant_of-self-in-Lost-1 : goal.invariant_of-self-in-Lost-1
+invariant_of-self-in-Lost-1 g c =
+    record {
+      seat_of = c.args.self.now.seat_of;
+      rising = given_rises (g.W.Wires.seen c.args.self.now.inner) _ (g.W.Wires.seen c.next.new.self) c.args.self.now.rising c.in_ok-conn.ensures.ok;
+      below = below_after c.args.self.now.greatest (g.W.Wires.seen c.args.self.now.inner) (g.W.Wires.seen c.next.new.self) _ c.args.self.now.below c.in_ok-conn.ensures.ok;
+    }
 
 -- ---- nothing, or a stop
 pub invariant_of-self-in-Idle : goal.invariant_of-self-in-Idle
