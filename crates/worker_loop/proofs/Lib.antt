@@ -1,13 +1,13 @@
 mod Becoming
 mod Carrying
+mod Closing
 mod Dispatching
 mod Ending
 mod Keeping
 mod Matching
 mod Offering
 mod Parted
+mod Receiving
 mod Running
-mod Settling
-mod Taking
 mod Turning
 mod Working

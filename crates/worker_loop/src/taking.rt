@@ -1,7 +1,7 @@
 // What the connections tell.
 ghost use Rattle.number_set.specs.NumberSet.{has};
 ghost use Rattle.shared_state.specs.PermitSeats.{view};
-ghost use Rattle.std.specs.Prelude.{◌×◌, ◌≡◌, ◌≤◌, ◌⊎◌, IfErr, IfOk, false, length, true, ℕ};
+ghost use Rattle.std.specs.Prelude.{◌≡◌, ◌≤◌, ◌⊎◌, IfErr, IfOk, false, length, true, ℕ};
 ghost use Rattle.worker_core.specs.Sessions.{RestsWire};
 ghost use Rattle.worker_loop.specs.Clauses.{Admits, MayTakeUp, TakesAs, TakesUpAs};
 ghost use Rattle.worker_loop.specs.Keeping.{AreUpTo, Holds, Keeps, Permitted, Rises};

@@ -1,4 +1,4 @@
 mod Keeping
 mod Leaving
 mod Marking
-mod Sampling
+mod Reading

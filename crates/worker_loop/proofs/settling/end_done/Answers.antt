@@ -2,7 +2,7 @@
 use Rattle.shared_state.specs.PermitSeats.{view}
 use Rattle.std.proofs.Common.{arith, refl, sym, ◌∙◌}
 use Rattle.worker_loop.proofs.Keeping.{keeps_closed, keeps_same}
-use Rattle.worker_loop.proofs.Settling.{ended_one, left_one, left_permitted}
+use Rattle.worker_loop.proofs.Closing.{ended_one, left_one, left_permitted}
 use Rattle.worker_loop.proofs.settling.end_done.Goals as goal
 
 pub leave-requires-clause-seat : goal.leave-requires-clause-seat

@@ -1,6 +1,6 @@
 -- Whether a connection is closed and nothing waits for it.
 use Rattle.std.proofs.Common.{sym, ◌∙◌}
-use Rattle.worker_loop.proofs.Settling.{done_with, open_still}
+use Rattle.worker_loop.proofs.Closing.{done_with, open_still}
 use Rattle.worker_loop.proofs.settling.is_done_with.Goals as goal
 
 pub returns-then-not-closing : goal.returns-then-not-closing

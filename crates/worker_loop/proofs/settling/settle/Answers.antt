@@ -3,7 +3,7 @@ use Rattle.flow_notes.specs.Passages.{notes_of_passage}
 use Rattle.shared_state.specs.PermitSeats.{view}
 use Rattle.std.proofs.Common.{arith, refl}
 use Rattle.worker_loop.proofs.Keeping.{keeps_more, keeps_same}
-use Rattle.worker_loop.proofs.Settling.{all_settled, more_settled, none_settled}
+use Rattle.worker_loop.proofs.Closing.{all_settled, more_settled, none_settled}
 use Rattle.worker_loop.proofs.settling.settle.Goals as goal
 
 pub loop-passage-init : goal.loop-passage-init

@@ -1,6 +1,6 @@
 use Rattle.shared_state.specs.PermitSeats.{view}
 use Rattle.std.proofs.Common.{◌≤◌}
-use Rattle.worker_loop.proofs.Settling.{EndsSoFar}
+use Rattle.worker_loop.proofs.Closing.{EndsSoFar}
 use Rattle.worker_loop.specs.Keeping.{Keeps}
 use Rattle.worker_loop.proofs.settling.settle.Given as goal
 

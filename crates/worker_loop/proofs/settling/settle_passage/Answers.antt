@@ -3,7 +3,7 @@ use Rattle.flow_notes.specs.Passages.{notes_of_passage}
 use Rattle.shared_state.specs.PermitSeats.{view}
 use Rattle.std.proofs.Common.{ap, arith, refl, ◌∙◌}
 use Rattle.worker_loop.proofs.Keeping.{keeps_same}
-use Rattle.worker_loop.proofs.Settling.{ends_none, ends_one}
+use Rattle.worker_loop.proofs.Closing.{ends_none, ends_one}
 use Rattle.worker_loop.specs.Clauses.{numbers_in}
 use Rattle.worker_loop.proofs.settling.settle_passage.Goals as goal
 

@@ -2,7 +2,7 @@
 use Rattle.shared_state.specs.PermitSeats.{view}
 use Rattle.std.proofs.Common.{arith, inl, inr, refl, sym, ◌∙◌}
 use Rattle.worker_loop.proofs.Keeping.{none_left}
-use Rattle.worker_loop.proofs.Taking.{asked_holds, asked_permitted, same_holds, same_permitted}
+use Rattle.worker_loop.proofs.Receiving.{asked_holds, asked_permitted, same_holds, same_permitted}
 use Rattle.worker_loop.proofs.taking.admits.Goals as goal
 
 pub returns-then-not-takes_accepts-clause-admits : goal.returns-then-not-takes_accepts-clause-admits

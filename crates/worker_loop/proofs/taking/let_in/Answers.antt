@@ -3,7 +3,7 @@ use Rattle.flow_notes.specs.declared.events.Event.TheVariants as event
 use Rattle.shared_state.specs.PermitSeats.{view}
 use Rattle.std.proofs.Common.{ap, arith, refl}
 use Rattle.worker_loop.proofs.Keeping.{keeps_asked, keeps_closed, keeps_more, none_left, rises_ok, rises_same}
-use Rattle.worker_loop.proofs.Taking.{cut_asking, let_in_as, turned_away}
+use Rattle.worker_loop.proofs.Receiving.{cut_asking, let_in_as, turned_away}
 use Rattle.worker_loop.specs.Places.{place_of}
 use Rattle.worker_loop.proofs.taking.let_in.Goals as goal
 

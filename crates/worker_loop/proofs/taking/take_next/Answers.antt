@@ -4,7 +4,7 @@ use Rattle.std.proofs.Common.{ap, arith, refl, ◌∙◌}
 use Rattle.std.proofs.lemmas.Result.{err_from_is_err_and}
 use Rattle.std.specs.Prelude.{Bool, Err}
 use Rattle.worker_loop.proofs.Keeping.{keeps_given, keeps_more, keeps_same, rises_err, rises_memory, rises_more, rises_ok, rises_wires}
-use Rattle.worker_loop.proofs.Taking.{cut_next, may_take_up, next_failed, next_memory, taken_next}
+use Rattle.worker_loop.proofs.Receiving.{cut_next, may_take_up, next_failed, next_memory, taken_next}
 use Rattle.worker_loop.specs.Places.{place_of}
 use Rattle.worker_ports.specs.declared.wires.WireRefusal.{WireRefusal}
 use Rattle.worker_loop.proofs.taking.take_next.Goals as goal

@@ -3,8 +3,8 @@ use Rattle.flow_notes.specs.declared.events.Event.TheVariants as event
 use Rattle.shared_state.specs.PermitSeats.{view}
 use Rattle.std.proofs.Common.{arith, refl, subst, sym}
 use Rattle.worker_loop.proofs.Keeping.{keeps_left, keeps_more, keeps_same, rises_ok}
-use Rattle.worker_loop.proofs.Settling.{left_permitted}
-use Rattle.worker_loop.proofs.Taking.{given_as, idle_as, joined_as, lost_as, may_as, read_as, stop_as}
+use Rattle.worker_loop.proofs.Closing.{left_permitted}
+use Rattle.worker_loop.proofs.Receiving.{given_as, idle_as, joined_as, lost_as, may_as, read_as, stop_as}
 use Rattle.worker_loop.specs.Places.{place_of}
 use Rattle.worker_ports.specs.declared.wires.Wired.TheVariants as wired
 use Rattle.worker_loop.proofs.taking.take_up.Goals as goal

@@ -1,6 +1,6 @@
 -- Resource after resource is read.
 use Rattle.std.proofs.Common.{arith, refl}
-use Rattle.worker_parts.proofs.Sampling.{all_read, none_yet, one_failed, one_read}
+use Rattle.worker_parts.proofs.Reading.{all_read, none_yet, one_failed, one_read}
 use Rattle.worker_parts.proofs.sampling.read_into.Goals as goal
 
 pub loop-resource-init : goal.loop-resource-init

@@ -1,4 +1,4 @@
-use Rattle.worker_parts.proofs.Sampling.{SoFar}
+use Rattle.worker_parts.proofs.Reading.{SoFar}
 use Rattle.worker_parts.proofs.sampling.read_into.Given as goal
 
 abbrev pub invariant-loop-resource : goal.invariant-loop-resource
