@@ -96,8 +96,8 @@ abbrev obeyed_by : Bool → Event → Option Event
 obeyed_by b e = if b then Some e else None
 
 older_by : (names : List (List ℕ)) (b : Bool) (e : Event) (k : Kind) (v : Place) → b ≡ false → RestsWire k → Carries names (events_in (obeyed_by b e)) k v k v
-older_by names true e k v no rests = cc
-older_by names false e k v no rests = record { did = []; all = Nothing k; becomes = refl; rests = rests }
+older_by names true e k v isnt rests = cc
+older_by names false e k v isnt rests = record { did = []; all = Nothing k; becomes = refl; rests = rests }
 
 not_newer : (n m : ℕ) → m ≤ n → nat_lt n m ≡ false
 not_newer n m less = grind (arith, nat_tests)
@@ -111,8 +111,8 @@ not_obeyed names k v version obeyed pressures rests is less =
     older_by names (nat_lt (version_of k) version) (event.Obey version pressures) k v (not_newer (version_of k) version (omega (arith, is, less))) rests
 
 newer_by : (names : List (List ℕ)) (b : Bool) (e : Event) (k k' : Kind) (v w : Place) (r : Result (Unit {0}) End) → b ≡ true → CarriesAs names (e ∷ []) k v r k' w → CarriesAs names (events_in (obeyed_by b e)) k v r k' w
-newer_by names true e k k' v w r yes carries = carries
-newer_by names false e k k' v w r yes carries = cc
+newer_by names true e k k' v w r holds_so carries = carries
+newer_by names false e k k' v w r holds_so carries = cc
 
 pub is_obeyed : (names : List (List ℕ)) (k k' : Kind) (v w : Place) (version obeyed : ℕ) (pressures : List ℕ) (r : Result (Unit {0}) End) → obeyed ≡ version_of k → obeyed < version
     → CarriesAs names (event.Obey version pressures ∷ []) k v r k' w → CarriesAs names (events_in (obeyed_event k version pressures)) k v r k' w

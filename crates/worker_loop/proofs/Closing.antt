@@ -81,7 +81,7 @@ pub ends_one : (k : Kind) (c : ℕ) (notes : List Note) (seen seen' : Seen) (hel
 ends_one k c notes seen seen' held held' seat seat' e one = record {
   goes = λ names text told.
       subst (λ (cs : List ℕ). Becomes names (place_of text told seen held seat) (map Ended (filter (is_done k) cs)) (place_of text told seen' held' seat')) (sym e)
-          (ends_by names c (place_of text told seen held seat) (place_of text told seen' held' seat') (is_done k c) (one.goes text told));
+      (ends_by names c (place_of text told seen held seat) (place_of text told seen' held' seat') (is_done k c) (one.goes text told));
 }
 
 pub ends_none : (k : Kind) (notes : List Note) (seen : Seen) (held : List ℕ) (seat : PermitView) → named_in notes ≡ [] → EndsAll k notes seen held seat seen held seat
@@ -99,22 +99,22 @@ no_resumes [] b = refl
 no_resumes (f ∷ fs) b = no_resumes fs b
 
 pub other_note : (n : Note) → ((c code : ℕ) (why : CloseCause) → n ≡ note.Close c code why → ⊥) → ((c k : ℕ) → n ≡ note.Out c k → ⊥) → named_in (n ∷ []) ≡ []
-other_note (note.Close c code why) no none = absurd (no c code why refl)
-other_note (note.Out c k) no none = absurd (none c k refl)
-other_note (note.Turn k e) no none = refl
-other_note (note.Start x c s d) no none = refl
-other_note (note.Arrive f o) no none = refl
-other_note (note.Move f p k) no none = refl
-other_note (note.Frame c f k last) no none = refl
-other_note (note.Head c s o) no none = refl
-other_note (note.Answer c o) no none = refl
-other_note (note.Credit c s k) no none = refl
-other_note (note.Doom x why) no none = refl
-other_note (note.Pause f b) no none = refl
-other_note (note.Resume f b) no none = refl
-other_note (note.Waste c s k) no none = refl
-other_note (note.Gone x) no none = refl
-other_note (note.Fire k i) no none = refl
+other_note (note.Close c code why) isnt none = absurd (isnt c code why refl)
+other_note (note.Out c k) isnt none = absurd (none c k refl)
+other_note (note.Turn k e) isnt none = refl
+other_note (note.Start x c s d) isnt none = refl
+other_note (note.Arrive f o) isnt none = refl
+other_note (note.Move f p k) isnt none = refl
+other_note (note.Frame c f k last) isnt none = refl
+other_note (note.Head c s o) isnt none = refl
+other_note (note.Answer c o) isnt none = refl
+other_note (note.Credit c s k) isnt none = refl
+other_note (note.Doom x why) isnt none = refl
+other_note (note.Pause f b) isnt none = refl
+other_note (note.Resume f b) isnt none = refl
+other_note (note.Waste c s k) isnt none = refl
+other_note (note.Gone x) isnt none = refl
+other_note (note.Fire k i) isnt none = refl
 
 -- ---- all passages
 named_append : (ms ns : List Note) → named_in (ms ++ ns) ≡ named_in ms ++ named_in ns
@@ -171,8 +171,8 @@ more_settled k notes ns left after seen seen' seen'' held held' held'' seat seat
   ends = record {
     goes = λ names text told.
         subst (λ (ds : List Did). Becomes names (place_of text told seen held seat) ds (place_of text told seen'' held'' seat'')) (sym (ends_append k so.settled ns))
-            (becomes_append names (ends_in k so.settled) (ends_in k ns) (place_of text told seen held seat) (place_of text told seen' held' seat') (place_of text told seen'' held'' seat'')
-                (so.ends.goes names text told) (one.goes names text told));
+        (becomes_append names (ends_in k so.settled) (ends_in k ns) (place_of text told seen held seat) (place_of text told seen' held' seat') (place_of text told seen'' held'' seat'')
+        (so.ends.goes names text told) (one.goes names text told));
   };
 }
 

@@ -144,22 +144,22 @@ ends_core names ended.JournalFault k0 k k' v w notes whole e = cuts_core names k
 ends_core names ended.Memory k0 k k' v w notes whole e = cuts_core names k0 k v notes whole e
 
 one_rests : (names : List (List ℕ)) (end : End) (k k' : Kind) (v w : Place) → RestsWire k → (end ≡ ended.Memory → ⊥) → CutsOne names end k v k' w → RestsWire k'
-one_rests names ended.Turns k k' v w rests no cut = absurd cut
-one_rests names ended.Stopped k k' v w rests no cut = absurd cut
-one_rests names ended.WiresFault k k' v w rests no cut = absurd cut
-one_rests names ended.JournalFault k k' v w rests no cut = subst (λ (j : Kind). RestsWire j) (sym cut.0) rests
-one_rests names ended.Memory k k' v w rests no cut = absurd (no refl)
+one_rests names ended.Turns k k' v w rests isnt cut = absurd cut
+one_rests names ended.Stopped k k' v w rests isnt cut = absurd cut
+one_rests names ended.WiresFault k k' v w rests isnt cut = absurd cut
+one_rests names ended.JournalFault k k' v w rests isnt cut = subst (λ (j : Kind). RestsWire j) (sym cut.0) rests
+one_rests names ended.Memory k k' v w rests isnt cut = absurd (isnt refl)
 
 cuts_rest : {end : End} {k' : Kind} {w : Place} (names : List (List ℕ)) (k : Kind) (v : Place) → RestsWire k → (end ≡ ended.Memory → ⊥) → Cuts names k v end k' w → RestsWire k'
-cuts_rest names k v rests no AtWires = rests
-cuts_rest names k v rests no (Midway end head mid new w begun b cut) = one_rests names end k new mid w rests no cut
+cuts_rest names k v rests isnt AtWires = rests
+cuts_rest names k v rests isnt (Midway end head mid new w begun b cut) = one_rests names end k new mid w rests isnt cut
 
 ends_rest : (names : List (List ℕ)) (end : End) (k k' : Kind) (v w : Place) → RestsWire k → (end ≡ ended.Memory → ⊥) → EndsAt names end k v k' w → RestsWire k'
-ends_rest names ended.Turns k k' v w rests no e = subst (λ (j : Kind). RestsWire j) (sym e.0) rests
-ends_rest names ended.Stopped k k' v w rests no e = subst (λ (j : Kind). RestsWire j) (sym e.0) rests
-ends_rest names ended.WiresFault k k' v w rests no e = cuts_rest names k v rests no e
-ends_rest names ended.JournalFault k k' v w rests no e = cuts_rest names k v rests no e
-ends_rest names ended.Memory k k' v w rests no e = absurd (no refl)
+ends_rest names ended.Turns k k' v w rests isnt e = subst (λ (j : Kind). RestsWire j) (sym e.0) rests
+ends_rest names ended.Stopped k k' v w rests isnt e = subst (λ (j : Kind). RestsWire j) (sym e.0) rests
+ends_rest names ended.WiresFault k k' v w rests isnt e = cuts_rest names k v rests isnt e
+ends_rest names ended.JournalFault k k' v w rests isnt e = cuts_rest names k v rests isnt e
+ends_rest names ended.Memory k k' v w rests isnt e = absurd (isnt refl)
 
 -- ---- the parts
 module _ (names : List (List ℕ)) (end : End) (old new : Sides) (k0 k' : Kind) (v0 w : Place) (e : Ends names end old k0 v0 new k' w) (rests : RestsWire k0) where
@@ -176,7 +176,7 @@ module _ (names : List (List ℕ)) (end : End) (old new : Sides) (k0 k' : Kind) 
   part_lines = record {
     goes = λ notes hands.
         subst (λ (es : List Event). EndsLines names end (lines_of names es) v0.text w.text) (sym (turn_is notes hands))
-            (ends_lines names (lines_of names (events_of e.did)) end e.kind k' v0 e.mid w (lines_done names e.did v0 e.mid e.becomes) e.ends);
+        (ends_lines names (lines_of names (events_of e.did)) end e.kind k' v0 e.mid w (lines_done names e.did v0 e.mid e.becomes) e.ends);
   }
 
   pub part_tape : Tape end k0 k' v0.told w.told
@@ -186,7 +186,7 @@ module _ (names : List (List ℕ)) (end : End) (old new : Sides) (k0 k' : Kind) 
   }
 
   pub part_core : (end ≡ ended.Memory → ⊥) → RestsWire k'
-  part_core no = ends_rest names end e.kind k' e.mid w shows.rests no e.ends
+  part_core isnt = ends_rest names end e.kind k' e.mid w shows.rests isnt e.ends
 
 -- ---- (c) the connections
 closes_last : (cs : List WireStep) → AreCloses cs → IsLast cs
@@ -224,7 +224,7 @@ short_closes names ds v w (inl none) b = same_closes names ds v w none b
 short_closes names ds v w (inr cut) b =
     let r : Becomes names v (Dispatched cut.0 ∷ map Ended cut.1) w = subst (λ (xs : List Did). Becomes names v xs w) cut.2 b in
     close_as v.seen r.0.seen w.seen (ap (λ (p : Place). p.seen) r.1.0)
-        (ended_closes names cut.1 [] r.0 w (λ u q. same_closes names [] u w refl q) (subst (λ (xs : List Did). Becomes names r.0 xs w) (sym (append-nil (map Ended cut.1))) r.2))
+    (ended_closes names cut.1 [] r.0 w (λ u q. same_closes names [] u w refl q) (subst (λ (xs : List Did). Becomes names r.0 xs w) (sym (append-nil (map Ended cut.1))) r.2))
 
 -- what may be missing from the notes
 record LacksOf (end : End) (old new : Seen) : Type 0 where

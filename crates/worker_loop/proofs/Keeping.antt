@@ -33,8 +33,8 @@ up_to_one n c held held' less more each d there = elim (more d there) [ inl e �
 
 -- a connection above all has none
 none_above : (b : Bool) → (b ≡ true → ⊥) → b ≡ false
-none_above true no = absurd (no refl)
-none_above false no = refl
+none_above true isnt = absurd (isnt refl)
+none_above false isnt = refl
 
 pub none_yet : (n c : ℕ) (held : List ℕ) → AreUpTo n held → n < c → has held c ≡ false
 none_yet n c held each less = none_above (has held c) (λ there. let k : c ≤ n = each c there in absurd (omega (arith, k, less)))

@@ -89,8 +89,8 @@ last_closes : (names : List (List ℕ)) (e : Event) (k : Kind) (ds : List Did) (
 last_closes names e k ds new v w carried b =
     let b' : Becomes names v (Dispatched e ∷ (map Ended (filter (is_done new) (named_in carried.notes)) ++ Noted carried.notes ∷ [])) w = subst (λ (xs : List Did). Becomes names v xs w) carried.is b in
     close_as v.seen b'.0.seen w.seen (ap (λ (p : Place). p.seen) b'.1.0)
-        (ended_closes names (filter (is_done new) (named_in carried.notes)) (Noted carried.notes ∷ []) b'.0 w
-            (λ u r. close_as u.seen r.0.seen w.seen (ap (λ (p : Place). p.seen) r.1) (noted_closes names w [] r.0 refl r.2)) b'.2)
+    (ended_closes names (filter (is_done new) (named_in carried.notes)) (Noted carried.notes ∷ []) b'.0 w
+    (λ u r. close_as u.seen r.0.seen w.seen (ap (λ (p : Place). p.seen) r.1) (noted_closes names w [] r.0 refl r.2)) b'.2)
 
 pub all_close : {es : List Event} {k : Kind} {ds : List Did} {new : Kind} (names : List (List ℕ)) (v w : Place) → CarriedAll es k ds new → Becomes names v ds w → Closes v.seen w.seen
 all_close names v w (Nothing k) b = subst (λ (s : Seen). Closes v.seen s) (sym (ap (λ (p : Place). p.seen) b)) (close_none v.seen)
@@ -123,11 +123,11 @@ inner_outside (event.Tick now ∷ es) inner = inner_outside es inner.1
 inner_outside (event.Post p n j ∷ es) inner = inner_outside es inner.1
 inner_outside (event.Obey v p ∷ es) inner = inner_outside es inner.1
 inner_outside (event.Plain h ∷ es) inner = inner_outside es inner.1
-inner_outside (event.Accept c ∷ es) inner = let no = inner.0 in cc
-inner_outside (event.Join c n ∷ es) inner = let no = inner.0 in cc
-inner_outside (event.Read c o ∷ es) inner = let no = inner.0 in cc
-inner_outside (event.Gone c ∷ es) inner = let no = inner.0 in cc
-inner_outside (event.Room c n ∷ es) inner = let no = inner.0 in cc
+inner_outside (event.Accept c ∷ es) inner = let isnt = inner.0 in cc
+inner_outside (event.Join c n ∷ es) inner = let isnt = inner.0 in cc
+inner_outside (event.Read c o ∷ es) inner = let isnt = inner.0 in cc
+inner_outside (event.Gone c ∷ es) inner = let isnt = inner.0 in cc
+inner_outside (event.Room c n ∷ es) inner = let isnt = inner.0 in cc
 
 -- steps that were added, and match these events
 pub record MatchesTo (old new : Seen) (es : List Event) : Type 0 where
@@ -211,17 +211,17 @@ module _ (names : List (List ℕ)) (w : Wired) (v u p x : Place) (end : Seen) (e
   match_carried : {k new : Kind} {ds : List Did} → CarriedAll (told_by w) k ds new → Becomes names p ds x → MatchesTo v.seen end (events_of ds ++ es)
   match_carried {k} {new} {ds} all b =
       match_as v.seen v.seen end (told_by w ++ es) (events_of ds ++ es) refl (ap (λ (fs : List Event). fs ++ es) (all_events all))
-          (match_step v.seen u.seen end (step.Gave w) es (told_by w ++ es) (gave_steps v.seen u.seen w g) (match_given w es)
-              (match_closes u.seen x.seen end es (close_as u.seen p.seen x.seen same (all_close names p x all b)) rest))
+      (match_step v.seen u.seen end (step.Gave w) es (told_by w ++ es) (gave_steps v.seen u.seen w g) (match_given w es)
+      (match_closes u.seen x.seen end es (close_as u.seen p.seen x.seen same (all_close names p x all b)) rest))
 
 pub match_taken : {k : Kind} {w : Wired} {ds : List Did} {new : Kind} (names : List (List ℕ)) (v u x : Place) (end : Seen) (es : List Event) → Gives v.seen w u.seen → TakesUp k w ds new → Becomes names u ds x → MatchesTo x.seen end es
     → MatchesTo v.seen end (events_of ds ++ es)
-match_taken names v u x end es g (Shut c no) b rest =
+match_taken names v u x end es g (Shut c isnt) b rest =
     match_shut names v.seen u.seen x.seen end es rest c g (ap (λ (p : Place). p.seen) b.2 ∙ ap (λ (p : Place). p.seen) b.1)
-match_taken names v u x end es g (Full c yes) b rest =
+match_taken names v u x end es g (Full c holds_so) b rest =
     match_shut names v.seen u.seen x.seen end es rest c g
-        (ap (λ (p : Place). p.seen) b.2.2 ∙ ap (λ (p : Place). p.seen) b.2.1 ∙ ap (λ (s : Seen). closed c s) (ap (λ (p : Place). p.seen) b.1.0))
-match_taken names v u x end es g (Accepted c ds new yes all) b rest = match_carried names (wired.Accept c) v u b.0 x end es g (ap (λ (p : Place). p.seen) b.1.0) rest all b.2
+    (ap (λ (p : Place). p.seen) b.2.2 ∙ ap (λ (p : Place). p.seen) b.2.1 ∙ ap (λ (s : Seen). closed c s) (ap (λ (p : Place). p.seen) b.1.0))
+match_taken names v u x end es g (Accepted c ds new holds_so all) b rest = match_carried names (wired.Accept c) v u b.0 x end es g (ap (λ (p : Place). p.seen) b.1.0) rest all b.2
 match_taken names v u x end es g (Joined c cluster ds new all) b rest = match_carried names (wired.Join c cluster) v u u x end es g refl rest all b
 match_taken names v u x end es g (Came c octets ds new all) b rest = match_carried names (wired.Read c octets) v u u x end es g refl rest all b
 match_taken names v u x end es g (Went c ds new all) b rest = match_carried names (wired.Lost c) v u b.0 x end es g (ap (λ (p : Place). p.seen) b.1) rest all b.2
@@ -240,8 +240,8 @@ pub match_offered : {k : Kind} {ds : List Did} {new : Kind} (names : List (List 
     → CarriedAll (events_in (room_event c n)) k ds new → Becomes names u ds x → MatchesTo x.seen end es → MatchesTo v.seen end (events_of ds ++ es)
 match_offered {k} {ds} {new} names c n piece v u x end es e most all b rest =
     match_as v.seen v.seen end (events_in (room_event c n) ++ es) (events_of ds ++ es) refl (ap (λ (fs : List Event). fs ++ es) (all_events all))
-        (match_step v.seen u.seen end (step.Offered c piece n) es (events_in (room_event c n) ++ es) e (λ ss m. match_room (nat_lt 0 n) c n piece es ss refl most m)
-            (match_closes u.seen x.seen end es (all_close names u x all b) rest))
+    (match_step v.seen u.seen end (step.Offered c piece n) es (events_in (room_event c n) ++ es) e (λ ss m. match_room (nat_lt 0 n) c n piece es ss refl most m)
+    (match_closes u.seen x.seen end es (all_close names u x all b) rest))
 
 -- ---- whole parts of turns
 pub runs_match : {k : Kind} {ds : List Did} {new : Kind} (names : List (List ℕ)) (v w : Place) → Runs k ds new → Becomes names v ds w → MatchesTo v.seen w.seen (events_of ds)
@@ -256,8 +256,8 @@ runs_match names v w (InnerRun es k mid new ds rest inner all others) b =
 runs_match names v w (TakenRun given k mid new ds rest taken others) b =
     let r = becomes_split names ds rest b.0 w b.2 in
     match_as v.seen v.seen w.seen (events_of ds ++ events_of rest) (events_of (ds ++ rest)) refl (events_append ds rest)
-        (match_taken names v b.0 r.0 w.seen (events_of rest) b.1.1 taken r.1 (runs_match names r.0 w others r.2))
+    (match_taken names v b.0 r.0 w.seen (events_of rest) b.1.1 taken r.1 (runs_match names r.0 w others r.2))
 runs_match names v w (OfferRun c n piece k mid new ds rest most all others) b =
     let r = becomes_split names ds rest b.0 w b.2 in
     match_as v.seen v.seen w.seen (events_of ds ++ events_of rest) (events_of (ds ++ rest)) refl (events_append ds rest)
-        (match_offered names c n piece v b.0 r.0 w.seen (events_of rest) (ap (λ (p : Place). p.seen.steps) b.1) most all r.1 (runs_match names r.0 w others r.2))
+    (match_offered names c n piece v b.0 r.0 w.seen (events_of rest) (ap (λ (p : Place). p.seen.steps) b.1) most all r.1 (runs_match names r.0 w others r.2))

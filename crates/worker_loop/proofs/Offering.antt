@@ -37,8 +37,8 @@ nothing_waits (kind.Plain core) c octets front rests lends some none = absurd re
 nothing_waits (kind.Wire session) c octets front rests lends some none = empty_front octets front (octets_at c session.core) lends some none
 
 pub some_there : (xs : List ℕ) → (length xs ≡ 0 → ⊥) → 0 < length xs
-some_there [] no = absurd (no refl)
-some_there (x ∷ xs) no = omega arith
+some_there [] isnt = absurd (isnt refl)
+some_there (x ∷ xs) isnt = omega arith
 
 pub offers_nothing : (names : List (List ℕ)) (c : ℕ) (k : Kind) (v : Place) → RestsWire k → waiting_at c k ≡ [] → OffersAs names c k v (Ok tt) k v
 offers_nothing names c k v rests none = (NothingWaits none, rests)
@@ -59,12 +59,12 @@ offers_failed names c k text told seen seen' held seat e = subst (λ (s : Seen).
 
 -- an event of room, or none
 none_by : (b : Bool) (e : Event) (k : Kind) → b ≡ false → CarriedAll (events_in (if b then Some e else None)) k [] k
-none_by true e k no = cc
-none_by false e k no = Nothing k
+none_by true e k isnt = cc
+none_by false e k isnt = Nothing k
 
 some_by : (b : Bool) (e : Event) (k k' : Kind) (did : List Did) → b ≡ true → CarriedAll (e ∷ []) k did k' → CarriedAll (events_in (if b then Some e else None)) k did k'
-some_by true e k k' did yes all = all
-some_by false e k k' did yes all = cc
+some_by true e k k' did holds_so all = all
+some_by false e k k' did holds_so all = cc
 
 not_above : (n : ℕ) → n ≡ 0 → nat_lt 0 n ≡ false
 not_above n e = grind (arith, nat_tests)

@@ -154,7 +154,7 @@ shows_all : {es : List Event} {k : Kind} {ds : List Did} {mid : Kind} → Carrie
 shows_all (Nothing k) rest new rests more = more rests
 shows_all (One e es k m mid ds tail first others) rest new rests more =
     subst (λ (xs : List Did). Shows k xs new) (sym (append_assoc ds tail rest))
-        (shows_one e k ds (tail ++ rest) m new rests first (shows_all others rest new (rests_after k [] e m first.notes rests first.carries) more))
+    (shows_one e k ds (tail ++ rest) m new rests first (shows_all others rest new (rests_after k [] e m first.notes rests first.carries) more))
 
 -- something in front of it, which is no event and no notes
 shows_front : (k : Kind) (ds es : List Did) (new : Kind) → events_of es ≡ events_of ds → notes_of es ≡ notes_of ds → Shows k ds new → Shows k es new
@@ -165,9 +165,9 @@ shows_front k ds es new events notes s = record {
 }
 
 shows_taken : {k : Kind} {w : Wired} {ds : List Did} {mid : Kind} → TakesUp k w ds mid → (rest : List Did) (new : Kind) → RestsWire k → (RestsWire mid → Shows mid rest new) → Shows k (ds ++ rest) new
-shows_taken {k} (Shut c no) rest new rests more = shows_front k rest (TurnedAway c ∷ rest) new refl refl (more rests)
-shows_taken {k} (Full c yes) rest new rests more = shows_front k rest (Refused c ∷ TurnedAway c ∷ rest) new refl refl (more rests)
-shows_taken {k} (Accepted c ds mid yes all) rest new rests more = shows_front k (ds ++ rest) (Admitted c ∷ (ds ++ rest)) new refl refl (shows_all all rest new rests more)
+shows_taken {k} (Shut c isnt) rest new rests more = shows_front k rest (TurnedAway c ∷ rest) new refl refl (more rests)
+shows_taken {k} (Full c holds_so) rest new rests more = shows_front k rest (Refused c ∷ TurnedAway c ∷ rest) new refl refl (more rests)
+shows_taken {k} (Accepted c ds mid holds_so all) rest new rests more = shows_front k (ds ++ rest) (Admitted c ∷ (ds ++ rest)) new refl refl (shows_all all rest new rests more)
 shows_taken (Joined c cluster ds mid all) rest new rests more = shows_all all rest new rests more
 shows_taken (Came c octets ds mid all) rest new rests more = shows_all all rest new rests more
 shows_taken {k} (Went c ds mid all) rest new rests more = shows_front k (ds ++ rest) (Left c ∷ (ds ++ rest)) new refl refl (shows_all all rest new rests more)

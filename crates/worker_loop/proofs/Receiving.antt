@@ -57,7 +57,7 @@ same_permitted old new before after at_seat at_held =
 -- ---- a client's connection
 module _ (names : List (List ℕ)) (c : ℕ) (k : Kind) (permits : Permits) (text : Option (List ℕ)) (told : Option (List Note)) (seen : Seen) (held held' : List ℕ) (seat seat' : PermitView) where
   was_asked : Admits k permits c seat held true seat' held' → (takes_clients k ≡ true) × Asked c permits seat held true seat' held'
-  was_asked (inl no) = cc
+  was_asked (inl isnt) = cc
   was_asked (inr asked) = asked
 
   let_changes : Asked c permits seat held true seat' held' → Changes names (place_of text told seen held seat) (Admitted c) (place_of text told seen held' seat')
@@ -85,12 +85,12 @@ module _ (names : List (List ℕ)) (c : ℕ) (k : Kind) (permits : Permits) (tex
 
   -- it isn't taken
   pub turned_away : (seen' : Seen) → RestsWire k → seen' ≡ closed c seen → Admits k permits c seat held false seat' held' → TakesUpAs names (wired.Accept c) k (place_of text told seen held seat) (Ok tt) k (place_of text told seen' held' seat')
-  turned_away seen' rests e (inl no) = record {
+  turned_away seen' rests e (inl isnt) = record {
     did = TurnedAway c ∷ [];
-    takes = Shut c no.0;
+    takes = Shut c isnt.0;
     becomes = (
       place_of text told seen' held' seat',
-      ap (λ (s : Seen). place_of text told s held' seat') e ∙ ap (λ (v : PermitView). place_of text told (closed c seen) held' v) no.1.1 ∙ ap (λ (h : List ℕ). place_of text told (closed c seen) h seat) no.1.2,
+      ap (λ (s : Seen). place_of text told s held' seat') e ∙ ap (λ (v : PermitView). place_of text told (closed c seen) held' v) isnt.1.1 ∙ ap (λ (h : List ℕ). place_of text told (closed c seen) h seat) isnt.1.2,
       refl,
     );
     rests = rests;
@@ -115,7 +115,7 @@ module _ (names : List (List ℕ)) (c : ℕ) (k : Kind) (permits : Permits) (tex
     becomes = refl;
     cut = subst (λ (x : End). CutsOne names x k (place_of text told seen held seat) k (place_of text told seen held' seat')) (sym e)
         (cut_before names (place_of text told seen held seat) (place_of text told seen held' seat')
-            (ap (λ (v : PermitView). place_of text told seen held' v) at_seat ∙ ap (λ (h : List ℕ). place_of text told seen h seat) at_held));
+        (ap (λ (v : PermitView). place_of text told seen held' v) at_seat ∙ ap (λ (h : List ℕ). place_of text told seen h seat) at_held));
   }
 
 -- ---- by what was given
@@ -171,7 +171,7 @@ module _ (names : List (List ℕ)) (k : Kind) (text : Option (List ℕ)) (told :
   pub next_memory : seen' ≡ seen → TakesAs names k (place_of text told seen held seat) (Err ended.Memory) k (place_of text told seen' held seat)
   next_memory e =
       Midway ended.Memory [] (place_of text told seen held seat) k (place_of text told seen' held seat) NoneBegun refl
-          (cut_before names (place_of text told seen held seat) (place_of text told seen' held seat) (ap (λ (s : Seen). place_of text told s held seat) e))
+      (cut_before names (place_of text told seen held seat) (place_of text told seen' held seat) (ap (λ (s : Seen). place_of text told s held seat) e))
 
   module _ (w : Wired) (g : Gives seen w seen') (k' : Kind) (x : Place) where
     pub taken_next : (stops : Bool) → stops ≡ is_stop w → TakesUpAs names w k (place_of text told seen' held seat) (Ok tt) k' x → TakesAs names k (place_of text told seen held seat) (Ok stops) k' x

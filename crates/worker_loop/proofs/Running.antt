@@ -127,9 +127,9 @@ pub quiet_room : (c n : ℕ) → AreQuiet (events_in (room_event c n))
 quiet_room c n = room_by (nat_lt 0 n) c n
 
 pub taken_quiet : {k : Kind} {w : Wired} {ds : List Did} {new : Kind} → TakesUp k w ds new → AreQuiet (events_of ds)
-taken_quiet (Shut c no) = quiet_none
-taken_quiet (Full c yes) = quiet_none
-taken_quiet (Accepted c ds new yes all) = quiet_as (events_of ds) (event.Accept c ∷ []) (all_events all) (record { ticks = refl; posts = refl })
+taken_quiet (Shut c isnt) = quiet_none
+taken_quiet (Full c holds_so) = quiet_none
+taken_quiet (Accepted c ds new holds_so all) = quiet_as (events_of ds) (event.Accept c ∷ []) (all_events all) (record { ticks = refl; posts = refl })
 taken_quiet (Joined c cluster ds new all) = quiet_as (events_of ds) (event.Join c cluster ∷ []) (all_events all) (record { ticks = refl; posts = refl })
 taken_quiet (Came c octets ds new all) = quiet_as (events_of ds) (event.Read c octets ∷ []) (all_events all) (record { ticks = refl; posts = refl })
 taken_quiet (Went c ds new all) = quiet_as (events_of ds) (event.Gone c ∷ []) (all_events all) (record { ticks = refl; posts = refl })
@@ -141,7 +141,7 @@ offers_quiet NoneOffered = quiet_none
 offers_quiet (Empty ds last c k so next none) = offers_quiet so
 offers_quiet (OneOffered ds es last c n piece k new so next front most all) =
     quiet_as (events_of (ds ++ Offered c piece n ∷ es)) (events_of ds ++ events_of es) (events_append ds (Offered c piece n ∷ es))
-        (quiet_append (events_of ds) (events_of es) (offers_quiet so) (quiet_as (events_of es) (events_in (room_event c n)) (all_events all) (quiet_room c n)))
+    (quiet_append (events_of ds) (events_of es) (offers_quiet so) (quiet_as (events_of es) (events_in (room_event c n)) (all_events all) (quiet_room c n)))
 
 -- ---- in two parts
 pub runs_append : {k : Kind} {ds : List Did} {mid : Kind} → Runs k ds mid → (es : List Did) (new : Kind) → Runs mid es new → Runs k (ds ++ es) new
@@ -158,4 +158,4 @@ offers_run {k0} NoneOffered = NoneRun k0
 offers_run (Empty ds last c k so next none) = offers_run so
 offers_run {k0} (OneOffered ds es last c n piece k new so next front most all) =
     subst (λ (xs : List Did). Runs k0 (ds ++ Offered c piece n ∷ xs) new) (append-nil es)
-        (runs_append (offers_run so) (Offered c piece n ∷ (es ++ [])) new (OfferRun c n piece k new new es [] most all (NoneRun new)))
+    (runs_append (offers_run so) (Offered c piece n ∷ (es ++ [])) new (OfferRun c n piece k new new es [] most all (NoneRun new)))

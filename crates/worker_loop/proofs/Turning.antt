@@ -103,7 +103,7 @@ pub broke_posts : (names : List (List ℕ)) (end : End) (old new : Sides) (momen
     → Carries names (event.Tick moment ∷ []) k v k1 v1 → RunsCut names posts end k1 v1 k' w → BreaksTurn names end old k v new k' w
 broke_posts names end old new moment posts k k1 k' v v1 w clock drained tick cut =
     broke_behind names end old new moment cut.done cut.rest k k1 cut.kind cut.kind k' v v1 cut.mid cut.mid w cut.did [] clock (drained ∙ ap (λ (ps : List Post). old.pass.ran ++ ps) cut.is) tick cut.all cut.becomes (NoneRun cut.kind) refl quiet_none
-        (cuts_one names end cut.kind k' cut.mid w cut.cut)
+    (cuts_one names end cut.kind k' cut.mid w cut.cut)
 
 module _ (names : List (List ℕ)) (end : End) (old new : Sides) (moment : ℕ) (posts : List Post) (k k1 k2 k' : Kind) (v v1 v2 w : Place)
     (clock : TellsLast old.moments moment new.moments) (drained : new.pass.ran ≡ old.pass.ran ++ posts) (tick : Carries names (event.Tick moment ∷ []) k v k1 v1) (run : Carries names (map post_event posts) k1 v1 k2 v2) where
@@ -121,10 +121,10 @@ module _ (names : List (List ℕ)) (end : End) (old new : Sides) (moment : ℕ) 
     pub broke_taking : Cuts names k3 v3 end k' w → BreaksTurn names end old k v new k' w
     broke_taking cuts =
         broke_behind names end old new moment posts [] k k1 k2 k3 k' v v1 v2 v3 w run.did (obey.did ++ []) clock drained_all tick run.all run.becomes
-            (InnerRun (events_in (obeyed_event k2 version pressures)) k2 k3 k3 obey.did [] (inner_obeyed k2 version pressures) obey.all (NoneRun k3))
-            (becomes_append names obey.did [] v2 v3 v3 obey.becomes refl)
-            (quiet_as (events_of (obey.did ++ [])) (events_of obey.did ++ []) (events_append obey.did []) (quiet_append (events_of obey.did) [] obeys_quiet quiet_none))
-            cuts
+        (InnerRun (events_in (obeyed_event k2 version pressures)) k2 k3 k3 obey.did [] (inner_obeyed k2 version pressures) obey.all (NoneRun k3))
+        (becomes_append names obey.did [] v2 v3 v3 obey.becomes refl)
+        (quiet_as (events_of (obey.did ++ [])) (events_of obey.did ++ []) (events_append obey.did []) (quiet_append (events_of obey.did) [] obeys_quiet quiet_none))
+        cuts
 
     pub broke_offering : (k4 : Kind) (v4 : Place) (stops : Bool) → Takes names k3 v3 k4 v4 stops → OffersCut names end k4 v4 k' w → BreaksTurn names end old k v new k' w
     broke_offering k4 v4 stops takes cut =
@@ -132,11 +132,11 @@ module _ (names : List (List ℕ)) (end : End) (old new : Sides) (moment : ℕ) 
         let quiet : AreQuiet (events_of outer)
         = quiet_as (events_of outer) (events_of takes.did ++ events_of cut.some.did) (events_append takes.did cut.some.did) (quiet_append (events_of takes.did) (events_of cut.some.did) (taken_quiet takes.takes) (offers_quiet cut.some.offers)) in
         broke_behind names end old new moment posts [] k k1 k2 cut.kind k' v v1 v2 cut.mid w run.did (obey.did ++ Gave takes.given ∷ outer) clock drained_all tick run.all run.becomes
-            (InnerRun (events_in (obeyed_event k2 version pressures)) k2 k3 cut.kind obey.did (Gave takes.given ∷ outer) (inner_obeyed k2 version pressures) obey.all
-                (TakenRun takes.given k3 k4 cut.kind takes.did cut.some.did takes.takes (offers_run cut.some.offers)))
-            (becomes_append names obey.did (Gave takes.given ∷ outer) v2 v3 cut.mid obey.becomes (becomes_append names (Gave takes.given ∷ takes.did) cut.some.did v3 v4 cut.mid takes.becomes cut.some.becomes))
-            (quiet_as (events_of (obey.did ++ Gave takes.given ∷ outer)) (events_of obey.did ++ events_of outer) (events_append obey.did (Gave takes.given ∷ outer)) (quiet_append (events_of obey.did) (events_of outer) obeys_quiet quiet))
-            cut.cuts
+        (InnerRun (events_in (obeyed_event k2 version pressures)) k2 k3 cut.kind obey.did (Gave takes.given ∷ outer) (inner_obeyed k2 version pressures) obey.all
+        (TakenRun takes.given k3 k4 cut.kind takes.did cut.some.did takes.takes (offers_run cut.some.offers)))
+        (becomes_append names obey.did (Gave takes.given ∷ outer) v2 v3 cut.mid obey.becomes (becomes_append names (Gave takes.given ∷ takes.did) cut.some.did v3 v4 cut.mid takes.becomes cut.some.becomes))
+        (quiet_as (events_of (obey.did ++ Gave takes.given ∷ outer)) (events_of obey.did ++ events_of outer) (events_append obey.did (Gave takes.given ∷ outer)) (quiet_append (events_of obey.did) (events_of outer) obeys_quiet quiet))
+        cut.cuts
 
 -- without memory before anything
 pub cuts_memory : (names : List (List ℕ)) (k k' : Kind) (v : Place) → Cuts names k v ended.Memory k' v
@@ -163,30 +163,32 @@ pub turn_is : (names : List (List ℕ)) (old new : Sides) (moment version : ℕ)
 turn_is names old new moment version posts pressures k k1 k2 k3 k4 k' v v1 v2 v3 v4 w stops asks tick run obey takes offers =
     let last = becomes_append names (Gave takes.given ∷ takes.did) offers.some.did v3 v4 w takes.becomes offers.some.becomes in
     let third = becomes_append names obey.did (Gave takes.given ∷ (takes.did ++ offers.some.did)) v2 v3 w obey.becomes last in
-    let second = becomes_append names run.did (obey.did ++ Gave takes.given ∷ (takes.did ++ offers.some.did)) v1 v2 w run.becomes third in
-    (record {
-      moment = moment;
-      posts = posts;
-      version = version;
-      pressures = pressures;
-      given = takes.given;
-      ticks = tick.did;
-      runs = run.did;
-      obeys = obey.did;
-      takes = takes.did;
-      offers = offers.some.did;
-      last = offers.last;
-      k1 = k1;
-      k2 = k2;
-      k3 = k3;
-      k4 = k4;
-      asks = asks;
-      ticked = tick.all;
-      ran = run.all;
-      obeyed = obey.all;
-      taken = takes.takes;
-      offered = offers.some.offers;
-      none = offers.none;
-      becomes = becomes_append names tick.did (run.did ++ (obey.did ++ Gave takes.given ∷ (takes.did ++ offers.some.did))) v v1 w tick.becomes second;
-      stop = takes.stop;
-    }, offers.rests)
+    let second = becomes_append names run.did (obey.did ++ Gave takes.given ∷ (takes.did ++ offers.some.did)) v1 v2 w run.becomes third in (
+      record {
+        moment = moment;
+        posts = posts;
+        version = version;
+        pressures = pressures;
+        given = takes.given;
+        ticks = tick.did;
+        runs = run.did;
+        obeys = obey.did;
+        takes = takes.did;
+        offers = offers.some.did;
+        last = offers.last;
+        k1 = k1;
+        k2 = k2;
+        k3 = k3;
+        k4 = k4;
+        asks = asks;
+        ticked = tick.all;
+        ran = run.all;
+        obeyed = obey.all;
+        taken = takes.takes;
+        offered = offers.some.offers;
+        none = offers.none;
+        becomes = becomes_append names tick.did (run.did ++ (obey.did ++ Gave takes.given ∷ (takes.did ++ offers.some.did))) v v1 w tick.becomes second;
+        stop = takes.stop;
+      },
+      offers.rests,
+    )

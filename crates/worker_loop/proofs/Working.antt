@@ -163,7 +163,7 @@ some_is : (xs ys : List ℕ) → ◌≡◌ {A = Option (List ℕ)} (Some xs) (So
 some_is xs ys e = cc
 
 all_ticks : (old new : Option (List ℕ)) (xs : List ℕ) → TellsAll old xs new → GivesTicks old xs new
-all_ticks old new xs (inl none) = record { goes = λ before after e f. let no : ◌≡◌ {A = Option (List ℕ)} (Some after) None = sym f ∙ none in cc }
+all_ticks old new xs (inl none) = record { goes = λ before after e f. let isnt : ◌≡◌ {A = Option (List ℕ)} (Some after) None = sym f ∙ none in cc }
 all_ticks old new xs (inr told) = record {
   goes = λ before after e f.
       let is : after ≡ before ++ xs = some_is after (before ++ xs) (sym f ∙ told ∙ ap (option_map (λ (b : List ℕ). b ++ xs)) e) in

@@ -25,7 +25,7 @@ returns-in_default-clause-no_fall g c = omega arith
 pub returns-in-Ok-line-clause-keeps : goal.returns-in-Ok-line-clause-keeps
 returns-in-Ok-line-clause-keeps g c =
     whole_of (event_line c.args.names.now c.args.event.now) c.as_slice.result.now (g.J.Sink.contents c.args.journal.now) (g.J.Sink.contents c.line.new.self)
-        (c.as_slice.ensures ∙ c.in-Ok.ensures.ok ∙ ap (λ (v : List ℕ). v ++ (event_spelling c.args.names.now c.args.event.now ++ newline)) c.clear.ensures) c.in-Ok-line.ensures.ok
+    (c.as_slice.ensures ∙ c.in-Ok.ensures.ok ∙ ap (λ (v : List ℕ). v ++ (event_spelling c.args.names.now c.args.event.now ++ newline)) c.clear.ensures) c.in-Ok-line.ensures.ok
 
 pub returns-in-Ok-line-clause-told : goal.returns-in-Ok-line-clause-told
 returns-in-Ok-line-clause-told g c = c.line.ensures.told
@@ -39,7 +39,7 @@ returns-in-Ok-line-clause-no_fall g c = c.line.ensures.no_fall
 pub returns-in-Err-clause-keeps : goal.returns-in-Err-clause-keeps
 returns-in-Err-clause-keeps g c =
     front_of (event_line c.args.names.now c.args.event.now) c.as_slice.result.now (g.J.Sink.contents c.args.journal.now) (g.J.Sink.contents c.line.new.self)
-        (c.as_slice.ensures ∙ c.in-Ok.ensures.ok ∙ ap (λ (v : List ℕ). v ++ (event_spelling c.args.names.now c.args.event.now ++ newline)) c.clear.ensures) c.line.ensures.front
+    (c.as_slice.ensures ∙ c.in-Ok.ensures.ok ∙ ap (λ (v : List ℕ). v ++ (event_spelling c.args.names.now c.args.event.now ++ newline)) c.clear.ensures) c.line.ensures.front
 
 pub returns-in-Err-clause-told : goal.returns-in-Err-clause-told
 returns-in-Err-clause-told g c = c.line.ensures.told

@@ -23,7 +23,7 @@ pub offer_one-requires-clause-holds : goal.offer_one-requires-clause-holds
 offer_one-requires-clause-holds g c = c.loop-conn.invariant.keeps.holds
 
 pub returns-in_err-offer_one-clause-offers : goal.returns-in_err-offer_one-clause-offers
-returns-in_err-offer_one-clause-offers g c = 
+returns-in_err-offer_one-clause-offers g c =
     let p = err_from_is_err_and c.from_residual.result c.from_residual.ensures.1 in
     rw (p.1, p.2) (cut_offers c.args.names.now c.loop-conn.last c.in-Some.conn c.args.core.now.kind c.loop-conn.core.kind c.offer_one.new.core.kind (place_of (g.J.Sink.contents c.args.journal.now) (g.J.Journal.told c.args.journal.now) (g.W.Wires.seen c.args.wires.now) c.args.held.now (view c.args.seat.now)) (place_of (g.J.Sink.contents c.loop-conn.journal) (g.J.Journal.told c.loop-conn.journal) (g.W.Wires.seen c.loop-conn.wires) c.loop-conn.held (view c.loop-conn.seat)) (place_of (g.J.Sink.contents c.offer_one.new.journal) (g.J.Journal.told c.offer_one.new.journal) (g.W.Wires.seen c.offer_one.new.wires) c.offer_one.new.held (view c.offer_one.new.seat)) _ c.loop-conn.invariant.some c.in_err-offer_one.ensures.offers)
 
@@ -31,12 +31,12 @@ pub returns-in_err-offer_one-clause-keeps : goal.returns-in_err-offer_one-clause
 returns-in_err-offer_one-clause-keeps g c = keeps_more c.args.permits.now (g.W.Wires.seen c.args.wires.now) (g.W.Wires.seen c.loop-conn.wires) (g.W.Wires.seen c.offer_one.new.wires) c.args.held.now c.loop-conn.held c.offer_one.new.held (view c.args.seat.now) c.loop-conn.seat c.offer_one.new.seat c.loop-conn.invariant.keeps c.offer_one.ensures.keeps
 
 pub returns-in_err-offer_one-clause-rises : goal.returns-in_err-offer_one-clause-rises
-returns-in_err-offer_one-clause-rises g c = 
+returns-in_err-offer_one-clause-rises g c =
     let p = err_from_is_err_and c.from_residual.result c.from_residual.ensures.1 in
     rw (p.1, p.2) (rises_more _ (g.W.Wires.faults c.args.wires.now) (g.W.Wires.faults c.loop-conn.wires) (g.W.Wires.faults c.offer_one.new.wires) (g.J.Sink.faults c.args.journal.now) (g.J.Sink.faults c.loop-conn.journal) (g.J.Sink.faults c.offer_one.new.journal) c.loop-conn.invariant.wires c.loop-conn.invariant.journal c.in_err-offer_one.ensures.rises)
 
 pub loop-conn-smaller : goal.loop-conn-smaller
-loop-conn-smaller g c = 
+loop-conn-smaller g c =
     let l = next_above c.loop-conn.core.kind c.loop-conn.last c.in-Some.conn c.loop-conn.invariant.core c.in-Some.ensures in
     let f = c.offer_one.ensures.fits in
     omega (arith, l, f)

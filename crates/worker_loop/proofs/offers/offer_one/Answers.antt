@@ -11,7 +11,7 @@ pub returns-then-is_empty-clause-fits : goal.returns-then-is_empty-clause-fits
 returns-then-is_empty-clause-fits g c = c.ranges.conn.fits
 
 pub returns-then-is_empty-clause-offers : goal.returns-then-is_empty-clause-offers
-returns-then-is_empty-clause-offers g c = 
+returns-then-is_empty-clause-offers g c =
     offers_nothing c.args.names.now c.args.conn c.args.core.now.kind (place_of (g.J.Sink.contents c.args.journal.now) (g.J.Journal.told c.args.journal.now) (g.W.Wires.seen c.args.wires.now) c.args.held.now (view c.args.seat.now)) c.requires.core (nothing_waits c.args.core.now.kind c.args.conn c.out_front.result.now c.first_of-front.result.now c.requires.core c.out_front.ensures c.first_of-front.ensures.some (eqb-true _ _ (sym c.is_empty.ensures ∙ c.if-is_empty.true)))
 
 pub returns-then-is_empty-clause-keeps : goal.returns-then-is_empty-clause-keeps
@@ -36,7 +36,7 @@ pub returns-then-took-eq0-clause-fits : goal.returns-then-took-eq0-clause-fits
 returns-then-took-eq0-clause-fits g c = c.ranges.conn.fits
 
 pub returns-then-took-eq0-clause-offers : goal.returns-then-took-eq0-clause-offers
-returns-then-took-eq0-clause-offers g c = 
+returns-then-took-eq0-clause-offers g c =
     took_nothing c.args.names.now c.args.conn c.in-Ok.took c.first_of-front.result.now c.args.core.now.kind (g.J.Sink.contents c.args.journal.now) (g.J.Journal.told c.args.journal.now) (g.W.Wires.seen c.args.wires.now) (g.W.Wires.seen c.offer.new.self) c.args.held.now (view c.args.seat.now) (is_piece c.args.core.now.kind c.args.conn c.out_front.result.now c.first_of-front.result.now c.requires.core c.out_front.ensures c.first_of-front.ensures.is (some_there c.first_of-front.result.now (eqb-false _ _ (sym c.is_empty.ensures ∙ c.if-is_empty.false)))) c.in-Ok.ensures.bound c.in-Ok.ensures.ok c.requires.core c.if-took-eq0.true
 
 pub returns-then-took-eq0-clause-keeps : goal.returns-then-took-eq0-clause-keeps
@@ -61,11 +61,11 @@ pub returns-clause-fits : goal.returns-clause-fits
 returns-clause-fits g c = c.ranges.conn.fits
 
 pub returns-clause-offers : goal.returns-clause-offers
-returns-clause-offers g c = 
+returns-clause-offers g c =
     took_some c.args.names.now c.args.conn c.in-Ok.took c.first_of-front.result.now c.args.core.now.kind (g.J.Sink.contents c.args.journal.now) (g.J.Journal.told c.args.journal.now) (g.W.Wires.seen c.args.wires.now) (g.W.Wires.seen c.offer.new.self) c.args.held.now (view c.args.seat.now) (is_piece c.args.core.now.kind c.args.conn c.out_front.result.now c.first_of-front.result.now c.requires.core c.out_front.ensures c.first_of-front.ensures.is (some_there c.first_of-front.result.now (eqb-false _ _ (sym c.is_empty.ensures ∙ c.if-is_empty.false)))) c.in-Ok.ensures.bound c.in-Ok.ensures.ok c.carry_out.result c.carry_out.new.core.kind (place_of (g.J.Sink.contents c.carry_out.new.journal) (g.J.Journal.told c.carry_out.new.journal) (g.W.Wires.seen c.carry_out.new.wires) c.carry_out.new.held (view c.carry_out.new.seat)) (omega (arith, c.if-took-eq0.false)) c.carry_out.ensures.carries
 
 pub returns-clause-keeps : goal.returns-clause-keeps
-returns-clause-keeps g c = 
+returns-clause-keeps g c =
     keeps_more c.args.permits.now (g.W.Wires.seen c.args.wires.now) (g.W.Wires.seen c.offer.new.self) (g.W.Wires.seen c.carry_out.new.wires) c.args.held.now c.args.held.now c.carry_out.new.held (view c.args.seat.now) c.args.seat.now c.carry_out.new.seat (keeps_offered c.args.permits.now c.args.conn c.in-Ok.took c.first_of-front.result.now (g.W.Wires.seen c.args.wires.now) (g.W.Wires.seen c.offer.new.self) c.args.held.now c.args.seat.now c.requires.holds c.in-Ok.ensures.ok) c.carry_out.ensures.keeps
 
 pub returns-clause-rises : goal.returns-clause-rises

@@ -14,13 +14,13 @@ leave-requires-clause-given g c = c.requires.given
 pub returns-then-is_done_with-clause-ends : goal.returns-then-is_done_with-clause-ends
 returns-then-is_done_with-clause-ends g c =
     ended_one c.args.core.now.kind c.args.conn (g.W.Wires.seen c.args.wires.now) (g.W.Wires.seen c.close.new.self) c.args.held.now c.leave.new.self (view c.args.seat.now) (view c.leave.new.seat)
-        (sym c.is_done_with.ensures ∙ c.if-is_done_with.true) c.close.ensures.closes c.leave.ensures.held c.leave.ensures.left
+    (sym c.is_done_with.ensures ∙ c.if-is_done_with.true) c.close.ensures.closes c.leave.ensures.held c.leave.ensures.left
 
 pub returns-then-is_done_with-clause-keeps : goal.returns-then-is_done_with-clause-keeps
 returns-then-is_done_with-clause-keeps g c =
     keeps_closed c.args.permits.now c.args.conn (g.W.Wires.seen c.args.wires.now) (g.W.Wires.seen c.close.new.self) c.args.held.now c.leave.new.self (view c.args.seat.now) c.leave.new.seat
-        (record { is_seat = c.leave.ensures.seat; given = c.leave.ensures.given })
-        (left_permitted c.args.held.now c.leave.new.self (view c.args.seat.now) (view c.leave.new.seat) c.leave.ensures.balance c.leave.ensures.left) c.close.ensures.closes c.leave.ensures.others
+    (record { is_seat = c.leave.ensures.seat; given = c.leave.ensures.given })
+    (left_permitted c.args.held.now c.leave.new.self (view c.args.seat.now) (view c.leave.new.seat) c.leave.ensures.balance c.leave.ensures.left) c.close.ensures.closes c.leave.ensures.others
 
 pub returns-then-is_done_with-clause-no_fall : goal.returns-then-is_done_with-clause-no_fall
 returns-then-is_done_with-clause-no_fall g c = c.close.ensures.no_fall

@@ -13,7 +13,7 @@ end_done-requires g c = c.requires
 pub returns-in-Some-clause-ends : goal.returns-in-Some-clause-ends
 returns-in-Some-clause-ends g c =
     ends_one c.args.core.now.kind c.in-Some.conn (notes_of_passage c.args.passage) (g.W.Wires.seen c.args.wires.now) (g.W.Wires.seen c.end_done.new.wires) c.args.held.now c.end_done.new.held (view c.args.seat.now) (view c.end_done.new.seat)
-        (c.named_by.ensures ∙ ap numbers_in c.in-Some.is) c.end_done.ensures.ends
+    (c.named_by.ensures ∙ ap numbers_in c.in-Some.is) c.end_done.ensures.ends
 
 pub returns-in-Some-clause-keeps : goal.returns-in-Some-clause-keeps
 returns-in-Some-clause-keeps g c = c.end_done.ensures.keeps

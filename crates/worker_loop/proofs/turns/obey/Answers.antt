@@ -25,7 +25,7 @@ pub carry_out-requires-clause-holds : goal.carry_out-requires-clause-holds
 carry_out-requires-clause-holds g c = c.requires.holds
 
 pub returns-clause-carries : goal.returns-clause-carries
-returns-clause-carries g c = 
+returns-clause-carries g c =
     is_obeyed c.args.names.now c.args.core.now.kind c.carry_out.new.core.kind (place_of (g.J.Sink.contents c.args.journal.now) (g.J.Journal.told c.args.journal.now) (g.W.Wires.seen c.args.wires.now) c.args.held.now (view c.args.seat.now)) (place_of (g.J.Sink.contents c.carry_out.new.journal) (g.J.Journal.told c.carry_out.new.journal) (g.W.Wires.seen c.carry_out.new.wires) c.carry_out.new.held (view c.carry_out.new.seat)) c.args.snapshot.version c.obeyed.result c.args.snapshot.pressures c.carry_out.result c.obeyed.ensures c.if-version-obeyed.false c.carry_out.ensures.carries
 
 pub returns-clause-keeps : goal.returns-clause-keeps

@@ -25,7 +25,7 @@ pub carry_out-requires-clause-holds : goal.carry_out-requires-clause-holds
 carry_out-requires-clause-holds g c = c.loop-post.invariant.keeps.holds
 
 pub returns-in_err-carry_out-clause-runs : goal.returns-in_err-carry_out-clause-runs
-returns-in_err-carry_out-clause-runs g c = 
+returns-in_err-carry_out-clause-runs g c =
     let p = err_from_is_err_and c.from_residual.result c.from_residual.ensures.1 in
     rw (p.1, p.2) (cut_posts c.args.names.now c.args.posts.now c.loop-post.rest c.in-Some.after.now c.in-Some.post.now c.args.core.now.kind c.loop-post.core.kind c.carry_out.new.core.kind (place_of (g.J.Sink.contents c.args.journal.now) (g.J.Journal.told c.args.journal.now) (g.W.Wires.seen c.args.wires.now) c.args.held.now (view c.args.seat.now)) (place_of (g.J.Sink.contents c.loop-post.journal) (g.J.Journal.told c.loop-post.journal) (g.W.Wires.seen c.loop-post.wires) c.loop-post.held (view c.loop-post.seat)) (place_of (g.J.Sink.contents c.carry_out.new.journal) (g.J.Journal.told c.carry_out.new.journal) (g.W.Wires.seen c.carry_out.new.wires) c.carry_out.new.held (view c.carry_out.new.seat)) c.in-Some.ensures c.loop-post.invariant.so _ c.in_err-carry_out.ensures.carries)
 
@@ -33,7 +33,7 @@ pub returns-in_err-carry_out-clause-keeps : goal.returns-in_err-carry_out-clause
 returns-in_err-carry_out-clause-keeps g c = keeps_more c.args.permits.now (g.W.Wires.seen c.args.wires.now) (g.W.Wires.seen c.loop-post.wires) (g.W.Wires.seen c.carry_out.new.wires) c.args.held.now c.loop-post.held c.carry_out.new.held (view c.args.seat.now) c.loop-post.seat c.carry_out.new.seat c.loop-post.invariant.keeps c.carry_out.ensures.keeps
 
 pub returns-in_err-carry_out-clause-rises : goal.returns-in_err-carry_out-clause-rises
-returns-in_err-carry_out-clause-rises g c = 
+returns-in_err-carry_out-clause-rises g c =
     let p = err_from_is_err_and c.from_residual.result c.from_residual.ensures.1 in
     rw (p.1, p.2) (rises_more _ (g.W.Wires.faults c.args.wires.now) (g.W.Wires.faults c.loop-post.wires) (g.W.Wires.faults c.carry_out.new.wires) (g.J.Sink.faults c.args.journal.now) (g.J.Sink.faults c.loop-post.journal) (g.J.Sink.faults c.carry_out.new.journal) c.loop-post.invariant.wires c.loop-post.invariant.journal c.in_err-carry_out.ensures.rises)
 

@@ -7,6 +7,7 @@ abbrev pub invariant-loop-permit : goal.invariant-loop-permit
 invariant-loop-permit l = record {
   seat : IsSeatOf l.permits l.seat;
   given : length l.kept.items ≤ (view l.seat).held;
+  most : length l.kept.items ≤ length l.initial.kept.items;
   left : view l.seat ≡ with_fewer (length l.initial.kept.items) (length l.kept.items) (view l.initial.seat);
 }
 

@@ -11,3 +11,9 @@ returns-clause-sampled g c = all_read c.loop-resource.invariant (omega arith)
 
 pub returns-clause-cause : goal.returns-clause-cause
 returns-clause-cause g c = c.loop-resource.invariant.cause
+
+pub loop-resource-preserved-in-Err : goal.loop-resource-preserved-in-Err
+loop-resource-preserved-in-Err g c = one_failed (g.G.Gauge.faults c.read.new.self) c.loop-resource.invariant (c.in-Err.ensures.cause.cause refl) c.read.ensures.cause.no_fall
+
+pub loop-resource-preserved : goal.loop-resource-preserved
+loop-resource-preserved g c = one_read (g.G.Gauge.faults c.read.new.self) c.in-Ok.pressure c.loop-resource.invariant c.in-Ok.ensures.most c.read.ensures.cause.no_fall (omega arith)
