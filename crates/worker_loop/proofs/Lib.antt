@@ -1,0 +1,13 @@
+mod Becoming
+mod Carrying
+mod Closing
+mod Dispatching
+mod Ending
+mod Keeping
+mod Matching
+mod Offering
+mod Parted
+mod Receiving
+mod Running
+mod Turning
+mod Working
