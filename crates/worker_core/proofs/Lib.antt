@@ -1,3 +1,4 @@
 pub mod Agendas
 pub mod Answering
+pub mod Resting
 pub mod Turning
