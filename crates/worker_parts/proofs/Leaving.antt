@@ -16,3 +16,6 @@ pub fewer_more : (first before after : ℕ) (u v : PermitView) → v ≡ with_fe
 fewer_more first before after u v is e most =
     let same : (u.held - (first - before)) - 1 ≡ u.held - (first - after) = omega (arith, e, most) in
     ap left is ∙ ap (λ n. record u { held = n }) same
+
+pub still_given : (before after : ℕ) (u v : PermitView) → v ≡ left u → after + 1 ≡ before → before ≤ u.held → after ≤ v.held
+still_given before after u v is e given = let same : v.held ≡ u.held - 1 = ap (λ (x : PermitView). x.held) is in omega (arith, same, e, given)
