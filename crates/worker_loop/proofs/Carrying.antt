@@ -11,7 +11,7 @@ use Rattle.std.proofs.Common.{All, ap, append_assoc, arith, inl, inr, refl, subs
 use Rattle.std.proofs.lemmas.Bool.Decides.{nat_tests}
 use Rattle.std.proofs.lemmas.List.{append-nil, map-append}
 use Rattle.std.proofs.lemmas.List.Elements.{All-head, All-tail}
-use Rattle.std.specs.Prelude.{Bool, Err, List, None, Ok, Option, Result, Some, [], false, if◌then◌else◌, map, nat_lt, true, ℕ, ◌++◌, ◌<◌, ◌∷◌, ◌≡◌, ◌≤◌}
+use Rattle.std.specs.Prelude.{Bool, Err, List, None, Ok, Option, Result, Some, [], false, if◌then◌else◌, length, map, nat_lt, true, ℕ, ◌++◌, ◌<◌, ◌∷◌, ◌≡◌, ◌≤◌}
 use Rattle.worker_core.specs.Sessions.{RestsWire, version_of}
 use Rattle.worker_core.specs.declared.worker.Kind.{Kind}
 use Rattle.worker_loop.proofs.Becoming.{becomes_append}
@@ -82,6 +82,10 @@ module _ (names : List (List ℕ)) (posts rest after : List Post) (p : Post) (k0
     becomes = so.becomes;
     cut = cut;
   }
+
+pub none_in : (ps : List Post) → length ps ≡ 0 → ps ≡ []
+none_in [] e = refl
+none_in (p ∷ ps) e = absurd (omega (arith, e))
 
 pub all_ran : (names : List (List ℕ)) (posts rest : List Post) (k0 k : Kind) (v0 v : Place) → rest ≡ [] → RunsSoFar names posts rest k0 v0 k v → Carries names (map post_event posts) k0 v0 k v
 all_ran names posts rest k0 k v0 v e so = record {

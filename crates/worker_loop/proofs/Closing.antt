@@ -1,8 +1,5 @@
 -- Connections that are ended, passage by passage.
-use Rattle.flow_gate.specs.declared.ids.BufferId.{BufferId}
-use Rattle.flow_gate.specs.declared.ids.FlowId.{FlowId}
 use Rattle.flow_notes.specs.Passages.{notes_of_passage}
-use Rattle.flow_notes.specs.declared.notes.CloseCause.{CloseCause}
 use Rattle.flow_notes.specs.declared.notes.Note.{Note}
 use Rattle.flow_notes.specs.declared.notes.Note.TheVariants as note
 use Rattle.flow_notes.specs.declared.passages.Passage.{Passage}
@@ -10,9 +7,10 @@ use Rattle.flow_notes.specs.declared.passages.Passage.TheVariants as passages
 use Rattle.number_set.specs.NumberSet.{marked}
 use Rattle.shared_state.specs.declared.permit_rule.PermitView.{PermitView}
 use Rattle.std.proofs.Common.{ap, append_assoc, arith, refl, subst, sym, ◌∙◌}
+use Rattle.std.proofs.lemmas.Bool.Decides.{nat_tests}
 use Rattle.std.proofs.lemmas.List.{append-nil, map-append}
 use Rattle.std.specs.List.{flat_map}
-use Rattle.std.specs.Prelude.{Bool, List, Option, [], cond, false, filter, if◌then◌else◌, length, map, nat_eq, true, ℕ, ◌&&◌, ◌+◌, ◌++◌, ◌<◌, ◌∷◌, ◌≡◌, ◌≤◌}
+use Rattle.std.specs.Prelude.{Bool, List, Option, [], cond, false, filter, if◌then◌else◌, length, map, nat_eq, suc, true, ℕ, ◌&&◌, ◌+◌, ◌++◌, ◌<◌, ◌∷◌, ◌≡◌, ◌≤◌}
 use Rattle.worker_core.specs.Fronts.{IsFront, octets_at}
 use Rattle.worker_core.specs.Sessions.{LendsFront, is_closing}
 use Rattle.worker_core.specs.declared.worker.Kind.{Kind}
@@ -58,11 +56,14 @@ left_permitted held held' seat seat' balance left = let same : seat'.refusals �
 pub open_still : (k : Kind) (c : ℕ) → is_closing k c ≡ false → false ≡ is_done k c
 open_still k c e = sym (ap (λ (b : Bool). b && nat_eq (length (waiting_at c k)) 0) e)
 
+not_none : (n : ℕ) → nat_eq (suc n) 0 ≡ false
+not_none n = grind (arith, nat_tests)
+
 none_of : (octets all : List ℕ) → IsFront octets all → nat_eq (length octets) 0 ≡ nat_eq (length all) 0
 none_of [] [] front = refl
 none_of [] (x ∷ all) front = absurd (omega (arith, front.some (omega arith)))
 none_of (x ∷ octets) [] front = absurd (let e : length (x ∷ octets) ≡ 0 = ap length front.front in omega (arith, e))
-none_of (x ∷ octets) (y ∷ all) front = refl
+none_of (x ∷ octets) (y ∷ all) front = not_none (length octets) ∙ sym (not_none (length all))
 
 closed_done : (k : Kind) (c : ℕ) (octets : List ℕ) → is_closing k c ≡ true → LendsFront k c octets → nat_eq (length octets) 0 ≡ is_done k c
 closed_done (kind.Plain core) c octets e front = cc
@@ -90,33 +91,6 @@ ends_none k notes seen held seat e = record {
       subst (λ (cs : List ℕ). Becomes names (place_of text told seen held seat) (map Ended (filter (is_done k) cs)) (place_of text told seen held seat)) (sym e) refl;
 }
 
-no_pauses : (fs : List FlowId) (b : BufferId) → named_in (map (λ f. note.Pause f b) fs) ≡ []
-no_pauses [] b = refl
-no_pauses (f ∷ fs) b = no_pauses fs b
-
-no_resumes : (fs : List FlowId) (b : BufferId) → named_in (map (λ f. note.Resume f b) fs) ≡ []
-no_resumes [] b = refl
-no_resumes (f ∷ fs) b = no_resumes fs b
-
-pub other_note : (n : Note) → ((c code : ℕ) (why : CloseCause) → n ≡ note.Close c code why → ⊥) → ((c k : ℕ) → n ≡ note.Out c k → ⊥) → named_in (n ∷ []) ≡ []
-other_note (note.Close c code why) isnt none = absurd (isnt c code why refl)
-other_note (note.Out c k) isnt none = absurd (none c k refl)
-other_note (note.Turn k e) isnt none = refl
-other_note (note.Start x c s d) isnt none = refl
-other_note (note.Arrive f o) isnt none = refl
-other_note (note.Move f p k) isnt none = refl
-other_note (note.Frame c f k last) isnt none = refl
-other_note (note.Head c s o) isnt none = refl
-other_note (note.Answer c o) isnt none = refl
-other_note (note.Credit c s k) isnt none = refl
-other_note (note.Doom x why) isnt none = refl
-other_note (note.Pause f b) isnt none = refl
-other_note (note.Resume f b) isnt none = refl
-other_note (note.Waste c s k) isnt none = refl
-other_note (note.Gone x) isnt none = refl
-other_note (note.Fire k i) isnt none = refl
-
--- ---- all passages
 named_append : (ms ns : List Note) → named_in (ms ++ ns) ≡ named_in ms ++ named_in ns
 named_append [] ns = refl
 named_append (note.Close c code cause ∷ ms) ns = ap (λ cs. c ∷ cs) (named_append ms ns)
@@ -136,6 +110,18 @@ named_append (note.Doom x cause ∷ ms) ns = named_append ms ns
 named_append (note.Gone x ∷ ms) ns = named_append ms ns
 named_append (note.Fire k i ∷ ms) ns = named_append ms ns
 
+-- no note of a list names a connection
+named_map : {A : Type 0} (f : A → Note) (xs : List A) → ((a : A) → named_in (f a ∷ []) ≡ []) → named_in (map f xs) ≡ []
+named_map f [] none = refl
+named_map f (x ∷ xs) none = named_append (f x ∷ []) (map f xs) ∙ ap (λ cs. cs ++ named_in (map f xs)) (none x) ∙ named_map f xs none
+
+-- nor do the notes of a passage of pauses or resumes
+pub none_named : (p : Passage) → ((n : _) → p ≡ passages.One n → ⊥) → named_in (notes_of_passage p) ≡ []
+none_named (passages.One n) isnt = absurd (isnt n refl)
+none_named (passages.Pauses flows buffer) isnt = named_map (λ f. note.Pause f buffer) flows.now (λ f. refl)
+none_named (passages.Resumes flows buffer) isnt = named_map (λ f. note.Resume f buffer) flows.now (λ f. refl)
+
+-- ---- all passages
 filter_by : (b : Bool) (c : ℕ) (xs ys : List ℕ) → cond b (c ∷ (xs ++ ys)) (xs ++ ys) ≡ cond b (c ∷ xs) xs ++ ys
 filter_by true c xs ys = refl
 filter_by false c xs ys = refl

@@ -67,7 +67,7 @@ cut_dispatched names e k k' notes text text' told told' seen held seat ended.Mem
 }
 cut_dispatched names e k k' notes text text' told told' seen held seat ended.Memory (inr line) same = record {
   did = Dispatched e ∷ [];
-  is = inr (e, ([], refl));
+  is = inr (e, [], refl);
   becomes = (place_of text' told' seen held seat, (ap (λ (t : Option (List Note)). place_of text' t seen held seat) same, line), refl);
 }
 
@@ -81,7 +81,7 @@ module _ (names : List (List ℕ)) (e : Event) (k k' : Kind) (notes : List Note)
   pub cut_noted : (text'' : Option (List ℕ)) (told'' : Option (List Note)) → text'' ≡ text' → told'' ≡ told' → CutsShort names (place_of text told seen held seat) (place_of text'' told'' seen' held' seat')
   cut_noted text'' told'' at_text at_told = record {
     did = Dispatched e ∷ ends_in k' notes;
-    is = inr (e, (filter (is_done k') (named_in notes), refl));
+    is = inr (e, filter (is_done k') (named_in notes), refl);
     becomes = subst (λ (p : Place). Becomes names (place_of text told seen held seat) (Dispatched e ∷ ends_in k' notes) p)
         (sym (ap (λ (t : Option (List ℕ)). place_of t told'' seen' held' seat') at_text ∙ ap (λ (t : Option (List Note)). place_of text' t seen' held' seat') (at_told ∙ same))) dispatched;
   }

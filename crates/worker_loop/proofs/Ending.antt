@@ -6,19 +6,20 @@ use Rattle.std.proofs.Common.{ap, arith, inl, inr, refl, subst, sym, ◌∙◌, 
 use Rattle.std.proofs.lemmas.List.{append-nil, append_cancel_left}
 use Rattle.std.specs.Io.KnownBytes.{Appends, append_known}
 use Rattle.std.specs.Option.{option_map}
-use Rattle.std.specs.Prelude.{List, None, Option, Some, [], false, length, map, suc, true, ℕ, ◌++◌, ◌+◌, ◌<◌, ◌∷◌, ◌≡◌, ◌≤◌}
-use Rattle.worker_core.specs.Sessions.{RestsWire}
+use Rattle.std.specs.Prelude.{Bool, List, None, Option, Some, [], false, length, map, suc, true, ℕ, ◌++◌, ◌+◌, ◌<◌, ◌∷◌, ◌≡◌, ◌≤◌}
+use Rattle.worker_core.specs.Sessions.{RestsWire, version_of}
 use Rattle.worker_core.specs.declared.worker.Kind.{Kind}
 use Rattle.worker_loop.proofs.Matching.{Closes, Grows, MatchesTo, close_as, close_none, ended_closes, grows_more, grows_none, runs_match}
+use Rattle.worker_loop.proofs.Obeying.{runs_versions}
 use Rattle.worker_loop.proofs.Parted.{Shows, appends_more, handed_are, lines_done, runs_show, told_done}
-use Rattle.worker_loop.proofs.Working.{Ends, EndsAt, turns_ran, works_end}
+use Rattle.worker_loop.proofs.Working.{Ends, EndsAt, Ran, stopped_ran, turns_ran}
 use Rattle.worker_loop.specs.Cutting.{AtWires, Begun, Cuts, CutsOne, CutsShort, GaveOne, LetIn, LostOne, Midway, NoneBegun, TookSome}
 use Rattle.worker_loop.specs.Did.{Did, Dispatched, Ended, events_of, notes_of}
-use Rattle.worker_loop.specs.Parts.{AreCloses, EndsLines, EndsWhole, Hands, InTurns, IsLast, Lines, Matches, MayLack, Tape, Whole, lines_of, outside_events, turn_events}
+use Rattle.worker_loop.specs.Parts.{AreCloses, EndsLines, EndsWhole, Hands, InTurns, IsLast, Lines, Matches, MayLack, Tape, Whole, WholeTurns, lines_of, outside_events, turn_events}
 use Rattle.worker_loop.specs.Parts.{AtWires as StandsAtWires}
 use Rattle.worker_loop.specs.Places.{Becomes, Place, event_line}
 use Rattle.worker_loop.specs.Turns.{AreTurns, IsTurn, More, Sides}
-use Rattle.worker_loop.specs.Works.{BreaksTurn, Works, posts_in, ticks_in}
+use Rattle.worker_loop.specs.Works.{AreRising, BreaksTurn, Works, posts_in, ticks_in, versions_in}
 use Rattle.worker_loop.specs.declared.ended.Ended.{Ended as End}
 use Rattle.worker_loop.specs.declared.ended.Ended.TheVariants as ended
 use Rattle.worker_parts.specs.Journals.{with_notes}
@@ -262,6 +263,32 @@ ends_lack names ended.Memory k k' v w e = cuts_lack names k v e
 steps_same : (xs ys : List WireStep) → ◌≡◌ {A = Option (List WireStep)} (Some xs) (Some ys) → xs ≡ ys
 steps_same xs ys e = cc
 
+-- so many whole turns
+record Wholes (turns : ℕ) (end : End) (old new : Sides) (k k' : Kind) (old_told new_told : Option (List Note)) : Type 0 where
+  whole : end ≡ ended.Turns → WholeTurns turns old new k k' old_told new_told
+  stopped : end ≡ ended.Stopped → (n : ℕ) × (0 < n) × (n ≤ turns) × WholeTurns n old new k k' old_told new_told
+
+ran_whole : (names : List (List ℕ)) (n : ℕ) (old new : Sides) (k0 k' : Kind) (v0 w : Place) → RestsWire k0 → Ran n names old k0 v0 new k' w → WholeTurns n old new k0 k' v0.told w.told
+ran_whole names n old new k0 k' v0 w rests r = record {
+  ticks = λ notes hands.
+      let is : notes ≡ notes_of r.did = handed_are v0.told w.told notes (notes_of r.did) hands (told_done names r.did v0 w r.becomes) in
+      ap length (ap ticks_in (ap turn_events is ∙ (runs_show rests r.runs).shown)) ∙ r.count;
+  drains = r.drains;
+  looks = r.asks;
+  obeyed = λ less most. (r.obeyed rests most).1 less;
+}
+
+pub works_whole : (names : List (List ℕ)) (turns : ℕ) (old new : Sides) (k0 k' : Kind) (v0 w : Place) (end : End) → Works names turns old k0 v0 end new k' w → RestsWire k0 → Wholes turns end old new k0 k' v0.told w.told
+works_whole names turns old new k0 k' v0 w ended.Turns t rests =
+    record { whole = λ is. ran_whole names turns old new k0 k' v0 w rests (turns_ran names old k0 v0 t); stopped = λ is. absurd (cc is) }
+works_whole names turns old new k0 k' v0 w ended.Stopped t rests = record {
+  whole = λ is. absurd (cc is);
+  stopped = λ is. (t.0 + 1, omega arith, omega (arith, t.1), ran_whole names (t.0 + 1) old new k0 k' v0 w rests (stopped_ran names old new k0 k' v0 w t.0 t.2));
+}
+works_whole names turns old new k0 k' v0 w ended.WiresFault t rests = record { whole = λ is. absurd (cc is); stopped = λ is. absurd (cc is) }
+works_whole names turns old new k0 k' v0 w ended.JournalFault t rests = record { whole = λ is. absurd (cc is); stopped = λ is. absurd (cc is) }
+works_whole names turns old new k0 k' v0 w ended.Memory t rests = record { whole = λ is. absurd (cc is); stopped = λ is. absurd (cc is) }
+
 module _ (names : List (List ℕ)) (end : End) (old new : Sides) (k0 k' : Kind) (v0 w : Place) (e : Ends names end old k0 v0 new k' w) (rests : RestsWire k0) where
   pub part_wires : StandsAtWires end v0.seen w.seen v0.told w.told
   part_wires = record {
@@ -275,23 +302,22 @@ module _ (names : List (List ℕ)) (end : End) (old new : Sides) (k0 k' : Kind) 
   }
 
   -- ---- (d) the turns
-  pub part_turns : (turns : ℕ) → (end ≡ ended.Turns → (new.pass.drains ≡ old.pass.drains + turns) × (new.looks.asks ≡ old.looks.asks + turns)) → InTurns turns end old new v0.told w.told
-  part_turns turns whole = record {
+  pub part_turns : (turns : ℕ) → (RestsWire k0 → Wholes turns end old new k0 k' v0.told w.told) → InTurns turns end old new k0 k' v0.told w.told
+  part_turns turns wholes = record {
     ticks = λ notes before after hands at_old at_new.
         let t = e.ticks.goes before after at_old at_new in
         (t.0, t.1, t.2 ∙ ap (λ (es : List Event). before ++ (ticks_in es ++ t.0)) (sym (turn_is names end old new k0 k' v0 w e rests notes hands)));
-    posts = λ notes hands. (e.ran, e.rest, e.drained, ap posts_in (turn_is names end old new k0 k' v0 w e rests notes hands) ∙ e.posts);
-    whole = whole;
+    posts = λ notes hands. (e.ran, e.rest, e.missed, e.drained, ap posts_in (turn_is names end old new k0 k' v0 w e rests notes hands) ∙ e.posts);
+    versions = λ notes hands.
+        subst (λ (es : List Event). AreRising (version_of k0) (versions_in es)) (sym (turn_is names end old new k0 k' v0 w e rests notes hands)) (runs_versions rests e.runs).rises;
+    whole = (wholes rests).whole;
+    stopped = (wholes rests).stopped;
   }
 
-pub works_whole : (names : List (List ℕ)) (turns : ℕ) (old new : Sides) (k0 k' : Kind) (v0 w : Place) (end : End) → Works names turns old k0 v0 end new k' w → end ≡ ended.Turns → (new.pass.drains ≡ old.pass.drains + turns) × (new.looks.asks ≡ old.looks.asks + turns)
-works_whole names turns old new k0 k' v0 w ended.Turns t is = let r = turns_ran names old k0 v0 t in (r.drains, r.asks)
-works_whole names turns old new k0 k' v0 w ended.Stopped t is = cc
-works_whole names turns old new k0 k' v0 w ended.WiresFault t is = cc
-works_whole names turns old new k0 k' v0 w ended.JournalFault t is = cc
-works_whole names turns old new k0 k' v0 w ended.Memory t is = cc
-
 -- ---- the work
+pub turns_as : (names : List (List ℕ)) (old new : Sides) (k k' : Kind) (v w : Place) (stops b : Bool) → stops ≡ b → IsTurn names old k v new k' w stops → IsTurn names old k v new k' w b
+turns_as names old new k k' v w stops b e turn = subst (λ (x : Bool). IsTurn names old k v new k' w x) e turn
+
 one_never : (names : List (List ℕ)) (end : End) (k k' : Kind) (v w : Place) → CutsOne names end k v k' w → (end ≡ ended.Turns) ⊎ (end ≡ ended.Stopped) → ⊥
 one_never names ended.Turns k k' v w cut is = cut
 one_never names ended.Stopped k k' v w cut is = cut

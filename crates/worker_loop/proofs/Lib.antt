@@ -5,6 +5,7 @@ mod Dispatching
 mod Ending
 mod Keeping
 mod Matching
+mod Obeying
 mod Offering
 mod Parted
 mod Receiving

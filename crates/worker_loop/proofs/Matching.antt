@@ -2,6 +2,7 @@
 use Rattle.flow_notes.specs.declared.events.Event.{Event}
 use Rattle.flow_notes.specs.declared.events.Event.TheVariants as event
 use Rattle.std.proofs.Common.{ap, append_assoc, arith, inl, inr, refl, subst, sym, ◌∙◌}
+use Rattle.std.proofs.lemmas.Bool.{false≢true}
 use Rattle.std.proofs.lemmas.Bool.Decides.{nat_tests}
 use Rattle.std.proofs.lemmas.List.{append-nil}
 use Rattle.std.specs.List.{list_any}
@@ -229,12 +230,15 @@ match_taken {k} names v u x end es g Idled b rest = match_carried names wired.Id
 match_taken {k} names v u x end es g Stopped b rest = match_carried names wired.Stop v u u x end es g refl rest (Nothing k) b
 
 -- ---- what was offered
+some_there : (n : ℕ) → nat_lt 0 (suc n) ≡ true
+some_there n = grind (arith, nat_tests)
+
 match_room : (b : Bool) (c n : ℕ) (piece : List ℕ) (es : List Event) (ss : List WireStep) → nat_lt 0 n ≡ b → n ≤ length piece → Matches ss (outside_events es)
     → Matches (step.Offered c piece n ∷ ss) (outside_events (events_in (if b then Some (event.Room c n) else None) ++ es))
 match_room true c zero piece es ss is most m = cc
 match_room true c (suc n) piece es ss is most m = parts.Took c n piece ss (outside_events es) most m
 match_room false c zero piece es ss is most m = parts.TookNothing c piece ss (outside_events es) m
-match_room false c (suc n) piece es ss is most m = cc
+match_room false c (suc n) piece es ss is most m = absurd (false≢true (sym is ∙ some_there n))
 
 pub match_offered : {k : Kind} {ds : List Did} {new : Kind} (names : List (List ℕ)) (c n : ℕ) (piece : List ℕ) (v u x : Place) (end : Seen) (es : List Event) → u.seen.steps ≡ with_last (step.Offered c piece n) v.seen.steps → n ≤ length piece
     → CarriedAll (events_in (room_event c n)) k ds new → Becomes names u ds x → MatchesTo x.seen end es → MatchesTo v.seen end (events_of ds ++ es)
@@ -246,7 +250,7 @@ match_offered {k} {ds} {new} names c n piece v u x end es e most all b rest =
 -- ---- whole parts of turns
 pub runs_match : {k : Kind} {ds : List Did} {new : Kind} (names : List (List ℕ)) (v w : Place) → Runs k ds new → Becomes names v ds w → MatchesTo v.seen w.seen (events_of ds)
 runs_match names v w (NoneRun k) b = subst (λ (s : Seen). MatchesTo v.seen s []) (sym (ap (λ (p : Place). p.seen) b)) (match_none v.seen)
-runs_match names v w (InnerRun es k mid new ds rest inner all others) b =
+runs_match names v w (InnerRun es k mid new ds rest inner rising all others) b =
     let r = becomes_split names ds rest v w b in
     let more : MatchesTo r.0.seen w.seen (events_of rest) = runs_match names r.0 w others r.2 in
     let both : MatchesTo v.seen w.seen (events_of rest) = match_closes v.seen r.0.seen w.seen (events_of rest) (all_close names v r.0 all r.1) more in

@@ -176,6 +176,6 @@ shows_taken Stopped rest new rests more = more rests
 
 pub runs_show : {k : Kind} {ds : List Did} {new : Kind} → RestsWire k → Runs k ds new → Shows k ds new
 runs_show rests (NoneRun k) = shows_none k rests
-runs_show rests (InnerRun es k mid new ds rest inner all others) = shows_all all rest new rests (λ r. runs_show r others)
+runs_show rests (InnerRun es k mid new ds rest inner rising all others) = shows_all all rest new rests (λ r. runs_show r others)
 runs_show rests (TakenRun given k mid new ds rest taken others) = shows_front k (ds ++ rest) (Gave given ∷ (ds ++ rest)) new refl refl (shows_taken taken rest new rests (λ r. runs_show r others))
 runs_show rests (OfferRun c n piece k mid new ds rest most all others) = shows_front k (ds ++ rest) (Offered c piece n ∷ (ds ++ rest)) new refl refl (shows_all all rest new rests (λ r. runs_show r others))

@@ -55,6 +55,9 @@ same_permitted old new before after at_seat at_held =
     record { kept = omega (arith, v, h); refused = omega (arith, r) }
 
 -- ---- a client's connection
+pub admitted_as : (k : Kind) (permits : Permits) (c : ℕ) (seat seat' : PermitView) (held held' : List ℕ) (taken b : Bool) → taken ≡ b → Admits k permits c seat held taken seat' held' → Admits k permits c seat held b seat' held'
+admitted_as k permits c seat seat' held held' taken b e admits = subst (λ (x : Bool). Admits k permits c seat held x seat' held') e admits
+
 module _ (names : List (List ℕ)) (c : ℕ) (k : Kind) (permits : Permits) (text : Option (List ℕ)) (told : Option (List Note)) (seen : Seen) (held held' : List ℕ) (seat seat' : PermitView) where
   was_asked : Admits k permits c seat held true seat' held' → (takes_clients k ≡ true) × Asked c permits seat held true seat' held'
   was_asked (inl isnt) = cc

@@ -4,14 +4,15 @@ use Rattle.flow_notes.specs.declared.events.Event.TheVariants as event
 use Rattle.flow_notes.specs.declared.notes.Note.{Note}
 use Rattle.post_queue.specs.declared.posts.Post.{Post}
 use Rattle.std.proofs.Common.{ap, append_assoc, arith, inl, inr, refl, subst, sym, ◌∙◌}
+use Rattle.std.proofs.lemmas.Bool.Decides.{nat_tests}
 use Rattle.std.proofs.lemmas.List.{append-nil}
-use Rattle.std.specs.Prelude.{Bool, List, None, Option, Some, [], false, if◌then◌else◌, map, nat_lt, true, ℕ, ◌++◌, ◌∷◌, ◌≡◌}
+use Rattle.std.specs.Prelude.{Bool, List, None, Option, Some, [], false, filter, if◌then◌else◌, map, nat_lt, true, ℕ, ◌++◌, ◌<◌, ◌∷◌, ◌≡◌}
 use Rattle.worker_core.specs.Sessions.{version_of}
 use Rattle.worker_core.specs.declared.worker.Kind.{Kind}
-use Rattle.worker_loop.specs.Carrying.{Carried, CarriedAll, Nothing, One, events_in, obeyed_event, post_event, room_event}
+use Rattle.worker_loop.specs.Carrying.{Carried, CarriedAll, Nothing, One, events_in, is_done, named_in, obeyed_event, post_event, room_event}
 use Rattle.worker_loop.specs.Did.{Did, Admitted, Ended, Gave, Left, Noted, Offered, Refused, TurnedAway, Dispatched, events_of, notes_of}
 use Rattle.worker_loop.specs.Turns.{Accepted, Came, Empty, Full, Idled, Joined, NoneOffered, Offers, OneOffered, Shut, Stopped, TakesUp, Went}
-use Rattle.worker_loop.specs.Works.{AreInner, InnerRun, NoneRun, OfferRun, Runs, TakenRun, is_inner, posts_in, ticks_in}
+use Rattle.worker_loop.specs.Works.{AreInner, AreRising, InnerRun, NoneRun, OfferRun, Runs, TakenRun, is_inner, posts_in, ticks_in, versions_in}
 use Rattle.worker_ports.specs.declared.wires.Wired.{Wired}
 
 -- ---- what was done, in two parts
@@ -49,10 +50,10 @@ ended_notes [] notes = append-nil notes
 ended_notes (c ∷ cs) notes = ended_notes cs notes
 
 pub carried_events : (e : Event) (k : Kind) (ds : List Did) (new : Kind) → Carried e k ds new → events_of ds ≡ e ∷ []
-carried_events e k ds new c = ap events_of c.is ∙ ap (λ (es : List Event). e ∷ es) (ended_events _ c.notes)
+carried_events e k ds new c = ap events_of c.is ∙ ap (λ (es : List Event). e ∷ es) (ended_events (filter (is_done new) (named_in c.notes)) c.notes)
 
 pub carried_notes : (e : Event) (k : Kind) (ds : List Did) (new : Kind) (c : Carried e k ds new) → notes_of ds ≡ c.notes
-carried_notes e k ds new c = ap notes_of c.is ∙ ended_notes _ c.notes
+carried_notes e k ds new c = ap notes_of c.is ∙ ended_notes (filter (is_done new) (named_in c.notes)) c.notes
 
 pub all_events : {es : List Event} {k : Kind} {ds : List Did} {new : Kind} → CarriedAll es k ds new → events_of ds ≡ es
 all_events (Nothing k) = refl
@@ -70,6 +71,21 @@ inner_by false version pressures = tt
 
 pub inner_obeyed : (k : Kind) (version : ℕ) (pressures : List ℕ) → AreInner (events_in (obeyed_event k version pressures))
 inner_obeyed k version pressures = inner_by (nat_lt (version_of k) version) version pressures
+
+-- the versions that they publish
+pub rising_posts : (n : ℕ) (ps : List Post) → AreRising n (versions_in (map post_event ps))
+rising_posts n [] = tt
+rising_posts n (p ∷ ps) = rising_posts n ps
+
+rising_by : (n version : ℕ) (pressures : List ℕ) (b : Bool) → (b ≡ true → n < version) → AreRising n (versions_in (events_in (if b then Some (event.Obey version pressures) else None)))
+rising_by n version pressures true newer = (newer refl, tt)
+rising_by n version pressures false newer = tt
+
+newer_than : (n m : ℕ) → nat_lt n m ≡ true → n < m
+newer_than n m e = grind (arith, nat_tests)
+
+pub rising_obeyed : (k : Kind) (version : ℕ) (pressures : List ℕ) → AreRising (version_of k) (versions_in (events_in (obeyed_event k version pressures)))
+rising_obeyed k version pressures = rising_by (version_of k) version pressures (nat_lt (version_of k) version) (newer_than (version_of k) version)
 
 -- ---- no ticks and no posts
 pub record AreQuiet (es : List Event) : Type 0 where
@@ -146,8 +162,8 @@ offers_quiet (OneOffered ds es last c n piece k new so next front most all) =
 -- ---- in two parts
 pub runs_append : {k : Kind} {ds : List Did} {mid : Kind} → Runs k ds mid → (es : List Did) (new : Kind) → Runs mid es new → Runs k (ds ++ es) new
 runs_append (NoneRun k) es new more = more
-runs_append (InnerRun evs k m mid ds rest inner all others) es new more =
-    subst (λ (xs : List Did). Runs k xs new) (sym (append_assoc ds rest es)) (InnerRun evs k m new ds (rest ++ es) inner all (runs_append others es new more))
+runs_append (InnerRun evs k m mid ds rest inner rising all others) es new more =
+    subst (λ (xs : List Did). Runs k xs new) (sym (append_assoc ds rest es)) (InnerRun evs k m new ds (rest ++ es) inner rising all (runs_append others es new more))
 runs_append (TakenRun given k m mid ds rest taken others) es new more =
     subst (λ (xs : List Did). Runs k (Gave given ∷ xs) new) (sym (append_assoc ds rest es)) (TakenRun given k m new ds (rest ++ es) taken (runs_append others es new more))
 runs_append (OfferRun c n piece k m mid ds rest most all others) es new more =

@@ -7,25 +7,34 @@ use Rattle.post_queue.specs.declared.posts.Post.{Post}
 use Rattle.shared_state.specs.Version.{looked}
 use Rattle.shared_state.specs.declared.entry.Entry.{Entry}
 use Rattle.shared_state.specs.declared.version_word.VersionView.{VersionView}
-use Rattle.std.proofs.Common.{All, ap, append_assoc, arith, inl, inr, refl, subst, sym, ◌∙◌}
+use Rattle.std.proofs.Common.{All, ap, append_assoc, arith, inl, inr, refl, subst, sym, ◌∙◌, ◌⊎◌}
 use Rattle.std.proofs.lemmas.List.{append-nil}
 use Rattle.std.specs.Prelude.{Bool, Err, List, Ok, Option, Result, [], length, map, take, ℕ, ◌++◌, ◌+◌, ◌∷◌, ◌≡◌, ◌≤◌}
+use Rattle.worker_core.specs.Sessions.{version_of}
 use Rattle.worker_core.specs.declared.worker.Kind.{Kind}
 use Rattle.worker_loop.proofs.Becoming.{becomes_append}
-use Rattle.worker_loop.proofs.Running.{AreQuiet, all_events, events_append, inner_obeyed, inner_posts, offers_quiet, offers_run, posts_append, quiet_append, quiet_as, quiet_none, quiet_obeyed, taken_quiet, ticks_append}
+use Rattle.worker_loop.proofs.Running.{AreQuiet, all_events, events_append, inner_obeyed, inner_posts, offers_quiet, offers_run, posts_append, quiet_append, quiet_as, quiet_none, quiet_obeyed, rising_obeyed, rising_posts, taken_quiet, ticks_append}
 use Rattle.worker_loop.specs.Carrying.{CarriedAll, Nothing, events_in, obeyed_event, post_event}
 use Rattle.worker_loop.specs.Clauses.{Carries, CarriesAs, OffersAll, OffersCut, RunsCut, Takes, TurnsAs}
 use Rattle.worker_loop.specs.Cutting.{Cuts, CutsOne, Midway, NoneBegun}
 use Rattle.worker_loop.specs.Did.{Did, Gave, events_of}
 use Rattle.worker_loop.specs.Places.{Becomes, Place}
 use Rattle.worker_loop.specs.Turns.{Asks, IsTurn, Sides, sides_of}
-use Rattle.worker_loop.specs.Works.{AsksPart, BreaksTurn, InnerRun, NoneRun, Runs, TakenRun, posts_in, ticks_in}
+use Rattle.worker_loop.specs.Works.{AsksPart, BreaksTurn, InnerRun, MayMiss, NoneRun, Runs, TakenRun, posts_in, ticks_in}
 use Rattle.worker_loop.specs.declared.ended.Ended.{Ended as End}
 use Rattle.worker_loop.specs.declared.ended.Ended.TheVariants as ended
 use Rattle.worker_ports.specs.Told.{TellsLast}
 
 pub cuts_one : (names : List (List ℕ)) (end : End) (k k' : Kind) (v w : Place) → CutsOne names end k v k' w → Cuts names k v end k' w
 cuts_one names end k k' v w cut = Midway end [] v k' w NoneBegun refl cut
+
+-- an event that broke off may be missing
+cut_misses : (names : List (List ℕ)) (end : End) (k k' : Kind) (v w : Place) → CutsOne names end k v k' w → MayMiss end
+cut_misses names ended.Turns k k' v w cut = absurd cut
+cut_misses names ended.Stopped k k' v w cut = absurd cut
+cut_misses names ended.WiresFault k k' v w cut = absurd cut
+cut_misses names ended.JournalFault k k' v w cut = tt
+cut_misses names ended.Memory k k' v w cut = tt
 
 -- ---- the events of a part of a turn
 ticks_posts : (ps : List Post) → ticks_in (map post_event ps) ≡ []
@@ -56,9 +65,10 @@ broke_tick names end m0 m1 h l e moment k k' v w clock cut = record {
   asks = record {
     moment = moment;
     clock = clock;
-    ticks = inl refl;
+    ticks = inl (cut_misses names end k k' v w cut, refl);
     ran = [];
     rest = [];
+    missed = inl refl;
     drained = sym (append-nil h.ran);
     posts = refl;
   };
@@ -74,12 +84,13 @@ module _ (names : List (List ℕ)) (end : End) (old new : Sides) (moment : ℕ) 
       ∙ ap (λ (xs : List Event). xs ++ events_of (runs ++ others)) (all_events tick.all)
       ∙ ap (λ (xs : List Event). event.Tick moment ∷ xs) (events_append runs others ∙ ap (λ (xs : List Event). xs ++ events_of others) (all_events all))
 
-  pub broke_behind : Cuts names k3 v3 end k' w → BreaksTurn names end old k v new k' w
-  broke_behind cuts = record {
+  pub broke_behind : (rest ≡ []) ⊎ MayMiss end → Cuts names k3 v3 end k' w → BreaksTurn names end old k v new k' w
+  broke_behind missed cuts = record {
     did = tick.did ++ (runs ++ others);
     kind = k3;
     mid = v3;
-    runs = InnerRun (event.Tick moment ∷ []) k k1 k3 tick.did (runs ++ others) (refl, tt) tick.all (InnerRun (map post_event ran) k1 k2 k3 runs others (inner_posts ran) all outer);
+    runs = InnerRun (event.Tick moment ∷ []) k k1 k3 tick.did (runs ++ others) (refl, tt) tt tick.all
+        (InnerRun (map post_event ran) k1 k2 k3 runs others (inner_posts ran) (rising_posts (version_of k1) ran) all outer);
     becomes = becomes_append names tick.did (runs ++ others) v v1 v3 tick.becomes (becomes_append names runs others v1 v2 v3 becomes after);
     cuts = cuts;
     asks = record {
@@ -88,6 +99,7 @@ module _ (names : List (List ℕ)) (end : End) (old new : Sides) (moment : ℕ) 
       ticks = inr (ap ticks_in part_events ∙ part_ticks moment ran (events_of others) quiet);
       ran = ran;
       rest = rest;
+      missed = missed;
       drained = drained;
       posts = ap posts_in part_events ∙ part_posts moment ran (events_of others) quiet;
     };
@@ -97,12 +109,13 @@ module _ (names : List (List ℕ)) (end : End) (old new : Sides) (moment : ℕ) 
 pub broke_drain : (names : List (List ℕ)) (end : End) (old new : Sides) (moment : ℕ) (k k1 k' : Kind) (v v1 w : Place) → TellsLast old.moments moment new.moments → new.pass ≡ old.pass → Carries names (event.Tick moment ∷ []) k v k1 v1
     → Cuts names k1 v1 end k' w → BreaksTurn names end old k v new k' w
 broke_drain names end old new moment k k1 k' v v1 w clock same tick cuts =
-    broke_behind names end old new moment [] [] k k1 k1 k1 k' v v1 v1 v1 w [] [] clock (ap (λ (h : Hand). h.ran) same ∙ sym (append-nil old.pass.ran)) tick (Nothing k1) refl (NoneRun k1) refl quiet_none cuts
+    broke_behind names end old new moment [] [] k k1 k1 k1 k' v v1 v1 v1 w [] [] clock (ap (λ (h : Hand). h.ran) same ∙ sym (append-nil old.pass.ran)) tick (Nothing k1) refl (NoneRun k1) refl quiet_none (inl refl) cuts
 
 pub broke_posts : (names : List (List ℕ)) (end : End) (old new : Sides) (moment : ℕ) (posts : List Post) (k k1 k' : Kind) (v v1 w : Place) → TellsLast old.moments moment new.moments → new.pass.ran ≡ old.pass.ran ++ posts
     → Carries names (event.Tick moment ∷ []) k v k1 v1 → RunsCut names posts end k1 v1 k' w → BreaksTurn names end old k v new k' w
 broke_posts names end old new moment posts k k1 k' v v1 w clock drained tick cut =
     broke_behind names end old new moment cut.done cut.rest k k1 cut.kind cut.kind k' v v1 cut.mid cut.mid w cut.did [] clock (drained ∙ ap (λ (ps : List Post). old.pass.ran ++ ps) cut.is) tick cut.all cut.becomes (NoneRun cut.kind) refl quiet_none
+    (inr (cut_misses names end cut.kind k' cut.mid w cut.cut))
     (cuts_one names end cut.kind k' cut.mid w cut.cut)
 
 module _ (names : List (List ℕ)) (end : End) (old new : Sides) (moment : ℕ) (posts : List Post) (k k1 k2 k' : Kind) (v v1 v2 w : Place)
@@ -112,7 +125,7 @@ module _ (names : List (List ℕ)) (end : End) (old new : Sides) (moment : ℕ) 
 
   -- all posts were carried out
   pub broke_obey : Cuts names k2 v2 end k' w → BreaksTurn names end old k v new k' w
-  broke_obey cuts = broke_behind names end old new moment posts [] k k1 k2 k2 k' v v1 v2 v2 w run.did [] clock drained_all tick run.all run.becomes (NoneRun k2) refl quiet_none cuts
+  broke_obey cuts = broke_behind names end old new moment posts [] k k1 k2 k2 k' v v1 v2 v2 w run.did [] clock drained_all tick run.all run.becomes (NoneRun k2) refl quiet_none (inl refl) cuts
 
   module _ (version : ℕ) (pressures : List ℕ) (k3 : Kind) (v3 : Place) (obey : Carries names (events_in (obeyed_event k2 version pressures)) k2 v2 k3 v3) where
     obeys_quiet : AreQuiet (events_of obey.did)
@@ -121,9 +134,10 @@ module _ (names : List (List ℕ)) (end : End) (old new : Sides) (moment : ℕ) 
     pub broke_taking : Cuts names k3 v3 end k' w → BreaksTurn names end old k v new k' w
     broke_taking cuts =
         broke_behind names end old new moment posts [] k k1 k2 k3 k' v v1 v2 v3 w run.did (obey.did ++ []) clock drained_all tick run.all run.becomes
-        (InnerRun (events_in (obeyed_event k2 version pressures)) k2 k3 k3 obey.did [] (inner_obeyed k2 version pressures) obey.all (NoneRun k3))
+        (InnerRun (events_in (obeyed_event k2 version pressures)) k2 k3 k3 obey.did [] (inner_obeyed k2 version pressures) (rising_obeyed k2 version pressures) obey.all (NoneRun k3))
         (becomes_append names obey.did [] v2 v3 v3 obey.becomes refl)
         (quiet_as (events_of (obey.did ++ [])) (events_of obey.did ++ []) (events_append obey.did []) (quiet_append (events_of obey.did) [] obeys_quiet quiet_none))
+        (inl refl)
         cuts
 
     pub broke_offering : (k4 : Kind) (v4 : Place) (stops : Bool) → Takes names k3 v3 k4 v4 stops → OffersCut names end k4 v4 k' w → BreaksTurn names end old k v new k' w
@@ -132,10 +146,11 @@ module _ (names : List (List ℕ)) (end : End) (old new : Sides) (moment : ℕ) 
         let quiet : AreQuiet (events_of outer)
         = quiet_as (events_of outer) (events_of takes.did ++ events_of cut.some.did) (events_append takes.did cut.some.did) (quiet_append (events_of takes.did) (events_of cut.some.did) (taken_quiet takes.takes) (offers_quiet cut.some.offers)) in
         broke_behind names end old new moment posts [] k k1 k2 cut.kind k' v v1 v2 cut.mid w run.did (obey.did ++ Gave takes.given ∷ outer) clock drained_all tick run.all run.becomes
-        (InnerRun (events_in (obeyed_event k2 version pressures)) k2 k3 cut.kind obey.did (Gave takes.given ∷ outer) (inner_obeyed k2 version pressures) obey.all
+        (InnerRun (events_in (obeyed_event k2 version pressures)) k2 k3 cut.kind obey.did (Gave takes.given ∷ outer) (inner_obeyed k2 version pressures) (rising_obeyed k2 version pressures) obey.all
         (TakenRun takes.given k3 k4 cut.kind takes.did cut.some.did takes.takes (offers_run cut.some.offers)))
         (becomes_append names obey.did (Gave takes.given ∷ outer) v2 v3 cut.mid obey.becomes (becomes_append names (Gave takes.given ∷ takes.did) cut.some.did v3 v4 cut.mid takes.becomes cut.some.becomes))
         (quiet_as (events_of (obey.did ++ Gave takes.given ∷ outer)) (events_of obey.did ++ events_of outer) (events_append obey.did (Gave takes.given ∷ outer)) (quiet_append (events_of obey.did) (events_of outer) obeys_quiet quiet))
+        (inl refl)
         cut.cuts
 
 -- without memory before anything

@@ -8,12 +8,12 @@ use Rattle.session_run.specs.Ends.{AppendsFront}
 use Rattle.shared_state.specs.declared.permit_rule.PermitView.{PermitView}
 use Rattle.std.specs.Io.KnownBytes.{Appends, append_known}
 use Rattle.std.specs.Prelude.{Bool, List, Option, Some, [], false, length, map, suc, true, ℕ, ◌++◌, ◌+◌, ◌<◌, ◌∷◌, ◌≡◌, ◌≤◌, ◌⊎◌}
-use Rattle.worker_core.specs.Sessions.{CarriesOut}
+use Rattle.worker_core.specs.Sessions.{CarriesOut, version_of}
 use Rattle.worker_core.specs.declared.worker.Kind.{Kind}
 use Rattle.worker_loop.specs.Carrying.{post_event}
 use Rattle.worker_loop.specs.Places.{event_line}
 use Rattle.worker_loop.specs.Turns.{Sides}
-use Rattle.worker_loop.specs.Works.{posts_in, ticks_in}
+use Rattle.worker_loop.specs.Works.{AreRising, MayMiss, posts_in, ticks_in, versions_in}
 use Rattle.worker_loop.specs.declared.ended.Ended.{Ended}
 use Rattle.worker_loop.specs.declared.ended.Ended.TheVariants as ended
 use Rattle.worker_ports.specs.Wires.{Seen}
@@ -106,11 +106,21 @@ pub record AtWires (end : Ended) (old new : Seen) (old_told new_told : Option (L
       → (kept : List WireStep) × (lost : List WireStep) × (steps ≡ kept ++ lost) × MayLack end lost × Matches kept (outside_events (turn_events notes))
 
 -- ---- (d) the turns
--- the moments of the ticks are those that the clock gave, and the posts those that were drained, as far as it came; each whole turn
--- has one of each, and one look of the follower
-pub record InTurns (turns : ℕ) (end : Ended) (old new : Sides) (old_told new_told : Option (List Note)) : Type 0 where
+-- So many turns were run whole: each has one tick, one drain of the box and one look of the follower, and leaves the core at the
+-- version that the follower knows last, unless it had obeyed a newer one before.
+pub record WholeTurns (n : ℕ) (old new : Sides) (k k' : Kind) (old_told new_told : Option (List Note)) : Type 0 where
+  pub ticks : (notes : List Note) → Hands old_told new_told notes → length (ticks_in (turn_events notes)) ≡ n
+  pub drains : new.pass.drains ≡ old.pass.drains + n
+  pub looks : new.looks.asks ≡ old.looks.asks + n
+  pub obeyed : 0 < n → version_of k ≤ old.kept.version → version_of k' ≡ new.kept.version
+
+-- The moments of the ticks are those that the clock gave, and the posts those that were drained, as far as it came. The versions that
+-- were obeyed rise.
+pub record InTurns (turns : ℕ) (end : Ended) (old new : Sides) (k k' : Kind) (old_told new_told : Option (List Note)) : Type 0 where
   pub ticks : (notes : List Note) (before after : List ℕ) → Hands old_told new_told notes → old.moments ≡ Some before → new.moments ≡ Some after
-      → (rest : List ℕ) × (length rest ≤ 1) × (after ≡ before ++ (ticks_in (turn_events notes) ++ rest))
+      → (rest : List ℕ) × ((rest ≡ []) ⊎ (MayMiss end × (length rest ≤ 1))) × (after ≡ before ++ (ticks_in (turn_events notes) ++ rest))
   pub posts : (notes : List Note) → Hands old_told new_told notes
-      → (ran : List Post) × (rest : List Post) × (new.pass.ran ≡ old.pass.ran ++ (ran ++ rest)) × (posts_in (turn_events notes) ≡ map post_event ran)
-  pub whole : end ≡ ended.Turns → (new.pass.drains ≡ old.pass.drains + turns) × (new.looks.asks ≡ old.looks.asks + turns)
+      → (ran : List Post) × (rest : List Post) × ((rest ≡ []) ⊎ MayMiss end) × (new.pass.ran ≡ old.pass.ran ++ (ran ++ rest)) × (posts_in (turn_events notes) ≡ map post_event ran)
+  pub versions : (notes : List Note) → Hands old_told new_told notes → AreRising (version_of k) (versions_in (turn_events notes))
+  pub whole : end ≡ ended.Turns → WholeTurns turns old new k k' old_told new_told
+  pub stopped : end ≡ ended.Stopped → (n : ℕ) × (0 < n) × (n ≤ turns) × WholeTurns n old new k k' old_told new_told

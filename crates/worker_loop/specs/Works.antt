@@ -4,6 +4,7 @@ use Rattle.flow_notes.specs.declared.events.Event.TheVariants as event
 use Rattle.post_queue.specs.declared.posts.Post.{Post}
 use Rattle.std.specs.List.{AllByRecursion}
 use Rattle.std.specs.Prelude.{Bool, List, [], false, length, map, true, ℕ, ◌++◌, ◌<◌, ◌∷◌, ◌≡◌, ◌≤◌, ◌⊎◌}
+use Rattle.worker_core.specs.Sessions.{version_of}
 use Rattle.worker_core.specs.declared.worker.Kind.{Kind}
 use Rattle.worker_loop.specs.Carrying.{CarriedAll, events_in, post_event, room_event}
 use Rattle.worker_loop.specs.Cutting.{Cuts}
@@ -25,11 +26,23 @@ is_inner e = false
 abbrev pub AreInner : List Event → Type 0
 AreInner es = AllByRecursion (λ e. is_inner e ≡ true) es
 
+-- the versions that are published in these events
+abbrev pub versions_in : List Event → List ℕ
+versions_in [] = []
+versions_in (event.Obey version pressures ∷ es) = version ∷ versions_in es
+versions_in (e ∷ es) = versions_in es
+
+-- the first is greater than n, and each other one than the one before it
+abbrev pub AreRising : ℕ → List ℕ → Type 0
+AreRising n [] = Unit
+AreRising n (m ∷ ms) = (n < m) × AreRising m ms
+
 -- Whole parts of turns, in any order: inner events; something that came and was taken up; a piece that was offered, with the event
 -- of what was taken.
 pub data Runs : Kind → List Did → Kind → Type 0 where
   NoneRun : (k : Kind) → Runs k [] k
-  InnerRun : (es : List Event) (k mid new : Kind) (ds rest : List Did) → AreInner es → CarriedAll es k ds mid → Runs mid rest new → Runs k (ds ++ rest) new
+  InnerRun : (es : List Event) (k mid new : Kind) (ds rest : List Did) → AreInner es → AreRising (version_of k) (versions_in es) → CarriedAll es k ds mid → Runs mid rest new
+      → Runs k (ds ++ rest) new
   TakenRun : (given : Wired) (k mid new : Kind) (ds rest : List Did) → TakesUp k given ds mid → Runs mid rest new → Runs k (Gave given ∷ (ds ++ rest)) new
   OfferRun : (c n : ℕ) (piece : List ℕ) (k mid new : Kind) (ds rest : List Did) → n ≤ length piece → CarriedAll (events_in (room_event c n)) k ds mid → Runs mid rest new
       → Runs k (Offered c piece n ∷ (ds ++ rest)) new
@@ -45,13 +58,20 @@ posts_in [] = []
 posts_in (event.Post poster number job ∷ es) = event.Post poster number job ∷ posts_in es
 posts_in (e ∷ es) = posts_in es
 
+-- where the journal failed or memory was refused, what was given last may be missing from the events
+abbrev pub MayMiss : Ended → Type 0
+MayMiss ended.JournalFault = Unit
+MayMiss ended.Memory = Unit
+MayMiss end = ⊥
+
 -- In a turn that broke off the clock was asked once and the box drained at most once. Of what they gave so much was dispatched.
-pub record AsksPart (old : Sides) (es : List Event) (new : Sides) : Type 0 where
+pub record AsksPart (end : Ended) (old : Sides) (es : List Event) (new : Sides) : Type 0 where
   pub moment : ℕ
   pub clock : TellsLast old.moments moment new.moments
-  pub ticks : (ticks_in es ≡ []) ⊎ (ticks_in es ≡ moment ∷ [])
+  pub ticks : (MayMiss end × (ticks_in es ≡ [])) ⊎ (ticks_in es ≡ moment ∷ [])
   pub ran : List Post
   pub rest : List Post
+  pub missed : (rest ≡ []) ⊎ MayMiss end
   pub drained : new.pass.ran ≡ old.pass.ran ++ (ran ++ rest)
   pub posts : posts_in es ≡ map post_event ran
 
@@ -63,7 +83,7 @@ pub record BreaksTurn (names : List (List ℕ)) (end : Ended) (old : Sides) (k :
   pub runs : Runs k did kind
   pub becomes : Becomes names v did mid
   pub cuts : Cuts names kind mid end k' w
-  pub asks : AsksPart old (events_of did) new
+  pub asks : AsksPart end old (events_of did) new
 
 -- so many whole turns, and then one in which it was to stop
 pub record StopsIn (names : List (List ℕ)) (old : Sides) (k : Kind) (v : Place) (n : ℕ) (new : Sides) (k' : Kind) (w : Place) : Type 0 where

@@ -122,19 +122,15 @@ fn let_in<W: Wires, J: Journal>(
     ensures keeps { Keeps permits.now (W.seen wires.old) held.old (view seat.old) (W.seen wires.new) held.new seat.new }
     ensures rises { Rises result (W.faults wires.old) (W.faults wires.new) (J.faults journal.old) (J.faults journal.new) }
 {
-    match admits(core, permits, seat, held, conn) {
-        Ok(true) => {
-            let event = Event::Accept { conn };
-            carry_out(
-                core, permits, seat, held, wires, journal, names, pad, &event,
-            )
-        }
-        Ok(false) => {
-            wires.close(conn);
-            Ok(())
-        }
-        Err(end) => Err(end),
+    let taken = admits(core, permits, seat, held, conn)?;
+    if !taken {
+        wires.close(conn);
+        return Ok(());
     }
+    let event = Event::Accept { conn };
+    carry_out(
+        core, permits, seat, held, wires, journal, names, pad, &event,
+    )
 }
 
 // Whether a client's connection is taken: the core takes some, and there is a permit for it, which it has from now on.

@@ -70,20 +70,22 @@ pub fn work<R: Wait, W: Wires, C: Clock, G: Gate, J: Journal>(
     ensures lines { Lines names.now result (J.contents journal.old) (J.contents journal.new) (J.told journal.old) (J.told journal.new) }
     ensures tape { Tape result core.old.kind core.new.kind (J.told journal.old) (J.told journal.new) }
     ensures wires { AtWires result (W.seen wires.old) (W.seen wires.new) (J.told journal.old) (J.told journal.new) }
-    ensures turns { InTurns turns result (sides_of (C.moments clock.old) (hands.view pass.old.pass) (looks follower.old) follower.old.kept) (sides_of (C.moments clock.new) (hands.view pass.new.pass) (looks follower.new) follower.new.kept) (J.told journal.old) (J.told journal.new) }
+    ensures turns { InTurns turns result (sides_of (C.moments clock.old) (hands.view pass.old.pass) (looks follower.old) follower.old.kept) (sides_of (C.moments clock.new) (hands.view pass.new.pass) (looks follower.new) follower.new.kept) core.old.kind core.new.kind (J.told journal.old) (J.told journal.new) }
     ensures wires_fault { result ≡ ended.WiresFault → Rose (W.faults wires.old) (W.faults wires.new) }
     ensures journal_fault { result ≡ ended.JournalFault → Rose (J.faults journal.old) (J.faults journal.new) }
 {
     let mut pad = Pad::new(alloc);
     'turns: for turn in 0..turns {
         gate.pass(point_of(turn));
-        match take_turn(
+        let stops = match take_turn(
             rt, alloc, core, posts, pass, follower, permits, seat, held, wires, clock, journal,
             names, &mut pad,
         ) {
-            Ok(false) => {}
-            Ok(true) => return Ended::Stopped,
+            Ok(stops) => stops,
             Err(end) => return end,
+        };
+        if stops {
+            return Ended::Stopped;
         }
     }
     Ended::Turns

@@ -1,4 +1,7 @@
 // Starting the workers.
+ghost use Rattle.std.specs.Prelude.{◌≡◌, ◌<◌, IfOk, OnErr, length, slice_index_or, ℕ};
+ghost use Rattle.worker_threads.specs.Starting.{HasWorked, IsReady, WorkedEach};
+
 use crate::worker::{Shared, Worker};
 use io_ports::NoMemory;
 use std::alloc::Global;
@@ -24,11 +27,39 @@ where
     C: Clock + Send,
     G: Gate + Send,
     J: Journal + Send,
+    requires ready { (i : ℕ) (w : _) → i < length workers.old → IsReady (record { seen = W.seen; moments = C.moments; text = J.contents; told = J.told }) shared.now i (slice_index_or workers.old i w) }
+    ensures ok { IfOk result (λ ends. WorkedEach (record { seen = W.seen; moments = C.moments; text = J.contents; told = J.told }) shared.now turns workers.old ends.items workers.new) }
+    ensures err { OnErr result (workers.new ≡ workers.old) }
 {
     let mut ends = Vec::with_capacity(alloc, workers.len())?;
     if workers.is_empty() {
         return Ok(ends);
     }
+    run_each(rt, alloc, shared, workers, turns);
+    for worker in workers.iter() {
+        ends.push_reserved(worker.ended.unwrap_or(Ended::Memory));
+    }
+    Ok(ends)
+}
+
+// Runs each in a thread of its own.
+fn run_each<R, W, C, G, J>(
+    rt: &R,
+    alloc: Global,
+    shared: &Shared,
+    workers: &mut [Worker<W, C, G, J>],
+    turns: u64,
+)
+where
+    R: Threads + Wait + Sync,
+    W: Wires + Send,
+    C: Clock + Send,
+    G: Gate + Send,
+    J: Journal + Send,
+    requires some { 0 < length workers.old }
+    requires ready { (i : ℕ) (w : _) → i < length workers.old → IsReady (record { seen = W.seen; moments = C.moments; text = J.contents; told = J.told }) shared.now i (slice_index_or workers.old i w) }
+    ensures each { (i : ℕ) (w : _) → i < length workers.old → HasWorked (record { seen = W.seen; moments = C.moments; text = J.contents; told = J.told }) shared.now i turns (slice_index_or workers.old i w) (slice_index_or workers.new i w) }
+{
     let count = workers.len();
     for_each_mut(
         rt,
@@ -36,29 +67,25 @@ where
         count,
         &|index, worker| { run_worker(rt, alloc, shared, index, worker, turns) },
     );
-    for worker in workers.iter() {
-        ends.push_reserved(worker.ended.unwrap_or(Ended::Memory));
-    }
-    Ok(ends)
 }
 
-// Runs the turns of one worker, and gives its permits back.
+// Runs the turns of the worker at this place, and gives its permits back.
 fn run_worker<R: Wait, W: Wires, C: Clock, G: Gate, J: Journal>(
     rt: &R,
     alloc: Global,
     shared: &Shared,
-    index: usize,
+    place: usize,
     worker: &mut Worker<W, C, G, J>,
     turns: u64,
-) {
-    let Some(posts) = shared.posts.get(index) else {
-        return;
-    };
-    worker.ended = Some(work(
+)
+    requires { IsReady (record { seen = W.seen; moments = C.moments; text = J.contents; told = J.told }) shared.now place worker.old }
+    ensures { HasWorked (record { seen = W.seen; moments = C.moments; text = J.contents; told = J.told }) shared.now place turns worker.old worker.new }
+{
+    let ended = work(
         rt,
         alloc,
         &mut worker.core,
-        posts,
+        &shared.posts[place],
         &mut worker.pass,
         &mut worker.follower,
         &shared.permits,
@@ -70,7 +97,8 @@ fn run_worker<R: Wait, W: Wires, C: Clock, G: Gate, J: Journal>(
         &mut worker.journal,
         &shared.names,
         turns,
-    ));
+    );
+    worker.ended = Some(ended);
     let kept = mem::replace(&mut worker.held, HeldPermits::new(alloc));
     kept.give_back(&shared.permits, &mut worker.seat);
 }

@@ -1,7 +1,8 @@
 -- A front of what waits for a connection is offered.
 use Rattle.flow_notes.specs.declared.events.Event.TheVariants as event
 use Rattle.shared_state.specs.PermitSeats.{view}
-use Rattle.std.proofs.Common.{arith, eqb-true, eqb-false, refl, sym, ◌∙◌}
+use Rattle.std.proofs.Common.{arith, eqb-true, refl, sym, ◌∙◌}
+use Rattle.std.proofs.lemmas.Bool.{eqb-false}
 use Rattle.worker_loop.proofs.Keeping.{keeps_more, keeps_offered, keeps_same, rises_more, rises_ok, rises_wires}
 use Rattle.worker_loop.proofs.Offering.{is_piece, nothing_waits, offers_failed, offers_nothing, some_there, took_nothing, took_some}
 use Rattle.worker_loop.specs.Places.{place_of}

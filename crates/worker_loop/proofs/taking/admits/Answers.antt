@@ -54,4 +54,4 @@ pub returns-in-Err-clause-more : goal.returns-in-Err-clause-more
 returns-in-Err-clause-more c = c.enter.ensures.more
 
 pub returns-in-Err-clause-err : goal.returns-in-Err-clause-err
-returns-in-Err-clause-err c = (refl, (c.in-Err.ensures.err.0, c.in-Err.ensures.err.1))
+returns-in-Err-clause-err c = (refl, c.in-Err.ensures.err.0, c.in-Err.ensures.err.1)

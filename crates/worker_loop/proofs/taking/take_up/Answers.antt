@@ -5,6 +5,7 @@ use Rattle.std.proofs.Common.{arith, refl, subst, sym}
 use Rattle.worker_loop.proofs.Keeping.{keeps_left, keeps_more, keeps_same, rises_ok}
 use Rattle.worker_loop.proofs.Closing.{left_permitted}
 use Rattle.worker_loop.proofs.Receiving.{given_as, idle_as, joined_as, lost_as, may_as, read_as, stop_as}
+use Rattle.std.specs.Prelude.{Ok}
 use Rattle.worker_loop.specs.Places.{place_of}
 use Rattle.worker_ports.specs.declared.wires.Wired.TheVariants as wired
 use Rattle.worker_loop.proofs.taking.take_up.Goals as goal
@@ -102,7 +103,7 @@ pub returns-in-Lost-clause-rises : goal.returns-in-Lost-clause-rises
 returns-in-Lost-clause-rises g c = c.carry_out-in-Lost.ensures.rises
 
 pub returns-in-Idle-clause-takes : goal.returns-in-Idle-clause-takes
-returns-in-Idle-clause-takes g c = given_as c.args.names.now c.args.given wired.Idle c.args.core.now.kind c.args.core.now.kind (place_of (g.J.Sink.contents c.args.journal.now) (g.J.Journal.told c.args.journal.now) (g.W.Wires.seen c.args.wires.now) c.args.held.now (view c.args.seat.now)) (place_of (g.J.Sink.contents c.args.journal.now) (g.J.Journal.told c.args.journal.now) (g.W.Wires.seen c.args.wires.now) c.args.held.now (view c.args.seat.now)) _ c.in-Idle.is (idle_as c.args.names.now c.args.core.now.kind (place_of (g.J.Sink.contents c.args.journal.now) (g.J.Journal.told c.args.journal.now) (g.W.Wires.seen c.args.wires.now) c.args.held.now (view c.args.seat.now)) c.requires.core)
+returns-in-Idle-clause-takes g c = given_as c.args.names.now c.args.given wired.Idle c.args.core.now.kind c.args.core.now.kind (place_of (g.J.Sink.contents c.args.journal.now) (g.J.Journal.told c.args.journal.now) (g.W.Wires.seen c.args.wires.now) c.args.held.now (view c.args.seat.now)) (place_of (g.J.Sink.contents c.args.journal.now) (g.J.Journal.told c.args.journal.now) (g.W.Wires.seen c.args.wires.now) c.args.held.now (view c.args.seat.now)) (Ok (tt {0})) c.in-Idle.is (idle_as c.args.names.now c.args.core.now.kind (place_of (g.J.Sink.contents c.args.journal.now) (g.J.Journal.told c.args.journal.now) (g.W.Wires.seen c.args.wires.now) c.args.held.now (view c.args.seat.now)) c.requires.core)
 
 pub returns-in-Idle-clause-keeps : goal.returns-in-Idle-clause-keeps
 returns-in-Idle-clause-keeps g c = keeps_same c.args.permits.now (g.W.Wires.seen c.args.wires.now) (g.W.Wires.seen c.args.wires.now) c.args.held.now c.args.seat.now c.requires.holds refl
@@ -111,7 +112,7 @@ pub returns-in-Idle-clause-rises : goal.returns-in-Idle-clause-rises
 returns-in-Idle-clause-rises g c = rises_ok tt (g.W.Wires.faults c.args.wires.now) (g.W.Wires.faults c.args.wires.now) (g.J.Sink.faults c.args.journal.now) (g.J.Sink.faults c.args.journal.now) (omega arith) (omega arith)
 
 pub returns-in-Stop-clause-takes : goal.returns-in-Stop-clause-takes
-returns-in-Stop-clause-takes g c = given_as c.args.names.now c.args.given wired.Stop c.args.core.now.kind c.args.core.now.kind (place_of (g.J.Sink.contents c.args.journal.now) (g.J.Journal.told c.args.journal.now) (g.W.Wires.seen c.args.wires.now) c.args.held.now (view c.args.seat.now)) (place_of (g.J.Sink.contents c.args.journal.now) (g.J.Journal.told c.args.journal.now) (g.W.Wires.seen c.args.wires.now) c.args.held.now (view c.args.seat.now)) _ c.in-Stop.is (stop_as c.args.names.now c.args.core.now.kind (place_of (g.J.Sink.contents c.args.journal.now) (g.J.Journal.told c.args.journal.now) (g.W.Wires.seen c.args.wires.now) c.args.held.now (view c.args.seat.now)) c.requires.core)
+returns-in-Stop-clause-takes g c = given_as c.args.names.now c.args.given wired.Stop c.args.core.now.kind c.args.core.now.kind (place_of (g.J.Sink.contents c.args.journal.now) (g.J.Journal.told c.args.journal.now) (g.W.Wires.seen c.args.wires.now) c.args.held.now (view c.args.seat.now)) (place_of (g.J.Sink.contents c.args.journal.now) (g.J.Journal.told c.args.journal.now) (g.W.Wires.seen c.args.wires.now) c.args.held.now (view c.args.seat.now)) (Ok (tt {0})) c.in-Stop.is (stop_as c.args.names.now c.args.core.now.kind (place_of (g.J.Sink.contents c.args.journal.now) (g.J.Journal.told c.args.journal.now) (g.W.Wires.seen c.args.wires.now) c.args.held.now (view c.args.seat.now)) c.requires.core)
 
 pub returns-in-Stop-clause-keeps : goal.returns-in-Stop-clause-keeps
 returns-in-Stop-clause-keeps g c = keeps_same c.args.permits.now (g.W.Wires.seen c.args.wires.now) (g.W.Wires.seen c.args.wires.now) c.args.held.now c.args.seat.now c.requires.holds refl

@@ -3,8 +3,8 @@ use Rattle.post_queue.specs.Pass as hands
 use Rattle.shared_state.specs.Following.{looks}
 use Rattle.shared_state.specs.PermitSeats.{view}
 use Rattle.std.proofs.Common.{ap, arith, refl, ◌∙◌}
-use Rattle.std.specs.Prelude.{Err}
-use Rattle.worker_loop.proofs.Ending.{more_turns, part_core, part_lines, part_tape, part_turns, part_wires, works_cut, works_stopped, works_whole}
+use Rattle.std.specs.Prelude.{Err, false, true}
+use Rattle.worker_loop.proofs.Ending.{more_turns, part_core, part_lines, part_tape, part_turns, part_wires, turns_as, works_cut, works_stopped, works_whole}
 use Rattle.worker_loop.proofs.Keeping.{keeps_more, keeps_same, rose_later}
 use Rattle.worker_loop.proofs.Working.{works_end}
 use Rattle.worker_loop.specs.Places.{place_of}
@@ -40,43 +40,43 @@ take_turn-requires-clause-below g c = c.turns.invariant.keeps.below c.requires.b
 
 pub turns-preserved : goal.turns-preserved
 turns-preserved g c = record {
-  core = c.in-Ok-false.ensures.turns.1;
+  core = c.in-Ok.ensures.turns.1;
   pass = c.take_turn.ensures.pass;
-  turns = more_turns c.args.names.now c.turns.turn (sides_of (g.C.Clock.moments c.args.clock.now) (hands.view c.args.pass.now.pass) (looks c.args.follower.now) c.args.follower.now.kept) (sides_of (g.C.Clock.moments c.turns.clock) (hands.view c.turns.pass.pass) (looks c.turns.follower) c.turns.follower.kept) (sides_of (g.C.Clock.moments c.take_turn.new.clock) (hands.view c.take_turn.new.pass.pass) (looks c.take_turn.new.follower) c.take_turn.new.follower.kept) c.args.core.now.kind c.turns.core.kind c.take_turn.new.core.kind (place_of (g.J.Sink.contents c.args.journal.now) (g.J.Journal.told c.args.journal.now) (g.W.Wires.seen c.args.wires.now) c.args.held.now (view c.args.seat.now)) (place_of (g.J.Sink.contents c.turns.journal) (g.J.Journal.told c.turns.journal) (g.W.Wires.seen c.turns.wires) c.turns.held (view c.turns.seat)) (place_of (g.J.Sink.contents c.take_turn.new.journal) (g.J.Journal.told c.take_turn.new.journal) (g.W.Wires.seen c.take_turn.new.wires) c.take_turn.new.held (view c.take_turn.new.seat)) c.turns.invariant.turns c.in-Ok-false.ensures.turns.0;
+  turns = more_turns c.args.names.now c.turns.turn (sides_of (g.C.Clock.moments c.args.clock.now) (hands.view c.args.pass.now.pass) (looks c.args.follower.now) c.args.follower.now.kept) (sides_of (g.C.Clock.moments c.turns.clock) (hands.view c.turns.pass.pass) (looks c.turns.follower) c.turns.follower.kept) (sides_of (g.C.Clock.moments c.take_turn.new.clock) (hands.view c.take_turn.new.pass.pass) (looks c.take_turn.new.follower) c.take_turn.new.follower.kept) c.args.core.now.kind c.turns.core.kind c.take_turn.new.core.kind (place_of (g.J.Sink.contents c.args.journal.now) (g.J.Journal.told c.args.journal.now) (g.W.Wires.seen c.args.wires.now) c.args.held.now (view c.args.seat.now)) (place_of (g.J.Sink.contents c.turns.journal) (g.J.Journal.told c.turns.journal) (g.W.Wires.seen c.turns.wires) c.turns.held (view c.turns.seat)) (place_of (g.J.Sink.contents c.take_turn.new.journal) (g.J.Journal.told c.take_turn.new.journal) (g.W.Wires.seen c.take_turn.new.wires) c.take_turn.new.held (view c.take_turn.new.seat)) c.turns.invariant.turns (turns_as c.args.names.now (sides_of (g.C.Clock.moments c.turns.clock) (hands.view c.turns.pass.pass) (looks c.turns.follower) c.turns.follower.kept) (sides_of (g.C.Clock.moments c.take_turn.new.clock) (hands.view c.take_turn.new.pass.pass) (looks c.take_turn.new.follower) c.take_turn.new.follower.kept) c.turns.core.kind c.take_turn.new.core.kind (place_of (g.J.Sink.contents c.turns.journal) (g.J.Journal.told c.turns.journal) (g.W.Wires.seen c.turns.wires) c.turns.held (view c.turns.seat)) (place_of (g.J.Sink.contents c.take_turn.new.journal) (g.J.Journal.told c.take_turn.new.journal) (g.W.Wires.seen c.take_turn.new.wires) c.take_turn.new.held (view c.take_turn.new.seat)) c.in-Ok.stops false c.if-stops.false c.in-Ok.ensures.turns.0);
   keeps = keeps_more c.args.permits.now (g.W.Wires.seen c.args.wires.now) (g.W.Wires.seen c.turns.wires) (g.W.Wires.seen c.take_turn.new.wires) c.args.held.now c.turns.held c.take_turn.new.held (view c.args.seat.now) c.turns.seat c.take_turn.new.seat c.turns.invariant.keeps c.take_turn.ensures.keeps;
   wires = omega (arith, c.turns.invariant.wires, c.take_turn.ensures.rises.at_wires);
   journal = omega (arith, c.turns.invariant.journal, c.take_turn.ensures.rises.at_journal);
 }
 
-pub returns-in-Ok-true-clause-works : goal.returns-in-Ok-true-clause-works
-returns-in-Ok-true-clause-works g c = works_stopped c.args.names.now c.turns.turn c.args.turns (sides_of (g.C.Clock.moments c.args.clock.now) (hands.view c.args.pass.now.pass) (looks c.args.follower.now) c.args.follower.now.kept) (sides_of (g.C.Clock.moments c.turns.clock) (hands.view c.turns.pass.pass) (looks c.turns.follower) c.turns.follower.kept) (sides_of (g.C.Clock.moments c.take_turn.new.clock) (hands.view c.take_turn.new.pass.pass) (looks c.take_turn.new.follower) c.take_turn.new.follower.kept) c.args.core.now.kind c.turns.core.kind c.take_turn.new.core.kind (place_of (g.J.Sink.contents c.args.journal.now) (g.J.Journal.told c.args.journal.now) (g.W.Wires.seen c.args.wires.now) c.args.held.now (view c.args.seat.now)) (place_of (g.J.Sink.contents c.turns.journal) (g.J.Journal.told c.turns.journal) (g.W.Wires.seen c.turns.wires) c.turns.held (view c.turns.seat)) (place_of (g.J.Sink.contents c.take_turn.new.journal) (g.J.Journal.told c.take_turn.new.journal) (g.W.Wires.seen c.take_turn.new.wires) c.take_turn.new.held (view c.take_turn.new.seat)) (omega arith) c.turns.invariant.turns c.in-Ok-true.ensures.turns.0
+pub returns-then-stops-clause-works : goal.returns-then-stops-clause-works
+returns-then-stops-clause-works g c = works_stopped c.args.names.now c.turns.turn c.args.turns (sides_of (g.C.Clock.moments c.args.clock.now) (hands.view c.args.pass.now.pass) (looks c.args.follower.now) c.args.follower.now.kept) (sides_of (g.C.Clock.moments c.turns.clock) (hands.view c.turns.pass.pass) (looks c.turns.follower) c.turns.follower.kept) (sides_of (g.C.Clock.moments c.take_turn.new.clock) (hands.view c.take_turn.new.pass.pass) (looks c.take_turn.new.follower) c.take_turn.new.follower.kept) c.args.core.now.kind c.turns.core.kind c.take_turn.new.core.kind (place_of (g.J.Sink.contents c.args.journal.now) (g.J.Journal.told c.args.journal.now) (g.W.Wires.seen c.args.wires.now) c.args.held.now (view c.args.seat.now)) (place_of (g.J.Sink.contents c.turns.journal) (g.J.Journal.told c.turns.journal) (g.W.Wires.seen c.turns.wires) c.turns.held (view c.turns.seat)) (place_of (g.J.Sink.contents c.take_turn.new.journal) (g.J.Journal.told c.take_turn.new.journal) (g.W.Wires.seen c.take_turn.new.wires) c.take_turn.new.held (view c.take_turn.new.seat)) (omega arith) c.turns.invariant.turns (turns_as c.args.names.now (sides_of (g.C.Clock.moments c.turns.clock) (hands.view c.turns.pass.pass) (looks c.turns.follower) c.turns.follower.kept) (sides_of (g.C.Clock.moments c.take_turn.new.clock) (hands.view c.take_turn.new.pass.pass) (looks c.take_turn.new.follower) c.take_turn.new.follower.kept) c.turns.core.kind c.take_turn.new.core.kind (place_of (g.J.Sink.contents c.turns.journal) (g.J.Journal.told c.turns.journal) (g.W.Wires.seen c.turns.wires) c.turns.held (view c.turns.seat)) (place_of (g.J.Sink.contents c.take_turn.new.journal) (g.J.Journal.told c.take_turn.new.journal) (g.W.Wires.seen c.take_turn.new.wires) c.take_turn.new.held (view c.take_turn.new.seat)) c.in-Ok.stops true c.if-stops.true c.in-Ok.ensures.turns.0)
 
-pub returns-in-Ok-true-clause-core : goal.returns-in-Ok-true-clause-core
-returns-in-Ok-true-clause-core g c = part_core c.args.names.now ended.Stopped (sides_of (g.C.Clock.moments c.args.clock.now) (hands.view c.args.pass.now.pass) (looks c.args.follower.now) c.args.follower.now.kept) (sides_of (g.C.Clock.moments c.take_turn.new.clock) (hands.view c.take_turn.new.pass.pass) (looks c.take_turn.new.follower) c.take_turn.new.follower.kept) c.args.core.now.kind c.take_turn.new.core.kind (place_of (g.J.Sink.contents c.args.journal.now) (g.J.Journal.told c.args.journal.now) (g.W.Wires.seen c.args.wires.now) c.args.held.now (view c.args.seat.now)) (place_of (g.J.Sink.contents c.take_turn.new.journal) (g.J.Journal.told c.take_turn.new.journal) (g.W.Wires.seen c.take_turn.new.wires) c.take_turn.new.held (view c.take_turn.new.seat)) (works_end c.args.names.now (sides_of (g.C.Clock.moments c.args.clock.now) (hands.view c.args.pass.now.pass) (looks c.args.follower.now) c.args.follower.now.kept) (sides_of (g.C.Clock.moments c.take_turn.new.clock) (hands.view c.take_turn.new.pass.pass) (looks c.take_turn.new.follower) c.take_turn.new.follower.kept) c.args.core.now.kind c.take_turn.new.core.kind (place_of (g.J.Sink.contents c.args.journal.now) (g.J.Journal.told c.args.journal.now) (g.W.Wires.seen c.args.wires.now) c.args.held.now (view c.args.seat.now)) (place_of (g.J.Sink.contents c.take_turn.new.journal) (g.J.Journal.told c.take_turn.new.journal) (g.W.Wires.seen c.take_turn.new.wires) c.take_turn.new.held (view c.take_turn.new.seat)) c.args.turns ended.Stopped (works_stopped c.args.names.now c.turns.turn c.args.turns (sides_of (g.C.Clock.moments c.args.clock.now) (hands.view c.args.pass.now.pass) (looks c.args.follower.now) c.args.follower.now.kept) (sides_of (g.C.Clock.moments c.turns.clock) (hands.view c.turns.pass.pass) (looks c.turns.follower) c.turns.follower.kept) (sides_of (g.C.Clock.moments c.take_turn.new.clock) (hands.view c.take_turn.new.pass.pass) (looks c.take_turn.new.follower) c.take_turn.new.follower.kept) c.args.core.now.kind c.turns.core.kind c.take_turn.new.core.kind (place_of (g.J.Sink.contents c.args.journal.now) (g.J.Journal.told c.args.journal.now) (g.W.Wires.seen c.args.wires.now) c.args.held.now (view c.args.seat.now)) (place_of (g.J.Sink.contents c.turns.journal) (g.J.Journal.told c.turns.journal) (g.W.Wires.seen c.turns.wires) c.turns.held (view c.turns.seat)) (place_of (g.J.Sink.contents c.take_turn.new.journal) (g.J.Journal.told c.take_turn.new.journal) (g.W.Wires.seen c.take_turn.new.wires) c.take_turn.new.held (view c.take_turn.new.seat)) (omega arith) c.turns.invariant.turns c.in-Ok-true.ensures.turns.0)) c.requires.core
+pub returns-then-stops-clause-core : goal.returns-then-stops-clause-core
+returns-then-stops-clause-core g c = part_core c.args.names.now ended.Stopped (sides_of (g.C.Clock.moments c.args.clock.now) (hands.view c.args.pass.now.pass) (looks c.args.follower.now) c.args.follower.now.kept) (sides_of (g.C.Clock.moments c.take_turn.new.clock) (hands.view c.take_turn.new.pass.pass) (looks c.take_turn.new.follower) c.take_turn.new.follower.kept) c.args.core.now.kind c.take_turn.new.core.kind (place_of (g.J.Sink.contents c.args.journal.now) (g.J.Journal.told c.args.journal.now) (g.W.Wires.seen c.args.wires.now) c.args.held.now (view c.args.seat.now)) (place_of (g.J.Sink.contents c.take_turn.new.journal) (g.J.Journal.told c.take_turn.new.journal) (g.W.Wires.seen c.take_turn.new.wires) c.take_turn.new.held (view c.take_turn.new.seat)) (works_end c.args.names.now (sides_of (g.C.Clock.moments c.args.clock.now) (hands.view c.args.pass.now.pass) (looks c.args.follower.now) c.args.follower.now.kept) (sides_of (g.C.Clock.moments c.take_turn.new.clock) (hands.view c.take_turn.new.pass.pass) (looks c.take_turn.new.follower) c.take_turn.new.follower.kept) c.args.core.now.kind c.take_turn.new.core.kind (place_of (g.J.Sink.contents c.args.journal.now) (g.J.Journal.told c.args.journal.now) (g.W.Wires.seen c.args.wires.now) c.args.held.now (view c.args.seat.now)) (place_of (g.J.Sink.contents c.take_turn.new.journal) (g.J.Journal.told c.take_turn.new.journal) (g.W.Wires.seen c.take_turn.new.wires) c.take_turn.new.held (view c.take_turn.new.seat)) c.args.turns ended.Stopped (works_stopped c.args.names.now c.turns.turn c.args.turns (sides_of (g.C.Clock.moments c.args.clock.now) (hands.view c.args.pass.now.pass) (looks c.args.follower.now) c.args.follower.now.kept) (sides_of (g.C.Clock.moments c.turns.clock) (hands.view c.turns.pass.pass) (looks c.turns.follower) c.turns.follower.kept) (sides_of (g.C.Clock.moments c.take_turn.new.clock) (hands.view c.take_turn.new.pass.pass) (looks c.take_turn.new.follower) c.take_turn.new.follower.kept) c.args.core.now.kind c.turns.core.kind c.take_turn.new.core.kind (place_of (g.J.Sink.contents c.args.journal.now) (g.J.Journal.told c.args.journal.now) (g.W.Wires.seen c.args.wires.now) c.args.held.now (view c.args.seat.now)) (place_of (g.J.Sink.contents c.turns.journal) (g.J.Journal.told c.turns.journal) (g.W.Wires.seen c.turns.wires) c.turns.held (view c.turns.seat)) (place_of (g.J.Sink.contents c.take_turn.new.journal) (g.J.Journal.told c.take_turn.new.journal) (g.W.Wires.seen c.take_turn.new.wires) c.take_turn.new.held (view c.take_turn.new.seat)) (omega arith) c.turns.invariant.turns (turns_as c.args.names.now (sides_of (g.C.Clock.moments c.turns.clock) (hands.view c.turns.pass.pass) (looks c.turns.follower) c.turns.follower.kept) (sides_of (g.C.Clock.moments c.take_turn.new.clock) (hands.view c.take_turn.new.pass.pass) (looks c.take_turn.new.follower) c.take_turn.new.follower.kept) c.turns.core.kind c.take_turn.new.core.kind (place_of (g.J.Sink.contents c.turns.journal) (g.J.Journal.told c.turns.journal) (g.W.Wires.seen c.turns.wires) c.turns.held (view c.turns.seat)) (place_of (g.J.Sink.contents c.take_turn.new.journal) (g.J.Journal.told c.take_turn.new.journal) (g.W.Wires.seen c.take_turn.new.wires) c.take_turn.new.held (view c.take_turn.new.seat)) c.in-Ok.stops true c.if-stops.true c.in-Ok.ensures.turns.0))) c.requires.core
 
-pub returns-in-Ok-true-clause-lines : goal.returns-in-Ok-true-clause-lines
-returns-in-Ok-true-clause-lines g c = part_lines c.args.names.now ended.Stopped (sides_of (g.C.Clock.moments c.args.clock.now) (hands.view c.args.pass.now.pass) (looks c.args.follower.now) c.args.follower.now.kept) (sides_of (g.C.Clock.moments c.take_turn.new.clock) (hands.view c.take_turn.new.pass.pass) (looks c.take_turn.new.follower) c.take_turn.new.follower.kept) c.args.core.now.kind c.take_turn.new.core.kind (place_of (g.J.Sink.contents c.args.journal.now) (g.J.Journal.told c.args.journal.now) (g.W.Wires.seen c.args.wires.now) c.args.held.now (view c.args.seat.now)) (place_of (g.J.Sink.contents c.take_turn.new.journal) (g.J.Journal.told c.take_turn.new.journal) (g.W.Wires.seen c.take_turn.new.wires) c.take_turn.new.held (view c.take_turn.new.seat)) (works_end c.args.names.now (sides_of (g.C.Clock.moments c.args.clock.now) (hands.view c.args.pass.now.pass) (looks c.args.follower.now) c.args.follower.now.kept) (sides_of (g.C.Clock.moments c.take_turn.new.clock) (hands.view c.take_turn.new.pass.pass) (looks c.take_turn.new.follower) c.take_turn.new.follower.kept) c.args.core.now.kind c.take_turn.new.core.kind (place_of (g.J.Sink.contents c.args.journal.now) (g.J.Journal.told c.args.journal.now) (g.W.Wires.seen c.args.wires.now) c.args.held.now (view c.args.seat.now)) (place_of (g.J.Sink.contents c.take_turn.new.journal) (g.J.Journal.told c.take_turn.new.journal) (g.W.Wires.seen c.take_turn.new.wires) c.take_turn.new.held (view c.take_turn.new.seat)) c.args.turns ended.Stopped (works_stopped c.args.names.now c.turns.turn c.args.turns (sides_of (g.C.Clock.moments c.args.clock.now) (hands.view c.args.pass.now.pass) (looks c.args.follower.now) c.args.follower.now.kept) (sides_of (g.C.Clock.moments c.turns.clock) (hands.view c.turns.pass.pass) (looks c.turns.follower) c.turns.follower.kept) (sides_of (g.C.Clock.moments c.take_turn.new.clock) (hands.view c.take_turn.new.pass.pass) (looks c.take_turn.new.follower) c.take_turn.new.follower.kept) c.args.core.now.kind c.turns.core.kind c.take_turn.new.core.kind (place_of (g.J.Sink.contents c.args.journal.now) (g.J.Journal.told c.args.journal.now) (g.W.Wires.seen c.args.wires.now) c.args.held.now (view c.args.seat.now)) (place_of (g.J.Sink.contents c.turns.journal) (g.J.Journal.told c.turns.journal) (g.W.Wires.seen c.turns.wires) c.turns.held (view c.turns.seat)) (place_of (g.J.Sink.contents c.take_turn.new.journal) (g.J.Journal.told c.take_turn.new.journal) (g.W.Wires.seen c.take_turn.new.wires) c.take_turn.new.held (view c.take_turn.new.seat)) (omega arith) c.turns.invariant.turns c.in-Ok-true.ensures.turns.0)) c.requires.core
+pub returns-then-stops-clause-lines : goal.returns-then-stops-clause-lines
+returns-then-stops-clause-lines g c = part_lines c.args.names.now ended.Stopped (sides_of (g.C.Clock.moments c.args.clock.now) (hands.view c.args.pass.now.pass) (looks c.args.follower.now) c.args.follower.now.kept) (sides_of (g.C.Clock.moments c.take_turn.new.clock) (hands.view c.take_turn.new.pass.pass) (looks c.take_turn.new.follower) c.take_turn.new.follower.kept) c.args.core.now.kind c.take_turn.new.core.kind (place_of (g.J.Sink.contents c.args.journal.now) (g.J.Journal.told c.args.journal.now) (g.W.Wires.seen c.args.wires.now) c.args.held.now (view c.args.seat.now)) (place_of (g.J.Sink.contents c.take_turn.new.journal) (g.J.Journal.told c.take_turn.new.journal) (g.W.Wires.seen c.take_turn.new.wires) c.take_turn.new.held (view c.take_turn.new.seat)) (works_end c.args.names.now (sides_of (g.C.Clock.moments c.args.clock.now) (hands.view c.args.pass.now.pass) (looks c.args.follower.now) c.args.follower.now.kept) (sides_of (g.C.Clock.moments c.take_turn.new.clock) (hands.view c.take_turn.new.pass.pass) (looks c.take_turn.new.follower) c.take_turn.new.follower.kept) c.args.core.now.kind c.take_turn.new.core.kind (place_of (g.J.Sink.contents c.args.journal.now) (g.J.Journal.told c.args.journal.now) (g.W.Wires.seen c.args.wires.now) c.args.held.now (view c.args.seat.now)) (place_of (g.J.Sink.contents c.take_turn.new.journal) (g.J.Journal.told c.take_turn.new.journal) (g.W.Wires.seen c.take_turn.new.wires) c.take_turn.new.held (view c.take_turn.new.seat)) c.args.turns ended.Stopped (works_stopped c.args.names.now c.turns.turn c.args.turns (sides_of (g.C.Clock.moments c.args.clock.now) (hands.view c.args.pass.now.pass) (looks c.args.follower.now) c.args.follower.now.kept) (sides_of (g.C.Clock.moments c.turns.clock) (hands.view c.turns.pass.pass) (looks c.turns.follower) c.turns.follower.kept) (sides_of (g.C.Clock.moments c.take_turn.new.clock) (hands.view c.take_turn.new.pass.pass) (looks c.take_turn.new.follower) c.take_turn.new.follower.kept) c.args.core.now.kind c.turns.core.kind c.take_turn.new.core.kind (place_of (g.J.Sink.contents c.args.journal.now) (g.J.Journal.told c.args.journal.now) (g.W.Wires.seen c.args.wires.now) c.args.held.now (view c.args.seat.now)) (place_of (g.J.Sink.contents c.turns.journal) (g.J.Journal.told c.turns.journal) (g.W.Wires.seen c.turns.wires) c.turns.held (view c.turns.seat)) (place_of (g.J.Sink.contents c.take_turn.new.journal) (g.J.Journal.told c.take_turn.new.journal) (g.W.Wires.seen c.take_turn.new.wires) c.take_turn.new.held (view c.take_turn.new.seat)) (omega arith) c.turns.invariant.turns (turns_as c.args.names.now (sides_of (g.C.Clock.moments c.turns.clock) (hands.view c.turns.pass.pass) (looks c.turns.follower) c.turns.follower.kept) (sides_of (g.C.Clock.moments c.take_turn.new.clock) (hands.view c.take_turn.new.pass.pass) (looks c.take_turn.new.follower) c.take_turn.new.follower.kept) c.turns.core.kind c.take_turn.new.core.kind (place_of (g.J.Sink.contents c.turns.journal) (g.J.Journal.told c.turns.journal) (g.W.Wires.seen c.turns.wires) c.turns.held (view c.turns.seat)) (place_of (g.J.Sink.contents c.take_turn.new.journal) (g.J.Journal.told c.take_turn.new.journal) (g.W.Wires.seen c.take_turn.new.wires) c.take_turn.new.held (view c.take_turn.new.seat)) c.in-Ok.stops true c.if-stops.true c.in-Ok.ensures.turns.0))) c.requires.core
 
-pub returns-in-Ok-true-clause-tape : goal.returns-in-Ok-true-clause-tape
-returns-in-Ok-true-clause-tape g c = part_tape c.args.names.now ended.Stopped (sides_of (g.C.Clock.moments c.args.clock.now) (hands.view c.args.pass.now.pass) (looks c.args.follower.now) c.args.follower.now.kept) (sides_of (g.C.Clock.moments c.take_turn.new.clock) (hands.view c.take_turn.new.pass.pass) (looks c.take_turn.new.follower) c.take_turn.new.follower.kept) c.args.core.now.kind c.take_turn.new.core.kind (place_of (g.J.Sink.contents c.args.journal.now) (g.J.Journal.told c.args.journal.now) (g.W.Wires.seen c.args.wires.now) c.args.held.now (view c.args.seat.now)) (place_of (g.J.Sink.contents c.take_turn.new.journal) (g.J.Journal.told c.take_turn.new.journal) (g.W.Wires.seen c.take_turn.new.wires) c.take_turn.new.held (view c.take_turn.new.seat)) (works_end c.args.names.now (sides_of (g.C.Clock.moments c.args.clock.now) (hands.view c.args.pass.now.pass) (looks c.args.follower.now) c.args.follower.now.kept) (sides_of (g.C.Clock.moments c.take_turn.new.clock) (hands.view c.take_turn.new.pass.pass) (looks c.take_turn.new.follower) c.take_turn.new.follower.kept) c.args.core.now.kind c.take_turn.new.core.kind (place_of (g.J.Sink.contents c.args.journal.now) (g.J.Journal.told c.args.journal.now) (g.W.Wires.seen c.args.wires.now) c.args.held.now (view c.args.seat.now)) (place_of (g.J.Sink.contents c.take_turn.new.journal) (g.J.Journal.told c.take_turn.new.journal) (g.W.Wires.seen c.take_turn.new.wires) c.take_turn.new.held (view c.take_turn.new.seat)) c.args.turns ended.Stopped (works_stopped c.args.names.now c.turns.turn c.args.turns (sides_of (g.C.Clock.moments c.args.clock.now) (hands.view c.args.pass.now.pass) (looks c.args.follower.now) c.args.follower.now.kept) (sides_of (g.C.Clock.moments c.turns.clock) (hands.view c.turns.pass.pass) (looks c.turns.follower) c.turns.follower.kept) (sides_of (g.C.Clock.moments c.take_turn.new.clock) (hands.view c.take_turn.new.pass.pass) (looks c.take_turn.new.follower) c.take_turn.new.follower.kept) c.args.core.now.kind c.turns.core.kind c.take_turn.new.core.kind (place_of (g.J.Sink.contents c.args.journal.now) (g.J.Journal.told c.args.journal.now) (g.W.Wires.seen c.args.wires.now) c.args.held.now (view c.args.seat.now)) (place_of (g.J.Sink.contents c.turns.journal) (g.J.Journal.told c.turns.journal) (g.W.Wires.seen c.turns.wires) c.turns.held (view c.turns.seat)) (place_of (g.J.Sink.contents c.take_turn.new.journal) (g.J.Journal.told c.take_turn.new.journal) (g.W.Wires.seen c.take_turn.new.wires) c.take_turn.new.held (view c.take_turn.new.seat)) (omega arith) c.turns.invariant.turns c.in-Ok-true.ensures.turns.0)) c.requires.core
+pub returns-then-stops-clause-tape : goal.returns-then-stops-clause-tape
+returns-then-stops-clause-tape g c = part_tape c.args.names.now ended.Stopped (sides_of (g.C.Clock.moments c.args.clock.now) (hands.view c.args.pass.now.pass) (looks c.args.follower.now) c.args.follower.now.kept) (sides_of (g.C.Clock.moments c.take_turn.new.clock) (hands.view c.take_turn.new.pass.pass) (looks c.take_turn.new.follower) c.take_turn.new.follower.kept) c.args.core.now.kind c.take_turn.new.core.kind (place_of (g.J.Sink.contents c.args.journal.now) (g.J.Journal.told c.args.journal.now) (g.W.Wires.seen c.args.wires.now) c.args.held.now (view c.args.seat.now)) (place_of (g.J.Sink.contents c.take_turn.new.journal) (g.J.Journal.told c.take_turn.new.journal) (g.W.Wires.seen c.take_turn.new.wires) c.take_turn.new.held (view c.take_turn.new.seat)) (works_end c.args.names.now (sides_of (g.C.Clock.moments c.args.clock.now) (hands.view c.args.pass.now.pass) (looks c.args.follower.now) c.args.follower.now.kept) (sides_of (g.C.Clock.moments c.take_turn.new.clock) (hands.view c.take_turn.new.pass.pass) (looks c.take_turn.new.follower) c.take_turn.new.follower.kept) c.args.core.now.kind c.take_turn.new.core.kind (place_of (g.J.Sink.contents c.args.journal.now) (g.J.Journal.told c.args.journal.now) (g.W.Wires.seen c.args.wires.now) c.args.held.now (view c.args.seat.now)) (place_of (g.J.Sink.contents c.take_turn.new.journal) (g.J.Journal.told c.take_turn.new.journal) (g.W.Wires.seen c.take_turn.new.wires) c.take_turn.new.held (view c.take_turn.new.seat)) c.args.turns ended.Stopped (works_stopped c.args.names.now c.turns.turn c.args.turns (sides_of (g.C.Clock.moments c.args.clock.now) (hands.view c.args.pass.now.pass) (looks c.args.follower.now) c.args.follower.now.kept) (sides_of (g.C.Clock.moments c.turns.clock) (hands.view c.turns.pass.pass) (looks c.turns.follower) c.turns.follower.kept) (sides_of (g.C.Clock.moments c.take_turn.new.clock) (hands.view c.take_turn.new.pass.pass) (looks c.take_turn.new.follower) c.take_turn.new.follower.kept) c.args.core.now.kind c.turns.core.kind c.take_turn.new.core.kind (place_of (g.J.Sink.contents c.args.journal.now) (g.J.Journal.told c.args.journal.now) (g.W.Wires.seen c.args.wires.now) c.args.held.now (view c.args.seat.now)) (place_of (g.J.Sink.contents c.turns.journal) (g.J.Journal.told c.turns.journal) (g.W.Wires.seen c.turns.wires) c.turns.held (view c.turns.seat)) (place_of (g.J.Sink.contents c.take_turn.new.journal) (g.J.Journal.told c.take_turn.new.journal) (g.W.Wires.seen c.take_turn.new.wires) c.take_turn.new.held (view c.take_turn.new.seat)) (omega arith) c.turns.invariant.turns (turns_as c.args.names.now (sides_of (g.C.Clock.moments c.turns.clock) (hands.view c.turns.pass.pass) (looks c.turns.follower) c.turns.follower.kept) (sides_of (g.C.Clock.moments c.take_turn.new.clock) (hands.view c.take_turn.new.pass.pass) (looks c.take_turn.new.follower) c.take_turn.new.follower.kept) c.turns.core.kind c.take_turn.new.core.kind (place_of (g.J.Sink.contents c.turns.journal) (g.J.Journal.told c.turns.journal) (g.W.Wires.seen c.turns.wires) c.turns.held (view c.turns.seat)) (place_of (g.J.Sink.contents c.take_turn.new.journal) (g.J.Journal.told c.take_turn.new.journal) (g.W.Wires.seen c.take_turn.new.wires) c.take_turn.new.held (view c.take_turn.new.seat)) c.in-Ok.stops true c.if-stops.true c.in-Ok.ensures.turns.0))) c.requires.core
 
-pub returns-in-Ok-true-clause-wires : goal.returns-in-Ok-true-clause-wires
-returns-in-Ok-true-clause-wires g c = part_wires c.args.names.now ended.Stopped (sides_of (g.C.Clock.moments c.args.clock.now) (hands.view c.args.pass.now.pass) (looks c.args.follower.now) c.args.follower.now.kept) (sides_of (g.C.Clock.moments c.take_turn.new.clock) (hands.view c.take_turn.new.pass.pass) (looks c.take_turn.new.follower) c.take_turn.new.follower.kept) c.args.core.now.kind c.take_turn.new.core.kind (place_of (g.J.Sink.contents c.args.journal.now) (g.J.Journal.told c.args.journal.now) (g.W.Wires.seen c.args.wires.now) c.args.held.now (view c.args.seat.now)) (place_of (g.J.Sink.contents c.take_turn.new.journal) (g.J.Journal.told c.take_turn.new.journal) (g.W.Wires.seen c.take_turn.new.wires) c.take_turn.new.held (view c.take_turn.new.seat)) (works_end c.args.names.now (sides_of (g.C.Clock.moments c.args.clock.now) (hands.view c.args.pass.now.pass) (looks c.args.follower.now) c.args.follower.now.kept) (sides_of (g.C.Clock.moments c.take_turn.new.clock) (hands.view c.take_turn.new.pass.pass) (looks c.take_turn.new.follower) c.take_turn.new.follower.kept) c.args.core.now.kind c.take_turn.new.core.kind (place_of (g.J.Sink.contents c.args.journal.now) (g.J.Journal.told c.args.journal.now) (g.W.Wires.seen c.args.wires.now) c.args.held.now (view c.args.seat.now)) (place_of (g.J.Sink.contents c.take_turn.new.journal) (g.J.Journal.told c.take_turn.new.journal) (g.W.Wires.seen c.take_turn.new.wires) c.take_turn.new.held (view c.take_turn.new.seat)) c.args.turns ended.Stopped (works_stopped c.args.names.now c.turns.turn c.args.turns (sides_of (g.C.Clock.moments c.args.clock.now) (hands.view c.args.pass.now.pass) (looks c.args.follower.now) c.args.follower.now.kept) (sides_of (g.C.Clock.moments c.turns.clock) (hands.view c.turns.pass.pass) (looks c.turns.follower) c.turns.follower.kept) (sides_of (g.C.Clock.moments c.take_turn.new.clock) (hands.view c.take_turn.new.pass.pass) (looks c.take_turn.new.follower) c.take_turn.new.follower.kept) c.args.core.now.kind c.turns.core.kind c.take_turn.new.core.kind (place_of (g.J.Sink.contents c.args.journal.now) (g.J.Journal.told c.args.journal.now) (g.W.Wires.seen c.args.wires.now) c.args.held.now (view c.args.seat.now)) (place_of (g.J.Sink.contents c.turns.journal) (g.J.Journal.told c.turns.journal) (g.W.Wires.seen c.turns.wires) c.turns.held (view c.turns.seat)) (place_of (g.J.Sink.contents c.take_turn.new.journal) (g.J.Journal.told c.take_turn.new.journal) (g.W.Wires.seen c.take_turn.new.wires) c.take_turn.new.held (view c.take_turn.new.seat)) (omega arith) c.turns.invariant.turns c.in-Ok-true.ensures.turns.0)) c.requires.core
+pub returns-then-stops-clause-wires : goal.returns-then-stops-clause-wires
+returns-then-stops-clause-wires g c = part_wires c.args.names.now ended.Stopped (sides_of (g.C.Clock.moments c.args.clock.now) (hands.view c.args.pass.now.pass) (looks c.args.follower.now) c.args.follower.now.kept) (sides_of (g.C.Clock.moments c.take_turn.new.clock) (hands.view c.take_turn.new.pass.pass) (looks c.take_turn.new.follower) c.take_turn.new.follower.kept) c.args.core.now.kind c.take_turn.new.core.kind (place_of (g.J.Sink.contents c.args.journal.now) (g.J.Journal.told c.args.journal.now) (g.W.Wires.seen c.args.wires.now) c.args.held.now (view c.args.seat.now)) (place_of (g.J.Sink.contents c.take_turn.new.journal) (g.J.Journal.told c.take_turn.new.journal) (g.W.Wires.seen c.take_turn.new.wires) c.take_turn.new.held (view c.take_turn.new.seat)) (works_end c.args.names.now (sides_of (g.C.Clock.moments c.args.clock.now) (hands.view c.args.pass.now.pass) (looks c.args.follower.now) c.args.follower.now.kept) (sides_of (g.C.Clock.moments c.take_turn.new.clock) (hands.view c.take_turn.new.pass.pass) (looks c.take_turn.new.follower) c.take_turn.new.follower.kept) c.args.core.now.kind c.take_turn.new.core.kind (place_of (g.J.Sink.contents c.args.journal.now) (g.J.Journal.told c.args.journal.now) (g.W.Wires.seen c.args.wires.now) c.args.held.now (view c.args.seat.now)) (place_of (g.J.Sink.contents c.take_turn.new.journal) (g.J.Journal.told c.take_turn.new.journal) (g.W.Wires.seen c.take_turn.new.wires) c.take_turn.new.held (view c.take_turn.new.seat)) c.args.turns ended.Stopped (works_stopped c.args.names.now c.turns.turn c.args.turns (sides_of (g.C.Clock.moments c.args.clock.now) (hands.view c.args.pass.now.pass) (looks c.args.follower.now) c.args.follower.now.kept) (sides_of (g.C.Clock.moments c.turns.clock) (hands.view c.turns.pass.pass) (looks c.turns.follower) c.turns.follower.kept) (sides_of (g.C.Clock.moments c.take_turn.new.clock) (hands.view c.take_turn.new.pass.pass) (looks c.take_turn.new.follower) c.take_turn.new.follower.kept) c.args.core.now.kind c.turns.core.kind c.take_turn.new.core.kind (place_of (g.J.Sink.contents c.args.journal.now) (g.J.Journal.told c.args.journal.now) (g.W.Wires.seen c.args.wires.now) c.args.held.now (view c.args.seat.now)) (place_of (g.J.Sink.contents c.turns.journal) (g.J.Journal.told c.turns.journal) (g.W.Wires.seen c.turns.wires) c.turns.held (view c.turns.seat)) (place_of (g.J.Sink.contents c.take_turn.new.journal) (g.J.Journal.told c.take_turn.new.journal) (g.W.Wires.seen c.take_turn.new.wires) c.take_turn.new.held (view c.take_turn.new.seat)) (omega arith) c.turns.invariant.turns (turns_as c.args.names.now (sides_of (g.C.Clock.moments c.turns.clock) (hands.view c.turns.pass.pass) (looks c.turns.follower) c.turns.follower.kept) (sides_of (g.C.Clock.moments c.take_turn.new.clock) (hands.view c.take_turn.new.pass.pass) (looks c.take_turn.new.follower) c.take_turn.new.follower.kept) c.turns.core.kind c.take_turn.new.core.kind (place_of (g.J.Sink.contents c.turns.journal) (g.J.Journal.told c.turns.journal) (g.W.Wires.seen c.turns.wires) c.turns.held (view c.turns.seat)) (place_of (g.J.Sink.contents c.take_turn.new.journal) (g.J.Journal.told c.take_turn.new.journal) (g.W.Wires.seen c.take_turn.new.wires) c.take_turn.new.held (view c.take_turn.new.seat)) c.in-Ok.stops true c.if-stops.true c.in-Ok.ensures.turns.0))) c.requires.core
 
-pub returns-in-Ok-true-clause-turns : goal.returns-in-Ok-true-clause-turns
-returns-in-Ok-true-clause-turns g c = part_turns c.args.names.now ended.Stopped (sides_of (g.C.Clock.moments c.args.clock.now) (hands.view c.args.pass.now.pass) (looks c.args.follower.now) c.args.follower.now.kept) (sides_of (g.C.Clock.moments c.take_turn.new.clock) (hands.view c.take_turn.new.pass.pass) (looks c.take_turn.new.follower) c.take_turn.new.follower.kept) c.args.core.now.kind c.take_turn.new.core.kind (place_of (g.J.Sink.contents c.args.journal.now) (g.J.Journal.told c.args.journal.now) (g.W.Wires.seen c.args.wires.now) c.args.held.now (view c.args.seat.now)) (place_of (g.J.Sink.contents c.take_turn.new.journal) (g.J.Journal.told c.take_turn.new.journal) (g.W.Wires.seen c.take_turn.new.wires) c.take_turn.new.held (view c.take_turn.new.seat)) (works_end c.args.names.now (sides_of (g.C.Clock.moments c.args.clock.now) (hands.view c.args.pass.now.pass) (looks c.args.follower.now) c.args.follower.now.kept) (sides_of (g.C.Clock.moments c.take_turn.new.clock) (hands.view c.take_turn.new.pass.pass) (looks c.take_turn.new.follower) c.take_turn.new.follower.kept) c.args.core.now.kind c.take_turn.new.core.kind (place_of (g.J.Sink.contents c.args.journal.now) (g.J.Journal.told c.args.journal.now) (g.W.Wires.seen c.args.wires.now) c.args.held.now (view c.args.seat.now)) (place_of (g.J.Sink.contents c.take_turn.new.journal) (g.J.Journal.told c.take_turn.new.journal) (g.W.Wires.seen c.take_turn.new.wires) c.take_turn.new.held (view c.take_turn.new.seat)) c.args.turns ended.Stopped (works_stopped c.args.names.now c.turns.turn c.args.turns (sides_of (g.C.Clock.moments c.args.clock.now) (hands.view c.args.pass.now.pass) (looks c.args.follower.now) c.args.follower.now.kept) (sides_of (g.C.Clock.moments c.turns.clock) (hands.view c.turns.pass.pass) (looks c.turns.follower) c.turns.follower.kept) (sides_of (g.C.Clock.moments c.take_turn.new.clock) (hands.view c.take_turn.new.pass.pass) (looks c.take_turn.new.follower) c.take_turn.new.follower.kept) c.args.core.now.kind c.turns.core.kind c.take_turn.new.core.kind (place_of (g.J.Sink.contents c.args.journal.now) (g.J.Journal.told c.args.journal.now) (g.W.Wires.seen c.args.wires.now) c.args.held.now (view c.args.seat.now)) (place_of (g.J.Sink.contents c.turns.journal) (g.J.Journal.told c.turns.journal) (g.W.Wires.seen c.turns.wires) c.turns.held (view c.turns.seat)) (place_of (g.J.Sink.contents c.take_turn.new.journal) (g.J.Journal.told c.take_turn.new.journal) (g.W.Wires.seen c.take_turn.new.wires) c.take_turn.new.held (view c.take_turn.new.seat)) (omega arith) c.turns.invariant.turns c.in-Ok-true.ensures.turns.0)) c.requires.core c.args.turns (works_whole c.args.names.now c.args.turns (sides_of (g.C.Clock.moments c.args.clock.now) (hands.view c.args.pass.now.pass) (looks c.args.follower.now) c.args.follower.now.kept) (sides_of (g.C.Clock.moments c.take_turn.new.clock) (hands.view c.take_turn.new.pass.pass) (looks c.take_turn.new.follower) c.take_turn.new.follower.kept) c.args.core.now.kind c.take_turn.new.core.kind (place_of (g.J.Sink.contents c.args.journal.now) (g.J.Journal.told c.args.journal.now) (g.W.Wires.seen c.args.wires.now) c.args.held.now (view c.args.seat.now)) (place_of (g.J.Sink.contents c.take_turn.new.journal) (g.J.Journal.told c.take_turn.new.journal) (g.W.Wires.seen c.take_turn.new.wires) c.take_turn.new.held (view c.take_turn.new.seat)) ended.Stopped (works_stopped c.args.names.now c.turns.turn c.args.turns (sides_of (g.C.Clock.moments c.args.clock.now) (hands.view c.args.pass.now.pass) (looks c.args.follower.now) c.args.follower.now.kept) (sides_of (g.C.Clock.moments c.turns.clock) (hands.view c.turns.pass.pass) (looks c.turns.follower) c.turns.follower.kept) (sides_of (g.C.Clock.moments c.take_turn.new.clock) (hands.view c.take_turn.new.pass.pass) (looks c.take_turn.new.follower) c.take_turn.new.follower.kept) c.args.core.now.kind c.turns.core.kind c.take_turn.new.core.kind (place_of (g.J.Sink.contents c.args.journal.now) (g.J.Journal.told c.args.journal.now) (g.W.Wires.seen c.args.wires.now) c.args.held.now (view c.args.seat.now)) (place_of (g.J.Sink.contents c.turns.journal) (g.J.Journal.told c.turns.journal) (g.W.Wires.seen c.turns.wires) c.turns.held (view c.turns.seat)) (place_of (g.J.Sink.contents c.take_turn.new.journal) (g.J.Journal.told c.take_turn.new.journal) (g.W.Wires.seen c.take_turn.new.wires) c.take_turn.new.held (view c.take_turn.new.seat)) (omega arith) c.turns.invariant.turns c.in-Ok-true.ensures.turns.0))
+pub returns-then-stops-clause-turns : goal.returns-then-stops-clause-turns
+returns-then-stops-clause-turns g c = part_turns c.args.names.now ended.Stopped (sides_of (g.C.Clock.moments c.args.clock.now) (hands.view c.args.pass.now.pass) (looks c.args.follower.now) c.args.follower.now.kept) (sides_of (g.C.Clock.moments c.take_turn.new.clock) (hands.view c.take_turn.new.pass.pass) (looks c.take_turn.new.follower) c.take_turn.new.follower.kept) c.args.core.now.kind c.take_turn.new.core.kind (place_of (g.J.Sink.contents c.args.journal.now) (g.J.Journal.told c.args.journal.now) (g.W.Wires.seen c.args.wires.now) c.args.held.now (view c.args.seat.now)) (place_of (g.J.Sink.contents c.take_turn.new.journal) (g.J.Journal.told c.take_turn.new.journal) (g.W.Wires.seen c.take_turn.new.wires) c.take_turn.new.held (view c.take_turn.new.seat)) (works_end c.args.names.now (sides_of (g.C.Clock.moments c.args.clock.now) (hands.view c.args.pass.now.pass) (looks c.args.follower.now) c.args.follower.now.kept) (sides_of (g.C.Clock.moments c.take_turn.new.clock) (hands.view c.take_turn.new.pass.pass) (looks c.take_turn.new.follower) c.take_turn.new.follower.kept) c.args.core.now.kind c.take_turn.new.core.kind (place_of (g.J.Sink.contents c.args.journal.now) (g.J.Journal.told c.args.journal.now) (g.W.Wires.seen c.args.wires.now) c.args.held.now (view c.args.seat.now)) (place_of (g.J.Sink.contents c.take_turn.new.journal) (g.J.Journal.told c.take_turn.new.journal) (g.W.Wires.seen c.take_turn.new.wires) c.take_turn.new.held (view c.take_turn.new.seat)) c.args.turns ended.Stopped (works_stopped c.args.names.now c.turns.turn c.args.turns (sides_of (g.C.Clock.moments c.args.clock.now) (hands.view c.args.pass.now.pass) (looks c.args.follower.now) c.args.follower.now.kept) (sides_of (g.C.Clock.moments c.turns.clock) (hands.view c.turns.pass.pass) (looks c.turns.follower) c.turns.follower.kept) (sides_of (g.C.Clock.moments c.take_turn.new.clock) (hands.view c.take_turn.new.pass.pass) (looks c.take_turn.new.follower) c.take_turn.new.follower.kept) c.args.core.now.kind c.turns.core.kind c.take_turn.new.core.kind (place_of (g.J.Sink.contents c.args.journal.now) (g.J.Journal.told c.args.journal.now) (g.W.Wires.seen c.args.wires.now) c.args.held.now (view c.args.seat.now)) (place_of (g.J.Sink.contents c.turns.journal) (g.J.Journal.told c.turns.journal) (g.W.Wires.seen c.turns.wires) c.turns.held (view c.turns.seat)) (place_of (g.J.Sink.contents c.take_turn.new.journal) (g.J.Journal.told c.take_turn.new.journal) (g.W.Wires.seen c.take_turn.new.wires) c.take_turn.new.held (view c.take_turn.new.seat)) (omega arith) c.turns.invariant.turns (turns_as c.args.names.now (sides_of (g.C.Clock.moments c.turns.clock) (hands.view c.turns.pass.pass) (looks c.turns.follower) c.turns.follower.kept) (sides_of (g.C.Clock.moments c.take_turn.new.clock) (hands.view c.take_turn.new.pass.pass) (looks c.take_turn.new.follower) c.take_turn.new.follower.kept) c.turns.core.kind c.take_turn.new.core.kind (place_of (g.J.Sink.contents c.turns.journal) (g.J.Journal.told c.turns.journal) (g.W.Wires.seen c.turns.wires) c.turns.held (view c.turns.seat)) (place_of (g.J.Sink.contents c.take_turn.new.journal) (g.J.Journal.told c.take_turn.new.journal) (g.W.Wires.seen c.take_turn.new.wires) c.take_turn.new.held (view c.take_turn.new.seat)) c.in-Ok.stops true c.if-stops.true c.in-Ok.ensures.turns.0))) c.requires.core c.args.turns (works_whole c.args.names.now c.args.turns (sides_of (g.C.Clock.moments c.args.clock.now) (hands.view c.args.pass.now.pass) (looks c.args.follower.now) c.args.follower.now.kept) (sides_of (g.C.Clock.moments c.take_turn.new.clock) (hands.view c.take_turn.new.pass.pass) (looks c.take_turn.new.follower) c.take_turn.new.follower.kept) c.args.core.now.kind c.take_turn.new.core.kind (place_of (g.J.Sink.contents c.args.journal.now) (g.J.Journal.told c.args.journal.now) (g.W.Wires.seen c.args.wires.now) c.args.held.now (view c.args.seat.now)) (place_of (g.J.Sink.contents c.take_turn.new.journal) (g.J.Journal.told c.take_turn.new.journal) (g.W.Wires.seen c.take_turn.new.wires) c.take_turn.new.held (view c.take_turn.new.seat)) ended.Stopped (works_stopped c.args.names.now c.turns.turn c.args.turns (sides_of (g.C.Clock.moments c.args.clock.now) (hands.view c.args.pass.now.pass) (looks c.args.follower.now) c.args.follower.now.kept) (sides_of (g.C.Clock.moments c.turns.clock) (hands.view c.turns.pass.pass) (looks c.turns.follower) c.turns.follower.kept) (sides_of (g.C.Clock.moments c.take_turn.new.clock) (hands.view c.take_turn.new.pass.pass) (looks c.take_turn.new.follower) c.take_turn.new.follower.kept) c.args.core.now.kind c.turns.core.kind c.take_turn.new.core.kind (place_of (g.J.Sink.contents c.args.journal.now) (g.J.Journal.told c.args.journal.now) (g.W.Wires.seen c.args.wires.now) c.args.held.now (view c.args.seat.now)) (place_of (g.J.Sink.contents c.turns.journal) (g.J.Journal.told c.turns.journal) (g.W.Wires.seen c.turns.wires) c.turns.held (view c.turns.seat)) (place_of (g.J.Sink.contents c.take_turn.new.journal) (g.J.Journal.told c.take_turn.new.journal) (g.W.Wires.seen c.take_turn.new.wires) c.take_turn.new.held (view c.take_turn.new.seat)) (omega arith) c.turns.invariant.turns (turns_as c.args.names.now (sides_of (g.C.Clock.moments c.turns.clock) (hands.view c.turns.pass.pass) (looks c.turns.follower) c.turns.follower.kept) (sides_of (g.C.Clock.moments c.take_turn.new.clock) (hands.view c.take_turn.new.pass.pass) (looks c.take_turn.new.follower) c.take_turn.new.follower.kept) c.turns.core.kind c.take_turn.new.core.kind (place_of (g.J.Sink.contents c.turns.journal) (g.J.Journal.told c.turns.journal) (g.W.Wires.seen c.turns.wires) c.turns.held (view c.turns.seat)) (place_of (g.J.Sink.contents c.take_turn.new.journal) (g.J.Journal.told c.take_turn.new.journal) (g.W.Wires.seen c.take_turn.new.wires) c.take_turn.new.held (view c.take_turn.new.seat)) c.in-Ok.stops true c.if-stops.true c.in-Ok.ensures.turns.0)))
 
-pub returns-in-Ok-true-clause-pass : goal.returns-in-Ok-true-clause-pass
-returns-in-Ok-true-clause-pass g c = c.take_turn.ensures.pass
+pub returns-then-stops-clause-pass : goal.returns-then-stops-clause-pass
+returns-then-stops-clause-pass g c = c.take_turn.ensures.pass
 
-pub returns-in-Ok-true-clause-keeps : goal.returns-in-Ok-true-clause-keeps
-returns-in-Ok-true-clause-keeps g c = keeps_more c.args.permits.now (g.W.Wires.seen c.args.wires.now) (g.W.Wires.seen c.turns.wires) (g.W.Wires.seen c.take_turn.new.wires) c.args.held.now c.turns.held c.take_turn.new.held (view c.args.seat.now) c.turns.seat c.take_turn.new.seat c.turns.invariant.keeps c.take_turn.ensures.keeps
+pub returns-then-stops-clause-keeps : goal.returns-then-stops-clause-keeps
+returns-then-stops-clause-keeps g c = keeps_more c.args.permits.now (g.W.Wires.seen c.args.wires.now) (g.W.Wires.seen c.turns.wires) (g.W.Wires.seen c.take_turn.new.wires) c.args.held.now c.turns.held c.take_turn.new.held (view c.args.seat.now) c.turns.seat c.take_turn.new.seat c.turns.invariant.keeps c.take_turn.ensures.keeps
 
-pub returns-in-Ok-true-clause-wires_fault : goal.returns-in-Ok-true-clause-wires_fault
-returns-in-Ok-true-clause-wires_fault g c = λ e. cc
+pub returns-then-stops-clause-wires_fault : goal.returns-then-stops-clause-wires_fault
+returns-then-stops-clause-wires_fault g c = λ e. cc
 
-pub returns-in-Ok-true-clause-journal_fault : goal.returns-in-Ok-true-clause-journal_fault
-returns-in-Ok-true-clause-journal_fault g c = λ e. cc
+pub returns-then-stops-clause-journal_fault : goal.returns-then-stops-clause-journal_fault
+returns-then-stops-clause-journal_fault g c = λ e. cc
 
 pub returns-in-Err-clause-works : goal.returns-in-Err-clause-works
 returns-in-Err-clause-works g c = works_cut c.args.names.now c.turns.turn c.args.turns (sides_of (g.C.Clock.moments c.args.clock.now) (hands.view c.args.pass.now.pass) (looks c.args.follower.now) c.args.follower.now.kept) (sides_of (g.C.Clock.moments c.turns.clock) (hands.view c.turns.pass.pass) (looks c.turns.follower) c.turns.follower.kept) (sides_of (g.C.Clock.moments c.take_turn.new.clock) (hands.view c.take_turn.new.pass.pass) (looks c.take_turn.new.follower) c.take_turn.new.follower.kept) c.args.core.now.kind c.turns.core.kind c.take_turn.new.core.kind (place_of (g.J.Sink.contents c.args.journal.now) (g.J.Journal.told c.args.journal.now) (g.W.Wires.seen c.args.wires.now) c.args.held.now (view c.args.seat.now)) (place_of (g.J.Sink.contents c.turns.journal) (g.J.Journal.told c.turns.journal) (g.W.Wires.seen c.turns.wires) c.turns.held (view c.turns.seat)) (place_of (g.J.Sink.contents c.take_turn.new.journal) (g.J.Journal.told c.take_turn.new.journal) (g.W.Wires.seen c.take_turn.new.wires) c.take_turn.new.held (view c.take_turn.new.seat)) c.in-Err.end (omega arith) c.turns.invariant.turns c.in-Err.ensures.turns
