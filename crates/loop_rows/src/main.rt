@@ -14,6 +14,7 @@
 #![tactic(auto)]
 
 mod case;
+mod making;
 mod run;
 mod script;
 mod show;

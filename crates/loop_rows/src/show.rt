@@ -10,6 +10,9 @@ use worker_ports::Wired;
 /// How many octets the replay's tape has room for.
 const TAPE: usize = 1_000_000;
 
+/// How many octets a configuration has at most.
+pub const MOST_CONFIG: usize = 1 << 20;
+
 /// Prints how the work ended.
 pub fn show_ended<R: Print>(rt: &R, ended: Ended) -> io::Result<()> {
     let word = match ended {
@@ -64,10 +67,13 @@ pub fn show_replay<R: Print + AllocGlobal>(
     config: &[u8],
     journal: &[u8],
 ) -> io::Result<()> {
-    let (Ok(config), Ok(octets)) = (
-        read_config(rt.alloc(), config),
-        Vec::from_slice(rt.alloc(), journal),
-    ) else {
+    if config.len() > MOST_CONFIG {
+        return println!(rt; "a long configuration");
+    }
+    let Ok(config) = read_config(rt.alloc(), config) else {
+        return println!(rt; "no configuration");
+    };
+    let Ok(octets) = Vec::from_slice(rt.alloc(), journal) else {
         return println!(rt; "out of memory");
     };
     let mut session = MemSource::new(octets, Vec::new(rt.alloc()));

@@ -264,9 +264,9 @@ steps_same : (xs ys : List WireStep) → ◌≡◌ {A = Option (List WireStep)} 
 steps_same xs ys e = cc
 
 -- so many whole turns
-record Wholes (turns : ℕ) (end : End) (old new : Sides) (k k' : Kind) (old_told new_told : Option (List Note)) : Type 0 where
-  whole : end ≡ ended.Turns → WholeTurns turns old new k k' old_told new_told
-  stopped : end ≡ ended.Stopped → (n : ℕ) × (0 < n) × (n ≤ turns) × WholeTurns n old new k k' old_told new_told
+pub record Wholes (turns : ℕ) (end : End) (old new : Sides) (k k' : Kind) (old_told new_told : Option (List Note)) : Type 0 where
+  pub whole : end ≡ ended.Turns → WholeTurns turns old new k k' old_told new_told
+  pub stopped : end ≡ ended.Stopped → (n : ℕ) × (0 < n) × (n ≤ turns) × WholeTurns n old new k k' old_told new_told
 
 ran_whole : (names : List (List ℕ)) (n : ℕ) (old new : Sides) (k0 k' : Kind) (v0 w : Place) → RestsWire k0 → Ran n names old k0 v0 new k' w → WholeTurns n old new k0 k' v0.told w.told
 ran_whole names n old new k0 k' v0 w rests r = record {
@@ -315,6 +315,9 @@ module _ (names : List (List ℕ)) (end : End) (old new : Sides) (k0 k' : Kind) 
   }
 
 -- ---- the work
+pub turns_at : {names : List (List ℕ)} {old new : Sides} {k k' : Kind} {v w : Place} (n m : ℕ) → n ≡ m → AreTurns names old k v n new k' w → AreTurns names old k v m new k' w
+turns_at {names} {old} {new} {k} {k'} {v} {w} n m e are = subst (λ (x : ℕ). AreTurns names old k v x new k' w) e are
+
 pub turns_as : (names : List (List ℕ)) (old new : Sides) (k k' : Kind) (v w : Place) (stops b : Bool) → stops ≡ b → IsTurn names old k v new k' w stops → IsTurn names old k v new k' w b
 turns_as names old new k k' v w stops b e turn = subst (λ (x : Bool). IsTurn names old k v new k' w x) e turn
 

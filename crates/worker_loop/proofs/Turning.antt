@@ -158,8 +158,8 @@ pub cuts_memory : (names : List (List ℕ)) (k k' : Kind) (v : Place) → Cuts n
 cuts_memory names k k' v = Midway ended.Memory [] v k' v NoneBegun refl (record { did = []; is = inl refl; becomes = refl })
 
 -- ---- a whole turn
-pub drained_as : (lent posts : List Post) (old new : Hand) → lent ≡ posts → new.ran ≡ old.ran ++ posts → new.ran ≡ old.ran ++ lent
-drained_as lent posts old new e ran = ran ∙ ap (λ (ps : List Post). old.ran ++ ps) (sym e)
+pub drained_as : (lent posts before after : List Post) → lent ≡ posts → after ≡ before ++ posts → after ≡ before ++ lent
+drained_as lent posts before after e ran = ran ∙ ap (λ (ps : List Post). before ++ ps) (sym e)
 
 pub allowed_as : (lent posts : List Post) → lent ≡ posts → All IsAllowed posts → All IsAllowed lent
 allowed_as lent posts e all = subst (λ (ps : List Post). All IsAllowed ps) (sym e) all

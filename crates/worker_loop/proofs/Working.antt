@@ -146,7 +146,7 @@ ran_more names n m a b c k0 k1 k2 v0 v1 v2 some one two =
 ran_suc : (n : ℕ) (names : List (List ℕ)) (old : Sides) (k0 : Kind) (v0 : Place) (new : Sides) (k : Kind) (v : Place) → Ran (n + 1) names old k0 v0 new k v → Ran (suc n) names old k0 v0 new k v
 ran_suc n names old k0 v0 new k v r = record { did = r.did; runs = r.runs; becomes = r.becomes; clock = r.clock; ran = r.ran; drained = r.drained; posts = r.posts; drains = omega (arith, r.drains); asks = omega (arith, r.asks); count = omega (arith, r.count); obeyed = λ rests most. let both = r.obeyed rests most in (both.0, λ less. both.1 (omega arith)) }
 
-pub turns_ran : {n : ℕ} {new : Sides} {k : Kind} {v : Place} (names : List (List ℕ)) (old : Sides) (k0 : Kind) (v0 : Place) → AreTurns names old k0 v0 n new k v → Ran n names old k0 v0 new k v
+pub turns_ran : (names : List (List ℕ)) (old : Sides) (k0 : Kind) (v0 : Place) {n : ℕ} {new : Sides} {k : Kind} {v : Place} → AreTurns names old k0 v0 n new k v → Ran n names old k0 v0 new k v
 turns_ran names old k0 v0 NoTurns = ran_none names old k0 v0
 turns_ran names old k0 v0 (More n mid new k1 k2 u w turns turn) =
     ran_suc n names old k0 v0 new k2 w (ran_more names n 1 old mid new k0 k1 k2 v0 u w (omega arith) (turns_ran names old k0 v0 turns) (ran_turn names mid new k1 k2 u w false turn))

@@ -5,9 +5,9 @@ ghost use Rattle.post_queue.specs.Pass as hands;
 ghost use Rattle.post_queue.specs.Posts.{IsAllowed};
 ghost use Rattle.shared_state.specs.Following.{looks};
 ghost use Rattle.shared_state.specs.PermitSeats.{view};
-ghost use Rattle.std.specs.Prelude.{◌<◌, ◌^◌, ◌≡◌, ◌≢◌, All, length};
+ghost use Rattle.std.specs.Prelude.{◌<◌, ◌^◌, ◌∷◌, ◌≡◌, ◌≢◌, All, [], length};
 ghost use Rattle.worker_core.specs.Sessions.{RestsWire};
-ghost use Rattle.worker_loop.specs.Carrying.{events_in, obeyed_event};
+ghost use Rattle.worker_loop.specs.Carrying.{events_in, obeyed_event, post_event};
 ghost use Rattle.worker_loop.specs.Clauses.{CarriesAs, RunsAs, TurnsAs};
 ghost use Rattle.worker_loop.specs.Keeping.{AreUpTo, Holds, Keeps, Rises};
 ghost use Rattle.worker_loop.specs.Parts.{AtWires, InTurns, Lines, Tape};
@@ -168,17 +168,40 @@ fn run_posts<W: Wires, J: Journal>(
 {
     let mut rest = posts;
     while let Some((post, after)) = rest.split_first() {
-        let event = Event::Post {
-            poster: post.poster,
-            number: post.number,
-            job: post.job,
-        };
-        carry_out(
-            core, permits, seat, held, wires, journal, names, pad, &event,
-        )?;
+        run_post(core, permits, seat, held, wires, journal, names, pad, post)?;
         rest = after;
     }
     Ok(())
+}
+
+// Dispatches a post.
+#[tactic(none)]
+fn run_post<W: Wires, J: Journal>(
+    core: &mut Core,
+    permits: &Permits,
+    seat: &mut PermitSeat,
+    held: &mut HeldPermits,
+    wires: &mut W,
+    journal: &mut J,
+    names: &Names,
+    pad: &mut Pad,
+    post: &Post,
+) -> Result<(), Ended>
+    requires core { RestsWire core.old.kind }
+    requires holds { Holds permits.now seat.old held.old }
+    requires post { IsAllowed post.now }
+    ensures carries { CarriesAs names.now (post_event post.now ∷ []) core.old.kind (place_of (J.contents journal.old) (J.told journal.old) (W.seen wires.old) held.old (view seat.old)) result core.new.kind (place_of (J.contents journal.new) (J.told journal.new) (W.seen wires.new) held.new (view seat.new)) }
+    ensures keeps { Keeps permits.now (W.seen wires.old) held.old (view seat.old) (W.seen wires.new) held.new seat.new }
+    ensures rises { Rises result (W.faults wires.old) (W.faults wires.new) (J.faults journal.old) (J.faults journal.new) }
+{
+    let event = Event::Post {
+        poster: post.poster,
+        number: post.number,
+        job: post.job,
+    };
+    carry_out(
+        core, permits, seat, held, wires, journal, names, pad, &event,
+    )
 }
 
 // Dispatches what the follower answered, where that is newer than what was obeyed last.

@@ -26,7 +26,7 @@ carry_out-requires-clause-holds g c = c.admits.ensures.holds
 
 pub returns-clause-takes : goal.returns-clause-takes
 returns-clause-takes g c =
-    let_in_as c.args.names.now c.args.conn c.args.core.now.kind c.args.permits.now (g.J.Sink.contents c.args.journal.now) (g.J.Journal.told c.args.journal.now) (g.W.Wires.seen c.args.wires.now) c.args.held.now c.admits.new.held (view c.args.seat.now) (view c.admits.new.seat) c.carry_out.result c.carry_out.new.core.kind (place_of (g.J.Sink.contents c.carry_out.new.journal) (g.J.Journal.told c.carry_out.new.journal) (g.W.Wires.seen c.carry_out.new.wires) c.carry_out.new.held (view c.carry_out.new.seat)) (admitted_as c.args.core.now.kind c.args.permits.now c.args.conn (view c.args.seat.now) (view c.admits.new.seat) c.args.held.now c.admits.new.held c.in_ok-taken.field-0 true c.if-not-taken.false c.in_ok-taken.ensures.admits) c.carry_out.ensures.carries
+    let_in_as c.args.names.now c.args.conn c.args.core.now.kind c.args.permits.now (g.J.Sink.contents c.args.journal.now) (g.J.Journal.told c.args.journal.now) (g.W.Wires.seen c.args.wires.now) c.args.held.now c.admits.new.held (view c.args.seat.now) (view c.admits.new.seat) c.carry_out.result c.carry_out.new.core.kind (place_of (g.J.Sink.contents c.carry_out.new.journal) (g.J.Journal.told c.carry_out.new.journal) (g.W.Wires.seen c.carry_out.new.wires) c.carry_out.new.held (view c.carry_out.new.seat)) (admitted_as c.args.core.now.kind c.args.permits.now c.args.conn (view c.args.seat.now) (view c.admits.new.seat) c.args.held.now c.admits.new.held c.in_ok-taken.taken true c.if-not-taken.false c.in_ok-taken.ensures.admits) c.carry_out.ensures.carries
 
 pub returns-clause-keeps : goal.returns-clause-keeps
 returns-clause-keeps g c =
@@ -37,7 +37,7 @@ returns-clause-rises g c = c.carry_out.ensures.rises
 
 pub returns-then-not-taken-clause-takes : goal.returns-then-not-taken-clause-takes
 returns-then-not-taken-clause-takes g c =
-    turned_away c.args.names.now c.args.conn c.args.core.now.kind c.args.permits.now (g.J.Sink.contents c.args.journal.now) (g.J.Journal.told c.args.journal.now) (g.W.Wires.seen c.args.wires.now) c.args.held.now c.admits.new.held (view c.args.seat.now) (view c.admits.new.seat) (g.W.Wires.seen c.close.new.self) c.requires.core c.close.ensures.closes (admitted_as c.args.core.now.kind c.args.permits.now c.args.conn (view c.args.seat.now) (view c.admits.new.seat) c.args.held.now c.admits.new.held c.in_ok-taken.field-0 false c.if-not-taken.true c.in_ok-taken.ensures.admits)
+    turned_away c.args.names.now c.args.conn c.args.core.now.kind c.args.permits.now (g.J.Sink.contents c.args.journal.now) (g.J.Journal.told c.args.journal.now) (g.W.Wires.seen c.args.wires.now) c.args.held.now c.admits.new.held (view c.args.seat.now) (view c.admits.new.seat) (g.W.Wires.seen c.close.new.self) c.requires.core c.close.ensures.closes (admitted_as c.args.core.now.kind c.args.permits.now c.args.conn (view c.args.seat.now) (view c.admits.new.seat) c.args.held.now c.admits.new.held c.in_ok-taken.taken false c.if-not-taken.true c.in_ok-taken.ensures.admits)
 
 pub returns-then-not-taken-clause-keeps : goal.returns-then-not-taken-clause-keeps
 returns-then-not-taken-clause-keeps g c =

@@ -4,7 +4,7 @@ use Rattle.shared_state.specs.Following.{looks}
 use Rattle.shared_state.specs.PermitSeats.{view}
 use Rattle.std.proofs.Common.{ap, arith, refl, ◌∙◌}
 use Rattle.std.specs.Prelude.{Err, false, true}
-use Rattle.worker_loop.proofs.Ending.{more_turns, part_core, part_lines, part_tape, part_turns, part_wires, turns_as, works_cut, works_stopped, works_whole}
+use Rattle.worker_loop.proofs.Ending.{more_turns, part_core, part_lines, part_tape, part_turns, part_wires, turns_as, turns_at, works_cut, works_stopped, works_whole}
 use Rattle.worker_loop.proofs.Keeping.{keeps_more, keeps_same, rose_later}
 use Rattle.worker_loop.proofs.Working.{works_end}
 use Rattle.worker_loop.specs.Places.{place_of}
@@ -109,22 +109,22 @@ pub returns-in-Err-clause-journal_fault : goal.returns-in-Err-clause-journal_fau
 returns-in-Err-clause-journal_fault g c = λ e. rose_later (g.J.Sink.faults c.args.journal.now) (g.J.Sink.faults c.turns.journal) (g.J.Sink.faults c.take_turn.new.journal) c.turns.invariant.journal (c.in-Err.ensures.rises.journal_fault (ap (λ (x : End). Err x) e))
 
 pub returns-clause-works : goal.returns-clause-works
-returns-clause-works g c = c.turns.invariant.turns
+returns-clause-works g c = (turns_at c.turns.turn c.args.turns (omega arith) c.turns.invariant.turns)
 
 pub returns-clause-core : goal.returns-clause-core
-returns-clause-core g c = part_core c.args.names.now ended.Turns (sides_of (g.C.Clock.moments c.args.clock.now) (hands.view c.args.pass.now.pass) (looks c.args.follower.now) c.args.follower.now.kept) (sides_of (g.C.Clock.moments c.turns.clock) (hands.view c.turns.pass.pass) (looks c.turns.follower) c.turns.follower.kept) c.args.core.now.kind c.turns.core.kind (place_of (g.J.Sink.contents c.args.journal.now) (g.J.Journal.told c.args.journal.now) (g.W.Wires.seen c.args.wires.now) c.args.held.now (view c.args.seat.now)) (place_of (g.J.Sink.contents c.turns.journal) (g.J.Journal.told c.turns.journal) (g.W.Wires.seen c.turns.wires) c.turns.held (view c.turns.seat)) (works_end c.args.names.now (sides_of (g.C.Clock.moments c.args.clock.now) (hands.view c.args.pass.now.pass) (looks c.args.follower.now) c.args.follower.now.kept) (sides_of (g.C.Clock.moments c.turns.clock) (hands.view c.turns.pass.pass) (looks c.turns.follower) c.turns.follower.kept) c.args.core.now.kind c.turns.core.kind (place_of (g.J.Sink.contents c.args.journal.now) (g.J.Journal.told c.args.journal.now) (g.W.Wires.seen c.args.wires.now) c.args.held.now (view c.args.seat.now)) (place_of (g.J.Sink.contents c.turns.journal) (g.J.Journal.told c.turns.journal) (g.W.Wires.seen c.turns.wires) c.turns.held (view c.turns.seat)) c.args.turns ended.Turns c.turns.invariant.turns) c.requires.core
+returns-clause-core g c = part_core c.args.names.now ended.Turns (sides_of (g.C.Clock.moments c.args.clock.now) (hands.view c.args.pass.now.pass) (looks c.args.follower.now) c.args.follower.now.kept) (sides_of (g.C.Clock.moments c.turns.clock) (hands.view c.turns.pass.pass) (looks c.turns.follower) c.turns.follower.kept) c.args.core.now.kind c.turns.core.kind (place_of (g.J.Sink.contents c.args.journal.now) (g.J.Journal.told c.args.journal.now) (g.W.Wires.seen c.args.wires.now) c.args.held.now (view c.args.seat.now)) (place_of (g.J.Sink.contents c.turns.journal) (g.J.Journal.told c.turns.journal) (g.W.Wires.seen c.turns.wires) c.turns.held (view c.turns.seat)) (works_end c.args.names.now (sides_of (g.C.Clock.moments c.args.clock.now) (hands.view c.args.pass.now.pass) (looks c.args.follower.now) c.args.follower.now.kept) (sides_of (g.C.Clock.moments c.turns.clock) (hands.view c.turns.pass.pass) (looks c.turns.follower) c.turns.follower.kept) c.args.core.now.kind c.turns.core.kind (place_of (g.J.Sink.contents c.args.journal.now) (g.J.Journal.told c.args.journal.now) (g.W.Wires.seen c.args.wires.now) c.args.held.now (view c.args.seat.now)) (place_of (g.J.Sink.contents c.turns.journal) (g.J.Journal.told c.turns.journal) (g.W.Wires.seen c.turns.wires) c.turns.held (view c.turns.seat)) c.args.turns ended.Turns (turns_at c.turns.turn c.args.turns (omega arith) c.turns.invariant.turns)) c.requires.core
 
 pub returns-clause-lines : goal.returns-clause-lines
-returns-clause-lines g c = part_lines c.args.names.now ended.Turns (sides_of (g.C.Clock.moments c.args.clock.now) (hands.view c.args.pass.now.pass) (looks c.args.follower.now) c.args.follower.now.kept) (sides_of (g.C.Clock.moments c.turns.clock) (hands.view c.turns.pass.pass) (looks c.turns.follower) c.turns.follower.kept) c.args.core.now.kind c.turns.core.kind (place_of (g.J.Sink.contents c.args.journal.now) (g.J.Journal.told c.args.journal.now) (g.W.Wires.seen c.args.wires.now) c.args.held.now (view c.args.seat.now)) (place_of (g.J.Sink.contents c.turns.journal) (g.J.Journal.told c.turns.journal) (g.W.Wires.seen c.turns.wires) c.turns.held (view c.turns.seat)) (works_end c.args.names.now (sides_of (g.C.Clock.moments c.args.clock.now) (hands.view c.args.pass.now.pass) (looks c.args.follower.now) c.args.follower.now.kept) (sides_of (g.C.Clock.moments c.turns.clock) (hands.view c.turns.pass.pass) (looks c.turns.follower) c.turns.follower.kept) c.args.core.now.kind c.turns.core.kind (place_of (g.J.Sink.contents c.args.journal.now) (g.J.Journal.told c.args.journal.now) (g.W.Wires.seen c.args.wires.now) c.args.held.now (view c.args.seat.now)) (place_of (g.J.Sink.contents c.turns.journal) (g.J.Journal.told c.turns.journal) (g.W.Wires.seen c.turns.wires) c.turns.held (view c.turns.seat)) c.args.turns ended.Turns c.turns.invariant.turns) c.requires.core
+returns-clause-lines g c = part_lines c.args.names.now ended.Turns (sides_of (g.C.Clock.moments c.args.clock.now) (hands.view c.args.pass.now.pass) (looks c.args.follower.now) c.args.follower.now.kept) (sides_of (g.C.Clock.moments c.turns.clock) (hands.view c.turns.pass.pass) (looks c.turns.follower) c.turns.follower.kept) c.args.core.now.kind c.turns.core.kind (place_of (g.J.Sink.contents c.args.journal.now) (g.J.Journal.told c.args.journal.now) (g.W.Wires.seen c.args.wires.now) c.args.held.now (view c.args.seat.now)) (place_of (g.J.Sink.contents c.turns.journal) (g.J.Journal.told c.turns.journal) (g.W.Wires.seen c.turns.wires) c.turns.held (view c.turns.seat)) (works_end c.args.names.now (sides_of (g.C.Clock.moments c.args.clock.now) (hands.view c.args.pass.now.pass) (looks c.args.follower.now) c.args.follower.now.kept) (sides_of (g.C.Clock.moments c.turns.clock) (hands.view c.turns.pass.pass) (looks c.turns.follower) c.turns.follower.kept) c.args.core.now.kind c.turns.core.kind (place_of (g.J.Sink.contents c.args.journal.now) (g.J.Journal.told c.args.journal.now) (g.W.Wires.seen c.args.wires.now) c.args.held.now (view c.args.seat.now)) (place_of (g.J.Sink.contents c.turns.journal) (g.J.Journal.told c.turns.journal) (g.W.Wires.seen c.turns.wires) c.turns.held (view c.turns.seat)) c.args.turns ended.Turns (turns_at c.turns.turn c.args.turns (omega arith) c.turns.invariant.turns)) c.requires.core
 
 pub returns-clause-tape : goal.returns-clause-tape
-returns-clause-tape g c = part_tape c.args.names.now ended.Turns (sides_of (g.C.Clock.moments c.args.clock.now) (hands.view c.args.pass.now.pass) (looks c.args.follower.now) c.args.follower.now.kept) (sides_of (g.C.Clock.moments c.turns.clock) (hands.view c.turns.pass.pass) (looks c.turns.follower) c.turns.follower.kept) c.args.core.now.kind c.turns.core.kind (place_of (g.J.Sink.contents c.args.journal.now) (g.J.Journal.told c.args.journal.now) (g.W.Wires.seen c.args.wires.now) c.args.held.now (view c.args.seat.now)) (place_of (g.J.Sink.contents c.turns.journal) (g.J.Journal.told c.turns.journal) (g.W.Wires.seen c.turns.wires) c.turns.held (view c.turns.seat)) (works_end c.args.names.now (sides_of (g.C.Clock.moments c.args.clock.now) (hands.view c.args.pass.now.pass) (looks c.args.follower.now) c.args.follower.now.kept) (sides_of (g.C.Clock.moments c.turns.clock) (hands.view c.turns.pass.pass) (looks c.turns.follower) c.turns.follower.kept) c.args.core.now.kind c.turns.core.kind (place_of (g.J.Sink.contents c.args.journal.now) (g.J.Journal.told c.args.journal.now) (g.W.Wires.seen c.args.wires.now) c.args.held.now (view c.args.seat.now)) (place_of (g.J.Sink.contents c.turns.journal) (g.J.Journal.told c.turns.journal) (g.W.Wires.seen c.turns.wires) c.turns.held (view c.turns.seat)) c.args.turns ended.Turns c.turns.invariant.turns) c.requires.core
+returns-clause-tape g c = part_tape c.args.names.now ended.Turns (sides_of (g.C.Clock.moments c.args.clock.now) (hands.view c.args.pass.now.pass) (looks c.args.follower.now) c.args.follower.now.kept) (sides_of (g.C.Clock.moments c.turns.clock) (hands.view c.turns.pass.pass) (looks c.turns.follower) c.turns.follower.kept) c.args.core.now.kind c.turns.core.kind (place_of (g.J.Sink.contents c.args.journal.now) (g.J.Journal.told c.args.journal.now) (g.W.Wires.seen c.args.wires.now) c.args.held.now (view c.args.seat.now)) (place_of (g.J.Sink.contents c.turns.journal) (g.J.Journal.told c.turns.journal) (g.W.Wires.seen c.turns.wires) c.turns.held (view c.turns.seat)) (works_end c.args.names.now (sides_of (g.C.Clock.moments c.args.clock.now) (hands.view c.args.pass.now.pass) (looks c.args.follower.now) c.args.follower.now.kept) (sides_of (g.C.Clock.moments c.turns.clock) (hands.view c.turns.pass.pass) (looks c.turns.follower) c.turns.follower.kept) c.args.core.now.kind c.turns.core.kind (place_of (g.J.Sink.contents c.args.journal.now) (g.J.Journal.told c.args.journal.now) (g.W.Wires.seen c.args.wires.now) c.args.held.now (view c.args.seat.now)) (place_of (g.J.Sink.contents c.turns.journal) (g.J.Journal.told c.turns.journal) (g.W.Wires.seen c.turns.wires) c.turns.held (view c.turns.seat)) c.args.turns ended.Turns (turns_at c.turns.turn c.args.turns (omega arith) c.turns.invariant.turns)) c.requires.core
 
 pub returns-clause-wires : goal.returns-clause-wires
-returns-clause-wires g c = part_wires c.args.names.now ended.Turns (sides_of (g.C.Clock.moments c.args.clock.now) (hands.view c.args.pass.now.pass) (looks c.args.follower.now) c.args.follower.now.kept) (sides_of (g.C.Clock.moments c.turns.clock) (hands.view c.turns.pass.pass) (looks c.turns.follower) c.turns.follower.kept) c.args.core.now.kind c.turns.core.kind (place_of (g.J.Sink.contents c.args.journal.now) (g.J.Journal.told c.args.journal.now) (g.W.Wires.seen c.args.wires.now) c.args.held.now (view c.args.seat.now)) (place_of (g.J.Sink.contents c.turns.journal) (g.J.Journal.told c.turns.journal) (g.W.Wires.seen c.turns.wires) c.turns.held (view c.turns.seat)) (works_end c.args.names.now (sides_of (g.C.Clock.moments c.args.clock.now) (hands.view c.args.pass.now.pass) (looks c.args.follower.now) c.args.follower.now.kept) (sides_of (g.C.Clock.moments c.turns.clock) (hands.view c.turns.pass.pass) (looks c.turns.follower) c.turns.follower.kept) c.args.core.now.kind c.turns.core.kind (place_of (g.J.Sink.contents c.args.journal.now) (g.J.Journal.told c.args.journal.now) (g.W.Wires.seen c.args.wires.now) c.args.held.now (view c.args.seat.now)) (place_of (g.J.Sink.contents c.turns.journal) (g.J.Journal.told c.turns.journal) (g.W.Wires.seen c.turns.wires) c.turns.held (view c.turns.seat)) c.args.turns ended.Turns c.turns.invariant.turns) c.requires.core
+returns-clause-wires g c = part_wires c.args.names.now ended.Turns (sides_of (g.C.Clock.moments c.args.clock.now) (hands.view c.args.pass.now.pass) (looks c.args.follower.now) c.args.follower.now.kept) (sides_of (g.C.Clock.moments c.turns.clock) (hands.view c.turns.pass.pass) (looks c.turns.follower) c.turns.follower.kept) c.args.core.now.kind c.turns.core.kind (place_of (g.J.Sink.contents c.args.journal.now) (g.J.Journal.told c.args.journal.now) (g.W.Wires.seen c.args.wires.now) c.args.held.now (view c.args.seat.now)) (place_of (g.J.Sink.contents c.turns.journal) (g.J.Journal.told c.turns.journal) (g.W.Wires.seen c.turns.wires) c.turns.held (view c.turns.seat)) (works_end c.args.names.now (sides_of (g.C.Clock.moments c.args.clock.now) (hands.view c.args.pass.now.pass) (looks c.args.follower.now) c.args.follower.now.kept) (sides_of (g.C.Clock.moments c.turns.clock) (hands.view c.turns.pass.pass) (looks c.turns.follower) c.turns.follower.kept) c.args.core.now.kind c.turns.core.kind (place_of (g.J.Sink.contents c.args.journal.now) (g.J.Journal.told c.args.journal.now) (g.W.Wires.seen c.args.wires.now) c.args.held.now (view c.args.seat.now)) (place_of (g.J.Sink.contents c.turns.journal) (g.J.Journal.told c.turns.journal) (g.W.Wires.seen c.turns.wires) c.turns.held (view c.turns.seat)) c.args.turns ended.Turns (turns_at c.turns.turn c.args.turns (omega arith) c.turns.invariant.turns)) c.requires.core
 
 pub returns-clause-turns : goal.returns-clause-turns
-returns-clause-turns g c = part_turns c.args.names.now ended.Turns (sides_of (g.C.Clock.moments c.args.clock.now) (hands.view c.args.pass.now.pass) (looks c.args.follower.now) c.args.follower.now.kept) (sides_of (g.C.Clock.moments c.turns.clock) (hands.view c.turns.pass.pass) (looks c.turns.follower) c.turns.follower.kept) c.args.core.now.kind c.turns.core.kind (place_of (g.J.Sink.contents c.args.journal.now) (g.J.Journal.told c.args.journal.now) (g.W.Wires.seen c.args.wires.now) c.args.held.now (view c.args.seat.now)) (place_of (g.J.Sink.contents c.turns.journal) (g.J.Journal.told c.turns.journal) (g.W.Wires.seen c.turns.wires) c.turns.held (view c.turns.seat)) (works_end c.args.names.now (sides_of (g.C.Clock.moments c.args.clock.now) (hands.view c.args.pass.now.pass) (looks c.args.follower.now) c.args.follower.now.kept) (sides_of (g.C.Clock.moments c.turns.clock) (hands.view c.turns.pass.pass) (looks c.turns.follower) c.turns.follower.kept) c.args.core.now.kind c.turns.core.kind (place_of (g.J.Sink.contents c.args.journal.now) (g.J.Journal.told c.args.journal.now) (g.W.Wires.seen c.args.wires.now) c.args.held.now (view c.args.seat.now)) (place_of (g.J.Sink.contents c.turns.journal) (g.J.Journal.told c.turns.journal) (g.W.Wires.seen c.turns.wires) c.turns.held (view c.turns.seat)) c.args.turns ended.Turns c.turns.invariant.turns) c.requires.core c.args.turns (works_whole c.args.names.now c.args.turns (sides_of (g.C.Clock.moments c.args.clock.now) (hands.view c.args.pass.now.pass) (looks c.args.follower.now) c.args.follower.now.kept) (sides_of (g.C.Clock.moments c.turns.clock) (hands.view c.turns.pass.pass) (looks c.turns.follower) c.turns.follower.kept) c.args.core.now.kind c.turns.core.kind (place_of (g.J.Sink.contents c.args.journal.now) (g.J.Journal.told c.args.journal.now) (g.W.Wires.seen c.args.wires.now) c.args.held.now (view c.args.seat.now)) (place_of (g.J.Sink.contents c.turns.journal) (g.J.Journal.told c.turns.journal) (g.W.Wires.seen c.turns.wires) c.turns.held (view c.turns.seat)) ended.Turns c.turns.invariant.turns)
+returns-clause-turns g c = part_turns c.args.names.now ended.Turns (sides_of (g.C.Clock.moments c.args.clock.now) (hands.view c.args.pass.now.pass) (looks c.args.follower.now) c.args.follower.now.kept) (sides_of (g.C.Clock.moments c.turns.clock) (hands.view c.turns.pass.pass) (looks c.turns.follower) c.turns.follower.kept) c.args.core.now.kind c.turns.core.kind (place_of (g.J.Sink.contents c.args.journal.now) (g.J.Journal.told c.args.journal.now) (g.W.Wires.seen c.args.wires.now) c.args.held.now (view c.args.seat.now)) (place_of (g.J.Sink.contents c.turns.journal) (g.J.Journal.told c.turns.journal) (g.W.Wires.seen c.turns.wires) c.turns.held (view c.turns.seat)) (works_end c.args.names.now (sides_of (g.C.Clock.moments c.args.clock.now) (hands.view c.args.pass.now.pass) (looks c.args.follower.now) c.args.follower.now.kept) (sides_of (g.C.Clock.moments c.turns.clock) (hands.view c.turns.pass.pass) (looks c.turns.follower) c.turns.follower.kept) c.args.core.now.kind c.turns.core.kind (place_of (g.J.Sink.contents c.args.journal.now) (g.J.Journal.told c.args.journal.now) (g.W.Wires.seen c.args.wires.now) c.args.held.now (view c.args.seat.now)) (place_of (g.J.Sink.contents c.turns.journal) (g.J.Journal.told c.turns.journal) (g.W.Wires.seen c.turns.wires) c.turns.held (view c.turns.seat)) c.args.turns ended.Turns (turns_at c.turns.turn c.args.turns (omega arith) c.turns.invariant.turns)) c.requires.core c.args.turns (works_whole c.args.names.now c.args.turns (sides_of (g.C.Clock.moments c.args.clock.now) (hands.view c.args.pass.now.pass) (looks c.args.follower.now) c.args.follower.now.kept) (sides_of (g.C.Clock.moments c.turns.clock) (hands.view c.turns.pass.pass) (looks c.turns.follower) c.turns.follower.kept) c.args.core.now.kind c.turns.core.kind (place_of (g.J.Sink.contents c.args.journal.now) (g.J.Journal.told c.args.journal.now) (g.W.Wires.seen c.args.wires.now) c.args.held.now (view c.args.seat.now)) (place_of (g.J.Sink.contents c.turns.journal) (g.J.Journal.told c.turns.journal) (g.W.Wires.seen c.turns.wires) c.turns.held (view c.turns.seat)) ended.Turns (turns_at c.turns.turn c.args.turns (omega arith) c.turns.invariant.turns))
 
 pub returns-clause-pass : goal.returns-clause-pass
 returns-clause-pass g c = c.turns.invariant.pass
