@@ -4,8 +4,11 @@ ghost use Rattle.mem_ports.specs.Memory.{seen_of};
 ghost use Rattle.post_queue.specs.Clauses.{IsRunnerOf};
 ghost use Rattle.post_queue.specs.Posts.{IsAllowedJob};
 ghost use Rattle.proxy_config.specs.Ranges.{IsInRange};
+ghost use Rattle.shared_state.specs.Following.{IsNewFollower, followers_in};
 ghost use Rattle.shared_state.specs.PermitSeats.{IsSeatOf};
-ghost use Rattle.std.specs.Prelude.{◌≡◌, ◌≤◌, IfOk, length, true};
+ghost use Rattle.shared_state.specs.States.{resources_of};
+ghost use Rattle.std.specs.Arc.{arc_value};
+ghost use Rattle.std.specs.Prelude.{◌≡◌, ◌≤◌, All, IfOk, IfSome, length, true};
 
 use crate::case::Case;
 use crate::script::Script;
@@ -15,7 +18,7 @@ use mem_ports::{MemClock, MemWires, Room};
 use post_queue::{PostBox, RunnerPass};
 use proxy_config::Config;
 use session_config::names_of;
-use shared_state::{Follower, PermitSeat, Permits, make_shared};
+use shared_state::{Follower, Followers, PermitSeat, Permits, Publisher, Told, make_shared};
 use std::alloc::Global;
 use std::collections::VecDeque;
 use std::mem;
@@ -117,7 +120,7 @@ fn is_allowed(job: Job) -> bool
     }
 }
 
-// A follower of these states. One that doesn't have a pressure for each resource isn't published.
+// A follower that has learnt what was published last.
 fn published<R: AllocGlobal + Wait>(
     rt: &R,
     config: &Config,
@@ -125,18 +128,43 @@ fn published<R: AllocGlobal + Wait>(
 ) -> Result<Follower, NoMemory>
     requires { length config.now.overload.resources ≤ 16 }
 {
-    let (mut publisher, mut followers) = make_shared(rt, rt.alloc(), config, 1)?;
+    let (publisher, mut followers) = make_shared(rt, rt.alloc(), config, 1)?;
+    let Some(mut follower) = follower_of(&publisher, &mut followers) else {
+        publisher.end(rt);
+        return Err(NoMemory);
+    };
     let resources = config.overload.resources.as_slice().len();
+    let told = publish_all(rt, publisher, resources, states);
+    follower.learn(told);
+    Ok(follower)
+}
+
+fn follower_of(publisher: &Publisher, followers: &mut Followers) -> Option<Follower>
+    requires { All (IsNewFollower (arc_value publisher.now.board)) (followers_in followers.old) }
+    ensures { IfSome result (λ f. f.seat.table_id ≡ publisher.now.seat.table_id) }
+{
+    let _ = publisher;
+    followers.take_one()
+}
+
+// Publishes these states, but for one that doesn't have a pressure for each resource, and tells the last.
+fn publish_all<R: Wait>(
+    rt: &R,
+    mut publisher: Publisher,
+    resources: usize,
+    states: &[PressureList],
+) -> Told
+    requires { resources ≡ resources_of publisher }
+    ensures { result.seat.table_id ≡ publisher.seat.table_id }
+{
     for pressures in states {
         if pressures.as_slice().len() == resources {
             let _ = publisher.publish(rt, pressures.as_slice());
         }
     }
+    let told = publisher.tell();
     publisher.end(rt);
-    match followers.take_one() {
-        Some(follower) => Ok(follower),
-        None => Err(NoMemory),
-    }
+    told
 }
 
 fn permitted(alloc: Global, permits: u64) -> Result<(Permits, PermitSeat), NoMemory>
