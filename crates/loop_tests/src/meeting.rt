@@ -1,10 +1,17 @@
 //! Two workers that wait for each other, so that neither can be run before the other.
+ghost use Rattle.loop_tests.specs.Meetings.{in_memory};
+ghost use Rattle.mem_ports.specs.Memory.{seen_of};
+ghost use Rattle.shared_state.specs.PermitSeats.{IsNewSeat, IsSeatOf, seats_in};
+ghost use Rattle.std.specs.Prelude.{◌≡◌, ◌<◌, All, IfOk, IfSome, [], length, slice_index_or, ℕ};
+ghost use Rattle.worker_threads.specs.Starting.{IsNew, IsReady};
+
+use flow_notes::Names;
 use io_ports::{MemSink, NoMemory};
 use mem_ports::{MemClock, MemWires, Room};
 use post_queue::PostBox;
 use proxy_config::Config;
 use session_config::names_of;
-use shared_state::{Follower, PermitSeat, Permits, make_shared};
+use shared_state::{Follower, PermitSeat, PermitSeats, Permits, make_shared};
 use std::alloc::Global;
 use std::collections::VecDeque;
 use std::sync::atomic::{AtomicU64, Ordering};
@@ -53,25 +60,25 @@ impl Gate for Meets {
     }
 }
 
-// A worker whose connections give nothing.
+// A worker whose connections give nothing, and its box of posts.
 fn worker_of(
     alloc: Global,
-    posts: &mut Vec<PostBox>,
+    names: &Names,
+    permits: &Permits,
     follower: Follower,
     seat: PermitSeat,
     gate: Meets,
-) -> Result<Meeting, NoMemory> {
+) -> Result<(Meeting, PostBox), NoMemory>
+    requires { IsSeatOf permits.now seat }
+    ensures { IfOk result (λ made. IsNew in_memory permits.now names.now made.1 made.0) }
+{
     let (posted, _posters, pass) = PostBox::new(alloc, 1)?;
-    posts.push(posted)?;
-    let room = Room {
-        offers: 1,
-        octets: 1,
-    };
-    let wires = MemWires::new(alloc, 0, VecDeque::new(alloc), room, Vec::new(alloc));
+    let wires = wires_of(alloc, names)?;
     let sink = MemSink::new(alloc, 1_000, Vec::new(alloc))?;
     let config = Config::of_defaults(alloc)?;
     let core = Core::new(alloc, config)?;
-    Ok(Worker {
+    let _ = permits;
+    let worker = Worker {
         core,
         pass,
         follower,
@@ -82,11 +89,27 @@ fn worker_of(
         gate,
         journal: MemJournal::new(alloc, sink),
         ended: None,
-    })
+    };
+    Ok((worker, posted))
+}
+
+fn wires_of(alloc: Global, names: &Names) -> Result<MemWires, NoMemory>
+    ensures { IfOk result (λ wires. (seen_of wires).clusters ≡ length names.now) }
+{
+    let Ok(clusters) = u32::try_from(names.len()) else {
+        return Err(NoMemory);
+    };
+    let room = Room {
+        offers: 1,
+        octets: 1,
+    };
+    Ok(MemWires::new(alloc, clusters, VecDeque::new(alloc), room, Vec::new(alloc)))
 }
 
 // Ends a worker, and tells whether it met the other and ran all its turns.
-fn end_worker(permits: &Permits, worker: Meeting) -> bool {
+fn end_worker(permits: &Permits, worker: Meeting) -> bool
+    requires { IsSeatOf permits.now worker.seat × (worker.held ≡ []) }
+{
     let Worker {
         core: _core,
         pass: _pass,
@@ -103,26 +126,6 @@ fn end_worker(permits: &Permits, worker: Meeting) -> bool {
     gate.met && ended == Some(Ended::Turns)
 }
 
-// Two such workers.
-fn both(
-    alloc: Global,
-    permits: &Permits,
-    posts: &mut Vec<PostBox>,
-    first: (Follower, PermitSeat, Meets),
-    second: (Follower, PermitSeat, Meets),
-) -> Result<(Meeting, Meeting), NoMemory> {
-    let (follower, seat, gate) = first;
-    let first = worker_of(alloc, posts, follower, seat, gate)?;
-    let (follower, seat, gate) = second;
-    match worker_of(alloc, posts, follower, seat, gate) {
-        Ok(second) => Ok((first, second)),
-        Err(NoMemory) => {
-            end_worker(permits, first);
-            Err(NoMemory)
-        }
-    }
-}
-
 // Runs the two, and tells whether each met the other.
 fn run_both<R: Threads + Wait + Sync>(
     rt: &R,
@@ -130,13 +133,29 @@ fn run_both<R: Threads + Wait + Sync>(
     shared: &Shared,
     first: Meeting,
     second: Meeting,
-) -> (bool, bool) {
+) -> (bool, bool)
+    requires first { IsReady in_memory shared.now 0 first }
+    requires second { IsReady in_memory shared.now 1 second }
+{
     let mut workers = [first, second];
-    let started = start_workers(rt, alloc, shared, &mut workers, TURNS).is_ok();
+    let started = started(rt, alloc, shared, &mut workers);
     let [first, second] = workers;
     let met = end_worker(&shared.permits, first);
     let other_met = end_worker(&shared.permits, second);
     (started && met, started && other_met)
+}
+
+fn started<R: Threads + Wait + Sync>(
+    rt: &R,
+    alloc: Global,
+    shared: &Shared,
+    workers: &mut [Meeting],
+) -> bool
+    requires { (i : ℕ) (w : _) → i < length workers.old → IsReady in_memory shared.now i (slice_index_or workers.old i w) }
+    ensures len { length workers.new ≡ length workers.old }
+    ensures each { (i : ℕ) (w : _) → i < length workers.old → IsSeatOf shared.now.permits (slice_index_or workers.new i w).seat × ((slice_index_or workers.new i w).held ≡ []) }
+{
+    start_workers(rt, alloc, shared, workers, TURNS).is_ok()
 }
 
 // A gate at which a worker waits until the other has passed this turn.
@@ -155,36 +174,65 @@ fn gate_of(
     })
 }
 
-#[test]
-fn two_workers_meet(rt: HostRuntime) -> Result<(), Fail> {
-    let alloc = rt.alloc();
-    let one = Arc::new(alloc, AtomicU64::new(0))?;
-    let two = Arc::new(alloc, AtomicU64::new(0))?;
+// A seat that wasn't given out yet.
+fn seat_of(permits: &Permits, seats: &mut PermitSeats) -> Option<PermitSeat>
+    requires { All (IsNewSeat permits.now) (seats_in seats.old) }
+    ensures seat { IfSome result (IsSeatOf permits.now) }
+    ensures others { All (IsNewSeat permits.now) (seats_in seats.new) }
+{
+    let _ = permits;
+    seats.take_one()
+}
+
+// Runs two workers with these gates, and tells whether each met the other.
+fn meet<R: Threads + Wait + Sync>(
+    rt: &R,
+    alloc: Global,
+    first_gate: Meets,
+    second_gate: Meets,
+) -> Result<(bool, bool), NoMemory> {
     let config = Config::of_defaults(alloc)?;
     let names = names_of(alloc, &config)?;
     let (permits, mut seats) = Permits::new(alloc, 1, 2)?;
-    let (publisher, mut followers) = make_shared(&rt, alloc, &config, 2)?;
-    publisher.end(&rt);
-    let (Some(first_follower), Some(second_follower)) = (followers.take_one(), followers.take_one())
+    let (Some(one), Some(two)) = (seat_of(&permits, &mut seats), seat_of(&permits, &mut seats))
     else {
-        unreachable!()
+        return Err(NoMemory);
     };
-    let (Some(first_seat), Some(second_seat)) = (seats.take_one(), seats.take_one()) else {
-        unreachable!()
+    let (publisher, mut followers) = make_shared(rt, alloc, &config, 2)?;
+    publisher.end(rt);
+    let (Some(first), Some(second)) = (followers.take_one(), followers.take_one()) else {
+        return Err(NoMemory);
     };
-    // Worker 1 waits in its first turn until worker 2 has passed its second, and worker 2 in its third until worker 1 has.
-    let first_gate = gate_of(&one, &two, 1, 2)?;
-    let second_gate = gate_of(&two, &one, 3, 2)?;
-    let mut posts = Vec::new(alloc);
-    let first = (first_follower, first_seat, first_gate);
-    let second = (second_follower, second_seat, second_gate);
-    let (first, second) = both(alloc, &permits, &mut posts, first, second)?;
+    let mut posts = Vec::with_capacity(alloc, 2)?;
+    let (first, posted) = worker_of(alloc, &names, &permits, first, one, first_gate)?;
+    posts.push_reserved(posted);
+    let second = match worker_of(alloc, &names, &permits, second, two, second_gate) {
+        Ok((second, posted)) => {
+            posts.push_reserved(posted);
+            second
+        }
+        Err(NoMemory) => {
+            end_worker(&permits, first);
+            return Err(NoMemory);
+        }
+    };
     let shared = Shared {
         posts,
         permits,
         names,
     };
-    let (first_met, second_met) = run_both(&rt, alloc, &shared, first, second);
+    Ok(run_both(rt, alloc, &shared, first, second))
+}
+
+#[test]
+fn two_workers_meet(rt: HostRuntime) -> Result<(), Fail> {
+    let alloc = rt.alloc();
+    let one = Arc::new(alloc, AtomicU64::new(0))?;
+    let two = Arc::new(alloc, AtomicU64::new(0))?;
+    // Worker 1 waits in its first turn until worker 2 has passed its second, and worker 2 in its third until worker 1 has.
+    let first_gate = gate_of(&one, &two, 1, 2)?;
+    let second_gate = gate_of(&two, &one, 3, 2)?;
+    let (first_met, second_met) = meet(&rt, alloc, first_gate, second_gate)?;
     assert!(rt; first_met);
     assert!(rt; second_met);
     Ok(())

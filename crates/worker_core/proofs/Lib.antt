@@ -1,4 +1,3 @@
 pub mod Agendas
 pub mod Answering
-pub mod Resting
 pub mod Turning

@@ -1,5 +1,6 @@
 -- What each of several workers did.
 use Rattle.flow_notes.specs.declared.notes.Note.{Note}
+use Rattle.io_ports.specs.Faults.{Rose}
 use Rattle.post_queue.specs.Clauses.{IsRunnerOf}
 use Rattle.post_queue.specs.Pass as hands
 use Rattle.post_queue.specs.declared.passes.RunnerPass.{RunnerPass}
@@ -7,6 +8,7 @@ use Rattle.post_queue.specs.declared.post_box.PostBox.{PostBox}
 use Rattle.shared_state.specs.Following.{looks}
 use Rattle.shared_state.specs.PermitSeats.{IsSeatOf, view}
 use Rattle.shared_state.specs.declared.permits.PermitSeat.{PermitSeat}
+use Rattle.shared_state.specs.declared.permits.Permits.{Permits}
 use Rattle.std.specs.Prelude.{IsSomeAnd, List, Option, Some, [], length, slice_get, slice_index_or, ℕ, ◌<◌, ◌≡◌, ◌≢◌}
 use Rattle.worker_core.specs.Sessions.{RestsWire}
 use Rattle.worker_loop.specs.Keeping.{AreUpTo, Holds, Keeps}
@@ -20,12 +22,14 @@ use Rattle.worker_ports.specs.Wires.{Seen}
 use Rattle.worker_threads.specs.declared.worker.Shared.{Shared}
 use Rattle.worker_threads.specs.declared.worker.Worker.{Worker}
 
--- what is told of connections, clocks and journals
+-- what is told of connections, clocks and journals, and how many of their calls failed
 pub record Outside (W C J : Type 0) : Type 0 where
   pub seen : W → Seen
   pub moments : C → Option (List ℕ)
   pub text : J → Option (List ℕ)
   pub told : J → Option (List Note)
+  pub wires_faults : W → ℕ
+  pub journal_faults : J → ℕ
 
 -- the pass is of the box at this place
 abbrev pub IsRunnerAt : Shared → ℕ → RunnerPass → Type 0
@@ -51,6 +55,14 @@ module _ {W C G J : Type 0} (o : Outside W C J) where
     pub names : (o.seen w.wires).clusters ≡ length shared.names
     pub below : AreUpTo (o.seen w.wires).greatest w.held
 
+  -- it is new: it has this box, and keeps no permit
+  pub record IsNew (permits : Permits) (names : List (List ℕ)) (box : PostBox) (w : Worker W C G J) : Type 0 where
+    pub core : RestsWire w.core.kind
+    pub seat : IsSeatOf permits w.seat
+    pub held : w.held ≡ []
+    pub pass : IsRunnerOf box w.pass
+    pub names_are : (o.seen w.wires).clusters ≡ length names
+
   -- it did one work, and then the permits that it kept were given back
   pub record Worked (shared : Shared) (place turns : ℕ) (old : Worker W C G J) (end : Ended) (new : Worker W C G J) : Type 0 where
     pub held : List ℕ
@@ -62,6 +74,8 @@ module _ {W C G J : Type 0} (o : Outside W C J) where
     pub none : new.held ≡ []
     pub given_back : view new.seat ≡ with_fewer (length held) 0 (view seat)
     pub is_seat : IsSeatOf shared.permits new.seat
+    pub wires_fault : end ≡ ended.WiresFault → Rose (o.wires_faults old.wires) (o.wires_faults new.wires)
+    pub journal_fault : end ≡ ended.JournalFault → Rose (o.journal_faults old.journal) (o.journal_faults new.journal)
 
   -- and it ended so
   abbrev pub HasWorked : Shared → ℕ → ℕ → Worker W C G J → Worker W C G J → Type 0

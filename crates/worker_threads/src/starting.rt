@@ -27,8 +27,8 @@ where
     C: Clock + Send,
     G: Gate + Send,
     J: Journal + Send,
-    requires ready { (i : ℕ) (w : _) → i < length workers.old → IsReady (record { seen = W.seen; moments = C.moments; text = J.contents; told = J.told }) shared.now i (slice_index_or workers.old i w) }
-    ensures ok { IfOk result (λ ends. WorkedEach (record { seen = W.seen; moments = C.moments; text = J.contents; told = J.told }) shared.now turns workers.old ends.items workers.new) }
+    requires ready { (i : ℕ) (w : _) → i < length workers.old → IsReady (record { seen = W.seen; moments = C.moments; text = J.contents; told = J.told; wires_faults = W.faults; journal_faults = J.faults }) shared.now i (slice_index_or workers.old i w) }
+    ensures ok { IfOk result (λ ends. WorkedEach (record { seen = W.seen; moments = C.moments; text = J.contents; told = J.told; wires_faults = W.faults; journal_faults = J.faults }) shared.now turns workers.old ends.items workers.new) }
     ensures err { OnErr result (workers.new ≡ workers.old) }
 {
     let mut ends = Vec::with_capacity(alloc, workers.len())?;
@@ -57,8 +57,8 @@ where
     G: Gate + Send,
     J: Journal + Send,
     requires some { 0 < length workers.old }
-    requires ready { (i : ℕ) (w : _) → i < length workers.old → IsReady (record { seen = W.seen; moments = C.moments; text = J.contents; told = J.told }) shared.now i (slice_index_or workers.old i w) }
-    ensures each { (i : ℕ) (w : _) → i < length workers.old → HasWorked (record { seen = W.seen; moments = C.moments; text = J.contents; told = J.told }) shared.now i turns (slice_index_or workers.old i w) (slice_index_or workers.new i w) }
+    requires ready { (i : ℕ) (w : _) → i < length workers.old → IsReady (record { seen = W.seen; moments = C.moments; text = J.contents; told = J.told; wires_faults = W.faults; journal_faults = J.faults }) shared.now i (slice_index_or workers.old i w) }
+    ensures each { (i : ℕ) (w : _) → i < length workers.old → HasWorked (record { seen = W.seen; moments = C.moments; text = J.contents; told = J.told; wires_faults = W.faults; journal_faults = J.faults }) shared.now i turns (slice_index_or workers.old i w) (slice_index_or workers.new i w) }
 {
     let count = workers.len();
     for_each_mut(
@@ -78,8 +78,8 @@ fn run_worker<R: Wait, W: Wires, C: Clock, G: Gate, J: Journal>(
     worker: &mut Worker<W, C, G, J>,
     turns: u64,
 )
-    requires { IsReady (record { seen = W.seen; moments = C.moments; text = J.contents; told = J.told }) shared.now place worker.old }
-    ensures { HasWorked (record { seen = W.seen; moments = C.moments; text = J.contents; told = J.told }) shared.now place turns worker.old worker.new }
+    requires { IsReady (record { seen = W.seen; moments = C.moments; text = J.contents; told = J.told; wires_faults = W.faults; journal_faults = J.faults }) shared.now place worker.old }
+    ensures { HasWorked (record { seen = W.seen; moments = C.moments; text = J.contents; told = J.told; wires_faults = W.faults; journal_faults = J.faults }) shared.now place turns worker.old worker.new }
 {
     let ended = work(
         rt,
