@@ -94,8 +94,17 @@ fn run<R: Print + AllocGlobal + Wait>(
         None => run_bare(rt, &mut worker, wires, case.runs)?,
         Some(tokens) => run_metered(rt, &mut worker, wires, tokens, case.runs)?,
     };
+    show(rt, &worker, &wires, case)
+}
+
+fn show<R: Print + AllocGlobal>(
+    rt: &R,
+    worker: &Worker,
+    wires: &MemWires,
+    case: &Case,
+) -> io::Result<()> {
     show_journal(rt, &worker.journal)?;
-    show_record(rt, &wires)?;
+    show_record(rt, wires)?;
     show_replay(rt, case.config.as_slice(), worker.journal.octets())
 }
 

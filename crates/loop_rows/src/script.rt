@@ -43,15 +43,34 @@ impl Script {
 
     fn take(&mut self, event: Event) -> Result<(), NoMemory> {
         match event {
-            Event::Accept { conn } => self.answers.push_back(Wired::Accept(conn))?,
-            Event::Join { conn, cluster } => self.answers.push_back(Wired::Join(conn, cluster))?,
-            Event::Read { conn, octets } => self.answers.push_back(Wired::Read(conn, octets))?,
-            Event::Gone { conn } => self.answers.push_back(Wired::Lost(conn))?,
-            Event::Tick { now } => self.moments.push(now)?,
-            Event::Post { job, .. } => self.jobs.push(job)?,
-            Event::Obey { pressures, .. } => self.published.push(pressures)?,
-            Event::Room { .. } | Event::Plain(_) => {}
+            Event::Accept { conn } => self.answer(Wired::Accept(conn)),
+            Event::Join { conn, cluster } => self.answer(Wired::Join(conn, cluster)),
+            Event::Read { conn, octets } => self.answer(Wired::Read(conn, octets)),
+            Event::Gone { conn } => self.answer(Wired::Lost(conn)),
+            Event::Tick { now } => self.tick(now),
+            Event::Post { job, .. } => self.post(job),
+            Event::Obey { pressures, .. } => self.publish(pressures),
+            Event::Room { .. } | Event::Plain(_) => Ok(()),
         }
+    }
+
+    fn answer(&mut self, wired: Wired) -> Result<(), NoMemory> {
+        self.answers.push_back(wired)?;
+        Ok(())
+    }
+
+    fn tick(&mut self, now: u64) -> Result<(), NoMemory> {
+        self.moments.push(now)?;
+        Ok(())
+    }
+
+    fn post(&mut self, job: Job) -> Result<(), NoMemory> {
+        self.jobs.push(job)?;
+        Ok(())
+    }
+
+    fn publish(&mut self, pressures: PressureList) -> Result<(), NoMemory> {
+        self.published.push(pressures)?;
         Ok(())
     }
 }

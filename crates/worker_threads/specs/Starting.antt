@@ -9,7 +9,7 @@ use Rattle.shared_state.specs.Following.{looks}
 use Rattle.shared_state.specs.PermitSeats.{IsSeatOf, view}
 use Rattle.shared_state.specs.declared.permits.PermitSeat.{PermitSeat}
 use Rattle.shared_state.specs.declared.permits.Permits.{Permits}
-use Rattle.std.specs.Prelude.{IsSomeAnd, List, Option, Some, [], length, slice_get, slice_index_or, ℕ, ◌<◌, ◌≡◌, ◌≢◌}
+use Rattle.std.specs.Prelude.{IsSomeAnd, List, Option, Some, [], length, slice_get, slice_index_or, unwrap_or, ℕ, ◌<◌, ◌≡◌, ◌≢◌}
 use Rattle.worker_core.specs.Sessions.{RestsWire}
 use Rattle.worker_loop.specs.Keeping.{AreUpTo, Holds, Keeps}
 use Rattle.worker_loop.specs.Places.{Place, place_of}
@@ -34,6 +34,10 @@ pub record Outside (W C J : Type 0) : Type 0 where
 -- the pass is of the box at this place
 abbrev pub IsRunnerAt : Shared → ℕ → RunnerPass → Type 0
 IsRunnerAt shared place pass = (box : PostBox) → slice_get shared.posts.items place ≡ Some box → IsRunnerOf box pass
+
+-- how it ended, once it has
+abbrev pub end_of : {W C G J : Type 0} → Worker W C G J → Ended
+end_of w = unwrap_or w.ended ended.Memory
 
 module _ {W C G J : Type 0} (o : Outside W C J) where
   abbrev pub sides_at : Worker W C G J → Sides

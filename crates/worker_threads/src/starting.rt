@@ -1,6 +1,6 @@
 // Starting the workers.
-ghost use Rattle.std.specs.Prelude.{◌≡◌, ◌<◌, IfOk, OnErr, length, slice_index_or, ℕ};
-ghost use Rattle.worker_threads.specs.Starting.{HasWorked, IsReady, WorkedEach};
+ghost use Rattle.std.specs.Prelude.{◌≡◌, ◌<◌, ◌≤◌, IfOk, OnErr, [], length, map, slice_index_or, vec_capacity, ℕ};
+ghost use Rattle.worker_threads.specs.Starting.{HasWorked, IsReady, WorkedEach, end_of};
 
 use crate::worker::{Shared, Worker};
 use io_ports::NoMemory;
@@ -14,6 +14,7 @@ use worker_ports::{Clock, Gate, Wires};
 /// Runs so many turns of each worker, each in a thread of its own, and gives their permits back. Once all have ended, it answers how, in
 /// their order. Its memory is taken first: after `NoMemory` no turn was run. Where a thread can't be made, workers run one after
 /// another.
+#[tactic(auto, using(crate::proofs::Readying::all_worked, crate::proofs::Readying::none_worked))]
 pub fn start_workers<R, W, C, G, J>(
     rt: &R,
     alloc: Global,
@@ -31,15 +32,26 @@ where
     ensures ok { IfOk result (λ ends. WorkedEach (record { seen = W.seen; moments = C.moments; text = J.contents; told = J.told; wires_faults = W.faults; journal_faults = J.faults }) shared.now turns workers.old ends.items workers.new) }
     ensures err { OnErr result (workers.new ≡ workers.old) }
 {
-    let mut ends = Vec::with_capacity(alloc, workers.len())?;
+    let ends = Vec::with_capacity(alloc, workers.len())?;
     if workers.is_empty() {
         return Ok(ends);
     }
     run_each(rt, alloc, shared, workers, turns);
-    for worker in workers.iter() {
+    Ok(ends_of(workers, ends))
+}
+
+// How each ended.
+fn ends_of<W, C, G, J>(workers: &[Worker<W, C, G, J>], mut ends: Vec<Ended>) -> Vec<Ended>
+    requires none { ends.items ≡ [] }
+    requires room { length workers.now ≤ vec_capacity ends }
+    ensures { result.items ≡ map end_of workers.now }
+{
+    let mut rest = workers;
+    while let Some((worker, after)) = rest.split_first() {
         ends.push_reserved(worker.ended.unwrap_or(Ended::Memory));
+        rest = after;
     }
-    Ok(ends)
+    ends
 }
 
 // Runs each in a thread of its own.
@@ -58,6 +70,7 @@ where
     J: Journal + Send,
     requires some { 0 < length workers.old }
     requires ready { (i : ℕ) (w : _) → i < length workers.old → IsReady (record { seen = W.seen; moments = C.moments; text = J.contents; told = J.told; wires_faults = W.faults; journal_faults = J.faults }) shared.now i (slice_index_or workers.old i w) }
+    ensures len { length workers.new ≡ length workers.old }
     ensures each { (i : ℕ) (w : _) → i < length workers.old → HasWorked (record { seen = W.seen; moments = C.moments; text = J.contents; told = J.told; wires_faults = W.faults; journal_faults = J.faults }) shared.now i turns (slice_index_or workers.old i w) (slice_index_or workers.new i w) }
 {
     let count = workers.len();
