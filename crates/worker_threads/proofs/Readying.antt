@@ -42,7 +42,7 @@ pub all_worked : {W C G J : Type 0} (o : Outside W C J) (shared : Shared) (turns
     → ((i : ℕ) (w : Worker W C G J) → i < length old → HasWorked o shared i turns (slice_index_or old i w) (slice_index_or new i w)) → ends ≡ map end_of new → WorkedEach o shared turns old ends new
 all_worked o shared turns old new ends same each is = record {
   same = same;
-  each_end = ap length is ∙ length-map end_of new ∙ same;
+  each_end = ap length is ∙ length-map new end_of ∙ same;
   each = λ i w e less.
       let at : slice_index_or ends i e ≡ end_of (slice_index_or new i w) = ap (λ xs. slice_index_or xs i e) is ∙ get_or-map end_of new i w e (omega (arith, less, same)) in
       subst (λ (x : Ended). Worked o shared i turns (slice_index_or old i w) x (slice_index_or new i w)) (sym at)
