@@ -2,7 +2,7 @@
 use Rattle.post_queue.specs.Clauses.{IsRunnerOf}
 use Rattle.post_queue.specs.declared.post_box.PostBox.{PostBox}
 use Rattle.shared_state.specs.PermitSeats.{view}
-use Rattle.std.proofs.Common.{ap, arith, refl, subst, sym, ◌∙◌}
+use Rattle.std.proofs.Common.{ap, arith, subst, sym, ◌∙◌}
 use Rattle.std.proofs.lemmas.Bool.{false≢true}
 use Rattle.std.proofs.lemmas.List.{get_or-map, length-map}
 use Rattle.std.proofs.lemmas.Option.{slice_get_within}
