@@ -1,0 +1,5 @@
+//! Tests of live workers in threads of their own.
+#![tactic(auto)]
+
+#[cfg(test)]
+mod meeting;
