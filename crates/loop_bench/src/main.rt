@@ -3,6 +3,7 @@
 
 mod lines;
 mod quiet;
+mod stage;
 mod stopwatch;
 mod turns;
 

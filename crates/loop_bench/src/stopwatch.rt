@@ -26,11 +26,3 @@ impl CpuStopwatch {
         Ok(u64::try_from(spent.as_nanos()).unwrap_or(u64::MAX).max(1))
     }
 }
-
-/// How many of these a second, where `n` of them took so many nanoseconds.
-pub fn per_second(n: u64, nanos: u64) -> u64
-    requires { 0 < nanos }
-{
-    let whole = u128::from(n) * 1_000_000_000 / u128::from(nanos);
-    u64::try_from(whole).unwrap_or(u64::MAX)
-}

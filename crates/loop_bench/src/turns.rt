@@ -1,20 +1,22 @@
 // Turns of a live worker over connections in memory, beside the dispatches that they make.
-use crate::quiet::Quiet;
+ghost use Rattle.loop_bench.specs.Workers.{IsFresh, IsReady, MayRun};
+ghost use Rattle.mem_ports.specs.Memory.{seen_of};
+ghost use Rattle.proxy_config.specs.Ranges.{IsInRange};
+ghost use Rattle.std.specs.Prelude.{◌≡◌, OnOk, true};
+ghost use Rattle.worker_core.specs.Sessions.{RestsWire};
+ghost use Rattle.worker_loop.specs.Keeping.{Holds};
+
+use crate::stage::Stage;
 use crate::stopwatch::CpuStopwatch;
 use anyhow::anyhow;
 use flow_notes::{Event, Names, Notes};
-use mem_ports::{MemClock, MemWires, Room};
-use post_queue::{PostBox, RunnerPass};
 use proxy_config::Config;
 use session_config::names_of;
-use shared_state::{Follower, PermitSeat, Permits, make_shared};
-use std::alloc::Global;
-use std::collections::VecDeque;
 use std::sync::Wait;
 use std::time::CpuClock;
 use worker_core::Core;
 use worker_loop::{Ended, HeldPermits, work};
-use worker_ports::{OpenGate, Wired};
+use worker_ports::OpenGate;
 
 /// The turns of a round, and the rounds. The best of them counts.
 const TURNS: u32 = 10_000;
@@ -24,154 +26,218 @@ const ROUNDS: u32 = 20;
 /// The idle connections.
 const IDLE: u32 = 10_000;
 
-const ROOM: Room = Room {
-    offers: 1,
-    octets: 1_000,
-};
-
-fn out_of_memory<E: Drop>(_: E) -> anyhow::Error {
-    anyhow!("out of memory")
+/// Turns without connections, and with 10,000 idle ones.
+pub fn run<R: Print + AllocGlobal + Wait + CpuClock>(rt: &R) -> anyhow::Result<()> {
+    begin(rt, 0)?;
+    begin(rt, IDLE)
 }
 
-/// A worker, with its connections.
-struct Work {
-    core: Core,
-    posts: PostBox,
-    pass: RunnerPass,
-    follower: Follower,
-    permits: Permits,
-    seat: PermitSeat,
-    held: HeldPermits,
-    wires: MemWires,
-    names: Names,
-    journal: Quiet,
-}
-
-impl Work {
-    /// So many clients have come.
-    fn new<R: AllocGlobal + Wait>(rt: &R, clients: u32) -> anyhow::Result<Self> {
-        let alloc = rt.alloc();
-        let config = Config::of_defaults(alloc).map_err(out_of_memory)?;
-        let names = names_of(alloc, &config).map_err(out_of_memory)?;
-        let (posts, _posters, pass) = PostBox::new(alloc, 1).map_err(out_of_memory)?;
-        let (publisher, mut followers) = make_shared(rt, alloc, &config, 1).map_err(out_of_memory)?;
-        publisher.end(rt);
-        let (permits, mut seats) = Permits::new(alloc, 1 << 20, 1).map_err(out_of_memory)?;
-        let (Some(follower), Some(seat)) = (followers.take_one(), seats.take_one()) else {
-            return Err(anyhow!("no seat"));
-        };
-        let wires = MemWires::new(alloc, 0, arrivals(alloc, clients)?, ROOM, Vec::new(alloc));
-        let core = Core::new(alloc, config).map_err(out_of_memory)?;
-        Ok(Work {
-            core,
-            posts,
-            pass,
-            follower,
-            permits,
-            seat,
-            held: HeldPermits::new(alloc),
-            wires,
-            names,
-            journal: Quiet { octets: 0 },
-        })
-    }
-
-    fn run<R: AllocGlobal + Wait>(&mut self, rt: &R, turns: u32) -> bool {
-        let mut clock = MemClock::new(Vec::new(rt.alloc()));
-        let ended = work(
-            rt,
-            rt.alloc(),
-            &mut self.core,
-            &self.posts,
-            &mut self.pass,
-            &mut self.follower,
-            &self.permits,
-            &mut self.seat,
-            &mut self.held,
-            &mut self.wires,
-            &mut clock,
-            &mut OpenGate,
-            &mut self.journal,
-            &self.names,
-            u64::from(turns),
-        );
-        ended == Ended::Turns
-    }
-
-    /// The same ticks, dispatched alone.
-    fn dispatch<R: AllocGlobal>(&mut self, rt: &R, turns: u32) -> bool {
-        let mut notes = Notes::new(rt.alloc());
-        for _turn in 0..turns {
-            notes.clear();
-            if self
-                .core
-                .dispatch(&Event::Tick { now: 0 }, &mut notes)
-                .is_err()
-            {
-                return false;
-            }
-        }
-        true
+fn begin<R: Print + AllocGlobal + Wait + CpuClock>(rt: &R, clients: u32) -> anyhow::Result<()> {
+    match Config::of_defaults(rt.alloc()) {
+        Ok(config) => with_config(rt, config, clients),
+        Err(_) => Err(anyhow!("out of memory")),
     }
 }
 
-// So many clients come.
-fn arrivals(alloc: Global, clients: u32) -> anyhow::Result<VecDeque<Wired>> {
-    let mut answers = VecDeque::new(alloc);
-    for client in 0..clients {
-        answers.push_back(Wired::Accept(client + 1))?;
-    }
-    Ok(answers)
-}
-
-// The best round's nanoseconds a turn, and a dispatch.
-fn measure<R: AllocGlobal + Wait + CpuClock>(
+fn with_config<R: Print + AllocGlobal + Wait + CpuClock>(
     rt: &R,
-    work: &mut Work,
-) -> anyhow::Result<(u64, u64)> {
-    let (mut turn, mut dispatch) = (u64::MAX, u64::MAX);
-    for _round in 0..ROUNDS {
-        let watch = CpuStopwatch::start(rt)?;
-        let ran = work.run(rt, TURNS);
-        turn = turn.min(watch.nanos(rt)?);
-        let watch = CpuStopwatch::start(rt)?;
-        let dispatched = work.dispatch(rt, TURNS);
-        dispatch = dispatch.min(watch.nanos(rt)?);
-        if !ran || !dispatched {
-            return Err(anyhow!("the work ended early"));
-        }
+    config: Config,
+    clients: u32,
+) -> anyhow::Result<()>
+    requires { IsInRange config }
+{
+    match names_of(rt.alloc(), &config) {
+        Ok(names) => with_names(rt, config, &names, clients),
+        Err(_) => Err(anyhow!("out of memory")),
     }
-    Ok((turn / u64::from(TURNS), dispatch / u64::from(TURNS)))
 }
 
-fn report<R: Print + AllocGlobal + Wait + CpuClock>(rt: &R, clients: u32) -> anyhow::Result<()> {
-    let mut work = Work::new(rt, clients)?;
-    let came = work.run(rt, clients);
-    let kept = work.held.len();
-    let measured = measure(rt, &mut work);
-    let Work {
-        core: _c,
-        posts: _p,
-        pass: _a,
-        follower: _f,
-        permits,
-        mut seat,
-        held,
-        wires: _w,
-        names: _n,
-        journal: _j,
-    } = work;
-    held.give_back(&permits, &mut seat);
-    let (turn, dispatch) = measured?;
+fn with_names<R: Print + AllocGlobal + Wait + CpuClock>(
+    rt: &R,
+    config: Config,
+    names: &Names,
+    clients: u32,
+) -> anyhow::Result<()>
+    requires { IsInRange config }
+{
+    match Stage::new(rt, &config, names, clients) {
+        Ok(mut stage) => with_stage(rt, config, names, &mut stage, clients),
+        Err(_) => Err(anyhow!("out of memory")),
+    }
+}
+
+fn with_stage<R: Print + AllocGlobal + Wait + CpuClock>(
+    rt: &R,
+    config: Config,
+    names: &Names,
+    stage: &mut Stage,
+    clients: u32,
+) -> anyhow::Result<()>
+    requires range { IsInRange config }
+    requires ready { IsReady stage.old.desk }
+    requires fresh { IsFresh names.now (seen_of stage.old.wires) }
+{
+    match Core::new(rt.alloc(), config) {
+        Ok(mut core) => report(rt, &mut core, names, stage, clients),
+        Err(_) => Err(anyhow!("out of memory")),
+    }
+}
+
+#[tactic(auto, using(crate::proofs::Starting::may_start))]
+fn report<R: Print + AllocGlobal + Wait + CpuClock>(
+    rt: &R,
+    core: &mut Core,
+    names: &Names,
+    stage: &mut Stage,
+    clients: u32,
+) -> anyhow::Result<()>
+    requires core { RestsWire core.old.kind }
+    requires ready { IsReady stage.old.desk }
+    requires fresh { IsFresh names.now (seen_of stage.old.wires) }
+{
+    let mut held = HeldPermits::new(rt.alloc());
+    let turn = arrive(rt, core, names, stage, &mut held, clients);
+    let kept = held.len();
+    held.give_back(&stage.desk.permits, &mut stage.desk.seat);
+    let (turn, tick) = turn?;
+    print_nanos(rt, kept, turn, tick)
+}
+
+fn print_nanos<R: Print>(rt: &R, clients: usize, turn: u64, tick: u64) -> anyhow::Result<()> {
+    let beside = turn.saturating_sub(tick);
     println!(rt;
-        "{clients} connections (came {came}, permits {kept}): a turn {turn} ns, its dispatch alone {dispatch} ns, beside it {} ns",
-        turn.saturating_sub(dispatch)
+        "{clients} clients: a turn {turn} ns, its dispatch alone {tick} ns, beside it {beside} ns"
     )?;
     Ok(())
 }
 
-/// Turns without connections, and with 10,000 idle ones.
-pub fn run<R: Print + AllocGlobal + Wait + CpuClock>(rt: &R) -> anyhow::Result<()> {
-    report(rt, 0)?;
-    report(rt, IDLE)
+// The clients come, and then turns are measured, and dispatches: nanoseconds of one.
+fn arrive<R: AllocGlobal + Wait + CpuClock>(
+    rt: &R,
+    core: &mut Core,
+    names: &Names,
+    stage: &mut Stage,
+    held: &mut HeldPermits,
+    clients: u32,
+) -> anyhow::Result<(u64, u64)>
+    requires { MayRun core.old names.now stage.old held.old }
+    ensures { Holds stage.new.desk.permits stage.new.desk.seat held.new }
+{
+    if !run_turns(rt, core, names, stage, held, clients) {
+        return Err(anyhow!("the clients didn't come"));
+    }
+    let turn = best_turns(rt, core, names, stage, held)?;
+    let tick = best_ticks(rt, core)?;
+    Ok((turn / u64::from(TURNS), tick / u64::from(TURNS)))
+}
+
+// Runs so many turns, and tells whether all were run.
+#[tactic(auto, using(crate::proofs::Starting::may_again))]
+fn run_turns<R: AllocGlobal + Wait>(
+    rt: &R,
+    core: &mut Core,
+    names: &Names,
+    stage: &mut Stage,
+    held: &mut HeldPermits,
+    turns: u32,
+) -> bool
+    requires { MayRun core.old names.now stage.old held.old }
+    ensures holds { Holds stage.new.desk.permits stage.new.desk.seat held.new }
+    ensures may { result ≡ true → MayRun core.new names.now stage.new held.new }
+{
+    let desk = &mut stage.desk;
+    let ended = work(
+        rt,
+        rt.alloc(),
+        core,
+        &desk.posts,
+        &mut desk.pass,
+        &mut desk.follower,
+        &desk.permits,
+        &mut desk.seat,
+        held,
+        &mut stage.wires,
+        &mut stage.clock,
+        &mut OpenGate,
+        &mut stage.journal,
+        names,
+        u64::from(turns),
+    );
+    match ended {
+        Ended::Turns => true,
+        _ => false,
+    }
+}
+
+// The nanoseconds of the best round of turns.
+fn best_turns<R: AllocGlobal + Wait + CpuClock>(
+    rt: &R,
+    core: &mut Core,
+    names: &Names,
+    stage: &mut Stage,
+    held: &mut HeldPermits,
+) -> anyhow::Result<u64>
+    requires { MayRun core.old names.now stage.old held.old }
+    ensures holds { Holds stage.new.desk.permits stage.new.desk.seat held.new }
+    ensures may { OnOk result (MayRun core.new names.now stage.new held.new) }
+{
+    let mut best = u64::MAX;
+    for _round in 0..ROUNDS {
+        best = best.min(time_turns(rt, core, names, stage, held)?);
+    }
+    Ok(best)
+}
+
+fn time_turns<R: AllocGlobal + Wait + CpuClock>(
+    rt: &R,
+    core: &mut Core,
+    names: &Names,
+    stage: &mut Stage,
+    held: &mut HeldPermits,
+) -> anyhow::Result<u64>
+    requires { MayRun core.old names.now stage.old held.old }
+    ensures holds { Holds stage.new.desk.permits stage.new.desk.seat held.new }
+    ensures may { OnOk result (MayRun core.new names.now stage.new held.new) }
+{
+    let watch = CpuStopwatch::start(rt)?;
+    if !run_turns(rt, core, names, stage, held, TURNS) {
+        return Err(anyhow!("the work ended early"));
+    }
+    Ok(watch.nanos(rt)?)
+}
+
+// The nanoseconds of the best round of ticks, which are dispatched alone.
+fn best_ticks<R: AllocGlobal + CpuClock>(rt: &R, core: &mut Core) -> anyhow::Result<u64>
+    requires { RestsWire core.old.kind }
+{
+    let mut notes = Notes::new(rt.alloc());
+    let mut best = u64::MAX;
+    for _round in 0..ROUNDS {
+        best = best.min(time_ticks(rt, core, &mut notes)?);
+    }
+    Ok(best)
+}
+
+fn time_ticks<R: CpuClock>(rt: &R, core: &mut Core, notes: &mut Notes) -> anyhow::Result<u64>
+    requires { RestsWire core.old.kind }
+    ensures { OnOk result (RestsWire core.new.kind) }
+{
+    let watch = CpuStopwatch::start(rt)?;
+    if !run_ticks(core, notes) {
+        return Err(anyhow!("out of memory"));
+    }
+    Ok(watch.nanos(rt)?)
+}
+
+fn run_ticks(core: &mut Core, notes: &mut Notes) -> bool
+    requires { RestsWire core.old.kind }
+    ensures { result ≡ true → RestsWire core.new.kind }
+{
+    for _turn in 0..TURNS {
+        notes.clear();
+        if core.dispatch(&Event::Tick { now: 0 }, notes).is_err() {
+            return false;
+        }
+    }
+    true
 }

@@ -3,231 +3,274 @@ ghost use Rattle.loop_rows.specs.Workers.{IsFresh, IsReady, MayRun};
 ghost use Rattle.mem_ports.specs.Memory.{seen_of};
 ghost use Rattle.proxy_config.specs.Ranges.{IsInRange};
 ghost use Rattle.shared_tokens.specs.Seats.{IsSeatOf};
-ghost use Rattle.std.specs.Prelude.{◌≡◌, ◌≢◌, [], length};
+ghost use Rattle.std.specs.Prelude.{◌≡◌, ◌≢◌, IfOk, length, true};
+ghost use Rattle.worker_core.specs.Sessions.{RestsWire};
 ghost use Rattle.worker_loop.specs.Keeping.{Holds};
-ghost use Rattle.worker_loop.specs.declared.ended.Ended.TheVariants as ended;
+ghost use Rattle.worker_loop.specs.declared.ended.Ended.TheVariants as end;
 
 use crate::case::Case;
-use crate::making::{Worker, make};
-use crate::show::{MOST_CONFIG, show_ended, show_journal, show_record, show_replay};
-use io_ports::{NoMemory, PressureList};
-use mem_ports::{MemGauge, MemWires};
+use crate::said::Said;
+use crate::sampling::say_sample;
+use crate::show::{say_ended, say_whole};
+use crate::stage::{Stage, stage_of};
+use flow_notes::Names;
+use io_ports::NoMemory;
+use mem_ports::MemWires;
 use metered_wires::MeteredWires;
-use proxy_config::{Config, read_config};
+use proxy_config::Config;
+use session_config::names_of;
 use shared_tokens::{Bucket, TokenSeat};
 use std::alloc::Global;
-use std::io;
 use std::sync::Wait;
-use worker_loop::{Ended, HeldPermits, begin_journal, sample, work};
+use worker_core::Core;
+use worker_loop::{Ended, HeldPermits, begin_journal, work};
 use worker_ports::{OpenGate, Wires};
-
-/// The greatest pressure.
-const MOST_PRESSURE: u32 = 1_000_000;
 
 /// The most tokens that a bucket is given.
 const MOST_TOKENS: u64 = 1 << 40;
 
-/// How many pressures are sampled at most.
-const MOST_SAMPLED: usize = 1 << 20;
-
-/// Runs a case, and prints how it ends.
-pub fn run_case<R: Print + AllocGlobal + Wait>(rt: &R, case: Case) -> io::Result<()> {
+/// Runs a case, and says how it ends.
+pub fn run_case<R: AllocGlobal + Wait>(rt: &R, case: &mut Case, said: &mut Said) {
     if !case.sample.is_empty() {
-        return run_sample(rt, case);
+        say_sample(rt.alloc(), case, said);
+        return;
     }
-    if case.config.len() > MOST_CONFIG {
-        return println!(rt; "a long configuration");
-    }
-    match read_config(rt.alloc(), case.config.as_slice()) {
-        Ok(config) => run_with(rt, config, case),
-        Err(_) => println!(rt; "no configuration"),
+    match case.configuration(rt.alloc()) {
+        Some(config) => run_with(rt, config, case, said),
+        None => said.line("no configuration"),
     }
 }
 
-fn run_with<R: Print + AllocGlobal + Wait>(rt: &R, config: Config, mut case: Case) -> io::Result<()>
+fn run_with<R: AllocGlobal + Wait>(rt: &R, config: Config, case: &mut Case, said: &mut Said)
     requires { IsInRange config }
 {
-    match make(rt, config, &mut case) {
-        Ok((worker, wires)) => run(rt, worker, wires, &case),
-        Err(NoMemory) => println!(rt; "out of memory"),
+    match names_of(rt.alloc(), &config) {
+        Ok(names) => run_named(rt, config, &names, case, said),
+        Err(NoMemory) => said.lack(),
     }
 }
 
-// Samples a gauge, and prints the pressures and how many readings failed.
-fn run_sample<R: Print + AllocGlobal>(rt: &R, case: Case) -> io::Result<()> {
-    if case.sample.len() > MOST_SAMPLED {
-        return println!(rt; "too many pressures");
-    }
-    let mut gauge = gauge_of(rt.alloc(), case.gauge, case.readings);
-    let mut pressures = PressureList::from_vec(case.sample);
-    let failed = sample(rt.alloc(), &mut gauge, &mut pressures);
-    print!(rt; "sampled")?;
-    for pressure in pressures.as_slice() {
-        print!(rt; " {pressure}")?;
-    }
-    println!(rt; ", {failed} failed")
-}
-
-// A gauge with these pressures, or with none where one is too great.
-fn gauge_of(alloc: Global, pressures: Vec<u32>, failing: Vec<u64>) -> MemGauge {
-    if pressures.iter().all(|pressure| *pressure <= MOST_PRESSURE) {
-        MemGauge::new(pressures, failing)
-    } else {
-        MemGauge::new(Vec::new(alloc), failing)
-    }
-}
-
-// Runs the worker, and prints how it ends.
-fn run<R: Print + AllocGlobal + Wait>(
+fn run_named<R: AllocGlobal + Wait>(
     rt: &R,
-    mut worker: Worker,
+    config: Config,
+    names: &Names,
+    case: &mut Case,
+    said: &mut Said,
+)
+    requires { IsInRange config }
+{
+    match stage_of(rt, &config, names, case) {
+        Ok((mut stage, wires)) => run_staged(rt, config, names, &mut stage, wires, case, said),
+        Err(NoMemory) => said.lack(),
+    }
+}
+
+fn run_staged<R: AllocGlobal + Wait>(
+    rt: &R,
+    config: Config,
+    names: &Names,
+    stage: &mut Stage,
     wires: MemWires,
     case: &Case,
-) -> io::Result<()>
-    requires ready { IsReady worker }
-    requires fresh { IsFresh worker.names (seen_of wires) }
+    said: &mut Said,
+)
+    requires range { IsInRange config }
+    requires ready { IsReady stage.old.desk }
+    requires fresh { IsFresh names.now (seen_of wires) }
 {
-    if begin_journal(&mut worker.journal).is_err() {
-        return println!(rt; "no room for the first line");
+    match Core::new(rt.alloc(), config) {
+        Ok(mut core) => run_worker(rt, &mut core, names, stage, wires, case, said),
+        Err(NoMemory) => said.lack(),
+    }
+}
+
+// Runs the worker, and says how it ends.
+fn run_worker<R: AllocGlobal + Wait>(
+    rt: &R,
+    core: &mut Core,
+    names: &Names,
+    stage: &mut Stage,
+    wires: MemWires,
+    case: &Case,
+    said: &mut Said,
+)
+    requires core { RestsWire core.old.kind }
+    requires ready { IsReady stage.old.desk }
+    requires fresh { IsFresh names.now (seen_of wires) }
+{
+    if begin_journal(&mut stage.journal).is_err() {
+        said.line("no room for the first line");
+        return;
     }
     let wires = match case.tokens {
-        None => run_bare(rt, &mut worker, wires, case.runs)?,
-        Some(tokens) => run_metered(rt, &mut worker, wires, tokens, case.runs)?,
+        None => run_bare(rt, core, names, stage, wires, case, said),
+        Some(tokens) => run_metered(rt, core, names, stage, wires, tokens, case, said),
     };
-    show(rt, &worker, &wires, case)
+    say_whole(rt.alloc(), case, &stage.journal, &wires, said);
 }
 
-fn show<R: Print + AllocGlobal>(
+fn run_bare<R: AllocGlobal + Wait>(
     rt: &R,
-    worker: &Worker,
-    wires: &MemWires,
-    case: &Case,
-) -> io::Result<()> {
-    show_journal(rt, &worker.journal)?;
-    show_record(rt, wires)?;
-    show_replay(rt, case.config.as_slice(), worker.journal.octets())
-}
-
-fn run_bare<R: Print + AllocGlobal + Wait>(
-    rt: &R,
-    worker: &mut Worker,
+    core: &mut Core,
+    names: &Names,
+    stage: &mut Stage,
     mut wires: MemWires,
-    runs: u32,
-) -> io::Result<MemWires>
-    requires ready { IsReady worker.old }
-    requires fresh { IsFresh worker.old.names (seen_of wires) }
+    case: &Case,
+    said: &mut Said,
+) -> MemWires
+    requires core { RestsWire core.old.kind }
+    requires ready { IsReady stage.old.desk }
+    requires fresh { IsFresh names.now (seen_of wires) }
 {
-    run_turns(rt, worker, &mut wires, runs)?;
-    Ok(wires)
+    run_turns(rt, core, names, stage, &mut wires, case, said);
+    wires
 }
 
 // Each client's connection takes one of so many tokens.
-fn run_metered<R: Print + AllocGlobal + Wait>(
+fn run_metered<R: AllocGlobal + Wait>(
     rt: &R,
-    worker: &mut Worker,
+    core: &mut Core,
+    names: &Names,
+    stage: &mut Stage,
     wires: MemWires,
     tokens: u64,
-    runs: u32,
-) -> io::Result<MemWires>
-    requires ready { IsReady worker.old }
-    requires fresh { IsFresh worker.old.names (seen_of wires) }
+    case: &Case,
+    said: &mut Said,
+) -> MemWires
+    requires core { RestsWire core.old.kind }
+    requires ready { IsReady stage.old.desk }
+    requires fresh { IsFresh names.now (seen_of wires) }
 {
-    let burst = tokens.clamp(1, MOST_TOKENS);
-    let Ok((bucket, mut seats, mut put)) = Bucket::new(rt.alloc(), burst, 1) else {
-        println!(rt; "out of memory")?;
-        return Ok(wires);
-    };
-    bucket.put(&mut put, tokens);
-    match seats.take_one() {
-        Some(seat) => run_taking(rt, worker, wires, &bucket, seat, runs),
-        None => Ok(wires),
+    match bucket_of(rt.alloc(), tokens) {
+        Ok((bucket, seat)) => run_taking(rt, core, names, stage, wires, &bucket, seat, case, said),
+        Err(NoMemory) => {
+            said.lack();
+            wires
+        }
     }
 }
 
-fn run_taking<R: Print + AllocGlobal + Wait>(
+// A bucket with so many tokens.
+fn bucket_of(alloc: Global, tokens: u64) -> Result<(Bucket, TokenSeat), NoMemory>
+    ensures { IfOk result (λ made. IsSeatOf made.0 made.1) }
+{
+    let (bucket, mut seats, mut put) = Bucket::new(alloc, tokens.clamp(1, MOST_TOKENS), 1)?;
+    bucket.put(&mut put, tokens);
+    match seats.take_one() {
+        Some(seat) => Ok((bucket, seat)),
+        None => Err(NoMemory),
+    }
+}
+
+fn run_taking<R: AllocGlobal + Wait>(
     rt: &R,
-    worker: &mut Worker,
+    core: &mut Core,
+    names: &Names,
+    stage: &mut Stage,
     wires: MemWires,
     bucket: &Bucket,
     seat: TokenSeat,
-    runs: u32,
-) -> io::Result<MemWires>
-    requires ready { IsReady worker.old }
-    requires fresh { IsFresh worker.old.names (seen_of wires) }
+    case: &Case,
+    said: &mut Said,
+) -> MemWires
+    requires core { RestsWire core.old.kind }
+    requires ready { IsReady stage.old.desk }
+    requires fresh { IsFresh names.now (seen_of wires) }
     requires seat { IsSeatOf bucket.now seat }
 {
     let mut metered = MeteredWires::new(wires, bucket, seat);
-    run_turns(rt, worker, &mut metered, runs)?;
+    run_turns(rt, core, names, stage, &mut metered, case, said);
     let (wires, seat) = metered.into_inner();
-    println!(rt; "tokens taken {}", bucket.taken(&seat))?;
-    Ok(wires)
+    said.line_with("tokens taken ", bucket.taken(&seat));
+    wires
 }
 
-// Runs the turns so often, and gives the permits back.
-fn run_turns<R: Print + AllocGlobal + Wait, W: Wires>(
+// Runs the turns as often as the case says, and gives the permits back.
+#[tactic(auto, using(crate::proofs::Starting::may_start))]
+fn run_turns<R: AllocGlobal + Wait, W: Wires>(
     rt: &R,
-    worker: &mut Worker,
+    core: &mut Core,
+    names: &Names,
+    stage: &mut Stage,
     wires: &mut W,
-    runs: u32,
-) -> io::Result<()>
-    requires ready { IsReady worker.old }
-    requires names { (W.seen wires.old).clusters ≡ length worker.old.names }
+    case: &Case,
+    said: &mut Said,
+)
+    requires core { RestsWire core.old.kind }
+    requires ready { IsReady stage.old.desk }
+    requires names { (W.seen wires.old).clusters ≡ length names.now }
 {
     let mut held = HeldPermits::new(rt.alloc());
-    let said = run_all(rt, worker, &mut held, wires, runs);
-    let kept = held.len();
-    held.give_back(&worker.permits, &mut worker.seat);
-    said?;
-    println!(rt; "permits {kept}")
+    run_all(rt, core, names, stage, &mut held, wires, case, said);
+    said.line_with("permits ", held.len() as u64);
+    held.give_back(&stage.desk.permits, &mut stage.desk.seat);
 }
 
-fn run_all<R: Print + AllocGlobal + Wait, W: Wires>(
+fn run_all<R: AllocGlobal + Wait, W: Wires>(
     rt: &R,
-    worker: &mut Worker,
+    core: &mut Core,
+    names: &Names,
+    stage: &mut Stage,
     held: &mut HeldPermits,
     wires: &mut W,
-    runs: u32,
-) -> io::Result<()>
-    requires ready { IsReady worker.old }
-    requires none { held.old ≡ [] }
-    requires names { (W.seen wires.old).clusters ≡ length worker.old.names }
-    ensures holds { Holds worker.new.permits worker.new.seat held.new }
+    case: &Case,
+    said: &mut Said,
+)
+    requires { MayRun core.old names.now stage.old.desk held.old (W.seen wires.old) }
+    ensures { Holds stage.new.desk.permits stage.new.desk.seat held.new }
 {
-    for _run in 0..runs {
-        let ended = run_once(rt, worker, held, wires);
-        show_ended(rt, ended)?;
-        if matches!(ended, Ended::Memory | Ended::JournalFault) {
-            return Ok(());
+    for _run in 0..case.runs {
+        let ended = run_once(rt, core, names, stage, held, wires, case.turns);
+        say_ended(ended, said);
+        if !may_go_on(ended) {
+            return;
         }
     }
-    Ok(())
 }
 
+// Whether the work may be taken up again.
+fn may_go_on(ended: Ended) -> bool
+    ensures { result ≡ true → ended ≢ end.Memory }
+{
+    match ended {
+        Ended::Turns => true,
+        Ended::Stopped => true,
+        Ended::WiresFault => true,
+        Ended::JournalFault => false,
+        Ended::Memory => false,
+    }
+}
+
+#[tactic(auto, using(crate::proofs::Starting::may_again))]
 fn run_once<R: AllocGlobal + Wait, W: Wires>(
     rt: &R,
-    worker: &mut Worker,
+    core: &mut Core,
+    names: &Names,
+    stage: &mut Stage,
     held: &mut HeldPermits,
     wires: &mut W,
+    turns: u64,
 ) -> Ended
-    requires may { MayRun worker.old held.old (W.seen wires.old) }
-    ensures holds { Holds worker.new.permits worker.new.seat held.new }
-    ensures may { result ≢ ended.Memory → MayRun worker.new held.new (W.seen wires.new) }
+    requires { MayRun core.old names.now stage.old.desk held.old (W.seen wires.old) }
+    ensures holds { Holds stage.new.desk.permits stage.new.desk.seat held.new }
+    ensures may { result ≢ end.Memory → MayRun core.new names.now stage.new.desk held.new (W.seen wires.new) }
 {
+    let desk = &mut stage.desk;
     work(
         rt,
         rt.alloc(),
-        &mut worker.core,
-        &worker.posts,
-        &mut worker.pass,
-        &mut worker.follower,
-        &worker.permits,
-        &mut worker.seat,
+        core,
+        &desk.posts,
+        &mut desk.pass,
+        &mut desk.follower,
+        &desk.permits,
+        &mut desk.seat,
         held,
         wires,
-        &mut worker.clock,
+        &mut stage.clock,
         &mut OpenGate,
-        &mut worker.journal,
-        &worker.names,
-        worker.turns,
+        &mut stage.journal,
+        names,
+        turns,
     )
 }

@@ -8,6 +8,7 @@ use worker_ports::Wired;
 /// What happens to a worker.
 #[derive(Drop)]
 pub struct Script {
+    alloc: Global,
     /// What the connections give.
     pub answers: VecDeque<Wired>,
     /// The moments of the clock.
@@ -19,26 +20,33 @@ pub struct Script {
 }
 
 impl Script {
-    /// The script of these lines. One that has no spelling says nothing.
-    pub fn read(alloc: Global, names: &Names, lines: &[String]) -> Result<Self, NoMemory> {
-        let mut script = Script {
+    pub fn new(alloc: Global) -> Self {
+        Script {
+            alloc,
             answers: VecDeque::new(alloc),
             moments: Vec::new(alloc),
             jobs: Vec::new(alloc),
             published: Vec::new(alloc),
-        };
-        for line in lines {
-            match line.as_str() {
-                "idle" => script.answers.push_back(Wired::Idle)?,
-                "stop" => script.answers.push_back(Wired::Stop)?,
-                line => {
-                    if let Some(event) = read_event(alloc, line.as_bytes(), names, false)? {
-                        script.take(event)?;
-                    }
-                }
-            }
         }
-        Ok(script)
+    }
+
+    /// Takes up these lines. One that has no spelling says nothing.
+    pub fn read(&mut self, names: &Names, lines: &[String]) -> Result<(), NoMemory> {
+        for line in lines {
+            self.line(names, line.as_str())?;
+        }
+        Ok(())
+    }
+
+    fn line(&mut self, names: &Names, line: &str) -> Result<(), NoMemory> {
+        match line {
+            "idle" => self.answer(Wired::Idle),
+            "stop" => self.answer(Wired::Stop),
+            line => match read_event(self.alloc, line.as_bytes(), names, false)? {
+                Some(event) => self.take(event),
+                None => Ok(()),
+            },
+        }
     }
 
     fn take(&mut self, event: Event) -> Result<(), NoMemory> {

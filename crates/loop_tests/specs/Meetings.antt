@@ -1,7 +1,13 @@
--- What workers over memory tell.
+-- What workers over memory tell, and what they are made of.
+use Rattle.loop_tests.specs.declared.parts.Parts.{Parts}
 use Rattle.mem_ports.specs.Memory.{WiresMemory, seen_of}
 use Rattle.mem_ports.specs.Moments.{ClockMemory, moments_given}
-use Rattle.std.specs.Prelude.{Some}
+use Rattle.post_queue.specs.Clauses.{IsRunnerOf}
+use Rattle.shared_state.specs.PermitSeats.{IsSeatOf}
+use Rattle.shared_state.specs.declared.permits.PermitSeat.{PermitSeat}
+use Rattle.shared_state.specs.declared.permits.Permits.{Permits}
+use Rattle.std.specs.Prelude.{List, Some, length, ℕ, ◌≡◌}
+use Rattle.worker_core.specs.Sessions.{RestsWire}
 use Rattle.worker_parts.specs.Memory.{sink_of, told_by}
 use Rattle.worker_parts.specs.declared.mem_journal.MemJournal.{MemJournal}
 use Rattle.worker_threads.specs.Starting.{Outside}
@@ -15,3 +21,14 @@ in_memory = record {
   wires_faults = λ w. w.faults;
   journal_faults = λ j. (sink_of j).faults;
 }
+
+-- a worker that is made of them may run
+pub record AreParts (names : List (List ℕ)) (p : Parts) : Type 0 where
+  pub rests : RestsWire p.core.kind
+  pub runs : IsRunnerOf p.posts p.pass
+  pub names_are : (seen_of p.wires).clusters ≡ length names
+
+-- both seats are of these permits
+pub record AreSeats (permits : Permits) (one two : PermitSeat) : Type 0 where
+  pub first : IsSeatOf permits one
+  pub second : IsSeatOf permits two

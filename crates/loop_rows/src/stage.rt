@@ -1,12 +1,12 @@
 // What a case begins with.
 ghost use Rattle.loop_rows.specs.Workers.{IsFresh, IsReady};
 ghost use Rattle.mem_ports.specs.Memory.{seen_of};
-ghost use Rattle.post_queue.specs.Clauses.{IsRunnerOf};
+ghost use Rattle.post_queue.specs.Clauses.{IsPosterOf, IsRunnerOf};
 ghost use Rattle.post_queue.specs.Posts.{IsAllowedJob};
 ghost use Rattle.proxy_config.specs.Ranges.{IsInRange};
 ghost use Rattle.shared_state.specs.Following.{IsNewFollower, followers_in};
 ghost use Rattle.shared_state.specs.PermitSeats.{IsSeatOf};
-ghost use Rattle.shared_state.specs.States.{resources_of};
+ghost use Rattle.shared_state.specs.States.{IsSame, resources_of};
 ghost use Rattle.std.specs.Arc.{arc_value};
 ghost use Rattle.std.specs.Prelude.{◌≡◌, ◌≤◌, All, IfOk, IfSome, length, true};
 
@@ -15,17 +15,14 @@ use crate::script::Script;
 use flow_notes::{Job, Names};
 use io_ports::{MemSink, NoMemory, PressureList};
 use mem_ports::{MemClock, MemWires, Room};
-use post_queue::{PostBox, RunnerPass};
+use post_queue::{PostBox, PosterPass, RunnerPass};
 use proxy_config::Config;
-use session_config::names_of;
 use shared_state::{Follower, Followers, PermitSeat, Permits, Publisher, Told, make_shared};
 use std::alloc::Global;
 use std::collections::VecDeque;
 use std::mem;
 use std::sync::Wait;
-use worker_core::Core;
 use worker_loop::MemJournal;
-use worker_ports::Wired;
 
 /// For how much the record has room between one answer of the connections and the next.
 const ROOM: Room = Room {
@@ -45,54 +42,70 @@ const MOMENTS: u64 = 1 << 60;
 /// Each number of an exchange is less.
 const EXCHANGES: u64 = 1 << 63;
 
-/// A worker, but for its connections and the permits that they have.
+/// What a worker shares with others.
 #[derive(Drop)]
-pub struct Worker {
-    pub core: Core,
+pub struct Desk {
     pub posts: PostBox,
     pub pass: RunnerPass,
     pub follower: Follower,
     pub permits: Permits,
     pub seat: PermitSeat,
-    pub clock: MemClock,
-    pub journal: MemJournal,
-    pub names: Names,
-    pub turns: u64,
 }
 
-/// The worker and the connections of a case.
-pub fn make<R: AllocGlobal + Wait>(
+/// What a worker begins with, beside its core and its connections.
+#[derive(Drop)]
+pub struct Stage {
+    pub desk: Desk,
+    pub clock: MemClock,
+    pub journal: MemJournal,
+}
+
+/// The stage and the connections of a case.
+pub fn stage_of<R: AllocGlobal + Wait>(
     rt: &R,
-    config: Config,
+    config: &Config,
+    names: &Names,
     case: &mut Case,
-) -> Result<(Worker, MemWires), NoMemory>
-    requires { IsInRange config }
-    ensures ready { IfOk result (λ made. IsReady made.0) }
-    ensures fresh { IfOk result (λ made. IsFresh made.0.names (seen_of made.1)) }
+) -> Result<(Stage, MemWires), NoMemory>
+    requires { IsInRange config.now }
+    ensures ready { IfOk result (λ made. IsReady made.0.desk) }
+    ensures fresh { IfOk result (λ made. IsFresh names.now (seen_of made.1)) }
 {
-    let alloc = rt.alloc();
-    let names = names_of(alloc, &config)?;
-    let script = Script::read(alloc, &names, case.lines.as_slice())?;
-    let (posts, pass) = posted(rt, script.jobs.as_slice())?;
-    let follower = published(rt, &config, script.published.as_slice())?;
-    let (permits, seat) = permitted(alloc, case.permits)?;
-    let wires = connected(alloc, &names, script.answers, case)?;
-    let journal = journaled(alloc, case)?;
-    let clock = clock_of(alloc, script.moments);
-    let core = Core::new(alloc, config)?;
-    let worker = Worker {
-        core,
-        posts,
-        pass,
-        follower,
-        permits,
-        seat,
+    let mut script = Script::new(rt.alloc());
+    script.read(names, case.lines.as_slice())?;
+    let journal = journaled(rt.alloc(), case)?;
+    let wires = connected(rt.alloc(), names, &mut script, case)?;
+    let desk = Desk::new(rt, config, &script, case.permits)?;
+    let clock = clock_of(rt.alloc(), script.moments);
+    let stage = Stage {
+        desk,
         clock,
         journal,
-        names,
-        turns: case.turns,
     };
-    Ok((worker, wires))
+    Ok((stage, wires))
+}
+
+impl Desk {
+    fn new<R: AllocGlobal + Wait>(
+        rt: &R,
+        config: &Config,
+        script: &Script,
+        permits: u64,
+    ) -> Result<Self, NoMemory>
+        requires { IsInRange config.now }
+        ensures { IfOk result IsReady }
+    {
+        let (posts, pass) = posted(rt, script.jobs.as_slice())?;
+        let (permits, seat) = permitted(rt.alloc(), permits)?;
+        let follower = published(rt, config, script.published.as_slice())?;
+        Ok(Desk {
+            posts,
+            pass,
+            follower,
+            permits,
+            seat,
+        })
+    }
 }
 
 // A box with these jobs.
@@ -100,15 +113,21 @@ fn posted<R: AllocGlobal + Wait>(rt: &R, jobs: &[Job]) -> Result<(PostBox, Runne
     ensures { IfOk result (λ made. IsRunnerOf made.0 made.1) }
 {
     let (posts, mut passes, pass) = PostBox::new(rt.alloc(), 1)?;
-    let Some(mut poster) = passes.take_one() else {
-        return Err(NoMemory);
-    };
-    for job in jobs {
-        if is_allowed(*job) && posts.post(rt, &mut poster, *job).is_err() {
-            return Err(NoMemory);
-        }
+    if let Some(mut poster) = passes.take_one() {
+        post_all(rt, &posts, &mut poster, jobs);
     }
     Ok((posts, pass))
+}
+
+// Posts the jobs. One that can't be posted is left out.
+fn post_all<R: Wait>(rt: &R, posts: &PostBox, poster: &mut PosterPass, jobs: &[Job])
+    requires { IsPosterOf posts.now poster.old }
+{
+    for job in jobs {
+        if is_allowed(*job) {
+            let _ = posts.post(rt, poster, *job);
+        }
+    }
 }
 
 fn is_allowed(job: Job) -> bool
@@ -120,7 +139,7 @@ fn is_allowed(job: Job) -> bool
     }
 }
 
-// A follower that has learnt what was published last.
+// A follower that has learnt what was published last, since the publisher ends here.
 fn published<R: AllocGlobal + Wait>(
     rt: &R,
     config: &Config,
@@ -128,15 +147,19 @@ fn published<R: AllocGlobal + Wait>(
 ) -> Result<Follower, NoMemory>
     requires { length config.now.overload.resources ≤ 16 }
 {
-    let (publisher, mut followers) = make_shared(rt, rt.alloc(), config, 1)?;
-    let Some(mut follower) = follower_of(&publisher, &mut followers) else {
-        publisher.end(rt);
-        return Err(NoMemory);
-    };
+    let (mut publisher, mut followers) = make_shared(rt, rt.alloc(), config, 1)?;
+    let follower = follower_of(&publisher, &mut followers);
     let resources = config.overload.resources.as_slice().len();
-    let told = publish_all(rt, publisher, resources, states);
-    follower.learn(told);
-    Ok(follower)
+    publish_all(rt, &mut publisher, resources, states);
+    let told = publisher.tell();
+    publisher.end(rt);
+    match follower {
+        Some(mut follower) => {
+            follower.learn(told);
+            Ok(follower)
+        }
+        None => Err(NoMemory),
+    }
 }
 
 fn follower_of(publisher: &Publisher, followers: &mut Followers) -> Option<Follower>
@@ -147,24 +170,21 @@ fn follower_of(publisher: &Publisher, followers: &mut Followers) -> Option<Follo
     followers.take_one()
 }
 
-// Publishes these states, but for one that doesn't have a pressure for each resource, and tells the last.
+// Publishes these states, but for one that doesn't have a pressure for each resource.
 fn publish_all<R: Wait>(
     rt: &R,
-    mut publisher: Publisher,
+    publisher: &mut Publisher,
     resources: usize,
     states: &[PressureList],
-) -> Told
-    requires { resources ≡ resources_of publisher }
-    ensures { result.seat.table_id ≡ publisher.seat.table_id }
+)
+    requires { resources ≡ resources_of publisher.old }
+    ensures { IsSame publisher.old publisher.new }
 {
     for pressures in states {
         if pressures.as_slice().len() == resources {
             let _ = publisher.publish(rt, pressures.as_slice());
         }
     }
-    let told = publisher.tell();
-    publisher.end(rt);
-    told
 }
 
 fn permitted(alloc: Global, permits: u64) -> Result<(Permits, PermitSeat), NoMemory>
@@ -177,11 +197,11 @@ fn permitted(alloc: Global, permits: u64) -> Result<(Permits, PermitSeat), NoMem
     }
 }
 
-// The connections, which give these answers.
+// The connections, which give the script's answers.
 fn connected(
     alloc: Global,
     names: &Names,
-    answers: VecDeque<Wired>,
+    script: &mut Script,
     case: &mut Case,
 ) -> Result<MemWires, NoMemory>
     ensures { IfOk result (λ wires. IsFresh names.now (seen_of wires)) }
@@ -189,6 +209,7 @@ fn connected(
     let Ok(clusters) = u32::try_from(names.len()) else {
         return Err(NoMemory);
     };
+    let answers = mem::replace(&mut script.answers, VecDeque::new(alloc));
     let failing = mem::replace(&mut case.wires, Vec::new(alloc));
     let mut wires = MemWires::new(alloc, clusters, answers, ROOM, failing);
     wires.take_at_most(case.most);

@@ -1,0 +1,172 @@
+// What workers over memory are made of.
+ghost use Rattle.loop_tests.specs.Meetings.{AreParts, AreSeats, in_memory};
+ghost use Rattle.mem_ports.specs.Memory.{seen_of};
+ghost use Rattle.post_queue.specs.Clauses.{IsRunnerOf};
+ghost use Rattle.shared_state.specs.PermitSeats.{IsNewSeat, IsSeatOf, seats_in};
+ghost use Rattle.std.specs.Prelude.{◌≡◌, All, IfOk, IfSome, [], length};
+ghost use Rattle.worker_core.specs.Sessions.{RestsWire};
+ghost use Rattle.worker_threads.specs.Starting.{IsNew};
+
+use crate::gates::Meets;
+use flow_notes::Names;
+use io_ports::{MemSink, NoMemory};
+use mem_ports::{MemClock, MemWires, Room};
+use post_queue::{PostBox, RunnerPass};
+use proxy_config::Config;
+use shared_state::{Follower, PermitSeat, PermitSeats, Permits, make_shared};
+use std::alloc::Global;
+use std::collections::VecDeque;
+use std::sync::Wait;
+use worker_core::Core;
+use worker_loop::{Ended, HeldPermits, MemJournal};
+use worker_threads::Worker;
+
+/// For how many octets a journal has room.
+const JOURNAL: usize = 1_000;
+
+/// A worker of the test.
+pub type Meeting = Worker<MemWires, MemClock, Meets, MemJournal>;
+
+/// What a worker is made of, whose connections give nothing.
+#[derive(Drop)]
+pub struct Parts {
+    core: Core,
+    posts: PostBox,
+    pass: RunnerPass,
+    wires: MemWires,
+    journal: MemJournal,
+}
+
+impl Parts {
+    pub fn new(alloc: Global, names: &Names) -> Result<Self, NoMemory>
+        ensures { IfOk result (AreParts names.now) }
+    {
+        let (posts, pass) = box_of(alloc)?;
+        let wires = wires_of(alloc, names)?;
+        let journal = journal_of(alloc)?;
+        let core = core_of(alloc)?;
+        Ok(Parts {
+            core,
+            posts,
+            pass,
+            wires,
+            journal,
+        })
+    }
+}
+
+fn box_of(alloc: Global) -> Result<(PostBox, RunnerPass), NoMemory>
+    ensures { IfOk result (λ made. IsRunnerOf made.0 made.1) }
+{
+    let (posts, _posters, pass) = PostBox::new(alloc, 1)?;
+    Ok((posts, pass))
+}
+
+fn wires_of(alloc: Global, names: &Names) -> Result<MemWires, NoMemory>
+    ensures { IfOk result (λ wires. (seen_of wires).clusters ≡ length names.now) }
+{
+    let Ok(clusters) = u32::try_from(names.len()) else {
+        return Err(NoMemory);
+    };
+    let room = Room {
+        offers: 1,
+        octets: 1,
+    };
+    Ok(MemWires::new(alloc, clusters, VecDeque::new(alloc), room, Vec::new(alloc)))
+}
+
+fn journal_of(alloc: Global) -> Result<MemJournal, NoMemory> {
+    let sink = MemSink::new(alloc, JOURNAL, Vec::new(alloc))?;
+    Ok(MemJournal::new(alloc, sink))
+}
+
+fn core_of(alloc: Global) -> Result<Core, NoMemory>
+    ensures { IfOk result (λ core. RestsWire core.kind) }
+{
+    let config = Config::of_defaults(alloc)?;
+    Core::new(alloc, config)
+}
+
+/// A worker of these parts, and its box of posts.
+pub fn worker_of(
+    alloc: Global,
+    names: &Names,
+    permits: &Permits,
+    parts: Parts,
+    follower: Follower,
+    seat: PermitSeat,
+    gate: Meets,
+) -> (PostBox, Meeting)
+    requires parts { AreParts names.now parts }
+    requires seat { IsSeatOf permits.now seat }
+    ensures { IsNew in_memory permits.now names.now result.0 result.1 }
+{
+    let _ = (names, permits);
+    let worker = Worker {
+        core: parts.core,
+        pass: parts.pass,
+        follower,
+        seat,
+        held: HeldPermits::new(alloc),
+        wires: parts.wires,
+        clock: MemClock::new(Vec::new(alloc)),
+        gate,
+        journal: parts.journal,
+        ended: None,
+    };
+    (parts.posts, worker)
+}
+
+/// Ends a worker, and tells whether it met the other and ran all its turns.
+pub fn end_worker(permits: &Permits, worker: Meeting) -> bool
+    requires seat { IsSeatOf permits.now worker.seat }
+    requires none { worker.held ≡ [] }
+{
+    let Worker {
+        core: _core,
+        pass: _pass,
+        follower: _follower,
+        mut seat,
+        held,
+        wires: _wires,
+        clock: _clock,
+        gate,
+        journal: _journal,
+        ended,
+    } = worker;
+    held.give_back(permits, &mut seat);
+    gate.has_met() && ended == Some(Ended::Turns)
+}
+
+/// Permits with two seats.
+pub fn permits_of(alloc: Global) -> Result<(Permits, PermitSeat, PermitSeat), NoMemory>
+    ensures { IfOk result (λ made. AreSeats made.0 made.1 made.2) }
+{
+    let (permits, mut seats) = Permits::new(alloc, 1, 2)?;
+    let (Some(one), Some(two)) = (seat_of(&permits, &mut seats), seat_of(&permits, &mut seats))
+    else {
+        return Err(NoMemory);
+    };
+    Ok((permits, one, two))
+}
+
+// A seat that wasn't given out yet.
+fn seat_of(permits: &Permits, seats: &mut PermitSeats) -> Option<PermitSeat>
+    requires { All (IsNewSeat permits.now) (seats_in seats.old) }
+    ensures seat { IfSome result (IsSeatOf permits.now) }
+    ensures others { All (IsNewSeat permits.now) (seats_in seats.new) }
+{
+    let _ = permits;
+    seats.take_one()
+}
+
+/// Two followers, of which each has seen all that was published.
+pub fn followers_of<R: Wait>(rt: &R, alloc: Global) -> Result<(Follower, Follower), NoMemory> {
+    let config = Config::of_defaults(alloc)?;
+    let (publisher, mut followers) = make_shared(rt, alloc, &config, 2)?;
+    publisher.end(rt);
+    match (followers.take_one(), followers.take_one()) {
+        (Some(one), Some(two)) => Ok((one, two)),
+        _ => Err(NoMemory),
+    }
+}
