@@ -1,11 +1,11 @@
 //! Two workers that wait for each other, so that neither can be run before the other.
-ghost use Rattle.loop_tests.specs.Meetings.{AreParts, AreSeats, in_memory};
-ghost use Rattle.shared_state.specs.PermitSeats.{IsSeatOf};
-ghost use Rattle.std.specs.Prelude.{◌≡◌, ◌<◌, [], length, slice_index_or, ℕ};
+ghost use Rattle.loop_tests.specs.Meetings.{AreParts, ArePlaces, in_memory};
+ghost use Rattle.std.specs.Prelude.{◌≡◌, ◌<◌, length, slice_index_or, ℕ};
+ghost use Rattle.worker_loop.specs.Keeping.{Holds};
 ghost use Rattle.worker_threads.specs.Starting.{IsReady};
 
 use crate::gates::{Begun, Meets};
-use crate::parts::{Meeting, Parts, end_worker, followers_of, permits_of, worker_of};
+use crate::parts::{Meeting, Parts, Places, end_worker, worker_of};
 use flow_notes::Names;
 use io_ports::NoMemory;
 use proxy_config::Config;
@@ -53,7 +53,7 @@ fn run_both<R: Threads + Wait + Sync>(
 {
     let mut workers = [first, second];
     let has_started = start(rt, alloc, shared, &mut workers);
-    let [first, second] = workers;
+    let (first, second) = <(Meeting, Meeting)>::from(workers);
     let met = end_worker(&shared.permits, first);
     let other_met = end_worker(&shared.permits, second);
     (has_started && met, has_started && other_met)
@@ -67,9 +67,12 @@ fn start<R: Threads + Wait + Sync>(
 ) -> bool
     requires { (i : ℕ) (w : _) → i < length workers.old → IsReady in_memory shared.now i (slice_index_or workers.old i w) }
     ensures len { length workers.new ≡ length workers.old }
-    ensures each { (i : ℕ) (w : _) → i < length workers.old → IsSeatOf shared.now.permits (slice_index_or workers.new i w).seat × ((slice_index_or workers.new i w).held ≡ []) }
+    ensures each { (i : ℕ) (w : _) → i < length workers.old → Holds shared.now.permits (slice_index_or workers.new i w).seat (slice_index_or workers.new i w).held }
 {
-    start_workers(rt, alloc, shared, workers, TURNS).is_ok()
+    match start_workers(rt, alloc, shared, workers, TURNS) {
+        Ok(_) => true,
+        Err(NoMemory) => false,
+    }
 }
 
 // Runs two workers of these parts.
@@ -77,16 +80,23 @@ fn meet_over<R: Threads + Wait + Sync>(
     rt: &R,
     alloc: Global,
     names: Names,
+    places: Places,
     first: Parts,
     second: Parts,
     gates: Gates,
-) -> Result<(bool, bool), NoMemory>
+) -> (bool, bool)
+    requires places { ArePlaces places }
     requires first { AreParts names first }
     requires second { AreParts names second }
 {
-    let (follower, other_follower) = followers_of(rt, alloc)?;
-    let (permits, seat, other_seat) = permits_of(alloc)?;
-    let mut posts = Vec::with_capacity(alloc, 2)?;
+    let Places {
+        permits,
+        seat,
+        other_seat,
+        follower,
+        other_follower,
+        mut posts,
+    } = places;
     let (posted, first) = worker_of(alloc, &names, &permits, first, follower, seat, gates.first);
     posts.push_reserved(posted);
     let (posted, second) = worker_of(
@@ -104,7 +114,7 @@ fn meet_over<R: Threads + Wait + Sync>(
         permits,
         names,
     };
-    Ok(run_both(rt, alloc, &shared, first, second))
+    run_both(rt, alloc, &shared, first, second)
 }
 
 fn meet<R: Threads + Wait + Sync>(
@@ -112,10 +122,16 @@ fn meet<R: Threads + Wait + Sync>(
     alloc: Global,
     gates: Gates,
 ) -> Result<(bool, bool), NoMemory> {
-    let names = names_of(alloc, &Config::of_defaults(alloc)?)?;
+    let names = names_of_defaults(alloc)?;
+    let places = Places::new(rt, alloc)?;
     let first = Parts::new(alloc, &names)?;
     let second = Parts::new(alloc, &names)?;
-    meet_over(rt, alloc, names, first, second, gates)
+    Ok(meet_over(rt, alloc, names, places, first, second, gates))
+}
+
+fn names_of_defaults(alloc: Global) -> Result<Names, NoMemory> {
+    let config = Config::of_defaults(alloc)?;
+    names_of(alloc, &config)
 }
 
 #[test]

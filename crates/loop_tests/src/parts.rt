@@ -1,10 +1,11 @@
 // What workers over memory are made of.
-ghost use Rattle.loop_tests.specs.Meetings.{AreParts, AreSeats, in_memory};
+ghost use Rattle.loop_tests.specs.Meetings.{AreParts, ArePlaces, in_memory};
 ghost use Rattle.mem_ports.specs.Memory.{seen_of};
 ghost use Rattle.post_queue.specs.Clauses.{IsRunnerOf};
 ghost use Rattle.shared_state.specs.PermitSeats.{IsNewSeat, IsSeatOf, seats_in};
-ghost use Rattle.std.specs.Prelude.{◌≡◌, All, IfOk, IfSome, [], length};
+ghost use Rattle.std.specs.Prelude.{◌≡◌, All, IfOk, IfSome, length};
 ghost use Rattle.worker_core.specs.Sessions.{RestsWire};
+ghost use Rattle.worker_loop.specs.Keeping.{Holds};
 ghost use Rattle.worker_threads.specs.Starting.{IsNew};
 
 use crate::gates::Meets;
@@ -101,7 +102,8 @@ pub fn worker_of(
     requires seat { IsSeatOf permits.now seat }
     ensures { IsNew in_memory permits.now names.now result.0 result.1 }
 {
-    let _ = (names, permits);
+    let _ = names;
+    let _ = permits;
     let worker = Worker {
         core: parts.core,
         pass: parts.pass,
@@ -119,8 +121,7 @@ pub fn worker_of(
 
 /// Ends a worker, and tells whether it met the other and ran all its turns.
 pub fn end_worker(permits: &Permits, worker: Meeting) -> bool
-    requires seat { IsSeatOf permits.now worker.seat }
-    requires none { worker.held ≡ [] }
+    requires { Holds permits.now worker.seat worker.held }
 {
     let Worker {
         core: _core,
@@ -138,16 +139,47 @@ pub fn end_worker(permits: &Permits, worker: Meeting) -> bool
     gate.has_met() && ended == Some(Ended::Turns)
 }
 
-/// Permits with two seats.
-pub fn permits_of(alloc: Global) -> Result<(Permits, PermitSeat, PermitSeat), NoMemory>
-    ensures { IfOk result (λ made. AreSeats made.0 made.1 made.2) }
+/// What two workers share, and what each has of it.
+#[derive(Drop)]
+pub struct Places {
+    pub permits: Permits,
+    pub seat: PermitSeat,
+    pub other_seat: PermitSeat,
+    pub follower: Follower,
+    pub other_follower: Follower,
+    /// Room for a box of each.
+    pub posts: Vec<PostBox>,
+}
+
+impl Places {
+    pub fn new<R: Wait>(rt: &R, alloc: Global) -> Result<Self, NoMemory>
+        ensures { IfOk result ArePlaces }
+    {
+        let (permits, seat, other_seat) = permits_of(alloc)?;
+        let (follower, other_follower) = followers_of(rt, alloc)?;
+        let posts = Vec::with_capacity(alloc, 2)?;
+        Ok(Places {
+            permits,
+            seat,
+            other_seat,
+            follower,
+            other_follower,
+            posts,
+        })
+    }
+}
+
+// Permits with two seats.
+fn permits_of(alloc: Global) -> Result<(Permits, PermitSeat, PermitSeat), NoMemory>
+    ensures { IfOk result (λ made. IsSeatOf made.0 made.1 × IsSeatOf made.0 made.2) }
 {
     let (permits, mut seats) = Permits::new(alloc, 1, 2)?;
-    let (Some(one), Some(two)) = (seat_of(&permits, &mut seats), seat_of(&permits, &mut seats))
-    else {
-        return Err(NoMemory);
-    };
-    Ok((permits, one, two))
+    let one = seat_of(&permits, &mut seats);
+    let two = seat_of(&permits, &mut seats);
+    match (one, two) {
+        (Some(one), Some(two)) => Ok((permits, one, two)),
+        _ => Err(NoMemory),
+    }
 }
 
 // A seat that wasn't given out yet.
@@ -160,8 +192,8 @@ fn seat_of(permits: &Permits, seats: &mut PermitSeats) -> Option<PermitSeat>
     seats.take_one()
 }
 
-/// Two followers, of which each has seen all that was published.
-pub fn followers_of<R: Wait>(rt: &R, alloc: Global) -> Result<(Follower, Follower), NoMemory> {
+// Two followers. Nothing was published, so each has seen all.
+fn followers_of<R: Wait>(rt: &R, alloc: Global) -> Result<(Follower, Follower), NoMemory> {
     let config = Config::of_defaults(alloc)?;
     let (publisher, mut followers) = make_shared(rt, alloc, &config, 2)?;
     publisher.end(rt);
