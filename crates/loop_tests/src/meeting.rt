@@ -1,6 +1,6 @@
 //! Two workers that wait for each other, so that neither can be run before the other.
 ghost use Rattle.loop_tests.specs.Meetings.{AreParts, ArePlaces, in_memory};
-ghost use Rattle.std.specs.Prelude.{◌≡◌, ◌<◌, length, slice_index_or, ℕ};
+ghost use Rattle.std.specs.Prelude.{◌≡◌, ◌<◌, length, slice_index_or, vec_capacity, ℕ};
 ghost use Rattle.worker_loop.specs.Keeping.{Holds};
 ghost use Rattle.worker_threads.specs.Starting.{IsReady};
 
@@ -85,9 +85,9 @@ fn meet_over<R: Threads + Wait + Sync>(
     second: Parts,
     gates: Gates,
 ) -> (bool, bool)
-    requires places { ArePlaces places }
-    requires first { AreParts names first }
-    requires second { AreParts names second }
+    requires places { ArePlaces places.permits places.seat places.other_seat places.posts.items (vec_capacity places.posts) }
+    requires first { AreParts names first.core.kind first.posts first.pass first.wires }
+    requires second { AreParts names second.core.kind second.posts second.pass second.wires }
 {
     let Places {
         permits,

@@ -3,7 +3,7 @@ ghost use Rattle.loop_tests.specs.Meetings.{AreParts, ArePlaces, in_memory};
 ghost use Rattle.mem_ports.specs.Memory.{seen_of};
 ghost use Rattle.post_queue.specs.Clauses.{IsRunnerOf};
 ghost use Rattle.shared_state.specs.PermitSeats.{IsNewSeat, IsSeatOf, seats_in};
-ghost use Rattle.std.specs.Prelude.{◌≡◌, All, IfOk, IfSome, length};
+ghost use Rattle.std.specs.Prelude.{◌≡◌, All, IfOk, IfSome, length, vec_capacity};
 ghost use Rattle.worker_core.specs.Sessions.{RestsWire};
 ghost use Rattle.worker_loop.specs.Keeping.{Holds};
 ghost use Rattle.worker_threads.specs.Starting.{IsNew};
@@ -40,7 +40,7 @@ pub struct Parts {
 
 impl Parts {
     pub fn new(alloc: Global, names: &Names) -> Result<Self, NoMemory>
-        ensures { IfOk result (AreParts names.now) }
+        ensures { IfOk result (λ made. AreParts names.now made.core.kind made.posts made.pass made.wires) }
     {
         let (posts, pass) = box_of(alloc)?;
         let wires = wires_of(alloc, names)?;
@@ -98,7 +98,7 @@ pub fn worker_of(
     seat: PermitSeat,
     gate: Meets,
 ) -> (PostBox, Meeting)
-    requires parts { AreParts names.now parts }
+    requires parts { AreParts names.now parts.core.kind parts.posts parts.pass parts.wires }
     requires seat { IsSeatOf permits.now seat }
     ensures { IsNew in_memory permits.now names.now result.0 result.1 }
 {
@@ -153,7 +153,7 @@ pub struct Places {
 
 impl Places {
     pub fn new<R: Wait>(rt: &R, alloc: Global) -> Result<Self, NoMemory>
-        ensures { IfOk result ArePlaces }
+        ensures { IfOk result (λ made. ArePlaces made.permits made.seat made.other_seat made.posts.items (vec_capacity made.posts)) }
     {
         let (permits, seat, other_seat) = permits_of(alloc)?;
         let (follower, other_follower) = followers_of(rt, alloc)?;
