@@ -1,0 +1,58 @@
+//! Runs live workers over memory, one case of standard input after another, and prints how each ends: its journal, how many
+//! dispatches and notes there were, what the connections gave, were offered and were closed, how many permits are kept, and with
+//! which status and how many notes the journal replays.
+//!
+//! A case begins with a line `## NAME`. Lines `| TEXT` are the configuration's. A line `$ TURNS MOST PERMITS` has how many turns
+//! there are, how many octets an offer takes at most, and how many permits; `% tokens N` meters the client connections with N
+//! tokens. Lines `% wires K` and `% journal K` say that this call of the connections, or this write of the journal after its
+//! header, counted from 0, fails; `% room N` gives the journal room for N octets behind its header. The other lines are spelled
+//! as a session's: `accept C`, `join C NAME`, `read C HEX`, `gone C`, `idle` and `stop` are what the connections give, in order;
+//! `tick T` is a moment of the clock, the last of which it goes on to give; `post 0 0 JOB` is posted and `obey 0 P ..` published
+//! before the work begins. The follower learns what was published last, since the publisher ends before the work begins, and what
+//! a follower hasn't read by then it could only wait for. A line `again` runs the turns once more over what stands.
+//!
+//! A case with a line `sample P ..` samples these pressures from a gauge that has those of a line `gauge P ..`, and whose readings
+//! `% gauge K` fail.
+#![tactic(auto)]
+
+mod case;
+mod run;
+mod said;
+mod sampling;
+mod script;
+mod show;
+mod stage;
+
+use crate::case::Case;
+use crate::run::run_case;
+use crate::said::Said;
+use std::io::{self, Read};
+use std::sync::Wait;
+
+fn main(rt: HostRuntime) -> io::Result<()> {
+    let mut text = Vec::new(rt.alloc());
+    rt.reader().read_to_end(&mut text)?;
+    let text = std::str::from_utf8(text.as_slice()).unwrap_or("");
+    for case in text.split("## ").skip(1) {
+        show_case(&rt, case)?;
+    }
+    Ok(())
+}
+
+// Runs the case of this text, and prints how it ends.
+fn show_case<R: Print + AllocGlobal + Wait>(rt: &R, text: &str) -> io::Result<()> {
+    let mut said = Said::new(rt.alloc());
+    say_case(rt, text, &mut said);
+    said.print(rt)
+}
+
+fn say_case<R: AllocGlobal + Wait>(rt: &R, text: &str, said: &mut Said) {
+    let (name, lines) = text.split_once('\n').unwrap_or((text, ""));
+    said.say("## ");
+    said.line(name);
+    let mut case = Case::new(rt.alloc());
+    match case.read(lines) {
+        Ok(()) => run_case(rt, &mut case, said),
+        Err(_) => said.lack(),
+    }
+}
