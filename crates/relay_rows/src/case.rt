@@ -2,6 +2,7 @@
 use io_ports::{NoMemory, Octets};
 use std::alloc::Global;
 use std::collections::VecDeque;
+use tcp_relay::RelayFault;
 use worker_ports::Wired;
 
 /// What a live relay meets.
@@ -18,6 +19,10 @@ pub struct Case {
     /// The calls of the connections, and the writes of the journal, that fail.
     pub taps: Vec<u64>,
     pub journal: Vec<u64>,
+    /// Whether what the connections give is dispatched, without turns.
+    pub dispatches: bool,
+    /// The faults whose text is printed.
+    pub faults: Vec<RelayFault>,
 }
 
 impl Case {
@@ -30,6 +35,8 @@ impl Case {
             answers: VecDeque::new(alloc),
             taps: Vec::new(alloc),
             journal: Vec::new(alloc),
+            dispatches: false,
+            faults: Vec::new(alloc),
         }
     }
 
@@ -52,6 +59,11 @@ impl Case {
                 self.runs = self.runs.saturating_add(1);
                 Ok(())
             }
+            "dispatch" => {
+                self.dispatches = true;
+                Ok(())
+            }
+            "fault" => self.tell(first, number(second)),
             "read" => {
                 let octets = octets(alloc, second, third)?;
                 self.answer(Wired::Read(number(first), octets))
@@ -69,6 +81,12 @@ impl Case {
         Ok(())
     }
 
+    // The text of this fault is printed.
+    fn tell(&mut self, word: &str, held: u32) -> Result<(), NoMemory> {
+        self.faults.push(fault_of(word, held))?;
+        Ok(())
+    }
+
     // A call of the connections fails, or a write of the journal.
     fn fail(&mut self, whose: &str, call: u64) -> Result<(), NoMemory> {
         if whose == "taps" {
@@ -77,6 +95,14 @@ impl Case {
             self.journal.push(call)?;
         }
         Ok(())
+    }
+}
+
+fn fault_of(word: &str, held: u32) -> RelayFault {
+    match word {
+        "paused" => RelayFault::Paused { held },
+        "memory" => RelayFault::NoMemory,
+        _ => RelayFault::Failed,
     }
 }
 

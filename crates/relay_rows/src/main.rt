@@ -5,9 +5,14 @@
 //! offer takes at most, and how many turns there are. Lines `% taps K` and `% journal K` say that this call of the connections,
 //! or this write of the journal, counted from 0, fails. The other lines are what the connections give: `accept C`, `join C N`,
 //! `read C OCTET LENGTH`, `lost C`, `idle` and `stop`. A line `again` runs the turns once more over what stands.
+//!
+//! A case with a line `dispatch` has no turns: what the connections give is dispatched, one after another, and the text of each
+//! fault that a dispatch answers is printed behind it. Then come the texts of the faults in lines `fault paused N`,
+//! `fault memory` and `fault failed`.
 #![tactic(auto)]
 
 mod case;
+mod faults;
 mod show;
 
 use crate::case::Case;
@@ -22,7 +27,7 @@ fn main(rt: HostRuntime) -> io::Result<()> {
     for line in text.strip_suffix('\n').unwrap_or(text).split('\n') {
         if line.starts_with("## ") {
             if is_open {
-                show::show_case(&rt, case)?;
+                end_case(&rt, case)?;
             }
             println!(rt; "{line}")?;
             case = Case::new(rt.alloc());
@@ -31,5 +36,13 @@ fn main(rt: HostRuntime) -> io::Result<()> {
             println!(rt; "no memory")?;
         }
     }
-    show::show_case(&rt, case)
+    end_case(&rt, case)
+}
+
+fn end_case<R: Print + AllocGlobal>(rt: &R, case: Case) -> io::Result<()> {
+    if case.dispatches {
+        faults::show_faults(rt, case)
+    } else {
+        show::show_case(rt, case)
+    }
 }

@@ -96,7 +96,8 @@ fn show_record<R: Print>(rt: &R, taps: &MemTaps) -> io::Result<()> {
     Ok(())
 }
 
-fn show_wired<R: Print>(rt: &R, wired: &Wired) -> io::Result<()> {
+/// Prints what the connections gave.
+pub fn show_wired<R: Print>(rt: &R, wired: &Wired) -> io::Result<()> {
     match wired {
         Wired::Accept(conn) => println!(rt; "< accept {conn}"),
         Wired::Join(conn, cluster) => println!(rt; "< join {conn} {cluster}"),
