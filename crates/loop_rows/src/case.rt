@@ -24,11 +24,12 @@ pub struct Case {
     pub tokens: Option<u64>,
     /// How often the turns are run.
     pub runs: u32,
-    /// The calls of the connections, and the writes of the journal behind its header, that fail.
+    /// The calls of the connections, and the writes of the journal, that fail.
     pub wires: Vec<u64>,
     pub journal: Vec<u64>,
-    /// For how many octets behind the header the journal has room.
+    /// For how many octets behind the header the journal has room, and how many a write takes at most.
     pub room: usize,
+    pub piece: usize,
     /// The lines of what happens.
     pub lines: Vec<String>,
     /// Pressures that are sampled, what the gauge has, and which of its readings fail.
@@ -50,6 +51,7 @@ impl Case {
             wires: Vec::new(alloc),
             journal: Vec::new(alloc),
             room: 100_000,
+            piece: usize::MAX,
             lines: Vec::new(alloc),
             sample: Vec::new(alloc),
             gauge: Vec::new(alloc),
@@ -118,10 +120,10 @@ impl Case {
         match word {
             "tokens" => self.tokens = Some(number),
             "room" => self.room = number as usize,
+            "piece" => self.piece = number as usize,
             "wires" => self.wires.push(number)?,
             "gauge" => self.readings.push(number)?,
-            // The header is written first.
-            _ => self.journal.push(number.saturating_add(1))?,
+            _ => self.journal.push(number)?,
         }
         Ok(())
     }

@@ -1,21 +1,23 @@
-//! Runs live workers over memory, one case of standard input after another, and prints how each ends: its journal, how many
-//! dispatches and notes there were, what the connections gave, were offered and were closed, how many permits are kept, and with
-//! which status and how many notes the journal replays.
+//! Runs live workers over memory, one case of standard input after another, and prints how each ends: the turns at which its gate
+//! was passed, its journal, how many dispatches and notes there were, what the connections gave, were offered and were closed, how
+//! many permits are kept, and with which status and how many notes the journal replays.
 //!
 //! A case begins with a line `## NAME`. Lines `| TEXT` are the configuration's. A line `$ TURNS MOST PERMITS` has how many turns
 //! there are, how many octets an offer takes at most, and how many permits; `% tokens N` meters the client connections with N
-//! tokens. Lines `% wires K` and `% journal K` say that this call of the connections, or this write of the journal after its
-//! header, counted from 0, fails; `% room N` gives the journal room for N octets behind its header. The other lines are spelled
-//! as a session's: `accept C`, `join C NAME`, `read C HEX`, `gone C`, `idle` and `stop` are what the connections give, in order;
-//! `tick T` is a moment of the clock, the last of which it goes on to give; `post 0 0 JOB` is posted and `obey 0 P ..` published
-//! before the work begins. The follower learns what was published last, since the publisher ends before the work begins, and what
-//! a follower hasn't read by then it could only wait for. A line `again` runs the turns once more over what stands.
+//! tokens. Lines `% wires K` and `% journal K` say that this call of the connections, or this write of the journal, counted from
+//! 0, fails. The journal's first write is that of its header; `% room N` gives it room for N octets behind that, and with
+//! `% piece N` a write takes N octets at most. The other lines are spelled as a session's: `accept C`, `join C NAME`,
+//! `read C HEX`, `gone C`, `idle` and `stop` are what the connections give, in order; `tick T` is a moment of the clock, the last
+//! of which it goes on to give; `post 0 0 JOB` is posted and `obey 0 P ..` published before the work begins. The follower learns
+//! what was published last, since the publisher ends before the work begins, and what a follower hasn't read by then it could only
+//! wait for. A line `again` runs the turns once more over what stands.
 //!
 //! A case with a line `sample P ..` samples these pressures from a gauge that has those of a line `gauge P ..`, and whose readings
 //! `% gauge K` fail.
 #![tactic(auto)]
 
 mod case;
+mod points;
 mod run;
 mod said;
 mod sampling;

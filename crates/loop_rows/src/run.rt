@@ -9,9 +9,10 @@ ghost use Rattle.worker_loop.specs.Keeping.{Holds};
 ghost use Rattle.worker_loop.specs.declared.ended.Ended.TheVariants as end;
 
 use crate::case::Case;
+use crate::points::Points;
 use crate::said::Said;
 use crate::sampling::say_sample;
-use crate::show::{say_ended, say_whole};
+use crate::show::{say_ended, say_text, say_whole};
 use crate::stage::{Stage, stage_of};
 use flow_notes::Names;
 use io_ports::NoMemory;
@@ -24,7 +25,7 @@ use std::alloc::Global;
 use std::sync::Wait;
 use worker_core::Core;
 use worker_loop::{Ended, HeldPermits, begin_journal, work};
-use worker_ports::{OpenGate, Wires};
+use worker_ports::Wires;
 
 /// The most tokens that a bucket is given.
 const MOST_TOKENS: u64 = 1 << 40;
@@ -99,7 +100,8 @@ fn run_worker<R: AllocGlobal + Wait>(
     requires fresh { IsFresh names.now (seen_of wires) }
 {
     if begin_journal(&mut stage.journal).is_err() {
-        said.line("no room for the first line");
+        said.line("no first line");
+        say_text(&stage.journal, said);
         return;
     }
     let wires = match case.tokens {
@@ -220,7 +222,9 @@ fn run_all<R: AllocGlobal + Wait, W: Wires>(
     ensures { Holds stage.new.desk.permits stage.new.desk.seat held.new }
 {
     for _run in 0..case.runs {
-        let ended = run_once(rt, core, names, stage, held, wires, case.turns);
+        let mut points = Points::new(rt.alloc());
+        let ended = run_once(rt, core, names, stage, held, wires, &mut points, case.turns);
+        points.say(said);
         say_ended(ended, said);
         if !may_go_on(ended) {
             return;
@@ -249,6 +253,7 @@ fn run_once<R: AllocGlobal + Wait, W: Wires>(
     stage: &mut Stage,
     held: &mut HeldPermits,
     wires: &mut W,
+    points: &mut Points,
     turns: u64,
 ) -> Ended
     requires { MayRun core.old names.now stage.old.desk held.old (W.seen wires.old) }
@@ -268,7 +273,7 @@ fn run_once<R: AllocGlobal + Wait, W: Wires>(
         held,
         wires,
         &mut stage.clock,
-        &mut OpenGate,
+        points,
         &mut stage.journal,
         names,
         turns,

@@ -37,13 +37,18 @@ pub fn say_whole(
 }
 
 fn say_journal(journal: &MemJournal, said: &mut Said) {
-    let text = std::str::from_utf8(journal.octets()).unwrap_or("no text\n");
-    said.say(text);
-    if !text.ends_with('\n') {
-        said.line("..");
-    }
+    say_text(journal, said);
     said.say_with("dispatches ", journal.notes().len() as u64);
     said.line_with(", notes ", notes_of(journal));
+}
+
+/// Says what the journal has. A line that was cut off ends with `..`.
+pub fn say_text(journal: &MemJournal, said: &mut Said) {
+    let text = std::str::from_utf8(journal.octets()).unwrap_or("no text\n");
+    said.say(text);
+    if !text.is_empty() && !text.ends_with('\n') {
+        said.line("..");
+    }
 }
 
 // How many notes it was handed.
@@ -131,5 +136,5 @@ fn notes_in(tape: &str) -> u64 {
 
 // Whether a line is a note, and none of those behind all notes.
 fn is_note(line: &str) -> bool {
-    !line.starts_with("peak ") && !line.starts_with("done ")
+    !line.starts_with("peak ") && !line.starts_with("done ") && !line.starts_with("refused ")
 }

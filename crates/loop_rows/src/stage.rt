@@ -218,7 +218,8 @@ fn connected(
 
 fn journaled(alloc: Global, case: &mut Case) -> Result<MemJournal, NoMemory> {
     let failing = mem::replace(&mut case.journal, Vec::new(alloc));
-    let sink = MemSink::new(alloc, HEADER.saturating_add(case.room), failing)?;
+    let mut sink = MemSink::new(alloc, HEADER.saturating_add(case.room), failing)?;
+    sink.take_at_most(case.piece);
     Ok(MemJournal::new(alloc, sink))
 }
 
