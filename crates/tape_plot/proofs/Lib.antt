@@ -1,4 +1,5 @@
 pub mod Columns
+pub mod Drawing
 pub mod Flowing
 pub mod Holding
 pub mod Keeping
@@ -8,6 +9,7 @@ pub mod Lining
 pub mod Mapping
 pub mod Passing
 pub mod Pathing
+pub mod Picturing
 pub mod Points
 pub mod Sayings
 pub mod Standing

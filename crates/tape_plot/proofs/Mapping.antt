@@ -29,7 +29,7 @@ use Rattle.tape_plot.specs.declared.subject.Subject.TheVariants as subject
 
 -- ---- a map that is written at one number
 
-at_number : (x y : ℕ) → is_at (nat_cmp x) y ≡ nat_eq x y
+pub at_number : (x y : ℕ) → is_at (nat_cmp x) y ≡ nat_eq x y
 at_number x y = grind (arith, nat_tests)
 
 -- at each number the new map has what the old one has, but at x

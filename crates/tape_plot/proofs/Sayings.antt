@@ -13,6 +13,7 @@ use Rattle.std.specs.Io.KnownBytes.{Consumes}
 use Rattle.std.specs.Prelude.{Err, IfOk, List, None, Ok, OnOk, Option, Result, Some, [], drop, length, min, suc, take, zero, ℕ, ◌++◌, ◌+◌, ◌-◌, ◌^◌, ◌∷◌, ◌≡◌}
 use Rattle.tape_plot.specs.Ending.{ended}
 use Rattle.tape_plot.proofs.Stands.{stands}
+use Rattle.tape_plot.proofs.Writing.{until_end}
 use Rattle.tape_plot.specs.Goes.{PlotGoes, PlotStays}
 use Rattle.tape_plot.specs.Kept.{until}
 use Rattle.tape_plot.specs.Reading.{Fails, ReadsNote, SpellsNote}
@@ -158,6 +159,8 @@ reads_tape left_old left_new begun tape first last k g =
       cut = l.ends.cut;
       end = l.ends.end;
       part = l.ends.part;
+      starts = l.ends.plot.starts;
+      ends = until_end tape.plot.clock.turn last tape.plot.clock.last (told l.said) l.ends.plot.turn l.ends.plot.ends;
       lanes = stands tape.plot.levels first (until last (told l.said)) l.ends.plot.levels;
     }
 

@@ -3,8 +3,8 @@ use Rattle.flow_notes.specs.declared.events.Event.{Event}
 use Rattle.flow_notes.specs.declared.notes.CloseCause.{CloseCause}
 use Rattle.flow_notes.specs.declared.notes.Note.{Note}
 use Rattle.std.proofs.Common.{ap, arith, refl, subst, sym, ◌∙◌}
-use Rattle.std.specs.Prelude.{Bool, List, [], false, if◌then◌else◌, length, nat_lt, true, ℕ, ◌+◌, ◌-◌, ◌==◌, ◌∷◌, ◌≡◌}
-use Rattle.std.proofs.lemmas.Bool.{le-ltb, ltb-false}
+use Rattle.std.specs.Prelude.{Bool, List, [], false, if◌then◌else◌, length, min, nat_lt, true, ℕ, ◌+◌, ◌-◌, ◌==◌, ◌∷◌, ◌≡◌, ◌≤◌}
+use Rattle.std.proofs.lemmas.Bool.{le-ltb, ltb-false, ltb-true}
 use Rattle.tape_laws.specs.Connections.{was_closed}
 use Rattle.tape_laws.specs.Dispatches.{turns}
 use Rattle.tape_laws.specs.History.{History, NoMark, Noted, Step}
@@ -165,3 +165,20 @@ plot_on old new n clock mid t on g s e = record {
             (subst (λ (v : ℕ). LevelsAre new.levels v (Noted n ∷ h)) (t.first ∙ is.starts) (s.goes clock.first (Noted n ∷ h) (g.goes h (sym now) was)));
       };
 }
+
+-- ---- the last dispatch that is drawn
+
+turns_one : (step : Step NoMark) (h : History NoMark) → turns (step ∷ h) ≤ turns h + 1
+turns_one (Noted (note.Turn k e)) h = omega arith
+turns_one step h = omega arith
+
+until_turns : (last : ℕ) (h : History NoMark) → min (turns h) last ≡ turns (until last h)
+until_turns last [] = omega arith
+until_turns last (step ∷ past) = by (nat_lt last (turns (step ∷ past))) refl (until_turns last past)
+  where
+    by : (b : Bool) → nat_lt last (turns (step ∷ past)) ≡ b → min (turns past) last ≡ turns (until last past) → min (turns (step ∷ past)) last ≡ turns (until last (step ∷ past))
+    by true e was = rw e (omega (arith, was, turns_one step past, ltb-true last (turns (step ∷ past)) e))
+    by false e was = rw e (omega (arith, ltb-false last (turns (step ∷ past)) e))
+
+pub until_end : (turn last most : ℕ) (h : History NoMark) → turn ≡ turns h → most ≡ last → min turn most ≡ turns (until last h)
+until_end turn last most h e f = ap (λ (v : ℕ). min v most) e ∙ ap (min (turns h)) f ∙ until_turns last h

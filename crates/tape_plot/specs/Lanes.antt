@@ -1,5 +1,5 @@
 -- What a lane stands for: a number, what it changed to in each column, and what it was before the first.
-use Rattle.std.specs.Prelude.{List, None, Option, Some, [], if◌then◌else◌, max, min, ℕ, ◌+◌, ◌-◌, ◌/◌, ◌==◌, ◌∷◌, ◌≡◌, ◌≤◌}
+use Rattle.std.specs.Prelude.{List, None, Option, Some, [], fold, if◌then◌else◌, max, min, ℕ, ◌+◌, ◌-◌, ◌/◌, ◌==◌, ◌∷◌, ◌≡◌, ◌≤◌}
 use Rattle.tape_laws.specs.Dispatches.{turns}
 use Rattle.tape_laws.specs.History.{History, NoMark, Step}
 use Rattle.tape_plot.specs.Spans.{Span, before, changes}
@@ -19,6 +19,10 @@ point_at (p ∷ ps) j = if p.column == j then Some (span_of p) else point_at ps 
 abbrev pub last_of : ℕ → List Point → ℕ
 last_of base [] = base
 last_of base (p ∷ ps) = last_of p.last ps
+
+-- the most of what was before the points and of what they came to
+abbrev pub most_of : ℕ → List Point → ℕ
+most_of base ps = fold (λ most p. max most p.high) base ps
 
 -- the columns of the points rise, from this one on, and end before another
 abbrev pub Rise : ℕ → List Point → ℕ → Type 0

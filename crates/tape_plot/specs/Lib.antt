@@ -6,10 +6,13 @@ pub mod Lanes
 pub mod Levels
 pub mod Lines
 pub mod Path
+pub mod Pictures
 pub mod Reading
 pub mod Reads
 pub mod Said
 pub mod Scale
+pub mod Sheets
+pub mod Shown
 pub mod Spans
 pub mod Standing
 pub mod Subjects

@@ -5,6 +5,7 @@ use Rattle.session_run.specs.Newlines.{has_newline}
 use Rattle.session_run.specs.declared.status.Status.{Status}
 use Rattle.std.specs.Io.KnownBytes.{Consumes, IsAtEnd}
 use Rattle.std.specs.Prelude.{Err, List, Ok, Option, Result, false, length, min, ℕ, ◌++◌, ◌+◌, ◌-◌, ◌^◌, ◌∷◌, ◌≡◌}
+use Rattle.tape_laws.specs.Dispatches.{turns}
 use Rattle.tape_plot.specs.Kept.{PlotIs, until}
 use Rattle.tape_plot.specs.Said.{IsSaid, IsTape, MayFollow, Said, part_of, part_with, said_text, tape_text, told}
 use Rattle.tape_plot.specs.Standing.{LanesStand}
@@ -90,7 +91,8 @@ pub record Reads (left_old left_new : Option (List ℕ)) (outcome : Outcome) : T
   pub reads : read ≡ tape_text said ++ rest
   pub ends : EndsHow outcome.status outcome.line said rest left_new
 
--- The same of a tape that was read whole: each of its lanes stands for what the tape tells up to the last dispatch that is drawn.
+-- The same of a tape that was read whole: its clock stands at the last dispatch that is drawn, and each of its lanes stands for what the
+-- tape tells up to that.
 pub record ReadsTape (left_old left_new : Option (List ℕ)) (first last : ℕ) (tape : Tape) : Type 0 where
   pub read : List ℕ
   pub said : List Said
@@ -101,6 +103,8 @@ pub record ReadsTape (left_old left_new : Option (List ℕ)) (first last : ℕ) 
   pub cut : has_newline rest ≡ false
   pub end : IsAtEnd left_new
   pub part : tape.part ≡ part_of said
+  pub starts : tape.plot.clock.first ≡ first
+  pub ends : min tape.plot.clock.turn tape.plot.clock.last ≡ turns (until last (told said))
   pub lanes : LanesStand tape.plot.levels first (until last (told said))
 
 abbrev pub ReadsAs : Option (List ℕ) → Option (List ℕ) → ℕ → ℕ → Result Tape Outcome → Type 0

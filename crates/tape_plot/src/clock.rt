@@ -21,7 +21,7 @@ pub struct Clock {
 }
 
 impl Clock {
-    ghost use Rattle.std.specs.Prelude.{◌≡◌, ◌+◌, ◌≤◌, nat_lt, OnOk};
+    ghost use Rattle.std.specs.Prelude.{◌≡◌, ◌+◌, min, nat_lt, OnOk};
     ghost use Rattle.tape_plot.specs.Turns.{Ticks, turns_of};
 
     /// Before the first dispatch, with a column for each.
@@ -79,15 +79,9 @@ impl Clock {
     }
 
     /// The last dispatch that is drawn.
-    pub fn end(&self) -> u64 {
-        self.turn.min(self.last)
-    }
-
-    /// How many columns are in use, at least 1.
-    pub fn columns(&self) -> u64
-        ensures { 1 ≤ result }
+    pub fn end(&self) -> u64
+        ensures { result ≡ min self.now.turn self.now.last }
     {
-        let behind = self.end().saturating_sub(self.first);
-        self.width.column(behind).saturating_add(1)
+        self.turn.min(self.last)
     }
 }

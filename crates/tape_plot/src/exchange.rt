@@ -51,6 +51,7 @@ pub struct Exchange {
 impl Exchange {
     ghost use Rattle.std.specs.Prelude.{◌≡◌, None, if◌then◌else◌, IfOk, OnOk};
     ghost use Rattle.tape_plot.specs.Goes.{DoomsBoth, ExchangeFills, ExchangeGoes, ExchangeStays, HandsOn, IsArrival, IsFrame, IsNew, Starts, framed_by};
+    ghost use Rattle.tape_plot.specs.Standing.{flow_of};
 
     /// Before its first note. Takes no memory.
     pub fn new(alloc: Global) -> Self
@@ -62,6 +63,13 @@ impl Exchange {
             relay: None,
             doom: None,
         }
+    }
+
+    /// The flow of its response, or of its request.
+    pub fn flow(&self, back: bool) -> &Flow
+        ensures { result.now ≡ flow_of self.now back }
+    {
+        if back { &self.response } else { &self.request }
     }
 
     /// Goes on with a note of it, of the present dispatch. Answers what the note brings into a write buffer.

@@ -54,8 +54,8 @@ pub struct Lane {
 }
 
 impl Lane {
-    ghost use Rattle.std.specs.Prelude.{◌≡◌, ◌≤◌, ◌*◌, OnOk};
-    ghost use Rattle.tape_plot.specs.Lanes.{Fits, Sets, drawn_of, fresh, last_of};
+    ghost use Rattle.std.specs.Prelude.{◌≡◌, ◌≤◌, ◌*◌, IfOk, OnOk};
+    ghost use Rattle.tape_plot.specs.Lanes.{Fits, Sets, drawn_of, fresh, last_of, most_of};
 
     /// 0 so far. Takes no memory.
     pub fn new(alloc: Global) -> Self
@@ -92,10 +92,20 @@ impl Lane {
         self.points.as_slice()
     }
 
+    /// How many dispatches a column of its points has.
+    pub fn width(&self) -> Width
+        ensures { result ≡ self.now.width }
+    {
+        self.width
+    }
+
     /// The most that it was, before the first column or in any.
-    pub fn most(&self) -> u64 {
+    pub fn most(&self) -> u64
+        ensures { result ≡ most_of self.now.base self.now.points.items }
+    {
+        let points = self.points.as_slice();
         let mut most = self.base;
-        for point in self.points() {
+        for point in points {
             most = most.max(point.high);
         }
         most
@@ -120,6 +130,26 @@ impl Lane {
             last: level,
         };
         put_point(&mut self.points, point)
+    }
+
+    /// The same number in columns at least so wide.
+    pub fn fitted(&self, width: Width) -> Result<Lane, NoMemory>
+        ensures { IfOk result (λ lane. Fits (drawn_of self.now) (drawn_of lane)) }
+    {
+        let mut lane = self.copied()?;
+        lane.fit(width)?;
+        Ok(lane)
+    }
+
+    fn copied(&self) -> Result<Lane, NoMemory>
+        ensures { IfOk result (λ lane. drawn_of lane ≡ drawn_of self.now) }
+    {
+        let points = Vec::from_slice(*self.points.allocator(), self.points())?;
+        Ok(Lane {
+            base: self.base,
+            points,
+            width: self.width,
+        })
     }
 
     /// Its columns get so wide, if they aren't. After running out of memory the lane is to be let go.

@@ -83,7 +83,10 @@ impl Plot {
     }
 
     /// All marks are brought to the columns of the clock.
-    pub fn fit_marks(&mut self) -> Result<(), NoMemory> {
+    pub fn fit_marks(&mut self) -> Result<(), NoMemory>
+        ensures levels { self.new.levels ≡ self.old.levels }
+        ensures clock { self.new.clock ≡ self.old.clock }
+    {
         let width = self.clock.width;
         self.turns.fit(width)?;
         self.dooms.fit(width)?;

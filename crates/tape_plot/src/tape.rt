@@ -7,6 +7,7 @@ ghost use Rattle.tape_plot.specs.Ending as spec;
 ghost use Rattle.tape_plot.specs.Lines.{line_text};
 ghost use Rattle.tape_plot.specs.Reading.{Caused, ReadsNote, Refuses};
 ghost use Rattle.tape_plot.specs.Goes.{PlotGoes, PlotStays};
+ghost use Rattle.tape_plot.specs.Pictures.{DrawsAs, PicturesAs, WritesText};
 ghost use Rattle.tape_plot.specs.Reads.{Follows, Goes, Reads, ReadsAs};
 ghost use Rattle.tape_plot.specs.Said.{part_with};
 ghost use Rattle.tape_plot.specs.Said as said;
@@ -20,7 +21,7 @@ use crate::plot::Plot;
 use crate::report::{Line, read_line};
 use crate::words::first_word;
 use flow_notes::{NameRefusal, Names, Note, read_note};
-use io_ports::{NoMemory, Sink, Source};
+use io_ports::{NoMemory, Octets, Sink, Source};
 use session_run::{Lines, Status, write_all};
 use std::alloc::Global;
 
@@ -246,9 +247,9 @@ fn ended(status: Status) -> Outcome
     }
 }
 
-/// Reads a tape with its summary from the source, of which the dispatches are drawn that are chosen: what is drawn of each buffer and
-/// each read-disable count is what the tape tells. Or how it came to no picture: where a line is refused, the source fails or memory runs
-/// out.
+/// Reads a tape with its summary from the source, and keeps lanes of the dispatches that are chosen: that of each buffer and of each
+/// read-disable count stands for what the tape tells. Or how it came to no picture: where a line is refused, the source fails or memory
+/// runs out.
 pub fn read_tape<S: Source>(alloc: Global, choice: &Choice, source: &mut S) -> Result<Tape, Outcome>
     ensures reads { ReadsAs (S.left source.old) (S.left source.new) choice.now.first choice.now.last result }
     ensures refused { IfErr result (IsRefused (Rose (S.faults source.old) (S.faults source.new))) }
@@ -268,8 +269,9 @@ pub fn read_tape<S: Source>(alloc: Global, choice: &Choice, source: &mut S) -> R
     }
 }
 
-/// Reads a tape with its summary from the source, and writes the picture of what is chosen of it as one SVG file. Where a line is
-/// refused, the source fails or memory runs out, nothing is written.
+/// Reads a tape with its summary from the source, and writes the picture of what is chosen of it as one SVG file. It has a line for each
+/// buffer that the choice asks for by name, or with all others, unless that held nothing in the dispatches that are drawn: the line shows
+/// what the tape tells of the buffer. Where a line of the tape is refused, the source fails or memory runs out, nothing is written.
 pub fn plot_tape<S: Source, K: Sink>(
     alloc: Global,
     choice: &Choice,
@@ -278,17 +280,39 @@ pub fn plot_tape<S: Source, K: Sink>(
 ) -> Outcome
     ensures reads { Reads (S.left source.old) (S.left source.new) result }
     ensures ends { EndsRight (Rose (S.faults source.old) (S.faults source.new)) (Rose (K.faults out.old) (K.faults out.new)) (K.contents out.old) (K.contents out.new) result }
+    ensures draws { DrawsAs (S.left source.old) (S.left source.new) (K.contents out.old) (K.contents out.new) choice.now result.status }
     ensures source { S.faults source.old ≤ S.faults source.new }
     ensures out { K.faults out.old ≤ K.faults out.new }
 {
-    let tape = match read_tape(alloc, choice, source) {
-        Ok(tape) => tape,
-        Err(outcome) => return outcome,
-    };
-    let Ok(text) = draw(alloc, tape.plot, tape.part, choice.lanes) else {
-        return ended(Status::Memory);
-    };
-    match write_all(out, text.as_slice()) {
+    match read_picture(alloc, choice, source) {
+        Ok(text) => write_picture(out, text.as_slice()),
+        Err(outcome) => outcome,
+    }
+}
+
+// Reads a tape, and draws it.
+fn read_picture<S: Source>(
+    alloc: Global,
+    choice: &Choice,
+    source: &mut S,
+) -> Result<Octets, Outcome>
+    ensures reads { PicturesAs (S.left source.old) (S.left source.new) choice.now result }
+    ensures refused { IfErr result (IsRefused (Rose (S.faults source.old) (S.faults source.new))) }
+    ensures faults { S.faults source.old ≤ S.faults source.new }
+{
+    let mut tape = read_tape(alloc, choice, source)?;
+    match draw(alloc, &mut tape.plot, tape.part, choice.lanes) {
+        Ok(text) => Ok(text),
+        Err(_) => Err(ended(Status::Memory)),
+    }
+}
+
+// Writes a picture.
+fn write_picture<K: Sink>(out: &mut K, text: &[u8]) -> Outcome
+    ensures writes { WritesText (Rose (K.faults out.old) (K.faults out.new)) (K.contents out.old) (K.contents out.new) text.now result }
+    ensures faults { K.faults out.old ≤ K.faults out.new }
+{
+    match write_all(out, text) {
         Ok(()) => ended(Status::Done),
         Err(_) => ended(Status::WriteFault),
     }

@@ -1,15 +1,32 @@
 // The bar of a flow's read-disable count.
-use super::frame::{Frame, LEFT, PLOT};
-use super::put::{open_rect, put_rect};
+use super::frame::{Frame, LEFT, PLOT, WORDS};
+use super::put::{end_text, open_rect, open_text, put_rect};
 use crate::lane::Lane;
+use flow_gate::FlowId;
 use io_ports::{NoMemory, Octets};
-use tape_summary::put_behind;
+use tape_summary::{put_behind, put_flow};
 
 /// How high a bar is.
 pub const BAR: u64 = 9;
 
-/// The count of a flow: white where it is 0.
-pub fn put_bar(into: &mut Octets, frame: &Frame, y: u64, lane: &Lane) -> Result<(), NoMemory> {
+/// The bar of a flow, with its name before it.
+pub fn put_bar_row(
+    into: &mut Octets,
+    frame: &Frame,
+    y: u64,
+    id: FlowId,
+    count: &Lane,
+) -> Result<(), NoMemory> {
+    open_text(into, b"e", WORDS, y.saturating_add(8))?;
+    put_flow(into, id)?;
+    into.push_all(b" read-disable count")?;
+    end_text(into)?;
+    let count = count.fitted(frame.width)?;
+    put_bar(into, frame, y, &count)
+}
+
+// The count of a flow: white where it is 0.
+fn put_bar(into: &mut Octets, frame: &Frame, y: u64, lane: &Lane) -> Result<(), NoMemory> {
     put_rect(into, b"f", LEFT, y, PLOT, BAR)?;
     let mut count = lane.base();
     let mut column = 0;

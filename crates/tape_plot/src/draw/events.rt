@@ -1,6 +1,6 @@
 // Marks, and what began each dispatch.
-use super::frame::{AXIS, Frame};
-use super::put::open_rect;
+use super::frame::{AXIS, Frame, WORDS};
+use super::put::{open_rect, put_text};
 use crate::mark::Mark;
 use io_ports::{NoMemory, Octets};
 use tape_summary::put_behind;
@@ -22,6 +22,15 @@ impl Shape {
         }
     }
 
+    // What it stands for.
+    fn words(self) -> &'static [u8] {
+        match self {
+            Shape::Triangle => b"doom of an exchange",
+            Shape::Square => b"close of a connection",
+            Shape::Diamond => b"timer",
+        }
+    }
+
     fn path(self) -> &'static [u8] {
         match self {
             Shape::Triangle => b"m-5-4h10l-5 9z",
@@ -31,8 +40,8 @@ impl Shape {
     }
 }
 
-/// A mark of a shape at the beginning of its column, with what it says as its title.
-pub fn put_mark(
+// A mark of a shape at the beginning of its column, with what it says as its title.
+fn put_mark(
     into: &mut Octets,
     frame: &Frame,
     y: u64,
@@ -51,8 +60,28 @@ pub fn put_mark(
     into.push_all(b"</title></path>\n")
 }
 
-/// A mark for each column that has any.
-pub fn put_marks(
+/// The doom of a flow's exchange beside its bar, where that is drawn.
+pub fn put_doom(into: &mut Octets, frame: &Frame, y: u64, mark: &Mark) -> Result<(), NoMemory> {
+    if mark.turn < frame.first {
+        return Ok(());
+    }
+    put_mark(into, frame, y.saturating_add(4), Shape::Triangle, mark)
+}
+
+/// A row of marks of a shape, with what it stands for before them.
+pub fn put_row(
+    into: &mut Octets,
+    frame: &Frame,
+    y: u64,
+    shape: Shape,
+    marks: &[Mark],
+) -> Result<(), NoMemory> {
+    put_text(into, b"e", WORDS, y.saturating_add(10), shape.words())?;
+    put_marks(into, frame, y.saturating_add(6), shape, marks)
+}
+
+// A mark for each column that has any.
+fn put_marks(
     into: &mut Octets,
     frame: &Frame,
     y: u64,

@@ -11,6 +11,9 @@ pub const WIDTH: u64 = 1240;
 /// Where the columns begin.
 pub const LEFT: u64 = 190;
 
+/// Where words end that stand before the columns.
+pub const WORDS: u64 = LEFT - 8;
+
 /// How wide all columns are together.
 pub const PLOT: u64 = 960;
 
@@ -37,15 +40,35 @@ pub struct Frame {
 }
 
 impl Frame {
-    ghost use Rattle.std.specs.Prelude.{◌≡◌};
-    ghost use Rattle.tape_plot.specs.Scale.{column_x};
+    ghost use Rattle.std.specs.Prelude.{◌≡◌, min};
+    ghost use Rattle.tape_plot.specs.Scale.{column_x, columns_of};
 
-    pub fn new(clock: &Clock) -> Self {
+    /// The columns of the clock.
+    pub fn new(clock: &Clock) -> Self
+        ensures first { result.first ≡ clock.now.first }
+        ensures end { result.end ≡ min clock.now.turn clock.now.last }
+    {
+        Frame::of(clock.first, clock.end(), clock.width)
+    }
+
+    /// The same dispatches in columns of this width.
+    pub fn in_columns(&self, width: Width) -> Self
+        ensures { result.columns ≡ columns_of self.now.first self.now.end width.turns }
+    {
+        Frame::of(self.first, self.end, width)
+    }
+
+    fn of(first: u64, end: u64, width: Width) -> Self
+        ensures first { result.first ≡ first }
+        ensures end { result.end ≡ end }
+        ensures columns { result.columns ≡ columns_of first end width.turns }
+    {
+        let behind = end.saturating_sub(first);
         Frame {
-            first: clock.first,
-            end: clock.end(),
-            width: clock.width,
-            columns: clock.columns(),
+            first,
+            end,
+            width,
+            columns: width.column(behind).saturating_add(1),
         }
     }
 

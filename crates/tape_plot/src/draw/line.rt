@@ -1,10 +1,10 @@
 // The lane of a buffer.
 ghost use Rattle.std.specs.Prelude.{◌≡◌, ◌++◌, OnOk};
 ghost use Rattle.tape_plot.specs.Path.{path_text, point_text, points_text};
+ghost use Rattle.tape_plot.specs.Scale as scale;
 
 use super::frame::{END, Frame, LANE, LEFT, PLOT, height};
 use super::put::{end_text, open_rect, open_text, put_level_line, put_number_text, put_rect};
-use crate::flow::Place;
 use crate::lane::{Lane, Point};
 use io_ports::{NoMemory, Octets};
 use tape_summary::{put_behind, put_number};
@@ -24,19 +24,20 @@ pub struct Scene {
 
 impl Scene {
     ghost use Rattle.std.specs.Prelude.{◌≡◌};
+    ghost use Rattle.tape_plot.specs.Lanes.{most_of};
     ghost use Rattle.tape_plot.specs.Path.{bottom_y, level_y};
+    ghost use Rattle.tape_plot.specs.Scale.{columns_of, top_of};
 
-    /// The lane of a buffer: as high as the limit, or as its highest level where that is more, or where the limit is far above
-    /// it.
-    pub fn new(frame: Frame, y: u64, place: &Place) -> Self {
-        let most = place.lane.most();
-        let limit = u64::from(place.limit.unwrap_or(0));
-        let top = if limit <= most.saturating_mul(FAR) {
-            limit.max(most)
-        } else {
-            most
-        };
-        Scene { frame, y, top }
+    /// A lane in columns as wide as those of its points.
+    pub fn new(frame: &Frame, y: u64, lane: &Lane, limit: u64) -> Self
+        ensures columns { result.frame.columns ≡ columns_of frame.now.first frame.now.end lane.now.width.turns }
+        ensures top { result.top ≡ top_of limit (most_of lane.now.base lane.now.points.items) }
+    {
+        Scene {
+            frame: frame.in_columns(lane.width()),
+            y,
+            top: top_of(limit, lane.most()),
+        }
     }
 
     /// Where a level stands.
@@ -53,18 +54,32 @@ impl Scene {
     }
 }
 
-/// The levels of a buffer, with its limit.
-pub fn put_place(
+// The level at the upper end of a lane: the limit, or its highest level where that is more, or where the limit is far above it.
+fn top_of(limit: u64, most: u64) -> u64
+    ensures { result ≡ scale.top_of limit most }
+{
+    if limit <= most.saturating_mul(FAR) {
+        limit.max(most)
+    } else {
+        most
+    }
+}
+
+/// The field that the line of a lane stands in.
+pub fn put_field(into: &mut Octets, scene: &Scene) -> Result<(), NoMemory> {
+    put_rect(into, b"f", LEFT, scene.y, PLOT, LANE)
+}
+
+/// What stands in the field of a lane besides its line: its limit, what is above it, and the scale.
+pub fn put_limits(
     into: &mut Octets,
     scene: &Scene,
-    place: &Place,
+    lane: &Lane,
+    limit: u64,
     is_watched: bool,
 ) -> Result<(), NoMemory> {
-    put_rect(into, b"f", LEFT, scene.y, PLOT, LANE)?;
-    let limit = u64::from(place.limit.unwrap_or(0));
-    put_path(into, scene, &place.lane)?;
     if limit > 0 && is_watched {
-        put_above(into, scene, &place.lane, limit)?;
+        put_above(into, scene, lane, limit)?;
     }
     if limit > 0 && limit <= scene.top {
         put_level_line(into, b"m", LEFT, scene.level(limit), END)?;
@@ -91,8 +106,8 @@ fn put_scale(into: &mut Octets, scene: &Scene, limit: u64) -> Result<(), NoMemor
     Ok(())
 }
 
-// The levels as one line: in each column in which they changed to the lowest, the highest and the last.
-fn put_path(into: &mut Octets, scene: &Scene, lane: &Lane) -> Result<(), NoMemory>
+/// The levels as one line: in each column in which they changed to the lowest, the highest and the last.
+pub fn put_path(into: &mut Octets, scene: &Scene, lane: &Lane) -> Result<(), NoMemory>
     ensures { OnOk result (into.new ≡ into.old ++ path_text scene.now lane.now.base lane.now.points.items) }
 {
     put_behind(into, b"<path class=\"l\" d=\"M", LEFT)?;

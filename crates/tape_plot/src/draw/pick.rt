@@ -1,4 +1,7 @@
 // Which lanes are drawn.
+ghost use Rattle.std.specs.Prelude.{◌≡◌, IfOk, true};
+ghost use Rattle.tape_plot.specs.Shown.{AsksFlow, AsksWrite};
+
 use crate::choice::Lanes;
 use crate::exchange::Exchange;
 use crate::flow::{Flow, Place};
@@ -21,14 +24,14 @@ pub struct Pick {
 }
 
 impl Pick {
-    pub fn new(alloc: Global, levels: &Levels, lanes: Lanes) -> Result<Self, NoMemory> {
-        let mut ranks = Vec::new(alloc);
-        for exchange in levels.exchanges.items.values() {
-            put_exchange(&mut ranks, exchange)?;
-        }
-        for connection in levels.connections.items.values() {
-            put_rank(&mut ranks, &connection.write)?;
-        }
+    ghost use Rattle.std.specs.Prelude.{◌≡◌, IfOk, true};
+    ghost use Rattle.tape_plot.specs.Shown.{AsksFlow, AsksWrite};
+
+    /// What is picked of these by a choice.
+    pub fn new(alloc: Global, levels: &Levels, lanes: Lanes) -> Result<Self, NoMemory>
+        ensures { IfOk result (λ pick. pick.lanes ≡ lanes) }
+    {
+        let ranks = ranks_of(alloc, levels)?;
         let buffers = ranks.len() as u64;
         let least = if lanes == Lanes::Highest {
             least_of(ranks)?
@@ -43,18 +46,24 @@ impl Pick {
     }
 
     /// Whether this buffer of a flow, with so many before it, is drawn.
-    pub fn takes_place(&self, flow: FlowId, place: &Place, number: u64) -> bool {
+    pub fn takes_place(&self, flow: FlowId, place: &Place, number: u64) -> bool
+        ensures { AsksFlow self.now.lanes flow → result ≡ true }
+    {
         match self.lanes {
+            Lanes::Highest => self.takes(place, number),
+            Lanes::All => true,
             Lanes::Named { flow: named, .. } => named == Some(flow),
-            _ => self.takes(place, number),
         }
     }
 
     /// Whether this connection's write buffer, with so many before it, is drawn.
-    pub fn takes_write(&self, conn: u32, place: &Place, number: u64) -> bool {
+    pub fn takes_write(&self, conn: u32, place: &Place, number: u64) -> bool
+        ensures { AsksWrite self.now.lanes conn → result ≡ true }
+    {
         match self.lanes {
+            Lanes::Highest => self.takes(place, number),
+            Lanes::All => true,
             Lanes::Named { conn: named, .. } => named == Some(conn),
-            _ => self.takes(place, number),
         }
     }
 
@@ -73,6 +82,18 @@ impl Pick {
             None => true,
         }
     }
+}
+
+// The ranks of all buffers that ever held an octet.
+fn ranks_of(alloc: Global, levels: &Levels) -> Result<Vec<Rank>, NoMemory> {
+    let mut ranks = Vec::new(alloc);
+    for exchange in levels.exchanges.items.values() {
+        put_exchange(&mut ranks, exchange)?;
+    }
+    for connection in levels.connections.items.values() {
+        put_rank(&mut ranks, &connection.write)?;
+    }
+    Ok(ranks)
 }
 
 fn put_exchange(ranks: &mut Vec<Rank>, exchange: &Exchange) -> Result<(), NoMemory> {

@@ -1,29 +1,34 @@
 // The rows of the picture, from above.
-use super::bar::{BAR, put_bar};
-use super::events::{Shape, put_mark, put_marks};
-use super::frame::{AXIS, Frame, LANE, LEFT};
-use super::line::{Scene, put_place};
+ghost use Rattle.std.specs.List.{Contains};
+ghost use Rattle.std.specs.Prelude.{◌≡◌, All, OnOk, true};
+ghost use Rattle.tape_plot.specs.Lanes.{drawn_of};
+ghost use Rattle.tape_plot.specs.Path.{path_text};
+ghost use Rattle.tape_plot.specs.Sheets.{ExchangeDrawn, FlowDrawn, Grows, Has, LevelsDrawn, WriteDrawn};
+ghost use Rattle.tape_plot.specs.Shown.{AsksFlow, AsksWrite, HasLine};
+
+use super::bar::{BAR, put_bar_row};
+use super::events::{Shape, put_doom, put_row};
+use super::frame::{AXIS, Frame, LANE};
+use super::line::{Scene, put_field, put_limits, put_path};
+use super::name::{Name, put_names};
 use super::pick::Pick;
-use super::put::{end_text, open_text, put_text};
+use super::sheet::Sheet;
+use crate::connections::Connections;
 use crate::exchange::Exchange;
-use crate::flow::{Flow, Place};
+use crate::exchanges::Exchanges;
+use crate::flow::Place;
 use crate::lane::Lane;
 use crate::levels::Levels;
 use crate::mark::{Mark, Marks};
 use crate::plot::Plot;
 use flow_gate::FlowId;
-use io_ports::{NoMemory, Octets};
+use io_ports::NoMemory;
 use std::alloc::Global;
-use tape_summary::{put_behind, put_flow};
-
-/// Where words end that stand before the columns.
-const WORDS: u64 = LEFT - 8;
 
 /// Rows that are drawn so far.
 #[derive(Drop)]
 pub struct Rows {
-    pub text: Octets,
-    frame: Frame,
+    pub sheet: Sheet,
     /// Where the next row begins.
     pub y: u64,
     /// How many buffers that ever held an octet came so far.
@@ -34,22 +39,20 @@ pub struct Rows {
     bars: u64,
 }
 
-// Which buffer a lane is of.
-#[derive(Clone, Copy)]
-enum Name {
-    Recv(FlowId),
-    Stage(FlowId, u64),
-    Send(FlowId),
-    /// A place that is a stage or the send buffer.
-    Place(FlowId, u64),
-    Write(u32),
-}
-
 impl Rows {
-    pub fn new(alloc: Global, frame: Frame) -> Self {
+    ghost use Rattle.std.specs.List.{Contains};
+    ghost use Rattle.std.specs.Prelude.{◌≡◌, All, OnOk, true};
+    ghost use Rattle.tape_plot.specs.Lanes.{drawn_of};
+    ghost use Rattle.tape_plot.specs.Path.{path_text};
+    ghost use Rattle.tape_plot.specs.Sheets.{ExchangeDrawn, FlowDrawn, Grows, Has, LevelsDrawn, WriteDrawn};
+    ghost use Rattle.tape_plot.specs.Shown.{AsksFlow, AsksWrite, HasLine};
+
+    /// No rows. Takes no memory.
+    pub fn new(alloc: Global, frame: Frame) -> Self
+        ensures { result.sheet.frame ≡ frame }
+    {
         Rows {
-            text: Octets::new(alloc),
-            frame,
+            sheet: Sheet::new(alloc, frame),
             y: AXIS + 10,
             buffers: 0,
             lanes: 0,
@@ -58,53 +61,73 @@ impl Rows {
     }
 
     /// A row for the dooms, one for the closes and one for the fires, where there are any.
-    pub fn put_events(&mut self, plot: &Plot) -> Result<(), NoMemory> {
-        self.put_marks(b"doom of an exchange", Shape::Triangle, &plot.dooms)?;
-        self.put_marks(b"close of a connection", Shape::Square, &plot.closes)?;
-        self.put_marks(b"timer", Shape::Diamond, &plot.fires)?;
-        self.down(6);
+    pub fn put_events(&mut self, plot: &Plot) -> Result<(), NoMemory>
+        ensures { OnOk result (Grows self.old.sheet self.new.sheet) }
+    {
+        self.put_marks(Shape::Triangle, &plot.dooms)?;
+        self.put_marks(Shape::Square, &plot.closes)?;
+        self.put_marks(Shape::Diamond, &plot.fires)?;
+        self.y = self.y.saturating_add(6);
         Ok(())
     }
 
-    fn put_marks(&mut self, words: &[u8], shape: Shape, marks: &Marks) -> Result<(), NoMemory> {
+    fn put_marks(&mut self, shape: Shape, marks: &Marks) -> Result<(), NoMemory>
+        ensures { OnOk result (Grows self.old.sheet self.new.sheet) }
+    {
         if marks.marks().is_empty() {
             return Ok(());
         }
-        put_text(
-            &mut self.text,
-            b"e",
-            WORDS,
-            self.y.saturating_add(10),
-            words,
-        )?;
-        let middle = self.y.saturating_add(6);
-        put_marks(&mut self.text, &self.frame, middle, shape, marks.marks())?;
-        self.down(16);
-        Ok(())
+        let mut text = self.sheet.piece();
+        put_row(&mut text, &self.sheet.frame, self.y, shape, marks.marks())?;
+        self.y = self.y.saturating_add(16);
+        self.sheet.push(text)
     }
 
     /// The lanes that are picked, of flows with their bars and then of connections.
-    pub fn put_levels(&mut self, levels: Levels, pick: &Pick) -> Result<(), NoMemory> {
-        let exchanges = levels.exchanges;
-        for (number, exchange) in exchanges.items {
-            self.put_exchange(number, exchange, pick)?;
-        }
-        let connections = levels.connections;
-        for (conn, connection) in connections.items {
-            let is_picked = pick.takes_write(conn, &connection.write, self.buffers);
-            self.put_place(Name::Write(conn), connection.write, is_picked)?;
+    pub fn put_levels(&mut self, levels: &Levels, pick: &Pick) -> Result<(), NoMemory>
+        ensures { OnOk result (LevelsDrawn (Contains self.new.sheet.pieces.items) self.old.sheet.frame.first self.old.sheet.frame.end pick.now.lanes levels.now) }
+    {
+        self.put_exchanges(&levels.exchanges, pick)?;
+        self.put_connections(&levels.connections, pick)
+    }
+
+    fn put_exchanges(&mut self, exchanges: &Exchanges, pick: &Pick) -> Result<(), NoMemory>
+        ensures grows { OnOk result (Grows self.old.sheet self.new.sheet) }
+        ensures drawn { OnOk result (All (λ e. ExchangeDrawn self.new.sheet pick.now.lanes e.0 e.1) exchanges.now.items.entries) }
+    {
+        for (number, exchange) in exchanges.items.iter() {
+            self.put_exchange(*number, exchange, pick)?;
         }
         Ok(())
+    }
+
+    fn put_connections(&mut self, connections: &Connections, pick: &Pick) -> Result<(), NoMemory>
+        ensures grows { OnOk result (Grows self.old.sheet self.new.sheet) }
+        ensures drawn { OnOk result (All (λ e. WriteDrawn self.new.sheet pick.now.lanes e.0 e.1) connections.now.items.entries) }
+    {
+        for (conn, connection) in connections.items.iter() {
+            self.put_write(*conn, &connection.write, pick)?;
+        }
+        Ok(())
+    }
+
+    fn put_write(&mut self, conn: u32, write: &Place, pick: &Pick) -> Result<(), NoMemory>
+        ensures grows { OnOk result (Grows self.old.sheet self.new.sheet) }
+        ensures drawn { OnOk result (AsksWrite pick.now.lanes conn → Has self.new.sheet (drawn_of write.now.lane)) }
+    {
+        let is_picked = pick.takes_write(conn, write, self.buffers);
+        self.put_place(Name::Write(conn), write, is_picked)
     }
 
     fn put_exchange(
         &mut self,
         number: u64,
-        exchange: Exchange,
+        exchange: &Exchange,
         pick: &Pick,
-    ) -> Result<(), NoMemory> {
-        let doom = exchange.doom;
-        let is_relayed = exchange.relay.is_some();
+    ) -> Result<(), NoMemory>
+        ensures grows { OnOk result (Grows self.old.sheet self.new.sheet) }
+        ensures drawn { OnOk result (ExchangeDrawn self.new.sheet pick.now.lanes number exchange.now) }
+    {
         let request = FlowId {
             exchange: number,
             back: false,
@@ -113,64 +136,65 @@ impl Rows {
             exchange: number,
             back: true,
         };
-        self.put_flow(request, exchange.request, is_relayed, doom, pick)?;
-        self.put_flow(response, exchange.response, is_relayed, doom, pick)
+        self.put_flow(request, exchange, pick)?;
+        self.put_flow(response, exchange, pick)
     }
 
-    fn put_flow(
+    // The lanes of a flow of an exchange, and its bar.
+    fn put_flow(&mut self, id: FlowId, exchange: &Exchange, pick: &Pick) -> Result<(), NoMemory>
+        ensures grows { OnOk result (Grows self.old.sheet self.new.sheet) }
+        ensures drawn { OnOk result (FlowDrawn self.new.sheet pick.now.lanes id exchange.now) }
+    {
+        let before = self.lanes;
+        let flow = exchange.flow(id.back);
+        self.put_places(id, flow.places.as_slice(), flow.sends, pick)?;
+        let is_paused = exchange.relay.is_some() && flow.count.most() > 0;
+        if self.lanes > before || is_paused && pick.takes_bar(id, self.bars) {
+            return self.put_count(id, &flow.count, exchange.doom.as_ref());
+        }
+        Ok(())
+    }
+
+    fn put_places(
         &mut self,
         id: FlowId,
-        flow: Flow,
-        is_relayed: bool,
-        doom: Option<Mark>,
+        places: &[Place],
+        sends: bool,
         pick: &Pick,
-    ) -> Result<(), NoMemory> {
-        let before = self.lanes;
-        let end = flow.places.len() as u64;
-        let sends = flow.sends;
+    ) -> Result<(), NoMemory>
+        ensures grows { OnOk result (Grows self.old.sheet self.new.sheet) }
+        ensures drawn { OnOk result (AsksFlow pick.now.lanes id → All (λ p. Has self.new.sheet (drawn_of p.lane)) places.now) }
+    {
+        let end = places.len() as u64;
         let mut i = 0u64;
-        for place in flow.places {
-            let name = place_name(id, i, end, sends, &place);
-            let is_picked = pick.takes_place(id, &place, self.buffers);
+        for place in places {
+            let name = Name::of_place(id, i, end, sends, place);
+            let is_picked = pick.takes_place(id, place, self.buffers);
             self.put_place(name, place, is_picked)?;
             i = i.saturating_add(1);
-        }
-        let mut count = flow.count;
-        count.fit(self.frame.width)?;
-        let is_paused = is_relayed && count.most() > 0;
-        if self.lanes > before || is_paused && pick.takes_bar(id, self.bars) {
-            return self.put_count(id, &count, doom);
         }
         Ok(())
     }
 
     // The bar of a flow, with its doom.
-    fn put_count(&mut self, id: FlowId, count: &Lane, doom: Option<Mark>) -> Result<(), NoMemory> {
+    fn put_count(&mut self, id: FlowId, count: &Lane, doom: Option<&Mark>) -> Result<(), NoMemory>
+        ensures { OnOk result (Grows self.old.sheet self.new.sheet) }
+    {
         self.bars = self.bars.saturating_add(1);
-        open_text(&mut self.text, b"e", WORDS, self.y.saturating_add(8))?;
-        put_flow(&mut self.text, id)?;
-        self.text.push_all(b" read-disable count")?;
-        end_text(&mut self.text)?;
-        put_bar(&mut self.text, &self.frame, self.y, count)?;
-        self.put_doom(doom)?;
-        self.down(BAR + 14);
-        Ok(())
-    }
-
-    fn put_doom(&mut self, doom: Option<Mark>) -> Result<(), NoMemory> {
-        match doom {
-            Some(mark) if mark.turn >= self.frame.first => {
-                let middle = self.y.saturating_add(4);
-                put_mark(&mut self.text, &self.frame, middle, Shape::Triangle, &mark)
-            }
-            _ => Ok(()),
+        let mut text = self.sheet.piece();
+        put_bar_row(&mut text, &self.sheet.frame, self.y, id, count)?;
+        if let Some(mark) = doom {
+            put_doom(&mut text, &self.sheet.frame, self.y, mark)?;
         }
+        self.y = self.y.saturating_add(BAR + 14);
+        self.sheet.push(text)
     }
 
     // The lane of a buffer that ever held an octet.
-    fn put_place(&mut self, name: Name, place: Place, is_picked: bool) -> Result<(), NoMemory> {
-        let mut place = place;
-        place.lane.fit(self.frame.width)?;
+    fn put_place(&mut self, name: Name, place: &Place, is_picked: bool) -> Result<(), NoMemory>
+        ensures grows { OnOk result (Grows self.old.sheet self.new.sheet) }
+        ensures drawn { OnOk result (is_picked ≡ true → Has self.new.sheet (drawn_of place.now.lane)) }
+    {
         if place.lane.most() == 0 {
             return Ok(());
         }
@@ -179,75 +203,65 @@ impl Rows {
             return Ok(());
         }
         self.lanes = self.lanes.saturating_add(1);
-        self.put_names(name, &place)?;
-        let scene = Scene::new(self.frame, self.y, &place);
-        put_place(&mut self.text, &scene, &place, is_watched(name))?;
-        self.down(LANE + 8);
+        let lane = place.lane.fitted(self.sheet.frame.width)?;
+        self.put_lane(name, &lane, place.limit)
+    }
+
+    fn put_lane(&mut self, name: Name, lane: &Lane, limit: Option<u32>) -> Result<(), NoMemory>
+        ensures grows { OnOk result (Grows self.old.sheet self.new.sheet) }
+        ensures drawn { OnOk result (HasLine (Contains self.new.sheet.pieces.items) self.old.sheet.frame.first self.old.sheet.frame.end (drawn_of lane.now)) }
+    {
+        let scene = Scene::new(&self.sheet.frame, self.y, lane, known(limit));
+        self.put_head(&scene, name, lane, limit)?;
+        self.put_line(&scene, lane)?;
+        self.put_tail(&scene, name, lane, limit)?;
+        self.y = self.y.saturating_add(LANE + 8);
         Ok(())
     }
 
-    // What stands before a lane: its buffer, and the most that it held and its limit.
-    fn put_names(&mut self, name: Name, place: &Place) -> Result<(), NoMemory> {
-        open_text(&mut self.text, b"b", WORDS, self.y.saturating_add(16))?;
-        put_name(&mut self.text, name)?;
-        end_text(&mut self.text)?;
-        open_text(&mut self.text, b"e", WORDS, self.y.saturating_add(31))?;
-        put_behind(&mut self.text, b"max ", place.lane.most())?;
-        if let Some(limit) = place.limit {
-            match name {
-                Name::Recv(_) => put_behind(&mut self.text, b", window ", u64::from(limit))?,
-                _ if limit == 0 => self.text.push_all(b", no limit")?,
-                _ => put_behind(&mut self.text, b", limit ", u64::from(limit))?,
-            }
-        }
-        end_text(&mut self.text)
+    // What stands before the line of a lane.
+    fn put_head(
+        &mut self,
+        scene: &Scene,
+        name: Name,
+        lane: &Lane,
+        limit: Option<u32>,
+    ) -> Result<(), NoMemory>
+        ensures { OnOk result (Grows self.old.sheet self.new.sheet) }
+    {
+        let mut text = self.sheet.piece();
+        put_names(&mut text, scene.y, name, lane.most(), limit)?;
+        put_field(&mut text, scene)?;
+        self.sheet.push(text)
     }
 
-    fn down(&mut self, points: u64) {
-        self.y = self.y.saturating_add(points);
+    // The line of a lane is a piece of its own.
+    fn put_line(&mut self, scene: &Scene, lane: &Lane) -> Result<(), NoMemory>
+        ensures grows { OnOk result (Grows self.old.sheet self.new.sheet) }
+        ensures put { OnOk result (Contains self.new.sheet.pieces.items (path_text scene.now lane.now.base lane.now.points.items)) }
+    {
+        let mut text = self.sheet.piece();
+        put_path(&mut text, scene, lane)?;
+        self.sheet.push(text)
+    }
+
+    // What stands behind the line of a lane.
+    fn put_tail(
+        &mut self,
+        scene: &Scene,
+        name: Name,
+        lane: &Lane,
+        limit: Option<u32>,
+    ) -> Result<(), NoMemory>
+        ensures { OnOk result (Grows self.old.sheet self.new.sheet) }
+    {
+        let mut text = self.sheet.piece();
+        put_limits(&mut text, scene, lane, known(limit), name.is_watched())?;
+        self.sheet.push(text)
     }
 }
 
-// Which buffer a place of a flow is.
-fn place_name(flow: FlowId, i: u64, end: u64, sends: bool, place: &Place) -> Name {
-    if i == 0 {
-        return Name::Recv(flow);
-    }
-    if i.saturating_add(1) < end {
-        return Name::Stage(flow, i);
-    }
-    if sends {
-        return Name::Send(flow);
-    }
-    match place.limit {
-        Some(_) => Name::Stage(flow, i),
-        None => Name::Place(flow, i),
-    }
-}
-
-// A receive buffer has a window and no limit: it pauses nobody.
-fn is_watched(name: Name) -> bool {
-    !matches!(name, Name::Recv(_))
-}
-
-fn put_name(into: &mut Octets, name: Name) -> Result<(), NoMemory> {
-    match name {
-        Name::Recv(flow) => {
-            put_flow(into, flow)?;
-            into.push_all(b" receive buffer")
-        }
-        Name::Stage(flow, i) => {
-            put_flow(into, flow)?;
-            put_behind(into, b" stage ", i)
-        }
-        Name::Send(flow) => {
-            put_flow(into, flow)?;
-            into.push_all(b" send buffer")
-        }
-        Name::Place(flow, i) => {
-            put_flow(into, flow)?;
-            put_behind(into, b" place ", i)
-        }
-        Name::Write(conn) => { put_behind(into, b"write buffer ", u64::from(conn)) }
-    }
+// A limit that the summary told, 0 where it told none.
+fn known(limit: Option<u32>) -> u64 {
+    u64::from(limit.unwrap_or(0))
 }
