@@ -76,10 +76,10 @@ impl<R: Clock + Net + Wait + Drop> Acceptor<R> {
         live
     }
 
-    /// Ends the waits of all workers.
-    pub fn wake_all(&self) {
+    /// Nobody comes any more: all workers are to end.
+    pub fn end_all(&self) {
         for queue in &self.queues {
-            queue.wake();
+            queue.end();
         }
     }
 

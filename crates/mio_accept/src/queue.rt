@@ -6,7 +6,7 @@ use mio::{Registry, Waker};
 use mio_edge::{DOOR, EdgeFault, Inlet};
 use std::alloc::Global;
 use std::io::{self, ErrorKind};
-use std::sync::atomic::{AtomicU32, Ordering};
+use std::sync::atomic::{AtomicBool, AtomicU32, Ordering};
 use std::sync::{Arc, Wait};
 
 /// Clients that were accepted for a worker, and wait for it.
@@ -16,6 +16,8 @@ pub struct AcceptQueue {
     waker: Waker,
     /// How many connections of clients the worker has.
     live: AtomicU32,
+    /// Whether nobody comes any more.
+    over: AtomicBool,
 }
 
 impl AcceptQueue {
@@ -25,6 +27,7 @@ impl AcceptQueue {
             clients: SegQueue::new(alloc)?,
             waker: Waker::new(registry, DOOR)?,
             live: AtomicU32::new(0),
+            over: AtomicBool::new(false),
         })
     }
 
@@ -40,8 +43,14 @@ impl AcceptQueue {
         self.live.load(Ordering::SeqCst)
     }
 
-    /// Ends a wait of the worker.
-    pub fn wake(&self) {
+    /// Nobody comes any more: the worker is to end.
+    pub fn end(&self) {
+        self.over.store(true, Ordering::SeqCst);
+        self.wake();
+    }
+
+    // Ends a wait of the worker.
+    fn wake(&self) {
         // A worker that can't be woken looks after a tenth of a second.
         let _ = self.waker.wake();
     }
@@ -70,5 +79,9 @@ impl<R: Wait + Drop> Inlet for QueueInlet<R> {
 
     fn count(&mut self, clients: u32) {
         self.queue.live.store(clients, Ordering::SeqCst);
+    }
+
+    fn is_over(&self) -> bool {
+        self.queue.over.load(Ordering::SeqCst)
     }
 }

@@ -3,7 +3,8 @@
 pub const VERSION: &str = "h2proxy 0.1.0
 ";
 
-pub const USAGE: &str = "usage: h2proxy relay CONFIG [TURNS]
+pub const USAGE: &str = "usage: h2proxy [relay] CONFIG [TURNS]
+  CONFIG        reads the configuration in the file CONFIG, listens, and proxies HTTP/2 between clients and clusters
   relay CONFIG  reads the configuration in the file CONFIG, listens, and relays the octets of each client to a cluster and back
   --help        says more; --version says which program this is
 ";

@@ -14,6 +14,7 @@ pub use form::{ServeForm, read_serve_form};
 pub use mem_journal::MemJournal;
 pub use mem_site::{MemSite, RelayPlay};
 pub use reason::{ServeReason, Served};
+pub use refused::end_at_config;
 pub use serving::{serve, serve_with_reason};
 pub use session_run::Status;
 pub use site::{Site, SiteRefusal};

@@ -1,0 +1,19 @@
+//! The proxy of HTTP/2 over any outside: its workers, the loop beside them, and the whole of the proxy.
+#![tactic(auto)]
+
+mod end;
+mod fitting;
+mod form;
+mod leading;
+mod making;
+mod meter;
+mod serve;
+mod serving;
+mod site;
+mod working;
+
+pub use end::WireEnd;
+pub use form::{ProxyForm, read_proxy_form};
+pub use serve::{ProxyReason, ProxyServed, serve_proxy};
+pub use serving::serve_wire;
+pub use site::WireSite;
