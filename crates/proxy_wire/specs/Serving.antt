@@ -80,7 +80,7 @@ module _ {T J : Type 0} {W M C L : Type 0} (bare : M → W) (o : Outside M C L) 
 
 -- connections that take tokens don't tell what was done
 abbrev pub metered_outside : {W C L : Type 0} → Outside W C L → Outside (MeteredWires W) C L
-metered_outside {W} o = record { seen = λ (m : MeteredWires W). untold m.greatest (o.seen m.inner); moments = o.moments; text = o.text; told = o.told }
+metered_outside {W} o = record { seen = λ (m : MeteredWires W). untold m.greatest (o.seen m.inner); moments = o.moments; text = o.text; told = o.told; wires_faults = λ (m : MeteredWires W). o.wires_faults m.inner; journal_faults = o.journal_faults }
 
 module _ {T J : Type 0} {W C L : Type 0} (o : Outside W C L) where
   abbrev pub ServesWire : (config : Config) (n : ℕ) (told_old told_new : Option (Told T J)) (wired_old wired_new : Option (WireTold W C L)) (out_old out_new : Option (List ℕ)) (how : Status) → Type 0

@@ -5,6 +5,7 @@ mod end;
 mod fitting;
 mod form;
 mod leading;
+mod loading;
 mod making;
 mod meter;
 mod serve;

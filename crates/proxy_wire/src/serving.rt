@@ -42,7 +42,7 @@ where
     G: Gauge,
     K: Sink,
     requires is { config_of text.now ≡ Ok config.now }
-    ensures serves { ServesWire (record { seen = T.W.seen; moments = T.C.moments; text = T.L.contents; told = T.L.told }) config.now turns (T.told site.old) (T.told site.new) (T.wired site.old) (T.wired site.new) (K.contents out.old) (K.contents out.new) (wire_status result) }
+    ensures serves { ServesWire (record { seen = T.W.seen; moments = T.C.moments; text = T.L.contents; told = T.L.told; wires_faults = T.W.faults; journal_faults = T.L.faults }) config.now turns (T.told site.old) (T.told site.new) (T.wired site.old) (T.wired site.new) (K.contents out.old) (K.contents out.new) (wire_status result) }
     ensures write_fault { SiteOrOut (wire_status result) (T.faults site.old) (T.faults site.new) (K.faults out.old) (K.faults out.new) }
     ensures no_fall { (T.faults site.old ≤ T.faults site.new) × (K.faults out.old ≤ K.faults out.new) }
 {

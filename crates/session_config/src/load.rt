@@ -41,15 +41,6 @@ pub fn load_config<C: Source>(alloc: Global, source: &mut C) -> Result<Config, C
     }
 }
 
-/// Reads a source to its end, or until there are too many octets.
-pub fn load_text<C: Source>(alloc: Global, source: &mut C) -> Result<Octets, ConfigEnd>
-    ensures reads { ReadsWhole (C.left source.old) (C.left source.new) result }
-    ensures cause { CausesFault (C.faults source.old) (C.faults source.new) result }
-    ensures no_fall { C.faults source.old ≤ C.faults source.new }
-{
-    read_whole(alloc, source)
-}
-
 // Reads to the end, or until there are too many octets.
 fn read_whole<C: Source>(alloc: Global, source: &mut C) -> Result<Octets, ConfigEnd>
     ensures reads { ReadsWhole (C.left source.old) (C.left source.new) result }

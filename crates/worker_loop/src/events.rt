@@ -54,7 +54,7 @@ pub(crate) fn dispatch<J: Journal>(
     }
 }
 
-// Writes an event's line. Where lines aren't kept none is spelled.
+// Writes an event's line.
 #[tactic(none)]
 fn keep_line<J: Journal>(
     journal: &mut J,
@@ -68,9 +68,6 @@ fn keep_line<J: Journal>(
     ensures cause { result ≡ Err ended.JournalFault → Rose (J.faults journal.old) (J.faults journal.new) }
     ensures no_fall { J.faults journal.old ≤ J.faults journal.new }
 {
-    if !journal.is_kept() {
-        return Ok(());
-    }
     line.clear();
     let Ok(()) = event_text(event, names, line) else {
         return Err(Ended::Memory);
