@@ -10,7 +10,7 @@ mod relaying;
 mod serving;
 mod site;
 
-pub use form::{ServeForm, read_serve_form};
+pub use form::{ServeForm, read_serve_form, read_turns};
 pub use mem_journal::MemJournal;
 pub use mem_site::{MemSite, RelayPlay};
 pub use reason::{ServeReason, Served};

@@ -12,6 +12,9 @@ pub record IsWire (words : List (List ℕ)) (n : ℕ) : Type 0 where
   pub other : name ≢ codes "relay"
   pub turns : ((last ≡ []) × (n ≡ endless)) ⊎ ((word : List ℕ) × (last ≡ word ∷ []) × IsTurnsWord word n)
 
+pub record IsNoWire (words : List (List ℕ)) : Type 0 where
+  pub none : (n : ℕ) → IsWire words n → ⊥
+
 abbrev pub SpellsProxy : List (List ℕ) → ProxyForm → Type 0
 SpellsProxy words (form.Relay n) = IsRelay words n
 SpellsProxy words (form.Wire n) = IsWire words n

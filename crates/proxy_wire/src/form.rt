@@ -1,10 +1,9 @@
 // What the words of the proxy ask for, of all its forms.
-ghost use Rattle.std.specs.Prelude.{map, IfNone, IfSome};
+ghost use Rattle.std.specs.Prelude.{[], map, ◌∷◌, IfNone, IfSome};
 ghost use Rattle.std.specs.String.{string_bytes};
-ghost use Rattle.proxy_wire.specs.Forms.{HasNoProxyForm, SpellsProxy};
+ghost use Rattle.proxy_wire.specs.Forms.{HasNoProxyForm, IsNoWire, IsWire, SpellsProxy};
 
-use itoa::Buffer;
-use proxy_site::{ServeForm, read_serve_form};
+use proxy_site::{ServeForm, read_serve_form, read_turns};
 
 /// How many turns there are where the words don't say it: 2^63 - 1.
 const ENDLESS: u64 = 9_223_372_036_854_775_807;
@@ -20,6 +19,7 @@ pub enum ProxyForm {
 
 /// The form of the words, if they have one. The name of a configuration may be any word, but that of workers isn't `relay`; TURNS is a
 /// number from 1 to 4,294,967,295 without leading zeros, and without it there are 2^63 - 1 turns.
+#[tactic(auto, using(crate::proofs::Wording::no_form))]
 pub fn read_proxy_form(words: &[String]) -> Option<ProxyForm>
     ensures some { IfSome result (SpellsProxy (map string_bytes words.now)) }
     ensures none { IfNone result (HasNoProxyForm (map string_bytes words.now)) }
@@ -27,25 +27,43 @@ pub fn read_proxy_form(words: &[String]) -> Option<ProxyForm>
     if let Some(ServeForm::Relay { turns }) = read_serve_form(words) {
         return Some(ProxyForm::Relay { turns });
     }
+    let turns = wire_turns(words)?;
+    Some(ProxyForm::Wire { turns })
+}
+
+// For how many turns the words ask workers to run, if they do.
+#[tactic(auto, using(crate::proofs::Wording::other_lengths))]
+fn wire_turns(words: &[String]) -> Option<u64>
+    ensures some { IfSome result (IsWire (map string_bytes words.now)) }
+    ensures none { IfNone result (IsNoWire (map string_bytes words.now)) }
+{
     match words {
-        [name] if name.as_str() != "relay" => Some(ProxyForm::Wire { turns: ENDLESS }),
-        [name, turns] if name.as_str() != "relay" => {
-            let turns = read_turns(turns.as_str())?;
-            Some(ProxyForm::Wire { turns })
-        }
+        [name] => named_turns(name.as_str()),
+        [name, turns] => counted_turns(name.as_str(), turns.as_str()),
         _ => None,
     }
 }
 
-// The number that the word spells, 1 to 4,294,967,295, without leading zeros.
-fn read_turns(word: &str) -> Option<u64> {
-    let Ok(n) = word.parse::<u32>() else {
-        return None;
-    };
-    let mut digits = Buffer::new();
-    if digits.format(n) == word && 1 <= n {
-        Some(u64::from(n))
-    } else {
+#[tactic(auto, using(crate::proofs::Wording::is_named, crate::proofs::Wording::is_relay))]
+fn named_turns(name: &str) -> Option<u64>
+    ensures some { IfSome result (IsWire (name.now ∷ [])) }
+    ensures none { IfNone result (IsNoWire (name.now ∷ [])) }
+{
+    if name == "relay" {
         None
+    } else {
+        Some(ENDLESS)
+    }
+}
+
+#[tactic(auto, using(crate::proofs::Wording::is_counted, crate::proofs::Wording::is_relay, crate::proofs::Wording::other_turns))]
+fn counted_turns(name: &str, turns: &str) -> Option<u64>
+    ensures some { IfSome result (IsWire (name.now ∷ turns.now ∷ [])) }
+    ensures none { IfNone result (IsNoWire (name.now ∷ turns.now ∷ [])) }
+{
+    if name == "relay" {
+        None
+    } else {
+        read_turns(turns)
     }
 }

@@ -1,13 +1,16 @@
 // The loop beside the workers.
+ghost use Rattle.std.specs.Prelude.{[], ◌++◌, ◌∷◌, ◌≡◌, ◌≤◌, IfOk, OnErr, OnOk, length};
+ghost use Rattle.post_queue.specs.Clauses.{IsPosterOf, IsRunnerOf};
+ghost use Rattle.proxy_wire.specs.Leading.{ArePosters, Leads};
 
+use crate::meter::Meter;
 use crate::site::WireSite;
 use flow_notes::Job;
-use io_ports::PressureList;
+use io_ports::{NoMemory, PressureList};
 use overload_core::{action_states, is_saturated};
-use post_queue::{PostBox, PosterPass};
+use post_queue::{PostBox, PosterPass, RunnerPass};
 use proxy_config::Config;
 use shared_state::Publisher;
-use shared_tokens::{Bucket, PutSeat};
 use std::alloc::Global;
 use std::sync::Wait;
 use std::sync::atomic::{AtomicBool, Ordering};
@@ -18,26 +21,27 @@ use worker_ports::Gauge;
 /// How long it is from one reading of the gauges to the next, in milliseconds.
 const PERIOD: u64 = 100;
 
-/// What the loop beside the workers keeps.
+/// What the loop beside the workers keeps. It can't be dropped: `end` ends it.
 pub(crate) struct Leader {
-    publisher: Publisher,
-    posters: Vec<PosterPass>,
-    pressures: PressureList,
+    pub publisher: Publisher,
+    pub posters: Vec<PosterPass>,
+    pub pressures: PressureList,
     /// Whether the pressures that were published last don't saturate `stop_accepting`.
-    accepts: bool,
-    /// Where tokens are put for the connections of clients, the seat that puts them.
-    put: Option<PutSeat>,
+    pub accepts: bool,
 }
 
 impl Leader {
-    /// Before it looks for the first time clients are accepted.
-    pub fn new(publisher: Publisher, posters: Vec<PosterPass>, pressures: PressureList) -> Self {
+    /// Before it looks for the first time clients are accepted. There is a pressure for each resource.
+    pub fn new(alloc: Global, publisher: Publisher, pressures: PressureList) -> Self
+        ensures publisher { result.publisher ≡ publisher }
+        ensures pressures { result.pressures ≡ pressures }
+        ensures posters { result.posters.items ≡ [] }
+    {
         Leader {
             publisher,
-            posters,
+            posters: Vec::new(alloc),
             pressures,
             accepts: true,
-            put: None,
         }
     }
 
@@ -48,14 +52,25 @@ impl Leader {
             posters: _posters,
             pressures: _pressures,
             accepts: _,
-            put: _put,
         } = self;
         publisher.end(rt);
     }
 
-    /// From now on tokens are put with this seat.
-    pub fn put_with(&mut self, seat: PutSeat) {
-        self.put = Some(seat);
+    /// One box more, to which it posts, stands behind the others. The answer is the right to run what is posted there.
+    pub fn add_box(
+        &mut self,
+        alloc: Global,
+        boxes: &mut Vec<PostBox>,
+    ) -> Result<RunnerPass, NoMemory>
+        requires leads { Leads boxes.old.items self.old }
+        ensures leads { OnOk result (Leads boxes.new.items self.new) }
+        ensures same { OnErr result (boxes.new.items ≡ boxes.old.items) }
+        ensures adds { IfOk result (λ pass. (b : PostBox) × (boxes.new.items ≡ boxes.old.items ++ b ∷ []) × IsRunnerOf b pass) }
+    {
+        let (posts, poster, pass) = make_box(alloc)?;
+        self.posters.push(poster)?;
+        boxes.push(posts)?;
+        Ok(pass)
     }
 
     /// Reads the gauges, publishes, and posts a look to each worker. What is refused is made again the next time.
@@ -66,7 +81,10 @@ impl Leader {
         config: &Config,
         gauge: &mut G,
         boxes: &[PostBox],
-    ) {
+    )
+        requires { Leads boxes.now self.old }
+        ensures { Leads boxes.now self.new }
+    {
         sample(alloc, gauge, &mut self.pressures);
         if self
             .publisher
@@ -77,31 +95,28 @@ impl Leader {
         }
         let states = action_states(config, self.pressures.as_slice());
         self.accepts = !is_saturated(states.stop_accepting);
-        for (posts, poster) in boxes.iter().zip(self.posters.iter_mut()) {
-            let _ = posts.post(rt, poster, Job::Look);
-        }
-    }
-
-    /// Puts the tokens of a tenth of a second.
-    pub fn put_tokens(&mut self, config: &Config, bucket: Option<&Bucket>) {
-        if let (Some(bucket), Some(seat)) = (bucket, &mut self.put) {
-            bucket.put(seat, u64::from(config.proxy.accept_rate));
-        }
+        post_all(rt, boxes, self.posters.as_mut_slice());
     }
 
     /// Makes rounds at the site, and looks and puts tokens each tenth of a second, until the workers are done. After a round that
     /// failed no further one is made.
-    pub fn lead<R: Wait + Clock, T: WireSite, G: Gauge>(
+    pub fn lead<R: Wait + Clock, T: WireSite, M: Meter<T::W>, G: Gauge>(
         &mut self,
         rt: &R,
         alloc: Global,
         config: &Config,
-        bucket: Option<&Bucket>,
+        meter: &mut M,
         site: &mut T,
         gauge: &mut G,
         boxes: &[PostBox],
         done: &AtomicBool,
-    ) {
+    )
+        requires { Leads boxes.now self.old }
+        ensures leads { Leads boxes.now self.new }
+        ensures wired { T.wired site.new ≡ T.wired site.old }
+        ensures told { T.told site.new ≡ T.told site.old }
+        ensures no_fall { T.faults site.old ≤ T.faults site.new }
+    {
         let mut due = now(rt, 0).saturating_add(PERIOD);
         for _ in rt.forever() {
             if done.load(Ordering::SeqCst) || site.round(self.accepts).is_err() {
@@ -110,10 +125,32 @@ impl Leader {
             let moment = now(rt, due);
             if moment >= due {
                 self.look(rt, alloc, config, gauge, boxes);
-                self.put_tokens(config, bucket);
+                meter.put(config.proxy.accept_rate);
                 due = moment.saturating_add(PERIOD);
             }
         }
+    }
+}
+
+// A box to which one poster posts.
+fn make_box(alloc: Global) -> Result<(PostBox, PosterPass, RunnerPass), NoMemory>
+    ensures poster { IfOk result (λ made. IsPosterOf made.0 made.1) }
+    ensures runner { IfOk result (λ made. IsRunnerOf made.0 made.2) }
+{
+    let (posts, mut passes, pass) = PostBox::new(alloc, 1)?;
+    match passes.take_one() {
+        Some(poster) => Ok((posts, poster, pass)),
+        None => Err(NoMemory),
+    }
+}
+
+// Posts a look to each box.
+fn post_all<R: Wait>(rt: &R, boxes: &[PostBox], posters: &mut [PosterPass])
+    requires { ArePosters boxes.now posters.old }
+    ensures { ArePosters boxes.now posters.new }
+{
+    for place in 0..boxes.len() {
+        let _ = boxes[place].post(rt, &mut posters[place], Job::Look);
     }
 }
 

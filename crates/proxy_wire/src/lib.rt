@@ -1,13 +1,15 @@
 //! The proxy of HTTP/2 over any outside: its workers, the loop beside them, and the whole of the proxy.
 #![tactic(auto)]
 
+mod crew;
 mod end;
-mod fitting;
 mod form;
+mod giving_back;
+mod hiring;
 mod leading;
 mod loading;
-mod making;
 mod meter;
+mod metering;
 mod serve;
 mod serving;
 mod site;

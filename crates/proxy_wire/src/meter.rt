@@ -1,18 +1,38 @@
-// The rate at which clients' connections come to the workers.
+// What stands between workers and the connections of clients.
+ghost use Rattle.std.specs.Prelude.{◌≡◌, ℕ};
+ghost use Rattle.proxy_site.specs.Sites.{IsUnused};
 
+use crate::metering::{Metering, Ticket};
 use metered_wires::MeteredWires;
-use shared_tokens::{Bucket, TokenSeats};
 use worker_ports::Wires;
 
-/// What stands between a worker and its connections.
+/// What stands between workers and the connections of clients.
 pub(crate) trait Meter<W: Wires> {
-    type M: Wires;
+    /// The connections as a worker has them.
+    type Metered: Wires;
 
-    /// The connections as a worker has them. Where there is no seat for it they come back.
-    fn wrap(&mut self, wires: W) -> Result<Self::M, W>;
+    /// The right of one worker to have connections.
+    type Ticket: Drop;
 
     /// The connections as the site gave them.
-    fn unwrap(metered: Self::M) -> W;
+    ghost bare: { Self.Metered → W };
+
+    /// The right of one worker more, if there is one.
+    fn take(&mut self) -> Option<Self::Ticket>;
+
+    /// The connections as a worker has them, which nobody has used.
+    fn wrap(ticket: Self::Ticket, wires: W) -> Self::Metered
+        requires unused { (n : ℕ) × IsUnused n (W.seen wires) }
+        ensures bare { bare result ≡ wires }
+        ensures clusters { (Self.Metered.seen result).clusters ≡ (W.seen wires).clusters };
+
+    /// The connections as the site gave them.
+    fn unwrap(metered: Self::Metered) -> W
+        ensures bare { result ≡ bare metered }
+        ensures faults { W.faults result ≡ Self.Metered.faults metered };
+
+    /// Some connections of clients more may come.
+    fn put(&mut self, more: u32);
 }
 
 /// Nothing: clients' connections come as they come.
@@ -20,36 +40,50 @@ pub(crate) trait Meter<W: Wires> {
 pub(crate) struct Unmetered;
 
 impl<W: Wires> Meter<W> for Unmetered {
-    type M = W;
+    type Metered = W;
 
-    fn wrap(&mut self, wires: W) -> Result<W, W> {
-        Ok(wires)
+    type Ticket = ();
+
+    ghost bare = { λ w. w };
+
+    fn take(&mut self) -> Option<()> {
+        Some(())
+    }
+
+    fn wrap(_: (), wires: W) -> W {
+        wires
     }
 
     fn unwrap(wires: W) -> W {
         wires
     }
-}
 
-/// A bucket of tokens, of which each client's connection takes one.
-#[derive(Drop)]
-pub(crate) struct Metering<'a> {
-    pub bucket: &'a Bucket,
-    pub seats: TokenSeats,
+    fn put(&mut self, _: u32) {}
 }
 
 impl<'a, W: Wires> Meter<W> for Metering<'a> {
-    type M = MeteredWires<'a, W>;
+    type Metered = MeteredWires<'a, W>;
 
-    fn wrap(&mut self, wires: W) -> Result<MeteredWires<'a, W>, W> {
-        match self.seats.take_one() {
-            Some(seat) => Ok(MeteredWires::new(wires, self.bucket, seat)),
-            None => Err(wires),
-        }
+    type Ticket = Ticket<'a>;
+
+    ghost bare = { λ m. m.inner };
+
+    fn take(&mut self) -> Option<Ticket<'a>> {
+        self.ticket()
+    }
+
+    #[tactic(auto, using(crate::proofs::Sharing::unused_rises))]
+    fn wrap(ticket: Ticket<'a>, wires: W) -> MeteredWires<'a, W> {
+        let Ticket { bucket, seat } = ticket;
+        MeteredWires::new(wires, bucket, seat)
     }
 
     fn unwrap(metered: MeteredWires<'a, W>) -> W {
         let (wires, _) = metered.into_inner();
         wires
+    }
+
+    fn put(&mut self, more: u32) {
+        self.put_tokens(u64::from(more));
     }
 }

@@ -1,4 +1,13 @@
 // The whole of the proxy, in all its forms.
+ghost use Rattle.std.specs.Prelude.{map, ℕ, ◌≡◌, ◌≢◌, ◌↔◌};
+ghost use Rattle.std.specs.String.{string_bytes};
+ghost use Rattle.io_ports.specs.Faults.{Rose};
+ghost use Rattle.proxy_site.specs.Reasons.{reason_status};
+ghost use Rattle.proxy_site.specs.Relaying.{ServesRelay, SiteOrOut};
+ghost use Rattle.proxy_site.specs.Serving.{ServesUnder};
+ghost use Rattle.proxy_wire.specs.Forms.{HasNoProxyForm, SpellsProxy};
+ghost use Rattle.proxy_wire.specs.Reasons.{proxy_status};
+ghost use Rattle.proxy_wire.specs.Serving.{ServesWire, wire_status};
 
 use crate::end::WireEnd;
 use crate::form::{ProxyForm, read_proxy_form};
@@ -13,7 +22,6 @@ use std::alloc::Global;
 use std::sync::Wait;
 use std::thread::Threads;
 use std::time::Clock;
-use worker_loop::Ended;
 use worker_ports::Gauge;
 
 /// How the proxy ended, and why.
@@ -33,16 +41,22 @@ pub enum ProxyReason {
 }
 
 impl ProxyServed {
-    fn as_relay(served: Served) -> Self {
+    fn as_relay(served: Served) -> Self
+        ensures status { result.status ≡ served.status }
+        ensures reason { result.reason ≡ ProxyReason.Relay served.reason }
+    {
         ProxyServed {
             status: served.status,
             reason: ProxyReason::Relay(served.reason),
         }
     }
 
-    fn as_wire(end: WireEnd) -> Self {
+    fn as_wire(end: WireEnd) -> Self
+        ensures status { result.status ≡ wire_status end }
+        ensures reason { result.reason ≡ ProxyReason.Wire end }
+    {
         ProxyServed {
-            status: wire_status(&end),
+            status: end.status(),
             reason: ProxyReason::Wire(end),
         }
     }
@@ -70,6 +84,13 @@ where
     T::L: Send,
     G: Gauge,
     K: Sink,
+    ensures usage { (result.status ≡ Status.Usage) ↔ HasNoProxyForm (map string_bytes words.now) }
+    ensures nothing { result.status ≡ Status.Usage → (config.new ≡ config.old) × (site.new ≡ site.old) × (out.new ≡ out.old) }
+    ensures relay { (n : ℕ) → SpellsProxy (map string_bytes words.now) (ProxyForm.Relay n) → ServesUnder (λ c. ServesRelay T.T.seen T.J.contents c n (T.told site.old) (T.told site.new) (K.contents out.old) (K.contents out.new) result.status) (S.left config.old) (S.left config.new) (T.told site.old) (T.told site.new) (K.contents out.old) (K.contents out.new) result.status }
+    ensures wire { (n : ℕ) → SpellsProxy (map string_bytes words.now) (ProxyForm.Wire n) → ServesUnder (λ c. ServesWire (record { seen = T.W.seen; moments = T.C.moments; text = T.L.contents; told = T.L.told; wires_faults = T.W.faults; journal_faults = T.L.faults }) c n (T.told site.old) (T.told site.new) (T.wired site.old) (T.wired site.new) (K.contents out.old) (K.contents out.new) result.status) (S.left config.old) (S.left config.new) (T.told site.old, T.wired site.old) (T.told site.new, T.wired site.new) (K.contents out.old) (K.contents out.new) result.status }
+    ensures told { result.status ≡ proxy_status result.reason }
+    ensures read_fault { result.status ≡ Status.ReadFault → Rose (S.faults config.old) (S.faults config.new) }
+    ensures write_fault { SiteOrOut result.status (T.faults site.old) (T.faults site.new) (K.faults out.old) (K.faults out.new) }
 {
     match read_proxy_form(words) {
         Some(ProxyForm::Wire { turns }) => {
@@ -100,6 +121,11 @@ where
     T::L: Send,
     G: Gauge,
     K: Sink,
+    ensures some { result.status ≡ Status.Usage → ⊥ }
+    ensures wire { ServesUnder (λ c. ServesWire (record { seen = T.W.seen; moments = T.C.moments; text = T.L.contents; told = T.L.told; wires_faults = T.W.faults; journal_faults = T.L.faults }) c turns (T.told site.old) (T.told site.new) (T.wired site.old) (T.wired site.new) (K.contents out.old) (K.contents out.new) result.status) (S.left source.old) (S.left source.new) (T.told site.old, T.wired site.old) (T.told site.new, T.wired site.new) (K.contents out.old) (K.contents out.new) result.status }
+    ensures told { result.status ≡ proxy_status result.reason }
+    ensures read_fault { result.status ≡ Status.ReadFault → Rose (S.faults source.old) (S.faults source.new) }
+    ensures write_fault { SiteOrOut result.status (T.faults site.old) (T.faults site.new) (K.faults out.old) (K.faults out.new) }
 {
     let text = match load_text(alloc, source) {
         Ok(text) => text,
@@ -113,31 +139,12 @@ where
     ProxyServed::as_wire(end)
 }
 
-fn refused(fault: ConfigFault) -> ConfigEnd {
+fn refused(fault: ConfigFault) -> ConfigEnd
+    ensures memory { fault ≡ ConfigFault.NoMemory → result ≡ ConfigEnd.Memory }
+    ensures refused { fault ≢ ConfigFault.NoMemory → result ≡ ConfigEnd.Refused fault }
+{
     match fault {
         ConfigFault::NoMemory => ConfigEnd::Memory,
         fault => ConfigEnd::Refused(fault),
     }
-}
-
-fn wire_status(end: &WireEnd) -> Status {
-    match end {
-        WireEnd::Listen | WireEnd::Fit | WireEnd::JournalHead | WireEnd::Write =>
-            Status::WriteFault,
-        WireEnd::Memory => Status::Memory,
-        WireEnd::Workers(ends) => ends_status(ends.as_slice()),
-    }
-}
-
-// A fault of one worker counts before want of memory.
-fn ends_status(ends: &[Ended]) -> Status {
-    let mut status = Status::Done;
-    for end in ends {
-        match end {
-            Ended::Turns | Ended::Stopped => {}
-            Ended::WiresFault | Ended::JournalFault => return Status::WriteFault,
-            Ended::Memory => status = Status::Memory,
-        }
-    }
-    status
 }

@@ -1,5 +1,5 @@
 // Where the workers' connections come from.
-ghost use Rattle.std.specs.Prelude.{◌≡◌, ◌<◌, ◌≤◌, ◌⊎◌, Err, IfOk, OnErr, Option, length};
+ghost use Rattle.std.specs.Prelude.{[], ◌∷◌, ◌≡◌, ◌<◌, ◌≤◌, ◌⊎◌, Err, IfOk, OnErr, Option, length};
 ghost use Rattle.io_ports.specs.Faults.{FailsByFault, Rose};
 ghost use Rattle.proxy_site.specs.Sites.{IsUnused};
 ghost use Rattle.proxy_site.specs.declared.site.SiteRefusal.TheVariants as refusal;
@@ -33,7 +33,7 @@ pub trait WireSite: Site {
     ) -> Result<(Self::W, Self::C, Self::L), SiteRefusal>
         ensures unused { IfOk result (λ given. IsUnused (length config.now.clusters) (Self.W.seen given.0)) }
         ensures well { IfOk result (λ given. (Self.W.faults given.0 ≡ 0) × (Self.L.faults given.2 ≡ 0)) }
-        ensures wired { IfOk result (λ given. TellsFitted (wired self.old) (worker, (given.0, (given.1, given.2))) (wired self.new)) }
+        ensures wired { IfOk result (λ given. TellsFitted (wired self.old) ((worker, (given.0, (given.1, given.2))) ∷ []) (wired self.new)) }
         ensures err { OnErr result (wired self.new ≡ wired self.old) }
         ensures told { Self.told self.new ≡ Self.told self.old }
         ensures no_fall { Self.faults self.old ≤ Self.faults self.new }
@@ -48,7 +48,7 @@ pub trait WireSite: Site {
 
     /// Takes back what a worker worked over. Where the one or the other has failed, that counts as a failure of the site.
     fn give_back(&mut self, worker: u32, wires: Self::W, journal: Self::L)
-        ensures wired { TellsReturned (wired self.old) (worker, (wires, journal)) (wired self.new) }
+        ensures wired { TellsReturned (wired self.old) ((worker, (wires, journal)) ∷ []) (wired self.new) }
         ensures told { Self.told self.new ≡ Self.told self.old }
         ensures count { (0 < Self.W.faults wires) ⊎ (0 < Self.L.faults journal) → Rose (Self.faults self.old) (Self.faults self.new) }
         ensures no_fall { Self.faults self.old ≤ Self.faults self.new };

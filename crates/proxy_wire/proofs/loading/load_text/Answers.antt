@@ -1,5 +1,5 @@
 -- The pieces so far are what was read.
-use Rattle.proxy_wire.proofs.Reading.{read_much, read_stop}
+use Rattle.session_config.proofs.Reading.{read_much, read_stop}
 use Rattle.proxy_wire.proofs.loading.load_text.Goals as goal
 use Rattle.std.proofs.Common.{arith, refl}
 use Rattle.std.proofs.lemmas.Result.{err_from_is_err_and}
