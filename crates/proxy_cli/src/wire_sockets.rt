@@ -1,4 +1,8 @@
 // The site over sockets, as workers have it.
+ghost use Rattle.std.specs.Prelude.{IfOk, length, ◌≡◌};
+ghost use Rattle.mio_edge.specs.Rolls.{new_roll, roll_seen};
+ghost use Rattle.mio_edge.specs.Sockets.{faults_of, seen_of};
+ghost use Rattle.proxy_cli.specs.Sites.{site_faults};
 
 use crate::journal::FileJournal;
 use crate::socket_site::SocketSite;
@@ -17,7 +21,9 @@ use std::time::Clock;
 
 impl<R: Eprint + Files + Net + Clock + Wait + AllocGlobal + Copy + Drop> SocketSite<R> {
     // The first worker's connections need what hands clients on.
-    fn set_up(&mut self, config: &Config) -> Result<(), EdgeFault> {
+    fn set_up(&mut self, config: &Config) -> Result<(), EdgeFault>
+        ensures { site_faults self.new ≡ site_faults self.old }
+    {
         let Some(listener) = self.listener.take() else {
             return Ok(());
         };
@@ -31,7 +37,10 @@ impl<R: Eprint + Files + Net + Clock + Wait + AllocGlobal + Copy + Drop> SocketS
         &mut self,
         worker: u32,
         config: &Config,
-    ) -> Result<SocketTaps<R, QueueInlet<R>>, EdgeFault> {
+    ) -> Result<SocketTaps<R, QueueInlet<R>>, EdgeFault>
+        ensures taps { IfOk result (λ taps. (seen_of taps ≡ roll_seen (new_roll (length config.now.clusters))) × (faults_of taps ≡ 0)) }
+        ensures same { site_faults self.new ≡ site_faults self.old }
+    {
         self.set_up(config)?;
         let plan = self.plan(config, Sharing::All, worker)?;
         let Some(acceptor) = &mut self.acceptor else {

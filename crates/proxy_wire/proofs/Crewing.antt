@@ -2,6 +2,7 @@
 use Rattle.post_queue.specs.Clauses.{IsRunnerOf}
 use Rattle.post_queue.specs.declared.passes.RunnerPass.{RunnerPass}
 use Rattle.post_queue.specs.declared.post_box.PostBox.{PostBox}
+use Rattle.proxy_config.specs.declared.config.Cluster.{Cluster}
 use Rattle.proxy_config.specs.declared.config.Config.{Config}
 use Rattle.proxy_wire.proofs.Telling.{fits_more, fitted_none}
 use Rattle.proxy_wire.specs.Crews.{EachTwo, IsCrew, IsHired, IsIdle, IsPaid, OneFailed, SharesOf}
@@ -36,8 +37,8 @@ module _ {A B : Type 0} where
   pub each_none : (P : ℕ → A → B → Type 0) → EachTwo P [] []
   each_none P = record { same = refl; each = λ i a b less. absurd (omega (arith, less)) }
 
-  pub each_mapped : (P Q : ℕ → A → B → Type 0) (as : List A) (bs : List B) → ((i : ℕ) (a : A) (b : B) → i < length as → P i a b → Q i a b) → EachTwo P as bs → EachTwo Q as bs
-  each_mapped P Q as bs f e = record { same = e.same; each = λ i a b less. f i (slice_index_or as i a) (slice_index_or bs i b) less (e.each i a b less) }
+  pub each_mapped : (P Q : ℕ → A → B → Type 0) (xs : List A) (ys : List B) → ((i : ℕ) (a : A) (b : B) → i < length xs → P i a b → Q i a b) → EachTwo P xs ys → EachTwo Q xs ys
+  each_mapped P Q xs ys f e = record { same = e.same; each = λ i a b less. f i (slice_index_or xs i a) (slice_index_or ys i b) less (e.each i a b less) }
 
   at_old : (xs : List A) (x d : A) (i : ℕ) → i < length xs → slice_index_or (xs ++ x ∷ []) i d ≡ slice_index_or xs i d
   at_old xs x d i less = get_or_append_left xs (x ∷ []) d i less
@@ -47,32 +48,32 @@ module _ {A B : Type 0} where
 
 -- one more of each
 module _ {A B : Type 0} where
-  pub each_more : (P : ℕ → A → B → Type 0) (as : List A) (bs : List B) (x : A) (y : B) → EachTwo P as bs → P (length as) x y → EachTwo P (as ++ x ∷ []) (bs ++ y ∷ [])
-  each_more P as bs x y e p = record { same = lengths; each = λ i a b less. by i a b less (cases_lt i (length as)) }
+  pub each_more : (P : ℕ → A → B → Type 0) (xs : List A) (ys : List B) (x : A) (y : B) → EachTwo P xs ys → P (length xs) x y → EachTwo P (xs ++ x ∷ []) (ys ++ y ∷ [])
+  each_more P xs ys x y e p = record { same = lengths; each = λ i a b less. by i a b less (cases_lt i (length xs)) }
     where
-      lengths : length (bs ++ y ∷ []) ≡ length (as ++ x ∷ [])
-      lengths = let l = length-append bs (y ∷ []) in let k = length-append as (x ∷ []) in let s = e.same in omega (arith, l, k, s)
+      lengths : length (ys ++ y ∷ []) ≡ length (xs ++ x ∷ [])
+      lengths = let l = length-append ys (y ∷ []) in let k = length-append xs (x ∷ []) in let s = e.same in omega (arith, l, k, s)
 
-      by : (i : ℕ) (a : A) (b : B) → i < length (as ++ x ∷ []) → (i < length as) ⊎ (length as ≤ i) → P i (slice_index_or (as ++ x ∷ []) i a) (slice_index_or (bs ++ y ∷ []) i b)
+      by : (i : ℕ) (a : A) (b : B) → i < length (xs ++ x ∷ []) → (i < length xs) ⊎ (length xs ≤ i) → P i (slice_index_or (xs ++ x ∷ []) i a) (slice_index_or (ys ++ y ∷ []) i b)
       by i a b less (inl old) =
           let s = e.same in
-          let p0 : P i (slice_index_or as i a) (slice_index_or (bs ++ y ∷ []) i b) = subst (λ (z : B). P i (slice_index_or as i a) z) (sym (at_old {A = B} {B = B} bs y b i (omega (arith, old, s)))) (e.each i a b old) in
-          subst (λ (z : A). P i z (slice_index_or (bs ++ y ∷ []) i b)) (sym (at_old {A = A} {B = A} as x a i old)) p0
+          let p0 : P i (slice_index_or xs i a) (slice_index_or (ys ++ y ∷ []) i b) = subst (λ (z : B). P i (slice_index_or xs i a) z) (sym (at_old {A = B} {B = B} ys y b i (omega (arith, old, s)))) (e.each i a b old) in
+          subst (λ (z : A). P i z (slice_index_or (ys ++ y ∷ []) i b)) (sym (at_old {A = A} {B = A} xs x a i old)) p0
       by i a b less (inr new) =
-          let k = length-append as (x ∷ []) in
+          let k = length-append xs (x ∷ []) in
           let s = e.same in
-          let is : i ≡ length as = omega (arith, new, less, k) in
+          let is : i ≡ length xs = omega (arith, new, less, k) in
           let p0 : P i x y = subst (λ (j : ℕ). P j x y) (sym is) p in
-          let p1 : P i x (slice_index_or (bs ++ y ∷ []) i b) = subst (λ (z : B). P i x z) (sym (at_new {A = B} {B = B} bs y b i (omega (arith, is, s)))) p0 in
-          subst (λ (z : A). P i z (slice_index_or (bs ++ y ∷ []) i b)) (sym (at_new {A = A} {B = A} as x a i is)) p1
+          let p1 : P i x (slice_index_or (ys ++ y ∷ []) i b) = subst (λ (z : B). P i x z) (sym (at_new {A = B} {B = B} ys y b i (omega (arith, is, s)))) p0 in
+          subst (λ (z : A). P i z (slice_index_or (ys ++ y ∷ []) i b)) (sym (at_new {A = A} {B = A} xs x a i is)) p1
 
 same_box : (b d : PostBox) → ◌≡◌ {A = Option PostBox} (Some b) (Some d) → b ≡ d
 same_box b d e = cc
 
 -- any one of some
-pub some_of : {A : Type 0} (as : List A) (i : ℕ) → i < length as → A
+pub some_of : {A : Type 0} (xs : List A) (i : ℕ) → i < length xs → A
 some_of [] i less = absurd (omega (arith, less))
-some_of (a ∷ as) i less = a
+some_of (a ∷ xs) i less = a
 
 -- ---- boxes
 got_left : {A : Type 0} (xs ys zs : List A) (i : ℕ) → zs ≡ xs ++ ys → i < length xs → slice_get zs i ≡ slice_get xs i
@@ -229,7 +230,7 @@ module _ {W M C L : Type 0} (bare : M → W) (o : Outside M C L) where
       begins = f.joins.begins;
       seat = subst (λ (p : Permits). IsSeatOf p f.joins.worker.seat) (sym (ap (λ (s : Shared). s.permits) shared ∙ permits)) (subst (λ (s : PermitSeat). IsSeatOf old.shared.permits s) (sym f.joins.seat) seat);
       pass = pass_at (new.shared.posts.items) (ap (λ (s : Shared). s.posts.items) shared ∙ boxes);
-      clusters = f.clusters_are ∙ sym (length-map config.clusters (λ c. c.name)) ∙ ap length (sym (ap (λ (s : Shared). s.names) shared ∙ names ∙ shares.names));
+      clusters = f.clusters_are ∙ sym (length-map config.clusters (λ (c : Cluster). c.name)) ∙ ap length (sym (ap (λ (s : Shared). s.names) shared ∙ names ∙ shares.names));
     };
     box = box;
     boxes = ap (λ (s : Shared). s.posts.items) shared ∙ boxes;
@@ -284,3 +285,11 @@ on_ok A B (Err e) f a = tt
 pub on_err : {T E : Type 0} (A B : Type 0) (r : Result T E) → (A → B) → OnErr r A → OnErr r B
 on_err A B (Ok x) f a = tt
 on_err A B (Err e) f a = f a
+
+-- ---- where the loop stands
+module _ {W M C L : Type 0} (bare : M → W) (o : Outside M C L) where
+  pub so_place : (config : Config) (n : ℕ) (a b : Option (WireTold W C L)) (crew : Crew M C L) → HiredSoFar bare o config n a b crew → (n ≡ length crew.workers.items) × (n ≡ length crew.shared.posts.items)
+  so_place config n a b crew so = (sym so.count ∙ sym so.crew_is.workers.same, sym so.count ∙ sym so.crew_is.boxes)
+
+  pub so_shares : (config : Config) (n : ℕ) (a b : Option (WireTold W C L)) (crew : Crew M C L) → HiredSoFar bare o config n a b crew → SharesOf config crew.shared
+  so_shares config n a b crew so = so.crew_is.shares

@@ -13,6 +13,7 @@ use Rattle.session_run.specs.Ends.{AppendsFront}
 use Rattle.session_run.specs.declared.status.Status.{Status}
 use Rattle.shared_state.specs.declared.permits.Permits.{Permits}
 use Rattle.std.proofs.Common.{ap, arith, inl, inr, refl, subst, sym, ◌∙◌}
+use Rattle.std.proofs.lemmas.Bool.{false≢true}
 use Rattle.std.proofs.lemmas.List.{get_or-map, length-map}
 use Rattle.std.specs.List.{All}
 use Rattle.std.specs.Prelude.{Bool, List, Option, [], false, if◌then◌else◌, length, map, reverse, slice_index_or, suc, true, ℕ, ◌+◌, ◌<◌, ◌||◌, ◌∷◌, ◌≡◌, ◌≤◌, ◌⊎◌, ◌^◌, ◌-◌}
@@ -46,7 +47,7 @@ record FaultAt (ends : List Ended) : Type 0 where
   is : (d : Ended) → is_fault (slice_index_or ends place d) ≡ true
 
 fault_at : (ends : List Ended) → has_end is_fault ends ≡ true → FaultAt ends
-fault_at [] e = cc
+fault_at [] e = absurd (false≢true e)
 fault_at (x ∷ xs) e = by (is_fault x) refl e
   where
     later : FaultAt xs → FaultAt (x ∷ xs)
@@ -61,9 +62,9 @@ module _ {M C L : Type 0} (o : Outside M C L) where
       → (0 < o.wires_faults new.wires) ⊎ (0 < o.journal_faults new.journal)
   worked_fault shared place n old ended.WiresFault new w t = inl (rose_some (o.wires_faults old.wires) (o.wires_faults new.wires) (w.wires_fault refl))
   worked_fault shared place n old ended.JournalFault new w t = inr (rose_some (o.journal_faults old.journal) (o.journal_faults new.journal) (w.journal_fault refl))
-  worked_fault shared place n old ended.Turns new w t = cc
-  worked_fault shared place n old ended.Stopped new w t = cc
-  worked_fault shared place n old ended.Memory new w t = cc
+  worked_fault shared place n old ended.Turns new w t = absurd (false≢true t)
+  worked_fault shared place n old ended.Stopped new w t = absurd (false≢true t)
+  worked_fault shared place n old ended.Memory new w t = absurd (false≢true t)
 
   pub ran_fault : (shared : Shared) (n : ℕ) (old new : List (Worker M C OpenGate L)) (ends : List Ended) → WorkedEach o shared n old ends new → ends_status ends ≡ status.WriteFault → OneFailed o new
   ran_fault shared n old new ends each e = by (fault_at ends (by_fault ends e))

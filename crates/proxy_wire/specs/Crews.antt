@@ -15,9 +15,9 @@ use Rattle.worker_threads.specs.declared.worker.Shared.{Shared}
 use Rattle.worker_threads.specs.declared.worker.Worker.{Worker}
 
 -- it holds of each two at the same place
-pub record EachTwo {A B : Type 0} (P : ℕ → A → B → Type 0) (as : List A) (bs : List B) : Type 0 where
-  pub same : length bs ≡ length as
-  pub each : (i : ℕ) (a : A) (b : B) → i < length as → P i (slice_index_or as i a) (slice_index_or bs i b)
+pub record EachTwo {A B : Type 0} (P : ℕ → A → B → Type 0) (xs : List A) (ys : List B) : Type 0 where
+  pub same : length ys ≡ length xs
+  pub each : (i : ℕ) (a : A) (b : B) → i < length xs → P i (slice_index_or xs i a) (slice_index_or ys i b)
 
 -- the permits and the names are the configuration's
 pub record SharesOf (config : Config) (shared : Shared) : Type 0 where
@@ -43,6 +43,7 @@ module _ {W M C L : Type 0} (bare : M → W) (o : Outside M C L) where
     pub boxes : length crew.shared.posts.items ≡ length given
     pub workers : EachTwo (IsHired crew.shared) given crew.workers.items
 
+module _ {M C L : Type 0} (o : Outside M C L) where
   -- the connections or the journal of one of them have failed
   pub record OneFailed (workers : List (Worker M C OpenGate L)) : Type 0 where
     pub place : ℕ

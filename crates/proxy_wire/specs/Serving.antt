@@ -3,6 +3,7 @@ use Rattle.metered_wires.specs.Rising.{untold}
 use Rattle.metered_wires.specs.declared.metered.MeteredWires.{MeteredWires}
 use Rattle.proxy_config.specs.declared.config.Config.{Config}
 use Rattle.proxy_site.specs.Relaying.{IsCutShort, listening_line}
+use Rattle.proxy_site.specs.Serving.{HasConfig, HasNoConfig}
 use Rattle.proxy_site.specs.Sites.{TellsListening, TellsNoMore, Told}
 use Rattle.proxy_wire.specs.Sites.{TellsWorkers, WireTold}
 use Rattle.proxy_wire.specs.Working.{RanEach, ends_status}
@@ -14,6 +15,7 @@ use Rattle.std.specs.Prelude.{List, Option, length, slice_index_or, ℕ, ◌<◌
 use Rattle.worker_loop.specs.declared.ended.Ended.{Ended}
 use Rattle.worker_parts.specs.Journals.{header}
 use Rattle.worker_ports.specs.Wires.{Seen}
+use Rattle.worker_ports.specs.declared.wires.Wires.{Ghosts}
 use Rattle.worker_threads.specs.Starting.{Outside}
 use Rattle.proxy_wire.specs.declared.end.WireEnd.TheVariants as end
 use Rattle.session_run.specs.declared.status.Status.TheVariants as status
@@ -56,10 +58,10 @@ module _ {W M C L : Type 0} (bare : M → W) (o : Outside M C L) where
     pub status : how ≡ ends_status ends
 
 -- connections that take tokens don't tell what was done
-abbrev pub metered_outside : {W C L : Type 0} → Outside W C L → Outside (MeteredWires W) C L
-metered_outside {W} o = record { seen = λ (m : MeteredWires W). untold m.greatest (o.seen m.inner); moments = o.moments; text = o.text; told = o.told; wires_faults = λ (m : MeteredWires W). o.wires_faults m.inner; journal_faults = o.journal_faults }
+abbrev pub metered_outside : {W C L : Type 0} (G : Ghosts W) → Outside W C L → Outside (MeteredWires W G) C L
+metered_outside {W} G o = record { seen = λ (m : MeteredWires W G). untold m.greatest (o.seen m.inner); moments = o.moments; text = o.text; told = o.told; wires_faults = λ (m : MeteredWires W G). o.wires_faults m.inner; journal_faults = o.journal_faults }
 
-module _ {T J : Type 0} {W C L : Type 0} (o : Outside W C L) where
+module _ {T J : Type 0} {W C L : Type 0} (G : Ghosts W) (o : Outside W C L) where
   -- it couldn't listen, or for want of memory it didn't; nothing was given to a worker, and nothing was written
   pub record NotListened (config : Config) (told_old told_new : Option (Told T J)) (wired_old wired_new : Option (WireTold W C L)) (out_old out_new : Option (List ℕ)) (how : Status) : Type 0 where
     pub told : TellsNoMore told_old config.proxy.listen told_new
@@ -73,9 +75,15 @@ module _ {T J : Type 0} {W C L : Type 0} (o : Outside W C L) where
     pub told : TellsListening told_old (config.proxy.listen, address) told_new
     pub over : NoneRan o.seen o.text config address wired_old wired_new out_old out_new how
         ⊎ (AllRan (λ (w : W). w) o config n address wired_old wired_new out_old out_new how
-        ⊎ AllRan (λ (m : MeteredWires W). m.inner) (metered_outside o) config n address wired_old wired_new out_old out_new how)
+        ⊎ AllRan (λ (m : MeteredWires W G). m.inner) (metered_outside G o) config n address wired_old wired_new out_old out_new how)
 
   abbrev pub ServesWire : (config : Config) (n : ℕ) (told_old told_new : Option (Told T J)) (wired_old wired_new : Option (WireTold W C L)) (out_old out_new : Option (List ℕ)) (how : Status) → Type 0
   ServesWire config n told_old told_new wired_old wired_new out_old out_new how =
       NotListened config told_old told_new wired_old wired_new out_old out_new how
       ⊎ Listened config n told_old told_new wired_old wired_new out_old out_new how
+
+-- under the configuration that was read; where there is none, the site told nothing more
+module _ {A B : Type 0} where
+  abbrev pub ServesConfig : (Serves : Config → Type 0) (left_old left_new : Option (List ℕ)) (told_old told_new : A) (wired_old wired_new : B) (out_old out_new : Option (List ℕ)) (how : Status) → Type 0
+  ServesConfig Serves left_old left_new told_old told_new wired_old wired_new out_old out_new how =
+      HasConfig Serves left_old left_new ⊎ (HasNoConfig left_old left_new out_old out_new how × ((told_new ≡ told_old) × (wired_new ≡ wired_old)))

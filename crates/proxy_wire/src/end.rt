@@ -78,7 +78,7 @@ fn has_fault(ends: &[Ended]) -> bool
 {
     let mut rest = ends;
     while let Some((end, after)) = rest.split_first() {
-        if matches!(end, Ended::WiresFault | Ended::JournalFault) {
+        if is_fault(*end) {
             return true;
         }
         rest = after;
@@ -91,10 +91,34 @@ fn has_memory(ends: &[Ended]) -> bool
 {
     let mut rest = ends;
     while let Some((end, after)) = rest.split_first() {
-        if matches!(end, Ended::Memory) {
+        if is_memory(*end) {
             return true;
         }
         rest = after;
     }
     false
+}
+
+fn is_fault(end: Ended) -> bool
+    ensures { result ≡ is_fault end }
+{
+    match end {
+        Ended::WiresFault => true,
+        Ended::JournalFault => true,
+        Ended::Turns => false,
+        Ended::Stopped => false,
+        Ended::Memory => false,
+    }
+}
+
+fn is_memory(end: Ended) -> bool
+    ensures { result ≡ is_memory end }
+{
+    match end {
+        Ended::WiresFault => false,
+        Ended::JournalFault => false,
+        Ended::Turns => false,
+        Ended::Stopped => false,
+        Ended::Memory => true,
+    }
 }

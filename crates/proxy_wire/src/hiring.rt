@@ -75,7 +75,7 @@ fn hire_next<T: WireSite, M: Meter<T::W>>(
 ) -> Result<(), WireEnd>
     requires text { length text.now < 2 ^ 32 }
     requires place { (place ≡ vec_len crew.old.workers) × (place ≡ vec_len crew.old.shared.posts) }
-    requires room { (place < 2 ^ 32 - 1) × (place < vec_capacity crew.old.workers) }
+    requires room { (place + 1 < 2 ^ 32) × (place < vec_capacity crew.old.workers) }
     requires shares { SharesOf config.now crew.old.shared }
     requires seats { All (IsSeatOf crew.old.shared.permits) (seats_in supply.old.seats) }
     requires leads { Leads crew.old.shared.posts.items leader.old }
@@ -111,7 +111,7 @@ fn hire<T: WireSite, M: Meter<T::W>>(
     crew: &mut Crew<M::Metered, T::C, T::L>,
 ) -> Result<(), WireEnd>
     requires place { place ≡ vec_len crew.old.workers }
-    requires room { (place < 2 ^ 32 - 1) × (place < vec_capacity crew.old.workers) }
+    requires room { (place + 1 < 2 ^ 32) × (place < vec_capacity crew.old.workers) }
     requires core { RestsWire parts.core.kind }
     ensures fits { OnOk result (Fits M.bare (record { seen = M.Metered.seen; moments = T.C.moments; text = T.L.contents; told = T.L.told; wires_faults = M.Metered.faults; journal_faults = T.L.faults }) Appends (length config.now.clusters) parts pass (T.wired site.old) (T.wired site.new) crew.old.workers.items crew.new.workers.items) }
     ensures some { OnErr result (Stays M.bare (record { seen = M.Metered.seen; moments = T.C.moments; text = T.L.contents; told = T.L.told; wires_faults = M.Metered.faults; journal_faults = T.L.faults }) (T.wired site.old) (T.wired site.new) crew.old.workers.items crew.new.workers.items ⊎ Fits M.bare (record { seen = M.Metered.seen; moments = T.C.moments; text = T.L.contents; told = T.L.told; wires_faults = M.Metered.faults; journal_faults = T.L.faults }) AppendsFront (length config.now.clusters) parts pass (T.wired site.old) (T.wired site.new) crew.old.workers.items crew.new.workers.items) }

@@ -97,37 +97,37 @@ impl Leader {
         self.accepts = !is_saturated(states.stop_accepting);
         post_all(rt, boxes, self.posters.as_mut_slice());
     }
+}
 
-    /// Makes rounds at the site, and looks and puts tokens each tenth of a second, until the workers are done. After a round that
-    /// failed no further one is made.
-    pub fn lead<R: Wait + Clock, T: WireSite, M: Meter<T::W>, G: Gauge>(
-        &mut self,
-        rt: &R,
-        alloc: Global,
-        config: &Config,
-        meter: &mut M,
-        site: &mut T,
-        gauge: &mut G,
-        boxes: &[PostBox],
-        done: &AtomicBool,
-    )
-        requires { Leads boxes.now self.old }
-        ensures leads { Leads boxes.now self.new }
-        ensures wired { T.wired site.new ≡ T.wired site.old }
-        ensures told { T.told site.new ≡ T.told site.old }
-        ensures no_fall { T.faults site.old ≤ T.faults site.new }
-    {
-        let mut due = now(rt, 0).saturating_add(PERIOD);
-        for _ in rt.forever() {
-            if done.load(Ordering::SeqCst) || site.round(self.accepts).is_err() {
-                return;
-            }
-            let moment = now(rt, due);
-            if moment >= due {
-                self.look(rt, alloc, config, gauge, boxes);
-                meter.put(config.proxy.accept_rate);
-                due = moment.saturating_add(PERIOD);
-            }
+/// Makes rounds at the site, and looks and puts tokens each tenth of a second, until the workers are done. After a round that failed
+/// no further one is made.
+pub(crate) fn lead<R: Wait + Clock, T: WireSite, M: Meter<T::W>, G: Gauge>(
+    rt: &R,
+    alloc: Global,
+    config: &Config,
+    boxes: &[PostBox],
+    done: &AtomicBool,
+    leader: &mut Leader,
+    meter: &mut M,
+    site: &mut T,
+    gauge: &mut G,
+)
+    requires { Leads boxes.now leader.old }
+    ensures leads { Leads boxes.now leader.new }
+    ensures wired { T.wired site.new ≡ T.wired site.old }
+    ensures told { T.told site.new ≡ T.told site.old }
+    ensures no_fall { T.faults site.old ≤ T.faults site.new }
+{
+    let mut due = now(rt, 0).saturating_add(PERIOD);
+    for _ in rt.forever() {
+        if done.load(Ordering::SeqCst) || site.round(leader.accepts).is_err() {
+            return;
+        }
+        let moment = now(rt, due);
+        if moment >= due {
+            leader.look(rt, alloc, config, gauge, boxes);
+            meter.put(config.proxy.accept_rate);
+            due = moment.saturating_add(PERIOD);
         }
     }
 }

@@ -7,7 +7,7 @@ ghost use Rattle.proxy_site.specs.Relaying.{ServesRelay, SiteOrOut};
 ghost use Rattle.proxy_site.specs.Serving.{ServesUnder};
 ghost use Rattle.proxy_wire.specs.Forms.{HasNoProxyForm, SpellsProxy};
 ghost use Rattle.proxy_wire.specs.Reasons.{proxy_status};
-ghost use Rattle.proxy_wire.specs.Serving.{ServesWire, wire_status};
+ghost use Rattle.proxy_wire.specs.Serving.{ServesConfig, ServesWire, wire_status};
 
 use crate::end::WireEnd;
 use crate::form::{ProxyForm, read_proxy_form};
@@ -87,7 +87,7 @@ where
     ensures usage { (result.status ≡ Status.Usage) ↔ HasNoProxyForm (map string_bytes words.now) }
     ensures nothing { result.status ≡ Status.Usage → (config.new ≡ config.old) × (site.new ≡ site.old) × (out.new ≡ out.old) }
     ensures relay { (n : ℕ) → SpellsProxy (map string_bytes words.now) (ProxyForm.Relay n) → ServesUnder (λ c. ServesRelay T.T.seen T.J.contents c n (T.told site.old) (T.told site.new) (K.contents out.old) (K.contents out.new) result.status) (S.left config.old) (S.left config.new) (T.told site.old) (T.told site.new) (K.contents out.old) (K.contents out.new) result.status }
-    ensures wire { (n : ℕ) → SpellsProxy (map string_bytes words.now) (ProxyForm.Wire n) → ServesUnder (λ c. ServesWire (record { seen = T.W.seen; moments = T.C.moments; text = T.L.contents; told = T.L.told; wires_faults = T.W.faults; journal_faults = T.L.faults }) c n (T.told site.old) (T.told site.new) (T.wired site.old) (T.wired site.new) (K.contents out.old) (K.contents out.new) result.status) (S.left config.old) (S.left config.new) (T.told site.old, T.wired site.old) (T.told site.new, T.wired site.new) (K.contents out.old) (K.contents out.new) result.status }
+    ensures wire { (n : ℕ) → SpellsProxy (map string_bytes words.now) (ProxyForm.Wire n) → ServesConfig (λ c. ServesWire T.W.Wires (record { seen = T.W.seen; moments = T.C.moments; text = T.L.contents; told = T.L.told; wires_faults = T.W.faults; journal_faults = T.L.faults }) c n (T.told site.old) (T.told site.new) (T.wired site.old) (T.wired site.new) (K.contents out.old) (K.contents out.new) result.status) (S.left config.old) (S.left config.new) (T.told site.old) (T.told site.new) (T.wired site.old) (T.wired site.new) (K.contents out.old) (K.contents out.new) result.status }
     ensures told { result.status ≡ proxy_status result.reason }
     ensures read_fault { result.status ≡ Status.ReadFault → Rose (S.faults config.old) (S.faults config.new) }
     ensures write_fault { SiteOrOut result.status (T.faults site.old) (T.faults site.new) (K.faults out.old) (K.faults out.new) }
@@ -122,7 +122,7 @@ where
     G: Gauge,
     K: Sink,
     ensures some { result.status ≡ Status.Usage → ⊥ }
-    ensures wire { ServesUnder (λ c. ServesWire (record { seen = T.W.seen; moments = T.C.moments; text = T.L.contents; told = T.L.told; wires_faults = T.W.faults; journal_faults = T.L.faults }) c turns (T.told site.old) (T.told site.new) (T.wired site.old) (T.wired site.new) (K.contents out.old) (K.contents out.new) result.status) (S.left source.old) (S.left source.new) (T.told site.old, T.wired site.old) (T.told site.new, T.wired site.new) (K.contents out.old) (K.contents out.new) result.status }
+    ensures wire { ServesConfig (λ c. ServesWire T.W.Wires (record { seen = T.W.seen; moments = T.C.moments; text = T.L.contents; told = T.L.told; wires_faults = T.W.faults; journal_faults = T.L.faults }) c turns (T.told site.old) (T.told site.new) (T.wired site.old) (T.wired site.new) (K.contents out.old) (K.contents out.new) result.status) (S.left source.old) (S.left source.new) (T.told site.old) (T.told site.new) (T.wired site.old) (T.wired site.new) (K.contents out.old) (K.contents out.new) result.status }
     ensures told { result.status ≡ proxy_status result.reason }
     ensures read_fault { result.status ≡ Status.ReadFault → Rose (S.faults source.old) (S.faults source.new) }
     ensures write_fault { SiteOrOut result.status (T.faults site.old) (T.faults site.new) (K.faults out.old) (K.faults out.new) }

@@ -52,7 +52,7 @@ where
     requires is { config_of text.now ≡ Ok config.now }
     requires in_range { IsInRange config.now }
     requires text { length text.now < 2 ^ 32 }
-    ensures serves { ServesWire (record { seen = T.W.seen; moments = T.C.moments; text = T.L.contents; told = T.L.told; wires_faults = T.W.faults; journal_faults = T.L.faults }) config.now turns (T.told site.old) (T.told site.new) (T.wired site.old) (T.wired site.new) (K.contents out.old) (K.contents out.new) (wire_status result) }
+    ensures serves { ServesWire T.W.Wires (record { seen = T.W.seen; moments = T.C.moments; text = T.L.contents; told = T.L.told; wires_faults = T.W.faults; journal_faults = T.L.faults }) config.now turns (T.told site.old) (T.told site.new) (T.wired site.old) (T.wired site.new) (K.contents out.old) (K.contents out.new) (wire_status result) }
     ensures write_fault { SiteOrOut (wire_status result) (T.faults site.old) (T.faults site.new) (K.faults out.old) (K.faults out.new) }
     ensures no_fall { (T.faults site.old ≤ T.faults site.new) × (K.faults out.old ≤ K.faults out.new) }
 {
@@ -112,7 +112,7 @@ where
     requires none { vec_len shared.posts ≡ 0 }
     requires seats { All (IsSeatOf shared.permits) (seats_in supply.seats) }
     requires leads { Leads shared.posts.items leader.old }
-    ensures serves { ServesWire (record { seen = T.W.seen; moments = T.C.moments; text = T.L.contents; told = T.L.told; wires_faults = T.W.faults; journal_faults = T.L.faults }) config.now turns (T.told site.old) (T.told site.new) (T.wired site.old) (T.wired site.new) (K.contents out.old) (K.contents out.new) (wire_status result) }
+    ensures serves { ServesWire T.W.Wires (record { seen = T.W.seen; moments = T.C.moments; text = T.L.contents; told = T.L.told; wires_faults = T.W.faults; journal_faults = T.L.faults }) config.now turns (T.told site.old) (T.told site.new) (T.wired site.old) (T.wired site.new) (K.contents out.old) (K.contents out.new) (wire_status result) }
     ensures write_fault { SiteOrOut (wire_status result) (T.faults site.old) (T.faults site.new) (K.faults out.old) (K.faults out.new) }
     ensures no_fall { (T.faults site.old ≤ T.faults site.new) × (K.faults out.old ≤ K.faults out.new) }
 {
@@ -164,7 +164,7 @@ where
     requires seats { All (IsSeatOf shared.permits) (seats_in supply.seats) }
     requires leads { Leads shared.posts.items leader.old }
     ensures ran { NoneRan T.W.seen T.L.contents config.now address.now (T.wired site.old) (T.wired site.new) (K.contents out.old) (K.contents out.new) (wire_status result)
-        ⊎ AllRan (λ (m : MeteredWires T.W). m.inner) (metered_outside (record { seen = T.W.seen; moments = T.C.moments; text = T.L.contents; told = T.L.told; wires_faults = T.W.faults; journal_faults = T.L.faults })) config.now turns address.now (T.wired site.old) (T.wired site.new) (K.contents out.old) (K.contents out.new) (wire_status result) }
+        ⊎ AllRan (λ (m : MeteredWires T.W T.W.Wires). m.inner) (metered_outside T.W.Wires (record { seen = T.W.seen; moments = T.C.moments; text = T.L.contents; told = T.L.told; wires_faults = T.W.faults; journal_faults = T.L.faults })) config.now turns address.now (T.wired site.old) (T.wired site.new) (K.contents out.old) (K.contents out.new) (wire_status result) }
     ensures told { T.told site.new ≡ T.told site.old }
     ensures write_fault { SiteOrOut (wire_status result) (T.faults site.old) (T.faults site.new) (K.faults out.old) (K.faults out.new) }
     ensures no_fall { (T.faults site.old ≤ T.faults site.new) × (K.faults out.old ≤ K.faults out.new) }
@@ -214,7 +214,7 @@ where
     requires put { token.IsPutSeatOf bucket.now put }
     requires leads { Leads shared.posts.items leader.old }
     ensures ran { NoneRan T.W.seen T.L.contents config.now address.now (T.wired site.old) (T.wired site.new) (K.contents out.old) (K.contents out.new) (wire_status result)
-        ⊎ AllRan (λ (m : MeteredWires T.W). m.inner) (metered_outside (record { seen = T.W.seen; moments = T.C.moments; text = T.L.contents; told = T.L.told; wires_faults = T.W.faults; journal_faults = T.L.faults })) config.now turns address.now (T.wired site.old) (T.wired site.new) (K.contents out.old) (K.contents out.new) (wire_status result) }
+        ⊎ AllRan (λ (m : MeteredWires T.W T.W.Wires). m.inner) (metered_outside T.W.Wires (record { seen = T.W.seen; moments = T.C.moments; text = T.L.contents; told = T.L.told; wires_faults = T.W.faults; journal_faults = T.L.faults })) config.now turns address.now (T.wired site.old) (T.wired site.new) (K.contents out.old) (K.contents out.new) (wire_status result) }
     ensures told { T.told site.new ≡ T.told site.old }
     ensures write_fault { SiteOrOut (wire_status result) (T.faults site.old) (T.faults site.new) (K.faults out.old) (K.faults out.new) }
     ensures no_fall { (T.faults site.old ≤ T.faults site.new) × (K.faults out.old ≤ K.faults out.new) }

@@ -16,7 +16,7 @@ use crate::crew::{Crew, Supply};
 use crate::end::WireEnd;
 use crate::giving_back::give_back_all;
 use crate::hiring::hire_all;
-use crate::leading::Leader;
+use crate::leading::{Leader, lead};
 use crate::meter::Meter;
 use crate::site::WireSite;
 use io_ports::{Failed, NoMemory, Octets, Sink};
@@ -27,9 +27,10 @@ use std::alloc::Global;
 use std::sync::Wait;
 use std::sync::atomic::{AtomicBool, Ordering};
 use std::thread::{Threads, join_mut};
-use std::time::Clock;
+use std::time;
 use worker_loop::Ended;
-use worker_ports::{Gauge, OpenGate};
+use worker_parts::Journal;
+use worker_ports::{Clock, Gauge, OpenGate, Wires};
 use worker_threads::{Shared, Worker, start_workers};
 
 /// Fits the workers of the configuration, which was read from this text, runs so many turns of each, and gives back what they worked
@@ -50,7 +51,7 @@ pub(crate) fn run<R, T, M, G, K>(
     out: &mut K,
 ) -> WireEnd
 where
-    R: Threads + Wait + Clock + Sync,
+    R: Threads + Wait + time::Clock + Sync,
     T: WireSite,
     M: Meter<T::W> + Drop,
     M::Metered: Send,
@@ -99,7 +100,7 @@ fn work_crew<R, T, M, G, K>(
     crew: &mut Crew<M::Metered, T::C, T::L>,
 ) -> WireEnd
 where
-    R: Threads + Wait + Clock + Sync,
+    R: Threads + Wait + time::Clock + Sync,
     T: WireSite,
     M: Meter<T::W>,
     M::Metered: Send,
@@ -155,7 +156,7 @@ fn work_all<R, T, M, G, K>(
     workers: &mut [Worker<M::Metered, T::C, OpenGate, T::L>],
 ) -> WireEnd
 where
-    R: Threads + Wait + Clock + Sync,
+    R: Threads + Wait + time::Clock + Sync,
     T: WireSite,
     M: Meter<T::W>,
     M::Metered: Send,
@@ -220,7 +221,7 @@ fn run_beside<R, T, M, G>(
     workers: &mut [Worker<M::Metered, T::C, OpenGate, T::L>],
 ) -> Result<Vec<Ended>, NoMemory>
 where
-    R: Threads + Wait + Clock + Sync,
+    R: Threads + Wait + time::Clock + Sync,
     T: WireSite,
     M: Meter<T::W>,
     M::Metered: Send,
@@ -235,11 +236,30 @@ where
     ensures told { T.told site.new ≡ T.told site.old }
     ensures no_fall { T.faults site.old ≤ T.faults site.new }
 {
-    let mut lead = || leader.lead(rt, alloc, config, meter, site, gauge, boxes, done);
-    let mut work = || {
-        let ends = start_workers(rt, alloc, shared, workers, turns);
-        done.store(true, Ordering::SeqCst);
-        ends
-    };
-    join_mut(rt, &mut work, &mut lead).0
+    let mut work = || work_out(rt, alloc, shared, turns, done, workers);
+    let mut guide = || lead(rt, alloc, config, boxes, done, leader, meter, site, gauge);
+    join_mut(rt, &mut work, &mut guide).0
+}
+
+// Runs the workers, and then raises the flag.
+fn work_out<R, W, C, L>(
+    rt: &R,
+    alloc: Global,
+    shared: &Shared,
+    turns: u64,
+    done: &AtomicBool,
+    workers: &mut [Worker<W, C, OpenGate, L>],
+) -> Result<Vec<Ended>, NoMemory>
+where
+    R: Threads + Wait + Sync,
+    W: Wires + Send,
+    C: Clock + Send,
+    L: Journal + Send,
+    requires ready { (i : ℕ) (w : _) → i < length workers.old → IsReady (record { seen = W.seen; moments = C.moments; text = L.contents; told = L.told; wires_faults = W.faults; journal_faults = L.faults }) shared.now i (slice_index_or workers.old i w) }
+    ensures ok { IfOk result (λ ends. WorkedEach (record { seen = W.seen; moments = C.moments; text = L.contents; told = L.told; wires_faults = W.faults; journal_faults = L.faults }) shared.now turns workers.old ends.items workers.new) }
+    ensures err { OnErr result (workers.new ≡ workers.old) }
+{
+    let ends = start_workers(rt, alloc, shared, workers, turns);
+    done.store(true, Ordering::SeqCst);
+    ends
 }
