@@ -37,6 +37,7 @@ def main():
         f.write(f'[proxy]\nlisten = "{HOST}:{base + 1}"\nconnections = 8\nworkers = {args.workers}\n[[clusters]]\nname = "web"\naddress = "{HOST}:{base}"\n[[routes]]\nprefix = "/"\ncluster = "web"\n')
     quiet = dict(stdout=subprocess.DEVNULL, stderr=subprocess.DEVNULL)
     started = [subprocess.Popen(['nghttpd', '--no-tls', '-a', HOST, '-d', work, str(base)], **quiet)]
+    time.sleep(1)
     proxies = {'h2proxy': (subprocess.Popen([args.h2proxy, f'{work}/c.toml'], **quiet), base + 1)}
     proxies['nghttpx'] = subprocess.Popen(['nghttpx', '--conf=/dev/null', '--single-process', f'-f{HOST},{base + 2};no-tls', f'-b{HOST},{base};;proto=h2', f'-n{args.workers}', '--accesslog-file=/dev/null', '--errorlog-file=/dev/null'], **quiet), base + 2
     started += [process for process, _ in proxies.values()]

@@ -193,6 +193,18 @@ module _ {W M C L : Type 0} (bare : M → W) (o : Outside M C L) where
       → HiresSome bare o config permits a c new
   so_some config n permits a b c old new less e so none = hires_some bare o config old permits new so.given a b c e so.crew_is (let k = so.count in omega (arith, less, k)) so.tells none
 
+-- ---- a worker that has failed
+module _ {M C L : Type 0} (o : Outside M C L) where
+  -- the worker that stands last has failed
+  pub last_failed : (old new : List (Worker M C OpenGate L)) (w : Worker M C OpenGate L) → new ≡ old ++ w ∷ [] → (0 < o.wires_faults w.wires) ⊎ (0 < o.journal_faults w.journal) → OneFailed o new
+  last_failed old new w e f = record {
+    place = length old;
+    least = let l = length-append old (w ∷ []) in let s = ap length e in omega (arith, l, s);
+    failed = λ d.
+        let at : slice_index_or new (length old) d ≡ w = ap (λ (xs : List (Worker M C OpenGate L)). slice_index_or xs (length old) d) e ∙ get_or-append_seam old w [] d in
+        subst (λ (v : Worker M C OpenGate L). (0 < o.wires_faults v.wires) ⊎ (0 < o.journal_faults v.journal)) (sym at) f;
+  }
+
 -- ---- one worker
 module _ {W M C L : Type 0} (bare : M → W) (o : Outside M C L) where
   -- as its connections stand before they are known as the site's
@@ -206,16 +218,6 @@ module _ {W M C L : Type 0} (bare : M → W) (o : Outside M C L) where
     joins = record { worker = j.worker; adds = j.adds; begins = begins_bare Writes wires given j.worker e j.begins; seat = j.seat; pass_is = j.pass_is };
     clusters_are = ap (λ (m : M). (o.seen m).clusters) j.begins.wires ∙ c;
     tells = subst (λ (k : ℕ). TellsFitted a ((k, given) ∷ []) b) len tells;
-  }
-
-  -- the worker that stands last has failed
-  pub last_failed : (old new : List (Worker M C OpenGate L)) (w : Worker M C OpenGate L) → new ≡ old ++ w ∷ [] → (0 < o.wires_faults w.wires) ⊎ (0 < o.journal_faults w.journal) → OneFailed o new
-  last_failed old new w e f = record {
-    place = length old;
-    least = let l = length-append old (w ∷ []) in let s = ap length e in omega (arith, l, s);
-    failed = λ d.
-        let at : slice_index_or new (length old) d ≡ w = ap (λ (xs : List (Worker M C OpenGate L)). slice_index_or xs (length old) d) e ∙ get_or-append_seam old w [] d in
-        subst (λ (v : Worker M C OpenGate L). (0 < o.wires_faults v.wires) ⊎ (0 < o.journal_faults v.journal)) (sym at) f;
   }
 
   -- one that was fitted behind its box may run

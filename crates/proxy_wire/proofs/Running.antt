@@ -2,7 +2,9 @@
 use Rattle.io_ports.specs.Faults.{Rose}
 use Rattle.proxy_config.specs.declared.config.Config.{Config}
 use Rattle.proxy_wire.proofs.Crewing.{some_of}
-use Rattle.proxy_wire.proofs.Telling.{workers_tell}
+use Rattle.proxy_site.proofs.Relayed.{front_none}
+use Rattle.proxy_site.specs.Relaying.{IsCutShort, listening_line}
+use Rattle.proxy_wire.proofs.Telling.{fitted_none, returned_none, workers_tell}
 use Rattle.proxy_wire.specs.Crews.{EachTwo, IsHired, IsIdle, IsPaid, OneFailed, back_of}
 use Rattle.proxy_wire.specs.Runs.{CrewIdle, CrewRan, CrewWorks, WorksEach, WorksNone}
 use Rattle.proxy_wire.specs.Serving.{AllRan, NoneRan, Unused, wire_status}
@@ -163,3 +165,17 @@ module _ {W M C L : Type 0} (bare : M → W) (o : Outside M C L) where
       → NoneRan seen o.text config address a c out_old out_new (wire_status end) ⊎ AllRan bare o config n address a c out_old out_new (wire_status end)
   crew_back seen config n address shared a b c workers out_old out_new end (inl idle) returned = inl (none_ran seen config address shared a b c workers out_old out_new end idle returned)
   crew_back seen config n address shared a b c workers out_old out_new end (inr ran) returned = inr (all_ran config n address shared a b c workers out_old out_new end ran returned)
+
+-- ---- nobody was fitted
+module _ {W C L : Type 0} (seen : W → Seen) (text : L → Option (List ℕ)) where
+  pub none_begun : (config : Config) (address : List ℕ) (a b : Option (WireTold W C L)) (out out' : Option (List ℕ)) (how : Status) → b ≡ a → out' ≡ out → IsCutShort how → NoneRan seen text config address a b out out' how
+  none_begun config address a b out out' how same kept cut = record {
+    given = [];
+    back = [];
+    wired = workers_tell a a b [] [] (fitted_none a a refl) (returned_none a b same);
+    most = omega arith;
+    each_back = refl;
+    each = λ i g w less. absurd (omega (arith, less));
+    line = subst (λ (t : Option (List ℕ)). AppendsFront out t (listening_line address)) (sym kept) (front_none out (listening_line address));
+    cut = cut;
+  }

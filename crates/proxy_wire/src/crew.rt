@@ -56,6 +56,7 @@ pub(crate) fn share(alloc: Global, config: &Config) -> Result<(Shared, PermitSea
 
 impl Supply {
     /// What one worker more is made of. Its core is made for the configuration of this text.
+    #[tactic(auto, using(crate::proofs::Sharing::seats_left, crate::proofs::Sharing::seat_taken))]
     pub fn take(&mut self, alloc: Global, text: &[u8], permits: &Permits) -> Result<Parts, NoMemory>
         requires text { length text.now < 2 ^ 32 }
         requires seats { All (IsSeatOf permits.now) (seats_in self.old.seats) }
@@ -63,7 +64,10 @@ impl Supply {
         ensures seat { IfOk result (λ parts. IsSeatOf permits.now parts.seat) }
         ensures core { IfOk result (λ parts. RestsWire parts.core.kind) }
     {
-        let (Some(follower), Some(seat)) = (self.followers.take_one(), self.seats.take_one()) else {
+        let Some(follower) = self.followers.take_one() else {
+            return Err(NoMemory);
+        };
+        let Some(seat) = self.seats.take_one() else {
             return Err(NoMemory);
         };
         let core = make_core(alloc, text)?;

@@ -24,6 +24,7 @@ pub(crate) struct Ticket<'a> {
 
 impl<'a> Metering<'a> {
     /// A seat that wasn't given out yet.
+    #[tactic(auto, using(crate::proofs::Sharing::takers_left, crate::proofs::Sharing::taker_taken))]
     pub fn ticket(&mut self) -> Option<Ticket<'a>> {
         let seat = self.seats.take_one()?;
         Some(Ticket {

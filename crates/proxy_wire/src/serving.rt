@@ -31,6 +31,7 @@ use worker_threads::Shared;
 
 /// Listens, and runs so many turns of each worker under a configuration, which was read from this text, while clients are
 /// accepted and gauges read beside them. What a worker was given to work over goes back to the site in any case.
+#[tactic(auto, using(crate::proofs::Served::not_listened, crate::proofs::Posting::leads_none))]
 pub fn serve_wire<R, T, G, K>(
     rt: &R,
     alloc: Global,
@@ -85,6 +86,7 @@ where
 }
 
 // Listens, and runs the workers.
+#[tactic(auto, using(crate::proofs::Served::not_listened, crate::proofs::Served::listened, crate::proofs::Served::listened_metered, crate::proofs::Served::fault_later))]
 fn listen_and_run<R, T, G, K>(
     rt: &R,
     alloc: Global,
@@ -134,7 +136,7 @@ where
 }
 
 // Runs the workers, whose connections of clients take tokens.
-#[tactic(auto, using(crate::proofs::Sharing::new_takers))]
+#[tactic(auto, using(crate::proofs::Sharing::new_takers, crate::proofs::Running::none_begun))]
 fn limit_and_run<R, T, G, K>(
     rt: &R,
     alloc: Global,

@@ -236,8 +236,12 @@ where
     ensures told { T.told site.new ≡ T.told site.old }
     ensures no_fall { T.faults site.old ≤ T.faults site.new }
 {
-    let mut work = || work_out(rt, alloc, shared, turns, done, workers);
-    let mut guide = || lead(rt, alloc, config, boxes, done, leader, meter, site, gauge);
+    // Each closure lends a variable of its own.
+    let heap = alloc;
+    let mut work = ||
+        requires { (i : ℕ) (w : _) → i < length workers.now → IsReady (record { seen = M.Metered.seen; moments = T.C.moments; text = T.L.contents; told = T.L.told; wires_faults = M.Metered.faults; journal_faults = T.L.faults }) shared.now i (slice_index_or workers.now i w) }
+    { work_out(rt, alloc, shared, turns, done, workers) };
+    let mut guide = || lead(rt, heap, config, boxes, done, leader, meter, site, gauge);
     join_mut(rt, &mut work, &mut guide).0
 }
 
