@@ -40,6 +40,7 @@ module _ {A B : Type 0} where
   pub each_mapped : (P Q : ℕ → A → B → Type 0) (xs : List A) (ys : List B) → ((i : ℕ) (a : A) (b : B) → i < length xs → P i a b → Q i a b) → EachTwo P xs ys → EachTwo Q xs ys
   each_mapped P Q xs ys f e = record { same = e.same; each = λ i a b less. f i (slice_index_or xs i a) (slice_index_or ys i b) less (e.each i a b less) }
 
+module _ {A : Type 0} where
   at_old : (xs : List A) (x d : A) (i : ℕ) → i < length xs → slice_index_or (xs ++ x ∷ []) i d ≡ slice_index_or xs i d
   at_old xs x d i less = get_or_append_left xs (x ∷ []) d i less
 
@@ -57,15 +58,15 @@ module _ {A B : Type 0} where
       by : (i : ℕ) (a : A) (b : B) → i < length (xs ++ x ∷ []) → (i < length xs) ⊎ (length xs ≤ i) → P i (slice_index_or (xs ++ x ∷ []) i a) (slice_index_or (ys ++ y ∷ []) i b)
       by i a b less (inl old) =
           let s = e.same in
-          let p0 : P i (slice_index_or xs i a) (slice_index_or (ys ++ y ∷ []) i b) = subst (λ (z : B). P i (slice_index_or xs i a) z) (sym (at_old {A = B} {B = B} ys y b i (omega (arith, old, s)))) (e.each i a b old) in
-          subst (λ (z : A). P i z (slice_index_or (ys ++ y ∷ []) i b)) (sym (at_old {A = A} {B = A} xs x a i old)) p0
+          let p0 : P i (slice_index_or xs i a) (slice_index_or (ys ++ y ∷ []) i b) = subst (λ (z : B). P i (slice_index_or xs i a) z) (sym (at_old {A = B} ys y b i (omega (arith, old, s)))) (e.each i a b old) in
+          subst (λ (z : A). P i z (slice_index_or (ys ++ y ∷ []) i b)) (sym (at_old {A = A} xs x a i old)) p0
       by i a b less (inr new) =
           let k = length-append xs (x ∷ []) in
           let s = e.same in
           let is : i ≡ length xs = omega (arith, new, less, k) in
           let p0 : P i x y = subst (λ (j : ℕ). P j x y) (sym is) p in
-          let p1 : P i x (slice_index_or (ys ++ y ∷ []) i b) = subst (λ (z : B). P i x z) (sym (at_new {A = B} {B = B} ys y b i (omega (arith, is, s)))) p0 in
-          subst (λ (z : A). P i z (slice_index_or (ys ++ y ∷ []) i b)) (sym (at_new {A = A} {B = A} xs x a i is)) p1
+          let p1 : P i x (slice_index_or (ys ++ y ∷ []) i b) = subst (λ (z : B). P i x z) (sym (at_new {A = B} ys y b i (omega (arith, is, s)))) p0 in
+          subst (λ (z : A). P i z (slice_index_or (ys ++ y ∷ []) i b)) (sym (at_new {A = A} xs x a i is)) p1
 
 same_box : (b d : PostBox) → ◌≡◌ {A = Option PostBox} (Some b) (Some d) → b ≡ d
 same_box b d e = cc
@@ -221,21 +222,21 @@ module _ {W M C L : Type 0} (bare : M → W) (o : Outside M C L) where
   }
 
   -- one that was fitted behind its box may run
-  pub fits_one : (config : Config) (old mid new : Crew M C L) (parts : Parts) (pass : RunnerPass) (box : PostBox) (a b : Option (WireTold W C L)) → SharesOf config old.shared → length old.workers.items ≡ length old.shared.posts.items → IsSeatOf old.shared.permits parts.seat
-      → mid.workers.items ≡ old.workers.items → mid.shared.permits ≡ old.shared.permits → mid.shared.names ≡ old.shared.names → mid.shared.posts.items ≡ old.shared.posts.items ++ box ∷ [] → IsRunnerOf box pass → new.shared ≡ mid.shared
-      → Fits bare o Appends (length config.clusters) parts pass a b mid.workers.items new.workers.items → HiresOne bare o a b old new
-  fits_one config old mid new parts pass box a b shares len seat same permits names boxes runs shared f = record {
+  pub fits_one : (config : Config) (old new : Crew M C L) (mid : List (Worker M C OpenGate L)) (shared : Shared) (parts : Parts) (pass : RunnerPass) (box : PostBox) (a b : Option (WireTold W C L)) → SharesOf config old.shared → length old.workers.items ≡ length old.shared.posts.items → IsSeatOf old.shared.permits parts.seat
+      → mid ≡ old.workers.items → shared.permits ≡ old.shared.permits → shared.names ≡ old.shared.names → shared.posts.items ≡ old.shared.posts.items ++ box ∷ [] → IsRunnerOf box pass → new.shared ≡ shared
+      → Fits bare o Appends (length config.clusters) parts pass a b mid new.workers.items → HiresOne bare o a b old new
+  fits_one config old new mid shared parts pass box a b shares len seat same permits names boxes runs kept f = record {
     given = f.given;
     worker = f.joins.worker;
     adds = f.joins.adds ∙ ap (λ (ws : List (Worker M C OpenGate L)). ws ++ f.joins.worker ∷ []) same;
     hired = record {
       begins = f.joins.begins;
-      seat = subst (λ (p : Permits). IsSeatOf p f.joins.worker.seat) (sym (ap (λ (s : Shared). s.permits) shared ∙ permits)) (subst (λ (s : PermitSeat). IsSeatOf old.shared.permits s) (sym f.joins.seat) seat);
-      pass = pass_at (new.shared.posts.items) (ap (λ (s : Shared). s.posts.items) shared ∙ boxes);
-      clusters = f.clusters_are ∙ sym (length-map config.clusters (λ (c : Cluster). c.name)) ∙ ap length (sym (ap (λ (s : Shared). s.names) shared ∙ names ∙ shares.names));
+      seat = subst (λ (p : Permits). IsSeatOf p f.joins.worker.seat) (sym (ap (λ (s : Shared). s.permits) kept ∙ permits)) (subst (λ (s : PermitSeat). IsSeatOf old.shared.permits s) (sym f.joins.seat) seat);
+      pass = pass_at (new.shared.posts.items) (ap (λ (s : Shared). s.posts.items) kept ∙ boxes);
+      clusters = f.clusters_are ∙ sym (length-map config.clusters (λ (c : Cluster). c.name)) ∙ ap length (sym (ap (λ (s : Shared). s.names) kept ∙ names ∙ shares.names));
     };
     box = box;
-    boxes = ap (λ (s : Shared). s.posts.items) shared ∙ boxes;
+    boxes = ap (λ (s : Shared). s.posts.items) kept ∙ boxes;
     tells = subst (λ (k : ℕ). TellsFitted a ((suc k, f.given) ∷ []) b) (ap length same) f.tells;
   }
     where
@@ -295,3 +296,7 @@ module _ {W M C L : Type 0} (bare : M → W) (o : Outside M C L) where
 
   pub so_shares : (config : Config) (n : ℕ) (a b : Option (WireTold W C L)) (crew : Crew M C L) → HiredSoFar bare o config n a b crew → SharesOf config crew.shared
   so_shares config n a b crew so = so.crew_is.shares
+
+pub err_always : {T E : Type 0} (B : Type 0) (r : Result T E) → B → OnErr r B
+err_always B (Ok x) b = tt
+err_always B (Err e) b = b

@@ -6,11 +6,15 @@ use Rattle.proxy_wire.proofs.Crewing.{each_more}
 use Rattle.proxy_wire.specs.Crews.{EachTwo}
 use Rattle.proxy_wire.specs.Leading.{ArePosters, Leads, Publishes}
 use Rattle.proxy_wire.specs.declared.leading.Leader.{Leader}
-use Rattle.shared_state.specs.States.{resources_of}
+use Rattle.shared_state.specs.States.{IsSame, resources_of}
 use Rattle.shared_state.specs.declared.publisher.Publisher.{Publisher}
-use Rattle.std.proofs.Common.{ap, arith, refl, subst, sym, ◌∙◌}
-use Rattle.std.proofs.lemmas.List.{length-replicate}
-use Rattle.std.specs.Prelude.{List, [], length, replicate, ℕ, ◌++◌, ◌<◌, ◌∷◌, ◌≡◌, ◌≤◌}
+use Rattle.std.specs.Arc.{arc_value}
+use Rattle.std.proofs.Common.{ap, arith, inl, inr, refl, set, subst, sym, ◌∙◌}
+use Rattle.std.proofs.lemmas.Bool.{cases_order}
+use Rattle.std.proofs.lemmas.Grind.{get_or-set_at}
+use Rattle.std.proofs.lemmas.List.{get_or_default, get_or-set_other, length-replicate, length-set}
+use Rattle.worker_parts.specs.Samples.{AreSampled, replaced}
+use Rattle.std.specs.Prelude.{List, None, Option, Some, [], length, replicate, slice_index_or, suc, ℕ, ◌++◌, ◌<◌, ◌∷◌, ◌≡◌, ◌≢◌, ◌≤◌, ◌⊎◌}
 
 as_each : (boxes : List PostBox) (posters : List PosterPass) → ArePosters boxes posters → EachTwo (λ i b p. IsPosterOf b p) boxes posters
 as_each boxes posters a = record { same = a.same; each = a.each }
@@ -34,4 +38,42 @@ leads_none boxes leader publisher pressures n eb ep el epr er res few =
         same = ap (λ (v : List PosterPass). length v) ep ∙ sym (ap (λ (v : List PostBox). length v) eb);
         each = λ i b p less. absurd (let z = ap (λ (v : List PostBox). length v) eb in omega (arith, less, z));
       };
+    }
+
+-- one has posted
+pub posters_set : (boxes : List PostBox) (posters : List PosterPass) (i : ℕ) (box : PostBox) (p : PosterPass) → i < length boxes → box ≡ slice_index_or boxes i box → IsPosterOf box p → ArePosters boxes posters → ArePosters boxes (set posters i p)
+posters_set boxes posters i box p there at is a = record { same = length-set posters i p ∙ a.same; each = λ j b q less. by j b q less (cases_order j i) }
+  where
+    at_it : (j : ℕ) (b : PostBox) (q : PosterPass) → j < length boxes → j ≡ i → IsPosterOf (slice_index_or boxes j b) (slice_index_or (set posters i p) j q)
+    at_it j b q less e =
+        let s = a.same in
+        let put : slice_index_or (set posters i p) j q ≡ p = get_or-set_at posters i j p q e (omega (arith, there, s)) in
+        let same : box ≡ slice_index_or boxes j b = at ∙ get_or_default boxes i box b there ∙ ap (λ (k : ℕ). slice_index_or boxes k b) (sym e) in
+        subst (λ (v : PosterPass). IsPosterOf (slice_index_or boxes j b) v) (sym put) (subst (λ (v : PostBox). IsPosterOf v p) same is)
+
+    elsewhere : (j : ℕ) (b : PostBox) (q : PosterPass) → j < length boxes → j ≢ i → IsPosterOf (slice_index_or boxes j b) (slice_index_or (set posters i p) j q)
+    elsewhere j b q less other = subst (λ (v : PosterPass). IsPosterOf (slice_index_or boxes j b) v) (sym (get_or-set_other posters i j p q other)) (a.each j b q less)
+
+    by : (j : ℕ) (b : PostBox) (q : PosterPass) → j < length boxes → (j ≡ i) ⊎ ((j < i) ⊎ (i < j)) → IsPosterOf (slice_index_or boxes j b) (slice_index_or (set posters i p) j q)
+    by j b q less (inl e) = at_it j b q less e
+    by j b q less (inr (inl below)) = elsewhere j b q less (λ e. omega (arith, below, e))
+    by j b q less (inr (inr above)) = elsewhere j b q less (λ e. omega (arith, above, e))
+
+-- ---- the gauges were read, and a version was published
+sampled_length : (readings : List (Option ℕ)) (old : List ℕ) → length readings ≡ length old → length (replaced readings old) ≡ length old
+sampled_length [] old e = refl
+sampled_length (r ∷ rs) [] e = absurd (omega (arith, e))
+sampled_length (None ∷ rs) (p ∷ ps) e = ap (λ (n : ℕ). suc n) (sampled_length rs ps (omega (arith, e)))
+sampled_length (Some r ∷ rs) (p ∷ ps) e = ap (λ (n : ℕ). suc n) (sampled_length rs ps (omega (arith, e)))
+
+pub sampled_same : (old new : List ℕ) (failed : ℕ) → AreSampled old new failed → length new ≡ length old
+sampled_same old new failed s = ap (λ (v : List ℕ). length v) s.replaces ∙ sampled_length s.readings old s.each
+
+pub looked : (boxes : List PostBox) (old new : Leader) (failed : ℕ) → Leads boxes old → AreSampled old.pressures new.pressures failed → IsSame old.publisher new.publisher → ArePosters boxes new.posters.items → Leads boxes new
+looked boxes old new failed leads sampled same posters =
+    let l : length new.pressures ≡ length old.pressures = sampled_same old.pressures new.pressures failed sampled in
+    let few = leads.publishes.few in
+    record {
+      publishes = record { pressures = l ∙ leads.publishes.pressures ∙ sym (ap (λ (b : _). (arc_value b).resources) same.0); few = omega (arith, l, few) };
+      posters = posters;
     }

@@ -1,7 +1,7 @@
 -- Workers go back, the last one first.
 use Rattle.io_ports.specs.Faults.{Rose}
 use Rattle.proxy_wire.proofs.Crewing.{some_of}
-use Rattle.proxy_wire.proofs.Telling.{returns_more}
+use Rattle.proxy_wire.proofs.Telling.{returned_none, returns_more}
 use Rattle.proxy_wire.specs.Crews.{IsPaid, OneFailed, back_of}
 use Rattle.proxy_wire.specs.Sites.{TellsReturned, WireTold, numbered}
 use Rattle.shared_state.specs.declared.permits.Permits.{Permits}
@@ -28,7 +28,7 @@ pub rose_before : (a b c : ℕ) → a ≤ b → Rose b c → Rose a c
 rose_before a b c le (inl less) = inl (omega (arith, le, less))
 rose_before a b c le (inr end) = inr end
 
-module _ {W M C L : Type 0} (bare : M → W) (o : Outside M C L) where
+module _ {M C L : Type 0} where
   pub paid_front : (permits : Permits) (all xs : List (Worker M C OpenGate L)) (w : Worker M C OpenGate L) → all ≡ xs ++ w ∷ [] → All (IsPaid permits) all → All (IsPaid permits) xs
   paid_front permits all xs w e paid i d less =
       let l = length-append xs (w ∷ []) in
@@ -43,11 +43,17 @@ module _ {W M C L : Type 0} (bare : M → W) (o : Outside M C L) where
       let at : slice_index_or all (length xs) w ≡ w = ap (λ (v : List (Worker M C OpenGate L)). slice_index_or v (length xs) w) e ∙ get_or-append_seam xs w [] w in
       subst (λ (v : Worker M C OpenGate L). IsPaid permits v) at (paid (length xs) w (omega (arith, l, s)))
 
+module _ {W M C L : Type 0} (bare : M → W) where
   pub returned_step : (a b c : Option (WireTold W C L)) (all xs : List (Worker M C OpenGate L)) (w : Worker M C OpenGate L) (n : ℕ) → all ≡ xs ++ w ∷ [] → n ≡ suc (length xs) → TellsReturned a ((n, back_of bare w) ∷ []) b
       → TellsReturned b (reverse (numbered 1 (map (back_of bare) xs))) c → TellsReturned a (reverse (numbered 1 (map (back_of bare) all))) c
   returned_step a b c all xs w n e len p q =
       returns_more a b c (map (back_of bare) all) (map (back_of bare) xs) (back_of bare w) n (ap (λ (v : List (Worker M C OpenGate L)). map (back_of bare) v) e ∙ map-append (back_of bare) xs (w ∷ [])) (len ∙ ap (λ (k : ℕ). suc k) (sym (length-map xs (back_of bare)))) p q
 
+  pub returned_end : (a : Option (WireTold W C L)) (workers : List (Worker M C OpenGate L)) → length workers ≡ 0 → TellsReturned a (reverse (numbered 1 (map (back_of bare) workers))) a
+  returned_end a [] none = returned_none a a refl
+  returned_end a (w ∷ ws) none = absurd (omega (arith, none))
+
+module _ {M C L : Type 0} (o : Outside M C L) where
   pub failed_step : (all xs : List (Worker M C OpenGate L)) (w : Worker M C OpenGate L) → all ≡ xs ++ w ∷ [] → OneFailed o all → OneFailed o xs ⊎ ((0 < o.wires_faults w.wires) ⊎ (0 < o.journal_faults w.journal))
   failed_step all xs w e f = by (cases_lt f.place (length xs))
     where

@@ -1,14 +1,17 @@
 -- The workers ran, or none did.
 use Rattle.io_ports.specs.Faults.{Rose}
 use Rattle.proxy_config.specs.declared.config.Config.{Config}
-use Rattle.proxy_wire.proofs.Crewing.{some_of}
+use Rattle.proxy_wire.proofs.Crewing.{all_some, idle_paid, some_of}
 use Rattle.proxy_site.proofs.Relayed.{front_none}
-use Rattle.proxy_site.specs.Relaying.{IsCutShort, listening_line}
+use Rattle.proxy_site.specs.Relaying.{IsCutShort, SiteOrOut, listening_line}
+use Rattle.proxy_wire.proofs.Returning.{rose_before, rose_on}
+use Rattle.proxy_wire.specs.Hires.{HiresAll, HiresSome}
+use Rattle.proxy_wire.specs.declared.crew.Crew.{Crew}
 use Rattle.proxy_wire.proofs.Telling.{fitted_none, returned_none, workers_tell}
 use Rattle.proxy_wire.specs.Crews.{EachTwo, IsHired, IsIdle, IsPaid, OneFailed, back_of}
-use Rattle.proxy_wire.specs.Runs.{CrewIdle, CrewRan, CrewWorks, WorksEach, WorksNone}
+use Rattle.proxy_wire.specs.Runs.{CrewIdle, CrewRan, CrewWorks, WorksAll, WorksEach, WorksNone}
 use Rattle.proxy_wire.specs.Serving.{AllRan, NoneRan, Unused, wire_status}
-use Rattle.proxy_wire.specs.Sites.{TellsReturned, WireTold, numbered}
+use Rattle.proxy_wire.specs.Sites.{TellsFitted, TellsReturned, WireTold, numbered}
 use Rattle.proxy_wire.specs.Working.{RanEach, WorkerRan, ends_status, has_end, is_fault, is_memory}
 use Rattle.proxy_wire.specs.declared.end.WireEnd.{WireEnd}
 use Rattle.session_run.specs.Ends.{AppendsFront}
@@ -48,16 +51,16 @@ record FaultAt (ends : List Ended) : Type 0 where
   least : place < length ends
   is : (d : Ended) → is_fault (slice_index_or ends place d) ≡ true
 
+fault_later : (x : Ended) (xs : List Ended) → FaultAt xs → FaultAt (x ∷ xs)
+fault_later x xs f = record { place = suc f.place; least = (let l = f.least in omega (arith, l)); is = f.is }
+
+fault_by : (x : Ended) (xs : List Ended) (b : Bool) → (has_end is_fault xs ≡ true → FaultAt xs) → is_fault x ≡ b → (b || has_end is_fault xs) ≡ true → FaultAt (x ∷ xs)
+fault_by x xs true later t r = record { place = 0; least = omega arith; is = λ d. t }
+fault_by x xs false later t r = fault_later x xs (later r)
+
 fault_at : (ends : List Ended) → has_end is_fault ends ≡ true → FaultAt ends
 fault_at [] e = absurd (false≢true e)
-fault_at (x ∷ xs) e = by (is_fault x) refl e
-  where
-    later : FaultAt xs → FaultAt (x ∷ xs)
-    later f = record { place = suc f.place; least = (let l = f.least in omega (arith, l)); is = f.is }
-
-    by : (b : Bool) → is_fault x ≡ b → (b || has_end is_fault xs) ≡ true → FaultAt (x ∷ xs)
-    by true t r = record { place = 0; least = omega arith; is = λ d. t }
-    by false t r = later (fault_at xs r)
+fault_at (x ∷ xs) e = fault_by x xs (is_fault x) (λ r. fault_at xs r) refl e
 
 module _ {M C L : Type 0} (o : Outside M C L) where
   worked_fault : (shared : Shared) (place n : ℕ) (old : Worker M C OpenGate L) (end : Ended) (new : Worker M C OpenGate L) → Worked o shared place n old end new → is_fault end ≡ true
@@ -96,7 +99,7 @@ module _ {M C L : Type 0} (o : Outside M C L) where
 -- ---- and what came back
 module _ {W M C L : Type 0} (bare : M → W) (o : Outside M C L) where
   back_at : (workers : List (Worker M C OpenGate L)) (i : ℕ) (b : W × L) (w : Worker M C OpenGate L) → i < length workers → slice_index_or (map (back_of bare) workers) i b ≡ back_of bare (slice_index_or workers i w)
-  back_at workers i b w less = get_or-map (back_of bare) workers i b w less
+  back_at workers i b w less = get_or-map (back_of bare) workers i w b less
 
   idle_unused : (seen : W → Seen) (permits : Permits) (given : List (W × (C × L))) (workers : List (Worker M C OpenGate L)) → EachTwo (IsIdle bare o permits) given workers
       → (i : ℕ) (g : W × (C × L)) (b : W × L) → i < length given → Unused seen o.text (slice_index_or given i g) (slice_index_or (map (back_of bare) workers) i b)
@@ -179,3 +182,44 @@ module _ {W C L : Type 0} (seen : W → Seen) (text : L → Option (List ℕ)) w
     line = subst (λ (t : Option (List ℕ)). AppendsFront out t (listening_line address)) (sym kept) (front_none out (listening_line address));
     cut = cut;
   }
+
+-- ---- after the workers were hired
+module _ {W M C L : Type 0} (bare : M → W) (o : Outside M C L) where
+  pub none_hired : (config : Config) (n : ℕ) (address : List ℕ) (shared : Shared) (a b : Option (WireTold W C L)) (workers : List (Worker M C OpenGate L)) (out out' : Option (List ℕ)) (end : WireEnd) → HiresSome bare o config shared.permits a b workers → out' ≡ out → IsCutShort (wire_status end)
+      → CrewWorks bare o config n address shared a b workers out out' end
+  none_hired config n address shared a b workers out out' end some same cut =
+      inl (record { some = some; line = subst (λ (t : Option (List ℕ)). AppendsFront out t (listening_line address)) (sym same) (front_none out (listening_line address)); cut = cut })
+
+  pub crew_idle_or_ran : (config : Config) (n : ℕ) (address : List ℕ) (crew : Crew M C L) (a b c : Option (WireTold W C L)) (last : List (Worker M C OpenGate L)) (out out' : Option (List ℕ)) (end : WireEnd) → HiresAll bare o config a b crew → c ≡ b
+      → WorksAll o crew.shared n address crew.workers.items last out out' end → CrewWorks bare o config n address crew.shared a c last out out' end
+  crew_idle_or_ran config n address crew a b c last out out' end all same (inl none) =
+      let some : HiresSome bare o config crew.shared.permits a b crew.workers.items = all_some bare o config crew a b all in
+      let there : HiresSome bare o config crew.shared.permits a b last = subst (λ (ws : List (Worker M C OpenGate L)). HiresSome bare o config crew.shared.permits a b ws) (sym none.same) some in
+      inl (record { some = subst (λ (t : Option (WireTold W C L)). HiresSome bare o config crew.shared.permits a t last) (sym same) there; line = none.line; cut = none.cut })
+  crew_idle_or_ran config n address crew a b c last out out' end all same (inr each) =
+      inr (record {
+        given = all.given;
+        first = crew.workers.items;
+        count = all.count;
+        shares = all.crew_is.shares;
+        hired = all.crew_is.workers;
+        tells = subst (λ (t : Option (WireTold W C L)). TellsFitted a (numbered 1 all.given) t) (sym same) all.tells;
+        works = each;
+      })
+
+  pub works_paid : (config : Config) (n : ℕ) (address : List ℕ) (shared : Shared) (a b : Option (WireTold W C L)) (workers : List (Worker M C OpenGate L)) (out out' : Option (List ℕ)) (end : WireEnd) → CrewWorks bare o config n address shared a b workers out out' end → All (IsPaid shared.permits) workers
+  works_paid config n address shared a b workers out out' end (inl idle) = idle_paid bare o shared.permits idle.some.given workers idle.some.idle
+  works_paid config n address shared a b workers out out' end (inr ran) = ran_paid o shared n ran.first workers ran.works.ends ran.works.worked
+
+  pub works_few : (config : Config) (n : ℕ) (address : List ℕ) (shared : Shared) (a b : Option (WireTold W C L)) (workers : List (Worker M C OpenGate L)) (out out' : Option (List ℕ)) (end : WireEnd) → CrewWorks bare o config n address shared a b workers out out' end → length workers ≤ config.proxy.workers
+  works_few config n address shared a b workers out out' end (inl idle) = let most = idle.some.most in let same = idle.some.idle.same in omega (arith, most, same)
+  works_few config n address shared a b workers out out' end (inr ran) = let count = ran.count in let same = ran.hired.same in let last = ran.works.worked.same in omega (arith, count, same, last)
+
+-- ---- a fault has its cause
+pub fault_of_one : {M C L : Type 0} (o : Outside M C L) (how : Status) (a b c x y : ℕ) (workers : List (Worker M C OpenGate L)) → a ≤ b → b ≤ c → (how ≡ status.WriteFault → (Rose a b ⊎ Rose x y) ⊎ OneFailed o workers) → (OneFailed o workers → Rose b c) → SiteOrOut how a c x y
+fault_of_one o how a b c x y workers le more cause count e = by (cause e)
+  where
+    by : (Rose a b ⊎ Rose x y) ⊎ OneFailed o workers → Rose a c ⊎ Rose x y
+    by (inl (inl site)) = inl (rose_on a b c le site more)
+    by (inl (inr out)) = inr out
+    by (inr one) = inl (rose_before a b c le (count one))

@@ -3,7 +3,7 @@ ghost use Rattle.std.specs.Prelude.{[], ◌++◌, ◌∷◌, ◌≡◌, ◌≤�
 ghost use Rattle.post_queue.specs.Clauses.{IsPosterOf, IsRunnerOf};
 ghost use Rattle.proxy_wire.specs.Leading.{ArePosters, Leads};
 
-use crate::meter::Meter;
+use crate::meter::Tokens;
 use crate::site::WireSite;
 use flow_notes::Job;
 use io_ports::{NoMemory, PressureList};
@@ -101,14 +101,14 @@ impl Leader {
 
 /// Makes rounds at the site, and looks and puts tokens each tenth of a second, until the workers are done. After a round that failed
 /// no further one is made.
-pub(crate) fn lead<R: Wait + Clock, T: WireSite, M: Meter<T::W>, G: Gauge>(
+pub(crate) fn lead<R: Wait + Clock, T: WireSite, P: Tokens, G: Gauge>(
     rt: &R,
     alloc: Global,
     config: &Config,
     boxes: &[PostBox],
     done: &AtomicBool,
     leader: &mut Leader,
-    meter: &mut M,
+    tokens: &mut P,
     site: &mut T,
     gauge: &mut G,
 )
@@ -126,7 +126,7 @@ pub(crate) fn lead<R: Wait + Clock, T: WireSite, M: Meter<T::W>, G: Gauge>(
         let moment = now(rt, due);
         if moment >= due {
             leader.look(rt, alloc, config, gauge, boxes);
-            meter.put(config.proxy.accept_rate);
+            tokens.put(config.proxy.accept_rate);
             due = moment.saturating_add(PERIOD);
         }
     }

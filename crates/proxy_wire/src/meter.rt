@@ -6,8 +6,14 @@ use crate::metering::{Metering, Ticket};
 use metered_wires::MeteredWires;
 use worker_ports::Wires;
 
+/// Where tokens for the connections of clients are put.
+pub(crate) trait Tokens {
+    /// So many connections of clients more may come.
+    fn put(&mut self, more: u32);
+}
+
 /// What stands between workers and the connections of clients.
-pub(crate) trait Meter<W: Wires> {
+pub(crate) trait Meter<W: Wires>: Tokens {
     /// The connections as a worker has them.
     type Metered: Wires;
 
@@ -30,9 +36,6 @@ pub(crate) trait Meter<W: Wires> {
     fn unwrap(metered: Self::Metered) -> W
         ensures bare { result ≡ bare metered }
         ensures faults { W.faults result ≡ Self.Metered.faults metered };
-
-    /// Some connections of clients more may come.
-    fn put(&mut self, more: u32);
 }
 
 /// Nothing: clients' connections come as they come.
@@ -57,7 +60,9 @@ impl<W: Wires> Meter<W> for Unmetered {
     fn unwrap(wires: W) -> W {
         wires
     }
+}
 
+impl Tokens for Unmetered {
     fn put(&mut self, _: u32) {}
 }
 
@@ -82,7 +87,9 @@ impl<'a, W: Wires> Meter<W> for Metering<'a> {
         let (wires, _) = metered.into_inner();
         wires
     }
+}
 
+impl<'a> Tokens for Metering<'a> {
     fn put(&mut self, more: u32) {
         self.put_tokens(u64::from(more));
     }

@@ -17,7 +17,7 @@ use crate::end::WireEnd;
 use crate::giving_back::give_back_all;
 use crate::hiring::hire_all;
 use crate::leading::{Leader, lead};
-use crate::meter::Meter;
+use crate::meter::{Meter, Tokens};
 use crate::site::WireSite;
 use io_ports::{Failed, NoMemory, Octets, Sink};
 use post_queue::PostBox;
@@ -35,6 +35,7 @@ use worker_threads::{Shared, Worker, start_workers};
 
 /// Fits the workers of the configuration, which was read from this text, runs so many turns of each, and gives back what they worked
 /// over.
+#[tactic(auto, using(crate::proofs::Running::crew_back, crate::proofs::Running::none_begun, crate::proofs::Running::fault_of_one))]
 pub(crate) fn run<R, T, M, G, K>(
     rt: &R,
     alloc: Global,
@@ -84,6 +85,7 @@ where
 }
 
 // Fits the workers, and runs them.
+#[tactic(auto, using(crate::proofs::Crewing::crew_ready, crate::proofs::Running::crew_idle_or_ran, crate::proofs::Running::none_hired, crate::proofs::Running::works_paid, crate::proofs::Running::works_few, crate::proofs::Crewing::idle_paid))]
 fn work_crew<R, T, M, G, K>(
     rt: &R,
     alloc: Global,
@@ -116,7 +118,7 @@ where
     requires leads { Leads crew.old.shared.posts.items leader.old }
     ensures works { CrewWorks M.bare (record { seen = M.Metered.seen; moments = T.C.moments; text = T.L.contents; told = T.L.told; wires_faults = M.Metered.faults; journal_faults = T.L.faults }) config.now turns address.now crew.new.shared (T.wired site.old) (T.wired site.new) crew.new.workers.items (K.contents out.old) (K.contents out.new) result }
     ensures paid { All (IsPaid crew.new.shared.permits) crew.new.workers.items }
-    ensures few { vec_len crew.new.workers < 2 ^ 32 }
+    ensures few { vec_len crew.new.workers ≤ config.now.proxy.workers }
     ensures cause { wire_status result ≡ status.WriteFault → (Rose (T.faults site.old) (T.faults site.new) ⊎ Rose (K.faults out.old) (K.faults out.new)) ⊎ OneFailed (record { seen = M.Metered.seen; moments = T.C.moments; text = T.L.contents; told = T.L.told; wires_faults = M.Metered.faults; journal_faults = T.L.faults }) crew.new.workers.items }
     ensures told { T.told site.new ≡ T.told site.old }
     ensures no_fall { (T.faults site.old ≤ T.faults site.new) × (K.faults out.old ≤ K.faults out.new) }
@@ -141,6 +143,7 @@ where
 }
 
 // Runs workers that are fitted, once it is told where the proxy listens.
+#[tactic(auto, using(crate::proofs::Running::ran_fault))]
 fn work_all<R, T, M, G, K>(
     rt: &R,
     alloc: Global,
@@ -206,31 +209,31 @@ fn tell_listening<K: Sink>(alloc: Global, address: &Octets, out: &mut K) -> Resu
 }
 
 // The workers, and beside them the loop that leads them, which ends once the flag says that they have.
-fn run_beside<R, T, M, G>(
+fn run_beside<R, W, C, L, T, P, G>(
     rt: &R,
     alloc: Global,
     config: &Config,
     turns: u64,
     shared: &Shared,
     boxes: &[PostBox],
-    meter: &mut M,
+    tokens: &mut P,
     leader: &mut Leader,
     site: &mut T,
     gauge: &mut G,
     done: &AtomicBool,
-    workers: &mut [Worker<M::Metered, T::C, OpenGate, T::L>],
+    workers: &mut [Worker<W, C, OpenGate, L>],
 ) -> Result<Vec<Ended>, NoMemory>
 where
     R: Threads + Wait + time::Clock + Sync,
+    W: Wires + Send,
+    C: Clock + Send,
+    L: Journal + Send,
     T: WireSite,
-    M: Meter<T::W>,
-    M::Metered: Send,
-    T::C: Send,
-    T::L: Send,
+    P: Tokens,
     G: Gauge,
-    requires ready { (i : ℕ) (w : _) → i < length workers.old → IsReady (record { seen = M.Metered.seen; moments = T.C.moments; text = T.L.contents; told = T.L.told; wires_faults = M.Metered.faults; journal_faults = T.L.faults }) shared.now i (slice_index_or workers.old i w) }
+    requires ready { (i : ℕ) (w : _) → i < length workers.old → IsReady (record { seen = W.seen; moments = C.moments; text = L.contents; told = L.told; wires_faults = W.faults; journal_faults = L.faults }) shared.now i (slice_index_or workers.old i w) }
     requires leads { Leads boxes.now leader.old }
-    ensures ok { IfOk result (λ ends. WorkedEach (record { seen = M.Metered.seen; moments = T.C.moments; text = T.L.contents; told = T.L.told; wires_faults = M.Metered.faults; journal_faults = T.L.faults }) shared.now turns workers.old ends.items workers.new) }
+    ensures ok { IfOk result (λ ends. WorkedEach (record { seen = W.seen; moments = C.moments; text = L.contents; told = L.told; wires_faults = W.faults; journal_faults = L.faults }) shared.now turns workers.old ends.items workers.new) }
     ensures err { OnErr result (workers.new ≡ workers.old) }
     ensures wired { T.wired site.new ≡ T.wired site.old }
     ensures told { T.told site.new ≡ T.told site.old }
@@ -239,9 +242,9 @@ where
     // Each closure lends a variable of its own.
     let heap = alloc;
     let mut work = ||
-        requires { (i : ℕ) (w : _) → i < length workers.now → IsReady (record { seen = M.Metered.seen; moments = T.C.moments; text = T.L.contents; told = T.L.told; wires_faults = M.Metered.faults; journal_faults = T.L.faults }) shared.now i (slice_index_or workers.now i w) }
+        requires { (i : ℕ) (w : _) → i < length workers.now → IsReady (record { seen = W.seen; moments = C.moments; text = L.contents; told = L.told; wires_faults = W.faults; journal_faults = L.faults }) shared.now i (slice_index_or workers.now i w) }
     { work_out(rt, alloc, shared, turns, done, workers) };
-    let mut guide = || lead(rt, heap, config, boxes, done, leader, meter, site, gauge);
+    let mut guide = || lead(rt, heap, config, boxes, done, leader, tokens, site, gauge);
     join_mut(rt, &mut work, &mut guide).0
 }
 
