@@ -245,8 +245,8 @@ module _ {W M C L : Type 0} (bare : M → W) (o : Outside M C L) where
           let l = length-append old.shared.posts.items (box ∷ []) in
           let there : length old.workers.items < length (old.shared.posts.items ++ box ∷ []) = omega (arith, l, len) in
           let got : slice_get posts (length old.workers.items) ≡ Some box =
-              ap (λ (v : List PostBox). slice_get v (length old.workers.items)) e ∙ slice_get-get_or (old.shared.posts.items ++ box ∷ []) (length old.workers.items) box there
-              ∙ ap (λ (k : ℕ). Some (slice_index_or (old.shared.posts.items ++ box ∷ []) k box)) len ∙ ap (λ (v : PostBox). Some v) (get_or-append_seam old.shared.posts.items box [] box) in
+          ap (λ (v : List PostBox). slice_get v (length old.workers.items)) e ∙ slice_get-get_or (old.shared.posts.items ++ box ∷ []) (length old.workers.items) box there
+          ∙ ap (λ (k : ℕ). Some (slice_index_or (old.shared.posts.items ++ box ∷ []) k box)) len ∙ ap (λ (v : PostBox). Some v) (get_or-append_seam old.shared.posts.items box [] box) in
           let is : box ≡ d = same_box box d (sym got ∙ at) in
           subst (λ (v : PostBox). IsRunnerOf v f.joins.worker.pass) is (subst (λ (p : RunnerPass). IsRunnerOf box p) (sym f.joins.pass_is) runs)
 

@@ -14,6 +14,11 @@ use Rattle.worker_ports.specs.declared.wires.Wires.{Ghosts}
 use Rattle.worker_threads.specs.Starting.{Outside}
 
 module _ {T J : Type 0} {W C L : Type 0} (G : Ghosts W) (o : Outside W C L) where
+  abbrev Over : (config : Config) (n : ℕ) (address : List ℕ) (w w' : Option (WireTold W C L)) (out out' : Option (List ℕ)) (how : Status) → Type 0
+  Over config n address w w' out out' how =
+      NoneRan o.seen o.text config address w w' out out' how
+      ⊎ (AllRan (λ (v : W). v) o config n address w w' out out' how ⊎ AllRan (λ (m : MeteredWires W G). m.inner) (metered_outside G o) config n address w w' out out' how)
+
   pub not_listened : (config : Config) (n : ℕ) (a b : Option (Told T J)) (w w' : Option (WireTold W C L)) (out out' : Option (List ℕ)) (how : Status) → TellsNoMore a config.proxy.listen b → w' ≡ w → out' ≡ out → IsCutShort how → ServesWire G o config n a b w w' out out' how
   not_listened config n a b w w' out out' how told wired same cut = inl (record { told = told; wired = wired; out = same; cut = cut })
 
@@ -22,7 +27,7 @@ module _ {T J : Type 0} {W C L : Type 0} (G : Ghosts W) (o : Outside W C L) wher
   listened config n address a b c w w' out out' how told same ran =
       inr (record { address = address; told = subst (λ (t : Option (Told T J)). TellsListening a (config.proxy.listen, address) t) (sym same) told; over = by ran })
     where
-      by : NoneRan o.seen o.text config address w w' out out' how ⊎ AllRan (λ (v : W). v) o config n address w w' out out' how → _
+      by : NoneRan o.seen o.text config address w w' out out' how ⊎ AllRan (λ (v : W). v) o config n address w w' out out' how → Over config n address w w' out out' how
       by (inl none) = inl none
       by (inr all) = inr (inl all)
 
@@ -31,7 +36,7 @@ module _ {T J : Type 0} {W C L : Type 0} (G : Ghosts W) (o : Outside W C L) wher
   listened_metered config n address a b c w w' out out' how told same ran =
       inr (record { address = address; told = subst (λ (t : Option (Told T J)). TellsListening a (config.proxy.listen, address) t) (sym same) told; over = by ran })
     where
-      by : NoneRan o.seen o.text config address w w' out out' how ⊎ AllRan (λ (m : MeteredWires W G). m.inner) (metered_outside G o) config n address w w' out out' how → _
+      by : NoneRan o.seen o.text config address w w' out out' how ⊎ AllRan (λ (m : MeteredWires W G). m.inner) (metered_outside G o) config n address w w' out out' how → Over config n address w w' out out' how
       by (inl none) = inl none
       by (inr all) = inr (inr all)
 

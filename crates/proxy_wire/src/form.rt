@@ -49,11 +49,7 @@ fn named_turns(name: &str) -> Option<u64>
     ensures some { IfSome result (IsWire (name.now ∷ [])) }
     ensures none { IfNone result (IsNoWire (name.now ∷ [])) }
 {
-    if name == "relay" {
-        None
-    } else {
-        Some(ENDLESS)
-    }
+    if name == "relay" { None } else { Some(ENDLESS) }
 }
 
 #[tactic(auto, using(crate::proofs::Wording::is_counted, crate::proofs::Wording::is_relay, crate::proofs::Wording::other_turns))]

@@ -56,7 +56,9 @@ pub(crate) fn hire_all<T: WireSite, M: Meter<T::W>>(
     ensures no_fall { T.faults site.old ≤ T.faults site.new }
 {
     for place in 0..config.proxy.workers {
-        hire_next(alloc, place, config, text, supply, meter, leader, site, crew)?;
+        hire_next(
+            alloc, place, config, text, supply, meter, leader, site, crew,
+        )?;
     }
     Ok(())
 }
@@ -124,7 +126,15 @@ fn hire<T: WireSite, M: Meter<T::W>>(
 {
     match site.fit(place + 1, config) {
         Ok((wires, clock, journal)) => {
-            enlist(alloc, parts, pass, M::wrap(ticket, wires), clock, journal, crew)
+            enlist(
+                alloc,
+                parts,
+                pass,
+                M::wrap(ticket, wires),
+                clock,
+                journal,
+                crew,
+            )
         }
         Err(refusal) => Err(unfitted(refusal)),
     }

@@ -125,8 +125,8 @@ where
     };
     if config.proxy.accept_rate == 0 {
         run(
-            rt, alloc, config, text, turns, &address, shared, supply, Unmetered, leader, site, gauge,
-            out,
+            rt, alloc, config, text, turns, &address, shared, supply, Unmetered, leader, site,
+            gauge, out,
         )
     } else {
         limit_and_run(

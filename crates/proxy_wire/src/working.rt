@@ -76,7 +76,18 @@ where
     };
     let mut crew = Crew { workers, shared };
     let end = work_crew(
-        rt, alloc, config, text, turns, address, &mut supply, &mut meter, leader, site, gauge, out,
+        rt,
+        alloc,
+        config,
+        text,
+        turns,
+        address,
+        &mut supply,
+        &mut meter,
+        leader,
+        site,
+        gauge,
+        out,
         &mut crew,
     );
     let Crew { workers, shared } = crew;
