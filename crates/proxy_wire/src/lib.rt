@@ -13,6 +13,7 @@ mod metering;
 mod serve;
 mod serving;
 mod site;
+mod team;
 mod working;
 
 pub use end::WireEnd;

@@ -19,19 +19,19 @@ use crate::hiring::hire_all;
 use crate::leading::{Leader, lead};
 use crate::meter::{Meter, Tokens};
 use crate::site::WireSite;
+use crate::team::Team;
 use io_ports::{Failed, NoMemory, Octets, Sink};
 use post_queue::PostBox;
 use proxy_config::Config;
 use session_run::write_all;
 use std::alloc::Global;
 use std::sync::Wait;
-use std::sync::atomic::{AtomicBool, Ordering};
+use std::sync::atomic::AtomicBool;
 use std::thread::{Threads, join_mut};
-use std::time;
+use std::time::Clock;
 use worker_loop::Ended;
-use worker_parts::Journal;
-use worker_ports::{Clock, Gauge, OpenGate, Wires};
-use worker_threads::{Shared, Worker, start_workers};
+use worker_ports::{Gauge, OpenGate};
+use worker_threads::{Shared, Worker};
 
 /// Fits the workers of the configuration, which was read from this text, runs so many turns of each, and gives back what they worked
 /// over.
@@ -52,7 +52,7 @@ pub(crate) fn run<R, T, M, G, K>(
     out: &mut K,
 ) -> WireEnd
 where
-    R: Threads + Wait + time::Clock + Sync,
+    R: Threads + Wait + Clock + Sync,
     T: WireSite,
     M: Meter<T::W> + Drop,
     M::Metered: Send,
@@ -113,7 +113,7 @@ fn work_crew<R, T, M, G, K>(
     crew: &mut Crew<M::Metered, T::C, T::L>,
 ) -> WireEnd
 where
-    R: Threads + Wait + time::Clock + Sync,
+    R: Threads + Wait + Clock + Sync,
     T: WireSite,
     M: Meter<T::W>,
     M::Metered: Send,
@@ -170,7 +170,7 @@ fn work_all<R, T, M, G, K>(
     workers: &mut [Worker<M::Metered, T::C, OpenGate, T::L>],
 ) -> WireEnd
 where
-    R: Threads + Wait + time::Clock + Sync,
+    R: Threads + Wait + Clock + Sync,
     T: WireSite,
     M: Meter<T::W>,
     M::Metered: Send,
@@ -220,7 +220,7 @@ fn tell_listening<K: Sink>(alloc: Global, address: &Octets, out: &mut K) -> Resu
 }
 
 // The workers, and beside them the loop that leads them, which ends once the flag says that they have.
-fn run_beside<R, W, C, L, T, P, G>(
+fn run_beside<R, V, T, P, G>(
     rt: &R,
     alloc: Global,
     config: &Config,
@@ -232,20 +232,18 @@ fn run_beside<R, W, C, L, T, P, G>(
     site: &mut T,
     gauge: &mut G,
     done: &AtomicBool,
-    workers: &mut [Worker<W, C, OpenGate, L>],
+    team: &mut [V],
 ) -> Result<Vec<Ended>, NoMemory>
 where
-    R: Threads + Wait + time::Clock + Sync,
-    W: Wires + Send,
-    C: Clock + Send,
-    L: Journal + Send,
+    R: Threads + Wait + Clock + Sync,
+    V: Team + Send,
     T: WireSite,
     P: Tokens,
     G: Gauge,
-    requires ready { (i : ℕ) (w : _) → i < length workers.old → IsReady (record { seen = W.seen; moments = C.moments; text = L.contents; told = L.told; wires_faults = W.faults; journal_faults = L.faults }) shared.now i (slice_index_or workers.old i w) }
+    requires ready { (i : ℕ) (w : _) → i < length team.old → V.ready shared.now i (slice_index_or team.old i w) }
     requires leads { Leads boxes.now leader.old }
-    ensures ok { IfOk result (λ ends. WorkedEach (record { seen = W.seen; moments = C.moments; text = L.contents; told = L.told; wires_faults = W.faults; journal_faults = L.faults }) shared.now turns workers.old ends.items workers.new) }
-    ensures err { OnErr result (workers.new ≡ workers.old) }
+    ensures ok { IfOk result (λ ends. V.worked shared.now turns team.old ends.items team.new) }
+    ensures err { OnErr result (team.new ≡ team.old) }
     ensures wired { T.wired site.new ≡ T.wired site.old }
     ensures told { T.told site.new ≡ T.told site.old }
     ensures no_fall { T.faults site.old ≤ T.faults site.new }
@@ -253,31 +251,8 @@ where
     // Each closure lends a variable of its own.
     let heap = alloc;
     let mut work = ||
-        requires { (i : ℕ) (w : _) → i < length workers.now → IsReady (record { seen = W.seen; moments = C.moments; text = L.contents; told = L.told; wires_faults = W.faults; journal_faults = L.faults }) shared.now i (slice_index_or workers.now i w) }
-    { work_out(rt, alloc, shared, turns, done, workers) };
+        requires { (i : ℕ) (w : _) → i < length team.now → V.ready shared.now i (slice_index_or team.now i w) }
+    { V::work_out(rt, alloc, shared, turns, done, team) };
     let mut guide = || lead(rt, heap, config, boxes, done, leader, tokens, site, gauge);
     join_mut(rt, &mut work, &mut guide).0
-}
-
-// Runs the workers, and then raises the flag.
-fn work_out<R, W, C, L>(
-    rt: &R,
-    alloc: Global,
-    shared: &Shared,
-    turns: u64,
-    done: &AtomicBool,
-    workers: &mut [Worker<W, C, OpenGate, L>],
-) -> Result<Vec<Ended>, NoMemory>
-where
-    R: Threads + Wait + Sync,
-    W: Wires + Send,
-    C: Clock + Send,
-    L: Journal + Send,
-    requires ready { (i : ℕ) (w : _) → i < length workers.old → IsReady (record { seen = W.seen; moments = C.moments; text = L.contents; told = L.told; wires_faults = W.faults; journal_faults = L.faults }) shared.now i (slice_index_or workers.old i w) }
-    ensures ok { IfOk result (λ ends. WorkedEach (record { seen = W.seen; moments = C.moments; text = L.contents; told = L.told; wires_faults = W.faults; journal_faults = L.faults }) shared.now turns workers.old ends.items workers.new) }
-    ensures err { OnErr result (workers.new ≡ workers.old) }
-{
-    let ends = start_workers(rt, alloc, shared, workers, turns);
-    done.store(true, Ordering::SeqCst);
-    ends
 }
