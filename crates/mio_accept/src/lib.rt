@@ -1,0 +1,8 @@
+//! Clients that one thread accepts and hands to workers in others, over mio.
+#![tactic(auto)]
+
+mod acceptor;
+mod queue;
+
+pub use acceptor::Acceptor;
+pub use queue::{AcceptQueue, QueueInlet};
