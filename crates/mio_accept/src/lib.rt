@@ -2,6 +2,7 @@
 #![tactic(auto)]
 
 mod acceptor;
+mod lane;
 mod queue;
 
 pub use acceptor::Acceptor;

@@ -16,6 +16,8 @@ pub struct AcceptQueue {
     waker: Waker,
     /// How many connections of clients the worker has.
     live: AtomicU32,
+    /// How many rounds the worker has begun; behind 2^32 - 1 the count begins again.
+    rounds: AtomicU32,
     /// Whether nobody comes any more.
     over: AtomicBool,
 }
@@ -27,6 +29,7 @@ impl AcceptQueue {
             clients: SegQueue::new(alloc)?,
             waker: Waker::new(registry, DOOR)?,
             live: AtomicU32::new(0),
+            rounds: AtomicU32::new(0),
             over: AtomicBool::new(false),
         })
     }
@@ -36,6 +39,16 @@ impl AcceptQueue {
         if self.clients.push(rt, client).is_ok() {
             self.wake();
         }
+    }
+
+    // A client that waits still.
+    pub(crate) fn take_back<R: Wait>(&self, rt: &R) -> Option<TcpStream> {
+        self.clients.pop(rt)
+    }
+
+    // How many rounds the worker has begun, as far as they are told apart.
+    pub(crate) fn rounds(&self) -> u32 {
+        self.rounds.load(Ordering::SeqCst)
     }
 
     /// How many connections of clients the worker has.
@@ -79,6 +92,7 @@ impl<R: Wait + Drop> Inlet for QueueInlet<R> {
 
     fn count(&mut self, clients: u32) {
         self.queue.live.store(clients, Ordering::SeqCst);
+        self.queue.rounds.fetch_add(1, Ordering::SeqCst);
     }
 
     fn is_over(&self) -> bool {
