@@ -12,10 +12,10 @@ mod warn;
 mod wire_journal;
 mod wire_sockets;
 
-use crate::counts::{ClientCounts, ClientGauge};
 use crate::opened::Opened;
 use crate::pages::{HELP, USAGE, VERSION};
 use crate::tell::tell_served;
+pub use counts::{ClientCounts, ClientGauge};
 pub use journal::FileJournal;
 use program_ports::{Input, Output};
 use proxy_site::Status;

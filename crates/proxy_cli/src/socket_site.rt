@@ -111,18 +111,19 @@ impl<R: Eprint + Files + Net + Clock + Wait + AllocGlobal + Copy + Drop> SocketS
             clusters,
             sharing,
             ready: config.proxy.connections,
-            clients: config.proxy.max_connections,
+            clients: most_clients(config, sharing),
         };
         if worker == 1 {
-            self.look_at_files(&plan);
+            self.look_at_files(&plan, config);
         }
         Ok(plan)
     }
 
-    fn look_at_files(&self, plan: &Plan) {
+    fn look_at_files(&self, plan: &Plan, config: &Config) {
+        let most = most_files(plan, config);
         if let Some(files) = open_files() {
-            if files < plan.most_files() {
-                warn_files(&self.rt, files, plan.most_files());
+            if files < most {
+                warn_files(&self.rt, files, most);
             }
         }
     }
@@ -177,6 +178,29 @@ impl<R: Eprint + Files + Net + Clock + Wait + AllocGlobal + Copy + Drop> SocketS
             }
         }
     }
+}
+
+// The most clients that a relay takes, or a worker. All workers have permits for as many as the configuration says; one more is
+// taken, and closed since there is no permit for it.
+fn most_clients(config: &Config, sharing: Sharing) -> u32 {
+    let most = config.proxy.max_connections;
+    match sharing {
+        Sharing::OneEach => most,
+        Sharing::All => most.saturating_add(1),
+    }
+}
+
+// How many files a relay may have open at once, or all workers, whose clients are the same.
+fn most_files(plan: &Plan, config: &Config) -> u64 {
+    let workers = match plan.sharing {
+        Sharing::OneEach => 1,
+        Sharing::All => config.proxy.workers,
+    };
+    let clients = u64::from(plan.clients);
+    let others = plan.most_files().saturating_sub(clients);
+    others
+        .saturating_mul(u64::from(workers))
+        .saturating_add(clients)
 }
 
 fn name_of(front: &Octets, worker: u32, alloc: Global) -> Result<Octets, NoMemory> {

@@ -12,6 +12,10 @@ impl<F: Write> Journal for FileJournal<F> {
 
     ghost told = { λ _. None };
 
+    fn is_kept(&self) -> bool {
+        matches!(self, FileJournal::File(_))
+    }
+
     fn line(&mut self, line: &[u8]) -> Result<(), Failed> {
         match self {
             FileJournal::File(file) => write_all(file, line),

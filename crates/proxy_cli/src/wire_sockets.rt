@@ -13,13 +13,20 @@ use mio_edge::{EdgeFault, MonotonicClock, Sharing, SocketTaps};
 use proxy_config::Config;
 use proxy_site::SiteRefusal;
 use proxy_wire::WireSite;
-use std::io::Eprint;
+use std::io::{Eprint, Error, ErrorKind};
 use std::net::Net;
 use std::rt::Files;
 use std::sync::{Arc, Wait};
 use std::time::Clock;
 
 impl<R: Eprint + Files + Net + Clock + Wait + AllocGlobal + Copy + Drop> SocketSite<R> {
+    /// All workers are to end.
+    pub fn end_all(&self) {
+        if let Some(acceptor) = &self.acceptor {
+            acceptor.end_all();
+        }
+    }
+
     // The first worker's connections need what hands clients on.
     fn set_up(&mut self, config: &Config) -> Result<(), EdgeFault>
         ensures { site_faults self.new ≡ site_faults self.old }
@@ -44,7 +51,7 @@ impl<R: Eprint + Files + Net + Clock + Wait + AllocGlobal + Copy + Drop> SocketS
         self.set_up(config)?;
         let plan = self.plan(config, Sharing::All, worker)?;
         let Some(acceptor) = &mut self.acceptor else {
-            return Err(EdgeFault::NoMemory);
+            return Err(EdgeFault::Failed(Error::from(ErrorKind::NotConnected)));
         };
         let poll = Poll::new(&self.rt)?;
         let made = AcceptQueue::new(self.rt.alloc(), poll.registry())?;
