@@ -48,15 +48,15 @@ class Cluster:
 
 
 class Proxy:
-    """A running proxy before one cluster."""
+    """A running proxy before one cluster. Its journals are files of its own, or begin with the words given, or there are none."""
 
     def __init__(self, args, port, limits='', timeouts='', journal=True, turns=None, **keys):
         self.args, self.dir = args, tempfile.mkdtemp(prefix='h2proxy-')
-        self.journal = os.path.join(self.dir, 'J') if journal and args.replay else None
+        self.journal = os.path.join(self.dir, 'J') if journal is True and args.replay else None
         keys = {'connections': 2, **keys}
         lines = ['[limits]', limits, '[timeouts]', timeouts, '[proxy]', *(f'{k} = {v}' for k, v in keys.items())]
-        if self.journal:
-            lines.append(f'journal = "{self.journal}"')
+        if self.journal or isinstance(journal, str):
+            lines.append(f'journal = "{self.journal or journal}"')
         lines += ['[[clusters]]', 'name = "web"', f'address = "{HOST}:{port}"', '[[routes]]', 'prefix = "/"', 'cluster = "web"']
         self.config = os.path.join(self.dir, 'c.toml')
         with open(self.config, 'w') as f:
@@ -263,6 +263,58 @@ def two_workers(args):
     with running(args, connections=2, workers=2) as (cluster, proxy):
         found, codes, said = h2load(proxy, '/middle', 1_000, 8, 4)
         assert found[0] == 1_000 and codes == (1_000, 0, 0, 0), said[-600:]
+
+
+@scenario
+def too_many_clients(args):
+    with running(args, max_connections=2) as (cluster, proxy):
+        clients = [socket.create_connection((HOST, proxy.port), timeout=5) for _ in range(5)]
+        live = [client for client in clients if client.recv(1) != b'']
+        assert len(live) == 2, f'{len(live)} of {len(clients)} clients are live'
+        for client in clients:
+            client.close()
+
+
+class Drain:
+    """A pipe that is read to nowhere, unless it is stopped up."""
+
+    def __init__(self, path):
+        os.mkfifo(path)
+        self.file = os.open(path, os.O_RDONLY | os.O_NONBLOCK)
+        self.flows, self.lives = threading.Event(), True
+        self.flows.set()
+        self.thread = threading.Thread(target=self.run)
+        self.thread.start()
+
+    def run(self):
+        while self.lives:
+            self.flows.wait()
+            with contextlib.suppress(BlockingIOError):
+                os.read(self.file, 1 << 16)
+            time.sleep(0.02)
+
+    def close(self):
+        self.lives = False
+        self.flows.set()
+        self.thread.join()
+        os.close(self.file)
+
+
+@scenario
+def a_journal_waits(args):
+    """Clients of a worker that waits for its journal are served by the other one."""
+    with tempfile.TemporaryDirectory(prefix='journals-') as dir, contextlib.closing(Drain(f'{dir}/J.1')) as drain:
+        with running(args, '--echo-upload', journal=f'{dir}/J', workers=2) as (cluster, proxy):
+            drain.flows.clear()
+            words = ['curl', '-sS', '--http2-prior-knowledge', '-o', '/dev/null', '--data-binary', f'@{cluster.dir}/middle']
+            posts = [subprocess.Popen([*words, f'{proxy.url}/up']) for _ in range(2)]
+            time.sleep(3)
+            for _ in range(6):
+                code, said, body, err = curl(f'{proxy.url}/one', timeout=2)
+                assert (code, said, body) == (0, '200 2', b'x'), (code, said, err)
+            drain.flows.set()
+            ends = [post.wait(30) for post in posts]
+            assert ends == [0, 0], ends
 
 
 @scenario
