@@ -64,7 +64,7 @@ impl AcceptQueue {
 
     // Ends a wait of the worker.
     fn wake(&self) {
-        // A worker that can't be woken looks after a tenth of a second.
+        // Where the system refuses, the next client wakes it. An end it sees by itself, within a tenth of a second.
         let _ = self.waker.wake();
     }
 }
