@@ -5,7 +5,7 @@ use Rattle.session_run.specs.Ends.{AppendsFront}
 use Rattle.shared_state.specs.declared.permit_rule.PermitView.{PermitView}
 use Rattle.std.proofs.Common.{ap, inl, inr, refl, subst, sym, ◌∙◌, ◌⊎◌}
 use Rattle.std.specs.Io.KnownBytes.{Appends}
-use Rattle.std.specs.Prelude.{Err, List, Option, [], filter, ℕ, ◌++◌, ◌∷◌, ◌≡◌}
+use Rattle.std.specs.Prelude.{Err, List, None, Option, [], filter, ℕ, ◌++◌, ◌∷◌, ◌≡◌}
 use Rattle.worker_core.specs.Sessions.{CarriesOut, MayTake, RestsWire}
 use Rattle.worker_core.specs.declared.worker.Kind.{Kind}
 use Rattle.worker_core.specs.declared.worker.Kind.TheVariants as kind
@@ -37,6 +37,10 @@ front_of line text old new e front = subst (λ (t : List ℕ). AppendsFront old 
 
 pub whole_of : (line text : List ℕ) (old new : Option (List ℕ)) → text ≡ line → Appends old new text → Appends old new line
 whole_of line text old new e whole = subst (λ (t : List ℕ). Appends old new t) e whole
+
+-- no line is kept
+pub unkept : (line : List ℕ) (told : Option (List ℕ)) → told ≡ None → Appends told told line
+unkept line told e = subst (λ (v : Option (List ℕ)). Appends v v line) (sym e) tt
 
 pub line_err : (names : List (List ℕ)) (e : Event) (k : Kind) (notes : List Note) (old new : Option (List ℕ)) (end : End) → KeepsLine names e old (Err end) new → DispatchesAs names e k old (Err end) k notes new
 line_err names e k notes old new ended.Turns line = line

@@ -30,7 +30,7 @@ impl Pad {
     }
 }
 
-/// Writes an event's line to the journal, and dispatches it. Its notes are on the pad.
+/// Writes an event's line to the journal, if lines are kept, and dispatches it. Its notes are on the pad.
 #[tactic(none)]
 pub(crate) fn dispatch<J: Journal>(
     core: &mut Core,
@@ -54,7 +54,7 @@ pub(crate) fn dispatch<J: Journal>(
     }
 }
 
-// Writes an event's line.
+// Writes an event's line, if lines are kept.
 #[tactic(none)]
 fn keep_line<J: Journal>(
     journal: &mut J,
@@ -68,6 +68,9 @@ fn keep_line<J: Journal>(
     ensures cause { result ≡ Err ended.JournalFault → Rose (J.faults journal.old) (J.faults journal.new) }
     ensures no_fall { J.faults journal.old ≤ J.faults journal.new }
 {
+    if !journal.is_kept() {
+        return Ok(());
+    }
     line.clear();
     let Ok(()) = event_text(event, names, line) else {
         return Err(Ended::Memory);

@@ -1,6 +1,6 @@
 // Journals: a session's text, which a replay reads.
 ghost use Rattle.std.specs.Io.KnownBytes.{Appends};
-ghost use Rattle.std.specs.Prelude.{◌≡◌, ◌≤◌, List, None, OnErr, OnOk, Option, []};
+ghost use Rattle.std.specs.Prelude.{◌≡◌, ◌≤◌, List, None, OnErr, OnOk, Option, [], false};
 ghost use Rattle.flow_notes.specs.declared.notes.Note.{Note};
 ghost use Rattle.io_ports.specs.Faults.{Rose};
 ghost use Rattle.io_ports.specs.Standard.{write_faults, writer_of};
@@ -19,6 +19,10 @@ const HEADER: &[u8] = b"h2replay-session 1 wire\n";
 pub trait Journal: Sink {
     /// The notes that it was handed, where this is told.
     ghost told: { Self → Option (List Note) };
+
+    /// Whether lines are kept. One that keeps none tells nothing, and no line need be written to it.
+    fn is_kept(&self) -> bool
+        ensures { result ≡ false → Self.contents self.now ≡ None };
 
     /// Writes a line, or a front of it where it fails.
     fn line(&mut self, line: &[u8]) -> Result<(), Failed>
@@ -49,6 +53,10 @@ pub fn begin_journal<J: Sink>(journal: &mut J) -> Result<(), Failed>
 
 impl<W: Write> Journal for StdSink<W> {
     ghost told = { λ _. None };
+
+    fn is_kept(&self) -> bool {
+        true
+    }
 
     fn line(&mut self, line: &[u8]) -> Result<(), Failed> {
         write_all(self, line)

@@ -70,6 +70,10 @@ impl Journal for MemJournal {
 
     ghost told = { told_by };
 
+    fn is_kept(&self) -> bool {
+        true
+    }
+
     fn line(&mut self, line: &[u8]) -> Result<(), Failed> {
         write_all(&mut self.sink, line)
     }

@@ -1,11 +1,23 @@
--- A line is written, or a front of it.
+-- A line is written, or a front of it, if lines are kept.
 use Rattle.flow_notes.specs.Event.{event_spelling}
 use Rattle.flow_notes.specs.Line.{newline}
 use Rattle.std.proofs.Common.{ap, arith, refl, ◌∙◌}
 use Rattle.std.specs.Prelude.{List, ℕ, ◌++◌}
-use Rattle.worker_loop.proofs.Dispatching.{front_of, whole_of}
+use Rattle.worker_loop.proofs.Dispatching.{front_of, unkept, whole_of}
 use Rattle.worker_loop.specs.Places.{event_line}
 use Rattle.worker_loop.proofs.events.keep_line.Goals as goal
+
+pub returns-then-not-is_kept-clause-keeps : goal.returns-then-not-is_kept-clause-keeps
+returns-then-not-is_kept-clause-keeps g c = unkept (event_line c.args.names.now c.args.event.now) (g.J.Sink.contents c.args.journal.now) (c.is_kept.ensures c.if-not-is_kept.true)
+
+pub returns-then-not-is_kept-clause-told : goal.returns-then-not-is_kept-clause-told
+returns-then-not-is_kept-clause-told g c = refl
+
+pub returns-then-not-is_kept-clause-cause : goal.returns-then-not-is_kept-clause-cause
+returns-then-not-is_kept-clause-cause g c = λ e. cc
+
+pub returns-then-not-is_kept-clause-no_fall : goal.returns-then-not-is_kept-clause-no_fall
+returns-then-not-is_kept-clause-no_fall g c = omega arith
 
 pub event_text-requires : goal.event_text-requires
 event_text-requires g c = c.requires
