@@ -14,10 +14,10 @@ use std::alloc::Global;
 use std::sync::Wait;
 use std::sync::atomic::{AtomicBool, Ordering};
 use std::thread::{Threads, join_mut};
-use std::time::Clock;
+use std::time::Clock as SystemClock;
 use worker_loop::Ended;
 use worker_parts::Journal;
-use worker_ports::{Gauge, OpenGate, Wires};
+use worker_ports::{Clock, Gauge, OpenGate, Wires};
 use worker_threads::{Shared, Worker, start_workers};
 
 /// Runs so many turns of each worker, and beside them the loop that leads them, which ends once the flag is raised.
@@ -35,9 +35,9 @@ pub(crate) fn run_beside<R, W, C, L, T, P, G>(
     workers: &mut [Worker<W, C, OpenGate, L>],
 ) -> Result<Vec<Ended>, NoMemory>
 where
-    R: Threads + Wait + Clock + Sync,
+    R: Threads + Wait + SystemClock + Sync,
     W: Wires + Send,
-    C: worker_ports::Clock + Send,
+    C: Clock + Send,
     L: Journal + Send,
     T: WireSite,
     P: Tokens,
@@ -50,11 +50,12 @@ where
     ensures told { T.told site.new ≡ T.told site.old }
     ensures no_fall { T.faults site.old ≤ T.faults site.new }
 {
+    let boxes = shared.posts.as_slice();
     lend(
         rt,
         alloc,
         config,
-        shared.posts.as_slice(),
+        boxes,
         done,
         &|lent: &mut [Worker<W, C, OpenGate, L>]|
             requires { (i : ℕ) (w : _) → i < length lent.now → IsReady (record { seen = W.seen; moments = C.moments; text = L.contents; told = L.told; wires_faults = W.faults; journal_faults = L.faults }) shared.now i (slice_index_or lent.now i w) }
@@ -83,7 +84,7 @@ fn lend<R, V, T, P, G, F>(
     workers: &mut [V],
 ) -> Result<Vec<Ended>, NoMemory>
 where
-    R: Threads + Wait + Clock + Sync,
+    R: Threads + Wait + SystemClock + Sync,
     V: Send,
     T: WireSite,
     P: Tokens,
@@ -127,7 +128,7 @@ fn run_out<R, W, C, L>(
 where
     R: Threads + Wait + Sync,
     W: Wires + Send,
-    C: worker_ports::Clock + Send,
+    C: Clock + Send,
     L: Journal + Send,
     requires ready { (i : ℕ) (w : _) → i < length workers.old → IsReady (record { seen = W.seen; moments = C.moments; text = L.contents; told = L.told; wires_faults = W.faults; journal_faults = L.faults }) shared.now i (slice_index_or workers.old i w) }
     ensures ok { IfOk result (λ ends. WorkedEach (record { seen = W.seen; moments = C.moments; text = L.contents; told = L.told; wires_faults = W.faults; journal_faults = L.faults }) shared.now turns workers.old ends.items workers.new) }

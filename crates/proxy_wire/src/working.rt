@@ -1,5 +1,5 @@
 // The workers are fitted, run, and what they worked over is given back.
-ghost use Rattle.std.specs.Prelude.{All, IfErr, IfOk, OnErr, OnOk, length, slice_index_or, vec_capacity, vec_len, ℕ, ◌<◌, ◌^◌, ◌≡◌, ◌≤◌, ◌⊎◌};
+ghost use Rattle.std.specs.Prelude.{All, IfErr, OnOk, length, slice_index_or, vec_capacity, vec_len, ℕ, ◌<◌, ◌^◌, ◌≡◌, ◌≤◌, ◌⊎◌};
 ghost use Rattle.std.specs.Io.KnownBytes.{Appends};
 ghost use Rattle.io_ports.specs.Faults.{Rose};
 ghost use Rattle.proxy_site.specs.Relaying.{IsCutShort, SiteOrOut, listening_line};
@@ -10,7 +10,7 @@ ghost use Rattle.proxy_wire.specs.Serving.{AllRan, NoneRan, wire_status};
 ghost use Rattle.session_run.specs.Ends.{AppendsFront};
 ghost use Rattle.session_run.specs.declared.status.Status.TheVariants as status;
 ghost use Rattle.shared_state.specs.PermitSeats.{IsSeatOf, seats_in};
-ghost use Rattle.worker_threads.specs.Starting.{IsReady, WorkedEach};
+ghost use Rattle.worker_threads.specs.Starting.{IsReady};
 
 use crate::beside::run_beside;
 use crate::crew::{Crew, Supply};
