@@ -1,3 +1,4 @@
+pub mod Asked
 pub mod Crewing
 pub mod Posting
 pub mod Returning
@@ -5,4 +6,5 @@ pub mod Running
 pub mod Served
 pub mod Sharing
 pub mod Telling
+pub mod Whole
 pub mod Wording

@@ -1,7 +1,7 @@
 -- The workers ran, or none did.
 use Rattle.io_ports.specs.Faults.{Rose}
 use Rattle.proxy_config.specs.declared.config.Config.{Config}
-use Rattle.proxy_wire.proofs.Crewing.{all_some, idle_paid, some_of}
+use Rattle.proxy_wire.proofs.Crewing.{all_some, crew_ready, idle_paid, some_of}
 use Rattle.proxy_site.proofs.Relayed.{front_none}
 use Rattle.proxy_site.specs.Relaying.{IsCutShort, SiteOrOut, listening_line}
 use Rattle.proxy_wire.proofs.Returning.{rose_before, rose_on}
@@ -17,16 +17,18 @@ use Rattle.proxy_wire.specs.declared.end.WireEnd.{WireEnd}
 use Rattle.session_run.specs.Ends.{AppendsFront}
 use Rattle.session_run.specs.declared.status.Status.{Status}
 use Rattle.shared_state.specs.declared.permits.Permits.{Permits}
-use Rattle.std.proofs.Common.{ap, arith, inl, inr, refl, subst, sym, ◌∙◌}
+use Rattle.std.proofs.Common.{Vec, ap, arith, inl, inr, refl, subst, sym, ◌∙◌}
 use Rattle.std.proofs.lemmas.Bool.{false≢true}
-use Rattle.std.proofs.lemmas.List.{get_or-map, length-map}
+use Rattle.std.proofs.lemmas.List.{get_or-map, length-map, with_items_is}
+use Rattle.std.specs.Io.KnownBytes.{Appends}
 use Rattle.std.specs.List.{All}
+use Rattle.std.specs.Vec.{with_items}
 use Rattle.std.specs.Prelude.{Bool, List, Option, [], false, if◌then◌else◌, length, map, reverse, slice_index_or, suc, true, ℕ, ◌+◌, ◌<◌, ◌||◌, ◌∷◌, ◌≡◌, ◌≤◌, ◌⊎◌, ◌^◌, ◌-◌}
 use Rattle.worker_loop.specs.declared.ended.Ended.{Ended}
 use Rattle.worker_parts.specs.Journals.{header}
 use Rattle.worker_ports.specs.Wires.{Seen}
 use Rattle.worker_ports.specs.declared.ports.OpenGate.{OpenGate}
-use Rattle.worker_threads.specs.Starting.{Outside, Worked, WorkedEach}
+use Rattle.worker_threads.specs.Starting.{IsReady, Outside, Worked, WorkedEach}
 use Rattle.worker_threads.specs.declared.worker.Shared.{Shared}
 use Rattle.worker_threads.specs.declared.worker.Worker.{Worker}
 use Rattle.session_run.specs.declared.status.Status.TheVariants as status
@@ -214,6 +216,51 @@ module _ {W M C L : Type 0} (bare : M → W) (o : Outside M C L) where
   pub works_few : (config : Config) (n : ℕ) (address : List ℕ) (shared : Shared) (a b : Option (WireTold W C L)) (workers : List (Worker M C OpenGate L)) (out out' : Option (List ℕ)) (end : WireEnd) → CrewWorks bare o config n address shared a b workers out out' end → length workers ≤ config.proxy.workers
   works_few config n address shared a b workers out out' end (inl idle) = let most = idle.some.most in let same = idle.some.idle.same in omega (arith, most, same)
   works_few config n address shared a b workers out out' end (inr ran) = let count = ran.count in let same = ran.hired.same in let last = ran.works.worked.same in omega (arith, count, same, last)
+
+-- ---- the workers that were lent, and how they ended
+module _ {M C L : Type 0} (o : Outside M C L) where
+  pub works_none : (shared : Shared) (n : ℕ) (address : List ℕ) (old new : List (Worker M C OpenGate L)) (out out' : Option (List ℕ)) (end : WireEnd) → new ≡ old → AppendsFront out out' (listening_line address) → IsCutShort (wire_status end) → WorksAll o shared n address old new out out' end
+  works_none shared n address old new out out' end same line cut = inl (record { same = same; line = line; cut = cut })
+
+  pub works_each : (shared : Shared) (n : ℕ) (address : List ℕ) (old new : List (Worker M C OpenGate L)) (ends : List Ended) (out out' : Option (List ℕ)) (end : WireEnd) → wire_status end ≡ ends_status ends → Appends out out' (listening_line address) → WorkedEach o shared n old ends new
+      → WorksAll o shared n address old new out out' end
+  works_each shared n address old new ends out out' end is line worked = inr (record { ends = ends; status = is; line = line; worked = worked })
+
+-- ---- workers that were lent out of the crew
+module _ {M C L : Type 0} (o : Outside M C L) where
+  works_same : (shared : Shared) (n : ℕ) (address : List ℕ) (old new : List (Worker M C OpenGate L)) (out out' : Option (List ℕ)) (end : WireEnd) → WorksAll o shared n address old new out out' end → length new ≡ length old
+  works_same shared n address old new out out' end (inl none) = ap (λ (ws : List (Worker M C OpenGate L)). length ws) none.same
+  works_same shared n address old new out out' end (inr each) = each.worked.same
+
+  -- they lie where they were lent from
+  pub lent_back : {Z : Type 0} (v : Vec (Worker M C OpenGate L) Z) (shared : Shared) (n : ℕ) (address : List ℕ) (first mid : List (Worker M C OpenGate L)) (out out' : Option (List ℕ)) (end : WireEnd) → length first ≡ v.len → WorksAll o shared n address first mid out out' end → (with_items v mid).items ≡ mid
+  lent_back v shared n address first mid out out' end len works = with_items_is v mid (works_same shared n address first mid out out' end works ∙ len)
+
+  -- and a fault of one is one there
+  pub cause_back : (how : Status) (a b x y : ℕ) (last mid : List (Worker M C OpenGate L)) → last ≡ mid → (how ≡ status.WriteFault → Rose x y ⊎ OneFailed o mid) → how ≡ status.WriteFault → (Rose a b ⊎ Rose x y) ⊎ OneFailed o last
+  cause_back how a b x y last mid e cause f = by (cause f)
+    where
+      by : Rose x y ⊎ OneFailed o mid → (Rose a b ⊎ Rose x y) ⊎ OneFailed o last
+      by (inl rose) = inl (inr rose)
+      by (inr one) = inr (subst (λ (ws : List (Worker M C OpenGate L)). OneFailed o ws) (sym e) one)
+
+module _ {W M C L : Type 0} (bare : M → W) (o : Outside M C L) where
+  pub lent_ready : (config : Config) (crew : Crew M C L) (a b : Option (WireTold W C L)) (first : List (Worker M C OpenGate L)) → HiresAll bare o config a b crew → first ≡ crew.workers.items → (i : ℕ) (w : Worker M C OpenGate L) → i < length first → IsReady o crew.shared i (slice_index_or first i w)
+  lent_ready config crew a b first all is =
+      subst (λ (ws : List (Worker M C OpenGate L)). (i : ℕ) (w : Worker M C OpenGate L) → i < length ws → IsReady o crew.shared i (slice_index_or ws i w)) (sym is) (crew_ready bare o config crew all.given all.crew_is)
+
+  pub lent_works : (config : Config) (n : ℕ) (address : List ℕ) (crew : Crew M C L) (a b c : Option (WireTold W C L)) (first mid last : List (Worker M C OpenGate L)) (out out' : Option (List ℕ)) (end : WireEnd) → HiresAll bare o config a b crew → c ≡ b → first ≡ crew.workers.items → last ≡ mid
+      → WorksAll o crew.shared n address first mid out out' end → CrewWorks bare o config n address crew.shared a c last out out' end
+  lent_works config n address crew a b c first mid last out out' end all same is back works =
+      let there : WorksAll o crew.shared n address crew.workers.items mid out out' end = subst (λ (ws : List (Worker M C OpenGate L)). WorksAll o crew.shared n address ws mid out out' end) is works in
+      subst (λ (ws : List (Worker M C OpenGate L)). CrewWorks bare o config n address crew.shared a c ws out out' end) (sym back) (crew_idle_or_ran config n address crew a b c mid out out' end all same there)
+
+  -- those that were fitted in vain go back
+  pub idle_paid_of : (config : Config) (permits : Permits) (a b : Option (WireTold W C L)) (workers : List (Worker M C OpenGate L)) → HiresSome bare o config permits a b workers → All (IsPaid permits) workers
+  idle_paid_of config permits a b workers some = idle_paid bare o permits some.given workers some.idle
+
+  pub idle_few : (config : Config) (permits : Permits) (a b : Option (WireTold W C L)) (workers : List (Worker M C OpenGate L)) → HiresSome bare o config permits a b workers → length workers ≤ config.proxy.workers
+  idle_few config permits a b workers some = let most = some.most in let same = some.idle.same in omega (arith, most, same)
 
 -- ---- a fault has its cause
 pub fault_of_one : {M C L : Type 0} (o : Outside M C L) (how : Status) (a b c x y : ℕ) (workers : List (Worker M C OpenGate L)) → a ≤ b → b ≤ c → (how ≡ status.WriteFault → (Rose a b ⊎ Rose x y) ⊎ OneFailed o workers) → (OneFailed o workers → Rose b c) → SiteOrOut how a c x y

@@ -1,5 +1,5 @@
 // The workers of the proxy, and what they are made of.
-ghost use Rattle.std.specs.Prelude.{[], All, IfOk, OnOk, length, vec_capacity, ◌≡◌, ◌≤◌};
+ghost use Rattle.std.specs.Prelude.{[], All, IfOk, length, ◌≡◌};
 ghost use Rattle.proxy_config.specs.Ranges.{IsInRange};
 ghost use Rattle.proxy_wire.specs.Crews.{SharesOf};
 ghost use Rattle.shared_state.specs.PermitSeats.{IsSeatOf, seats_in};

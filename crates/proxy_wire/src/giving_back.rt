@@ -1,5 +1,5 @@
 // What workers worked over goes back to the site.
-ghost use Rattle.std.specs.Prelude.{All, [], length, map, reverse, vec_len, ◌<◌, ◌∷◌, ◌^◌, ◌≡◌, ◌≤◌, ◌⊎◌};
+ghost use Rattle.std.specs.Prelude.{All, [], map, reverse, vec_len, ◌<◌, ◌∷◌, ◌^◌, ◌≡◌, ◌≤◌, ◌⊎◌};
 ghost use Rattle.io_ports.specs.Faults.{Rose};
 ghost use Rattle.proxy_wire.specs.Crews.{IsPaid, OneFailed, back_of};
 ghost use Rattle.proxy_wire.specs.Sites.{TellsReturned, numbered};

@@ -1,5 +1,5 @@
 // Workers get what they work over.
-ghost use Rattle.std.specs.Prelude.{[], All, IfErr, OnErr, OnOk, length, vec_capacity, vec_len, ◌+◌, ◌<◌, ◌^◌, ◌≡◌, ◌≤◌, ◌⊎◌};
+ghost use Rattle.std.specs.Prelude.{All, IfErr, OnErr, OnOk, length, vec_capacity, vec_len, ◌+◌, ◌<◌, ◌^◌, ◌≡◌, ◌≤◌, ◌⊎◌};
 ghost use Rattle.std.specs.Io.KnownBytes.{Appends};
 ghost use Rattle.io_ports.specs.Faults.{Rose};
 ghost use Rattle.proxy_site.specs.Relaying.{IsCutShort};

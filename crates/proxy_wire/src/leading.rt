@@ -1,5 +1,5 @@
 // The loop beside the workers.
-ghost use Rattle.std.specs.Prelude.{[], ◌++◌, ◌∷◌, ◌≡◌, ◌≤◌, IfOk, OnErr, OnOk, length};
+ghost use Rattle.std.specs.Prelude.{[], ◌++◌, ◌∷◌, ◌≡◌, ◌≤◌, IfOk, OnErr, OnOk};
 ghost use Rattle.post_queue.specs.Clauses.{IsPosterOf, IsRunnerOf};
 ghost use Rattle.proxy_wire.specs.Leading.{ArePosters, Leads};
 

@@ -1,6 +1,7 @@
 //! The proxy of HTTP/2 over any outside: its workers, the loop beside them, and the whole of the proxy.
 #![tactic(auto)]
 
+mod beside;
 mod crew;
 mod end;
 mod form;
@@ -13,7 +14,6 @@ mod metering;
 mod serve;
 mod serving;
 mod site;
-mod team;
 mod working;
 
 pub use end::WireEnd;

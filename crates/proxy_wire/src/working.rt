@@ -1,5 +1,5 @@
 // The workers are fitted, run, and what they worked over is given back.
-ghost use Rattle.std.specs.Prelude.{All, IfErr, IfOk, OnErr, OnOk, length, slice_index_or, vec_capacity, vec_len, ℕ, ◌<◌, ◌^◌, ◌≡◌, ◌≤◌, ◌⊎◌};
+ghost use Rattle.std.specs.Prelude.{All, IfErr, OnOk, length, slice_index_or, vec_capacity, vec_len, ℕ, ◌<◌, ◌^◌, ◌≡◌, ◌≤◌, ◌⊎◌};
 ghost use Rattle.std.specs.Io.KnownBytes.{Appends};
 ghost use Rattle.io_ports.specs.Faults.{Rose};
 ghost use Rattle.proxy_site.specs.Relaying.{IsCutShort, SiteOrOut, listening_line};
@@ -10,26 +10,24 @@ ghost use Rattle.proxy_wire.specs.Serving.{AllRan, NoneRan, wire_status};
 ghost use Rattle.session_run.specs.Ends.{AppendsFront};
 ghost use Rattle.session_run.specs.declared.status.Status.TheVariants as status;
 ghost use Rattle.shared_state.specs.PermitSeats.{IsSeatOf, seats_in};
-ghost use Rattle.worker_threads.specs.Starting.{IsReady, WorkedEach};
+ghost use Rattle.worker_threads.specs.Starting.{IsReady};
 
+use crate::beside::run_beside;
 use crate::crew::{Crew, Supply};
 use crate::end::WireEnd;
 use crate::giving_back::give_back_all;
 use crate::hiring::hire_all;
-use crate::leading::{Leader, lead};
-use crate::meter::{Meter, Tokens};
+use crate::leading::Leader;
+use crate::meter::Meter;
 use crate::site::WireSite;
-use crate::team::Team;
 use io_ports::{Failed, NoMemory, Octets, Sink};
-use post_queue::PostBox;
 use proxy_config::Config;
 use session_run::write_all;
 use std::alloc::Global;
 use std::sync::Wait;
 use std::sync::atomic::AtomicBool;
-use std::thread::{Threads, join_mut};
+use std::thread::Threads;
 use std::time::Clock;
-use worker_loop::Ended;
 use worker_ports::{Gauge, OpenGate};
 use worker_threads::{Shared, Worker};
 
@@ -96,7 +94,7 @@ where
 }
 
 // Fits the workers, and runs them.
-#[tactic(auto, using(crate::proofs::Crewing::crew_ready, crate::proofs::Running::crew_idle_or_ran, crate::proofs::Running::none_hired, crate::proofs::Running::works_paid, crate::proofs::Running::works_few, crate::proofs::Crewing::idle_paid))]
+#[tactic(auto, using(crate::proofs::Running::none_hired, crate::proofs::Running::idle_paid_of, crate::proofs::Running::idle_few))]
 fn work_crew<R, T, M, G, K>(
     rt: &R,
     alloc: Global,
@@ -154,7 +152,7 @@ where
 }
 
 // Runs workers that are fitted, once it is told where the proxy listens.
-#[tactic(auto, using(crate::proofs::Running::ran_fault))]
+#[tactic(auto, using(crate::proofs::Running::ran_fault, crate::proofs::Running::works_none, crate::proofs::Running::works_each))]
 fn work_all<R, T, M, G, K>(
     rt: &R,
     alloc: Global,
@@ -189,12 +187,11 @@ where
     if let Err(end) = tell_listening(alloc, address, out) {
         return end;
     }
-    let boxes = shared.posts.as_slice();
-    leader.look(rt, alloc, config, gauge, boxes);
+    leader.look(rt, alloc, config, gauge, shared.posts.as_slice());
     meter.put(config.proxy.accept_rate);
     let done = AtomicBool::new(false);
     let ends = run_beside(
-        rt, alloc, config, turns, shared, boxes, meter, leader, site, gauge, &done, workers,
+        rt, alloc, config, turns, shared, &done, leader, meter, site, gauge, workers,
     );
     match ends {
         Ok(ends) => WireEnd::Workers(ends),
@@ -217,42 +214,4 @@ fn tell_listening<K: Sink>(alloc: Global, address: &Octets, out: &mut K) -> Resu
         Ok(()) => Ok(()),
         Err(Failed) => Err(WireEnd::Write),
     }
-}
-
-// The workers, and beside them the loop that leads them, which ends once the flag says that they have.
-fn run_beside<R, V, T, P, G>(
-    rt: &R,
-    alloc: Global,
-    config: &Config,
-    turns: u64,
-    shared: &Shared,
-    boxes: &[PostBox],
-    tokens: &mut P,
-    leader: &mut Leader,
-    site: &mut T,
-    gauge: &mut G,
-    done: &AtomicBool,
-    team: &mut [V],
-) -> Result<Vec<Ended>, NoMemory>
-where
-    R: Threads + Wait + Clock + Sync,
-    V: Team + Send,
-    T: WireSite,
-    P: Tokens,
-    G: Gauge,
-    requires ready { (i : ℕ) (w : _) → i < length team.old → V.ready shared.now i (slice_index_or team.old i w) }
-    requires leads { Leads boxes.now leader.old }
-    ensures ok { IfOk result (λ ends. V.worked shared.now turns team.old ends.items team.new) }
-    ensures err { OnErr result (team.new ≡ team.old) }
-    ensures wired { T.wired site.new ≡ T.wired site.old }
-    ensures told { T.told site.new ≡ T.told site.old }
-    ensures no_fall { T.faults site.old ≤ T.faults site.new }
-{
-    // Each closure lends a variable of its own.
-    let heap = alloc;
-    let mut work = ||
-        requires { (i : ℕ) (w : _) → i < length team.now → V.ready shared.now i (slice_index_or team.now i w) }
-    { V::work_out(rt, alloc, shared, turns, done, team) };
-    let mut guide = || lead(rt, heap, config, boxes, done, leader, tokens, site, gauge);
-    join_mut(rt, &mut work, &mut guide).0
 }
