@@ -24,6 +24,9 @@ is_no false e = refl
 pub gives_idle : (r : RollValue) → Gives (roll_seen r) wired.Idle (roll_seen r)
 gives_idle r = record { may = tt; is = refl }
 
+pub gives_stop : (r : RollValue) → Gives (roll_seen r) wired.Stop (roll_seen r)
+gives_stop r = record { may = tt; is = refl }
+
 pub gives_accept : (r s : RollValue) (c : ℕ) → nat_lt r.greatest c ≡ true → roll_seen s ≡ given (wired.Accept c) (roll_seen r) → Gives (roll_seen r) (wired.Accept c) (roll_seen s)
 gives_accept r s c t e = record { may = is_less r.greatest c t; is = e }
 

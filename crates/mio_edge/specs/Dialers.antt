@@ -1,6 +1,6 @@
 -- When connections to a cluster are made.
 use Rattle.mio_edge.specs.declared.dialer.Dialer.{Dialer}
-use Rattle.std.specs.Prelude.{Bool, Option, false, max, min, true, ℕ, ◌*◌, ◌+◌, ◌-◌, ◌<◌, ◌^◌, ◌≡◌}
+use Rattle.std.specs.Prelude.{Bool, Option, false, if◌then◌else◌, max, min, nat_lt, true, ℕ, ◌*◌, ◌+◌, ◌-◌, ◌<◌, ◌^◌, ◌≡◌}
 use Rattle.std.specs.declared.net.socket_addr.SocketAddr.{SocketAddr}
 
 abbrev pub new_dialer : Option SocketAddr → ℕ → Dialer
@@ -19,5 +19,6 @@ next_pause pause = min (max (pause * 2) 100) 5000
 abbrev pub later : ℕ → ℕ → ℕ
 later now pause = min (now + pause) (2 ^ 64 - 1)
 
+-- none begins while one is kept
 abbrev pub rested : ℕ → Dialer → Dialer
-rested now d = record d { pause = next_pause d.pause; until = later now (next_pause d.pause) }
+rested now d = if nat_lt now d.until then d else record d { pause = next_pause d.pause; until = later now (next_pause d.pause) }

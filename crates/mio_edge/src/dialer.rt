@@ -125,10 +125,13 @@ impl Dialer {
         }
     }
 
-    // Pauses, each time twice as long.
+    // Pauses, each time twice as long. Connections that fail together, or within a pause, make one pause.
     fn rest(&mut self, now: u64)
         ensures { self.new ≡ rested now self.old }
     {
+        if now < self.until {
+            return;
+        }
         self.pause = self
             .pause
             .saturating_mul(2)

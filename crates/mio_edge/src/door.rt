@@ -69,6 +69,11 @@ impl<I: Inlet + Drop> Door<I> {
         self.inlet.count(clients);
     }
 
+    /// Whether nobody comes any more.
+    pub fn is_over(&self) -> bool {
+        self.inlet.is_over()
+    }
+
     fn missed(&mut self, kind: ErrorKind, now: u64)
         ensures { Misses now self.old self.new }
     {

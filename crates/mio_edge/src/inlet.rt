@@ -10,6 +10,9 @@ pub trait Inlet {
 
     /// So many connections of clients are live.
     fn count(&mut self, clients: u32);
+
+    /// Whether nobody comes any more, and the connections are to tell that it is over.
+    fn is_over(&self) -> bool;
 }
 
 impl Inlet for TcpListener {
@@ -19,4 +22,8 @@ impl Inlet for TcpListener {
     }
 
     fn count(&mut self, _: u32) {}
+
+    fn is_over(&self) -> bool {
+        false
+    }
 }

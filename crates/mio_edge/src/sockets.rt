@@ -96,6 +96,9 @@ impl<R: Clock + Net + Drop, I: Inlet + Drop> Sockets<R, I> {
     /// What comes next, after a wait where nothing is there; `Idle` where still nothing is. A connection that comes gets the
     /// number that is handed in, if there is one.
     pub fn next(&mut self, number: Option<u32>) -> Result<Wired, WireRefusal> {
+        if self.door.is_over() {
+            return Ok(Wired::Stop);
+        }
         match self.give(number) {
             Ok(Some(wired)) => return Ok(wired),
             Ok(None) => {}

@@ -54,7 +54,7 @@ impl<R: Clock + Net + Drop, I: Inlet + Drop> SocketTaps<R, I> {
     }
 
     // What the sockets tell is given, where it may come, and else nothing.
-    #[tactic(auto, using(crate::proofs::Admitting::gives_idle))]
+    #[tactic(auto, using(crate::proofs::Admitting::gives_idle, crate::proofs::Admitting::gives_stop))]
     fn admit(&mut self, wired: Wired) -> Result<Wired, WireRefusal>
         ensures ok { IfOk result (λ wired. Gives (seen_of self.old) wired (seen_of self.new)) }
         ensures err { OnErr result (seen_of self.new ≡ seen_of self.old) }
@@ -66,7 +66,8 @@ impl<R: Clock + Net + Drop, I: Inlet + Drop> SocketTaps<R, I> {
             Wired::Join(conn, cluster) => self.admit_join(conn, cluster),
             Wired::Read(conn, octets) => Ok(self.admit_read(conn, octets)),
             Wired::Lost(conn) => Ok(self.admit_lost(conn)),
-            Wired::Idle | Wired::Stop => Ok(Wired::Idle),
+            Wired::Idle => Ok(Wired::Idle),
+            Wired::Stop => Ok(Wired::Stop),
         }
     }
 

@@ -2,19 +2,24 @@
 #![tactic(auto)]
 
 mod config_fault;
+mod counts;
 mod journal;
 mod opened;
 mod pages;
 mod socket_site;
 mod tell;
 mod warn;
+mod wire_journal;
+mod wire_sockets;
 
 use crate::opened::Opened;
 use crate::pages::{HELP, USAGE, VERSION};
 use crate::tell::tell_served;
+pub use counts::{ClientCounts, ClientGauge};
 pub use journal::FileJournal;
 use program_ports::{Input, Output};
-use proxy_site::{Status, serve_with_reason};
+use proxy_site::Status;
+use proxy_wire::serve_proxy;
 pub use socket_site::SocketSite;
 use std::env::{self, Env};
 use std::fs;
@@ -22,15 +27,31 @@ use std::io::{Eprint, ErrorKind, Write};
 use std::net::Net;
 use std::process::ExitCode;
 use std::rt::Files;
+use std::sync::{Arc, Wait};
+use std::thread::Threads;
 use std::time::Clock;
 
 /// Does what the words ask for, with what the proxy says on the output, and answers the exit code of its status. Why it
 /// isn't 0 is told in a line on standard error; where the words have no form, that is the usage. `--help` and `--version` are
 /// answered on the output.
 pub fn serve_words<
-    R: Env + Eprint + Files + Net + Clock + AllocGlobal + Copy + Drop,
+    R: Env
+        + Eprint
+        + Files
+        + Net
+        + Clock
+        + Threads
+        + Wait
+        + AllocGlobal
+        + Copy
+        + Drop
+        + Send
+        + Sync,
     O: Write + Drop,
->(rt: R, output: O) -> ExitCode {
+>(rt: R, output: O) -> ExitCode
+where
+    R::File: Send,
+{
     let words = match words(&rt) {
         Ok(words) => words,
         Err(status) => return end_early(&rt, status),
@@ -41,15 +62,32 @@ pub fn serve_words<
     }
 }
 
-fn serve_sockets<R: Eprint + Files + Net + Clock + AllocGlobal + Copy + Drop, O: Write + Drop>(
-    rt: R,
-    words: &[String],
-    output: O,
-) -> ExitCode {
+fn serve_sockets<
+    R: Eprint + Files + Net + Clock + Threads + Wait + AllocGlobal + Copy + Drop + Send + Sync,
+    O: Write + Drop,
+>(rt: R, words: &[String], output: O) -> ExitCode
+where
+    R::File: Send,
+{
     let mut config = Input::new(open_config(&rt, words));
-    let mut site = SocketSite::new(rt);
+    let Ok(counts) = Arc::new(rt.alloc(), ClientCounts::new()) else {
+        return end_early(&rt, Status::Memory);
+    };
+    let Ok(read) = Arc::try_clone(&counts) else {
+        return end_early(&rt, Status::Memory);
+    };
+    let mut gauge = ClientGauge::new(read);
+    let mut site = SocketSite::new(rt, counts);
     let mut out = Output::new(output);
-    let served = serve_with_reason(rt.alloc(), words, &mut config, &mut site, &mut out);
+    let served = serve_proxy(
+        &rt,
+        rt.alloc(),
+        words,
+        &mut config,
+        &mut site,
+        &mut gauge,
+        &mut out,
+    );
     let code = ExitCode::from(served.status.code());
     if served.status == Status::Usage {
         // Where standard error is closed there is nobody to tell.
@@ -87,14 +125,19 @@ fn show_page<O: Write + Drop>(mut output: O, text: &str) -> ExitCode {
     }
 }
 
-// The file that the second word names. One that can't be opened is a reader whose reads fail.
+// The file that the words name. One that can't be opened is a reader whose reads fail.
 fn open_config<R: Files>(rt: &R, words: &[String]) -> Opened<R::File> {
     match words {
-        [_, path, ..] => match fs::open(rt, path.as_str()) {
-            Ok(file) => Opened::File(file),
-            Err(error) => Opened::Shut(error.kind()),
-        },
-        _ => Opened::Shut(ErrorKind::NotFound),
+        [word, path, ..] if word.as_str() == "relay" => open_file(rt, path.as_str()),
+        [path, ..] => open_file(rt, path.as_str()),
+        [] => Opened::Shut(ErrorKind::NotFound),
+    }
+}
+
+fn open_file<R: Files>(rt: &R, path: &str) -> Opened<R::File> {
+    match fs::open(rt, path) {
+        Ok(file) => Opened::File(file),
+        Err(error) => Opened::Shut(error.kind()),
     }
 }
 

@@ -6,11 +6,14 @@ ghost use Rattle.mio_edge.specs.Sockets.{faults_of, seen_of};
 ghost use Rattle.proxy_cli.specs.Journals.{journal_faults};
 ghost use Rattle.proxy_cli.specs.Sites.{site_faults};
 
+use crate::counts::ClientCounts;
 use crate::journal::FileJournal;
 use crate::warn::{warn_address, warn_files, warn_journal, warn_listen};
 use io_ports::{NoMemory, Octets};
+use itoa::Buffer;
 use mio::net::TcpListener;
 use mio::{Interest, Poll};
+use mio_accept::Acceptor;
 use mio_edge::{DOOR, EdgeFault, Plan, Sharing, SocketTaps, open_files, read_address};
 use program_ports::Output;
 use proxy_config::{Cluster, Config};
@@ -20,31 +23,38 @@ use std::fs::File;
 use std::io::{Eprint, ErrorKind};
 use std::net::{Net, SocketAddr};
 use std::rt::Files;
+use std::sync::{Arc, Wait};
 use std::time::Clock;
 
 /// The site over sockets and files. What it meets that an operator should know is told on standard error.
 #[derive(Drop)]
-pub struct SocketSite<R: Clock + Net + Files + Drop> {
-    rt: R,
-    /// Where clients come, from `listen` on until a relay gets it.
-    listener: Option<TcpListener>,
+pub struct SocketSite<R: Clock + Net + Wait + Files + Drop> {
+    pub(crate) rt: R,
+    /// Where clients come, from `listen` on until a relay or the acceptor gets it.
+    pub(crate) listener: Option<TcpListener>,
+    /// What hands clients to workers, once the first has been fitted.
+    pub(crate) acceptor: Option<Acceptor<R>>,
+    /// What the gauge of clients reads.
+    pub(crate) counts: Arc<ClientCounts, Global>,
     faults: u64,
 }
 
-impl<R: Eprint + Files + Net + Clock + AllocGlobal + Copy + Drop> SocketSite<R> {
+impl<R: Eprint + Files + Net + Clock + Wait + AllocGlobal + Copy + Drop> SocketSite<R> {
     /// A site that doesn't listen yet.
-    pub fn new(rt: R) -> Self
+    pub fn new(rt: R, counts: Arc<ClientCounts, Global>) -> Self
         ensures { site_faults result ≡ 0 }
     {
         SocketSite {
             rt,
             listener: None,
+            acceptor: None,
+            counts,
             faults: 0,
         }
     }
 
     // Counts a failure.
-    fn count(&mut self)
+    pub(crate) fn count(&mut self)
         ensures rose { Rose (site_faults self.old) (site_faults self.new) }
         ensures no_fall { site_faults self.old ≤ site_faults self.new }
     {
@@ -52,7 +62,7 @@ impl<R: Eprint + Files + Net + Clock + AllocGlobal + Copy + Drop> SocketSite<R> 
     }
 
     // A call fails.
-    fn fail(&mut self) -> SiteRefusal
+    pub(crate) fn fail(&mut self) -> SiteRefusal
         ensures is { result ≡ SiteRefusal.Failed }
         ensures rose { Rose (site_faults self.old) (site_faults self.new) }
         ensures no_fall { site_faults self.old ≤ site_faults self.new }
@@ -82,35 +92,48 @@ impl<R: Eprint + Files + Net + Clock + AllocGlobal + Copy + Drop> SocketSite<R> 
         }
     }
 
-    // What the sockets are to be. Clusters that can't be reached, and too few files, are told.
-    fn plan(&self, config: &Config) -> Result<Plan, AllocError>
+    // What the sockets of a relay, or of a worker that counts from 1, are to be. Clusters that can't be reached, and too few files,
+    // are told once.
+    pub(crate) fn plan(
+        &self,
+        config: &Config,
+        sharing: Sharing,
+        worker: u32,
+    ) -> Result<Plan, AllocError>
         ensures { IfOk result (λ plan. length plan.clusters.items ≡ length config.now.clusters) }
     {
         let rows = config.clusters.as_slice();
         let mut clusters = Vec::with_capacity(self.rt.alloc(), rows.len())?;
         for cluster in rows {
-            clusters.push(self.address_of(cluster))?;
+            clusters.push(self.address_of(cluster, worker))?;
         }
         let plan = Plan {
             clusters,
-            sharing: Sharing::OneEach,
+            sharing,
             ready: config.proxy.connections,
-            clients: config.proxy.max_connections,
+            clients: most_clients(config, sharing),
         };
-        if let Some(files) = open_files() {
-            if files < plan.most_files() {
-                warn_files(&self.rt, files, plan.most_files());
-            }
+        if worker == 1 {
+            self.look_at_files(&plan, config);
         }
         Ok(plan)
     }
 
-    fn address_of(&self, cluster: &Cluster) -> Option<SocketAddr> {
+    fn look_at_files(&self, plan: &Plan, config: &Config) {
+        let most = most_files(plan, config);
+        if let Some(files) = open_files() {
+            if files < most {
+                warn_files(&self.rt, files, most);
+            }
+        }
+    }
+
+    fn address_of(&self, cluster: &Cluster, worker: u32) -> Option<SocketAddr> {
         let address = match &cluster.address {
             Some(text) => read_address(text.as_slice()),
             None => None,
         };
-        if address.is_none() {
+        if address.is_none() && worker == 1 {
             warn_address(&self.rt, cluster.name.as_slice());
         }
         address
@@ -130,14 +153,18 @@ impl<R: Eprint + Files + Net + Clock + AllocGlobal + Copy + Drop> SocketSite<R> 
         SocketTaps::new(self.rt, self.rt.alloc(), poll, listener, plan)
     }
 
-    // The journal's file, which has the number 1 behind its name.
-    fn open_journal(&self, config: &Config) -> Result<FileJournal<R::File>, SiteRefusal>
+    // The journal's file, which has the worker's number behind its name, or 1 for a relay.
+    pub(crate) fn open_journal(
+        &self,
+        config: &Config,
+        worker: u32,
+    ) -> Result<FileJournal<R::File>, SiteRefusal>
         ensures { IfOk result (λ journal. journal_faults journal ≡ 0) }
     {
         let Some(front) = &config.proxy.journal else {
             return Ok(FileJournal::None);
         };
-        let Ok(name) = name_of(front, self.rt.alloc()) else {
+        let Ok(name) = name_of(front, worker, self.rt.alloc()) else {
             return Err(SiteRefusal::NoMemory);
         };
         let Ok(path) = std::str::from_utf8(name.as_slice()) else {
@@ -153,13 +180,38 @@ impl<R: Eprint + Files + Net + Clock + AllocGlobal + Copy + Drop> SocketSite<R> 
     }
 }
 
-fn name_of(front: &Octets, alloc: Global) -> Result<Octets, NoMemory> {
+// The most clients that a relay takes, or a worker. All workers have permits for as many as the configuration says; one more is
+// taken, and closed since there is no permit for it.
+fn most_clients(config: &Config, sharing: Sharing) -> u32 {
+    let most = config.proxy.max_connections;
+    match sharing {
+        Sharing::OneEach => most,
+        Sharing::All => most.saturating_add(1),
+    }
+}
+
+// How many files a relay may have open at once, or all workers, whose clients are the same.
+fn most_files(plan: &Plan, config: &Config) -> u64 {
+    let workers = match plan.sharing {
+        Sharing::OneEach => 1,
+        Sharing::All => config.proxy.workers,
+    };
+    let clients = u64::from(plan.clients);
+    let others = plan.most_files().saturating_sub(clients);
+    others
+        .saturating_mul(u64::from(workers))
+        .saturating_add(clients)
+}
+
+fn name_of(front: &Octets, worker: u32, alloc: Global) -> Result<Octets, NoMemory> {
     let mut name = Octets::from_slice(alloc, front.as_slice())?;
-    name.push_all(b".1")?;
+    name.push_all(b".")?;
+    let mut digits = Buffer::new();
+    name.push_all(digits.format(worker).as_bytes())?;
     Ok(name)
 }
 
-impl<R: Eprint + Files + Net + Clock + AllocGlobal + Copy + Drop> Site for SocketSite<R> {
+impl<R: Eprint + Files + Net + Clock + Wait + AllocGlobal + Copy + Drop> Site for SocketSite<R> {
     ghost use Rattle.proxy_cli.specs.Sites.{site_faults};
     ghost use Rattle.std.specs.Prelude.{None};
 
@@ -186,10 +238,10 @@ impl<R: Eprint + Files + Net + Clock + AllocGlobal + Copy + Drop> Site for Socke
         let Some(listener) = self.listener.take() else {
             return Err(self.fail());
         };
-        let Ok(plan) = self.plan(config) else {
+        let Ok(plan) = self.plan(config, Sharing::OneEach, 1) else {
             return Err(SiteRefusal::NoMemory);
         };
-        let journal = match self.open_journal(config) {
+        let journal = match self.open_journal(config, 1) {
             Ok(journal) => journal,
             Err(SiteRefusal::NoMemory) => return Err(SiteRefusal::NoMemory),
             Err(SiteRefusal::Failed) => return Err(self.fail()),

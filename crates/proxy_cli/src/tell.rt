@@ -3,21 +3,33 @@
 use crate::config_fault::put_config_fault;
 use io_ports::Octets;
 use proxy_config::ConfigFault;
-use proxy_site::{ServeReason, Served, Status};
+use proxy_site::{ServeReason, Status};
+use proxy_wire::{ProxyReason, ProxyServed, WireEnd};
 use relay_work::RelayEnded;
 use std::io::{Eprint, ErrorKind};
+use worker_loop::Ended;
 
 /// Tells in one line why the proxy ended otherwise than by its turns. Where standard error is closed there is nobody to tell.
 pub fn tell_served<R: Eprint + AllocGlobal>(
     rt: &R,
-    served: Served,
+    served: ProxyServed,
     config: Option<ErrorKind>,
     out: Option<ErrorKind>,
 ) {
-    if served.status == Status::Done {
-        return;
-    }
     match served.reason {
+        ProxyReason::Wire(end) => tell_wire(rt, end, out),
+        ProxyReason::Relay(_) if served.status == Status::Done => {}
+        ProxyReason::Relay(reason) => tell_reason(rt, reason, config, out),
+    }
+}
+
+fn tell_reason<R: Eprint + AllocGlobal>(
+    rt: &R,
+    reason: ServeReason,
+    config: Option<ErrorKind>,
+    out: Option<ErrorKind>,
+) {
+    match reason {
         ServeReason::Config(fault) => tell_config(rt, fault),
         ServeReason::ConfigRead => tell_line(rt, line_of(&ServeReason::ConfigRead), config),
         ServeReason::Write => tell_line(rt, line_of(&ServeReason::Write), out),
@@ -42,6 +54,35 @@ fn line_of(reason: &ServeReason) -> &'static str {
         ServeReason::Relay(_) => "ended",
         ServeReason::Memory => "out of memory",
     }
+}
+
+// Tells why the proxy of HTTP/2 ended: in a line for each worker, if they ran.
+fn tell_wire<R: Eprint>(rt: &R, end: WireEnd, out: Option<ErrorKind>) {
+    match end {
+        WireEnd::Listen => tell_line(rt, line_of(&ServeReason::Listen), None),
+        WireEnd::Fit => tell_line(rt, line_of(&ServeReason::Fit), None),
+        WireEnd::JournalHead => tell_line(rt, line_of(&ServeReason::JournalHead), None),
+        WireEnd::Write => tell_line(rt, line_of(&ServeReason::Write), out),
+        WireEnd::Memory => tell_line(rt, line_of(&ServeReason::Memory), None),
+        WireEnd::Workers(ends) => {
+            let mut worker = 0u32;
+            for ended in ends.iter() {
+                worker = worker.saturating_add(1);
+                tell_worker(rt, worker, *ended);
+            }
+        }
+    }
+}
+
+fn tell_worker<R: Eprint>(rt: &R, worker: u32, ended: Ended) {
+    let why = match ended {
+        Ended::Turns => "ended by its turns",
+        Ended::Stopped => "ended, since no more clients could be taken",
+        Ended::WiresFault => "ended, since the system couldn't wait for its sockets",
+        Ended::JournalFault => "ended, since its journal can't be written",
+        Ended::Memory => "ended, out of memory",
+    };
+    let _ = eprintln!(rt; "h2proxy: worker {worker} {why}");
 }
 
 fn tell_config<R: Eprint + AllocGlobal>(rt: &R, fault: ConfigFault) {

@@ -8,20 +8,22 @@ use io_ports::Failed;
 use mio::net::TcpListener;
 use mio_edge::SocketTaps;
 use relay_ports::Taps;
+use std::net::Net;
+use std::time::Clock;
 use worker_ports::{WireRefusal, Wired, Wires};
 
 /// Sockets with a client and a server beside them, which do something in each turn. Once the client has all that it waits for
 /// it goes; once the server has seen it end, the work is to stop.
 #[derive(Drop)]
-pub struct Beside {
-    pub taps: SocketTaps<HostRuntime, TcpListener>,
+pub struct Beside<R: Clock + Net + Drop> {
+    pub taps: SocketTaps<R, TcpListener>,
     pub client: Option<Client>,
     pub server: Option<Server>,
     /// What the client had got when it went.
     pub counts: Option<(usize, usize)>,
 }
 
-impl Beside {
+impl<R: Clock + Net + Drop> Beside<R> {
     fn step(&mut self)
         ensures { self.new.taps ≡ self.old.taps }
     {
@@ -37,9 +39,7 @@ impl Beside {
             self.client = None;
         }
     }
-}
 
-impl Beside {
     /// Whether the server has seen its client end.
     pub fn is_over(&self) -> bool {
         match &self.server {
@@ -49,7 +49,7 @@ impl Beside {
     }
 }
 
-impl Wires for Beside {
+impl<R: Clock + Net + Drop> Wires for Beside<R> {
     ghost seen = { λ b. seen_of b.taps };
 
     ghost faults = { λ b. faults_of b.taps };
@@ -71,7 +71,7 @@ impl Wires for Beside {
     }
 }
 
-impl Taps for Beside {
+impl<R: Clock + Net + Drop> Taps for Beside<R> {
     fn hold(&mut self, conn: u32, held: bool) {
         self.taps.hold(conn, held)
     }

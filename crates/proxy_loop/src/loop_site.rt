@@ -10,13 +10,17 @@ use mio_edge::read_address;
 use proxy_cli::{FileJournal, SocketSite};
 use proxy_config::Config;
 use proxy_site::{Site, SiteRefusal};
-use std::fs::File;
+use std::io::Eprint;
+use std::net::Net;
+use std::rt::Files;
+use std::sync::Wait;
+use std::time::Clock;
 
 /// The site over sockets. A client comes where it listens, and a server may be where its configuration says.
 #[derive(Drop)]
-pub struct LoopSite {
-    rt: HostRuntime,
-    site: SocketSite<HostRuntime>,
+pub struct LoopSite<R: Clock + Net + Wait + Files + Drop> {
+    rt: R,
+    site: SocketSite<R>,
     client: Option<Client>,
     server: Option<Server>,
     /// How many octets the client has sent and got back, if those were its own.
@@ -25,12 +29,12 @@ pub struct LoopSite {
     pub is_over: bool,
 }
 
-impl LoopSite {
+impl<R: Eprint + Files + Net + Clock + Wait + AllocGlobal + Copy + Drop> LoopSite<R> {
     /// A site with a server that listens already.
-    pub fn new(rt: HostRuntime, server: Server) -> Self {
+    pub fn new(rt: R, site: SocketSite<R>, server: Server) -> Self {
         LoopSite {
             rt,
-            site: SocketSite::new(rt),
+            site,
             client: None,
             server: Some(server),
             counts: None,
@@ -48,12 +52,12 @@ impl LoopSite {
     }
 }
 
-impl Site for LoopSite {
+impl<R: Eprint + Files + Net + Clock + Wait + AllocGlobal + Copy + Drop> Site for LoopSite<R> {
     ghost use Rattle.std.specs.Prelude.{None};
 
-    type T = Beside;
+    type T = Beside<R>;
 
-    type J = FileJournal<File>;
+    type J = FileJournal<R::File>;
 
     ghost faults = { λ s. site_faults s.site };
 
@@ -65,7 +69,7 @@ impl Site for LoopSite {
         Ok(used)
     }
 
-    fn fit_taps(&mut self, config: &Config) -> Result<(Beside, FileJournal<File>), SiteRefusal> {
+    fn fit_taps(&mut self, config: &Config) -> Result<(Self::T, Self::J), SiteRefusal> {
         let (taps, journal) = self.site.fit_taps(config)?;
         let beside = Beside {
             taps,
@@ -76,7 +80,7 @@ impl Site for LoopSite {
         Ok((beside, journal))
     }
 
-    fn give_back_taps(&mut self, taps: Beside, journal: FileJournal<File>) {
+    fn give_back_taps(&mut self, taps: Self::T, journal: Self::J) {
         self.counts = taps.counts;
         self.is_over = taps.is_over();
         self.site.give_back_taps(taps.taps, journal);

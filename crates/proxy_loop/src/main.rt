@@ -1,33 +1,62 @@
-//! Serves over loopback, with a client and a server in the same thread: the client sends 1,000,000 octets through the proxy to
-//! the server, which sends them back. With a word the proxy keeps a journal of this name.
+//! Serves over loopback, with a client and a server beside the proxy. A relay: the client sends 1,000,000 octets through the proxy to
+//! the server, which sends them back; with a word the relay keeps a journal of this name. Then a proxy of HTTP/2: the client gets
+//! what the server answers.
 #![tactic(auto)]
 
 mod beside;
 mod client;
 mod loop_site;
 mod server;
+mod web_origin;
+mod web_peer;
+mod web_site;
+mod web_user;
 
 use crate::client::LENGTH;
 use crate::loop_site::LoopSite;
 use crate::server::Server;
+use crate::web_origin::Origin;
+use crate::web_site::WebSite;
+use crate::web_user::User;
 use anyhow::Result;
 use io_ports::{MemSink, MemSource};
+use proxy_cli::{ClientCounts, ClientGauge, SocketSite};
 use proxy_site::serve;
+use proxy_wire::serve_proxy;
 use std::alloc::{AllocError, Global};
 use std::env;
+use std::io::{Eprint, Print};
+use std::net::{Net, SocketAddr};
+use std::rt::Files;
+use std::sync::{Arc, Wait};
+use std::thread::Threads;
+use std::time::Clock;
 
 /// Within so many turns all octets are back.
-const TURNS: &str = "2000";
+const RELAY_TURNS: &str = "2000";
+
+/// Within so many turns the answer is there. A turn takes at most a tenth of a second.
+const PROXY_TURNS: &str = "300";
 
 fn main(rt: HostRuntime) -> Result<()> {
     let mut words = env::args(&rt)?;
     let _program = words.next();
+    relay(rt, words.next())?;
+    proxy(rt)
+}
+
+// A relay, and what its client and its server saw.
+fn relay<R: Print + Eprint + Files + Net + Clock + Wait + AllocGlobal + Copy + Drop>(
+    rt: R,
+    journal: Option<String>,
+) -> Result<()> {
     let server = Server::new(&rt, rt.alloc())?;
-    let text = config_text(&rt, &server, words.next())?;
+    let text = relay_text(rt.alloc(), server.address()?, journal)?;
     let mut config = MemSource::new(text.into_bytes(), Vec::new(rt.alloc()));
     let mut out = MemSink::new(rt.alloc(), 100, Vec::new(rt.alloc()))?;
-    let mut site = LoopSite::new(rt, server);
-    let words = relay_words(rt.alloc())?;
+    let counts = Arc::new(rt.alloc(), ClientCounts::new())?;
+    let mut site = LoopSite::new(rt, SocketSite::new(rt, counts), server);
+    let words = words_of(rt.alloc(), &["relay", "CONFIG", RELAY_TURNS])?;
     let status = serve(
         rt.alloc(),
         words.as_slice(),
@@ -35,42 +64,104 @@ fn main(rt: HostRuntime) -> Result<()> {
         &mut site,
         &mut out,
     );
-    println!(&rt; "status {}", status.code())?;
-    tell(&rt, out.octets(), &site)
+    println!(rt; "status {}", status.code())?;
+    tell_listening(&rt, out.octets())?;
+    tell_counts(&rt, site.counts, site.is_over)
+}
+
+// A proxy of HTTP/2, and what its client saw.
+fn proxy<
+    R: Print
+        + Eprint
+        + Files
+        + Net
+        + Clock
+        + Threads
+        + Wait
+        + AllocGlobal
+        + Copy
+        + Drop
+        + Send
+        + Sync,
+>(rt: R) -> Result<()>
+where
+    R::File: Send,
+{
+    let origin = Origin::new(&rt, rt.alloc())?;
+    let text = proxy_text(rt.alloc(), origin.address()?)?;
+    let mut config = MemSource::new(text.into_bytes(), Vec::new(rt.alloc()));
+    let mut out = MemSink::new(rt.alloc(), 100, Vec::new(rt.alloc()))?;
+    let counts = Arc::new(rt.alloc(), ClientCounts::new())?;
+    let mut gauge = ClientGauge::new(Arc::try_clone(&counts)?);
+    let mut site = WebSite::new(rt, SocketSite::new(rt, counts), origin);
+    let words = words_of(rt.alloc(), &["CONFIG", PROXY_TURNS])?;
+    let served = serve_proxy(
+        &rt,
+        rt.alloc(),
+        words.as_slice(),
+        &mut config,
+        &mut site,
+        &mut gauge,
+        &mut out,
+    );
+    println!(rt; "status {}", served.status.code())?;
+    tell_listening(&rt, out.octets())?;
+    match &site.user {
+        Some(user) => tell_answer(&rt, user),
+        None => Ok(()),
+    }
 }
 
 // The configuration: the server, little room for what waits, and a journal if it is to have one.
-fn config_text(rt: &HostRuntime, server: &Server, journal: Option<String>) -> Result<String> {
-    let address = server.address()?;
-    let text = format!(in rt.alloc();
+fn relay_text(alloc: Global, address: SocketAddr, journal: Option<String>) -> Result<String> {
+    let text = format!(in alloc;
         "[[clusters]]\nname = \"server\"\naddress = \"{address}\"\n[limits]\nwrite_buffer = 10000\n"
     )?;
     match journal {
-        Some(name) => Ok(format!(in rt.alloc(); "{text}[proxy]\njournal = \"{name}\"\n")?),
+        Some(name) => Ok(format!(in alloc; "{text}[proxy]\njournal = \"{name}\"\n")?),
         None => Ok(text),
     }
 }
 
-fn relay_words(alloc: Global) -> Result<Vec<String>, AllocError> {
+// The configuration: the server, which all requests go to, and one worker.
+fn proxy_text(alloc: Global, address: SocketAddr) -> Result<String> {
+    Ok(format!(in alloc;
+        "[[clusters]]\nname = \"server\"\naddress = \"{address}\"\n[[routes]]\nprefix = \"/\"\ncluster = \"server\"\n[proxy]\nworkers = 1\n"
+    )?)
+}
+
+fn words_of(alloc: Global, all: &[&str]) -> Result<Vec<String>, AllocError> {
     let mut words = Vec::new(alloc);
-    for word in ["relay", "CONFIG", TURNS] {
+    for word in all {
         words.push(String::from_str(alloc, word)?)?;
     }
     Ok(words)
 }
 
-fn tell(rt: &HostRuntime, out: &[u8], site: &LoopSite) -> Result<()> {
+fn tell_listening<R: Print>(rt: &R, out: &[u8]) -> Result<()> {
     if out.starts_with(b"listening 127.0.0.1:") {
         println!(rt; "it listened on this machine")?;
     }
-    match site.counts {
+    Ok(())
+}
+
+fn tell_counts<R: Print>(rt: &R, counts: Option<(usize, usize)>, is_over: bool) -> Result<()> {
+    match counts {
         Some((sent, back)) => {
             println!(rt; "of {LENGTH} octets {sent} were sent, and {back} came back as they were")?
         }
         None => println!(rt; "other octets came back")?,
     }
-    if site.is_over {
+    if is_over {
         println!(rt; "the server saw the client end")?;
+    }
+    Ok(())
+}
+
+fn tell_answer<R: Print>(rt: &R, user: &User) -> Result<()> {
+    if user.is_okay && user.is_done {
+        let content = std::str::from_utf8(user.content.as_slice()).unwrap_or("?");
+        println!(rt; "the answer was 200 with the content {content}")?;
     }
     Ok(())
 }

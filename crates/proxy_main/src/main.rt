@@ -1,4 +1,4 @@
-//! The program `h2proxy`: relays the octets of clients to clusters of servers and back.
+//! The program `h2proxy`: proxies HTTP/2 between clients and clusters of servers, or relays their octets.
 #![tactic(auto)]
 
 use proxy_cli::serve_words;

@@ -52,8 +52,8 @@ fn counted_form(word: &str, _name: &str, turns: &str) -> Option<ServeForm>
     Some(ServeForm::Relay { turns })
 }
 
-// The number that the word spells, 1 to 4,294,967,295, without leading zeros.
-fn read_turns(word: &str) -> Option<u64>
+/// The number of turns that a word spells, 1 to 4,294,967,295, without leading zeros.
+pub fn read_turns(word: &str) -> Option<u64>
     ensures some { IfSome result (IsTurnsWord word.now) }
     ensures none { IfNone result (IsNoTurns word.now) }
 {

@@ -1,0 +1,111 @@
+// One end of a connection of HTTP/2.
+
+use h2_frames::{Frame, ReadFrame, read_frame};
+use io_ports::{NoMemory, Octets};
+use mio::net::TcpStream;
+use std::alloc::Global;
+use std::io::{Read, Write};
+
+/// How many octets are read at once at most.
+const PIECE: usize = 10_000;
+
+/// The greatest payload of a frame.
+const MOST: u32 = 16_384;
+
+/// The acknowledgement of SETTINGS.
+const ACKNOWLEDGED: &[u8] = b"\0\0\0\x04\x01\0\0\0\0";
+
+/// What a frame tells.
+#[derive(Drop)]
+pub enum Told {
+    /// A whole field block, and whether it ends the stream.
+    Head(Octets, bool),
+    /// Content, and whether it ends the stream.
+    Content(Octets, bool),
+    /// Nothing that matters here.
+    Other,
+}
+
+/// One end of a connection of HTTP/2, which doesn't block.
+#[derive(Drop)]
+pub struct Peer {
+    alloc: Global,
+    stream: TcpStream,
+    /// What is to be sent, and how much of it was.
+    out: Octets,
+    sent: usize,
+    /// What came, and how much of it was taken.
+    came: Octets,
+    taken: usize,
+    block: Vec<u8>,
+}
+
+impl Peer {
+    /// An end that sends these octets first. Of those that come so many stand before the first frame.
+    pub fn new(
+        alloc: Global,
+        stream: TcpStream,
+        first: &[u8],
+        before: usize,
+    ) -> Result<Self, NoMemory> {
+        Ok(Peer {
+            alloc,
+            stream,
+            out: Octets::from_slice(alloc, first)?,
+            sent: 0,
+            came: Octets::new(alloc),
+            taken: before,
+            block: vec![in alloc; 0; PIECE]?,
+        })
+    }
+
+    /// Sends these octets behind the others.
+    pub fn say(&mut self, octets: &[u8]) -> Result<(), NoMemory> {
+        self.out.push_all(octets)
+    }
+
+    /// Sends once, reads once, and answers what the next frame tells, if it has come whole.
+    pub fn step(&mut self) -> Result<Option<Told>, NoMemory> {
+        let rest = self.out.as_slice().get(self.sent..).unwrap_or(&[]);
+        if !rest.is_empty() {
+            if let Ok(n) = self.stream.write(rest) {
+                self.sent = self.sent.saturating_add(n);
+            }
+        }
+        if let Ok(n) = self.stream.read(&mut self.block) {
+            self.came.push_all(self.block.get(..n).unwrap_or(&[]))?;
+        }
+        self.next()
+    }
+
+    // What the next frame tells. SETTINGS are acknowledged.
+    fn next(&mut self) -> Result<Option<Told>, NoMemory> {
+        let Some(rest) = self.came.as_slice().get(self.taken..) else {
+            return Ok(None);
+        };
+        let ReadFrame::Whole(frame, n) = read_frame(rest, MOST) else {
+            return Ok(None);
+        };
+        let told = told_of(self.alloc, &frame)?;
+        let is_asked = matches!(frame, Frame::Settings { ack: false, .. });
+        self.taken = self.taken.saturating_add(n as usize);
+        if is_asked {
+            self.out.push_all(ACKNOWLEDGED)?;
+        }
+        Ok(Some(told))
+    }
+}
+
+fn told_of(alloc: Global, frame: &Frame) -> Result<Told, NoMemory> {
+    match *frame {
+        Frame::Headers { last, block, .. } => Ok(Told::Head(
+            Octets::from_slice(alloc, block)?,
+            last,
+        )),
+        Frame::DataFrame { last, octets, .. } => Ok(Told::Content(
+            Octets::from_slice(alloc, octets)?,
+            last,
+        )),
+        _ => Ok(Told::Other),
+    }
+}

@@ -1,0 +1,10 @@
+pub mod Asked
+pub mod Crewing
+pub mod Posting
+pub mod Returning
+pub mod Running
+pub mod Served
+pub mod Sharing
+pub mod Telling
+pub mod Whole
+pub mod Wording

@@ -1,0 +1,79 @@
+-- Who posts to which box.
+use Rattle.post_queue.specs.Clauses.{IsPosterOf}
+use Rattle.post_queue.specs.declared.passes.PosterPass.{PosterPass}
+use Rattle.post_queue.specs.declared.post_box.PostBox.{PostBox}
+use Rattle.proxy_wire.proofs.Crewing.{each_more}
+use Rattle.proxy_wire.specs.Crews.{EachTwo}
+use Rattle.proxy_wire.specs.Leading.{ArePosters, Leads, Publishes}
+use Rattle.proxy_wire.specs.declared.leading.Leader.{Leader}
+use Rattle.shared_state.specs.States.{IsSame, resources_of}
+use Rattle.shared_state.specs.declared.publisher.Publisher.{Publisher}
+use Rattle.std.specs.Arc.{arc_value}
+use Rattle.std.proofs.Common.{ap, arith, inl, inr, refl, set, subst, sym, ◌∙◌}
+use Rattle.std.proofs.lemmas.Bool.{cases_order}
+use Rattle.std.proofs.lemmas.Grind.{get_or-set_at}
+use Rattle.std.proofs.lemmas.List.{get_or_default, get_or-set_other, length-replicate, length-set}
+use Rattle.worker_parts.specs.Samples.{AreSampled, replaced}
+use Rattle.std.specs.Prelude.{List, None, Option, Some, [], length, replicate, slice_index_or, suc, ℕ, ◌++◌, ◌<◌, ◌∷◌, ◌≡◌, ◌≢◌, ◌≤◌, ◌⊎◌}
+
+as_each : (boxes : List PostBox) (posters : List PosterPass) → ArePosters boxes posters → EachTwo (λ i b p. IsPosterOf b p) boxes posters
+as_each boxes posters a = record { same = a.same; each = a.each }
+
+of_each : (boxes : List PostBox) (posters : List PosterPass) → EachTwo (λ i b p. IsPosterOf b p) boxes posters → ArePosters boxes posters
+of_each boxes posters e = record { same = e.same; each = e.each }
+
+pub posters_more : (boxes boxes' : List PostBox) (posters posters' : List PosterPass) (b : PostBox) (p : PosterPass) → boxes' ≡ boxes ++ b ∷ [] → posters' ≡ posters ++ p ∷ [] → ArePosters boxes posters → IsPosterOf b p → ArePosters boxes' posters'
+posters_more boxes boxes' posters posters' b p eb ep a is =
+    let more : ArePosters (boxes ++ b ∷ []) (posters ++ p ∷ []) = of_each (boxes ++ b ∷ []) (posters ++ p ∷ []) (each_more (λ i x y. IsPosterOf x y) boxes posters b p (as_each boxes posters a) is) in
+    let one : ArePosters boxes' (posters ++ p ∷ []) = subst (λ (l : List PostBox). ArePosters l (posters ++ p ∷ [])) (sym eb) more in
+    subst (λ (l : List PosterPass). ArePosters boxes' l) (sym ep) one
+
+-- nobody posts yet
+pub leads_none : (boxes : List PostBox) (leader : Leader) (publisher : Publisher) (pressures : List ℕ) (n : ℕ) → boxes ≡ [] → leader.posters.items ≡ [] → leader.publisher ≡ publisher → leader.pressures ≡ pressures → pressures ≡ replicate n 0 → resources_of publisher ≡ n → n ≤ 16 → Leads boxes leader
+leads_none boxes leader publisher pressures n eb ep el epr er res few =
+    let l : length leader.pressures ≡ n = ap (λ (v : List ℕ). length v) (epr ∙ er) ∙ length-replicate n 0 in
+    record {
+      publishes = record { pressures = l ∙ sym (ap resources_of el ∙ res); few = omega (arith, l, few) };
+      posters = record {
+        same = ap (λ (v : List PosterPass). length v) ep ∙ sym (ap (λ (v : List PostBox). length v) eb);
+        each = λ i b p less. absurd (let z = ap (λ (v : List PostBox). length v) eb in omega (arith, less, z));
+      };
+    }
+
+-- one has posted
+pub posters_set : (boxes : List PostBox) (posters : List PosterPass) (i : ℕ) (box : PostBox) (p : PosterPass) → i < length boxes → box ≡ slice_index_or boxes i box → IsPosterOf box p → ArePosters boxes posters → ArePosters boxes (set posters i p)
+posters_set boxes posters i box p there at is a = record { same = length-set posters i p ∙ a.same; each = λ j b q less. by j b q less (cases_order j i) }
+  where
+    at_it : (j : ℕ) (b : PostBox) (q : PosterPass) → j < length boxes → j ≡ i → IsPosterOf (slice_index_or boxes j b) (slice_index_or (set posters i p) j q)
+    at_it j b q less e =
+        let s = a.same in
+        let put : slice_index_or (set posters i p) j q ≡ p = get_or-set_at posters i j p q e (omega (arith, there, s)) in
+        let same : box ≡ slice_index_or boxes j b = at ∙ get_or_default boxes i box b there ∙ ap (λ (k : ℕ). slice_index_or boxes k b) (sym e) in
+        subst (λ (v : PosterPass). IsPosterOf (slice_index_or boxes j b) v) (sym put) (subst (λ (v : PostBox). IsPosterOf v p) same is)
+
+    elsewhere : (j : ℕ) (b : PostBox) (q : PosterPass) → j < length boxes → j ≢ i → IsPosterOf (slice_index_or boxes j b) (slice_index_or (set posters i p) j q)
+    elsewhere j b q less other = subst (λ (v : PosterPass). IsPosterOf (slice_index_or boxes j b) v) (sym (get_or-set_other posters i j p q other)) (a.each j b q less)
+
+    by : (j : ℕ) (b : PostBox) (q : PosterPass) → j < length boxes → (j ≡ i) ⊎ ((j < i) ⊎ (i < j)) → IsPosterOf (slice_index_or boxes j b) (slice_index_or (set posters i p) j q)
+    by j b q less (inl e) = at_it j b q less e
+    by j b q less (inr (inl below)) = elsewhere j b q less (λ e. omega (arith, below, e))
+    by j b q less (inr (inr above)) = elsewhere j b q less (λ e. omega (arith, above, e))
+
+-- ---- the gauges were read, and a version was published
+sampled_length : (readings : List (Option ℕ)) (old : List ℕ) → length readings ≡ length old → length (replaced readings old) ≡ length old
+sampled_length [] old e = refl
+sampled_length (r ∷ rs) [] e = absurd (omega (arith, e))
+sampled_length (None ∷ rs) (p ∷ ps) e = ap (λ (n : ℕ). suc n) (sampled_length rs ps (omega (arith, e)))
+sampled_length (Some r ∷ rs) (p ∷ ps) e = ap (λ (n : ℕ). suc n) (sampled_length rs ps (omega (arith, e)))
+
+pub sampled_same : (old new : List ℕ) (failed : ℕ) → AreSampled old new failed → length new ≡ length old
+sampled_same old new failed s = ap (λ (v : List ℕ). length v) s.replaces ∙ sampled_length s.readings old s.each
+
+pub looked : (boxes : List PostBox) (old new : Leader) (failed : ℕ) → Leads boxes old → AreSampled old.pressures new.pressures failed → IsSame old.publisher new.publisher → ArePosters boxes new.posters.items → Leads boxes new
+looked boxes old new failed leads sampled same posters =
+    let l : length new.pressures ≡ length old.pressures = sampled_same old.pressures new.pressures failed sampled in
+    let few = leads.publishes.few in
+    record {
+      publishes = record { pressures = l ∙ leads.publishes.pressures ∙ sym (ap (λ (b : _). (arc_value b).resources) same.0); few = omega (arith, l, few) };
+      posters = posters;
+    }

@@ -1,0 +1,48 @@
+-- The proxy listened, or it didn't.
+use Rattle.io_ports.specs.Faults.{Rose}
+use Rattle.metered_wires.specs.declared.metered.MeteredWires.{MeteredWires}
+use Rattle.proxy_config.specs.declared.config.Config.{Config}
+use Rattle.proxy_site.proofs.Relayed.{rose_later}
+use Rattle.proxy_site.specs.Relaying.{IsCutShort, SiteOrOut}
+use Rattle.proxy_site.specs.Sites.{TellsListening, TellsNoMore, Told}
+use Rattle.proxy_wire.specs.Serving.{AllRan, NoneRan, ServesWire, metered_outside}
+use Rattle.proxy_wire.specs.Sites.{WireTold}
+use Rattle.session_run.specs.declared.status.Status.{Status}
+use Rattle.std.proofs.Common.{inl, inr, subst, sym}
+use Rattle.std.specs.Prelude.{List, Option, ℕ, ◌≡◌, ◌≤◌, ◌⊎◌}
+use Rattle.worker_ports.specs.declared.wires.Wires.{Ghosts}
+use Rattle.worker_threads.specs.Starting.{Outside}
+
+module _ {T J : Type 0} {W C L : Type 0} (G : Ghosts W) (o : Outside W C L) where
+  abbrev Over : (config : Config) (n : ℕ) (address : List ℕ) (w w' : Option (WireTold W C L)) (out out' : Option (List ℕ)) (how : Status) → Type 0
+  Over config n address w w' out out' how =
+      NoneRan o.seen o.text config address w w' out out' how
+      ⊎ (AllRan (λ (v : W). v) o config n address w w' out out' how ⊎ AllRan (λ (m : MeteredWires W G). m.inner) (metered_outside G o) config n address w w' out out' how)
+
+  pub not_listened : (config : Config) (n : ℕ) (a b : Option (Told T J)) (w w' : Option (WireTold W C L)) (out out' : Option (List ℕ)) (how : Status) → TellsNoMore a config.proxy.listen b → w' ≡ w → out' ≡ out → IsCutShort how → ServesWire G o config n a b w w' out out' how
+  not_listened config n a b w w' out out' how told wired same cut = inl (record { told = told; wired = wired; out = same; cut = cut })
+
+  pub listened : (config : Config) (n : ℕ) (address : List ℕ) (a b c : Option (Told T J)) (w w' : Option (WireTold W C L)) (out out' : Option (List ℕ)) (how : Status) → TellsListening a (config.proxy.listen, address) b → c ≡ b
+      → NoneRan o.seen o.text config address w w' out out' how ⊎ AllRan (λ (v : W). v) o config n address w w' out out' how → ServesWire G o config n a c w w' out out' how
+  listened config n address a b c w w' out out' how told same ran =
+      inr (record { address = address; told = subst (λ (t : Option (Told T J)). TellsListening a (config.proxy.listen, address) t) (sym same) told; over = by ran })
+    where
+      by : NoneRan o.seen o.text config address w w' out out' how ⊎ AllRan (λ (v : W). v) o config n address w w' out out' how → Over config n address w w' out out' how
+      by (inl none) = inl none
+      by (inr all) = inr (inl all)
+
+  pub listened_metered : (config : Config) (n : ℕ) (address : List ℕ) (a b c : Option (Told T J)) (w w' : Option (WireTold W C L)) (out out' : Option (List ℕ)) (how : Status) → TellsListening a (config.proxy.listen, address) b → c ≡ b
+      → NoneRan o.seen o.text config address w w' out out' how ⊎ AllRan (λ (m : MeteredWires W G). m.inner) (metered_outside G o) config n address w w' out out' how → ServesWire G o config n a c w w' out out' how
+  listened_metered config n address a b c w w' out out' how told same ran =
+      inr (record { address = address; told = subst (λ (t : Option (Told T J)). TellsListening a (config.proxy.listen, address) t) (sym same) told; over = by ran })
+    where
+      by : NoneRan o.seen o.text config address w w' out out' how ⊎ AllRan (λ (m : MeteredWires W G). m.inner) (metered_outside G o) config n address w w' out out' how → Over config n address w w' out out' how
+      by (inl none) = inl none
+      by (inr all) = inr (inr all)
+
+pub fault_later : (how : Status) (a b c x y : ℕ) → a ≤ b → SiteOrOut how b c x y → SiteOrOut how a c x y
+fault_later how a b c x y le so e = by (so e)
+  where
+    by : Rose b c ⊎ Rose x y → Rose a c ⊎ Rose x y
+    by (inl site) = inl (rose_later a b c le site)
+    by (inr out) = inr out

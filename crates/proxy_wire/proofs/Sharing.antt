@@ -1,0 +1,46 @@
+-- Connections and seats that nobody has used.
+use Rattle.metered_wires.specs.Rising.{IsRising}
+use Rattle.proxy_site.specs.Sites.{IsUnused}
+use Rattle.shared_state.specs.PermitSeats as permit
+use Rattle.shared_state.specs.declared.permit_rule.PermitView.{PermitView}
+use Rattle.shared_state.specs.declared.permits.PermitSeat.{PermitSeat}
+use Rattle.shared_state.specs.declared.permits.Permits.{Permits}
+use Rattle.shared_tokens.specs.Seats as token
+use Rattle.shared_tokens.specs.declared.seats.Bucket.{Bucket}
+use Rattle.shared_tokens.specs.declared.seats.TokenSeat.{TokenSeat}
+use Rattle.std.proofs.Common.{All, ap, length, subst, sym, ◌<◌}
+use Rattle.std.proofs.lemmas.Bool.{false≢true}
+use Rattle.std.proofs.lemmas.List.Elements.{All-pop}
+use Rattle.std.specs.List.{list_any}
+use Rattle.std.specs.Prelude.{Bool, List, Some, [], false, nat_eq, true, ℕ, ◌++◌, ◌∷◌, ◌≡◌, ◌≤◌}
+use Rattle.worker_ports.specs.Wires.{Seen}
+
+none_any : (c m : ℕ) (live : List ℕ) → live ≡ [] → list_any (nat_eq c) live ≡ true → c ≤ m
+none_any c m live e t = let P : List ℕ → Type 0 = λ l. list_any (nat_eq c) l ≡ true in absurd (false≢true (subst P e t))
+
+pub unused_rises : (seen : Seen) (n : ℕ) → IsUnused n seen → IsRising seen
+unused_rises seen n unused = record {
+  live = λ c t. none_any c seen.greatest seen.live unused.live t;
+  held = λ c t. none_any c seen.greatest seen.held unused.held t;
+}
+
+-- ---- seats that nobody has used are seats
+pub new_seats : (permits : Permits) (seats : List PermitSeat) → All (permit.IsNewSeat permits) seats → All (permit.IsSeatOf permits) seats
+new_seats permits seats new k d less =
+    let p = new k d less in (p.0, ap (λ (v : PermitView). v.max) p.1, ap (λ (v : PermitView). v.owing) p.1)
+
+pub new_takers : (bucket : Bucket) (seats : List TokenSeat) → All (token.IsNewSeat bucket) seats → All (token.IsSeatOf bucket) seats
+new_takers bucket seats new k d less = (new k d less).0
+
+-- ---- a seat that is taken out
+pub seats_left : (permits : Permits) (xs ys : List PermitSeat) (s : PermitSeat) → xs ≡ ys ++ s ∷ [] → All (permit.IsSeatOf permits) xs → All (permit.IsSeatOf permits) ys
+seats_left permits xs ys s e all = (All-pop (permit.IsSeatOf permits) xs ys (Some s) e all).0
+
+pub seat_taken : (permits : Permits) (xs ys : List PermitSeat) (s : PermitSeat) → xs ≡ ys ++ s ∷ [] → All (permit.IsSeatOf permits) xs → permit.IsSeatOf permits s
+seat_taken permits xs ys s e all = (All-pop (permit.IsSeatOf permits) xs ys (Some s) e all).1
+
+pub takers_left : (bucket : Bucket) (xs ys : List TokenSeat) (s : TokenSeat) → xs ≡ ys ++ s ∷ [] → All (token.IsSeatOf bucket) xs → All (token.IsSeatOf bucket) ys
+takers_left bucket xs ys s e all = (All-pop (token.IsSeatOf bucket) xs ys (Some s) e all).0
+
+pub taker_taken : (bucket : Bucket) (xs ys : List TokenSeat) (s : TokenSeat) → xs ≡ ys ++ s ∷ [] → All (token.IsSeatOf bucket) xs → token.IsSeatOf bucket s
+taker_taken bucket xs ys s e all = (All-pop (token.IsSeatOf bucket) xs ys (Some s) e all).1

@@ -1,0 +1,18 @@
+use Rattle.io_ports.specs.Faults.{Rose}
+use Rattle.proxy_wire.specs.Crews.{IsPaid, OneFailed, back_of}
+use Rattle.proxy_wire.specs.Sites.{TellsReturned, numbered}
+use Rattle.std.proofs.Common.{All, length, map, reverse, vec_len, ◌<◌, ◌^◌, ◌≡◌, ◌≤◌, ◌⊎◌}
+use Rattle.proxy_wire.proofs.giving_back.give_back_all.Given as goal
+
+abbrev pub invariant-loop-worker : goal.invariant-loop-worker
+invariant-loop-worker g l = record {
+  few : vec_len l.workers < 2 ^ 32;
+  paid : All (IsPaid l.permits) l.workers.items;
+  wired : (end : _) → TellsReturned (g.T.WireSite.wired l.site) (reverse (numbered 1 (map (back_of g.M.Meter.bare) l.workers.items))) end → TellsReturned (g.T.WireSite.wired l.fn.site) (reverse (numbered 1 (map (back_of g.M.Meter.bare) l.initial.workers.items))) end;
+  told : g.T.Site.told l.site ≡ g.T.Site.told l.fn.site;
+  count : OneFailed (record { seen = g.M.Metered.Wires.seen; moments = g.T.C.Clock.moments; text = g.T.L.Sink.contents; told = g.T.L.Journal.told; wires_faults = g.M.Metered.Wires.faults; journal_faults = g.T.L.Sink.faults }) l.initial.workers.items → Rose (g.T.Site.faults l.fn.site) (g.T.Site.faults l.site) ⊎ OneFailed (record { seen = g.M.Metered.Wires.seen; moments = g.T.C.Clock.moments; text = g.T.L.Sink.contents; told = g.T.L.Journal.told; wires_faults = g.M.Metered.Wires.faults; journal_faults = g.T.L.Sink.faults }) l.workers.items;
+  no_fall : g.T.Site.faults l.fn.site ≤ g.T.Site.faults l.site;
+}
+
+abbrev pub decreases-loop-worker : goal.decreases-loop-worker
+decreases-loop-worker g l = vec_len l.workers

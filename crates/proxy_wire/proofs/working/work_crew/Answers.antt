@@ -1,0 +1,22 @@
+-- The workers that were hired are lent, and lie in the crew again.
+use Rattle.proxy_wire.proofs.Running.{cause_back, lent_back, lent_ready, lent_works, works_few, works_paid}
+use Rattle.proxy_wire.proofs.working.work_crew.Goals as goal
+
+pub work_all-requires-clause-ready : goal.work_all-requires-clause-ready
+work_all-requires-clause-ready g c = lent_ready g.M.Meter.bare _ c.args.config.now c.hire_all.new.crew _ _ c.as_mut_slice.result.now c.in-Ok.ensures.all c.as_mut_slice.ensures.value
+
+pub returns-in-Ok-clause-works : goal.returns-in-Ok-clause-works
+returns-in-Ok-clause-works g c =
+    let back = lent_back _ c.hire_all.new.crew.workers c.hire_all.new.crew.shared c.args.turns c.args.address.now c.as_mut_slice.result.now c.work_all.new.workers _ _ c.work_all.result c.as_mut_slice.ensures.len c.work_all.ensures.works in
+    lent_works g.M.Meter.bare _ c.args.config.now c.args.turns c.args.address.now c.hire_all.new.crew _ _ _ c.as_mut_slice.result.now c.work_all.new.workers _ _ _ c.work_all.result c.in-Ok.ensures.all c.work_all.ensures.wired c.as_mut_slice.ensures.value back c.work_all.ensures.works
+
+pub returns-in-Ok-clause-paid : goal.returns-in-Ok-clause-paid
+returns-in-Ok-clause-paid g c = works_paid g.M.Meter.bare _ c.args.config.now c.args.turns c.args.address.now c.hire_all.new.crew.shared _ _ _ _ _ c.work_all.result (returns-in-Ok-clause-works g c)
+
+pub returns-in-Ok-clause-few : goal.returns-in-Ok-clause-few
+returns-in-Ok-clause-few g c = works_few g.M.Meter.bare _ c.args.config.now c.args.turns c.args.address.now c.hire_all.new.crew.shared _ _ _ _ _ c.work_all.result (returns-in-Ok-clause-works g c)
+
+pub returns-in-Ok-clause-cause : goal.returns-in-Ok-clause-cause
+returns-in-Ok-clause-cause g c =
+    let back = lent_back _ c.hire_all.new.crew.workers c.hire_all.new.crew.shared c.args.turns c.args.address.now c.as_mut_slice.result.now c.work_all.new.workers _ _ c.work_all.result c.as_mut_slice.ensures.len c.work_all.ensures.works in
+    cause_back _ _ _ _ _ _ _ c.work_all.new.workers back c.work_all.ensures.cause

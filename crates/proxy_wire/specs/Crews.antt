@@ -1,0 +1,60 @@
+-- Workers that were fitted.
+use Rattle.proxy_config.specs.declared.config.Config.{Config}
+use Rattle.proxy_wire.specs.Sites.{TellsFitted, TellsReturned, WireTold, numbered}
+use Rattle.proxy_wire.specs.Working.{Begins}
+use Rattle.proxy_wire.specs.declared.crew.Crew.{Crew}
+use Rattle.session_config.specs.ClusterNames.{names_in}
+use Rattle.session_run.specs.Ends.{AppendsFront}
+use Rattle.shared_state.specs.PermitSeats.{IsSeatOf}
+use Rattle.shared_state.specs.declared.permits.Permits.{Permits}
+use Rattle.std.specs.Io.KnownBytes.{Appends}
+use Rattle.std.specs.Prelude.{List, Option, [], length, map, reverse, slice_index_or, suc, ℕ, ◌++◌, ◌<◌, ◌∷◌, ◌≡◌, ◌≤◌, ◌⊎◌}
+use Rattle.worker_ports.specs.declared.ports.OpenGate.{OpenGate}
+use Rattle.worker_threads.specs.Starting.{IsRunnerAt, Outside}
+use Rattle.worker_threads.specs.declared.worker.Shared.{Shared}
+use Rattle.worker_threads.specs.declared.worker.Worker.{Worker}
+
+-- it holds of each two at the same place
+pub record EachTwo {A B : Type 0} (P : ℕ → A → B → Type 0) (xs : List A) (ys : List B) : Type 0 where
+  pub same : length ys ≡ length xs
+  pub each : (i : ℕ) (a : A) (b : B) → i < length xs → P i (slice_index_or xs i a) (slice_index_or ys i b)
+
+-- the permits and the names are the configuration's
+pub record SharesOf (config : Config) (shared : Shared) : Type 0 where
+  pub permits : shared.permits.max ≡ config.proxy.max_connections
+  pub names : shared.names ≡ names_in config
+
+module _ {W M C L : Type 0} (bare : M → W) (o : Outside M C L) where
+  -- the worker at this place may run
+  pub record IsHired (shared : Shared) (place : ℕ) (given : W × (C × L)) (w : Worker M C OpenGate L) : Type 0 where
+    pub begins : Begins bare o Appends given w
+    pub seat : IsSeatOf shared.permits w.seat
+    pub pass : IsRunnerAt shared place w.pass
+    pub clusters : (o.seen w.wires).clusters ≡ length shared.names
+
+  -- the worker is to be given back
+  pub record IsIdle (permits : Permits) (place : ℕ) (given : W × (C × L)) (w : Worker M C OpenGate L) : Type 0 where
+    pub begins : Begins bare o AppendsFront given w
+    pub seat : IsSeatOf permits w.seat
+
+  -- all that were fitted may run, and there is a box for each
+  pub record IsCrew (config : Config) (crew : Crew M C L) (given : List (W × (C × L))) : Type 0 where
+    pub shares : SharesOf config crew.shared
+    pub boxes : length crew.shared.posts.items ≡ length given
+    pub workers : EachTwo (IsHired crew.shared) given crew.workers.items
+
+module _ {M C L : Type 0} (o : Outside M C L) where
+  -- the connections or the journal of one of them have failed
+  pub record OneFailed (workers : List (Worker M C OpenGate L)) : Type 0 where
+    pub place : ℕ
+    pub least : place < length workers
+    pub failed : (w : Worker M C OpenGate L) → (0 < o.wires_faults (slice_index_or workers place w).wires) ⊎ (0 < o.journal_faults (slice_index_or workers place w).journal)
+
+-- what goes back of a worker
+abbrev pub back_of : {W M C L : Type 0} → (M → W) → Worker M C OpenGate L → W × L
+back_of bare w = (bare w.wires, w.journal)
+
+-- the permits that a worker keeps none of can be given back
+pub record IsPaid {M C L : Type 0} (permits : Permits) (w : Worker M C OpenGate L) : Type 0 where
+  pub seat : IsSeatOf permits w.seat
+  pub none : w.held ≡ []

@@ -1,0 +1,10 @@
+pub mod Crews
+pub mod Forms
+pub mod Hires
+pub mod Leading
+pub mod Lent
+pub mod Reasons
+pub mod Runs
+pub mod Serving
+pub mod Sites
+pub mod Working

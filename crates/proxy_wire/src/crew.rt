@@ -1,0 +1,90 @@
+// The workers of the proxy, and what they are made of.
+ghost use Rattle.std.specs.Prelude.{[], All, IfOk, length, ◌≡◌};
+ghost use Rattle.proxy_config.specs.Ranges.{IsInRange};
+ghost use Rattle.proxy_wire.specs.Crews.{SharesOf};
+ghost use Rattle.shared_state.specs.PermitSeats.{IsSeatOf, seats_in};
+ghost use Rattle.std.specs.Prelude.{◌<◌, ◌^◌};
+ghost use Rattle.worker_core.specs.Sessions.{RestsWire};
+
+use io_ports::NoMemory;
+use proxy_config::{Config, read_config};
+use session_config::names_of;
+use shared_state::{Follower, Followers, PermitSeat, PermitSeats, Permits};
+use std::alloc::Global;
+use worker_core::Core;
+use worker_ports::OpenGate;
+use worker_threads::{Shared, Worker};
+
+/// The workers that were fitted, and what they share. It can't be dropped: `give_back_all` ends it.
+pub(crate) struct Crew<M, C, L> {
+    pub workers: Vec<Worker<M, C, OpenGate, L>>,
+    pub shared: Shared,
+}
+
+/// What is given out to workers.
+#[derive(Drop)]
+pub(crate) struct Supply {
+    pub followers: Followers,
+    pub seats: PermitSeats,
+}
+
+/// What a worker is made of.
+#[derive(Drop)]
+pub(crate) struct Parts {
+    pub core: Core,
+    pub follower: Follower,
+    pub seat: PermitSeat,
+}
+
+/// What the workers of the configuration share, as long as there are none, and a seat for each.
+#[tactic(auto, using(crate::proofs::Sharing::new_seats))]
+pub(crate) fn share(alloc: Global, config: &Config) -> Result<(Shared, PermitSeats), NoMemory>
+    requires { IsInRange config.now }
+    ensures shares { IfOk result (λ made. SharesOf config.now made.0) }
+    ensures none { IfOk result (λ made. made.0.posts.items ≡ []) }
+    ensures seats { IfOk result (λ made. All (IsSeatOf made.0.permits) (seats_in made.1)) }
+{
+    let most = u64::from(config.proxy.max_connections);
+    let (permits, seats) = Permits::new(alloc, most, config.proxy.workers)?;
+    let shared = Shared {
+        posts: Vec::new(alloc),
+        permits,
+        names: names_of(alloc, config)?,
+    };
+    Ok((shared, seats))
+}
+
+impl Supply {
+    /// What one worker more is made of. Its core is made for the configuration of this text.
+    #[tactic(auto, using(crate::proofs::Sharing::seats_left, crate::proofs::Sharing::seat_taken))]
+    pub fn take(&mut self, alloc: Global, text: &[u8], permits: &Permits) -> Result<Parts, NoMemory>
+        requires text { length text.now < 2 ^ 32 }
+        requires seats { All (IsSeatOf permits.now) (seats_in self.old.seats) }
+        ensures seats { All (IsSeatOf permits.now) (seats_in self.new.seats) }
+        ensures seat { IfOk result (λ parts. IsSeatOf permits.now parts.seat) }
+        ensures core { IfOk result (λ parts. RestsWire parts.core.kind) }
+    {
+        let Some(follower) = self.followers.take_one() else {
+            return Err(NoMemory);
+        };
+        let Some(seat) = self.seats.take_one() else {
+            return Err(NoMemory);
+        };
+        let core = make_core(alloc, text)?;
+        Ok(Parts {
+            core,
+            follower,
+            seat,
+        })
+    }
+}
+
+fn make_core(alloc: Global, text: &[u8]) -> Result<Core, NoMemory>
+    requires { length text.now < 2 ^ 32 }
+    ensures { IfOk result (λ core. RestsWire core.kind) }
+{
+    match read_config(alloc, text) {
+        Ok(config) => Core::new(alloc, config),
+        Err(_) => Err(NoMemory),
+    }
+}

@@ -1,0 +1,58 @@
+// What workers worked over goes back to the site.
+ghost use Rattle.std.specs.Prelude.{All, [], map, reverse, vec_len, ◌<◌, ◌∷◌, ◌^◌, ◌≡◌, ◌≤◌, ◌⊎◌};
+ghost use Rattle.io_ports.specs.Faults.{Rose};
+ghost use Rattle.proxy_wire.specs.Crews.{IsPaid, OneFailed, back_of};
+ghost use Rattle.proxy_wire.specs.Sites.{TellsReturned, numbered};
+
+use crate::meter::Meter;
+use crate::site::WireSite;
+use shared_state::Permits;
+use worker_ports::OpenGate;
+use worker_threads::Worker;
+
+/// What the workers worked over goes back to the site, the last worker's first.
+pub(crate) fn give_back_all<T: WireSite, M: Meter<T::W>>(
+    site: &mut T,
+    permits: &Permits,
+    mut workers: Vec<Worker<M::Metered, T::C, OpenGate, T::L>>,
+)
+    requires few { vec_len workers < 2 ^ 32 }
+    requires paid { All (IsPaid permits.now) workers.items }
+    ensures wired { TellsReturned (T.wired site.old) (reverse (numbered 1 (map (back_of M.bare) workers.items))) (T.wired site.new) }
+    ensures told { T.told site.new ≡ T.told site.old }
+    ensures count { OneFailed (record { seen = M.Metered.seen; moments = T.C.moments; text = T.L.contents; told = T.L.told; wires_faults = M.Metered.faults; journal_faults = T.L.faults }) workers.items → Rose (T.faults site.old) (T.faults site.new) }
+    ensures no_fall { T.faults site.old ≤ T.faults site.new }
+{
+    while let Some(worker) = workers.pop() {
+        give_back::<T, M>(site, permits, workers.len() as u32 + 1, worker);
+    }
+    workers.destroy_empty();
+}
+
+fn give_back<T: WireSite, M: Meter<T::W>>(
+    site: &mut T,
+    permits: &Permits,
+    number: u32,
+    worker: Worker<M::Metered, T::C, OpenGate, T::L>,
+)
+    requires paid { IsPaid permits.now worker }
+    ensures wired { TellsReturned (T.wired site.old) ((number, back_of M.bare worker) ∷ []) (T.wired site.new) }
+    ensures told { T.told site.new ≡ T.told site.old }
+    ensures count { (0 < M.Metered.faults worker.wires) ⊎ (0 < T.L.faults worker.journal) → Rose (T.faults site.old) (T.faults site.new) }
+    ensures no_fall { T.faults site.old ≤ T.faults site.new }
+{
+    let Worker {
+        core: _core,
+        pass: _pass,
+        follower: _follower,
+        mut seat,
+        held,
+        wires,
+        clock: _clock,
+        gate: _,
+        journal,
+        ended: _,
+    } = worker;
+    held.give_back(permits, &mut seat);
+    site.give_back(number, M::unwrap(wires), journal);
+}

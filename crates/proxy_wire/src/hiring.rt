@@ -1,0 +1,183 @@
+// Workers get what they work over.
+ghost use Rattle.std.specs.Prelude.{All, IfErr, OnErr, OnOk, length, vec_capacity, vec_len, ◌+◌, ◌<◌, ◌^◌, ◌≡◌, ◌≤◌, ◌⊎◌};
+ghost use Rattle.std.specs.Io.KnownBytes.{Appends};
+ghost use Rattle.io_ports.specs.Faults.{Rose};
+ghost use Rattle.proxy_site.specs.Relaying.{IsCutShort};
+ghost use Rattle.proxy_wire.specs.Crews.{OneFailed, SharesOf};
+ghost use Rattle.proxy_wire.specs.Hires.{Fits, HiresAll, HiresNone, HiresOne, HiresSome, Joins, SharesMore, Stays};
+ghost use Rattle.proxy_wire.specs.Leading.{Leads};
+ghost use Rattle.proxy_wire.specs.Serving.{wire_status};
+ghost use Rattle.session_run.specs.Ends.{AppendsFront};
+ghost use Rattle.session_run.specs.declared.status.Status.TheVariants as status;
+ghost use Rattle.shared_state.specs.PermitSeats.{IsSeatOf, seats_in};
+ghost use Rattle.worker_core.specs.Sessions.{RestsWire};
+
+use crate::crew::{Crew, Parts, Supply};
+use crate::end::{WireEnd, unfitted};
+use crate::leading::Leader;
+use crate::meter::Meter;
+use crate::site::WireSite;
+use io_ports::Failed;
+use post_queue::RunnerPass;
+use proxy_config::Config;
+use std::alloc::Global;
+use worker_loop::HeldPermits;
+use worker_parts::Journal;
+use worker_ports::{Clock, OpenGate, Wires};
+use worker_threads::Worker;
+
+/// The first line of a worker's journal.
+const HEAD: &[u8] = b"h2replay-session 1 wire\n";
+
+/// Fits the configuration's workers in their order, each behind the head of its journal, into a crew that has room for them. Those
+/// that were fitted before a refusal stay in the crew.
+pub(crate) fn hire_all<T: WireSite, M: Meter<T::W>>(
+    alloc: Global,
+    config: &Config,
+    text: &[u8],
+    supply: &mut Supply,
+    meter: &mut M,
+    leader: &mut Leader,
+    site: &mut T,
+    crew: &mut Crew<M::Metered, T::C, T::L>,
+) -> Result<(), WireEnd>
+    requires text { length text.now < 2 ^ 32 }
+    requires shares { SharesOf config.now crew.old.shared }
+    requires none { (vec_len crew.old.workers ≡ 0) × (vec_len crew.old.shared.posts ≡ 0) }
+    requires room { config.now.proxy.workers ≤ vec_capacity crew.old.workers }
+    requires seats { All (IsSeatOf crew.old.shared.permits) (seats_in supply.old.seats) }
+    requires leads { Leads crew.old.shared.posts.items leader.old }
+    ensures all { OnOk result (HiresAll M.bare (record { seen = M.Metered.seen; moments = T.C.moments; text = T.L.contents; told = T.L.told; wires_faults = M.Metered.faults; journal_faults = T.L.faults }) config.now (T.wired site.old) (T.wired site.new) crew.new) }
+    ensures leads { OnOk result (Leads crew.new.shared.posts.items leader.new) }
+    ensures some { HiresSome M.bare (record { seen = M.Metered.seen; moments = T.C.moments; text = T.L.contents; told = T.L.told; wires_faults = M.Metered.faults; journal_faults = T.L.faults }) config.now crew.new.shared.permits (T.wired site.old) (T.wired site.new) crew.new.workers.items }
+    ensures cut { IfErr result (λ end. IsCutShort (wire_status end)) }
+    ensures cause { IfErr result (λ end. wire_status end ≡ status.WriteFault → Rose (T.faults site.old) (T.faults site.new) ⊎ OneFailed (record { seen = M.Metered.seen; moments = T.C.moments; text = T.L.contents; told = T.L.told; wires_faults = M.Metered.faults; journal_faults = T.L.faults }) crew.new.workers.items) }
+    ensures told { T.told site.new ≡ T.told site.old }
+    ensures no_fall { T.faults site.old ≤ T.faults site.new }
+{
+    for place in 0..config.proxy.workers {
+        hire_next(
+            alloc, place, config, text, supply, meter, leader, site, crew,
+        )?;
+    }
+    Ok(())
+}
+
+// Fits the worker at this place, which is the next one.
+fn hire_next<T: WireSite, M: Meter<T::W>>(
+    alloc: Global,
+    place: u32,
+    config: &Config,
+    text: &[u8],
+    supply: &mut Supply,
+    meter: &mut M,
+    leader: &mut Leader,
+    site: &mut T,
+    crew: &mut Crew<M::Metered, T::C, T::L>,
+) -> Result<(), WireEnd>
+    requires text { length text.now < 2 ^ 32 }
+    requires place { (place ≡ vec_len crew.old.workers) × (place ≡ vec_len crew.old.shared.posts) }
+    requires room { (place + 1 < 2 ^ 32) × (place < vec_capacity crew.old.workers) }
+    requires shares { SharesOf config.now crew.old.shared }
+    requires seats { All (IsSeatOf crew.old.shared.permits) (seats_in supply.old.seats) }
+    requires leads { Leads crew.old.shared.posts.items leader.old }
+    ensures one { OnOk result (HiresOne M.bare (record { seen = M.Metered.seen; moments = T.C.moments; text = T.L.contents; told = T.L.told; wires_faults = M.Metered.faults; journal_faults = T.L.faults }) (T.wired site.old) (T.wired site.new) crew.old crew.new) }
+    ensures leads { OnOk result (Leads crew.new.shared.posts.items leader.new) }
+    ensures none { OnErr result (HiresNone M.bare (record { seen = M.Metered.seen; moments = T.C.moments; text = T.L.contents; told = T.L.told; wires_faults = M.Metered.faults; journal_faults = T.L.faults }) crew.old.shared.permits (T.wired site.old) (T.wired site.new) crew.old.workers.items crew.new.workers.items) }
+    ensures shares { OnOk result (SharesMore crew.old.shared crew.new.shared) }
+    ensures permits { crew.new.shared.permits ≡ crew.old.shared.permits }
+    ensures room { vec_capacity crew.new.workers ≡ vec_capacity crew.old.workers }
+    ensures seats { All (IsSeatOf crew.old.shared.permits) (seats_in supply.new.seats) }
+    ensures cut { IfErr result (λ end. IsCutShort (wire_status end)) }
+    ensures cause { IfErr result (λ end. wire_status end ≡ status.WriteFault → Rose (T.faults site.old) (T.faults site.new) ⊎ OneFailed (record { seen = M.Metered.seen; moments = T.C.moments; text = T.L.contents; told = T.L.told; wires_faults = M.Metered.faults; journal_faults = T.L.faults }) crew.new.workers.items) }
+    ensures told { T.told site.new ≡ T.told site.old }
+    ensures no_fall { T.faults site.old ≤ T.faults site.new }
+{
+    let Some(ticket) = meter.take() else {
+        return Err(WireEnd::Memory);
+    };
+    let parts = supply.take(alloc, text, &crew.shared.permits)?;
+    let pass = leader.add_box(alloc, &mut crew.shared.posts)?;
+    hire::<T, M>(alloc, place, config, parts, pass, ticket, site, crew)
+}
+
+// Fits the worker at this place, which is made of these parts.
+fn hire<T: WireSite, M: Meter<T::W>>(
+    alloc: Global,
+    place: u32,
+    config: &Config,
+    parts: Parts,
+    pass: RunnerPass,
+    ticket: M::Ticket,
+    site: &mut T,
+    crew: &mut Crew<M::Metered, T::C, T::L>,
+) -> Result<(), WireEnd>
+    requires place { place ≡ vec_len crew.old.workers }
+    requires room { (place + 1 < 2 ^ 32) × (place < vec_capacity crew.old.workers) }
+    requires core { RestsWire parts.core.kind }
+    ensures fits { OnOk result (Fits M.bare (record { seen = M.Metered.seen; moments = T.C.moments; text = T.L.contents; told = T.L.told; wires_faults = M.Metered.faults; journal_faults = T.L.faults }) Appends (length config.now.clusters) parts pass (T.wired site.old) (T.wired site.new) crew.old.workers.items crew.new.workers.items) }
+    ensures some { OnErr result (Stays M.bare (record { seen = M.Metered.seen; moments = T.C.moments; text = T.L.contents; told = T.L.told; wires_faults = M.Metered.faults; journal_faults = T.L.faults }) (T.wired site.old) (T.wired site.new) crew.old.workers.items crew.new.workers.items ⊎ Fits M.bare (record { seen = M.Metered.seen; moments = T.C.moments; text = T.L.contents; told = T.L.told; wires_faults = M.Metered.faults; journal_faults = T.L.faults }) AppendsFront (length config.now.clusters) parts pass (T.wired site.old) (T.wired site.new) crew.old.workers.items crew.new.workers.items) }
+    ensures shared { crew.new.shared ≡ crew.old.shared }
+    ensures room { vec_capacity crew.new.workers ≡ vec_capacity crew.old.workers }
+    ensures cut { IfErr result (λ end. IsCutShort (wire_status end)) }
+    ensures cause { IfErr result (λ end. wire_status end ≡ status.WriteFault → Rose (T.faults site.old) (T.faults site.new) ⊎ OneFailed (record { seen = M.Metered.seen; moments = T.C.moments; text = T.L.contents; told = T.L.told; wires_faults = M.Metered.faults; journal_faults = T.L.faults }) crew.new.workers.items) }
+    ensures told { T.told site.new ≡ T.told site.old }
+    ensures no_fall { T.faults site.old ≤ T.faults site.new }
+{
+    match site.fit(place + 1, config) {
+        Ok((wires, clock, journal)) => {
+            enlist(
+                alloc,
+                parts,
+                pass,
+                M::wrap(ticket, wires),
+                clock,
+                journal,
+                crew,
+            )
+        }
+        Err(refusal) => Err(unfitted(refusal)),
+    }
+}
+
+// A worker of these parts joins the crew, behind the head of its journal, or a front of it.
+fn enlist<W: Wires, C: Clock, L: Journal>(
+    alloc: Global,
+    parts: Parts,
+    pass: RunnerPass,
+    wires: W,
+    clock: C,
+    mut journal: L,
+    crew: &mut Crew<W, C, L>,
+) -> Result<(), WireEnd>
+    requires room { vec_len crew.old.workers < vec_capacity crew.old.workers }
+    requires core { RestsWire parts.core.kind }
+    ensures joins { OnOk result (Joins (λ w. w) (record { seen = W.seen; moments = C.moments; text = L.contents; told = L.told; wires_faults = W.faults; journal_faults = L.faults }) Appends parts pass (wires, (clock, journal)) crew.old.workers.items crew.new.workers.items) }
+    ensures front { Joins (λ w. w) (record { seen = W.seen; moments = C.moments; text = L.contents; told = L.told; wires_faults = W.faults; journal_faults = L.faults }) AppendsFront parts pass (wires, (clock, journal)) crew.old.workers.items crew.new.workers.items }
+    ensures failed { IfErr result (λ end. (end ≡ WireEnd.JournalHead) × OneFailed (record { seen = W.seen; moments = C.moments; text = L.contents; told = L.told; wires_faults = W.faults; journal_faults = L.faults }) crew.new.workers.items) }
+    ensures shared { crew.new.shared ≡ crew.old.shared }
+    ensures room { vec_capacity crew.new.workers ≡ vec_capacity crew.old.workers }
+{
+    let head = journal.line(HEAD);
+    let Parts {
+        core,
+        follower,
+        seat,
+    } = parts;
+    crew.workers.push_reserved(Worker {
+        core,
+        pass,
+        follower,
+        seat,
+        held: HeldPermits::new(alloc),
+        wires,
+        clock,
+        gate: OpenGate,
+        journal,
+        ended: None,
+    });
+    match head {
+        Ok(()) => Ok(()),
+        Err(Failed) => Err(WireEnd::JournalHead),
+    }
+}

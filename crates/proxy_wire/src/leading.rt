@@ -1,0 +1,163 @@
+// The loop beside the workers.
+ghost use Rattle.std.specs.Prelude.{[], ◌++◌, ◌∷◌, ◌≡◌, ◌≤◌, IfOk, OnErr, OnOk};
+ghost use Rattle.post_queue.specs.Clauses.{IsPosterOf, IsRunnerOf};
+ghost use Rattle.proxy_wire.specs.Leading.{ArePosters, Leads};
+
+use crate::meter::Tokens;
+use crate::site::WireSite;
+use flow_notes::Job;
+use io_ports::{NoMemory, PressureList};
+use overload_core::{action_states, is_saturated};
+use post_queue::{PostBox, PosterPass, RunnerPass};
+use proxy_config::Config;
+use shared_state::Publisher;
+use std::alloc::Global;
+use std::sync::Wait;
+use std::sync::atomic::{AtomicBool, Ordering};
+use std::time::Clock;
+use worker_parts::sample;
+use worker_ports::Gauge;
+
+/// How long it is from one reading of the gauges to the next, in milliseconds.
+const PERIOD: u64 = 100;
+
+/// What the loop beside the workers keeps. It can't be dropped: `end` ends it.
+pub(crate) struct Leader {
+    pub publisher: Publisher,
+    pub posters: Vec<PosterPass>,
+    pub pressures: PressureList,
+    /// Whether the pressures that were published last don't saturate `stop_accepting`.
+    pub accepts: bool,
+}
+
+impl Leader {
+    /// Before it looks for the first time clients are accepted. There is a pressure for each resource.
+    pub fn new(alloc: Global, publisher: Publisher, pressures: PressureList) -> Self
+        ensures publisher { result.publisher ≡ publisher }
+        ensures pressures { result.pressures ≡ pressures }
+        ensures posters { result.posters.items ≡ [] }
+    {
+        Leader {
+            publisher,
+            posters: Vec::new(alloc),
+            pressures,
+            accepts: true,
+        }
+    }
+
+    /// Ends the publishing.
+    pub fn end<R: Wait>(self, rt: &R) {
+        let Leader {
+            publisher,
+            posters: _posters,
+            pressures: _pressures,
+            accepts: _,
+        } = self;
+        publisher.end(rt);
+    }
+
+    /// One box more, to which it posts, stands behind the others. The answer is the right to run what is posted there.
+    pub fn add_box(
+        &mut self,
+        alloc: Global,
+        boxes: &mut Vec<PostBox>,
+    ) -> Result<RunnerPass, NoMemory>
+        requires leads { Leads boxes.old.items self.old }
+        ensures leads { OnOk result (Leads boxes.new.items self.new) }
+        ensures same { OnErr result (boxes.new.items ≡ boxes.old.items) }
+        ensures adds { IfOk result (λ pass. (b : PostBox) × (boxes.new.items ≡ boxes.old.items ++ b ∷ []) × IsRunnerOf b pass) }
+    {
+        let (posts, poster, pass) = make_box(alloc)?;
+        self.posters.push(poster)?;
+        boxes.push(posts)?;
+        Ok(pass)
+    }
+
+    /// Reads the gauges, publishes, and posts a look to each worker. What is refused is made again the next time.
+    pub fn look<R: Wait, G: Gauge>(
+        &mut self,
+        rt: &R,
+        alloc: Global,
+        config: &Config,
+        gauge: &mut G,
+        boxes: &[PostBox],
+    )
+        requires { Leads boxes.now self.old }
+        ensures { Leads boxes.now self.new }
+    {
+        sample(alloc, gauge, &mut self.pressures);
+        if self
+            .publisher
+            .publish(rt, self.pressures.as_slice())
+            .is_err()
+        {
+            return;
+        }
+        let states = action_states(config, self.pressures.as_slice());
+        self.accepts = !is_saturated(states.stop_accepting);
+        post_all(rt, boxes, self.posters.as_mut_slice());
+    }
+}
+
+/// Makes rounds at the site, and looks and puts tokens each tenth of a second, until the workers are done. After a round that failed
+/// no further one is made.
+pub(crate) fn lead<R: Wait + Clock, T: WireSite, P: Tokens, G: Gauge>(
+    rt: &R,
+    alloc: Global,
+    config: &Config,
+    boxes: &[PostBox],
+    done: &AtomicBool,
+    leader: &mut Leader,
+    tokens: &mut P,
+    site: &mut T,
+    gauge: &mut G,
+)
+    requires { Leads boxes.now leader.old }
+    ensures leads { Leads boxes.now leader.new }
+    ensures wired { T.wired site.new ≡ T.wired site.old }
+    ensures told { T.told site.new ≡ T.told site.old }
+    ensures no_fall { T.faults site.old ≤ T.faults site.new }
+{
+    let mut due = now(rt, 0).saturating_add(PERIOD);
+    for _ in rt.forever() {
+        if done.load(Ordering::SeqCst) || site.round(leader.accepts).is_err() {
+            return;
+        }
+        let moment = now(rt, due);
+        if moment >= due {
+            leader.look(rt, alloc, config, gauge, boxes);
+            tokens.put(config.proxy.accept_rate);
+            due = moment.saturating_add(PERIOD);
+        }
+    }
+}
+
+// A box to which one poster posts.
+fn make_box(alloc: Global) -> Result<(PostBox, PosterPass, RunnerPass), NoMemory>
+    ensures poster { IfOk result (λ made. IsPosterOf made.0 made.1) }
+    ensures runner { IfOk result (λ made. IsRunnerOf made.0 made.2) }
+{
+    let (posts, mut passes, pass) = PostBox::new(alloc, 1)?;
+    match passes.take_one() {
+        Some(poster) => Ok((posts, poster, pass)),
+        None => Err(NoMemory),
+    }
+}
+
+// Posts a look to each box.
+fn post_all<R: Wait>(rt: &R, boxes: &[PostBox], posters: &mut [PosterPass])
+    requires { ArePosters boxes.now posters.old }
+    ensures { ArePosters boxes.now posters.new }
+{
+    for place in 0..boxes.len() {
+        let _ = boxes[place].post(rt, &mut posters[place], Job::Look);
+    }
+}
+
+// The moment now, in milliseconds; where the clock can't be read, this one.
+fn now<R: Clock>(rt: &R, else_: u64) -> u64 {
+    match rt.monotonic() {
+        Ok(since_start) => u64::try_from(since_start.as_millis()).unwrap_or(else_),
+        Err(_) => else_,
+    }
+}

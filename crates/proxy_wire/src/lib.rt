@@ -1,0 +1,23 @@
+//! The proxy of HTTP/2 over any outside: its workers, the loop beside them, and the whole of the proxy.
+#![tactic(auto)]
+
+mod beside;
+mod crew;
+mod end;
+mod form;
+mod giving_back;
+mod hiring;
+mod leading;
+mod loading;
+mod meter;
+mod metering;
+mod serve;
+mod serving;
+mod site;
+mod working;
+
+pub use end::WireEnd;
+pub use form::{ProxyForm, read_proxy_form};
+pub use serve::{ProxyReason, ProxyServed, serve_proxy};
+pub use serving::serve_wire;
+pub use site::WireSite;
