@@ -113,21 +113,27 @@ fn posted<R: AllocGlobal + Wait>(rt: &R, jobs: &[Job]) -> Result<(PostBox, Runne
     ensures { IfOk result (λ made. IsRunnerOf made.0 made.1) }
 {
     let (posts, mut passes, pass) = PostBox::new(rt.alloc(), 1)?;
-    if let Some(mut poster) = passes.take_one() {
-        post_all(rt, &posts, &mut poster, jobs);
+    let Some(mut poster) = passes.take_one() else {
+        return Err(NoMemory);
+    };
+    if post_all(rt, &posts, &mut poster, jobs) {
+        Ok((posts, pass))
+    } else {
+        Err(NoMemory)
     }
-    Ok((posts, pass))
 }
 
-// Posts the jobs. One that can't be posted is left out.
-fn post_all<R: Wait>(rt: &R, posts: &PostBox, poster: &mut PosterPass, jobs: &[Job])
+// Posts the jobs, but for one that isn't allowed. The answer is whether memory was there for all.
+fn post_all<R: Wait>(rt: &R, posts: &PostBox, poster: &mut PosterPass, jobs: &[Job]) -> bool
     requires { IsPosterOf posts.now poster.old }
 {
+    let mut all = true;
     for job in jobs {
         if is_allowed(*job) {
-            let _ = posts.post(rt, poster, *job);
+            all &= posts.post(rt, poster, *job).is_ok();
         }
     }
+    all
 }
 
 fn is_allowed(job: Job) -> bool
@@ -150,13 +156,13 @@ fn published<R: AllocGlobal + Wait>(
     let (mut publisher, mut followers) = make_shared(rt, rt.alloc(), config, 1)?;
     let follower = follower_of(&publisher, &mut followers);
     let resources = config.overload.resources.as_slice().len();
-    publish_all(rt, &mut publisher, resources, states);
+    let all = publish_all(rt, &mut publisher, resources, states);
     let told = publisher.tell();
     publisher.end(rt);
     match follower {
         Some(mut follower) => {
             follower.learn(told);
-            Ok(follower)
+            if all { Ok(follower) } else { Err(NoMemory) }
         }
         None => Err(NoMemory),
     }
@@ -170,21 +176,24 @@ fn follower_of(publisher: &Publisher, followers: &mut Followers) -> Option<Follo
     followers.take_one()
 }
 
-// Publishes these states, but for one that doesn't have a pressure for each resource.
+// Publishes these states, but for one that doesn't have a pressure for each resource. The answer is whether memory was there for
+// all.
 fn publish_all<R: Wait>(
     rt: &R,
     publisher: &mut Publisher,
     resources: usize,
     states: &[PressureList],
-)
+) -> bool
     requires { resources ≡ resources_of publisher.old }
     ensures { IsSame publisher.old publisher.new }
 {
+    let mut all = true;
     for pressures in states {
         if pressures.as_slice().len() == resources {
-            let _ = publisher.publish(rt, pressures.as_slice());
+            all &= publisher.publish(rt, pressures.as_slice()).is_ok();
         }
     }
+    all
 }
 
 fn permitted(alloc: Global, permits: u64) -> Result<(Permits, PermitSeat), NoMemory>
