@@ -1,0 +1,28 @@
+//! Measures what comes in and goes out on one HTTP/2 connection. Run by hand with the name of a bench; without one it prints its usage.
+#![tactic(auto)]
+
+mod blocks;
+mod heads;
+mod inlet;
+mod outlet;
+mod stopwatch;
+
+use std::env;
+
+const USAGE: &str = "usage: wire_bench BENCH
+  inlet   DATA frames of 16,384 octets that are taken, beside a plain copy of the same octets; small heads that are taken
+  outlet  the same, framed
+  heads   checks of a request's head, beside decoding its block
+";
+
+fn main(rt: HostRuntime) -> anyhow::Result<()> {
+    let mut words = env::args(&rt)?;
+    let _program = words.next();
+    match words.next() {
+        Some(word) if word.as_str() == "inlet" => inlet::run(&rt)?,
+        Some(word) if word.as_str() == "outlet" => outlet::run(&rt)?,
+        Some(word) if word.as_str() == "heads" => heads::run(&rt)?,
+        Some(_) | None => rt.print(USAGE)?,
+    }
+    Ok(())
+}
