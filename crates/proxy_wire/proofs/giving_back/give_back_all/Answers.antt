@@ -4,7 +4,7 @@ use Rattle.std.proofs.Common.{arith, length, sym, ◌+◌, ◌≡◌, ◌∙◌}
 use Rattle.proxy_wire.proofs.giving_back.give_back_all.Goals as goal
 
 pub give_back-requires : goal.give_back-requires
-give_back-requires g c = paid_last c.args.permits.now c.loop-worker.workers.items c.pop.new.self.items c.in-Some.worker c.in-Some.ensures.items c.loop-worker.invariant.paid
+give_back-requires g c = record { paid = paid_last c.args.permits.now c.loop-worker.workers.items c.pop.new.self.items c.in-Some.worker c.in-Some.ensures.items c.loop-worker.invariant.paid }
 
 pub loop-worker-preserved : goal.loop-worker-preserved
 loop-worker-preserved g c =
