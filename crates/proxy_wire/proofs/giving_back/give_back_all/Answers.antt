@@ -1,6 +1,6 @@
 -- One worker after the other goes back.
 use Rattle.proxy_wire.proofs.Returning.{count_step, paid_front, paid_last, returned_end, returned_step}
-use Rattle.std.proofs.Common.{arith, length, sym, ◌+◌, ◌≡◌, ◌∙◌}
+use Rattle.std.proofs.Common.{arith, sym, ◌∙◌}
 use Rattle.proxy_wire.proofs.giving_back.give_back_all.Goals as goal
 
 pub give_back-requires : goal.give_back-requires
@@ -9,7 +9,6 @@ give_back-requires g c = record { paid = paid_last c.args.permits.now c.loop-wor
 pub loop-worker-preserved : goal.loop-worker-preserved
 loop-worker-preserved g c =
     let i = c.loop-worker.invariant in
-    let one : length c.pop.new.self.items + 1 ≡ length c.loop-worker.workers.items = omega (arith, c.in-Some.ensures.len, c.pop.new.self.ok.0, c.loop-worker.workers.ok.0) in
     record {
       few = omega (arith, c.in-Some.ensures.len, i.few);
       paid = paid_front c.args.permits.now c.loop-worker.workers.items c.pop.new.self.items c.in-Some.worker c.in-Some.ensures.items i.paid;
