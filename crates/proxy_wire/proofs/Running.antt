@@ -261,7 +261,7 @@ module _ {W M C L : Type 0} (bare : M → W) (o : Outside M C L) where
       → WorksAll o crew.shared n address first mid out out' end → CrewWorks bare o config n address crew.shared a c last out out' end
   lent_works config n address crew a b c first mid last out out' end all same is back works =
       let there : WorksAll o crew.shared n address crew.workers.items mid out out' end = subst (λ (ws : List (Worker M C OpenGate L)). WorksAll o crew.shared n address ws mid out out' end) is works in
-      subst (λ (ws : List (Worker M C OpenGate L)). CrewWorks bare o config n address crew.shared a c ws out out' end) (sym back) (crew_idle_or_ran config n address crew a b c mid out out' end all same there)
+      subst (λ (ws : List (Worker M C OpenGate L)). CrewWorks bare o config n address crew.shared a c ws out out' end) (sym back) (crew_idle_or_ran bare o config n address crew a b c mid out out' end all same there)
 
   -- those that were fitted in vain go back
   pub cause_hired : (how : Status) (a b x y : ℕ) (workers : List (Worker M C OpenGate L)) → (how ≡ status.WriteFault → Rose a b ⊎ OneFailed o workers) → how ≡ status.WriteFault → (Rose a b ⊎ Rose x y) ⊎ OneFailed o workers
