@@ -58,7 +58,8 @@ impl<'a, W: Wires> Wires for MeteredWires<'a, W> {
     {
         match self.inner.next()? {
             Wired::Accept(conn) => {
-                if self.bucket.take(&mut self.seat).is_err() {
+                let refused = self.bucket.take(&mut self.seat).is_err();
+                if refused {
                     self.inner.close(conn);
                     return Ok(Wired::Idle);
                 }

@@ -36,8 +36,8 @@ returns-in_err-conn-clause-refused g c =
     rw p.1 (c.in_err-conn.ensures.err, refl)
 
 -- ---- an Accept
-pub invariant_of-self-then-is_err : goal.invariant_of-self-then-is_err
-invariant_of-self-then-is_err g c =
+pub invariant_of-self-then-refused : goal.invariant_of-self-then-refused
+invariant_of-self-then-refused g c =
     record {
       seat_of = c.take.ensures.seat;
       rising = same_rising _ (g.W.Wires.seen c.close.new.self) c.close.ensures.closes (closed_rises c.in-Accept.conn (g.W.Wires.seen c.next.new.self) (given_rises (g.W.Wires.seen c.args.self.now.inner) _ (g.W.Wires.seen c.next.new.self) c.args.self.now.rising c.in_ok-conn.ensures.ok));
@@ -45,16 +45,16 @@ invariant_of-self-then-is_err g c =
           (below_after c.args.self.now.greatest (g.W.Wires.seen c.args.self.now.inner) (g.W.Wires.seen c.next.new.self) _ c.args.self.now.below c.in_ok-conn.ensures.ok);
     }
 
-pub returns-then-is_err-clause-ok : goal.returns-then-is_err-clause-ok
-returns-then-is_err-clause-ok g c =
+pub returns-then-refused-clause-ok : goal.returns-then-refused-clause-ok
+returns-then-refused-clause-ok g c =
     turned_idle c.args.self.now.greatest c.in-Accept.conn (g.W.Wires.seen c.args.self.now.inner) (g.W.Wires.seen c.next.new.self) (g.W.Wires.seen c.close.new.self) _ c.in-Accept.is c.args.self.now.rising c.in_ok-conn.ensures.ok c.close.ensures.closes
 
-pub returns-then-is_err-clause-metered : goal.returns-then-is_err-clause-metered
-returns-then-is_err-clause-metered g c =
-    metered_closed (g.W.Wires.seen c.args.self.now.inner) (g.W.Wires.seen c.next.new.self) (g.W.Wires.seen c.close.new.self) (known_of c.args.self.now.seat) (known_of c.take.new.seat) _ c.in-Accept.conn c.take.result c.in-Accept.is c.in_ok-conn.ensures.ok c.close.ensures.closes (sym c.is_err.ensures.value ∙ c.if-is_err.true) c.take.ensures.taken
+pub returns-then-refused-clause-metered : goal.returns-then-refused-clause-metered
+returns-then-refused-clause-metered g c =
+    metered_closed (g.W.Wires.seen c.args.self.now.inner) (g.W.Wires.seen c.next.new.self) (g.W.Wires.seen c.close.new.self) (known_of c.args.self.now.seat) (known_of c.take.new.seat) _ c.in-Accept.conn c.take.result c.in-Accept.is c.in_ok-conn.ensures.ok c.close.ensures.closes (sym c.is_err-refused.ensures.value ∙ c.if-refused.true) c.take.ensures.taken
 
-pub returns-then-is_err-clause-no_fall : goal.returns-then-is_err-clause-no_fall
-returns-then-is_err-clause-no_fall g c = omega (arith, c.next.ensures.no_fall, c.close.ensures.no_fall)
+pub returns-then-refused-clause-no_fall : goal.returns-then-refused-clause-no_fall
+returns-then-refused-clause-no_fall g c = omega (arith, c.next.ensures.no_fall, c.close.ensures.no_fall)
 
 pub invariant_of-self-in-Accept : goal.invariant_of-self-in-Accept
 invariant_of-self-in-Accept g c =
@@ -64,13 +64,13 @@ invariant_of-self-in-Accept g c =
       below = below_accept c.in-Accept.conn (g.W.Wires.seen c.args.self.now.inner) (g.W.Wires.seen c.next.new.self) _ c.in-Accept.is c.in_ok-conn.ensures.ok;
     }
 
-pub returns-else-is_err-clause-ok : goal.returns-else-is_err-clause-ok
-returns-else-is_err-clause-ok g c =
+pub returns-else-refused-clause-ok : goal.returns-else-refused-clause-ok
+returns-else-refused-clause-ok g c =
     passed_on c.args.self.now.greatest c.in-Accept.conn (g.W.Wires.seen c.args.self.now.inner) (g.W.Wires.seen c.next.new.self) _ (wired.Accept c.in-Accept.conn) c.in-Accept.is refl c.args.self.now.below c.in_ok-conn.ensures.ok
 
-pub returns-else-is_err-clause-metered : goal.returns-else-is_err-clause-metered
-returns-else-is_err-clause-metered g c =
-    metered_accept (g.W.Wires.seen c.args.self.now.inner) (g.W.Wires.seen c.next.new.self) (known_of c.args.self.now.seat) (known_of c.take.new.seat) _ c.in-Accept.conn c.take.result c.in-Accept.is c.in_ok-conn.ensures.ok (sym c.is_err.ensures.value ∙ c.if-is_err.false) c.take.ensures.taken
+pub returns-else-refused-clause-metered : goal.returns-else-refused-clause-metered
+returns-else-refused-clause-metered g c =
+    metered_accept (g.W.Wires.seen c.args.self.now.inner) (g.W.Wires.seen c.next.new.self) (known_of c.args.self.now.seat) (known_of c.take.new.seat) _ c.in-Accept.conn c.take.result c.in-Accept.is c.in_ok-conn.ensures.ok (sym c.is_err-refused.ensures.value ∙ c.if-refused.false) c.take.ensures.taken
 
 -- ---- a Join
 pub invariant_of-self-in-Join : goal.invariant_of-self-in-Join
