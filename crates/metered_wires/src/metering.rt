@@ -10,7 +10,7 @@ ghost use Rattle.worker_ports.specs.declared.wires.WireRefusal.TheVariants as re
 
 use crate::metered::MeteredWires;
 use io_ports::Failed;
-use shared_tokens::{Bucket, NoToken, TokenSeat};
+use shared_tokens::{Bucket, TokenSeat};
 use worker_ports::{WireRefusal, Wired, Wires};
 
 impl<'a, W: Wires> MeteredWires<'a, W> {
@@ -57,16 +57,15 @@ impl<'a, W: Wires> Wires for MeteredWires<'a, W> {
         ensures bucket { self.new.bucket.now ≡ self.old.bucket.now }
     {
         match self.inner.next()? {
-            Wired::Accept(conn) => match self.bucket.take(&mut self.seat) {
-                Ok(()) => {
-                    self.greatest = conn;
-                    Ok(Wired::Accept(conn))
-                }
-                Err(NoToken { .. }) => {
+            Wired::Accept(conn) => {
+                let refused = self.bucket.take(&mut self.seat).is_err();
+                if refused {
                     self.inner.close(conn);
-                    Ok(Wired::Idle)
+                    return Ok(Wired::Idle);
                 }
-            },
+                self.greatest = conn;
+                Ok(Wired::Accept(conn))
+            }
             Wired::Join(conn, cluster) => {
                 self.greatest = conn;
                 Ok(Wired::Join(conn, cluster))
