@@ -1,14 +1,16 @@
 //! Serves over loopback, with a client and a server beside the proxy. A relay: the client sends 1,000,000 octets through the proxy to
-//! the server, which sends them back. Then a proxy of HTTP/2, whose client gets what the server answers to its requests. With words
-//! the one and the other keep journals of these names.
+//! the server, which sends them back. Then a proxy of HTTP/2, whose client gets what the server answers to its requests; what its
+//! worker wrote is replayed, and the notes are compared. With words the one and the other keep journals of these names.
 #![tactic(auto)]
 
 mod beside;
 mod client;
 mod loop_site;
 mod server;
+mod web_journal;
 mod web_origin;
 mod web_peer;
+mod web_replay;
 mod web_request;
 mod web_site;
 mod web_user;
@@ -17,6 +19,7 @@ use crate::client::LENGTH;
 use crate::loop_site::LoopSite;
 use crate::server::Server;
 use crate::web_origin::Origin;
+use crate::web_replay::replays_as_noted;
 use crate::web_site::WebSite;
 use crate::web_user::Answer;
 use anyhow::Result;
@@ -90,7 +93,8 @@ where
 {
     let origin = Origin::new(&rt, rt.alloc())?;
     let text = proxy_text(rt.alloc(), origin.address()?, journal)?;
-    let mut config = MemSource::new(text.into_bytes(), Vec::new(rt.alloc()));
+    let octets = Vec::from_slice(rt.alloc(), text.as_bytes())?;
+    let mut config = MemSource::new(octets, Vec::new(rt.alloc()));
     let mut out = MemSink::new(rt.alloc(), 100, Vec::new(rt.alloc()))?;
     let counts = Arc::new(rt.alloc(), ClientCounts::new())?;
     let mut gauge = ClientGauge::new(Arc::try_clone(&counts)?);
@@ -110,6 +114,11 @@ where
     if let Some(user) = &site.user {
         for answer in user.answers.as_slice() {
             tell_answer(&rt, answer)?;
+        }
+    }
+    if let Some(kept) = &site.kept {
+        if replays_as_noted(rt.alloc(), text.as_bytes(), kept)? {
+            println!(rt; "the worker's journal replays to its very notes")?;
         }
     }
     Ok(())
