@@ -4,7 +4,7 @@ use Rattle.post_queue.specs.declared.passes.PosterPass.{PosterPass}
 use Rattle.post_queue.specs.declared.post_box.PostBox.{PostBox}
 use Rattle.proxy_wire.proofs.Crewing.{each_more}
 use Rattle.proxy_wire.specs.Crews.{EachTwo}
-use Rattle.proxy_wire.specs.Leading.{ArePosters, Leads, Publishes}
+use Rattle.proxy_wire.specs.Leading.{ArePosters, Leads}
 use Rattle.proxy_wire.specs.declared.leading.Leader.{Leader}
 use Rattle.shared_state.specs.States.{IsSame, resources_of}
 use Rattle.shared_state.specs.declared.publisher.Publisher.{Publisher}

@@ -1,6 +1,6 @@
 -- The next worker is hired, or it isn't.
 use Rattle.proxy_wire.proofs.Crewing.{fits_idle, fits_one, on_err, on_ok}
-use Rattle.std.proofs.Common.{arith, refl, sym, ◌∙◌}
+use Rattle.std.proofs.Common.{refl, sym, ◌∙◌}
 use Rattle.proxy_wire.proofs.hiring.hire_next.Goals as goal
 
 pub returns-clause-one : goal.returns-clause-one
