@@ -90,6 +90,8 @@ fn proxy<
 >(rt: R, journal: Option<String>) -> Result<()>
 where
     R::File: Send,
+    R::Stream: Send,
+    R::Listener: Send,
 {
     let origin = Origin::new(&rt, rt.alloc())?;
     let text = proxy_text(rt.alloc(), origin.address()?, journal)?;
