@@ -48,7 +48,7 @@ turned_idle g c old mid new v e rising gives is = record {
 pub metered_closed : (old mid new : Seen) (had has : Token) (v : Wired) (c : ℕ) (took : Bool) → v ≡ wired.Accept c → Gives old v mid → new ≡ closed c mid → took ≡ false → Takes had took has → Metered old had new has wired.Idle
 metered_closed old mid new had has v c took e gives is none takes =
     let t : Takes had false has = subst (λ (b : Bool). Takes had b has) none takes in
-    Closed c mid t.0 t.1.0 (gives_as old mid v (wired.Accept c) e gives) is t.1.1
+    Closed c mid t.0 t.1 (gives_as old mid v (wired.Accept c) e gives) is t.2
 
 -- ---- the greatest number that was given
 pub below_after : (g : ℕ) (old new : Seen) (v : Wired) → g ≤ old.greatest → Gives old v new → g ≤ new.greatest
