@@ -1,6 +1,6 @@
 // Octets through two watermark buffers, beside the same octets copied twice by plain slice copies.
 use crate::stopwatch::{CpuStopwatch, per_second};
-use anyhow::{anyhow, ensure};
+use anyhow::{bail, ensure};
 use io_ports::NoMemory;
 use std::alloc::{AllocError, Global};
 use std::time::CpuClock;
@@ -35,33 +35,87 @@ fn wandering_buffer(alloc: Global) -> Result<WatermarkBuffer, NoMemory> {
     Ok(buffer)
 }
 
-/// Passes a round's pieces through both buffers, and sums the first octets that come out.
-fn move_round(
-    first: &mut WatermarkBuffer,
-    second: &mut WatermarkBuffer,
-    piece: &[u8],
-) -> Result<u64, NoMemory> {
-    let mut sum = 0u64;
-    for _piece in 0..PIECES_A_ROUND {
-        first.add(piece)?;
-        let n = first.len().min(PIECE);
-        first.move_to(second, &[], n)?;
-        sum = sum.wrapping_add(first_octet(second.front()));
-        let n = second.len().min(PIECE);
-        second.take(n);
-    }
-    Ok(sum)
+/// Two buffers, and the nanoseconds of processor time that moving through them took.
+#[derive(Drop)]
+struct Moving {
+    first: WatermarkBuffer,
+    second: WatermarkBuffer,
+    nanos: u64,
 }
 
-/// Copies a round's pieces to one block and from there to another, and sums the first octets.
-fn copy_round(first: &mut [u8], second: &mut [u8], piece: &[u8]) -> u64 {
-    let mut sum = 0u64;
-    for _piece in 0..PIECES_A_ROUND {
-        copy(piece, first);
-        copy(first, second);
-        sum = sum.wrapping_add(first_octet(second));
+impl Moving {
+    fn new(alloc: Global) -> Result<Self, NoMemory> {
+        let first = wandering_buffer(alloc)?;
+        let second = wandering_buffer(alloc)?;
+        Ok(Moving {
+            first,
+            second,
+            nanos: 0,
+        })
     }
-    sum
+
+    /// Passes a round's pieces through both buffers, and sums the first octets that come out.
+    fn round(&mut self, piece: &[u8]) -> Result<u64, NoMemory> {
+        let mut sum = 0u64;
+        for _piece in 0..PIECES_A_ROUND {
+            self.first.add(piece)?;
+            let n = self.first.len().min(PIECE);
+            self.first.move_to(&mut self.second, &[], n)?;
+            sum = sum.wrapping_add(first_octet(self.second.front()));
+            let n = self.second.len().min(PIECE);
+            self.second.take(n);
+        }
+        Ok(sum)
+    }
+
+    /// The same, and adds the processor time that it took.
+    fn timed_round(&mut self, clock: &impl CpuClock, piece: &[u8]) -> anyhow::Result<u64> {
+        let watch = CpuStopwatch::start(clock)?;
+        let Ok(moved) = self.round(piece) else {
+            bail!("out of memory");
+        };
+        self.nanos = self.nanos.saturating_add(watch.nanos(clock)?);
+        Ok(moved)
+    }
+}
+
+/// Two blocks, and the nanoseconds of processor time that copying into them took.
+#[derive(Drop)]
+struct Copying {
+    first: Vec<u8>,
+    second: Vec<u8>,
+    nanos: u64,
+}
+
+impl Copying {
+    fn new(alloc: Global) -> Result<Self, AllocError> {
+        let first = block(alloc, 0)?;
+        let second = block(alloc, 0)?;
+        Ok(Copying {
+            first,
+            second,
+            nanos: 0,
+        })
+    }
+
+    /// Copies a round's pieces to one block and from there to another, and sums the first octets.
+    fn round(&mut self, piece: &[u8]) -> u64 {
+        let mut sum = 0u64;
+        for _piece in 0..PIECES_A_ROUND {
+            copy(piece, self.first.as_mut_slice());
+            copy(self.first.as_slice(), self.second.as_mut_slice());
+            sum = sum.wrapping_add(first_octet(self.second.as_slice()));
+        }
+        sum
+    }
+
+    /// The same, and adds the processor time that it took.
+    fn timed_round(&mut self, clock: &impl CpuClock, piece: &[u8]) -> anyhow::Result<u64> {
+        let watch = CpuStopwatch::start(clock)?;
+        let copied = self.round(piece);
+        self.nanos = self.nanos.saturating_add(watch.nanos(clock)?);
+        Ok(copied)
+    }
 }
 
 /// One plain copy of what fits, which the compiler may not leave out.
@@ -81,31 +135,33 @@ fn block(alloc: Global, octet: u8) -> Result<Vec<u8>, AllocError> {
 
 /// Moves and copies in turn, and prints how many octets each does in a second of processor time.
 pub fn run(rt: &(impl AllocGlobal + Print + CpuClock)) -> anyhow::Result<()> {
-    let no_memory = |_: NoMemory| anyhow!("out of memory");
     let piece = block(rt.alloc(), 7)?;
-    let mut first = wandering_buffer(rt.alloc()).map_err(no_memory)?;
-    let mut second = wandering_buffer(rt.alloc()).map_err(no_memory)?;
-    let mut first_block = block(rt.alloc(), 0)?;
-    let mut second_block = block(rt.alloc(), 0)?;
-    let mut moving = 0u64;
-    let mut copying = 0u64;
-    for _round in 0..ROUNDS {
-        let watch = CpuStopwatch::start(rt)?;
-        let moved = move_round(&mut first, &mut second, &piece).map_err(no_memory)?;
-        moving = moving.saturating_add(watch.nanos(rt)?);
-        let watch = CpuStopwatch::start(rt)?;
-        let copied = copy_round(&mut first_block, &mut second_block, &piece);
-        copying = copying.saturating_add(watch.nanos(rt)?);
-        ensure!(moved == copied, "the buffers gave other octets");
-    }
-    report(
-        rt,
-        per_second(OCTETS, moving.max(1)),
-        per_second(OCTETS, copying.max(1)),
-    )
+    let Ok(mut moving) = Moving::new(rt.alloc()) else {
+        bail!("out of memory");
+    };
+    let mut copying = Copying::new(rt.alloc())?;
+    take_turns(rt, &mut moving, &mut copying, piece.as_slice())?;
+    report(rt, moving.nanos, copying.nanos)
 }
 
-fn report(rt: &(impl AllocGlobal + Print), moved: u64, copied: u64) -> anyhow::Result<()> {
+/// The rounds of both sides.
+fn take_turns(
+    clock: &impl CpuClock,
+    moving: &mut Moving,
+    copying: &mut Copying,
+    piece: &[u8],
+) -> anyhow::Result<()> {
+    for _round in 0..ROUNDS {
+        let moved = moving.timed_round(clock, piece)?;
+        let copied = copying.timed_round(clock, piece)?;
+        ensure!(moved == copied, "the buffers gave other octets");
+    }
+    Ok(())
+}
+
+fn report(rt: &impl Print, moving: u64, copying: u64) -> anyhow::Result<()> {
+    let moved = per_second(OCTETS, moving.max(1));
+    let copied = per_second(OCTETS, copying.max(1));
     let hundredths = u128::from(moved) * 100 / u128::from(copied.max(1));
     let (whole, rest) = (hundredths / 100, hundredths % 100);
     println!(rt; "two buffers: {moved} octets in a second of processor time")?;

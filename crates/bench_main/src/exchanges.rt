@@ -94,7 +94,6 @@ fn end(exchanges: &mut Exchanges, gates: &mut Gates, exchange: u64) -> bool {
 struct Side {
     exchanges: Exchanges,
     gates: Gates,
-    living: u64,
     /// Nanoseconds of processor time that the uses took.
     nanos: u64,
 }
@@ -111,7 +110,6 @@ impl Side {
         Ok(Side {
             exchanges,
             gates,
-            living,
             nanos: 0,
         })
     }
@@ -156,32 +154,46 @@ fn both_sides(alloc: Global, config: &Config) -> Result<(Side, Side), NoMemory>
     Ok((one, Side::new(alloc, config, MANY)?))
 }
 
-fn report(rt: &impl Print, one: &Side, many: &Side) -> anyhow::Result<()> {
-    for side in [one, many] {
-        let rate = side.calls_per_second();
-        println!(rt;
-            "{} live: {rate} calls in a second of processor time",
-            side.living
-        )?;
+fn report(rt: &impl Print, one: u64, many: u64) -> anyhow::Result<()> {
+    for (living, rate) in [(ONE, one), (MANY, many)] {
+        println!(rt; "{living} live: {rate} calls in a second of processor time")?;
     }
-    let hundredths = u128::from(one.calls_per_second()) * 100
-        / u128::from(many.calls_per_second().max(1));
+    let hundredths = u128::from(one) * 100 / u128::from(many.max(1));
     let (whole, rest) = (hundredths / 100, hundredths % 100);
     println!(rt; "a call with {MANY} live exchanges costs {whole}.{rest:02} times one with {ONE}")?;
     Ok(())
 }
 
+/// The rounds of both sides.
+fn take_turns(
+    clock: &impl CpuClock,
+    config: &Config,
+    one: &mut Side,
+    many: &mut Side,
+) -> anyhow::Result<()>
+    requires { IsInRange config.now }
+{
+    for _round in 0..USES / USES_A_ROUND {
+        one.timed_round(config, clock)?;
+        many.timed_round(config, clock)?;
+    }
+    Ok(())
+}
+
 /// Uses exchanges on both sides in turns, and prints how many calls each does in a second of processor time.
 pub fn run(rt: &(impl AllocGlobal + Print + CpuClock)) -> anyhow::Result<()> {
-    let Ok(config) = Config::of_defaults(rt.alloc()) else {
-        bail!("out of memory");
-    };
-    let Ok((mut one, mut many)) = both_sides(rt.alloc(), &config) else {
-        bail!("out of memory");
-    };
-    for _round in 0..USES / USES_A_ROUND {
-        one.timed_round(&config, rt)?;
-        many.timed_round(&config, rt)?;
+    match Config::of_defaults(rt.alloc()) {
+        Ok(config) => measure(rt, &config),
+        Err(_) => bail!("out of memory"),
     }
-    report(rt, &one, &many)
+}
+
+fn measure(rt: &(impl AllocGlobal + Print + CpuClock), config: &Config) -> anyhow::Result<()>
+    requires { IsInRange config.now }
+{
+    let Ok((mut one, mut many)) = both_sides(rt.alloc(), config) else {
+        bail!("out of memory");
+    };
+    take_turns(rt, config, &mut one, &mut many)?;
+    report(rt, one.calls_per_second(), many.calls_per_second())
 }

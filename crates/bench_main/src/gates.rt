@@ -2,7 +2,7 @@
 ghost use Rattle.std.specs.Prelude.{◌≤◌};
 
 use crate::stopwatch::{CpuStopwatch, per_second};
-use anyhow::{anyhow, ensure};
+use anyhow::{bail, ensure};
 use flow_gate::{BufferId, FlowId, Gates};
 use io_ports::NoMemory;
 use std::alloc::Global;
@@ -118,27 +118,47 @@ fn turn(gates: &mut Gates, flow: FlowId) -> u64
     u64::from(first.is_some()) + u64::from(second.is_some())
 }
 
+fn new_side(alloc: Global, flows: u64) -> anyhow::Result<Side> {
+    match Side::new(alloc, flows) {
+        Ok(side) => Ok(side),
+        Err(_) => bail!("out of memory"),
+    }
+}
+
 /// Takes turns at each number of open flows, and prints how many calls each does in a second of
 /// processor time.
 pub fn run(rt: &(impl AllocGlobal + Print + CpuClock)) -> anyhow::Result<()> {
-    let no_memory = |_: NoMemory| anyhow!("out of memory");
-    let mut few = Side::new(rt.alloc(), FEW).map_err(no_memory)?;
-    let mut some = Side::new(rt.alloc(), SOME).map_err(no_memory)?;
-    let mut many = Side::new(rt.alloc(), MANY).map_err(no_memory)?;
+    let mut few = new_side(rt.alloc(), FEW)?;
+    let mut some = new_side(rt.alloc(), SOME)?;
+    let mut many = new_side(rt.alloc(), MANY)?;
+    take_turns(rt, &mut few, &mut some, &mut many)?;
+    report(
+        rt,
+        few.calls_per_second(),
+        some.calls_per_second(),
+        many.calls_per_second(),
+    )
+}
+
+/// The rounds of all sides.
+fn take_turns(
+    clock: &impl CpuClock,
+    few: &mut Side,
+    some: &mut Side,
+    many: &mut Side,
+) -> anyhow::Result<()> {
     for _round in 0..ROUNDS {
-        few.timed_round(rt)?;
-        some.timed_round(rt)?;
-        many.timed_round(rt)?;
+        few.timed_round(clock)?;
+        some.timed_round(clock)?;
+        many.timed_round(clock)?;
     }
-    for side in [&few, &some, &many] {
-        let rate = side.calls_per_second();
-        println!(rt;
-            "{} flows: {rate} calls in a second of processor time",
-            side.flows
-        )?;
+    Ok(())
+}
+
+fn report(rt: &impl Print, few: u64, some: u64, many: u64) -> anyhow::Result<()> {
+    for (flows, rate) in [(FEW, few), (SOME, some), (MANY, many)] {
+        println!(rt; "{flows} flows: {rate} calls in a second of processor time")?;
     }
-    let few = few.calls_per_second();
-    let many = many.calls_per_second();
     let hundredths = u128::from(few) * 100 / u128::from(many.max(1));
     let (whole, rest) = (hundredths / 100, hundredths % 100);
     println!(rt; "a call at {MANY} flows costs {whole}.{rest:02} times one at {FEW}")?;

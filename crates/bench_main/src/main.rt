@@ -17,6 +17,10 @@ mod timers;
 mod tokens;
 
 use std::env;
+use std::rt::Clock;
+use std::sync::Wait;
+use std::thread::Threads;
+use std::time::CpuClock;
 
 const USAGE: &str = "usage: bench_main BENCH
   buffer     octets through two watermark buffers, beside two plain copies
@@ -36,20 +40,35 @@ const USAGE: &str = "usage: bench_main BENCH
 fn main(rt: HostRuntime) -> anyhow::Result<()> {
     let mut words = env::args(&rt)?;
     let _program = words.next();
-    match words.next() {
-        Some(word) if word.as_str() == "buffer" => buffers::run(&rt)?,
-        Some(word) if word.as_str() == "drill" => drill::run(&rt)?,
-        Some(word) if word.as_str() == "exchanges" => exchanges::run(&rt)?,
-        Some(word) if word.as_str() == "fields" => fields::run(&rt, words.next().is_some())?,
-        Some(word) if word.as_str() == "frames" => frames::run(&rt)?,
-        Some(word) if word.as_str() == "gates" => gates::run(&rt)?,
-        Some(word) if word.as_str() == "notes" => notes::run(&rt)?,
-        Some(word) if word.as_str() == "posts" => posts::run(&rt)?,
-        Some(word) if word.as_str() == "session" => sessions::run(&rt)?,
-        Some(word) if word.as_str() == "shared" => shared::run(&rt)?,
-        Some(word) if word.as_str() == "timers" => timers::run(&rt)?,
-        Some(word) if word.as_str() == "tokens" => tokens::run(&rt)?,
-        Some(_) | None => rt.print(USAGE)?,
+    let Some(bench) = words.next() else {
+        return usage(&rt);
+    };
+    run(&rt, bench.as_str(), words.next().is_some())
+}
+
+fn run<R: Threads + Wait + AllocGlobal + Clock + CpuClock + Print + Sync>(
+    rt: &R,
+    bench: &str,
+    only_blocks: bool,
+) -> anyhow::Result<()> {
+    match bench {
+        "buffer" => buffers::run(rt),
+        "drill" => drill::run(rt),
+        "exchanges" => exchanges::run(rt),
+        "fields" => fields::run(rt, only_blocks),
+        "frames" => frames::run(rt),
+        "gates" => gates::run(rt),
+        "notes" => notes::run(rt),
+        "posts" => posts::run(rt),
+        "session" => sessions::run(rt),
+        "shared" => shared::run(rt),
+        "timers" => timers::run(rt),
+        "tokens" => tokens::run(rt),
+        _ => usage(rt),
     }
+}
+
+fn usage(rt: &impl Print) -> anyhow::Result<()> {
+    rt.print(USAGE)?;
     Ok(())
 }
