@@ -25,7 +25,7 @@ pub struct PlainCore {
     pub(crate) config: Config,
     pub(crate) turn: u64,
     pub(crate) flows: Flows,
-    /// The stream that a stream's end dooms.
+    /// `pairs[first] = second`: when END_STREAM of `first` is framed, `second` is doomed.
     pub(crate) pairs: BTreeMap<u64, u64>,
     pub(crate) agenda: Agenda,
     pub(crate) failed: bool,

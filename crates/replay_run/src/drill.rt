@@ -53,7 +53,7 @@ impl Drill {
         }
     }
 
-    /// The next event. After running out of memory the drill is as it was.
+    /// The next event. Only a body takes memory.
     pub fn next(&mut self, alloc: Global) -> Result<Option<Event>, NoMemory>
         requires { (es : List EventValue) × DrillIs self.old es }
         ensures { IfOk result (λ given. Yields self.old given self.new) }
@@ -185,7 +185,7 @@ fn next_number(x: u32) -> u32
     ((1_103_515_245 * u64::from(x) + 12_345) % 2_147_483_648) as u32
 }
 
-// What a number's draw makes of itself.
+// The length that is drawn: 1 and bits 16 to 25 of x.
 fn amount(x: u32) -> u32
     ensures { result ≡ amount_of (x / 65536) }
 {

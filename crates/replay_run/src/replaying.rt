@@ -46,7 +46,7 @@ pub fn replay<C: Source, S: Source, K: Sink>(
     replay_with_reason(alloc, words, config, session, out).status
 }
 
-/// The same, and why it ended so.
+/// The same, and why it ended so. That the reason is the right one is in no clause.
 pub fn replay_with_reason<C: Source, S: Source, K: Sink>(
     alloc: Global,
     words: &[String],

@@ -43,8 +43,8 @@ impl Tally {
         }
     }
 
-    /// Takes up the notes that a tape goes on with. A count past the end of its type counts as want of
-    /// memory, after which the tally is to be let go.
+    /// Takes up the notes that a tape goes on with. A count past the end of its type is answered as out of
+    /// memory, after which the tally is unusable.
     pub fn note_all(&mut self, notes: &Notes) -> Result<(), NoMemory>
         ensures { OnOk result (TallyGoes self.old notes.now self.new) }
     {
