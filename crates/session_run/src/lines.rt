@@ -84,8 +84,9 @@ impl Lines {
         ensures same { held_of self.new ≡ held_of self.old }
         ensures front { self.new.start ≡ 0 }
     {
-        self.octets.rotate_left(self.start);
-        self.end -= self.start;
+        let (start, end) = (self.start, self.end);
+        self.octets.copy_within(start..end, 0);
         self.start = 0;
+        self.end = end - start;
     }
 }
