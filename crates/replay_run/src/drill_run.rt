@@ -5,8 +5,7 @@ ghost use Rattle.replay_run.specs.Drills.{CountsEvent, DrillsAs, IsDrillSummary,
 ghost use Rattle.plain_core.specs.Stands.{CanTake};
 
 use crate::drill::Drill;
-use crate::short::put_short;
-use crate::tally::Tally;
+use crate::tally::{Tally, put_short};
 use flow_notes::{Event, Notes};
 use io_ports::{Failed, NoMemory, Octets, Sink};
 use plain_core::PlainCore;
