@@ -47,9 +47,6 @@ no_more n = omega arith
 counted_as : (old new : Tally) (m n : Note) → m ≡ n → Counted old n new → Counted old m new
 counted_as old new m n e k = let P : Note → Type 0 = λ v. Counted old v new in subst P (sym e) k
 
-written_as : (w v : Level) (m n : Note) → m ≡ n → WriteGoes w m v → WriteGoes w n v
-written_as w v m n e g = let P : Note → Type 0 = λ k. WriteGoes w k v in subst P e g
-
 -- a pause leaves the write buffer as it was
 pub pause_counted : (old : Tally) (m : Note) (f : FlowId) (b : BufferId) (v : ℕ) → m ≡ note.Pause f b → v ≡ old.pauses + 1 → Counted old m (record old { pauses = v })
 pause_counted old m f b v e ev = counted_as old (record old { pauses = v }) m (note.Pause f b) e (record {
