@@ -1,5 +1,5 @@
 // One exchange: a request and its response.
-ghost use Rattle.std.specs.Prelude.{◌≡◌, ◌-◌, ◌<◌, ◌≤◌, ◌^◌, [], All, IfOk, IfSome, IsNone, IsOk, IsSome, IsTrue, OnErr, OnOk, Some, false, is_some, length, option_map, true};
+ghost use Rattle.std.specs.Prelude.{◌≡◌, ◌-◌, ◌<◌, ◌≤◌, [], All, IfOk, IfSome, IsNone, IsOk, IsSome, IsTrue, OnErr, OnOk, Some, false, is_some, length, option_map, true};
 ghost use Rattle.exchange_core.specs.Exchange.{IsSoundExchange, begun, begun_response, filters_of, multiple_of, side_filters, ends_of, flow_changed, flow_id, flow_in, goes_to, held_in, is_metered, seen_at};
 ghost use Rattle.exchange_core.specs.Moves.{has_room_ahead, next_step, stepped};
 ghost use Rattle.exchange_core.specs.Flow.{IsSound as IsSoundFlow};

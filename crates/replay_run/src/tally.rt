@@ -24,7 +24,7 @@ pub struct Tally {
 }
 
 impl Tally {
-    ghost use Rattle.std.specs.Prelude.{◌≡◌, ◌∷◌, [], OnOk};
+    ghost use Rattle.std.specs.Prelude.{◌≡◌, [], OnOk};
     ghost use Rattle.flow_gate.specs.declared.ids.BufferId.{BufferId};
     ghost use Rattle.flow_gate.specs.declared.ids.FlowId.{FlowId};
     ghost use Rattle.tape_laws.specs.declared.limits.PlainLimits.{PlainLimits};

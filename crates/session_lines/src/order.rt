@@ -45,7 +45,7 @@ pub struct Order {
 }
 
 impl Order {
-    ghost use Rattle.std.specs.Prelude.{◌≡◌, Ok, Err};
+    ghost use Rattle.std.specs.Prelude.{◌≡◌, Ok};
     ghost use Rattle.session_lines.specs.Orders.{OrderIs, PlaysNow, ReadsLine, has_played};
     ghost use Rattle.session_lines.specs.Seen.{Unread};
 

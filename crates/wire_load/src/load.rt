@@ -1,6 +1,6 @@
 //! The load that the exchanges of a worker make, and what it asks for.
 ghost use Rattle.std.specs.Prelude.{◌≡◌, ◌≤◌, ◌<◌, [], ◌∷◌, ⊤, IfOk, MatchOption, OnErr, OnOk};
-ghost use Rattle.std.specs.List.{All, AllPairs};
+ghost use Rattle.std.specs.List.{AllPairs};
 ghost use Rattle.overload_core.specs.ActionStates.{actions_at, is_saturated, AreStates};
 ghost use Rattle.wire_load.specs.Action.{state_of};
 ghost use Rattle.wire_load.specs.Load.{unloaded, with_touched, settled, dropped, reset_next};

@@ -1,9 +1,7 @@
 // The core of a worker.
 ghost use Rattle.plain_core.specs.Flows.{AreLimits};
-ghost use Rattle.plain_core.specs.Stands.{Rests};
 ghost use Rattle.proxy_config.specs.Ranges.{IsInRange};
 ghost use Rattle.std.specs.Prelude.{◌≡◌, ◌≢◌, [], Err, IfOk, OnErr, OnOk, false, true};
-ghost use Rattle.wire_state.specs.Sound.{IsSound};
 ghost use Rattle.worker_core.specs.Sessions.{BreaksOff, CarriesOut, IsNextConn, IsNextOut, LendsFront, MayTake, RestsPlain, RestsWire, has_failed, is_closing, takes_clients, version_of};
 
 use crate::wire::WireSession;
