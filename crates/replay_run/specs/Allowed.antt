@@ -1,7 +1,7 @@
 -- A session that breaks no rule, and how its replay may end.
 pub use Rattle.session_run.specs.Ending.{IsUnrefused}
 use Rattle.session_run.specs.Ending.{longest_line, most_octets}
-use Rattle.replay_run.specs.Lawfully.{IsSeen}
+use Rattle.replay_run.specs.SeenTape.{IsSeen}
 use Rattle.session_run.specs.Newlines.{has_newline}
 use Rattle.session_lines.specs.Seen.{Playing, seen_text}
 use Rattle.session_lines.specs.declared.order.Format.{Format}

@@ -2,8 +2,8 @@
 ghost use Rattle.std.specs.List.{AllByRecursion};
 ghost use Rattle.std.specs.Prelude.{◌≡◌, ◌<◌, ◌≤◌, ◌+◌, ◌*◌, ◌/◌, ◌%◌, ◌++◌, replicate, IfOk, List, ℕ};
 ghost use Rattle.flow_notes.specs.Event.{IsEvent};
-ghost use Rattle.replay_run.specs.Drill.{amount as amount_of, drill as drill_of, next_number as number_behind, number_after, stream_at as stream_of};
-ghost use Rattle.replay_run.specs.Drilling.{GoesTo, drains_from, ends_from, opens_from, round_from, rounds_from};
+ghost use Rattle.replay_run.specs.DrillEvents.{amount as amount_of, drill as drill_of, next_number as number_behind, number_after, stream_at as stream_of};
+ghost use Rattle.replay_run.specs.Drill.{GoesTo, drains_from, ends_from, opens_from, round_from, rounds_from};
 
 use flow_notes::{Event, EventList, PlainEvent};
 use io_ports::{NoMemory, Octets};
@@ -37,8 +37,8 @@ pub struct Drill {
 impl Drill {
     ghost use Rattle.std.specs.Prelude.{◌≡◌, ◌<◌, ◌≤◌, List, IfOk, Some};
     ghost use Rattle.flow_notes.specs.declared.events.Event.{Event as EventValue};
-    ghost use Rattle.replay_run.specs.Drill.{drill};
-    ghost use Rattle.replay_run.specs.Drilling.{DrillIs, Yields};
+    ghost use Rattle.replay_run.specs.DrillEvents.{drill};
+    ghost use Rattle.replay_run.specs.Drill.{DrillIs, Yields};
 
     /// Before the first event.
     pub fn new(streams: u32) -> Self

@@ -1,7 +1,7 @@
 // The whole of a drill.
 ghost use Rattle.std.specs.Prelude.{◌≡◌, ◌<◌, ◌≤◌, [], IfOk, OnOk};
 ghost use Rattle.io_ports.specs.Faults.{Rose};
-ghost use Rattle.replay_run.specs.Drills.{CountsEvent, DrillsAs, IsDrillSummary, TalliesDrill};
+ghost use Rattle.replay_run.specs.ReplayDrill.{CountsEvent, DrillsAs, IsDrillSummary, TalliesDrill};
 ghost use Rattle.plain_core.specs.Stands.{CanTake};
 
 use crate::drill::Drill;

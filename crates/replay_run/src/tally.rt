@@ -1,8 +1,8 @@
 // What the short summary of a drill tells, and its text.
 ghost use Rattle.std.specs.Prelude.{◌≡◌, ◌+◌, ◌++◌, decimal, IfOk, OnOk};
 ghost use Rattle.flow_notes.specs.Line.{newline};
-ghost use Rattle.replay_run.specs.Tally.{resets_by as resets_of};
-ghost use Rattle.replay_run.specs.Tallying.{tally_text};
+ghost use Rattle.replay_run.specs.ShortSummary.{resets_by as resets_of};
+ghost use Rattle.replay_run.specs.Tally.{tally_text};
 
 use flow_notes::{Cause, Note, Notes, Passage};
 use io_ports::{NoMemory, Octets};
@@ -29,7 +29,7 @@ impl Tally {
     ghost use Rattle.flow_gate.specs.declared.ids.FlowId.{FlowId};
     ghost use Rattle.tape_laws.specs.declared.limits.PlainLimits.{PlainLimits};
     ghost use Rattle.flow_notes.specs.Passages.{notes_of_passage};
-    ghost use Rattle.replay_run.specs.Tallying.{Counted, TallyGoes, TallyIs};
+    ghost use Rattle.replay_run.specs.Tally.{Counted, TallyGoes, TallyIs};
 
     /// The tally of an empty tape.
     pub fn new() -> Self
