@@ -1,5 +1,5 @@
 // One exchange: a request and its response.
-ghost use Rattle.std.specs.Prelude.{◌≡◌, ◌-◌, ◌<◌, ◌≤◌, ◌^◌, [], All, IfOk, IfSome, IsNone, IsOk, IsSome, IsTrue, OnErr, OnOk, Some, false, is_some, length, option_map, true};
+ghost use Rattle.std.specs.Prelude.{◌≡◌, ◌-◌, ◌<◌, ◌≤◌, [], All, IfOk, IfSome, IsNone, IsOk, IsSome, IsTrue, OnErr, OnOk, Some, false, is_some, length, option_map, true};
 ghost use Rattle.exchange_core.specs.Exchange.{IsSoundExchange, begun, begun_response, filters_of, multiple_of, side_filters, ends_of, flow_changed, flow_id, flow_in, goes_to, held_in, is_metered, seen_at};
 ghost use Rattle.exchange_core.specs.Moves.{has_room_ahead, next_step, stepped};
 ghost use Rattle.exchange_core.specs.Flow.{IsSound as IsSoundFlow};
@@ -56,7 +56,7 @@ impl Exchange {
         let filters = filters_of(&none, config, spec.row, false);
         let request = Flow::new(
             alloc,
-            flow_id(number, false),
+            FlowId::request(number),
             filters,
             spec,
             multiple_of(spec, config),
@@ -91,7 +91,7 @@ impl Exchange {
         }
         let filters = filters_of(none, config, spec.row, true);
         let multiple = config.limits.overflow_multiple;
-        Ok(Some(Flow::new(alloc, flow_id(number, true), filters, spec, multiple)?))
+        Ok(Some(Flow::new(alloc, FlowId::response(number), filters, spec, multiple)?))
     }
 
     /// The Meters of both flows go on to the moment `now`.
@@ -275,13 +275,6 @@ impl Exchange {
     }
 }
 
-/// The name of a flow of an exchange.
-pub(crate) fn flow_id(exchange: u64, back: bool) -> FlowId
-    ensures { result ≡ flow_id exchange back }
-{
-    FlowId { exchange, back }
-}
-
 // The filters of one side of a route row, `none` where there is no row.
 fn filters_of<'a>(
     none: &'a FilterList,
@@ -320,8 +313,8 @@ pub(crate) fn forget_flows(gates: &mut Gates, exchange: u64, both: bool)
     ensures gone { ForgetsSides exchange both gates.old gates.new }
     ensures sound { AreSoundGates gates.new }
 {
-    gates.forget(flow_id(exchange, false));
+    gates.forget(FlowId::request(exchange));
     if both {
-        gates.forget(flow_id(exchange, true));
+        gates.forget(FlowId::response(exchange));
     }
 }

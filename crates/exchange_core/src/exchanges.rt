@@ -13,9 +13,9 @@ ghost use Rattle.proxy_config.specs.Ranges.{IsBetween, IsRoute, most_octets};
 mod moves;
 mod reading;
 
+use crate::causes::Doomed;
 use crate::exchange::{Exchange, forget_flows};
 use crate::flow::Flow;
-use crate::reply::Doomed;
 use crate::start::StartSpec;
 use crate::step::Received;
 use filter_chain::ticks_add_up;

@@ -8,14 +8,13 @@ mod exchanges;
 mod flow;
 mod laws;
 mod message;
-mod reply;
 mod start;
 mod step;
 
+pub use causes::{Doomed, Reply};
 pub use exchange::Ends;
 pub use exchanges::Exchanges;
 pub use flow_rules::Unit;
 pub use laws::{plain_streams, units_narrow};
-pub use reply::{Doomed, Reply};
 pub use start::StartSpec;
 pub use step::{Advance, Piece, Received, Step};

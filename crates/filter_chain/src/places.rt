@@ -1,11 +1,11 @@
 // The stages of a chain in a row, the send buffer last.
-ghost use Rattle.std.specs.Prelude.{◌≡◌, ◌≢◌, ◌↔◌, ◌+◌, ◌<◌, ◌≤◌, ◌++◌, ◌&&◌, ◌∷◌, ◌==◌, ◌^◌, [], All, IsTrue, IsOk, OnOk, OnErr, IfOk, length, map, take};
+ghost use Rattle.std.specs.Prelude.{◌≡◌, ◌↔◌, ◌+◌, ◌<◌, ◌≤◌, ◌++◌, ◌∷◌, ◌==◌, [], All, IsTrue, IsOk, OnOk, OnErr, IfOk, length, map, take};
 ghost use Rattle.std.specs.List.{list_all};
 ghost use Rattle.filter_chain.specs.Chain.{above_in, octets_in, stages};
 ghost use Rattle.filter_chain.specs.Effects.{changed_at, last_loses, passed};
 ghost use Rattle.filter_chain.specs.Place.{empty_place, gaining, refilled};
 ghost use Rattle.filter_chain.specs.Release.{overfills_in};
-ghost use Rattle.filter_chain.specs.Stage.{CoversAt, IsReady, KeepsReady, place_of, places_of};
+ghost use Rattle.filter_chain.specs.Stage.{CoversAt, IsReady, KeepsReady, places_of};
 ghost use Rattle.proxy_config.specs.Ranges.{IsFilter, most_octets};
 ghost use Rattle.wm_buffer.specs.Buffer.{AppendsOctets, DropsOctets};
 ghost use Rattle.wm_buffer.specs.Watermark.{crossing};

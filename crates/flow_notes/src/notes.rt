@@ -122,7 +122,8 @@ pub enum Note {
         stream: u32,
         n: u32,
     },
-    /// An exchange from a stream of connection `conn` to connection `to`, which is 0 for none.
+    /// An exchange from a stream of connection `conn` to connection `to`: in a wire session 0 for none, in a plain one always
+    /// connection 0.
     Start {
         exchange: u64,
         conn: u32,

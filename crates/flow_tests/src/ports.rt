@@ -1,5 +1,4 @@
 // Tables of reads and writes, with what each answers.
-ghost use Rattle.std.specs.Prelude.{◌≡◌};
 
 use crate::said::{holds, same};
 use io_ports::{

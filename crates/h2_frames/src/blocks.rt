@@ -1,5 +1,5 @@
 // A field block in HEADERS and CONTINUATION frames.
-ghost use Rattle.std.specs.Prelude.{◌≡◌, ◌++◌, ◌<◌, ◌≤◌, ◌^◌, length, take, OnErr, OnOk};
+ghost use Rattle.std.specs.Prelude.{◌≡◌, ◌++◌, ◌<◌, ◌^◌, length, take, OnErr, OnOk};
 ghost use Rattle.h2_frames.specs.Blocks.{block_frames, continued, pieces, spellings};
 
 use crate::types::Frame;

@@ -14,13 +14,3 @@ first_of_settings (a ∷ b ∷ []) front rest i v long p q x y = absurd (omega a
 first_of_settings (a ∷ b ∷ c ∷ []) front rest i v long p q x y = absurd (omega arith)
 first_of_settings (a ∷ b ∷ c ∷ d ∷ []) front rest i v long p q x y = absurd (omega arith)
 first_of_settings (a ∷ b ∷ c ∷ d ∷ e ∷ []) front rest i v long p q x y = absurd (omega arith)
-
--- fewer than six octets are no entry
-pub no_settings : (l : List ℕ) → length l < 6 → settings_of l ≡ []
-no_settings [] short = refl
-no_settings (a ∷ []) short = refl
-no_settings (a ∷ b ∷ []) short = refl
-no_settings (a ∷ b ∷ c ∷ []) short = refl
-no_settings (a ∷ b ∷ c ∷ d ∷ []) short = refl
-no_settings (a ∷ b ∷ c ∷ d ∷ e ∷ []) short = refl
-no_settings (a ∷ b ∷ c ∷ d ∷ e ∷ f ∷ l) short = absurd (omega arith)

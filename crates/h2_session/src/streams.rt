@@ -92,7 +92,7 @@ impl Streams {
         }
     }
 
-    /// DATA came on a stream, its last one perhaps.
+    /// DATA came on a stream; `last` is its END_STREAM, which closes the peer's half.
     pub fn data_came(&mut self, stream: u32, last: bool)
         ensures moves { Puts stream (after_data last (stream_at stream self.old)) self.old self.new }
         ensures other { IsNone (stream_at stream self.old) → self.new ≡ self.old }

@@ -3,7 +3,7 @@ ghost use Rattle.std.specs.Prelude.{◌≡◌, ◌≤◌, ◌<◌, ◌^◌, Ok, 
 ghost use Rattle.hpack_codec.specs.Decoding.{Answers, decoder_with, is_final};
 ghost use Rattle.hpack_codec.specs.Encoding.{HasSpelling};
 ghost use Rattle.hpack_codec.specs.Sections.{list_size};
-ghost use Rattle.hpack_codec.specs.Table.{Table, empty_table};
+ghost use Rattle.hpack_codec.specs.Table.{empty_table};
 
 use crate::collected::Collected;
 use crate::fault::HpackFault;

@@ -1,6 +1,6 @@
 // The encoder of blocks.
-ghost use Rattle.std.specs.Prelude.{◌≡◌, ◌+◌, ◌<◌, ◌≤◌, ◌^◌, ℕ, true, false, length, All, IfOk, OnOk, OnErr, if◌then◌else◌};
-ghost use Rattle.hpack_codec.specs.Encoding.{encode_block, HasSpelling};
+ghost use Rattle.std.specs.Prelude.{◌≡◌, ◌+◌, ◌<◌, ◌≤◌, ℕ, true, false, length, IfOk, OnOk, OnErr, if◌then◌else◌};
+ghost use Rattle.hpack_codec.specs.Encoding.{encode_block};
 ghost use Rattle.hpack_codec.specs.Sections.{SpellsBlock, list_size};
 ghost use Rattle.hpack_codec.specs.Table.{Table, resized};
 

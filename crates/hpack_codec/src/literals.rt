@@ -1,5 +1,5 @@
 // Literals: names and values.
-ghost use Rattle.std.specs.Prelude.{◌≡◌, ◌≤◌, ◌<◌, length, IfOk, IfErr};
+ghost use Rattle.std.specs.Prelude.{◌≤◌, ◌<◌, length, IfOk, IfErr};
 ghost use Rattle.hpack_codec.specs.Faults.{OrNoMemory};
 ghost use Rattle.hpack_codec.specs.Sections.{BreaksLiteral, BreaksName, IsLiteral, IsName};
 

@@ -1,5 +1,5 @@
 // Representations of a block, form by form.
-ghost use Rattle.std.specs.Prelude.{◌≡◌, ◌<◌, ℕ, Bool, length, IfOk, IfErr, slice_index};
+ghost use Rattle.std.specs.Prelude.{◌<◌, ℕ, length, IfOk, IfErr, slice_index};
 ghost use Rattle.hpack_codec.specs.Collecting.{Advances, Stops};
 ghost use Rattle.hpack_codec.specs.Faults.{OrNoMemory};
 ghost use Rattle.hpack_codec.specs.Sections.{form_of, literal_form};

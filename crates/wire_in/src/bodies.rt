@@ -4,7 +4,7 @@ ghost use Rattle.wire_state.specs.Noting.{Appends};
 ghost use Rattle.wire_state.specs.Progress.{to_go};
 ghost use Rattle.wire_state.specs.Sound.{IsSound};
 
-use crate::faults::{close_with, counts_late, owe, stream_fault};
+use crate::faults::{Concerns, close_with, counts_late, owe, stream_fault};
 use crate::heads::{end_where, finish};
 use exchange_core::Received;
 use flow_notes::{Note, Notes};
@@ -71,7 +71,7 @@ pub(crate) fn body(
     core.ask_run(course)?;
     if let Some(code) = fault_in(core, course, came, content.octets.len(), last) {
         // What the stream counted is, with its doom, the connection's.
-        let fault = stream_fault(stream, code, content.counted, false);
+        let fault = stream_fault(stream, code, content.counted, Concerns::Incoming);
         return fault.end(core, number, notes);
     }
     enter(core, number, course, content, stream, notes)?;

@@ -7,7 +7,7 @@ use flow_notes::{Cause, CloseCause, Event, FireKind, Job, Note, Notes};
 use io_ports::{NoMemory, Octets, PressureList};
 use proxy_config::LimitKeys;
 use std::alloc::Global;
-use wire_ends::{close, doom, lose, put};
+use wire_ends::{Origin, close, doom, lose, put};
 use wire_inlet::Peer;
 use wire_load::Action;
 use wire_outlet::Control;
@@ -227,7 +227,7 @@ fn post(
                 core,
                 exchange,
                 Cause::Posted { poster, number },
-                false,
+                Origin::Neither,
                 notes,
             )
         }

@@ -7,7 +7,7 @@ ghost use Rattle.wire_state.specs.Noting.{Appends};
 ghost use Rattle.wire_state.specs.Progress.{to_go};
 ghost use Rattle.wire_state.specs.Sound.{IsSound};
 
-use crate::faults::{close_with, stream_fault};
+use crate::faults::{Concerns, close_with, stream_fault};
 use crate::requests::request;
 use flow_gate::FlowId;
 use flow_notes::Notes;
@@ -80,7 +80,8 @@ fn response(
             Ok(())
         }
         Response::Malformed => {
-            stream_fault(stream, PROTOCOL_ERROR, 0, false).end(core, number, notes)
+            let fault = stream_fault(stream, PROTOCOL_ERROR, 0, Concerns::Incoming);
+            fault.end(core, number, notes)
         }
         Response::Final { .. } => begin(core, course, stream, fields, last),
     }
@@ -214,7 +215,8 @@ pub(crate) fn trailers(
         return Ok(());
     };
     if !judge_trailers(fields.as_ref(), &expected) {
-        return stream_fault(stream, PROTOCOL_ERROR, 0, false).end(core, number, notes);
+        let fault = stream_fault(stream, PROTOCOL_ERROR, 0, Concerns::Incoming);
+        return fault.end(core, number, notes);
     }
     finish(core, course.flow, fields)?;
     core.flow_ended(course, stream)?;

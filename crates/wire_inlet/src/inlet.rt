@@ -1,5 +1,5 @@
 // One connection's octets in.
-ghost use Rattle.std.specs.Prelude.{◌≡◌, ◌++◌, ◌∷◌, ◌⊎◌, [], List, Some, None, false, true, is_some, length, if◌then◌else◌, IfErr, IfOk, IsErr, IsNone, MatchOption, OnErr, OnOk};
+ghost use Rattle.std.specs.Prelude.{◌≡◌, ◌++◌, ◌∷◌, ◌⊎◌, [], List, false, true, is_some, if◌then◌else◌, IfErr, IfOk, IsErr, IsNone, MatchOption, OnErr, OnOk};
 ghost use Rattle.h2_session.specs.Happened.{Happening, Opened, Ended, Closed, Interim, next_stream};
 ghost use Rattle.h2_session.specs.Streams.{greatest_of_peer, is_open};
 ghost use Rattle.h2_session.specs.Summary.{StandsFor, noted};

@@ -1,5 +1,5 @@
 // A connection as it is kept.
-ghost use Rattle.std.specs.Prelude.{◌≡◌, [], IfOk, OnErr, OnOk, length};
+ghost use Rattle.std.specs.Prelude.{◌≡◌, [], OnErr, OnOk, length};
 ghost use Rattle.wire_links.specs.Links.{takes_one};
 ghost use Rattle.number_set.specs.NumberSet.{first, first_above};
 ghost use Rattle.wire_links.specs.Numbers.{under};

@@ -14,7 +14,7 @@ use crate::drains::unit_framed;
 use crate::units::{Going, end_where, unready};
 use flow_notes::{Cause, Notes};
 use io_ports::{NoMemory, Octets};
-use wire_ends::doom;
+use wire_ends::{Origin, doom};
 use wire_state::{Conn, WireCore, note_head};
 use wm_buffer::Crossed;
 
@@ -44,7 +44,7 @@ pub(crate) fn frame_list(
         Some(stream) => frame_fields(core, going, stream, last, notes),
         None => {
             let cause = Cause::ConnLost { conn: going.conn };
-            doom(core, exchange, cause, false, notes)
+            doom(core, exchange, cause, Origin::Neither, notes)
         }
     }
 }

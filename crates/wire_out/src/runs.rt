@@ -11,7 +11,7 @@ ghost use Rattle.flow_notes.specs.Buffer.{CanPause};
 use flow_gate::{BufferId, FlowId};
 use flow_notes::{Cause, Note, Notes};
 use io_ports::NoMemory;
-use wire_ends::doom;
+use wire_ends::{Origin, doom};
 use wire_flows::{Moved, Outcome};
 use wire_state::{Course, Task, WireCore, note};
 
@@ -157,8 +157,13 @@ fn too_large(core: &mut WireCore, course: Course, notes: &mut Notes) -> Result<(
         tried: false,
     })?;
     ask_drain(core, course.to)?;
-    let FlowId { exchange, back } = course.flow;
-    doom(core, exchange, Cause::TooLarge, back, notes)
+    doom(
+        core,
+        course.flow.exchange,
+        Cause::TooLarge,
+        Origin::of(course.flow),
+        notes,
+    )
 }
 
 // What a move begins, and its notes.
@@ -246,7 +251,6 @@ fn cross(
         return core.begin(Task::Doom {
             exchange: course.flow.exchange,
             cause: Cause::Overflow,
-            back: false,
         });
     }
     match moved.drained {

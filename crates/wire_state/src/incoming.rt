@@ -1,5 +1,5 @@
 // What comes in on a connection.
-ghost use Rattle.std.specs.Prelude.{◌≡◌, ◌≤◌, ◌<◌, ◌+◌, ◌*◌, IfOk};
+ghost use Rattle.std.specs.Prelude.{◌≡◌, ◌≤◌, ◌<◌, IfOk};
 ghost use Rattle.wire_state.specs.Intakes.{PaysFor};
 ghost use Rattle.wire_state.specs.Progress.{conn_go};
 

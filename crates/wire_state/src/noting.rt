@@ -1,5 +1,4 @@
 // The notes of small steps. Each appends notes that have a spelling and begin no dispatch, also where memory is refused.
-ghost use Rattle.std.specs.Prelude.{◌≡◌};
 ghost use Rattle.wire_state.specs.Noting.{Appends, IsStep};
 
 use flow_gate::BufferId;

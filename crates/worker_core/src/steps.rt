@@ -55,11 +55,7 @@ fn step(core: &mut WireCore, task: Task, notes: &mut Notes) -> Result<(), NoMemo
         Task::Run { course, tried } => run(core, course, tried, notes),
         Task::Tell(conn) => tell(core, conn, notes),
         Task::End(exchange) => end(core, exchange, notes),
-        Task::Doom {
-            exchange,
-            cause,
-            back,
-        } => doom_task(core, exchange, cause, back, notes),
+        Task::Doom { exchange, cause } => doom_task(core, exchange, cause, notes),
         Task::Close { conn, code, cause } => close_task(core, conn, code, cause, notes),
         Task::Losses { conn, last } => losses(core, conn, last, notes),
         Task::Read(conn) => read(core, conn, notes),

@@ -1,5 +1,5 @@
 // Connection errors, in the order of the protocol's rules (RFC 9113 section 5.4.1).
-ghost use Rattle.std.specs.Prelude.{◌≡◌, not, Option, if◌then◌else◌};
+ghost use Rattle.std.specs.Prelude.{◌≡◌, not, Option};
 ghost use Rattle.h2_frames.specs.View.{view};
 ghost use Rattle.h2_session.specs.Blocks.{block_with};
 ghost use Rattle.h2_session.specs.Errors.{breaks_block, error_by, first_of, is_empty_data, is_great, is_push, is_settings, is_zero_update, settings_error, value_error};

@@ -1,11 +1,11 @@
 -- What `replay` tells of a drill.
 use Rattle.flow_notes.specs.declared.events.Event.{Event}
 use Rattle.flow_notes.specs.declared.notes.Note.{Note}
-use Rattle.replay_run.specs.Drill.{drill, drill_limits}
-use Rattle.replay_run.specs.Drilling.{DrillIs}
+use Rattle.replay_run.specs.DrillEvents.{drill, drill_limits}
+use Rattle.replay_run.specs.Drill.{DrillIs}
 use Rattle.replay_run.specs.GoingOn.{MayGoOn}
-use Rattle.replay_run.specs.Tally.{short_summary}
-use Rattle.replay_run.specs.Tallying.{TallyGoes, TallyIs}
+use Rattle.replay_run.specs.ShortSummary.{short_summary}
+use Rattle.replay_run.specs.Tally.{TallyGoes, TallyIs}
 use Rattle.replay_run.specs.declared.drill.Drill.{Drill}
 use Rattle.session_run.specs.declared.status.Status.{Status}
 use Rattle.replay_run.specs.declared.tally.Tally.{Tally}

@@ -1,5 +1,5 @@
 -- What `replay` does, by the form of its words.
-use Rattle.replay_run.specs.Drills.{DrillsAs}
+use Rattle.replay_run.specs.ReplayDrill.{DrillsAs}
 use Rattle.replay_run.specs.Replays.{Replays}
 use Rattle.replay_run.specs.declared.form.Form.{Form}
 use Rattle.session_run.specs.declared.status.Status.{Status}
