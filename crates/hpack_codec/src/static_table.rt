@@ -4,7 +4,7 @@ ghost use Rattle.std.specs.Str.{bytes_eq};
 ghost use Rattle.hpack_codec.specs.Table.{line, static_table};
 ghost use Rattle.hpack_codec.specs.Encoding.{index_from};
 
-use crate::line::Entry;
+use crate::line::Row;
 
 /// The names of the static table, in the order of their indexes, which begin with 1
 /// (RFC 7541 Appendix A).
@@ -149,13 +149,13 @@ fn text_at<'a>(texts: &[&'a str], place: usize) -> &'a str
 }
 
 /// The entry at a place, counted from 0.
-pub(crate) fn static_entry(place: usize) -> Entry<'static>
+pub(crate) fn static_entry(place: usize) -> Row
     requires { place < 61 }
     ensures { slice_get static_table place ≡ Some (line result.name.now result.value.now) }
 {
     let name = text_at(&NAMES, place);
     let value = text_at(&VALUES, place);
-    Entry {
+    Row {
         name: name.as_bytes(),
         value: value.as_bytes(),
     }
