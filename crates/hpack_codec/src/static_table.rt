@@ -140,6 +140,9 @@ static VALUES: [&str; 61] = [
 /// How many entries the static table has.
 pub(crate) const STATIC_LEN: usize = 61;
 
+/// How many of the first entries hold all that have a value.
+const VALUED: usize = 16;
+
 /// The text at a place.
 fn text_at<'a>(texts: &[&'a str], place: usize) -> &'a str
     requires { place < length texts.now }
@@ -177,9 +180,10 @@ pub(crate) fn index_of_name(name: &[u8]) -> Option<u32>
 pub(crate) fn index_of_entry(name: &[u8], value: &[u8]) -> Option<u32>
     ensures { result ≡ index_from 1 (λ l. bytes_eq l.name name.now && bytes_eq l.value value.now) static_table }
 {
-    for place in 0..STATIC_LEN {
+    let most = if value.is_empty() { STATIC_LEN } else { VALUED };
+    for place in 0..most {
         let entry = static_entry(place);
-        if entry.name == name && entry.value == value {
+        if entry.value == value && entry.name == name {
             return Some(place as u32 + 1);
         }
     }
