@@ -14,6 +14,7 @@ ghost use Rattle.proxy_config.specs.Ranges.{AreFilters, IsBetween, IsRoute, most
 
 use crate::flow::Flow;
 use crate::message::Message;
+use crate::spares::Spares;
 use crate::start::StartSpec;
 use crate::step::{Advance, Step};
 use flow_gate::{FlowId, Gates};
@@ -41,6 +42,7 @@ impl Exchange {
     /// An exchange with empty flows through the filters of its route row.
     pub(crate) fn new(
         alloc: Global,
+        spares: &mut Spares,
         number: u64,
         spec: &StartSpec,
         config: &Config,
@@ -54,14 +56,9 @@ impl Exchange {
     {
         let none = FilterList::new(alloc);
         let filters = filters_of(&none, config, spec.row, false);
-        let request = Flow::new(
-            alloc,
-            flow_id(number, false),
-            filters,
-            spec,
-            multiple_of(spec, config),
-        )?;
-        let response = Self::response(alloc, number, spec, config, &none)?;
+        let id = flow_id(number, false);
+        let request = spares.begun(id, filters, spec, multiple_of(spec, config))?;
+        let response = Self::response(spares, number, spec, config, &none)?;
         Ok(Exchange {
             from_conn: spec.from_conn,
             to_conn: spec.to_conn,
@@ -72,7 +69,7 @@ impl Exchange {
 
     /// The response flow of a new exchange, none in a plain session.
     fn response(
-        alloc: Global,
+        spares: &mut Spares,
         number: u64,
         spec: &StartSpec,
         config: &Config,
@@ -91,7 +88,7 @@ impl Exchange {
         }
         let filters = filters_of(none, config, spec.row, true);
         let multiple = config.limits.overflow_multiple;
-        Ok(Some(Flow::new(alloc, flow_id(number, true), filters, spec, multiple)?))
+        Ok(Some(spares.begun(flow_id(number, true), filters, spec, multiple)?))
     }
 
     /// The Meters of both flows go on to the moment `now`.

@@ -79,6 +79,31 @@ impl Flow {
         })
     }
 
+    /// An empty flow without stages, as `new` makes it. The answer is false where the buffers of this one aren't fit for it.
+    pub(crate) fn renew(
+        &mut self,
+        id: FlowId,
+        spec: &StartSpec,
+        multiple: u32,
+    ) -> Result<bool, NoMemory>
+        requires recv { spec.now.recv ≤ most_octets }
+        requires quantum { IsBetween 16384 1048576 spec.now.quantum }
+        ensures begun { result ≡ Ok true → self.new ≡ begun_flow id [] spec.entry.now multiple }
+        ensures sound { result ≡ Ok true → IsSound self.new }
+    {
+        let is_fit = self.quantum == spec.quantum && self.chain.renew(id, spec.send, spec.now);
+        if !is_fit {
+            return Ok(false);
+        }
+        let _ = self.recv.take(self.recv.len());
+        self.window = 0;
+        self.message = Message::new();
+        self.multiple = multiple;
+        self.recv.ready(spec.recv)?;
+        self.window = spec.recv;
+        Ok(true)
+    }
+
     /// The Meters go on to the moment `now`, where that is later than the last one.
     pub(crate) fn go_on(&mut self, now: u64)
         ensures moment { self.new ≡ at_moment now self.old }

@@ -9,6 +9,7 @@ mod flow;
 mod laws;
 mod message;
 mod reply;
+mod spares;
 mod start;
 mod step;
 

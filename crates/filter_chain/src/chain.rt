@@ -76,6 +76,24 @@ impl Chain {
         })
     }
 
+    /// The chain of a flow without stages, as `new` makes it, with the room of this one. The answer is false, and nothing has
+    /// changed, where this one has stages, or a send buffer with another limit.
+    pub fn renew(&mut self, flow: FlowId, send_limit: u32, now: u64) -> bool
+        ensures made { result ≡ true → self.new ≡ empty_chain flow [] send_limit now self.old.quantum }
+        ensures sound { IsSound self.new }
+        ensures same { result ≡ false → self.new ≡ self.old }
+    {
+        if self.stages.len() != 1 || self.stages[0].limit() != send_limit {
+            return false;
+        }
+        self.stages[0].empty();
+        self.flow = flow;
+        self.clock = Clock::new(now);
+        self.ended = false;
+        self.recv_empty = false;
+        true
+    }
+
     /// The flow whose octets these are.
     pub fn flow(&self) -> FlowId
         ensures { result ≡ self.now.flow }

@@ -108,6 +108,14 @@ impl Stage {
         self.buffer.is_empty()
     }
 
+    /// Drops its octets.
+    pub fn empty(&mut self)
+        ensures place { place_of self.new ≡ holding [] (place_of self.old) }
+        ensures room { KeepsRoom self.old self.new }
+    {
+        let _ = self.buffer.take(self.buffer.len());
+    }
+
     /// Whether this is a Hold whose limit n more octets pass.
     pub fn is_overfilled_by(&self, n: u32) -> bool
         ensures { result ≡ is_overfilled_by n (place_of self.now) }
