@@ -183,7 +183,7 @@ pub(crate) fn index_of_entry(name: &[u8], value: &[u8]) -> Option<u32>
     let most = if value.is_empty() { STATIC_LEN } else { VALUED };
     for place in 0..most {
         let entry = static_entry(place);
-        if entry.value == value && entry.name == name {
+        if entry.name == name && entry.value == value {
             return Some(place as u32 + 1);
         }
     }
