@@ -1,5 +1,5 @@
 // One flow of an exchange.
-ghost use Rattle.std.specs.Prelude.{◌≡◌, ◌≢◌, ◌↔◌, ◌+◌, ◌-◌, ◌<◌, ◌≤◌, ◌^◌, false, true, IfOk, IfSome, IsOk, IsTrue, OnOk, OnErr, length, nat_le, option_map, Some};
+ghost use Rattle.std.specs.Prelude.{◌≡◌, ◌≢◌, ◌↔◌, ◌+◌, ◌-◌, ◌<◌, ◌≤◌, ◌^◌, [], false, true, IfOk, IfSome, IsOk, IsTrue, OnOk, OnErr, length, nat_le, option_map, Some};
 ghost use Rattle.exchange_core.specs.Effects.{arrived, finished, headed, moved, received, received_by};
 ghost use Rattle.exchange_core.specs.Exchange.{at_moment, begun_flow};
 ghost use Rattle.exchange_core.specs.Flow.{IsSound, held_by, last_place, meters_hold, stages_of};
@@ -88,14 +88,15 @@ impl Flow {
     ) -> Result<bool, NoMemory>
         requires recv { spec.now.recv ≤ most_octets }
         requires quantum { IsBetween 16384 1048576 spec.now.quantum }
-        ensures begun { result ≡ Ok true → self.new ≡ begun_flow id [] spec.entry.now multiple }
-        ensures sound { result ≡ Ok true → IsSound self.new }
+        ensures begun { IfOk result (λ fits. fits ≡ true → self.new ≡ begun_flow id [] spec.entry.now multiple) }
+        ensures sound { IsSound self.new }
     {
         let is_fit = self.quantum == spec.quantum && self.chain.renew(id, spec.send, spec.now);
         if !is_fit {
             return Ok(false);
         }
-        let _ = self.recv.take(self.recv.len());
+        let held = self.recv.len();
+        let _ = self.recv.take(held);
         self.window = 0;
         self.message = Message::new();
         self.multiple = multiple;

@@ -1,5 +1,5 @@
 // The chain of a flow's stages.
-ghost use Rattle.std.specs.Prelude.{◌≡◌, ◌≢◌, ◌↔◌, ◌+◌, ◌<◌, ◌≤◌, ◌++◌, ◌==◌, length, take, IsTrue, IsOk, OnOk, OnErr, IfOk};
+ghost use Rattle.std.specs.Prelude.{◌≡◌, ◌≢◌, ◌↔◌, ◌+◌, ◌<◌, ◌≤◌, ◌++◌, ◌==◌, [], false, length, take, true, IsTrue, IsOk, OnOk, OnErr, IfOk};
 ghost use Rattle.filter_chain.specs.Chain.{IsSound, above_at, empty_chain, limit_at, octets_at, send_place};
 ghost use Rattle.filter_chain.specs.Effects.{finished, framed, offered, released, ticked};
 ghost use Rattle.filter_chain.specs.Release.{has_room_at, head_may_go, is_source_at, is_whole_at, may_release, overfills};
@@ -9,7 +9,7 @@ ghost use Rattle.wm_buffer.specs.Watermark.{crossing};
 
 use crate::fault::OfferFault;
 use crate::meter::Clock;
-use crate::places::{all_empty, feed, frame_last, pass_on, refill_all, stages_of};
+use crate::places::{all_empty, empty_alone, feed, frame_last, pass_on, refill_all, stages_of};
 use crate::stage::{Stage, StageKind};
 use flow_gate::FlowId;
 use io_ports::NoMemory;
@@ -83,10 +83,9 @@ impl Chain {
         ensures sound { IsSound self.new }
         ensures same { result ≡ false → self.new ≡ self.old }
     {
-        if self.stages.len() != 1 || self.stages[0].limit() != send_limit {
+        if !empty_alone(&mut self.stages, send_limit) {
             return false;
         }
-        self.stages[0].empty();
         self.flow = flow;
         self.clock = Clock::new(now);
         self.ended = false;
