@@ -17,6 +17,7 @@ pub use exchange::Ends;
 pub use exchanges::Exchanges;
 pub use flow_rules::Unit;
 pub use laws::{plain_streams, units_narrow};
+pub use message::Awaited;
 pub use reply::{Doomed, Reply};
 pub use start::StartSpec;
 pub use step::{Advance, Piece, Received, Step};

@@ -86,30 +86,36 @@ fn set_windows_of(conn: &mut Conn, named: Named) -> bool
     }
 }
 
+// The state of the loop lies in variables of its own, which stay in registers: a frame may name many settings.
 fn named_in(list: &SettingList) -> Named {
-    let mut named = Named {
-        table: false,
-        concurrent: None,
-        payload: None,
-        initial: None,
-    };
+    let mut table = false;
+    let mut concurrent = None;
+    let mut payload = None;
+    let mut initial = None;
     for setting in list.as_slice() {
         let value = setting.value;
         match setting.id {
-            HEADER_TABLE_SIZE => named.table = true,
-            MAX_CONCURRENT_STREAMS => named.concurrent = Some(value),
-            MAX_FRAME_SIZE => named.payload = Some(value),
-            INITIAL_WINDOW_SIZE => {
-                let greatest = match named.initial {
-                    Some((greatest, _)) => greatest.max(value),
-                    None => value,
-                };
-                named.initial = Some((greatest, value));
-            }
+            HEADER_TABLE_SIZE => table = true,
+            MAX_CONCURRENT_STREAMS => concurrent = Some(value),
+            MAX_FRAME_SIZE => payload = Some(value),
+            INITIAL_WINDOW_SIZE => initial = Some((greatest_of(initial, value), value)),
             _ => {}
         }
     }
-    named
+    Named {
+        table,
+        concurrent,
+        payload,
+        initial,
+    }
+}
+
+// The greatest initial window, with one more.
+fn greatest_of(initial: Option<(u32, u32)>, value: u32) -> u32 {
+    match initial {
+        Some((greatest, _)) => greatest.max(value),
+        None => value,
+    }
 }
 
 // What goes next of each flow that goes to the connection, whose windows are others now.
