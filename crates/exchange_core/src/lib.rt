@@ -6,6 +6,7 @@ mod causes;
 mod exchange;
 mod exchanges;
 mod flow;
+mod flow_box;
 mod laws;
 mod message;
 mod reply;

@@ -6,6 +6,7 @@ ghost use Rattle.proxy_config.specs.Ranges.{AreFilters, IsBetween, most_octets};
 
 use crate::exchange::Exchange;
 use crate::flow::Flow;
+use crate::flow_box::FlowBox;
 use crate::start::StartSpec;
 use flow_gate::FlowId;
 use io_ports::NoMemory;
@@ -20,7 +21,7 @@ const MOST: usize = 64;
 #[derive(Drop)]
 pub(crate) struct Spares {
     alloc: Global,
-    flows: Vec<Flow>,
+    flows: Vec<FlowBox>,
 }
 
 impl Spares {
@@ -47,7 +48,7 @@ impl Spares {
         filters: &FilterList,
         spec: &StartSpec,
         multiple: u32,
-    ) -> Result<Flow, NoMemory>
+    ) -> Result<FlowBox, NoMemory>
         requires filters { AreFilters filters.now }
         requires recv { spec.now.recv ≤ most_octets }
         requires send { spec.now.send ≤ most_octets }
@@ -60,7 +61,10 @@ impl Spares {
         {
             return Ok(flow);
         }
-        Flow::new(self.alloc, id, filters, spec, multiple)
+        FlowBox::new(
+            self.alloc,
+            Flow::new(self.alloc, id, filters, spec, multiple)?,
+        )
     }
 
     // A flow without stages in the room of the last one that was kept, if there is one and it fits.
@@ -69,7 +73,7 @@ impl Spares {
         id: FlowId,
         spec: &StartSpec,
         multiple: u32,
-    ) -> Result<Option<Flow>, NoMemory>
+    ) -> Result<Option<FlowBox>, NoMemory>
         requires recv { spec.now.recv ≤ most_octets }
         requires quantum { IsBetween 16384 1048576 spec.now.quantum }
         ensures begun { IfOk result (λ found. IfSome found (λ flow. flow ≡ begun_flow id [] spec.entry.now multiple)) }
@@ -78,7 +82,7 @@ impl Spares {
         let Some(mut flow) = self.flows.pop() else {
             return Ok(None);
         };
-        if flow.renew(id, spec, multiple)? {
+        if flow.flow_mut().renew(id, spec, multiple)? {
             return Ok(Some(flow));
         }
         Ok(None)
@@ -95,7 +99,7 @@ impl Spares {
         }
     }
 
-    fn keep_flow(&mut self, flow: Flow) {
+    fn keep_flow(&mut self, flow: FlowBox) {
         if self.flows.len() < self.flows.capacity() && self.flows.len() < MOST {
             let _ = self.flows.push(flow);
         }
