@@ -83,14 +83,14 @@ impl Chain {
         ensures sound { IsSound self.new }
         ensures same { result ≡ false → self.new ≡ self.old }
     {
-        if !empty_alone(&mut self.stages, send_limit) {
-            return false;
+        let is_fit = empty_alone(&mut self.stages, send_limit);
+        if is_fit {
+            self.flow = flow;
+            self.clock = Clock::new(now);
+            self.ended = false;
+            self.recv_empty = false;
         }
-        self.flow = flow;
-        self.clock = Clock::new(now);
-        self.ended = false;
-        self.recv_empty = false;
-        true
+        is_fit
     }
 
     /// The flow whose octets these are.
