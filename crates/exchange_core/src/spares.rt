@@ -91,7 +91,9 @@ impl Spares {
     /// The flows of an exchange that is gone are kept, if there is room for them. Takes no memory.
     pub(crate) fn keep(&mut self, exchange: Exchange) {
         let Exchange {
-            request, response, ..
+            request,
+            response,
+            ..
         } = exchange;
         self.keep_flow(request);
         if let Some(response) = response {

@@ -58,7 +58,7 @@ pub fn begin_drain(
 ) -> Result<(), NoMemory>
     requires sound { IsSound core.old }
     ensures sound { OnOk result (IsSound core.new) }
-    ensures go { OnOk result (to_go core.new + stirred_at number core.old.stirred.conns.keys ≤ to_go core.old) }
+    ensures go { OnOk result (to_go core.new + stirred_at number core.old.stirred.conns.items ≤ to_go core.old) }
     ensures notes { Appends notes.old notes.new }
 {
     core.begin(Task::Drain(number))?;
@@ -92,7 +92,7 @@ fn frame_next(
     requires sound { IsSound core.old }
     requires top { top_go core.old.agenda ≡ 1 }
     ensures sound { OnOk result (IsSound core.new) }
-    ensures go { OnOk result (to_go core.new + (1 + stirred_at number core.old.stirred.conns.keys) ≤ to_go core.old) }
+    ensures go { OnOk result (to_go core.new + (1 + stirred_at number core.old.stirred.conns.items) ≤ to_go core.old) }
     ensures notes { Appends notes.old notes.new }
 {
     match unit {

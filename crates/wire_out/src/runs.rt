@@ -75,12 +75,7 @@ fn overfull(
 }
 
 // Nothing may move: it is looked at once more, unless it has been.
-fn stop(
-    core: &mut WireCore,
-    course: Course,
-    tried: bool,
-    notes: &mut Notes,
-) -> Result<(), NoMemory>
+fn stop(core: &mut WireCore, course: Course, tried: bool, notes: &mut Notes) -> Result<(), NoMemory>
     requires sound { IsSound core.old }
     requires top { top_go core.old.agenda ≡ (if tried then 1 else 6) }
     ensures sound { OnOk result (IsSound core.new) }

@@ -36,7 +36,7 @@ pub(crate) fn frame_flow(
     requires sound { IsSound core.old }
     requires top { top_go core.old.agenda ≡ 1 }
     ensures sound { OnOk result (IsSound core.new) }
-    ensures go { OnOk result (to_go core.new + (1 + stirred_at conn core.old.stirred.conns.keys) ≤ to_go core.old) }
+    ensures go { OnOk result (to_go core.new + (1 + stirred_at conn core.old.stirred.conns.items) ≤ to_go core.old) }
     ensures notes { Appends notes.old notes.new }
 {
     let Some(going) = going_to(core, conn, exchange) else {
@@ -111,7 +111,7 @@ pub(crate) fn unready(core: &mut WireCore, number: u32, exchange: u64)
     requires sound { IsSound core.old }
     requires top { top_go core.old.agenda ≡ 1 }
     ensures sound { IsSound core.new }
-    ensures go { to_go core.new + (1 + stirred_at number core.old.stirred.conns.keys) ≤ to_go core.old }
+    ensures go { to_go core.new + (1 + stirred_at number core.old.stirred.conns.items) ≤ to_go core.old }
 {
     forget_hint(core, number, exchange);
     core.give_up(number);
@@ -143,7 +143,7 @@ fn frame_body(core: &mut WireCore, going: Going, notes: &mut Notes) -> Result<()
     requires top { top_go core.old.agenda ≡ 1 }
     requires there { IsThere core.old.flows going.course.flow }
     ensures sound { OnOk result (IsSound core.new) }
-    ensures go { OnOk result (to_go core.new + (1 + stirred_at going.conn core.old.stirred.conns.keys) ≤ to_go core.old) }
+    ensures go { OnOk result (to_go core.new + (1 + stirred_at going.conn core.old.stirred.conns.items) ≤ to_go core.old) }
     ensures notes { Appends notes.old notes.new }
 {
     let flow = going.course.flow;
