@@ -16,7 +16,7 @@ pub returns-in_err-number-clause-sound : goal.returns-in_err-number-clause-sound
 returns-in_err-number-clause-sound c = rw (← c.self.view_is) (seen_sound c.self.inside c.self.invariant)
 
 pub returns-in_err-exchange-clause-sound : goal.returns-in_err-exchange-clause-sound
-returns-in_err-exchange-clause-sound c = seen_sound (record c.self.inside { spares = c.new-exchange.new.spares }) (spared c.self.inside c.new-exchange.new.spares c.self.invariant)
+returns-in_err-exchange-clause-sound c = seen_sound (record c.self.inside { spares = c.new.new.spares }) (spared c.self.inside c.new.new.spares c.self.invariant)
 
 pub returns-in_err-ready-clause-sound : goal.returns-in_err-ready-clause-sound
 returns-in_err-ready-clause-sound c = seen_sound (record c.self.inside { spares = c.ready.new.self }) (spared c.self.inside c.ready.new.self c.self.invariant)
