@@ -31,7 +31,7 @@ forget_flows-requires-clause-request c = (known c).0
 pub forget_flows-requires-clause-response : goal.forget_flows-requires-clause-response
 forget_flows-requires-clause-response c = λ some. (known c).1 (some_mapped (at_moment c.self.inside.ticked) c.in-Some.ended.response ∙ sym c.is_some.ensures ∙ some)
 
-abbrev after : goal.After-self → Inside
+abbrev after : goal.After-keep → Inside
 after c = record c.self.inside { live = c.remove.new.self; doomed = c.push_back_reserved.new.self; metered = c.mark.new.self; spares = c.keep.new.self }
 
 pub invariant_of-self : goal.invariant_of-self
