@@ -23,6 +23,7 @@ pub mod Receiving
 pub mod Refilled
 pub mod Ruled
 pub mod Seeing
+pub mod Sparing
 pub mod Sources
 pub mod StageSources
 pub mod Starting

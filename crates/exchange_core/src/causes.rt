@@ -43,11 +43,11 @@ impl Exchange {
         ensures { result ≡ reckoning cause back self.now }
     {
         let response_left = match &self.response {
-            Some(response) => response.left(),
+            Some(response) => response.flow().left(),
             None => 0,
         };
         Doomed {
-            request_left: self.request.left(),
+            request_left: self.request.flow().left(),
             response_left,
             down: self.reply_down(cause, back),
             up: self.reply_up(cause, back),

@@ -6,8 +6,10 @@ mod causes;
 mod exchange;
 mod exchanges;
 mod flow;
+mod flow_box;
 mod laws;
 mod message;
+mod spares;
 mod start;
 mod step;
 
@@ -16,5 +18,6 @@ pub use exchange::Ends;
 pub use exchanges::Exchanges;
 pub use flow_rules::Unit;
 pub use laws::{plain_streams, units_narrow};
+pub use message::Awaited;
 pub use start::StartSpec;
 pub use step::{Advance, Piece, Received, Step};

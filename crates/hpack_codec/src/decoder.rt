@@ -32,8 +32,9 @@ impl Model for Decoder {
     ghost view = { λ d. record { greatest = d.greatest; most = d.most; table = d.table; failed = d.failed } };
 }
 
-/// How many fields a list has room for at first, in a block that may have so many.
-const ROOM: usize = 16;
+/// How many fields a list has room for at first, in a block that may have so many: what fits into
+/// 1,024 octets, which allocators have at hand.
+const ROOM: usize = 14;
 
 /// Reads a whole block. The table is that of the representations that were read.
 fn read_block(

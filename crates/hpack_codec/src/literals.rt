@@ -34,7 +34,7 @@ fn read_name<'a>(
     let Some(entry) = table.entry(index) else {
         return Err(HpackFault::BadIndex);
     };
-    match Octets::from_slice(alloc, entry.name) {
+    match entry.name(alloc) {
         Ok(name) => Ok((name, rest)),
         Err(_) => Err(HpackFault::NoMemory),
     }

@@ -4,7 +4,7 @@ ghost use Rattle.std.specs.Str.{bytes_eq};
 ghost use Rattle.hpack_codec.specs.Table.{line, static_table};
 ghost use Rattle.hpack_codec.specs.Encoding.{index_from};
 
-use crate::line::Entry;
+use crate::line::Row;
 
 /// The names of the static table, in the order of their indexes, which begin with 1
 /// (RFC 7541 Appendix A).
@@ -140,6 +140,9 @@ static VALUES: [&str; 61] = [
 /// How many entries the static table has.
 pub(crate) const STATIC_LEN: usize = 61;
 
+/// How many of the first entries hold all that have a value.
+const VALUED: usize = 16;
+
 /// The text at a place.
 fn text_at<'a>(texts: &[&'a str], place: usize) -> &'a str
     requires { place < length texts.now }
@@ -149,13 +152,13 @@ fn text_at<'a>(texts: &[&'a str], place: usize) -> &'a str
 }
 
 /// The entry at a place, counted from 0.
-pub(crate) fn static_entry(place: usize) -> Entry<'static>
+pub(crate) fn static_entry(place: usize) -> Row
     requires { place < 61 }
     ensures { slice_get static_table place ≡ Some (line result.name.now result.value.now) }
 {
     let name = text_at(&NAMES, place);
     let value = text_at(&VALUES, place);
-    Entry {
+    Row {
         name: name.as_bytes(),
         value: value.as_bytes(),
     }
@@ -177,7 +180,8 @@ pub(crate) fn index_of_name(name: &[u8]) -> Option<u32>
 pub(crate) fn index_of_entry(name: &[u8], value: &[u8]) -> Option<u32>
     ensures { result ≡ index_from 1 (λ l. bytes_eq l.name name.now && bytes_eq l.value value.now) static_table }
 {
-    for place in 0..STATIC_LEN {
+    let most = if value.is_empty() { STATIC_LEN } else { VALUED };
+    for place in 0..most {
         let entry = static_entry(place);
         if entry.name == name && entry.value == value {
             return Some(place as u32 + 1);

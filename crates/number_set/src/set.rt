@@ -1,6 +1,6 @@
 // A set of numbers in order.
 ghost use Rattle.number_set.specs.NumberSet.{first, first_above, has, marked};
-ghost use Rattle.std.specs.Prelude.{◌≡◌, ◌+◌, ◌<◌, ◌≤◌, ◌==◌, ℕ, [], IsSomeAnd, IfSome, OnOk, false, if◌then◌else◌, length, slice_index, true};
+ghost use Rattle.std.specs.Prelude.{◌≡◌, ◌+◌, ◌-◌, ◌<◌, ◌≤◌, ◌==◌, ℕ, [], IsSomeAnd, IfSome, OnOk, false, if◌then◌else◌, length, slice_get, slice_index, true};
 
 use io_ports::NoMemory;
 use std::alloc::Global;
@@ -82,6 +82,21 @@ impl NumberSet {
             }
             _ => {}
         }
+    }
+
+    /// Whether a number is there.
+    pub fn contains(&self, number: u64) -> bool
+        ensures { result ≡ has self.now.items number }
+    {
+        self.items.binary_search(&number).is_ok()
+    }
+
+    /// The greatest.
+    pub fn last(&self) -> Option<u64>
+        ensures last { result ≡ slice_get self.now.items (length self.now.items - 1) }
+        ensures found { IfSome result (λ x. has self.now.items x ≡ true) }
+    {
+        self.items.last().copied()
     }
 
     /// The least.

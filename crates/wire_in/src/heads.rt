@@ -9,6 +9,7 @@ ghost use Rattle.wire_state.specs.Sound.{IsSound};
 
 use crate::faults::{Concerns, close_with, stream_fault};
 use crate::requests::request;
+use exchange_core::Awaited;
 use flow_gate::FlowId;
 use flow_notes::Notes;
 use h2_frames::codes::{COMPRESSION_ERROR, PROTOCOL_ERROR};
@@ -70,9 +71,9 @@ fn response(
     let Some(course) = core.flow_from(number, stream) else {
         return Ok(());
     };
-    if !core.flows.goes_on(course.flow) || core.flows.head_came(course.flow) {
+    let Awaited::Head = core.flows.awaits(course.flow) else {
         return Ok(());
-    }
+    };
     core.ask_run(course)?;
     match judged(core, course.flow.exchange, fields.as_ref(), last) {
         Response::Interim => {

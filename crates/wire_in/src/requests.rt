@@ -9,7 +9,7 @@ ghost use Rattle.wire_state.specs.Progress.{to_go};
 ghost use Rattle.wire_state.specs.Sound.{IsSound};
 
 use crate::heads::{self, finish};
-use exchange_core::StartSpec;
+use exchange_core::{Awaited, StartSpec};
 use flow_gate::{BufferId, FlowId};
 use flow_notes::{Cause, FireKind, Note, Notes};
 use h2_frames::codes::PROTOCOL_ERROR;
@@ -69,10 +69,10 @@ fn go(
     ensures sound { OnOk result (IsSound core.new) }
     ensures go { OnOk result (to_go core.new ≤ to_go core.old + 41) }
 {
-    if !core.flows.goes_on(course.flow) || core.flows.head_came(course.flow) {
-        return Ok(());
+    match core.flows.awaits(course.flow) {
+        Awaited::Head => heads::begin(core, course, stream, fields, last),
+        _ => Ok(()),
     }
-    heads::begin(core, course, stream, fields, last)
 }
 
 // Whether a connection takes no later streams: then the stream is closed.

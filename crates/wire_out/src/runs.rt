@@ -8,19 +8,21 @@ ghost use Rattle.wire_state.specs.Progress.{to_go};
 ghost use Rattle.wire_state.specs.Sound.{IsSound};
 ghost use Rattle.flow_notes.specs.Buffer.{CanPause};
 
+use crate::drains::{drain_by, next_unit};
 use flow_gate::{BufferId, FlowId};
 use flow_notes::{Cause, Note, Notes};
 use io_ports::NoMemory;
 use wire_ends::{Origin, doom};
 use wire_flows::{Moved, Outcome};
-use wire_state::{Course, Task, WireCore, note};
+use wire_state::{Course, NextUnit, Task, WireCore, note};
 
-/// The task AskRun: the flow is run, unless it is being run.
-pub fn ask_run(core: &mut WireCore, course: Course) -> Result<(), NoMemory>
+/// The task AskRun: the flow is run, unless it is being run. Its first move is made at once.
+pub fn ask_run(core: &mut WireCore, course: Course, notes: &mut Notes) -> Result<(), NoMemory>
     requires sound { IsSound core.old }
     requires top { top_go core.old.agenda ≡ 7 }
     ensures sound { OnOk result (IsSound core.new) }
     ensures go { OnOk result (to_go core.new < to_go core.old) }
+    ensures notes { Appends notes.old notes.new }
 {
     core.end_task();
     if core.agenda.is_running(course.flow) {
@@ -29,7 +31,8 @@ pub fn ask_run(core: &mut WireCore, course: Course) -> Result<(), NoMemory>
     core.begin(Task::Run {
         course,
         tried: false,
-    })
+    })?;
+    run(core, course, false, notes)
 }
 
 /// The task Run: a move; where none may go, its connections are drained, and it is looked at once more.
@@ -48,7 +51,7 @@ pub fn run(
     match core.flows.step(course.flow)? {
         Outcome::Moved(moved) => go_on(core, course, moved, notes),
         Outcome::TooLarge => overfull(core, course, tried, notes),
-        Outcome::Still => stop(core, course, tried),
+        Outcome::Still => stop(core, course, tried, notes),
     }
 }
 
@@ -68,42 +71,46 @@ fn overfull(
     if core.flows.is_live(course.flow.exchange) {
         return too_large(core, course, notes);
     }
-    stop(core, course, tried)
+    stop(core, course, tried, notes)
 }
 
 // Nothing may move: it is looked at once more, unless it has been.
-fn stop(core: &mut WireCore, course: Course, tried: bool) -> Result<(), NoMemory>
+fn stop(core: &mut WireCore, course: Course, tried: bool, notes: &mut Notes) -> Result<(), NoMemory>
     requires sound { IsSound core.old }
     requires top { top_go core.old.agenda ≡ (if tried then 1 else 6) }
     ensures sound { OnOk result (IsSound core.new) }
     ensures go { OnOk result (to_go core.new < to_go core.old) }
+    ensures notes { Appends notes.old notes.new }
 {
     if tried {
         core.end_task();
         return Ok(());
     }
-    stand_still(core, course)
+    stand_still(core, course, notes)
 }
 
-// Nothing may move: where something may be framed at one of its connections, they are drained. Else the run has ended.
-fn stand_still(core: &mut WireCore, course: Course) -> Result<(), NoMemory>
+// Nothing may move: where something may be framed at one of its connections, they are drained, the one that the flow goes to
+// first and at once, and then it is looked at once more. Else the run has ended.
+fn stand_still(core: &mut WireCore, course: Course, notes: &mut Notes) -> Result<(), NoMemory>
     requires sound { IsSound core.old }
     requires top { top_go core.old.agenda ≡ 6 }
     ensures sound { OnOk result (IsSound core.new) }
     ensures go { OnOk result (to_go core.new < to_go core.old) }
+    ensures notes { Appends notes.old notes.new }
 {
-    if may_frame(core, course.to) {
-        return drain_ends(core, course);
+    if let Some((to, unit)) = unit_to(core, course.to) {
+        look_again(core, course)?;
+        return drain_by(core, to, unit, notes);
     }
     if may_frame(core, course.from) {
-        return drain_ends(core, course);
+        return look_again(core, course);
     }
     core.end_task();
     Ok(())
 }
 
-// Both connections are drained, the one that the flow goes to first, and then it is looked at once more.
-fn drain_ends(core: &mut WireCore, course: Course) -> Result<(), NoMemory>
+// The flow is looked at once more, behind a drain of the connection that it comes from.
+fn look_again(core: &mut WireCore, course: Course) -> Result<(), NoMemory>
     requires sound { IsSound core.old }
     requires top { top_go core.old.agenda ≡ 6 }
     ensures sound { OnOk result (IsSound core.new) }
@@ -113,8 +120,19 @@ fn drain_ends(core: &mut WireCore, course: Course) -> Result<(), NoMemory>
         course,
         tried: true,
     })?;
-    ask_drain(core, course.from)?;
-    ask_drain(core, course.to)
+    ask_drain(core, course.from)
+}
+
+// What goes next at a connection, if there is one, with its number.
+fn unit_to(core: &mut WireCore, conn: Option<u32>) -> Option<(u32, NextUnit)>
+    requires sound { IsSound core.old }
+    ensures sound { IsSound core.new }
+    ensures go { to_go core.new ≤ to_go core.old }
+    ensures rest { core.new ≡ record core.old { conns = core.new.conns } }
+{
+    let number = conn?;
+    let unit = next_unit(core, number)?;
+    Some((number, unit))
 }
 
 // Whether something may be framed at a connection, if there is one.

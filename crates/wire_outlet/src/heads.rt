@@ -92,13 +92,17 @@ impl HeadWriter {
     }
 }
 
+// The octets of a frame's head: most blocks take one frame.
+const FRAME_HEAD: usize = 9;
+
 // The frames of a block.
 fn frames_of(alloc: Global, stream: u32, last: bool, block: &[u8]) -> Result<Octets, NoMemory>
     requires on_stream { 0 < stream }
     requires fits { stream < 2 ^ 31 }
     ensures { IfOk result (λ octets. octets ≡ spellings (block_frames stream last block.now)) }
 {
-    let mut octets = Octets::new(alloc);
+    let room = Vec::with_capacity(alloc, block.len().saturating_add(FRAME_HEAD))?;
+    let mut octets = Octets::from_vec(room);
     block_frames(stream, last, block, &mut octets)?;
     Ok(octets)
 }

@@ -53,4 +53,4 @@ conns_go conns = sum_by conn_go (values_of conns)
 unfoldable pub to_go : WireCore → ℕ
 to_go core =
     flows_go core.flows + (conns_go core.conns.entries + (tasks_go core.agenda
-    + (length core.timers.armed + (length core.due + length core.stirred.conns.keys))))
+    + (length core.timers.armed + (length core.due + length core.stirred.conns.items))))

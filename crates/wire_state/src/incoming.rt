@@ -126,12 +126,11 @@ impl Conn {
         ensures rest { self.new ≡ record self.old { ready = self.new.ready } }
         ensures go { conn_go self.new ≤ conn_go self.old }
     {
-        if !flows.is_live(flow.exchange) {
-            return Ok(());
-        }
         let send = &self.windows.send;
         let room = send.room(flow.exchange).unwrap_or(0);
-        let unit = flows.next_unit(flow, room, send.payload());
-        self.ready.set(flow.exchange, unit)
+        match flows.unit_of(flow, room, send.payload()) {
+            Some(unit) => self.ready.set(flow.exchange, unit),
+            None => Ok(()),
+        }
     }
 }

@@ -152,7 +152,7 @@ impl WireCore {
     pub fn give_up(&mut self, conn: u32)
         requires sound { IsSound self.old }
         ensures sound { IsSound self.new }
-        ensures go { to_go self.new + (top_go self.old.agenda + stirred_at conn self.old.stirred.conns.keys) ≡ to_go self.old }
+        ensures go { to_go self.new + (top_go self.old.agenda + stirred_at conn self.old.stirred.conns.items) ≡ to_go self.old }
     {
         self.end_task();
         self.stirred.remove(conn);

@@ -7,7 +7,6 @@ ghost use Rattle.wire_state.specs.Sound.{IsSound};
 use flow_notes::{CloseCause, Notes};
 use h2_frames::codes::NO_ERROR;
 use io_ports::NoMemory;
-use std::ops::Bound;
 use wire_ends::close;
 use wire_out::{begin_drain, next_unit};
 use wire_state::{NextUnit, WireCore};
@@ -98,7 +97,7 @@ fn first_in(core: &mut WireCore, from: u32, last: u32) -> Option<(u32, Work)>
     ensures rest { core.new ≡ record core.old { conns = core.new.conns } }
 {
     let mut from = from;
-    while let Some(conn) = stirred_from(core, from) {
+    while let Some(conn) = core.stirred.first_from(from) {
         if conn < from || conn > last {
             return None;
         }
@@ -111,14 +110,6 @@ fn first_in(core: &mut WireCore, from: u32, last: u32) -> Option<(u32, Work)>
         from = conn + 1;
     }
     None
-}
-
-fn stirred_from(core: &WireCore, from: u32) -> Option<u32> {
-    core.stirred
-        .conns
-        .range((Bound::Included(from), Bound::Unbounded))
-        .next()
-        .copied()
 }
 
 // What is to be done at a connection.

@@ -51,7 +51,7 @@ fn step(core: &mut WireCore, task: Task, notes: &mut Notes) -> Result<(), NoMemo
     match task {
         Task::AskDrain(conn) => ask_drain(core, conn, notes),
         Task::Drain(conn) => drain(core, conn, notes),
-        Task::AskRun(course) => ask_run(core, course),
+        Task::AskRun(course) => ask_run(core, course, notes),
         Task::Run { course, tried } => run(core, course, tried, notes),
         Task::Tell(conn) => tell(core, conn, notes),
         Task::End(exchange) => end(core, exchange, notes),
