@@ -96,9 +96,9 @@ impl Exchanges {
         ensures err { OnErr result (self.new ≡ self.old) }
     {
         let number = spec.number(self.last)?;
-        let exchange = Exchange::new(self.alloc, number, spec, config)?;
         self.doomed.reserve(self.live.len() + 1)?;
         self.metered.reserve(self.live.len() + 1)?;
+        let exchange = Exchange::new(self.alloc, number, spec, config)?;
         self.live.insert(number, exchange)?;
         self.last = number;
         self.time = spec.now;

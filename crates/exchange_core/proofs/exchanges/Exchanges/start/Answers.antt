@@ -14,15 +14,16 @@ use Rattle.exchange_core.specs.declared.exchanges.Exchanges.TheInside.{Inside}
 pub returns-in_err-number-clause-sound : goal.returns-in_err-number-clause-sound
 returns-in_err-number-clause-sound c = rw (← c.self.view_is) (seen_sound c.self.inside c.self.invariant)
 
-pub returns-in_err-exchange-clause-sound : goal.returns-in_err-exchange-clause-sound
-returns-in_err-exchange-clause-sound c = rw (← c.self.view_is) (seen_sound c.self.inside c.self.invariant)
-
 pub returns-in_err-reserve-clause-sound : goal.returns-in_err-reserve-clause-sound
 returns-in_err-reserve-clause-sound c = seen_sound (record c.self.inside { doomed = c.reserve.new.self })
     (room_made c.self.inside (record c.self.inside { doomed = c.reserve.new.self }) c.self.invariant refl c.reserve.ensures.items refl refl refl refl c.reserve.ensures.len c.reserve.ensures.capacity (omega arith)).1
 
 pub returns-in_err-reserve-2-clause-sound : goal.returns-in_err-reserve-2-clause-sound
 returns-in_err-reserve-2-clause-sound c = seen_sound (record c.self.inside { doomed = c.reserve.new.self; metered = c.reserve-2.new.self })
+    (room_made c.self.inside (record c.self.inside { doomed = c.reserve.new.self; metered = c.reserve-2.new.self }) c.self.invariant refl c.reserve.ensures.items refl refl refl c.reserve-2.ensures.items c.reserve.ensures.len c.reserve.ensures.capacity c.reserve-2.ensures.more).1
+
+pub returns-in_err-exchange-clause-sound : goal.returns-in_err-exchange-clause-sound
+returns-in_err-exchange-clause-sound c = seen_sound (record c.self.inside { doomed = c.reserve.new.self; metered = c.reserve-2.new.self })
     (room_made c.self.inside (record c.self.inside { doomed = c.reserve.new.self; metered = c.reserve-2.new.self }) c.self.invariant refl c.reserve.ensures.items refl refl refl c.reserve-2.ensures.items c.reserve.ensures.len c.reserve.ensures.capacity c.reserve-2.ensures.more).1
 
 pub returns-in_err-insert-clause-sound : goal.returns-in_err-insert-clause-sound
