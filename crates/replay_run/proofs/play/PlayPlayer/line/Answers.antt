@@ -19,6 +19,6 @@ pub returns-in-Event : goal.returns-in-Event
 returns-in-Event c = event_line_played c.args.self.now _ c.args.line.now c.in-Event.event _ c.event.new.self _ c.event.result
     (read_as _ _ _ _ _ c.in-Event.is c.in_ok-read_session_line.ensures) refl refl c.event.ensures
 
-pub returns-in_ok-begin : goal.returns-in_ok-begin
-returns-in_ok-begin c = limits_line_played c.args.self.now c.args.line.now c.read_session_line.new.state _ _ _ _
-    (read_as _ _ _ _ _ c.in-Limits.is c.in_ok-read_session_line.ensures) c.in_ok-begin.ensures.order c.in_ok-begin.ensures.rests c.in_ok-begin.ensures.logs refl
+pub returns-in_ok-begin-in-Limits : goal.returns-in_ok-begin-in-Limits
+returns-in_ok-begin-in-Limits c = limits_line_played c.args.self.now c.args.line.now c.read_session_line.new.state _ _ _ _
+    (read_as _ _ _ _ _ c.in-Limits.is c.in_ok-read_session_line.ensures) c.in_ok-begin-in-Limits.ensures.order c.in_ok-begin-in-Limits.ensures.rests c.in_ok-begin-in-Limits.ensures.logs refl
