@@ -99,10 +99,10 @@ impl Exchanges {
         ensures err { OnErr result (self.new ≡ self.old) }
     {
         let number = spec.number(self.last)?;
-        let exchange = Exchange::new(self.alloc, &mut self.spares, number, spec, config)?;
-        self.spares.ready()?;
         self.doomed.reserve(self.live.len() + 1)?;
         self.metered.reserve(self.live.len() + 1)?;
+        self.spares.ready()?;
+        let exchange = Exchange::new(self.alloc, &mut self.spares, number, spec, config)?;
         self.live.insert(number, exchange)?;
         self.last = number;
         self.time = spec.now;

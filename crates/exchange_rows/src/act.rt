@@ -4,7 +4,7 @@ use flow_gate::FlowId;
 use flow_notes::Cause;
 
 /// What is done to exchanges, or asked of them.
-#[derive(Clone, Copy, Debug)]
+#[derive(Clone, Copy)]
 pub enum Act {
     Start {
         row: Option<u32>,
@@ -76,16 +76,17 @@ pub enum Act {
 pub fn act_of(line: &str) -> Option<Act> {
     let mut words = Words { rest: line };
     let verb = words.next();
-    match begin_of(verb, &mut words) {
+    match begin_of(verb, words.rest) {
         Some(act) => Some(act),
-        None => match change_of(verb, &mut words) {
+        None => match change_of(verb, words.rest) {
             Some(act) => Some(act),
-            None => question_of(verb, &mut words),
+            None => question_of(verb, words.rest),
         },
     }
 }
 
-fn begin_of(verb: &str, words: &mut Words<'_>) -> Option<Act> {
+fn begin_of(verb: &str, rest: &str) -> Option<Act> {
+    let mut words = Words { rest };
     match verb {
         "start" => Some(Act::Start {
             row: words.next().parse::<u32>().ok(),
@@ -99,66 +100,82 @@ fn begin_of(verb: &str, words: &mut Words<'_>) -> Option<Act> {
             multiple: words.number()?,
         }),
         "ready" => {
-            let framed = words.rest.starts_with("framed");
-            let ended = words.rest.ends_with("ended");
+            let framed = rest.starts_with("framed");
+            let ended = rest.ends_with("ended");
             Some(Act::Ready { framed, ended })
         }
         _ => None,
     }
 }
 
-fn change_of(verb: &str, words: &mut Words<'_>) -> Option<Act> {
+fn change_of(verb: &str, rest: &str) -> Option<Act> {
+    let mut words = Words { rest };
+    match verb {
+        "high" => Some(Act::High(words.number()?)),
+        "low" => Some(Act::Low(words.number()?)),
+        "tick" => Some(Act::Tick(words.long()?)),
+        "sweep" => Some(Act::Sweep),
+        _ => change_of_flow(verb, words.flow()?, words),
+    }
+}
+
+fn change_of_flow(verb: &str, flow: FlowId, rest: Words<'_>) -> Option<Act> {
+    let mut words = rest;
     match verb {
         "head" => Some(Act::Head {
-            flow: words.flow()?,
+            flow,
             last: words.next() == "end",
         }),
         "arrive" => Some(Act::Arrive {
-            flow: words.flow()?,
+            flow,
             n: words.number()?,
         }),
         "receive" => Some(Act::Receive {
-            flow: words.flow()?,
+            flow,
             n: words.number()?,
         }),
         "finish" => Some(Act::Finish {
-            flow: words.flow()?,
+            flow,
             trailers: words.next() == "trailers",
         }),
-        "step" => Some(Act::Step(words.flow()?)),
+        "step" => Some(Act::Step(flow)),
         "frame" => Some(Act::Frame {
-            flow: words.flow()?,
+            flow,
             room: words.room()?,
             frame: words.number()?,
         }),
-        "high" => Some(Act::High(words.number()?)),
-        "low" => Some(Act::Low(words.number()?)),
-        "tell" => Some(Act::Tell(words.flow()?)),
-        "tick" => Some(Act::Tick(words.long()?)),
-        "sweep" => Some(Act::Sweep),
+        "tell" => Some(Act::Tell(flow)),
         _ => None,
     }
 }
 
-fn question_of(verb: &str, words: &mut Words<'_>) -> Option<Act> {
+fn question_of(verb: &str, rest: &str) -> Option<Act> {
+    let mut words = Words { rest };
+    match verb {
+        "live" => Some(Act::Live(words.long()?)),
+        "ends" => Some(Act::Ends(words.long()?)),
+        "metered" => Some(Act::Metered(words.long()?)),
+        _ => question_of_flow(verb, words.flow()?, words),
+    }
+}
+
+fn question_of_flow(verb: &str, flow: FlowId, rest: Words<'_>) -> Option<Act> {
+    let mut words = rest;
     match verb {
         "next" => Some(Act::Next {
-            flow: words.flow()?,
+            flow,
             room: words.room()?,
             frame: words.number()?,
         }),
-        "live" => Some(Act::Live(words.long()?)),
-        "ends" => Some(Act::Ends(words.long()?)),
-        "known" => Some(Act::Known(words.flow()?)),
-        "octets" => Some(Act::Octets(words.flow()?)),
-        "space" => Some(Act::Space(words.flow()?)),
-        "came" => Some(Act::Came(words.flow()?)),
-        "stages" => Some(Act::Stages(words.flow()?)),
+        "known" => Some(Act::Known(flow)),
+        "octets" => Some(Act::Octets(flow)),
+        "space" => Some(Act::Space(flow)),
+        "came" => Some(Act::Came(flow)),
+        "stages" => Some(Act::Stages(flow)),
         "source" => Some(Act::Source {
-            flow: words.flow()?,
+            flow,
             place: words.number()?,
         }),
-        "metered" => Some(Act::Metered(words.long()?)),
         _ => None,
     }
 }

@@ -1,9 +1,9 @@
 // What a call answers, in words.
-use anyhow::Result;
+use crate::said::Said;
 use exchange_core::{Doomed, Ends, Received, Reply, Step, Unit};
 use wm_buffer::{Crossed, Shifted};
 
-#[derive(Clone, Copy, Debug, PartialEq, Eq)]
+#[derive(Clone, Copy, PartialEq, Eq)]
 pub enum Answer {
     Done,
     /// The call may not be made now.
@@ -20,101 +20,113 @@ pub enum Answer {
     Octets(u32, u64),
 }
 
-/// Prints an answer without the end of its line.
-pub fn show<R: Print>(rt: &R, answer: Answer) -> Result<()> {
+/// Says an answer.
+pub fn show(said: &mut Said, answer: Answer) {
     match answer {
-        Answer::Done => print!(rt; " done")?,
-        Answer::Refused => print!(rt; " refused")?,
-        Answer::Began(number) => print!(rt; " exchange {number}")?,
-        Answer::Step(step) => show_step(rt, step)?,
-        Answer::Unit(unit) => show_unit(rt, unit)?,
-        Answer::Received(Received::NotLive) => print!(rt; " not live")?,
-        Answer::Received(Received::TooMany) => print!(rt; " too many")?,
-        Answer::Received(Received::Arrived) => print!(rt; " arrived")?,
-        Answer::Doomed(doomed) => show_doomed(rt, doomed)?,
-        Answer::Ends(ends) => {
-            print!(rt;
-                " request {}, response {}",
-                yes(ends.request),
-                yes(ends.response)
-            )?;
+        Answer::Done => said.say(" done"),
+        Answer::Refused => said.say(" refused"),
+        Answer::Began(number) => said.say_with(" exchange ", number),
+        Answer::Step(step) => show_step(said, step),
+        Answer::Unit(unit) => show_unit(said, unit),
+        Answer::Received(received) => said.say(word_of(received)),
+        Answer::Doomed(doomed) => show_doomed(said, doomed),
+        Answer::Ends(ends) => show_ends(said, ends),
+        Answer::Is(is) => said.say(yes(is)),
+        Answer::Number(Some(n)) => said.say_with(" ", n),
+        Answer::Number(None) => said.say(" none"),
+        Answer::Octets(received, held) => {
+            said.say_with(" ", u64::from(received));
+            said.say_with(" of ", held);
         }
-        Answer::Is(is) => print!(rt; " {}", yes(is))?,
-        Answer::Number(Some(n)) => print!(rt; " {n}")?,
-        Answer::Number(None) => print!(rt; " none")?,
-        Answer::Octets(received, held) => print!(rt; " {received} of {held}")?,
     }
-    Ok(())
+}
+
+fn word_of(received: Received) -> &'static str {
+    match received {
+        Received::NotLive => " not live",
+        Received::TooMany => " too many",
+        Received::Arrived => " arrived",
+    }
 }
 
 fn yes(is: bool) -> &'static str {
-    if is { "yes" } else { "no" }
+    if is { " yes" } else { " no" }
 }
 
-fn end(last: bool) -> &'static str {
-    if last { " end" } else { "" }
+fn show_ends(said: &mut Said, ends: Ends) {
+    said.say(" request");
+    said.say(yes(ends.request));
+    said.say(", response");
+    said.say(yes(ends.response));
+}
+
+fn show_end(said: &mut Said, last: bool) {
+    said.say(if last { " end" } else { "" });
 }
 
 fn crossed(what: Crossed) -> &'static str {
     match what {
-        Crossed::Nothing => "-",
-        Crossed::High => "high",
-        Crossed::Low => "low",
+        Crossed::Nothing => " -",
+        Crossed::High => " high",
+        Crossed::Low => " low",
     }
 }
 
-/// Prints what the buffer that octets left crossed, and the one that they went to.
-pub fn show_crossed<R: Print>(rt: &R, shifted: Shifted) -> Result<()> {
-    print!(rt; " {} {}", crossed(shifted.from), crossed(shifted.to))?;
-    Ok(())
+/// Says what the buffer that octets left crossed, and the one that they went to.
+pub fn show_crossed(said: &mut Said, shifted: Shifted) {
+    said.say(crossed(shifted.from));
+    said.say(crossed(shifted.to));
 }
 
-fn show_step<R: Print>(rt: &R, step: Step) -> Result<()> {
+fn show_step(said: &mut Said, step: Step) {
     match step {
-        Step::Still => print!(rt; " still")?,
-        Step::TooLarge => print!(rt; " too large")?,
+        Step::Still => said.say(" still"),
+        Step::TooLarge => said.say(" too large"),
         Step::Moved {
             place,
             n,
             shifted,
             overflow,
         } => {
-            print!(rt; " {n} from {place}")?;
-            show_crossed(rt, shifted)?;
-            if overflow {
-                print!(rt; " overflow")?;
-            }
+            said.say_with(" ", u64::from(n));
+            said.say_with(" from ", u64::from(place));
+            show_crossed(said, shifted);
+            said.say(if overflow { " overflow" } else { "" });
         }
     }
-    Ok(())
 }
 
-fn show_unit<R: Print>(rt: &R, unit: Unit) -> Result<()> {
+fn show_unit(said: &mut Said, unit: Unit) {
     match unit {
-        Unit::Nothing => print!(rt; " nothing")?,
-        Unit::Head { last } => print!(rt; " head{}", end(last))?,
-        Unit::Body { n, last } => print!(rt; " body {n}{}", end(last))?,
-        Unit::Trailers => print!(rt; " trailers")?,
+        Unit::Nothing => said.say(" nothing"),
+        Unit::Head { last } => {
+            said.say(" head");
+            show_end(said, last);
+        }
+        Unit::Body { n, last } => {
+            said.say_with(" body ", u64::from(n));
+            show_end(said, last);
+        }
+        Unit::Trailers => said.say(" trailers"),
     }
-    Ok(())
 }
 
-fn show_doomed<R: Print>(rt: &R, doomed: Doomed) -> Result<()> {
-    print!(rt;
-        " dropped {} and {}; client",
-        doomed.request_left, doomed.response_left
-    )?;
-    show_reply(rt, doomed.down)?;
-    print!(rt; "; cluster")?;
-    show_reply(rt, doomed.up)
+fn show_doomed(said: &mut Said, doomed: Doomed) {
+    said.say_with(" dropped ", u64::from(doomed.request_left));
+    said.say_with(" and ", u64::from(doomed.response_left));
+    said.say("; client");
+    show_reply(said, doomed.down);
+    said.say("; cluster");
+    show_reply(said, doomed.up);
 }
 
-fn show_reply<R: Print>(rt: &R, reply: Reply) -> Result<()> {
+fn show_reply(said: &mut Said, reply: Reply) {
     match reply {
-        Reply::Nothing => print!(rt; " nothing")?,
-        Reply::Answer { status, reset } if reset => print!(rt; " {status}, reset 0")?,
-        Reply::Answer { status, reset: _ } => print!(rt; " {status}")?,
-        Reply::Reset { code } => print!(rt; " reset {code}")?,
+        Reply::Nothing => said.say(" nothing"),
+        Reply::Answer { status, reset } => {
+            said.say_with(" ", u64::from(status));
+            said.say(if reset { ", reset 0" } else { "" });
+        }
+        Reply::Reset { code } => said.say_with(" reset ", u64::from(code)),
     }
-    Ok(())
 }

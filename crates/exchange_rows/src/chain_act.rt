@@ -8,7 +8,7 @@ use proxy_config::{Filter, FilterList};
 use std::alloc::Global;
 
 /// What is done to a chain.
-#[derive(Clone, Copy, Debug)]
+#[derive(Clone, Copy)]
 pub enum ChainAct {
     Offer(u32),
     Release(u32, u32),

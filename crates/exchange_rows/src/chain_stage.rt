@@ -1,9 +1,9 @@
 // What a chain is played on: the receive buffer before it and the write buffer behind it.
 use crate::answer::show_crossed;
 use crate::chain_act::{ChainAct, filters_of};
+use crate::said::Said;
 use crate::stage::octets;
 use crate::words::Words;
-use anyhow::Result;
 use filter_chain::{Chain, OfferFault};
 use flow_gate::FlowId;
 use io_ports::NoMemory;
@@ -23,6 +23,13 @@ const QUIET: Shifted = Shifted {
     to: Crossed::Nothing,
 };
 
+/// A buffer without a limit that holds so many octets.
+fn filled(alloc: Global, n: u32) -> Result<WatermarkBuffer, NoMemory> {
+    let mut buffer = WatermarkBuffer::new(alloc, 0);
+    buffer.add(&octets(alloc, 0, n)?)?;
+    Ok(buffer)
+}
+
 /// A chain with its neighbours.
 #[derive(Drop)]
 pub struct ChainStage {
@@ -33,7 +40,7 @@ pub struct ChainStage {
 
 impl ChainStage {
     /// The chain that a line asks for. None where a number isn't in its range.
-    pub fn of_line(alloc: Global, line: &str) -> std::result::Result<Option<Self>, NoMemory> {
+    pub fn of_line(alloc: Global, line: &str) -> Result<Option<Self>, NoMemory> {
         let mut words = Words { rest: line };
         let _ = words.next();
         let (Some(quantum), Some(send), Some(n)) = (words.number(), words.number(), words.number())
@@ -44,17 +51,16 @@ impl ChainStage {
             return Ok(None);
         }
         let filters = filters_of(alloc, &mut words)?;
-        let mut recv = WatermarkBuffer::new(alloc, 0);
-        recv.add(&octets(alloc, 0, n)?)?;
+        let chain = Chain::new(alloc, FLOW, &filters, send, START, quantum)?;
         Ok(Some(ChainStage {
-            chain: Chain::new(alloc, FLOW, &filters, send, START, quantum)?,
-            recv,
+            chain,
+            recv: filled(alloc, n)?,
             out: WatermarkBuffer::new(alloc, 0),
         }))
     }
 
     /// What both buffers crossed. None where the act may not be done.
-    fn perform(&mut self, what: ChainAct) -> Option<std::result::Result<Shifted, OfferFault>> {
+    fn perform(&mut self, what: ChainAct) -> Option<Result<Shifted, OfferFault>> {
         match what {
             ChainAct::Offer(n) if n <= self.recv.len() => Some(self.chain.offer(&mut self.recv, n)),
             ChainAct::Release(place, n) => self.release(place, n),
@@ -71,7 +77,7 @@ impl ChainStage {
         }
     }
 
-    fn release(&mut self, place: u32, n: u32) -> Option<std::result::Result<Shifted, OfferFault>> {
+    fn release(&mut self, place: u32, n: u32) -> Option<Result<Shifted, OfferFault>> {
         if place < 1 || self.chain.places() <= place {
             return None;
         }
@@ -81,7 +87,7 @@ impl ChainStage {
         Some(self.chain.release(place, n))
     }
 
-    fn send(&mut self, n: u32) -> Option<std::result::Result<Shifted, OfferFault>> {
+    fn send(&mut self, n: u32) -> Option<Result<Shifted, OfferFault>> {
         let last = self.chain.places();
         if self.chain.len(last) < n {
             return None;
@@ -92,54 +98,49 @@ impl ChainStage {
         }
     }
 
-    /// Does an act, and prints its answer and what the chain is then.
-    pub fn play<R: Print>(&mut self, rt: &R, what: ChainAct) -> Result<()> {
+    /// Does an act, and says its answer and what the chain is then.
+    pub fn play(&mut self, said: &mut Said, what: ChainAct) {
         if let ChainAct::Out = what {
-            return self.show_out(rt);
+            return self.show_out(said);
         }
         match self.perform(what) {
-            Some(Ok(shifted)) => show_crossed(rt, shifted)?,
-            Some(Err(OfferFault::TooLarge)) => print!(rt; " too large")?,
-            Some(Err(OfferFault::NoMemory)) => print!(rt; " no memory")?,
-            None => print!(rt; " refused")?,
+            Some(Ok(shifted)) => show_crossed(said, shifted),
+            Some(Err(OfferFault::TooLarge)) => said.say(" too large"),
+            Some(Err(OfferFault::NoMemory)) => said.say(" no memory"),
+            None => said.say(" refused"),
         }
-        self.show_held(rt)?;
-        self.show_free(rt)?;
-        let head = if self.chain.head_may_go() {
-            "goes"
+        self.show_held(said);
+        self.show_free(said);
+        said.say(if self.chain.head_may_go() {
+            ", head goes"
         } else {
-            "waits"
-        };
-        print!(rt; ", head {head}")?;
-        Ok(())
+            ", head waits"
+        });
     }
 
     /// What each place holds.
-    fn show_held<R: Print>(&self, rt: &R) -> Result<()> {
-        print!(rt; ", holds")?;
+    fn show_held(&self, said: &mut Said) {
+        said.say(", holds");
         for place in 1..10 {
             if place <= self.chain.places() {
-                print!(rt; " {}", self.chain.len(place))?;
+                said.say_with(" ", u64::from(self.chain.len(place)));
             }
         }
-        Ok(())
     }
 
     /// What each stage may release.
-    fn show_free<R: Print>(&self, rt: &R) -> Result<()> {
-        print!(rt; ", free")?;
+    fn show_free(&self, said: &mut Said) {
+        said.say(", free");
         for place in 1..9 {
             if place < self.chain.places() {
-                print!(rt; " {}", self.chain.may_release(place))?;
+                said.say_with(" ", u64::from(self.chain.may_release(place)));
             }
         }
-        Ok(())
     }
 
-    fn show_out<R: Print>(&self, rt: &R) -> Result<()> {
+    fn show_out(&self, said: &mut Said) {
         for octet in self.out.front() {
-            print!(rt; " {octet}")?;
+            said.say_with(" ", u64::from(*octet));
         }
-        Ok(())
     }
 }

@@ -33,6 +33,7 @@ mod answer;
 mod chain_act;
 mod chain_stage;
 mod rows;
+mod said;
 mod script;
 mod stage;
 mod words;

@@ -3,10 +3,12 @@ use crate::act::{Act, act_of};
 use crate::answer::{Answer, show};
 use crate::chain_act::chain_act_of;
 use crate::chain_stage::ChainStage;
+use crate::said::Said;
 use crate::stage::Stage;
 use crate::words::Words;
 use anyhow::Result;
 use exchange_core::Step;
+use flow_gate::FlowId;
 use flow_notes::{Names, Note, read_note};
 use std::alloc::Global;
 
@@ -22,19 +24,20 @@ struct Play {
 }
 
 /// Plays each case, and prints each of its calls with its answer.
-pub fn play_cases<R: Print + AllocGlobal>(rt: &R, rows: &[u8], text: &str) -> Result<()> {
+pub fn play_cases(rt: &HostRuntime, rows: &[u8], text: &str) -> Result<()> {
     let mut play = Play::new(rt.alloc());
     for line in text.lines() {
-        if line.starts_with("## ") {
-            play = Play::new(rt.alloc());
-            println!(rt; "{line}")?;
-        } else if !line.is_empty() && !line.starts_with("# ") {
-            print!(rt; "{line}:")?;
-            play.line(rt, rows, line)?;
-            println!(rt; "")?;
-        }
+        play.heed(rt, rows, line)?;
     }
     Ok(())
+}
+
+/// The flow of a run of steps, if a line asks for one.
+fn run_of(line: &str) -> Option<FlowId> {
+    let mut words = Words {
+        rest: line.strip_prefix("run ")?,
+    };
+    words.flow()
 }
 
 impl Play {
@@ -46,78 +49,92 @@ impl Play {
         }
     }
 
-    /// Plays a line, and prints its answer.
-    fn line<R: Print + AllocGlobal>(&mut self, rt: &R, rows: &[u8], line: &str) -> Result<()> {
+    /// Begins a case anew where a line is its heading, and prints that; plays a call, and prints it with its answer.
+    fn heed(&mut self, rt: &HostRuntime, rows: &[u8], line: &str) -> Result<()> {
+        if line.starts_with("## ") {
+            *self = Play::new(rt.alloc());
+            println!(rt; "{line}")?;
+            return Ok(());
+        }
+        if line.is_empty() || line.starts_with("# ") {
+            return Ok(());
+        }
+        let mut said = Said::new(rt.alloc());
+        self.line(&mut said, rows, line);
+        said.print(rt, line)
+    }
+
+    /// Plays a line, and says its answer.
+    fn line(&mut self, said: &mut Said, rows: &[u8], line: &str) {
         if line.starts_with("chain ") {
-            return self.begin_chain(rt, line);
+            return self.begin_chain(said, line);
         }
         if let Some(act) = chain_act_of(line)
             && let Some(chain) = &mut self.chain
         {
-            return chain.play(rt, act);
+            return chain.play(said, act);
         }
-        if let Some(flow) = line.strip_prefix("run ") {
-            let mut words = Words { rest: flow };
-            if let Some(flow) = words.flow() {
-                return self.run(rt, rows, Act::Step(flow));
-            }
+        match run_of(line) {
+            Some(flow) => self.run(said, rows, Act::Step(flow)),
+            None => self.one(said, rows, line),
         }
+    }
+
+    /// Plays a line that is one act.
+    fn one(&mut self, said: &mut Said, rows: &[u8], line: &str) {
         let act = match act_of(line) {
             Some(act) => Some(act),
-            None => doom_of(rt, line),
+            None => doom_of(said.alloc(), line),
         };
         match act {
             Some(act) => {
-                let _ = self.both(rt, rows, act)?;
+                let _answer = self.both(said, rows, act);
             }
-            None => print!(rt; " ?")?,
+            None => said.say(" ?"),
         }
-        Ok(())
     }
 
-    fn begin_chain<R: Print + AllocGlobal>(&mut self, rt: &R, line: &str) -> Result<()> {
-        let Ok(chain) = ChainStage::of_line(rt.alloc(), line) else {
-            print!(rt; " no memory")?;
-            return Ok(());
-        };
-        let word = if chain.is_some() { "done" } else { "refused" };
-        self.chain = chain;
-        print!(rt; " {word}")?;
-        Ok(())
+    fn begin_chain(&mut self, said: &mut Said, line: &str) {
+        match ChainStage::of_line(said.alloc(), line) {
+            Ok(chain) => {
+                said.say(if chain.is_some() { " done" } else { " refused" });
+                self.chain = chain;
+            }
+            Err(_) => said.say(" no memory"),
+        }
     }
 
-    /// Does an act by both kinds of calls, prints the answer, and both where they differ.
-    fn both<R: Print>(&mut self, rt: &R, rows: &[u8], act: Act) -> Result<Answer> {
+    /// Does an act by both kinds of calls, says the answer, and both where they differ.
+    fn both(&mut self, said: &mut Said, rows: &[u8], act: Act) -> Answer {
         let apart = self.apart.perform(rows, act).unwrap_or(Answer::Refused);
         let joined = self.joined.perform(rows, act).unwrap_or(Answer::Refused);
-        show(rt, apart)?;
+        show(said, apart);
         if joined != apart {
-            print!(rt; " or")?;
-            show(rt, joined)?;
+            said.say(" or");
+            show(said, joined);
         }
-        Ok(apart)
+        apart
     }
 
     /// Steps until one doesn't move.
-    fn run<R: Print>(&mut self, rt: &R, rows: &[u8], step: Act) -> Result<()> {
+    fn run(&mut self, said: &mut Said, rows: &[u8], step: Act) {
         for _step in 0..MOST {
-            let Answer::Step(Step::Moved { .. }) = self.both(rt, rows, step)? else {
-                return Ok(());
+            let Answer::Step(Step::Moved { .. }) = self.both(said, rows, step) else {
+                return;
             };
-            print!(rt; ",")?;
+            said.say(",");
         }
-        Ok(())
     }
 }
 
 /// The doom of a line, spelled as on a tape.
-fn doom_of<R: AllocGlobal>(rt: &R, line: &str) -> Option<Act> {
+fn doom_of(alloc: Global, line: &str) -> Option<Act> {
     let (line, back) = match line.strip_prefix("back ") {
         Some(line) => (line, true),
         None => (line, false),
     };
-    let names = Names::new(rt.alloc());
-    let note = read_note(rt.alloc(), line.as_bytes(), &names).ok()??;
+    let names = Names::new(alloc);
+    let note = read_note(alloc, line.as_bytes(), &names).ok()??;
     let Note::Doom { exchange, cause } = note else {
         return None;
     };

@@ -1,8 +1,8 @@
 // Tables of changes. What each crosses was found by hand from the rule for above.
 
-use crate::said::{holds, holds_in, same, same_in};
+use crate::said::{holds, same, same_in};
+use io_ports::NoMemory;
 use std::alloc::{AllocError, Global};
-use std::test::*;
 use wm_buffer::{Crossed, Shifted, WatermarkBuffer};
 
 const NOTHING: Crossed = Crossed::Nothing;
@@ -31,6 +31,36 @@ fn spell(alloc: Global, buffer: &mut WatermarkBuffer) -> Result<Vec<u8>, AllocEr
         buffer.take(n);
     }
     Ok(spelled)
+}
+
+/// Adds the octets that count up from `first`.
+fn put(
+    alloc: Global,
+    buffer: &mut WatermarkBuffer,
+    first: u64,
+    n: u32,
+) -> Result<Crossed, NoMemory> {
+    buffer.add(&octets(alloc, first, u64::from(n))?)
+}
+
+/// A buffer that holds such octets.
+fn filled(alloc: Global, limit: u32, first: u64, n: u32) -> Result<WatermarkBuffer, NoMemory> {
+    let mut buffer = WatermarkBuffer::new(alloc, limit);
+    put(alloc, &mut buffer, first, n)?;
+    Ok(buffer)
+}
+
+/// Takes out all octets: so many, which count up from `first`.
+fn counts_up(
+    rt: &HostRuntime,
+    buffer: &mut WatermarkBuffer,
+    first: u64,
+    n: u64,
+) -> Result<(), NoMemory> {
+    let spelled = spell(rt.alloc(), buffer)?;
+    let wanted = octets(rt.alloc(), first, n)?;
+    same_in(rt, &n, &spelled.as_slice(), &wanted.as_slice());
+    Ok(())
 }
 
 // One buffer: its limit, and for each change the octets added, then those taken, what the adding and
@@ -99,13 +129,12 @@ const CHANGES: [(u32, [(u32, u32, Crossed, Crossed, bool); 4]); 6] = [
 ];
 
 #[test]
-fn one_buffer_crosses_its_marks(rt: HostRuntime) -> Result<(), Fail> {
+fn one_buffer_crosses_its_marks(rt: HostRuntime) -> Result<(), NoMemory> {
     for (limit, changes) in CHANGES {
         let mut buffer = WatermarkBuffer::new(rt.alloc(), limit);
         same(&rt, &buffer.limit(), &limit);
         for (added, taken, rose, drained, above) in changes {
-            let piece = octets(rt.alloc(), 0, u64::from(added))?;
-            same_in(&rt, &limit, &buffer.add(&piece), &Ok(rose));
+            same_in(&rt, &limit, &put(rt.alloc(), &mut buffer, 0, added)?, &rose);
             assert!(rt; taken <= buffer.len());
             same_in(&rt, &limit, &buffer.take(taken), &drained);
             same_in(&rt, &limit, &buffer.is_above(), &above);
@@ -116,20 +145,16 @@ fn one_buffer_crosses_its_marks(rt: HostRuntime) -> Result<(), Fail> {
 
 // A ready buffer over its ring's seam, the octets added and then taken.
 #[test]
-fn a_ready_buffer_takes_what_it_has_room_for(rt: HostRuntime) -> Result<(), Fail> {
+fn a_ready_buffer_takes_what_it_has_room_for(rt: HostRuntime) -> Result<(), NoMemory> {
     let mut buffer = WatermarkBuffer::new(rt.alloc(), 10);
     holds(&rt, buffer.is_empty());
-    same(&rt, &buffer.ready(65_536), &Ok(()));
-    let first = octets(rt.alloc(), 0, 65_546)?;
-    same(&rt, &buffer.add(&first), &Ok(HIGH));
+    buffer.ready(65_536)?;
+    same(&rt, &put(rt.alloc(), &mut buffer, 0, 65_546)?, &HIGH);
     assert!(rt; 65_541 <= buffer.len());
     same(&rt, &buffer.take(65_541), &LOW);
-    let second = octets(rt.alloc(), 65_546, 65_541)?;
-    same(&rt, &buffer.add(&second), &Ok(HIGH));
+    same(&rt, &put(rt.alloc(), &mut buffer, 65_546, 65_541)?, &HIGH);
     same(&rt, &buffer.len(), &65_546);
-    let spelled = spell(rt.alloc(), &mut buffer)?;
-    let wanted = octets(rt.alloc(), 65_541, 65_546)?;
-    holds(&rt, spelled.as_slice() == wanted.as_slice());
+    counts_up(&rt, &mut buffer, 65_541, 65_546)?;
     holds(&rt, buffer.is_empty());
     Ok(())
 }
@@ -149,29 +174,34 @@ const MOVES: [((u32, u32), (u32, u32), (u32, u32), (Crossed, Crossed)); 8] = [
 ];
 
 #[test]
-fn a_move_is_one_change_of_both(rt: HostRuntime) -> Result<(), Fail> {
-    let alloc = rt.alloc();
-    for ((from_limit, had), (to_limit, has), (ahead, n), (drained, raised)) in MOVES {
-        let mut from = WatermarkBuffer::new(alloc, from_limit);
-        let mut to = WatermarkBuffer::new(alloc, to_limit);
-        let lies_before = u64::from(has).wrapping_add(u64::from(ahead));
-        let behind = octets(alloc, lies_before, u64::from(had))?;
-        holds(&rt, from.add(&behind).is_ok());
-        holds(&rt, to.add(&octets(alloc, 0, u64::from(has))?).is_ok());
-        let head = octets(alloc, u64::from(has), u64::from(ahead))?;
-        assert!(rt; n <= from.len());
-        let shifted = from.move_to(&mut to, &head, n);
+fn a_move_is_one_change_of_both(rt: HostRuntime) -> Result<(), NoMemory> {
+    for (from, to, (ahead, n), (drained, raised)) in MOVES {
         let wanted = Shifted {
             from: drained,
             to: raised,
         };
-        same_in(&rt, &n, &shifted, &Ok(wanted));
-        let spelled = spell(alloc, &mut to)?;
-        let all = lies_before.wrapping_add(u64::from(n));
-        same(&rt, &(spelled.len() as u64), &all);
-        let wanted = octets(alloc, 0, spelled.len() as u64)?;
-        holds_in(&rt, &n, spelled.as_slice() == wanted.as_slice());
-        same(&rt, &from.len(), &had.saturating_sub(n));
+        moves(&rt, from, to, ahead, n, wanted)?;
     }
     Ok(())
+}
+
+/// Moves n octets between such buffers, behind a head of so many, and judges what both cross and hold then.
+fn moves(
+    rt: &HostRuntime,
+    first: (u32, u32),
+    second: (u32, u32),
+    ahead: u32,
+    n: u32,
+    wanted: Shifted,
+) -> Result<(), NoMemory> {
+    let (from_limit, had) = first;
+    let (to_limit, has) = second;
+    let lies_before = u64::from(has).wrapping_add(u64::from(ahead));
+    let mut from = filled(rt.alloc(), from_limit, lies_before, had)?;
+    let mut to = filled(rt.alloc(), to_limit, 0, has)?;
+    let head = octets(rt.alloc(), u64::from(has), u64::from(ahead))?;
+    assert!(rt; n <= from.len());
+    same_in(rt, &n, &from.move_to(&mut to, &head, n), &Ok(wanted));
+    same(rt, &from.len(), &had.saturating_sub(n));
+    counts_up(rt, &mut to, 0, lies_before.wrapping_add(u64::from(n)))
 }

@@ -3,7 +3,6 @@ use crate::said::{holds, same, same_in};
 use flow_gate::{BufferId, FlowId, Gates, Watchers};
 use io_ports::NoMemory;
 use std::process::Abort;
-use std::test::Fail;
 
 const FIRST: FlowId = FlowId {
     exchange: 1,
@@ -26,7 +25,7 @@ const SHARED: BufferId = BufferId::Write(0);
 
 const OWN: BufferId = BufferId::Send(FIRST);
 
-#[derive(Clone, Copy, Debug)]
+#[derive(Clone, Copy)]
 enum Call {
     OpenFlow(FlowId),
     OpenBuffer(BufferId),
@@ -43,6 +42,8 @@ use Call::*;
 #[derive(Clone, Copy, Debug, PartialEq, Eq)]
 enum Answer {
     Done,
+    /// The call may not be made now.
+    Refused,
     Above(bool),
     Told(Option<FlowId>),
 }
@@ -57,45 +58,58 @@ const TOLD_SECOND: Answer = Answer::Told(Some(SECOND));
 
 const NOBODY: Answer = Answer::Told(None);
 
-/// Makes a call whose condition holds.
-fn make(rt: &impl Abort, gates: &mut Gates, call: Call) -> Result<Answer, NoMemory> {
+/// Makes a call, where its condition holds.
+fn make(gates: &mut Gates, call: Call) -> Result<Answer, NoMemory> {
     match call {
-        Call::OpenFlow(flow) => {
-            assert!(rt; !gates.is_open(flow));
-            gates.open_flow(flow)?;
-        }
-        Call::OpenBuffer(buffer) => {
-            assert!(rt; !gates.is_known(buffer));
-            gates.open_buffer(buffer)?;
-        }
-        Call::CloseBuffer(buffer) => {
-            assert!(rt; gates.is_known(buffer));
-            assert!(rt; !gates.is_watched(buffer));
-            gates.close_buffer(buffer);
-        }
-        Call::Watch(flow, buffer) => {
-            assert!(rt; gates.is_known(buffer));
-            assert!(rt; gates.is_open(flow));
-            assert!(rt; !gates.is_watching(flow, buffer));
-            return Ok(Answer::Above(gates.watch(flow, buffer)?));
-        }
-        Call::High(buffer) => {
-            assert!(rt; gates.is_known(buffer));
-            assert!(rt; !gates.is_marked(buffer));
-            gates.high(buffer);
-        }
-        Call::BeginLow(buffer) => {
-            assert!(rt; gates.is_marked(buffer));
-            assert!(rt; !gates.has_pending(buffer));
-            gates.begin_low(buffer);
-        }
+        Call::OpenFlow(flow) if !gates.is_open(flow) => gates.open_flow(flow)?,
+        Call::OpenBuffer(buffer) if !gates.is_known(buffer) => gates.open_buffer(buffer)?,
+        Call::CloseBuffer(buffer) => return Ok(close(gates, buffer)),
+        Call::Watch(flow, buffer) => return watch(gates, flow, buffer),
+        Call::High(buffer) => return Ok(high(gates, buffer)),
+        Call::BeginLow(buffer) => return Ok(begin_low(gates, buffer)),
         Call::NextLow(buffer) => return Ok(Answer::Told(gates.next_low(buffer))),
-        Call::Forget(flow) => {
-            assert!(rt; gates.is_open(flow));
-            gates.forget(flow);
-        }
+        Call::Forget(flow) if gates.is_open(flow) => gates.forget(flow),
+        _ => return Ok(Answer::Refused),
     }
     Ok(Answer::Done)
+}
+
+/// Makes a call whose condition holds.
+fn make_one(rt: &impl Abort, gates: &mut Gates, call: Call) -> Result<(), NoMemory> {
+    let answer = make(gates, call)?;
+    holds(rt, answer != Answer::Refused);
+    Ok(())
+}
+
+fn close(gates: &mut Gates, buffer: BufferId) -> Answer {
+    if !gates.is_known(buffer) || gates.is_watched(buffer) {
+        return Answer::Refused;
+    }
+    gates.close_buffer(buffer);
+    Answer::Done
+}
+
+fn watch(gates: &mut Gates, flow: FlowId, buffer: BufferId) -> Result<Answer, NoMemory> {
+    if !gates.is_known(buffer) || !gates.is_open(flow) || gates.is_watching(flow, buffer) {
+        return Ok(Answer::Refused);
+    }
+    Ok(Answer::Above(gates.watch(flow, buffer)?))
+}
+
+fn high(gates: &mut Gates, buffer: BufferId) -> Answer {
+    if !gates.is_known(buffer) || gates.is_marked(buffer) {
+        return Answer::Refused;
+    }
+    gates.high(buffer);
+    Answer::Done
+}
+
+fn begin_low(gates: &mut Gates, buffer: BufferId) -> Answer {
+    if !gates.is_marked(buffer) || gates.has_pending(buffer) {
+        return Answer::Refused;
+    }
+    gates.begin_low(buffer);
+    Answer::Done
 }
 
 /// A flow's count, where the flow is there.
@@ -225,7 +239,7 @@ const LEFT: [(BufferId, bool); 5] = [
 fn make_all(rt: &impl Abort, gates: &mut Gates, rows: &[Row]) -> Result<(), NoMemory> {
     for (at, row) in rows.iter().enumerate() {
         let (call, answer, first, second) = *row;
-        same_in(rt, &at, &make(rt, gates, call)?, &answer);
+        same_in(rt, &at, &make(gates, call)?, &answer);
         same_in(rt, &at, &count(gates, FIRST), &first);
         same_in(rt, &at, &count(gates, SECOND), &second);
     }
@@ -233,7 +247,7 @@ fn make_all(rt: &impl Abort, gates: &mut Gates, rows: &[Row]) -> Result<(), NoMe
 }
 
 #[test]
-fn calls_answer_by_the_tables(rt: HostRuntime) -> Result<(), Fail> {
+fn calls_answer_by_the_tables(rt: HostRuntime) -> Result<(), NoMemory> {
     for rows in [
         ONE_FLOW.as_slice(),
         TWO_FLOWS.as_slice(),
@@ -251,7 +265,7 @@ fn calls_answer_by_the_tables(rt: HostRuntime) -> Result<(), Fail> {
 }
 
 #[test]
-fn watchers_stand_in_the_order_in_which_they_began(rt: HostRuntime) -> Result<(), Fail> {
+fn watchers_stand_in_the_order_in_which_they_began(rt: HostRuntime) -> Result<(), NoMemory> {
     let mut gates = Gates::new(rt.alloc());
     make_all(&rt, &mut gates, &TWO_FLOWS[..13])?;
     let watchers = [FIRST, SECOND, LEAST];
@@ -271,7 +285,7 @@ fn watchers_stand_in_the_order_in_which_they_began(rt: HostRuntime) -> Result<()
 
 // Two of three watchers are told at once, and then the third.
 #[test]
-fn lows_are_told_together(rt: HostRuntime) -> Result<(), Fail> {
+fn lows_are_told_together(rt: HostRuntime) -> Result<(), NoMemory> {
     let mut gates = Gates::new(rt.alloc());
     make_all(&rt, &mut gates, &TWO_FLOWS[..14])?;
     let lows = [FIRST, SECOND, LEAST];
@@ -297,7 +311,7 @@ fn lows_are_told_together(rt: HostRuntime) -> Result<(), Fail> {
 
 // A flow that nothing holds back is clear while neither of two buffers is above, be they watched or not.
 #[test]
-fn a_flow_is_clear_where_no_buffer_is_above(rt: HostRuntime) -> Result<(), Fail> {
+fn a_flow_is_clear_where_no_buffer_is_above(rt: HostRuntime) -> Result<(), NoMemory> {
     let mut gates = Gates::new(rt.alloc());
     make_all(&rt, &mut gates, &TWO_BUFFERS[..4])?;
     assert!(rt; gates.is_open(FIRST));
@@ -311,13 +325,13 @@ fn a_flow_is_clear_where_no_buffer_is_above(rt: HostRuntime) -> Result<(), Fail>
 
 // Each of the buffers that a flow watches counts, be they few or many.
 #[test]
-fn each_buffer_counts(rt: HostRuntime) -> Result<(), Fail> {
+fn each_buffer_counts(rt: HostRuntime) -> Result<(), NoMemory> {
     let mut gates = Gates::new(rt.alloc());
-    make(&rt, &mut gates, OpenFlow(FIRST))?;
+    make_one(&rt, &mut gates, OpenFlow(FIRST))?;
     for n in 1..=4 {
         let buffer = BufferId::Write(n);
         for call in [OpenBuffer(buffer), Watch(FIRST, buffer), High(buffer)] {
-            make(&rt, &mut gates, call)?;
+            make_one(&rt, &mut gates, call)?;
         }
         same(&rt, &count(&gates, FIRST), &Some(u64::from(n)));
     }
@@ -341,7 +355,7 @@ fn are_all(rt: &impl Abort, mut watchers: Watchers<'_>, flows: &[FlowId]) -> boo
 
 // The watchers lie side by side until one leaves, and again once the buffer rises or drains.
 #[test]
-fn watchers_lie_side_by_side(rt: HostRuntime) -> Result<(), Fail> {
+fn watchers_lie_side_by_side(rt: HostRuntime) -> Result<(), NoMemory> {
     let mut gates = Gates::new(rt.alloc());
     make_all(&rt, &mut gates, &TWO_FLOWS[..13])?;
     holds(
@@ -349,15 +363,15 @@ fn watchers_lie_side_by_side(rt: HostRuntime) -> Result<(), Fail> {
         are_all(&rt, gates.watchers(SHARED), &[FIRST, SECOND, LEAST]),
     );
     holds(&rt, are_all(&rt, gates.lows(SHARED), &[]));
-    make(&rt, &mut gates, BeginLow(SHARED))?;
-    make(&rt, &mut gates, NextLow(SHARED))?;
+    make_one(&rt, &mut gates, BeginLow(SHARED))?;
+    make_one(&rt, &mut gates, NextLow(SHARED))?;
     holds(&rt, are_all(&rt, gates.lows(SHARED), &[SECOND, LEAST]));
-    make(&rt, &mut gates, Forget(SECOND))?;
+    make_one(&rt, &mut gates, Forget(SECOND))?;
     holds(&rt, !are_all(&rt, gates.watchers(SHARED), &[FIRST, LEAST]));
     holds(&rt, !are_all(&rt, gates.lows(SHARED), &[LEAST]));
-    make(&rt, &mut gates, OpenFlow(SECOND))?;
-    make(&rt, &mut gates, Watch(SECOND, SHARED))?;
-    make(&rt, &mut gates, High(SHARED))?;
+    make_one(&rt, &mut gates, OpenFlow(SECOND))?;
+    make_one(&rt, &mut gates, Watch(SECOND, SHARED))?;
+    make_one(&rt, &mut gates, High(SHARED))?;
     holds(
         &rt,
         are_all(&rt, gates.watchers(SHARED), &[FIRST, LEAST, SECOND]),
@@ -379,30 +393,30 @@ fn sending(exchange: u64) -> (FlowId, BufferId) {
 /// Opens a flow that watches its send buffer.
 fn open(rt: &impl Abort, gates: &mut Gates, exchange: u64) -> Result<(), NoMemory> {
     let (flow, buffer) = sending(exchange);
-    same(rt, &make(rt, gates, OpenFlow(flow))?, &DONE);
-    same(rt, &make(rt, gates, OpenBuffer(buffer))?, &DONE);
-    same(rt, &make(rt, gates, Watch(flow, buffer))?, &LOW);
+    same(rt, &make(gates, OpenFlow(flow))?, &DONE);
+    same(rt, &make(gates, OpenBuffer(buffer))?, &DONE);
+    same(rt, &make(gates, Watch(flow, buffer))?, &LOW);
     Ok(())
 }
 
 /// The send buffer of a flow rises and drains, and its flow alone is told.
 fn rise_and_drain(rt: &impl Abort, gates: &mut Gates, exchange: u64) -> Result<(), NoMemory> {
     let (flow, buffer) = sending(exchange);
-    make(rt, gates, High(buffer))?;
+    make_one(rt, gates, High(buffer))?;
     same(rt, &count(gates, flow), &Some(1));
-    make(rt, gates, BeginLow(buffer))?;
+    make_one(rt, gates, BeginLow(buffer))?;
     same(
         rt,
-        &make(rt, gates, NextLow(buffer))?,
+        &make(gates, NextLow(buffer))?,
         &Answer::Told(Some(flow)),
     );
-    same(rt, &make(rt, gates, NextLow(buffer))?, &NOBODY);
+    same(rt, &make(gates, NextLow(buffer))?, &NOBODY);
     Ok(())
 }
 
 // 200,000 flows, each with a send buffer of its own: no call goes through them all.
 #[test]
-fn many_flows_cost_little(rt: HostRuntime) -> Result<(), Fail> {
+fn many_flows_cost_little(rt: HostRuntime) -> Result<(), NoMemory> {
     let mut gates = Gates::new(rt.alloc());
     for exchange in 1..=MANY {
         open(&rt, &mut gates, exchange)?;
@@ -420,31 +434,31 @@ fn many_flows_cost_little(rt: HostRuntime) -> Result<(), Fail> {
 // 200,000 flows watch one buffer. Those of even number leave while the others are told, and these leave last first: no
 // call goes through the whole line each time.
 #[test]
-fn many_watchers_cost_little(rt: HostRuntime) -> Result<(), Fail> {
+fn many_watchers_cost_little(rt: HostRuntime) -> Result<(), NoMemory> {
     let mut gates = Gates::new(rt.alloc());
-    make(&rt, &mut gates, OpenBuffer(SHARED))?;
+    make_one(&rt, &mut gates, OpenBuffer(SHARED))?;
     for exchange in 1..=MANY {
         let (flow, _) = sending(exchange);
-        make(&rt, &mut gates, OpenFlow(flow))?;
-        make(&rt, &mut gates, Watch(flow, SHARED))?;
+        make_one(&rt, &mut gates, OpenFlow(flow))?;
+        make_one(&rt, &mut gates, Watch(flow, SHARED))?;
     }
-    make(&rt, &mut gates, High(SHARED))?;
-    make(&rt, &mut gates, BeginLow(SHARED))?;
+    make_one(&rt, &mut gates, High(SHARED))?;
+    make_one(&rt, &mut gates, BeginLow(SHARED))?;
     for exchange in 1..=MANY {
         let (flow, _) = sending(exchange);
         if exchange % 2 == 0 {
-            make(&rt, &mut gates, Forget(flow))?;
+            make_one(&rt, &mut gates, Forget(flow))?;
         } else {
-            let told = make(&rt, &mut gates, NextLow(SHARED))?;
+            let told = make(&mut gates, NextLow(SHARED))?;
             same(&rt, &told, &Answer::Told(Some(flow)));
         }
     }
-    same(&rt, &make(&rt, &mut gates, NextLow(SHARED))?, &NOBODY);
+    same(&rt, &make(&mut gates, NextLow(SHARED))?, &NOBODY);
     for gone in 0..MANY {
         let exchange = MANY - gone;
         let (flow, _) = sending(exchange);
         if exchange % 2 == 1 {
-            make(&rt, &mut gates, Forget(flow))?;
+            make_one(&rt, &mut gates, Forget(flow))?;
         }
     }
     holds(&rt, !gates.is_watched(SHARED));

@@ -1,4 +1,7 @@
 // Texts of events and notes, and names that are refused.
+ghost use Rattle.flow_notes.specs.Event.{IsEvent};
+ghost use Rattle.flow_notes.specs.Note.{IsNote};
+
 mod copies;
 mod passages;
 mod reading;
@@ -9,9 +12,8 @@ use flow_notes::{
     Cause, CloseCause, Event, FireKind, Job, NameRefusal, Names, Note, PlainEvent, event_text,
     note_text,
 };
-use io_ports::Octets;
+use io_ports::{NoMemory, Octets};
 use std::alloc::Global;
-use std::test::Fail;
 
 const REQUEST: FlowId = FlowId {
     exchange: 1,
@@ -23,181 +25,131 @@ const RESPONSE: FlowId = FlowId {
     back: true,
 };
 
-fn some_names(alloc: Global) -> Result<Names, Fail> {
+// The names `web` and `api-2_b`.
+fn some_names(alloc: Global) -> Result<Names, NoMemory> {
     let mut names = Names::new(alloc);
-    names.push(b"web")?;
-    names.push(b"api-2_b")?;
+    if names.push(b"web").is_err() || names.push(b"api-2_b").is_err() {
+        return Err(NoMemory);
+    }
     Ok(names)
 }
 
-fn push_bodies(alloc: Global, names: &Names, text: &mut Octets) -> Result<(), Fail> {
+// Appends the line of a note.
+fn put(note: Note, names: &Names, text: &mut Octets) -> Result<(), NoMemory>
+    requires { IsNote names.now note }
+{
+    note_text(&note, names, text)
+}
+
+fn put_bodies(alloc: Global, names: &Names, text: &mut Octets) -> Result<(), NoMemory> {
     let octets = Octets::from_slice(alloc, &[0xaa, 0x01])?;
-    note_text(
-        &Note::Arrive {
-            flow: REQUEST,
-            octets,
-        },
-        names,
-        text,
-    )?;
+    let flow = REQUEST;
+    put(Note::Arrive { flow, octets }, names, text)?;
     let octets = Octets::from_slice(alloc, &[0, 0, 4, 3])?;
-    note_text(&Note::Answer { conn: 1, octets }, names, text)?;
+    put(Note::Answer { conn: 1, octets }, names, text)?;
     let octets = Octets::from_slice(alloc, &[0x83])?;
-    note_text(
-        &Note::Head {
-            conn: 2,
-            stream: 1,
-            octets,
-        },
-        names,
-        text,
-    )?;
-    Ok(())
-}
-
-fn push_flows(names: &Names, text: &mut Octets) -> Result<(), Fail> {
-    note_text(
-        &Note::Move {
-            flow: RESPONSE,
-            place: 4_294_967_295,
-            n: 0,
-        },
-        names,
-        text,
-    )?;
-    note_text(
-        &Note::Frame {
-            conn: 2,
-            flow: REQUEST,
-            n: 10,
-            last: false,
-        },
-        names,
-        text,
-    )?;
-    note_text(
-        &Note::Frame {
-            conn: 2,
-            flow: REQUEST,
-            n: 0,
-            last: true,
-        },
-        names,
-        text,
-    )?;
-    let buffer = BufferId::Send(REQUEST);
-    note_text(
-        &Note::Pause {
-            flow: REQUEST,
-            buffer,
-        },
-        names,
-        text,
-    )?;
-    let buffer = BufferId::Stage(REQUEST, 1);
-    note_text(
-        &Note::Resume {
-            flow: REQUEST,
-            buffer,
-        },
-        names,
-        text,
-    )?;
-    let buffer = BufferId::Write(2);
-    note_text(
-        &Note::Resume {
-            flow: RESPONSE,
-            buffer,
-        },
-        names,
-        text,
-    )?;
-    Ok(())
-}
-
-fn push_others(names: &Names, text: &mut Octets) -> Result<(), Fail> {
-    note_text(&Note::Out { conn: 0, n: 34 }, names, text)?;
-    note_text(
-        &Note::Credit {
-            conn: 1,
-            stream: 0,
-            n: 983_041,
-        },
-        names,
-        text,
-    )?;
-    note_text(
-        &Note::Waste {
-            conn: 1,
-            stream: 3,
-            n: 7,
-        },
-        names,
-        text,
-    )?;
-    note_text(
-        &Note::Start {
-            exchange: 1,
-            conn: 1,
-            stream: 1,
-            to: 2,
-        },
-        names,
-        text,
-    )?;
-    note_text(
-        &Note::Doom {
-            exchange: 3,
-            cause: Cause::Overflow,
-        },
-        names,
-        text,
-    )?;
-    let kind = FireKind::StreamIdle;
-    note_text(
-        &Note::Doom {
-            exchange: 3,
-            cause: Cause::Timeout { kind },
-        },
-        names,
-        text,
-    )?;
-    let cause = Cause::Posted {
-        poster: 0,
-        number: 5,
+    let [conn, stream] = [2, 1];
+    let head = Note::Head {
+        conn,
+        stream,
+        octets,
     };
-    note_text(&Note::Doom { exchange: 3, cause }, names, text)?;
-    note_text(&Note::Gone { exchange: 3 }, names, text)?;
-    note_text(
-        &Note::Close {
-            conn: 1,
-            code: 11,
-            cause: CloseCause::Flood,
-        },
-        names,
-        text,
-    )?;
-    note_text(
-        &Note::Fire {
-            kind: FireKind::ConnectionIdle,
-            id: 7,
-        },
-        names,
-        text,
-    )?;
+    put(head, names, text)
+}
+
+fn put_moves(names: &Names, text: &mut Octets) -> Result<(), NoMemory> {
+    let moved = Note::Move {
+        flow: RESPONSE,
+        place: 4_294_967_295,
+        n: 0,
+    };
+    put(moved, names, text)?;
+    for (n, last) in [(10, false), (0, true)] {
+        let framed = Note::Frame {
+            conn: 2,
+            flow: REQUEST,
+            n,
+            last,
+        };
+        put(framed, names, text)?;
+    }
     Ok(())
+}
+
+fn put_crossings(names: &Names, text: &mut Octets) -> Result<(), NoMemory> {
+    let flow = REQUEST;
+    let buffer = BufferId::Send(flow);
+    put(Note::Pause { flow, buffer }, names, text)?;
+    let buffer = BufferId::Stage(flow, 1);
+    put(Note::Resume { flow, buffer }, names, text)?;
+    let flow = RESPONSE;
+    let buffer = BufferId::Write(2);
+    put(Note::Resume { flow, buffer }, names, text)
+}
+
+fn put_counts(names: &Names, text: &mut Octets) -> Result<(), NoMemory> {
+    put(Note::Out { conn: 0, n: 34 }, names, text)?;
+    let credit = Note::Credit {
+        conn: 1,
+        stream: 0,
+        n: 983_041,
+    };
+    put(credit, names, text)?;
+    let waste = Note::Waste {
+        conn: 1,
+        stream: 3,
+        n: 7,
+    };
+    put(waste, names, text)?;
+    let start = Note::Start {
+        exchange: 1,
+        conn: 1,
+        stream: 1,
+        to: 2,
+    };
+    put(start, names, text)
+}
+
+fn put_dooms(names: &Names, text: &mut Octets) -> Result<(), NoMemory> {
+    let causes = [
+        Cause::Overflow,
+        Cause::Timeout {
+            kind: FireKind::StreamIdle,
+        },
+        Cause::Posted {
+            poster: 0,
+            number: 5,
+        },
+    ];
+    for cause in causes {
+        put(Note::Doom { exchange: 3, cause }, names, text)?;
+    }
+    put(Note::Gone { exchange: 3 }, names, text)
+}
+
+fn put_closes(names: &Names, text: &mut Octets) -> Result<(), NoMemory> {
+    let close = Note::Close {
+        conn: 1,
+        code: 11,
+        cause: CloseCause::Flood,
+    };
+    put(close, names, text)?;
+    let kind = FireKind::ConnectionIdle;
+    put(Note::Fire { kind, id: 7 }, names, text)?;
+    let event = Event::Plain(PlainEvent::Begin { stream: 1 });
+    put(Note::Turn { number: 1, event }, names, text)
 }
 
 #[test]
-fn notes_are_written(rt: HostRuntime) -> Result<(), Fail> {
-    let alloc = rt.alloc();
-    let names = some_names(alloc)?;
-    let mut text = Octets::new(alloc);
-    push_bodies(alloc, &names, &mut text)?;
-    push_flows(&names, &mut text)?;
-    push_others(&names, &mut text)?;
-    let event = Event::Plain(PlainEvent::Begin { stream: 1 });
-    note_text(&Note::Turn { number: 1, event }, &names, &mut text)?;
+fn notes_are_written(rt: HostRuntime) -> Result<(), NoMemory> {
+    let names = some_names(rt.alloc())?;
+    let mut text = Octets::new(rt.alloc());
+    put_bodies(rt.alloc(), &names, &mut text)?;
+    put_moves(&names, &mut text)?;
+    put_crossings(&names, &mut text)?;
+    put_counts(&names, &mut text)?;
+    put_dooms(&names, &mut text)?;
+    put_closes(&names, &mut text)?;
     let expected = "in 1q aa01\nanswer 1 00000403\nhead 2 1 83\n\
 move 18446744073709551615r 4294967295 0\nframe 2 1q 10 more\nframe 2 1q 0 end\n\
 pause 1q send\nresume 1q stage 1\nresume 18446744073709551615r write 2\n\
@@ -208,41 +160,32 @@ fire connection-idle 7\nturn 1 open 1\n";
     Ok(())
 }
 
+// Appends the line of an event.
+fn say(event: Event, names: &Names, text: &mut Octets) -> Result<(), NoMemory>
+    requires { IsEvent names.now event }
+{
+    event_text(&event, names, text)
+}
+
 #[test]
-fn events_are_written(rt: HostRuntime) -> Result<(), Fail> {
-    let alloc = rt.alloc();
-    let names = some_names(alloc)?;
-    let mut text = Octets::new(alloc);
+fn events_are_written(rt: HostRuntime) -> Result<(), NoMemory> {
+    let names = some_names(rt.alloc())?;
+    let mut text = Octets::new(rt.alloc());
     assert!(rt; names.len() == 2);
-    event_text(&Event::Accept { conn: 1 }, &names, &mut text)?;
-    event_text(
-        &Event::Join {
-            conn: 2,
-            cluster: 1,
-        },
-        &names,
-        &mut text,
-    )?;
-    event_text(&Event::Room { conn: 2, n: 94 }, &names, &mut text)?;
-    event_text(&Event::Tick { now: 50 }, &names, &mut text)?;
-    let job = Job::Cancel { exchange: 1 };
-    event_text(
-        &Event::Post {
-            poster: 0,
-            number: 0,
-            job,
-        },
-        &names,
-        &mut text,
-    )?;
-    event_text(
-        &Event::Plain(PlainEvent::Pair {
-            first: 1,
-            second: 3,
-        }),
-        &names,
-        &mut text,
-    )?;
+    say(Event::Accept { conn: 1 }, &names, &mut text)?;
+    let [conn, cluster] = [2, 1];
+    say(Event::Join { conn, cluster }, &names, &mut text)?;
+    say(Event::Room { conn, n: 94 }, &names, &mut text)?;
+    say(Event::Tick { now: 50 }, &names, &mut text)?;
+    let post = Event::Post {
+        poster: 0,
+        number: 0,
+        job: Job::Cancel { exchange: 1 },
+    };
+    say(post, &names, &mut text)?;
+    let [first, second] = [1, 3];
+    let pair = PlainEvent::Pair { first, second };
+    say(Event::Plain(pair), &names, &mut text)?;
     let expected = "accept 1\njoin 2 api-2_b\nroom 2 94\ntick 50\npost 0 0 cancel 1\npair 1 3\n";
     same(&rt, &text.as_slice(), &expected.as_bytes());
     Ok(())
@@ -250,7 +193,7 @@ fn events_are_written(rt: HostRuntime) -> Result<(), Fail> {
 
 // Names that are refused leave the list as it is.
 #[test]
-fn names_are_kept(rt: HostRuntime) -> Result<(), Fail> {
+fn names_are_kept(rt: HostRuntime) -> Result<(), NoMemory> {
     let alloc = rt.alloc();
     let mut names = some_names(alloc)?;
     let long = vec![in alloc; b'a'; 65]?;

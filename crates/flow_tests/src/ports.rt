@@ -2,11 +2,10 @@
 
 use crate::said::{holds, same};
 use io_ports::{
-    Failed, MemSink, MemSource, Octets, PressureList, Sink, Source, StdSink, StdSource,
+    Failed, MemSink, MemSource, NoMemory, Octets, PressureList, Sink, Source, StdSink, StdSource,
 };
 use std::alloc::{AllocError, Global};
 use std::io::{self, ErrorKind, Read, Write};
-use std::test::*;
 
 type Answer = Result<usize, Failed>;
 
@@ -30,6 +29,14 @@ fn reads<S: Source>(
         }
     }
     Ok(Some(given))
+}
+
+/// Whether each read answered as wanted, and they gave these octets.
+fn are_given(given: &Option<Vec<u8>>, octets: &[u8]) -> bool {
+    match given {
+        Some(given) => given.as_slice() == octets,
+        None => false,
+    }
 }
 
 /// Whether the writes of these pieces answer as wanted.
@@ -59,19 +66,19 @@ const READS: [(&[u64], usize, usize, &[Answer]); 4] = [
 const ALL: &[u8] = b"abcdefgh";
 
 #[test]
-fn sources_give_their_octets_in_pieces(rt: HostRuntime) -> Result<(), Fail> {
+fn sources_give_their_octets_in_pieces(rt: HostRuntime) -> Result<(), NoMemory> {
     let alloc = rt.alloc();
     for (failing, most, room, wanted) in READS {
         let mut source = MemSource::new(ALL.to_vec(alloc)?, failing.to_vec(alloc)?);
         assert!(rt; 0 < most);
         source.give_at_most(most);
         let given = reads(alloc, &mut source, room, wanted)?;
-        let given = given.ok_or("other answers")?;
-        holds(&rt, room == 0 || given.as_slice() == ALL);
+        let all = if room == 0 { &[] } else { ALL };
+        holds(&rt, are_given(&given, all));
     }
     let mut source = StdSource::new(ALL);
     let given = reads(alloc, &mut source, 3, &[Ok(3), Ok(3), Ok(2), Ok(0)])?;
-    holds(&rt, given.ok_or("other answers")?.as_slice() == ALL);
+    holds(&rt, are_given(&given, ALL));
     let mut source = StdSource::new(Broken);
     holds(
         &rt,
@@ -110,11 +117,12 @@ const WRITES: [(usize, usize, &[u64], &[(&[u8], Answer)], &[u8]); 6] = [
 ];
 
 #[test]
-fn sinks_take_pieces(rt: HostRuntime) -> Result<(), Fail> {
+fn sinks_take_pieces(rt: HostRuntime) -> Result<(), NoMemory> {
     let alloc = rt.alloc();
     for (room, most, failing, pieces, wanted) in WRITES {
-        let made = MemSink::new(alloc, room, failing.to_vec(alloc)?);
-        let mut sink = made.map_err(|_| "no memory")?;
+        let Ok(mut sink) = MemSink::new(alloc, room, failing.to_vec(alloc)?) else {
+            return Err(NoMemory);
+        };
         sink.take_at_most(most);
         holds(&rt, writes(&mut sink, pieces));
         holds(&rt, sink.octets() == wanted);
@@ -158,7 +166,7 @@ impl Write for Broken {
 }
 
 #[test]
-fn lists_keep_what_is_appended(rt: HostRuntime) -> Result<(), Fail> {
+fn lists_keep_what_is_appended(rt: HostRuntime) -> Result<(), NoMemory> {
     let alloc = rt.alloc();
     let mut octets = Octets::new(alloc);
     holds(&rt, octets.is_empty());
@@ -166,7 +174,7 @@ fn lists_keep_what_is_appended(rt: HostRuntime) -> Result<(), Fail> {
     same(&rt, &octets.push_all(b"de"), &Ok(()));
     same(&rt, &octets.len(), &5);
     holds(&rt, octets.as_slice() == b"abcde".as_slice());
-    let copy = Octets::from_slice(alloc, octets.as_slice()).map_err(|_| "no memory")?;
+    let copy = Octets::from_slice(alloc, octets.as_slice())?;
     octets.truncate(3);
     holds(&rt, octets.as_slice() == b"abc".as_slice());
     octets.clear();

@@ -108,39 +108,17 @@ fn put_mistake(fault: &Fault, into: &mut Octets) -> Result<(), NoMemory>
     ensures ok { OnOk result (Extends into.old into.new) }
     ensures err { OnErr result (Extends into.old into.new) }
 {
+    if let Some(text) = text_of(fault.mistake) {
+        return into.push_all(text);
+    }
     let found = fault.found.as_slice();
+    if let Some(wanted) = wanted_at(fault.mistake) {
+        return put_expected(into, wanted, found);
+    }
     match fault.mistake {
-        Mistake::Cut => into.push_all(b"ends without a newline"),
-        Mistake::NoHeader => into.push_all(b"the session ends before its header"),
-        Mistake::NoLimits => into.push_all(b"the session ends before its limits"),
-        Mistake::Long => into.push_all(b"more than 40,000 octets"),
-        Mistake::CarriageReturn => into.push_all(
-            b"ends with a carriage return (CRLF); a line ends with a newline alone",
-        ),
-        Mistake::Empty => into.push_all(b"is empty"),
-        Mistake::NoPlainHeader => put_expected(
-            into,
-            b"h2replay-session 1 plain or h2replay-session 2 plain",
-            found,
-        ),
-        Mistake::NoWireHeader => put_expected(into, b"h2replay-session 1 wire", found),
-        Mistake::WireHeader => into.push_all(
-            b"this is a wire session, which h2replay wire CONFIG replays",
-        ),
-        Mistake::PlainHeader => into.push_all(
-            b"this is a plain session, which h2replay plain replays",
-        ),
-        Mistake::NoPlainEvent => put_expected(into, b"open, pair, in, end, reset or room", found),
-        Mistake::NoWireEvent => put_expected(
-            into,
-            b"accept, join, read, gone, room, tick, post or obey",
-            found,
-        ),
-        Mistake::NoLimitsLine => put_expected(into, b"limits", found),
-        Mistake::Space => into.push_all(b"one space stands between two words, and none at the end"),
-        Mistake::Missing(field) => put_missing(into, field),
-        Mistake::NoNumber(field) => put_expected_number(into, field, found),
-        Mistake::LeadingZero(field) => put_leading_zero(into, field, found),
+        Mistake::Missing(field) => put_missing(into, field.name.as_bytes()),
+        Mistake::NoNumber(field) => put_expected_number(into, field.name.as_bytes(), found),
+        Mistake::LeadingZero(field) => put_leading_zero(into, field.name.as_bytes(), found),
         Mistake::OutOfRange(field) => put_out_of_range(into, field, found),
         Mistake::CapitalDigit => put_wrong(
             into,
@@ -148,7 +126,6 @@ fn put_mistake(fault: &Fault, into: &mut Octets) -> Result<(), NoMemory>
             found,
             b"; the hexadecimal digits are 0 to 9 and a to f",
         ),
-        Mistake::NoHexDigit => put_expected(into, b"hexadecimal digits 0 to 9 and a to f", found),
         Mistake::OddDigits => put_wrong(
             into,
             b"an odd number of digits in ",
@@ -157,15 +134,85 @@ fn put_mistake(fault: &Fault, into: &mut Octets) -> Result<(), NoMemory>
         ),
         Mistake::TooMany(n) => put_counted(into, n as u64, b" octets, at most 16,384"),
         Mistake::NoCluster => put_wrong(into, b"the configuration has no cluster ", found, b""),
-        Mistake::NoJob => put_expected(into, b"drain, cancel or look", found),
         Mistake::Behind => put_wrong(into, b"the line should end before ", found, b""),
         Mistake::Unspelled => put_wrong(into, b"no line of the format: ", found, b""),
         _ => put_order(fault.mistake, into),
     }
 }
 
+// The mistakes that a text tells whole.
+fn text_of(mistake: Mistake) -> Option<&'static [u8]> {
+    match mistake {
+        Mistake::Cut => Some(b"ends without a newline"),
+        Mistake::NoHeader => Some(b"the session ends before its header"),
+        Mistake::NoLimits => Some(b"the session ends before its limits"),
+        Mistake::Long => Some(b"more than 40,000 octets"),
+        Mistake::CarriageReturn => {
+            Some(b"ends with a carriage return (CRLF); a line ends with a newline alone")
+        }
+        Mistake::Empty => Some(b"is empty"),
+        Mistake::WireHeader => Some(b"this is a wire session, which h2replay wire CONFIG replays"),
+        Mistake::PlainHeader => Some(b"this is a plain session, which h2replay plain replays"),
+        Mistake::Space => Some(b"one space stands between two words, and none at the end"),
+        _ => None,
+    }
+}
+
+// What should stand in place of the words that do.
+fn wanted_at(mistake: Mistake) -> Option<&'static [u8]> {
+    match mistake {
+        Mistake::NoPlainHeader => Some(b"h2replay-session 1 plain or h2replay-session 2 plain"),
+        Mistake::NoWireHeader => Some(b"h2replay-session 1 wire"),
+        Mistake::NoPlainEvent => Some(b"open, pair, in, end, reset or room"),
+        Mistake::NoWireEvent => Some(b"accept, join, read, gone, room, tick, post or obey"),
+        Mistake::NoLimitsLine => Some(b"limits"),
+        Mistake::NoHexDigit => Some(b"hexadecimal digits 0 to 9 and a to f"),
+        Mistake::NoJob => Some(b"drain, cancel or look"),
+        _ => None,
+    }
+}
+
 // The mistakes of lines that may not follow those before them.
 fn put_order(mistake: Mistake, into: &mut Octets) -> Result<(), NoMemory>
+    ensures ok { OnOk result (Extends into.old into.new) }
+    ensures err { OnErr result (Extends into.old into.new) }
+{
+    match mistake {
+        Mistake::NoStream { stream } => put_stream(into, stream, b" was never opened"),
+        Mistake::Ended { stream } => put_stream(into, stream, b" has ended"),
+        Mistake::Reset { stream } => put_stream(into, stream, b" was reset"),
+        Mistake::Itself { stream } => put_stream(into, stream, b" can't be paired with itself"),
+        Mistake::Paired { stream } => put_stream(into, stream, b" has a pair"),
+        Mistake::NoConnection { conn } => {
+            put_conn(into, b"connection ", conn, b" was never accepted or joined")
+        }
+        Mistake::Lost { conn } => put_conn(into, b"connection ", conn, b" is gone"),
+        Mistake::Paused { conn } => put_conn(
+            into,
+            b"the flow from connection ",
+            conn,
+            b" is paused, so nothing may be read of it",
+        ),
+        _ => put_against(mistake, into),
+    }
+}
+
+fn put_stream(into: &mut Octets, stream: u32, behind: &[u8]) -> Result<(), NoMemory>
+    ensures ok { OnOk result (Extends into.old into.new) }
+    ensures err { OnErr result (Extends into.old into.new) }
+{
+    put_one(into, b"stream ", u64::from(stream), behind)
+}
+
+fn put_conn(into: &mut Octets, before: &[u8], conn: u32, behind: &[u8]) -> Result<(), NoMemory>
+    ensures ok { OnOk result (Extends into.old into.new) }
+    ensures err { OnErr result (Extends into.old into.new) }
+{
+    put_one(into, before, u64::from(conn), behind)
+}
+
+// The mistakes that two numbers tell.
+fn put_against(mistake: Mistake, into: &mut Octets) -> Result<(), NoMemory>
     ensures ok { OnOk result (Extends into.old into.new) }
     ensures err { OnErr result (Extends into.old into.new) }
 {
@@ -177,21 +224,6 @@ fn put_order(mistake: Mistake, into: &mut Octets) -> Result<(), NoMemory>
             b" isn't greater than stream ",
             u64::from(greatest),
         ),
-        Mistake::NoStream { stream } => put_one(
-            into,
-            b"stream ",
-            u64::from(stream),
-            b" was never opened",
-        ),
-        Mistake::Ended { stream } => put_one(into, b"stream ", u64::from(stream), b" has ended"),
-        Mistake::Reset { stream } => put_one(into, b"stream ", u64::from(stream), b" was reset"),
-        Mistake::Itself { stream } => put_one(
-            into,
-            b"stream ",
-            u64::from(stream),
-            b" can't be paired with itself",
-        ),
-        Mistake::Paired { stream } => put_one(into, b"stream ", u64::from(stream), b" has a pair"),
         Mistake::OldConnection { conn, greatest } => put_two(
             into,
             b"connection ",
@@ -199,13 +231,6 @@ fn put_order(mistake: Mistake, into: &mut Octets) -> Result<(), NoMemory>
             b" isn't greater than connection ",
             u64::from(greatest),
         ),
-        Mistake::NoConnection { conn } => put_one(
-            into,
-            b"connection ",
-            u64::from(conn),
-            b" was never accepted or joined",
-        ),
-        Mistake::Lost { conn } => put_one(into, b"connection ", u64::from(conn), b" is gone"),
         Mistake::OtherPost { poster, next, .. } => put_two(
             into,
             b"the next post of poster ",
@@ -226,12 +251,6 @@ fn put_order(mistake: Mistake, into: &mut Octets) -> Result<(), NoMemory>
             found as u64,
             b" stand here, resources: ",
             resources as u64,
-        ),
-        Mistake::Paused { conn } => put_one(
-            into,
-            b"the flow from connection ",
-            u64::from(conn),
-            b" is paused, so nothing may be read of it",
         ),
         _ => Ok(()),
     }
@@ -279,27 +298,27 @@ fn put_expected(into: &mut Octets, wanted: &[u8], found: &[u8]) -> Result<(), No
     put_wrong(into, b" expected, not ", found, b"")
 }
 
-fn put_missing(into: &mut Octets, field: Field) -> Result<(), NoMemory>
+fn put_missing(into: &mut Octets, field: &[u8]) -> Result<(), NoMemory>
     ensures ok { OnOk result (Extends into.old into.new) }
     ensures err { OnErr result (Extends into.old into.new) }
 {
-    into.push_all(field.name.as_bytes())?;
+    into.push_all(field)?;
     into.push_all(b" expected, and the line ends")
 }
 
-fn put_expected_number(into: &mut Octets, field: Field, found: &[u8]) -> Result<(), NoMemory>
+fn put_expected_number(into: &mut Octets, field: &[u8], found: &[u8]) -> Result<(), NoMemory>
     ensures ok { OnOk result (Extends into.old into.new) }
     ensures err { OnErr result (Extends into.old into.new) }
 {
-    into.push_all(field.name.as_bytes())?;
+    into.push_all(field)?;
     put_wrong(into, b" expected, a number, not ", found, b"")
 }
 
-fn put_leading_zero(into: &mut Octets, field: Field, found: &[u8]) -> Result<(), NoMemory>
+fn put_leading_zero(into: &mut Octets, field: &[u8], found: &[u8]) -> Result<(), NoMemory>
     ensures ok { OnOk result (Extends into.old into.new) }
     ensures err { OnErr result (Extends into.old into.new) }
 {
-    into.push_all(field.name.as_bytes())?;
+    into.push_all(field)?;
     put_wrong(into, b" begins with a zero: ", found, b"")
 }
 
@@ -307,14 +326,28 @@ fn put_out_of_range(into: &mut Octets, field: Field, found: &[u8]) -> Result<(),
     ensures ok { OnOk result (Extends into.old into.new) }
     ensures err { OnErr result (Extends into.old into.new) }
 {
-    into.push_all(field.name.as_bytes())?;
-    put_wrong(into, b" is ", found, b", and may be ")?;
-    if let Kind::Number { least, most } = field.kind {
-        put_grouped(into, least)?;
-        into.push_all(b" to ")?;
-        put_grouped(into, most)?;
+    put_beyond(into, field.name.as_bytes(), found)?;
+    match field.kind {
+        Kind::Number { least, most } => put_range(into, least, most),
+        _ => Ok(()),
     }
-    Ok(())
+}
+
+fn put_beyond(into: &mut Octets, field: &[u8], found: &[u8]) -> Result<(), NoMemory>
+    ensures ok { OnOk result (Extends into.old into.new) }
+    ensures err { OnErr result (Extends into.old into.new) }
+{
+    into.push_all(field)?;
+    put_wrong(into, b" is ", found, b", and may be ")
+}
+
+fn put_range(into: &mut Octets, least: u64, most: u64) -> Result<(), NoMemory>
+    ensures ok { OnOk result (Extends into.old into.new) }
+    ensures err { OnErr result (Extends into.old into.new) }
+{
+    put_grouped(into, least)?;
+    into.push_all(b" to ")?;
+    put_grouped(into, most)
 }
 
 // Appends octets in quotes; those that no letter, digit or sign of ASCII are as a question mark.

@@ -33,6 +33,12 @@ pub record Played (play : Play) (config lines : List ℕ) (count : ℕ) (told : 
   pub count_is : count ≡ seen_lines seen
   pub told_is : told ≡ tape_text [] history
 
+-- the limits of a session were read: no event of it has come
+pub record IsBegun (limits : PlainLimits) (old new : Play) : Type 0 where
+  pub order : new.order ≡ old.order
+  pub rests : Rests limits new.core []
+  pub logs : TapeLogIs limits new.log []
+
 -- the line spells nothing that may come next
 pub record RefusesLine (play : Play) (line : List ℕ) : Type 0 where
   pub goes : (seen : Seen) → OrderIs play.order seen → SpellsNothing seen line

@@ -2,7 +2,8 @@
 ghost use Rattle.std.specs.Prelude.{◌≡◌, ◌<◌, ◌≤◌, [], IfOk, OnOk};
 ghost use Rattle.io_ports.specs.Faults.{Rose};
 ghost use Rattle.replay_run.specs.ReplayDrill.{CountsEvent, DrillsAs, IsDrillSummary, TalliesDrill};
-ghost use Rattle.plain_core.specs.Stands.{CanTake};
+ghost use Rattle.plain_core.specs.Stands.{CanTake, Rests};
+ghost use Rattle.replay_run.specs.DrillEvents.{drill_limits};
 
 use crate::drill::Drill;
 use crate::tally::{Tally, put_short};
@@ -48,18 +49,32 @@ fn drill_summary(alloc: Global, streams: u32) -> Result<Octets, NoMemory>
     Ok(text)
 }
 
-// Dispatches each event, and keeps of its notes what the short summary tells.
 fn run_drill(alloc: Global, streams: u32) -> Result<Tally, NoMemory>
     requires some { 0 < streams }
     requires few { streams ≤ 1000 }
     ensures { IfOk result (TalliesDrill streams) }
 {
     let mut core = PlainCore::new(alloc, LIMITS)?;
+    let mut notes = Notes::new(alloc);
+    run_all(alloc, streams, &mut core, &mut notes)
+}
+
+// Dispatches each event to a core that has had none, and keeps of its notes what the short summary tells.
+fn run_all(
+    alloc: Global,
+    streams: u32,
+    core: &mut PlainCore,
+    notes: &mut Notes,
+) -> Result<Tally, NoMemory>
+    requires some { 0 < streams }
+    requires few { streams ≤ 1000 }
+    requires rests { Rests drill_limits core.old [] }
+    ensures { IfOk result (TalliesDrill streams) }
+{
     let mut drill = Drill::new(streams);
     let mut tally = Tally::new();
-    let mut notes = Notes::new(alloc);
     'events: while let Some(event) = drill.next(alloc)? {
-        count_event(&mut core, event, &mut notes, &mut tally)?;
+        count_event(core, event, notes, &mut tally)?;
     }
     Ok(tally)
 }

@@ -27,10 +27,11 @@ pub struct Play {
 }
 
 impl Play {
-    ghost use Rattle.std.specs.Prelude.{◌≡◌, [], IfOk};
+    ghost use Rattle.std.specs.Prelude.{◌≡◌, [], IfOk, OnOk};
     ghost use Rattle.flow_notes.specs.Event.{IsEvent};
+    ghost use Rattle.plain_core.specs.Flows.{AreLimits};
     ghost use Rattle.plain_core.specs.Stands.{CanTake};
-    ghost use Rattle.replay_run.specs.Played.{PlaysEvent, plain_kind};
+    ghost use Rattle.replay_run.specs.Played.{IsBegun, PlaysEvent, plain_kind};
     ghost use Rattle.session_run.specs.Runs.{Begins};
 
     /// Before the first line.
@@ -44,6 +45,16 @@ impl Play {
             log: TapeLog::new(alloc, NO_LIMITS),
             notes: Notes::new(alloc),
         })
+    }
+
+    // Before the first event of a session with these limits.
+    fn begin(&mut self, limits: PlainLimits) -> Result<(), NoMemory>
+        requires { AreLimits limits }
+        ensures { OnOk result (IsBegun limits self.old self.new) }
+    {
+        self.core = PlainCore::new(self.alloc, limits)?;
+        self.log = TapeLog::new(self.alloc, limits);
+        Ok(())
     }
 
     // Dispatches an event and appends its notes, or leaves the text as it was.
@@ -78,8 +89,7 @@ impl Player for Play {
         match read_session_line(&mut self.order, line)? {
             LineRead::Header => Ok(Went::On),
             LineRead::Limits(limits) => {
-                self.core = PlainCore::new(self.alloc, limits)?;
-                self.log = TapeLog::new(self.alloc, limits);
+                self.begin(limits)?;
                 Ok(Went::On)
             }
             LineRead::Event(event) => self.event(&event, text),

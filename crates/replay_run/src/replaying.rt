@@ -90,17 +90,11 @@ fn replay_plain<S: Source, K: Sink>(alloc: Global, session: &mut S, out: &mut K)
     ensures read_fault { result.status ≡ Status.ReadFault → Rose (S.faults session.old) (S.faults session.new) }
     ensures write_fault { result.status ≡ Status.WriteFault → Rose (K.faults out.old) (K.faults out.new) }
 {
-    let Ok(play) = Play::new(alloc) else {
-        return Outcome {
-            status: Status::Memory,
-            reason: Reason::Memory,
-        };
-    };
     let Ok(lines) = Lines::new(alloc) else {
-        return Outcome {
-            status: Status::Memory,
-            reason: Reason::Memory,
-        };
+        return out_of_memory();
+    };
+    let Ok(play) = Play::new(alloc) else {
+        return out_of_memory();
     };
     let mut run = Run::new(alloc, lines, play);
     let status = run.play_all(session, out);
@@ -109,6 +103,15 @@ fn replay_plain<S: Source, K: Sink>(alloc: Global, session: &mut S, out: &mut K)
     Outcome {
         status,
         reason: Reason::of_line(status, fault),
+    }
+}
+
+fn out_of_memory() -> Outcome
+    ensures { result.status ≡ Status.Memory }
+{
+    Outcome {
+        status: Status::Memory,
+        reason: Reason::Memory,
     }
 }
 

@@ -119,8 +119,8 @@ fn open(core: &mut WireCore, number: u32, peer: Peer) -> Result<(), NoMemory>
     requires sound { IsSound core.old }
     ensures sound { OnOk result (IsSound core.new) }
 {
-    let conn = Conn::new(core.alloc, peer, &core.config.limits)?;
     core.flows.open_write(number)?;
+    let conn = Conn::new(core.alloc, peer, &core.config.limits)?;
     let _ = core.conns.insert(number, conn)?;
     core.stir(number)
 }

@@ -15,26 +15,25 @@
 //! | `doom X CAUSE [back]`, `sweep`, `tick NOW` | the octets dropped of both receive buffers, and what the client and the cluster are told; the exchange that is destroyed; the time goes on |
 //! | `live X`, `last`, `time`, `metered X`, `ends X`, `held X` | what is asked of exchanges |
 //! | `readable FLOW`, `ended FLOW`, `fields FLOW`, `watchers BUFFER` | what is asked of flows: of `fields` how many a list has that waits |
-ghost use Rattle.std.specs.Prelude.{All};
+ghost use Rattle.std.specs.Prelude.{All, IfOk};
 ghost use Rattle.proxy_config.specs.Ranges.{IsRoute};
+ghost use Rattle.wire_flows.specs.Flows.{IsThere};
 
 mod conditions;
 mod moves;
 mod words;
 
 use self::conditions::{body_refusal, goes_on, is_there, may_start};
-use self::moves::moved_words;
-use self::words::{
-    buffer_of, cause_of, fields_of, flow_of, flow_word, flows_words, reply_word, truth_words,
-};
-use crate::words::{next, number, small_number, truth};
+use self::moves::say_moves;
+use self::words::{buffer_of, cause_of, field_list, flow_of, say_flow, say_flows, say_reply};
+use crate::words::{Answers, next, number, small_number};
 use anyhow::{Result, bail};
 use exchange_core::{Received, StartSpec};
 use flow_gate::FlowId;
 use proxy_config::{Config, read_config};
-use std::alloc::Global;
+use std::alloc::{AllocError, Global};
 use std::collections::BTreeMap;
-use wire_flows::WireFlows;
+use wire_flows::{Started, WireFlows};
 use wm_buffer::{Crossed, WatermarkBuffer};
 
 /// The route rows of all cases: no filters; a Hold of 10 octets; a Meter of 8 octets that lets 5 go in 50 ms; a Meter and a Hold; a
@@ -86,46 +85,67 @@ pub struct Case {
 
 /// A case, and what each call answers.
 pub fn show(rt: &HostRuntime, line: &str) -> Result<()> {
-    let alloc = rt.alloc();
     let (_, script) = next(line);
     let (first, calls) = script.split_once(" ; ").unwrap_or((script, ""));
-    let Ok(mut config) = read_config(alloc, ROWS.as_bytes()) else {
-        bail!("no configuration");
-    };
     let (_, words) = next(first);
     let (send, multiple) = next(words);
-    config.limits.overflow_multiple = small_number(multiple).min(1000);
-    let mut case = Case {
-        flows: WireFlows::new(alloc),
-        outs: BTreeMap::new(alloc),
-        send: small_number(send).min(16_777_216),
-    };
-    let mut answers = String::from_str(alloc, "new")?;
-    for call in calls.split(" ; ") {
-        answers.push_str(" ; ")?;
-        answers.push_str(answer(alloc, &config, &mut case, call)?.as_str())?;
-    }
-    println!(rt; "{line}: {}", answers.as_str())?;
-    Ok(())
+    let config = route_rows(rt.alloc(), small_number(multiple))?;
+    let mut case = new_case(rt.alloc(), small_number(send));
+    play(rt.alloc(), &config, &mut case, calls).print(rt, line)
 }
 
-fn answer(alloc: Global, config: &Config, case: &mut Case, call: &str) -> Result<String>
+// The route rows, under which a buffer may hold so many times its limit.
+fn route_rows(alloc: Global, multiple: u32) -> Result<Config>
+    ensures { IfOk result (λ config. All IsRoute config.routes) }
+{
+    match read_config(alloc, ROWS.as_bytes()) {
+        Ok(mut config) => {
+            config.limits.overflow_multiple = multiple.min(1000);
+            Ok(config)
+        }
+        Err(_) => bail!("no configuration"),
+    }
+}
+
+fn new_case(alloc: Global, send: u32) -> Case {
+    Case {
+        flows: WireFlows::new(alloc),
+        outs: BTreeMap::new(alloc),
+        send: send.min(16_777_216),
+    }
+}
+
+// What the calls answer, one after another.
+fn play(alloc: Global, config: &Config, case: &mut Case, calls: &str) -> Answers
+    requires { All IsRoute config.now.routes }
+{
+    let mut answers = Answers::new(alloc);
+    answers.say("new");
+    for call in calls.split(" ; ") {
+        answers.begin();
+        answer(&mut answers, config, case, call);
+    }
+    answers
+}
+
+fn answer(answers: &mut Answers, config: &Config, case: &mut Case, call: &str)
     requires { All IsRoute config.now.routes }
 {
     let (name, words) = next(call);
     match name {
-        "start" => start_words(alloc, config, case, words),
-        "open" | "close" | "leave" | "rose" | "drained" | "told" => conn_words(
-            alloc, case, name, words,
-        ),
-        "head" | "body" | "finish" => came_words(alloc, case, name, words),
-        "doom" | "sweep" | "tick" => ended_words(alloc, case, name, words),
-        "step" | "run" | "unit" | "list" | "frame" => moved_words(alloc, case, name, words),
-        _ => asked_words(alloc, &case.flows, name, words),
+        "start" => start(answers, config, case, words),
+        "open" | "close" | "leave" | "rose" | "drained" | "told" => {
+            change_write(answers, case, name, words);
+        }
+        "head" | "body" | "finish" => come(answers, case, name, words),
+        "doom" | "sweep" | "tick" => end(answers, case, name, words),
+        "step" | "run" | "unit" | "list" | "frame" => say_moves(answers, case, name, words),
+        _ => ask(answers, &case.flows, name, words),
     }
 }
 
-fn start_words(alloc: Global, config: &Config, case: &mut Case, words: &str) -> Result<String>
+// `ROW CONN CONN`
+fn start(answers: &mut Answers, config: &Config, case: &mut Case, words: &str)
     requires { All IsRoute config.now.routes }
 {
     let (row, words) = next(words);
@@ -142,167 +162,220 @@ fn start_words(alloc: Global, config: &Config, case: &mut Case, words: &str) -> 
         now: case.flows.time(),
     };
     if !may_start(&case.flows, &spec, config) || spec.send > 16_777_216 {
-        bail!("it may not start");
+        answers.say("it may not start");
+        return;
     }
     match case.flows.start(&spec, config) {
-        Ok(started) => Ok(format!(in alloc;
-            "{} {} {}",
-            started.exchange,
-            truth(started.request_held),
-            truth(started.response_held)
-        )?),
-        Err(_) => bail!("no memory"),
+        Ok(started) => say_started(answers, started),
+        Err(_) => answers.say("no memory"),
     }
+}
+
+fn say_started(answers: &mut Answers, started: Started) {
+    answers.say_number(started.exchange);
+    answers.say(" ");
+    answers.say_truth(started.request_held);
+    answers.say(" ");
+    answers.say_truth(started.response_held);
 }
 
 // What is done to write buffers.
-fn conn_words(alloc: Global, case: &mut Case, name: &str, words: &str) -> Result<String> {
+fn change_write(answers: &mut Answers, case: &mut Case, name: &str, words: &str) {
     let (conn, n) = next(words);
-    let conn = small_number(conn);
+    let (conn, n) = (small_number(conn), small_number(n));
     match name {
-        "open" => {
-            let out = WatermarkBuffer::new(alloc, small_number(n));
-            let _ = case.outs.insert(conn, out)?;
-            if case.flows.open_write(conn).is_err() {
-                bail!("no memory");
-            }
+        "open" => answers.say_done(opens(answers.alloc(), case, conn, n)),
+        "close" => answers.say_truth(case.flows.close_write(conn)),
+        "leave" => answers.say_truth(drains(case, conn, n)),
+        "rose" => {
+            case.flows.write_rose(conn);
+            answers.say("done");
         }
-        "close" => return truth_words(alloc, case.flows.close_write(conn)),
-        "leave" => return leave_words(alloc, case, conn, small_number(n)),
-        "rose" => case.flows.write_rose(conn),
-        "drained" => case.flows.write_drained(conn),
-        _ => return told_words(alloc, case.flows.next_told(conn)),
+        "drained" => {
+            case.flows.write_drained(conn);
+            answers.say("done");
+        }
+        _ => say_told(answers, case.flows.next_told(conn)),
     }
-    Ok(String::from_str(alloc, "done")?)
 }
 
-fn told_words(alloc: Global, told: Option<FlowId>) -> Result<String> {
+// A write buffer of this limit is known from now on, where there is memory.
+fn opens(alloc: Global, case: &mut Case, conn: u32, limit: u32) -> bool {
+    let out = WatermarkBuffer::new(alloc, limit);
+    case.outs.insert(conn, out).is_ok() && case.flows.open_write(conn).is_ok()
+}
+
+fn say_told(answers: &mut Answers, told: Option<FlowId>) {
     match told {
-        Some(flow) => flow_word(alloc, flow),
-        None => Ok(String::from_str(alloc, "none")?),
+        Some(flow) => say_flow(answers, flow),
+        None => answers.say("none"),
     }
 }
 
 // Octets leave a write buffer: the answer is whether it drained, and then its flows are to be told.
-fn leave_words(alloc: Global, case: &mut Case, conn: u32, n: u32) -> Result<String> {
+fn drains(case: &mut Case, conn: u32, n: u32) -> bool {
     let Some(out) = case.outs.get_mut(&conn) else {
-        bail!("no such connection");
+        return false;
     };
     let n = n.min(out.len());
     let drained = out.take(n) == Crossed::Low;
     if drained {
         case.flows.write_drained(conn);
     }
-    truth_words(alloc, drained)
+    drained
 }
 
 // What comes on a flow.
-fn came_words(alloc: Global, case: &mut Case, name: &str, words: &str) -> Result<String> {
+fn come(answers: &mut Answers, case: &mut Case, name: &str, words: &str) {
     let (flow, more) = next(words);
     let Some(flow) = flow_of(flow) else {
-        bail!("no flow");
+        answers.say("no flow");
+        return;
     };
-    if name == "body" {
-        return body_words(alloc, &mut case.flows, flow, small_number(more));
-    }
-    let flows = &mut case.flows;
+    let alloc = answers.alloc();
+    answers.say(match name {
+        "body" => body(alloc, &mut case.flows, flow, small_number(more)),
+        "head" => head(alloc, &mut case.flows, flow, more == "end"),
+        _ => finish(alloc, &mut case.flows, flow, more == "trailers"),
+    });
+}
+
+fn done_word(done: bool) -> &'static str {
+    if done { "done" } else { "no memory" }
+}
+
+fn head(alloc: Global, flows: &mut WireFlows, flow: FlowId, last: bool) -> &'static str {
     if !goes_on(flows, flow) {
-        return Ok(String::from_str(alloc, "over")?);
+        return "over";
     }
-    let came = match name {
-        "head" if flows.head_came(flow) => return Ok(String::from_str(alloc, "twice")?),
-        "head" => flows.head(flow, fields_of(alloc)?, more == "end"),
-        _ if more == "trailers" => flows.finish(flow, Some(fields_of(alloc)?)),
-        _ => flows.finish(flow, None),
-    };
-    match came {
-        Ok(()) => Ok(String::from_str(alloc, "done")?),
-        Err(_) => bail!("no memory"),
+    if flows.head_came(flow) {
+        return "twice";
+    }
+    match field_list(alloc) {
+        Ok(list) => done_word(flows.head(flow, list, last).is_ok()),
+        Err(_) => "no memory",
+    }
+}
+
+fn finish(alloc: Global, flows: &mut WireFlows, flow: FlowId, trailers: bool) -> &'static str {
+    if !goes_on(flows, flow) {
+        return "over";
+    }
+    if !trailers {
+        return done_word(flows.finish(flow, None).is_ok());
+    }
+    match field_list(alloc) {
+        Ok(list) => done_word(flows.finish(flow, Some(list)).is_ok()),
+        Err(_) => "no memory",
     }
 }
 
 // N octets of a body, behind its head and before its end.
-fn body_words(alloc: Global, flows: &mut WireFlows, flow: FlowId, n: u32) -> Result<String> {
+fn body(alloc: Global, flows: &mut WireFlows, flow: FlowId, n: u32) -> &'static str {
     if let Some(word) = body_refusal(flows, flow) {
-        return Ok(String::from_str(alloc, word)?);
+        return word;
     }
-    let mut octets = Vec::new(alloc);
-    octets.resize(n as usize, b'x')?;
-    let word = match flows.receive(flow, octets.as_slice()) {
+    let Ok(octets) = body_octets(alloc, n) else {
+        return "no memory";
+    };
+    match flows.receive(flow, octets.as_slice()) {
         Received::NotLive => "not live",
         Received::TooMany => "too many",
         Received::Arrived => "arrived",
-    };
-    Ok(String::from_str(alloc, word)?)
+    }
+}
+
+fn body_octets(alloc: Global, n: u32) -> std::result::Result<Vec<u8>, AllocError> {
+    let mut octets = Vec::new(alloc);
+    octets.resize(n as usize, b'x')?;
+    Ok(octets)
 }
 
 // Dooms, what follows them, and time.
-fn ended_words(alloc: Global, case: &mut Case, name: &str, words: &str) -> Result<String> {
+fn end(answers: &mut Answers, case: &mut Case, name: &str, words: &str) {
     let (first, more) = next(words);
-    if name == "tick" {
-        let now = number(first).max(case.flows.time());
-        case.flows.tick(now);
-        return Ok(String::from_str(alloc, "done")?);
+    match name {
+        "tick" => {
+            let now = number(first).max(case.flows.time());
+            case.flows.tick(now);
+            answers.say("done");
+        }
+        "sweep" => answers.say_or(case.flows.sweep(), "none"),
+        _ => doom(answers, &mut case.flows, number(first), more),
     }
-    if name == "sweep" {
-        return match case.flows.sweep() {
-            Some(exchange) => Ok(format!(in alloc; "{exchange}")?),
-            None => Ok(String::from_str(alloc, "none")?),
-        };
+}
+
+// `CAUSE [back]`
+fn doom(answers: &mut Answers, flows: &mut WireFlows, exchange: u64, words: &str) {
+    if !flows.is_live(exchange) {
+        answers.say("over");
+        return;
     }
-    let exchange = number(first);
-    if !case.flows.is_live(exchange) {
-        return Ok(String::from_str(alloc, "over")?);
-    }
-    let (cause, side) = next(more);
-    let doomed = case.flows.doom(exchange, cause_of(cause), side == "back");
-    Ok(format!(in alloc;
-        "{} {} {} {}",
-        doomed.request_left,
-        doomed.response_left,
-        reply_word(alloc, doomed.down)?.as_str(),
-        reply_word(alloc, doomed.up)?.as_str()
-    )?)
+    let (cause, side) = next(words);
+    let doomed = flows.doom(exchange, cause_of(cause), side == "back");
+    answers.say_number(u64::from(doomed.request_left));
+    answers.say_with(" ", u64::from(doomed.response_left));
+    answers.say(" ");
+    say_reply(answers, doomed.down);
+    answers.say(" ");
+    say_reply(answers, doomed.up);
 }
 
 // What is asked of exchanges, and of write buffers.
-fn asked_words(alloc: Global, flows: &WireFlows, name: &str, words: &str) -> Result<String> {
+fn ask(answers: &mut Answers, flows: &WireFlows, name: &str, words: &str) {
     let exchange = number(words);
     match name {
-        "knows" => truth_words(alloc, flows.knows_write(small_number(words))),
-        "live" => truth_words(alloc, flows.is_live(exchange)),
-        "last" => Ok(format!(in alloc; "{}", flows.last())?),
-        "time" => Ok(format!(in alloc; "{}", flows.time())?),
-        "metered" => match flows.metered(exchange) {
-            Some(exchange) => Ok(format!(in alloc; "{exchange}")?),
-            None => Ok(String::from_str(alloc, "none")?),
-        },
-        "ends" if flows.is_live(exchange) => {
-            let ends = flows.ends(exchange);
-            Ok(format!(in alloc; "{} {}", truth(ends.request), truth(ends.response))?)
-        }
-        "held" if flows.is_live(exchange) => Ok(format!(in alloc; "{}", flows.held(exchange))?),
+        "knows" => answers.say_truth(flows.knows_write(small_number(words))),
+        "live" => answers.say_truth(flows.is_live(exchange)),
+        "last" => answers.say_number(flows.last()),
+        "time" => answers.say_number(flows.time()),
+        "metered" => answers.say_or(flows.metered(exchange), "none"),
+        "ends" | "held" => ask_of_exchange(answers, flows, name, exchange),
         "watchers" => match buffer_of(words) {
-            Some(buffer) => flows_words(alloc, flows.watchers(buffer)),
-            None => bail!("no buffer"),
+            Some(buffer) => say_flows(answers, flows.watchers(buffer)),
+            None => answers.say("no buffer"),
         },
-        _ => asked_of_flow(alloc, flows, name, words),
+        _ => ask_of_flow(answers, flows, name, words),
+    }
+}
+
+fn ask_of_exchange(answers: &mut Answers, flows: &WireFlows, name: &str, exchange: u64) {
+    if !flows.is_live(exchange) {
+        answers.say("no flow");
+        return;
+    }
+    match name {
+        "ends" => {
+            let ends = flows.ends(exchange);
+            answers.say_truth(ends.request);
+            answers.say(" ");
+            answers.say_truth(ends.response);
+        }
+        _ => answers.say_number(flows.held(exchange)),
     }
 }
 
 // What is asked of a flow.
-fn asked_of_flow(alloc: Global, flows: &WireFlows, name: &str, words: &str) -> Result<String> {
+fn ask_of_flow(answers: &mut Answers, flows: &WireFlows, name: &str, words: &str) {
     let Some(flow) = flow_of(words) else {
-        bail!("no flow");
+        answers.say("no flow");
+        return;
     };
     match name {
-        "readable" => truth_words(alloc, flows.is_readable(flow)),
-        _ if !is_there(flows, flow) => Ok(String::from_str(alloc, "over")?),
-        "ended" => truth_words(alloc, flows.has_ended(flow)),
-        "fields" => match flows.fields(flow) {
-            Some(list) => Ok(format!(in alloc; "{}", list.len())?),
-            None => Ok(String::from_str(alloc, "none")?),
-        },
-        _ => bail!("no such call"),
+        "readable" => answers.say_truth(flows.is_readable(flow)),
+        _ if !is_there(flows, flow) => answers.say("over"),
+        "ended" => answers.say_truth(flows.has_ended(flow)),
+        "fields" => say_fields(answers, flows, flow),
+        _ => answers.say("no such call"),
+    }
+}
+
+// How many fields the list has that waits.
+fn say_fields(answers: &mut Answers, flows: &WireFlows, flow: FlowId)
+    requires { IsThere flows.now flow }
+{
+    match flows.fields(flow) {
+        Some(list) => answers.say_number(list.len() as u64),
+        None => answers.say("none"),
     }
 }

@@ -15,12 +15,12 @@ ghost use Rattle.std.specs.Prelude.{◌<◌, ◌^◌, length, IfOk};
 ghost use Rattle.std.specs.Option.{ForSome};
 ghost use Rattle.proxy_config.specs.Ranges.{IsInRange};
 
-use crate::words::{number, small_number};
+use crate::words::{Answers, number, small_number};
 use anyhow::{Result, bail};
 use hpack_codec::{Field, FieldList};
-use io_ports::Octets;
+use io_ports::{NoMemory, Octets};
 use proxy_config::{Config, read_config};
-use std::alloc::{AllocError, Global};
+use std::alloc::Global;
 use wire_heads::{
     Decision, Expected, Judged, Response, judge_request, judge_response, judge_trailers, place,
 };
@@ -95,39 +95,41 @@ fn without<'a>(words: &'a str, front: &str) -> (bool, &'a str) {
     }
 }
 
-fn octets_of(alloc: Global, word: &str) -> Result<Octets> {
-    match Octets::from_slice(alloc, word.as_bytes()) {
-        Ok(octets) => Ok(octets),
-        Err(_) => bail!("out of memory"),
+// A field of these words: its name, a space and its value.
+fn field_of(alloc: Global, words: &str) -> std::result::Result<Field, NoMemory> {
+    let (name, value) = words.split_once(' ').unwrap_or((words, ""));
+    Ok(Field {
+        name: Octets::from_slice(alloc, name.as_bytes())?,
+        value: Octets::from_slice(alloc, value.as_bytes())?,
+        never: false,
+    })
+}
+
+// The list whose fields stand between bars.
+fn fields_of(alloc: Global, words: &str) -> std::result::Result<FieldList, NoMemory> {
+    let mut list = FieldList::new(alloc);
+    for word in words.split(" | ") {
+        list.push(field_of(alloc, word)?)?;
     }
+    Ok(list)
 }
 
 // The list whose fields stand between bars, or none that was too long.
-fn list_of(alloc: Global, words: &str) -> Result<Option<FieldList>>
+fn list_of(alloc: Global, words: &str) -> std::result::Result<Option<FieldList>, NoMemory>
     ensures { IfOk result (λ list. ForSome list (λ list. length list < 2 ^ 32)) }
 {
     if words == "long" {
         return Ok(None);
     }
-    let mut list = FieldList::new(alloc);
-    for word in words.split(" | ") {
-        let (name, value) = word.split_once(' ').unwrap_or((word, ""));
-        let field = Field {
-            name: octets_of(alloc, name)?,
-            value: octets_of(alloc, value)?,
-            never: false,
-        };
-        if list.push(field).is_err() {
-            bail!("out of memory");
-        }
-    }
+    let list = fields_of(alloc, words)?;
     if list.len() > u32::MAX as usize {
-        bail!("too many fields");
+        return Err(NoMemory);
     }
     Ok(Some(list))
 }
 
-fn request_words(alloc: Global, config: &Config, bodies: &mut Bodies, words: &str) -> Result<String>
+// `[end] [stops] [to CONN] LIST`
+fn say_request(answers: &mut Answers, config: &Config, bodies: &mut Bodies, words: &str)
     requires { IsInRange config.now }
 {
     let (last, words) = without(words, "end");
@@ -136,119 +138,139 @@ fn request_words(alloc: Global, config: &Config, bodies: &mut Bodies, words: &st
     let (conn, words) = words
         .split_once(if is_chosen { " " } else { "\n" })
         .unwrap_or(("", words));
-    let list = list_of(alloc, words)?;
-    let decision = match judge_request(config, list.as_ref(), last, stops) {
+    let chosen = if is_chosen {
+        Some(small_number(conn))
+    } else {
+        None
+    };
+    let Ok(list) = list_of(answers.alloc(), words) else {
+        answers.say("no memory");
+        return;
+    };
+    let judged = judge_request(config, list.as_ref(), last, stops);
+    say_decision(answers, &decided(bodies, judged, chosen));
+}
+
+// What is decided of a request, where it may go to this connection.
+fn decided(bodies: &mut Bodies, judged: Judged, chosen: Option<u32>) -> Decision {
+    match judged {
         Judged::Decided(decision) => decision,
         Judged::Choose(routed) => {
             *bodies = Bodies {
                 request: routed.request,
                 response: routed.response,
             };
-            let chosen = if is_chosen {
-                Some(small_number(conn))
-            } else {
-                None
-            };
             place(routed, chosen)
         }
-    };
-    Ok(decision_words(alloc, &decision)?)
+    }
 }
 
-fn decision_words(alloc: Global, decision: &Decision) -> Result<String, AllocError> {
+fn say_decision(answers: &mut Answers, decision: &Decision) {
     match decision {
         Decision::Going { routed, conn } => {
-            format!(in alloc;
-                "row {}, cluster {}, connection {conn}",
-                routed.row, routed.cluster
-            )
+            answers.say_with("row ", u64::from(routed.row));
+            answers.say_with(", cluster ", u64::from(routed.cluster));
+            answers.say_with(", connection ", u64::from(*conn));
         }
-        Decision::Refused {
-            status,
-            row: Some(row),
-        } => { format!(in alloc; "refused {status}, row {row}") }
-        Decision::Refused { status, row: None } => format!(in alloc; "refused {status}"),
-        Decision::Malformed => String::from_str(alloc, "malformed"),
-        Decision::Overload => String::from_str(alloc, "overload"),
+        Decision::Refused { status, row } => {
+            answers.say_with("refused ", u64::from(*status));
+            say_row(answers, *row);
+        }
+        Decision::Malformed => answers.say("malformed"),
+        Decision::Overload => answers.say("overload"),
     }
 }
 
-fn response_words(bodies: &mut Bodies, words: &str, alloc: Global) -> Result<&'static str> {
+fn say_row(answers: &mut Answers, row: Option<u32>) {
+    if let Some(row) = row {
+        answers.say_with(", row ", u64::from(row));
+    }
+}
+
+fn response_word(bodies: &mut Bodies, words: &str, alloc: Global) -> &'static str {
     let (last, words) = without(words, "end");
-    let list = list_of(alloc, words)?;
+    let Ok(list) = list_of(alloc, words) else {
+        return "no memory";
+    };
     match judge_response(list.as_ref(), last, &bodies.response) {
-        Response::Interim => Ok("interim"),
-        Response::Malformed => Ok("malformed"),
+        Response::Interim => "interim",
+        Response::Malformed => "malformed",
         Response::Final { expected } => {
             bodies.response = expected;
-            Ok("final")
+            "final"
         }
     }
 }
 
-fn fit_words(fits: bool) -> &'static str {
+fn fit_word(fits: bool) -> &'static str {
     if fits { "fit" } else { "malformed" }
 }
 
-fn trailer_words(bodies: &mut Bodies, words: &str, alloc: Global) -> Result<&'static str> {
+fn trailer_word(bodies: &mut Bodies, words: &str, alloc: Global) -> &'static str {
     let (side, words) = words.split_once(' ').unwrap_or((words, ""));
-    let list = list_of(alloc, words)?;
-    Ok(fit_words(judge_trailers(list.as_ref(), bodies.of(side))))
+    match list_of(alloc, words) {
+        Ok(list) => fit_word(judge_trailers(list.as_ref(), bodies.of(side))),
+        Err(_) => "no memory",
+    }
 }
 
-fn body_words(bodies: &mut Bodies, words: &str) -> &'static str {
+fn body_word(bodies: &mut Bodies, words: &str) -> &'static str {
     let (side, words) = words.split_once(' ').unwrap_or((words, ""));
     let (last, word) = without(words, "end");
-    fit_words(bodies.of(side).grows(number(word) as usize, last))
+    fit_word(bodies.of(side).grows(number(word) as usize, last))
 }
 
-fn length_words(alloc: Global, expected: &Expected) -> Result<String, AllocError> {
-    let (body, bodiless) = (expected.body, expected.bodiless);
-    match expected.declared {
-        Some(length) => format!(in alloc;
-            "{body} of {length}{}",
-            if bodiless { " or none" } else { "" }
-        ),
-        None => format!(in alloc; "{body}{}", if bodiless { " or none" } else { "" }),
+// So many octets of a body came before.
+fn came_word(bodies: &mut Bodies, words: &str) -> &'static str {
+    let (side, word) = words.split_once(' ').unwrap_or((words, ""));
+    bodies.of(side).body = number(word);
+    "so"
+}
+
+fn say_length(answers: &mut Answers, expected: &Expected) {
+    answers.say_number(expected.body);
+    if let Some(length) = expected.declared {
+        answers.say_with(" of ", length);
+    }
+    if expected.bodiless {
+        answers.say(" or none");
     }
 }
 
 // What one call answers.
-fn answer(alloc: Global, config: &Config, bodies: &mut Bodies, call: &str) -> Result<String>
+fn answer(answers: &mut Answers, config: &Config, bodies: &mut Bodies, call: &str)
     requires { IsInRange config.now }
 {
     let (kind, words) = call.split_once(' ').unwrap_or((call, ""));
-    let words = match kind {
-        "request" => return request_words(alloc, config, bodies, words),
+    match kind {
+        "request" => say_request(answers, config, bodies, words),
         "lengths" => {
-            let request = length_words(alloc, &bodies.request)?;
-            let response = length_words(alloc, &bodies.response)?;
-            return Ok(format!(in alloc; "{request}, {response}")?);
+            say_length(answers, &bodies.request);
+            answers.say(", ");
+            say_length(answers, &bodies.response);
         }
-        "response" => response_words(bodies, words, alloc)?,
-        "trailers" => trailer_words(bodies, words, alloc)?,
-        "body" => body_words(bodies, words),
-        "came" => {
-            let (side, word) = words.split_once(' ').unwrap_or((words, ""));
-            bodies.of(side).body = number(word);
-            "so"
-        }
+        _ => answers.say(word_of(bodies, kind, words, answers.alloc())),
+    }
+}
+
+fn word_of(bodies: &mut Bodies, kind: &str, words: &str, alloc: Global) -> &'static str {
+    match kind {
+        "response" => response_word(bodies, words, alloc),
+        "trailers" => trailer_word(bodies, words, alloc),
+        "body" => body_word(bodies, words),
+        "came" => came_word(bodies, words),
         _ => "no such call",
-    };
-    Ok(String::from_str(alloc, words)?)
+    }
 }
 
 /// Prints a case and what its calls answer.
 pub fn show(rt: &HostRuntime, line: &str) -> Result<()> {
     let config = routes(rt.alloc())?;
     let mut bodies = Bodies::none();
-    let mut answers = String::new(rt.alloc());
+    let mut answers = Answers::new(rt.alloc());
     for call in line.split(" ; ").skip(1) {
-        if !answers.is_empty() {
-            answers.push_str(" ; ")?;
-        }
-        answers.push_str(answer(rt.alloc(), &config, &mut bodies, call)?.as_str())?;
+        answers.begin();
+        answer(&mut answers, &config, &mut bodies, call);
     }
-    println!(rt; "{line}: {}", answers.as_str())?;
-    Ok(())
+    answers.print(rt, line)
 }

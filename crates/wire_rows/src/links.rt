@@ -1,27 +1,17 @@
 // Connections and exchanges.
-use crate::words::{next, number, small_number};
+use crate::words::{Answers, next, number, small_number};
 use anyhow::Result;
-use std::alloc::{AllocError, Global};
 use wire_links::{Ends, Links};
 
 /// Prints a case of links, and what each of its calls answers.
 pub fn show(rt: &HostRuntime, line: &str) -> Result<()> {
-    let alloc = rt.alloc();
-    let mut links = Links::new(alloc);
-    let mut answers = String::new(alloc);
+    let mut links = Links::new(rt.alloc());
+    let mut answers = Answers::new(rt.alloc());
     for call in line.split(" ; ").skip(1) {
-        if !answers.is_empty() {
-            answers.push_str(" ; ")?;
-        }
-        answers.push_str(answer(alloc, &mut links, call)?.as_str())?;
+        answers.begin();
+        answer(&mut answers, &mut links, &call_of(call));
     }
-    println!(rt; "{line}: {}", answers.as_str())?;
-    Ok(())
-}
-
-// A number, or a dash where there is none.
-fn optional(word: &str) -> Option<u32> {
-    word.parse::<u32>().ok()
+    answers.print(rt, line)
 }
 
 // The words of a call: its name, and up to four arguments.
@@ -48,42 +38,54 @@ fn call_of<'a>(text: &'a str) -> Call<'a> {
     }
 }
 
-fn answer(alloc: Global, links: &mut Links, text: &str) -> Result<String> {
-    let call = call_of(text);
-    let answer = match call.name {
-        "accept" | "join" | "concurrent" | "drain" | "close" | "forget" => {
-            change(alloc, links, &call)
+fn answer(answers: &mut Answers, links: &mut Links, call: &Call<'_>) {
+    match call.name {
+        "accept" | "join" | "concurrent" | "close" | "forget" => {
+            let done = change(links, call);
+            say_allowed(answers, done);
         }
-        "start" | "framed" | "doom" => exchange(alloc, links, &call),
-        "known" | "open" | "client" | "draining" => test(alloc, links, &call),
-        _ => look(alloc, links, &call),
-    }?;
-    Ok(answer)
+        "drain" => {
+            let drained = links.drain(small_number(call.one), small_number(call.two));
+            say_yes(answers, drained);
+        }
+        "start" | "framed" => {
+            let done = exchange(links, call);
+            say_allowed(answers, done);
+        }
+        "doom" => {
+            let ends = links.doom(number(call.one));
+            say_ends(answers, ends);
+        }
+        "known" | "open" | "client" | "draining" => say_yes(answers, test(links, call)),
+        _ => look(answers, links, call),
+    }
 }
 
-fn done(alloc: Global, is_done: bool) -> Result<String, AllocError> {
-    String::from_str(alloc, if is_done { "ok" } else { "not allowed" })
+fn say_allowed(answers: &mut Answers, is_done: bool) {
+    answers.say(if is_done { "ok" } else { "not allowed" });
+}
+
+fn say_yes(answers: &mut Answers, holds: bool) {
+    answers.say(if holds { "yes" } else { "no" });
 }
 
 // What changes a connection.
-fn change(alloc: Global, links: &mut Links, call: &Call<'_>) -> Result<String, AllocError> {
+fn change(links: &mut Links, call: &Call<'_>) -> bool {
     let conn = small_number(call.one);
     let two = small_number(call.two);
-    let is_done = match call.name {
+    match call.name {
         "accept" => !links.is_known(conn) && links.accept(conn).is_ok(),
         "join" => !links.is_known(conn) && links.join(conn, two).is_ok(),
-        "drain" => return yes(alloc, links.drain(conn, two)),
+        "forget" => forgets(links, conn),
         "close" => {
             links.close(conn);
             true
         }
-        "forget" => forgets(links, conn),
         _ => {
             links.set_concurrent(conn, two);
             true
         }
-    };
-    done(alloc, is_done)
+    }
 }
 
 fn forgets(links: &mut Links, conn: u32) -> bool {
@@ -95,15 +97,11 @@ fn forgets(links: &mut Links, conn: u32) -> bool {
 }
 
 // What changes an exchange.
-fn exchange(alloc: Global, links: &mut Links, call: &Call<'_>) -> Result<String, AllocError> {
+fn exchange(links: &mut Links, call: &Call<'_>) -> bool {
     let number = number(call.one);
     match call.name {
-        "start" => done(alloc, starts(links, number, call)),
-        "framed" => done(alloc, frames(links, number, small_number(call.two))),
-        _ => match links.doom(number) {
-            Some(ends) => ends_words(alloc, &ends),
-            None => String::from_str(alloc, "-"),
-        },
+        "start" => starts(links, number, call),
+        _ => frames(links, number, small_number(call.two)),
     }
 }
 
@@ -116,7 +114,7 @@ fn starts(links: &mut Links, exchange: u64, call: &Call<'_>) -> bool {
     if links.exchange_at(conn, stream).is_some() {
         return false;
     }
-    let Some(to) = optional(call.four) else {
+    let Some(to) = call.four.parse::<u32>().ok() else {
         return links.start(exchange, conn, stream, None).is_ok();
     };
     if links.cluster_of(to).is_none() {
@@ -139,61 +137,56 @@ fn frames(links: &mut Links, exchange: u64, stream: u32) -> bool {
     links.framed_to(exchange, stream).is_ok()
 }
 
-fn yes(alloc: Global, holds: bool) -> Result<String, AllocError> {
-    String::from_str(alloc, if holds { "yes" } else { "no" })
-}
-
-fn test(alloc: Global, links: &Links, call: &Call<'_>) -> Result<String, AllocError> {
+fn test(links: &Links, call: &Call<'_>) -> bool {
     let conn = small_number(call.one);
-    let holds = match call.name {
+    match call.name {
         "known" => links.is_known(conn),
         "open" => links.is_open(conn),
         "client" => links.is_client(conn),
         _ => links.is_draining(conn),
-    };
-    yes(alloc, holds)
-}
-
-// What is looked up.
-fn look(alloc: Global, links: &Links, call: &Call<'_>) -> Result<String, AllocError> {
-    let (conn, two) = (small_number(call.one), small_number(call.two));
-    match call.name {
-        "cluster" => short_words(alloc, links.cluster_of(conn)),
-        "last" => short_words(alloc, links.goaway_last(conn)),
-        "next_client" => short_words(alloc, links.next_client(conn)),
-        "choose" => short_words(alloc, links.choose(conn)),
-        "at" => number_words(alloc, links.exchange_at(conn, two)),
-        "count" => format!(in alloc; "{}", links.exchanges_of(conn)),
-        "least" => number_words(alloc, links.least_of(conn)),
-        "next" => number_words(alloc, links.next_of(conn, number(call.two))),
-        "ends" => match links.ends_of(number(call.one)) {
-            Some(ends) => ends_words(alloc, &ends),
-            None => String::from_str(alloc, "-"),
-        },
-        _ => String::from_str(alloc, "no such call"),
     }
 }
 
-fn short_words(alloc: Global, number: Option<u32>) -> Result<String, AllocError> {
-    number_words(alloc, number.map(|n| u64::from(n)))
+// What is looked up.
+fn look(answers: &mut Answers, links: &Links, call: &Call<'_>) {
+    let conn = small_number(call.one);
+    match call.name {
+        "cluster" => say_small(answers, links.cluster_of(conn)),
+        "last" => say_small(answers, links.goaway_last(conn)),
+        "next_client" => say_small(answers, links.next_client(conn)),
+        "choose" => say_small(answers, links.choose(conn)),
+        "ends" => say_ends(answers, links.ends_of(number(call.one))),
+        _ => look_at_exchanges(answers, links, conn, call),
+    }
 }
 
-fn number_words(alloc: Global, number: Option<u64>) -> Result<String, AllocError> {
+fn look_at_exchanges(answers: &mut Answers, links: &Links, conn: u32, call: &Call<'_>) {
+    match call.name {
+        "at" => answers.say_or(links.exchange_at(conn, small_number(call.two)), "-"),
+        "count" => answers.say_number(links.exchanges_of(conn) as u64),
+        "least" => answers.say_or(links.least_of(conn), "-"),
+        "next" => answers.say_or(links.next_of(conn, number(call.two)), "-"),
+        _ => answers.say("no such call"),
+    }
+}
+
+fn say_small(answers: &mut Answers, number: Option<u32>) {
     match number {
-        Some(number) => format!(in alloc; "{number}"),
-        None => String::from_str(alloc, "-"),
+        Some(number) => answers.say_number(u64::from(number)),
+        None => answers.say("-"),
     }
 }
 
 // `CLIENT/STREAM CLUSTER/STREAM`
-fn ends_words(alloc: Global, ends: &Ends) -> Result<String, AllocError> {
-    let to = short_words(alloc, ends.cluster)?;
-    let stream = short_words(alloc, ends.cluster_stream)?;
-    format!(in alloc;
-        "{}/{} {}/{}",
-        ends.client,
-        ends.stream,
-        to.as_str(),
-        stream.as_str()
-    )
+fn say_ends(answers: &mut Answers, ends: Option<Ends>) {
+    let Some(ends) = ends else {
+        answers.say("-");
+        return;
+    };
+    answers.say_number(u64::from(ends.client));
+    answers.say_with("/", u64::from(ends.stream));
+    answers.say(" ");
+    say_small(answers, ends.cluster);
+    answers.say("/");
+    say_small(answers, ends.cluster_stream);
 }

@@ -1,5 +1,5 @@
 // A load, and what is done to it.
-use crate::words::{next, number, small_number, truth};
+use crate::words::{Answers, next, number, small_number};
 use anyhow::{Result, bail};
 use proxy_config::{Config, read_config};
 use std::alloc::Global;
@@ -40,65 +40,67 @@ value = 900000
 
 /// `load new START ; CALL ; ..`: the line, and what each call answers.
 pub fn show(rt: &HostRuntime, line: &str) -> Result<()> {
-    let alloc = rt.alloc();
     let (_, script) = next(line);
     let (first, calls) = script.split_once(" ; ").unwrap_or((script, ""));
-    let Ok(config) = read_config(alloc, TRIGGERS.as_bytes()) else {
+    let Ok(config) = read_config(rt.alloc(), TRIGGERS.as_bytes()) else {
         bail!("no configuration");
     };
     let (_, start) = next(first);
-    let mut load = new_load(alloc, small_number(start))?;
-    let mut answers = String::from_str(alloc, "new")?;
-    for call in calls.split(" ; ") {
-        answers.push_str(" ; ")?;
-        answers.push_str(answer(alloc, &config, &mut load, call)?.as_str())?;
-    }
-    println!(rt; "{line}: {}", answers.as_str())?;
-    Ok(())
-}
-
-fn new_load(alloc: Global, start: u32) -> Result<Load> {
-    if start > 40 {
+    let Some(mut load) = new_load(rt.alloc(), small_number(start)) else {
         bail!("class 1 starts too high");
-    }
-    match Load::new(alloc, start) {
-        Ok(load) => Ok(load),
-        Err(_) => bail!("no memory"),
-    }
+    };
+    play(rt.alloc(), &config, &mut load, calls).print(rt, line)
 }
 
-fn answer(alloc: Global, config: &Config, load: &mut Load, call: &str) -> Result<String> {
+// What the calls answer, one after another.
+fn play(alloc: Global, config: &Config, load: &mut Load, calls: &str) -> Answers {
+    let mut answers = Answers::new(alloc);
+    answers.say("new");
+    for call in calls.split(" ; ") {
+        answers.begin();
+        answer(&mut answers, config, load, call);
+    }
+    answers
+}
+
+fn new_load(alloc: Global, start: u32) -> Option<Load> {
+    if start > 40 {
+        return None;
+    }
+    Load::new(alloc, start).ok()
+}
+
+fn answer(answers: &mut Answers, config: &Config, load: &mut Load, call: &str) {
     let (name, words) = next(call);
     match name {
-        "obey" => obey_words(alloc, config, load, words),
-        "actions" => actions_words(alloc, load),
-        "state" | "saturated" => state_words(alloc, load, name, words),
-        "timeouts" => Ok(format!(in alloc; "{}", load.timeouts_state())?),
-        "next" => exchange_words(alloc, load.next_reset()),
-        "take" => exchange_words(alloc, load.take_touched()),
-        _ => changed_words(alloc, load, name, words),
+        "obey" => {
+            obey(config, load, words);
+            answers.say("obeyed");
+        }
+        "actions" => say_actions(answers, load),
+        "state" => answers.say_number(u64::from(load.state(action_of(words)))),
+        "saturated" => answers.say_truth(load.is_saturated(action_of(words))),
+        "timeouts" => answers.say_number(u64::from(load.timeouts_state())),
+        "next" => answers.say_or(load.next_reset(), "none"),
+        "take" => answers.say_or(load.take_touched(), "none"),
+        _ => change(answers, load, name, words),
     }
 }
 
 // `P P`: the pressures of the two resources.
-fn obey_words(alloc: Global, config: &Config, load: &mut Load, words: &str) -> Result<String> {
+fn obey(config: &Config, load: &mut Load, words: &str) {
     let (mem, fds) = next(words);
     load.obey(config, &[small_number(mem), small_number(fds)]);
-    Ok(String::from_str(alloc, "obeyed")?)
 }
 
-fn actions_words(alloc: Global, load: &Load) -> Result<String> {
+fn say_actions(answers: &mut Answers, load: &Load) {
     let of = load.actions();
-    let text = format!(in alloc;
-        "{} {} {} {} {} {}",
-        of.stop_requests,
-        of.stop_accepting,
-        of.reject_incoming,
-        of.no_keepalive,
-        of.reduce_timeouts,
-        of.reset_streams
-    )?;
-    Ok(text)
+    answers.say_number(u64::from(of.stop_requests));
+    answers.say_with(" ", u64::from(of.stop_accepting));
+    answers.say_with(" ", u64::from(of.reject_incoming));
+    answers.say_with(" ", u64::from(of.no_keepalive));
+    answers.say_with(" ", u64::from(of.reduce_timeouts));
+    answers.say_with(" ", u64::from(of.reset_streams));
 }
 
 fn action_of(word: &str) -> Action {
@@ -112,36 +114,17 @@ fn action_of(word: &str) -> Action {
     }
 }
 
-fn state_words(alloc: Global, load: &Load, name: &str, action: &str) -> Result<String> {
-    let action = action_of(action);
-    if name == "saturated" {
-        return Ok(String::from_str(alloc, truth(load.is_saturated(action)))?);
-    }
-    Ok(format!(in alloc; "{}", load.state(action))?)
-}
-
-fn exchange_words(alloc: Global, exchange: Option<u64>) -> Result<String> {
-    match exchange {
-        Some(exchange) => Ok(format!(in alloc; "{exchange}")?),
-        None => Ok(String::from_str(alloc, "none")?),
-    }
-}
-
 // `touch X`, `settle X OCTETS` or `drop X`.
-fn changed_words(alloc: Global, load: &mut Load, name: &str, words: &str) -> Result<String> {
+fn change(answers: &mut Answers, load: &mut Load, name: &str, words: &str) {
     let (exchange, octets) = next(words);
     let exchange = number(exchange);
-    let done = match name {
-        "touch" => load.touch(exchange),
-        "settle" => load.settle(exchange, number(octets)),
+    match name {
+        "touch" => answers.say_done(load.touch(exchange).is_ok()),
+        "settle" => answers.say_done(load.settle(exchange, number(octets)).is_ok()),
         "drop" => {
             load.drop_one(exchange);
-            Ok(())
+            answers.say("done");
         }
-        _ => bail!("no such call"),
-    };
-    match done {
-        Ok(()) => Ok(String::from_str(alloc, "done")?),
-        Err(_) => bail!("no memory"),
+        _ => answers.say("no such call"),
     }
 }

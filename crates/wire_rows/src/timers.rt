@@ -2,12 +2,12 @@
 ghost use Rattle.std.specs.Prelude.{◌≤◌, IsTrue};
 ghost use Rattle.proxy_config.specs.Ranges.{AreTimeouts};
 
-use crate::words::{next, number, small_number, truth};
+use crate::words::{Answers, next, number, small_number};
 use anyhow::{Result, bail};
 use flow_notes::FireKind;
 use proxy_config::{Config, TimeoutKeys};
 use std::alloc::Global;
-use wire_timers::WireTimers;
+use wire_timers::{DueList, WireTimers};
 
 /// The timers, and a moment that is no earlier than any that they were told.
 #[derive(Drop)]
@@ -19,37 +19,42 @@ struct Clock {
 
 /// `timers new ROUTE STREAM LEAST CONNECTION LEAST ; CALL ; ..`: the line, and what each call answers.
 pub fn show(rt: &HostRuntime, line: &str) -> Result<()> {
-    let alloc = rt.alloc();
     let (_, script) = next(line);
     let (first, calls) = script.split_once(" ; ").unwrap_or((script, ""));
-    let mut clock = new_clock(alloc, first)?;
-    let mut answers = String::from_str(alloc, "new")?;
+    let Some(mut clock) = new_clock(rt.alloc(), first) else {
+        bail!("no timeouts");
+    };
+    let mut answers = Answers::new(rt.alloc());
+    answers.say("new");
     for call in calls.split(" ; ") {
-        answers.push_str(" ; ")?;
-        answers.push_str(answer(alloc, &mut clock, call)?.as_str())?;
+        answers.begin();
+        answer(&mut answers, &mut clock, call);
     }
-    println!(rt; "{line}: {}", answers.as_str())?;
-    Ok(())
+    answers.print(rt, line)
 }
 
 // `new ROUTE STREAM LEAST CONNECTION LEAST`, in milliseconds.
-fn new_clock(alloc: Global, words: &str) -> Result<Clock> {
+fn new_clock(alloc: Global, words: &str) -> Option<Clock> {
     let (_, words) = next(words);
+    let timeouts = timeouts_of(words);
+    if !are_timeouts(&timeouts) {
+        return None;
+    }
+    timed(alloc, timeouts)
+}
+
+fn timeouts_of(words: &str) -> TimeoutKeys {
     let (route, words) = next(words);
     let (stream_idle, words) = next(words);
     let (stream_idle_min, words) = next(words);
     let (connection_idle, connection_idle_min) = next(words);
-    let timeouts = TimeoutKeys {
+    TimeoutKeys {
         route: number(route),
         stream_idle: number(stream_idle),
         connection_idle: number(connection_idle),
         stream_idle_min: number(stream_idle_min),
         connection_idle_min: number(connection_idle_min),
-    };
-    if !are_timeouts(&timeouts) {
-        bail!("no timeouts");
     }
-    timed(alloc, timeouts)
 }
 
 fn are_timeouts(keys: &TimeoutKeys) -> bool
@@ -62,17 +67,13 @@ fn are_timeouts(keys: &TimeoutKeys) -> bool
         && keys.connection_idle_min <= keys.connection_idle
 }
 
-fn timed(alloc: Global, timeouts: TimeoutKeys) -> Result<Clock>
+fn timed(alloc: Global, timeouts: TimeoutKeys) -> Option<Clock>
     requires { AreTimeouts timeouts }
 {
-    let Ok(mut config) = Config::of_defaults(alloc) else {
-        bail!("no memory");
-    };
+    let mut config = Config::of_defaults(alloc).ok()?;
     config.timeouts = timeouts;
-    match WireTimers::new(alloc, &config) {
-        Ok(timers) => Ok(Clock { timers, now: 0 }),
-        Err(_) => bail!("no memory"),
-    }
+    let timers = WireTimers::new(alloc, &config).ok()?;
+    Some(Clock { timers, now: 0 })
 }
 
 fn kind_of(word: &str) -> FireKind {
@@ -92,68 +93,65 @@ fn kind_word(kind: FireKind) -> &'static str {
 }
 
 // `arm KIND ID NOW`, `disarm KIND ID`, `armed KIND ID`, `drop EXCHANGE`, `state PPM` or `due NOW`.
-fn answer(alloc: Global, clock: &mut Clock, call: &str) -> Result<String> {
+fn answer(answers: &mut Answers, clock: &mut Clock, call: &str) {
     let (name, words) = next(call);
     let (first, words) = next(words);
     let (second, third) = next(words);
+    let (kind, id) = (kind_of(first), number(second));
     match name {
-        "arm" => arm_words(alloc, clock, kind_of(first), number(second), number(third)),
-        "due" => due_words(alloc, clock, number(first)),
-        "state" => state_words(alloc, clock, small_number(first)),
-        "armed" => {
-            let armed = clock.timers.is_armed(kind_of(first), number(second));
-            Ok(String::from_str(alloc, truth(armed))?)
-        }
+        "arm" => answers.say(arm(clock, kind, id, number(third))),
+        "due" => say_due(answers, clock, number(first)),
+        "armed" => answers.say_truth(clock.timers.is_armed(kind, id)),
         "disarm" => {
-            clock.timers.disarm(kind_of(first), number(second));
-            Ok(String::from_str(alloc, "done")?)
+            clock.timers.disarm(kind, id);
+            answers.say("done");
         }
         "drop" => {
             clock.timers.drop_exchange(number(first));
-            Ok(String::from_str(alloc, "done")?)
+            answers.say("done");
         }
-        _ => bail!("no such call"),
+        _ => answers.say(set_state(clock, small_number(first))),
     }
 }
 
-fn arm_words(
-    alloc: Global,
-    clock: &mut Clock,
-    kind: FireKind,
-    id: u64,
-    now: u64,
-) -> Result<String> {
+fn arm(clock: &mut Clock, kind: FireKind, id: u64, now: u64) -> &'static str {
     if now < clock.now || now >= 1 << 60 {
-        return Ok(String::from_str(alloc, "too early or too late")?);
+        return "too early or too late";
     }
     clock.now = now;
-    match clock.timers.arm(kind, id, now) {
-        Ok(()) => Ok(String::from_str(alloc, "done")?),
-        Err(_) => bail!("no memory"),
+    if clock.timers.arm(kind, id, now).is_ok() {
+        "done"
+    } else {
+        "no memory"
     }
 }
 
-fn state_words(alloc: Global, clock: &mut Clock, ppm: u32) -> Result<String> {
+fn set_state(clock: &mut Clock, ppm: u32) -> &'static str {
     if ppm > 1_000_000 {
-        return Ok(String::from_str(alloc, "too high")?);
+        return "too high";
     }
     clock.timers.set_state(ppm);
-    Ok(String::from_str(alloc, "done")?)
+    "done"
 }
 
 // How many are due, and each in the order in which they fire.
-fn due_words(alloc: Global, clock: &mut Clock, now: u64) -> Result<String> {
+fn say_due(answers: &mut Answers, clock: &mut Clock, now: u64) {
     if now < clock.now || now >= 1 << 60 {
-        return Ok(String::from_str(alloc, "too early or too late")?);
+        answers.say("too early or too late");
+        return;
     }
     clock.now = now;
-    let Ok(mut due) = clock.timers.take_due(now) else {
-        bail!("no memory");
-    };
-    let mut text = format!(in alloc; "{}", due.len())?;
-    'take: while let Some(timer) = due.take_first() {
-        let word = format!(in alloc; " {} {}", kind_word(timer.kind), timer.id)?;
-        text.push_str(word.as_str())?;
+    match clock.timers.take_due(now) {
+        Ok(due) => say_all(answers, due),
+        Err(_) => answers.say("no memory"),
     }
-    Ok(text)
+}
+
+fn say_all(answers: &mut Answers, mut due: DueList) {
+    answers.say_number(due.len() as u64);
+    'take: while let Some(timer) = due.take_first() {
+        answers.say(" ");
+        answers.say(kind_word(timer.kind));
+        answers.say_with(" ", timer.id);
+    }
 }

@@ -22,71 +22,91 @@ ghost use Rattle.std.specs.Prelude.{◌≡◌, ◌-◌, ◌<◌, ◌≤◌, ◌^
 ghost use Rattle.wire_windows.specs.RecvWindows.{held_at};
 ghost use Rattle.wire_windows.specs.SendWindows.{HasRoom};
 
-use crate::words::small_number;
+use crate::words::{Answers, small_number};
 use anyhow::Result;
 use h2_windows::{MAX_WINDOW, RecvWindow};
-use std::alloc::{AllocError, Global};
-use wire_windows::{Came, ConnWindows, RecvWindows, SendWindows};
+use wire_windows::{Came, ConnWindows, RecvStream, RecvWindows, SendWindows};
 
 pub fn show(rt: &HostRuntime, line: &str) -> Result<()> {
-    let alloc = rt.alloc();
     let (first, calls) = line.split_once(" ; ").unwrap_or((line, ""));
     let (_, sizes) = first.split_once(' ').unwrap_or((first, ""));
     let (connection, stream) = pair(sizes);
-    let mut windows = ConnWindows::new(alloc, at_least_first(connection), stream);
-    let mut answers = String::new(alloc);
+    let mut windows = ConnWindows::new(rt.alloc(), at_least_first(connection), stream);
+    let mut answers = Answers::new(rt.alloc());
     for call in calls.split(" ; ") {
-        if !answers.is_empty() {
-            answers.push_str(" ; ")?;
-        }
-        answers.push_str(answer(alloc, &mut windows, call)?.as_str())?;
+        answers.begin();
+        answer(&mut answers, &mut windows, call);
     }
-    println!(rt; "{line}: {}", answers.as_str())?;
-    Ok(())
+    answers.print(rt, line)
 }
 
 // Each side of the windows knows its own calls.
-fn answer(alloc: Global, windows: &mut ConnWindows, call: &str) -> Result<String> {
+fn answer(answers: &mut Answers, windows: &mut ConnWindows, call: &str) {
     let (word, rest) = call.split_once(' ').unwrap_or((call, ""));
     match word {
-        "begin" | "came" | "late" | "moved" | "padded" | "dropped" | "wasted" | "ended" => {
-            arrival(alloc, &mut windows.recv, word, rest)
+        "begin" | "came" | "late" | "ended" | "wasted" => {
+            answers.say(arrival(&mut windows.recv, word, rest));
         }
-        "first" | "due" | "next" | "grant" | "conn" | "stream" => {
-            credit(alloc, &mut windows.recv, word, rest)
+        "moved" | "padded" | "dropped" => answers.say(leaving(&mut windows.recv, word, rest)),
+        "first" | "due" | "next" | "conn" | "stream" => {
+            say_credit(answers, &windows.recv, word, rest);
         }
-        "initial" => initials(alloc, &mut windows.send, rest),
-        _ => sent(alloc, &mut windows.send, word, rest),
+        "grant" => answers.say_number(u64::from(granted(&mut windows.recv, rest))),
+        "room" | "peer" => say_room(answers, &windows.send, word, rest),
+        _ => answers.say(sent(&mut windows.send, word, rest)),
     }
 }
 
 // What comes, and what becomes of it.
-fn arrival(alloc: Global, windows: &mut RecvWindows, word: &str, rest: &str) -> Result<String> {
+fn arrival(windows: &mut RecvWindows, word: &str, rest: &str) -> &'static str {
     let (x, n) = pair(rest);
     let exchange = u64::from(x);
     match word {
-        "begin" if windows.stream(exchange).is_none() => {
-            windows.begin(exchange).map_err(|_| AllocError)?;
-        }
-        "begin" => return text(alloc, "begun before"),
-        "came" => {
-            let came = windows.came(exchange, n);
-            return text(alloc, came_word(came));
-        }
+        "begin" => begun(windows, exchange),
+        "came" => came_word(windows.came(exchange, n)),
         "late" => {
-            let fits = windows.late(x).is_ok();
-            return text(alloc, if fits { "fits" } else { "over" });
+            if windows.late(x).is_ok() {
+                "fits"
+            } else {
+                "over"
+            }
         }
-        "ended" => windows.ended(exchange),
-        "wasted" if x <= windows.stray() => windows.wasted(x),
-        "wasted" => return text(alloc, "not stray"),
-        _ if n > held(windows, exchange) => return text(alloc, "not held"),
+        "ended" => {
+            windows.ended(exchange);
+            "-"
+        }
+        _ if x <= windows.stray() => {
+            windows.wasted(x);
+            "-"
+        }
+        _ => "not stray",
+    }
+}
+
+fn begun(windows: &mut RecvWindows, exchange: u64) -> &'static str {
+    if windows.stream(exchange).is_some() {
+        return "begun before";
+    }
+    if windows.begin(exchange).is_ok() {
+        "-"
+    } else {
+        "no memory"
+    }
+}
+
+// Octets leave a receive buffer, were padding, or go with a doom.
+fn leaving(windows: &mut RecvWindows, word: &str, rest: &str) -> &'static str {
+    let (x, n) = pair(rest);
+    let exchange = u64::from(x);
+    if n > held(windows, exchange) {
+        return "not held";
+    }
+    match word {
         "moved" => windows.moved(exchange, n),
         "padded" => windows.padded(exchange, n),
-        "dropped" => windows.dropped(exchange, n),
-        _ => return text(alloc, "no such call"),
+        _ => windows.dropped(exchange, n),
     }
-    text(alloc, "-")
+    "-"
 }
 
 fn held(windows: &RecvWindows, exchange: u64) -> u32
@@ -98,83 +118,110 @@ fn held(windows: &RecvWindows, exchange: u64) -> u32
     }
 }
 
-// What is to be granted, and what is granted.
-fn credit(alloc: Global, windows: &mut RecvWindows, word: &str, rest: &str) -> Result<String> {
+// What is to be granted.
+fn say_credit(answers: &mut Answers, windows: &RecvWindows, word: &str, rest: &str) {
     let (x, _) = pair(rest);
     let exchange = u64::from(x);
-    let number = match word {
-        "first" => windows.first_credit(),
-        "grant" if rest == "first" => windows.grant_first(),
-        "grant" if rest == "connection" => windows.grant_conn(),
-        "grant" => windows.grant(exchange),
-        "due" => return text(
-            alloc,
-            if windows.is_conn_due() {
-                "due"
-            } else {
-                "not due"
-            },
-        ),
-        "next" => {
-            return match windows.next_due(exchange) {
-                Some(next) => Ok(format!(in alloc; "{next}")?),
-                None => text(alloc, "none"),
-            };
-        }
+    match word {
+        "first" => answers.say_number(u64::from(windows.first_credit())),
+        "due" => answers.say(if windows.is_conn_due() {
+            "due"
+        } else {
+            "not due"
+        }),
+        "next" => answers.say_or(windows.next_due(exchange), "none"),
         "conn" => {
-            let octets = shown(alloc, windows.conn())?;
-            return Ok(format!(in alloc; "{octets}, stray {}", windows.stray())?);
+            say_window(answers, windows.conn());
+            answers.say_with(", stray ", u64::from(windows.stray()));
         }
-        _ => {
-            return match windows.stream(exchange) {
-                Some(stream) if stream.ended => {
-                    Ok(format!(in alloc; "{}, ended", shown(alloc, stream.window)?)?)
-                }
-                Some(stream) => shown(alloc, stream.window),
-                None => text(alloc, "none"),
-            };
-        }
+        _ => say_stream(answers, windows.stream(exchange)),
+    }
+}
+
+fn say_stream(answers: &mut Answers, stream: Option<RecvStream>) {
+    let Some(stream) = stream else {
+        answers.say("none");
+        return;
     };
-    Ok(format!(in alloc; "{number}")?)
+    say_window(answers, stream.window);
+    if stream.ended {
+        answers.say(", ended");
+    }
+}
+
+fn say_window(answers: &mut Answers, window: RecvWindow) {
+    answers.say_with("left ", u64::from(window.left()));
+    answers.say_with(", held ", u64::from(window.held()));
+    answers.say_with(", owed ", u64::from(window.owed()));
+}
+
+fn granted(windows: &mut RecvWindows, rest: &str) -> u32 {
+    match rest {
+        "first" => windows.grant_first(),
+        "connection" => windows.grant_conn(),
+        _ => windows.grant(u64::from(small_number(rest))),
+    }
 }
 
 // What this side sends, and what the peer lets it send.
-fn sent(alloc: Global, windows: &mut SendWindows, word: &str, rest: &str) -> Result<String> {
+fn sent(windows: &mut SendWindows, word: &str, rest: &str) -> &'static str {
     let (x, n) = pair(rest);
     let exchange = u64::from(x);
     match word {
-        "open" if windows.room(exchange).is_none() => {
-            windows.open(exchange).map_err(|_| AllocError)?;
+        "open" => opened(windows, exchange),
+        "close" => {
+            windows.close(exchange);
+            "-"
         }
-        "open" => return text(alloc, "open before"),
-        "close" => windows.close(exchange),
-        "spend" if has_room(windows, exchange, n) => windows.spend(exchange, n),
-        "spend" => return text(alloc, "no room"),
-        "widen" => {
-            let widened = match rest.split_once(' ') {
-                Some(_) => windows.widen(exchange, n),
-                None => windows.widen_conn(x),
-            };
-            return text(alloc, overflow_word(widened.is_ok()));
+        "spend" if has_room(windows, exchange, n) => {
+            windows.spend(exchange, n);
+            "-"
         }
-        "payload" => windows.set_payload(x),
-        "room" if rest.is_empty() => return Ok(format!(in alloc; "{}", windows.conn_room())?),
-        "room" => {
-            return match windows.room(exchange) {
-                Some(room) => Ok(format!(in alloc; "{room}")?),
-                None => text(alloc, "closed"),
-            };
+        "spend" => "no room",
+        "widen" => overflow_word(widened(windows, rest)),
+        "initial" => overflow_word(initials(windows, rest)),
+        "payload" => {
+            windows.set_payload(x);
+            "-"
         }
-        "peer" => {
-            return Ok(format!(in alloc;
-                "initial {}, payload {}",
-                windows.initial(),
-                windows.payload()
-            )?);
-        }
-        _ => return text(alloc, "no such call"),
+        _ => "no such call",
     }
-    text(alloc, "-")
+}
+
+fn opened(windows: &mut SendWindows, exchange: u64) -> &'static str {
+    if windows.room(exchange).is_some() {
+        return "open before";
+    }
+    if windows.open(exchange).is_ok() {
+        "-"
+    } else {
+        "no memory"
+    }
+}
+
+// `X N` of a stream, or `N` of the connection.
+fn widened(windows: &mut SendWindows, rest: &str) -> bool {
+    let (x, n) = pair(rest);
+    if rest.contains(' ') {
+        windows.widen(u64::from(x), n).is_ok()
+    } else {
+        windows.widen_conn(x).is_ok()
+    }
+}
+
+// The room of a stream or of the connection, or what the peer named.
+fn say_room(answers: &mut Answers, windows: &SendWindows, word: &str, rest: &str) {
+    match word {
+        "peer" => {
+            answers.say_with("initial ", u64::from(windows.initial()));
+            answers.say_with(", payload ", u64::from(windows.payload()));
+        }
+        _ if rest.is_empty() => answers.say_signed(windows.conn_room()),
+        _ => match windows.room(u64::from(small_number(rest))) {
+            Some(room) => answers.say_signed(room),
+            None => answers.say("closed"),
+        },
+    }
 }
 
 // Whether so many octets may be sent, or none are.
@@ -216,19 +263,15 @@ impl InitialWindows {
     }
 }
 
-// The initial windows of one SETTINGS frame.
-fn initials(alloc: Global, windows: &mut SendWindows, words: &str) -> Result<String> {
+// The initial windows of one SETTINGS frame: whether they could be set.
+fn initials(windows: &mut SendWindows, words: &str) -> bool {
     let mut initials = InitialWindows::none();
     for word in words.split(' ') {
         initials = initials.and(small_number(word));
     }
-    let set = windows.set_initial(initials.greatest, initials.last);
-    text(alloc, overflow_word(set.is_ok()))
-}
-
-fn shown(alloc: Global, window: RecvWindow) -> Result<String> {
-    let (left, held, owed) = (window.left(), window.held(), window.owed());
-    Ok(format!(in alloc; "left {left}, held {held}, owed {owed}")?)
+    windows
+        .set_initial(initials.greatest, initials.last)
+        .is_ok()
 }
 
 fn came_word(came: Came) -> &'static str {
@@ -241,10 +284,6 @@ fn came_word(came: Came) -> &'static str {
 
 fn overflow_word(fits: bool) -> &'static str {
     if fits { "-" } else { "overflow" }
-}
-
-fn text(alloc: Global, word: &str) -> Result<String> {
-    Ok(String::from_str(alloc, word)?)
 }
 
 fn pair(words: &str) -> (u32, u32) {

@@ -36,10 +36,10 @@ pub fn run_wire<S: Source, K: Sink>(
     ensures read_fault { result.status ≡ Status.ReadFault → Rose (S.faults session.old) (S.faults session.new) }
     ensures write_fault { result.status ≡ Status.WriteFault → Rose (K.faults out.old) (K.faults out.new) }
 {
-    let Ok(play) = WirePlay::new(alloc, config) else {
+    let Ok(lines) = Lines::new(alloc) else {
         return out_of_memory();
     };
-    let Ok(lines) = Lines::new(alloc) else {
+    let Ok(play) = WirePlay::new(alloc, config) else {
         return out_of_memory();
     };
     let mut run = Run::new(alloc, lines, play);

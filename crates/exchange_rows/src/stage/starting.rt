@@ -113,13 +113,19 @@ impl Stage {
     }
 
     fn begin(&mut self, rows: &[u8], spec: &StartSpec, multiple: u32) -> Result<Answer, NoMemory> {
-        let Some(config) = config_of(self.alloc, rows, multiple) else {
-            return Ok(Answer::Refused);
-        };
-        if !self.may_start(spec, &config) {
+        match config_of(self.alloc, rows, multiple) {
+            Some(config) => self.begin_under(&config, spec),
+            None => Ok(Answer::Refused),
+        }
+    }
+
+    fn begin_under(&mut self, config: &Config, spec: &StartSpec) -> Result<Answer, NoMemory>
+        requires { All IsRoute config.now.routes }
+    {
+        if !self.may_start(spec, config) {
             return Ok(Answer::Refused);
         }
-        let exchange = self.exchanges.start(spec, &config)?;
+        let exchange = self.exchanges.start(spec, config)?;
         self.watch_all(
             FlowId {
                 exchange,

@@ -2,44 +2,53 @@
 
 use crate::said::holds;
 use flow_notes::{Event, Job, PlainEvent};
-use io_ports::{Octets, PressureList};
-use std::test::Fail;
+use io_ports::{NoMemory, Octets, PressureList};
 
 #[test]
-fn events_are_copied(rt: HostRuntime) -> Result<(), Fail> {
-    let alloc = rt.alloc();
-    let octets = Octets::from_slice(alloc, &[0xaa, 1])?;
-    let copy = Event::Read { conn: 7, octets }.copied(alloc)?;
+fn octets_of_a_read_are_copied(rt: HostRuntime) -> Result<(), NoMemory> {
+    let octets = Octets::from_slice(rt.alloc(), &[0xaa, 1])?;
+    let copy = Event::Read { conn: 7, octets }.copied(rt.alloc())?;
     holds(
         &rt,
         matches!(&copy, Event::Read { conn: 7, octets } if octets.as_slice() == [0xaa, 1].as_slice()),
     );
+    Ok(())
+}
 
-    let pressures = PressureList::from_slice(alloc, &[0, 900_000])?;
-    let copy = Event::Obey {
+#[test]
+fn pressures_are_copied(rt: HostRuntime) -> Result<(), NoMemory> {
+    let pressures = PressureList::from_slice(rt.alloc(), &[0, 900_000])?;
+    let event = Event::Obey {
         version: 3,
         pressures,
-    }
-    .copied(alloc)?;
+    };
+    let copy = event.copied(rt.alloc())?;
     holds(
         &rt,
         matches!(&copy, Event::Obey { version: 3, pressures } if pressures.as_slice() == [0, 900_000].as_slice()),
     );
+    Ok(())
+}
 
-    let octets = Octets::from_slice(alloc, &[5])?;
-    let copy = Event::Plain(PlainEvent::Body { stream: 1, octets }).copied(alloc)?;
+#[test]
+fn octets_of_a_body_are_copied(rt: HostRuntime) -> Result<(), NoMemory> {
+    let octets = Octets::from_slice(rt.alloc(), &[5])?;
+    let copy = Event::Plain(PlainEvent::Body { stream: 1, octets }).copied(rt.alloc())?;
     holds(
         &rt,
         matches!(&copy, Event::Plain(PlainEvent::Body { stream: 1, octets }) if octets.as_slice() == [5].as_slice()),
     );
+    Ok(())
+}
 
-    let job = Job::Cancel { exchange: 9 };
-    let copy = Event::Post {
+#[test]
+fn a_post_is_copied(rt: HostRuntime) -> Result<(), NoMemory> {
+    let event = Event::Post {
         poster: 2,
         number: 4,
-        job,
-    }
-    .copied(alloc)?;
+        job: Job::Cancel { exchange: 9 },
+    };
+    let copy = event.copied(rt.alloc())?;
     holds(
         &rt,
         matches!(

@@ -3,16 +3,16 @@ use super::{REQUEST, RESPONSE};
 use crate::said::{holds, holds_in, same};
 use flow_gate::{BufferId, FlowId, Gates};
 use flow_notes::{Note, Notes, Passage};
+use io_ports::NoMemory;
 use std::alloc::Global;
 use std::process::Abort;
-use std::test::Fail;
 
 const WRITE: BufferId = BufferId::Write(2);
 
 const UNWATCHED: BufferId = BufferId::Write(3);
 
 /// What a passage is to be.
-#[derive(Clone, Copy, Debug)]
+#[derive(Clone, Copy)]
 enum Wanted<'a> {
     Out(u32),
     Pauses(&'a [FlowId]),
@@ -47,7 +47,7 @@ fn assert_passages(rt: &impl Abort, notes: &Notes, wanted: &[Wanted<'_>]) {
 }
 
 /// Gates where two flows watch a write buffer.
-fn watched(alloc: Global) -> Result<Gates, Fail> {
+fn watched(alloc: Global) -> Result<Gates, NoMemory> {
     let mut gates = Gates::new(alloc);
     for flow in [REQUEST, RESPONSE] {
         if !gates.is_open(flow) {
@@ -66,7 +66,7 @@ fn watched(alloc: Global) -> Result<Gates, Fail> {
 }
 
 #[test]
-fn rows_are_passages(rt: HostRuntime) -> Result<(), Fail> {
+fn rows_are_passages(rt: HostRuntime) -> Result<(), NoMemory> {
     let alloc = rt.alloc();
     let gates = watched(alloc)?;
     let mut notes = Notes::new(alloc);
@@ -90,7 +90,7 @@ fn rows_are_passages(rt: HostRuntime) -> Result<(), Fail> {
 }
 
 #[test]
-fn an_empty_row_is_no_passage(rt: HostRuntime) -> Result<(), Fail> {
+fn an_empty_row_is_no_passage(rt: HostRuntime) -> Result<(), NoMemory> {
     let alloc = rt.alloc();
     let gates = watched(alloc)?;
     let mut notes = Notes::new(alloc);
@@ -102,7 +102,7 @@ fn an_empty_row_is_no_passage(rt: HostRuntime) -> Result<(), Fail> {
 }
 
 #[test]
-fn cleared_notes_are_none(rt: HostRuntime) -> Result<(), Fail> {
+fn cleared_notes_are_none(rt: HostRuntime) -> Result<(), NoMemory> {
     let alloc = rt.alloc();
     let gates = watched(alloc)?;
     let mut notes = Notes::new(alloc);

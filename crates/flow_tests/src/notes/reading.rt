@@ -1,10 +1,9 @@
 // Lines that are read and written again, and lines that are no spelling.
 use super::some_names;
 use crate::said::{holds, holds_in, same};
-use flow_notes::{event_text, note_text, read_event, read_note, read_numbers};
-use io_ports::Octets;
+use flow_notes::{Names, event_text, note_text, read_event, read_note, read_numbers};
+use io_ports::{NoMemory, Octets};
 use std::process::Abort;
-use std::test::Fail;
 
 const NOTES: [&str; 36] = [
     "turn 1 open 1",
@@ -137,71 +136,96 @@ const NO_PLAIN: [&str; 9] = [
     "end 1\n",
 ];
 
-fn line_is_kept(rt: &impl Abort, line: &str, written: &Octets) -> Result<(), Fail> {
+fn line_is_kept(rt: &impl Abort, line: &str, written: &Octets) -> Result<(), NoMemory> {
     let (text, newline) = written.as_slice().split_at(line.len().min(written.len()));
     same(rt, &text, &line.as_bytes());
     same(rt, &newline, &b"\n".as_slice());
     Ok(())
 }
 
+/// Whether the line is a note's, and is written as it was read.
+fn note_is_read(rt: &HostRuntime, names: &Names, line: &str) -> Result<(), NoMemory> {
+    let Some(note) = read_note(rt.alloc(), line.as_bytes(), names)? else {
+        holds_in(rt, &line, false);
+        return Ok(());
+    };
+    let mut written = Octets::new(rt.alloc());
+    note_text(&note, names, &mut written)?;
+    line_is_kept(rt, line, &written)
+}
+
+fn no_note_is_read(rt: &HostRuntime, names: &Names, line: &str) -> Result<(), NoMemory> {
+    let read = read_note(rt.alloc(), line.as_bytes(), names)?;
+    holds_in(rt, &line, read.is_none());
+    Ok(())
+}
+
 #[test]
-fn notes_are_read(rt: HostRuntime) -> Result<(), Fail> {
-    let alloc = rt.alloc();
-    let names = some_names(alloc)?;
+fn notes_are_read(rt: HostRuntime) -> Result<(), NoMemory> {
+    let names = some_names(rt.alloc())?;
     for line in NOTES {
-        let mut written = Octets::new(alloc);
-        let Some(note) = read_note(alloc, line.as_bytes(), &names)? else {
-            holds_in(&rt, &line, false);
-            continue;
-        };
-        note_text(&note, &names, &mut written)?;
-        line_is_kept(&rt, line, &written)?;
+        note_is_read(&rt, &names, line)?;
     }
     for line in NO_NOTES {
-        holds_in(
-            &rt,
-            &line,
-            read_note(alloc, line.as_bytes(), &names)?.is_none(),
-        );
+        no_note_is_read(&rt, &names, line)?;
     }
     Ok(())
 }
 
+/// Whether the line is an event's, and is written as it was read.
+fn event_is_read(
+    rt: &HostRuntime,
+    names: &Names,
+    line: &str,
+    plain: bool,
+) -> Result<(), NoMemory> {
+    let Some(event) = read_event(rt.alloc(), line.as_bytes(), names, plain)? else {
+        holds_in(rt, &line, false);
+        return Ok(());
+    };
+    holds_in(rt, &line, event.is_plain() == plain);
+    let mut written = Octets::new(rt.alloc());
+    event_text(&event, names, &mut written)?;
+    line_is_kept(rt, line, &written)
+}
+
+fn no_event_is_read(
+    rt: &HostRuntime,
+    names: &Names,
+    line: &str,
+    plain: bool,
+) -> Result<(), NoMemory> {
+    let read = read_event(rt.alloc(), line.as_bytes(), names, plain)?;
+    holds_in(rt, &line, read.is_none());
+    Ok(())
+}
+
 #[test]
-fn events_are_read(rt: HostRuntime) -> Result<(), Fail> {
-    let alloc = rt.alloc();
-    let names = some_names(alloc)?;
-    for (lines, plain) in [(WIRE.as_slice(), false), (PLAIN.as_slice(), true)] {
-        for line in lines {
-            let mut written = Octets::new(alloc);
-            let Some(event) = read_event(alloc, line.as_bytes(), &names, plain)? else {
-                holds_in(&rt, &line, false);
-                continue;
-            };
-            holds_in(&rt, line, event.is_plain() == plain);
-            event_text(&event, &names, &mut written)?;
-            line_is_kept(&rt, line, &written)?;
-        }
+fn wire_events_are_read(rt: HostRuntime) -> Result<(), NoMemory> {
+    let names = some_names(rt.alloc())?;
+    for line in WIRE {
+        event_is_read(&rt, &names, line, false)?;
     }
     for line in NO_WIRE {
-        holds_in(
-            &rt,
-            &line,
-            read_event(alloc, line.as_bytes(), &names, false)?.is_none(),
-        );
-    }
-    for line in NO_PLAIN {
-        holds_in(
-            &rt,
-            &line,
-            read_event(alloc, line.as_bytes(), &names, true)?.is_none(),
-        );
+        no_event_is_read(&rt, &names, line, false)?;
     }
     Ok(())
 }
 
 #[test]
-fn numbers_are_read(rt: HostRuntime) -> Result<(), Fail> {
+fn plain_events_are_read(rt: HostRuntime) -> Result<(), NoMemory> {
+    let names = some_names(rt.alloc())?;
+    for line in PLAIN {
+        event_is_read(&rt, &names, line, true)?;
+    }
+    for line in NO_PLAIN {
+        no_event_is_read(&rt, &names, line, true)?;
+    }
+    Ok(())
+}
+
+#[test]
+fn numbers_are_read(rt: HostRuntime) -> Result<(), NoMemory> {
     let alloc = rt.alloc();
     let Some(numbers) = read_numbers(alloc, b"limits", b"limits 65535 0 4294967295")? else {
         holds(&rt, false);

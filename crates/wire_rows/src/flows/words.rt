@@ -1,11 +1,10 @@
 // Words of flows.
-use crate::words::{next, small_number, truth};
-use anyhow::{Result, bail};
+use crate::words::{Answers, next, small_number};
 use exchange_core::Reply;
 use flow_gate::{BufferId, FlowId, Watchers};
 use flow_notes::{Cause, FireKind};
 use hpack_codec::{Field, FieldList};
-use io_ports::Octets;
+use io_ports::{NoMemory, Octets};
 use std::alloc::Global;
 
 /// A flow: its exchange's number with `q` for the request or `r` for the response.
@@ -30,36 +29,32 @@ pub fn buffer_of(words: &str) -> Option<BufferId> {
     }
 }
 
-pub fn truth_words(alloc: Global, holds: bool) -> Result<String> {
-    Ok(String::from_str(alloc, truth(holds))?)
-}
-
 /// Flows in their order, `none` where there are none.
-pub fn flows_words(alloc: Global, flows: Watchers<'_>) -> Result<String> {
-    let mut text = String::new(alloc);
+pub fn say_flows(answers: &mut Answers, flows: Watchers<'_>) {
+    let mut first = true;
     for flow in flows {
-        if !text.is_empty() {
-            text.push_str(" ")?;
+        if !first {
+            answers.say(" ");
         }
-        text.push_str(flow_word(alloc, flow)?.as_str())?;
+        first = false;
+        say_flow(answers, flow);
     }
-    if text.is_empty() {
-        text.push_str("none")?;
+    if first {
+        answers.say("none");
     }
-    Ok(text)
 }
 
-pub fn flow_word(alloc: Global, flow: FlowId) -> Result<String> {
-    let side = if flow.back { 'r' } else { 'q' };
-    Ok(format!(in alloc; "{}{side}", flow.exchange)?)
+pub fn say_flow(answers: &mut Answers, flow: FlowId) {
+    answers.say_number(flow.exchange);
+    answers.say(if flow.back { "r" } else { "q" });
 }
 
 /// A buffer of a flow, or a dash.
-pub fn own_word(alloc: Global, buffer: Option<BufferId>) -> Result<String> {
+pub fn say_own(answers: &mut Answers, buffer: Option<BufferId>) {
     match buffer {
-        Some(BufferId::Stage(_, place)) => Ok(format!(in alloc; "stage{place}")?),
-        Some(BufferId::Send(_)) => Ok(String::from_str(alloc, "send")?),
-        _ => Ok(String::from_str(alloc, "-")?),
+        Some(BufferId::Stage(_, place)) => answers.say_with("stage", u64::from(place)),
+        Some(BufferId::Send(_)) => answers.say("send"),
+        _ => answers.say("-"),
     }
 }
 
@@ -78,34 +73,24 @@ pub fn cause_of(word: &str) -> Cause {
 }
 
 /// `-`, `resetCODE`, `STATUS` or `STATUS+` where a reset follows.
-pub fn reply_word(alloc: Global, reply: Reply) -> Result<String> {
+pub fn say_reply(answers: &mut Answers, reply: Reply) {
     match reply {
-        Reply::Nothing => Ok(String::from_str(alloc, "-")?),
-        Reply::Reset { code } => Ok(format!(in alloc; "reset{code}")?),
+        Reply::Nothing => answers.say("-"),
+        Reply::Reset { code } => answers.say_with("reset", u64::from(code)),
         Reply::Answer { status, reset } => {
-            let more = if reset { "+" } else { "" };
-            Ok(format!(in alloc; "{status}{more}")?)
+            answers.say_number(u64::from(status));
+            answers.say(if reset { "+" } else { "" });
         }
     }
 }
 
-/// One field.
-pub fn fields_of(alloc: Global) -> Result<FieldList> {
+/// A list of one field.
+pub fn field_list(alloc: Global) -> Result<FieldList, NoMemory> {
     let mut list = FieldList::new(alloc);
-    let field = Field {
-        name: octets(alloc, b"a")?,
-        value: octets(alloc, b"b")?,
+    list.push(Field {
+        name: Octets::from_slice(alloc, b"a")?,
+        value: Octets::from_slice(alloc, b"b")?,
         never: false,
-    };
-    if list.push(field).is_err() {
-        bail!("no memory");
-    }
+    })?;
     Ok(list)
-}
-
-fn octets(alloc: Global, text: &[u8]) -> Result<Octets> {
-    match Octets::from_slice(alloc, text) {
-        Ok(octets) => Ok(octets),
-        Err(_) => bail!("no memory"),
-    }
 }

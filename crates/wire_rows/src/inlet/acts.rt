@@ -1,8 +1,8 @@
 // Acts, and what their header blocks give, in words.
+use crate::words::Answers;
 use h2_session::{Act, SettingList};
 use hpack_codec::FieldList;
 use io_ports::Octets;
-use std::alloc::{AllocError, Global};
 use wire_inlet::{Reading, Taken};
 
 /// Octets beyond so many are told by their number and a sum.
@@ -20,78 +20,110 @@ fn sum_of(octets: &[u8]) -> u64 {
 }
 
 // Octets in hexadecimal, or how many there are of more than 64, with their sum. No octets are a dash.
-fn shown(alloc: Global, octets: &Octets) -> Result<String, AllocError> {
+fn say_octets(answers: &mut Answers, octets: &Octets) {
     let octets = octets.as_slice();
     if octets.is_empty() {
-        return format!(in alloc; "-");
+        answers.say("-");
+    } else if octets.len() > SHOWN {
+        answers.say_with("[", octets.len() as u64);
+        answers.say_with(" octets, sum ", sum_of(octets));
+        answers.say("]");
+    } else {
+        answers.say_hex(octets);
     }
-    if octets.len() > SHOWN {
-        return format!(in alloc; "[{} octets, sum {}]", octets.len(), sum_of(octets));
-    }
-    hex::encode(alloc, octets)
 }
 
-fn end_word(last: bool) -> &'static str {
-    if last { "last" } else { "more" }
-}
-
-fn list_words(alloc: Global, list: &SettingList) -> Result<String, AllocError> {
-    let mut text = String::from_str(alloc, "settings")?;
+fn say_settings(answers: &mut Answers, list: &SettingList) {
+    answers.say("settings");
     for setting in list.as_slice() {
-        let (id, value) = (setting.id, setting.value);
-        text.push_str(format!(in alloc; " {id}={value}")?.as_str())?;
+        answers.say_with(" ", u64::from(setting.id));
+        answers.say_with("=", u64::from(setting.value));
     }
-    Ok(text)
+}
+
+// The word of an act, its stream, and a space.
+fn say_with_stream(answers: &mut Answers, word: &str, stream: u32) {
+    answers.say_with(word, u64::from(stream));
+    answers.say(" ");
+}
+
+fn say_end(answers: &mut Answers, last: bool) {
+    answers.say(if last { " last" } else { " more" });
 }
 
 // An act in words: what it is, its stream, its numbers and its octets.
-fn act_words(alloc: Global, act: &Act) -> Result<String, AllocError> {
+fn say_act(answers: &mut Answers, act: &Act) {
     match act {
-        Act::Ignore => format!(in alloc; "ignore"),
+        Act::Ignore => answers.say("ignore"),
         Act::Body {
             stream,
             octets,
             padded,
             last,
         } => {
-            let octets = shown(alloc, octets)?;
-            format!(in alloc; "body {stream} {octets} {padded} {}", end_word(*last))
+            say_with_stream(answers, "body ", *stream);
+            say_octets(answers, octets);
+            answers.say_with(" ", u64::from(*padded));
+            say_end(answers, *last);
         }
-        Act::Late { stream, n } => format!(in alloc; "late {stream} {n}"),
+        Act::Late { stream, n } => {
+            say_with_stream(answers, "late ", *stream);
+            answers.say_number(u64::from(*n));
+        }
+        Act::Settings { list } => say_settings(answers, list),
+        Act::Ack => answers.say("ack"),
+        Act::Ping { octets } => {
+            answers.say("ping ");
+            say_octets(answers, octets);
+        }
+        Act::WindowUp { stream, n } => {
+            say_with_stream(answers, "window ", *stream);
+            answers.say_number(u64::from(*n));
+        }
+        Act::PeerReset { stream, code } => {
+            say_with_stream(answers, "reset ", *stream);
+            answers.say_number(u64::from(*code));
+        }
+        Act::GoAway { last, code } => {
+            say_with_stream(answers, "goaway ", *last);
+            answers.say_number(u64::from(*code));
+        }
+        Act::ConnError { code } => answers.say_with("connection ", u64::from(*code)),
+        _ => say_block(answers, act),
+    }
+}
+
+// An act that brings a header block.
+fn say_block(answers: &mut Answers, act: &Act) {
+    match act {
         Act::Head {
             stream,
             block,
             last,
         } => {
-            let block = shown(alloc, block)?;
-            format!(in alloc; "head {stream} {block} {}", end_word(*last))
+            say_with_stream(answers, "head ", *stream);
+            say_octets(answers, block);
+            say_end(answers, *last);
         }
         Act::Trailers { stream, block } => {
-            let block = shown(alloc, block)?;
-            format!(in alloc; "trailers {stream} {block}")
+            say_with_stream(answers, "trailers ", *stream);
+            say_octets(answers, block);
         }
         Act::OldBlock { block } => {
-            let block = shown(alloc, block)?;
-            format!(in alloc; "old {block}")
+            answers.say("old ");
+            say_octets(answers, block);
         }
-        Act::Settings { list } => list_words(alloc, list),
-        Act::Ack => format!(in alloc; "ack"),
-        Act::Ping { octets } => {
-            let octets = shown(alloc, octets)?;
-            format!(in alloc; "ping {octets}")
-        }
-        Act::WindowUp { stream, n } => format!(in alloc; "window {stream} {n}"),
-        Act::PeerReset { stream, code } => format!(in alloc; "reset {stream} {code}"),
-        Act::GoAway { last, code } => format!(in alloc; "goaway {last} {code}"),
         Act::StreamError {
             stream,
             code,
             block,
         } => {
-            let block = shown(alloc, block)?;
-            format!(in alloc; "stream {stream} {code} {block}")
+            say_with_stream(answers, "stream ", *stream);
+            answers.say_number(u64::from(*code));
+            answers.say(" ");
+            say_octets(answers, block);
         }
-        Act::ConnError { code } => format!(in alloc; "connection {code}"),
+        _ => answers.say("no such act"),
     }
 }
 
@@ -100,55 +132,56 @@ fn is_printed(octet: u8) -> bool {
 }
 
 // Octets as a text, or else in hexadecimal.
-fn octet_words(alloc: Global, octets: &Octets) -> Result<String, AllocError> {
-    if octets.len() <= SHOWN {
+fn say_text(answers: &mut Answers, octets: &Octets) {
+    if octets.len() <= SHOWN && octets.as_slice().iter().all(|octet| is_printed(*octet)) {
         if let Ok(text) = std::str::from_utf8(octets.as_slice()) {
-            if octets.as_slice().iter().all(|octet| is_printed(*octet)) {
-                return String::from_str(alloc, text);
-            }
+            answers.say(text);
+            return;
         }
     }
-    let digits = shown(alloc, octets)?;
-    format!(in alloc; "0x{digits}")
+    answers.say("0x");
+    say_octets(answers, octets);
 }
 
 // The fields of a list, with bars between them.
-fn field_words(alloc: Global, list: &FieldList) -> Result<String, AllocError> {
-    let mut words = String::new(alloc);
+fn say_fields(answers: &mut Answers, list: &FieldList) {
+    let mut first = true;
     for field in list.as_slice() {
-        let name = octet_words(alloc, &field.name)?;
-        let value = octet_words(alloc, &field.value)?;
-        if !words.is_empty() {
-            words.push_str(" | ")?;
+        if !first {
+            answers.say(" | ");
         }
+        first = false;
         if field.never {
-            words.push_str("!")?;
+            answers.say("!");
         }
-        words.push_str(name.as_str())?;
-        words.push_str("=")?;
-        words.push_str(value.as_str())?;
+        say_text(answers, &field.name);
+        answers.say("=");
+        say_text(answers, &field.value);
     }
-    Ok(words)
+}
+
+fn say_reading(answers: &mut Answers, reading: &Reading) {
+    match reading {
+        Reading::Nothing => {}
+        Reading::Fields(list) => {
+            answers.say(" (");
+            say_fields(answers, list);
+            answers.say(")");
+        }
+        Reading::TooLong => answers.say(" (too long)"),
+        Reading::Refused => answers.say(" (refused)"),
+    }
 }
 
 /// A frame that was taken: its act, the octets that count against windows, in parentheses what its
 /// header block gives, and whether it is a WINDOW_UPDATE.
-pub fn taken_words(alloc: Global, taken: &Taken) -> Result<String, AllocError> {
-    let mut words = act_words(alloc, &taken.act)?;
+pub fn say_taken(answers: &mut Answers, taken: &Taken) {
+    say_act(answers, &taken.act);
     if taken.content > 0 {
-        words.push_str(format!(in alloc; " content {}", taken.content)?.as_str())?;
+        answers.say_with(" content ", u64::from(taken.content));
     }
-    match &taken.reading {
-        Reading::Nothing => {}
-        Reading::Fields(list) => {
-            let list = field_words(alloc, list)?;
-            words.push_str(format!(in alloc; " ({})", list.as_str())?.as_str())?;
-        }
-        Reading::TooLong => words.push_str(" (too long)")?,
-        Reading::Refused => words.push_str(" (refused)")?,
-    }
+    say_reading(answers, &taken.reading);
     if taken.is_update {
-        words.push_str(" update")?;
+        answers.say(" update");
     }
-    Ok(words)
 }

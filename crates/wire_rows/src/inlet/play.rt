@@ -1,13 +1,13 @@
 // One case, played once.
 ghost use Rattle.std.specs.Prelude.{◌<◌, ◌≤◌};
 
-use super::acts::taken_words;
-use anyhow::{Result, bail};
-use std::alloc::Global;
+use super::acts::say_taken;
+use crate::words::{Answers, small_number};
+use std::alloc::{AllocError, Global};
 use wire_inlet::{Inlet, Intake, Peer};
 
 /// How octets are cut into pieces.
-#[derive(Clone, Copy, Debug)]
+#[derive(Clone, Copy)]
 pub enum Cut {
     /// Not at all.
     Never,
@@ -50,11 +50,6 @@ struct Played {
     came: usize,
 }
 
-/// The number of a word, and 0 where it is none.
-fn number(word: &str) -> u32 {
-    word.parse::<u32>().unwrap_or(0)
-}
-
 // `inlet client STREAMS EMPTY LIST MAX`
 fn begun(alloc: Global, words: &str) -> Played {
     let (_, words) = words.split_once(' ').unwrap_or((words, ""));
@@ -68,113 +63,135 @@ fn begun(alloc: Global, words: &str) -> Played {
         Peer::Client
     };
     Played {
-        inlet: Inlet::new(alloc, peer, number(streams), number(empty), number(list)),
-        max: number(max),
+        inlet: Inlet::new(
+            alloc,
+            peer,
+            small_number(streams),
+            small_number(empty),
+            small_number(list),
+        ),
+        max: small_number(max),
         came: 0,
     }
 }
 
 /// What the calls of a case answer, and how many octets came.
-pub fn play(alloc: Global, line: &str, cut: Cut) -> Result<(String, usize)> {
+pub fn play(alloc: Global, line: &str, cut: Cut) -> (Answers, usize) {
     let (words, calls) = line.split_once(" ; ").unwrap_or((line, ""));
     let mut played = begun(alloc, words);
-    let mut answers = String::new(alloc);
+    let mut answers = Answers::new(alloc);
     for call in calls.split(" ; ") {
-        let answer = played.call(alloc, call, cut)?;
-        if !answers.is_empty() {
-            answers.push_str(" ; ")?;
-        }
-        answers.push_str(answer.as_str())?;
+        answers.begin();
+        played.call(&mut answers, call, cut);
     }
-    Ok((answers, played.came))
+    (answers, played.came)
 }
 
 impl Played {
-    fn call(&mut self, alloc: Global, call: &str, cut: Cut) -> Result<String> {
+    fn call(&mut self, answers: &mut Answers, call: &str, cut: Cut) {
         let (name, word) = call.split_once(' ').unwrap_or((call, ""));
-        let stream = number(word);
-        let text = match name {
-            "open" => return self.open(alloc),
+        let stream = small_number(word);
+        match name {
+            "open" => self.open(answers),
             "end" => {
                 self.inlet.end_local(stream);
-                format!(in alloc; "ended")?
+                answers.say("ended");
             }
             "close" => {
                 self.inlet.close_stream(stream);
-                format!(in alloc; "closed")?
+                answers.say("closed");
             }
             "interim" => {
                 self.inlet.interim(stream);
-                format!(in alloc; "interim")?
+                answers.say("interim");
             }
-            "is_open" => format!(in alloc; "{}", self.inlet.is_open(stream))?,
-            "greatest" => format!(in alloc; "{}", self.inlet.greatest())?,
-            _ => return self.come(alloc, name, cut),
-        };
-        Ok(text)
+            "is_open" => answers.say_truth(self.inlet.is_open(stream)),
+            "greatest" => answers.say_number(u64::from(self.inlet.greatest())),
+            _ => self.come(answers, name, cut),
+        }
     }
 
-    fn open(&mut self, alloc: Global) -> Result<String> {
-        let text = match self.inlet.open_stream() {
-            Ok(Some(stream)) => format!(in alloc; "opened {stream}")?,
-            Ok(None) => format!(in alloc; "none left")?,
-            Err(_) => bail!("out of memory"),
-        };
-        Ok(text)
+    fn open(&mut self, answers: &mut Answers) {
+        match self.inlet.open_stream() {
+            Ok(Some(stream)) => answers.say_with("opened ", u64::from(stream)),
+            Ok(None) => answers.say("none left"),
+            Err(_) => answers.say("out of memory"),
+        }
     }
 
     // `HEX`, `HEX~N` or `HEX*N`, in pieces, and what they give.
-    fn come(&mut self, alloc: Global, word: &str, cut: Cut) -> Result<String> {
-        let octets = octets_of(alloc, word)?;
+    fn come(&mut self, answers: &mut Answers, word: &str, cut: Cut) {
+        let Some(octets) = octets_of(answers.alloc(), word) else {
+            answers.say("no octets");
+            return;
+        };
         let (front, back) = octets
             .as_slice()
             .split_at(cut.first(self.came, octets.len()));
-        let mut answers = String::new(alloc);
-        let mut last = self.piece(alloc, front, &mut answers)?;
+        let mut last = self.piece(answers, front);
         for piece in back.chunks(cut.size()) {
-            last = self.piece(alloc, piece, &mut answers)?;
+            last = self.piece(answers, piece);
         }
-        answers.push_str(last.as_str())?;
-        Ok(answers)
+        say_end(answers, last);
     }
 
     // One piece comes, and all frames that are whole then are taken. What is behind them is told.
-    fn piece(&mut self, alloc: Global, piece: &[u8], answers: &mut String) -> Result<String> {
+    fn piece(&mut self, answers: &mut Answers, piece: &[u8]) -> End {
         if self.inlet.push(piece).is_err() {
-            bail!("out of memory");
+            return End::NoMemory;
         }
         self.came = self.came.saturating_add(piece.len());
-        take_all(alloc, &mut self.inlet, self.max, answers)
+        take_all(answers, &mut self.inlet, self.max)
+    }
+}
+
+/// What is behind the frames that are whole.
+#[derive(Clone, Copy)]
+enum End {
+    Need,
+    Fault(u32),
+    NoMemory,
+}
+
+fn say_end(answers: &mut Answers, end: End) {
+    match end {
+        End::Need => answers.say("need"),
+        End::Fault(code) => answers.say_with("fault ", u64::from(code)),
+        End::NoMemory => answers.say("out of memory"),
     }
 }
 
 // Takes all whole frames, and tells what is behind them.
-fn take_all(alloc: Global, inlet: &mut Inlet, max: u32, answers: &mut String) -> Result<String> {
+fn take_all(answers: &mut Answers, inlet: &mut Inlet, max: u32) -> End {
     'take: loop {
         match inlet.next(max) {
             Ok(Intake::Taken(taken)) => {
-                answers.push_str(taken_words(alloc, &taken)?.as_str())?;
-                answers.push_str(", ")?;
+                say_taken(answers, &taken);
+                answers.say(", ");
             }
-            Ok(Intake::Need) => return Ok(String::from_str(alloc, "need")?),
-            Ok(Intake::Fault(code)) => return Ok(format!(in alloc; "fault {code}")?),
-            Err(_) => bail!("out of memory"),
+            Ok(Intake::Need) => return End::Need,
+            Ok(Intake::Fault(code)) => return End::Fault(code),
+            Err(_) => return End::NoMemory,
         }
     }
 }
 
 // The octets of a word: HEX~N is filled up to N octets with octets 7, HEX*N stands N times.
-fn octets_of(alloc: Global, word: &str) -> Result<Vec<u8>> {
+fn octets_of(alloc: Global, word: &str) -> Option<Vec<u8>> {
     let (word, times) = word.split_once('*').unwrap_or((word, "1"));
     let (text, len) = word.split_once('~').unwrap_or((word, "0"));
-    let mut once = hex::decode(alloc, text)?;
-    let len = number(len) as usize;
-    if len > once.len() {
-        once.resize(len, 7)?;
+    let mut once = hex::decode(alloc, text).ok()?;
+    let len = small_number(len) as usize;
+    if len > once.len() && once.resize(len, 7).is_err() {
+        return None;
     }
+    repeated(alloc, once.as_slice(), small_number(times)).ok()
+}
+
+fn repeated(alloc: Global, once: &[u8], times: u32) -> Result<Vec<u8>, AllocError> {
     let mut octets = Vec::new(alloc);
-    for _ in 0..number(times) {
-        octets.extend_from_slice(once.as_slice())?;
+    for _ in 0..times {
+        octets.extend_from_slice(once)?;
     }
     Ok(octets)
 }

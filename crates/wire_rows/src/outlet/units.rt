@@ -1,80 +1,86 @@
 // Units that wait to be framed, in words.
-ghost use Rattle.std.specs.Prelude.{IfOk};
+ghost use Rattle.std.specs.Prelude.{IfSome};
 ghost use Rattle.wire_outlet.specs.Waiting.{IsFrameable};
 
-use super::words::{next, number};
-use anyhow::{Result, bail};
-use io_ports::NoMemory;
-use std::alloc::Global;
+use crate::words::{next, small_number};
+use std::alloc::{AllocError, Global};
 use wire_outlet::{Control, Waiting};
 
-/// `reply STREAM STATUS`, or a control unit.
-pub fn waiting_unit(alloc: Global, words: &str) -> Result<Waiting>
-    ensures { IfOk result IsFrameable }
+/// `reply STREAM STATUS`, or a control unit. None where there is no such unit, or no memory for it.
+pub fn waiting_unit(alloc: Global, words: &str) -> Option<Waiting>
+    ensures { IfSome result IsFrameable }
 {
     let (kind, words) = next(words);
     if kind != "reply" {
-        return Ok(Waiting::Answer(control_unit(alloc, kind, words)?));
+        return Some(Waiting::Answer(control_unit(alloc, kind, words)?));
     }
     let (stream, status) = next(words);
-    let stream = number(stream);
+    let stream = small_number(stream);
     if stream == 0 || stream >= 0x8000_0000 {
-        bail!("no stream");
+        return None;
     }
-    let status = (number(status) % 65_536) as u16;
-    Ok(Waiting::Reply { stream, status })
+    let status = (small_number(status) % 65_536) as u16;
+    Some(Waiting::Reply { stream, status })
 }
 
 // `settings N=V ..`, `preface N=V ..`, `ack`, `ping HEX`, `reset STREAM CODE` or `goaway LAST CODE`.
-fn control_unit(alloc: Global, kind: &str, words: &str) -> Result<Control> {
+fn control_unit(alloc: Global, kind: &str, words: &str) -> Option<Control> {
     let (first, second) = next(words);
-    let made = match kind {
-        "settings" | "preface" => settings_unit(alloc, kind == "preface", words)?,
-        "ping" => ping_unit(alloc, words)?,
-        "reset" => reset_unit(alloc, number(first), number(second))?,
-        "goaway" => goaway_unit(alloc, number(first), number(second))?,
-        _ => Control::settings_ack(alloc),
-    };
-    match made {
-        Ok(control) => Ok(control),
-        Err(_) => bail!("no memory"),
+    let (first, second) = (small_number(first), small_number(second));
+    match kind {
+        "settings" => settings_unit(alloc, words),
+        "preface" => preface_unit(alloc, words),
+        "ping" => ping_unit(alloc, words),
+        "reset" => reset_unit(alloc, first, second),
+        "goaway" => goaway_unit(alloc, first, second),
+        _ => Control::settings_ack(alloc).ok(),
     }
 }
 
-fn settings_unit(alloc: Global, first: bool, words: &str) -> Result<Result<Control, NoMemory>> {
+// The settings of words `N=V`.
+fn settings_of(alloc: Global, words: &str) -> Result<Vec<(u16, u32)>, AllocError> {
     let mut settings = Vec::new(alloc);
     for word in words.split(' ') {
         let (id, value) = word.split_once('=').unwrap_or((word, "0"));
-        settings.push(((number(id) % 65_536) as u16, number(value)))?;
+        settings.push(((small_number(id) % 65_536) as u16, small_number(value)))?;
     }
+    Ok(settings)
+}
+
+fn settings_unit(alloc: Global, words: &str) -> Option<Control> {
+    let settings = settings_of(alloc, words).ok()?;
     if settings.len() > 2_730 {
-        bail!("too many settings");
+        return None;
     }
-    Ok(if first {
-        Control::preface_settings(alloc, settings.as_slice())
-    } else {
-        Control::settings(alloc, settings.as_slice())
-    })
+    Control::settings(alloc, settings.as_slice()).ok()
 }
 
-fn ping_unit(alloc: Global, words: &str) -> Result<Result<Control, NoMemory>> {
-    let octets = hex::decode(alloc, words)?;
+fn preface_unit(alloc: Global, words: &str) -> Option<Control> {
+    let settings = settings_of(alloc, words).ok()?;
+    if settings.len() > 2_730 {
+        return None;
+    }
+    Control::preface_settings(alloc, settings.as_slice()).ok()
+}
+
+fn ping_unit(alloc: Global, words: &str) -> Option<Control> {
+    let octets = hex::decode(alloc, words).ok()?;
     if octets.len() != 8 {
-        bail!("no eight octets");
+        return None;
     }
-    Ok(Control::ping_ack(alloc, octets.as_slice()))
+    Control::ping_ack(alloc, octets.as_slice()).ok()
 }
 
-fn reset_unit(alloc: Global, stream: u32, code: u32) -> Result<Result<Control, NoMemory>> {
+fn reset_unit(alloc: Global, stream: u32, code: u32) -> Option<Control> {
     if stream == 0 || stream >= 0x8000_0000 {
-        bail!("no stream");
+        return None;
     }
-    Ok(Control::rst_stream(alloc, stream, code))
+    Control::rst_stream(alloc, stream, code).ok()
 }
 
-fn goaway_unit(alloc: Global, last: u32, code: u32) -> Result<Result<Control, NoMemory>> {
+fn goaway_unit(alloc: Global, last: u32, code: u32) -> Option<Control> {
     if last >= 0x8000_0000 {
-        bail!("no stream");
+        return None;
     }
-    Ok(Control::goaway(alloc, last, code))
+    Control::goaway(alloc, last, code).ok()
 }

@@ -9,24 +9,24 @@ use Rattle.wire_run.proofs.run.run_wire.Goals as goal
 pub play_all-status-requires : goal.play_all-status-requires
 play_all-status-requires g c =
     let t = c.requires.configured in
-    record { run = (t.0, [], [], c.new-run.ensures.run t.0 (c.in-Ok.ensures t.0 t.1)) }
+    record { run = (t.0, [], [], c.new-run.ensures.run t.0 (c.in-Ok-new.ensures t.0 t.1)) }
 
 pub returns-clause-usage : goal.returns-clause-usage
 returns-clause-usage g c =
     let t = c.requires.configured in
-    other_result c.play_all-status.result c.finish-status.result (not_usage _ _ t.0 _ _ _ _ c.play_all-status.result (c.new-run.ensures.run t.0 (c.in-Ok.ensures t.0 t.1)) c.play_all-status.ensures.steps) c.finish-status.ensures.same
+    other_result c.play_all-status.result c.finish-status.result (not_usage _ _ t.0 _ _ _ _ c.play_all-status.result (c.new-run.ensures.run t.0 (c.in-Ok-new.ensures t.0 t.1)) c.play_all-status.ensures.steps) c.finish-status.ensures.same
 
 pub returns-clause-refused : goal.returns-clause-refused
 returns-clause-refused g c =
     let t = c.requires.configured in
-    other_config c.play_all-status.result c.finish-status.result (not_config _ _ t.0 _ _ _ _ c.play_all-status.result (c.new-run.ensures.run t.0 (c.in-Ok.ensures t.0 t.1)) c.play_all-status.ensures.steps) c.finish-status.ensures.same
+    other_config c.play_all-status.result c.finish-status.result (not_config _ _ t.0 _ _ _ _ c.play_all-status.result (c.new-run.ensures.run t.0 (c.in-Ok-new.ensures t.0 t.1)) c.play_all-status.ensures.steps) c.finish-status.ensures.same
 
 pub returns-clause-tape : goal.returns-clause-tape
-returns-clause-tape g c = λ text e. runs_of text _ _ _ _ _ (replayed_by _ _ text _ _ _ _ _ _ _ (c.new-run.ensures.run text (c.in-Ok.ensures text e)) c.play_all-status.ensures.steps c.finish-status.ensures.finishes)
+returns-clause-tape g c = λ text e. runs_of text _ _ _ _ _ (replayed_by _ _ text _ _ _ _ _ _ _ (c.new-run.ensures.run text (c.in-Ok-new.ensures text e)) c.play_all-status.ensures.steps c.finish-status.ensures.finishes)
 
 pub returns-clause-completes : goal.returns-clause-completes
 returns-clause-completes g c = λ text e.
-    let begun = c.new-run.ensures.run text (c.in-Ok.ensures text e) in
+    let begun = c.new-run.ensures.run text (c.in-Ok-new.ensures text e) in
     completes c.args.config text _ _ _ _ _ e
     (other_result c.play_all-status.result c.finish-status.result (not_usage _ _ text _ _ _ _ c.play_all-status.result begun c.play_all-status.ensures.steps) c.finish-status.ensures.same)
     (other_config c.play_all-status.result c.finish-status.result (not_config _ _ text _ _ _ _ c.play_all-status.result begun c.play_all-status.ensures.steps) c.finish-status.ensures.same)

@@ -1,7 +1,7 @@
 use Rattle.std.proofs.Common.{length}
 use Rattle.replay_run.specs.Drill.{rest_of}
 use Rattle.replay_run.specs.ReplayDrill.{Drilled}
-use Rattle.replay_run.proofs.drill_run.run_drill.Given as goal
+use Rattle.replay_run.proofs.drill_run.run_all.Given as goal
 
 abbrev pub invariant-events : goal.invariant-events
 invariant-events l = record { stands : Drilled l.streams l.core l.drill l.tally }
