@@ -1,5 +1,5 @@
 // Lists of octets and of pressures, and out of memory.
-ghost use Rattle.std.specs.Prelude.{◌≡◌, ◌==◌, ◌∷◌, List, ℕ, [], ◌++◌, length, take, IfOk, OnOk, OnErr};
+ghost use Rattle.std.specs.Prelude.{◌≡◌, ◌==◌, ◌∷◌, ◌≤◌, List, ℕ, [], ◌++◌, length, take, IfOk, OnOk, OnErr};
 
 use std::alloc::{AllocError, AllocFailed, Global};
 use std::error::Error;
@@ -31,9 +31,14 @@ impl<T: Drop> From<AllocFailed<T>> for NoMemory {
     }
 }
 
+/// So many octets need no block of memory.
+const FEW: usize = 22;
+
 /// Where octets are kept.
 #[derive(Debug)]
 pub(crate) enum Store {
+    /// Here: the first so many of these.
+    Few { octets: [u8; FEW], len: u8 },
     /// In a block of memory of their own.
     Own(Vec<u8>),
     /// In the program.
@@ -50,6 +55,7 @@ impl Drop for Store {
             Store::Own(bytes) => drop(bytes),
             Store::Shared { block, len: _ } => drop(block),
             Store::Fixed(_) => {}
+            Store::Few { octets: _, len: _ } => {}
         }
     }
 }
@@ -57,7 +63,30 @@ impl Drop for Store {
 impl Store {
     ghost use Rattle.io_ports.specs.Stores.{stored, Reaches};
 
-    /// The same octets in a block that copies share, unless they are the program's.
+    /// A copy of a slice. Of few octets it takes no memory.
+    fn copy_of(alloc: Global, octets: &[u8]) -> Result<Self, NoMemory>
+        ensures { IfOk result (λ store. (stored store ≡ octets.now) × Reaches store) }
+    {
+        if octets.len() > FEW {
+            return Ok(Store::Own(Vec::from_slice(alloc, octets)?));
+        }
+        Ok(Store::few(octets))
+    }
+
+    /// A copy of few octets.
+    fn few(octets: &[u8]) -> Self
+        requires { length octets.now ≤ 22 }
+        ensures { (stored result ≡ octets.now) × Reaches result }
+    {
+        let mut few = [0; FEW];
+        few[..octets.len()].copy_from_slice(octets);
+        Store::Few {
+            octets: few,
+            len: octets.len() as u8,
+        }
+    }
+
+    /// The same octets in a block that copies share, unless they are few or the program's.
     fn shared(self, alloc: Global) -> Result<Self, NoMemory>
         requires { Reaches self }
         ensures { IfOk result (λ shared. (stored shared ≡ stored self) × Reaches shared) }
@@ -68,6 +97,7 @@ impl Store {
                 let block = Arc::new(alloc, bytes)?;
                 Ok(Store::Shared { block, len })
             }
+            Store::Few { octets, len } => Ok(Store::Few { octets, len }),
             Store::Fixed(octets) => Ok(Store::Fixed(octets)),
             Store::Shared { block, len } => Ok(Store::Shared { block, len }),
         }
@@ -110,11 +140,14 @@ impl Octets {
         }
     }
 
-    /// A copy of the octets of a slice.
+    /// A copy of the octets of a slice. Of at most 22 octets it takes no memory.
     pub fn from_slice(alloc: Global, octets: &[u8]) -> Result<Self, NoMemory>
         ensures { IfOk result (λ made. made ≡ octets.now) }
     {
-        Ok(Octets::from_vec(Vec::from_slice(alloc, octets)?))
+        Ok(Octets {
+            alloc,
+            store: Store::copy_of(alloc, octets)?,
+        })
     }
 
     /// Octets of the program. Takes no memory.
@@ -127,7 +160,7 @@ impl Octets {
         }
     }
 
-    /// The same octets in a block of memory that copies share, unless they are the program's.
+    /// The same octets in a block of memory that copies share, unless they are few or the program's.
     pub fn shared(self) -> Result<Self, NoMemory>
         ensures { IfOk result (λ shared. shared ≡ self) }
     {
@@ -136,13 +169,17 @@ impl Octets {
         Ok(Octets { alloc, store })
     }
 
-    /// A copy. Of octets that are shared, or the program's, it takes no memory.
+    /// A copy. Of octets that are few or shared, or the program's, it takes no memory.
     #[inline(always)]
     pub fn copied(&self) -> Result<Self, NoMemory>
         ensures { IfOk result (λ copy. copy ≡ self.now) }
     {
         let store = match &self.store {
-            Store::Own(bytes) => Store::Own(Vec::from_slice(self.alloc, bytes.as_slice())?),
+            Store::Own(bytes) => Store::copy_of(self.alloc, bytes.as_slice())?,
+            Store::Few { octets, len: few } => Store::Few {
+                octets: *octets,
+                len: *few,
+            },
             Store::Fixed(octets) => Store::Fixed(octets),
             Store::Shared { block, len } => Store::Shared {
                 block: Arc::try_clone(block)?,
@@ -183,6 +220,7 @@ impl Octets {
     {
         match &mut self.store {
             Store::Own(bytes) => bytes.truncate(len),
+            Store::Few { len: all, .. } => *all = len.min(usize::from(*all)) as u8,
             Store::Fixed(octets) => *octets = front(octets, len),
             Store::Shared { len: all, .. } => *all = len.min(*all),
         }
@@ -193,6 +231,7 @@ impl Octets {
     {
         match &self.store {
             Store::Own(bytes) => bytes.as_slice(),
+            Store::Few { octets, len } => front(octets, usize::from(*len)),
             Store::Fixed(octets) => octets,
             Store::Shared { block, len } => front(block.as_slice(), *len),
         }
@@ -203,6 +242,7 @@ impl Octets {
     {
         match &self.store {
             Store::Own(bytes) => bytes.len(),
+            Store::Few { len, .. } => usize::from(*len),
             Store::Fixed(octets) => octets.len(),
             Store::Shared { len, .. } => *len,
         }
