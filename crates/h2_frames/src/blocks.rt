@@ -1,13 +1,25 @@
 // A field block in HEADERS and CONTINUATION frames.
-ghost use Rattle.std.specs.Prelude.{◌≡◌, ◌++◌, ◌<◌, ◌^◌, length, take, OnErr, OnOk};
+ghost use Rattle.std.specs.Prelude.{◌≡◌, ◌++◌, ◌<◌, ◌≤◌, ◌^◌, ℕ, List, length, take, OnErr, OnOk};
 ghost use Rattle.h2_frames.specs.Blocks.{block_frames, continued, pieces, spellings};
 
-use crate::types::Frame;
-use crate::writing::write_frame;
+use crate::types::{END_HEADERS, END_STREAM, Frame, HEADERS};
+use crate::writing::{frame_head, write_frame};
 use io_ports::{NoMemory, Octets};
 
 // The greatest payload that every peer takes (RFC 9113 section 4.2).
 const PIECE: usize = 16_384;
+
+/// The nine octets of the head of a HEADERS frame with a whole block of `n` octets: with the block behind it, it is the one
+/// frame of that block, as `block_frames` writes it.
+pub fn block_head(stream: u32, n: u32, last: bool) -> [u8; 9]
+    requires on_stream { 0 < stream }
+    requires fits { stream < 2 ^ 31 }
+    requires few { n ≤ 16384 }
+    ensures { (block : List ℕ) → length block ≡ n → result ++ block ≡ spellings (block_frames stream last block) }
+{
+    let ended = if last { END_STREAM } else { 0 };
+    frame_head(n, HEADERS, END_HEADERS + ended, stream)
+}
 
 /// Appends the frames of a field block on a stream: HEADERS, with END_STREAM where it is the last
 /// of the stream, and CONTINUATION. Each has 16,384 octets of the block but the last one, which has

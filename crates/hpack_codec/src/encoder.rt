@@ -1,5 +1,5 @@
 // The encoder of blocks.
-ghost use Rattle.std.specs.Prelude.{◌≡◌, ◌+◌, ◌<◌, ◌≤◌, ℕ, true, false, length, IfOk, OnOk, OnErr, if◌then◌else◌};
+ghost use Rattle.std.specs.Prelude.{◌≡◌, ◌+◌, ◌++◌, ◌<◌, ◌≤◌, ℕ, true, false, length, IfOk, OnOk, OnErr, if◌then◌else◌};
 ghost use Rattle.hpack_codec.specs.Encoding.{encode_block};
 ghost use Rattle.hpack_codec.specs.Sections.{SpellsBlock, list_size};
 ghost use Rattle.hpack_codec.specs.Table.{Table, resized};
@@ -56,15 +56,26 @@ impl Encoder {
         ensures ok { OnOk result (self.new ≡ false) }
         ensures err { OnErr result (self.new ≡ self.old) }
     {
-        fields.has_spelling();
         let mut out = Vec::with_capacity(self.alloc, fields.size().saturating_add(1))?;
+        self.encode_onto(fields, &mut out)?;
+        Ok(Octets::from_vec(out))
+    }
+
+    /// Appends the block of a list, as `encode` gives it. After running out of memory the encoder is as it was.
+    pub fn encode_onto(&mut self, fields: &FieldList, out: &mut Vec<u8>) -> Result<(), NoMemory>
+        ensures spelling { OnOk result (out.new.items ≡ out.old.items ++ encode_block self.old fields.now) }
+        ensures bound { length (encode_block self.old fields.now) ≤ list_size fields.now + 1 }
+        ensures ok { OnOk result (self.new ≡ false) }
+        ensures err { OnErr result (self.new ≡ self.old) }
+    {
+        fields.has_spelling();
         if self.anew {
             out.push(0x20)?;
         }
         for field in fields.as_slice() {
-            push_field(&mut out, field)?;
+            push_field(out, field)?;
         }
         self.anew = false;
-        Ok(Octets::from_vec(out))
+        Ok(())
     }
 }

@@ -1,7 +1,7 @@
 // The static table.
 ghost use Rattle.std.specs.Prelude.{◌≡◌, ◌<◌, ◌&&◌, [], Some, length, map, slice_get, slice_index_or};
 ghost use Rattle.std.specs.Str.{bytes_eq};
-ghost use Rattle.hpack_codec.specs.Table.{line, static_table};
+ghost use Rattle.hpack_codec.specs.Table.{line, places_of, static_table};
 ghost use Rattle.hpack_codec.specs.Encoding.{index_from};
 
 use crate::line::Row;
@@ -137,11 +137,40 @@ static VALUES: [&str; 61] = [
     "",
 ];
 
+/// The places of the names with so many octets, in their order: a name is looked for among these alone.
+static BY_LENGTH: [&[u8]; 28] = [
+    &[],
+    &[],
+    &[],
+    &[20, 59],
+    &[32, 33, 36, 37, 44, 58],
+    &[3, 4, 21, 49],
+    &[18, 31, 34, 53],
+    &[1, 2, 5, 6, 7, 8, 9, 10, 11, 12, 13, 35, 50, 51],
+    &[38, 41, 45],
+    &[],
+    &[0, 54, 57],
+    &[52],
+    &[30, 46],
+    &[17, 22, 23, 29, 40, 43],
+    &[14, 27],
+    &[15, 16],
+    &[25, 26, 28, 60],
+    &[39, 56],
+    &[47],
+    &[24, 42, 48],
+    &[],
+    &[],
+    &[],
+    &[],
+    &[],
+    &[55],
+    &[],
+    &[19],
+];
+
 /// How many entries the static table has.
 pub(crate) const STATIC_LEN: usize = 61;
-
-/// How many of the first entries hold all that have a value.
-const VALUED: usize = 16;
 
 /// The text at a place.
 fn text_at<'a>(texts: &[&'a str], place: usize) -> &'a str
@@ -164,13 +193,23 @@ pub(crate) fn static_entry(place: usize) -> Row
     }
 }
 
+/// The places of the entries whose names have so many octets, in their order.
+fn places_of(len: usize) -> &'static [u8]
+    ensures { result.now ≡ places_of len }
+{
+    match BY_LENGTH.get(len) {
+        Some(places) => places,
+        None => &[],
+    }
+}
+
 /// The lowest index of an entry with this name.
 pub(crate) fn index_of_name(name: &[u8]) -> Option<u32>
     ensures { result ≡ index_from 1 (λ l. bytes_eq l.name name.now) static_table }
 {
-    for place in 0..STATIC_LEN {
-        if static_entry(place).name == name {
-            return Some(place as u32 + 1);
+    for place in places_of(name.len()) {
+        if static_entry(usize::from(*place)).name == name {
+            return Some(u32::from(*place) + 1);
         }
     }
     None
@@ -180,11 +219,10 @@ pub(crate) fn index_of_name(name: &[u8]) -> Option<u32>
 pub(crate) fn index_of_entry(name: &[u8], value: &[u8]) -> Option<u32>
     ensures { result ≡ index_from 1 (λ l. bytes_eq l.name name.now && bytes_eq l.value value.now) static_table }
 {
-    let most = if value.is_empty() { STATIC_LEN } else { VALUED };
-    for place in 0..most {
-        let entry = static_entry(place);
+    for place in places_of(name.len()) {
+        let entry = static_entry(usize::from(*place));
         if entry.name == name && entry.value == value {
-            return Some(place as u32 + 1);
+            return Some(u32::from(*place) + 1);
         }
     }
     None
