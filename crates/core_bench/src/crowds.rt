@@ -171,7 +171,7 @@ pub fn settings(rt: &(impl AllocGlobal + Print + CpuClock)) -> anyhow::Result<()
         wire.settings(4, 1_000_000, 174_762).map_err(no_memory)?;
         let event = Event::Read {
             conn,
-            octets: wire.into_octets(),
+            octets: wire.into_octets().map_err(no_memory)?,
         };
         let watch = CpuStopwatch::start(rt)?;
         rig.go(&event)?;

@@ -28,8 +28,9 @@ impl Wire {
         }
     }
 
-    pub fn into_octets(self) -> Octets {
-        self.octets
+    /// The octets, in a block that the core may share.
+    pub fn into_octets(self) -> Result<Octets, NoMemory> {
+        self.octets.shared()
     }
 
     pub fn preface(&mut self) -> Result<(), NoMemory> {

@@ -73,7 +73,7 @@ fn push_turn(
 }
 
 fn push(events: &mut EventList, conn: u32, wire: Wire) -> anyhow::Result<()> {
-    let octets = wire.into_octets();
+    let octets = wire.into_octets().map_err(no_memory)?;
     events.push(Event::Read { conn, octets }).map_err(no_memory)
 }
 

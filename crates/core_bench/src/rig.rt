@@ -70,7 +70,7 @@ impl Rig {
     }
 
     pub fn read(&mut self, conn: u32, wire: Wire) -> anyhow::Result<()> {
-        let octets = wire.into_octets();
+        let octets = wire.into_octets().map_err(no_memory)?;
         self.go(&Event::Read { conn, octets })
     }
 

@@ -142,7 +142,7 @@ fn read_at(core: &mut WireCore, number: u32, octets: &Octets) -> Result<bool, No
     ensures sound { OnOk result (IsSound core.new) }
 {
     match core.conns.get_mut(&number) {
-        Some(conn) => conn.read(octets.as_slice()),
+        Some(conn) => conn.read(octets),
         None => Ok(false),
     }
 }

@@ -6,13 +6,13 @@ ghost use Rattle.wire_state.specs.Progress.{conn_go};
 use crate::conn::Conn;
 use flow_gate::FlowId;
 use h2_windows::{MAX_WINDOW, Overflow};
-use io_ports::NoMemory;
+use io_ports::{NoMemory, Octets};
 use wire_flows::WireFlows;
 use wire_inlet::Intake;
 
 impl Conn {
     /// Octets came. The answer is false where the connection isn't open: then they are dropped.
-    pub fn read(&mut self, octets: &[u8]) -> Result<bool, NoMemory>
+    pub fn read(&mut self, octets: &Octets) -> Result<bool, NoMemory>
         ensures rest { self.new ≡ record self.old { inlet = self.new.inlet } }
     {
         if !self.open {
