@@ -1,8 +1,9 @@
 // What the flows answer.
-ghost use Rattle.std.specs.Prelude.{◌≡◌, ◌==◌, ◌&&◌, Some, is_some, false, option_map, not, true};
+ghost use Rattle.std.specs.Prelude.{◌≡◌, ◌==◌, ◌&&◌, Some, is_some, false, nat_lt, option_map, not, true};
 ghost use Rattle.std.specs.Option.{option_map_or};
 ghost use Rattle.exchange_core.specs.Exchange.{ends_of, held_in};
 ghost use Rattle.exchange_core.specs.Exchanges.{IsNextMetered, exchange_at};
+ghost use Rattle.exchange_core.specs.Flow.{held_by};
 ghost use Rattle.exchange_core.specs.Message.{awaited, head_came};
 ghost use Rattle.flow_gate.specs.Board.{count, watchers_of};
 ghost use Rattle.flow_gate.specs.declared.ids.FlowId.{FlowId as Flow};
@@ -98,6 +99,13 @@ impl WireFlows {
         ensures { result ≡ option_map_or (λ f. not f.message.ended) (flow_in self.now flow) false }
     {
         self.exchanges.goes_on(flow)
+    }
+
+    /// Whether a flow holds octets in some place. False where the flow isn't live.
+    pub fn holds(&self, flow: FlowId) -> bool
+        ensures { result ≡ option_map_or (λ f. nat_lt 0 (held_by f)) (flow_in self.now flow) false }
+    {
+        self.exchanges.holds(flow)
     }
 
     /// Which ends of a live exchange are framed.

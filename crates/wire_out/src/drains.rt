@@ -105,7 +105,7 @@ fn frame_next(
 }
 
 /// What may be framed at a connection now.
-pub fn next_unit(core: &mut WireCore, number: u32) -> Option<NextUnit>
+pub(crate) fn next_unit(core: &mut WireCore, number: u32) -> Option<NextUnit>
     requires sound { IsSound core.old }
     ensures sound { IsSound core.new }
     ensures go { to_go core.new ≤ to_go core.old }

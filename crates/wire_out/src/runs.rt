@@ -48,10 +48,52 @@ pub fn run(
     ensures go { OnOk result (to_go core.new < to_go core.old) }
     ensures notes { Appends notes.old notes.new }
 {
+    if !core.flows.holds(course.flow) {
+        return run_empty(core, course, tried, notes);
+    }
     match core.flows.step(course.flow)? {
         Outcome::Moved(moved) => go_on(core, course, moved, notes),
         Outcome::TooLarge => overfull(core, course, tried, notes),
         Outcome::Still => stop(core, course, tried, notes),
+    }
+}
+
+// A flow without octets has nothing to move, and a drain brings it none: it isn't looked at once more. Its connections are
+// drained, the one that it goes to first and at once.
+fn run_empty(
+    core: &mut WireCore,
+    course: Course,
+    tried: bool,
+    notes: &mut Notes,
+) -> Result<(), NoMemory>
+    requires sound { IsSound core.old }
+    requires top { top_go core.old.agenda ≡ (if tried then 1 else 6) }
+    ensures sound { OnOk result (IsSound core.new) }
+    ensures go { OnOk result (to_go core.new < to_go core.old) }
+    ensures notes { Appends notes.old notes.new }
+{
+    core.end_task();
+    if tried {
+        return Ok(());
+    }
+    let unit = unit_to(core, course.to);
+    ask_drain_next(core, course.from)?;
+    match unit {
+        Some((to, unit)) => drain_by(core, to, unit, notes),
+        None => Ok(()),
+    }
+}
+
+// A connection, if there is one, is to be drained next, unless that is what goes on next.
+fn ask_drain_next(core: &mut WireCore, conn: Option<u32>) -> Result<(), NoMemory>
+    requires sound { IsSound core.old }
+    ensures sound { OnOk result (IsSound core.new) }
+    ensures go { OnOk result (to_go core.new ≤ to_go core.old + 2) }
+    ensures rest { core.new ≡ record core.old { agenda = core.new.agenda } }
+{
+    match (core.agenda.top(), conn) {
+        (Some(Task::AskDrain(next)), Some(conn)) if next == conn => Ok(()),
+        _ => ask_drain(core, conn),
     }
 }
 

@@ -1,15 +1,17 @@
 // Rounds: which connection is looked at next, once nothing is under way.
 ghost use Rattle.std.specs.Prelude.{◌≡◌, ◌≤◌, ◌<◌, IfOk, OnOk, true};
 ghost use Rattle.wire_state.specs.Noting.{Appends};
-ghost use Rattle.wire_state.specs.Progress.{to_go};
+ghost use Rattle.wire_state.specs.Progress.{conn_go, to_go};
 ghost use Rattle.wire_state.specs.Sound.{IsSound};
 
 use flow_notes::{CloseCause, Notes};
 use h2_frames::codes::NO_ERROR;
 use io_ports::NoMemory;
 use wire_ends::close;
-use wire_out::{begin_drain, next_unit};
-use wire_state::{NextUnit, WireCore};
+use wire_flows::WireFlows;
+use wire_links::Links;
+use wire_out::begin_drain;
+use wire_state::{Conn, NextUnit, WireCore};
 
 /// What is to be done at a connection.
 #[derive(Clone, Copy)]
@@ -119,10 +121,23 @@ fn work_at(core: &mut WireCore, number: u32) -> Option<Work>
     ensures go { to_go core.new ≤ to_go core.old }
     ensures rest { core.new ≡ record core.old { conns = core.new.conns } }
 {
-    if let Some(unit) = next_unit(core, number) {
+    match core.conns.get_mut(&number) {
+        Some(conn) => work_of(conn, &core.flows, &core.links, number),
+        None => None,
+    }
+}
+
+#[tactic(auto, unfolding(wire_state::specs::Progress::conn_go))]
+fn work_of(conn: &mut Conn, flows: &WireFlows, links: &Links, number: u32) -> Option<Work>
+    ensures rest { conn.new ≡ record conn.old { credits = conn.new.credits } }
+    ensures go { conn_go conn.new ≡ conn_go conn.old }
+{
+    if conn.may_write()
+        && let Some(unit) = conn.next_unit(flows)
+    {
         return Some(Work::Frame(unit));
     }
-    if is_drained(core, number) {
+    if is_drained(conn, links, number) {
         Some(Work::Close)
     } else {
         None
@@ -130,14 +145,9 @@ fn work_at(core: &mut WireCore, number: u32) -> Option<Work>
 }
 
 // Whether an open connection is draining, with nothing left to do.
-fn is_drained(core: &WireCore, number: u32) -> bool {
-    match core.conns.get(&number) {
-        Some(conn) => {
-            conn.open
-                && conn.draining.is_some()
-                && !conn.outlet.has_waiting()
-                && core.links.exchanges_of(number) == 0
-        }
-        None => false,
-    }
+fn is_drained(conn: &Conn, links: &Links, number: u32) -> bool {
+    conn.open
+        && conn.draining.is_some()
+        && !conn.outlet.has_waiting()
+        && links.exchanges_of(number) == 0
 }

@@ -1,9 +1,9 @@
 // What exchanges answer, and leave as they are.
-ghost use Rattle.std.specs.Prelude.{◌≡◌, ◌↔◌, ◌-◌, IsTrue, Some, false, length, not, option_map, true};
+ghost use Rattle.std.specs.Prelude.{◌≡◌, ◌↔◌, ◌-◌, IsTrue, Some, false, length, nat_lt, not, option_map, true};
 ghost use Rattle.std.specs.Option.{option_map_or};
 ghost use Rattle.exchange_core.specs.Exchange.{ends_of, held_in};
 ghost use Rattle.exchange_core.specs.Exchanges.{IsLiveFlow, IsNextMetered, IsSound, exchange_at, flow_at, is_live};
-ghost use Rattle.exchange_core.specs.Flow.{stages_of};
+ghost use Rattle.exchange_core.specs.Flow.{held_by, stages_of};
 ghost use Rattle.exchange_core.specs.Message.{awaited, head_came};
 ghost use Rattle.filter_chain.specs.Release.{is_source_at};
 
@@ -98,6 +98,16 @@ impl Exchanges {
         match self.find(flow) {
             Some(flow) => flow.message().awaits(),
             None => Awaited::Nothing,
+        }
+    }
+
+    /// Whether a flow holds octets in some place. False where the flow isn't live.
+    pub fn holds(&self, flow: FlowId) -> bool
+        ensures { result ≡ option_map_or (λ f. nat_lt 0 (held_by f)) (flow_at self.now flow) false }
+    {
+        match self.find(flow) {
+            Some(flow) => flow.held() > 0,
+            None => false,
         }
     }
 
