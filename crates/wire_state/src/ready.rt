@@ -46,6 +46,10 @@ impl Ready {
 
     /// The exchange whose unit goes next after that of another, in rotation, where the connection's window has this room.
     pub fn next(&self, after: u64, room: i64) -> Option<u64> {
+        // Most connections that are looked at have none.
+        if self.free.len() == 0 && self.body.len() == 0 {
+            return None;
+        }
         match self.least(after, room) {
             Some(exchange) => Some(exchange),
             None => self.least(0, room),
