@@ -88,7 +88,13 @@ impl NumberSet {
     pub fn contains(&self, number: u64) -> bool
         ensures { result ≡ has self.now.items number }
     {
-        self.items.binary_search(&number).is_ok()
+        // Most sets that are asked have one or two.
+        match self.items.as_slice() {
+            [] => false,
+            [one] => *one == number,
+            [one, other] => *one == number || *other == number,
+            items => items.binary_search(&number).is_ok(),
+        }
     }
 
     /// The greatest.
