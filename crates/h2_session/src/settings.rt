@@ -1,5 +1,5 @@
 // The entries of SETTINGS frames (RFC 9113 section 6.5.1).
-ghost use Rattle.std.specs.Prelude.{◌≡◌, ◌==◌, ◌≤◌, ◌+◌, ◌-◌, ◌^◌, ◌∷◌, ◌&&◌, ◌||◌, length, nat_lt, IfOk};
+ghost use Rattle.std.specs.Prelude.{◌≡◌, ◌≤◌, ◌+◌, ◌-◌, ◌^◌, ◌∷◌, ◌||◌, length, nat_lt, not, IfOk};
 ghost use Rattle.h2_session.specs.Errors.{names_outside, settings_of};
 
 use crate::act::{Setting, SettingList};
@@ -31,6 +31,8 @@ fn first_setting(entries: &[u8]) -> (Setting, &[u8])
 }
 
 /// The entries, in their order.
+// It isn't inlined, so that the state of its loop lies in registers: a frame may have many entries.
+#[inline(never)]
 pub fn read_settings(alloc: Global, entries: &[u8]) -> Result<SettingList, NoMemory>
     ensures { IfOk result (λ list. list ≡ settings_of entries.now) }
 {
@@ -44,11 +46,11 @@ pub fn read_settings(alloc: Global, entries: &[u8]) -> Result<SettingList, NoMem
     Ok(list)
 }
 
-// Whether an entry is of this number, with a value outside the range.
-fn is_outside(setting: Setting, id: u16, low: u32, high: u32) -> bool
-    ensures { result ≡ ((setting.id == id) && (nat_lt setting.value low || nat_lt high setting.value)) }
+// Whether frames may have so many octets of payload.
+fn is_frame_size(value: u32) -> bool
+    ensures { result ≡ not (nat_lt value 16384 || nat_lt 16777215 value) }
 {
-    setting.id == id && (setting.value < low || high < setting.value)
+    (16_384..=16_777_215).contains(&value)
 }
 
 /// Of which of the settings that are looked at some entry has a value outside its range.
@@ -60,6 +62,7 @@ pub struct Outside {
 }
 
 /// The settings that the entries name outside their ranges, where ENABLE_PUSH is at most `most_push`.
+#[inline(never)]
 pub fn named_outside(entries: &[u8], most_push: u32) -> Outside
     ensures push { result.push ≡ names_outside 2 0 most_push (settings_of entries.now) }
     ensures initial_window { result.initial_window ≡ names_outside 4 0 (2 ^ 31 - 1) (settings_of entries.now) }
@@ -71,9 +74,13 @@ pub fn named_outside(entries: &[u8], most_push: u32) -> Outside
     let mut rest = entries;
     while rest.len() >= 6 {
         let (setting, after) = first_setting(rest);
-        push = push || is_outside(setting, ENABLE_PUSH, 0, most_push);
-        initial_window = initial_window || is_outside(setting, INITIAL_WINDOW_SIZE, 0, MAX_WINDOW);
-        frame_size = frame_size || is_outside(setting, MAX_FRAME_SIZE, 16_384, 16_777_215);
+        let value = setting.value;
+        match setting.id {
+            ENABLE_PUSH => push = push || most_push < value,
+            INITIAL_WINDOW_SIZE => initial_window = initial_window || MAX_WINDOW < value,
+            MAX_FRAME_SIZE => frame_size = frame_size || !is_frame_size(value),
+            _ => {}
+        }
         rest = after;
     }
     Outside {

@@ -89,35 +89,39 @@ fn set_windows_of(conn: &mut Conn, named: Named) -> bool
     }
 }
 
-// The state of the loop lies in variables of its own, which stay in registers: a frame may name many settings.
+// It isn't inlined, and the state of its loop is plain numbers, so that it lies in registers: a frame may name many settings.
+#[inline(never)]
 fn named_in(list: &SettingList) -> Named {
     let mut table = false;
     let mut concurrent = None;
     let mut payload = None;
-    let mut initial = None;
+    let mut windows = false;
+    let mut greatest = 0;
+    let mut last = 0;
     for setting in list.as_slice() {
         let value = setting.value;
         match setting.id {
+            INITIAL_WINDOW_SIZE => {
+                windows = true;
+                greatest = value.max(greatest);
+                last = value;
+            }
             HEADER_TABLE_SIZE => table = true,
             MAX_CONCURRENT_STREAMS => concurrent = Some(value),
             MAX_FRAME_SIZE => payload = Some(value),
-            INITIAL_WINDOW_SIZE => initial = Some((greatest_of(initial, value), value)),
             _ => {}
         }
     }
+    let initial = if windows {
+        Some((greatest, last))
+    } else {
+        None
+    };
     Named {
         table,
         concurrent,
         payload,
         initial,
-    }
-}
-
-// The greatest initial window, with one more.
-fn greatest_of(initial: Option<(u32, u32)>, value: u32) -> u32 {
-    match initial {
-        Some((greatest, _)) => greatest.max(value),
-        None => value,
     }
 }
 
