@@ -93,6 +93,7 @@ impl Exchange {
     }
 
     /// The Meters of both flows go on to the moment `now`.
+    #[inline(always)]
     pub(crate) fn go_on(&mut self, now: u64)
         ensures { self.new ≡ seen_at now self.old }
     {
@@ -124,6 +125,7 @@ impl Exchange {
     }
 
     /// The request flow, or the response flow, if it is there.
+    #[inline(always)]
     pub(crate) fn find(&self, back: bool) -> Option<&Flow>
         ensures { option_copied result ≡ flow_in back self.now }
     {
@@ -150,6 +152,7 @@ impl Exchange {
     }
 
     /// A flow to change, if it is there.
+    #[inline(always)]
     pub(crate) fn flow_mut(&mut self, back: bool) -> Option<&mut Flow>
         ensures* writes_back { sem 𝓛 (LendsFlow back self.entry result) }
         ensures value { option_copied_mut result ≡ flow_in back self.old }
@@ -164,6 +167,7 @@ impl Exchange {
     }
 
     /// A flow to change, if it is there, with the Meters of the exchange at the moment `now`.
+    #[inline(always)]
     pub(crate) fn touch(&mut self, back: bool, now: u64) -> Option<&mut Flow>
         ensures* writes_back { sem 𝓛 (LendsTouched back now self.entry result) }
         ensures value { option_copied_mut result ≡ flow_in back (seen_at now self.old) }

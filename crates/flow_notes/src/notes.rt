@@ -191,6 +191,7 @@ impl Notes {
     }
 
     /// Appends a note. After running out of memory the list is as it was.
+    #[inline(always)]
     pub fn push(&mut self, note: Note) -> Result<(), NoMemory>
         ensures ok { OnOk result (self.new ≡ self.old ++ note ∷ []) }
         ensures err { OnErr result (self.new ≡ self.old) }

@@ -7,6 +7,7 @@ use io_ports::{NoMemory, Octets};
 use wire_flows::WireFlows;
 
 /// Writes a note.
+#[inline(always)]
 pub fn note(notes: &mut Notes, note: Note) -> Result<(), NoMemory>
     requires { IsStep note }
     ensures { Appends notes.old notes.new }

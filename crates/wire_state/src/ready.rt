@@ -23,6 +23,7 @@ impl Ready {
     }
 
     /// From now on this is what goes next of the exchange.
+    #[inline(always)]
     pub fn set(&mut self, exchange: u64, unit: Unit) -> Result<(), NoMemory> {
         match unit {
             Unit::Nothing => self.remove(exchange),
@@ -39,12 +40,14 @@ impl Ready {
     }
 
     /// The exchange has no unit any more.
+    #[inline(always)]
     pub fn remove(&mut self, exchange: u64) {
         self.free.mark(exchange, false);
         self.body.mark(exchange, false);
     }
 
     /// The exchange whose unit goes next after that of another, in rotation, where the connection's window has this room.
+    #[inline(always)]
     pub fn next(&self, after: u64, room: i64) -> Option<u64> {
         // Most connections that are looked at have none.
         if self.free.len() == 0 && self.body.len() == 0 {
@@ -57,6 +60,7 @@ impl Ready {
     }
 
     // The least exchange above a number that has a unit for which there is room.
+    #[inline(always)]
     fn least(&self, after: u64, room: i64) -> Option<u64> {
         let free = self.free.next_above(after);
         if room <= 0 {

@@ -25,6 +25,7 @@ impl Stirred {
     }
 
     /// Something changed at a connection.
+    #[inline(always)]
     pub fn add(&mut self, conn: u32) -> Result<(), NoMemory>
         ensures { length self.new.conns.items ≤ length self.old.conns.items + 1 }
     {
@@ -38,6 +39,7 @@ impl Stirred {
     }
 
     /// Whether the dispatch changed anything at a connection.
+    #[inline(always)]
     pub fn has(&self, conn: u32) -> bool
         ensures { result ≡ has self.now.conns.items conn }
     {
