@@ -2,7 +2,8 @@
 
 use crate::said::{holds, same, same_in};
 use io_ports::NoMemory;
-use std::alloc::{AllocError, Global};
+use std::alloc::{AllocError, AllocGlobal, Global};
+use std::process::Abort;
 use wm_buffer::{Crossed, Shifted, WatermarkBuffer};
 
 const NOTHING: Crossed = Crossed::Nothing;
@@ -52,7 +53,7 @@ fn filled(alloc: Global, limit: u32, first: u64, n: u32) -> Result<WatermarkBuff
 
 /// Takes out all octets: so many, which count up from `first`.
 fn counts_up(
-    rt: &HostRuntime,
+    rt: &(impl AllocGlobal + Abort),
     buffer: &mut WatermarkBuffer,
     first: u64,
     n: u64,
@@ -187,7 +188,7 @@ fn a_move_is_one_change_of_both(rt: HostRuntime) -> Result<(), NoMemory> {
 
 /// Moves n octets between such buffers, behind a head of so many, and judges what both cross and hold then.
 fn moves(
-    rt: &HostRuntime,
+    rt: &(impl AllocGlobal + Abort),
     first: (u32, u32),
     second: (u32, u32),
     ahead: u32,

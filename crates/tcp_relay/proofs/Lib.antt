@@ -1,3 +1,4 @@
+pub mod Attempts
 pub mod Boards
 pub mod Bounded
 pub mod Dooms

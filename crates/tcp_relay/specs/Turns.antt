@@ -2,12 +2,12 @@
 use Rattle.flow_notes.specs.Note.{IsNote}
 use Rattle.flow_notes.specs.declared.events.Event.{Event}
 use Rattle.flow_notes.specs.declared.notes.Note.{Note}
-use Rattle.io_ports.specs.declared.octets.NoMemory.{NoMemory}
 use Rattle.std.specs.List.{AllByRecursion}
-use Rattle.std.specs.Prelude.{Bool, Err, List, None, Ok, Option, Result, Some, ℕ, ◌++◌, ◌+◌, ◌∷◌, ◌≡◌}
+use Rattle.std.specs.Prelude.{Bool, Err, List, None, Option, Result, Some, ℕ, ◌++◌, ◌+◌, ◌∷◌, ◌≡◌}
 use Rattle.tcp_relay.specs.Board.{IsSeenAs, board_after, board_of, effect_of, held_for}
 use Rattle.tcp_relay.specs.Effects.{notes_of}
 use Rattle.tcp_relay.specs.Noting.{AppendsSome}
+use Rattle.tcp_relay.specs.declared.effect.Effect.{Effect}
 use Rattle.tcp_relay.specs.declared.fault.RelayFault.{RelayFault}
 use Rattle.tcp_relay.specs.declared.relay.Relay.{Relay}
 use Rattle.flow_notes.specs.declared.notes.Note.TheVariants as note
@@ -25,9 +25,9 @@ HasFailed relay failed = relay.failed ≡ failed
 abbrev pub turn_notes : Relay → Event → List Note
 turn_notes relay e = note.Turn (relay.turn + 1) e ∷ notes_of e (effect_of e (board_of relay.table))
 
--- its notes stand behind those that were there, and the event has its effect
-pub record Carries (old : Relay) (before : List Note) (e : Event) (new : Relay) (after : List Note) : Type 0 where
-  pub notes : after ≡ before ++ turn_notes old e
+-- one turn more: the event has its effect
+pub record Steps (old : Relay) (e : Event) (done : Effect) (new : Relay) : Type 0 where
+  pub is : done ≡ effect_of e (board_of old.table)
   pub turn : new.turn ≡ old.turn + 1
   pub board : IsSeenAs (board_of new.table) (board_after e (board_of old.table))
   pub well : new.failed ≡ old.failed
@@ -44,10 +44,6 @@ pub record Turns (old : Relay) (before : List Note) (e : Event) (new : Relay) (a
 pub record CutsTurn (old : Relay) (before : List Note) (e : Event) (after : List Note) : Type 0 where
   pub front : AppendsSome before (turn_notes old e) after
 
-abbrev pub CarriesOut : Relay → List Note → Event → Relay → List Note → Result (Unit {0}) NoMemory → Type 0
-CarriesOut old before e new after (Ok u) = Carries old before e new after
-CarriesOut old before e new after (Err x) = CutsTurn old before e after
-
 -- An event that reads a paused flow is refused, with what waits, and nothing changes. No other is refused so.
 abbrev pub Refuses : Option ℕ → Relay → List Note → Result (Unit {0}) RelayFault → Relay → List Note → Type 0
 Refuses None old before result new after = (held : ℕ) → result ≡ Err (fault.Paused held) → ⊥
@@ -55,3 +51,8 @@ Refuses (Some held) old before result new after = (result ≡ Err (fault.Paused 
 
 abbrev pub RefusesPaused : Relay → List Note → Event → Result (Unit {0}) RelayFault → Relay → List Note → Type 0
 RefusesPaused old before e result new after = Refuses (held_for e (board_of old.table)) old before result new after
+
+-- the same, before there are notes
+abbrev pub Withholds : Option ℕ → Relay → Result Effect RelayFault → Relay → Type 0
+Withholds None old result new = (held : ℕ) → result ≡ Err (fault.Paused held) → ⊥
+Withholds (Some held) old result new = (result ≡ Err (fault.Paused held)) × (new ≡ old)

@@ -1,9 +1,12 @@
 // The relay and its dispatch.
-ghost use Rattle.std.specs.Prelude.{◌≡◌, ◌≢◌, ℕ, Err, List, OnOk, [], false, true};
+ghost use Rattle.std.specs.Prelude.{◌≡◌, ◌≢◌, ◌∷◌, ℕ, Err, IfOk, List, None, OnOk, [], false, true};
 ghost use Rattle.tcp_relay.specs.Board.{board_of, held_for};
+ghost use Rattle.tcp_relay.specs.Effects.{notes_of};
+ghost use Rattle.tcp_relay.specs.Noting.{AppendsNotes};
 ghost use Rattle.tcp_relay.specs.Rests.{GoesOnFrom, RefusesFrom, Rests, ShowsClosing, ShowsConn, ShowsFront, ShowsOut, ShowsPeer, ShowsReads, StopsFrom};
-ghost use Rattle.tcp_relay.specs.Turns.{CarriesOut, CutsTurn, HasFailed, RefusesPaused, Turns};
+ghost use Rattle.tcp_relay.specs.Turns.{CutsTurn, HasFailed, RefusesPaused, Steps, Turns, Withholds, turn_notes};
 
+use crate::effect::Effect;
 use crate::fault::RelayFault;
 use crate::noting::note_effect;
 use crate::table::Table;
@@ -51,7 +54,22 @@ impl Relay {
         self.attempt(event, notes)
     }
 
-    // The same, in terms of the connections alone.
+    /// Dispatches one event as `dispatch` does, and makes no notes: for a relay of which nobody keeps the tape, as a live one. It
+    /// stands then for the tape with the notes that `dispatch` would have made.
+    pub fn carry_out(&mut self, event: &Event) -> Result<(), RelayFault>
+        ensures ok { OnOk result (GoesOnFrom self.old [] event.now self.new (turn_notes self.old event.now)) }
+        ensures paused { RefusesFrom self.old [] event.now result self.new [] }
+        ensures fails { result ≡ Err RelayFault.NoMemory → HasFailed self.new true }
+        ensures failed { HasFailed self.old true → result ≡ Err RelayFault.Failed }
+        ensures well { HasFailed self.old false → result ≢ Err RelayFault.Failed }
+    {
+        match self.take(event) {
+            Ok(_effect) => Ok(()),
+            Err(fault) => Err(fault),
+        }
+    }
+
+    // A dispatch, in terms of the connections alone.
     fn attempt(&mut self, event: &Event, notes: &mut Notes) -> Result<(), RelayFault>
         ensures ok { OnOk result (Turns self.old notes.old event.now self.new notes.new) }
         ensures paused { HasFailed self.old false → RefusesPaused self.old notes.old event.now result self.new notes.new }
@@ -60,14 +78,36 @@ impl Relay {
         ensures failed { HasFailed self.old true → (result ≡ Err RelayFault.Failed) × (notes.new ≡ notes.old) }
         ensures well { HasFailed self.old false → result ≢ Err RelayFault.Failed }
     {
+        let effect = match self.take(event) {
+            Ok(effect) => effect,
+            Err(fault) => return Err(fault),
+        };
+        match self.note(event, effect, notes) {
+            Ok(()) => Ok(()),
+            Err(NoMemory) => {
+                self.failed = true;
+                Err(RelayFault::NoMemory)
+            }
+        }
+    }
+
+    // The event has its effect, if it may have it.
+    fn take(&mut self, event: &Event) -> Result<Effect, RelayFault>
+        ensures ok { IfOk result (λ done. Steps self.old event.now done self.new) }
+        ensures reads { OnOk result (held_for event.now (board_of self.old.table) ≡ None) }
+        ensures paused { HasFailed self.old false → Withholds (held_for event.now (board_of self.old.table)) self.old result self.new }
+        ensures fails { result ≡ Err RelayFault.NoMemory → HasFailed self.new true }
+        ensures failed { HasFailed self.old true → result ≡ Err RelayFault.Failed }
+        ensures well { HasFailed self.old false → result ≢ Err RelayFault.Failed }
+    {
         if self.failed {
             return Err(RelayFault::Failed);
         }
         if let Some(held) = self.held_back(event) {
             return Err(RelayFault::Paused { held });
         }
-        match self.carry_out(event, notes) {
-            Ok(()) => Ok(()),
+        match self.step(event) {
+            Ok(effect) => Ok(effect),
             Err(NoMemory) => {
                 self.failed = true;
                 Err(RelayFault::NoMemory)
@@ -85,21 +125,26 @@ impl Relay {
         }
     }
 
-    // A whole dispatch: the event's effect, then the notes.
-    fn carry_out(&mut self, event: &Event, notes: &mut Notes) -> Result<(), NoMemory>
-        ensures { CarriesOut self.old notes.old event.now self.new notes.new result }
+    // One turn more, with the event's effect.
+    fn step(&mut self, event: &Event) -> Result<Effect, NoMemory>
+        ensures { IfOk result (λ done. Steps self.old event.now done self.new) }
     {
         if self.turn >= MOST_TURNS {
             return Err(NoMemory);
         }
-        let number = self.turn + 1;
-        let turn = Note::Turn {
-            number,
-            event: event.copied(self.alloc)?,
-        };
         let effect = self.table.take(event)?;
-        self.turn = number;
-        notes.push(turn)?;
+        self.turn += 1;
+        Ok(effect)
+    }
+
+    // The notes of the turn that was made last.
+    fn note(&self, event: &Event, effect: Effect, notes: &mut Notes) -> Result<(), NoMemory>
+        ensures { AppendsNotes notes.old (Note.Turn self.now.turn event.now ∷ notes_of event.now effect) notes.new result }
+    {
+        notes.push(Note::Turn {
+            number: self.turn,
+            event: event.copied(self.alloc)?,
+        })?;
         note_effect(self.alloc, event, effect, notes)
     }
 

@@ -1,5 +1,6 @@
 -- What a dispatch of wire sessions does.
 use Rattle.flow_notes.specs.declared.events.Event.{Event}
+use Rattle.flow_notes.specs.declared.events.Event.TheVariants as event
 use Rattle.flow_notes.specs.declared.notes.Note.{Note}
 use Rattle.flow_notes.specs.declared.notes.Note.TheVariants as note
 use Rattle.std.specs.List.{AllByRecursion}
@@ -15,11 +16,17 @@ pub record Tells (number : ℕ) (e : Event) (before after : List Note) : Type 0 
   pub is : after ≡ before ++ note.Turn number e ∷ added
   pub steps : AllByRecursion IsStep added
 
+-- the version that was obeyed last, once the event was carried out
+abbrev pub obeyed_after : Event → ℕ → ℕ
+obeyed_after (event.Obey version pressures) before = version
+obeyed_after e before = before
+
 -- it was carried to its end
 pub record Dispatches (old : WireSession) (before : List Note) (e : Event) (new : WireSession) (after : List Note) : Type 0 where
   pub turn : new.turn ≡ old.turn + 1
   pub notes : Tells (old.turn + 1) e before after
   pub sound : IsSound new.core
+  pub obeyed : new.obeyed ≡ obeyed_after e old.obeyed
   pub well : new.failed ≡ false
 
 -- memory was refused in it: nothing was told, or the notes so far

@@ -56,7 +56,7 @@ is_closing (kind.Wire session) c = not (is_open_at c session.core)
 -- the version that was obeyed last
 abbrev pub version_of : Kind → ℕ
 version_of (kind.Plain core) = 0
-version_of (kind.Wire session) = session.core.obeyed
+version_of (kind.Wire session) = session.obeyed
 
 -- whether `stop_accepting` isn't saturated
 abbrev pub takes_clients : Kind → Bool

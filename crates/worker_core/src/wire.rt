@@ -5,7 +5,7 @@ ghost use Rattle.flow_notes.specs.declared.notes.Note.TheVariants as note;
 ghost use Rattle.wire_state.specs.Noting.{Appends};
 ghost use Rattle.wire_state.specs.Sound.{IsSound, is_open_at};
 ghost use Rattle.overload_core.specs.ActionStates.{is_saturated};
-ghost use Rattle.worker_core.specs.Dispatching.{Breaks, Dispatches, Tells};
+ghost use Rattle.worker_core.specs.Dispatching.{Breaks, Dispatches, Tells, obeyed_after};
 ghost use Rattle.worker_core.specs.Fronts.{IsFront, IsLeastAbove, has_octets, is_there, octets_at};
 
 use crate::steps::settle;
@@ -29,6 +29,8 @@ pub struct WireSession {
     core: WireCore,
     /// The number of the last dispatch, 0 before the first.
     turn: u64,
+    /// The version of the published state that was obeyed last, 0 before the first.
+    obeyed: u64,
     /// Whether a dispatch ran out of memory: then each later one is refused.
     failed: bool,
 }
@@ -40,10 +42,12 @@ impl WireSession {
         ensures sound { IfOk result (λ session. IsSound session.core) }
         ensures well { IfOk result (λ session. session.failed ≡ false) }
         ensures turn { IfOk result (λ session. session.turn ≡ 0) }
+        ensures obeyed { IfOk result (λ session. session.obeyed ≡ 0) }
     {
         Ok(WireSession {
             core: WireCore::new(alloc, config)?,
             turn: 0,
+            obeyed: 0,
             failed: false,
         })
     }
@@ -84,6 +88,7 @@ impl WireSession {
         ensures turn { OnOk result (self.new.turn ≡ self.old.turn + 1) }
         ensures notes { OnOk result (Tells (self.old.turn + 1) event.now notes.old notes.new) }
         ensures sound { OnOk result (IsSound self.new.core) }
+        ensures obeyed { OnOk result (self.new.obeyed ≡ obeyed_after event.now self.old.obeyed) }
         ensures cut { Breaks self.old notes.old event.now notes.new }
         ensures well { self.new.failed ≡ self.old.failed }
     {
@@ -92,14 +97,16 @@ impl WireSession {
         }
         self.turn += 1;
         note_turn(self.core.alloc, self.turn, event, notes)?;
-        work(&mut self.core, event, notes)
+        work(&mut self.core, event, notes)?;
+        self.obeyed = version_after(event, self.obeyed);
+        Ok(())
     }
 
     /// A prefix of a connection's write buffer, nonempty where that is; empty for a connection that isn't there.
     pub fn out_front(&self, conn: u32) -> &[u8]
         ensures { IsFront result.now (octets_at conn self.now.core) }
     {
-        match self.core.conns.get(&conn) {
+        match self.core.conns.get(conn) {
             Some(conn) => conn.outlet.front(),
             None => &[],
         }
@@ -117,11 +124,7 @@ impl WireSession {
     pub fn conn_after(&self, after: u32) -> Option<u32>
         ensures { IsLeastAbove after (is_there self.now.core) result }
     {
-        let above = (Bound::Excluded(after), Bound::Unbounded);
-        match self.core.conns.range(above).next() {
-            Some((conn, _)) => Some(*conn),
-            None => None,
-        }
+        self.core.conns.next_above(after)
     }
 
     /// Whether the connection, which came, isn't open any more.
@@ -140,9 +143,9 @@ impl WireSession {
 
     /// The version of the published state that was obeyed last, 0 before the first.
     pub fn obeyed(&self) -> u64
-        ensures { result ≡ self.now.core.obeyed }
+        ensures { result ≡ self.now.obeyed }
     {
-        self.core.obeyed
+        self.obeyed
     }
 
     /// The route row of an exchange that began in the last dispatch. No clause says so.
@@ -158,6 +161,16 @@ fn note_turn(alloc: Global, number: u64, event: &Event, notes: &mut Notes) -> Re
 {
     let event = event.copied(alloc)?;
     notes.push(Note::Turn { number, event })
+}
+
+// The version that was obeyed last, once an event was carried out.
+fn version_after(event: &Event, before: u64) -> u64
+    ensures { result ≡ obeyed_after event.now before }
+{
+    match event {
+        Event::Obey { version, .. } => *version,
+        _ => before,
+    }
 }
 
 // The event's effect, small steps to the end, then the sweep.

@@ -56,6 +56,7 @@ impl Core {
         ensures fails { OnErr result (has_failed self.new.kind ≡ true) }
         ensures failed { has_failed self.old.kind ≡ true → (result ≡ Err CoreFault.Failed) × (notes.new ≡ notes.old) }
         ensures well { has_failed self.old.kind ≡ false → result ≢ Err CoreFault.Failed }
+        ensures rests { RestsWire self.old.kind → OnOk result (RestsWire self.new.kind) }
     {
         match &mut self.kind {
             Kind::Plain(core) => core.dispatch(event, notes),

@@ -3,6 +3,7 @@ use super::some_names;
 use crate::said::{holds, holds_in, same};
 use flow_notes::{Names, event_text, note_text, read_event, read_note, read_numbers};
 use io_ports::{NoMemory, Octets};
+use std::alloc::AllocGlobal;
 use std::process::Abort;
 
 const NOTES: [&str; 36] = [
@@ -144,7 +145,11 @@ fn line_is_kept(rt: &impl Abort, line: &str, written: &Octets) -> Result<(), NoM
 }
 
 /// Whether the line is a note's, and is written as it was read.
-fn note_is_read(rt: &HostRuntime, names: &Names, line: &str) -> Result<(), NoMemory> {
+fn note_is_read(
+    rt: &(impl AllocGlobal + Abort),
+    names: &Names,
+    line: &str,
+) -> Result<(), NoMemory> {
     let Some(note) = read_note(rt.alloc(), line.as_bytes(), names)? else {
         holds_in(rt, &line, false);
         return Ok(());
@@ -154,7 +159,11 @@ fn note_is_read(rt: &HostRuntime, names: &Names, line: &str) -> Result<(), NoMem
     line_is_kept(rt, line, &written)
 }
 
-fn no_note_is_read(rt: &HostRuntime, names: &Names, line: &str) -> Result<(), NoMemory> {
+fn no_note_is_read(
+    rt: &(impl AllocGlobal + Abort),
+    names: &Names,
+    line: &str,
+) -> Result<(), NoMemory> {
     let read = read_note(rt.alloc(), line.as_bytes(), names)?;
     holds_in(rt, &line, read.is_none());
     Ok(())
@@ -174,7 +183,7 @@ fn notes_are_read(rt: HostRuntime) -> Result<(), NoMemory> {
 
 /// Whether the line is an event's, and is written as it was read.
 fn event_is_read(
-    rt: &HostRuntime,
+    rt: &(impl AllocGlobal + Abort),
     names: &Names,
     line: &str,
     plain: bool,
@@ -190,7 +199,7 @@ fn event_is_read(
 }
 
 fn no_event_is_read(
-    rt: &HostRuntime,
+    rt: &(impl AllocGlobal + Abort),
     names: &Names,
     line: &str,
     plain: bool,

@@ -3,12 +3,12 @@ ghost use Rattle.std.specs.Prelude.{◌≡◌, IfOk};
 ghost use Rattle.std.specs.Thread.{IsSync};
 ghost use Rattle.shared_state.specs.States.{resources_of};
 
-use super::follower_of;
+use super::{one_follower, shared};
 use crate::said::{holds, same};
 use io_ports::NoMemory;
-use proxy_config::read_config;
-use shared_state::{Follower, Publisher, Snapshot, Told, make_shared};
+use shared_state::{Follower, Publisher, Snapshot, Told};
 use std::alloc::Global;
+use std::process::Abort;
 use std::sync::Wait;
 use std::test::*;
 use std::thread;
@@ -118,31 +118,46 @@ fn beside<R: Threads + Wait + Sync>(
     )
 }
 
+/// A follower learns what was told last, and answers that version. Each that it saw before was whole.
+fn judge<R: Wait + Abort>(
+    rt: &R,
+    alloc: Global,
+    watched: Watched,
+    told: Told,
+) -> Result<(), NoMemory>
+    requires { told.seat.table_id ≡ watched.0.seat.table_id }
+{
+    let (mut follower, whole) = watched;
+    follower.learn(told);
+    let last = follower.current(rt, alloc)?;
+    holds(rt, whole?);
+    same(rt, &last.version, &1_000);
+    holds(rt, is_whole(&last));
+    Ok(())
+}
+
+fn judge_both<R: Wait + Abort>(
+    rt: &R,
+    alloc: Global,
+    published: Published,
+    watched: (Watched, Watched),
+) -> Result<(), NoMemory>
+    requires { IfOk published (λ t. (t.0.seat.table_id ≡ watched.0.0.seat.table_id) × (t.1.seat.table_id ≡ watched.1.0.seat.table_id)) }
+{
+    let (first, second) = published?;
+    judge(rt, alloc, watched.0, first)?;
+    judge(rt, alloc, watched.1, second)
+}
+
 #[test]
 fn two_followers_beside_a_publisher(rt: HostRuntime) -> Result<(), Fail> {
-    let config = read_config(rt.alloc(), CONFIG.as_bytes())?;
-    assert!(rt; config.overload.resources.len() == 2);
-    let (mut publisher, mut followers) = make_shared(&rt, rt.alloc(), &config, 2)?;
-    let Some(a) = follower_of(&publisher, &mut followers) else {
-        panic!(rt; "there is a follower")
-    };
-    let Some(b) = follower_of(&publisher, &mut followers) else {
-        panic!(rt; "there is a second follower")
-    };
-    let (told, ((mut a, of_a), (mut b, of_b))) = beside(&rt, rt.alloc(), &mut publisher, a, b);
-    let Ok((first, second)) = told else {
-        panic!(rt; "there is memory")
-    };
-    a.learn(first);
-    b.learn(second);
-    let last = (a.current(&rt, rt.alloc()), b.current(&rt, rt.alloc()));
+    let (mut publisher, mut followers) = shared(&rt, CONFIG, 2, 2)?;
+    let a = one_follower(&rt, &publisher, &mut followers);
+    let b = one_follower(&rt, &publisher, &mut followers);
+    let (published, watched) = beside(&rt, rt.alloc(), &mut publisher, a, b);
+    let judged = judge_both(&rt, rt.alloc(), published, watched);
     let versions = publisher.end(&rt);
-    holds(&rt, of_a? && of_b?);
-    let (last_of_a, last_of_b) = (last.0?, last.1?);
+    judged?;
     same(&rt, &versions, &1_000);
-    for last in [&last_of_a, &last_of_b] {
-        same(&rt, &last.version, &1_000);
-        holds(&rt, is_whole(last));
-    }
     Ok(())
 }

@@ -1,9 +1,10 @@
 // What a follower answers on the publisher's own thread.
-use super::follower_of;
+use super::{one_follower, shared};
 use crate::said::{holds, same, same_in};
+use io_ports::NoMemory;
 use overload_core::action_states;
 use proxy_config::read_config;
-use shared_state::{Snapshot, make_shared};
+use shared_state::{Follower, Publisher, Snapshot};
 use std::alloc::AllocGlobal;
 use std::process::Abort;
 use std::sync::Wait;
@@ -25,12 +26,8 @@ fn followed<R: AllocGlobal + Wait + Abort>(
     learns: bool,
     ends: bool,
 ) -> Result<Snapshot, Fail> {
-    let config = read_config(rt.alloc(), CONFIG.as_bytes())?;
-    assert!(rt; config.overload.resources.len() == 1);
-    let (mut publisher, mut followers) = make_shared(rt, rt.alloc(), &config, 1)?;
-    let Some(mut follower) = follower_of(&publisher, &mut followers) else {
-        panic!(rt; "there is a follower")
-    };
+    let (mut publisher, mut followers) = shared(rt, CONFIG, 1, 1)?;
+    let mut follower = one_follower(rt, &publisher, &mut followers);
     let Ok(told) = publisher.publish(rt, &[pressure]) else {
         panic!(rt; "there is memory")
     };
@@ -38,17 +35,35 @@ fn followed<R: AllocGlobal + Wait + Abort>(
     if learns {
         follower.learn(told);
     }
-    let snapshot = if ends {
+    Ok(answered(rt, publisher, &mut follower, ends)?)
+}
+
+/// What a follower answers before its publisher of one version ends, or after.
+fn answered<R: AllocGlobal + Wait + Abort>(
+    rt: &R,
+    publisher: Publisher,
+    follower: &mut Follower,
+    ends: bool,
+) -> Result<Snapshot, NoMemory> {
+    if ends {
         same(rt, &publisher.end(rt), &1);
-        follower.current(rt, rt.alloc())
-    } else {
-        let snapshot = follower.current(rt, rt.alloc());
-        publisher.end(rt);
-        snapshot
-    };
-    let snapshot = snapshot?;
+        return follower.current(rt, rt.alloc());
+    }
+    let snapshot = follower.current(rt, rt.alloc());
+    publisher.end(rt);
+    snapshot
+}
+
+/// The actions of a snapshot are those of its pressure.
+fn actions_follow<R: AllocGlobal + Abort>(
+    rt: &R,
+    pressure: u32,
+    snapshot: &Snapshot,
+) -> Result<(), Fail> {
+    let config = read_config(rt.alloc(), CONFIG.as_bytes())?;
+    assert!(rt; config.overload.resources.len() == 1);
     same(rt, &action_states(&config, &[pressure]), &snapshot.actions);
-    Ok(snapshot)
+    Ok(())
 }
 
 #[test]
@@ -62,6 +77,7 @@ fn a_follower_answers_what_was_published(rt: HostRuntime) -> Result<(), Fail> {
     ];
     for (pressure, learns, ends, state) in rows {
         let snapshot = followed(&rt, pressure, learns, ends)?;
+        actions_follow(&rt, pressure, &snapshot)?;
         same_in(&rt, &pressure, &snapshot.version, &1);
         same(&rt, &snapshot.pressures.as_slice(), &[pressure].as_slice());
         same(&rt, &snapshot.actions.stop_requests, &state);
@@ -71,13 +87,10 @@ fn a_follower_answers_what_was_published(rt: HostRuntime) -> Result<(), Fail> {
 
 #[test]
 fn the_opening_version_has_no_pressure(rt: HostRuntime) -> Result<(), Fail> {
-    let config = read_config(rt.alloc(), CONFIG.as_bytes())?;
-    assert!(rt; config.overload.resources.len() == 1);
-    let (mut publisher, mut followers) = make_shared(&rt, rt.alloc(), &config, 2)?;
-    let first = follower_of(&publisher, &mut followers);
+    let (mut publisher, mut followers) = shared(&rt, CONFIG, 1, 2)?;
+    let mut first = one_follower(&rt, &publisher, &mut followers);
     let told = publisher.tell();
     publisher.end(&rt);
-    let mut first = first.ok_or("a follower")?;
     same(&rt, &told.version(), &0);
     holds(&rt, followers.take_one().is_some());
     holds(&rt, followers.take_one().is_none());

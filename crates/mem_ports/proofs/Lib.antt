@@ -1,0 +1,5 @@
+mod Closing
+mod Living
+mod Recording
+mod Telling
+mod Tests

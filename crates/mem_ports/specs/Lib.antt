@@ -1,0 +1,4 @@
+pub mod Memory
+pub mod Moments
+pub mod Pressures
+pub mod Steps

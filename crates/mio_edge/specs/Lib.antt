@@ -1,0 +1,5 @@
+pub mod Dialers
+pub mod Doors
+pub mod Plans
+pub mod Rolls
+pub mod Sockets

@@ -1,0 +1,81 @@
+// The way in for clients.
+ghost use Rattle.std.specs.Prelude.{◌≡◌, ◌&&◌, IfNone, IfSome, nat_le, true};
+ghost use Rattle.mio_edge.specs.Doors.{Misses, SameDoor, may_wait, shut_until};
+
+use crate::inlet::Inlet;
+use mio::net::TcpStream;
+use std::io::ErrorKind;
+
+/// How long no client is accepted after the system couldn't give one, in milliseconds.
+const PAUSE: u64 = 100;
+
+/// The way in for clients.
+#[derive(Drop)]
+pub struct Door<I: Inlet + Drop> {
+    inlet: I,
+    /// Whether a client may wait there.
+    waits: bool,
+    /// Until when none is accepted, in milliseconds.
+    until: u64,
+}
+
+impl<I: Inlet + Drop> Door<I> {
+    /// An inlet of which the poll tells.
+    pub fn new(inlet: I) -> Self
+        ensures waits { may_wait result ≡ true }
+        ensures until { shut_until result ≡ 0 }
+    {
+        Door {
+            inlet,
+            waits: true,
+            until: 0,
+        }
+    }
+
+    /// A client may wait.
+    pub fn stir(&mut self)
+        ensures waits { may_wait self.new ≡ true }
+        ensures until { shut_until self.new ≡ shut_until self.old }
+    {
+        self.waits = true;
+    }
+
+    /// Whether a client may wait that can be accepted now.
+    pub fn is_due(&self, now: u64) -> bool
+        ensures { result ≡ (may_wait self.now && nat_le (shut_until self.now) now) }
+    {
+        self.waits && self.until <= now
+    }
+
+    /// A client that waits. Where the system has no file or no memory for it, none is accepted for a while, and no event is
+    /// needed to go on then.
+    pub fn accept(&mut self, now: u64) -> Option<TcpStream>
+        ensures some { IfSome result (λ _. SameDoor self.old self.new) }
+        ensures none { IfNone result (Misses now self.old self.new) }
+    {
+        match self.inlet.accept() {
+            Ok(stream) => Some(stream),
+            Err(error) => {
+                self.missed(error.kind(), now);
+                None
+            }
+        }
+    }
+
+    /// So many connections of clients are live.
+    pub fn count(&mut self, clients: u32)
+        ensures { SameDoor self.old self.new }
+    {
+        self.inlet.count(clients);
+    }
+
+    fn missed(&mut self, kind: ErrorKind, now: u64)
+        ensures { Misses now self.old self.new }
+    {
+        match kind {
+            ErrorKind::WouldBlock => self.waits = false,
+            ErrorKind::ConnectionAborted | ErrorKind::Interrupted => {}
+            _ => self.until = now.saturating_add(PAUSE),
+        }
+    }
+}

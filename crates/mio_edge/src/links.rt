@@ -1,0 +1,133 @@
+// The sockets of the live connections by number, and which of them are to be looked at.
+ghost use Rattle.std.specs.Prelude.{◌≤◌, length};
+
+use crate::link::{Found, Link, Origin};
+use io_ports::NoMemory;
+use mio::event::Event;
+use std::alloc::Global;
+use std::collections::{BTreeMap, VecDeque};
+
+/// The sockets of the live connections.
+#[derive(Drop)]
+pub(crate) struct Links {
+    live: BTreeMap<u32, Link>,
+    /// The numbers of those that are to be looked at, each once, and of some that are live no more.
+    due: VecDeque<u32>,
+    /// How many were made by clients.
+    clients: u32,
+}
+
+impl Links {
+    pub fn new(alloc: Global) -> Self {
+        Links {
+            live: BTreeMap::new(alloc),
+            due: VecDeque::new(alloc),
+            clients: 0,
+        }
+    }
+
+    /// How many live connections were made by clients.
+    pub fn clients(&self) -> u32 {
+        self.clients
+    }
+
+    /// Whether a connection is to be looked at.
+    pub fn is_due(&self) -> bool {
+        !self.due.is_empty()
+    }
+
+    /// Takes in the socket of a connection. Room is taken for its place among those that are to be looked at. After running
+    /// out of memory nothing has changed, and the socket is closed.
+    pub fn come(&mut self, conn: u32, link: Link) -> Result<(), NoMemory> {
+        let is_client = link.origin == Origin::Client;
+        self.due.reserve(self.live.len().saturating_add(1))?;
+        self.live.insert(conn, link)?;
+        if is_client {
+            self.clients = self.clients.saturating_add(1);
+        }
+        Ok(())
+    }
+
+    /// A connection is live no more.
+    pub fn leave(&mut self, conn: u32) -> Option<Link> {
+        let link = self.live.remove(&conn)?;
+        if link.origin == Origin::Client {
+            self.clients = self.clients.saturating_sub(1);
+        }
+        Some(link)
+    }
+
+    /// Takes in what the system tells of a connection, if it is live. Answers whether it is.
+    pub fn stir(&mut self, conn: u32, event: &Event) -> bool {
+        let Some(link) = self.live.get_mut(&conn) else {
+            return false;
+        };
+        link.stir(event);
+        queue(&mut self.due, conn, link);
+        true
+    }
+
+    /// From now on a connection is held, or isn't. Answers the cluster of one that a client has now for the first time.
+    pub fn hold(&mut self, conn: u32, held: bool) -> Option<u32> {
+        let link = self.live.get_mut(&conn)?;
+        link.held = held;
+        let cluster = if held { None } else { taken(link) };
+        queue(&mut self.due, conn, link);
+        cluster
+    }
+
+    /// Writes to a connection once, and answers how many octets went.
+    pub fn write(&mut self, conn: u32, piece: &[u8]) -> usize
+        ensures { result ≤ length piece.now }
+    {
+        let Some(link) = self.live.get_mut(&conn) else {
+            return 0;
+        };
+        let n = link.write(piece);
+        queue(&mut self.due, conn, link);
+        n
+    }
+
+    /// The connection that is to be looked at next.
+    pub fn next_due(&mut self) -> Option<u32> {
+        let conn = self.due.pop_front()?;
+        if let Some(link) = self.live.get_mut(&conn) {
+            link.queued = false;
+        }
+        Some(conn)
+    }
+
+    /// Looks at a connection: reads it once, if it may be read.
+    pub fn look(&mut self, conn: u32, block: &mut [u8]) -> Found {
+        let Some(link) = self.live.get_mut(&conn) else {
+            return Found::Nothing;
+        };
+        if link.is_lost() {
+            return Found::End;
+        }
+        if !link.is_due() {
+            return Found::Nothing;
+        }
+        let found = link.read(block);
+        queue(&mut self.due, conn, link);
+        found
+    }
+}
+
+// A connection stands among those that are to be looked at, if it is to be. Its room was taken when it came.
+fn queue(due: &mut VecDeque<u32>, conn: u32, link: &mut Link) {
+    if link.is_due() && !link.queued {
+        link.queued = due.push_back(conn).is_ok();
+    }
+}
+
+// A client has the connection, if it is one to a cluster. Answers that, where none had it before.
+fn taken(link: &mut Link) -> Option<u32> {
+    match link.origin {
+        Origin::Ready { cluster, .. } => {
+            link.origin = Origin::Taken;
+            Some(cluster)
+        }
+        Origin::Client | Origin::Taken | Origin::Shared { .. } => None,
+    }
+}

@@ -1,0 +1,48 @@
+// What the sockets are to be.
+ghost use Rattle.std.specs.Prelude.{◌≡◌, ◌-◌, ◌^◌, min};
+ghost use Rattle.mio_edge.specs.Plans.{files_of};
+
+use crate::parting::MOST_PARTINGS;
+use std::net::SocketAddr;
+
+/// How many files are open beside the connections: standard streams, a journal, the listener and the poll.
+const OTHER_FILES: u64 = 16;
+
+/// What clients have of the connections to clusters.
+#[derive(Clone, Copy, Debug, PartialEq, Eq)]
+pub enum Sharing {
+    /// Each client has one for itself.
+    OneEach,
+    /// All clients share all.
+    All,
+}
+
+/// What the sockets are to be.
+#[derive(Drop)]
+pub struct Plan {
+    /// The addresses of the clusters, in their order. One without an address is never joined.
+    pub clusters: Vec<Option<SocketAddr>>,
+    pub sharing: Sharing,
+    /// How many connections to each cluster are kept ready.
+    pub ready: u32,
+    /// How many clients there are at most at once.
+    pub clients: u32,
+}
+
+impl Plan {
+    /// How many files may be open at once. The number ends at 2^64 - 1.
+    pub fn most_files(&self) -> u64
+        ensures { result ≡ min (files_of self.now) (2 ^ 64 - 1) }
+    {
+        let ready = u64::from(self.ready).saturating_mul(self.clusters.len() as u64);
+        let each = match self.sharing {
+            Sharing::OneEach => 2,
+            Sharing::All => 1,
+        };
+        u64::from(self.clients)
+            .saturating_mul(each)
+            .saturating_add(ready)
+            .saturating_add(MOST_PARTINGS as u64)
+            .saturating_add(OTHER_FILES)
+    }
+}

@@ -1,0 +1,398 @@
+// The sockets, as the system has them.
+ghost use Rattle.std.specs.Prelude.{◌≤◌, length};
+
+use crate::dialer::Dialer;
+use crate::dials::Dials;
+use crate::door::Door;
+use crate::fault::EdgeFault;
+use crate::inlet::Inlet;
+use crate::link::{Found, Link, Origin};
+use crate::links::Links;
+use crate::parting::Partings;
+use crate::plan::{Plan, Sharing};
+use io_ports::{Failed, NoMemory, Octets};
+use mio::net::TcpStream;
+use mio::{Events, Interest, Poll, Token};
+use std::alloc::{AllocError, Global};
+use std::io::ErrorKind;
+use std::mem;
+use std::net::Net;
+use std::time::{Clock, Duration};
+use worker_ports::{WireRefusal, Wired};
+
+/// How many octets are read at once at most.
+const PIECE: usize = 16_384;
+
+/// How many events one wait tells at most.
+const MOST_EVENTS: usize = 1_024;
+
+/// How long a wait takes at most, in milliseconds.
+const LONGEST_WAIT: u64 = 100;
+
+/// How many clients are accepted in one round at most, and how many connections are looked at.
+const MOST_ACCEPTS: u32 = 16;
+
+const MOST_LOOKS: u32 = 64;
+
+/// How many connections to one cluster are begun in one round at most.
+const MOST_DIALS: u32 = 16;
+
+/// The token of the way in for clients. Connections have their numbers, which are above.
+pub const DOOR: Token = Token(0);
+
+/// The sockets: those of clients that come at an inlet, and those to clusters, of which some are kept ready. Which connections
+/// are live, and which are held, is told to them.
+#[derive(Drop)]
+pub(crate) struct Sockets<R: Clock + Net + Drop, I: Inlet + Drop> {
+    rt: R,
+    alloc: Global,
+    poll: Poll,
+    events: Events,
+    door: Door<I>,
+    /// The most clients at once.
+    most_clients: u32,
+    sharing: Sharing,
+    dialers: Vec<Dialer>,
+    dials: Dials,
+    links: Links,
+    partings: Partings,
+    /// Where octets are read to. It is never cleared.
+    block: Vec<u8>,
+    /// Room for the octets that come next.
+    room: Vec<u8>,
+    /// When this round began, in milliseconds.
+    now: u64,
+    accepts_left: u32,
+    looks_left: u32,
+    /// Whether a connection took all that it was offered, so that it may be offered more at once.
+    stirred: bool,
+}
+
+impl<R: Clock + Net + Drop, I: Inlet + Drop> Sockets<R, I> {
+    /// The sockets of a plan, without connections. Clients come at the inlet, which doesn't block, and of which the poll tells
+    /// under the token `DOOR`.
+    pub fn new(rt: R, alloc: Global, poll: Poll, inlet: I, plan: &Plan) -> Result<Self, EdgeFault> {
+        Ok(Sockets {
+            rt,
+            alloc,
+            poll,
+            events: Events::with_capacity(alloc, MOST_EVENTS)?,
+            door: Door::new(inlet),
+            most_clients: plan.clients,
+            sharing: plan.sharing,
+            dialers: dialers_of(alloc, plan)?,
+            dials: Dials::new(alloc),
+            links: Links::new(alloc),
+            partings: Partings::new(alloc),
+            block: vec![in alloc; 0; PIECE]?,
+            room: Vec::new(alloc),
+            now: 0,
+            accepts_left: 0,
+            looks_left: 0,
+            stirred: true,
+        })
+    }
+
+    /// What comes next, after a wait where nothing is there; `Idle` where still nothing is. A connection that comes gets the
+    /// number that is handed in, if there is one.
+    pub fn next(&mut self, number: Option<u32>) -> Result<Wired, WireRefusal> {
+        match self.give(number) {
+            Ok(Some(wired)) => return Ok(wired),
+            Ok(None) => {}
+            Err(NoMemory) => return Err(WireRefusal::NoMemory),
+        }
+        if self.begin_round().is_err() {
+            return Err(WireRefusal::Failed);
+        }
+        match self.give(number) {
+            Ok(Some(wired)) => Ok(wired),
+            Ok(None) => Ok(Wired::Idle),
+            Err(NoMemory) => Err(WireRefusal::NoMemory),
+        }
+    }
+
+    /// Writes a front of a piece to a connection, and answers how many octets went.
+    pub fn write(&mut self, conn: u32, piece: &[u8]) -> usize
+        ensures { result ≤ length piece.now }
+    {
+        let n = self.links.write(conn, piece);
+        if n > 0 && n == piece.len() {
+            self.stirred = true;
+        }
+        n
+    }
+
+    /// Ends a connection. What was sent to it still arrives.
+    pub fn close(&mut self, conn: u32) {
+        let Some(link) = self.links.leave(conn) else {
+            return;
+        };
+        self.let_go(link.origin);
+        if let Some(stream) = link.into_parting() {
+            self.partings.begin(conn, stream, self.now, &mut self.block);
+        }
+    }
+
+    /// From now on a connection isn't read, or is. One to a cluster that is read for the first time has a client.
+    pub fn hold(&mut self, conn: u32, held: bool) {
+        let Some(cluster) = self.links.hold(conn, held) else {
+            return;
+        };
+        if let Some(dialer) = self.dialers.get_mut(cluster as usize) {
+            dialer.take();
+        }
+    }
+
+    // What comes next of what this round has left.
+    fn give(&mut self, number: Option<u32>) -> Result<Option<Wired>, NoMemory> {
+        if let Some(wired) = self.give_join(number) {
+            return Ok(Some(wired));
+        }
+        if let Some(wired) = self.give_accept(number) {
+            return Ok(Some(wired));
+        }
+        self.give_octets()
+    }
+
+    // A connection to a cluster that has been made.
+    fn give_join(&mut self, number: Option<u32>) -> Option<Wired> {
+        let dial = self.dials.next_made()?;
+        let cluster = dial.cluster;
+        let since = self.now;
+        let origin = match self.sharing {
+            Sharing::OneEach => Origin::Ready { cluster, since },
+            Sharing::All => Origin::Shared { cluster, since },
+        };
+        let conn = self.come(number, dial.stream, origin);
+        if let Some(dialer) = self.dialers.get_mut(cluster as usize) {
+            match conn {
+                Some(_) => dialer.join(),
+                None => dialer.fail(self.now),
+            }
+        }
+        Some(Wired::Join(conn?, cluster))
+    }
+
+    // A client that waits at the door, if one may come in.
+    fn give_accept(&mut self, number: Option<u32>) -> Option<Wired> {
+        if self.accepts_left == 0 || !self.may_accept() {
+            return None;
+        }
+        self.accepts_left -= 1;
+        let stream = self.door.accept(self.now)?;
+        stream.set_nodelay(true).ok()?;
+        let conn = self.come(number, stream, Origin::Client)?;
+        Some(Wired::Accept(conn))
+    }
+
+    // Whether a client may come in: one waits, and a connection is ready for it, or none can be hoped for.
+    fn may_accept(&self) -> bool {
+        self.has_client() && (self.has_ready() || !self.is_hopeful())
+    }
+
+    // Whether a client does well to wait for a connection of its own.
+    fn is_hopeful(&self) -> bool {
+        self.sharing == Sharing::OneEach && self.dialers.iter().any(Dialer::is_hopeful)
+    }
+
+    // Whether a client may wait, and there aren't too many.
+    fn has_client(&self) -> bool {
+        self.door.is_due(self.now) && self.links.clients() < self.most_clients
+    }
+
+    // Whether a connection to a cluster is ready.
+    fn has_ready(&self) -> bool {
+        self.dialers.iter().any(Dialer::is_ready)
+    }
+
+    // A socket becomes a live connection. None where the system refuses, memory is wanting, or there is no number for it: then
+    // it is closed.
+    fn come(&mut self, number: Option<u32>, mut stream: TcpStream, origin: Origin) -> Option<u32> {
+        let conn = number?;
+        let token = Token(conn as usize);
+        let both = Interest::READABLE | Interest::WRITABLE;
+        let registry = self.poll.registry();
+        let registered = match origin {
+            Origin::Client => registry.register(&mut stream, token, both),
+            _ => registry.reregister(&mut stream, token, both),
+        };
+        registered.ok()?;
+        self.links.come(conn, Link::new(stream, origin)).ok()?;
+        Some(conn)
+    }
+
+    // Octets or a loss of a connection that is due.
+    fn give_octets(&mut self) -> Result<Option<Wired>, NoMemory> {
+        for _ in 0..self.looks_left {
+            if self.room.capacity() < PIECE {
+                self.room = Vec::with_capacity(self.alloc, PIECE)?;
+            }
+            let Some(conn) = self.links.next_due() else {
+                return Ok(None);
+            };
+            self.looks_left = self.looks_left.saturating_sub(1);
+            match self.links.look(conn, &mut self.block) {
+                Found::Octets(n) => return self.read(conn, n),
+                Found::End => {
+                    self.lose(conn);
+                    return Ok(Some(Wired::Lost(conn)));
+                }
+                Found::Nothing => {}
+            }
+        }
+        Ok(None)
+    }
+
+    // The first octets of the block came for a connection.
+    fn read(&mut self, conn: u32, n: usize) -> Result<Option<Wired>, NoMemory> {
+        let mut octets = mem::replace(&mut self.room, Vec::new(self.alloc));
+        if let Some(front) = self.block.get(..n) {
+            octets.extend_from_slice(front)?;
+        }
+        Ok(Some(Wired::Read(conn, Octets::from_vec(octets))))
+    }
+
+    // A connection is lost.
+    fn lose(&mut self, conn: u32) {
+        if let Some(link) = self.links.leave(conn) {
+            self.let_go(link.origin);
+        }
+    }
+
+    // A connection is live no more.
+    fn let_go(&mut self, origin: Origin) {
+        let (cluster, since) = match origin {
+            Origin::Ready { cluster, since } | Origin::Shared { cluster, since } => (
+                cluster, since,
+            ),
+            Origin::Client | Origin::Taken => return,
+        };
+        if let Some(dialer) = self.dialers.get_mut(cluster as usize) {
+            dialer.lose(self.now, since);
+        }
+    }
+
+    // Waits until something comes, and takes in what does.
+    fn begin_round(&mut self) -> Result<(), Failed> {
+        self.read_clock();
+        self.door.count(self.links.clients());
+        self.dial_all();
+        let wait = Duration::from_millis(if self.is_busy() { 0 } else { LONGEST_WAIT });
+        self.stirred = false;
+        self.accepts_left = MOST_ACCEPTS;
+        self.looks_left = MOST_LOOKS;
+        if self.poll.poll(&mut self.events, Some(wait)).is_err() {
+            return Err(Failed);
+        }
+        self.read_clock();
+        self.take_events();
+        self.give_up_dials();
+        self.partings.end(self.now);
+        Ok(())
+    }
+
+    // Where the clock can't be read it stands still.
+    fn read_clock(&mut self) {
+        if let Ok(since_start) = self.rt.monotonic() {
+            self.now = u64::try_from(since_start.as_millis()).unwrap_or(self.now);
+        }
+    }
+
+    // Whether there is something to do without a wait.
+    fn is_busy(&self) -> bool {
+        self.stirred || self.links.is_due() || self.dials.is_due() || self.may_accept()
+    }
+
+    // Takes in what the system tells.
+    fn take_events(&mut self) {
+        for event in &self.events {
+            let token = event.token();
+            if token == DOOR {
+                self.door.stir();
+                continue;
+            }
+            match u32::try_from(token.0) {
+                Ok(conn) => {
+                    if !self.links.stir(conn, event) {
+                        self.partings.stir(conn, event, &mut self.block);
+                    }
+                }
+                Err(_) => {
+                    let failed = self.dials.stir(token.0, event);
+                    fail(&mut self.dialers, failed, self.now);
+                }
+            }
+        }
+    }
+
+    // Gives up the connections that weren't made in time.
+    fn give_up_dials(&mut self) {
+        for _ in 0..self.dials.len() {
+            let given_up = self.dials.give_up(self.now);
+            if given_up.is_none() {
+                return;
+            }
+            fail(&mut self.dialers, given_up, self.now);
+        }
+    }
+
+    // Begins the connections to clusters that are wanted, at once where a client waits for one.
+    fn dial_all(&mut self) {
+        let is_urgent = self.is_hopeful() && self.has_client() && !self.has_ready();
+        for place in 0..self.dialers.len() {
+            self.dial(place, is_urgent);
+        }
+    }
+
+    fn dial(&mut self, place: usize, is_urgent: bool) {
+        let Ok(cluster) = u32::try_from(place) else {
+            return;
+        };
+        let Some(dialer) = self.dialers.get_mut(place) else {
+            return;
+        };
+        for _ in 0..MOST_DIALS {
+            let Some(address) = dialer.to_dial(self.now, is_urgent) else {
+                return;
+            };
+            dialer.begin();
+            let begun = self
+                .dials
+                .begin(&self.rt, self.poll.registry(), cluster, address, self.now);
+            if let Err(error) = begun {
+                if is_ours(error.kind()) {
+                    dialer.postpone(self.now);
+                } else {
+                    dialer.fail(self.now);
+                }
+                return;
+            }
+        }
+    }
+}
+
+// A connection to this cluster couldn't be made.
+fn fail(dialers: &mut [Dialer], cluster: Option<u32>, now: u64) {
+    let Some(cluster) = cluster else {
+        return;
+    };
+    if let Some(dialer) = dialers.get_mut(cluster as usize) {
+        dialer.fail(now);
+    }
+}
+
+// Whether an error tells that files, memory or ports are wanting here.
+fn is_ours(kind: ErrorKind) -> bool {
+    matches!(
+        kind,
+        ErrorKind::Uncategorized | ErrorKind::OutOfMemory | ErrorKind::AddrNotAvailable
+    )
+}
+
+fn dialers_of(alloc: Global, plan: &Plan) -> Result<Vec<Dialer>, AllocError> {
+    let mut dialers = Vec::with_capacity(alloc, plan.clusters.len())?;
+    for address in &plan.clusters {
+        dialers.push(Dialer::new(*address, plan.ready))?;
+    }
+    Ok(dialers)
+}

@@ -1,0 +1,6 @@
+-- Each cluster that was looked at has its place.
+use Rattle.proxy_cli.proofs.socket_site.SocketSite.plan.Given as goal
+use Rattle.std.proofs.Common.{length, ◌≡◌}
+
+abbrev pub invariant-loop-cluster : goal.invariant-loop-cluster
+invariant-loop-cluster g l = length l.clusters.items ≡ l.cluster-index

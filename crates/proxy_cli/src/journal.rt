@@ -1,0 +1,49 @@
+// The journal of a relay.
+ghost use Rattle.std.specs.Prelude.{◌≡◌};
+ghost use Rattle.proxy_cli.specs.Journals.{journal_faults};
+
+use io_ports::{Failed, Sink};
+use program_ports::Output;
+use relay_ports::Journal;
+use std::io::Write;
+
+/// A journal that is written to a file at once, or none.
+#[derive(Drop)]
+pub enum FileJournal<F: Write> {
+    File(Output<F>),
+    None,
+}
+
+impl<F: Write> FileJournal<F> {
+    /// How many writes failed, or took nothing.
+    pub fn faults(&self) -> u64
+        ensures { result ≡ journal_faults self.now }
+    {
+        match self {
+            FileJournal::File(file) => file.faults(),
+            FileJournal::None => 0,
+        }
+    }
+}
+
+impl<F: Write> Sink for FileJournal<F> {
+    ghost use Rattle.std.specs.Prelude.{None};
+    ghost use Rattle.proxy_cli.specs.Journals.{journal_faults};
+
+    ghost contents = { λ _. None };
+
+    ghost faults = { journal_faults };
+
+    fn write(&mut self, piece: &[u8]) -> Result<usize, Failed> {
+        match self {
+            FileJournal::File(file) => file.write(piece),
+            FileJournal::None => Ok(piece.len()),
+        }
+    }
+}
+
+impl<F: Write> Journal for FileJournal<F> {
+    fn is_kept(&self) -> bool {
+        matches!(self, FileJournal::File(_))
+    }
+}

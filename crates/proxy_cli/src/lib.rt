@@ -1,0 +1,112 @@
+//! The command line of `h2proxy`, whose words are those behind the program's name, and the site over sockets that it serves.
+#![tactic(auto)]
+
+mod config_fault;
+mod journal;
+mod opened;
+mod pages;
+mod socket_site;
+mod tell;
+mod warn;
+
+use crate::opened::Opened;
+use crate::pages::{HELP, USAGE, VERSION};
+use crate::tell::tell_served;
+pub use journal::FileJournal;
+use program_ports::{Input, Output};
+use proxy_site::{Status, serve_with_reason};
+pub use socket_site::SocketSite;
+use std::env::{self, Env};
+use std::fs;
+use std::io::{Eprint, ErrorKind, Write};
+use std::net::Net;
+use std::process::ExitCode;
+use std::rt::Files;
+use std::time::Clock;
+
+/// Does what the words ask for, with what the proxy says on the output, and answers the exit code of its status. Why it
+/// isn't 0 is told in a line on standard error; where the words have no form, that is the usage. `--help` and `--version` are
+/// answered on the output.
+pub fn serve_words<
+    R: Env + Eprint + Files + Net + Clock + AllocGlobal + Copy + Drop,
+    O: Write + Drop,
+>(rt: R, output: O) -> ExitCode {
+    let words = match words(&rt) {
+        Ok(words) => words,
+        Err(status) => return end_early(&rt, status),
+    };
+    match page(words.as_slice()) {
+        Some(text) => show_page(output, text),
+        None => serve_sockets(rt, words.as_slice(), output),
+    }
+}
+
+fn serve_sockets<R: Eprint + Files + Net + Clock + AllocGlobal + Copy + Drop, O: Write + Drop>(
+    rt: R,
+    words: &[String],
+    output: O,
+) -> ExitCode {
+    let mut config = Input::new(open_config(&rt, words));
+    let mut site = SocketSite::new(rt);
+    let mut out = Output::new(output);
+    let served = serve_with_reason(rt.alloc(), words, &mut config, &mut site, &mut out);
+    let code = ExitCode::from(served.status.code());
+    if served.status == Status::Usage {
+        // Where standard error is closed there is nobody to tell.
+        let _ = rt.eprint(USAGE);
+    } else {
+        tell_served(&rt, served, config.kind(), out.kind());
+    }
+    code
+}
+
+// Where the words can't be had there is nothing to do.
+fn end_early<R: Eprint>(rt: &R, status: Status) -> ExitCode {
+    let text = if status == Status::Usage {
+        USAGE
+    } else {
+        "h2proxy: out of memory\n"
+    };
+    let _ = rt.eprint(text);
+    ExitCode::from(status.code())
+}
+
+// The page that the words ask for, if they ask for one.
+fn page(words: &[String]) -> Option<&'static str> {
+    match words {
+        [word] if word.as_str() == "--help" => Some(HELP),
+        [word] if word.as_str() == "--version" => Some(VERSION),
+        _ => None,
+    }
+}
+
+fn show_page<O: Write + Drop>(mut output: O, text: &str) -> ExitCode {
+    match output.write_all(text.as_bytes()) {
+        Ok(()) => ExitCode::from(Status::Done.code()),
+        Err(_) => ExitCode::from(Status::WriteFault.code()),
+    }
+}
+
+// The file that the second word names. One that can't be opened is a reader whose reads fail.
+fn open_config<R: Files>(rt: &R, words: &[String]) -> Opened<R::File> {
+    match words {
+        [_, path, ..] => match fs::open(rt, path.as_str()) {
+            Ok(file) => Opened::File(file),
+            Err(error) => Opened::Shut(error.kind()),
+        },
+        _ => Opened::Shut(ErrorKind::NotFound),
+    }
+}
+
+// The words behind the program's name. Words that aren't UTF-8 have no form.
+fn words<R: Env + AllocGlobal>(rt: &R) -> Result<Vec<String>, Status> {
+    let all = env::args(rt).map_err(|error| match error.kind() {
+        ErrorKind::OutOfMemory => Status::Memory,
+        _ => Status::Usage,
+    })?;
+    let mut words = Vec::new(rt.alloc());
+    for word in all.skip(1) {
+        words.push(word).map_err(|_| Status::Memory)?;
+    }
+    Ok(words)
+}

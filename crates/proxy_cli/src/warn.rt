@@ -1,0 +1,38 @@
+// What an operator should know, on standard error. Where that is closed there is nobody to tell.
+
+use std::io::{Eprint, ErrorKind};
+
+/// The proxy can't listen.
+pub fn warn_listen<R: Eprint>(rt: &R, at: &[u8], kind: ErrorKind) {
+    let at = text(at);
+    let _ = match kind {
+        ErrorKind::InvalidInput => {
+            eprintln!(rt; "h2proxy: proxy.listen is no address with a port: {at}")
+        }
+        _ => eprintln!(rt; "h2proxy: can't listen at {at}: {kind}"),
+    };
+}
+
+/// A cluster has no address that can be read.
+pub fn warn_address<R: Eprint>(rt: &R, name: &[u8]) {
+    let name = text(name);
+    let _ = eprintln!(rt;
+        "h2proxy: cluster {name} has no address of numbers with a port, and is never reached"
+    );
+}
+
+/// The system allows fewer files than may be needed.
+pub fn warn_files<R: Eprint>(rt: &R, files: u64, most: u64) {
+    let _ = eprintln!(rt;
+        "h2proxy: {files} open files are allowed (ulimit -n), and {most} may be needed"
+    );
+}
+
+/// The journal can't be made.
+pub fn warn_journal<R: Eprint>(rt: &R, path: &str, kind: ErrorKind) {
+    let _ = eprintln!(rt; "h2proxy: the journal {path} can't be made: {kind}");
+}
+
+fn text(octets: &[u8]) -> &str {
+    std::str::from_utf8(octets).unwrap_or("?")
+}

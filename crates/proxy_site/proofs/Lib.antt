@@ -1,0 +1,5 @@
+pub mod Asked
+pub mod Ending
+pub mod Relayed
+pub mod Telling
+pub mod Wording

@@ -1,0 +1,6 @@
+pub mod Forms
+pub mod Memory
+pub mod Reasons
+pub mod Relaying
+pub mod Serving
+pub mod Sites

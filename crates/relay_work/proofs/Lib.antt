@@ -1,0 +1,12 @@
+pub mod Answered
+pub mod Beginning
+pub mod Carried
+pub mod Joining
+pub mod Leaving
+pub mod Offered
+pub mod Once
+pub mod Readied
+pub mod Settled
+pub mod Steps
+pub mod Touching
+pub mod Turned

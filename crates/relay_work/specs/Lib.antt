@@ -1,0 +1,10 @@
+pub mod Belonging
+pub mod Carrying
+pub mod Dispatching
+pub mod Events
+pub mod Live
+pub mod Offering
+pub mod Settling
+pub mod Turning
+pub mod Turns
+pub mod Works

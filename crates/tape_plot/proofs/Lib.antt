@@ -1,0 +1,9 @@
+pub mod Columns
+pub mod Flowing
+pub mod Holding
+pub mod Keeping
+pub mod Laning
+pub mod Lining
+pub mod Points
+pub mod Sayings
+pub mod Stopping

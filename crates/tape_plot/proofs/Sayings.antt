@@ -1,0 +1,150 @@
+-- Lines of a tape, as they are taken up.
+use Rattle.flow_notes.specs.Fields.{FitsNote}
+use Rattle.flow_notes.specs.Line.{newline}
+use Rattle.flow_notes.specs.Note.{IsNote, note_spelling}
+use Rattle.flow_notes.specs.declared.notes.Note.{Note}
+use Rattle.session_run.specs.Held.{held_of}
+use Rattle.session_run.specs.Newlines.{BeginsWithLine}
+use Rattle.session_run.specs.declared.status.Status.TheVariants as status
+use Rattle.std.proofs.Common.{ap, append_assoc, arith, length-append, refl, subst, sym, ◌∙◌}
+use Rattle.std.proofs.lemmas.List.{append-nil, length-take-le}
+use Rattle.std.specs.Io.KnownBytes.{Consumes}
+use Rattle.std.specs.Prelude.{Err, IfOk, List, None, Ok, Option, Result, Some, [], drop, length, min, suc, take, zero, ℕ, ◌++◌, ◌+◌, ◌-◌, ◌^◌, ◌∷◌, ◌≡◌}
+use Rattle.tape_plot.specs.Ending.{ended}
+use Rattle.tape_plot.specs.Reading.{ReadsNote, SpellsNote}
+use Rattle.tape_plot.specs.Reads.{EndsBy, EndsHow, Follows, Goes, Reads, TakesLine, TapeIs, WentAs}
+use Rattle.tape_plot.specs.Lines.{line_text}
+use Rattle.tape_plot.specs.Said.{MayFollow, Said, Sums, Tells, part_with, said_text, tape_text}
+use Rattle.tape_plot.specs.declared.outcome.Outcome.{Outcome}
+use Rattle.tape_plot.specs.declared.outcome.Refusal.{Refusal}
+use Rattle.tape_plot.specs.declared.report.Line.{Line}
+use Rattle.tape_plot.specs.declared.tape.Part.{Part}
+use Rattle.tape_plot.specs.declared.tape.Stop.{Stop}
+use Rattle.tape_plot.specs.declared.tape.Tape.{Tape}
+use Rattle.tape_plot.specs.declared.tape.Part.TheVariants as part
+use Rattle.tape_plot.specs.declared.tape.Stop.TheVariants as stop
+
+-- ---- octets
+
+dropped : (a : List ℕ) (x : ℕ) (rest : List ℕ) (n : ℕ) → length a ≡ n → drop (suc n) (a ++ x ∷ rest) ≡ rest
+dropped [] x rest zero e = refl
+dropped [] x rest (suc n) e = absurd (omega (arith, e))
+dropped (y ∷ a) x rest zero e = absurd (omega (arith, e))
+dropped (y ∷ a) x rest (suc n) e = dropped a x rest n (omega (arith, e))
+
+-- what is held is its first line and what stands behind it
+pub parted : (held : List ℕ) (n : ℕ) → BeginsWithLine held n → held ≡ (take n held ++ newline) ++ drop (n + 1) held
+parted held n b =
+    b.is
+    ∙ sym (append_assoc (take n held) newline b.rest)
+    ∙ ap (λ (v : List ℕ). (take n held ++ newline) ++ v) (sym behind)
+  where
+    one : n + 1 ≡ suc n
+    one = omega arith
+
+    long : length (take n held) ≡ n
+    long = length-take-le n held (omega (arith, b.within))
+
+    behind : drop (n + 1) held ≡ b.rest
+    behind = ap (λ (v : ℕ). drop v held) one ∙ ap (drop (suc n)) b.is ∙ dropped (take n held) 10 b.rest n long
+
+consumes_more : (a b c : Option (List ℕ)) (x y : List ℕ) → Consumes a b x → Consumes b c y → Consumes a c (x ++ y)
+consumes_more None b c x y p q = tt
+consumes_more (Some a) None c x y p q = absurd p
+consumes_more (Some a) (Some b) None x y p q = absurd q
+consumes_more (Some a) (Some b) (Some c) x y p q = p ∙ ap (λ (v : List ℕ). x ++ v) q ∙ sym (append_assoc x y c)
+
+pub consumes_none : (a : Option (List ℕ)) → Consumes a a []
+consumes_none None = tt
+consumes_none (Some a) = refl
+
+-- ---- a line
+
+pub line_on : (old new : Tape) (n : ℕ) → BeginsWithLine (held_of old.lines) n → Follows (take n (held_of old.lines)) old.part new.part
+    → held_of new.lines ≡ drop (n + 1) (held_of old.lines) → new.read ≡ old.read + (n + 1) → new.number ≡ old.number + 1 → TakesLine old new (Ok tt)
+line_on old new n b f held er en = record { goes = λ said read left k. (f.says ∷ said, taken said read k) }
+  where
+    taken : (said : List Said) (read : List ℕ) → TapeIs old said read → TapeIs new (f.says ∷ said) read
+    taken said read k = record {
+      tells = (f.is, subst (MayFollow f.says) k.part f.may, k.tells);
+      part = f.part;
+      reads =
+          k.reads
+          ∙ ap (λ (v : List ℕ). tape_text said ++ v) (parted (held_of old.lines) n b ∙ ap (λ (v : List ℕ). (take n (held_of old.lines) ++ newline) ++ v) (sym held))
+          ∙ ap (λ (v : List ℕ). tape_text said ++ (v ++ held_of new.lines)) f.text
+          ∙ sym (append_assoc (tape_text said) (said_text f.says) (held_of new.lines));
+      count = er ∙ long said k.count;
+      number = en ∙ ap (λ (v : ℕ). v + 1) k.number ∙ one_more said;
+    }
+      where
+        one_more : (said : List Said) → length said + 1 ≡ suc (length said)
+        one_more said = omega arith
+
+        long : (said : List Said) → old.read ≡ length (tape_text said) → old.read + (n + 1) ≡ length (tape_text said ++ said_text f.says)
+        long said c =
+            let l = length-append (tape_text said) (said_text f.says) in
+            let t : length (said_text f.says) ≡ n + 1 = sym (ap length f.text) ∙ length-append (take n (held_of old.lines)) newline ∙ ap (λ (v : ℕ). v + 1) (length-take-le n (held_of old.lines) (omega (arith, b.within))) in
+            omega (arith, l, t, c)
+
+-- a line tells a note before the summary, or it is one of the summary
+pub note_follows : (line : List ℕ) (before : Part) (r : Result Part Stop) (read : Option Note) (n : Note) → ReadsNote line read → read ≡ Some n → IfOk r (λ _. before ≡ part.Notes) → IfOk r (λ next. next ≡ part.Notes)
+    → IfOk r (Follows line before)
+note_follows line before (Ok next) read n k e b f = record {
+  says = Tells k.names n;
+  is = (k.are, spells.1, spells.2);
+  may = subst (MayFollow (Tells k.names n)) (sym b) tt;
+  text = ap (λ (v : List ℕ). v ++ newline) spells.0;
+  part = f;
+}
+  where
+    spells : (line ≡ note_spelling k.names n) × IsNote k.names n × FitsNote n
+    spells = subst (SpellsNote k.names line) e k.spells
+note_follows line before (Err s) read n k e b f = tt
+
+may_sum : (l : Line) (before : Part) → ((m : Line) → before ≡ part.Ended m → ⊥) → MayFollow (Sums l) before
+may_sum l part.Notes goes = tt
+may_sum l part.Summary goes = tt
+may_sum l (part.Ended m) goes = absurd (goes m refl)
+
+pub sum_follows : (line : List ℕ) (before : Part) (r : Result Part Stop) → ((m : Line) → before ≡ part.Ended m → ⊥) → IfOk r (λ next. (l : Line) × (line ++ newline ≡ line_text l) × (next ≡ part_with (Sums l)))
+    → IfOk r (Follows line before)
+sum_follows line before (Ok next) goes s = record { says = Sums s.0; is = tt; may = may_sum s.0 before goes; text = s.1; part = s.2 }
+sum_follows line before (Err s) goes e = tt
+
+-- ---- reading
+
+pub line_goes : (old new : Tape) (left : Option (List ℕ)) (r : Result (Unit {0}) Stop) → TakesLine old new r → Goes old new left left r
+line_goes old new left r t = record {
+  got = [];
+  consumes = consumes_none left;
+  goes = λ said read k. subst (λ (v : List ℕ). WentAs new v left r) (sym (append-nil read)) (t.goes said read left k);
+}
+
+pub goes_more : (a b c : Tape) (one two three : Option (List ℕ)) (r : Result (Unit {0}) Stop) → Goes a b one two (Ok tt) → Goes b c two three r → Goes a c one three r
+goes_more a b c one two three r f g = record {
+  got = f.got ++ g.got;
+  consumes = consumes_more one two three f.got g.got f.consumes g.consumes;
+  goes = λ said read k.
+      let m = f.goes said read k in
+      subst (λ (v : List ℕ). WentAs c v three r) (append_assoc read f.got g.got) (g.goes m.0 (read ++ f.got) m.1);
+}
+
+-- ---- how it ends
+
+reads_as : (left_old left_new : Option (List ℕ)) (first tape : Tape) (why : Stop) (o : Outcome) → TapeIs first [] [] → (g : Goes first tape left_old left_new (Err why))
+    → ((said : List Said) (rest : List ℕ) → EndsBy why tape.number said rest left_new → EndsHow o.status o.line said rest left_new) → Reads left_old left_new o
+reads_as left_old left_new first tape why o k g ends =
+    let l = g.goes [] [] k in
+    record { read = g.got; said = l.said; rest = l.rest; consumes = g.consumes; tells = l.tells; reads = l.reads; ends = ends l.said l.rest l.ends }
+
+pub reads_whole : (left_old left_new : Option (List ℕ)) (first tape : Tape) → TapeIs first [] [] → Goes first tape left_old left_new (Err stop.End) → Reads left_old left_new (ended status.Done)
+reads_whole left_old left_new first tape k g = reads_as left_old left_new first tape stop.End (ended status.Done) k g (λ said rest e. e)
+
+pub reads_refused : (left_old left_new : Option (List ℕ)) (first tape : Tape) (why : Refusal) (line : ℕ) → TapeIs first [] [] → Goes first tape left_old left_new (Err (stop.Refused why)) → line ≡ min (tape.number + 1) (2 ^ 64 - 1)
+    → Reads left_old left_new (record { status = status.Session; line = line; refusal = Some why })
+reads_refused left_old left_new first tape why line k g e =
+    reads_as left_old left_new first tape (stop.Refused why) (record { status = status.Session; line = line; refusal = Some why }) k g (λ said rest n. e ∙ ap (λ (v : ℕ). min (v + 1) (2 ^ 64 - 1)) n)
+
+pub reads_nothing : (left : Option (List ℕ)) (o : Outcome) → o ≡ ended status.Memory → Reads left left o
+reads_nothing left o e =
+    subst (Reads left left) (sym e) (record { read = []; said = []; rest = []; consumes = consumes_none left; tells = tt; reads = refl; ends = tt })

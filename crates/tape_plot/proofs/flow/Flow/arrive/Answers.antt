@@ -1,0 +1,7 @@
+-- Octets enter the receive buffer.
+use Rattle.std.proofs.Common.{refl}
+use Rattle.tape_plot.proofs.Flowing.{flow_arrives, on_ok}
+use Rattle.tape_plot.proofs.flow.Flow.arrive.Goals as goal
+
+pub returns : goal.returns
+returns c = on_ok _ _ c.show.result (λ s. flow_arrives c.args.self.now _ c.args.n c.args.clock.now c.in_ok-arrive.ensures s refl refl refl refl) c.show.ensures

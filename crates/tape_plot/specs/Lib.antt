@@ -1,0 +1,10 @@
+pub mod Ending
+pub mod Flows
+pub mod Lanes
+pub mod Levels
+pub mod Lines
+pub mod Reading
+pub mod Reads
+pub mod Said
+pub mod Spans
+pub mod Tops

@@ -1,0 +1,66 @@
+// Where things stand in the picture, in points.
+ghost use Rattle.std.specs.Prelude.{◌≤◌};
+
+use crate::clock::Clock;
+use crate::width::Width;
+
+/// The width of the picture.
+pub const WIDTH: u64 = 1240;
+
+/// Where the columns begin.
+pub const LEFT: u64 = 190;
+
+/// How wide all columns are together.
+pub const PLOT: u64 = 960;
+
+/// Where they end.
+pub const END: u64 = 1150;
+
+/// Where the axis stands, below the title and the legend.
+pub const AXIS: u64 = 104;
+
+/// How high a lane is.
+pub const LANE: u64 = 40;
+
+/// How dispatches go to columns, and these to points.
+#[derive(Clone, Copy, Debug, PartialEq, Eq)]
+pub struct Frame {
+    pub first: u64,
+    /// The last dispatch that is drawn.
+    pub end: u64,
+    /// How many dispatches a column has.
+    pub width: Width,
+    /// How many columns there are.
+    pub columns: u64,
+    ghost some: { 1 ≤ columns },
+}
+
+impl Frame {
+    pub fn new(clock: &Clock) -> Self {
+        Frame {
+            first: clock.first,
+            end: clock.end(),
+            width: clock.width,
+            columns: clock.columns(),
+        }
+    }
+
+    /// Where a column begins; behind the last, where that ends.
+    pub fn x(&self, column: u64) -> u64 {
+        let column = column.min(self.columns);
+        LEFT + (column.saturating_mul(PLOT) / self.columns).min(PLOT)
+    }
+
+    /// The column of a dispatch.
+    pub fn column(&self, turn: u64) -> u64 {
+        self.width.column(turn.saturating_sub(self.first))
+    }
+}
+
+/// How high a level stands in a lane whose height is `top`.
+pub fn height(level: u64, top: u64) -> u64 {
+    if top == 0 {
+        return 0;
+    }
+    (level.saturating_mul(LANE) / top).min(LANE)
+}

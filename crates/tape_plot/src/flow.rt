@@ -1,0 +1,189 @@
+// The places of one flow, and its read-disable count.
+ghost use Rattle.std.specs.Prelude.{◌≡◌, ◌≤◌, ℕ, length, OnOk};
+ghost use Rattle.tape_plot.specs.Flows.{Shows, lane_at, lanes_of};
+
+use crate::clock::Clock;
+use crate::held::Held;
+use crate::lane::Lane;
+use io_ports::NoMemory;
+use std::alloc::Global;
+
+/// A buffer's lane, with the limit that the summary tells.
+#[derive(Drop)]
+pub struct Place {
+    pub lane: Lane,
+    pub limit: Option<u32>,
+}
+
+impl Place {
+    ghost use Rattle.std.specs.Prelude.{◌≡◌};
+    ghost use Rattle.tape_plot.specs.Lanes.{drawn_of, fresh};
+
+    /// A buffer that never held an octet. Takes no memory.
+    pub fn new(alloc: Global) -> Self
+        ensures { drawn_of result.lane ≡ fresh }
+    {
+        Place {
+            lane: Lane::new(alloc),
+            limit: None,
+        }
+    }
+}
+
+/// The places of a flow that octets came to, its receive buffer first, and its read-disable count.
+#[derive(Drop)]
+pub struct Flow {
+    held: Held,
+    pub places: Vec<Place>,
+    pub count: Lane,
+    pauses: u64,
+    resumes: u64,
+    /// It is given up, and its count is drawn no further.
+    is_doomed: bool,
+    /// Its last place is its send buffer, as a note or the summary told.
+    pub sends: bool,
+}
+
+impl Flow {
+    ghost use Rattle.std.specs.Prelude.{◌≡◌, ◌-◌, if◌then◌else◌, min, IfOk, OnOk};
+    ghost use Rattle.tape_plot.specs.Flows.{Arrives, Dooms, Frames, IsFresh, Moves, Pauses, Resumes};
+    ghost use Rattle.tape_plot.specs.Levels.{at, top};
+
+    /// Before its first note. Takes no memory.
+    pub fn new(alloc: Global) -> Self
+        ensures { IsFresh result }
+    {
+        Flow {
+            held: Held::new(alloc),
+            places: Vec::new(alloc),
+            count: Lane::new(alloc),
+            pauses: 0,
+            resumes: 0,
+            is_doomed: false,
+            sends: false,
+        }
+    }
+
+    /// Octets enter the receive buffer.
+    pub fn arrive(&mut self, n: u64, clock: &Clock) -> Result<(), NoMemory>
+        ensures { OnOk result (Arrives self.old n clock.now self.new) }
+    {
+        self.held.arrive(n)?;
+        show(&mut self.places, &self.held, clock)
+    }
+
+    /// Octets go from a place to the next, at most those that lie there.
+    pub fn shift(&mut self, place: u32, n: u32, clock: &Clock) -> Result<(), NoMemory>
+        ensures { OnOk result (Moves self.old place n clock.now self.new) }
+    {
+        self.held.shift(place as usize, u64::from(n))?;
+        show(&mut self.places, &self.held, clock)
+    }
+
+    /// Octets leave the last place, at most those that lie there. Answers how many.
+    pub fn frame(&mut self, n: u32, clock: &Clock) -> Result<u64, NoMemory>
+        ensures goes { OnOk result (Frames self.old n clock.now self.new) }
+        ensures taken { IfOk result (λ taken. taken ≡ min n (at self.old.held.levels.items (top self.old.held.levels.items))) }
+    {
+        let taken = self.held.frame(u64::from(n));
+        self.sends = self.sends || taken > 0;
+        show(&mut self.places, &self.held, clock)?;
+        Ok(taken)
+    }
+
+    /// It is given up: all octets are dropped.
+    pub fn drop_all(&mut self, clock: &Clock) -> Result<(), NoMemory>
+        ensures { OnOk result (Dooms self.old clock.now self.new) }
+    {
+        self.held.drop_all();
+        self.is_doomed = true;
+        self.count.set(0, clock)?;
+        show(&mut self.places, &self.held, clock)
+    }
+
+    /// The read-disable count rises.
+    pub fn pause(&mut self, clock: &Clock) -> Result<(), NoMemory>
+        ensures { OnOk result (Pauses self.old clock.now self.new) }
+    {
+        let Some(pauses) = self.pauses.checked_add(1) else {
+            return Err(NoMemory);
+        };
+        self.pauses = pauses;
+        let shown = self.shown();
+        self.count.set(shown, clock)
+    }
+
+    /// The read-disable count falls.
+    pub fn resume(&mut self, clock: &Clock) -> Result<(), NoMemory>
+        ensures { OnOk result (Resumes self.old clock.now self.new) }
+    {
+        let Some(resumes) = self.resumes.checked_add(1) else {
+            return Err(NoMemory);
+        };
+        self.resumes = resumes;
+        let shown = self.shown();
+        self.count.set(shown, clock)
+    }
+
+    // The count that is drawn.
+    fn shown(&self) -> u64
+        ensures { result ≡ (if self.now.is_doomed then 0 else self.now.pauses - self.now.resumes) }
+    {
+        if self.is_doomed {
+            0
+        } else {
+            self.pauses.saturating_sub(self.resumes)
+        }
+    }
+
+    /// The summary tells the limit of a place.
+    pub fn limit_place(&mut self, place: u32, limit: u32) {
+        if let Some(place) = self.places.get_mut(place as usize) {
+            place.limit = Some(limit);
+        }
+    }
+
+    /// The summary tells the limit of the send buffer: the last place, unless that is the receive buffer or a stage.
+    pub fn limit_send(&mut self, limit: u32) {
+        let places = self.places.len();
+        if let Some(last) = self.places.last_mut() {
+            if places > 1 && last.limit.is_none() {
+                last.limit = Some(limit);
+                self.sends = true;
+            }
+        }
+    }
+}
+
+// The lanes go on with what lies at their places, those of new places among them.
+fn show(places: &mut Vec<Place>, held: &Held, clock: &Clock) -> Result<(), NoMemory>
+    ensures { OnOk result (Shows (lanes_of places.old.items) held.now.levels.items clock.now (lanes_of places.new.items)) }
+{
+    grow(places, held.len())?;
+    set_all(places, held, clock)
+}
+
+// There are so many lanes at least.
+fn grow(places: &mut Vec<Place>, len: usize) -> Result<(), NoMemory>
+    ensures same { OnOk result ((p : ℕ) → lane_at (lanes_of places.new.items) p ≡ lane_at (lanes_of places.old.items) p) }
+    ensures long { OnOk result (len ≤ length places.new.items) }
+{
+    while places.len() < len {
+        let alloc = *places.allocator();
+        places.push(Place::new(alloc))?;
+    }
+    Ok(())
+}
+
+// The lanes go on with what lies at their places.
+fn set_all(places: &mut Vec<Place>, held: &Held, clock: &Clock) -> Result<(), NoMemory>
+    requires { length held.now.levels.items ≤ length places.old.items }
+    ensures { OnOk result (Shows (lanes_of places.old.items) held.now.levels.items clock.now (lanes_of places.new.items)) }
+{
+    let mut i = 0;
+    while i < places.len() {
+        places[i].lane.set(held.at(i), clock)?;
+        i += 1;
+    }
+    Ok(())
+}

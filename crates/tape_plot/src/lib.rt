@@ -1,0 +1,25 @@
+//! A tape as a picture: the lengths of its buffers, its read-disable counts and its ends, dispatch by dispatch, as one SVG file.
+#![tactic(auto)]
+
+mod choice;
+mod clock;
+mod draw;
+mod exchange;
+mod flow;
+mod held;
+mod lane;
+mod laws;
+mod levels;
+mod mark;
+mod outcome;
+mod plot;
+mod rank;
+mod report;
+mod tape;
+mod width;
+mod words;
+
+pub use choice::{Choice, Lanes, read_choice};
+pub use laws::lengths;
+pub use outcome::{Outcome, Refusal};
+pub use tape::plot_tape;

@@ -1,0 +1,292 @@
+// A tape that is read, and the picture of it that is written.
+ghost use Rattle.flow_notes.specs.Line.{newline};
+ghost use Rattle.std.specs.Prelude.{◌≡◌, ◌≤◌, ◌++◌, Err, IfErr, IfOk};
+ghost use Rattle.io_ports.specs.Faults.{Rose};
+ghost use Rattle.tape_plot.specs.Ending.{EndsRight, IsRefused};
+ghost use Rattle.tape_plot.specs.Ending as spec;
+ghost use Rattle.tape_plot.specs.Lines.{line_text};
+ghost use Rattle.tape_plot.specs.Reading.{Caused, ReadsNote, Refuses};
+ghost use Rattle.tape_plot.specs.Reads.{Follows, Goes, Reads, ReadsAs};
+ghost use Rattle.tape_plot.specs.Said.{part_with};
+ghost use Rattle.tape_plot.specs.Said as said;
+ghost use Rattle.tape_plot.specs.declared.report.Line.{Line};
+ghost use Rattle.tape_plot.specs.declared.tape.Part.TheVariants as parts;
+
+use crate::choice::Choice;
+use crate::draw::draw;
+use crate::outcome::{Outcome, Refusal};
+use crate::plot::Plot;
+use crate::report::{Line, read_line};
+use crate::words::first_word;
+use flow_notes::{NameRefusal, Names, Note, read_note};
+use io_ports::{NoMemory, Octets, Sink, Source};
+use session_run::{Lines, Status, write_all};
+use std::alloc::Global;
+
+// Words of lines.
+const TURN: &[u8] = b"turn";
+
+const JOIN: &[u8] = b"join";
+
+/// How many octets are held of a tape at most: a line is shorter.
+const ROOM: usize = 131_072;
+
+// How far a tape was read.
+#[derive(Clone, Copy, Debug, PartialEq, Eq)]
+pub enum Part {
+    Notes,
+    Summary,
+    /// The last line was read, which is this.
+    Ended(Line),
+}
+
+/// A tape that is read line by line.
+#[derive(Drop)]
+pub struct Tape {
+    alloc: Global,
+    lines: Lines,
+    pub plot: Plot,
+    pub part: Part,
+    /// How many lines were read.
+    number: u64,
+    /// How many octets they had, with their newlines.
+    read: u64,
+}
+
+// Why reading stops.
+enum Stop {
+    /// The lines have ended.
+    End,
+    Refused(Refusal),
+    Failed(Status),
+}
+
+impl From<NoMemory> for Stop {
+    ghost use Rattle.std.specs.Prelude.{◌≡◌};
+    ghost use Rattle.session_run.specs.declared.status.Status.TheVariants as statuses;
+    ghost use Rattle.tape_plot.specs.declared.tape.Stop.TheVariants as stops;
+
+    ghost from_gives = { λ _ stop. stop ≡ stops.Failed statuses.Memory };
+
+    fn from(_: NoMemory) -> Self {
+        Stop::Failed(Status::Memory)
+    }
+}
+
+impl Tape {
+    ghost use Rattle.std.specs.Prelude.{◌≡◌, ◌<◌, ◌≤◌, [], false, IfErr, IfOk, OnOk};
+    ghost use Rattle.io_ports.specs.Faults.{Rose};
+    ghost use Rattle.session_run.specs.Held.{held_of};
+    ghost use Rattle.session_run.specs.Newlines.{BeginsWithLine, has_newline};
+    ghost use Rattle.tape_plot.specs.Reading.{Caused, Refuses, to_go};
+    ghost use Rattle.tape_plot.specs.Reads.{Goes, TakesLine, TapeIs};
+
+    // Nothing is read yet.
+    fn new(alloc: Global, choice: &Choice) -> Result<Self, NoMemory>
+        ensures { IfOk result (λ tape. TapeIs tape [] []) }
+    {
+        Ok(Tape {
+            alloc,
+            lines: Lines::new(alloc)?,
+            plot: Plot::new(alloc, choice.first, choice.last),
+            part: Part::Notes,
+            number: 0,
+            read: 0,
+        })
+    }
+
+    // One line, or else one read.
+    fn step<S: Source>(&mut self, source: &mut S) -> Result<(), Stop>
+        ensures goes { Goes self.old self.new (S.left source.old) (S.left source.new) result }
+        ensures less { OnOk result (to_go self.new < to_go self.old) }
+        ensures caused { IfErr result (Caused (Rose (S.faults source.old) (S.faults source.new))) }
+        ensures faults { S.faults source.old ≤ S.faults source.new }
+    {
+        match self.lines.line_len() {
+            Some(n) => self.take_line(n),
+            None => self.read_more(source),
+        }
+    }
+
+    fn take_line(&mut self, n: usize) -> Result<(), Stop>
+        requires { BeginsWithLine (held_of self.old.lines) n }
+        ensures takes { TakesLine self.old self.new result }
+        ensures less { OnOk result (to_go self.new < to_go self.old) }
+        ensures stops { IfErr result Refuses }
+    {
+        let Some(read) = self.read.checked_add(n as u64 + 1) else {
+            return Err(Stop::Failed(Status::TooLong));
+        };
+        let Some(number) = self.number.checked_add(1) else {
+            return Err(Stop::Failed(Status::TooLong));
+        };
+        let line = &self.lines.held()[..n];
+        self.part = take_text(self.alloc, &mut self.plot, self.part, line)?;
+        self.lines.skip(n + 1);
+        self.read = read;
+        self.number = number;
+        Ok(())
+    }
+
+    fn read_more<S: Source>(&mut self, source: &mut S) -> Result<(), Stop>
+        requires { has_newline (held_of self.old.lines) ≡ false }
+        ensures goes { Goes self.old self.new (S.left source.old) (S.left source.new) result }
+        ensures less { OnOk result (to_go self.new < to_go self.old) }
+        ensures caused { IfErr result (Caused (Rose (S.faults source.old) (S.faults source.new))) }
+        ensures faults { S.faults source.old ≤ S.faults source.new }
+    {
+        if self.lines.held().len() >= ROOM {
+            return Err(Stop::Refused(Refusal::Long));
+        }
+        match self.lines.fill(source) {
+            Ok(n) if n > 0 => Ok(()),
+            Ok(_) => Err(Stop::End),
+            Err(_) => Err(Stop::Failed(Status::ReadFault)),
+        }
+    }
+}
+
+// Takes up the text of a line, and answers how far the tape was read with it.
+fn take_text(alloc: Global, plot: &mut Plot, part: Part, line: &[u8]) -> Result<Part, Stop>
+    ensures follows { IfOk result (Follows line.now part) }
+    ensures stops { IfErr result Refuses }
+{
+    if let Part::Ended(_) = part {
+        return Err(Stop::Refused(Refusal::BehindEnd));
+    }
+    match read_note_line(alloc, line)? {
+        Some(note) => take_note(plot, part, &note, line),
+        None => take_report(alloc, plot, line),
+    }
+}
+
+// Takes up a note, which stands before the summary.
+fn take_note(plot: &mut Plot, part: Part, note: &Note, line: &[u8]) -> Result<Part, Stop>
+    ensures before { IfOk result (λ _. part ≡ parts.Notes) }
+    ensures part { IfOk result (λ next. next ≡ parts.Notes) }
+    ensures stops { IfErr result Refuses }
+{
+    if part != Part::Notes {
+        return Err(Stop::Refused(Refusal::BehindSummary));
+    }
+    plot.note(note, line)?;
+    Ok(Part::Notes)
+}
+
+// Takes up a line of the summary.
+fn take_report(alloc: Global, plot: &mut Plot, line: &[u8]) -> Result<Part, Stop>
+    ensures sums { IfOk result (λ next. (l : Line) × (line.now ++ newline ≡ line_text l) × (next ≡ part_with (said.Sums l))) }
+    ensures stops { IfErr result Refuses }
+{
+    let Some(report) = read_line(alloc, line)? else {
+        return Err(Stop::Refused(Refusal::NoNote));
+    };
+    match report {
+        Line::Peak { buffer, limit, .. } => {
+            plot.levels.limit(buffer, limit);
+            Ok(Part::Summary)
+        }
+        Line::Paused { .. } => Ok(Part::Summary),
+        _ => Ok(Part::Ended(report)),
+    }
+}
+
+// The note of a line. A tape names a cluster where it is joined alone, so that it is the one name of its line.
+fn read_note_line(alloc: Global, line: &[u8]) -> Result<Option<Note>, NoMemory>
+    ensures { IfOk result (ReadsNote line.now) }
+{
+    let mut names = Names::new(alloc);
+    if let Some(name) = joined_name(line) {
+        if names.push(name) == Err(NameRefusal::NoMemory) {
+            return Err(NoMemory);
+        }
+    }
+    names.known();
+    read_note(alloc, line, &names)
+}
+
+// The last word of a line `turn K join C NAME`.
+fn joined_name(line: &[u8]) -> Option<&[u8]> {
+    let (turn, words) = first_word(line);
+    if turn != TURN {
+        return None;
+    }
+    let (_, words) = first_word(words);
+    let (event, words) = first_word(words);
+    if event != JOIN {
+        return None;
+    }
+    let (_, name) = first_word(words);
+    Some(name)
+}
+
+// Reads lines until they end or one is refused, and answers how.
+fn read_tape<S: Source>(tape: &mut Tape, source: &mut S) -> Stop
+    ensures goes { Goes tape.old tape.new (S.left source.old) (S.left source.new) (Err result) }
+    ensures caused { Caused (Rose (S.faults source.old) (S.faults source.new)) result }
+    ensures faults { S.faults source.old ≤ S.faults source.new }
+{
+    loop {
+        if let Err(stop) = tape.step(source) {
+            return stop;
+        }
+    }
+}
+
+fn ended(status: Status) -> Outcome
+    ensures { result ≡ spec.ended status }
+{
+    Outcome {
+        status,
+        line: 0,
+        refusal: None,
+    }
+}
+
+// The picture of a tape, or how it came to none.
+fn picture<S: Source>(alloc: Global, choice: &Choice, source: &mut S) -> Result<Octets, Outcome>
+    ensures reads { ReadsAs (S.left source.old) (S.left source.new) result }
+    ensures refused { IfErr result (IsRefused (Rose (S.faults source.old) (S.faults source.new))) }
+    ensures faults { S.faults source.old ≤ S.faults source.new }
+{
+    let Ok(mut tape) = Tape::new(alloc, choice) else {
+        return Err(ended(Status::Memory));
+    };
+    match read_tape(&mut tape, source) {
+        Stop::End => {}
+        Stop::Failed(status) => return Err(ended(status)),
+        Stop::Refused(refusal) => {
+            return Err(Outcome {
+                status: Status::Session,
+                line: tape.number.saturating_add(1),
+                refusal: Some(refusal),
+            });
+        }
+    }
+    match draw(alloc, tape.plot, tape.part, choice.lanes) {
+        Ok(text) => Ok(text),
+        Err(NoMemory) => Err(ended(Status::Memory)),
+    }
+}
+
+/// Reads a tape with its summary from the source, and writes the picture of what is chosen of it as one SVG file. Where a line is
+/// refused, the source fails or memory runs out, nothing is written.
+pub fn plot_tape<S: Source, K: Sink>(
+    alloc: Global,
+    choice: &Choice,
+    source: &mut S,
+    out: &mut K,
+) -> Outcome
+    ensures reads { Reads (S.left source.old) (S.left source.new) result }
+    ensures ends { EndsRight (Rose (S.faults source.old) (S.faults source.new)) (Rose (K.faults out.old) (K.faults out.new)) (K.contents out.old) (K.contents out.new) result }
+    ensures source { S.faults source.old ≤ S.faults source.new }
+    ensures out { K.faults out.old ≤ K.faults out.new }
+{
+    match picture(alloc, choice, source) {
+        Ok(text) => match write_all(out, text.as_slice()) {
+            Ok(()) => ended(Status::Done),
+            Err(_) => ended(Status::WriteFault),
+        },
+        Err(outcome) => outcome,
+    }
+}

@@ -1,0 +1,14 @@
+mod Becoming
+mod Carrying
+mod Closing
+mod Dispatching
+mod Ending
+mod Keeping
+mod Matching
+mod Obeying
+mod Offering
+mod Parted
+mod Receiving
+mod Running
+mod Turning
+mod Working

@@ -1,0 +1,9 @@
+pub mod Carrying
+pub mod Clauses
+pub mod Cutting
+pub mod Did
+pub mod Keeping
+pub mod Parts
+pub mod Places
+pub mod Turns
+pub mod Works

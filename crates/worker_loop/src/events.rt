@@ -1,0 +1,79 @@
+// Events of a live worker: each has its line in the journal before it is dispatched.
+ghost use Rattle.flow_notes.specs.Event.{IsEvent};
+ghost use Rattle.io_ports.specs.Faults.{Rose};
+ghost use Rattle.std.specs.Prelude.{◌≡◌, ◌≤◌, Err};
+ghost use Rattle.worker_core.specs.Sessions.{RestsWire};
+ghost use Rattle.worker_loop.specs.Clauses.{DispatchesAs, KeepsLine};
+ghost use Rattle.worker_loop.specs.declared.ended.Ended.TheVariants as ended;
+
+use crate::ended::Ended;
+use flow_notes::{Event, Names, Notes, event_text};
+use io_ports::{Failed, Octets};
+use std::alloc::Global;
+use worker_core::Core;
+use worker_parts::Journal;
+
+/// What is written at once, and the notes of a dispatch.
+#[derive(Drop)]
+pub(crate) struct Pad {
+    line: Octets,
+    pub(crate) notes: Notes,
+}
+
+impl Pad {
+    /// Takes no memory.
+    pub(crate) fn new(alloc: Global) -> Self {
+        Pad {
+            line: Octets::new(alloc),
+            notes: Notes::new(alloc),
+        }
+    }
+}
+
+/// Writes an event's line to the journal, and dispatches it. Its notes are on the pad.
+#[tactic(none)]
+pub(crate) fn dispatch<J: Journal>(
+    core: &mut Core,
+    journal: &mut J,
+    names: &Names,
+    pad: &mut Pad,
+    event: &Event,
+) -> Result<(), Ended>
+    requires core { RestsWire core.old.kind }
+    requires event { IsEvent names.now event.now }
+    ensures dispatches { DispatchesAs names.now event.now core.old.kind (J.contents journal.old) result core.new.kind pad.new.notes (J.contents journal.new) }
+    ensures told { J.told journal.new ≡ J.told journal.old }
+    ensures cause { result ≡ Err ended.JournalFault → Rose (J.faults journal.old) (J.faults journal.new) }
+    ensures no_fall { J.faults journal.old ≤ J.faults journal.new }
+{
+    keep_line(journal, names, &mut pad.line, event)?;
+    pad.notes.clear();
+    match core.dispatch(event, &mut pad.notes) {
+        Ok(()) => Ok(()),
+        Err(_) => Err(Ended::Memory),
+    }
+}
+
+// Writes an event's line.
+#[tactic(none)]
+fn keep_line<J: Journal>(
+    journal: &mut J,
+    names: &Names,
+    line: &mut Octets,
+    event: &Event,
+) -> Result<(), Ended>
+    requires { IsEvent names.now event.now }
+    ensures keeps { KeepsLine names.now event.now (J.contents journal.old) result (J.contents journal.new) }
+    ensures told { J.told journal.new ≡ J.told journal.old }
+    ensures cause { result ≡ Err ended.JournalFault → Rose (J.faults journal.old) (J.faults journal.new) }
+    ensures no_fall { J.faults journal.old ≤ J.faults journal.new }
+{
+    line.clear();
+    let Ok(()) = event_text(event, names, line) else {
+        return Err(Ended::Memory);
+    };
+    match journal.line(line.as_slice()) {
+        Ok(()) => Ok(()),
+        Err(Failed) => Err(Ended::JournalFault),
+    }
+}

@@ -1,0 +1,4 @@
+mod Keeping
+mod Leaving
+mod Marking
+mod Reading

@@ -1,0 +1,4 @@
+pub mod Held
+pub mod Journals
+pub mod Memory
+pub mod Samples
