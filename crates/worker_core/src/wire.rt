@@ -106,7 +106,7 @@ impl WireSession {
     pub fn out_front(&self, conn: u32) -> &[u8]
         ensures { IsFront result.now (octets_at conn self.now.core) }
     {
-        match self.core.conns.get(conn) {
+        match self.core.conns.get(&conn) {
             Some(conn) => conn.outlet.front(),
             None => &[],
         }
@@ -124,7 +124,11 @@ impl WireSession {
     pub fn conn_after(&self, after: u32) -> Option<u32>
         ensures { IsLeastAbove after (is_there self.now.core) result }
     {
-        self.core.conns.next_above(after)
+        let above = (Bound::Excluded(after), Bound::Unbounded);
+        match self.core.conns.range(above).next() {
+            Some((conn, _)) => Some(*conn),
+            None => None,
+        }
     }
 
     /// Whether the connection, which came, isn't open any more.
