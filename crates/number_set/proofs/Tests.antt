@@ -19,6 +19,9 @@ equal_is m n h = grind (arith, nat_tests)
 pub greater_is : (m n : ℕ) → nat_cmp m n ≡ Greater → n < m
 greater_is m n h = grind (arith, nat_tests)
 
+pub at_eq : (m n : ℕ) → is_at (nat_cmp m) n ≡ nat_eq m n
+at_eq m n = grind (arith, nat_tests)
+
 pub at_here : (m n : ℕ) → m ≡ n → is_at (nat_cmp m) n ≡ true
 at_here m n h = grind (arith, nat_tests)
 

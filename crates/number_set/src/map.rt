@@ -1,9 +1,8 @@
 // Values by number.
-ghost use Rattle.std.specs.BTreeMap.{is_at};
-ghost use Rattle.std.specs.Option.{option_map_or};
-ghost use Rattle.std.specs.Map.{insert_entry, keys_of, lookup, remove_entry, set_value};
+ghost use Rattle.std.specs.BTreeMap.{insert_entry, is_at};
+ghost use Rattle.std.specs.Map.{remove_entry, set_value};
 ghost use Rattle.std.specs.Ordering.{nat_cmp};
-ghost use Rattle.std.specs.Prelude.{◌≡◌, ◌==◌, [], IsSome, OnErr, OnOk, false, length, slice_get};
+ghost use Rattle.std.specs.Prelude.{◌≡◌, [], IsNone, IsSome, MatchResult, None, OnErr, OnOk, Some, length};
 
 use io_ports::NoMemory;
 use std::alloc::Global;
@@ -28,7 +27,7 @@ impl<T> Model for NumberMap<T> {
 }
 
 impl<T: Copy> NumberMap<T> {
-    ghost use Rattle.number_set.specs.NumberMap.{IsBelow};
+    ghost use Rattle.number_set.specs.NumberMap.{IsAt, IsBelow, IsGap, Puts, value_of};
 
     /// None. Takes no memory.
     pub fn new(alloc: Global) -> Self
@@ -48,69 +47,77 @@ impl<T: Copy> NumberMap<T> {
 
     /// What a number has.
     pub fn get(&self, number: u64) -> Option<T>
-        ensures { result ≡ lookup (is_at (nat_cmp number)) self.now }
+        ensures { result ≡ value_of number self.now }
     {
-        let place = self.count_below(number);
-        if self.stands_at(number, place) {
-            Some(self.items[place].1)
-        } else {
-            None
+        match self.place_of(number) {
+            Ok(place) => Some(self.items[place].1),
+            Err(_) => None,
         }
     }
 
     /// From now on the number has this value. After running out of memory nothing has changed.
     pub fn insert(&mut self, number: u64, value: T) -> Result<(), NoMemory>
         ensures ok { OnOk result (self.new ≡ insert_entry nat_cmp self.old number value) }
+        ensures puts { OnOk result (Puts number (Some value) self.old self.new) }
         ensures err { OnErr result (self.new ≡ self.old) }
     {
-        let place = self.count_below(number);
-        if self.stands_at(number, place) {
-            self.items.as_mut_slice()[place].1 = value;
-            return Ok(());
+        match self.place_of(number) {
+            Ok(place) => self.items[place] = (number, value),
+            Err(place) => self.items.insert(place, (number, value))?,
         }
-        self.items.insert(place, (number, value))?;
         Ok(())
     }
 
-    /// From now on a number that has a value has this one. Takes no memory.
+    /// From now on a number that has a value has this one; one that has none stays without. Takes no memory.
     pub fn set(&mut self, number: u64, value: T)
-        requires { IsSome (lookup (is_at (nat_cmp number)) self.old) }
-        ensures { self.new ≡ set_value (is_at (nat_cmp number)) self.old value }
+        ensures set { self.new ≡ set_value (is_at (nat_cmp number)) self.old value }
+        ensures puts { IsSome (value_of number self.old) → Puts number (Some value) self.old self.new }
     {
-        let place = self.count_below(number);
-        if self.stands_at(number, place) {
-            self.items.as_mut_slice()[place].1 = value;
+        if let Ok(place) = self.place_of(number) {
+            self.items[place] = (number, value);
         }
     }
 
     /// From now on the number has no value. Takes no memory.
     pub fn remove(&mut self, number: u64)
-        ensures { self.new ≡ remove_entry (is_at (nat_cmp number)) self.old }
+        ensures removed { self.new ≡ remove_entry (is_at (nat_cmp number)) self.old }
+        ensures puts { Puts number None self.old self.new }
+        ensures none { IsNone (value_of number self.old) → self.new ≡ self.old }
     {
-        let place = self.count_below(number);
-        if self.stands_at(number, place) {
+        if let Ok(place) = self.place_of(number) {
             let _ = self.items.remove(place);
         }
     }
 
-    // Whether a number stands at a place.
-    fn stands_at(&self, number: u64, place: usize) -> bool
-        ensures { result ≡ option_map_or (λ n. n == number) (slice_get (keys_of self.now) place) false }
+    // Where a number stands, or else where it would come.
+    fn place_of(&self, number: u64) -> Result<usize, usize>
+        ensures { MatchResult result (λ i. IsAt number i self.now) (λ i. IsGap number i self.now) }
     {
-        place < self.items.len() && self.items[place].0 == number
+        let place = self.count_below(number);
+        match self.items.get(place) {
+            Some(item) => {
+                if item.0 == number {
+                    Ok(place)
+                } else {
+                    Err(place)
+                }
+            }
+            None => Err(place),
+        }
     }
 
     // How many are below a number: all of them, where it is above the last.
     fn count_below(&self, number: u64) -> usize
         ensures { IsBelow number result self.now }
     {
-        match self.items.last() {
-            Some((last, _)) if *last >= number => {
-                self.items
-                    .as_slice()
-                    .partition_point(|item| item.0 < number)
-            }
-            _ => self.items.len(),
+        let Some(last) = self.items.last() else {
+            return 0;
+        };
+        if last.0 < number {
+            return self.items.len();
         }
+        self.items
+            .as_slice()
+            .partition_point(|item| item.0 < number)
     }
 }
