@@ -17,7 +17,6 @@ use Rattle.h2_session.specs.declared.act.Act.TheVariants as act
 use Rattle.h2_session.specs.declared.block.HeaderBlock.{HeaderBlock}
 use Rattle.h2_session.specs.declared.streams.Stream.{Stream}
 use Rattle.h2_session.proofs.BlockEnds.{Ends, LeavesEnded, block_gives, block_stands}
-use Rattle.h2_session.proofs.Came.{came_quiet}
 use Rattle.h2_session.proofs.Errors.{NoError, no_error, not_within}
 use Rattle.h2_session.proofs.Frames.{TakesFrom, started}
 

@@ -1,5 +1,5 @@
 // The entries of SETTINGS frames (RFC 9113 section 6.5.1).
-ghost use Rattle.std.specs.Prelude.{◌≡◌, ◌≤◌, ◌+◌, ◌-◌, ◌^◌, ◌∷◌, ◌||◌, length, nat_lt, not, IfOk};
+ghost use Rattle.std.specs.Prelude.{◌≡◌, ◌==◌, ◌≤◌, ◌+◌, ◌-◌, ◌^◌, ◌∷◌, ◌&&◌, ◌||◌, length, nat_lt, IfOk};
 ghost use Rattle.h2_session.specs.Errors.{names_outside, settings_of};
 
 use crate::act::{Setting, SettingList};
@@ -15,6 +15,11 @@ const MAX_FRAME_SIZE: u16 = 5;
 
 // The largest window of a stream.
 const MAX_WINDOW: u32 = 0x7fff_ffff;
+
+// How many octets of payload a frame may have at least and at most.
+const LEAST_FRAME_SIZE: u32 = 16_384;
+
+const GREATEST_FRAME_SIZE: u32 = 16_777_215;
 
 // The first entry, and the octets behind it.
 fn first_setting(entries: &[u8]) -> (Setting, &[u8])
@@ -46,11 +51,12 @@ pub fn read_settings(alloc: Global, entries: &[u8]) -> Result<SettingList, NoMem
     Ok(list)
 }
 
-// Whether frames may have so many octets of payload.
-fn is_frame_size(value: u32) -> bool
-    ensures { result ≡ not (nat_lt value 16384 || nat_lt 16777215 value) }
+// Whether an entry is of this number and has a value outside the range. There is no branch, since a frame may have many entries.
+#[inline(always)]
+fn is_outside(setting: Setting, id: u16, low: u32, high: u32) -> bool
+    ensures { result ≡ ((setting.id == id) && (nat_lt setting.value low || nat_lt high setting.value)) }
 {
-    (16_384..=16_777_215).contains(&value)
+    (setting.id == id) & ((setting.value < low) | (high < setting.value))
 }
 
 /// Of which of the settings that are looked at some entry has a value outside its range.
@@ -74,13 +80,14 @@ pub fn named_outside(entries: &[u8], most_push: u32) -> Outside
     let mut rest = entries;
     while rest.len() >= 6 {
         let (setting, after) = first_setting(rest);
-        let value = setting.value;
-        match setting.id {
-            ENABLE_PUSH => push = push || most_push < value,
-            INITIAL_WINDOW_SIZE => initial_window = initial_window || MAX_WINDOW < value,
-            MAX_FRAME_SIZE => frame_size = frame_size || !is_frame_size(value),
-            _ => {}
-        }
+        push |= is_outside(setting, ENABLE_PUSH, 0, most_push);
+        initial_window |= is_outside(setting, INITIAL_WINDOW_SIZE, 0, MAX_WINDOW);
+        frame_size |= is_outside(
+            setting,
+            MAX_FRAME_SIZE,
+            LEAST_FRAME_SIZE,
+            GREATEST_FRAME_SIZE,
+        );
         rest = after;
     }
     Outside {
