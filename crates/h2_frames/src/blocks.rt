@@ -1,6 +1,7 @@
 // A field block in HEADERS and CONTINUATION frames.
-ghost use Rattle.std.specs.Prelude.{◌≡◌, ◌++◌, ◌<◌, ◌≤◌, ◌^◌, ℕ, List, length, take, OnErr, OnOk};
+ghost use Rattle.std.specs.Prelude.{◌≡◌, ◌++◌, ◌+◌, ◌<◌, ◌≤◌, ◌^◌, ℕ, List, length, take, OnErr, OnOk};
 ghost use Rattle.h2_frames.specs.Blocks.{block_frames, continued, pieces, spellings};
+ghost use Rattle.h2_frames.specs.Spelling.{flag_when};
 
 use crate::types::{END_HEADERS, END_STREAM, Frame, HEADERS};
 use crate::writing::{frame_head, write_frame};
@@ -17,8 +18,18 @@ pub fn block_head(stream: u32, n: u32, last: bool) -> [u8; 9]
     requires few { n ≤ 16384 }
     ensures { (block : List ℕ) → length block ≡ n → result ++ block ≡ spellings (block_frames stream last block) }
 {
-    let ended = if last { END_STREAM } else { 0 };
-    frame_head(n, HEADERS, END_HEADERS + ended, stream)
+    frame_head(n, HEADERS, flags_of_whole(last), stream)
+}
+
+// The flags of HEADERS with a whole block.
+fn flags_of_whole(last: bool) -> u8
+    ensures { result ≡ flag_when 0x1 last + 0x4 }
+{
+    if last {
+        END_STREAM + END_HEADERS
+    } else {
+        END_HEADERS
+    }
 }
 
 /// Appends the frames of a field block on a stream: HEADERS, with END_STREAM where it is the last

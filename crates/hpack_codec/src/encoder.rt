@@ -56,6 +56,7 @@ impl Encoder {
         ensures ok { OnOk result (self.new ≡ false) }
         ensures err { OnErr result (self.new ≡ self.old) }
     {
+        fields.has_spelling();
         let mut out = Vec::with_capacity(self.alloc, fields.size().saturating_add(1))?;
         self.encode_onto(fields, &mut out)?;
         Ok(Octets::from_vec(out))
@@ -64,7 +65,7 @@ impl Encoder {
     /// Appends the block of a list, as `encode` gives it. After running out of memory the encoder is as it was.
     pub fn encode_onto(&mut self, fields: &FieldList, out: &mut Vec<u8>) -> Result<(), NoMemory>
         ensures spelling { OnOk result (out.new.items ≡ out.old.items ++ encode_block self.old fields.now) }
-        ensures bound { length (encode_block self.old fields.now) ≤ list_size fields.now + 1 }
+        ensures bound { OnOk result (length (encode_block self.old fields.now) ≤ list_size fields.now + 1) }
         ensures ok { OnOk result (self.new ≡ false) }
         ensures err { OnErr result (self.new ≡ self.old) }
     {

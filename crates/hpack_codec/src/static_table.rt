@@ -193,14 +193,22 @@ pub(crate) fn static_entry(place: usize) -> Row
     }
 }
 
+/// The places in a row.
+fn row_at<'a>(rows: &[&'a [u8]], len: usize) -> &'a [u8]
+    requires { len < length rows.now }
+    ensures { result.now ≡ slice_index_or (map (λ row. row.now) rows.now) len [] }
+{
+    rows[len]
+}
+
 /// The places of the entries whose names have so many octets, in their order.
 fn places_of(len: usize) -> &'static [u8]
     ensures { result.now ≡ places_of len }
 {
-    match BY_LENGTH.get(len) {
-        Some(places) => places,
-        None => &[],
+    if len < BY_LENGTH.len() {
+        return row_at(&BY_LENGTH, len);
     }
+    &[]
 }
 
 /// The lowest index of an entry with this name.

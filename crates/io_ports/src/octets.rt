@@ -32,13 +32,14 @@ impl<T: Drop> From<AllocFailed<T>> for NoMemory {
 }
 
 /// So many octets need no block of memory.
-const FEW: usize = 22;
+const FEW: usize = 16;
 
 /// Where octets are kept.
 #[derive(Debug)]
 pub(crate) enum Store {
-    /// Here: the first so many of these.
-    Few { octets: [u8; FEW], len: u8 },
+    /// Here: the first so many of these. The length stands first and there are sixteen, so that both lie as the words of the
+    /// other variants do: a processor stalls where it reads a word that was written in other pieces.
+    Few { len: u32, octets: [u8; FEW] },
     /// In a block of memory of their own.
     Own(Vec<u8>),
     /// In the program.
@@ -55,7 +56,7 @@ impl Drop for Store {
             Store::Own(bytes) => drop(bytes),
             Store::Shared { block, len: _ } => drop(block),
             Store::Fixed(_) => {}
-            Store::Few { octets: _, len: _ } => {}
+            Store::Few { len: _, octets: _ } => {}
         }
     }
 }
@@ -75,14 +76,14 @@ impl Store {
 
     /// A copy of few octets.
     fn few(octets: &[u8]) -> Self
-        requires { length octets.now ≤ 22 }
+        requires { length octets.now ≤ 16 }
         ensures { (stored result ≡ octets.now) × Reaches result }
     {
         let mut few = [0; FEW];
         few[..octets.len()].copy_from_slice(octets);
         Store::Few {
+            len: octets.len() as u32,
             octets: few,
-            len: octets.len() as u8,
         }
     }
 
@@ -97,7 +98,7 @@ impl Store {
                 let block = Arc::new(alloc, bytes)?;
                 Ok(Store::Shared { block, len })
             }
-            Store::Few { octets, len } => Ok(Store::Few { octets, len }),
+            Store::Few { len, octets } => Ok(Store::Few { len, octets }),
             Store::Fixed(octets) => Ok(Store::Fixed(octets)),
             Store::Shared { block, len } => Ok(Store::Shared { block, len }),
         }
@@ -140,7 +141,7 @@ impl Octets {
         }
     }
 
-    /// A copy of the octets of a slice. Of at most 22 octets it takes no memory.
+    /// A copy of the octets of a slice. Of at most 16 octets it takes no memory.
     pub fn from_slice(alloc: Global, octets: &[u8]) -> Result<Self, NoMemory>
         ensures { IfOk result (λ made. made ≡ octets.now) }
     {
@@ -176,9 +177,9 @@ impl Octets {
     {
         let store = match &self.store {
             Store::Own(bytes) => Store::copy_of(self.alloc, bytes.as_slice())?,
-            Store::Few { octets, len: few } => Store::Few {
-                octets: *octets,
+            Store::Few { len: few, octets } => Store::Few {
                 len: *few,
+                octets: *octets,
             },
             Store::Fixed(octets) => Store::Fixed(octets),
             Store::Shared { block, len } => Store::Shared {
@@ -220,7 +221,7 @@ impl Octets {
     {
         match &mut self.store {
             Store::Own(bytes) => bytes.truncate(len),
-            Store::Few { len: all, .. } => *all = len.min(usize::from(*all)) as u8,
+            Store::Few { len: all, .. } => *all = len.min(*all as usize) as u32,
             Store::Fixed(octets) => *octets = front(octets, len),
             Store::Shared { len: all, .. } => *all = len.min(*all),
         }
@@ -231,7 +232,7 @@ impl Octets {
     {
         match &self.store {
             Store::Own(bytes) => bytes.as_slice(),
-            Store::Few { octets, len } => front(octets, usize::from(*len)),
+            Store::Few { len, octets } => front(octets, *len as usize),
             Store::Fixed(octets) => octets,
             Store::Shared { block, len } => front(block.as_slice(), *len),
         }
@@ -242,7 +243,7 @@ impl Octets {
     {
         match &self.store {
             Store::Own(bytes) => bytes.len(),
-            Store::Few { len, .. } => usize::from(*len),
+            Store::Few { len, .. } => *len as usize,
             Store::Fixed(octets) => octets.len(),
             Store::Shared { len, .. } => *len,
         }
