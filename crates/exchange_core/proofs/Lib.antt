@@ -21,6 +21,7 @@ pub mod Outcomes
 pub mod PlainStreams
 pub mod Receiving
 pub mod Refilled
+pub mod Renewed
 pub mod Ruled
 pub mod Seeing
 pub mod Sparing

@@ -91,8 +91,7 @@ impl Flow {
         ensures begun { IfOk result (λ fits. fits ≡ true → self.new ≡ begun_flow id [] spec.entry.now multiple) }
         ensures sound { IsSound self.new }
     {
-        let is_fit = self.quantum == spec.quantum && self.chain.renew(id, spec.send, spec.now);
-        if !is_fit {
+        if self.quantum != spec.quantum || !self.chain.renew(id, spec.send, spec.now) {
             return Ok(false);
         }
         let held = self.recv.len();

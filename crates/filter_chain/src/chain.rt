@@ -83,14 +83,14 @@ impl Chain {
         ensures sound { IsSound self.new }
         ensures same { result ≡ false → self.new ≡ self.old }
     {
-        let is_fit = empty_alone(&mut self.stages, send_limit);
-        if is_fit {
+        if empty_alone(&mut self.stages, send_limit) {
             self.flow = flow;
             self.clock = Clock::new(now);
             self.ended = false;
             self.recv_empty = false;
+            return true;
         }
-        is_fit
+        false
     }
 
     /// The flow whose octets these are.
