@@ -51,6 +51,7 @@ impl Unread {
     }
 
     /// Appends octets. After running out of memory the octets are as they were.
+    #[tactic(auto, using(crate::proofs::Joined::none_before))]
     pub fn push_all(&mut self, more: &Octets) -> Result<(), NoMemory>
         ensures ok { OnOk result (self.new ≡ self.old ++ more.now) }
         ensures err { OnErr result (self.new ≡ self.old) }

@@ -54,7 +54,10 @@ impl Stirred {
             Some(before) => self.conns.next_above(u64::from(before)),
             None => self.conns.first(),
         };
-        u32::try_from(first?).ok()
+        match u32::try_from(first?) {
+            Ok(conn) if conn >= from => Some(conn),
+            _ => None,
+        }
     }
 
     /// A connection is left out from now on.
