@@ -91,7 +91,10 @@ impl Flow {
         ensures begun { IfOk result (λ fits. fits ≡ true → self.new ≡ begun_flow id [] spec.entry.now multiple) }
         ensures sound { IsSound self.new }
     {
-        if self.quantum != spec.quantum || !self.chain.renew(id, spec.send, spec.now) {
+        if self.quantum != spec.quantum {
+            return Ok(false);
+        }
+        if !self.chain.renew(id, spec.send, spec.now) {
             return Ok(false);
         }
         let held = self.recv.len();
