@@ -56,7 +56,7 @@ impl Exchange {
         ensures sound { IfOk result (IsSoundExchange number spec.entry.now.now) }
     {
         let none = FilterList::new(alloc);
-        let filters = filters_of(&none, config, spec.row, false);
+        let filters = filters_of(&none, &*config, spec.row, false);
         let id = FlowId::request(number);
         let request = spares.begun(id, filters, spec, multiple_of(spec, config))?;
         let response = Self::response(spares, number, spec, config, &none)?;
