@@ -119,16 +119,18 @@ const FRAME_HEAD: usize = 9;
 // The greatest payload that every peer takes (RFC 9113 section 4.2).
 const PIECE: usize = 16_384;
 
-// The head of the one frame of a block is written before it.
+// Writes the head of the one frame of a block before the block, where there are nine octets for it.
 fn write_head(octets: &mut [u8], stream: u32, last: bool)
     requires on_stream { 0 < stream }
     requires fits { stream < 2 ^ 31 }
     requires head { 9 ≤ length octets.old }
     requires few { length octets.old ≤ 16393 }
-    ensures { octets.new ≡ spellings (block_frames stream last (drop 9 octets.old)) }
+    ensures len { length octets.new ≡ length octets.old }
+    ensures frame { octets.new ≡ spellings (block_frames stream last (drop 9 octets.old)) }
 {
-    let (head, block) = octets.split_at_mut(FRAME_HEAD);
-    head.copy_from_slice(&block_head(stream, block.len() as u32, last));
+    let n = octets.len() - FRAME_HEAD;
+    let head = block_head(stream, n as u32, last);
+    octets[..FRAME_HEAD].copy_from_slice(&head);
 }
 
 // The frames of a block.
