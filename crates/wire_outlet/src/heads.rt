@@ -1,5 +1,5 @@
 // Field lists as HEADERS and CONTINUATION frames.
-ghost use Rattle.std.specs.Prelude.{◌≡◌, ◌≤◌, ◌<◌, ◌^◌, drop, length, true, IfOk, OnErr, OnOk, false};
+ghost use Rattle.std.specs.Prelude.{◌≡◌, ◌≤◌, ◌<◌, ◌++◌, ◌^◌, drop, length, true, IfOk, OnErr, OnOk, false};
 ghost use Rattle.h2_frames.specs.Blocks.{block_frames, spellings};
 ghost use Rattle.hpack_codec.specs.Sections.{list_size};
 ghost use Rattle.wire_outlet.specs.Heads.{head_most, head_octets};
@@ -130,7 +130,15 @@ fn write_head(octets: &mut [u8], stream: u32, last: bool)
 {
     let n = octets.len() - FRAME_HEAD;
     let head = block_head(stream, n as u32, last);
-    octets[..FRAME_HEAD].copy_from_slice(&head);
+    write_front(octets, &head);
+}
+
+// Writes octets over the first of a slice.
+fn write_front(octets: &mut [u8], front: &[u8])
+    requires { length front.now ≤ length octets.old }
+    ensures { octets.new ≡ front.now ++ drop (length front.now) octets.old }
+{
+    octets[..front.len()].copy_from_slice(front);
 }
 
 // The frames of a block.

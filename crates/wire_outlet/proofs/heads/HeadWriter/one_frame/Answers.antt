@@ -14,7 +14,8 @@ returns-clause-octets c =
     let vec = c.encode_onto.new.out in
     let new = c.write_head.new.octets in
     let tail = drop (length new) vec.items in
-    let zeros : length before ≡ 9 = omega (arith, ap length c.in_ok-extend_from_slice.ensures.items, ap length c.in_ok-octets.ensures.items) in
+    let zeros : length before ≡ 9 =
+    ap length c.in_ok-extend_from_slice.ensures.items ∙ length-append c.in_ok-octets.octets.items _ ∙ ap (λ x. length x + 9) c.in_ok-octets.ensures.items in
     let block : drop 9 vec.items ≡ encode_block c.args.self.now fields =
     behind_nine before _ vec.items zeros c.in_ok-encode_onto.ensures.spelling ∙ ap (λ anew. encode_block anew fields) (c.self.invariant ∙ c.self.view_is) in
     let long : vec.len ≡ length new = omega (arith, c.write_head.ensures.len, c.as_mut_slice.ensures.len) in
@@ -25,7 +26,8 @@ pub write_head-requires : goal.write_head-requires
 write_head-requires c =
     let fields = c.args.fields.now in
     let before = c.extend_from_slice.new.self.items in
-    let zeros : length before ≡ 9 = omega (arith, ap length c.in_ok-extend_from_slice.ensures.items, ap length c.in_ok-octets.ensures.items) in
+    let zeros : length before ≡ 9 =
+    ap length c.in_ok-extend_from_slice.ensures.items ∙ length-append c.in_ok-octets.octets.items _ ∙ ap (λ x. length x + 9) c.in_ok-octets.ensures.items in
     let most : length (encode_block c.self.inside.encoder fields) ≤ list_size fields + 1 = c.in_ok-encode_onto.ensures.bound in
     let all = ap length c.in_ok-encode_onto.ensures.spelling ∙ length-append before (encode_block c.self.inside.encoder fields) in
     let same = ap length c.as_mut_slice.ensures.value in record {
