@@ -16,7 +16,8 @@ pub fn block_head(stream: u32, n: u32, last: bool) -> [u8; 9]
     requires on_stream { 0 < stream }
     requires fits { stream < 2 ^ 31 }
     requires few { n ≤ 16384 }
-    ensures { (block : List ℕ) → length block ≡ n → result ++ block ≡ spellings (block_frames stream last block) }
+    ensures len { length result ≡ 9 }
+    ensures frame { (block : List ℕ) → length block ≡ n → result ++ block ≡ spellings (block_frames stream last block) }
 {
     frame_head(n, HEADERS, flags_of_whole(last), stream)
 }

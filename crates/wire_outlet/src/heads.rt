@@ -1,5 +1,5 @@
 // Field lists as HEADERS and CONTINUATION frames.
-ghost use Rattle.std.specs.Prelude.{◌≡◌, ◌≤◌, ◌<◌, ◌^◌, drop, length, true, IfOk, OnErr, OnOk, false};
+ghost use Rattle.std.specs.Prelude.{◌≡◌, ◌≤◌, ◌<◌, ◌++◌, ◌^◌, drop, length, true, IfOk, OnErr, OnOk, false};
 ghost use Rattle.h2_frames.specs.Blocks.{block_frames, spellings};
 ghost use Rattle.hpack_codec.specs.Sections.{list_size};
 ghost use Rattle.wire_outlet.specs.Heads.{head_most, head_octets};
@@ -119,16 +119,26 @@ const FRAME_HEAD: usize = 9;
 // The greatest payload that every peer takes (RFC 9113 section 4.2).
 const PIECE: usize = 16_384;
 
-// The head of the one frame of a block is written before it.
+// Writes the head of the one frame of a block before the block, where there are nine octets for it.
 fn write_head(octets: &mut [u8], stream: u32, last: bool)
     requires on_stream { 0 < stream }
     requires fits { stream < 2 ^ 31 }
     requires head { 9 ≤ length octets.old }
     requires few { length octets.old ≤ 16393 }
-    ensures { octets.new ≡ spellings (block_frames stream last (drop 9 octets.old)) }
+    ensures len { length octets.new ≡ length octets.old }
+    ensures frame { octets.new ≡ spellings (block_frames stream last (drop 9 octets.old)) }
 {
-    let (head, block) = octets.split_at_mut(FRAME_HEAD);
-    head.copy_from_slice(&block_head(stream, block.len() as u32, last));
+    let n = octets.len() - FRAME_HEAD;
+    let head = block_head(stream, n as u32, last);
+    write_front(octets, &head);
+}
+
+// Writes octets over the first of a slice.
+fn write_front(octets: &mut [u8], front: &[u8])
+    requires { length front.now ≤ length octets.old }
+    ensures { octets.new ≡ front.now ++ drop (length front.now) octets.old }
+{
+    octets[..front.len()].copy_from_slice(front);
 }
 
 // The frames of a block.
