@@ -20,10 +20,11 @@ use worker_ports::Wired;
 /// The limit of each write buffer.
 const LIMIT: u32 = 1_048_576;
 
-/// The turns of a round, and the rounds.
+/// The turns of a round.
 const TURNS: u32 = 256;
 
-const ROUNDS: u32 = 64;
+/// The rounds: so many that the record of the connections, which grows by doubling, weighs little in a turn.
+const ROUNDS: u32 = 1_024;
 
 /// The idle pairs.
 const IDLE: u32 = 10_000;

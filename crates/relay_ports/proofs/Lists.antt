@@ -93,6 +93,11 @@ held_found c ((n, b) ∷ taps) r = by_test (nat_eq c n)
     or_and true x y e = sym (ap (λ z. z || y) e)
     or_and false x y e = refl
 
+-- live, and not held
+pub free_found : (c : ℕ) (taps : List Tap) → Rises taps
+    → (is_some (lookup (is_at (nat_cmp c)) taps) && not (or_not (lookup (is_at (nat_cmp c)) taps))) ≡ (list_any (nat_eq c) (live_in taps) && not (list_any (nat_eq c) (held_in taps)))
+free_found c taps r = λ i. some_live c taps i && not (held_found c taps r i)
+
 -- ---- one more
 pub live_more : (c : ℕ) (taps : List Tap) → live_in (taps ++ (c, false) ∷ []) ≡ live_in taps ++ c ∷ []
 live_more c [] = refl

@@ -1,6 +1,6 @@
 // The live connections, in the order of their numbers, each with whether it is held.
 ghost use Rattle.std.specs.List.{AllByRecursion, list_any};
-ghost use Rattle.std.specs.Prelude.{◌≡◌, ◌<◌, ◌≤◌, ◌+◌, ◌++◌, ◌∷◌, [], OnErr, OnOk, false, if◌then◌else◌, length, nat_eq, ℕ};
+ghost use Rattle.std.specs.Prelude.{◌≡◌, ◌<◌, ◌≤◌, ◌+◌, ◌++◌, ◌∷◌, ◌&&◌, [], OnErr, OnOk, false, if◌then◌else◌, length, nat_eq, not, ℕ};
 ghost use Rattle.relay_ports.specs.Memory.{AreMost, Rises, Tap, held_as, held_in, live_in, without_tap};
 
 use io_ports::NoMemory;
@@ -20,6 +20,17 @@ pub(crate) fn is_held(taps: &BTreeMap<u32, bool>, conn: u32) -> bool
 {
     match taps.get(&conn) {
         Some(held) => *held,
+        None => false,
+    }
+}
+
+/// Whether a connection is live and isn't held.
+pub(crate) fn is_free(taps: &BTreeMap<u32, bool>, conn: u32) -> bool
+    requires { Rises taps.now.entries }
+    ensures { result ≡ (list_any (nat_eq conn) (live_in taps.now.entries) && not (list_any (nat_eq conn) (held_in taps.now.entries))) }
+{
+    match taps.get(&conn) {
+        Some(held) => !*held,
         None => false,
     }
 }

@@ -1,5 +1,5 @@
 // Connections in memory, of which each may be held.
-ghost use Rattle.std.specs.Prelude.{◌≡◌, ◌≤◌, ◌||◌, ◌+◌, ◌++◌, ◌∷◌, [], Err, IfOk, OnErr, OnOk, false, if◌then◌else◌, is_err, length, min, not, true};
+ghost use Rattle.std.specs.Prelude.{◌≡◌, ◌≤◌, ◌||◌, ◌&&◌, ◌+◌, ◌++◌, ◌∷◌, [], Err, IfOk, OnErr, OnOk, false, if◌then◌else◌, is_err, length, min, not, true};
 ghost use Rattle.std.specs.Io.{WritesAtMost};
 ghost use Rattle.io_ports.specs.Faults.{FailsByFault, Rose};
 ghost use Rattle.io_ports.specs.Memory.{counted, is_to_fail};
@@ -9,7 +9,7 @@ ghost use Rattle.relay_ports.specs.Memory.{AreMost, IsAbove, Rises, answer_of, c
 ghost use Rattle.worker_ports.specs.Wires.{Gives, MayCome, closed, greatest_after, is_held, is_live, offered};
 ghost use Rattle.worker_ports.specs.declared.wires.WireRefusal.TheVariants as refusal;
 
-use crate::live::{has, hold, insert, is_held, remove};
+use crate::live::{has, hold, insert, is_free, is_held, remove};
 use crate::taps::Taps;
 use io_ports::{Failed, NoMemory};
 use mem_ports::{Kept, Room, Steps};
@@ -140,6 +140,13 @@ impl MemTaps {
         self.faults = self.faults.saturating_add(1);
     }
 
+    // Whether a connection is live and isn't held.
+    fn is_free(&self, conn: u32) -> bool
+        ensures { result ≡ (is_live conn (seen_of self.now) && not (is_held conn (seen_of self.now))) }
+    {
+        is_free(&self.taps, conn)
+    }
+
     // Whether an answer may come next.
     fn may_come(&self, wired: &Wired) -> bool
         ensures { result ≡ may_come (seen_of self.now) wired.now }
@@ -148,10 +155,7 @@ impl MemTaps {
             Wired::Accept(conn) => self.greatest < *conn,
             Wired::Join(conn, cluster) => self.greatest < *conn && *cluster < self.clusters,
             Wired::Read(conn, octets) => {
-                self.is_live(*conn)
-                    && !self.is_held(*conn)
-                    && !octets.is_empty()
-                    && octets.len() <= MOST_READ
+                self.is_free(*conn) && !octets.is_empty() && octets.len() <= MOST_READ
             }
             Wired::Lost(conn) => self.is_live(*conn),
             Wired::Idle | Wired::Stop => true,

@@ -4,8 +4,9 @@ use Rattle.flow_notes.specs.declared.notes.Note.{Note}
 use Rattle.relay_laws.specs.Dispatch.{dispatch_notes}
 use Rattle.relay_laws.specs.Pairs.{Tape, feed}
 use Rattle.relay_work.proofs.Settled.{belong_all}
-use Rattle.relay_work.proofs.Touching.{unsettled}
-use Rattle.relay_work.specs.Carrying.{Carries, CarriesFrom, IsReady}
+use Rattle.relay_work.proofs.Staying.{belong_still, parted}
+use Rattle.relay_work.proofs.Steps.{told_none}
+use Rattle.relay_work.specs.Carrying.{Carries, CarriesFrom, IsReady, PartsFrom, parting_of}
 use Rattle.relay_work.specs.Dispatching.{CanTake, KeepsLine, LineCut, Taken, Takes, TakesFrom, line_of}
 use Rattle.relay_work.specs.Live.{Live, live_of}
 use Rattle.relay_work.specs.Settling.{SettlesFrom, SettlesOne, Unsettled, others, peer_in}
@@ -19,18 +20,22 @@ use Rattle.std.specs.Io.KnownBytes.{Appends}
 use Rattle.std.specs.Prelude.{Err, List, None, Ok, Option, Result, [], false, ℕ, ◌∷◌, ◌≡◌, ◌≤◌}
 use Rattle.tape_laws.specs.Dispatches.{events_back}
 use Rattle.tape_laws.specs.History.{onto}
-use Rattle.tcp_relay.specs.Rests.{GoesOn, GoesOnFrom, RefusesFrom, Rests, ShowsPeer}
+use Rattle.tcp_relay.specs.Interests.{AreKept, KeepsInterests, TellsInterests}
+use Rattle.tcp_relay.specs.Rests.{GoesOn, GoesOnFrom, RefusesFrom, Rests}
 use Rattle.tcp_relay.specs.Turns.{HasFailed, Refuses}
 use Rattle.tcp_relay.specs.declared.fault.RelayFault.{RelayFault}
+use Rattle.tcp_relay.specs.declared.interests.Interests.{Interests}
 use Rattle.tcp_relay.specs.declared.relay.Relay.{Relay}
 use Rattle.worker_ports.specs.Wires.{Seen}
 use Rattle.relay_work.specs.declared.ended.RelayEnded.TheVariants as ended
 use Rattle.tcp_relay.specs.declared.fault.RelayFault.TheVariants as fault
+use Rattle.tcp_relay.specs.declared.interests.Interests.TheVariants as interests
 
 module _ (names : List (List ℕ)) (old : Relay) (text_old text_new : Option (List ℕ)) (e : Event) (new : Relay) (after : List Note) where
   -- ---- the relay's answers
-  pub takes_ok : GoesOnFrom old [] e new after → Appends text_old text_new (line_of names e) → TakesFrom names old text_old e (Ok tt) new text_new
-  takes_ok k a = record {
+  pub takes_ok : (answer : Interests) → GoesOnFrom old [] e new after → TellsInterests old e answer → Appends text_old text_new (line_of names e)
+      → TakesFrom names old text_old e (Ok answer) new text_new
+  takes_ok answer k tells a = record {
     goes = λ limit h m.
         let g : GoesOn limit names [] e new after h = k.goes limit names h m.rests m.may in
         let is : onto after h ≡ onto (dispatch_notes limit e h) h = ap (λ (v : List Note). onto v h) g.notes in (
@@ -39,6 +44,7 @@ module _ (names : List (List ℕ)) (old : Relay) (text_old text_new : Option (Li
             shown = ap (λ (v : Tape). events_back v) (sym is) ∙ g.shows;
           },
           a,
+          tells.goes limit names h m.rests m.may,
         );
   }
 
@@ -51,7 +57,7 @@ module _ (names : List (List ℕ)) (old : Relay) (text_old text_new : Option (Li
     };
   }
 
-  pub never_paused : (result : Result (Unit {0}) RelayFault) (held : ℕ) → CanTake names old e → RefusesFrom old [] e result new [] → result ≡ Err (fault.Paused held) → ⊥
+  pub never_paused : (result : Result Interests RelayFault) (held : ℕ) → CanTake names old e → RefusesFrom old [] e result new [] → result ≡ Err (fault.Paused held) → ⊥
   never_paused result held c k is = (subst (λ (o : Option ℕ). Refuses o old [] result new []) c.takes.free (k.goes c.limit names c.tape c.takes.rests)) held is
 
 pub well : (names : List (List ℕ)) (old : Relay) (e : Event) → CanTake names old e → HasFailed old false
@@ -86,14 +92,29 @@ pub line_cut : (line : List ℕ) (old new : Option (List ℕ)) (text : List ℕ)
 line_cut line old new text e f = record { front = f.front; rest = f.rest; is = sym e ∙ f.is; text = f.appends }
 
 -- ---- it is carried out
-pub carries_ok : (names : List (List ℕ)) (c : ℕ) (e : Event) (old : Live) (relay : Relay) (seen : Seen) (text : Option (List ℕ)) (was : Option ℕ)
-    → ShowsPeer old.relay c was → TakesFrom names old.relay old.text e (Ok tt) relay text → SettlesFrom relay old.seen c was seen
-    → CarriesFrom names c e old (Ok tt) (live_of relay seen text)
-carries_ok names c e old relay seen text was p t s = record {
+pub carries_kept : (names : List (List ℕ)) (c : ℕ) (e : Event) (old : Live) (relay : Relay) (text : Option (List ℕ))
+    → TakesFrom names old.relay old.text e (Ok interests.Kept) relay text → CarriesFrom names c e old (Ok tt) (live_of relay old.seen text)
+carries_kept names c e old relay text t = record {
   goes = λ limit h r.
-      let k : Taken limit names e h relay × Appends old.text text (line_of names e) = t.goes limit h r.takes in
+      let k : Taken limit names e h relay × Appends old.text text (line_of names e) × KeepsInterests limit e h = t.goes limit h r.takes in
+      record {
+        closes = [];
+        told = told_none old.seen.steps;
+        over = tt;
+        text = k.1;
+        shown = k.0.shown;
+        belong = belong_still limit names old.relay relay old.seen c e h r k.0 k.2;
+      };
+}
+
+pub carries_ok : (names : List (List ℕ)) (c : ℕ) (e : Event) (old : Live) (relay : Relay) (seen : Seen) (text : Option (List ℕ)) (was : Option ℕ) (answer : Interests)
+    → PartsFrom old.relay e was → TakesFrom names old.relay old.text e (Ok answer) relay text → SettlesFrom relay old.seen c was seen
+    → CarriesFrom names c e old (Ok tt) (live_of relay seen text)
+carries_ok names c e old relay seen text was answer p t s = record {
+  goes = λ limit h r.
+      let k : Taken limit names e h relay × Appends old.text text (line_of names e) × AreKept answer limit e h = t.goes limit h r.takes in
       let next : Tape = onto (dispatch_notes limit e h) h in
-      let u : Unsettled limit names relay old.seen (c ∷ others (peer_in (feed c h)) (peer_in (feed c next))) next = unsettled limit names old.relay relay old.seen c e h r k.0 in
+      let u : Unsettled limit names relay old.seen (c ∷ others (parting_of e h) (peer_in (feed c next))) next = parted limit names old.relay relay old.seen c e h r k.0 in
       let v : Unsettled limit names relay old.seen (c ∷ others was (peer_in (feed c next))) next =
       subst (λ (o : Option ℕ). Unsettled limit names relay old.seen (c ∷ others o (peer_in (feed c next))) next) (sym (p.goes limit names h r.takes.rests)) u in
       let one : SettlesOne limit names relay old.seen [] next seen = s.goes limit names next v in

@@ -3,11 +3,11 @@ use Rattle.flow_notes.specs.declared.events.Event.{Event}
 use Rattle.relay_laws.specs.declared.feed.Feed.{Feed}
 use Rattle.relay_work.specs.Settling.{peer_in}
 use Rattle.std.proofs.Common.{ap, refl, subst, sym, ◌∙◌}
-use Rattle.std.specs.Prelude.{Bool, List, None, Option, Some, [], false, if◌then◌else◌, is_some, option_map, true, ℕ, ◌+◌, ◌==◌, ◌∷◌, ◌≡◌}
+use Rattle.std.specs.Prelude.{Bool, List, None, Option, Some, [], drop, false, if◌then◌else◌, is_none, is_some, length, not, option_map, true, ℕ, ◌&&◌, ◌+◌, ◌==◌, ◌∷◌, ◌≡◌}
 use Rattle.tape_laws.specs.Dispatches.{is_some_of}
-use Rattle.tcp_relay.proofs.Tests.{by_case, if_false, if_true, not_both, same_number}
+use Rattle.tcp_relay.proofs.Tests.{and_right, by_case, if_false, if_true, not_both, number_is, same_number}
 use Rattle.tcp_relay.specs.Board.{Board, accepted, board_after, carried, change, is_over, left, lost, parted, parted_from, put, request_feed, response_feed, without}
-use Rattle.tcp_relay.specs.Lines.{Line, added, dropped, fed, feeds_of, new_line, taken_of}
+use Rattle.tcp_relay.specs.Lines.{Line, added, dropped, fed, feeds_of, holding, leaving, new_line, taken_of}
 use Rattle.tcp_relay.specs.declared.conns.Taken.{Taken}
 use Rattle.flow_notes.specs.declared.events.Event.TheVariants as event
 
@@ -160,3 +160,54 @@ gone_closed c b = lost_closed c (b.lines c) b refl
 pub accepted_feeds : (c f : ℕ) (fs : List ℕ) (b : Board) → (f == c) ≡ false → peer_in (feeds_of ((accepted c (f ∷ fs) b).lines c)) ≡ Some f
 accepted_feeds c f fs b n =
     ap (λ (l : Option Line). peer_in (feeds_of l)) (if_false (f == c) _ _ n ∙ if_true (c == c) (Some (new_line b.limit (Some (request_feed (b.pairs + 1) f)))) (b.lines c) (same_number c))
+
+-- ---- a read and room leave what a connection feeds
+added_feeds : (octets : List ℕ) (l : Option Line) → feeds_of (option_map (added octets) l) ≡ feeds_of l
+added_feeds octets None = refl
+added_feeds octets (Some l) = refl
+
+pub read_feeds : (octets : List ℕ) (d : ℕ) (f : Option Feed) (b : Board) → feeds_of ((carried octets f b).lines d) ≡ feeds_of (b.lines d)
+read_feeds octets d None b = refl
+read_feeds octets d (Some f) b = by_case (f.to == d)
+    (λ t. ap (λ (l : Option Line). feeds_of l) (if_true (f.to == d) (option_map (added octets) (b.lines d)) (b.lines d) t) ∙ added_feeds octets (b.lines d))
+    (λ n. ap (λ (l : Option Line). feeds_of l) (if_false (f.to == d) (option_map (added octets) (b.lines d)) (b.lines d) n))
+
+dropped_feeds : (n : ℕ) (l : Line) → (dropped n l).feeds ≡ l.feeds
+dropped_feeds n l = by_case (leaving n l == 0)
+    (λ t. ap (λ (v : Line). v.feeds) (if_true (leaving n l == 0) l (holding (drop (leaving n l) l.octets) l) t))
+    (λ f. ap (λ (v : Line). v.feeds) (if_false (leaving n l == 0) l (holding (drop (leaving n l) l.octets) l) f))
+
+none_is : (o : Option Feed) → is_none o ≡ true → None ≡ o
+none_is None e = refl
+none_is (Some f) e = cc
+
+-- one that is closed by it fed nothing
+over_feeds : (n : ℕ) (l : Line) (empty : Bool) → feeds_of (if empty && is_none l.feeds then None else Some (dropped n l)) ≡ l.feeds
+over_feeds n l empty = by_case (empty && is_none l.feeds)
+    (λ t. ap (λ (o : Option Line). feeds_of o) (if_true (empty && is_none l.feeds) None (Some (dropped n l)) t) ∙ none_is l.feeds (and_right empty (is_none l.feeds) t))
+    (λ f. ap (λ (o : Option Line). feeds_of o) (if_false (empty && is_none l.feeds) None (Some (dropped n l)) f) ∙ dropped_feeds n l)
+
+abbrev left_line : ℕ → Line → Taken
+left_line n l = record {
+  n = leaving n l;
+  drained = l.above && not (dropped n l).above;
+  is_empty = length (dropped n l).octets == 0;
+  feeds = l.feeds;
+}
+
+some_feeds : (c n : ℕ) (l : Line) (b : Board) → b.lines c ≡ Some l → feeds_of ((left c n (Some (left_line n l)) b).lines c) ≡ feeds_of (b.lines c)
+some_feeds c n l b e =
+    ap (λ (o : Option Line). feeds_of o) (if_true (c == c) (if is_over (left_line n l) then None else option_map (dropped n) (b.lines c)) (b.lines c) (same_number c)
+    ∙ ap (λ (o : Option Line). if is_over (left_line n l) then None else option_map (dropped n) o) e)
+    ∙ over_feeds n l (left_line n l).is_empty ∙ sym (ap (λ (o : Option Line). feeds_of o) e)
+
+here_feeds : (c n : ℕ) (o : Option Line) (b : Board) → b.lines c ≡ o → feeds_of ((left c n (taken_of n o) b).lines c) ≡ feeds_of (b.lines c)
+here_feeds c n None b e = refl
+here_feeds c n (Some l) b e = by_case (leaving n l == 0)
+    (λ t. ap (λ (v : Option Taken). feeds_of ((left c n v b).lines c)) (if_true (leaving n l == 0) None (Some (left_line n l)) t))
+    (λ f. ap (λ (v : Option Taken). feeds_of ((left c n v b).lines c)) (if_false (leaving n l == 0) None (Some (left_line n l)) f) ∙ some_feeds c n l b e)
+
+pub room_feeds : (a n d : ℕ) (b : Board) → feeds_of ((left a n (taken_of n (b.lines a)) b).lines d) ≡ feeds_of (b.lines d)
+room_feeds a n d b = by_case (a == d)
+    (λ t. subst (λ x. feeds_of ((left a n (taken_of n (b.lines a)) b).lines x) ≡ feeds_of (b.lines x)) (number_is a d t) (here_feeds a n (b.lines a) b refl))
+    (λ f. ap (λ (l : Option Line). feeds_of l) (rooms_kept a n d (taken_of n (b.lines a)) b f))

@@ -7,6 +7,7 @@ pub mod Offered
 pub mod Once
 pub mod Readied
 pub mod Settled
+pub mod Staying
 pub mod Steps
 pub mod Touching
 pub mod Turned

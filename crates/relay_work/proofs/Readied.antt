@@ -17,10 +17,10 @@ use Rattle.std.proofs.lemmas.Option.{same_Some}
 use Rattle.std.specs.List.{AllByRecursion, list_all, list_any}
 use Rattle.std.specs.Prelude.{Bool, List, None, Option, Some, [], false, if◌then◌else◌, length, nat_eq, nat_lt, not, true, ℕ, ◌&&◌, ◌++◌, ◌<◌, ◌==◌, ◌||◌, ◌∷◌, ◌≡◌, ◌≤◌}
 use Rattle.tape_laws.specs.Dispatches.{events_back}
-use Rattle.tcp_relay.proofs.Tests.{not_true, same_number}
+use Rattle.tcp_relay.proofs.Tests.{not_both, not_true, same_number}
 use Rattle.tcp_relay.specs.Rests.{goes_on, held_behind}
 use Rattle.tcp_relay.specs.declared.relay.Relay.{Relay}
-use Rattle.worker_ports.specs.Wires.{Gives, MayCome, Seen, given}
+use Rattle.worker_ports.specs.Wires.{Gives, MayCome, Seen, given, without}
 use Rattle.worker_ports.specs.declared.wires.Wired.{Wired}
 use Rattle.flow_notes.specs.declared.events.Event.TheVariants as event
 use Rattle.worker_ports.specs.declared.wires.Wired.TheVariants as wired
@@ -95,6 +95,7 @@ module _ (limit : ℕ) (names : List (List ℕ)) (relay : Relay) (seen : Seen) (
     newer = (no_less c, lifted seen.greatest c (named (events_back h)) l b.newer);
     live = λ d n. any_before seen.live c d n ∙ b.live d;
     held = λ d n k. b.held d (sym (any_before seen.live c d n) ∙ k);
+    still = λ n k. cc;
   }
 
   joins : (c cluster : ℕ) → seen.greatest < c → cluster < seen.clusters → FitsEvent (event.Join c cluster)
@@ -106,6 +107,7 @@ module _ (limit : ℕ) (names : List (List ℕ)) (relay : Relay) (seen : Seen) (
     newer = (no_less c, lifted seen.greatest c (named (events_back h)) l b.newer);
     live = λ d n. any_before seen.live c d n ∙ b.live d;
     held = λ d n m. b.held d (sym (any_before seen.live c d n) ∙ m);
+    still = λ n m. cc;
   }
 
   reads : (c : ℕ) (octets : List ℕ) → MayCome seen (wired.Read c octets) → FitsEvent (event.Read c octets)
@@ -121,6 +123,7 @@ module _ (limit : ℕ) (names : List (List ℕ)) (relay : Relay) (seen : Seen) (
     newer = b.newer;
     live = λ d n. b.live d;
     held = λ d n k. b.held d k;
+    still = λ n k. b.held c k;
   }
 
   loses : (c : ℕ) → FitsEvent (event.Gone c) → Ready limit names relay (given (wired.Lost c) seen) c (event.Gone c) h
@@ -131,6 +134,7 @@ module _ (limit : ℕ) (names : List (List ℕ)) (relay : Relay) (seen : Seen) (
     newer = b.newer;
     live = λ d n. any_other c d seen.live n ∙ b.live d;
     held = λ d n k. any_other c d seen.held n ∙ b.held d (sym (any_other c d seen.live n) ∙ k);
+    still = λ n k. not_both (list_any (nat_eq c) (without c seen.live)) k (any_gone c seen.live);
   }
 
   told : (w : Wired) (c : ℕ) (e : Event) → MayCome seen w → FitsEvent e → event_at w ≡ Some (c, e) → Ready limit names relay (given w seen) c e h
@@ -154,4 +158,5 @@ module _ (limit : ℕ) (names : List (List ℕ)) (relay : Relay) (seen : Seen) (
     newer = subst (λ (x : ℕ). AllByRecursion (λ d. d ≤ x) (named (events_back h))) (sym g) b.newer;
     live = λ d e. ap (λ (v : List ℕ). list_any (nat_eq d) v) l ∙ b.live d;
     held = λ d e i. ap (λ (v : List ℕ). list_any (nat_eq d) v) m ∙ b.held d (sym (ap (λ (v : List ℕ). list_any (nat_eq d) v) l) ∙ i);
+    still = λ e i. ap (λ (v : List ℕ). list_any (nat_eq c) v) m ∙ b.held c (sym (ap (λ (v : List ℕ). list_any (nat_eq c) v) l) ∙ i);
   }

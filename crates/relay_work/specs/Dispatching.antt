@@ -10,7 +10,9 @@ use Rattle.std.specs.Io.KnownBytes.{Appends}
 use Rattle.std.specs.Prelude.{Err, List, None, Ok, Option, Result, [], ℕ, ◌++◌, ◌∷◌, ◌≡◌, ◌⊎◌}
 use Rattle.tape_laws.specs.Dispatches.{events_back}
 use Rattle.tape_laws.specs.History.{onto}
+use Rattle.tcp_relay.specs.Interests.{AreKept}
 use Rattle.tcp_relay.specs.Rests.{Rests, held_by}
+use Rattle.tcp_relay.specs.declared.interests.Interests.{Interests}
 use Rattle.tcp_relay.specs.declared.relay.Relay.{Relay}
 use Rattle.relay_work.specs.declared.ended.RelayEnded.TheVariants as ended
 
@@ -52,11 +54,11 @@ KeepsLine line old (Err ended.JournalFault) new = LineCut line old new
 KeepsLine line old (Err ended.Memory) new = new ≡ old
 KeepsLine line old (Err other) new = ⊥
 
-abbrev pub Takes : (limit : ℕ) (names : List (List ℕ)) (e : Event) (h : Tape) → Option (List ℕ) → Result (Unit {0}) RelayEnded → Relay → Option (List ℕ) → Type 0
-Takes limit names e h old (Ok u) new text = Taken limit names e h new × Appends old text (line_of names e)
+abbrev pub Takes : (limit : ℕ) (names : List (List ℕ)) (e : Event) (h : Tape) → Option (List ℕ) → Result Interests RelayEnded → Relay → Option (List ℕ) → Type 0
+Takes limit names e h old (Ok answer) new text = Taken limit names e h new × Appends old text (line_of names e) × AreKept answer limit e h
 Takes limit names e h old (Err ended.JournalFault) new text = Rests limit names new h × LineCut (line_of names e) old text
 Takes limit names e h old (Err ended.Memory) new text = LineOrNone (line_of names e) old text
 Takes limit names e h old (Err other) new text = ⊥
 
-pub record TakesFrom (names : List (List ℕ)) (old : Relay) (text_old : Option (List ℕ)) (e : Event) (result : Result (Unit {0}) RelayEnded) (new : Relay) (text_new : Option (List ℕ)) : Type 0 where
+pub record TakesFrom (names : List (List ℕ)) (old : Relay) (text_old : Option (List ℕ)) (e : Event) (result : Result Interests RelayEnded) (new : Relay) (text_new : Option (List ℕ)) : Type 0 where
   pub goes : (limit : ℕ) (h : Tape) → MayTake limit names old e h → Takes limit names e h text_old result new text_new

@@ -12,10 +12,11 @@ use flow_notes::{Event, Names, event_text};
 use io_ports::{Failed, Octets};
 use relay_ports::Journal;
 use session_run::write_all;
-use tcp_relay::{Relay, RelayFault};
+use tcp_relay::{Interests, Relay, RelayFault};
 use worker_ports::Wired;
 
-/// Writes an event's line to the journal, and dispatches it. The line is spelled in `line`.
+/// Writes an event's line to the journal, and dispatches it. The line is spelled in `line`. Answers whether the relay's interests
+/// are as before.
 #[tactic(none)]
 pub fn dispatch<J: Journal>(
     relay: &mut Relay,
@@ -23,7 +24,7 @@ pub fn dispatch<J: Journal>(
     names: &Names,
     line: &mut Octets,
     event: &Event,
-) -> Result<(), RelayEnded>
+) -> Result<Interests, RelayEnded>
     requires { CanTake names.now relay.old event.now }
     ensures takes { TakesFrom names.now relay.old (J.contents journal.old) event.now result relay.new (J.contents journal.new) }
     ensures cause { result ≡ Err RelayEnded.JournalFault → Rose (J.faults journal.old) (J.faults journal.new) }
@@ -31,7 +32,7 @@ pub fn dispatch<J: Journal>(
 {
     keep_line(journal, names, line, event)?;
     match relay.carry_out(event) {
-        Ok(()) => Ok(()),
+        Ok(interests) => Ok(interests),
         Err(RelayFault::NoMemory) => Err(RelayEnded::Memory),
         Err(RelayFault::Paused { .. }) => unreachable!(),
         Err(RelayFault::Failed) => unreachable!(),

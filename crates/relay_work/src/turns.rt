@@ -2,7 +2,7 @@
 ghost use Rattle.std.specs.Prelude.{◌≡◌, ◌⊎◌, ◌<◌, ◌≤◌, Err, length};
 ghost use Rattle.io_ports.specs.Faults.{Rose};
 ghost use Rattle.relay_work.specs.Belonging.{Belongs};
-ghost use Rattle.relay_work.specs.Carrying.{CarriesFrom, IsReady};
+ghost use Rattle.relay_work.specs.Carrying.{CarriesFrom, IsReady, PartsFrom};
 ghost use Rattle.relay_work.specs.Live.{live_of};
 ghost use Rattle.relay_work.specs.Offering.{OffersAllFrom, OffersOneFrom, Waits};
 ghost use Rattle.relay_work.specs.Turning.{AnswersFrom, TurnsFrom};
@@ -16,7 +16,7 @@ use flow_notes::{Event, Names};
 use io_ports::{Failed, Octets};
 use relay_ports::{Journal, Taps};
 use std::alloc::Global;
-use tcp_relay::Relay;
+use tcp_relay::{Interests, Relay};
 use worker_ports::WireRefusal;
 
 /// How many octets leave at once at most, as an event of room tells it.
@@ -122,10 +122,24 @@ fn carry_out<T: Taps, J: Journal>(
     ensures taps_rise { T.faults taps.old ≤ T.faults taps.new }
     ensures journal_rises { J.faults journal.old ≤ J.faults journal.new }
 {
-    let was = relay.peer(conn);
-    dispatch(relay, journal, names, line, event)?;
-    settle(relay, taps, conn, was);
-    Ok(())
+    let was = parting(relay, event);
+    match dispatch(relay, journal, names, line, event)? {
+        Interests::Kept => Ok(()),
+        Interests::Changed => {
+            settle(relay, taps, conn, was);
+            Ok(())
+        }
+    }
+}
+
+// The other connection of the pair of one that is lost: the relay doesn't know it any more once that is dispatched.
+fn parting(relay: &Relay, event: &Event) -> Option<u32>
+    ensures { PartsFrom relay.now event.now result }
+{
+    match event {
+        Event::Gone { conn } => relay.peer(*conn),
+        _ => None,
+    }
 }
 
 // Offers what waits, once to each connection, by their numbers.

@@ -108,14 +108,14 @@ set_all_shows old new held clock i s e le ge few =
 
 -- ---- a flow's notes
 
-lanes_still : (ds : List Drawn) (P : History NoMark → List ℕ) (first : ℕ) (step : Step NoMark) (h : History NoMark) → LanesAre ds P first h → P (step ∷ h) ≡ P h → LanesAre ds P first (step ∷ h)
+pub lanes_still : (ds : List Drawn) (P : History NoMark → List ℕ) (first : ℕ) (step : Step NoMark) (h : History NoMark) → LanesAre ds P first h → P (step ∷ h) ≡ P h → LanesAre ds P first (step ∷ h)
 lanes_still ds P first step h are e = record { lanes = λ p. still (lane_at ds p) (λ v. at (P v) p) first step h (are.lanes p) (ap (λ (v : List ℕ). at v p) e) }
 
 -- the count that is drawn, of what it is made of
 abbrev shown_of : Bool → ℕ → ℕ → ℕ
 shown_of doomed p r = if doomed then 0 else p - r
 
-shown_same : (a b : Bool) (p q r s : ℕ) → a ≡ b → p ≡ q → r ≡ s → shown_of a p r ≡ shown_of b q s
+pub shown_same : (a b : Bool) (p q r s : ℕ) → a ≡ b → p ≡ q → r ≡ s → shown_of a p r ≡ shown_of b q s
 shown_same a b p q r s e f g = ap (λ (v : Bool). shown_of v p r) e ∙ ap (λ (v : ℕ). shown_of b v r) f ∙ ap (λ (v : ℕ). shown_of b q v) g
 
 -- a step that moves octets of the flow, and leaves its count

@@ -3,7 +3,15 @@ pub mod Flowing
 pub mod Holding
 pub mod Keeping
 pub mod Laning
+pub mod Limiting
 pub mod Lining
+pub mod Mapping
+pub mod Passing
+pub mod Pathing
 pub mod Points
 pub mod Sayings
+pub mod Standing
+pub mod Stands
 pub mod Stopping
+pub mod Topping
+pub mod Writing

@@ -5,18 +5,23 @@ use Rattle.flow_notes.specs.Note.{IsNote, note_spelling}
 use Rattle.flow_notes.specs.declared.notes.Note.{Note}
 use Rattle.session_run.specs.Held.{held_of}
 use Rattle.session_run.specs.Newlines.{BeginsWithLine}
+use Rattle.session_run.specs.declared.status.Status.{Status}
 use Rattle.session_run.specs.declared.status.Status.TheVariants as status
 use Rattle.std.proofs.Common.{ap, append_assoc, arith, length-append, refl, subst, sym, ◌∙◌}
 use Rattle.std.proofs.lemmas.List.{append-nil, length-take-le}
 use Rattle.std.specs.Io.KnownBytes.{Consumes}
-use Rattle.std.specs.Prelude.{Err, IfOk, List, None, Ok, Option, Result, Some, [], drop, length, min, suc, take, zero, ℕ, ◌++◌, ◌+◌, ◌-◌, ◌^◌, ◌∷◌, ◌≡◌}
+use Rattle.std.specs.Prelude.{Err, IfOk, List, None, Ok, OnOk, Option, Result, Some, [], drop, length, min, suc, take, zero, ℕ, ◌++◌, ◌+◌, ◌-◌, ◌^◌, ◌∷◌, ◌≡◌}
 use Rattle.tape_plot.specs.Ending.{ended}
-use Rattle.tape_plot.specs.Reading.{ReadsNote, SpellsNote}
-use Rattle.tape_plot.specs.Reads.{EndsBy, EndsHow, Follows, Goes, Reads, TakesLine, TapeIs, WentAs}
+use Rattle.tape_plot.proofs.Stands.{stands}
+use Rattle.tape_plot.specs.Goes.{PlotGoes, PlotStays}
+use Rattle.tape_plot.specs.Kept.{until}
+use Rattle.tape_plot.specs.Reading.{Fails, ReadsNote, SpellsNote}
+use Rattle.tape_plot.specs.Reads.{EndsHow, Follows, Goes, Reads, ReadsTape, TakesLine, TapeIs, WentAs}
 use Rattle.tape_plot.specs.Lines.{line_text}
-use Rattle.tape_plot.specs.Said.{MayFollow, Said, Sums, Tells, part_with, said_text, tape_text}
+use Rattle.tape_plot.specs.Said.{MayFollow, Said, Sums, Tells, part_with, said_text, tape_text, told}
 use Rattle.tape_plot.specs.declared.outcome.Outcome.{Outcome}
 use Rattle.tape_plot.specs.declared.outcome.Refusal.{Refusal}
+use Rattle.tape_plot.specs.declared.plot.Plot.{Plot}
 use Rattle.tape_plot.specs.declared.report.Line.{Line}
 use Rattle.tape_plot.specs.declared.tape.Part.{Part}
 use Rattle.tape_plot.specs.declared.tape.Stop.{Stop}
@@ -60,12 +65,12 @@ consumes_none (Some a) = refl
 
 -- ---- a line
 
-pub line_on : (old new : Tape) (n : ℕ) → BeginsWithLine (held_of old.lines) n → Follows (take n (held_of old.lines)) old.part new.part
+pub line_on : (old new : Tape) (n : ℕ) → BeginsWithLine (held_of old.lines) n → Follows (take n (held_of old.lines)) old.plot new.plot old.part new.part
     → held_of new.lines ≡ drop (n + 1) (held_of old.lines) → new.read ≡ old.read + (n + 1) → new.number ≡ old.number + 1 → TakesLine old new (Ok tt)
-line_on old new n b f held er en = record { goes = λ said read left k. (f.says ∷ said, taken said read k) }
+line_on old new n b f held er en = record { goes = λ first last said read left k. (f.says ∷ said, taken first last said read k) }
   where
-    taken : (said : List Said) (read : List ℕ) → TapeIs old said read → TapeIs new (f.says ∷ said) read
-    taken said read k = record {
+    taken : (first last : ℕ) (said : List Said) (read : List ℕ) → TapeIs old first last said read → TapeIs new first last (f.says ∷ said) read
+    taken first last said read k = record {
       tells = (f.is, subst (MayFollow f.says) k.part f.may, k.tells);
       part = f.part;
       reads =
@@ -75,6 +80,7 @@ line_on old new n b f held er en = record { goes = λ said read left k. (f.says 
           ∙ sym (append_assoc (tape_text said) (said_text f.says) (held_of new.lines));
       count = er ∙ long said k.count;
       number = en ∙ ap (λ (v : ℕ). v + 1) k.number ∙ one_more said;
+      plot = f.plot.goes first last said k.plot;
     }
       where
         one_more : (said : List Said) → length said + 1 ≡ suc (length said)
@@ -87,29 +93,37 @@ line_on old new n b f held er en = record { goes = λ said read left k. (f.says 
             omega (arith, l, t, c)
 
 -- a line tells a note before the summary, or it is one of the summary
-pub note_follows : (line : List ℕ) (before : Part) (r : Result Part Stop) (read : Option Note) (n : Note) → ReadsNote line read → read ≡ Some n → IfOk r (λ _. before ≡ part.Notes) → IfOk r (λ next. next ≡ part.Notes)
-    → IfOk r (Follows line before)
-note_follows line before (Ok next) read n k e b f = record {
+pub note_follows : (line : List ℕ) (before after : Plot) (old : Part) (r : Result Part Stop) (read : Option Note) (n : Note) → ReadsNote line read → read ≡ Some n → IfOk r (λ _. old ≡ part.Notes)
+    → IfOk r (λ next. next ≡ part.Notes) → OnOk r (PlotGoes before n after) → IfOk r (Follows line before after old)
+note_follows line before after old (Ok next) read n k e b f g = record {
   says = Tells k.names n;
   is = (k.are, spells.1, spells.2);
   may = subst (MayFollow (Tells k.names n)) (sym b) tt;
   text = ap (λ (v : List ℕ). v ++ newline) spells.0;
   part = f;
+  plot = record { goes = λ first last said is. g.goes first last (told said) is };
 }
   where
     spells : (line ≡ note_spelling k.names n) × IsNote k.names n × FitsNote n
     spells = subst (SpellsNote k.names line) e k.spells
-note_follows line before (Err s) read n k e b f = tt
+note_follows line before after old (Err s) read n k e b f g = tt
 
 may_sum : (l : Line) (before : Part) → ((m : Line) → before ≡ part.Ended m → ⊥) → MayFollow (Sums l) before
 may_sum l part.Notes goes = tt
 may_sum l part.Summary goes = tt
 may_sum l (part.Ended m) goes = absurd (goes m refl)
 
-pub sum_follows : (line : List ℕ) (before : Part) (r : Result Part Stop) → ((m : Line) → before ≡ part.Ended m → ⊥) → IfOk r (λ next. (l : Line) × (line ++ newline ≡ line_text l) × (next ≡ part_with (Sums l)))
-    → IfOk r (Follows line before)
-sum_follows line before (Ok next) goes s = record { says = Sums s.0; is = tt; may = may_sum s.0 before goes; text = s.1; part = s.2 }
-sum_follows line before (Err s) goes e = tt
+pub sum_follows : (line : List ℕ) (before after : Plot) (old : Part) (r : Result Part Stop) → ((m : Line) → old ≡ part.Ended m → ⊥)
+    → IfOk r (λ next. (l : Line) × (line ++ newline ≡ line_text l) × (next ≡ part_with (Sums l))) → OnOk r (PlotStays before after) → IfOk r (Follows line before after old)
+sum_follows line before after old (Ok next) goes s g = record {
+  says = Sums s.0;
+  is = tt;
+  may = may_sum s.0 old goes;
+  text = s.1;
+  part = s.2;
+  plot = record { goes = λ first last said is. g.goes first last (told said) is };
+}
+sum_follows line before after old (Err s) goes e g = tt
 
 -- ---- reading
 
@@ -117,33 +131,54 @@ pub line_goes : (old new : Tape) (left : Option (List ℕ)) (r : Result (Unit {0
 line_goes old new left r t = record {
   got = [];
   consumes = consumes_none left;
-  goes = λ said read k. subst (λ (v : List ℕ). WentAs new v left r) (sym (append-nil read)) (t.goes said read left k);
+  goes = λ first last said read k. subst (λ (v : List ℕ). WentAs new first last v left r) (sym (append-nil read)) (t.goes first last said read left k);
 }
 
 pub goes_more : (a b c : Tape) (one two three : Option (List ℕ)) (r : Result (Unit {0}) Stop) → Goes a b one two (Ok tt) → Goes b c two three r → Goes a c one three r
 goes_more a b c one two three r f g = record {
   got = f.got ++ g.got;
   consumes = consumes_more one two three f.got g.got f.consumes g.consumes;
-  goes = λ said read k.
-      let m = f.goes said read k in
-      subst (λ (v : List ℕ). WentAs c v three r) (append_assoc read f.got g.got) (g.goes m.0 (read ++ f.got) m.1);
+  goes = λ first last said read k.
+      let m = f.goes first last said read k in
+      subst (λ (v : List ℕ). WentAs c first last v three r) (append_assoc read f.got g.got) (g.goes first last m.0 (read ++ f.got) m.1);
 }
 
 -- ---- how it ends
 
-reads_as : (left_old left_new : Option (List ℕ)) (first tape : Tape) (why : Stop) (o : Outcome) → TapeIs first [] [] → (g : Goes first tape left_old left_new (Err why))
-    → ((said : List Said) (rest : List ℕ) → EndsBy why tape.number said rest left_new → EndsHow o.status o.line said rest left_new) → Reads left_old left_new o
-reads_as left_old left_new first tape why o k g ends =
-    let l = g.goes [] [] k in
-    record { read = g.got; said = l.said; rest = l.rest; consumes = g.consumes; tells = l.tells; reads = l.reads; ends = ends l.said l.rest l.ends }
+pub reads_tape : (left_old left_new : Option (List ℕ)) (begun tape : Tape) (first last : ℕ) → TapeIs begun first last [] [] → Goes begun tape left_old left_new (Err stop.End) → ReadsTape left_old left_new first last tape
+reads_tape left_old left_new begun tape first last k g =
+    let l = g.goes first last [] [] k in
+    record {
+      read = g.got;
+      said = l.said;
+      rest = l.rest;
+      consumes = g.consumes;
+      tells = l.tells;
+      reads = l.reads;
+      cut = l.ends.cut;
+      end = l.ends.end;
+      part = l.ends.part;
+      lanes = stands tape.plot.levels first (until last (told l.said)) l.ends.plot.levels;
+    }
 
-pub reads_whole : (left_old left_new : Option (List ℕ)) (first tape : Tape) → TapeIs first [] [] → Goes first tape left_old left_new (Err stop.End) → Reads left_old left_new (ended status.Done)
-reads_whole left_old left_new first tape k g = reads_as left_old left_new first tape stop.End (ended status.Done) k g (λ said rest e. e)
+pub reads_refused : (left_old left_new : Option (List ℕ)) (begun tape : Tape) (first last : ℕ) (why : Refusal) (line : ℕ) → TapeIs begun first last [] [] → Goes begun tape left_old left_new (Err (stop.Refused why))
+    → line ≡ min (tape.number + 1) (2 ^ 64 - 1) → Reads left_old left_new (record { status = status.Session; line = line; refusal = Some why })
+reads_refused left_old left_new begun tape first last why line k g e =
+    let l = g.goes first last [] [] k in
+    record { read = g.got; said = l.said; rest = l.rest; consumes = g.consumes; tells = l.tells; reads = l.reads; ends = e ∙ ap (λ (v : ℕ). min (v + 1) (2 ^ 64 - 1)) l.ends }
 
-pub reads_refused : (left_old left_new : Option (List ℕ)) (first tape : Tape) (why : Refusal) (line : ℕ) → TapeIs first [] [] → Goes first tape left_old left_new (Err (stop.Refused why)) → line ≡ min (tape.number + 1) (2 ^ 64 - 1)
-    → Reads left_old left_new (record { status = status.Session; line = line; refusal = Some why })
-reads_refused left_old left_new first tape why line k g e =
-    reads_as left_old left_new first tape (stop.Refused why) (record { status = status.Session; line = line; refusal = Some why }) k g (λ said rest n. e ∙ ap (λ (v : ℕ). min (v + 1) (2 ^ 64 - 1)) n)
+-- where reading fails, nothing is said of what stands behind the lines
+fails_how : (of : Type 0) (how : Status) (line : ℕ) (said : List Said) (rest : List ℕ) (left : Option (List ℕ)) → Fails of how → EndsHow how line said rest left
+fails_how of status.Done line said rest left f = absurd f
+fails_how of status.Session line said rest left f = absurd f
+fails_how of other line said rest left f = tt
+
+pub reads_failed : (of : Type 0) (left_old left_new : Option (List ℕ)) (begun tape : Tape) (first last : ℕ) (how : Status) (o : Outcome) → TapeIs begun first last [] [] → Goes begun tape left_old left_new (Err (stop.Failed how)) → Fails of how
+    → o ≡ ended how → Reads left_old left_new o
+reads_failed of left_old left_new begun tape first last how o k g f e =
+    let l = g.goes first last [] [] k in
+    subst (Reads left_old left_new) (sym e)
+    (record { read = g.got; said = l.said; rest = l.rest; consumes = g.consumes; tells = l.tells; reads = l.reads; ends = fails_how of how 0 l.said l.rest left_new f })
 
 pub reads_nothing : (left : Option (List ℕ)) (o : Outcome) → o ≡ ended status.Memory → Reads left left o
 reads_nothing left o e =

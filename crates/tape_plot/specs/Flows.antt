@@ -2,7 +2,7 @@
 use Rattle.flow_gate.specs.declared.ids.BufferId.{BufferId}
 use Rattle.flow_gate.specs.declared.ids.FlowId.{FlowId}
 use Rattle.flow_notes.specs.declared.notes.Cause.{Cause}
-use Rattle.std.specs.Prelude.{Bool, List, None, [], get_or, length, map, ℕ, ◌<◌, ◌∷◌, ◌≡◌, ◌≤◌}
+use Rattle.std.specs.Prelude.{Bool, List, None, [], false, get_or, length, map, ℕ, ◌<◌, ◌∷◌, ◌≡◌, ◌≤◌}
 use Rattle.tape_laws.specs.Dispatches.{turns}
 use Rattle.tape_laws.specs.History.{History, NoMark, Noted, Step}
 use Rattle.tape_laws.specs.Pauses.{pauses, resumes}
@@ -45,7 +45,12 @@ pub record FlowIs (flow : Flow) (f : FlowId) (first : ℕ) (h : History NoMark) 
 
 -- before the first note
 pub record IsFresh (flow : Flow) : Type 0 where
-  pub is : (f : FlowId) (first : ℕ) → FlowIs flow f first []
+  pub held : flow.held.levels.items ≡ []
+  pub lanes : lanes_of flow.places.items ≡ []
+  pub pauses : flow.pauses ≡ 0
+  pub resumes : flow.resumes ≡ 0
+  pub doomed : flow.is_doomed ≡ false
+  pub count : drawn_of flow.count ≡ fresh
 
 -- it goes on with a note of the present dispatch: octets of a flow that isn't relayed
 pub record Arrives (old : Flow) (n : ℕ) (clock : Clock) (new : Flow) : Type 0 where

@@ -1,10 +1,17 @@
 pub mod Ending
 pub mod Flows
+pub mod Goes
+pub mod Kept
 pub mod Lanes
 pub mod Levels
 pub mod Lines
+pub mod Path
 pub mod Reading
 pub mod Reads
 pub mod Said
+pub mod Scale
 pub mod Spans
+pub mod Standing
+pub mod Subjects
 pub mod Tops
+pub mod Turns

@@ -5,6 +5,7 @@ use Rattle.flow_notes.specs.Name.{AreNames}
 use Rattle.flow_notes.specs.Note.{IsNote, note_spelling}
 use Rattle.flow_notes.specs.declared.notes.Note.{Note}
 use Rattle.std.specs.Prelude.{Bool, List, [], false, if◌then◌else◌, true, ℕ, ◌++◌, ◌∷◌}
+use Rattle.tape_laws.specs.History.{History, NoMark, Noted}
 use Rattle.tape_plot.specs.Lines.{line_text}
 use Rattle.tape_plot.specs.declared.report.Line.{Line}
 use Rattle.tape_plot.specs.declared.tape.Part.{Part}
@@ -52,3 +53,9 @@ IsTape (s ∷ past) = IsSaid s × MayFollow s (part_of past) × IsTape past
 abbrev pub tape_text : List Said → List ℕ
 tape_text [] = []
 tape_text (s ∷ past) = tape_text past ++ said_text s
+
+-- the notes that the lines tell, as a history
+abbrev pub told : List Said → History NoMark
+told [] = []
+told (Tells names n ∷ past) = Noted n ∷ told past
+told (Sums l ∷ past) = told past

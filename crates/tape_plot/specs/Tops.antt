@@ -15,3 +15,11 @@ FromTop setup step past = Unit {0}
 
 abbrev pub AreFromTop : {Mark : Type 0} → Setup Mark → History Mark → Type 0
 AreFromTop setup history = EachFollows (FromTop setup) history
+
+-- each exchange has a stream
+abbrev pub HasStream : {Mark : Type 0} → Step Mark → History Mark → Type 0
+HasStream (Noted (note.Start x c s d)) past = (s == 0) ≡ false
+HasStream step past = Unit {0}
+
+abbrev pub HaveStreams : {Mark : Type 0} → History Mark → Type 0
+HaveStreams history = EachFollows HasStream history

@@ -1,5 +1,6 @@
 // Dispatches, and the columns of the picture that they stand in.
 use crate::width::Width;
+use flow_notes::Note;
 use io_ports::NoMemory;
 
 /// The most columns of a picture. Each is at least one point wide.
@@ -20,10 +21,15 @@ pub struct Clock {
 }
 
 impl Clock {
-    ghost use Rattle.std.specs.Prelude.{◌≤◌};
+    ghost use Rattle.std.specs.Prelude.{◌≡◌, ◌+◌, ◌≤◌, nat_lt, OnOk};
+    ghost use Rattle.tape_plot.specs.Turns.{Ticks, turns_of};
 
     /// Before the first dispatch, with a column for each.
-    pub fn new(first: u64, last: u64) -> Self {
+    pub fn new(first: u64, last: u64) -> Self
+        ensures turn { result.turn ≡ 0 }
+        ensures first { result.first ≡ first }
+        ensures last { result.last ≡ last }
+    {
         Clock {
             turn: 0,
             first,
@@ -39,12 +45,26 @@ impl Clock {
     }
 
     /// Whether the present dispatch comes after the last that is drawn.
-    pub fn is_past(&self) -> bool {
+    pub fn is_past(&self) -> bool
+        ensures { result ≡ nat_lt self.now.last self.now.turn }
+    {
         self.turn > self.last
     }
 
-    /// The next dispatch begins. Where there is no column left for it, columns get twice as wide.
-    pub fn tick(&mut self) -> Result<(), NoMemory> {
+    /// Goes on with a note: a turn begins the next dispatch.
+    pub fn take(&mut self, note: &Note) -> Result<(), NoMemory>
+        ensures { OnOk result (Ticks self.old (turns_of note.now) self.new) }
+    {
+        match note {
+            Note::Turn { .. } => self.tick(),
+            _ => Ok(()),
+        }
+    }
+
+    // The next dispatch begins. Where there is no column left for it, columns get twice as wide.
+    fn tick(&mut self) -> Result<(), NoMemory>
+        ensures { OnOk result (Ticks self.old 1 self.new) }
+    {
         let Some(turn) = self.turn.checked_add(1) else {
             return Err(NoMemory);
         };

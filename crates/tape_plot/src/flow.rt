@@ -5,6 +5,8 @@ ghost use Rattle.tape_plot.specs.Flows.{Shows, lane_at, lanes_of};
 use crate::clock::Clock;
 use crate::held::Held;
 use crate::lane::Lane;
+use flow_gate::BufferId;
+use flow_notes::Note;
 use io_ports::NoMemory;
 use std::alloc::Global;
 
@@ -47,6 +49,7 @@ pub struct Flow {
 impl Flow {
     ghost use Rattle.std.specs.Prelude.{◌≡◌, ◌-◌, if◌then◌else◌, min, IfOk, OnOk};
     ghost use Rattle.tape_plot.specs.Flows.{Arrives, Dooms, Frames, IsFresh, Moves, Pauses, Resumes};
+    ghost use Rattle.tape_plot.specs.Goes.{FlowGoes, FlowStays, framed_by};
     ghost use Rattle.tape_plot.specs.Levels.{at, top};
 
     /// Before its first note. Takes no memory.
@@ -136,21 +139,74 @@ impl Flow {
         }
     }
 
-    /// The summary tells the limit of a place.
-    pub fn limit_place(&mut self, place: u32, limit: u32) {
-        if let Some(place) = self.places.get_mut(place as usize) {
-            place.limit = Some(limit);
+    /// Goes on with a note of it, of the present dispatch. Answers how many octets leave it in a frame.
+    pub fn note(&mut self, note: &Note, clock: &Clock) -> Result<u64, NoMemory>
+        ensures goes { OnOk result (FlowGoes self.old note.now clock.now self.new) }
+        ensures taken { IfOk result (λ taken. taken ≡ framed_by note.now self.old.held.levels.items) }
+    {
+        match note {
+            Note::Arrive { octets, .. } => {
+                self.arrive(octets.len() as u64, clock)?;
+                Ok(0)
+            }
+            Note::Move { place, n, .. } => {
+                self.shift(*place, *n, clock)?;
+                Ok(0)
+            }
+            Note::Frame { n, .. } => self.frame(*n, clock),
+            Note::Pause { buffer, .. } => {
+                self.watch(*buffer);
+                self.pause(clock)?;
+                Ok(0)
+            }
+            Note::Resume { buffer, .. } => {
+                self.watch(*buffer);
+                self.resume(clock)?;
+                Ok(0)
+            }
+            _ => Ok(0),
         }
     }
 
-    /// The summary tells the limit of the send buffer: the last place, unless that is the receive buffer or a stage.
-    pub fn limit_send(&mut self, limit: u32) {
+    // A note of a pause or a resume names a buffer, perhaps its send buffer.
+    fn watch(&mut self, buffer: BufferId)
+        ensures { FlowStays self.old self.new }
+    {
+        if matches!(buffer, BufferId::Send(_)) {
+            self.sends = true;
+        }
+    }
+
+    /// The summary tells the limit of one of its buffers.
+    pub fn limit(&mut self, buffer: BufferId, limit: u32)
+        ensures { FlowStays self.old self.new }
+    {
+        match buffer {
+            BufferId::Write(_) => {}
+            BufferId::Recv(_) => self.limit_place(0, limit),
+            BufferId::Stage(_, i) => self.limit_place(i, limit),
+            BufferId::Send(_) => self.limit_send(limit),
+        }
+    }
+
+    // The limit of a place.
+    fn limit_place(&mut self, place: u32, limit: u32)
+        ensures { FlowStays self.old self.new }
+    {
+        let place = place as usize;
+        if place < self.places.len() {
+            self.places[place].limit = Some(limit);
+        }
+    }
+
+    // The limit of the send buffer: the last place, unless that is the receive buffer or a stage.
+    fn limit_send(&mut self, limit: u32)
+        ensures { FlowStays self.old self.new }
+    {
         let places = self.places.len();
-        if let Some(last) = self.places.last_mut() {
-            if places > 1 && last.limit.is_none() {
-                last.limit = Some(limit);
-                self.sends = true;
-            }
+        if places > 1 && self.places[places - 1].limit.is_none() {
+            self.places[places - 1].limit = Some(limit);
+            self.sends = true;
         }
     }
 }

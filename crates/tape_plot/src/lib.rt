@@ -3,8 +3,11 @@
 
 mod choice;
 mod clock;
+mod connection;
+mod connections;
 mod draw;
 mod exchange;
+mod exchanges;
 mod flow;
 mod held;
 mod lane;
@@ -15,11 +18,12 @@ mod outcome;
 mod plot;
 mod rank;
 mod report;
+mod subject;
 mod tape;
 mod width;
 mod words;
 
 pub use choice::{Choice, Lanes, read_choice};
-pub use laws::lengths;
+pub use laws::{lengths, plain_lengths};
 pub use outcome::{Outcome, Refusal};
-pub use tape::plot_tape;
+pub use tape::{Tape, plot_tape, read_tape};

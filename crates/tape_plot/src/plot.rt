@@ -2,6 +2,7 @@
 use crate::clock::Clock;
 use crate::levels::Levels;
 use crate::mark::{Mark, Marks};
+use flow_gate::BufferId;
 use flow_notes::Note;
 use io_ports::NoMemory;
 use std::alloc::Global;
@@ -19,8 +20,14 @@ pub struct Plot {
 }
 
 impl Plot {
+    ghost use Rattle.std.specs.Prelude.{◌≡◌, [], OnOk};
+    ghost use Rattle.tape_plot.specs.Goes.{LevelsStay, PlotGoes, PlotStays};
+    ghost use Rattle.tape_plot.specs.Kept.{PlotIs};
+
     /// Before the first note. Takes no memory.
-    pub fn new(alloc: Global, first: u64, last: u64) -> Self {
+    pub fn new(alloc: Global, first: u64, last: u64) -> Self
+        ensures { PlotIs result first last [] }
+    {
         Plot {
             clock: Clock::new(first, last),
             levels: Levels::new(alloc),
@@ -32,10 +39,10 @@ impl Plot {
     }
 
     /// Takes up a note and its line. What comes behind the last dispatch that is drawn changes nothing but the clock.
-    pub fn note(&mut self, note: &Note, line: &[u8]) -> Result<(), NoMemory> {
-        if let Note::Turn { .. } = note {
-            self.clock.tick()?;
-        }
+    pub fn note(&mut self, note: &Note, line: &[u8]) -> Result<(), NoMemory>
+        ensures { OnOk result (PlotGoes self.old note.now self.new) }
+    {
+        self.clock.take(note)?;
         if self.clock.is_past() {
             return Ok(());
         }
@@ -44,7 +51,10 @@ impl Plot {
     }
 
     // Marks the line of a turn, a doom, a close or a fire.
-    fn mark(&mut self, note: &Note, line: &[u8]) -> Result<(), NoMemory> {
+    fn mark(&mut self, note: &Note, line: &[u8]) -> Result<(), NoMemory>
+        ensures levels { OnOk result (LevelsStay self.old.levels self.new.levels) }
+        ensures clock { self.new.clock ≡ self.old.clock }
+    {
         match note {
             Note::Turn { .. } => self.turns.add(line, &self.clock),
             Note::Doom { exchange, .. } => {
@@ -57,9 +67,19 @@ impl Plot {
         }
     }
 
-    fn mark_doom(&mut self, exchange: u64, line: &[u8]) -> Result<(), NoMemory> {
+    fn mark_doom(&mut self, exchange: u64, line: &[u8]) -> Result<(), NoMemory>
+        ensures levels { OnOk result (LevelsStay self.old.levels self.new.levels) }
+        ensures clock { self.new.clock ≡ self.old.clock }
+    {
         let turn = self.clock.turn;
         self.levels.mark_doom(exchange, Mark::new(line, 0, turn))
+    }
+
+    /// The summary tells the limit of a buffer.
+    pub fn limit(&mut self, buffer: BufferId, limit: u32)
+        ensures { PlotStays self.old self.new }
+    {
+        self.levels.limit(buffer, limit);
     }
 
     /// All marks are brought to the columns of the clock.

@@ -1,11 +1,12 @@
 // A tape that is read, and the picture of it that is written.
 ghost use Rattle.flow_notes.specs.Line.{newline};
-ghost use Rattle.std.specs.Prelude.{◌≡◌, ◌≤◌, ◌++◌, Err, IfErr, IfOk};
+ghost use Rattle.std.specs.Prelude.{◌≡◌, ◌≤◌, ◌++◌, Err, IfErr, IfOk, OnOk};
 ghost use Rattle.io_ports.specs.Faults.{Rose};
 ghost use Rattle.tape_plot.specs.Ending.{EndsRight, IsRefused};
 ghost use Rattle.tape_plot.specs.Ending as spec;
 ghost use Rattle.tape_plot.specs.Lines.{line_text};
 ghost use Rattle.tape_plot.specs.Reading.{Caused, ReadsNote, Refuses};
+ghost use Rattle.tape_plot.specs.Goes.{PlotGoes, PlotStays};
 ghost use Rattle.tape_plot.specs.Reads.{Follows, Goes, Reads, ReadsAs};
 ghost use Rattle.tape_plot.specs.Said.{part_with};
 ghost use Rattle.tape_plot.specs.Said as said;
@@ -19,7 +20,7 @@ use crate::plot::Plot;
 use crate::report::{Line, read_line};
 use crate::words::first_word;
 use flow_notes::{NameRefusal, Names, Note, read_note};
-use io_ports::{NoMemory, Octets, Sink, Source};
+use io_ports::{NoMemory, Sink, Source};
 use session_run::{Lines, Status, write_all};
 use std::alloc::Global;
 
@@ -83,7 +84,7 @@ impl Tape {
 
     // Nothing is read yet.
     fn new(alloc: Global, choice: &Choice) -> Result<Self, NoMemory>
-        ensures { IfOk result (λ tape. TapeIs tape [] []) }
+        ensures { IfOk result (λ tape. TapeIs tape choice.now.first choice.now.last [] []) }
     {
         Ok(Tape {
             alloc,
@@ -148,7 +149,7 @@ impl Tape {
 
 // Takes up the text of a line, and answers how far the tape was read with it.
 fn take_text(alloc: Global, plot: &mut Plot, part: Part, line: &[u8]) -> Result<Part, Stop>
-    ensures follows { IfOk result (Follows line.now part) }
+    ensures follows { IfOk result (Follows line.now plot.old plot.new part) }
     ensures stops { IfErr result Refuses }
 {
     if let Part::Ended(_) = part {
@@ -164,6 +165,7 @@ fn take_text(alloc: Global, plot: &mut Plot, part: Part, line: &[u8]) -> Result<
 fn take_note(plot: &mut Plot, part: Part, note: &Note, line: &[u8]) -> Result<Part, Stop>
     ensures before { IfOk result (λ _. part ≡ parts.Notes) }
     ensures part { IfOk result (λ next. next ≡ parts.Notes) }
+    ensures goes { OnOk result (PlotGoes plot.old note.now plot.new) }
     ensures stops { IfErr result Refuses }
 {
     if part != Part::Notes {
@@ -176,6 +178,7 @@ fn take_note(plot: &mut Plot, part: Part, note: &Note, line: &[u8]) -> Result<Pa
 // Takes up a line of the summary.
 fn take_report(alloc: Global, plot: &mut Plot, line: &[u8]) -> Result<Part, Stop>
     ensures sums { IfOk result (λ next. (l : Line) × (line.now ++ newline ≡ line_text l) × (next ≡ part_with (said.Sums l))) }
+    ensures stays { OnOk result (PlotStays plot.old plot.new) }
     ensures stops { IfErr result Refuses }
 {
     let Some(report) = read_line(alloc, line)? else {
@@ -183,7 +186,7 @@ fn take_report(alloc: Global, plot: &mut Plot, line: &[u8]) -> Result<Part, Stop
     };
     match report {
         Line::Peak { buffer, limit, .. } => {
-            plot.levels.limit(buffer, limit);
+            plot.limit(buffer, limit);
             Ok(Part::Summary)
         }
         Line::Paused { .. } => Ok(Part::Summary),
@@ -221,7 +224,7 @@ fn joined_name(line: &[u8]) -> Option<&[u8]> {
 }
 
 // Reads lines until they end or one is refused, and answers how.
-fn read_tape<S: Source>(tape: &mut Tape, source: &mut S) -> Stop
+fn read_lines<S: Source>(tape: &mut Tape, source: &mut S) -> Stop
     ensures goes { Goes tape.old tape.new (S.left source.old) (S.left source.new) (Err result) }
     ensures caused { Caused (Rose (S.faults source.old) (S.faults source.new)) result }
     ensures faults { S.faults source.old ≤ S.faults source.new }
@@ -243,29 +246,25 @@ fn ended(status: Status) -> Outcome
     }
 }
 
-// The picture of a tape, or how it came to none.
-fn picture<S: Source>(alloc: Global, choice: &Choice, source: &mut S) -> Result<Octets, Outcome>
-    ensures reads { ReadsAs (S.left source.old) (S.left source.new) result }
+/// Reads a tape with its summary from the source, of which the dispatches are drawn that are chosen: what is drawn of each buffer and
+/// each read-disable count is what the tape tells. Or how it came to no picture: where a line is refused, the source fails or memory runs
+/// out.
+pub fn read_tape<S: Source>(alloc: Global, choice: &Choice, source: &mut S) -> Result<Tape, Outcome>
+    ensures reads { ReadsAs (S.left source.old) (S.left source.new) choice.now.first choice.now.last result }
     ensures refused { IfErr result (IsRefused (Rose (S.faults source.old) (S.faults source.new))) }
     ensures faults { S.faults source.old ≤ S.faults source.new }
 {
     let Ok(mut tape) = Tape::new(alloc, choice) else {
         return Err(ended(Status::Memory));
     };
-    match read_tape(&mut tape, source) {
-        Stop::End => {}
-        Stop::Failed(status) => return Err(ended(status)),
-        Stop::Refused(refusal) => {
-            return Err(Outcome {
-                status: Status::Session,
-                line: tape.number.saturating_add(1),
-                refusal: Some(refusal),
-            });
-        }
-    }
-    match draw(alloc, tape.plot, tape.part, choice.lanes) {
-        Ok(text) => Ok(text),
-        Err(NoMemory) => Err(ended(Status::Memory)),
+    match read_lines(&mut tape, source) {
+        Stop::End => Ok(tape),
+        Stop::Failed(status) => Err(ended(status)),
+        Stop::Refused(refusal) => Err(Outcome {
+            status: Status::Session,
+            line: tape.number.saturating_add(1),
+            refusal: Some(refusal),
+        }),
     }
 }
 
@@ -282,11 +281,15 @@ pub fn plot_tape<S: Source, K: Sink>(
     ensures source { S.faults source.old ≤ S.faults source.new }
     ensures out { K.faults out.old ≤ K.faults out.new }
 {
-    match picture(alloc, choice, source) {
-        Ok(text) => match write_all(out, text.as_slice()) {
-            Ok(()) => ended(Status::Done),
-            Err(_) => ended(Status::WriteFault),
-        },
-        Err(outcome) => outcome,
+    let tape = match read_tape(alloc, choice, source) {
+        Ok(tape) => tape,
+        Err(outcome) => return outcome,
+    };
+    let Ok(text) = draw(alloc, tape.plot, tape.part, choice.lanes) else {
+        return ended(Status::Memory);
+    };
+    match write_all(out, text.as_slice()) {
+        Ok(()) => ended(Status::Done),
+        Err(_) => ended(Status::WriteFault),
     }
 }

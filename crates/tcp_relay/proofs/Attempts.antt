@@ -1,12 +1,12 @@
 -- What a dispatch without notes comes to.
 use Rattle.std.proofs.Common.{ap, refl}
-use Rattle.std.specs.Prelude.{Err, List, None, Ok, Option, Result, Some, [], ℕ, ◌≡◌}
+use Rattle.std.specs.Prelude.{Err, None, Ok, Option, Result, Some, [], ℕ, ◌≡◌}
 use Rattle.flow_notes.specs.declared.events.Event.{Event}
-use Rattle.flow_notes.specs.declared.notes.Note.{Note}
 use Rattle.tcp_relay.specs.Board.{board_of, held_for}
 use Rattle.tcp_relay.specs.Turns.{Refuses, Steps, Turns, Withholds, turn_notes}
 use Rattle.tcp_relay.specs.declared.effect.Effect.{Effect}
 use Rattle.tcp_relay.specs.declared.fault.RelayFault.{RelayFault}
+use Rattle.tcp_relay.specs.declared.interests.Interests.{Interests}
 use Rattle.tcp_relay.specs.declared.relay.Relay.{Relay}
 use Rattle.tcp_relay.specs.declared.fault.RelayFault.TheVariants as fault
 
@@ -24,13 +24,13 @@ fault_again {T} {U} x y e = ap (λ (z : RelayFault). Err z) (fault_same {T = T} 
 not_fault : {A : Type 0} (done : Effect) (x : RelayFault) → ◌≡◌ {A = Result Effect RelayFault} (Ok done) (Err x) → A
 not_fault done x e = cc
 
-not_paused : (x : RelayFault) → ◌≡◌ {A = Result (Unit {0}) RelayFault} (Ok tt) (Err x) → ⊥
-not_paused x e = cc
+not_paused : (answer : Interests) (x : RelayFault) → ◌≡◌ {A = Result Interests RelayFault} (Ok answer) (Err x) → ⊥
+not_paused answer x e = cc
 
-pub refuses_none : (o : Option ℕ) (old new : Relay) (done : Effect) → Withholds o old (Ok done) new → Refuses o old [] (Ok tt) new []
-refuses_none None old new done w = λ held e. not_paused (fault.Paused held) e
-refuses_none (Some held) old new done w = not_fault done (fault.Paused held) w.0
+pub refuses_none : (o : Option ℕ) (old new : Relay) (done : Effect) (answer : Interests) → Withholds o old (Ok done) new → Refuses {A = Interests} o old [] (Ok answer) new []
+refuses_none None old new done answer w = λ held e. not_paused answer (fault.Paused held) e
+refuses_none (Some held) old new done answer w = not_fault done (fault.Paused held) w.0
 
-pub refuses_same : (o : Option ℕ) (old new : Relay) (x : RelayFault) → Withholds o old (Err x) new → Refuses o old [] (Err x) new []
-refuses_same None old new x w = λ held e. w held (fault_again {T = Unit {0}} {U = Effect} x (fault.Paused held) e)
-refuses_same (Some held) old new x w = (fault_again {T = Effect} {U = Unit {0}} x (fault.Paused held) w.0, w.1, refl)
+pub refuses_same : (o : Option ℕ) (old new : Relay) (x : RelayFault) → Withholds o old (Err x) new → Refuses {A = Interests} o old [] (Err x) new []
+refuses_same None old new x w = λ held e. w held (fault_again {T = Interests} {U = Effect} x (fault.Paused held) e)
+refuses_same (Some held) old new x w = (fault_again {T = Effect} {U = Interests} x (fault.Paused held) w.0, w.1, refl)

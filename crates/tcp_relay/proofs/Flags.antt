@@ -40,7 +40,7 @@ above_empty limit c h e =
     sym (above_now limit c h) ∙ ap (λ (o : List ℕ). above_after limit (above limit c h) (length o)) e ∙ low_empty limit (above limit c h)
 
 -- one that isn't above doesn't rise when it grows shorter
-low_less : (l : ℕ) (w : Bool) (n k : ℕ) → above_after l w n ≡ false → k ≤ n → above_after l false k ≡ false
+pub low_less : (l : ℕ) (w : Bool) (n k : ℕ) → above_after l w n ≡ false → k ≤ n → above_after l false k ≡ false
 low_less l true n k h le = grind (arith, nat_tests)
 low_less l false n k h le = grind (arith, nat_tests)
 

@@ -7,6 +7,7 @@ pub mod Evens
 pub mod Flags
 pub mod Fronts
 pub mod Given
+pub mod Keeping
 pub mod Kept
 pub mod Lists
 pub mod Promises

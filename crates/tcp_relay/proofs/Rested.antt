@@ -146,7 +146,7 @@ pub goes_on_ok : (result : Answered) (old : Relay) (before : List Note) (e : Eve
 goes_on_ok (Ok u) old before e new after t = goes_on old before e new after t
 goes_on_ok (Err x) old before e new after t = t
 
-pub refuses : (result : Answered) (old : Relay) (before : List Note) (e : Event) (new : Relay) (after : List Note)
+pub refuses : {A : Type 0} (result : Result A RelayFault) (old : Relay) (before : List Note) (e : Event) (new : Relay) (after : List Note)
     → (HasFailed old false → RefusesPaused old before e result new after) → RefusesFrom old before e result new after
 refuses result old before e new after k = record {
   goes = λ limit names h r. subst (λ o. Refuses o old before result new after)

@@ -1,6 +1,7 @@
 pub mod AsGiven
 pub mod Board
 pub mod Effects
+pub mod Interests
 pub mod Lines
 pub mod Noting
 pub mod Rests

@@ -57,7 +57,7 @@ held_by limit (event.Read c octets) h = held_behind limit (feed c h) h
 held_by limit e h = None
 
 -- An event that reads a paused flow is refused, with what waits, and nothing changes. No other is refused so.
-pub record RefusesFrom (old : Relay) (before : List Note) (e : Event) (result : Result (Unit {0}) RelayFault) (new : Relay) (after : List Note) : Type 0 where
+pub record RefusesFrom {A : Type 0} (old : Relay) (before : List Note) (e : Event) (result : Result A RelayFault) (new : Relay) (after : List Note) : Type 0 where
   pub goes : (limit : ℕ) (names : List (List ℕ)) (h : Tape) → Rests limit names old (onto before h)
       → Refuses (held_by limit e (onto before h)) old before result new after
 

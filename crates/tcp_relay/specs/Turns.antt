@@ -45,11 +45,11 @@ pub record CutsTurn (old : Relay) (before : List Note) (e : Event) (after : List
   pub front : AppendsSome before (turn_notes old e) after
 
 -- An event that reads a paused flow is refused, with what waits, and nothing changes. No other is refused so.
-abbrev pub Refuses : Option ℕ → Relay → List Note → Result (Unit {0}) RelayFault → Relay → List Note → Type 0
+abbrev pub Refuses : {A : Type 0} → Option ℕ → Relay → List Note → Result A RelayFault → Relay → List Note → Type 0
 Refuses None old before result new after = (held : ℕ) → result ≡ Err (fault.Paused held) → ⊥
 Refuses (Some held) old before result new after = (result ≡ Err (fault.Paused held)) × (new ≡ old) × (after ≡ before)
 
-abbrev pub RefusesPaused : Relay → List Note → Event → Result (Unit {0}) RelayFault → Relay → List Note → Type 0
+abbrev pub RefusesPaused : {A : Type 0} → Relay → List Note → Event → Result A RelayFault → Relay → List Note → Type 0
 RefusesPaused old before e result new after = Refuses (held_for e (board_of old.table)) old before result new after
 
 -- the same, before there are notes

@@ -2,12 +2,14 @@
 ghost use Rattle.std.specs.Prelude.{◌≡◌, ◌≢◌, ◌∷◌, ℕ, Err, IfOk, List, None, OnOk, [], false, true};
 ghost use Rattle.tcp_relay.specs.Board.{board_of, held_for};
 ghost use Rattle.tcp_relay.specs.Effects.{notes_of};
+ghost use Rattle.tcp_relay.specs.Interests.{TellsInterests};
 ghost use Rattle.tcp_relay.specs.Noting.{AppendsNotes};
 ghost use Rattle.tcp_relay.specs.Rests.{GoesOnFrom, RefusesFrom, Rests, ShowsClosing, ShowsConn, ShowsFront, ShowsOut, ShowsPeer, ShowsReads, StopsFrom};
 ghost use Rattle.tcp_relay.specs.Turns.{CutsTurn, HasFailed, RefusesPaused, Steps, Turns, Withholds, turn_notes};
 
 use crate::effect::Effect;
 use crate::fault::RelayFault;
+use crate::interests::{Interests, interests_of};
 use crate::noting::note_effect;
 use crate::table::Table;
 use flow_notes::{Event, Note, Notes};
@@ -55,16 +57,18 @@ impl Relay {
     }
 
     /// Dispatches one event as `dispatch` does, and makes no notes: for a relay of which nobody keeps the tape, as a live one. It
-    /// stands then for the tape with the notes that `dispatch` would have made.
-    pub fn carry_out(&mut self, event: &Event) -> Result<(), RelayFault>
+    /// stands then for the tape with the notes that `dispatch` would have made. Answers whether the interests are as before: with
+    /// `Kept` no connection has come, and each is open, and reads, as it was.
+    pub fn carry_out(&mut self, event: &Event) -> Result<Interests, RelayFault>
         ensures ok { OnOk result (GoesOnFrom self.old [] event.now self.new (turn_notes self.old event.now)) }
         ensures paused { RefusesFrom self.old [] event.now result self.new [] }
         ensures fails { result ≡ Err RelayFault.NoMemory → HasFailed self.new true }
         ensures failed { HasFailed self.old true → result ≡ Err RelayFault.Failed }
         ensures well { HasFailed self.old false → result ≢ Err RelayFault.Failed }
+        ensures interests { IfOk result (λ interests. TellsInterests self.old event.now interests) }
     {
         match self.take(event) {
-            Ok(_effect) => Ok(()),
+            Ok(effect) => Ok(interests_of(event, effect)),
             Err(fault) => Err(fault),
         }
     }

@@ -1,5 +1,6 @@
 // Where things stand in the picture, in points.
-ghost use Rattle.std.specs.Prelude.{◌≤◌};
+ghost use Rattle.std.specs.Prelude.{◌≡◌, ◌≤◌};
+ghost use Rattle.tape_plot.specs.Scale.{height_of};
 
 use crate::clock::Clock;
 use crate::width::Width;
@@ -36,6 +37,9 @@ pub struct Frame {
 }
 
 impl Frame {
+    ghost use Rattle.std.specs.Prelude.{◌≡◌};
+    ghost use Rattle.tape_plot.specs.Scale.{column_x};
+
     pub fn new(clock: &Clock) -> Self {
         Frame {
             first: clock.first,
@@ -46,7 +50,9 @@ impl Frame {
     }
 
     /// Where a column begins; behind the last, where that ends.
-    pub fn x(&self, column: u64) -> u64 {
+    pub fn x(&self, column: u64) -> u64
+        ensures { result ≡ column_x self.now.columns column }
+    {
         let column = column.min(self.columns);
         LEFT + (column.saturating_mul(PLOT) / self.columns).min(PLOT)
     }
@@ -58,7 +64,9 @@ impl Frame {
 }
 
 /// How high a level stands in a lane whose height is `top`.
-pub fn height(level: u64, top: u64) -> u64 {
+pub fn height(level: u64, top: u64) -> u64
+    ensures { result ≡ height_of level top }
+{
     if top == 0 {
         return 0;
     }

@@ -1,4 +1,7 @@
 // The lane of a buffer.
+ghost use Rattle.std.specs.Prelude.{◌≡◌, ◌++◌, OnOk};
+ghost use Rattle.tape_plot.specs.Path.{path_text, point_text, points_text};
+
 use super::frame::{END, Frame, LANE, LEFT, PLOT, height};
 use super::put::{end_text, open_rect, open_text, put_level_line, put_number_text, put_rect};
 use crate::flow::Place;
@@ -20,6 +23,9 @@ pub struct Scene {
 }
 
 impl Scene {
+    ghost use Rattle.std.specs.Prelude.{◌≡◌};
+    ghost use Rattle.tape_plot.specs.Path.{bottom_y, level_y};
+
     /// The lane of a buffer: as high as the limit, or as its highest level where that is more, or where the limit is far above
     /// it.
     pub fn new(frame: Frame, y: u64, place: &Place) -> Self {
@@ -34,11 +40,15 @@ impl Scene {
     }
 
     /// Where a level stands.
-    pub fn level(&self, level: u64) -> u64 {
+    pub fn level(&self, level: u64) -> u64
+        ensures { result ≡ level_y self.now level }
+    {
         self.bottom().saturating_sub(height(level, self.top))
     }
 
-    fn bottom(&self) -> u64 {
+    fn bottom(&self) -> u64
+        ensures { result ≡ bottom_y self.now }
+    {
         self.y.saturating_add(LANE)
     }
 }
@@ -81,20 +91,33 @@ fn put_scale(into: &mut Octets, scene: &Scene, limit: u64) -> Result<(), NoMemor
     Ok(())
 }
 
-// The levels as one line: in each column in which they changed down to the lowest, up to the highest, and to the last.
-fn put_path(into: &mut Octets, scene: &Scene, lane: &Lane) -> Result<(), NoMemory> {
+// The levels as one line: in each column in which they changed to the lowest, the highest and the last.
+fn put_path(into: &mut Octets, scene: &Scene, lane: &Lane) -> Result<(), NoMemory>
+    ensures { OnOk result (into.new ≡ into.old ++ path_text scene.now lane.now.base lane.now.points.items) }
+{
     put_behind(into, b"<path class=\"l\" d=\"M", LEFT)?;
     put_behind(into, b" ", scene.bottom())?;
     put_behind(into, b"V", scene.level(lane.base()))?;
-    for point in lane.points() {
-        put_point(into, scene, *point)?;
-    }
+    put_points(into, scene, lane.points())?;
     put_behind(into, b"H", END)?;
     put_behind(into, b"V", scene.bottom())?;
     into.push_all(b"\"/>\n")
 }
 
-fn put_point(into: &mut Octets, scene: &Scene, point: Point) -> Result<(), NoMemory> {
+fn put_points(into: &mut Octets, scene: &Scene, points: &[Point]) -> Result<(), NoMemory>
+    ensures { OnOk result (into.new ≡ into.old ++ points_text scene.now points.now) }
+{
+    let mut rest = points;
+    while let Some((point, after)) = rest.split_first() {
+        put_point(into, scene, *point)?;
+        rest = after;
+    }
+    Ok(())
+}
+
+fn put_point(into: &mut Octets, scene: &Scene, point: Point) -> Result<(), NoMemory>
+    ensures { OnOk result (into.new ≡ into.old ++ point_text scene.now point) }
+{
     put_behind(into, b"H", scene.frame.x(point.column))?;
     put_behind(into, b"V", scene.level(point.low))?;
     put_behind(into, b" ", scene.level(point.high))?;

@@ -23,10 +23,10 @@ pub struct Pick {
 impl Pick {
     pub fn new(alloc: Global, levels: &Levels, lanes: Lanes) -> Result<Self, NoMemory> {
         let mut ranks = Vec::new(alloc);
-        for exchange in levels.exchanges.values() {
+        for exchange in levels.exchanges.items.values() {
             put_exchange(&mut ranks, exchange)?;
         }
-        for connection in levels.connections.values() {
+        for connection in levels.connections.items.values() {
             put_rank(&mut ranks, &connection.write)?;
         }
         let buffers = ranks.len() as u64;

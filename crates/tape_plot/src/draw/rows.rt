@@ -85,10 +85,12 @@ impl Rows {
 
     /// The lanes that are picked, of flows with their bars and then of connections.
     pub fn put_levels(&mut self, levels: Levels, pick: &Pick) -> Result<(), NoMemory> {
-        for (number, exchange) in levels.exchanges {
+        let exchanges = levels.exchanges;
+        for (number, exchange) in exchanges.items {
             self.put_exchange(number, exchange, pick)?;
         }
-        for (conn, connection) in levels.connections {
+        let connections = levels.connections;
+        for (conn, connection) in connections.items {
             let is_picked = pick.takes_write(conn, &connection.write, self.buffers);
             self.put_place(Name::Write(conn), connection.write, is_picked)?;
         }

@@ -1,10 +1,12 @@
 -- The line is written, and the relay takes the event.
-use Rattle.relay_work.proofs.Carried.{never_paused, takes_err, takes_memory, takes_ok, well}
+use Rattle.relay_work.proofs.Carried.{err_again, never_paused, takes_err, takes_memory, takes_ok, well}
+use Rattle.relay_work.specs.declared.ended.RelayEnded.TheVariants as ended
 use Rattle.std.proofs.Common.{ap, ◌∙◌}
 use Rattle.std.proofs.lemmas.Result.{err_from_is_err_and}
 use Rattle.std.specs.Prelude.{Err}
 use Rattle.tcp_relay.specs.Turns.{turn_notes}
 use Rattle.tcp_relay.specs.declared.fault.RelayFault.{RelayFault}
+use Rattle.tcp_relay.specs.declared.interests.Interests.{Interests}
 use Rattle.relay_work.proofs.events.dispatch.Goals as goal
 
 pub keep_line-requires : goal.keep_line-requires
@@ -18,7 +20,7 @@ returns-in_err-keep_line-clause-takes g c =
 pub returns-in_err-keep_line-clause-cause : goal.returns-in_err-keep_line-clause-cause
 returns-in_err-keep_line-clause-cause g c =
     let p = err_from_is_err_and c.from_residual.result c.from_residual.ensures.1 in
-    rw (p.1, p.2) c.in_err-keep_line.ensures.cause
+    rw (p.1, p.2) (λ q. c.in_err-keep_line.ensures.cause (err_again {T = Interests} {U = Unit {0}} _ ended.JournalFault q))
 
 pub returns-in_err-keep_line-clause-no_fall : goal.returns-in_err-keep_line-clause-no_fall
 returns-in_err-keep_line-clause-no_fall g c = c.keep_line.ensures.no_fall
@@ -40,7 +42,7 @@ unreachable-unreachable-in-Err-Failed g c = c.carry_out.ensures.well (well c.arg
     (c.in-Err-Failed.is ∙ ap (λ (x : RelayFault). Err x) c.in-Err-Failed.field-0-is)
 
 pub returns-in-Ok-clause-takes : goal.returns-in-Ok-clause-takes
-returns-in-Ok-clause-takes g c = takes_ok c.args.names.now c.args.relay.now (g.J.Sink.contents c.args.journal.now) (g.J.Sink.contents c.keep_line.new.journal) c.args.event.now c.carry_out.new.self (turn_notes c.args.relay.now c.args.event.now) c.in-Ok.ensures.ok c.in_ok-keep_line.ensures.keeps
+returns-in-Ok-clause-takes g c = takes_ok c.args.names.now c.args.relay.now (g.J.Sink.contents c.args.journal.now) (g.J.Sink.contents c.keep_line.new.journal) c.args.event.now c.carry_out.new.self (turn_notes c.args.relay.now c.args.event.now) c.in-Ok.interests c.in-Ok.ensures.ok c.in-Ok.ensures.interests c.in_ok-keep_line.ensures.keeps
 
 pub returns-in-Ok-clause-cause : goal.returns-in-Ok-clause-cause
 returns-in-Ok-clause-cause g c = λ e. cc

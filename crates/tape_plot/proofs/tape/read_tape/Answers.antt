@@ -1,17 +1,16 @@
--- Steps are made until one of them ends.
-use Rattle.std.proofs.Common.{arith}
-use Rattle.tape_plot.proofs.Sayings.{goes_more}
-use Rattle.tape_plot.proofs.Stopping.{caused_since}
+-- By how reading stopped.
+use Rattle.tape_plot.proofs.Sayings.{reads_failed, reads_nothing, reads_refused, reads_tape}
 use Rattle.tape_plot.proofs.tape.read_tape.Goals as goal
 
-pub loop-stop-preserved : goal.loop-stop-preserved
-loop-stop-preserved g c = record {
-  goes = goes_more _ _ _ _ _ _ _ c.loop-stop.invariant.goes c.in_default.ensures.goes;
-  faults = omega (arith, c.loop-stop.invariant.faults, c.in_default.ensures.faults);
-}
+pub returns-in_default-clause-reads : goal.returns-in_default-clause-reads
+returns-in_default-clause-reads g c = reads_nothing _ _ c.ended.ensures
 
-pub returns-in-Err-clause-goes : goal.returns-in-Err-clause-goes
-returns-in-Err-clause-goes g c = goes_more _ _ _ _ _ _ _ c.loop-stop.invariant.goes c.in-Err.ensures.goes
+pub returns-in-End-clause-reads : goal.returns-in-End-clause-reads
+returns-in-End-clause-reads g c = reads_tape _ _ c.in-Ok.tape c.read_lines.new.tape _ _ c.in-Ok.ensures c.in-End.ensures.goes
 
-pub returns-in-Err-clause-caused : goal.returns-in-Err-clause-caused
-returns-in-Err-clause-caused g c = caused_since _ _ _ c.in-Err.stop c.loop-stop.invariant.faults c.in-Err.ensures.caused
+pub returns-in-Failed-clause-reads : goal.returns-in-Failed-clause-reads
+returns-in-Failed-clause-reads g c = reads_failed _ _ _ c.in-Ok.tape c.read_lines.new.tape _ _ c.in-Failed.status _ c.in-Ok.ensures c.in-Failed.ensures.goes c.in-Failed.ensures.caused c.ended-in-Failed.ensures
+
+pub returns-in-Refused-clause-reads : goal.returns-in-Refused-clause-reads
+returns-in-Refused-clause-reads g c =
+    reads_refused _ _ c.in-Ok.tape c.read_lines.new.tape _ _ c.in-Refused.refusal c.saturating_add.result c.in-Ok.ensures c.in-Refused.ensures.goes c.saturating_add.ensures

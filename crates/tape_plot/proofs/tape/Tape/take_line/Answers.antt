@@ -6,5 +6,6 @@ use Rattle.tape_plot.proofs.tape.Tape.take_line.Goals as goal
 
 pub returns-clause-takes : goal.returns-clause-takes
 returns-clause-takes c =
-    line_on c.args.self.now _ c.args.n c.requires (subst (λ (v : List ℕ). Follows (take c.args.n v) c.args.self.now.part c.in_ok-self.field-0) c.held.ensures.held c.in_ok-self.ensures.follows)
+    line_on c.args.self.now _ c.args.n c.requires
+    (subst (λ (v : List ℕ). Follows (take c.args.n v) c.args.self.now.plot c.take_text.new.plot c.args.self.now.part c.in_ok-self.field-0) c.held.ensures.held c.in_ok-self.ensures.follows)
     c.skip.ensures (omega arith) (omega arith)

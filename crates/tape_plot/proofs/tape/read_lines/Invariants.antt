@@ -1,7 +1,7 @@
 use Rattle.std.specs.Prelude.{Ok, ◌≤◌}
 use Rattle.tape_plot.specs.Reading.{to_go}
 use Rattle.tape_plot.specs.Reads.{Goes}
-use Rattle.tape_plot.proofs.tape.read_tape.Given as goal
+use Rattle.tape_plot.proofs.tape.read_lines.Given as goal
 
 abbrev pub invariant-loop-stop : goal.invariant-loop-stop
 invariant-loop-stop g l = record {

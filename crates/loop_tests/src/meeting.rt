@@ -1,0 +1,144 @@
+//! Two workers that wait for each other, so that neither can be run before the other.
+ghost use Rattle.loop_tests.specs.Meetings.{AreParts, ArePlaces, in_memory};
+ghost use Rattle.std.specs.Prelude.{◌≡◌, ◌<◌, length, slice_index_or, vec_capacity, ℕ};
+ghost use Rattle.worker_loop.specs.Keeping.{Holds};
+ghost use Rattle.worker_threads.specs.Starting.{IsReady};
+
+use crate::gates::{Begun, Meets};
+use crate::parts::{Meeting, Parts, Places, end_worker, worker_of};
+use flow_notes::Names;
+use io_ports::NoMemory;
+use proxy_config::Config;
+use session_config::names_of;
+use std::alloc::Global;
+use std::sync::atomic::AtomicU64;
+use std::sync::{Arc, Wait};
+use std::test::Fail;
+use std::thread::Threads;
+use worker_threads::{Shared, start_workers};
+
+/// How many turns each runs.
+const TURNS: u64 = 5;
+
+/// Two gates, the first worker's and the second's.
+#[derive(Drop)]
+struct Gates {
+    first: Meets,
+    second: Meets,
+}
+
+// The first worker waits in its first turn until the second has begun its third, and the second in its third until the first has.
+fn gates_of(alloc: Global) -> Result<Gates, NoMemory> {
+    let one = Arc::new(alloc, AtomicU64::new(0))?;
+    let two = Arc::new(alloc, AtomicU64::new(0))?;
+    crossed(&one, &two)
+}
+
+fn crossed(one: &Begun, two: &Begun) -> Result<Gates, NoMemory> {
+    let first = Meets::new(one, two, 1, 2)?;
+    let second = Meets::new(two, one, 3, 2)?;
+    Ok(Gates { first, second })
+}
+
+// Runs the two, and tells whether each met the other.
+fn run_both<R: Threads + Wait + Sync>(
+    rt: &R,
+    alloc: Global,
+    shared: &Shared,
+    first: Meeting,
+    second: Meeting,
+) -> (bool, bool)
+    requires first { IsReady in_memory shared.now 0 first }
+    requires second { IsReady in_memory shared.now 1 second }
+{
+    let mut workers = [first, second];
+    let has_started = start(rt, alloc, shared, &mut workers);
+    let (first, second) = <(Meeting, Meeting)>::from(workers);
+    let met = end_worker(&shared.permits, first);
+    let other_met = end_worker(&shared.permits, second);
+    (has_started && met, has_started && other_met)
+}
+
+fn start<R: Threads + Wait + Sync>(
+    rt: &R,
+    alloc: Global,
+    shared: &Shared,
+    workers: &mut [Meeting],
+) -> bool
+    requires { (i : ℕ) (w : _) → i < length workers.old → IsReady in_memory shared.now i (slice_index_or workers.old i w) }
+    ensures len { length workers.new ≡ length workers.old }
+    ensures each { (i : ℕ) (w : _) → i < length workers.old → Holds shared.now.permits (slice_index_or workers.new i w).seat (slice_index_or workers.new i w).held }
+{
+    match start_workers(rt, alloc, shared, workers, TURNS) {
+        Ok(_) => true,
+        Err(NoMemory) => false,
+    }
+}
+
+// Runs two workers of these parts.
+fn meet_over<R: Threads + Wait + Sync>(
+    rt: &R,
+    alloc: Global,
+    names: Names,
+    places: Places,
+    first: Parts,
+    second: Parts,
+    gates: Gates,
+) -> (bool, bool)
+    requires places { ArePlaces places.permits places.seat places.other_seat places.posts.items (vec_capacity places.posts) }
+    requires first { AreParts names first.core.kind first.posts first.pass first.wires }
+    requires second { AreParts names second.core.kind second.posts second.pass second.wires }
+{
+    let Places {
+        permits,
+        seat,
+        other_seat,
+        follower,
+        other_follower,
+        mut posts,
+    } = places;
+    let (posted, first) = worker_of(alloc, &names, &permits, first, follower, seat, gates.first);
+    posts.push_reserved(posted);
+    let (posted, second) = worker_of(
+        alloc,
+        &names,
+        &permits,
+        second,
+        other_follower,
+        other_seat,
+        gates.second,
+    );
+    posts.push_reserved(posted);
+    let shared = Shared {
+        posts,
+        permits,
+        names,
+    };
+    run_both(rt, alloc, &shared, first, second)
+}
+
+fn meet<R: Threads + Wait + Sync>(
+    rt: &R,
+    alloc: Global,
+    gates: Gates,
+) -> Result<(bool, bool), NoMemory> {
+    let names = names_of_defaults(alloc)?;
+    let places = Places::new(rt, alloc)?;
+    let first = Parts::new(alloc, &names)?;
+    let second = Parts::new(alloc, &names)?;
+    Ok(meet_over(rt, alloc, names, places, first, second, gates))
+}
+
+fn names_of_defaults(alloc: Global) -> Result<Names, NoMemory> {
+    let config = Config::of_defaults(alloc)?;
+    names_of(alloc, &config)
+}
+
+#[test]
+fn two_workers_meet(rt: HostRuntime) -> Result<(), Fail> {
+    let gates = gates_of(rt.alloc())?;
+    let (has_met, other_has_met) = meet(&rt, rt.alloc(), gates)?;
+    assert!(rt; has_met);
+    assert!(rt; other_has_met);
+    Ok(())
+}
