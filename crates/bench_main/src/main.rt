@@ -22,7 +22,8 @@ const USAGE: &str = "usage: bench_main BENCH
   buffer     octets through two watermark buffers, beside two plain copies
   drill      a drill from end to end, beside its octets through two buffers
   exchanges  starts, moves and dooms, with one and with 50,000 live exchanges
-  fields     blocks of request fields, decoded and encoded (fields blocks: prints them)
+  fields     blocks of request fields, decoded and encoded (fields blocks: prints them as stories;
+             fields stories: decodes the stories of the standard input)
   frames     reading of frames
   gates      calls of the gates while few and while many flows are open
   notes      lines of notes, written and read, beside a plain copy of the same text
@@ -40,7 +41,9 @@ fn main(rt: HostRuntime) -> anyhow::Result<()> {
         Some(word) if word.as_str() == "buffer" => buffers::run(&rt)?,
         Some(word) if word.as_str() == "drill" => drill::run(&rt)?,
         Some(word) if word.as_str() == "exchanges" => exchanges::run(&rt)?,
-        Some(word) if word.as_str() == "fields" => fields::run(&rt, words.next().is_some())?,
+        Some(word) if word.as_str() == "fields" => {
+            fields::run(&rt, words.next().as_ref().map(|word| word.as_str()))?
+        }
         Some(word) if word.as_str() == "frames" => frames::run(&rt)?,
         Some(word) if word.as_str() == "gates" => gates::run(&rt)?,
         Some(word) if word.as_str() == "notes" => notes::run(&rt)?,

@@ -1,7 +1,7 @@
 -- The events of a drill, one after another.
 use Rattle.flow_notes.specs.declared.events.Event.{Event}
-use Rattle.replay_run.specs.Drill.{drill, ended, opened, stream_at}
-use Rattle.replay_run.specs.Drilling.{DrillIs, GoesTo, IsPlaced, Yields, drains_from, ends_from, opens_from, rest_of, rounds_from}
+use Rattle.replay_run.specs.DrillEvents.{drill, ended, opened, stream_at}
+use Rattle.replay_run.specs.Drill.{DrillIs, GoesTo, IsPlaced, Yields, drains_from, ends_from, opens_from, rest_of, rounds_from}
 use Rattle.replay_run.specs.declared.drill.Drill.{Drill}
 use Rattle.replay_run.specs.declared.drill.Upcoming.{Upcoming}
 use Rattle.std.proofs.Common.{ap, append_assoc, arith, refl, subst, sym, ◌∙◌}
