@@ -48,20 +48,23 @@ class Cluster:
 
 
 class Proxy:
-    """A running proxy before one cluster. Its journals are files of its own, or begin with the words given, or there are none."""
+    """A running proxy before one cluster, and one more at another port for the paths below `/other` if it is given. Its journals are
+    files of its own, or begin with the words given, or there are none."""
 
-    def __init__(self, args, port, limits='', timeouts='', journal=True, turns=None, **keys):
+    def __init__(self, args, port, other=None, limits='', timeouts='', journal=True, turns=None, **keys):
         self.args, self.dir = args, tempfile.mkdtemp(prefix='h2proxy-')
         self.journal = os.path.join(self.dir, 'J') if journal is True and args.replay else None
         keys = {'connections': 2, **keys}
         lines = ['[limits]', limits, '[timeouts]', timeouts, '[proxy]', *(f'{k} = {v}' for k, v in keys.items())]
         if self.journal or isinstance(journal, str):
             lines.append(f'journal = "{self.journal or journal}"')
-        lines += ['[[clusters]]', 'name = "web"', f'address = "{HOST}:{port}"', '[[routes]]', 'prefix = "/"', 'cluster = "web"']
+        for name, prefix, at in [('other', '/other', other), ('web', '/', port)]:
+            if at:
+                lines += ['[[clusters]]', f'name = "{name}"', f'address = "{HOST}:{at}"', '[[routes]]', f'prefix = "{prefix}"', f'cluster = "{name}"']
         self.config = os.path.join(self.dir, 'c.toml')
         with open(self.config, 'w') as f:
             f.write('\n'.join(lines) + '\n')
-        self.workers = keys.get('workers', 1)
+        self.workers = keys.get('workers', 2)
         words = [args.h2proxy, self.config] + ([str(turns)] if turns else [])
         self.process = subprocess.Popen(words, stdout=subprocess.PIPE, stderr=subprocess.PIPE, text=True)
         line = self.process.stdout.readline()
@@ -373,7 +376,7 @@ def main():
     parser.add_argument('h2proxy')
     parser.add_argument('--replay', metavar='H2REPLAY')
     parser.add_argument('names', nargs='*', metavar='NAME')
-    args = parser.parse_args()
+    args = parser.parse_intermixed_args()
     bad = 0
     for name, run in SCENARIOS.items():
         if args.names and name not in args.names:

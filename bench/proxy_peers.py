@@ -577,7 +577,7 @@ def main():
     parser.add_argument('--replay', metavar='H2REPLAY')
     parser.add_argument('--strace', action='store_true', help='count system calls where that tells something')
     parser.add_argument('names', nargs='*', metavar='NAME')
-    args = parser.parse_args()
+    args = parser.parse_intermixed_args()
     bad = 0
     for name, run in SCENARIOS.items():
         if args.names and name not in args.names:

@@ -78,11 +78,31 @@ impl<'a, W: Wires> Wires for MeteredWires<'a, W> {
         }
     }
 
-    fn offer(&mut self, conn: u32, piece: &[u8]) -> Result<usize, Failed> {
+    fn offer(&mut self, conn: u32, piece: &[u8]) -> Result<usize, Failed>
+        ensures bound { WritesAtMost result piece.now }
+        ensures live { is_live conn (untold self.old.greatest (W.seen self.old.inner)) ≡ false → IfOk result (λ n. n ≡ 0) }
+        ensures ok { IfOk result (λ n. untold self.new.greatest (W.seen self.new.inner) ≡ offered conn piece.now n (untold self.old.greatest (W.seen self.old.inner))) }
+        ensures err { OnErr result (untold self.new.greatest (W.seen self.new.inner) ≡ untold self.old.greatest (W.seen self.old.inner)) }
+        ensures cause { FailsByFault (W.faults self.old.inner) (W.faults self.new.inner) result }
+
+        // The inner connections are offered the piece, once. What is known of tokens stays.
+        ensures inner { IfOk result (λ n. W.seen self.new.inner ≡ offered conn piece.now n (W.seen self.old.inner)) }
+        ensures inner_err { OnErr result (W.seen self.new.inner ≡ W.seen self.old.inner) }
+        ensures seat { (self.new.seat ≡ self.old.seat) × (self.new.greatest ≡ self.old.greatest) }
+        ensures bucket { self.new.bucket.now ≡ self.old.bucket.now }
+    {
         self.inner.offer(conn, piece)
     }
 
-    fn close(&mut self, conn: u32) {
+    fn close(&mut self, conn: u32)
+        ensures closes { untold self.new.greatest (W.seen self.new.inner) ≡ closed conn (untold self.old.greatest (W.seen self.old.inner)) }
+        ensures no_fall { W.faults self.old.inner ≤ W.faults self.new.inner }
+
+        // The inner connection is closed. What is known of tokens stays.
+        ensures inner { W.seen self.new.inner ≡ closed conn (W.seen self.old.inner) }
+        ensures seat { (self.new.seat ≡ self.old.seat) × (self.new.greatest ≡ self.old.greatest) }
+        ensures bucket { self.new.bucket.now ≡ self.old.bucket.now }
+    {
         self.inner.close(conn);
     }
 }

@@ -3,3 +3,4 @@ pub mod Doors
 pub mod Plans
 pub mod Rolls
 pub mod Sockets
+pub mod Stalls

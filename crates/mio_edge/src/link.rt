@@ -1,5 +1,6 @@
 // The socket of a live connection.
-ghost use Rattle.std.specs.Prelude.{◌≤◌, length};
+ghost use Rattle.std.specs.Prelude.{◌≡◌, ◌≤◌, ◌||◌, length};
+ghost use Rattle.mio_edge.specs.Stalls.{stalled_since, is_stuck};
 
 use mio::event::Event;
 use mio::net::TcpStream;
@@ -48,6 +49,10 @@ pub(crate) struct Link {
     broken: bool,
     /// Whether octets were written.
     sent: bool,
+    /// Since when it has taken nothing of what was offered, in milliseconds.
+    stalled: Option<u64>,
+    /// Whether it took nothing for too long.
+    stuck: bool,
 }
 
 impl Link {
@@ -63,6 +68,8 @@ impl Link {
             ending: false,
             broken: false,
             sent: false,
+            stalled: None,
+            stuck: false,
         }
     }
 
@@ -80,13 +87,14 @@ impl Link {
         }
     }
 
-    /// Whether the connection is lost without a read: a write failed and it isn't to be read, or no client has it and the
-    /// peer ends it.
+    /// Whether the connection is lost without a read: it took nothing for too long, a write failed and it isn't to be read, or
+    /// no client has it and the peer ends it.
     pub fn is_lost(&self) -> bool {
-        match self.origin {
+        let is_over = match self.origin {
             Origin::Ready { .. } => self.ending || self.broken,
             Origin::Client | Origin::Taken | Origin::Shared { .. } => self.held && self.broken,
-        }
+        };
+        self.stuck || is_over
     }
 
     /// Whether it is to be looked at.
@@ -134,6 +142,25 @@ impl Link {
             Err(error) => {
                 self.refused(error.kind());
                 0
+            }
+        }
+    }
+
+    /// Takes in that of some octets that were offered at this moment so many went. Where it is borne for so many milliseconds that
+    /// none go, the connection is lost then.
+    pub fn bear(&mut self, took: usize, now: u64, patience: Option<u64>)
+        ensures since { self.new.stalled ≡ stalled_since took now self.old.stalled }
+        ensures stuck { self.new.stuck ≡ (self.old.stuck || is_stuck now patience self.new.stalled) }
+    {
+        if took > 0 {
+            self.stalled = None;
+            return;
+        }
+        let since = self.stalled.unwrap_or(now);
+        self.stalled = Some(since);
+        if let Some(most) = patience {
+            if now.saturating_sub(since) >= most {
+                self.stuck = true;
             }
         }
     }

@@ -15,14 +15,18 @@ pub(crate) struct Links {
     due: VecDeque<u32>,
     /// How many were made by clients.
     clients: u32,
+    /// For how long it is borne that one takes nothing of what waits for it, in milliseconds.
+    patience: Option<u64>,
 }
 
 impl Links {
-    pub fn new(alloc: Global) -> Self {
+    /// No connections, of which each is lost once it takes nothing of what waits for it for so many milliseconds.
+    pub fn new(alloc: Global, patience: Option<u64>) -> Self {
         Links {
             live: BTreeMap::new(alloc),
             due: VecDeque::new(alloc),
             clients: 0,
+            patience,
         }
     }
 
@@ -76,14 +80,16 @@ impl Links {
         cluster
     }
 
-    /// Writes to a connection once, and answers how many octets went.
-    pub fn write(&mut self, conn: u32, piece: &[u8]) -> usize
+    /// Writes to a connection once, at a moment in milliseconds, and answers how many octets went. Only connections for which octets
+    /// wait are written to, each once a turn, so only those are looked at for a stall.
+    pub fn write(&mut self, conn: u32, piece: &[u8], now: u64) -> usize
         ensures { result ≤ length piece.now }
     {
         let Some(link) = self.live.get_mut(&conn) else {
             return 0;
         };
         let n = link.write(piece);
+        link.bear(n, now, self.patience);
         queue(&mut self.due, conn, link);
         n
     }

@@ -1,12 +1,15 @@
 // What the sockets are to be.
 ghost use Rattle.std.specs.Prelude.{◌≡◌, ◌-◌, ◌^◌, min};
-ghost use Rattle.mio_edge.specs.Plans.{files_of};
+ghost use Rattle.mio_edge.specs.Plans.{files_of, patience_of};
 
 use crate::parting::MOST_PARTINGS;
 use std::net::SocketAddr;
 
 /// How many files are open beside the connections: standard streams, a journal, the listener and the poll.
 const OTHER_FILES: u64 = 16;
+
+/// For how long it is borne that a connection takes nothing of what waits for it, in milliseconds.
+const LONGEST_STALL: u64 = 60_000;
 
 /// What clients have of the connections to clusters.
 #[derive(Clone, Copy, Debug, PartialEq, Eq)]
@@ -30,6 +33,17 @@ pub struct Plan {
 }
 
 impl Plan {
+    /// For how long it is borne that a connection takes nothing of what waits for it, in milliseconds. Where each client has a
+    /// connection for itself it is borne for ever.
+    pub(crate) fn patience(&self) -> Option<u64>
+        ensures { result ≡ patience_of self.now.sharing }
+    {
+        match self.sharing {
+            Sharing::OneEach => None,
+            Sharing::All => Some(LONGEST_STALL),
+        }
+    }
+
     /// How many files may be open at once. The number ends at 2^64 - 1.
     pub fn most_files(&self) -> u64
         ensures { result ≡ min (files_of self.now) (2 ^ 64 - 1) }

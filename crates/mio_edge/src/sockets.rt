@@ -82,7 +82,7 @@ impl<R: Clock + Net + Drop, I: Inlet + Drop> Sockets<R, I> {
             sharing: plan.sharing,
             dialers: dialers_of(alloc, plan)?,
             dials: Dials::new(alloc),
-            links: Links::new(alloc),
+            links: Links::new(alloc, plan.patience()),
             partings: Partings::new(alloc),
             block: vec![in alloc; 0; PIECE]?,
             room: Vec::new(alloc),
@@ -118,7 +118,7 @@ impl<R: Clock + Net + Drop, I: Inlet + Drop> Sockets<R, I> {
     pub fn write(&mut self, conn: u32, piece: &[u8]) -> usize
         ensures { result ≤ length piece.now }
     {
-        let n = self.links.write(conn, piece);
+        let n = self.links.write(conn, piece, self.now);
         if n > 0 && n == piece.len() {
             self.stirred = true;
         }

@@ -6,12 +6,12 @@ ghost use Rattle.proxy_cli.specs.Sites.{site_faults};
 
 use crate::journal::FileJournal;
 use crate::socket_site::SocketSite;
-use io_ports::Failed;
+use io_ports::{Failed, Octets};
 use mio::Poll;
 use mio_accept::{AcceptQueue, Acceptor, QueueInlet};
 use mio_edge::{EdgeFault, MonotonicClock, Sharing, SocketTaps};
 use proxy_config::Config;
-use proxy_site::SiteRefusal;
+use proxy_site::{Site, SiteRefusal};
 use proxy_wire::WireSite;
 use std::io::{Eprint, Error, ErrorKind};
 use std::net::Net;
@@ -75,6 +75,10 @@ impl<R: Eprint + Files + Net + Clock + Wait + AllocGlobal + Copy + Drop> WireSit
     type L = FileJournal<R::File>;
 
     ghost wired = { λ _. None };
+
+    fn listen_for_workers(&mut self, at: &Octets) -> Result<Octets, SiteRefusal> {
+        self.listen(at)
+    }
 
     fn fit(
         &mut self,

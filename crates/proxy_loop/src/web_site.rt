@@ -108,6 +108,10 @@ impl<R: Eprint + Files + Net + Clock + Wait + AllocGlobal + Copy + Drop> WireSit
 
     ghost wired = { λ _. None };
 
+    fn listen_for_workers(&mut self, at: &Octets) -> Result<Octets, SiteRefusal> {
+        self.listen(at)
+    }
+
     fn fit(
         &mut self,
         worker: u32,

@@ -226,6 +226,14 @@ module _ {M C L : Type 0} (o : Outside M C L) where
       → WorksAll o shared n address old new out out' end
   works_each shared n address old new ends out out' end is line worked = inr (record { ends = ends; status = is; line = line; worked = worked })
 
+-- ---- how many they are
+module _ {X Z : Type 0} where
+  pub len_few : (v : Vec X Z) (n : ℕ) → length v.items ≤ n → v.len ≤ n
+  len_few v n few = let l = v.ok.0 in omega (arith, l, few)
+
+  pub len_none : (v : Vec X Z) → v.items ≡ [] → v.len ≡ 0
+  len_none v none = let l = v.ok.0 in let k : length v.items ≡ 0 = ap (λ (xs : List X). length xs) none in omega (arith, l, k)
+
 -- ---- workers that were lent out of the crew
 module _ {M C L : Type 0} (o : Outside M C L) where
   works_same : (shared : Shared) (n : ℕ) (address : List ℕ) (old new : List (Worker M C OpenGate L)) (out out' : Option (List ℕ)) (end : WireEnd) → WorksAll o shared n address old new out out' end → length new ≡ length old
@@ -256,6 +264,13 @@ module _ {W M C L : Type 0} (bare : M → W) (o : Outside M C L) where
       subst (λ (ws : List (Worker M C OpenGate L)). CrewWorks bare o config n address crew.shared a c ws out out' end) (sym back) (crew_idle_or_ran config n address crew a b c mid out out' end all same there)
 
   -- those that were fitted in vain go back
+  pub cause_hired : (how : Status) (a b x y : ℕ) (workers : List (Worker M C OpenGate L)) → (how ≡ status.WriteFault → Rose a b ⊎ OneFailed o workers) → how ≡ status.WriteFault → (Rose a b ⊎ Rose x y) ⊎ OneFailed o workers
+  cause_hired how a b x y workers cause f = by (cause f)
+    where
+      by : Rose a b ⊎ OneFailed o workers → (Rose a b ⊎ Rose x y) ⊎ OneFailed o workers
+      by (inl rose) = inl (inl rose)
+      by (inr one) = inr one
+
   pub idle_paid_of : (config : Config) (permits : Permits) (a b : Option (WireTold W C L)) (workers : List (Worker M C OpenGate L)) → HiresSome bare o config permits a b workers → All (IsPaid permits) workers
   idle_paid_of config permits a b workers some = idle_paid bare o permits some.given workers some.idle
 

@@ -4,7 +4,7 @@ use Rattle.metered_wires.specs.declared.metered.MeteredWires.{MeteredWires}
 use Rattle.proxy_config.specs.declared.config.Config.{Config}
 use Rattle.proxy_site.proofs.Relayed.{rose_later}
 use Rattle.proxy_site.specs.Relaying.{IsCutShort, SiteOrOut}
-use Rattle.proxy_site.specs.Sites.{TellsListening, TellsNoMore, Told}
+use Rattle.proxy_site.specs.Sites.{TellsListening, Told}
 use Rattle.proxy_wire.specs.Serving.{AllRan, NoneRan, ServesWire, metered_outside}
 use Rattle.proxy_wire.specs.Sites.{WireTold}
 use Rattle.session_run.specs.declared.status.Status.{Status}
@@ -19,7 +19,7 @@ module _ {T J : Type 0} {W C L : Type 0} (G : Ghosts W) (o : Outside W C L) wher
       NoneRan o.seen o.text config address w w' out out' how
       ⊎ (AllRan (λ (v : W). v) o config n address w w' out out' how ⊎ AllRan (λ (m : MeteredWires W G). m.inner) (metered_outside G o) config n address w w' out out' how)
 
-  pub not_listened : (config : Config) (n : ℕ) (a b : Option (Told T J)) (w w' : Option (WireTold W C L)) (out out' : Option (List ℕ)) (how : Status) → TellsNoMore a config.proxy.listen b → w' ≡ w → out' ≡ out → IsCutShort how → ServesWire G o config n a b w w' out out' how
+  pub not_listened : (config : Config) (n : ℕ) (a b : Option (Told T J)) (w w' : Option (WireTold W C L)) (out out' : Option (List ℕ)) (how : Status) → b ≡ a → w' ≡ w → out' ≡ out → IsCutShort how → ServesWire G o config n a b w w' out out' how
   not_listened config n a b w w' out out' how told wired same cut = inl (record { told = told; wired = wired; out = same; cut = cut })
 
   pub listened : (config : Config) (n : ℕ) (address : List ℕ) (a b c : Option (Told T J)) (w w' : Option (WireTold W C L)) (out out' : Option (List ℕ)) (how : Status) → TellsListening a (config.proxy.listen, address) b → c ≡ b

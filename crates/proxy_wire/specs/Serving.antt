@@ -4,7 +4,7 @@ use Rattle.metered_wires.specs.declared.metered.MeteredWires.{MeteredWires}
 use Rattle.proxy_config.specs.declared.config.Config.{Config}
 use Rattle.proxy_site.specs.Relaying.{IsCutShort, listening_line}
 use Rattle.proxy_site.specs.Serving.{HasConfig, HasNoConfig}
-use Rattle.proxy_site.specs.Sites.{TellsListening, TellsNoMore, Told}
+use Rattle.proxy_site.specs.Sites.{TellsListening, Told}
 use Rattle.proxy_wire.specs.Sites.{TellsWorkers, WireTold}
 use Rattle.proxy_wire.specs.Working.{RanEach, ends_status}
 use Rattle.proxy_wire.specs.declared.end.WireEnd.{WireEnd}
@@ -63,8 +63,8 @@ metered_outside {W} G o = record { seen = λ (m : MeteredWires W G). untold m.gr
 
 module _ {T J : Type 0} {W C L : Type 0} (G : Ghosts W) (o : Outside W C L) where
   -- it couldn't listen, or for want of memory it didn't; nothing was given to a worker, and nothing was written
-  pub record NotListened (config : Config) (told_old told_new : Option (Told T J)) (wired_old wired_new : Option (WireTold W C L)) (out_old out_new : Option (List ℕ)) (how : Status) : Type 0 where
-    pub told : TellsNoMore told_old config.proxy.listen told_new
+  pub record NotListened (told_old told_new : Option (Told T J)) (wired_old wired_new : Option (WireTold W C L)) (out_old out_new : Option (List ℕ)) (how : Status) : Type 0 where
+    pub told : told_new ≡ told_old
     pub wired : wired_new ≡ wired_old
     pub out : out_new ≡ out_old
     pub cut : IsCutShort how
@@ -79,7 +79,7 @@ module _ {T J : Type 0} {W C L : Type 0} (G : Ghosts W) (o : Outside W C L) wher
 
   abbrev pub ServesWire : (config : Config) (n : ℕ) (told_old told_new : Option (Told T J)) (wired_old wired_new : Option (WireTold W C L)) (out_old out_new : Option (List ℕ)) (how : Status) → Type 0
   ServesWire config n told_old told_new wired_old wired_new out_old out_new how =
-      NotListened config told_old told_new wired_old wired_new out_old out_new how
+      NotListened told_old told_new wired_old wired_new out_old out_new how
       ⊎ Listened config n told_old told_new wired_old wired_new out_old out_new how
 
 -- under the configuration that was read; where there is none, the site told nothing more

@@ -1,5 +1,5 @@
 // The workers of the proxy, and what they are made of.
-ghost use Rattle.std.specs.Prelude.{[], All, IfOk, length, ◌≡◌};
+ghost use Rattle.std.specs.Prelude.{[], All, IfOk, length, vec_len, ◌≡◌};
 ghost use Rattle.proxy_config.specs.Ranges.{IsInRange};
 ghost use Rattle.proxy_wire.specs.Crews.{SharesOf};
 ghost use Rattle.shared_state.specs.PermitSeats.{IsSeatOf, seats_in};
@@ -41,7 +41,7 @@ pub(crate) struct Parts {
 pub(crate) fn share(alloc: Global, config: &Config) -> Result<(Shared, PermitSeats), NoMemory>
     requires { IsInRange config.now }
     ensures shares { IfOk result (λ made. SharesOf config.now made.0) }
-    ensures none { IfOk result (λ made. made.0.posts.items ≡ []) }
+    ensures none { IfOk result (λ made. (made.0.posts.items ≡ []) × (vec_len made.0.posts ≡ 0)) }
     ensures seats { IfOk result (λ made. All (IsSeatOf made.0.permits) (seats_in made.1)) }
 {
     let most = u64::from(config.proxy.max_connections);

@@ -45,7 +45,7 @@ pub enum ProxyReason {
 /// configuration, listen, and run its workers, each for so many turns, while clients are accepted and gauges read. Once it listens,
 /// `listening ADDRESS` is written to `out`; a configuration that is refused is told there in a line. Other words read and write
 /// nothing.
-#[tactic(auto, using(crate::proofs::Asked::asked_wire, crate::proofs::Asked::has_form, crate::proofs::Asked::has_none, crate::proofs::Asked::no_both, crate::proofs::Asked::relay_used))]
+#[tactic(auto, using(crate::proofs::Asked::has_none))]
 pub fn serve_proxy<R, S, T, G, K>(
     rt: &R,
     alloc: Global,

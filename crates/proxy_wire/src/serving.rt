@@ -118,7 +118,7 @@ where
     ensures write_fault { SiteOrOut (wire_status result) (T.faults site.old) (T.faults site.new) (K.faults out.old) (K.faults out.new) }
     ensures no_fall { (T.faults site.old ≤ T.faults site.new) × (K.faults out.old ≤ K.faults out.new) }
 {
-    let address = match site.listen(&config.proxy.listen) {
+    let address = match site.listen_for_workers(&config.proxy.listen) {
         Ok(address) => address,
         Err(SiteRefusal::Failed) => return WireEnd::Listen,
         Err(SiteRefusal::NoMemory) => return WireEnd::Memory,

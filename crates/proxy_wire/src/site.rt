@@ -1,11 +1,11 @@
 // Where the workers' connections come from.
 ghost use Rattle.std.specs.Prelude.{[], ◌∷◌, ◌≡◌, ◌<◌, ◌≤◌, ◌⊎◌, Err, IfOk, OnErr, Option, length};
 ghost use Rattle.io_ports.specs.Faults.{FailsByFault, Rose};
-ghost use Rattle.proxy_site.specs.Sites.{IsUnused};
+ghost use Rattle.proxy_site.specs.Sites.{IsUnused, TellsListening};
 ghost use Rattle.proxy_site.specs.declared.site.SiteRefusal.TheVariants as refusal;
 ghost use Rattle.proxy_wire.specs.Sites.{TellsFitted, TellsReturned, WireTold};
 
-use io_ports::Failed;
+use io_ports::{Failed, Octets};
 use proxy_config::Config;
 use proxy_site::{Site, SiteRefusal};
 use worker_parts::Journal;
@@ -23,6 +23,14 @@ pub trait WireSite: Site {
 
     /// What it gave to workers and what came back, where this is told.
     ghost wired: { Self → Option (WireTold Self.W Self.C Self.L) };
+
+    /// Listens at an address with a port, as `listen` does, and answers the one that is in use. Nothing is given to a worker by it.
+    fn listen_for_workers(&mut self, at: &Octets) -> Result<Octets, SiteRefusal>
+        ensures told { IfOk result (λ used. TellsListening (Self.told self.old) (at.now, used) (Self.told self.new)) }
+        ensures err { OnErr result (Self.told self.new ≡ Self.told self.old) }
+        ensures wired { wired self.new ≡ wired self.old }
+        ensures no_fall { Self.faults self.old ≤ Self.faults self.new }
+        ensures cause { result ≡ Err refusal.Failed → Rose (Self.faults self.old) (Self.faults self.new) };
 
     /// What a worker, counted from 1, works over: connections to the configuration's clusters that nobody has used, a clock, and its
     /// journal. Neither the connections nor the journal have failed.

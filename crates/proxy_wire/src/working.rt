@@ -94,7 +94,7 @@ where
 }
 
 // Fits the workers, and runs them.
-#[tactic(auto, using(crate::proofs::Running::none_hired, crate::proofs::Running::idle_paid_of, crate::proofs::Running::idle_few))]
+#[tactic(auto, using(crate::proofs::Running::none_hired, crate::proofs::Running::idle_paid_of, crate::proofs::Running::cause_hired))]
 fn work_crew<R, T, M, G, K>(
     rt: &R,
     alloc: Global,

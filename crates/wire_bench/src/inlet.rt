@@ -1,12 +1,12 @@
 // What comes in: DATA frames beside a plain copy of their octets, and small heads.
-use crate::blocks::{
-    Copies, FRAMES_A_ROUND, PIECE, ROUNDS, report_count, report_octets, report_ratio, small_request,
-};
+use crate::copies::{Copies, FRAMES_A_ROUND, PIECE, ROUNDS};
+use crate::report::{Spent, report_count, report_octets};
+use crate::requests::small_request;
 use crate::stopwatch::CpuStopwatch;
 use anyhow::{bail, ensure};
-use h2_frames::{Frame, frame_head, write_frame};
+use h2_frames::frame_head;
 use hpack_codec::Encoder;
-use io_ports::Octets;
+use io_ports::{NoMemory, Octets};
 use std::alloc::Global;
 use std::time::CpuClock;
 use wire_inlet::{Inlet, Intake, Peer};
@@ -14,45 +14,53 @@ use wire_inlet::{Inlet, Intake, Peer};
 /// What a client's connection begins with (RFC 9113 section 3.4).
 const PREFACE: &[u8] = b"PRI * HTTP/2.0\r\n\r\nSM\r\n\r\n";
 
-/// The type of a head, its flag END_HEADERS, and that with END_STREAM.
+/// The types of frames.
+const DATA: u8 = 0;
+
 const HEADERS: u8 = 1;
 
+const SETTINGS: u8 = 4;
+
+/// The flag END_HEADERS, and that with END_STREAM.
 const END_HEADERS: u8 = 4;
 
 const ENDS: u8 = 5;
 
+/// The greatest number of a stream.
 const MAX_STREAM: u32 = 0x7fff_ffff;
+
+/// A client's connection on which nothing came.
+fn new_inlet(alloc: Global) -> Inlet {
+    Inlet::new(alloc, Peer::Client, 100, 100, 61_440)
+}
 
 /// Takes one frame, and answers its flow-controlled octets.
 fn take(inlet: &mut Inlet) -> anyhow::Result<u64> {
-    match inlet.next(PIECE)? {
-        Intake::Taken(taken) => Ok(u64::from(taken.content)),
-        Intake::Need | Intake::Fault(_) => bail!("a frame wasn't taken"),
+    match inlet.next(PIECE) {
+        Ok(Intake::Taken(taken)) => Ok(u64::from(taken.content)),
+        Ok(_) => bail!("a frame wasn't taken"),
+        Err(_) => bail!("out of memory"),
     }
 }
 
 /// The block of a small request's head, which uses no dynamic table.
-fn small_block(alloc: Global) -> anyhow::Result<Octets> {
-    let mut encoder = Encoder::new(alloc);
+fn small_block(alloc: Global) -> Result<Octets, NoMemory> {
     let fields = small_request(alloc)?;
-    Ok(encoder.encode(&fields)?)
+    Encoder::new(alloc).encode(&fields)
 }
 
-/// A client's connection, of which the preface and an empty SETTINGS frame were taken.
-fn begun(alloc: Global) -> anyhow::Result<Inlet> {
-    let mut inlet = Inlet::new(alloc, Peer::Client, 100, 100, 61_440);
-    let mut octets = Octets::new(alloc);
-    octets.push_all(PREFACE)?;
-    write_frame(
-        &Frame::Settings {
-            ack: false,
-            entries: &[],
-        },
-        &mut octets,
-    )?;
-    inlet.push(octets.as_slice())?;
-    take(&mut inlet)?;
-    Ok(inlet)
+/// The preface, and an empty SETTINGS frame.
+fn beginning(alloc: Global) -> Result<Octets, NoMemory> {
+    let mut octets = Octets::from_slice(alloc, PREFACE)?;
+    octets.push_all(&frame_head(0, SETTINGS, 0, 0))?;
+    Ok(octets)
+}
+
+/// A DATA frame with this piece.
+fn data_frame(alloc: Global, piece: &[u8]) -> Result<Octets, NoMemory> {
+    let mut octets = Octets::from_slice(alloc, &frame_head(PIECE, DATA, 0, 1))?;
+    octets.push_all(piece)?;
+    Ok(octets)
 }
 
 /// The nine octets before a block that is sent whole.
@@ -61,89 +69,136 @@ fn headers_head(block: &[u8], flags: u8, stream: u32) -> [u8; 9] {
     frame_head(len, HEADERS, flags, stream.min(MAX_STREAM))
 }
 
-/// The head of a stream that stays open for its body.
-fn open(inlet: &mut Inlet, block: &Octets) -> anyhow::Result<()> {
-    inlet.push(&headers_head(block.as_slice(), END_HEADERS, 1))?;
-    inlet.push(block.as_slice())?;
-    take(inlet)?;
-    Ok(())
+/// The frame of a head comes, and is taken.
+fn take_head(inlet: &mut Inlet, block: &[u8], flags: u8, stream: u32) -> anyhow::Result<u64> {
+    inlet.push(&headers_head(block, flags, stream))?;
+    inlet.push(block)?;
+    take(inlet)
 }
 
-/// A round of DATA frames, each taken once it has come. Answers their octets, and nanoseconds.
-fn data_round(rt: &impl CpuClock, inlet: &mut Inlet, frame: &[u8]) -> anyhow::Result<(u64, u64)> {
-    let watch = CpuStopwatch::start(rt)?;
+/// What a connection begins with comes, and is taken.
+fn begin(alloc: Global, inlet: &mut Inlet) -> anyhow::Result<u64> {
+    let octets = beginning(alloc)?;
+    inlet.push(octets.as_slice())?;
+    take(inlet)
+}
+
+/// A round of DATA frames, each taken once it has come. Answers their octets.
+fn take_data(inlet: &mut Inlet, frame: &[u8]) -> anyhow::Result<u64> {
     let mut sum = 0u64;
     for _frame in 0..FRAMES_A_ROUND {
         inlet.push(frame)?;
         sum = sum.wrapping_add(take(inlet)?);
     }
-    Ok((sum, watch.nanos(rt)?))
+    Ok(sum)
 }
 
-/// A round of heads, each of the stream that comes next, which is closed. Answers the next stream, and nanoseconds.
-fn heads_round(
+/// Nanoseconds of a round of DATA frames.
+fn time_data(rt: &impl CpuClock, inlet: &mut Inlet, frame: &[u8]) -> anyhow::Result<u64> {
+    let watch = CpuStopwatch::start(rt)?;
+    let content = take_data(inlet, frame)?;
+    let nanos = watch.nanos(rt)?;
+    let wanted = FRAMES_A_ROUND * u64::from(PIECE);
+    ensure!(content == wanted, "octets are lost");
+    Ok(nanos)
+}
+
+/// A round of DATA frames, and one of plain copies.
+fn data_round(
     rt: &impl CpuClock,
     inlet: &mut Inlet,
+    frame: &[u8],
+    copies: &mut Copies,
+    spent: &mut Spent,
+) -> anyhow::Result<()> {
+    let taking = time_data(rt, inlet, frame)?;
+    let (_sum, copying) = copies.round(rt)?;
+    spent.add(taking, copying);
+    Ok(())
+}
+
+fn data_rounds(
+    rt: &impl CpuClock,
+    inlet: &mut Inlet,
+    frame: &[u8],
+    copies: &mut Copies,
+) -> anyhow::Result<Spent> {
+    let mut spent = Spent::none();
+    for _round in 0..ROUNDS {
+        data_round(rt, inlet, frame, copies, &mut spent)?;
+    }
+    Ok(spent)
+}
+
+/// DATA frames beside plain copies, on the stream that is open.
+fn play_data(
+    rt: &(impl AllocGlobal + Print + CpuClock),
+    inlet: &mut Inlet,
+    copies: &mut Copies,
+) -> anyhow::Result<()> {
+    let frame = data_frame(rt.alloc(), copies.piece.as_slice())?;
+    let spent = data_rounds(rt, inlet, frame.as_slice(), copies)?;
+    report_octets(rt, "DATA frames taken", spent)
+}
+
+/// Begins the connection, and opens a stream for its body.
+fn play_stream(
+    rt: &(impl AllocGlobal + Print + CpuClock),
+    inlet: &mut Inlet,
     block: &[u8],
-    first: u32,
-) -> anyhow::Result<(u32, u64)> {
-    let watch = CpuStopwatch::start(rt)?;
+) -> anyhow::Result<()> {
+    begin(rt.alloc(), inlet)?;
+    take_head(inlet, block, END_HEADERS, 1)?;
+    let mut copies = Copies::new(rt.alloc())?;
+    play_data(rt, inlet, &mut copies)
+}
+
+/// A round of heads, each of the stream that comes next, which is closed. Answers the next stream.
+fn take_heads(inlet: &mut Inlet, block: &[u8], first: u32) -> anyhow::Result<u32> {
     let mut stream = first;
-    for _frame in 0..FRAMES_A_ROUND {
-        inlet.push(&headers_head(block, ENDS, stream))?;
-        inlet.push(block)?;
-        take(inlet)?;
+    for _head in 0..FRAMES_A_ROUND {
+        take_head(inlet, block, ENDS, stream)?;
         inlet.close_stream(stream);
         stream = stream.saturating_add(2);
     }
-    Ok((stream, watch.nanos(rt)?))
+    Ok(stream)
 }
 
-fn data_frame(alloc: Global, piece: &[u8]) -> anyhow::Result<Octets> {
-    let mut octets = Octets::new(alloc);
-    octets.push_all(&frame_head(PIECE, 0, 0, 1))?;
-    octets.push_all(piece)?;
-    Ok(octets)
-}
-
-/// DATA frames in rounds beside plain copies.
-fn run_data(rt: &(impl AllocGlobal + Print + CpuClock), block: &Octets) -> anyhow::Result<()> {
-    let mut copies = Copies::new(rt.alloc())?;
-    let frame = data_frame(rt.alloc(), copies.piece.as_slice())?;
-    let mut inlet = begun(rt.alloc())?;
-    open(&mut inlet, block)?;
-    let (mut taking, mut copying) = (0u64, 0u64);
-    for _round in 0..ROUNDS {
-        let (content, nanos) = data_round(rt, &mut inlet, frame.as_slice())?;
-        ensure!(
-            content == FRAMES_A_ROUND * u64::from(PIECE),
-            "octets are lost"
-        );
-        taking = taking.saturating_add(nanos);
-        let (_sum, nanos) = copies.round(rt)?;
-        copying = copying.saturating_add(nanos);
-    }
-    let copied = report_octets(rt, "a plain copy", copying)?;
-    let taken = report_octets(rt, "DATA frames taken", taking)?;
-    report_ratio(rt, taken, copied)
-}
-
-fn run_heads(rt: &(impl AllocGlobal + Print + CpuClock), block: &Octets) -> anyhow::Result<()> {
-    let mut inlet = begun(rt.alloc())?;
+/// Nanoseconds of all rounds of heads.
+fn time_heads(rt: &impl CpuClock, inlet: &mut Inlet, block: &[u8]) -> anyhow::Result<u64> {
+    let watch = CpuStopwatch::start(rt)?;
     let mut stream = 1;
-    let mut taking = 0u64;
     for _round in 0..ROUNDS {
-        let (next, nanos) = heads_round(rt, &mut inlet, block.as_slice(), stream)?;
-        stream = next;
-        taking = taking.saturating_add(nanos);
+        stream = take_heads(inlet, block, stream)?;
     }
-    report_count(rt, "small heads taken", taking)?;
+    Ok(watch.nanos(rt)?)
+}
+
+/// Begins the connection, and takes heads.
+fn play_heads(
+    rt: &(impl AllocGlobal + Print + CpuClock),
+    inlet: &mut Inlet,
+    block: &[u8],
+) -> anyhow::Result<()> {
+    begin(rt.alloc(), inlet)?;
+    let nanos = time_heads(rt, inlet, block)?;
+    report_count(rt, "small heads taken", nanos)?;
     Ok(())
 }
 
 /// Prints how many octets of DATA, and how many small heads, are taken in a second of processor time.
 pub fn run(rt: &(impl AllocGlobal + Print + CpuClock)) -> anyhow::Result<()> {
     let block = small_block(rt.alloc())?;
-    run_data(rt, &block)?;
-    run_heads(rt, &block)
+    run_data(rt, block.as_slice())?;
+    run_heads(rt, block.as_slice())
+}
+
+fn run_data(rt: &(impl AllocGlobal + Print + CpuClock), block: &[u8]) -> anyhow::Result<()> {
+    let mut inlet = new_inlet(rt.alloc());
+    play_stream(rt, &mut inlet, block)
+}
+
+fn run_heads(rt: &(impl AllocGlobal + Print + CpuClock), block: &[u8]) -> anyhow::Result<()> {
+    let mut inlet = new_inlet(rt.alloc());
+    play_heads(rt, &mut inlet, block)
 }

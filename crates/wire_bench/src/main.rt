@@ -1,10 +1,12 @@
 //! Measures what comes in and goes out on one HTTP/2 connection. Run by hand with the name of a bench; without one it prints its usage.
 #![tactic(auto)]
 
-mod blocks;
+mod copies;
 mod heads;
 mod inlet;
 mod outlet;
+mod report;
+mod requests;
 mod stopwatch;
 
 use std::env;

@@ -1,5 +1,6 @@
 -- The workers that were hired are lent, and lie in the crew again.
-use Rattle.proxy_wire.proofs.Running.{cause_back, lent_back, lent_ready, lent_works, works_few, works_paid}
+use Rattle.proxy_wire.proofs.Running.{cause_back, idle_few, lent_back, lent_ready, lent_works, len_few, works_few, works_paid}
+use Rattle.std.specs.Vec.{with_items}
 use Rattle.proxy_wire.proofs.working.work_crew.Goals as goal
 
 pub work_all-requires-clause-ready : goal.work_all-requires-clause-ready
@@ -14,7 +15,11 @@ pub returns-in-Ok-clause-paid : goal.returns-in-Ok-clause-paid
 returns-in-Ok-clause-paid g c = works_paid g.M.Meter.bare _ c.args.config.now c.args.turns c.args.address.now c.hire_all.new.crew.shared _ _ _ _ _ c.work_all.result (returns-in-Ok-clause-works g c)
 
 pub returns-in-Ok-clause-few : goal.returns-in-Ok-clause-few
-returns-in-Ok-clause-few g c = works_few g.M.Meter.bare _ c.args.config.now c.args.turns c.args.address.now c.hire_all.new.crew.shared _ _ _ _ _ c.work_all.result (returns-in-Ok-clause-works g c)
+returns-in-Ok-clause-few g c =
+    len_few (with_items c.hire_all.new.crew.workers c.work_all.new.workers) _ (works_few g.M.Meter.bare _ c.args.config.now c.args.turns c.args.address.now c.hire_all.new.crew.shared _ _ _ _ _ c.work_all.result (returns-in-Ok-clause-works g c))
+
+pub returns-in-Err-clause-few : goal.returns-in-Err-clause-few
+returns-in-Err-clause-few g c = len_few c.hire_all.new.crew.workers _ (idle_few g.M.Meter.bare _ c.args.config.now _ _ _ c.hire_all.new.crew.workers.items c.hire_all.ensures.some)
 
 pub returns-in-Ok-clause-cause : goal.returns-in-Ok-clause-cause
 returns-in-Ok-clause-cause g c =
