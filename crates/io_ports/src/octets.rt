@@ -42,8 +42,6 @@ pub(crate) enum Store {
     Few { len: u32, octets: [u8; FEW] },
     /// In a block of memory of their own.
     Own(Vec<u8>),
-    /// In the program.
-    Fixed(&'static [u8]),
     /// In a block of memory that others may have too. They are the first so many of it.
     Shared { block: Arc<Vec<u8>>, len: usize },
 }
@@ -55,7 +53,6 @@ impl Drop for Store {
         match self {
             Store::Own(bytes) => drop(bytes),
             Store::Shared { block, len: _ } => drop(block),
-            Store::Fixed(_) => {}
             Store::Few { len: _, octets: _ } => {}
         }
     }
@@ -87,7 +84,7 @@ impl Store {
         }
     }
 
-    /// The same octets in a block that copies share, unless they are few or the program's.
+    /// The same octets in a block that copies share, unless they are few.
     fn shared(self, alloc: Global) -> Result<Self, NoMemory>
         requires { Reaches self }
         ensures { IfOk result (λ shared. (stored shared ≡ stored self) × Reaches shared) }
@@ -99,7 +96,6 @@ impl Store {
                 Ok(Store::Shared { block, len })
             }
             Store::Few { len, octets } => Ok(Store::Few { len, octets }),
-            Store::Fixed(octets) => Ok(Store::Fixed(octets)),
             Store::Shared { block, len } => Ok(Store::Shared { block, len }),
         }
     }
@@ -151,17 +147,7 @@ impl Octets {
         })
     }
 
-    /// Octets of the program. Takes no memory.
-    pub fn fixed(alloc: Global, octets: &'static [u8]) -> Self
-        ensures { result ≡ octets.now }
-    {
-        Octets {
-            alloc,
-            store: Store::Fixed(octets),
-        }
-    }
-
-    /// The same octets in a block of memory that copies share, unless they are few or the program's.
+    /// The same octets in a block of memory that copies share, unless they are few.
     pub fn shared(self) -> Result<Self, NoMemory>
         ensures { IfOk result (λ shared. shared ≡ self) }
     {
@@ -170,7 +156,7 @@ impl Octets {
         Ok(Octets { alloc, store })
     }
 
-    /// A copy. Of octets that are few or shared, or the program's, it takes no memory.
+    /// A copy. Of octets that are few or shared it takes no memory.
     #[inline(always)]
     pub fn copied(&self) -> Result<Self, NoMemory>
         ensures { IfOk result (λ copy. copy ≡ self.now) }
@@ -181,7 +167,6 @@ impl Octets {
                 len: *few,
                 octets: *octets,
             },
-            Store::Fixed(octets) => Store::Fixed(octets),
             Store::Shared { block, len } => Store::Shared {
                 block: Arc::try_clone(block)?,
                 len: *len,
@@ -222,7 +207,6 @@ impl Octets {
         match &mut self.store {
             Store::Own(bytes) => bytes.truncate(len),
             Store::Few { len: all, .. } => *all = len.min(*all as usize) as u32,
-            Store::Fixed(octets) => *octets = front(octets, len),
             Store::Shared { len: all, .. } => *all = len.min(*all),
         }
     }
@@ -233,7 +217,6 @@ impl Octets {
         match &self.store {
             Store::Own(bytes) => bytes.as_slice(),
             Store::Few { len, octets } => front(octets, *len as usize),
-            Store::Fixed(octets) => octets,
             Store::Shared { block, len } => front(block.as_slice(), *len),
         }
     }
@@ -244,7 +227,6 @@ impl Octets {
         match &self.store {
             Store::Own(bytes) => bytes.len(),
             Store::Few { len, .. } => *len as usize,
-            Store::Fixed(octets) => octets.len(),
             Store::Shared { len, .. } => *len,
         }
     }
