@@ -187,10 +187,6 @@ fn lists_keep_what_is_appended(rt: HostRuntime) -> Result<(), NoMemory> {
     same(&rt, &other.push_all(b"x"), &Ok(()));
     holds(&rt, other.as_slice() == b"abx".as_slice());
     holds(&rt, shared.as_slice() == b"abcde".as_slice());
-    holds(
-        &rt,
-        Octets::fixed(alloc, b"fixed").as_slice() == b"fixed".as_slice(),
-    );
     let mut pressures = PressureList::from_vec(vec![in alloc; 1]?);
     same(&rt, &pressures.push(1_000_000), &Ok(()));
     same(&rt, &pressures.len(), &2);

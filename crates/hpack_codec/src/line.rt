@@ -61,26 +61,26 @@ impl Entry<'_> {
         }
     }
 
-    /// A copy of its name, which takes no memory.
+    /// A copy of its name. Of one of at most 16 octets, and of a line that was added, it takes no memory.
     #[inline(always)]
     pub fn name(&self, alloc: Global) -> Result<Octets, NoMemory>
         ensures { IfOk result (λ name. name ≡ (entry_line self.now).name) }
     {
         match self {
-            Entry::Fixed(row) => Ok(Octets::fixed(alloc, row.name)),
+            Entry::Fixed(row) => Octets::from_slice(alloc, row.name),
             Entry::Added(line) => line.name.copied(),
         }
     }
 
-    /// A copy, which takes no memory.
+    /// A copy. Where name and value have at most 16 octets, and of a line that was added, it takes no memory.
     #[inline(always)]
     pub fn line(&self, alloc: Global) -> Result<Line, NoMemory>
         ensures { IfOk result (λ line. line ≡ entry_line self.now) }
     {
         match self {
             Entry::Fixed(row) => Ok(Line {
-                name: Octets::fixed(alloc, row.name),
-                value: Octets::fixed(alloc, row.value),
+                name: Octets::from_slice(alloc, row.name)?,
+                value: Octets::from_slice(alloc, row.value)?,
             }),
             Entry::Added(line) => line.copied(),
         }
