@@ -70,7 +70,8 @@ impl Unread {
         requires { n ≤ length self.old }
         ensures { self.new ≡ drop n self.old }
     {
-        self.at += n;
+        let left = self.octets.len() - self.at;
+        self.at = self.octets.len() - (left - n);
     }
 
     // Drops the octets that were read where they are at least as many as the others.
