@@ -21,10 +21,8 @@ pub mod Outcomes
 pub mod PlainStreams
 pub mod Receiving
 pub mod Refilled
-pub mod Renewed
 pub mod Ruled
 pub mod Seeing
-pub mod Sparing
 pub mod Sources
 pub mod StageSources
 pub mod Starting

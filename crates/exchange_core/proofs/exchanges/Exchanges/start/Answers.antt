@@ -1,6 +1,5 @@
 use Rattle.exchange_core.proofs.Keeping.{room_made}
 use Rattle.exchange_core.proofs.Seeing.{seen_sound}
-use Rattle.exchange_core.proofs.Sparing.{spared}
 use Rattle.exchange_core.proofs.Starting.{number_rises, one_more, start_kept, starts}
 use Rattle.exchange_core.proofs.exchanges.Exchanges.start.Goals as goal
 use Rattle.exchange_core.specs.Exchange.{IsSoundExchange, begun}
