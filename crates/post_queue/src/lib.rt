@@ -4,6 +4,7 @@
 
 mod close;
 mod hand;
+mod lending;
 mod passes;
 mod post_box;
 mod posts;
