@@ -1,6 +1,6 @@
 // How exchanges begin.
-ghost use Rattle.std.specs.Prelude.{◌≡◌, ◌<◌, ◌≤◌, IfSome, length, true};
-ghost use Rattle.proxy_config.specs.Ranges.{IsBetween, most_octets};
+ghost use Rattle.std.specs.Prelude.{◌≡◌, ◌<◌, ◌≤◌, All, IfSome, length, true};
+ghost use Rattle.proxy_config.specs.Ranges.{IsBetween, IsRoute, most_octets};
 
 use super::Stage;
 use crate::answer::Answer;
