@@ -1,11 +1,10 @@
 -- What the inner connections gave, answered or not.
 use Rattle.metered_wires.proofs.Rises.{given_grows, turned_away}
-use Rattle.metered_wires.specs.Metering.{Accepted, Closed, Metered, Passed, is_accept}
+use Rattle.metered_wires.specs.Metering.{Accepted, Closed, Metered, Passed, Takes, is_accept}
 use Rattle.metered_wires.specs.Rising.{IsRising, untold}
-use Rattle.shared_tokens.specs.Seats.{Granted, Refused}
 use Rattle.shared_tokens.specs.declared.token.Token.{Token}
 use Rattle.std.proofs.Common.{ap, arith, subst, sym, ◌∙◌}
-use Rattle.std.specs.Prelude.{None, false, ℕ, ◌<◌, ◌≡◌, ◌≤◌}
+use Rattle.std.specs.Prelude.{Bool, None, false, true, ℕ, ◌<◌, ◌≡◌, ◌≤◌}
 use Rattle.worker_ports.specs.Wires.{Gives, MayCome, Seen, closed, given, greatest_after, held_after, live_after}
 use Rattle.worker_ports.specs.declared.wires.Wired.{Wired}
 use Rattle.worker_ports.specs.declared.wires.Wired.TheVariants as wired
@@ -36,8 +35,8 @@ passed_on g h old new v w e after less gives =
 pub metered_on : (old new : Seen) (had has : Token) (v w : Wired) → v ≡ w → is_accept w ≡ false → Gives old v new → has ≡ had → Metered old had new has w
 metered_on old new had has v w e other gives same = Passed w other (gives_as old new v w e gives) same
 
-pub metered_accept : (old new : Seen) (had has : Token) (v : Wired) (c : ℕ) → v ≡ wired.Accept c → Gives old v new → Granted had has → Metered old had new has (wired.Accept c)
-metered_accept old new had has v c e gives granted = Accepted c (gives_as old new v (wired.Accept c) e gives) granted
+pub metered_accept : (old new : Seen) (had has : Token) (v : Wired) (c : ℕ) (took : Bool) → v ≡ wired.Accept c → Gives old v new → took ≡ true → Takes had took has → Metered old had new has (wired.Accept c)
+metered_accept old new had has v c took e gives is takes = Accepted c (gives_as old new v (wired.Accept c) e gives) (subst (λ (b : Bool). Takes had b has) is takes)
 
 -- ---- it is closed
 pub turned_idle : (g c : ℕ) (old mid new : Seen) (v : Wired) → v ≡ wired.Accept c → IsRising old → Gives old v mid → new ≡ closed c mid → Gives (untold g old) wired.Idle (untold g new)
@@ -46,8 +45,10 @@ turned_idle g c old mid new v e rising gives is = record {
   is = ap (untold g) is ∙ turned_away g c old mid rising (gives_as old mid v (wired.Accept c) e gives);
 }
 
-pub metered_closed : (old mid new : Seen) (had has : Token) (v : Wired) (c put found : ℕ) → v ≡ wired.Accept c → Gives old v mid → new ≡ closed c mid → Refused had put found has → Metered old had new has wired.Idle
-metered_closed old mid new had has v c put found e gives is refused = Closed c mid put found (gives_as old mid v (wired.Accept c) e gives) is refused
+pub metered_closed : (old mid new : Seen) (had has : Token) (v : Wired) (c : ℕ) (took : Bool) → v ≡ wired.Accept c → Gives old v mid → new ≡ closed c mid → took ≡ false → Takes had took has → Metered old had new has wired.Idle
+metered_closed old mid new had has v c took e gives is none takes =
+    let t : Takes had false has = subst (λ (b : Bool). Takes had b has) none takes in
+    Closed c mid t.0 t.1 (gives_as old mid v (wired.Accept c) e gives) is t.2
 
 -- ---- the greatest number that was given
 pub below_after : (g : ℕ) (old new : Seen) (v : Wired) → g ≤ old.greatest → Gives old v new → g ≤ new.greatest

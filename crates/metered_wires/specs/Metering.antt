@@ -10,6 +10,11 @@ abbrev pub is_accept : Wired → Bool
 is_accept (wired.Accept c) = true
 is_accept w = false
 
+-- a token was taken where one was there, and else none
+abbrev pub Takes : Token → Bool → Token → Type 0
+Takes had true has = Granted had has
+Takes had false has = (put : ℕ) × (found : ℕ) × Refused had put found has
+
 -- The inner connections gave one answer. An Accept takes a token, and where none is there, it is closed and answered as Idle. All
 -- else is answered as it came.
 pub data Metered (old : Seen) (had : Token) (new : Seen) (has : Token) : Wired → Type 0 where

@@ -2,7 +2,7 @@
 ghost use Rattle.std.specs.Io.{WritesAtMost};
 ghost use Rattle.std.specs.Prelude.{◌≡◌, ◌≤◌, Err, IfOk, OnErr, OnOk, false};
 ghost use Rattle.io_ports.specs.Faults.{FailsByFault, Rose};
-ghost use Rattle.metered_wires.specs.Metering.{Metered};
+ghost use Rattle.metered_wires.specs.Metering.{Metered, Takes};
 ghost use Rattle.metered_wires.specs.Rising.{IsRising, untold};
 ghost use Rattle.shared_tokens.specs.Seats.{IsSeatOf, known_of};
 ghost use Rattle.worker_ports.specs.Wires.{Gives, closed, is_live, offered};
@@ -40,6 +40,18 @@ impl<'a, W: Wires> MeteredWires<'a, W> {
     }
 }
 
+// Takes a token, and answers whether one was there.
+fn takes(bucket: &Bucket, seat: &mut TokenSeat) -> bool
+    requires { IsSeatOf bucket.now seat.old }
+    ensures seat { IsSeatOf bucket.now seat.new }
+    ensures takes { Takes (known_of seat.old) result (known_of seat.new) }
+{
+    match bucket.take(seat) {
+        Ok(()) => true,
+        Err(NoToken { .. }) => false,
+    }
+}
+
 impl<'a, W: Wires> Wires for MeteredWires<'a, W> {
     ghost seen = { λ m. untold m.greatest (W.seen m.inner) };
 
@@ -57,16 +69,14 @@ impl<'a, W: Wires> Wires for MeteredWires<'a, W> {
         ensures bucket { self.new.bucket.now ≡ self.old.bucket.now }
     {
         match self.inner.next()? {
-            Wired::Accept(conn) => match self.bucket.take(&mut self.seat) {
-                Ok(()) => {
-                    self.greatest = conn;
-                    Ok(Wired::Accept(conn))
-                }
-                Err(NoToken { .. }) => {
+            Wired::Accept(conn) => {
+                if !takes(self.bucket, &mut self.seat) {
                     self.inner.close(conn);
-                    Ok(Wired::Idle)
+                    return Ok(Wired::Idle);
                 }
-            },
+                self.greatest = conn;
+                Ok(Wired::Accept(conn))
+            }
             Wired::Join(conn, cluster) => {
                 self.greatest = conn;
                 Ok(Wired::Join(conn, cluster))

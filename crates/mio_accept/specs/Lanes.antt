@@ -1,6 +1,6 @@
 -- Whether a worker goes on.
 use Rattle.mio_accept.specs.declared.lane.Lane.{Lane}
-use Rattle.std.specs.Prelude.{Bool, nat_lt, ℕ, ◌+◌, ◌≡◌, ◌≢◌, ◌⊎◌}
+use Rattle.std.specs.Prelude.{ℕ, ◌≡◌, ◌≢◌, ◌⊎◌}
 
 -- it has begun no further round
 pub record IsStill (old new : Lane) : Type 0 where

@@ -51,6 +51,8 @@ pub fn serve_words<
 >(rt: R, output: O) -> ExitCode
 where
     R::File: Send,
+    R::Stream: Send,
+    R::Listener: Send,
 {
     let words = match words(&rt) {
         Ok(words) => words,
@@ -68,6 +70,8 @@ fn serve_sockets<
 >(rt: R, words: &[String], output: O) -> ExitCode
 where
     R::File: Send,
+    R::Stream: Send,
+    R::Listener: Send,
 {
     let mut config = Input::new(open_config(&rt, words));
     let Ok(counts) = Arc::new(rt.alloc(), ClientCounts::new()) else {

@@ -1,14 +1,17 @@
 //! Serves over loopback, with a client and a server beside the proxy. A relay: the client sends 1,000,000 octets through the proxy to
-//! the server, which sends them back; with a word the relay keeps a journal of this name. Then a proxy of HTTP/2: the client gets
-//! what the server answers.
+//! the server, which sends them back. Then a proxy of HTTP/2, whose client gets what the server answers to its requests; what its
+//! worker wrote is replayed, and the notes are compared. With words the one and the other keep journals of these names.
 #![tactic(auto)]
 
 mod beside;
 mod client;
 mod loop_site;
 mod server;
+mod web_journal;
 mod web_origin;
 mod web_peer;
+mod web_replay;
+mod web_request;
 mod web_site;
 mod web_user;
 
@@ -16,8 +19,9 @@ use crate::client::LENGTH;
 use crate::loop_site::LoopSite;
 use crate::server::Server;
 use crate::web_origin::Origin;
+use crate::web_replay::replays_as_noted;
 use crate::web_site::WebSite;
-use crate::web_user::User;
+use crate::web_user::Answer;
 use anyhow::Result;
 use io_ports::{MemSink, MemSource};
 use proxy_cli::{ClientCounts, ClientGauge, SocketSite};
@@ -42,7 +46,7 @@ fn main(rt: HostRuntime) -> Result<()> {
     let mut words = env::args(&rt)?;
     let _program = words.next();
     relay(rt, words.next())?;
-    proxy(rt)
+    proxy(rt, words.next())
 }
 
 // A relay, and what its client and its server saw.
@@ -83,13 +87,16 @@ fn proxy<
         + Drop
         + Send
         + Sync,
->(rt: R) -> Result<()>
+>(rt: R, journal: Option<String>) -> Result<()>
 where
     R::File: Send,
+    R::Stream: Send,
+    R::Listener: Send,
 {
     let origin = Origin::new(&rt, rt.alloc())?;
-    let text = proxy_text(rt.alloc(), origin.address()?)?;
-    let mut config = MemSource::new(text.into_bytes(), Vec::new(rt.alloc()));
+    let text = proxy_text(rt.alloc(), origin.address()?, journal)?;
+    let octets = Vec::from_slice(rt.alloc(), text.as_bytes())?;
+    let mut config = MemSource::new(octets, Vec::new(rt.alloc()));
     let mut out = MemSink::new(rt.alloc(), 100, Vec::new(rt.alloc()))?;
     let counts = Arc::new(rt.alloc(), ClientCounts::new())?;
     let mut gauge = ClientGauge::new(Arc::try_clone(&counts)?);
@@ -106,28 +113,41 @@ where
     );
     println!(rt; "status {}", served.status.code())?;
     tell_listening(&rt, out.octets())?;
-    match &site.user {
-        Some(user) => tell_answer(&rt, user),
-        None => Ok(()),
+    if let Some(user) = &site.user {
+        for answer in user.answers.as_slice() {
+            tell_answer(&rt, answer)?;
+        }
     }
+    if let Some(kept) = &site.kept {
+        if replays_as_noted(rt.alloc(), text.as_bytes(), kept)? {
+            println!(rt; "the worker's journal replays to its very notes")?;
+        }
+    }
+    Ok(())
 }
 
 // The configuration: the server, little room for what waits, and a journal if it is to have one.
 fn relay_text(alloc: Global, address: SocketAddr, journal: Option<String>) -> Result<String> {
     let text = format!(in alloc;
-        "[[clusters]]\nname = \"server\"\naddress = \"{address}\"\n[limits]\nwrite_buffer = 10000\n"
+        "[[clusters]]\nname = \"server\"\naddress = \"{address}\"\n[limits]\nwrite_buffer = 10000\n[proxy]\n"
     )?;
-    match journal {
-        Some(name) => Ok(format!(in alloc; "{text}[proxy]\njournal = \"{name}\"\n")?),
-        None => Ok(text),
-    }
+    with_journal(alloc, text, journal)
 }
 
-// The configuration: the server, which all requests go to, and one worker.
-fn proxy_text(alloc: Global, address: SocketAddr) -> Result<String> {
-    Ok(format!(in alloc;
-        "[[clusters]]\nname = \"server\"\naddress = \"{address}\"\n[[routes]]\nprefix = \"/\"\ncluster = \"server\"\n[proxy]\nworkers = 1\n"
-    )?)
+// The configuration: the server, which requests of one path go to, and one worker.
+fn proxy_text(alloc: Global, address: SocketAddr, journal: Option<String>) -> Result<String> {
+    let text = format!(in alloc;
+        "[[clusters]]\nname = \"server\"\naddress = \"{address}\"\n[[routes]]\npath = \"/hello\"\ncluster = \"server\"\n[proxy]\nworkers = 1\n"
+    )?;
+    with_journal(alloc, text, journal)
+}
+
+// A configuration whose last table is that of the proxy, with a journal of this name if there is one.
+fn with_journal(alloc: Global, text: String, journal: Option<String>) -> Result<String> {
+    match journal {
+        Some(name) => Ok(format!(in alloc; "{text}journal = \"{name}\"\n")?),
+        None => Ok(text),
+    }
 }
 
 fn words_of(alloc: Global, all: &[&str]) -> Result<Vec<String>, AllocError> {
@@ -158,10 +178,12 @@ fn tell_counts<R: Print>(rt: &R, counts: Option<(usize, usize)>, is_over: bool) 
     Ok(())
 }
 
-fn tell_answer<R: Print>(rt: &R, user: &User) -> Result<()> {
-    if user.is_okay && user.is_done {
-        let content = std::str::from_utf8(user.content.as_slice()).unwrap_or("?");
-        println!(rt; "the answer was 200 with the content {content}")?;
+fn tell_answer<R: Print>(rt: &R, answer: &Answer) -> Result<()> {
+    let content = std::str::from_utf8(answer.content.as_slice()).unwrap_or("?");
+    if content.is_empty() {
+        println!(rt; "{}: {}", answer.what, answer.status)?;
+    } else {
+        println!(rt; "{}: {} {content}", answer.what, answer.status)?;
     }
     Ok(())
 }

@@ -13,10 +13,13 @@ const PREFACE: usize = 24;
 /// SETTINGS without entries.
 const SETTINGS: &[u8] = b"\0\0\0\x04\0\0\0\0\0";
 
-/// The status 200 and a short content, on stream 1.
-const ANSWER: &[u8] = b"\0\0\x01\x01\x04\0\0\0\x01\x88\0\0\x05\0\x01\0\0\0\x01hello";
+/// The field block of the status 200 (RFC 7541 appendix A).
+const OKAY: &[u8] = b"\x88";
 
-/// A server that answers the first request of its first client.
+/// What a request without content is answered.
+const HELLO: &[u8] = b"hello";
+
+/// A server that answers its first client: a request with content by that content, and others by a greeting.
 #[derive(Drop)]
 pub struct Origin {
     alloc: Global,
@@ -49,10 +52,9 @@ impl Origin {
             return self.accept();
         };
         match peer.step()? {
-            Some(Told::Head(_, _)) => peer.say(ANSWER),
-            Some(_) => {
+            Some(told) => {
                 self.is_met = true;
-                Ok(())
+                answer(peer, &told)
             }
             None => Ok(()),
         }
@@ -63,5 +65,19 @@ impl Origin {
             self.peer = Some(Peer::new(self.alloc, stream, SETTINGS, PREFACE)?);
         }
         Ok(())
+    }
+}
+
+fn answer(peer: &mut Peer, told: &Told) -> Result<(), NoMemory> {
+    match told {
+        Told::Head(stream, _, true) => {
+            peer.say_head(*stream, false, OKAY)?;
+            peer.say_content(*stream, true, HELLO)
+        }
+        Told::Head(stream, _, false) => peer.say_head(*stream, false, OKAY),
+        Told::Content(stream, octets, last) => {
+            peer.say_content(*stream, *last, octets.as_slice())
+        }
+        Told::Other => Ok(()),
     }
 }

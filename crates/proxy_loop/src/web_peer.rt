@@ -1,6 +1,6 @@
 // One end of a connection of HTTP/2.
 
-use h2_frames::{Frame, ReadFrame, read_frame};
+use h2_frames::{Frame, ReadFrame, block_frames, data_head, read_frame};
 use io_ports::{NoMemory, Octets};
 use mio::net::TcpStream;
 use std::alloc::Global;
@@ -12,16 +12,19 @@ const PIECE: usize = 10_000;
 /// The greatest payload of a frame.
 const MOST: u32 = 16_384;
 
+/// Streams have numbers below this one.
+const STREAMS: u32 = 0x8000_0000;
+
 /// The acknowledgement of SETTINGS.
 const ACKNOWLEDGED: &[u8] = b"\0\0\0\x04\x01\0\0\0\0";
 
 /// What a frame tells.
 #[derive(Drop)]
 pub enum Told {
-    /// A whole field block, and whether it ends the stream.
-    Head(Octets, bool),
-    /// Content, and whether it ends the stream.
-    Content(Octets, bool),
+    /// A whole field block on a stream, and whether it ends the stream.
+    Head(u32, Octets, bool),
+    /// Content on a stream, and whether it ends the stream.
+    Content(u32, Octets, bool),
     /// Nothing that matters here.
     Other,
 }
@@ -59,9 +62,22 @@ impl Peer {
         })
     }
 
-    /// Sends these octets behind the others.
-    pub fn say(&mut self, octets: &[u8]) -> Result<(), NoMemory> {
-        self.out.push_all(octets)
+    /// Sends a field block on a stream behind the others, and ends the stream if it is the last.
+    pub fn say_head(&mut self, stream: u32, last: bool, block: &[u8]) -> Result<(), NoMemory> {
+        if stream == 0 || stream >= STREAMS {
+            return Ok(());
+        }
+        block_frames(stream, last, block, &mut self.out)
+    }
+
+    /// Sends content of at most 16,384 octets on a stream behind the others, and ends the stream if it is the last.
+    pub fn say_content(&mut self, stream: u32, last: bool, octets: &[u8]) -> Result<(), NoMemory> {
+        let piece = octets.get(..MOST as usize).unwrap_or(octets);
+        let Ok(n) = u16::try_from(piece.len()) else {
+            return Ok(());
+        };
+        self.out.push_all(&data_head(stream, u32::from(n), last))?;
+        self.out.push_all(piece)
     }
 
     /// Sends once, reads once, and answers what the next frame tells, if it has come whole.
@@ -98,14 +114,18 @@ impl Peer {
 
 fn told_of(alloc: Global, frame: &Frame) -> Result<Told, NoMemory> {
     match *frame {
-        Frame::Headers { last, block, .. } => Ok(Told::Head(
-            Octets::from_slice(alloc, block)?,
+        Frame::Headers {
+            stream,
             last,
-        )),
-        Frame::DataFrame { last, octets, .. } => Ok(Told::Content(
-            Octets::from_slice(alloc, octets)?,
+            block,
+            ..
+        } => Ok(Told::Head(stream, Octets::from_slice(alloc, block)?, last)),
+        Frame::DataFrame {
+            stream,
             last,
-        )),
+            octets,
+            ..
+        } => Ok(Told::Content(stream, Octets::from_slice(alloc, octets)?, last)),
         _ => Ok(Told::Other),
     }
 }

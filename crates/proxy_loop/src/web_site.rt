@@ -2,6 +2,7 @@
 ghost use Rattle.std.specs.Prelude.{◌≡◌};
 ghost use Rattle.proxy_cli.specs.Sites.{site_faults};
 
+use crate::web_journal::{Kept, NotedJournal};
 use crate::web_origin::Origin;
 use crate::web_user::User;
 use io_ports::{Failed, NoMemory, Octets};
@@ -19,7 +20,7 @@ use std::sync::Wait;
 use std::time::Clock;
 
 /// The site over sockets. A server may be where its configuration says, and a client comes where it listens once the server has
-/// heard of the proxy. Both do something in each round. Once the client has its answer the workers are to end.
+/// heard of the proxy. Both do something in each round. Once the client has its answers the workers are to end.
 #[derive(Drop)]
 pub struct WebSite<R: Clock + Net + Wait + Files + Drop> {
     rt: R,
@@ -28,6 +29,8 @@ pub struct WebSite<R: Clock + Net + Wait + Files + Drop> {
     /// Where the proxy listens.
     at: Option<SocketAddr>,
     pub user: Option<User>,
+    /// What the worker wrote and did, once it is back.
+    pub kept: Option<Kept>,
 }
 
 impl<R: Eprint + Files + Net + Clock + Wait + AllocGlobal + Copy + Drop> WebSite<R> {
@@ -39,6 +42,7 @@ impl<R: Eprint + Files + Net + Clock + Wait + AllocGlobal + Copy + Drop> WebSite
             origin,
             at: None,
             user: None,
+            kept: None,
         }
     }
 
@@ -104,7 +108,7 @@ impl<R: Eprint + Files + Net + Clock + Wait + AllocGlobal + Copy + Drop> WireSit
 
     type C = MonotonicClock<R>;
 
-    type L = FileJournal<R::File>;
+    type L = NotedJournal<R::File>;
 
     ghost wired = { λ _. None };
 
@@ -117,7 +121,8 @@ impl<R: Eprint + Files + Net + Clock + Wait + AllocGlobal + Copy + Drop> WireSit
         worker: u32,
         config: &Config,
     ) -> Result<(Self::W, Self::C, Self::L), SiteRefusal> {
-        self.site.fit(worker, config)
+        let (wires, clock, file) = self.site.fit(worker, config)?;
+        Ok((wires, clock, NotedJournal::new(self.rt.alloc(), file)))
     }
 
     fn round(&mut self, accept: bool) -> Result<(), Failed> {
@@ -128,6 +133,8 @@ impl<R: Eprint + Files + Net + Clock + Wait + AllocGlobal + Copy + Drop> WireSit
     }
 
     fn give_back(&mut self, worker: u32, wires: Self::W, journal: Self::L) {
-        self.site.give_back(worker, wires, journal);
+        let (file, kept) = journal.into_parts();
+        self.kept = Some(kept);
+        self.site.give_back(worker, wires, file);
     }
 }

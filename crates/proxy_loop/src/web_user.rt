@@ -1,52 +1,98 @@
 // A client of HTTP/2.
 
 use crate::web_peer::{Peer, Told};
+use crate::web_request::{FIRST, next_request, status_of};
 use io_ports::{NoMemory, Octets};
 use mio::net::TcpStream;
 use std::alloc::Global;
+use std::mem;
 
-/// The preface, SETTINGS without entries, and a GET of `/` on stream 1.
-const FIRST: &[u8] =
-    b"PRI * HTTP/2.0\r\n\r\nSM\r\n\r\n\0\0\0\x04\0\0\0\0\0\0\0\x09\x01\x05\0\0\0\x01\x82\x86\x84\x41\x04loop";
+/// The answer to a request.
+#[derive(Drop)]
+pub struct Answer {
+    /// What was asked.
+    pub what: &'static str,
+    /// 0 where it is none that the client knows.
+    pub status: u16,
+    pub content: Octets,
+}
 
-/// The status 200 in a field block (RFC 7541 appendix A). Before it may stand the size of the table.
-const OKAY: u8 = 0x88;
-
-/// A client that asks once.
+/// A client that makes its requests one after another.
 #[derive(Drop)]
 pub struct User {
+    alloc: Global,
     peer: Peer,
-    /// Whether the answer has the status 200.
-    pub is_okay: bool,
-    /// What has come of its content.
-    pub content: Octets,
-    /// Whether it has ended.
+    /// What was asked last, and on which stream.
+    what: &'static str,
+    stream: u32,
+    /// What has come of the answer.
+    status: u16,
+    content: Octets,
+    /// The answers that have ended.
+    pub answers: Vec<Answer>,
+    /// Whether all requests are answered.
     pub is_done: bool,
 }
 
 impl User {
+    /// A client that has made its first request.
     pub fn new(alloc: Global, stream: TcpStream) -> Result<Self, NoMemory> {
-        Ok(User {
+        let mut user = User {
+            alloc,
             peer: Peer::new(alloc, stream, FIRST, 0)?,
-            is_okay: false,
+            what: "",
+            stream: 0,
+            status: 0,
             content: Octets::new(alloc),
+            answers: Vec::new(alloc),
             is_done: false,
-        })
+        };
+        user.ask()?;
+        Ok(user)
     }
 
     /// Sends and reads once, and takes in what the next frame tells.
     pub fn step(&mut self) -> Result<(), NoMemory> {
         match self.peer.step()? {
-            Some(Told::Head(block, last)) => {
-                self.is_okay = block.as_slice().last() == Some(&OKAY);
-                self.is_done = last;
+            Some(Told::Head(_, block, last)) => {
+                self.status = status_of(block.as_slice());
+                self.end_at(last)
             }
-            Some(Told::Content(octets, last)) => {
+            Some(Told::Content(_, octets, last)) => {
                 self.content.push_all(octets.as_slice())?;
-                self.is_done = last;
+                self.end_at(last)
             }
-            Some(Told::Other) | None => {}
+            Some(Told::Other) | None => Ok(()),
         }
-        Ok(())
+    }
+
+    // Behind the last frame of an answer the next request is made.
+    fn end_at(&mut self, last: bool) -> Result<(), NoMemory> {
+        if !last {
+            return Ok(());
+        }
+        let content = mem::replace(&mut self.content, Octets::new(self.alloc));
+        self.answers.push(Answer {
+            what: self.what,
+            status: self.status,
+            content,
+        })?;
+        self.ask()
+    }
+
+    // Makes the next request, if there is one.
+    fn ask(&mut self) -> Result<(), NoMemory> {
+        let Some(request) = next_request(self.stream) else {
+            self.is_done = true;
+            return Ok(());
+        };
+        self.what = request.what;
+        self.stream = request.stream;
+        let is_short = request.content.is_empty();
+        self.peer.say_head(self.stream, is_short, request.block)?;
+        if is_short {
+            return Ok(());
+        }
+        self.peer.say_content(self.stream, true, request.content)
     }
 }

@@ -6,7 +6,7 @@ use Rattle.proxy_config.specs.declared.config.Cluster.{Cluster}
 use Rattle.proxy_config.specs.declared.config.Config.{Config}
 use Rattle.proxy_wire.proofs.Telling.{fits_more, fitted_none}
 use Rattle.proxy_wire.specs.Crews.{EachTwo, IsCrew, IsHired, IsIdle, IsPaid, OneFailed, SharesOf}
-use Rattle.proxy_wire.specs.Hires.{Fits, HiresAll, HiresNone, HiresOne, HiresSome, IdlesOne, Joins, SharesMore, Stays}
+use Rattle.proxy_wire.specs.Hires.{Fits, HiresAll, HiresNone, HiresOne, HiresSome, Joins, SharesMore, Stays}
 use Rattle.proxy_wire.specs.Sites.{TellsFitted, WireTold, numbered}
 use Rattle.proxy_wire.specs.Working.{Begins}
 use Rattle.proxy_wire.specs.declared.crew.Crew.{Crew}

@@ -4,11 +4,10 @@ use Rattle.post_queue.specs.declared.passes.PosterPass.{PosterPass}
 use Rattle.post_queue.specs.declared.post_box.PostBox.{PostBox}
 use Rattle.proxy_wire.proofs.Crewing.{each_more}
 use Rattle.proxy_wire.specs.Crews.{EachTwo}
-use Rattle.proxy_wire.specs.Leading.{ArePosters, Leads, Publishes}
+use Rattle.proxy_wire.specs.Leading.{ArePosters, Leads}
 use Rattle.proxy_wire.specs.declared.leading.Leader.{Leader}
 use Rattle.shared_state.specs.States.{IsSame, resources_of}
 use Rattle.shared_state.specs.declared.publisher.Publisher.{Publisher}
-use Rattle.std.specs.Arc.{arc_value}
 use Rattle.std.proofs.Common.{ap, arith, inl, inr, refl, set, subst, sym, ◌∙◌}
 use Rattle.std.proofs.lemmas.Bool.{cases_order}
 use Rattle.std.proofs.lemmas.Grind.{get_or-set_at}
@@ -69,11 +68,14 @@ sampled_length (Some r ∷ rs) (p ∷ ps) e = ap (λ (n : ℕ). suc n) (sampled_
 pub sampled_same : (old new : List ℕ) (failed : ℕ) → AreSampled old new failed → length new ≡ length old
 sampled_same old new failed s = ap (λ (v : List ℕ). length v) s.replaces ∙ sampled_length s.readings old s.each
 
+same_resources : (p q : Publisher) → IsSame p q → resources_of q ≡ resources_of p
+same_resources p q same = let e = same.0 in cc
+
 pub looked : (boxes : List PostBox) (old new : Leader) (failed : ℕ) → Leads boxes old → AreSampled old.pressures new.pressures failed → IsSame old.publisher new.publisher → ArePosters boxes new.posters.items → Leads boxes new
 looked boxes old new failed leads sampled same posters =
     let l : length new.pressures ≡ length old.pressures = sampled_same old.pressures new.pressures failed sampled in
     let few = leads.publishes.few in
     record {
-      publishes = record { pressures = l ∙ leads.publishes.pressures ∙ sym (ap (λ (b : _). (arc_value b).resources) same.0); few = omega (arith, l, few) };
+      publishes = record { pressures = l ∙ leads.publishes.pressures ∙ sym (same_resources old.publisher new.publisher same); few = omega (arith, l, few) };
       posters = posters;
     }

@@ -1,6 +1,5 @@
 -- Workers go back, the last one first.
 use Rattle.io_ports.specs.Faults.{Rose}
-use Rattle.proxy_wire.proofs.Crewing.{some_of}
 use Rattle.proxy_wire.proofs.Telling.{returned_none, returns_more}
 use Rattle.proxy_wire.specs.Crews.{IsPaid, OneFailed, back_of}
 use Rattle.proxy_wire.specs.Sites.{TellsReturned, WireTold, numbered}
@@ -10,7 +9,7 @@ use Rattle.std.proofs.Math.Seq.{get_or-append_seam}
 use Rattle.std.proofs.lemmas.Bool.{cases_lt}
 use Rattle.std.proofs.lemmas.List.{get_or_append_left, length-append, length-map, map-append}
 use Rattle.std.specs.List.{All}
-use Rattle.std.specs.Prelude.{List, Option, [], length, map, reverse, slice_index_or, suc, ℕ, ◌+◌, ◌++◌, ◌-◌, ◌<◌, ◌^◌, ◌∷◌, ◌≡◌, ◌≤◌, ◌⊎◌}
+use Rattle.std.specs.Prelude.{List, Option, [], length, map, reverse, slice_index_or, suc, ℕ, ◌++◌, ◌-◌, ◌<◌, ◌^◌, ◌∷◌, ◌≡◌, ◌≤◌, ◌⊎◌}
 use Rattle.worker_ports.specs.declared.ports.OpenGate.{OpenGate}
 use Rattle.worker_threads.specs.Starting.{Outside}
 use Rattle.worker_threads.specs.declared.worker.Worker.{Worker}

@@ -9,10 +9,10 @@ use Rattle.proxy_wire.specs.Hires.{HiresAll, HiresSome}
 use Rattle.proxy_wire.specs.declared.crew.Crew.{Crew}
 use Rattle.proxy_wire.proofs.Telling.{fitted_none, returned_none, workers_tell}
 use Rattle.proxy_wire.specs.Crews.{EachTwo, IsHired, IsIdle, IsPaid, OneFailed, back_of}
-use Rattle.proxy_wire.specs.Runs.{CrewIdle, CrewRan, CrewWorks, WorksAll, WorksEach, WorksNone}
+use Rattle.proxy_wire.specs.Runs.{CrewIdle, CrewRan, CrewWorks, WorksAll}
 use Rattle.proxy_wire.specs.Serving.{AllRan, NoneRan, Unused, wire_status}
 use Rattle.proxy_wire.specs.Sites.{TellsFitted, TellsReturned, WireTold, numbered}
-use Rattle.proxy_wire.specs.Working.{RanEach, WorkerRan, ends_status, has_end, is_fault, is_memory}
+use Rattle.proxy_wire.specs.Working.{WorkerRan, ends_status, has_end, is_fault, is_memory}
 use Rattle.proxy_wire.specs.declared.end.WireEnd.{WireEnd}
 use Rattle.session_run.specs.Ends.{AppendsFront}
 use Rattle.session_run.specs.declared.status.Status.{Status}
@@ -23,9 +23,8 @@ use Rattle.std.proofs.lemmas.List.{get_or-map, length-map, with_items_is}
 use Rattle.std.specs.Io.KnownBytes.{Appends}
 use Rattle.std.specs.List.{All}
 use Rattle.std.specs.Vec.{with_items}
-use Rattle.std.specs.Prelude.{Bool, List, Option, [], false, if◌then◌else◌, length, map, reverse, slice_index_or, suc, true, ℕ, ◌+◌, ◌<◌, ◌||◌, ◌∷◌, ◌≡◌, ◌≤◌, ◌⊎◌, ◌^◌, ◌-◌}
+use Rattle.std.specs.Prelude.{Bool, List, Option, [], false, if◌then◌else◌, length, map, reverse, slice_index_or, suc, true, ℕ, ◌<◌, ◌||◌, ◌∷◌, ◌≡◌, ◌≤◌, ◌⊎◌}
 use Rattle.worker_loop.specs.declared.ended.Ended.{Ended}
-use Rattle.worker_parts.specs.Journals.{header}
 use Rattle.worker_ports.specs.Wires.{Seen}
 use Rattle.worker_ports.specs.declared.ports.OpenGate.{OpenGate}
 use Rattle.worker_threads.specs.Starting.{IsReady, Outside, Worked, WorkedEach}
@@ -261,7 +260,7 @@ module _ {W M C L : Type 0} (bare : M → W) (o : Outside M C L) where
       → WorksAll o crew.shared n address first mid out out' end → CrewWorks bare o config n address crew.shared a c last out out' end
   lent_works config n address crew a b c first mid last out out' end all same is back works =
       let there : WorksAll o crew.shared n address crew.workers.items mid out out' end = subst (λ (ws : List (Worker M C OpenGate L)). WorksAll o crew.shared n address ws mid out out' end) is works in
-      subst (λ (ws : List (Worker M C OpenGate L)). CrewWorks bare o config n address crew.shared a c ws out out' end) (sym back) (crew_idle_or_ran config n address crew a b c mid out out' end all same there)
+      subst (λ (ws : List (Worker M C OpenGate L)). CrewWorks bare o config n address crew.shared a c ws out out' end) (sym back) (crew_idle_or_ran bare o config n address crew a b c mid out out' end all same there)
 
   -- those that were fitted in vain go back
   pub cause_hired : (how : Status) (a b x y : ℕ) (workers : List (Worker M C OpenGate L)) → (how ≡ status.WriteFault → Rose a b ⊎ OneFailed o workers) → how ≡ status.WriteFault → (Rose a b ⊎ Rose x y) ⊎ OneFailed o workers

@@ -13,32 +13,41 @@ use Rattle.std.specs.Prelude.{List, Option, ℕ, ◌≡◌, ◌≤◌, ◌⊎◌
 use Rattle.worker_ports.specs.declared.wires.Wires.{Ghosts}
 use Rattle.worker_threads.specs.Starting.{Outside}
 
-module _ {T J : Type 0} {W C L : Type 0} (G : Ghosts W) (o : Outside W C L) where
+module _ {W C L : Type 0} (G : Ghosts W) (o : Outside W C L) where
   abbrev Over : (config : Config) (n : ℕ) (address : List ℕ) (w w' : Option (WireTold W C L)) (out out' : Option (List ℕ)) (how : Status) → Type 0
   Over config n address w w' out out' how =
       NoneRan o.seen o.text config address w w' out out' how
       ⊎ (AllRan (λ (v : W). v) o config n address w w' out out' how ⊎ AllRan (λ (m : MeteredWires W G). m.inner) (metered_outside G o) config n address w w' out out' how)
 
+  over_plain : (config : Config) (n : ℕ) (address : List ℕ) (w w' : Option (WireTold W C L)) (out out' : Option (List ℕ)) (how : Status) → NoneRan o.seen o.text config address w w' out out' how ⊎ AllRan (λ (v : W). v) o config n address w w' out out' how → Over config n address w w' out out' how
+  over_plain config n address w w' out out' how (inl none) = inl none
+  over_plain config n address w w' out out' how (inr all) = inr (inl all)
+
+  over_metered : (config : Config) (n : ℕ) (address : List ℕ) (w w' : Option (WireTold W C L)) (out out' : Option (List ℕ)) (how : Status) → NoneRan o.seen o.text config address w w' out out' how ⊎ AllRan (λ (m : MeteredWires W G). m.inner) (metered_outside G o) config n address w w' out out' how
+      → Over config n address w w' out out' how
+  over_metered config n address w w' out out' how (inl none) = inl none
+  over_metered config n address w w' out out' how (inr all) = inr (inr all)
+
+module _ {T J : Type 0} {W C L : Type 0} (G : Ghosts W) (o : Outside W C L) where
   pub not_listened : (config : Config) (n : ℕ) (a b : Option (Told T J)) (w w' : Option (WireTold W C L)) (out out' : Option (List ℕ)) (how : Status) → b ≡ a → w' ≡ w → out' ≡ out → IsCutShort how → ServesWire G o config n a b w w' out out' how
   not_listened config n a b w w' out out' how told wired same cut = inl (record { told = told; wired = wired; out = same; cut = cut })
 
-  pub listened : (config : Config) (n : ℕ) (address : List ℕ) (a b c : Option (Told T J)) (w w' : Option (WireTold W C L)) (out out' : Option (List ℕ)) (how : Status) → TellsListening a (config.proxy.listen, address) b → c ≡ b
-      → NoneRan o.seen o.text config address w w' out out' how ⊎ AllRan (λ (v : W). v) o config n address w w' out out' how → ServesWire G o config n a c w w' out out' how
-  listened config n address a b c w w' out out' how told same ran =
-      inr (record { address = address; told = subst (λ (t : Option (Told T J)). TellsListening a (config.proxy.listen, address) t) (sym same) told; over = by ran })
-    where
-      by : NoneRan o.seen o.text config address w w' out out' how ⊎ AllRan (λ (v : W). v) o config n address w w' out out' how → Over config n address w w' out out' how
-      by (inl none) = inl none
-      by (inr all) = inr (inl all)
+  listened_over : (config : Config) (n : ℕ) (address : List ℕ) (a b c : Option (Told T J)) (w v w' : Option (WireTold W C L)) (out out' : Option (List ℕ)) (how : Status) → TellsListening a (config.proxy.listen, address) b → c ≡ b → v ≡ w → Over G o config n address v w' out out' how
+      → ServesWire G o config n a c w w' out out' how
+  listened_over config n address a b c w v w' out out' how told same wired over =
+      inr (record {
+        address = address;
+        told = subst (λ (t : Option (Told T J)). TellsListening a (config.proxy.listen, address) t) (sym same) told;
+        over = subst (λ (t : Option (WireTold W C L)). Over G o config n address t w' out out' how) wired over;
+      })
 
-  pub listened_metered : (config : Config) (n : ℕ) (address : List ℕ) (a b c : Option (Told T J)) (w w' : Option (WireTold W C L)) (out out' : Option (List ℕ)) (how : Status) → TellsListening a (config.proxy.listen, address) b → c ≡ b
-      → NoneRan o.seen o.text config address w w' out out' how ⊎ AllRan (λ (m : MeteredWires W G). m.inner) (metered_outside G o) config n address w w' out out' how → ServesWire G o config n a c w w' out out' how
-  listened_metered config n address a b c w w' out out' how told same ran =
-      inr (record { address = address; told = subst (λ (t : Option (Told T J)). TellsListening a (config.proxy.listen, address) t) (sym same) told; over = by ran })
-    where
-      by : NoneRan o.seen o.text config address w w' out out' how ⊎ AllRan (λ (m : MeteredWires W G). m.inner) (metered_outside G o) config n address w w' out out' how → Over config n address w w' out out' how
-      by (inl none) = inl none
-      by (inr all) = inr (inr all)
+  pub listened : (config : Config) (n : ℕ) (address : List ℕ) (a b c : Option (Told T J)) (w v w' : Option (WireTold W C L)) (out out' : Option (List ℕ)) (how : Status) → TellsListening a (config.proxy.listen, address) b → c ≡ b → v ≡ w
+      → NoneRan o.seen o.text config address v w' out out' how ⊎ AllRan (λ (m : W). m) o config n address v w' out out' how → ServesWire G o config n a c w w' out out' how
+  listened config n address a b c w v w' out out' how told same wired ran = listened_over config n address a b c w v w' out out' how told same wired (over_plain G o config n address v w' out out' how ran)
+
+  pub listened_metered : (config : Config) (n : ℕ) (address : List ℕ) (a b c : Option (Told T J)) (w v w' : Option (WireTold W C L)) (out out' : Option (List ℕ)) (how : Status) → TellsListening a (config.proxy.listen, address) b → c ≡ b → v ≡ w
+      → NoneRan o.seen o.text config address v w' out out' how ⊎ AllRan (λ (m : MeteredWires W G). m.inner) (metered_outside G o) config n address v w' out out' how → ServesWire G o config n a c w w' out out' how
+  listened_metered config n address a b c w v w' out out' how told same wired ran = listened_over config n address a b c w v w' out out' how told same wired (over_metered G o config n address v w' out out' how ran)
 
 pub fault_later : (how : Status) (a b c x y : ℕ) → a ≤ b → SiteOrOut how b c x y → SiteOrOut how a c x y
 fault_later how a b c x y le so e = by (so e)

@@ -8,11 +8,11 @@ use Rattle.shared_state.specs.declared.permits.Permits.{Permits}
 use Rattle.shared_tokens.specs.Seats as token
 use Rattle.shared_tokens.specs.declared.seats.Bucket.{Bucket}
 use Rattle.shared_tokens.specs.declared.seats.TokenSeat.{TokenSeat}
-use Rattle.std.proofs.Common.{All, ap, length, subst, sym, ◌<◌}
+use Rattle.std.proofs.Common.{All, ap, subst}
 use Rattle.std.proofs.lemmas.Bool.{false≢true}
 use Rattle.std.proofs.lemmas.List.Elements.{All-pop}
 use Rattle.std.specs.List.{list_any}
-use Rattle.std.specs.Prelude.{Bool, List, Some, [], false, nat_eq, true, ℕ, ◌++◌, ◌∷◌, ◌≡◌, ◌≤◌}
+use Rattle.std.specs.Prelude.{List, Some, [], nat_eq, true, ℕ, ◌++◌, ◌∷◌, ◌≡◌, ◌≤◌}
 use Rattle.worker_ports.specs.Wires.{Seen}
 
 none_any : (c m : ℕ) (live : List ℕ) → live ≡ [] → list_any (nat_eq c) live ≡ true → c ≤ m

@@ -2,7 +2,7 @@
 use Rattle.proxy_wire.specs.Sites.{TellsFitted, TellsReturned, TellsWorkers, WireTold, numbered, with_fitted, with_returned}
 use Rattle.std.proofs.Common.{ap, append_assoc, arith, inl, inr, refl, subst, sym, ◌∙◌}
 use Rattle.std.proofs.lemmas.List.{append-nil, reverse-append}
-use Rattle.std.specs.Prelude.{List, None, Option, Some, [], length, reverse, suc, ℕ, ◌+◌, ◌++◌, ◌∷◌, ◌≡◌, ◌⊎◌}
+use Rattle.std.specs.Prelude.{List, None, Option, Some, [], length, reverse, suc, ℕ, ◌+◌, ◌++◌, ◌∷◌, ◌≡◌}
 
 module _ {W C L : Type 0} where
   fitted_again : (o : Option (WireTold W C L)) (xs ys : List (ℕ × (W × (C × L)))) → with_fitted ys (with_fitted xs o) ≡ with_fitted (xs ++ ys) o

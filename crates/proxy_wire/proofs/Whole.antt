@@ -7,14 +7,13 @@ use Rattle.proxy_site.proofs.Ending.{not_usage}
 use Rattle.proxy_site.specs.Relaying.{SiteOrOut}
 use Rattle.proxy_site.specs.Serving.{TellsEnd, end_status}
 use Rattle.proxy_wire.specs.Serving.{ServesConfig, wire_status}
-use Rattle.proxy_wire.specs.Working.{ends_status, has_end, is_fault, is_memory}
+use Rattle.proxy_wire.specs.Working.{has_end, is_fault, is_memory}
 use Rattle.proxy_wire.specs.declared.end.WireEnd.{WireEnd}
 use Rattle.session_config.specs.Loading.{CausesFault, IsWhole, ReadsAs, ReadsWhole, StopsAs}
 use Rattle.session_config.specs.declared.load.ConfigEnd.{ConfigEnd}
 use Rattle.session_run.specs.declared.status.Status.{Status}
 use Rattle.std.proofs.Common.{ap, arith, inl, inr, refl, subst, sym, ◌∙◌}
 use Rattle.std.specs.Prelude.{Bool, Err, List, Ok, Option, Result, false, if◌then◌else◌, length, true, ℕ, ◌<◌, ◌^◌, ◌≡◌, ◌≢◌, ◌≤◌, ◌⊎◌}
-use Rattle.worker_loop.specs.declared.ended.Ended.{Ended}
 use Rattle.proxy_config.specs.declared.fault.ConfigFault.TheVariants as faults
 use Rattle.proxy_wire.specs.declared.end.WireEnd.TheVariants as ends
 use Rattle.session_config.specs.declared.load.ConfigEnd.TheVariants as end

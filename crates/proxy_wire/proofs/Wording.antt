@@ -1,6 +1,5 @@
 -- The words of the proxy that ask for workers.
 use Rattle.proxy_site.specs.Forms.{HasNoServeForm, IsNoTurns, IsTurnsWord, endless}
-use Rattle.proxy_site.specs.declared.form.ServeForm.{ServeForm}
 use Rattle.proxy_wire.specs.Forms.{HasNoProxyForm, IsNoWire, IsWire, SpellsProxy}
 use Rattle.proxy_wire.specs.declared.form.ProxyForm.{ProxyForm}
 use Rattle.std.proofs.Common.{ap, inl, inr, refl, subst, sym, ◌∙◌}

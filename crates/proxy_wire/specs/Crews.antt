@@ -1,6 +1,5 @@
 -- Workers that were fitted.
 use Rattle.proxy_config.specs.declared.config.Config.{Config}
-use Rattle.proxy_wire.specs.Sites.{TellsFitted, TellsReturned, WireTold, numbered}
 use Rattle.proxy_wire.specs.Working.{Begins}
 use Rattle.proxy_wire.specs.declared.crew.Crew.{Crew}
 use Rattle.session_config.specs.ClusterNames.{names_in}
@@ -8,7 +7,7 @@ use Rattle.session_run.specs.Ends.{AppendsFront}
 use Rattle.shared_state.specs.PermitSeats.{IsSeatOf}
 use Rattle.shared_state.specs.declared.permits.Permits.{Permits}
 use Rattle.std.specs.Io.KnownBytes.{Appends}
-use Rattle.std.specs.Prelude.{List, Option, [], length, map, reverse, slice_index_or, suc, ℕ, ◌++◌, ◌<◌, ◌∷◌, ◌≡◌, ◌≤◌, ◌⊎◌}
+use Rattle.std.specs.Prelude.{List, [], length, slice_index_or, ℕ, ◌<◌, ◌≡◌, ◌⊎◌}
 use Rattle.worker_ports.specs.declared.ports.OpenGate.{OpenGate}
 use Rattle.worker_threads.specs.Starting.{IsRunnerAt, Outside}
 use Rattle.worker_threads.specs.declared.worker.Shared.{Shared}

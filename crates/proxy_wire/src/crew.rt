@@ -56,7 +56,6 @@ pub(crate) fn share(alloc: Global, config: &Config) -> Result<(Shared, PermitSea
 
 impl Supply {
     /// What one worker more is made of. Its core is made for the configuration of this text.
-    #[tactic(auto, using(crate::proofs::Sharing::seats_left, crate::proofs::Sharing::seat_taken))]
     pub fn take(&mut self, alloc: Global, text: &[u8], permits: &Permits) -> Result<Parts, NoMemory>
         requires text { length text.now < 2 ^ 32 }
         requires seats { All (IsSeatOf permits.now) (seats_in self.old.seats) }

@@ -91,7 +91,7 @@ where
 }
 
 // Reads the configuration, and runs its workers.
-#[tactic(auto, using(crate::proofs::Whole::unread, crate::proofs::Whole::unfit, crate::proofs::Whole::served_whole, crate::proofs::Whole::short_text, crate::proofs::Whole::fault_read, crate::proofs::Whole::fault_other, crate::proofs::Whole::out_fault))]
+#[tactic(auto, using(crate::proofs::Whole::unread, crate::proofs::Whole::served_whole, crate::proofs::Whole::short_text, crate::proofs::Whole::fault_read, crate::proofs::Whole::fault_other, crate::proofs::Whole::out_fault))]
 fn serve_workers<R, S, T, G, K>(
     rt: &R,
     alloc: Global,

@@ -86,7 +86,7 @@ where
 }
 
 // Listens, and runs the workers.
-#[tactic(auto, using(crate::proofs::Served::not_listened, crate::proofs::Served::listened, crate::proofs::Served::listened_metered, crate::proofs::Served::fault_later))]
+#[tactic(auto, using(crate::proofs::Served::not_listened, crate::proofs::Served::fault_later))]
 fn listen_and_run<R, T, G, K>(
     rt: &R,
     alloc: Global,

@@ -94,7 +94,7 @@ where
 }
 
 // Fits the workers, and runs them.
-#[tactic(auto, using(crate::proofs::Running::none_hired, crate::proofs::Running::idle_paid_of, crate::proofs::Running::cause_hired))]
+#[tactic(auto, using(crate::proofs::Running::idle_paid_of, crate::proofs::Running::cause_hired))]
 fn work_crew<R, T, M, G, K>(
     rt: &R,
     alloc: Global,
@@ -152,7 +152,7 @@ where
 }
 
 // Runs workers that are fitted, once it is told where the proxy listens.
-#[tactic(auto, using(crate::proofs::Running::ran_fault, crate::proofs::Running::works_none, crate::proofs::Running::works_each))]
+#[tactic(auto, using(crate::proofs::Running::works_none, crate::proofs::Running::works_each))]
 fn work_all<R, T, M, G, K>(
     rt: &R,
     alloc: Global,

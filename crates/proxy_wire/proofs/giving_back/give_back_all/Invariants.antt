@@ -1,7 +1,7 @@
 use Rattle.io_ports.specs.Faults.{Rose}
 use Rattle.proxy_wire.specs.Crews.{IsPaid, OneFailed, back_of}
 use Rattle.proxy_wire.specs.Sites.{TellsReturned, numbered}
-use Rattle.std.proofs.Common.{All, length, map, reverse, vec_len, ◌<◌, ◌^◌, ◌≡◌, ◌≤◌, ◌⊎◌}
+use Rattle.std.proofs.Common.{All, map, reverse, vec_len, ◌<◌, ◌^◌, ◌≡◌, ◌≤◌, ◌⊎◌}
 use Rattle.proxy_wire.proofs.giving_back.give_back_all.Given as goal
 
 abbrev pub invariant-loop-worker : goal.invariant-loop-worker

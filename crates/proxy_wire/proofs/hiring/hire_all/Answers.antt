@@ -7,7 +7,7 @@ use Rattle.proxy_wire.proofs.hiring.hire_all.Goals as goal
 
 pub loop-place-init : goal.loop-place-init
 loop-place-init g c = record {
-  so = so_none g.M.Meter.bare _ c.args.config.now _ c.args.crew.now c.requires.shares c.requires.none.0 c.requires.none.1;
+  so = so_none g.M.Meter.bare _ c.args.config.now _ c.args.crew.now c.requires.shares (sym c.args.crew.now.workers.ok.0 ∙ c.requires.none.0) (sym c.args.crew.now.shared.posts.ok.0 ∙ c.requires.none.1);
   room = c.requires.room;
   seats = c.requires.seats;
   leads = c.requires.leads;

@@ -1,10 +1,11 @@
 -- The workers that were hired are lent, and lie in the crew again.
-use Rattle.proxy_wire.proofs.Running.{cause_back, idle_few, lent_back, lent_ready, lent_works, len_few, works_few, works_paid}
+use Rattle.proxy_wire.proofs.Running.{cause_back, idle_few, lent_back, lent_ready, lent_works, len_few, none_hired, works_few, works_paid}
+use Rattle.std.proofs.Common.{refl}
 use Rattle.std.specs.Vec.{with_items}
 use Rattle.proxy_wire.proofs.working.work_crew.Goals as goal
 
 pub work_all-requires-clause-ready : goal.work_all-requires-clause-ready
-work_all-requires-clause-ready g c = lent_ready g.M.Meter.bare _ c.args.config.now c.hire_all.new.crew _ _ c.as_mut_slice.result.now c.in-Ok.ensures.all c.as_mut_slice.ensures.value
+work_all-requires-clause-ready g c lifetimes live = lent_ready g.M.Meter.bare _ c.args.config.now c.hire_all.new.crew _ _ c.as_mut_slice.result.now c.in-Ok.ensures.all c.as_mut_slice.ensures.value
 
 pub returns-in-Ok-clause-works : goal.returns-in-Ok-clause-works
 returns-in-Ok-clause-works g c =
@@ -25,3 +26,6 @@ pub returns-in-Ok-clause-cause : goal.returns-in-Ok-clause-cause
 returns-in-Ok-clause-cause g c =
     let back = lent_back _ c.hire_all.new.crew.workers c.hire_all.new.crew.shared c.args.turns c.args.address.now c.as_mut_slice.result.now c.work_all.new.workers _ _ c.work_all.result c.as_mut_slice.ensures.len c.work_all.ensures.works in
     cause_back _ _ _ _ _ _ _ c.work_all.new.workers back c.work_all.ensures.cause
+
+pub returns-in-Err-clause-works : goal.returns-in-Err-clause-works
+returns-in-Err-clause-works g c = none_hired g.M.Meter.bare _ c.args.config.now c.args.turns c.args.address.now c.hire_all.new.crew.shared _ _ c.hire_all.new.crew.workers.items _ _ c.in-Err.end c.hire_all.ensures.some refl c.in-Err.ensures.cut

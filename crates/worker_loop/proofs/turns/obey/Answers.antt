@@ -7,7 +7,7 @@ use Rattle.worker_loop.specs.Places.{place_of}
 use Rattle.worker_loop.proofs.turns.obey.Goals as goal
 
 pub returns-then-snapshot-obeyed-clause-carries : goal.returns-then-snapshot-obeyed-clause-carries
-returns-then-snapshot-obeyed-clause-carries g c = not_obeyed c.args.names.now c.args.core.now.kind (place_of (g.J.Sink.contents c.args.journal.now) (g.J.Journal.told c.args.journal.now) (g.W.Wires.seen c.args.wires.now) c.args.held.now (view c.args.seat.now)) c.args.snapshot.version c.obeyed.result c.args.snapshot.pressures c.requires.core c.obeyed.ensures c.if-snapshot-obeyed.true
+returns-then-snapshot-obeyed-clause-carries g c = not_obeyed c.args.names.now c.args.core.now.kind (place_of (g.J.Sink.contents c.args.journal.now) (g.J.Journal.told c.args.journal.now) (g.W.Wires.seen c.args.wires.now) c.args.held.now (view c.args.seat.now)) c.args.snapshot.version c.obeyed.result c.args.snapshot.pressures c.requires.core c.obeyed.ensures (omega (arith, c.if-snapshot-obeyed.true))
 
 pub returns-then-snapshot-obeyed-clause-keeps : goal.returns-then-snapshot-obeyed-clause-keeps
 returns-then-snapshot-obeyed-clause-keeps g c = keeps_same c.args.permits.now (g.W.Wires.seen c.args.wires.now) (g.W.Wires.seen c.args.wires.now) c.args.held.now c.args.seat.now c.requires.holds refl

@@ -18,7 +18,7 @@ pub carry_out-requires-clause-core : goal.carry_out-requires-clause-core
 carry_out-requires-clause-core g c = c.requires.core
 
 pub carry_out-requires-clause-event : goal.carry_out-requires-clause-event
-carry_out-requires-clause-event g c = c.now.ensures.below
+carry_out-requires-clause-event g c = omega (arith, c.now.ensures.below)
 
 pub carry_out-requires-clause-holds : goal.carry_out-requires-clause-holds
 carry_out-requires-clause-holds g c = c.requires.holds

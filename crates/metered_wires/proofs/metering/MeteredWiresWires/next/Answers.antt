@@ -8,8 +8,8 @@ use Rattle.std.proofs.lemmas.Result.{err_from_is_err_and}
 use Rattle.worker_ports.specs.declared.wires.Wired.TheVariants as wired
 use Rattle.metered_wires.proofs.metering.MeteredWiresWires.next.Goals as goal
 
-pub take-requires : goal.take-requires
-take-requires g c = record { seat = c.args.self.now.seat_of }
+pub takes-requires : goal.takes-requires
+takes-requires g c = c.args.self.now.seat_of
 
 -- ---- refused
 pub invariant_of-self : goal.invariant_of-self
@@ -36,41 +36,41 @@ returns-in_err-conn-clause-refused g c =
     rw p.1 (c.in_err-conn.ensures.err, refl)
 
 -- ---- an Accept
-pub invariant_of-self-in-Ok : goal.invariant_of-self-in-Ok
-invariant_of-self-in-Ok g c =
+pub invariant_of-self-then-not-takes : goal.invariant_of-self-then-not-takes
+invariant_of-self-then-not-takes g c =
     record {
-      seat_of = c.take.ensures.seat;
-      rising = given_rises (g.W.Wires.seen c.args.self.now.inner) _ (g.W.Wires.seen c.next.new.self) c.args.self.now.rising c.in_ok-conn.ensures.ok;
-      below = below_accept c.in-Accept.conn (g.W.Wires.seen c.args.self.now.inner) (g.W.Wires.seen c.next.new.self) _ c.in-Accept.is c.in_ok-conn.ensures.ok;
-    }
-
-pub returns-in-Ok-clause-ok : goal.returns-in-Ok-clause-ok
-returns-in-Ok-clause-ok g c =
-    passed_on c.args.self.now.greatest c.in-Accept.conn (g.W.Wires.seen c.args.self.now.inner) (g.W.Wires.seen c.next.new.self) _ (wired.Accept c.in-Accept.conn) c.in-Accept.is refl c.args.self.now.below c.in_ok-conn.ensures.ok
-
-pub returns-in-Ok-clause-metered : goal.returns-in-Ok-clause-metered
-returns-in-Ok-clause-metered g c =
-    metered_accept (g.W.Wires.seen c.args.self.now.inner) (g.W.Wires.seen c.next.new.self) (known_of c.args.self.now.seat) (known_of c.take.new.seat) _ c.in-Accept.conn c.in-Accept.is c.in_ok-conn.ensures.ok c.in-Ok.ensures.taken
-
-pub invariant_of-self-in-Err : goal.invariant_of-self-in-Err
-invariant_of-self-in-Err g c =
-    record {
-      seat_of = c.take.ensures.seat;
+      seat_of = c.takes.ensures.seat;
       rising = same_rising _ (g.W.Wires.seen c.close.new.self) c.close.ensures.closes (closed_rises c.in-Accept.conn (g.W.Wires.seen c.next.new.self) (given_rises (g.W.Wires.seen c.args.self.now.inner) _ (g.W.Wires.seen c.next.new.self) c.args.self.now.rising c.in_ok-conn.ensures.ok));
       below = closed_below c.args.self.now.greatest c.in-Accept.conn (g.W.Wires.seen c.next.new.self) (g.W.Wires.seen c.close.new.self) c.close.ensures.closes (closed_greatest c.in-Accept.conn (g.W.Wires.seen c.next.new.self))
           (below_after c.args.self.now.greatest (g.W.Wires.seen c.args.self.now.inner) (g.W.Wires.seen c.next.new.self) _ c.args.self.now.below c.in_ok-conn.ensures.ok);
     }
 
-pub returns-in-Err-clause-ok : goal.returns-in-Err-clause-ok
-returns-in-Err-clause-ok g c =
+pub returns-then-not-takes-clause-ok : goal.returns-then-not-takes-clause-ok
+returns-then-not-takes-clause-ok g c =
     turned_idle c.args.self.now.greatest c.in-Accept.conn (g.W.Wires.seen c.args.self.now.inner) (g.W.Wires.seen c.next.new.self) (g.W.Wires.seen c.close.new.self) _ c.in-Accept.is c.args.self.now.rising c.in_ok-conn.ensures.ok c.close.ensures.closes
 
-pub returns-in-Err-clause-metered : goal.returns-in-Err-clause-metered
-returns-in-Err-clause-metered g c =
-    metered_closed (g.W.Wires.seen c.args.self.now.inner) (g.W.Wires.seen c.next.new.self) (g.W.Wires.seen c.close.new.self) (known_of c.args.self.now.seat) (known_of c.take.new.seat) _ c.in-Accept.conn _ _ c.in-Accept.is c.in_ok-conn.ensures.ok c.close.ensures.closes c.in-Err.ensures.taken
+pub returns-then-not-takes-clause-metered : goal.returns-then-not-takes-clause-metered
+returns-then-not-takes-clause-metered g c =
+    metered_closed (g.W.Wires.seen c.args.self.now.inner) (g.W.Wires.seen c.next.new.self) (g.W.Wires.seen c.close.new.self) (known_of c.args.self.now.seat) (known_of c.takes.new.seat) _ c.in-Accept.conn c.takes.result c.in-Accept.is c.in_ok-conn.ensures.ok c.close.ensures.closes c.if-not-takes.true c.takes.ensures.takes
 
-pub returns-in-Err-clause-no_fall : goal.returns-in-Err-clause-no_fall
-returns-in-Err-clause-no_fall g c = omega (arith, c.next.ensures.no_fall, c.close.ensures.no_fall)
+pub returns-then-not-takes-clause-no_fall : goal.returns-then-not-takes-clause-no_fall
+returns-then-not-takes-clause-no_fall g c = omega (arith, c.next.ensures.no_fall, c.close.ensures.no_fall)
+
+pub invariant_of-self-in-Accept : goal.invariant_of-self-in-Accept
+invariant_of-self-in-Accept g c =
+    record {
+      seat_of = c.takes.ensures.seat;
+      rising = given_rises (g.W.Wires.seen c.args.self.now.inner) _ (g.W.Wires.seen c.next.new.self) c.args.self.now.rising c.in_ok-conn.ensures.ok;
+      below = below_accept c.in-Accept.conn (g.W.Wires.seen c.args.self.now.inner) (g.W.Wires.seen c.next.new.self) _ c.in-Accept.is c.in_ok-conn.ensures.ok;
+    }
+
+pub returns-else-not-takes-clause-ok : goal.returns-else-not-takes-clause-ok
+returns-else-not-takes-clause-ok g c =
+    passed_on c.args.self.now.greatest c.in-Accept.conn (g.W.Wires.seen c.args.self.now.inner) (g.W.Wires.seen c.next.new.self) _ (wired.Accept c.in-Accept.conn) c.in-Accept.is refl c.args.self.now.below c.in_ok-conn.ensures.ok
+
+pub returns-else-not-takes-clause-metered : goal.returns-else-not-takes-clause-metered
+returns-else-not-takes-clause-metered g c =
+    metered_accept (g.W.Wires.seen c.args.self.now.inner) (g.W.Wires.seen c.next.new.self) (known_of c.args.self.now.seat) (known_of c.takes.new.seat) _ c.in-Accept.conn c.takes.result c.in-Accept.is c.in_ok-conn.ensures.ok c.if-not-takes.false c.takes.ensures.takes
 
 -- ---- a Join
 pub invariant_of-self-in-Join : goal.invariant_of-self-in-Join
