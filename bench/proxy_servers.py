@@ -153,7 +153,7 @@ WINDOWS = {'python': 'connection_window = 6553500\nstream_window = 1048576'}
 
 @contextlib.contextmanager
 def proxied(args, server, **keys):
-    proxy = Proxy(args, server.port, **{'limits': WINDOWS.get(server.kind, ''), **keys})
+    proxy = Proxy(args, server.port, **{'limits': WINDOWS.get(server.kind, ''), 'timeouts': 'route = 0', **keys})
     try:
         yield proxy
     except BaseException:

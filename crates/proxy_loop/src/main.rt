@@ -18,10 +18,11 @@ mod web_user;
 use crate::client::LENGTH;
 use crate::loop_site::LoopSite;
 use crate::server::Server;
+use crate::web_journal::Kept;
 use crate::web_origin::Origin;
 use crate::web_replay::replays_as_noted;
 use crate::web_site::WebSite;
-use crate::web_user::Answer;
+use crate::web_user::{Answer, User};
 use anyhow::Result;
 use io_ports::{MemSink, MemSource};
 use proxy_cli::{ClientCounts, ClientGauge, SocketSite};
@@ -95,35 +96,72 @@ where
 {
     let origin = Origin::new(&rt, rt.alloc())?;
     let text = proxy_text(rt.alloc(), origin.address()?, journal)?;
-    let octets = Vec::from_slice(rt.alloc(), text.as_bytes())?;
-    let mut config = MemSource::new(octets, Vec::new(rt.alloc()));
-    let mut out = MemSink::new(rt.alloc(), 100, Vec::new(rt.alloc()))?;
+    serve_web(rt, text.as_bytes(), origin)
+}
+
+// Serves over sockets under the configuration of this text, before a server.
+fn serve_web<
+    R: Print
+        + Eprint
+        + Files
+        + Net
+        + Clock
+        + Threads
+        + Wait
+        + AllocGlobal
+        + Copy
+        + Drop
+        + Send
+        + Sync,
+>(rt: R, text: &[u8], origin: Origin) -> Result<()>
+where
+    R::File: Send,
+    R::Stream: Send,
+    R::Listener: Send,
+{
     let counts = Arc::new(rt.alloc(), ClientCounts::new())?;
     let mut gauge = ClientGauge::new(Arc::try_clone(&counts)?);
     let mut site = WebSite::new(rt, SocketSite::new(rt, counts), origin);
+    run_web(rt, text, &mut gauge, &mut site)
+}
+
+// Serves over a site, and tells what was seen.
+fn run_web<
+    R: Print
+        + Eprint
+        + Files
+        + Net
+        + Clock
+        + Threads
+        + Wait
+        + AllocGlobal
+        + Copy
+        + Drop
+        + Send
+        + Sync,
+>(rt: R, text: &[u8], gauge: &mut ClientGauge, site: &mut WebSite<R>) -> Result<()>
+where
+    R::File: Send,
+    R::Stream: Send,
+    R::Listener: Send,
+{
+    let octets = Vec::from_slice(rt.alloc(), text)?;
+    let mut config = MemSource::new(octets, Vec::new(rt.alloc()));
+    let mut out = MemSink::new(rt.alloc(), 100, Vec::new(rt.alloc()))?;
     let words = words_of(rt.alloc(), &["CONFIG", PROXY_TURNS])?;
     let served = serve_proxy(
         &rt,
         rt.alloc(),
         words.as_slice(),
         &mut config,
-        &mut site,
-        &mut gauge,
+        site,
+        gauge,
         &mut out,
     );
     println!(rt; "status {}", served.status.code())?;
     tell_listening(&rt, out.octets())?;
-    if let Some(user) = &site.user {
-        for answer in user.answers.as_slice() {
-            tell_answer(&rt, answer)?;
-        }
-    }
-    if let Some(kept) = &site.kept {
-        if replays_as_noted(rt.alloc(), text.as_bytes(), kept)? {
-            println!(rt; "the worker's journal replays to its very notes")?;
-        }
-    }
-    Ok(())
+    tell_answers(&rt, &site.user)?;
+    tell_replay(&rt, rt.alloc(), text, &site.kept)
 }
 
 // The configuration: the server, little room for what waits, and a journal if it is to have one.
@@ -174,6 +212,24 @@ fn tell_counts<R: Print>(rt: &R, counts: Option<(usize, usize)>, is_over: bool) 
     }
     if is_over {
         println!(rt; "the server saw the client end")?;
+    }
+    Ok(())
+}
+
+fn tell_answers<R: Print>(rt: &R, user: &Option<User>) -> Result<()> {
+    if let Some(user) = user {
+        for answer in user.answers.as_slice() {
+            tell_answer(rt, answer)?;
+        }
+    }
+    Ok(())
+}
+
+fn tell_replay<R: Print>(rt: &R, alloc: Global, text: &[u8], kept: &Option<Kept>) -> Result<()> {
+    if let Some(kept) = kept {
+        if replays_as_noted(alloc, text, kept)? {
+            println!(rt; "the worker's journal replays to its very notes")?;
+        }
     }
     Ok(())
 }

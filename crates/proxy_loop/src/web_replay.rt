@@ -8,12 +8,15 @@ use session_run::Status;
 use std::alloc::Global;
 use wire_run::run_wire;
 
-/// How many octets a tape has at most.
+/// How many octets a tape has at most, and the text of a configuration.
 const MOST: usize = 1_000_000;
 
 /// Whether a journal that was written under a configuration with this text replays to its end, and to exactly the notes that the
 /// worker handed over, one for one.
 pub fn replays_as_noted(alloc: Global, text: &[u8], kept: &Kept) -> Result<bool, NoMemory> {
+    if text.len() > MOST {
+        return Ok(false);
+    }
     let Ok(config) = read_config(alloc, text) else {
         return Ok(false);
     };

@@ -182,8 +182,7 @@ fn play_heads(
 ) -> anyhow::Result<()> {
     begin(rt.alloc(), inlet)?;
     let nanos = time_heads(rt, inlet, block)?;
-    report_count(rt, "small heads taken", nanos)?;
-    Ok(())
+    report_count(rt, "small heads taken", nanos)
 }
 
 /// Prints how many octets of DATA, and how many small heads, are taken in a second of processor time.

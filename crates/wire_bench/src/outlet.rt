@@ -146,8 +146,7 @@ fn play_heads(
 ) -> anyhow::Result<()> {
     let fields = small_request(rt.alloc())?;
     let nanos = time_heads(rt, outlet, &fields)?;
-    report_count(rt, "small heads framed", nanos)?;
-    Ok(())
+    report_count(rt, "small heads framed", nanos)
 }
 
 /// Prints how many octets of DATA, and how many small heads, are framed in a second of processor time.

@@ -38,23 +38,15 @@ pub fn report_octets(
     report_ratio(rt, copied, framed)
 }
 
-/// Prints how many of something in a second of processor time all rounds come to. Answers it.
-pub fn report_count(
-    rt: &(impl AllocGlobal + Print),
-    what: &str,
-    nanos: u64,
-) -> anyhow::Result<u64> {
+/// Prints how many of something in a second of processor time all rounds come to.
+pub fn report_count(rt: &(impl AllocGlobal + Print), what: &str, nanos: u64) -> anyhow::Result<()> {
     let rate = per_second(FRAMES_A_ROUND * ROUNDS, nanos.max(1));
     println!(rt; "{what}: {rate} in a second of processor time")?;
-    Ok(rate)
+    Ok(())
 }
 
-/// Prints of two rates in a second how many hundredths of the first the second is.
-pub fn report_ratio(
-    rt: &(impl AllocGlobal + Print),
-    first: u64,
-    second: u64,
-) -> anyhow::Result<()> {
+// Prints of two rates in a second how many hundredths of the first the second is.
+fn report_ratio(rt: &(impl AllocGlobal + Print), first: u64, second: u64) -> anyhow::Result<()> {
     let percent = second.saturating_mul(100) / first.max(1);
     println!(rt; "the second is {percent} percent of the first")?;
     Ok(())
