@@ -60,11 +60,11 @@ def main():
     time.sleep(1)
     before = resident(proxy.process.pid)
     clients = [Sluggard(proxy.port) for _ in range(args.clients)]
-    peak = watch(proxy, args.seconds)
+    peak = stalled = watch(proxy, args.seconds)
     whole = sum(client.answer(1) == (True, data) for client in clients)
     peak = max(peak, watch(proxy, 1))
     probe.end()
-    print(f'{before / MIB:.1f} MiB before, {peak / MIB:.1f} MiB at most; {len(probe.took)} answers to the probe, the slowest after '
+    print(f'{before / MIB:.1f} MiB before, {stalled / MIB:.1f} MiB while they read nothing, {peak / MIB:.1f} MiB at most; {len(probe.took)} answers to the probe, the slowest after '
           f'{max(probe.took) * 1e3:.0f} ms, {len(probe.failed)} refused; {whole} of {args.clients} clients got their MiB whole')
     proxy.end()
     cluster.close()
