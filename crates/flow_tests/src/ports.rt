@@ -1,5 +1,4 @@
 // Tables of reads and writes, with what each answers.
-ghost use Rattle.std.specs.Prelude.{◌≡◌};
 
 use crate::said::{holds, same};
 use io_ports::{
@@ -180,8 +179,14 @@ fn lists_keep_what_is_appended(rt: HostRuntime) -> Result<(), NoMemory> {
     holds(&rt, octets.as_slice() == b"abc".as_slice());
     octets.clear();
     holds(&rt, octets.is_empty());
-    let copy = Octets::from_vec(copy.into_vec());
+    let copy = Octets::from_vec(Vec::from_slice(alloc, copy.as_slice())?);
     holds(&rt, copy.as_slice() == b"abcde".as_slice());
+    let shared = copy.shared().map_err(|_| "no memory")?;
+    let mut other = shared.copied().map_err(|_| "no memory")?;
+    other.truncate(2);
+    same(&rt, &other.push_all(b"x"), &Ok(()));
+    holds(&rt, other.as_slice() == b"abx".as_slice());
+    holds(&rt, shared.as_slice() == b"abcde".as_slice());
     let mut pressures = PressureList::from_vec(vec![in alloc; 1]?);
     same(&rt, &pressures.push(1_000_000), &Ok(()));
     same(&rt, &pressures.len(), &2);

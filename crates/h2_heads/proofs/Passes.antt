@@ -67,15 +67,6 @@ none_below (o ∷ os) least above each =
     let here = good_in_value o (omega (arith, first)) in
     ap (λ bad. bad || list_any is_bad_in_value os) here ∙ none_below os least above (λ k h. each (suc k) (omega arith))
 
-false_unless : (b : Bool) → (b ≡ true → ⊥) → b ≡ false
-false_unless true h = absurd (h refl)
-false_unless false h = refl
-
--- names of different lengths differ
-pub other_length : (name other : List ℕ) (n m : ℕ) → length name ≡ n → length other ≡ m → n ≢ m → bytes_eq name other ≡ false
-other_length name other n m is that differs =
-    false_unless (bytes_eq name other) (λ same. let at = ap length ((bytes_eq-Decides name other).0 same) in differs (omega arith))
-
 -- a pseudo-field has no name that begins otherwise
 pub pseudo_unnamed : (name other : List ℕ) (first : ℕ) → starts_with nat_eq name (codes ":") ≡ true → (first == 58) ≡ false → bytes_eq name (first ∷ other) ≡ false
 pseudo_unnamed [] other first pseudo at = refl

@@ -4,7 +4,7 @@ use Rattle.flow_notes.specs.Line.{newline}
 use Rattle.flow_notes.specs.declared.events.Event.{Event}
 use Rattle.flow_notes.specs.declared.notes.Note.{Note}
 use Rattle.io_ports.specs.declared.octets.NoMemory.{NoMemory}
-use Rattle.replay_run.specs.Lawfully.{HasLimits, IsSeen}
+use Rattle.replay_run.specs.SeenTape.{HasLimits, IsSeen}
 use Rattle.tape_summary.specs.Logging.{TapeLogIs, TapeLogs}
 use Rattle.tape_summary.specs.NotesText.{notes_text}
 use Rattle.tape_summary.specs.Summarizes.{Summarizes}

@@ -2,8 +2,8 @@
 use Rattle.plain_laws.proofs.Headlines.{headline_of}
 use Rattle.replay_run.proofs.Connected.{tape_connection}
 use Rattle.replay_run.proofs.Empty.{empty_whole}
-use Rattle.replay_run.specs.Drill.{drill_limits}
-use Rattle.replay_run.specs.Lawfully.{IsTape}
+use Rattle.replay_run.specs.DrillEvents.{drill_limits}
+use Rattle.replay_run.specs.SeenTape.{IsTape}
 use Rattle.replay_run.specs.Played.{Played, RefusesLine, SumsPlay, can_end, plain_kind}
 use Rattle.replay_run.specs.Replays.{Replays, Tells, TellsAs, TellsFront, last_text}
 use Rattle.replay_run.specs.declared.play.Play.{Play}
