@@ -44,10 +44,15 @@ fn main(rt: HostRuntime) -> anyhow::Result<()> {
     let Some(bench) = words.next() else {
         return usage(&rt);
     };
-    run(&rt, bench.as_str(), words.next().as_ref().map(|word| word.as_str()))
+    let only = words.next();
+    run(
+        &rt,
+        bench.as_str(),
+        only.as_ref().map(|word| word.as_str()),
+    )
 }
 
-fn run<R: Threads + Wait + AllocGlobal + Clock + CpuClock + Print + Sync>(
+fn run<R: Threads + Wait + AllocGlobal + Clock + CpuClock + Print + Input + Sync>(
     rt: &R,
     bench: &str,
     only: Option<&str>,
