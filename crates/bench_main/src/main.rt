@@ -45,11 +45,7 @@ fn main(rt: HostRuntime) -> anyhow::Result<()> {
         return usage(&rt);
     };
     let only = words.next();
-    run(
-        &rt,
-        bench.as_str(),
-        only.as_ref().map(|word| word.as_str()),
-    )
+    run(&rt, bench.as_str(), only.as_ref().map(|word| word.as_str()))
 }
 
 fn run<R: Threads + Wait + AllocGlobal + Clock + CpuClock + Print + Input + Sync>(
