@@ -4,6 +4,7 @@ use crate::gets::{CONFIG, EXCHANGES, Route, events_of, timed};
 use crate::rig::{Rig, no_memory, piece, stream_after};
 use crate::stopwatch::CpuStopwatch;
 use flow_notes::Event;
+use io_ports::{NoMemory, Octets};
 use std::alloc::Global;
 use std::time::CpuClock;
 
@@ -12,29 +13,37 @@ const LANES: u32 = 100;
 
 const TICKS: u64 = 1_000;
 
+/// How many exchanges a client has whose connection is lost, or drains, or is set anew.
+const SIZES: [u32; 2] = [100, 1_000];
+
+const PIECE: usize = 16_384;
+
 const METERS: &[u8] =
     b"[limits]\nwrite_buffer = 65536\nsend_buffer = 16384\nconnection_window = 16777216\nmax_streams = 1000\nframe_size = 1048576\n[[clusters]]\nname = \"a\"\n[[routes]]\nprefix = \"/\"\ncluster = \"a\"\nrequest = [\"meter\"]\nresponse = [\"meter\"]\n";
 
 const LARGE: &[u8] =
     b"[limits]\nwrite_buffer = 65536\nsend_buffer = 16384\nconnection_window = 16777216\nmax_streams = 1000\nframe_size = 1048576\n[[clusters]]\nname = \"a\"\n[[routes]]\nprefix = \"/\"\ncluster = \"a\"\n";
 
-/// A core with so many idle exchanges, a hundred a client, and so many idle connections more. The answer is the first number
-/// of a connection that is free.
-fn crowd(alloc: Global, config: &[u8], exchanges: u32, idle: u32) -> anyhow::Result<(Rig, u32)> {
-    let mut rig = Rig::new(alloc, config)?;
+/// So many idle exchanges come, a hundred a client, and so many idle connections more. The answer is the first number of a
+/// connection that is free.
+fn crowd(rig: &mut Rig, exchanges: u32, idle: u32) -> anyhow::Result<u32> {
     let whole = exchanges / LANES;
     for place in 0..whole {
-        lane(&mut rig, lane_at(place), LANES)?;
+        lane(rig, lane_at(place), LANES)?;
     }
     let rest = exchanges % LANES;
     if rest > 0 {
-        lane(&mut rig, lane_at(whole), rest)?;
+        lane(rig, lane_at(whole), rest)?;
     }
-    let first = lane_at(whole.saturating_add(1));
+    idle_clients(rig, lane_at(whole.saturating_add(1)), idle)
+}
+
+// So many clients come that send nothing, the first with this number. The answer is the number behind the last.
+fn idle_clients(rig: &mut Rig, first: u32, idle: u32) -> anyhow::Result<u32> {
     for place in 0..idle {
         rig.client(first.saturating_add(place), true)?;
     }
-    Ok((rig, first.saturating_add(idle)))
+    Ok(first.saturating_add(idle))
 }
 
 // The number of the cluster's connection of a lane; the client's is the next one.
@@ -61,9 +70,16 @@ pub fn idle(rt: &(impl AllocGlobal + Print + CpuClock), count: u32) -> anyhow::R
     Ok(())
 }
 
-/// Small exchanges beside so many idle connections and exchanges, over the first connection to the cluster that has room.
+/// Small exchanges beside so many idle connections and exchanges: nanoseconds.
 fn beside(rt: &(impl AllocGlobal + CpuClock), n: u32) -> anyhow::Result<u64> {
-    let (mut rig, conn) = crowd(rt.alloc(), CONFIG, n, n)?;
+    let mut rig = Rig::new(rt.alloc(), CONFIG)?;
+    let route = route_beside(&mut rig, n)?;
+    exchange(&mut rig, rt, route)
+}
+
+/// A client beside so many idle connections and exchanges, and the first connection to the cluster that has room.
+fn route_beside(rig: &mut Rig, n: u32) -> anyhow::Result<Route> {
+    let conn = crowd(rig, n, n)?;
     let client = conn.saturating_add(1);
     let (cluster, first) = if n < LANES {
         (1, stream_after(1, n))
@@ -72,30 +88,40 @@ fn beside(rt: &(impl AllocGlobal + CpuClock), n: u32) -> anyhow::Result<u64> {
         (conn, 1)
     };
     rig.client(client, true)?;
-    let route = Route {
+    Ok(Route {
         client,
         cluster,
         first,
-    };
-    let events = events_of(rt.alloc(), route, EXCHANGES, 1)?;
-    timed(&mut rig, &events, rt)
+    })
+}
+
+// Small exchanges over a route.
+fn exchange(rig: &mut Rig, clock: &impl CpuClock, route: Route) -> anyhow::Result<u64> {
+    let events = events_of(rig.alloc(), route, EXCHANGES, 1)?;
+    timed(rig, &events, clock)
 }
 
 /// Ticks beside so many exchanges with idle Meters.
 pub fn tick(rt: &(impl AllocGlobal + Print + CpuClock), count: u32) -> anyhow::Result<()> {
     for n in [10, count] {
-        let (mut rig, _) = crowd(rt.alloc(), METERS, n, 0)?;
-        let nanos = ticks(&mut rig, rt)? / TICKS;
+        let nanos = ticks_beside(rt, n)? / TICKS;
         println!(rt; "a tick beside {n} idle Meters: {nanos} ns")?;
     }
     Ok(())
+}
+
+// Ticks beside so many idle Meters: nanoseconds.
+fn ticks_beside(rt: &(impl AllocGlobal + CpuClock), n: u32) -> anyhow::Result<u64> {
+    let mut rig = Rig::new(rt.alloc(), METERS)?;
+    let _first = crowd(&mut rig, n, 0)?;
+    ticks(&mut rig, rt)
 }
 
 // Some ticks: nanoseconds.
 fn ticks(rig: &mut Rig, clock: &impl CpuClock) -> anyhow::Result<u64> {
     let watch = CpuStopwatch::start(clock)?;
     for now in 1..TICKS {
-        rig.go(&Event::Tick { now })?;
+        rig.tick(now)?;
     }
     Ok(watch.nanos(clock)?)
 }
@@ -120,62 +146,93 @@ fn drain_below(rig: &mut Rig, client: u32) -> anyhow::Result<()> {
     Ok(())
 }
 
+// The nanoseconds of one dispatch.
+fn dispatched(rig: &mut Rig, event: &Event, clock: &impl CpuClock) -> anyhow::Result<u64> {
+    let watch = CpuStopwatch::start(clock)?;
+    rig.go(event)?;
+    Ok(watch.nanos(clock)?)
+}
+
 /// A lost connection dooms so many exchanges.
 pub fn close(rt: &(impl AllocGlobal + Print + CpuClock)) -> anyhow::Result<()> {
-    for n in [100u32, 1_000] {
-        let mut rig = Rig::new(rt.alloc(), LARGE)?;
-        let conn = client_of(&mut rig, n, true)?;
-        let watch = CpuStopwatch::start(rt)?;
-        rig.go(&Event::Gone { conn })?;
-        println!(rt;
-            "a close that dooms {n}: {} ns each",
-            watch.nanos(rt)? / u64::from(n)
-        )?;
+    for n in SIZES {
+        let nanos = close_of(rt, n)? / u64::from(n.max(1));
+        println!(rt; "a close that dooms {n}: {nanos} ns each")?;
     }
     Ok(())
 }
 
+// A client with so many exchanges is lost: nanoseconds.
+fn close_of(rt: &(impl AllocGlobal + CpuClock), n: u32) -> anyhow::Result<u64> {
+    let mut rig = Rig::new(rt.alloc(), LARGE)?;
+    let conn = client_of(&mut rig, n, true)?;
+    dispatched(&mut rig, &Event::Gone { conn }, rt)
+}
+
 /// A write buffer that drains tells so many flows.
 pub fn low(rt: &(impl AllocGlobal + Print + CpuClock)) -> anyhow::Result<()> {
-    let body = piece(rt.alloc(), 16_384)?;
-    for n in [100u32, 1_000] {
-        let mut rig = Rig::new(rt.alloc(), LARGE)?;
-        let conn = client_of(&mut rig, n, true)?;
-        rise(&mut rig, body.as_slice())?;
-        let watch = CpuStopwatch::start(rt)?;
-        rig.room(conn)?;
-        let nanos = watch.nanos(rt)?;
-        println!(rt; "a low that tells {n}: {} ns each", nanos / u64::from(n))?;
+    for n in SIZES {
+        let nanos = low_of(rt, n)? / u64::from(n.max(1));
+        println!(rt; "a low that tells {n}: {nanos} ns each")?;
     }
     Ok(())
+}
+
+// The write buffer of a client with so many exchanges rises and drains: nanoseconds of the latter.
+fn low_of(rt: &(impl AllocGlobal + CpuClock), n: u32) -> anyhow::Result<u64> {
+    let mut rig = Rig::new(rt.alloc(), LARGE)?;
+    let conn = full_client(&mut rig, n)?;
+    dispatched(&mut rig, &Event::Room { conn, n: WIDE }, rt)
+}
+
+// A client with so many exchanges, whose write buffer is above its high watermark. The answer is its number.
+fn full_client(rig: &mut Rig, n: u32) -> anyhow::Result<u32> {
+    let conn = client_of(rig, n, true)?;
+    let body = piece(rig.alloc(), PIECE)?;
+    rise(rig, body.as_slice())?;
+    Ok(conn)
 }
 
 // Responses come from the first connection until the client's write buffer is above.
 fn rise(rig: &mut Rig, body: &[u8]) -> anyhow::Result<()> {
     for place in 0..5 {
-        let stream = stream_after(1, place);
-        let mut wire = Wire::new(rig.alloc());
-        wire.ok(stream).map_err(no_memory)?;
-        wire.data(stream, body, false).map_err(no_memory)?;
-        rig.read(1, wire)?;
+        respond(rig, stream_after(1, place), body)?;
     }
     Ok(())
 }
 
+// The head and a piece of a response come from the first connection.
+fn respond(rig: &mut Rig, stream: u32, body: &[u8]) -> anyhow::Result<()> {
+    let mut wire = Wire::new(rig.alloc());
+    wire.ok(stream).map_err(no_memory)?;
+    wire.data(stream, body, false).map_err(no_memory)?;
+    rig.read(1, wire)
+}
+
 /// A SETTINGS frame of a MiB, on so many streams.
 pub fn settings(rt: &(impl AllocGlobal + Print + CpuClock)) -> anyhow::Result<()> {
-    for n in [100u32, 1_000] {
-        let mut rig = Rig::new(rt.alloc(), LARGE)?;
-        let conn = client_of(&mut rig, n, true)?;
-        let mut wire = Wire::new(rt.alloc());
-        wire.settings(4, 1_000_000, 174_762).map_err(no_memory)?;
-        let event = Event::Read {
-            conn,
-            octets: wire.into_octets().map_err(no_memory)?,
-        };
-        let watch = CpuStopwatch::start(rt)?;
-        rig.go(&event)?;
-        println!(rt; "SETTINGS of a MiB on {n} streams: {} ns", watch.nanos(rt)?)?;
+    for n in SIZES {
+        let nanos = settings_of(rt, n)?;
+        println!(rt; "SETTINGS of a MiB on {n} streams: {nanos} ns")?;
     }
     Ok(())
+}
+
+// A client with so many exchanges sends SETTINGS of a MiB: nanoseconds.
+fn settings_of(rt: &(impl AllocGlobal + CpuClock), n: u32) -> anyhow::Result<u64> {
+    let mut rig = Rig::new(rt.alloc(), LARGE)?;
+    let conn = client_of(&mut rig, n, true)?;
+    set(&mut rig, conn, rt)
+}
+
+fn set(rig: &mut Rig, conn: u32, clock: &impl CpuClock) -> anyhow::Result<u64> {
+    let octets = great_settings(rig.alloc()).map_err(no_memory)?;
+    dispatched(rig, &Event::Read { conn, octets }, clock)
+}
+
+// SETTINGS of a MiB, which name the initial window over and over.
+fn great_settings(alloc: Global) -> Result<Octets, NoMemory> {
+    let mut wire = Wire::new(alloc);
+    wire.settings(4, 1_000_000, 174_762)?;
+    wire.into_octets()
 }

@@ -3,6 +3,7 @@ use crate::stopwatch::{CpuStopwatch, per_second};
 use anyhow::{bail, ensure};
 use io_ports::{MemSink, MemSource};
 use replay_run::{Status, replay};
+use std::alloc::Global;
 use std::time::CpuClock;
 
 const STREAMS: u32 = 1_000;
@@ -20,16 +21,29 @@ pub fn drill_once(rt: &(impl AllocGlobal + CpuClock)) -> anyhow::Result<u64> {
         format!(in alloc; "drill")?,
         format!(in alloc; "{STREAMS}")?,
     ]?;
-    let mut config = MemSource::new(Vec::new(alloc), Vec::new(alloc));
-    let mut session = MemSource::new(Vec::new(alloc), Vec::new(alloc));
     let Ok(mut out) = MemSink::new(alloc, ROOM, Vec::new(alloc)) else {
         bail!("out of memory");
     };
+    timed_replay(rt, words.as_slice(), &mut out)
+}
+
+fn timed_replay(
+    rt: &(impl AllocGlobal + CpuClock),
+    words: &[String],
+    out: &mut MemSink,
+) -> anyhow::Result<u64> {
     let watch = CpuStopwatch::start(rt)?;
-    let status = replay(alloc, words.as_slice(), &mut config, &mut session, &mut out);
+    let status = replay_words(rt.alloc(), words, out);
     let spent = watch.nanos(rt)?;
     ensure!(status == Status::Done, "the drill was not done");
     Ok(spent)
+}
+
+// A replay of no configuration and no session.
+fn replay_words(alloc: Global, words: &[String], out: &mut MemSink) -> Status {
+    let mut config = MemSource::new(Vec::new(alloc), Vec::new(alloc));
+    let mut session = MemSource::new(Vec::new(alloc), Vec::new(alloc));
+    replay(alloc, words, &mut config, &mut session, out)
 }
 
 /// The drill's events a second, where it took so many nanoseconds.

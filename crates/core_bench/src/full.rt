@@ -23,10 +23,19 @@ const CONFIG: &[u8] =
 /// So many hundred exchanges whose buffers are all full. Prints the octets that they may hold at most.
 pub fn run(rt: &(impl AllocGlobal + Print), clients: u32) -> anyhow::Result<()> {
     let mut rig = Rig::new(rt.alloc(), CONFIG)?;
+    fill_all(&mut rig, clients)?;
+    report(rt, clients)
+}
+
+fn fill_all(rig: &mut Rig, clients: u32) -> anyhow::Result<()> {
     for client in 0..clients {
         let cluster = client.saturating_mul(2).saturating_add(1);
-        fill_hundred(&mut rig, cluster, cluster.saturating_add(1))?;
+        fill_hundred(rig, cluster, cluster.saturating_add(1))?;
     }
+    Ok(())
+}
+
+fn report(rt: &impl Print, clients: u32) -> anyhow::Result<()> {
     let flows = u64::from(clients).saturating_mul(u64::from(2 * LANES));
     let octets = flows.saturating_mul(MOST);
     println!(rt; "{flows} flows with at most {octets} octets")?;
@@ -56,14 +65,19 @@ fn fill(rig: &mut Rig, conn: u32, stream: u32) -> anyhow::Result<()> {
             return Ok(());
         }
         let n = cmp::min(left, PIECE);
-        let body = piece(rig.alloc(), n)?;
-        let mut wire = Wire::new(rig.alloc());
-        wire.data(stream, body.as_slice(), false)
-            .map_err(no_memory)?;
-        rig.read(conn, wire)?;
+        send(rig, conn, stream, n)?;
         left = left
             .saturating_sub(n)
             .saturating_add(rig.granted(conn, stream));
     }
     Ok(())
+}
+
+// So many octets of body come on a stream.
+fn send(rig: &mut Rig, conn: u32, stream: u32, n: usize) -> anyhow::Result<()> {
+    let body = piece(rig.alloc(), n)?;
+    let mut wire = Wire::new(rig.alloc());
+    wire.data(stream, body.as_slice(), false)
+        .map_err(no_memory)?;
+    rig.read(conn, wire)
 }

@@ -4,6 +4,7 @@ use crate::frames::Wire;
 use crate::rig::{Rig, WIDE, no_memory, piece, stream_after};
 use crate::stopwatch::{CpuStopwatch, per_second};
 use flow_notes::{Event, EventList};
+use io_ports::{NoMemory, Octets};
 use std::alloc::Global;
 use std::time::CpuClock;
 
@@ -34,20 +35,26 @@ pub fn events_of(
     count: u32,
     at_once: u32,
 ) -> anyhow::Result<EventList> {
-    let body = piece(alloc, BODY)?;
     let mut events = EventList::new(alloc);
-    let at_once = at_once.max(1);
-    for turn in 0..count / at_once {
-        let first = stream_after(route.first, turn.saturating_mul(at_once));
-        push_turn(
-            &mut events,
-            alloc,
-            Route { first, ..route },
-            at_once,
-            body.as_slice(),
-        )?;
-    }
+    push_all(&mut events, alloc, route, count, at_once.max(1))?;
     Ok(events)
+}
+
+// The events of so many exchanges.
+fn push_all(
+    events: &mut EventList,
+    alloc: Global,
+    route: Route,
+    count: u32,
+    at_once: u32,
+) -> anyhow::Result<()> {
+    let body = piece(alloc, BODY)?;
+    for turn in 0..count / at_once.max(1) {
+        let first = stream_after(route.first, turn.saturating_mul(at_once));
+        let route = Route { first, ..route };
+        push_turn(events, alloc, route, at_once, body.as_slice())?;
+    }
+    Ok(())
 }
 
 // The events of exchanges at the same time.
@@ -58,22 +65,35 @@ fn push_turn(
     at_once: u32,
     body: &[u8],
 ) -> anyhow::Result<()> {
-    let mut requests = Wire::new(alloc);
-    let mut responses = Wire::new(alloc);
-    for place in 0..at_once {
-        let stream = stream_after(route.first, place);
-        requests.get(stream).map_err(no_memory)?;
-        responses.ok(stream).map_err(no_memory)?;
-        responses.data(stream, body, true).map_err(no_memory)?;
-    }
+    let requests = requests(alloc, route.first, at_once).map_err(no_memory)?;
     push(events, route.client, requests)?;
     push_room(events, route.cluster)?;
+    let responses = responses(alloc, route.first, at_once, body).map_err(no_memory)?;
     push(events, route.cluster, responses)?;
     push_room(events, route.client)
 }
 
-fn push(events: &mut EventList, conn: u32, wire: Wire) -> anyhow::Result<()> {
-    let octets = wire.into_octets().map_err(no_memory)?;
+// So many requests on streams from this one on.
+fn requests(alloc: Global, first: u32, count: u32) -> Result<Octets, NoMemory> {
+    let mut wire = Wire::new(alloc);
+    for place in 0..count {
+        wire.get(stream_after(first, place))?;
+    }
+    wire.into_octets()
+}
+
+// Their responses.
+fn responses(alloc: Global, first: u32, count: u32, body: &[u8]) -> Result<Octets, NoMemory> {
+    let mut wire = Wire::new(alloc);
+    for place in 0..count {
+        let stream = stream_after(first, place);
+        wire.ok(stream)?;
+        wire.data(stream, body, true)?;
+    }
+    wire.into_octets()
+}
+
+fn push(events: &mut EventList, conn: u32, octets: Octets) -> anyhow::Result<()> {
     events.push(Event::Read { conn, octets }).map_err(no_memory)
 }
 
@@ -95,6 +115,10 @@ pub fn timed(rig: &mut Rig, events: &EventList, clock: &impl CpuClock) -> anyhow
 /// So many exchanges between a client and a cluster that have just come: nanoseconds.
 fn once(rt: &(impl AllocGlobal + CpuClock), count: u32, at_once: u32) -> anyhow::Result<u64> {
     let mut rig = Rig::new(rt.alloc(), CONFIG)?;
+    exchange(&mut rig, rt, count, at_once)
+}
+
+fn exchange(rig: &mut Rig, clock: &impl CpuClock, count: u32, at_once: u32) -> anyhow::Result<u64> {
     rig.client(1, true)?;
     rig.cluster(2, true)?;
     let route = Route {
@@ -102,8 +126,8 @@ fn once(rt: &(impl AllocGlobal + CpuClock), count: u32, at_once: u32) -> anyhow:
         cluster: 2,
         first: 1,
     };
-    let events = events_of(rt.alloc(), route, count, at_once)?;
-    timed(&mut rig, &events, rt)
+    let events = events_of(rig.alloc(), route, count, at_once)?;
+    timed(rig, &events, clock)
 }
 
 /// The best of some turns of exchanges, `at_once` at the same time.

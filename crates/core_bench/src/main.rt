@@ -12,6 +12,7 @@ mod rig;
 mod stopwatch;
 
 use std::env;
+use std::time::CpuClock;
 
 const USAGE: &str = "usage: core_bench BENCH
   gets             small exchanges by ones and by thirty-twos, beside the drill
@@ -30,24 +31,36 @@ fn main(rt: HostRuntime) -> anyhow::Result<()> {
     let mut words = env::args(&rt)?;
     let _program = words.next();
     let Some(bench) = words.next() else {
-        rt.print(USAGE)?;
-        return Ok(());
+        return usage(&rt);
     };
     let one = number(words.next());
     let two = number(words.next());
-    match bench.as_str() {
-        "gets" => gets::run(&rt)?,
-        "alone" => gets::alone(&rt, one, two)?,
-        "bodies" => bodies::run(&rt)?,
-        "idle" => crowds::idle(&rt, one)?,
-        "tick" => crowds::tick(&rt, one)?,
-        "close" => crowds::close(&rt)?,
-        "low" => crowds::low(&rt)?,
-        "settings" => crowds::settings(&rt)?,
-        "full" => full::run(&rt, one)?,
-        "many" => many::run(&rt, one, two)?,
-        _ => rt.print(USAGE)?,
+    run(&rt, bench.as_str(), one, two)
+}
+
+fn run(
+    rt: &(impl AllocGlobal + Print + CpuClock),
+    bench: &str,
+    one: u32,
+    two: u32,
+) -> anyhow::Result<()> {
+    match bench {
+        "gets" => gets::run(rt),
+        "alone" => gets::alone(rt, one, two),
+        "bodies" => bodies::run(rt),
+        "idle" => crowds::idle(rt, one),
+        "tick" => crowds::tick(rt, one),
+        "close" => crowds::close(rt),
+        "low" => crowds::low(rt),
+        "settings" => crowds::settings(rt),
+        "full" => full::run(rt, one),
+        "many" => many::run(rt, one, two),
+        _ => usage(rt),
     }
+}
+
+fn usage(rt: &impl Print) -> anyhow::Result<()> {
+    rt.print(USAGE)?;
     Ok(())
 }
 

@@ -1,7 +1,6 @@
 // Connections and exchanges that come and go.
 use crate::gets::{CONFIG, Route, events_of, timed};
 use crate::rig::Rig;
-use flow_notes::Event;
 use std::time::CpuClock;
 
 /// The cluster's connection.
@@ -13,28 +12,59 @@ pub fn run(
     conns: u32,
     thousands: u32,
 ) -> anyhow::Result<()> {
-    let mut rig = Rig::new(rt.alloc(), CONFIG)?;
-    rig.cluster(CLUSTER, true)?;
-    for place in 0..conns {
-        come_and_go(&mut rig, place.saturating_add(2))?;
-    }
-    let client = conns.saturating_add(2);
-    rig.client(client, true)?;
-    for thousand in 0..thousands {
-        let first = thousand.saturating_mul(2_000).saturating_add(1);
-        let route = Route {
-            client,
-            cluster: CLUSTER,
-            first,
-        };
-        let events = events_of(rt.alloc(), route, 1_000, 1)?;
-        let _nanos = timed(&mut rig, &events, rt)?;
-    }
+    play(rt, conns, thousands)?;
     println!(rt; "{conns} connections and {thousands} thousand exchanges came and went")?;
     Ok(())
 }
 
+fn play(rt: &(impl AllocGlobal + CpuClock), conns: u32, thousands: u32) -> anyhow::Result<()> {
+    let mut rig = Rig::new(rt.alloc(), CONFIG)?;
+    let client = client_after(&mut rig, conns)?;
+    exchange(&mut rig, rt, client, thousands)
+}
+
+// Behind the cluster's connection so many come and go. The answer is the number of a client that stays.
+fn client_after(rig: &mut Rig, conns: u32) -> anyhow::Result<u32> {
+    rig.cluster(CLUSTER, true)?;
+    for place in 0..conns {
+        come_and_go(rig, place.saturating_add(2))?;
+    }
+    let client = conns.saturating_add(2);
+    rig.client(client, true)?;
+    Ok(client)
+}
+
 fn come_and_go(rig: &mut Rig, conn: u32) -> anyhow::Result<()> {
     rig.client(conn, true)?;
-    rig.go(&Event::Gone { conn })
+    rig.gone(conn)
+}
+
+// So many thousands of exchanges of a client.
+fn exchange(
+    rig: &mut Rig,
+    clock: &impl CpuClock,
+    client: u32,
+    thousands: u32,
+) -> anyhow::Result<()> {
+    for thousand in 0..thousands {
+        let first = thousand.saturating_mul(2_000).saturating_add(1);
+        exchange_thousand(rig, clock, client, first)?;
+    }
+    Ok(())
+}
+
+fn exchange_thousand(
+    rig: &mut Rig,
+    clock: &impl CpuClock,
+    client: u32,
+    first: u32,
+) -> anyhow::Result<()> {
+    let route = Route {
+        client,
+        cluster: CLUSTER,
+        first,
+    };
+    let events = events_of(rig.alloc(), route, 1_000, 1)?;
+    let _nanos = timed(rig, &events, clock)?;
+    Ok(())
 }

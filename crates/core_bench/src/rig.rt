@@ -74,6 +74,16 @@ impl Rig {
         self.go(&Event::Read { conn, octets })
     }
 
+    /// The clock's time goes on to so many milliseconds.
+    pub fn tick(&mut self, now: u64) -> anyhow::Result<()> {
+        self.go(&Event::Tick { now })
+    }
+
+    /// A connection is lost.
+    pub fn gone(&mut self, conn: u32) -> anyhow::Result<()> {
+        self.go(&Event::Gone { conn })
+    }
+
     /// All that waits for a connection's socket goes.
     pub fn room(&mut self, conn: u32) -> anyhow::Result<()> {
         self.go(&Event::Room { conn, n: WIDE })
