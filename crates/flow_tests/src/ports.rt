@@ -181,8 +181,8 @@ fn lists_keep_what_is_appended(rt: HostRuntime) -> Result<(), NoMemory> {
     holds(&rt, octets.is_empty());
     let copy = Octets::from_vec(Vec::from_slice(alloc, copy.as_slice())?);
     holds(&rt, copy.as_slice() == b"abcde".as_slice());
-    let shared = copy.shared().map_err(|_| "no memory")?;
-    let mut other = shared.copied().map_err(|_| "no memory")?;
+    let shared = copy.shared()?;
+    let mut other = shared.copied()?;
     other.truncate(2);
     same(&rt, &other.push_all(b"x"), &Ok(()));
     holds(&rt, other.as_slice() == b"abx".as_slice());
