@@ -1,12 +1,12 @@
 -- A send buffer that stands alone and is emptied is that of an empty chain.
-use Rattle.std.proofs.Common.{◌≡◌, ◌+◌, ◌≤◌, ◌∙◌, ℕ, List, [], ◌∷◌, length, drop, Bool, true, false, ap, sym, arith, All}
-use Rattle.std.proofs.lemmas.List.{drop_all, length-drop}
+use Rattle.std.proofs.Common.{◌≡◌, ◌≤◌, ◌∙◌, ℕ, List, [], ◌∷◌, length, Bool, true, false, ap, arith, All}
+use Rattle.std.proofs.lemmas.List.{drop_all}
 use Rattle.std.proofs.Math.ListN.{get_or, set}
 use Rattle.std.proofs.lemmas.Bool.Decides.{nat_tests}
 use Rattle.std.proofs.lemmas.List.Elements.{All-head}
 use Rattle.filter_chain.specs.Chain.{EndsInSend, kinds}
 use Rattle.filter_chain.specs.Place.{IsPlace, Place, empty_place, holding, rate_of}
-use Rattle.filter_chain.specs.Stage.{KeepsRoom, place_of, places_of}
+use Rattle.filter_chain.specs.Stage.{place_of, places_of}
 use Rattle.filter_chain.specs.declared.stage.Stage.{Stage}
 use Rattle.filter_chain.specs.declared.stage.StageKind.{StageKind}
 use Rattle.filter_chain.specs.declared.stage.StageKind.TheVariants.{Send}

@@ -1,10 +1,10 @@
 -- What the digits so far say of the number.
-use Rattle.std.proofs.Common.{IsTrue, List, [], ◌∷◌, ℕ, ◌+◌, ◌<◌, ◌≡◌, ◌≤◌, ◌^◌, ◌&&◌, ap, arith, drop, get_or, length, take, true}
-use Rattle.std.specs.List.{fold, list_all}
+use Rattle.std.proofs.Common.{IsTrue, List, [], ◌∷◌, ℕ, ◌+◌, ◌<◌, ◌≡◌, ◌≤◌, ◌^◌, ◌&&◌, ap, arith, drop, get_or, length, take}
+use Rattle.std.specs.List.{fold}
 use Rattle.std.specs.Prelude.{nat_lt}
 use Rattle.std.proofs.lemmas.Bool.Decides.{nat_tests}
 use Rattle.std.proofs.lemmas.List.{take-append-drop}
-use Rattle.std.proofs.lemmas.List.Folds.{list_all_at, list_all_more}
+use Rattle.std.proofs.lemmas.List.Folds.{list_all_at}
 use Rattle.std.proofs.lemmas.List.Sums.{fold-append, fold_more}
 use Rattle.h2_heads.specs.Numbers.{decimal, is_decimal, is_digit, with_digit}
 

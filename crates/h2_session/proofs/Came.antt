@@ -1,17 +1,17 @@
 -- Frames that end no header block.
-use Rattle.std.proofs.Common.{◌≡◌, ℕ, Bool, true, false, cond, eqb, List, ◌∷◌, Option, None, refl, sym, ap, subst, ◌∙◌}
+use Rattle.std.proofs.Common.{◌≡◌, ℕ, Bool, true, false, cond, eqb, List, ◌∷◌, Option, None, refl, sym, ap, ◌∙◌}
 use Rattle.std.specs.Prelude.{IfSome, nat_lt, not, ◌%◌, ◌&&◌}
 use Rattle.std.proofs.lemmas.Bool.{eqb-true}
 use Rattle.h2_frames.specs.Frame.{Frame}
 use Rattle.h2_session.specs.Blocks.{ended_block, greatest, open_block}
 use Rattle.h2_session.specs.Errors.{empty_run}
-use Rattle.h2_session.specs.Happened.{Came, Happening, Side, was_ended, was_opened}
-use Rattle.h2_session.specs.Streams.{head_stands, is_among, is_new, opened, peer_ended, state_of, was_closed}
+use Rattle.h2_session.specs.Happened.{Came, Happening, Side, was_opened}
+use Rattle.h2_session.specs.Streams.{head_stands, is_new, opened, peer_ended, state_of, was_closed}
 use Rattle.h2_session.specs.Summary.{StandsFor, Summary}
 use Rattle.h2_session.specs.Table.{Puts, stream_at}
 use Rattle.h2_session.specs.declared.streams.Stream.{Stream}
 use Rattle.h2_session.proofs.Standing.{Keeps, stands_moved}
-use Rattle.h2_session.proofs.States.{MovesOne, state_with}
+use Rattle.h2_session.proofs.States.{MovesOne}
 
 -- a table that stays as it is
 pub puts_same : (s : ℕ) (table : List (ℕ × Stream)) → Puts s (stream_at s table) table table

@@ -1,12 +1,11 @@
 -- What a session gives and stands for after each type of frame that ends no header block.
-use Rattle.std.proofs.Common.{◌≡◌, ℕ, ◌+◌, ◌-◌, ◌^◌, ◌<◌, Bool, true, false, cond, eqb, List, ◌∷◌, min, Option, None, refl, sym, ap, subst, ◌∙◌, arith}
+use Rattle.std.proofs.Common.{◌≡◌, ℕ, ◌+◌, ◌-◌, ◌<◌, Bool, true, false, cond, List, ◌∷◌, min, Option, None, refl, sym, ap, subst, ◌∙◌, arith}
 use Rattle.std.specs.Prelude.{IfSome, nat_le, ◌&&◌, ◌||◌}
 use Rattle.std.proofs.lemmas.Bool.{leb-false}
-use Rattle.h2_frames.specs.Frame.{DataFrame, Frame, GoAway, Ping, Priority, Push, Reset, Settings, Unknown, WindowUpdate}
-use Rattle.h2_frames.specs.declared.types.Weighting.{Weighting}
-use Rattle.h2_session.specs.Acts.{act_within, data_act, reset_act, update_act}
+use Rattle.h2_frames.specs.Frame.{DataFrame, Frame, Reset}
+use Rattle.h2_session.specs.Acts.{data_act, reset_act}
 use Rattle.h2_session.specs.Blocks.{open_block}
-use Rattle.h2_session.specs.Errors.{empty_run, error_of, is_empty_data, settings_of}
+use Rattle.h2_session.specs.Errors.{empty_run, error_of, is_empty_data}
 use Rattle.h2_session.specs.Happened.{Came, Happening, Side, was_ended, was_opened}
 use Rattle.h2_session.specs.Streams.{head_stands, is_among, is_new, opened, peer_ended, state_of, was_closed}
 use Rattle.h2_session.specs.Summary.{StandsFor, Summary, Takes}
@@ -14,9 +13,8 @@ use Rattle.h2_session.specs.Table.{Puts, after_data, stream_at}
 use Rattle.h2_session.specs.declared.act.Act.{Act}
 use Rattle.h2_session.specs.declared.act.Act.TheVariants as act
 use Rattle.h2_session.specs.declared.block.HeaderBlock.{HeaderBlock}
-use Rattle.h2_session.specs.declared.streams.Stream.{Stream}
 use Rattle.h2_session.proofs.BlockEnds.{same_number}
-use Rattle.h2_session.proofs.Came.{IsQuiet, Leaves, SaysOf, came_on}
+use Rattle.h2_session.proofs.Came.{Leaves, SaysOf, came_on}
 use Rattle.h2_session.proofs.Errors.{no_error, not_both, not_new, not_within}
 use Rattle.h2_session.proofs.Opening.{apart_too}
 use Rattle.h2_session.proofs.States.{after_data_is, closed_is, state_with}

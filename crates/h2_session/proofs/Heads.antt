@@ -1,14 +1,14 @@
 -- What a session gives and stands for after HEADERS and CONTINUATION frames.
-use Rattle.std.proofs.Common.{◌≡◌, ℕ, ◌+◌, ◌≤◌, Bool, true, false, cond, eqb, List, ◌∷◌, ◌++◌, length, Option, Some, None, Result, Ok, Err, refl, sym, ap, subst, ◌∙◌, arith}
+use Rattle.std.proofs.Common.{◌≡◌, ℕ, ◌+◌, ◌≤◌, Bool, true, false, cond, eqb, List, ◌++◌, length, Option, Some, None, Result, Ok, Err, refl, sym, ap, subst, ◌∙◌}
 use Rattle.std.specs.Option.{option_map_or}
 use Rattle.std.specs.Prelude.{IfOk, IfSome, MatchOption, nat_lt, not, option_map, ◌%◌, ◌&&◌, ◌||◌}
 use Rattle.std.proofs.lemmas.Bool.{ltb-false, eqb-true}
 use Rattle.h2_frames.specs.Frame.{Continuation, Frame, Headers}
 use Rattle.h2_frames.specs.declared.types.Weighting.{Weighting}
 use Rattle.h2_session.specs.Acts.{act_within, block_act, ended_act, opening_act}
-use Rattle.h2_session.specs.Blocks.{block_with, ended_block, grown, grown_in, open_block}
+use Rattle.h2_session.specs.Blocks.{block_with, ended_block, grown, open_block}
 use Rattle.h2_session.specs.Errors.{breaks_block, error_of, is_great}
-use Rattle.h2_session.specs.Happened.{Came, Happening, Side, was_opened}
+use Rattle.h2_session.specs.Happened.{Happening, Side, was_opened}
 use Rattle.h2_session.specs.Streams.{is_idle}
 use Rattle.h2_session.specs.Summary.{EndsBlock, FinishesBlock, StandsFor, Summary, Takes, begins_in, ended_state, has_room_in}
 use Rattle.h2_session.specs.Table.{Puts, stream_at}

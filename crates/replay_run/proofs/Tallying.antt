@@ -7,10 +7,8 @@ use Rattle.flow_notes.specs.declared.passages.Passage.{Passage}
 use Rattle.io_ports.specs.declared.octets.NoMemory.{NoMemory}
 use Rattle.tape_summary.proofs.Levels.{lawful_back, unwritten_goes}
 use Rattle.tape_summary.proofs.Pausing.{onto_more}
-use Rattle.tape_summary.specs.Levels.{WriteGoes}
 use Rattle.replay_run.specs.ShortSummary.{octets_framed, octets_in, pauses_in, resets_in, short_summary, streams_in}
 use Rattle.replay_run.specs.Tally.{Counted, TallyGoes, TallyIs, tally_text}
-use Rattle.tape_summary.specs.declared.level.Level.{Level}
 use Rattle.replay_run.specs.declared.tally.Tally.{Tally}
 use Rattle.std.proofs.Common.{Bor, ap, arith, refl, subst, sym, ◌∙◌}
 use Rattle.std.proofs.lemmas.List.{append-nil}

@@ -1,19 +1,16 @@
 -- What came in a wire session goes on.
 use Rattle.flow_notes.specs.declared.events.Event.{Event}
-use Rattle.flow_notes.specs.declared.events.Job.{Job}
-use Rattle.io_ports.specs.declared.octets.NoMemory.{NoMemory}
 use Rattle.session_lines.specs.Courses.{greatest_of}
-use Rattle.session_lines.specs.WireOrder.{gone, is_new, is_there, may_follow_wire, named, obeyed, posts_of}
-use Rattle.session_lines.specs.WireOrders.{FollowsWire, FollowsWireAt, WireOrderIs, kept_posts}
+use Rattle.session_lines.specs.WireOrder.{gone, is_there, named, obeyed}
+use Rattle.session_lines.specs.WireOrders.{FollowsWire, WireOrderIs, kept_posts}
 use Rattle.session_lines.specs.declared.wire_order.WireOrder.{WireOrder}
 use Rattle.std.proofs.Common.{ap, arith, refl, subst, sym, ◌∙◌}
-use Rattle.std.proofs.lemmas.Bool.{false_from_ne_true}
 use Rattle.std.proofs.lemmas.Bool.Decides.{nat_tests}
 use Rattle.std.specs.BTreeMap.{get}
 use Rattle.std.specs.BTreeSet.{contains}
 use Rattle.std.specs.List.{list_all}
 use Rattle.std.specs.Ordering.{nat_cmp}
-use Rattle.std.specs.Prelude.{Bool, Err, List, Ok, Option, Some, [], false, if◌then◌else◌, length, max, nat_le, nat_lt, not, true, ℕ, ◌&&◌, ◌+◌, ◌<◌, ◌==◌, ◌||◌, ◌∷◌, ◌≡◌, ◌≤◌}
+use Rattle.std.specs.Prelude.{Bool, List, Ok, [], false, if◌then◌else◌, length, max, nat_le, nat_lt, not, true, ℕ, ◌&&◌, ◌<◌, ◌==◌, ◌||◌, ◌∷◌, ◌≡◌, ◌≤◌}
 use Rattle.tape_laws.specs.Dispatches.{has}
 use Rattle.flow_notes.specs.declared.events.Event.TheVariants as event
 

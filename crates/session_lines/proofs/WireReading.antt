@@ -2,15 +2,12 @@
 use Rattle.flow_notes.specs.Event.{IsEvent, event_spelling, is_plain}
 use Rattle.flow_notes.specs.Fields.{FitsEvent}
 use Rattle.flow_notes.specs.declared.events.Event.{Event}
-use Rattle.io_ports.specs.declared.octets.NoMemory.{NoMemory}
-use Rattle.session_lines.specs.WireLines.{Behind, MayComeWire, NoLine, ReadsWireAt, ReadsWireLine, SpellsNoWire, SpellsWire, WireEvent, WireHeader, WireItem, WireLinesAre, WireSeen, is_headed, wire_header, wire_line}
-use Rattle.session_lines.specs.WireOrder.{may_follow_wire}
-use Rattle.session_lines.specs.WireOrders.{FollowsWire, WireOrderIs}
-use Rattle.session_lines.specs.declared.order.LineRead.{LineRead}
+use Rattle.session_lines.specs.WireLines.{Behind, NoLine, ReadsWireAt, ReadsWireLine, WireEvent, WireLinesAre, WireSeen}
+use Rattle.session_lines.specs.WireOrders.{FollowsWire}
 use Rattle.session_lines.specs.declared.wire_lines.WireLines.{WireLines}
 use Rattle.session_lines.specs.declared.wire_order.WireOrder.{WireOrder}
-use Rattle.std.proofs.Common.{ap, refl, subst, sym, ◌∙◌}
-use Rattle.std.specs.Prelude.{Bool, Err, IfSome, IsTrue, List, Ok, Option, Result, Some, [], false, true, ℕ, ◌∷◌, ◌≡◌}
+use Rattle.std.proofs.Common.{refl, subst, sym}
+use Rattle.std.specs.Prelude.{Bool, IfSome, List, Ok, Option, Some, false, true, ℕ, ◌≡◌}
 use Rattle.flow_notes.specs.declared.events.Event.TheVariants as event
 use Rattle.session_lines.specs.declared.order.LineRead.TheVariants as read
 

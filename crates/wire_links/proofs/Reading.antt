@@ -10,15 +10,14 @@ use Rattle.std.specs.Option.{is_some, option_and_then, option_map, option_map_or
 use Rattle.std.specs.Ordering.{nat_cmp}
 use Rattle.std.specs.declared.ops.Bound.TheVariants.{Excluded, Unbounded}
 use Rattle.std.specs.Prelude.{Bool, IfSome, List, None, Option, Some, [], false, if◌then◌else◌, nat_lt, slice_get, true, ℕ, ◌<◌, ◌&&◌, ◌^◌, ◌∷◌, ◌≡◌}
-use Rattle.wire_links.proofs.Offered.{Conns, Exchanges, takes}
+use Rattle.wire_links.proofs.Offered.{Exchanges, takes}
 use Rattle.wire_links.proofs.Seen.{keys_seen, under_seen}
-use Rattle.number_set.proofs.Sorted.{rises_none}
 use Rattle.wire_links.proofs.Tables.{is_found, same_itself}
 use Rattle.number_set.proofs.Tests.{same_is}
 use Rattle.wire_links.proofs.Under.{seen_removed, some_is}
 use Rattle.wire_links.proofs.Where.{all_where, first_in, has_where, holds}
 use Rattle.wire_links.specs.Kept.{AreKept, Offers, Seats, conns_of, items_at, streams_at}
-use Rattle.wire_links.specs.Links.{IsOn, IsSound, Links, chosen, no_links, cluster_of, exchange_at, exchanges_of, forgotten, is_on, is_same, is_such, takers}
+use Rattle.wire_links.specs.Links.{IsOn, IsSound, Links, chosen, cluster_of, exchange_at, exchanges_of, forgotten, is_on, is_same, takers}
 use Rattle.number_set.specs.NumberSet.{Rises, first, first_above, has}
 use Rattle.wire_links.specs.Numbers.{numbers_where, under}
 use Rattle.wire_links.specs.Seats.{Seat}

@@ -1,4 +1,4 @@
-use Rattle.std.proofs.Common.{◌≡◌, ◌<◌, ◌+◌, ◌∙◌, Bool, Some, length, ap, arith, sym}
+use Rattle.std.proofs.Common.{◌+◌, ◌∙◌, Bool, Some, length, ap, sym}
 use Rattle.std.specs.Str.{bytes_eq}
 use Rattle.hpack_codec.specs.Table.{line, static_table}
 use Rattle.hpack_codec.specs.declared.line.Line.{Line}

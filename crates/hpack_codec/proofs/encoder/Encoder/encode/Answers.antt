@@ -1,4 +1,4 @@
-use Rattle.std.proofs.Common.{◌≡◌, ◌≤◌, ◌+◌, ◌∙◌, ◌++◌, List, ℕ, cond, length, ap, sym, subst}
+use Rattle.std.proofs.Common.{◌≤◌, ◌+◌, ◌∙◌, ◌++◌, List, ℕ, cond, length, ap, sym, subst}
 use Rattle.hpack_codec.specs.Encoding.{encode_block, HasSpelling}
 use Rattle.hpack_codec.specs.Sections.{SpellsBlock, list_size}
 use Rattle.hpack_codec.specs.Table.{resized}

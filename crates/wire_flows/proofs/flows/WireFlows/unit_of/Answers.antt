@@ -1,6 +1,5 @@
 use Rattle.exchange_core.specs.Exchange.{flow_in}
 use Rattle.exchange_core.specs.Exchanges.{exchange_at, flow_at}
-use Rattle.exchange_core.specs.Units.{next_unit}
 use Rattle.wire_flows.proofs.Awaiting.{found_in, there_of}
 use Rattle.wire_flows.proofs.flows.WireFlows.unit_of.Goals as goal
 

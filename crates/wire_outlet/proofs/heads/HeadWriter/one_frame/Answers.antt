@@ -1,4 +1,4 @@
-use Rattle.std.proofs.Common.{List, [], ap, arith, drop, length, length-append, take, ℕ, ◌+◌, ◌++◌, ◌≤◌, ◌∙◌, ◌≡◌}
+use Rattle.std.proofs.Common.{List, ap, arith, drop, length, length-append, take, ℕ, ◌+◌, ◌++◌, ◌≤◌, ◌∙◌, ◌≡◌}
 use Rattle.std.proofs.Math.Seq.{take-append_seam}
 use Rattle.h2_frames.specs.Blocks.{block_frames, spellings}
 use Rattle.hpack_codec.specs.Encoding.{encode_block}
