@@ -58,13 +58,19 @@ fn decode_rate(clock: &impl CpuClock, alloc: Global, story: &[Vec<u8>]) -> Resul
     let mut octets = 0u64;
     for _ in 0..TURNS {
         let watch = CpuStopwatch::start(clock)?;
-        octets = 0;
-        for _ in 0..times {
-            octets = octets.wrapping_add(decode_story(alloc, story)?);
-        }
+        octets = decode_often(alloc, story, times)?;
         best = best.max(per_second(read, watch.nanos(clock)?));
     }
     Ok((best, octets / read))
+}
+
+/// Decodes a story so often, and gives the octets that all lists count.
+fn decode_often(alloc: Global, story: &[Vec<u8>], times: u64) -> Result<u64> {
+    let mut octets = 0u64;
+    for _ in 0..times {
+        octets = octets.wrapping_add(decode_story(alloc, story)?);
+    }
+    Ok(octets)
 }
 
 /// Encodes a list so often, and gives the octets of the blocks.
@@ -129,13 +135,16 @@ fn story_again(alloc: Global, text: &str) -> Result<Vec<Vec<u8>>> {
 
 /// Prints the stories of the two blocks, for another program.
 fn show_stories(rt: &impl Print) -> Result<()> {
-    for (name, text) in [("literals", PLAIN), ("coded_literals", CODED)] {
-        print!(rt; "{name}")?;
-        for _ in 0..AGAIN {
-            print!(rt; " {text}")?;
-        }
-        println!(rt; "")?;
+    show_story(rt, "literals", PLAIN)?;
+    show_story(rt, "coded_literals", CODED)
+}
+
+fn show_story(rt: &impl Print, name: &str, text: &str) -> Result<()> {
+    print!(rt; "{name}")?;
+    for _ in 0..AGAIN {
+        print!(rt; " {text}")?;
     }
+    println!(rt; "")?;
     Ok(())
 }
 
@@ -143,29 +152,48 @@ fn show_stories(rt: &impl Print) -> Result<()> {
 fn run_stories(rt: &(impl Print + CpuClock + AllocGlobal + Input)) -> Result<()> {
     let mut octets = Vec::new(rt.alloc());
     rt.reader().read_to_end(&mut octets)?;
-    let text = std::str::from_utf8(octets.as_slice()).unwrap_or("");
+    run_lines(rt, std::str::from_utf8(octets.as_slice()).unwrap_or(""))
+}
+
+fn run_lines(rt: &(impl Print + CpuClock + AllocGlobal), text: &str) -> Result<()> {
     for line in text.lines() {
-        let (name, words) = line.split_once(' ').unwrap_or((line, ""));
-        let story = story_of(rt.alloc(), words)?;
-        show_decoded(rt, name, story.as_slice())?;
+        run_line(rt, line)?;
     }
     Ok(())
+}
+
+fn run_line(rt: &(impl Print + CpuClock + AllocGlobal), line: &str) -> Result<()> {
+    let (name, words) = line.split_once(' ').unwrap_or((line, ""));
+    let story = story_of(rt.alloc(), words)?;
+    show_decoded(rt, name, story.as_slice())
+}
+
+/// Decodes a block over and over, and prints the rate.
+fn run_again(rt: &(impl Print + CpuClock + AllocGlobal), name: &str, text: &str) -> Result<()> {
+    let story = story_again(rt.alloc(), text)?;
+    show_decoded(rt, name, story.as_slice())
+}
+
+/// Encodes the list of a block, and prints the rate.
+fn run_encoded(rt: &(impl Print + CpuClock + AllocGlobal), text: &str) -> Result<()> {
+    let block = hex::decode(rt.alloc(), text)?;
+    let (rate, octets) = encode_rate(rt, rt.alloc(), block.as_slice())?;
+    println!(rt; "hpack_codec encode: {rate} blocks a second, {octets} octets each")?;
+    Ok(())
+}
+
+fn run_blocks(rt: &(impl Print + CpuClock + AllocGlobal)) -> Result<()> {
+    run_again(rt, "literals", PLAIN)?;
+    run_again(rt, "coded_literals", CODED)?;
+    run_encoded(rt, PLAIN)
 }
 
 /// Prints the rates of the two blocks and of the stories of the standard input, or the blocks as
 /// stories for another program.
 pub fn run(rt: &(impl Print + CpuClock + AllocGlobal + Input), word: Option<&str>) -> Result<()> {
     match word {
-        Some("blocks") => return show_stories(rt),
-        Some("stories") => return run_stories(rt),
-        _ => {}
+        Some("blocks") => show_stories(rt),
+        Some("stories") => run_stories(rt),
+        _ => run_blocks(rt),
     }
-    for (name, text) in [("literals", PLAIN), ("coded_literals", CODED)] {
-        let story = story_again(rt.alloc(), text)?;
-        show_decoded(rt, name, story.as_slice())?;
-    }
-    let block = hex::decode(rt.alloc(), PLAIN)?;
-    let (rate, octets) = encode_rate(rt, rt.alloc(), block.as_slice())?;
-    println!(rt; "hpack_codec encode: {rate} blocks a second, {octets} octets each")?;
-    Ok(())
 }

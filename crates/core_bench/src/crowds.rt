@@ -1,7 +1,7 @@
 // Small exchanges beside what is idle, and what a tick, a close, a low and a SETTINGS frame cost.
 use crate::frames::Wire;
 use crate::gets::{CONFIG, EXCHANGES, Route, events_of, timed};
-use crate::rig::{Rig, no_memory, piece, stream_after};
+use crate::rig::{Rig, WIDE, no_memory, piece, stream_after};
 use crate::stopwatch::CpuStopwatch;
 use flow_notes::Event;
 use io_ports::{NoMemory, Octets};
