@@ -35,7 +35,6 @@ impl<T: Drop> From<AllocFailed<T>> for NoMemory {
 const FEW: usize = 16;
 
 /// Where octets are kept.
-#[derive(Debug)]
 pub(crate) enum Store {
     /// Here: the first so many of these. The length stands first and there are sixteen, so that both lie as the words of the
     /// other variants do: a processor stalls where it reads a word that was written in other pieces.
@@ -102,7 +101,7 @@ impl Store {
 }
 
 /// A list of octets.
-#[derive(Debug, Drop)]
+#[derive(Drop)]
 pub struct Octets {
     alloc: Global,
     store: Store,
@@ -117,6 +116,13 @@ impl Model for Octets {
     ghost view = { λ a. stored a.store };
 
     ghost invariant = { λ a. Reaches a.store };
+}
+
+// By hand, so that the same octets have the same text wherever they are.
+impl fmt::Debug for Octets {
+    fn fmt<W: fmt::Write>(&self, f: &mut fmt::Formatter<W>) -> fmt::Result {
+        fmt::Debug::fmt(&self.as_slice(), f)
+    }
 }
 
 impl Octets {
