@@ -1,9 +1,11 @@
 // A core with its peers.
+ghost use Rattle.proxy_config.specs.Ranges.{IsInRange};
+
 use crate::frames::Wire;
 use anyhow::{anyhow, bail, ensure};
 use flow_notes::{Event, Note, Notes, Passage};
 use io_ports::{NoMemory, Octets};
-use proxy_config::read_config;
+use proxy_config::{Config, read_config};
 use std::alloc::Global;
 use std::marker::Model;
 use worker_core::Core;
@@ -47,14 +49,23 @@ impl Rig {
     /// Before the first event of sessions under this configuration.
     pub fn new(alloc: Global, config: &[u8]) -> anyhow::Result<Self> {
         ensure!(config.len() <= MOST_CONFIG, "the configuration is too long");
-        let Ok(config) = read_config(alloc, config) else {
-            bail!("the configuration is refused");
-        };
-        Ok(Rig {
-            alloc,
-            core: Core::new(alloc, config).map_err(no_memory)?,
-            notes: Notes::new(alloc),
-        })
+        match read_config(alloc, config) {
+            Ok(config) => Rig::under(alloc, config),
+            Err(_) => bail!("the configuration is refused"),
+        }
+    }
+
+    fn under(alloc: Global, config: Config) -> anyhow::Result<Self>
+        requires { IsInRange config }
+    {
+        match Core::new(alloc, config) {
+            Ok(core) => Ok(Rig {
+                alloc,
+                core,
+                notes: Notes::new(alloc),
+            }),
+            Err(_) => bail!("out of memory"),
+        }
     }
 
     pub fn alloc(&self) -> Global {
