@@ -41,7 +41,9 @@ const UP: Direction = Direction {
 /// Bodies of one direction: nanoseconds of processor time.
 fn pass(rt: &(impl AllocGlobal + CpuClock), way: Direction, body: &[u8]) -> anyhow::Result<u64> {
     let mut rig = Rig::new(rt.alloc(), CONFIG)?;
-    pass_bodies(&mut rig, rt, way, body)
+    let nanos = pass_bodies(&mut rig, rt, way, body);
+    drop(rig);
+    nanos
 }
 
 fn pass_bodies(

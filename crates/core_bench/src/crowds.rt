@@ -73,8 +73,19 @@ pub fn idle(rt: &(impl AllocGlobal + Print + CpuClock), count: u32) -> anyhow::R
 /// Small exchanges beside so many idle connections and exchanges: nanoseconds.
 fn beside(rt: &(impl AllocGlobal + CpuClock), n: u32) -> anyhow::Result<u64> {
     let mut rig = Rig::new(rt.alloc(), CONFIG)?;
-    let route = route_beside(&mut rig, n)?;
-    exchange(&mut rig, rt, route)
+    let nanos = exchange_beside(&mut rig, rt, n);
+    drop(rig);
+    nanos
+}
+
+fn exchange_beside(
+    rig: &mut Rig,
+    rt: &(impl AllocGlobal + CpuClock),
+    n: u32,
+) -> anyhow::Result<u64> {
+    let route = route_beside(rig, n)?;
+    let events = events_of(rt.alloc(), route, EXCHANGES, 1)?;
+    timed(rig, &events, rt)
 }
 
 /// A client beside so many idle connections and exchanges, and the first connection to the cluster that has room.
@@ -95,12 +106,6 @@ fn route_beside(rig: &mut Rig, n: u32) -> anyhow::Result<Route> {
     })
 }
 
-// Small exchanges over a route.
-fn exchange(rig: &mut Rig, clock: &impl CpuClock, route: Route) -> anyhow::Result<u64> {
-    let events = events_of(rig.alloc(), route, EXCHANGES, 1)?;
-    timed(rig, &events, clock)
-}
-
 /// Ticks beside so many exchanges with idle Meters.
 pub fn tick(rt: &(impl AllocGlobal + Print + CpuClock), count: u32) -> anyhow::Result<()> {
     for n in [10, count] {
@@ -113,12 +118,13 @@ pub fn tick(rt: &(impl AllocGlobal + Print + CpuClock), count: u32) -> anyhow::R
 // Ticks beside so many idle Meters: nanoseconds.
 fn ticks_beside(rt: &(impl AllocGlobal + CpuClock), n: u32) -> anyhow::Result<u64> {
     let mut rig = Rig::new(rt.alloc(), METERS)?;
-    let _first = crowd(&mut rig, n, 0)?;
-    ticks(&mut rig, rt)
+    let nanos = ticks(&mut rig, rt, n);
+    drop(rig);
+    nanos
 }
 
-// Some ticks: nanoseconds.
-fn ticks(rig: &mut Rig, clock: &impl CpuClock) -> anyhow::Result<u64> {
+fn ticks(rig: &mut Rig, clock: &impl CpuClock, n: u32) -> anyhow::Result<u64> {
+    let _first = crowd(rig, n, 0)?;
     let watch = CpuStopwatch::start(clock)?;
     for now in 1..TICKS {
         rig.tick(now)?;
@@ -165,8 +171,14 @@ pub fn close(rt: &(impl AllocGlobal + Print + CpuClock)) -> anyhow::Result<()> {
 // A client with so many exchanges is lost: nanoseconds.
 fn close_of(rt: &(impl AllocGlobal + CpuClock), n: u32) -> anyhow::Result<u64> {
     let mut rig = Rig::new(rt.alloc(), LARGE)?;
-    let conn = client_of(&mut rig, n, true)?;
-    dispatched(&mut rig, &Event::Gone { conn }, rt)
+    let nanos = lose(&mut rig, rt, n);
+    drop(rig);
+    nanos
+}
+
+fn lose(rig: &mut Rig, clock: &impl CpuClock, n: u32) -> anyhow::Result<u64> {
+    let conn = client_of(rig, n, true)?;
+    dispatched(rig, &Event::Gone { conn }, clock)
 }
 
 /// A write buffer that drains tells so many flows.
@@ -181,8 +193,14 @@ pub fn low(rt: &(impl AllocGlobal + Print + CpuClock)) -> anyhow::Result<()> {
 // The write buffer of a client with so many exchanges rises and drains: nanoseconds of the latter.
 fn low_of(rt: &(impl AllocGlobal + CpuClock), n: u32) -> anyhow::Result<u64> {
     let mut rig = Rig::new(rt.alloc(), LARGE)?;
-    let conn = full_client(&mut rig, n)?;
-    dispatched(&mut rig, &Event::Room { conn, n: WIDE }, rt)
+    let nanos = drain(&mut rig, rt, n);
+    drop(rig);
+    nanos
+}
+
+fn drain(rig: &mut Rig, clock: &impl CpuClock, n: u32) -> anyhow::Result<u64> {
+    let conn = full_client(rig, n)?;
+    dispatched(rig, &Event::Room { conn, n: WIDE }, clock)
 }
 
 // A client with so many exchanges, whose write buffer is above its high watermark. The answer is its number.
@@ -221,11 +239,13 @@ pub fn settings(rt: &(impl AllocGlobal + Print + CpuClock)) -> anyhow::Result<()
 // A client with so many exchanges sends SETTINGS of a MiB: nanoseconds.
 fn settings_of(rt: &(impl AllocGlobal + CpuClock), n: u32) -> anyhow::Result<u64> {
     let mut rig = Rig::new(rt.alloc(), LARGE)?;
-    let conn = client_of(&mut rig, n, true)?;
-    set(&mut rig, conn, rt)
+    let nanos = set(&mut rig, rt, n);
+    drop(rig);
+    nanos
 }
 
-fn set(rig: &mut Rig, conn: u32, clock: &impl CpuClock) -> anyhow::Result<u64> {
+fn set(rig: &mut Rig, clock: &impl CpuClock, n: u32) -> anyhow::Result<u64> {
+    let conn = client_of(rig, n, true)?;
     let octets = great_settings(rig.alloc()).map_err(no_memory)?;
     dispatched(rig, &Event::Read { conn, octets }, clock)
 }

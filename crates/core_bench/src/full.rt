@@ -23,7 +23,9 @@ const CONFIG: &[u8] =
 /// So many hundred exchanges whose buffers are all full. Prints the octets that they may hold at most.
 pub fn run(rt: &(impl AllocGlobal + Print), clients: u32) -> anyhow::Result<()> {
     let mut rig = Rig::new(rt.alloc(), CONFIG)?;
-    fill_all(&mut rig, clients)?;
+    let filled = fill_all(&mut rig, clients);
+    drop(rig);
+    filled?;
     report(rt, clients)
 }
 

@@ -115,7 +115,9 @@ pub fn timed(rig: &mut Rig, events: &EventList, clock: &impl CpuClock) -> anyhow
 /// So many exchanges between a client and a cluster that have just come: nanoseconds.
 fn once(rt: &(impl AllocGlobal + CpuClock), count: u32, at_once: u32) -> anyhow::Result<u64> {
     let mut rig = Rig::new(rt.alloc(), CONFIG)?;
-    exchange(&mut rig, rt, count, at_once)
+    let nanos = exchange(&mut rig, rt, count, at_once);
+    drop(rig);
+    nanos
 }
 
 fn exchange(rig: &mut Rig, clock: &impl CpuClock, count: u32, at_once: u32) -> anyhow::Result<u64> {

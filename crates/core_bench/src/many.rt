@@ -19,8 +19,19 @@ pub fn run(
 
 fn play(rt: &(impl AllocGlobal + CpuClock), conns: u32, thousands: u32) -> anyhow::Result<()> {
     let mut rig = Rig::new(rt.alloc(), CONFIG)?;
-    let client = client_after(&mut rig, conns)?;
-    exchange(&mut rig, rt, client, thousands)
+    let played = play_all(&mut rig, rt, conns, thousands);
+    drop(rig);
+    played
+}
+
+fn play_all(
+    rig: &mut Rig,
+    clock: &impl CpuClock,
+    conns: u32,
+    thousands: u32,
+) -> anyhow::Result<()> {
+    let client = client_after(rig, conns)?;
+    exchange(rig, clock, client, thousands)
 }
 
 // Behind the cluster's connection so many come and go. The answer is the number of a client that stays.
