@@ -1,6 +1,7 @@
 #!/bin/sh
-# Decodes the same blocks of request fields with hpack_codec and with libnghttp2, in one run.
-# Needs Debian's libnghttp2-dev and a C compiler; without them it says so and ends well.
+# Decodes the same blocks of request fields with hpack_codec and with libnghttp2, in one run: two blocks of literals, and
+# stories of a hundred blocks that use the dynamic table, as libnghttp2 and python3-hpack write them.
+# Needs Debian's libnghttp2-dev, python3-hpack and a C compiler; without the first or the last it says so and ends well.
 set -e
 cd "$(dirname "$0")/.."
 compiler=${CC:-cc}
@@ -15,8 +16,10 @@ fi
 "$compiler" -O3 -o "$made/fields" bench/fields.c -lnghttp2
 cd crates/bench_main
 rt run >/dev/null
-for turn in 1 2 3; do
-    out/bench_main fields
-    # shellcheck disable=SC2046
-    "$made/fields" $(out/bench_main fields blocks)
+out/bench_main fields blocks >"$made/stories"
+/usr/bin/python3 ../../bench/stories.py >>"$made/stories"
+for turn in 1 2 3 4 5; do
+    out/bench_main fields stories <"$made/stories"
+    "$made/fields" <"$made/stories"
 done
+out/bench_main fields | tail -1

@@ -413,7 +413,7 @@ class Spec:
             if line.strip().startswith("--"):
                 continue
             line = line.split(" -- ")[0]
-            m = re.match(r"use Rattle\.([\w.]+)\.\{(.*)\}$", line)
+            m = re.match(r"(?:pub )?use Rattle\.([\w.]+)\.\{(.*)\}$", line)
             if m:
                 for part in m.group(2).split(","):
                     part = part.strip()
@@ -502,9 +502,7 @@ class Spec:
         module, old = use
         m = re.match(r"(\w+)\.specs\.(\w+)$", module)
         if m and m.group(1) != "std" and old is not None:
-            self.load(m.group(1), m.group(2))
-            k = "%s.%s.%s" % (m.group(1), m.group(2), old)
-            return k if k in self.defs else None
+            return self.resolve(self.load(m.group(1), m.group(2)), old)
         return None
 
     def get(self, key):

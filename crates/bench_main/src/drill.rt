@@ -1,7 +1,7 @@
 // A drill from end to end, beside its octets through two watermark buffers.
 use crate::buffers::{first_octet, ready_buffer};
 use crate::stopwatch::{CpuStopwatch, per_second};
-use anyhow::{anyhow, ensure};
+use anyhow::{anyhow, bail, ensure};
 use flow_notes::{Event, EventList, PlainEvent};
 use io_ports::{MemSink, MemSource, NoMemory};
 use replay_run::{Status, drill_events, replay};
@@ -61,50 +61,105 @@ fn drill_once(rt: &(impl AllocGlobal + CpuClock)) -> anyhow::Result<u64> {
         format!(in alloc; "drill")?,
         format!(in alloc; "{STREAMS}")?,
     ]?;
-    let mut config = MemSource::new(Vec::new(alloc), Vec::new(alloc));
-    let mut session = MemSource::new(Vec::new(alloc), Vec::new(alloc));
     let Ok(mut out) = MemSink::new(alloc, ROOM, Vec::new(alloc)) else {
-        return Err(anyhow!("out of memory"));
+        bail!("out of memory");
     };
+    timed_replay(rt, words.as_slice(), &mut out)
+}
+
+fn timed_replay(
+    rt: &(impl AllocGlobal + CpuClock),
+    words: &[String],
+    out: &mut MemSink,
+) -> anyhow::Result<u64> {
     let watch = CpuStopwatch::start(rt)?;
-    let status = replay(alloc, &words, &mut config, &mut session, &mut out);
+    let status = replay_words(rt.alloc(), words, out);
     let spent = watch.nanos(rt)?;
     ensure!(status == Status::Done, "the drill was not done");
     Ok(spent)
 }
 
+/// A replay of no configuration and no session.
+fn replay_words(alloc: Global, words: &[String], out: &mut MemSink) -> Status {
+    let mut config = MemSource::new(Vec::new(alloc), Vec::new(alloc));
+    let mut session = MemSource::new(Vec::new(alloc), Vec::new(alloc));
+    replay(alloc, words, &mut config, &mut session, out)
+}
+
+fn two_buffers(alloc: Global) -> Result<(WatermarkBuffer, WatermarkBuffer), NoMemory> {
+    let first = ready_buffer(alloc)?;
+    Ok((first, ready_buffer(alloc)?))
+}
+
 /// Passes each body through two buffers, and answers the nanoseconds of processor time.
 fn bodies_once(rt: &(impl AllocGlobal + CpuClock), events: &EventList) -> anyhow::Result<u64> {
-    let no_memory = |_: NoMemory| anyhow!("out of memory");
-    let mut first = ready_buffer(rt.alloc()).map_err(no_memory)?;
-    let mut second = ready_buffer(rt.alloc()).map_err(no_memory)?;
+    let Ok((mut first, mut second)) = two_buffers(rt.alloc()) else {
+        bail!("out of memory");
+    };
+    pass_bodies(rt, events, &mut first, &mut second)
+}
+
+fn pass_bodies(
+    clock: &impl CpuClock,
+    events: &EventList,
+    first: &mut WatermarkBuffer,
+    second: &mut WatermarkBuffer,
+) -> anyhow::Result<u64> {
     let mut sum = 0u64;
-    let watch = CpuStopwatch::start(rt)?;
+    let watch = CpuStopwatch::start(clock)?;
     for event in events.as_slice() {
-        let body = body_of(event);
-        if !body.is_empty() {
-            sum = sum.wrapping_add(pass(&mut first, &mut second, body).map_err(no_memory)?);
-        }
+        sum = sum.wrapping_add(pass_some(first, second, body_of(event))?);
     }
-    let spent = watch.nanos(rt)?;
+    let spent = watch.nanos(clock)?;
     ensure!(sum > 0, "the buffers gave nothing");
     Ok(spent)
 }
 
 /// Passes so many octets through two buffers in great pieces, and answers the nanoseconds of processor time.
 fn pieces_once(rt: &(impl AllocGlobal + CpuClock), octets: u64) -> anyhow::Result<u64> {
-    let no_memory = |_: NoMemory| anyhow!("out of memory");
     let piece = vec![in rt.alloc(); 7u8; PIECE]?;
-    let mut first = ready_buffer(rt.alloc()).map_err(no_memory)?;
-    let mut second = ready_buffer(rt.alloc()).map_err(no_memory)?;
+    let Ok((mut first, mut second)) = two_buffers(rt.alloc()) else {
+        bail!("out of memory");
+    };
+    pass_pieces(
+        rt,
+        octets / PIECE as u64,
+        piece.as_slice(),
+        &mut first,
+        &mut second,
+    )
+}
+
+fn pass_pieces(
+    clock: &impl CpuClock,
+    pieces: u64,
+    piece: &[u8],
+    first: &mut WatermarkBuffer,
+    second: &mut WatermarkBuffer,
+) -> anyhow::Result<u64> {
     let mut sum = 0u64;
-    let watch = CpuStopwatch::start(rt)?;
-    for _piece in 0..octets / PIECE as u64 {
-        sum = sum.wrapping_add(pass(&mut first, &mut second, &piece).map_err(no_memory)?);
+    let watch = CpuStopwatch::start(clock)?;
+    for _piece in 0..pieces {
+        sum = sum.wrapping_add(pass_some(first, second, piece)?);
     }
-    let spent = watch.nanos(rt)?;
+    let spent = watch.nanos(clock)?;
     ensure!(sum > 0, "the buffers gave nothing");
     Ok(spent)
+}
+
+/// Passes a piece, if it has octets, and answers its first octet.
+fn pass_some(
+    first: &mut WatermarkBuffer,
+    second: &mut WatermarkBuffer,
+    piece: &[u8],
+) -> anyhow::Result<u64> {
+    if piece.is_empty() {
+        return Ok(0);
+    }
+    match pass(first, second, piece) {
+        Ok(octet) => Ok(octet),
+        Err(NoMemory) => bail!("out of memory"),
+    }
 }
 
 /// Passes a piece into the first buffer, on to the second and out of it, and answers its first octet.

@@ -26,7 +26,8 @@ const USAGE: &str = "usage: bench_main BENCH
   buffer     octets through two watermark buffers, beside two plain copies
   drill      a drill from end to end, beside its octets through two buffers
   exchanges  starts, moves and dooms, with one and with 50,000 live exchanges
-  fields     blocks of request fields, decoded and encoded (fields blocks: prints them)
+  fields     blocks of request fields, decoded and encoded (fields blocks: prints them as stories;
+             fields stories: decodes the stories of the standard input)
   frames     reading of frames
   gates      calls of the gates while few and while many flows are open
   notes      lines of notes, written and read, beside a plain copy of the same text
@@ -43,19 +44,20 @@ fn main(rt: HostRuntime) -> anyhow::Result<()> {
     let Some(bench) = words.next() else {
         return usage(&rt);
     };
-    run(&rt, bench.as_str(), words.next().is_some())
+    let only = words.next();
+    run(&rt, bench.as_str(), only.as_ref().map(|word| word.as_str()))
 }
 
-fn run<R: Threads + Wait + AllocGlobal + Clock + CpuClock + Print + Sync>(
+fn run<R: Threads + Wait + AllocGlobal + Clock + CpuClock + Print + Input + Sync>(
     rt: &R,
     bench: &str,
-    only_blocks: bool,
+    only: Option<&str>,
 ) -> anyhow::Result<()> {
     match bench {
         "buffer" => buffers::run(rt),
         "drill" => drill::run(rt),
         "exchanges" => exchanges::run(rt),
-        "fields" => fields::run(rt, only_blocks),
+        "fields" => fields::run(rt, only),
         "frames" => frames::run(rt),
         "gates" => gates::run(rt),
         "notes" => notes::run(rt),

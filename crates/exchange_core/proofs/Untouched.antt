@@ -11,7 +11,7 @@ use Rattle.exchange_core.specs.State.{ungated}
 use Rattle.exchange_core.specs.Units.{IsFrameable, ends_after, next_unit}
 use Rattle.flow_rules.specs.Units.{ends_after as is_end_after, next_unit as first_unit}
 use Rattle.exchange_core.specs.declared.exchange.Exchange.{Exchange}
-use Rattle.exchange_core.specs.declared.reply.Reply.TheVariants as reply
+use Rattle.exchange_core.specs.declared.causes.Reply.TheVariants as reply
 use Rattle.flow_rules.specs.declared.unit.Unit.TheVariants.{Body, Head, Nothing, Trailers}
 use Rattle.flow_rules.specs.declared.unit.Unit.{Unit as NextUnit}
 use Rattle.filter_chain.specs.Chain.{Chain, octets_at}

@@ -1,4 +1,6 @@
 -- What came of a message besides its body, and what of it was framed (RFC 9113 section 8.1).
+use Rattle.exchange_core.specs.declared.message.Awaited.{Awaited}
+use Rattle.exchange_core.specs.declared.message.Awaited.TheVariants.{Body, Head, Nothing}
 use Rattle.exchange_core.specs.declared.message.Message.{Message}
 use Rattle.hpack_codec.specs.declared.fields.Field.{Field}
 use Rattle.std.specs.Prelude.{Bool, List, None, Option, Some, false, if◌then◌else◌, is_some, true, ◌||◌}
@@ -23,6 +25,10 @@ trailers_wait m = is_some m.trailers
 -- its head came: it waits, or was framed
 abbrev pub head_came : Message → Bool
 head_came m = head_waits m || m.head_framed
+
+-- what is still to come of it
+abbrev pub awaited : Message → Awaited
+awaited m = if m.ended then Nothing else (if head_came m then Body else Head)
 
 -- the list that is framed next: the head, then the trailers
 abbrev pub fields_of : Message → Option (List Field)

@@ -1,8 +1,8 @@
 -- What the peers are told of a doom, by its cause.
 use Rattle.exchange_core.specs.declared.exchange.Exchange.{Exchange}
-use Rattle.exchange_core.specs.declared.reply.Doomed.{Doomed}
-use Rattle.exchange_core.specs.declared.reply.Reply.{Reply}
-use Rattle.exchange_core.specs.declared.reply.Reply.TheVariants as reply
+use Rattle.exchange_core.specs.declared.causes.Doomed.{Doomed}
+use Rattle.exchange_core.specs.declared.causes.Reply.{Reply}
+use Rattle.exchange_core.specs.declared.causes.Reply.TheVariants as reply
 use Rattle.flow_notes.specs.declared.notes.Cause.{Cause}
 use Rattle.flow_notes.specs.declared.notes.Cause.TheVariants.{Done, PeerReset, StreamError, TooLarge, Timeout, Overload, Overflow, ConnLost, EarlyEnd, Posted, Refused}
 use Rattle.std.specs.Option.{option_map_or}

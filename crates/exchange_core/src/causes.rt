@@ -4,7 +4,6 @@ ghost use Rattle.exchange_core.specs.Replies.{answer, is_target, reckoning, repl
 ghost use Rattle.exchange_core.specs.Replies.Word.{ReplyOr};
 
 use crate::exchange::Exchange;
-use crate::reply::{Doomed, Reply};
 use flow_notes::Cause;
 
 /// The codes of RST_STREAM (RFC 9113 section 7).
@@ -16,6 +15,27 @@ const CANCEL: u32 = 8;
 
 const ENHANCE_YOUR_CALM: u32 = 11;
 
+/// What one peer is told of a doom.
+#[derive(Clone, Copy, Debug, PartialEq, Eq)]
+pub enum Reply {
+    Nothing,
+    /// A head of this status alone, with END_STREAM. Where `reset` holds, RST_STREAM with NO_ERROR follows.
+    Answer { status: u16, reset: bool },
+    /// RST_STREAM with this code.
+    Reset { code: u32 },
+}
+
+/// What a doom leaves to do.
+#[derive(Clone, Copy, Debug, PartialEq, Eq)]
+pub struct Doomed {
+    /// The octets that were dropped from the receive buffer of the request, and from that of the response.
+    pub request_left: u32,
+    pub response_left: u32,
+    /// What the client is told, and what the cluster.
+    pub down: Reply,
+    pub up: Reply,
+}
+
 impl Exchange {
     /// What its doom leaves to do. Of a reset, a fault of a stream and a body that is too large, `back` says that the
     /// cluster or the response gave the cause.
@@ -23,11 +43,11 @@ impl Exchange {
         ensures { result ≡ reckoning cause back self.now }
     {
         let response_left = match &self.response {
-            Some(response) => response.left(),
+            Some(response) => response.flow().left(),
             None => 0,
         };
         Doomed {
-            request_left: self.request.left(),
+            request_left: self.request.flow().left(),
             response_left,
             down: self.reply_down(cause, back),
             up: self.reply_up(cause, back),

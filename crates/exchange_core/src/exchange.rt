@@ -1,5 +1,5 @@
 // One exchange: a request and its response.
-ghost use Rattle.std.specs.Prelude.{◌≡◌, ◌-◌, ◌<◌, ◌≤◌, ◌^◌, [], All, IfOk, IfSome, IsNone, IsOk, IsSome, IsTrue, OnErr, OnOk, Some, false, is_some, length, option_map, true};
+ghost use Rattle.std.specs.Prelude.{◌≡◌, ◌-◌, ◌<◌, ◌≤◌, [], All, IfOk, IfSome, IsNone, IsOk, IsSome, IsTrue, OnErr, OnOk, Some, false, is_some, length, option_map, true};
 ghost use Rattle.exchange_core.specs.Exchange.{IsSoundExchange, begun, begun_response, filters_of, multiple_of, side_filters, ends_of, flow_changed, flow_id, flow_in, goes_to, held_in, is_metered, seen_at};
 ghost use Rattle.exchange_core.specs.Moves.{has_room_ahead, next_step, stepped};
 ghost use Rattle.exchange_core.specs.Flow.{IsSound as IsSoundFlow};
@@ -13,7 +13,9 @@ ghost use Rattle.std.specs.Option.{option_copied, option_copied_mut};
 ghost use Rattle.proxy_config.specs.Ranges.{AreFilters, IsBetween, IsRoute, most_octets};
 
 use crate::flow::Flow;
+use crate::flow_box::FlowBox;
 use crate::message::Message;
+use crate::spares::Spares;
 use crate::start::StartSpec;
 use crate::step::{Advance, Step};
 use flow_gate::{FlowId, Gates};
@@ -33,14 +35,15 @@ pub struct Ends {
 pub(crate) struct Exchange {
     pub(crate) from_conn: u32,
     pub(crate) to_conn: Option<u32>,
-    pub(crate) request: Flow,
-    pub(crate) response: Option<Flow>,
+    pub(crate) request: FlowBox,
+    pub(crate) response: Option<FlowBox>,
 }
 
 impl Exchange {
     /// An exchange with empty flows through the filters of its route row.
     pub(crate) fn new(
         alloc: Global,
+        spares: &mut Spares,
         number: u64,
         spec: &StartSpec,
         config: &Config,
@@ -53,15 +56,10 @@ impl Exchange {
         ensures sound { IfOk result (IsSoundExchange number spec.entry.now.now) }
     {
         let none = FilterList::new(alloc);
-        let filters = filters_of(&none, config, spec.row, false);
-        let request = Flow::new(
-            alloc,
-            flow_id(number, false),
-            filters,
-            spec,
-            multiple_of(spec, config),
-        )?;
-        let response = Self::response(alloc, number, spec, config, &none)?;
+        let filters = filters_of(&none, &*config, spec.row, false);
+        let id = FlowId::request(number);
+        let request = spares.begun(id, filters, spec, multiple_of(spec, config))?;
+        let response = Self::response(spares, number, spec, config, &none)?;
         Ok(Exchange {
             from_conn: spec.from_conn,
             to_conn: spec.to_conn,
@@ -72,12 +70,12 @@ impl Exchange {
 
     /// The response flow of a new exchange, none in a plain session.
     fn response(
-        alloc: Global,
+        spares: &mut Spares,
         number: u64,
         spec: &StartSpec,
         config: &Config,
         none: &FilterList,
-    ) -> Result<Option<Flow>, NoMemory>
+    ) -> Result<Option<FlowBox>, NoMemory>
         requires recv { spec.now.recv ≤ most_octets }
         requires send { spec.now.send ≤ most_octets }
         requires quantum { IsBetween 16384 1048576 spec.now.quantum }
@@ -91,16 +89,17 @@ impl Exchange {
         }
         let filters = filters_of(none, config, spec.row, true);
         let multiple = config.limits.overflow_multiple;
-        Ok(Some(Flow::new(alloc, flow_id(number, true), filters, spec, multiple)?))
+        Ok(Some(spares.begun(FlowId::response(number), filters, spec, multiple)?))
     }
 
     /// The Meters of both flows go on to the moment `now`.
+    #[inline(always)]
     pub(crate) fn go_on(&mut self, now: u64)
         ensures { self.new ≡ seen_at now self.old }
     {
-        self.request.go_on(now);
+        self.request.flow_mut().go_on(now);
         if let Some(response) = &mut self.response {
-            response.go_on(now);
+            response.flow_mut().go_on(now);
         }
     }
 
@@ -117,22 +116,25 @@ impl Exchange {
         ensures { Some result.now ≡ flow_in back self.now }
     {
         if !back {
-            return &self.request;
+            return self.request.flow();
         }
         let Some(response) = &self.response else {
             unreachable!()
         };
-        response
+        response.flow()
     }
 
     /// The request flow, or the response flow, if it is there.
+    #[inline(always)]
     pub(crate) fn find(&self, back: bool) -> Option<&Flow>
         ensures { option_copied result ≡ flow_in back self.now }
     {
-        if back {
-            self.response.as_ref()
-        } else {
-            Some(&self.request)
+        if !back {
+            return Some(self.request.flow());
+        }
+        match &self.response {
+            Some(response) => Some(response.flow()),
+            None => None,
         }
     }
 
@@ -141,27 +143,31 @@ impl Exchange {
         ensures { result ≡ option_map (λ f. f.window - length f.recv) (flow_in back self.now) }
     {
         if !back {
-            return Some(self.request.space());
+            return Some(self.request.flow().space());
         }
         match &self.response {
-            Some(response) => Some(response.space()),
+            Some(response) => Some(response.flow().space()),
             None => None,
         }
     }
 
     /// A flow to change, if it is there.
+    #[inline(always)]
     pub(crate) fn flow_mut(&mut self, back: bool) -> Option<&mut Flow>
         ensures* writes_back { sem 𝓛 (LendsFlow back self.entry result) }
         ensures value { option_copied_mut result ≡ flow_in back self.old }
     {
-        if back {
-            self.response.as_mut()
-        } else {
-            Some(&mut self.request)
+        if !back {
+            return Some(self.request.flow_mut());
+        }
+        match &mut self.response {
+            Some(response) => Some(response.flow_mut()),
+            None => None,
         }
     }
 
     /// A flow to change, if it is there, with the Meters of the exchange at the moment `now`.
+    #[inline(always)]
     pub(crate) fn touch(&mut self, back: bool, now: u64) -> Option<&mut Flow>
         ensures* writes_back { sem 𝓛 (LendsTouched back now self.entry result) }
         ensures value { option_copied_mut result ≡ flow_in back (seen_at now self.old) }
@@ -218,8 +224,8 @@ impl Exchange {
         ensures { result ≡ is_metered self.now }
     {
         match &self.response {
-            Some(response) => self.request.meters_hold() || response.meters_hold(),
-            None => self.request.meters_hold(),
+            Some(response) => self.request.flow().meters_hold() || response.flow().meters_hold(),
+            None => self.request.flow().meters_hold(),
         }
     }
 
@@ -238,11 +244,11 @@ impl Exchange {
         ensures { result ≡ ends_of self.now }
     {
         let response = match &self.response {
-            Some(flow) => flow.message().end_framed,
+            Some(response) => response.flow().message().end_framed,
             None => false,
         };
         Ends {
-            request: self.request.message().end_framed,
+            request: self.request.flow().message().end_framed,
             response,
         }
     }
@@ -252,8 +258,8 @@ impl Exchange {
         ensures { result ≡ held_in self.now }
     {
         match &self.response {
-            Some(response) => self.request.held() + response.held(),
-            None => self.request.held(),
+            Some(response) => self.request.flow().held() + response.flow().held(),
+            None => self.request.flow().held(),
         }
     }
 
@@ -262,7 +268,7 @@ impl Exchange {
         ensures { result ≡ head_framed self.now }
     {
         match &self.response {
-            Some(response) => response.message().head_framed,
+            Some(response) => response.flow().message().head_framed,
             None => false,
         }
     }
@@ -271,15 +277,8 @@ impl Exchange {
     pub(crate) fn request_ended(&self) -> bool
         ensures { result ≡ self.now.request.message.ended }
     {
-        self.request.message().ended
+        self.request.flow().message().ended
     }
-}
-
-/// The name of a flow of an exchange.
-pub(crate) fn flow_id(exchange: u64, back: bool) -> FlowId
-    ensures { result ≡ flow_id exchange back }
-{
-    FlowId { exchange, back }
 }
 
 // The filters of one side of a route row, `none` where there is no row.
@@ -320,8 +319,8 @@ pub(crate) fn forget_flows(gates: &mut Gates, exchange: u64, both: bool)
     ensures gone { ForgetsSides exchange both gates.old gates.new }
     ensures sound { AreSoundGates gates.new }
 {
-    gates.forget(flow_id(exchange, false));
+    gates.forget(FlowId::request(exchange));
     if both {
-        gates.forget(flow_id(exchange, true));
+        gates.forget(FlowId::response(exchange));
     }
 }

@@ -13,9 +13,10 @@ ghost use Rattle.proxy_config.specs.Ranges.{IsBetween, IsRoute, most_octets};
 mod moves;
 mod reading;
 
+use crate::causes::Doomed;
 use crate::exchange::{Exchange, forget_flows};
 use crate::flow::Flow;
-use crate::reply::Doomed;
+use crate::spares::Spares;
 use crate::start::StartSpec;
 use crate::step::Received;
 use filter_chain::ticks_add_up;
@@ -39,6 +40,7 @@ pub struct Exchanges {
     live: BTreeMap<u64, Exchange>,
     doomed: VecDeque<u64>,
     metered: NumberSet,
+    spares: Spares,
     last: u64,
     ticked: u64,
     time: u64,
@@ -70,6 +72,7 @@ impl Exchanges {
             live: BTreeMap::new(alloc),
             doomed: VecDeque::new(alloc),
             metered: NumberSet::new(alloc),
+            spares: Spares::new(alloc),
             last: 0,
             ticked: 0,
             time: 0,
@@ -96,9 +99,10 @@ impl Exchanges {
         ensures err { OnErr result (self.new ≡ self.old) }
     {
         let number = spec.number(self.last)?;
-        let exchange = Exchange::new(self.alloc, number, spec, config)?;
         self.doomed.reserve(self.live.len() + 1)?;
         self.metered.reserve(self.live.len() + 1)?;
+        self.spares.ready()?;
+        let exchange = Exchange::new(self.alloc, &mut self.spares, number, spec, config)?;
         self.live.insert(number, exchange)?;
         self.last = number;
         self.time = spec.now;
@@ -213,7 +217,9 @@ impl Exchanges {
         self.doomed.push_back_reserved(exchange);
         self.metered.mark(exchange, false);
         forget_flows(gates, exchange, ended.response.is_some());
-        ended.reckoning(cause, back)
+        let doomed = ended.reckoning(cause, back);
+        self.spares.keep(ended);
+        doomed
     }
 
     /// Destroys the first of the doomed exchanges, and answers its number. None exactly where there is none.

@@ -1,5 +1,5 @@
 // One flow of an exchange.
-ghost use Rattle.std.specs.Prelude.{◌≡◌, ◌≢◌, ◌↔◌, ◌+◌, ◌-◌, ◌<◌, ◌≤◌, ◌^◌, false, true, IfOk, IfSome, IsOk, IsTrue, OnOk, OnErr, length, nat_le, option_map, Some};
+ghost use Rattle.std.specs.Prelude.{◌≡◌, ◌≢◌, ◌↔◌, ◌+◌, ◌-◌, ◌<◌, ◌≤◌, ◌^◌, [], false, true, IfOk, IfSome, IsOk, IsTrue, OnOk, OnErr, length, nat_le, option_map, Some};
 ghost use Rattle.exchange_core.specs.Effects.{arrived, finished, headed, moved, received, received_by};
 ghost use Rattle.exchange_core.specs.Exchange.{at_moment, begun_flow};
 ghost use Rattle.exchange_core.specs.Flow.{IsSound, held_by, last_place, meters_hold, stages_of};
@@ -77,6 +77,34 @@ impl Flow {
             quantum: spec.quantum,
             multiple,
         })
+    }
+
+    /// An empty flow without stages, as `new` makes it. The answer is false where the buffers of this one aren't fit for it.
+    pub(crate) fn renew(
+        &mut self,
+        id: FlowId,
+        spec: &StartSpec,
+        multiple: u32,
+    ) -> Result<bool, NoMemory>
+        requires recv { spec.now.recv ≤ most_octets }
+        requires quantum { IsBetween 16384 1048576 spec.now.quantum }
+        ensures begun { IfOk result (λ fits. fits ≡ true → self.new ≡ begun_flow id [] spec.entry.now multiple) }
+        ensures sound { IsSound self.new }
+    {
+        if self.quantum != spec.quantum {
+            return Ok(false);
+        }
+        if !self.chain.renew(id, spec.send, spec.now) {
+            return Ok(false);
+        }
+        let held = self.recv.len();
+        let _ = self.recv.take(held);
+        self.window = 0;
+        self.message = Message::new();
+        self.multiple = multiple;
+        self.recv.ready(spec.recv)?;
+        self.window = spec.recv;
+        Ok(true)
     }
 
     /// The Meters go on to the moment `now`, where that is later than the last one.

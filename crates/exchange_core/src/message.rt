@@ -1,9 +1,20 @@
 // The head, the trailers and the end of one message.
 ghost use Rattle.std.specs.Prelude.{◌≡◌};
 ghost use Rattle.std.specs.Option.{option_copied};
-ghost use Rattle.exchange_core.specs.Message.{empty_message, fields_of, head_came, head_waits, headed, ended_with, list_framed, end_framed_if, trailers_wait};
+ghost use Rattle.exchange_core.specs.Message.{awaited, empty_message, fields_of, head_came, head_waits, headed, ended_with, list_framed, end_framed_if, trailers_wait};
 
 use hpack_codec::FieldList;
+
+/// What of a flow's message is still to come.
+#[derive(Clone, Copy, Debug, PartialEq, Eq)]
+pub enum Awaited {
+    /// Its end came, or the flow isn't live.
+    Nothing,
+    /// Its head.
+    Head,
+    /// More of its body, or its end.
+    Body,
+}
 
 /// What came of a message besides its body, and what of it was framed.
 #[derive(Debug, Drop)]
@@ -46,6 +57,19 @@ impl Message {
         ensures { result ≡ head_came self.now }
     {
         self.head.is_some() || self.head_framed
+    }
+
+    /// What is still to come.
+    pub(crate) fn awaits(&self) -> Awaited
+        ensures { result ≡ awaited self.now }
+    {
+        if self.ended {
+            Awaited::Nothing
+        } else if self.head_came() {
+            Awaited::Body
+        } else {
+            Awaited::Head
+        }
     }
 
     pub(crate) fn trailers_wait(&self) -> bool

@@ -1,5 +1,5 @@
 // What a line of a script asks of a chain.
-ghost use Rattle.std.specs.Prelude.{◌≤◌, IfOk, IfSome, IsTrue};
+ghost use Rattle.std.specs.Prelude.{IfOk, IfSome};
 ghost use Rattle.proxy_config.specs.Ranges.{AreFilters, IsBetween, IsFilter, most_octets};
 
 use crate::words::Words;

@@ -1,5 +1,5 @@
 // The chain of a flow's stages.
-ghost use Rattle.std.specs.Prelude.{◌≡◌, ◌≢◌, ◌↔◌, ◌+◌, ◌<◌, ◌≤◌, ◌++◌, ◌==◌, length, take, IsTrue, IsOk, OnOk, OnErr, IfOk};
+ghost use Rattle.std.specs.Prelude.{◌≡◌, ◌≢◌, ◌↔◌, ◌+◌, ◌<◌, ◌≤◌, ◌++◌, ◌==◌, [], false, length, take, true, IsTrue, IsOk, OnOk, OnErr, IfOk};
 ghost use Rattle.filter_chain.specs.Chain.{IsSound, above_at, empty_chain, limit_at, octets_at, send_place};
 ghost use Rattle.filter_chain.specs.Effects.{finished, framed, offered, released, ticked};
 ghost use Rattle.filter_chain.specs.Release.{has_room_at, head_may_go, is_source_at, is_whole_at, may_release, overfills};
@@ -9,7 +9,7 @@ ghost use Rattle.wm_buffer.specs.Watermark.{crossing};
 
 use crate::fault::OfferFault;
 use crate::meter::Clock;
-use crate::places::{all_empty, feed, frame_last, pass_on, refill_all, stages_of};
+use crate::places::{all_empty, empty_alone, feed, frame_last, pass_on, refill_all, stages_of};
 use crate::stage::{Stage, StageKind};
 use flow_gate::FlowId;
 use io_ports::NoMemory;
@@ -74,6 +74,23 @@ impl Chain {
             recv_empty: false,
             stages,
         })
+    }
+
+    /// The chain of a flow without stages, as `new` makes it, with the room of this one. The answer is false, and nothing has
+    /// changed, where this one has stages, or a send buffer with another limit.
+    pub fn renew(&mut self, flow: FlowId, send_limit: u32, now: u64) -> bool
+        ensures made { result ≡ true → self.new ≡ empty_chain flow [] send_limit now self.old.quantum }
+        ensures sound { IsSound self.new }
+        ensures same { result ≡ false → self.new ≡ self.old }
+    {
+        if empty_alone(&mut self.stages, send_limit) {
+            self.flow = flow;
+            self.clock = Clock::new(now);
+            self.ended = false;
+            self.recv_empty = false;
+            return true;
+        }
+        false
     }
 
     /// The flow whose octets these are.

@@ -1,11 +1,11 @@
 // The stages of a chain in a row, the send buffer last.
-ghost use Rattle.std.specs.Prelude.{◌≡◌, ◌≢◌, ◌↔◌, ◌+◌, ◌<◌, ◌≤◌, ◌++◌, ◌&&◌, ◌∷◌, ◌==◌, ◌^◌, [], All, IsTrue, IsOk, OnOk, OnErr, IfOk, length, map, take};
+ghost use Rattle.std.specs.Prelude.{◌≡◌, ◌≢◌, ◌↔◌, ◌+◌, ◌<◌, ◌≤◌, ◌++◌, ◌&&◌, ◌∷◌, ◌==◌, ◌^◌, [], All, false, true, IsTrue, IsOk, OnOk, OnErr, IfOk, length, map, take};
 ghost use Rattle.std.specs.List.{list_all};
-ghost use Rattle.filter_chain.specs.Chain.{above_in, octets_in, stages};
+ghost use Rattle.filter_chain.specs.Chain.{EndsInSend, above_in, kinds, octets_in, stages};
 ghost use Rattle.filter_chain.specs.Effects.{changed_at, last_loses, passed};
-ghost use Rattle.filter_chain.specs.Place.{empty_place, gaining, refilled};
+ghost use Rattle.filter_chain.specs.Place.{IsPlace, empty_place, gaining, refilled};
 ghost use Rattle.filter_chain.specs.Release.{overfills_in};
-ghost use Rattle.filter_chain.specs.Stage.{CoversAt, IsReady, KeepsReady, place_of, places_of};
+ghost use Rattle.filter_chain.specs.Stage.{CoversAt, IsReady, KeepsReady, places_of};
 ghost use Rattle.proxy_config.specs.Ranges.{IsFilter, most_octets};
 ghost use Rattle.wm_buffer.specs.Buffer.{AppendsOctets, DropsOctets};
 ghost use Rattle.wm_buffer.specs.Watermark.{crossing};
@@ -57,6 +57,22 @@ fn push_stage(
     };
     made.push(Stage::new(alloc, kind, limit, quantum)?)?;
     Ok(())
+}
+
+/// Drops the octets of a send buffer with this limit that stands alone. The answer is false, and nothing has changed, where
+/// there are stages before it, or it has another limit.
+pub fn empty_alone(stages: &mut [Stage], send_limit: u32) -> bool
+    requires order { EndsInSend (kinds (places_of stages.old)) }
+    requires each { All IsPlace (places_of stages.old) }
+    ensures places { result ≡ true → places_of stages.new ≡ empty_place StageKind.Send send_limit ∷ [] }
+    ensures ready { KeepsReady stages.old stages.new }
+    ensures same { result ≡ false → stages.new ≡ stages.old }
+{
+    if stages.len() != 1 || stages[0].limit() != send_limit {
+        return false;
+    }
+    stages[0].empty();
+    true
 }
 
 /// Moves the first n octets of a buffer into the first stage.

@@ -1,6 +1,6 @@
 // A stage of a flow. The send buffer counts as the last one.
 ghost use Rattle.std.specs.Prelude.{◌≡◌, ◌+◌, ◌-◌, ◌<◌, ◌≤◌, ◌^◌, ◌++◌, ◌==◌, ◌≢◌, ◌↔◌, ◌&&◌, ◌∷◌, [], length, drop, take, nat_lt, IsTrue, IsOk, OnOk, OnErr, IfOk};
-ghost use Rattle.filter_chain.specs.Place.{beyond, empty_place, gaining, is_hold, is_source, letting_go, losing, rate_of, refilled};
+ghost use Rattle.filter_chain.specs.Place.{beyond, empty_place, gaining, holding, is_hold, is_source, letting_go, losing, rate_of, refilled};
 ghost use Rattle.filter_chain.specs.Release.{is_overfilled_by};
 ghost use Rattle.wm_buffer.specs.Buffer.{AppendsOctets, DropsOctets};
 ghost use Rattle.wm_buffer.specs.Watermark.{crossing};
@@ -106,6 +106,15 @@ impl Stage {
         ensures { result ≡ (length self.now.buffer.octets == 0) }
     {
         self.buffer.is_empty()
+    }
+
+    /// Drops its octets.
+    pub fn empty(&mut self)
+        ensures place { place_of self.new ≡ holding [] (place_of self.old) }
+        ensures room { KeepsRoom self.old self.new }
+    {
+        let held = self.buffer.len();
+        let _ = self.buffer.take(held);
     }
 
     /// Whether this is a Hold whose limit n more octets pass.

@@ -1,7 +1,13 @@
 // Laws of any setup: they are told by contracts, and do nothing.
+ghost use Rattle.tape_laws.specs.Setup.{Session};
 ghost use Rattle.flow_laws.specs.Laws.{BodiesAreSent, BoundsHold, CountsBalance, EndsOnce, HeadlineFollows, NothingIsLost, OrderIsKept, RestIsQuiet, SourcesCross, StepsAreSound};
 
-use crate::kind::Kind;
+/// A kind of session: its marks, and what lawful tapes of it show. It has nothing but what is said of it.
+pub trait Kind {
+    ghost marks: { Type 0 };
+
+    ghost session: { Session marks };
+}
 
 /// Whatever the setup: at each moment the pauses of a live flow that stood, with those that are due, are its resumes, its sources
 /// that are above and its lows that are pending.

@@ -2,13 +2,11 @@
 //! setup and the marks. No core is named here.
 #![tactic(auto)]
 
-mod kind;
 mod laws;
 mod made;
 
-pub use kind::Kind;
 pub use laws::{
-    bodies_are_sent, bounds_hold, counts_balance, ends_once, headline_follows, nothing_is_lost,
-    order_is_kept, rest_is_quiet, sources_cross, steps_are_sound,
+    Kind, bodies_are_sent, bounds_hold, counts_balance, ends_once, headline_follows,
+    nothing_is_lost, order_is_kept, rest_is_quiet, sources_cross, steps_are_sound,
 };
 pub use made::{MadeSession, laws_apply};

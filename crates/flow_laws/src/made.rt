@@ -1,8 +1,7 @@
 // A made-up kind of session that shows what the laws need.
 ghost use Rattle.flow_laws.specs.Made.{LawsApply, MadeMark, made_session};
 
-use crate::kind::Kind;
-use crate::laws::{headline_follows, rest_is_quiet, steps_are_sound};
+use crate::laws::{Kind, headline_follows, rest_is_quiet, steps_are_sound};
 
 /// Exchanges between two connections, whose requests pass a Meter and whose responses pass a Hold.
 pub struct MadeSession;

@@ -110,7 +110,8 @@ impl Event {
         matches!(self, Event::Plain(_))
     }
 
-    /// The same event once more. Octets and pressures are copied as slices.
+    /// The same event once more. Octets and pressures are copied as slices, but for octets that came and share a block: the copy
+    /// shares it too.
     pub fn copied(&self, alloc: Global) -> Result<Event, NoMemory>
         ensures { IfOk result (λ made. made ≡ self.now) }
     {
@@ -122,7 +123,7 @@ impl Event {
             },
             Event::Read { conn, octets } => Event::Read {
                 conn: *conn,
-                octets: Octets::from_slice(alloc, octets.as_slice())?,
+                octets: octets.copied()?,
             },
             Event::Gone { conn } => Event::Gone { conn: *conn },
             Event::Room { conn, n } => Event::Room { conn: *conn, n: *n },

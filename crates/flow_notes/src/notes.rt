@@ -122,7 +122,8 @@ pub enum Note {
         stream: u32,
         n: u32,
     },
-    /// An exchange from a stream of connection `conn` to connection `to`, which is 0 for none.
+    /// An exchange from a stream of connection `conn` to connection `to`: in a wire session 0 for none, in a plain one always
+    /// connection 0.
     Start {
         exchange: u64,
         conn: u32,
@@ -190,6 +191,7 @@ impl Notes {
     }
 
     /// Appends a note. After running out of memory the list is as it was.
+    #[inline(always)]
     pub fn push(&mut self, note: Note) -> Result<(), NoMemory>
         ensures ok { OnOk result (self.new ≡ self.old ++ note ∷ []) }
         ensures err { OnErr result (self.new ≡ self.old) }

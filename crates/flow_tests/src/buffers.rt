@@ -1,5 +1,4 @@
 // Tables of changes. What each crosses was found by hand from the rule for above.
-ghost use Rattle.std.specs.Prelude.{◌≤◌};
 
 use crate::said::{holds, same, same_in};
 use io_ports::NoMemory;

@@ -1,5 +1,4 @@
 // Tables of reads and writes, with what each answers.
-ghost use Rattle.std.specs.Prelude.{◌≡◌};
 
 use crate::said::{holds, same};
 use io_ports::{
@@ -7,6 +6,7 @@ use io_ports::{
 };
 use std::alloc::{AllocError, Global};
 use std::io::{self, ErrorKind, Read, Write};
+use std::process::Abort;
 
 type Answer = Result<usize, Failed>;
 
@@ -167,21 +167,48 @@ impl Write for Broken {
 }
 
 #[test]
-fn lists_keep_what_is_appended(rt: HostRuntime) -> Result<(), NoMemory> {
-    let alloc = rt.alloc();
-    let mut octets = Octets::new(alloc);
+fn octets_keep_what_is_appended(rt: HostRuntime) {
+    let mut octets = Octets::new(rt.alloc());
     holds(&rt, octets.is_empty());
     same(&rt, &octets.push_all(b"abc"), &Ok(()));
     same(&rt, &octets.push_all(b"de"), &Ok(()));
     same(&rt, &octets.len(), &5);
     holds(&rt, octets.as_slice() == b"abcde".as_slice());
-    let copy = Octets::from_slice(alloc, octets.as_slice())?;
     octets.truncate(3);
     holds(&rt, octets.as_slice() == b"abc".as_slice());
     octets.clear();
     holds(&rt, octets.is_empty());
-    let copy = Octets::from_vec(copy.into_vec());
+}
+
+#[test]
+fn octets_are_made_from_others(rt: HostRuntime) -> Result<(), NoMemory> {
+    let copy = Octets::from_slice(rt.alloc(), b"abcde")?;
     holds(&rt, copy.as_slice() == b"abcde".as_slice());
+    let copy = Octets::from_vec(Vec::from_slice(rt.alloc(), b"abcde")?);
+    holds(&rt, copy.as_slice() == b"abcde".as_slice());
+    Ok(())
+}
+
+/// A copy of octets that share a block is cut and grows, and the others stay.
+fn shared_stay(rt: &(impl AllocGlobal + Abort), octets: &[u8]) -> Result<(), NoMemory> {
+    let shared = Octets::from_slice(rt.alloc(), octets)?.shared()?;
+    let mut copy = shared.copied()?;
+    copy.truncate(2);
+    same(rt, &copy.push_all(b"x"), &Ok(()));
+    holds(rt, copy.as_slice() == b"abx".as_slice());
+    holds(rt, shared.as_slice() == octets);
+    Ok(())
+}
+
+#[test]
+fn copies_of_shared_octets_are_apart(rt: HostRuntime) -> Result<(), NoMemory> {
+    shared_stay(&rt, b"abcde")?;
+    shared_stay(&rt, b"abcdefghijklmnopqrstuvwxyz")
+}
+
+#[test]
+fn pressures_keep_what_is_appended(rt: HostRuntime) -> Result<(), NoMemory> {
+    let alloc = rt.alloc();
     let mut pressures = PressureList::from_vec(vec![in alloc; 1]?);
     same(&rt, &pressures.push(1_000_000), &Ok(()));
     same(&rt, &pressures.len(), &2);

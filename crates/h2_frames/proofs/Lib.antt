@@ -5,4 +5,5 @@ pub mod Once
 pub mod Pieces
 pub mod Readable
 pub mod Shown
+pub mod WholeBlocks
 pub mod Written

@@ -54,16 +54,6 @@ fault_no_frame max octets fault a piece after frame e s =
     let moved : first_fault max s.head (s.payload ++ after) ≡ Some fault = subst (λ (h : Head). first_fault max h (s.payload ++ after) ≡ Some fault) both.0 (subst (λ (l : List ℕ). first_fault max a.0 l ≡ Some fault) both.1 a.3) in
     none_is fault (sym (frame_shows_none max s.head s.payload after frame s.whole s.within s.says) ∙ moved)
 
-begins_long : (octets : List ℕ) (h : Head) (came : List ℕ) → Begins octets h came → 9 ≤ length octets
-begins_long octets h came b = omega (arith, ap length b.front, length-append (head_octets b.reserved h) came)
-
-pub short_no_fault : (max : ℕ) (octets : List ℕ) → length octets < 9 → ShowsNoFault max octets
-short_no_fault max octets lt fault a = absurd (omega (arith, begins_long octets a.0 a.1 a.2))
-
-pub short_no_frame : (max : ℕ) (octets : List ℕ) → length octets < 9 → BeginsNoFrame max octets
-short_no_frame max octets lt piece after frame e s =
-    absurd (omega (arith, begins_long octets s.head (s.payload ++ after) (frame_front max octets piece after frame e s)))
-
 pub shown_by_head : (max : ℕ) (octets : List ℕ) (h : Head) (came : List ℕ) (fault : FrameFault) → Begins octets h came → head_fault max h ≡ Some fault → Shows max octets fault
 shown_by_head max octets h came fault b e = (h, came, b, rw e refl)
 

@@ -1,13 +1,37 @@
 // A field block in HEADERS and CONTINUATION frames.
-ghost use Rattle.std.specs.Prelude.{◌≡◌, ◌++◌, ◌<◌, ◌≤◌, ◌^◌, length, take, OnErr, OnOk};
+ghost use Rattle.std.specs.Prelude.{◌≡◌, ◌++◌, ◌+◌, ◌<◌, ◌≤◌, ◌^◌, ℕ, List, length, take, OnErr, OnOk};
 ghost use Rattle.h2_frames.specs.Blocks.{block_frames, continued, pieces, spellings};
+ghost use Rattle.h2_frames.specs.Spelling.{flag_when};
 
-use crate::types::Frame;
-use crate::writing::write_frame;
+use crate::types::{END_HEADERS, END_STREAM, Frame, HEADERS};
+use crate::writing::{frame_head, write_frame};
 use io_ports::{NoMemory, Octets};
 
 // The greatest payload that every peer takes (RFC 9113 section 4.2).
 const PIECE: usize = 16_384;
+
+/// The nine octets of the head of a HEADERS frame with a whole block of `n` octets: with the block behind it, it is the one
+/// frame of that block, as `block_frames` writes it.
+pub fn block_head(stream: u32, n: u32, last: bool) -> [u8; 9]
+    requires on_stream { 0 < stream }
+    requires fits { stream < 2 ^ 31 }
+    requires few { n ≤ 16384 }
+    ensures len { length result ≡ 9 }
+    ensures frame { (block : List ℕ) → length block ≡ n → result ++ block ≡ spellings (block_frames stream last block) }
+{
+    frame_head(n, HEADERS, flags_of_whole(last), stream)
+}
+
+// The flags of HEADERS with a whole block.
+fn flags_of_whole(last: bool) -> u8
+    ensures { result ≡ flag_when 0x1 last + 0x4 }
+{
+    if last {
+        END_STREAM + END_HEADERS
+    } else {
+        END_HEADERS
+    }
+}
 
 /// Appends the frames of a field block on a stream: HEADERS, with END_STREAM where it is the last
 /// of the stream, and CONTINUATION. Each has 16,384 octets of the block but the last one, which has

@@ -11,7 +11,7 @@ mod reading;
 mod types;
 mod writing;
 
-pub use blocks::block_frames;
+pub use blocks::{block_frames, block_head};
 pub use laws::{
     blocks_are_whole, cut_anywhere, flow_frames, one_fault, one_list, read_frames_are_writable,
     written_is_read,

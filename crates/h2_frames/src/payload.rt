@@ -1,6 +1,5 @@
 // What the payload of each type says.
 ghost use Rattle.std.specs.Prelude.{◌≡◌, ◌<◌, ◌≤◌, length, false, if◌then◌else◌, MatchResult, Some};
-ghost use Rattle.h2_frames.specs.Head.{Head};
 ghost use Rattle.h2_frames.specs.Fault.{content_fault, forbids_length, forbids_stream};
 ghost use Rattle.h2_frames.specs.Payload.{IsPadded, IsWeighted, Says};
 ghost use Rattle.h2_frames.specs.Decoding.{Decodes};

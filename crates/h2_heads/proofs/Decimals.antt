@@ -1,10 +1,10 @@
 -- What the digits so far say of the number.
-use Rattle.std.proofs.Common.{IsTrue, List, [], ◌∷◌, ℕ, ◌+◌, ◌<◌, ◌≡◌, ◌≤◌, ◌^◌, ◌&&◌, ap, arith, drop, get_or, length, take, true}
-use Rattle.std.specs.List.{fold, list_all}
+use Rattle.std.proofs.Common.{IsTrue, List, [], ◌∷◌, ℕ, ◌+◌, ◌<◌, ◌≡◌, ◌≤◌, ◌^◌, ◌&&◌, ap, arith, drop, get_or, length, take}
+use Rattle.std.specs.List.{fold}
 use Rattle.std.specs.Prelude.{nat_lt}
 use Rattle.std.proofs.lemmas.Bool.Decides.{nat_tests}
 use Rattle.std.proofs.lemmas.List.{take-append-drop}
-use Rattle.std.proofs.lemmas.List.Folds.{list_all_at, list_all_more}
+use Rattle.std.proofs.lemmas.List.Folds.{list_all_at}
 use Rattle.std.proofs.lemmas.List.Sums.{fold-append, fold_more}
 use Rattle.h2_heads.specs.Numbers.{decimal, is_decimal, is_digit, with_digit}
 
@@ -26,9 +26,3 @@ decimal_next value i n within so_far whole =
     let grows = decimal_grows value (i + 1) in
     let digit = list_all_at is_digit value i 0 within in
     grind (arith, nat_tests)
-
-pub decimal_more : (value : List ℕ) (i n : ℕ) → i < length value → (list_all is_digit (take i value) ≡ true) × (n ≡ decimal (take i value)) → IsTrue (is_digit (get_or value i 0) && nat_lt (with_digit n (get_or value i 0)) (2 ^ 63)) → (list_all is_digit (take (i + 1) value) ≡ true) × (with_digit n (get_or value i 0) ≡ decimal (take (i + 1) value)) × (with_digit n (get_or value i 0) < 2 ^ 63)
-decimal_more value i n within so_far next =
-    let more = fold_more with_digit 0 value i 0 within in
-    let all = list_all_more is_digit value i 0 within in
-    (grind (arith, nat_tests), grind (arith, nat_tests), grind (arith, nat_tests))

@@ -1,9 +1,8 @@
 -- What one pass over a name, one over a value and the first octet of a name tell.
-use Rattle.std.proofs.Common.{Bool, List, [], ◌∷◌, ℕ, ◌<◌, ◌≡◌, ◌≢◌, ◌≤◌, ◌-◌, ◌∙◌, ◌&&◌, ◌||◌, ap, arith, drop, false, get_or, length, map, not, refl, suc, sym, take, true}
+use Rattle.std.proofs.Common.{Bool, List, [], ◌∷◌, ℕ, ◌<◌, ◌≡◌, ◌≤◌, ◌-◌, ◌∙◌, ◌&&◌, ◌||◌, ap, arith, drop, false, get_or, length, map, not, refl, suc, sym, take, true}
 use Rattle.std.proofs.lemmas.Bool.Decides.{nat_tests}
 use Rattle.std.proofs.lemmas.List.{take_all}
 use Rattle.std.proofs.lemmas.List.FromFn.{get_or-map-range_with_len}
-use Rattle.std.proofs.lemmas.Slice.Eq.{bytes_eq-Decides}
 use Rattle.std.specs.List.{list_all, list_any, range_with_len, starts_with}
 use Rattle.std.specs.Prelude.{codes, nat_eq, ◌==◌}
 use Rattle.std.specs.Str.{bytes_eq}
@@ -66,15 +65,6 @@ none_below (o ∷ os) least above each =
     let first = each 0 (omega arith) in
     let here = good_in_value o (omega (arith, first)) in
     ap (λ bad. bad || list_any is_bad_in_value os) here ∙ none_below os least above (λ k h. each (suc k) (omega arith))
-
-false_unless : (b : Bool) → (b ≡ true → ⊥) → b ≡ false
-false_unless true h = absurd (h refl)
-false_unless false h = refl
-
--- names of different lengths differ
-pub other_length : (name other : List ℕ) (n m : ℕ) → length name ≡ n → length other ≡ m → n ≢ m → bytes_eq name other ≡ false
-other_length name other n m is that differs =
-    false_unless (bytes_eq name other) (λ same. let at = ap length ((bytes_eq-Decides name other).0 same) in differs (omega arith))
 
 -- a pseudo-field has no name that begins otherwise
 pub pseudo_unnamed : (name other : List ℕ) (first : ℕ) → starts_with nat_eq name (codes ":") ≡ true → (first == 58) ≡ false → bytes_eq name (first ∷ other) ≡ false

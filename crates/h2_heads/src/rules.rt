@@ -1,6 +1,5 @@
 // The rules for one field, after the fields before it.
 ghost use Rattle.std.specs.Prelude.{◌≡◌, codes, if◌then◌else◌, length};
-ghost use Rattle.std.specs.List.{list_any};
 ghost use Rattle.std.specs.Option.{option_copied};
 ghost use Rattle.h2_heads.specs.Malformed.{lacks, lowest};
 ghost use Rattle.h2_heads.specs.Named.{is_named, value_of};

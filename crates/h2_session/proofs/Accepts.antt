@@ -168,14 +168,6 @@ own_stands past v w s h l e c put =
         ∙ ap (λ (b : Bool). state_with true false false b (head_stands s past)) before.ended
         ∙ ap (λ (b : Bool). state_with true false false false b) before.head)
 
--- the same from the fields of a session, whose summary v is
-pub failed_from : (u v : Summary) (frame : Frame) (code : ℕ) → u ≡ v → first_of u.failed (error_by u.side frame (not u.started) u.block (uses_idle_in u frame) u.empties) ≡ Some code
-    → (past : List Happening) → StandsFor past v → StandsFor (after v.side frame past) (failed_with code u)
-failed_from u v frame code e is past h =
-    subst (λ (x : Summary). StandsFor (after x.side frame past) (failed_with code u)) e
-    (let stands : StandsFor past u = subst (StandsFor past) (sym e) h in
-    failed_stands past u frame code stands (sym (error_as past u frame stands) ∙ is))
-
 pub numbered_from : (u v w : Summary) (s : ℕ) → u ≡ v → LeavesOpened u w → s ≡ u.next → u.side.client_side ≡ false → w.streams ≡ u.streams
     → (past : List Happening) → StandsFor past v → StandsFor (Opened s ∷ past) w
 numbered_from u v w s e l n c same past h = numbered_stands past u w s (subst (StandsFor past) (sym e) h) l n c same

@@ -1,17 +1,17 @@
 -- Frames that end no header block.
-use Rattle.std.proofs.Common.{◌≡◌, ℕ, Bool, true, false, cond, eqb, List, ◌∷◌, Option, None, refl, sym, ap, subst, ◌∙◌}
+use Rattle.std.proofs.Common.{◌≡◌, ℕ, Bool, true, false, cond, eqb, List, ◌∷◌, Option, None, refl, sym, ap, ◌∙◌}
 use Rattle.std.specs.Prelude.{IfSome, nat_lt, not, ◌%◌, ◌&&◌}
 use Rattle.std.proofs.lemmas.Bool.{eqb-true}
 use Rattle.h2_frames.specs.Frame.{Frame}
 use Rattle.h2_session.specs.Blocks.{ended_block, greatest, open_block}
 use Rattle.h2_session.specs.Errors.{empty_run}
-use Rattle.h2_session.specs.Happened.{Came, Happening, Side, was_ended, was_opened}
-use Rattle.h2_session.specs.Streams.{head_stands, is_among, is_new, opened, peer_ended, state_of, was_closed}
+use Rattle.h2_session.specs.Happened.{Came, Happening, Side, was_opened}
+use Rattle.h2_session.specs.Streams.{head_stands, is_new, opened, peer_ended, state_of, was_closed}
 use Rattle.h2_session.specs.Summary.{StandsFor, Summary}
 use Rattle.h2_session.specs.Table.{Puts, stream_at}
 use Rattle.h2_session.specs.declared.streams.Stream.{Stream}
 use Rattle.h2_session.proofs.Standing.{Keeps, stands_moved}
-use Rattle.h2_session.proofs.States.{MovesOne, state_with}
+use Rattle.h2_session.proofs.States.{MovesOne}
 
 -- a table that stays as it is
 pub puts_same : (s : ℕ) (table : List (ℕ × Stream)) → Puts s (stream_at s table) table table
@@ -96,40 +96,8 @@ pub came_on : (frame : Frame) (past : List Happening) (v w : Summary) (s : ℕ) 
 came_on frame past v w s target h l o old put is =
     stands_moved (Came frame) past v w s target h l.side (keeps frame past v w s h l o (λ q new. differs v.side.client_side q s past new old)) (moves_one v.side s frame past o) put is
 
-equal_states : (a f : Bool) {c d p r h k : Bool} → c ≡ d → p ≡ r → h ≡ k → state_with a c p f h ≡ state_with a d r f k
-equal_states a f i j k = cc
-
 -- a frame that says nothing of any stream
 pub record IsQuiet (frame : Frame) (past : List Happening) : Type 0 where
   pub no_block : ended_block frame past ≡ None
   pub closed : (q : ℕ) → was_closed q (Came frame ∷ past) ≡ was_closed q past
   pub peer : (q : ℕ) → peer_ended q (Came frame ∷ past) ≡ peer_ended q past
-
-pub came_quiet : (frame : Frame) (past : List Happening) (v w : Summary)
-    → StandsFor past v → Leaves frame past v w → IsQuiet frame past → w.streams ≡ v.streams → StandsFor (Came frame ∷ past) w
-came_quiet frame past v w h l o same =
-    let of : SaysOf 0 frame past = record { no_block = o.no_block; closed = λ q e. o.closed q; peer = λ q e. o.peer q } in
-    stands_moved (Came frame) past v w 0 (stream_at 0 v.streams) h l.side quiet (moves_one v.side 0 frame past of)
-    (subst (λ (t : List (ℕ × Stream)). Puts 0 (stream_at 0 v.streams) v.streams t) (sym same) (puts_same 0 v.streams))
-    (h.streams 0 ∙ sym state)
-  where
-    quiet : Keeps v.side (Came frame) past w
-    quiet = record {
-      failed = l.failed ∙ h.failed;
-      started = l.started;
-      block = l.block;
-      greatest_as = l.greatest_as ∙ h.greatest ∙ sym (same_greatest frame past o.no_block);
-      next = l.next ∙ h.next;
-      numbered = λ q. h.numbered q ∙ ap (λ (n : ℕ). nat_lt q n && (eqb (q % 2) 1)) (sym l.next);
-      empties = l.empties;
-      new = λ q e. sym (same_new v.side.client_side q frame past o.no_block) ∙ e;
-      untouched = λ q e.
-          let before = h.untouched q (sym (same_new v.side.client_side q frame past o.no_block) ∙ e) in
-          record { peer = o.peer q ∙ before.peer; ended = before.ended; closed = o.closed q ∙ before.closed; head = same_head q frame past o.no_block ∙ before.head };
-      within = l.within;
-    }
-
-    state : state_of v.side 0 (Came frame ∷ past) ≡ state_of v.side 0 past
-    state =
-        ap (λ (k : List ℕ). state_with (is_among 0 k) (was_closed 0 (Came frame ∷ past)) (peer_ended 0 (Came frame ∷ past)) (was_ended 0 past) (head_stands 0 (Came frame ∷ past))) (same_opened v.side frame past o.no_block)
-        ∙ equal_states (is_among 0 (opened v.side past)) (was_ended 0 past) (o.closed 0) (o.peer 0) (same_head 0 frame past o.no_block)

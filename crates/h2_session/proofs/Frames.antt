@@ -1,12 +1,11 @@
 -- What a session gives and stands for after each type of frame that ends no header block.
-use Rattle.std.proofs.Common.{◌≡◌, ℕ, ◌+◌, ◌-◌, ◌^◌, ◌<◌, Bool, true, false, cond, eqb, List, ◌∷◌, min, Option, None, refl, sym, ap, subst, ◌∙◌, arith}
+use Rattle.std.proofs.Common.{◌≡◌, ℕ, ◌+◌, ◌-◌, ◌<◌, Bool, true, false, cond, List, ◌∷◌, min, Option, None, refl, sym, ap, subst, ◌∙◌, arith}
 use Rattle.std.specs.Prelude.{IfSome, nat_le, ◌&&◌, ◌||◌}
 use Rattle.std.proofs.lemmas.Bool.{leb-false}
-use Rattle.h2_frames.specs.Frame.{DataFrame, Frame, GoAway, Ping, Priority, Push, Reset, Settings, Unknown, WindowUpdate}
-use Rattle.h2_frames.specs.declared.types.Weighting.{Weighting}
-use Rattle.h2_session.specs.Acts.{act_within, data_act, reset_act, update_act}
+use Rattle.h2_frames.specs.Frame.{DataFrame, Frame, Reset}
+use Rattle.h2_session.specs.Acts.{data_act, reset_act}
 use Rattle.h2_session.specs.Blocks.{open_block}
-use Rattle.h2_session.specs.Errors.{empty_run, error_of, is_empty_data, settings_of}
+use Rattle.h2_session.specs.Errors.{empty_run, error_of, is_empty_data}
 use Rattle.h2_session.specs.Happened.{Came, Happening, Side, was_ended, was_opened}
 use Rattle.h2_session.specs.Streams.{head_stands, is_among, is_new, opened, peer_ended, state_of, was_closed}
 use Rattle.h2_session.specs.Summary.{StandsFor, Summary, Takes}
@@ -14,9 +13,8 @@ use Rattle.h2_session.specs.Table.{Puts, after_data, stream_at}
 use Rattle.h2_session.specs.declared.act.Act.{Act}
 use Rattle.h2_session.specs.declared.act.Act.TheVariants as act
 use Rattle.h2_session.specs.declared.block.HeaderBlock.{HeaderBlock}
-use Rattle.h2_session.specs.declared.streams.Stream.{Stream}
 use Rattle.h2_session.proofs.BlockEnds.{same_number}
-use Rattle.h2_session.proofs.Came.{IsQuiet, Leaves, SaysOf, came_on, came_quiet}
+use Rattle.h2_session.proofs.Came.{Leaves, SaysOf, came_on}
 use Rattle.h2_session.proofs.Errors.{no_error, not_both, not_new, not_within}
 use Rattle.h2_session.proofs.Opening.{apart_too}
 use Rattle.h2_session.proofs.States.{after_data_is, closed_is, state_with}
@@ -57,13 +55,13 @@ leaves frame past v w h a none after e = record {
 -- ---- DATA
 
 pub data_run : (past : List Happening) (side : Side) (s padded : ℕ) (last : Bool) (octets : List ℕ) (empties run : ℕ)
-    → is_empty_data (DataFrame s last padded octets) && nat_le side.empty_frames run ≡ false → side.empty_frames < 2 ^ 32 → run ≡ empty_run past
-    → empties ≡ cond (is_empty_data (DataFrame s last padded octets)) (min (run + 1) (2 ^ 32 - 1)) 0
+    → is_empty_data (DataFrame s last padded octets) && nat_le side.empty_frames run ≡ false → run ≡ empty_run past
+    → empties ≡ cond (is_empty_data (DataFrame s last padded octets)) (min (run + 1) side.empty_frames) 0
     → empties ≡ empty_run (Came (DataFrame s last padded octets) ∷ past)
-data_run past side s padded last octets empties run none small e is = is ∙ cases (is_empty_data (DataFrame s last padded octets)) refl
+data_run past side s padded last octets empties run none e is = is ∙ cases (is_empty_data (DataFrame s last padded octets)) refl
   where
     cases : (b : Bool) → is_empty_data (DataFrame s last padded octets) ≡ b
-        → cond (is_empty_data (DataFrame s last padded octets)) (min (run + 1) (2 ^ 32 - 1)) 0 ≡ cond (is_empty_data (DataFrame s last padded octets)) (empty_run past + 1) 0
+        → cond (is_empty_data (DataFrame s last padded octets)) (min (run + 1) side.empty_frames) 0 ≡ cond (is_empty_data (DataFrame s last padded octets)) (empty_run past + 1) 0
     cases true i =
         let few : run < side.empty_frames = leb-false side.empty_frames run (not_both (is_empty_data (DataFrame s last padded octets)) (nat_le side.empty_frames run) none i) in
         rw i (omega (arith, few, e))
@@ -76,17 +74,17 @@ says_data past s padded last octets = record {
   peer = λ q e. ap (λ (b : Bool). (b && last) || peer_ended q past) (apart_too q s e);
 }
 
-pub data_takes : (v w : Summary) (s padded : ℕ) (last : Bool) (octets : List ℕ) (given : Act) → v.side.empty_frames < 2 ^ 32
+pub data_takes : (v w : Summary) (s padded : ℕ) (last : Bool) (octets : List ℕ) (given : Act)
     → given ≡ data_act s last padded octets (stream_at s v.streams) → Alike v w
-    → w.empties ≡ cond (is_empty_data (DataFrame s last padded octets)) (min (v.empties + 1) (2 ^ 32 - 1)) 0
+    → w.empties ≡ cond (is_empty_data (DataFrame s last padded octets)) (min (v.empties + 1) v.side.empty_frames) 0
     → Puts s (after_data last (stream_at s v.streams)) v.streams w.streams → TakesFrom (DataFrame s last padded octets) w given v
-data_takes v w s padded last octets given small gives a run put past h none =
+data_takes v w s padded last octets given gives a run put past h none =
     let frame : Frame = DataFrame s last padded octets in
     let ok = no_error v.side frame past none in
     let outside = not_within frame (open_block past) refl ok.block in
     let used : is_new v.side.client_side s past ≡ false = not_new v.side.client_side s past ok.idle in
     let empties = data_run past v.side s padded last octets w.empties v.empties
-    (subst (λ (n : ℕ). is_empty_data frame && nat_le v.side.empty_frames n ≡ false) (sym h.empties) ok.run) small h.empties run in
+    (subst (λ (n : ℕ). is_empty_data frame && nat_le v.side.empty_frames n ≡ false) (sym h.empties) ok.run) h.empties run in
     let state : after_data last (stream_at s v.streams) ≡ state_of v.side s (Came frame ∷ past) =
     ap (after_data last) (h.streams s)
     ∙ after_data_is last (is_among s (opened v.side past)) (was_closed s past) (peer_ended s past) (was_ended s past) (head_stands s past)
@@ -121,53 +119,3 @@ reset_takes v w s code given gives a run put past h none =
     }
 
 -- ---- frames that say nothing of streams
-
-quiet_takes : (frame : Frame) (v : Summary) (given : Act) (past : List Happening) → StandsFor past v → open_block past ≡ None → open_block (Came frame ∷ past) ≡ None
-    → empty_run (Came frame ∷ past) ≡ empty_run past → IsQuiet frame past → given ≡ act_within v.side frame past → Takes frame v v given past
-quiet_takes frame v given past h outside after run quiet gives = record {
-  act = gives;
-  stands = came_quiet frame past v (started v) h
-      (leaves frame past v v h (record { side = refl; failed = refl; block = refl; greatest = refl; next = refl }) outside after (h.empties ∙ sym run)) quiet refl;
-}
-
-pub settings_takes : (v : Summary) (ack : Bool) (entries : List ℕ) (given : Act) → given ≡ cond ack act.Ack (act.Settings (settings_of entries)) → TakesFrom (Settings ack entries) v given v
-settings_takes v ack entries given gives past h none =
-    let ok = no_error v.side (Settings ack entries) past none in
-    quiet_takes (Settings ack entries) v given past h (not_within (Settings ack entries) (open_block past) refl ok.block) refl refl
-    (record { no_block = refl; closed = λ q. refl; peer = λ q. refl }) gives
-
-pub ping_takes : (v : Summary) (ack : Bool) (octets : List ℕ) (given : Act) → given ≡ cond ack act.Ignore (act.Ping octets) → TakesFrom (Ping ack octets) v given v
-ping_takes v ack octets given gives past h none =
-    let ok = no_error v.side (Ping ack octets) past none in
-    quiet_takes (Ping ack octets) v given past h (not_within (Ping ack octets) (open_block past) refl ok.block) refl refl
-    (record { no_block = refl; closed = λ q. refl; peer = λ q. refl }) gives
-
-pub goaway_takes : (v : Summary) (last code : ℕ) (debug : List ℕ) → TakesFrom (GoAway last code debug) v (act.GoAway last code) v
-goaway_takes v last code debug past h none =
-    let ok = no_error v.side (GoAway last code debug) past none in
-    quiet_takes (GoAway last code debug) v (act.GoAway last code) past h (not_within (GoAway last code debug) (open_block past) refl ok.block) refl refl
-    (record { no_block = refl; closed = λ q. refl; peer = λ q. refl }) refl
-
-pub update_takes : (v : Summary) (s n : ℕ) (given : Act) → given ≡ cond (eqb s 0) (act.WindowUp 0 n) (update_act s n (stream_at s v.streams)) → TakesFrom (WindowUpdate s n) v given v
-update_takes v s n given gives past h none =
-    let ok = no_error v.side (WindowUpdate s n) past none in
-    quiet_takes (WindowUpdate s n) v given past h (not_within (WindowUpdate s n) (open_block past) refl ok.block) refl refl
-    (record { no_block = refl; closed = λ q. refl; peer = λ q. refl }) (gives ∙ ap (λ (o : Option Stream). cond (eqb s 0) (act.WindowUp 0 n) (update_act s n o)) (h.streams s))
-
-pub priority_takes : (v : Summary) (s : ℕ) (w : Weighting) → TakesFrom (Priority s w) v act.Ignore v
-priority_takes v s w past h none =
-    let ok = no_error v.side (Priority s w) past none in
-    quiet_takes (Priority s w) v act.Ignore past h (not_within (Priority s w) (open_block past) refl ok.block) refl refl
-    (record { no_block = refl; closed = λ q. refl; peer = λ q. refl }) refl
-
-pub push_takes : (v : Summary) (s : ℕ) (e : Bool) (padded promised : ℕ) (block : List ℕ) → TakesFrom (Push s e padded promised block) v act.Ignore v
-push_takes v s e padded promised block past h none =
-    let ok = no_error v.side (Push s e padded promised block) past none in
-    quiet_takes (Push s e padded promised block) v act.Ignore past h (not_within (Push s e padded promised block) (open_block past) refl ok.block) refl refl
-    (record { no_block = refl; closed = λ q. refl; peer = λ q. refl }) refl
-
-pub unknown_takes : (v : Summary) (kind flags s : ℕ) (octets : List ℕ) → TakesFrom (Unknown kind flags s octets) v act.Ignore v
-unknown_takes v kind flags s octets past h none =
-    let ok = no_error v.side (Unknown kind flags s octets) past none in
-    quiet_takes (Unknown kind flags s octets) v act.Ignore past h (not_within (Unknown kind flags s octets) (open_block past) refl ok.block) refl refl
-    (record { no_block = refl; closed = λ q. refl; peer = λ q. refl }) refl

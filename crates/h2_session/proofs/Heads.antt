@@ -1,14 +1,14 @@
 -- What a session gives and stands for after HEADERS and CONTINUATION frames.
-use Rattle.std.proofs.Common.{◌≡◌, ℕ, ◌+◌, ◌≤◌, Bool, true, false, cond, eqb, List, ◌∷◌, ◌++◌, length, Option, Some, None, Result, Ok, Err, refl, sym, ap, subst, ◌∙◌, arith}
+use Rattle.std.proofs.Common.{◌≡◌, ℕ, ◌+◌, ◌≤◌, Bool, true, false, cond, eqb, List, ◌++◌, length, Option, Some, None, Result, Ok, Err, refl, sym, ap, subst, ◌∙◌}
 use Rattle.std.specs.Option.{option_map_or}
 use Rattle.std.specs.Prelude.{IfOk, IfSome, MatchOption, nat_lt, not, option_map, ◌%◌, ◌&&◌, ◌||◌}
 use Rattle.std.proofs.lemmas.Bool.{ltb-false, eqb-true}
 use Rattle.h2_frames.specs.Frame.{Continuation, Frame, Headers}
 use Rattle.h2_frames.specs.declared.types.Weighting.{Weighting}
 use Rattle.h2_session.specs.Acts.{act_within, block_act, ended_act, opening_act}
-use Rattle.h2_session.specs.Blocks.{block_with, ended_block, grown, grown_in, open_block}
+use Rattle.h2_session.specs.Blocks.{block_with, ended_block, grown, open_block}
 use Rattle.h2_session.specs.Errors.{breaks_block, error_of, is_great}
-use Rattle.h2_session.specs.Happened.{Came, Happening, Side, was_opened}
+use Rattle.h2_session.specs.Happened.{Happening, Side, was_opened}
 use Rattle.h2_session.specs.Streams.{is_idle}
 use Rattle.h2_session.specs.Summary.{EndsBlock, FinishesBlock, StandsFor, Summary, Takes, begins_in, ended_state, has_room_in}
 use Rattle.h2_session.specs.Table.{Puts, stream_at}
@@ -17,7 +17,6 @@ use Rattle.h2_session.specs.declared.act.Act.TheVariants as act
 use Rattle.h2_session.specs.declared.block.HeaderBlock.{HeaderBlock}
 use Rattle.h2_session.specs.declared.streams.Stream.{Stream}
 use Rattle.h2_session.proofs.BlockEnds.{Ends, LeavesEnded, block_gives, block_stands}
-use Rattle.h2_session.proofs.Came.{came_quiet}
 use Rattle.h2_session.proofs.Errors.{NoError, no_error, not_within}
 use Rattle.h2_session.proofs.Frames.{TakesFrom, started}
 
@@ -33,26 +32,6 @@ headers_used side s last e padded priority block past ok c = cases side.client_s
     cases : (client : Bool) → client ≡ true → not (not client && eqb (s % 2) 1) && is_idle client s past ≡ false → was_opened s past ≡ true
     cases true c i = opened_then (was_opened s past) i
     cases false c i = absurd cc
-
-pub headers_open_takes : (v w : Summary) (s : ℕ) (last : Bool) (padded : ℕ) (priority : Option Weighting) (block : List ℕ)
-    → w.side ≡ v.side → w.failed ≡ v.failed → w.block ≡ Some (record { stream = s; last = last; octets = block; frames = 1 })
-    → w.greatest ≡ v.greatest → w.next ≡ v.next → w.empties ≡ 0 → w.streams ≡ v.streams → TakesFrom (Headers s last false padded priority block) w act.Ignore v
-headers_open_takes v w s last padded priority block side failed begun greatest next empties streams past h none =
-    let frame : Frame = Headers s last false padded priority block in
-    let ok = no_error v.side frame past none in
-    record {
-      act = refl;
-      stands = came_quiet frame past v (started w) h (record {
-        side = side;
-        failed = failed;
-        started = refl;
-        block = begun;
-        greatest_as = greatest;
-        next = next;
-        empties = empties;
-        within = headers_used v.side s last false padded priority block past ok;
-      }) (record { no_block = refl; closed = λ q. refl; peer = λ q. refl }) streams;
-    }
 
 -- a block that a frame ends, on what is kept
 pub ended_takes : (frame : Frame) (past : List Happening) (b : HeaderBlock) (v u w : Summary) (given : Act) → StandsFor past v
@@ -118,33 +97,6 @@ goes_on side s e more past ok = cases (open_block past) refl ok.block ok.great
 -- the stream of an open block towards a cluster is one that this side opened
 within_used : (past : List Happening) (v : Summary) (b : HeaderBlock) → StandsFor past v → open_block past ≡ Some b → v.side.client_side ≡ true → was_opened b.stream past ≡ true
 within_used past v b h i c = subst (λ (o : Option HeaderBlock). IfSome o (λ k. was_opened k.stream past ≡ true)) i (h.within c)
-
-pub continuation_open_takes : (v w : Summary) (s : ℕ) (more : List ℕ)
-    → w ≡ record { side = v.side; failed = v.failed; started = v.started; block = option_map (grown_in more) v.block; greatest = v.greatest; next = v.next; empties = v.empties; streams = v.streams }
-    → TakesFrom (Continuation s false more) w act.Ignore v
-continuation_open_takes v w s more made past h none =
-    let frame : Frame = Continuation s false more in
-    let ok = no_error v.side frame past none in
-    let on = goes_on v.side s false more past ok in
-    let before : v.block ≡ Some on.block = h.block ∙ on.is in
-    let grows : grown_in more on.block ≡ grown more on.block = ap (grown_with more on.block) (omega (arith, on.few)) in
-    let after : open_block (Came frame ∷ past) ≡ Some (grown more on.block) = ap (option_map (grown more)) on.is in
-    record {
-      act = refl;
-      stands = came_quiet frame past v (started w) h (record {
-        side = ap (λ (x : Summary). x.side) made;
-        failed = ap (λ (x : Summary). x.failed) made;
-        started = refl;
-        block = ap (λ (x : Summary). x.block) made ∙ ap (option_map (grown_in more)) before ∙ ap (λ (b : HeaderBlock). Some b) grows ∙ sym after;
-        greatest_as = ap (λ (x : Summary). x.greatest) made;
-        next = ap (λ (x : Summary). x.next) made;
-        empties = ap (λ (x : Summary). x.empties) made ∙ h.empties;
-        within = λ c. subst (λ (o : Option HeaderBlock). IfSome o (λ b. was_opened b.stream past ≡ true)) (sym after) (within_used past v on.block h on.is c);
-      }) (record { no_block = refl; closed = λ q. refl; peer = λ q. refl }) (ap (λ (x : Summary). x.streams) made);
-    }
-  where
-    grown_with : List ℕ → HeaderBlock → ℕ → HeaderBlock
-    grown_with more b n = record { stream = b.stream; last = b.last; octets = b.octets ++ more; frames = n }
 
 -- the summary without an open block
 abbrev pub unblocked : Summary → Summary

@@ -1,22 +1,14 @@
 -- A table of the open streams.
+pub use Rattle.number_set.specs.NumberMap.{Puts, one_if}
 use Rattle.h2_session.specs.declared.streams.Stream.{Stream}
 use Rattle.std.specs.BTreeMap.{is_at}
 use Rattle.std.specs.Map.{lookup}
 use Rattle.std.specs.Ordering.{nat_cmp}
-use Rattle.std.specs.Prelude.{Bool, List, None, Option, Some, if◌then◌else◌, false, is_some, length, true, ℕ, ◌&&◌, ◌+◌, ◌==◌, ◌||◌, ◌≡◌}
+use Rattle.std.specs.Prelude.{Bool, List, None, Option, Some, if◌then◌else◌, false, true, ℕ, ◌&&◌, ◌||◌}
 
 -- what the table has at a stream
 abbrev pub stream_at : ℕ → List (ℕ × Stream) → Option Stream
 stream_at s table = lookup (is_at (nat_cmp s)) table
-
--- 1 or 0
-abbrev pub one_if : Bool → ℕ
-one_if b = if b then 1 else 0
-
--- the new table has this at the stream, and all else as before
-pub record Puts (s : ℕ) (state : Option Stream) (old new : List (ℕ × Stream)) : Type 0 where
-  pub at : (q : ℕ) → stream_at q new ≡ (if q == s then state else stream_at q old)
-  pub len : length new + one_if (is_some (stream_at s old)) ≡ length old + one_if (is_some state)
 
 -- a stream that both sides have ended is closed
 abbrev pub unless_ended : Stream → Option Stream

@@ -1,5 +1,5 @@
 // What one frame means for the connection that it came on.
-ghost use Rattle.std.specs.Prelude.{◌≡◌, ◌==◌, ◌++◌, ◌∷◌, [], length, OnOk, OnErr};
+ghost use Rattle.std.specs.Prelude.{◌≡◌, ◌==◌, ◌++◌, ◌∷◌, [], length, IfOk, OnOk, OnErr};
 
 use io_ports::{NoMemory, Octets};
 use std::alloc::Global;
@@ -35,6 +35,15 @@ impl SettingList {
         SettingList {
             settings: Vec::new(alloc),
         }
+    }
+
+    /// No settings, and room for so many.
+    pub(crate) fn with_room(alloc: Global, n: usize) -> Result<Self, NoMemory>
+        ensures { IfOk result (λ list. list ≡ []) }
+    {
+        Ok(SettingList {
+            settings: Vec::with_capacity(alloc, n)?,
+        })
     }
 
     /// The settings of a vector. Takes no memory.

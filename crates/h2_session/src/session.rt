@@ -1,6 +1,6 @@
 // What is kept of a connection.
-ghost use Rattle.std.specs.Prelude.{◌≡◌, ◌+◌, ◌∷◌, [], List, if◌then◌else◌, is_some, length, Some, None, IfOk, OnErr, IfSome, IfNone, IsNone, MatchOption};
-ghost use Rattle.h2_session.specs.Happened.{Happening, Opened, Ended, Closed, Interim, Side, next_stream};
+ghost use Rattle.std.specs.Prelude.{◌≡◌, ◌+◌, ◌∷◌, [], List, if◌then◌else◌, is_some, length, Some, None, IfOk, OnErr, IsNone, MatchOption};
+ghost use Rattle.h2_session.specs.Happened.{Happening, Opened, Ended, Closed, Interim, next_stream};
 ghost use Rattle.h2_session.specs.Preface.{Begins};
 ghost use Rattle.h2_session.specs.Streams.{greatest_of_peer, is_open, open_count};
 ghost use Rattle.h2_session.specs.Summary.{StandsFor, noted};
@@ -36,7 +36,7 @@ pub struct Session {
 }
 
 impl Model for Session {
-    ghost use Rattle.std.specs.Prelude.{◌*◌, ◌^◌, ◌<◌, ◌≤◌, length, if◌then◌else◌};
+    ghost use Rattle.std.specs.Prelude.{◌<◌, length, if◌then◌else◌};
     ghost use Rattle.h2_session.specs.Summary.{Summary};
     ghost use Rattle.h2_session.specs.Kept.{IsKept};
 

@@ -19,8 +19,8 @@ ghost use Rattle.std.specs.Prelude.{◌≡◌, Some, None, [], length, IsSome, I
 ghost use Rattle.h2_session.specs.Table.{Puts, after_block, after_data, after_end, after_interim, stream_at, unless_ended};
 
 use io_ports::NoMemory;
+use number_set::NumberMap;
 use std::alloc::Global;
-use std::collections::BTreeMap;
 use std::marker::Model;
 
 /// What is known of an open stream.
@@ -37,7 +37,7 @@ pub struct Stream {
 /// The open streams by number.
 #[derive(Drop)]
 pub struct Streams {
-    open: BTreeMap<u32, Stream>,
+    open: NumberMap<Stream>,
 }
 
 impl Model for Streams {
@@ -46,7 +46,7 @@ impl Model for Streams {
 
     ghost Value = { List (ℕ × Stream) };
 
-    ghost view = { λ a. a.open.entries };
+    ghost view = { λ a. a.open };
 }
 
 impl Streams {
@@ -54,7 +54,7 @@ impl Streams {
         ensures { result ≡ [] }
     {
         Streams {
-            open: BTreeMap::new(alloc),
+            open: NumberMap::new(alloc),
         }
     }
 
@@ -68,7 +68,7 @@ impl Streams {
     pub fn get(&self, stream: u32) -> Option<Stream>
         ensures { result ≡ stream_at stream self.now }
     {
-        self.open.get(&stream).copied()
+        self.open.get(u64::from(stream))
     }
 
     /// Opens a stream. After running out of memory nothing is changed.
@@ -76,8 +76,7 @@ impl Streams {
         ensures ok { OnOk result (Puts stream (Some state) self.old self.new) }
         ensures err { OnErr result (self.new ≡ self.old) }
     {
-        self.open.insert(stream, state)?;
-        Ok(())
+        self.open.insert(u64::from(stream), state)
     }
 
     // Moves an open stream. It is closed once both sides have ended it.
@@ -86,13 +85,13 @@ impl Streams {
         ensures { Puts stream (unless_ended state) self.old self.new }
     {
         if state.peer_ended && state.ended {
-            self.open.remove(&stream);
-        } else if let Some(entry) = self.open.get_mut(&stream) {
-            *entry = state;
+            self.open.remove(u64::from(stream));
+        } else {
+            self.open.set(u64::from(stream), state);
         }
     }
 
-    /// DATA came on a stream, its last one perhaps.
+    /// DATA came on a stream; `last` is its END_STREAM, which closes the peer's half.
     pub fn data_came(&mut self, stream: u32, last: bool)
         ensures moves { Puts stream (after_data last (stream_at stream self.old)) self.old self.new }
         ensures other { IsNone (stream_at stream self.old) → self.new ≡ self.old }
@@ -151,6 +150,6 @@ impl Streams {
         ensures moves { Puts stream None self.old self.new }
         ensures other { IsNone (stream_at stream self.old) → self.new ≡ self.old }
     {
-        self.open.remove(&stream);
+        self.open.remove(u64::from(stream));
     }
 }

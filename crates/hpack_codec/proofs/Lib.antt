@@ -8,4 +8,5 @@ pub mod OneReading
 pub mod Readback
 pub mod Spellings
 pub mod Spelt
+pub mod StaticPlaces
 pub mod StaticRows

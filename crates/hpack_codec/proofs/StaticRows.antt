@@ -1,9 +1,8 @@
 -- The rows of the static table, and the tables behind one another.
-use Rattle.std.proofs.Common.{◌≡◌, ℕ, zero, suc, ◌+◌, ◌<◌, ◌≤◌, ◌∙◌, Bool, true, false, cond, List, [], ◌∷◌, ◌++◌, length, drop, get_or, map, Some, None, Bor, refl, sym, ap, arith}
-use Rattle.std.proofs.lemmas.List.{drop_all, get_or-map}
+use Rattle.std.proofs.Common.{◌≡◌, ℕ, zero, suc, ◌+◌, ◌<◌, ◌∙◌, List, [], ◌∷◌, ◌++◌, length, get_or, map, Some, Bor, refl, sym, ap, arith}
+use Rattle.std.proofs.lemmas.List.{get_or-map}
 use Rattle.std.proofs.lemmas.Option.{slice_get-get_or}
 use Rattle.std.specs.List.{slice_get}
-use Rattle.hpack_codec.specs.Encoding.{index_from}
 use Rattle.hpack_codec.specs.Table.{Table, line, static_table, entry_at}
 use Rattle.hpack_codec.specs.declared.line.Line.{Line}
 
@@ -42,20 +41,3 @@ static_at t index place e h = at t index place e ∙ slice_get-left static_table
 
 pub dynamic_at : (t : Table) (index place : ℕ) → index ≡ suc (61 + place) → entry_at t index ≡ slice_get t.lines place
 dynamic_at t index place e = at t index (61 + place) e ∙ slice_get-right static_table t.lines place (61 + place) (omega (arith, static_length))
-
--- ---- a search from the front
-pub drop_found : {X : Type 0} (xs : List X) (i : ℕ) (x : X) → slice_get xs i ≡ Some x → drop i xs ≡ x ∷ drop (i + 1) xs
-drop_found [] i x e = cc
-drop_found (y ∷ xs) zero x e = let same : y ≡ x = cc in ap (λ z. z ∷ xs) same
-drop_found (y ∷ xs) (suc i) x e = drop_found xs i x e ∙ ap (λ n. x ∷ drop n (y ∷ xs)) (let n : suc (i + 1) ≡ suc i + 1 = omega arith in n)
-
-pub searches_on : (passes : Line → Bool) (lines : List Line) (i : ℕ) (l : Line) → slice_get lines i ≡ Some l → passes l ≡ false → index_from (i + 1) passes (drop i lines) ≡ index_from (i + 1 + 1) passes (drop (i + 1) lines)
-searches_on passes lines i l e fails =
-    ap (index_from (i + 1) passes) (drop_found lines i l e) ∙ ap (λ b. cond b (Some (i + 1)) (index_from (i + 1 + 1) passes (drop (i + 1) lines))) fails
-
-pub searched : (passes : Line → Bool) (lines : List Line) (i : ℕ) (l : Line) → slice_get lines i ≡ Some l → passes l ≡ true → index_from (i + 1) passes (drop i lines) ≡ Some (i + 1)
-searched passes lines i l e holds =
-    ap (index_from (i + 1) passes) (drop_found lines i l e) ∙ ap (λ b. cond b (Some (i + 1)) (index_from (i + 1 + 1) passes (drop (i + 1) lines))) holds
-
-pub searched_all : (passes : Line → Bool) (i : ℕ) → 61 ≤ i → index_from (i + 1) passes (drop i static_table) ≡ None
-searched_all passes i h = ap (index_from (i + 1) passes) (drop_all i static_table (omega (arith, static_length)))

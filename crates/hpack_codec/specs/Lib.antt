@@ -1,6 +1,7 @@
 pub mod Collecting
 pub mod Decoding
 pub mod Encoding
+pub mod Entries
 pub mod Faults
 pub mod Integers
 pub mod Sections

@@ -1,6 +1,6 @@
 -- The static and the dynamic table of field compression (RFC 7541 section 2.3 and Appendix A).
 use Rattle.hpack_codec.specs.declared.line.Line.{Line}
-use Rattle.std.specs.Prelude.{List, None, Option, [], codes, if◌then◌else◌, length, nat_le, slice_get, suc, zero, ℕ, ◌++◌, ◌+◌, ◌-◌, ◌∷◌}
+use Rattle.std.specs.Prelude.{List, None, Option, [], codes, if◌then◌else◌, length, nat_le, slice_get, suc, zero, ℕ, ◌++◌, ◌+◌, ◌-◌, ◌==◌, ◌∷◌}
 
 -- an entry of the tables
 abbrev pub line : List ℕ → List ℕ → Line
@@ -31,6 +31,14 @@ static_table =
     ∷ bare (codes "retry-after") ∷ bare (codes "server") ∷ bare (codes "set-cookie") ∷ bare (codes "strict-transport-security")
     ∷ bare (codes "transfer-encoding") ∷ bare (codes "user-agent") ∷ bare (codes "vary") ∷ bare (codes "via")
     ∷ bare (codes "www-authenticate") ∷ []
+
+-- the places of the entries whose names have so many octets, counted from i
+abbrev pub places_from : ℕ → ℕ → List Line → List ℕ
+places_from i n [] = []
+places_from i n (l ∷ ls) = if length l.name == n then i ∷ places_from (i + 1) n ls else places_from (i + 1) n ls
+
+abbrev pub places_of : ℕ → List ℕ
+places_of n = places_from 0 n static_table
 
 -- the dynamic table, newest first, and the size in force
 pub record Table : Type 0 where

@@ -5,7 +5,7 @@ ghost use Rattle.std.specs.Bool.{OnTrue, OnFalse};
 use crate::fault::HpackFault;
 use crate::fields::{Field, FieldList};
 use crate::line::{Entry, counted_size};
-use io_ports::{NoMemory, Octets};
+use io_ports::NoMemory;
 use std::alloc::Global;
 
 /// The fields that were read so far, and the size of their list. Once it is known to be longer
@@ -21,8 +21,8 @@ pub(crate) struct Collected {
 impl Collected {
     ghost use Rattle.hpack_codec.specs.Collecting.{Holds};
     ghost use Rattle.hpack_codec.specs.Encoding.{HasSpelling};
+    ghost use Rattle.hpack_codec.specs.Entries.{entry_line};
     ghost use Rattle.hpack_codec.specs.Sections.{field_of, list_size};
-    ghost use Rattle.hpack_codec.specs.Table.{line};
     ghost use Rattle.hpack_codec.specs.declared.fields.Field.{Field};
 
     /// No fields, of a list that may count at most so many octets. Takes memory for some fields
@@ -83,16 +83,15 @@ impl Collected {
     #[inline(always)]
     pub fn push_entry(&mut self, entry: Entry<'_>) -> Result<(), NoMemory>
         ensures ok { OnOk result ((most : ℕ) (fields : List Field) → Holds most self.old fields →
-            Holds most self.new (fields ++ field_of (line entry.entry.name.now entry.entry.value.now) false ∷ [])) }
+            Holds most self.new (fields ++ field_of (entry_line entry.entry) false ∷ [])) }
     {
-        if !self.counts(counted_size(entry.name.len(), entry.value.len())) {
+        if !self.counts(entry.size()) {
             return Ok(());
         }
-        let name = Octets::from_slice(self.alloc, entry.name)?;
-        let value = Octets::from_slice(self.alloc, entry.value)?;
+        let line = entry.line(self.alloc)?;
         self.fields.keep(Field {
-            name,
-            value,
+            name: line.name,
+            value: line.value,
             never: false,
         })
     }

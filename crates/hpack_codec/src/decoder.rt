@@ -3,7 +3,7 @@ ghost use Rattle.std.specs.Prelude.{◌≡◌, ◌≤◌, ◌<◌, ◌^◌, Ok, 
 ghost use Rattle.hpack_codec.specs.Decoding.{Answers, decoder_with, is_final};
 ghost use Rattle.hpack_codec.specs.Encoding.{HasSpelling};
 ghost use Rattle.hpack_codec.specs.Sections.{list_size};
-ghost use Rattle.hpack_codec.specs.Table.{Table, empty_table};
+ghost use Rattle.hpack_codec.specs.Table.{empty_table};
 
 use crate::collected::Collected;
 use crate::fault::HpackFault;
@@ -32,8 +32,9 @@ impl Model for Decoder {
     ghost view = { λ d. record { greatest = d.greatest; most = d.most; table = d.table; failed = d.failed } };
 }
 
-/// How many fields a list has room for at first, in a block that may have so many.
-const ROOM: usize = 16;
+/// How many fields a list has room for at first, in a block that may have so many: what fits into
+/// 1,024 octets, which allocators have at hand.
+const ROOM: usize = 14;
 
 /// Reads a whole block. The table is that of the representations that were read.
 fn read_block(

@@ -1,6 +1,6 @@
 // The encoder of blocks.
-ghost use Rattle.std.specs.Prelude.{◌≡◌, ◌+◌, ◌<◌, ◌≤◌, ◌^◌, ℕ, true, false, length, All, IfOk, OnOk, OnErr, if◌then◌else◌};
-ghost use Rattle.hpack_codec.specs.Encoding.{encode_block, HasSpelling};
+ghost use Rattle.std.specs.Prelude.{◌≡◌, ◌+◌, ◌++◌, ◌<◌, ◌≤◌, ℕ, true, false, length, IfOk, OnOk, OnErr, if◌then◌else◌};
+ghost use Rattle.hpack_codec.specs.Encoding.{encode_block};
 ghost use Rattle.hpack_codec.specs.Sections.{SpellsBlock, list_size};
 ghost use Rattle.hpack_codec.specs.Table.{Table, resized};
 
@@ -58,13 +58,25 @@ impl Encoder {
     {
         fields.has_spelling();
         let mut out = Vec::with_capacity(self.alloc, fields.size().saturating_add(1))?;
+        self.encode_onto(fields, &mut out)?;
+        Ok(Octets::from_vec(out))
+    }
+
+    /// Appends the block of a list, as `encode` gives it. After running out of memory the encoder is as it was.
+    pub fn encode_onto(&mut self, fields: &FieldList, out: &mut Vec<u8>) -> Result<(), NoMemory>
+        ensures spelling { OnOk result (out.new.items ≡ out.old.items ++ encode_block self.old fields.now) }
+        ensures bound { OnOk result (length (encode_block self.old fields.now) ≤ list_size fields.now + 1) }
+        ensures ok { OnOk result (self.new ≡ false) }
+        ensures err { OnErr result (self.new ≡ self.old) }
+    {
+        fields.has_spelling();
         if self.anew {
             out.push(0x20)?;
         }
         for field in fields.as_slice() {
-            push_field(&mut out, field)?;
+            push_field(out, field)?;
         }
         self.anew = false;
-        Ok(Octets::from_vec(out))
+        Ok(())
     }
 }

@@ -79,6 +79,7 @@ impl FieldList {
     }
 
     /// Appends a field that has a spelling. After running out of memory the list is as it was.
+    #[inline(always)]
     pub(crate) fn keep(&mut self, field: Field) -> Result<(), NoMemory>
         requires { HasSpelling field }
         ensures ok { OnOk result (self.new ≡ self.old ++ field ∷ []) }

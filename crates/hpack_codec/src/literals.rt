@@ -1,5 +1,5 @@
 // Literals: names and values.
-ghost use Rattle.std.specs.Prelude.{◌≡◌, ◌≤◌, ◌<◌, length, IfOk, IfErr};
+ghost use Rattle.std.specs.Prelude.{◌≤◌, ◌<◌, length, IfOk, IfErr};
 ghost use Rattle.hpack_codec.specs.Faults.{OrNoMemory};
 ghost use Rattle.hpack_codec.specs.Sections.{BreaksLiteral, BreaksName, IsLiteral, IsName};
 
@@ -34,7 +34,7 @@ fn read_name<'a>(
     let Some(entry) = table.entry(index) else {
         return Err(HpackFault::BadIndex);
     };
-    match Octets::from_slice(alloc, entry.name) {
+    match entry.name(alloc) {
         Ok(name) => Ok((name, rest)),
         Err(_) => Err(HpackFault::NoMemory),
     }

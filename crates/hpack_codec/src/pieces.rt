@@ -1,5 +1,5 @@
 // Representations of a block, form by form.
-ghost use Rattle.std.specs.Prelude.{◌≡◌, ◌<◌, ℕ, Bool, length, IfOk, IfErr, slice_index};
+ghost use Rattle.std.specs.Prelude.{◌<◌, ℕ, length, IfOk, IfErr, slice_index};
 ghost use Rattle.hpack_codec.specs.Collecting.{Advances, Stops};
 ghost use Rattle.hpack_codec.specs.Faults.{OrNoMemory};
 ghost use Rattle.hpack_codec.specs.Sections.{form_of, literal_form};
@@ -53,11 +53,10 @@ fn read_inserted<'a>(
         Ok(found) => found,
         Err(fault) => return Err(fault),
     };
-    let copied = list.push_entry(Entry {
-        name: line.name.as_slice(),
-        value: line.value.as_slice(),
-    });
-    let Ok(()) = copied else {
+    let Ok(line) = line.shared() else {
+        return Err(HpackFault::NoMemory);
+    };
+    let Ok(()) = list.push_entry(Entry::Added(&line)) else {
         return Err(HpackFault::NoMemory);
     };
     match table.insert(line) {

@@ -20,6 +20,7 @@ fn push_more(out: &mut Vec<u8>, n: u32) -> Result<(), AllocError>
 }
 
 /// Writes an integer behind a pattern, in a prefix of so many bits and what follows it.
+#[inline(always)]
 pub(crate) fn push_integer(
     out: &mut Vec<u8>,
     prefix: u32,
@@ -41,6 +42,7 @@ pub(crate) fn push_integer(
 }
 
 /// Writes a plain string.
+#[inline(always)]
 fn push_string(out: &mut Vec<u8>, text: &[u8]) -> Result<(), AllocError>
     requires { length text.now < 2 ^ 32 }
     ensures { OnOk result (out.new.items ≡ out.old.items ++ plain_string text.now) }

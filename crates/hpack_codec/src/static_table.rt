@@ -1,10 +1,10 @@
 // The static table.
 ghost use Rattle.std.specs.Prelude.{◌≡◌, ◌<◌, ◌&&◌, [], Some, length, map, slice_get, slice_index_or};
 ghost use Rattle.std.specs.Str.{bytes_eq};
-ghost use Rattle.hpack_codec.specs.Table.{line, static_table};
+ghost use Rattle.hpack_codec.specs.Table.{line, places_of, static_table};
 ghost use Rattle.hpack_codec.specs.Encoding.{index_from};
 
-use crate::line::Entry;
+use crate::line::Row;
 
 /// The names of the static table, in the order of their indexes, which begin with 1
 /// (RFC 7541 Appendix A).
@@ -137,6 +137,38 @@ static VALUES: [&str; 61] = [
     "",
 ];
 
+/// The places of the names with so many octets, in their order: a name is looked for among these alone.
+static BY_LENGTH: [&[u8]; 28] = [
+    &[],
+    &[],
+    &[],
+    &[20, 59],
+    &[32, 33, 36, 37, 44, 58],
+    &[3, 4, 21, 49],
+    &[18, 31, 34, 53],
+    &[1, 2, 5, 6, 7, 8, 9, 10, 11, 12, 13, 35, 50, 51],
+    &[38, 41, 45],
+    &[],
+    &[0, 54, 57],
+    &[52],
+    &[30, 46],
+    &[17, 22, 23, 29, 40, 43],
+    &[14, 27],
+    &[15, 16],
+    &[25, 26, 28, 60],
+    &[39, 56],
+    &[47],
+    &[24, 42, 48],
+    &[],
+    &[],
+    &[],
+    &[],
+    &[],
+    &[55],
+    &[],
+    &[19],
+];
+
 /// How many entries the static table has.
 pub(crate) const STATIC_LEN: usize = 61;
 
@@ -149,25 +181,43 @@ fn text_at<'a>(texts: &[&'a str], place: usize) -> &'a str
 }
 
 /// The entry at a place, counted from 0.
-pub(crate) fn static_entry(place: usize) -> Entry<'static>
+pub(crate) fn static_entry(place: usize) -> Row
     requires { place < 61 }
     ensures { slice_get static_table place ≡ Some (line result.name.now result.value.now) }
 {
     let name = text_at(&NAMES, place);
     let value = text_at(&VALUES, place);
-    Entry {
+    Row {
         name: name.as_bytes(),
         value: value.as_bytes(),
     }
+}
+
+/// The places in a row.
+fn row_at<'a>(rows: &[&'a [u8]], len: usize) -> &'a [u8]
+    requires { len < length rows.now }
+    ensures { result.now ≡ slice_index_or (map (λ row. row.now) rows.now) len [] }
+{
+    rows[len]
+}
+
+/// The places of the entries whose names have so many octets, in their order.
+fn places_of(len: usize) -> &'static [u8]
+    ensures { result.now ≡ places_of len }
+{
+    if len < BY_LENGTH.len() {
+        return row_at(&BY_LENGTH, len);
+    }
+    &[]
 }
 
 /// The lowest index of an entry with this name.
 pub(crate) fn index_of_name(name: &[u8]) -> Option<u32>
     ensures { result ≡ index_from 1 (λ l. bytes_eq l.name name.now) static_table }
 {
-    for place in 0..STATIC_LEN {
-        if static_entry(place).name == name {
-            return Some(place as u32 + 1);
+    for place in places_of(name.len()) {
+        if static_entry(usize::from(*place)).name == name {
+            return Some(u32::from(*place) + 1);
         }
     }
     None
@@ -177,10 +227,10 @@ pub(crate) fn index_of_name(name: &[u8]) -> Option<u32>
 pub(crate) fn index_of_entry(name: &[u8], value: &[u8]) -> Option<u32>
     ensures { result ≡ index_from 1 (λ l. bytes_eq l.name name.now && bytes_eq l.value value.now) static_table }
 {
-    for place in 0..STATIC_LEN {
-        let entry = static_entry(place);
+    for place in places_of(name.len()) {
+        let entry = static_entry(usize::from(*place));
         if entry.name == name && entry.value == value {
-            return Some(place as u32 + 1);
+            return Some(u32::from(*place) + 1);
         }
     }
     None

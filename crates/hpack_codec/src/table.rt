@@ -1,6 +1,7 @@
 // The dynamic table.
 ghost use Rattle.std.specs.Prelude.{◌≡◌, ◌≤◌, ◌++◌, [], IfNone, Some, None, OnOk, MatchOption, length, option_to_list, slice_get};
-ghost use Rattle.hpack_codec.specs.Table.{Table, added, empty_table, entry_at, kept, line, resized};
+ghost use Rattle.hpack_codec.specs.Table.{Table, added, empty_table, entry_at, kept, resized};
+ghost use Rattle.hpack_codec.specs.Entries.{entry_line};
 
 use crate::line::{Entry, Line, counted_size};
 use crate::static_table::{STATIC_LEN, static_entry};
@@ -102,20 +103,17 @@ impl DynamicTable {
 
     /// The entry of either table at an index.
     pub fn entry(&self, index: u32) -> Option<Entry<'_>>
-        ensures { MatchOption result (entry_at self.now index ≡ None) (λ e. entry_at self.now index ≡ Some (line e.name.now e.value.now)) }
+        ensures { MatchOption result (entry_at self.now index ≡ None) (λ e. entry_at self.now index ≡ Some (entry_line e)) }
     {
         if index == 0 {
             return None;
         }
         let place = (index - 1) as usize;
         if place < STATIC_LEN {
-            return Some(static_entry(place));
+            return Some(Entry::Fixed(static_entry(place)));
         }
         match self.line(place - STATIC_LEN) {
-            Some(found) => Some(Entry {
-                name: found.name.as_slice(),
-                value: found.value.as_slice(),
-            }),
+            Some(found) => Some(Entry::Added(found)),
             None => None,
         }
     }

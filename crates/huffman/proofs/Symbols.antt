@@ -77,9 +77,6 @@ read_one s rest (t ∷ text) h sp =
     (text, ap (λ x. x ∷ text) (sym same), subst P (sym (append_cancel (code s) rest sp.0 left)) sp.3)
 
 -- ---- a text that is being read
-pub reads_none_yet : (whole : List Bool) → Reads whole whole []
-reads_none_yet whole = record { onward = λ text sp. sp; only = λ text sp. (text, refl, sp) }
-
 pub reads_more : (whole rest : List Bool) (out : List ℕ) (s : ℕ) → s < 256 → Reads whole (code s ++ rest) out → Reads whole rest (out ++ (s ∷ []))
 reads_more whole rest out s h r = record {
   onward = λ text sp.

@@ -1,6 +1,6 @@
 // The decoder of a string.
-ghost use Rattle.std.specs.Prelude.{◌≡◌, ◌<◌, ◌++◌, List, ℕ, Bool, [], length, IfOk, IfErr};
-ghost use Rattle.huffman.specs.Huffman.{bits, octet_bits, IsSpelled, IsHuffman};
+ghost use Rattle.std.specs.Prelude.{◌≡◌, ◌<◌, ◌++◌, [], length, IfOk, IfErr};
+ghost use Rattle.huffman.specs.Huffman.{bits, octet_bits, IsHuffman};
 ghost use Rattle.huffman.specs.Reading.{Reads};
 ghost use Rattle.huffman.specs.Refusal.{Refuses};
 

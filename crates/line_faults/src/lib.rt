@@ -5,7 +5,6 @@ mod courses;
 mod fault;
 mod fields;
 mod header;
-mod numbers;
 mod put;
 mod wire;
 mod words;

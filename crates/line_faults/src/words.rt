@@ -1,7 +1,6 @@
 // The words of a line that is no event.
 use crate::fault::Mistake;
 use crate::fields::{EXCHANGE, Field, Kind, PRESSURE};
-use crate::numbers::number_mistake;
 use flow_notes::Names;
 
 /// The most body octets of a line.
@@ -110,4 +109,29 @@ fn octets_mistake(word: &[u8]) -> Option<Mistake> {
         return Some(Mistake::TooMany(word.len() / 2));
     }
     None
+}
+
+// What is wrong with a word where a number in this range should stand.
+fn number_mistake(word: &[u8], field: Field, least: u64, most: u64) -> Option<Mistake> {
+    if !word.iter().all(|octet| octet.is_ascii_digit()) {
+        return Some(Mistake::NoNumber(field));
+    }
+    if word.len() > 1 && word[0] == b'0' {
+        return Some(Mistake::LeadingZero(field));
+    }
+    match value_of(word) {
+        Some(n) if least <= n && n <= most => None,
+        _ => Some(Mistake::OutOfRange(field)),
+    }
+}
+
+// The number that digits spell, below 2^64.
+fn value_of(word: &[u8]) -> Option<u64> {
+    let Ok(text) = std::str::from_utf8(word) else {
+        return None;
+    };
+    match text.parse::<u64>() {
+        Ok(n) => Some(n),
+        Err(_) => None,
+    }
 }

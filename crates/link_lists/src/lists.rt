@@ -1,5 +1,5 @@
 //! Linked lists whose nodes are named by handles.
-ghost use Rattle.std.specs.Prelude.{◌≡◌, ◌≢◌, ℕ, ◌+◌, ◌<◌, ◌≤◌, List, [], ◌∷◌, ◌++◌, length, replicate, not, false, ⊤, IfOk, IsTrue, MatchResult, MatchOption, Some, None};
+ghost use Rattle.std.specs.Prelude.{◌≡◌, ◌+◌, ◌<◌, ◌≤◌, [], ◌∷◌, ◌++◌, length, replicate, not, false, ⊤, IfOk, IsTrue, MatchResult, MatchOption, Some, None};
 ghost use Rattle.std.specs.Option.{option_copied};
 ghost use Rattle.link_lists.specs.Lists.{NodeLists, push_at, pull_from, has_node, node_value, front_of, contains_id, without_id, IsKnown};
 

@@ -1,5 +1,5 @@
 //! Rings of nodes, each closed by an end that holds no value.
-ghost use Rattle.std.specs.Prelude.{◌≡◌, ℕ, ◌+◌, ◌<◌, ◌≤◌, List, [], ◌∷◌, ◌++◌, length, MatchBool, MatchResult, MatchOption, IsTrue, IfOk, IfSome, Some, None, false};
+ghost use Rattle.std.specs.Prelude.{◌≡◌, ◌+◌, ◌<◌, ◌≤◌, List, [], ◌∷◌, ◌++◌, length, MatchBool, MatchResult, MatchOption, IsTrue, IfOk, IfSome, Some, None, false};
 ghost use Rattle.link_lists.specs.Lists.{push_at, pull_from, has_node, node_value, front_of};
 ghost use Rattle.link_lists.specs.Seen.{emptied, IsLone};
 

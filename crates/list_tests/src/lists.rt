@@ -1,5 +1,5 @@
 //! Each call on one, two and three nodes, at the front, in the middle and at the back; and what may go to another thread.
-ghost use Rattle.std.specs.Prelude.{◌≡◌, ◌<◌, ℕ, length, true, false, IfSome};
+ghost use Rattle.std.specs.Prelude.{◌≡◌, ◌<◌, length, true, false, IfSome};
 ghost use Rattle.link_lists.specs.Places.{same_ptr};
 ghost use Rattle.link_lists.specs.Lists.{NodeId, has_node, IsKnown};
 

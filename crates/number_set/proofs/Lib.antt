@@ -1,4 +1,5 @@
 pub mod Counted
+pub mod Entries
 pub mod Next
 pub mod Searching
 pub mod Sorted

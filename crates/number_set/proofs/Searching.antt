@@ -11,7 +11,7 @@ use Rattle.std.specs.List.{find, insert, remove}
 use Rattle.std.specs.List.Sorted.{IsBinarySearchResult, IsStrictlySortedBy}
 use Rattle.std.specs.Option.{option_copied}
 use Rattle.std.specs.Ordering.{match_ordering, nat_cmp}
-use Rattle.std.specs.Prelude.{Bool, Err, List, None, Ok, Option, Some, [], false, if◌then◌else◌, length, nat_eq, nat_lt, slice_get, suc, true, zero, ℕ, ◌+◌, ◌<◌, ◌||◌, ◌∷◌, ◌≡◌, ◌≤◌}
+use Rattle.std.specs.Prelude.{Bool, Err, IfSome, List, None, Ok, Option, Result, Some, [], false, if◌then◌else◌, is_ok, length, nat_eq, nat_lt, slice_get, suc, true, zero, ℕ, ◌+◌, ◌<◌, ◌||◌, ◌∷◌, ◌≡◌, ◌≤◌}
 use Rattle.std.specs.Set.{remove_key}
 use Rattle.std.specs.declared.cmp.Ordering.TheVariants.{Greater, Less}
 use Rattle.std.specs.Slice.{IsItemAt}
@@ -75,6 +75,24 @@ has_gap (y ∷ xs) x zero below above =
     other m n h = grind (arith, nat_tests)
 has_gap (y ∷ xs) x (suc i) below above =
     has_other x y xs (above_apart x y (below zero (omega arith))) ∙ has_gap xs x i (λ k less. below (suc k) (omega (arith, less))) (λ k from last. above (suc k) (omega (arith, from)) (omega (arith, last)))
+
+pub search_has : (xs : List ℕ) (x : ℕ) (r : Result ℕ ℕ) → IsBinarySearchResult (λ y. nat_cmp y x) xs r → Rises xs → is_ok r ≡ has xs x
+search_has xs x (Ok i) is rises = let found : IsFoundAt xs x i = found_at xs x i is rises in sym (has_found xs x i found.within found.is)
+search_has xs x (Err i) is rises = let gap : IsGapAt xs x i = gap_at xs x i is rises in sym (has_gap xs x i gap.below gap.above)
+
+-- what stands at a place is there
+pub place_has : (xs : List ℕ) (i : ℕ) → IfSome (slice_get xs i) (λ x. has xs x ≡ true)
+place_has [] i = tt
+place_has (y ∷ xs) zero = ap (λ b. b || has xs y) (here y y refl)
+place_has (y ∷ xs) (suc i) = behind (slice_get xs i) (place_has xs i)
+  where
+    or_true : (b : Bool) → (b || true) ≡ true
+    or_true true = refl
+    or_true false = refl
+
+    behind : (o : Option ℕ) → IfSome o (λ x. has xs x ≡ true) → IfSome o (λ x. has (y ∷ xs) x ≡ true)
+    behind None is = tt
+    behind (Some x) is = ap (λ b. nat_eq x y || b) is ∙ or_true (nat_eq x y)
 
 -- ---- it comes to the gap, or goes from where it is
 pub insert_is : (xs : List ℕ) (x i : ℕ) → i ≤ length xs → ((k : ℕ) → k < i → get_or xs k 0 < x) → ((k : ℕ) → i ≤ k → k < length xs → x < get_or xs k 0) →

@@ -1,1 +1,2 @@
 pub mod NumberSet
+pub mod NumberMap

@@ -1,6 +1,6 @@
 // A set of numbers in order.
 ghost use Rattle.number_set.specs.NumberSet.{first, first_above, has, marked};
-ghost use Rattle.std.specs.Prelude.{◌≡◌, ◌+◌, ◌<◌, ◌≤◌, ◌==◌, ℕ, [], IsSomeAnd, IfSome, OnOk, false, if◌then◌else◌, length, slice_index, true};
+ghost use Rattle.std.specs.Prelude.{◌≡◌, ◌+◌, ◌-◌, ◌<◌, ◌≤◌, ◌==◌, ℕ, [], IsSomeAnd, IfSome, OnOk, false, if◌then◌else◌, length, slice_get, slice_index, true};
 
 use io_ports::NoMemory;
 use std::alloc::Global;
@@ -64,6 +64,7 @@ impl NumberSet {
     }
 
     /// From now on the number is there, or isn't. There must be room for a number that comes; takes no memory.
+    #[inline(always)]
     pub fn mark(&mut self, number: u64, is_there: bool)
         requires { is_there ≡ true → has self.old.items number ≡ false → length self.old.items < self.old.room }
         ensures items { self.new.items ≡ marked number is_there self.old.items }
@@ -84,7 +85,30 @@ impl NumberSet {
         }
     }
 
+    /// Whether a number is there.
+    #[inline(always)]
+    pub fn contains(&self, number: u64) -> bool
+        ensures { result ≡ has self.now.items number }
+    {
+        // Most sets that are asked have one or two.
+        match self.items.as_slice() {
+            [] => false,
+            [one] => *one == number,
+            [one, other] => *one == number || *other == number,
+            items => items.binary_search(&number).is_ok(),
+        }
+    }
+
+    /// The greatest.
+    pub fn last(&self) -> Option<u64>
+        ensures last { result ≡ slice_get self.now.items (length self.now.items - 1) }
+        ensures found { IfSome result (λ x. has self.now.items x ≡ true) }
+    {
+        self.items.last().copied()
+    }
+
     /// The least.
+    #[inline(always)]
     pub fn first(&self) -> Option<u64>
         ensures { result ≡ first self.now.items }
     {
@@ -92,6 +116,7 @@ impl NumberSet {
     }
 
     /// The least that is above another.
+    #[inline(always)]
     pub fn next_above(&self, after: u64) -> Option<u64>
         ensures next { result ≡ first_above after self.now.items }
         ensures found { IfSome result (λ x. (after < x) × (has self.now.items x ≡ true)) }
@@ -101,6 +126,7 @@ impl NumberSet {
     }
 
     // How many are at most so great.
+    #[inline(always)]
     fn count_upto(&self, most: u64) -> usize
         ensures within { result ≤ length self.now.items }
         ensures below { (k : ℕ) → k < result → slice_index self.now.items k ≤ most }

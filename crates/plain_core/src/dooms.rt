@@ -1,5 +1,5 @@
 // Dooms: an exchange is given up, and is gone at the end of its dispatch.
-ghost use Rattle.std.specs.Prelude.{slice_get, ◌≡◌, ◌<◌, ◌≤◌, ◌∷◌, [], drop, OnErr, OnOk, Some, true, false};
+ghost use Rattle.std.specs.Prelude.{slice_get, ◌≡◌, ◌<◌, ◌≤◌, [], OnOk, Some, true, false};
 ghost use Rattle.std.specs.BTreeMap.{get};
 ghost use Rattle.std.specs.Ordering.{nat_cmp};
 ghost use Rattle.plain_core.specs.Agenda.{after_end};

@@ -1,5 +1,5 @@
 // Drains: the units of a connection's flows are framed in rotation, and drained buffers are told of.
-ghost use Rattle.std.specs.Prelude.{slice_get, ◌≡◌, ◌<◌, ◌≤◌, ◌+◌, ◌∷◌, ◌≢◌, [], drop, if◌then◌else◌, OnErr, OnOk, Some, None, true, false};
+ghost use Rattle.std.specs.Prelude.{slice_get, ◌≡◌, ◌<◌, ◌≤◌, ◌+◌, OnOk, Some, None};
 ghost use Rattle.std.specs.List.{list_any};
 ghost use Rattle.plain_core.specs.Agenda.{after_frame, is_drain_of};
 ghost use Rattle.plain_core.specs.Carries.{IsNextFrame, IsNextUnless};

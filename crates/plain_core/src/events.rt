@@ -1,5 +1,5 @@
 // Events: what each does before anything is run.
-ghost use Rattle.std.specs.Prelude.{◌≡◌, ◌+◌, ◌∷◌, ◌++◌, [], if◌then◌else◌, IfOk, OnOk, true};
+ghost use Rattle.std.specs.Prelude.{◌≡◌, ◌+◌, ◌∷◌, [], if◌then◌else◌, IfOk, OnOk, true};
 ghost use Rattle.plain_core.specs.Carries.{IsOverrun, Lives};
 ghost use Rattle.plain_core.specs.Noting.{AppendsNotes, begin_notes, turn_note};
 ghost use Rattle.plain_core.specs.Runs.{CutsTurn, Opens};

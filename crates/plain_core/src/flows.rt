@@ -1,5 +1,5 @@
 // The flows of a session, with the buffers that their octets lie in and the counts that hold them back.
-ghost use Rattle.std.specs.Prelude.{◌≡◌, ◌<◌, ◌≤◌, ◌+◌, ◌*◌, ◌∷◌, [], ℕ, All, length, take, IfOk, IfSome, OnErr, OnOk, Some, IsTrue, true, false};
+ghost use Rattle.std.specs.Prelude.{◌≡◌, ◌<◌, ◌≤◌, ◌+◌, ◌*◌, ◌∷◌, [], ℕ, All, length, take, IfOk, OnOk, Some, true, false};
 ghost use Rattle.exchange_core.specs.Plain.{plain_spec};
 ghost use Rattle.exchange_core.specs.Exchanges.{IsLiveFlow};
 ghost use Rattle.std.specs.BTreeMap.{get};

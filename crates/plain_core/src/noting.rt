@@ -1,5 +1,5 @@
 // The notes of each small step. Where memory is refused, a front of them stands.
-ghost use Rattle.std.specs.Prelude.{◌≡◌, ◌∷◌, ◌++◌, [], IfOk};
+ghost use Rattle.std.specs.Prelude.{◌∷◌, IfOk};
 ghost use Rattle.plain_core.specs.Flows.{IsSettled};
 ghost use Rattle.plain_core.specs.Noting.{AppendsNotes, AppendsSome, low_of, pauses_of, resumes_of, rise_of};
 ghost use Rattle.plain_core.specs.Telling.{TellsUpTo};

@@ -1,10 +1,10 @@
 // The core and its dispatch.
-ghost use Rattle.std.specs.Prelude.{slice_get, ◌≡◌, ◌≢◌, ◌<◌, ◌++◌, ◌∷◌, [], Err, IfOk, OnErr, OnOk, Some, true, false};
+ghost use Rattle.std.specs.Prelude.{slice_get, ◌≡◌, ◌≢◌, ◌<◌, [], Err, IfOk, OnErr, OnOk, Some, true, false};
 ghost use Rattle.flow_notes.specs.declared.notes.Note.TheVariants as note;
 ghost use Rattle.plain_core.specs.Agenda.{with_drain, with_run};
 ghost use Rattle.plain_core.specs.Flows.{AreLimits};
 ghost use Rattle.plain_core.specs.Measure.{to_go};
-ghost use Rattle.plain_core.specs.Runs.{Cuts, CutsTurn, IsGood, Keeps, Opens, Turns};
+ghost use Rattle.plain_core.specs.Runs.{Cuts, CutsTurn, IsGood, Keeps, Turns};
 ghost use Rattle.plain_core.specs.Stands.{CanTake, HasFailed, Rests, WaitsInFront};
 
 use crate::agenda::{Agenda, Task};
@@ -25,7 +25,7 @@ pub struct PlainCore {
     pub(crate) config: Config,
     pub(crate) turn: u64,
     pub(crate) flows: Flows,
-    /// The stream that a stream's end dooms.
+    /// `pairs[first] = second`: when END_STREAM of `first` is framed, `second` is doomed.
     pub(crate) pairs: BTreeMap<u64, u64>,
     pub(crate) agenda: Agenda,
     pub(crate) failed: bool,

@@ -13,9 +13,11 @@ use flow_notes::{Note, Notes};
 use io_ports::NoMemory;
 
 impl PlainCore {
-    // A move of the flow; or, where nothing may move, a drain of its connection; or, where nothing may be framed
-    // either, the end of its run. While the write buffer is above, it holds every flow back, and nothing may be framed.
-    // Nor does anything of an exchange that isn't live go on.
+    // One step of the run on top of the agenda:
+    // - while the write buffer is above, it holds every flow back and nothing may be framed: the run ends;
+    // - where octets may move, they move, and the connection is drained;
+    // - where none may, but something may be framed, the connection is drained with that as its first frame;
+    // - else, or where the exchange isn't live, the run ends.
     pub(crate) fn run(&mut self, flow: FlowId, notes: &mut Notes) -> Result<(), NoMemory>
         requires good { IsGood self.old notes.old }
         requires top { slice_get self.old.agenda 0 ≡ Some (task.Run flow) }

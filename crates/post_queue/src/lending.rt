@@ -1,4 +1,5 @@
-// The passes that lie with the box: one is taken out for a thread, and put back when the thread is done.
+// The passes that lie with the box: one is taken out for a thread, and put back when the thread is done. They have a file of their own,
+// since the ghost fields of the passes import the words of theirs.
 ghost use Rattle.std.specs.Prelude.{◌≡◌, ◌<◌, ◌++◌, ◌∷◌, [], length, IfSome, MatchOption};
 ghost use Rattle.post_queue.specs.Clauses.{passes_in, room_in, AreInPlace};
 

@@ -12,7 +12,7 @@ use Rattle.proxy_config.specs.declared.config.Cluster.{Cluster}
 use Rattle.proxy_config.specs.declared.config.Config.{Config}
 use Rattle.proxy_config.specs.Keys.{Key, number, text, texts, key_faults, keys_faults, unknown_faults, number_at, are_names_up_to, any_text, words_up_to}
 use Rattle.proxy_config.specs.Ranges.{IsBetween, AreLimits, AreTimeouts, IsFilter, AreFilters, IsRoute, IsForm, IsTrigger, IsShedRow, IsOverload, IsProxy, IsInRange, most_octets, day, million}
-use Rattle.proxy_config.specs.Reading.{made_row, rows_of, row_place, table_row_faults, row_faults, rows_faults, overload_faults, overload_of, config_faults, config_made, limits_faults, timeouts_faults, clusters_key, clusters_faults, routes_key, routes_faults, overload_key, resource_names, triggers_faults, shed_faults, stray_fault, stray_faults, proxy_faults, top_keys}
+use Rattle.proxy_config.specs.Reading.{made_row, rows_of, row_place, table_row_faults, row_faults, rows_faults, overload_faults, overload_of, config_faults, config_made, limits_faults, timeouts_faults, clusters_key, clusters_faults, routes_key, routes_faults, overload_key, resource_names, triggers_faults, shed_faults, stray_fault, stray_faults, tables_faults, top_keys}
 use Rattle.proxy_config.specs.Tables.{limits_of, timeouts_of, proxy_of, stream_idle, connection_idle, route_keys, route_of, filter_of, filter_words, is_scaled, scaling, saturation, value, trigger_keys, trigger_of, shed_keys, shed_row_of, actions, needed, optional, target_key, resource, resources, class_start, triggers, shed, place_at, points}
 use Rattle.proxy_config.specs.Texts.{is_among, is_name}
 use Rattle.proxy_config.specs.Values.{strings_at, list_at, table_at, text_at}
@@ -211,22 +211,21 @@ all_listed clusters i (r ∷ rs) h =
 -- the configuration of a document without faults
 pub config_in_range : (top : Members) → config_faults top ≡ [] → IsInRange (config_made top)
 config_in_range top h =
-    let after_limits = (no_parts (limits_faults top) _ h).1 in
+    let both = no_parts (tables_faults top) _ h in
+    let after_limits = (no_parts (limits_faults top) _ both.0).1 in
     let after_timeouts = (no_parts (timeouts_faults top) _ after_limits).1 in
     let clusters = no_parts (keys_faults [] top (clusters_key ∷ []) ++ clusters_faults (list_at (codes "clusters") top)) _ after_timeouts in
     let routes = no_parts (keys_faults [] top (routes_key ∷ []) ++ routes_faults (list_at (codes "routes") top)) _ clusters.1 in
     let overload = no_parts (keys_faults [] top (overload_key ∷ []) ++ overload_faults (codes "overload.") (table_at (codes "overload") top)) _ routes.1 in
     let route_rows = (no_parts (keys_faults [] top (routes_key ∷ [])) _ routes.0).1 in
     let overload_keys = (no_parts (keys_faults [] top (overload_key ∷ [])) _ overload.0).1 in
-    let proxy = no_parts (proxy_faults top) _ overload.1 in
-    let unknown = no_parts (unknown_faults [] top top_keys) _ proxy.1 in
+    let rest = no_parts (unknown_faults [] top top_keys) _ both.1 in
     let made = config_made top in
-    let strays = no_parts (stray_faults made.clusters 0 made.routes) _ unknown.1 in
     record {
       limits = limits_in_range (table_at (codes "limits") top);
       timeouts = timeouts_in_range (table_at (codes "timeouts") top);
       routes = All-from_recursion IsRoute _ (rows_in_range IsRoute (codes "routes") route_keys route_of route_in_range [] (list_at (codes "routes") top) route_rows);
-      listed = All-from_recursion (IsListed made.clusters) _ (all_listed made.clusters 0 made.routes strays.0);
+      listed = All-from_recursion (IsListed made.clusters) _ (all_listed made.clusters 0 made.routes rest.1);
       overload = overload_in_range (codes "overload.") (table_at (codes "overload") top) overload_keys;
       proxy = proxy_in_range (table_at (codes "proxy") top);
     }

@@ -152,10 +152,9 @@ timeouts_faults top =
 abbrev pub proxy_faults : Members → List ConfigFault
 proxy_faults top = keys_faults [] top (proxy_key ∷ []) ++ table_faults (codes "proxy.") (table_at (codes "proxy") top) proxy_keys
 
--- the faults of the document, in the order of refusals: its tables in their order, then its unknown keys, then the routes
--- whose clusters aren't there
-abbrev pub config_faults : Members → List ConfigFault
-config_faults top =
+-- the faults of its tables, in their order
+abbrev pub tables_faults : Members → List ConfigFault
+tables_faults top =
     joined (
     limits_faults top
     ∷ timeouts_faults top
@@ -163,9 +162,12 @@ config_faults top =
     ∷ (keys_faults [] top (routes_key ∷ []) ++ routes_faults (list_at (codes "routes") top))
     ∷ (keys_faults [] top (overload_key ∷ []) ++ overload_faults (codes "overload.") (table_at (codes "overload") top))
     ∷ proxy_faults top
-    ∷ unknown_faults [] top top_keys
-    ∷ stray_faults (config_made top).clusters 0 (config_made top).routes
     ∷ [])
+
+-- the faults of the document, in the order of refusals: its tables in their order, then its unknown keys, then the routes
+-- whose clusters aren't there
+abbrev pub config_faults : Members → List ConfigFault
+config_faults top = tables_faults top ++ (unknown_faults [] top top_keys ++ stray_faults (config_made top).clusters 0 (config_made top).routes)
 
 -- the configuration where there are no faults, or else the first of them
 abbrev pub answer : {T : Type 0} → List ConfigFault → T → Result T ConfigFault
@@ -177,5 +179,5 @@ document_answer None = Err NotToml
 document_answer (Some top) = answer (config_faults top) (config_made top)
 
 -- the configuration that a text is, or why it is none
-abbrev pub config_of : List ℕ → Result Config ConfigFault
+unfoldable pub config_of : List ℕ → Result Config ConfigFault
 config_of text = if is_utf8 text then document_answer (parse_document text) else Err NotToml

@@ -1,11 +1,12 @@
 // The whole document.
-ghost use Rattle.std.specs.Prelude.{◌≡◌, ◌≢◌, ◌<◌, ◌^◌, ◌++◌, true, codes, length, IfOk, IfErr};
+ghost use Rattle.std.specs.Prelude.{◌≡◌, ◌≢◌, ◌<◌, ◌^◌, ◌++◌, [], true, codes, length, IfOk, IfErr};
 ghost use Rattle.std.specs.Str.{is_utf8};
 ghost use Rattle.toml.specs.Parse.{parse_document};
 ghost use Rattle.toml.specs.View.{table_view};
-ghost use Rattle.proxy_config.specs.Answers.{Checks};
+ghost use Rattle.proxy_config.specs.Answers.{Checks, members_of};
+ghost use Rattle.proxy_config.specs.Keys.{unknown_faults};
 ghost use Rattle.proxy_config.specs.Ranges.{IsInRange};
-ghost use Rattle.proxy_config.specs.Reading.{config_of, config_faults, config_made, stray_faults, row_place};
+ghost use Rattle.proxy_config.specs.Reading.{config_of, config_faults, config_made, tables_faults, stray_faults, top_keys, row_place};
 
 use crate::cluster_rows::read_clusters;
 use crate::config::{Cluster, Config};
@@ -24,6 +25,7 @@ use toml::Table;
 /// Reads a configuration, or answers the first of its faults: where the text isn't a TOML document in UTF-8; then of the
 /// tables `limits`, `timeouts`, `clusters`, `routes`, `overload` and `proxy`, with their rows and keys in their order and the
 /// least unknown key last; then the least unknown table; then the first route whose cluster isn't there.
+#[tactic(auto, unfolding(crate::specs::Reading::config_of))]
 pub fn read_config(alloc: Global, text: &[u8]) -> Result<Config, ConfigFault>
     requires { length text.now < 2 ^ 32 }
     ensures ok { IfOk result (λ config. config_of text.now ≡ Ok config) }
@@ -34,6 +36,7 @@ pub fn read_config(alloc: Global, text: &[u8]) -> Result<Config, ConfigFault>
     read_table(alloc, &table)
 }
 
+#[tactic(auto, unfolding(crate::specs::Reading::config_of))]
 fn read_document(alloc: Global, text: &[u8]) -> Result<Table, ConfigFault>
     ensures utf8 { IfOk result (λ table. is_utf8 text.now ≡ true) }
     ensures table { IfOk result (λ table. parse_document text.now ≡ Some (table_view table)) }
@@ -65,17 +68,38 @@ fn read_table(alloc: Global, table: &Table) -> Result<Config, ConfigFault>
         place: "",
         table: Some(table),
     };
-    let config = Config {
-        limits: read_limits(&top)?,
-        timeouts: read_timeouts(&top)?,
-        clusters: read_clusters(&top)?,
-        routes: read_routes(&top)?,
-        overload: read_overload(&top)?,
-        proxy: read_proxy(&top)?,
-    };
-    top.end(&[LIMITS, TIMEOUTS, CLUSTERS, ROUTES, OVERLOAD, PROXY])?;
-    check_routes(alloc, config.clusters.as_slice(), config.routes.as_slice())?;
+    let config = read_tables(&top)?;
+    check_top(&top, &config)?;
     Ok(config)
+}
+
+// The tables of the document, in the order of their faults.
+fn read_tables(top: &Section) -> Result<Config, ConfigFault>
+    requires { top.now.place.now ≡ [] }
+    ensures faults { Checks (tables_faults (members_of top.now.table)) result }
+    ensures value { IfOk result (λ config. config ≡ config_made (members_of top.now.table)) }
+{
+    Ok(Config {
+        limits: read_limits(top)?,
+        timeouts: read_timeouts(top)?,
+        clusters: read_clusters(top)?,
+        routes: read_routes(top)?,
+        overload: read_overload(top)?,
+        proxy: read_proxy(top)?,
+    })
+}
+
+// What may be wrong beside its tables: the least unknown one, and then the first route whose cluster isn't there.
+fn check_top(top: &Section, config: &Config) -> Result<(), ConfigFault>
+    requires { top.now.place.now ≡ [] }
+    ensures { Checks (unknown_faults [] (members_of top.now.table) top_keys ++ stray_faults config.now.clusters 0 config.now.routes) result }
+{
+    top.end(&[LIMITS, TIMEOUTS, CLUSTERS, ROUTES, OVERLOAD, PROXY])?;
+    check_routes(
+        top.alloc,
+        config.clusters.as_slice(),
+        config.routes.as_slice(),
+    )
 }
 
 // Refuses the first route whose cluster isn't there.

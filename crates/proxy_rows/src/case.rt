@@ -7,7 +7,7 @@ use worker_ports::Wired;
 #[derive(Drop)]
 pub struct Case {
     pub words: Vec<String>,
-    pub config: Octets,
+    pub config: Vec<u8>,
     /// For how many octets the output and the journal have room.
     pub room: usize,
     pub answers: Vec<Wired>,
@@ -23,7 +23,7 @@ impl Case {
     pub fn new(alloc: Global) -> Self {
         Case {
             words: Vec::new(alloc),
-            config: Octets::new(alloc),
+            config: Vec::new(alloc),
             room: 100_000,
             answers: Vec::new(alloc),
             config_failing: Vec::new(alloc),
@@ -37,8 +37,9 @@ impl Case {
     /// Takes up a line.
     pub fn line(&mut self, alloc: Global, line: &str) -> Result<(), NoMemory> {
         if let Some(key) = line.strip_prefix("= ") {
-            self.config.push_all(key.as_bytes())?;
-            return self.config.push_all(b"\n");
+            self.config.extend_from_slice(key.as_bytes())?;
+            self.config.push(b'\n')?;
+            return Ok(());
         }
         if let Some(words) = line.strip_prefix("$ ") {
             return self.words_of(alloc, words);
@@ -76,7 +77,8 @@ impl Case {
     fn lengthen(&mut self, alloc: Global, len: usize) -> Result<(), NoMemory> {
         let more = len.saturating_sub(self.config.len());
         let newlines = vec![in alloc; b'\n'; more]?;
-        self.config.push_all(newlines.as_slice())
+        self.config.extend_from_slice(newlines.as_slice())?;
+        Ok(())
     }
 
     fn answer(&mut self, alloc: Global, line: &str) -> Result<(), NoMemory> {

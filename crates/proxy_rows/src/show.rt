@@ -13,7 +13,7 @@ const ROOM: Room = Room {
 
 /// Serves a case, and prints how it ends.
 pub fn show_case<R: Print + AllocGlobal>(rt: &R, case: Case) -> io::Result<()> {
-    let mut config = MemSource::new(case.config.into_vec(), case.config_failing);
+    let mut config = MemSource::new(case.config, case.config_failing);
     let play = RelayPlay {
         answers: case.answers,
         room: ROOM,

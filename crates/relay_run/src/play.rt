@@ -1,19 +1,14 @@
 // The lines of a relay's session, each of which is dispatched.
-ghost use Rattle.std.specs.List.{AllByRecursion};
-ghost use Rattle.std.specs.Prelude.{◌≡◌, ◌++◌, OnOk, OnErr};
-ghost use Rattle.flow_notes.specs.Note.{IsNote};
-ghost use Rattle.tape_summary.specs.NotesText.{notes_text};
-
 use crate::relay_log::RelayLog;
 use crate::summary::write_relay_summary;
-use flow_notes::{Event, Names, Notes};
+use flow_notes::{Event, Notes};
 use io_ports::{NoMemory, Octets};
 use proxy_config::Config;
 use session_config::names_of;
 use session_lines::{LineRead, WireLines};
 use session_run::{Player, Went};
 use std::alloc::Global;
-use tape_summary::tell;
+use tape_summary::append_notes;
 use tcp_relay::{Relay, RelayFault};
 
 /// A relay's session under way: what its lines say of the next one, the relay, and what the summary tells of the tape so far.
@@ -94,18 +89,4 @@ impl Player for RelayPlay {
     fn summarize(&mut self, text: &mut Octets) -> Result<(), NoMemory> {
         write_relay_summary(self.alloc, &self.log, text)
     }
-}
-
-/// Appends the lines of all notes, or nothing.
-pub fn append_notes(notes: &Notes, names: &Names, text: &mut Octets) -> Result<(), NoMemory>
-    requires { AllByRecursion (IsNote names.now) notes.now }
-    ensures ok { OnOk result (text.new ≡ text.old ++ notes_text names.now notes.now) }
-    ensures err { OnErr result (text.new ≡ text.old) }
-{
-    let whole = text.len();
-    if let Err(error) = tell(notes, names, text) {
-        text.truncate(whole);
-        return Err(error);
-    }
-    Ok(())
 }

@@ -26,7 +26,7 @@ impl RelayLog {
         }
     }
 
-    /// Takes up the notes that a tape goes on with. After running out of memory the log is to be let go.
+    /// Takes up the notes that a tape goes on with. After running out of memory the log is unusable: drop it.
     pub fn note_all(&mut self, notes: &Notes) -> Result<(), NoMemory>
         ensures { OnOk result (RelayLogs self.old notes.now self.new) }
     {

@@ -1,5 +1,4 @@
 // A case: the words of a replay, its configuration and its session, and what fails of its outside.
-ghost use Rattle.std.specs.Prelude.{◌≡◌};
 
 use io_ports::{NoMemory, Octets};
 use std::alloc::Global;

@@ -1,7 +1,7 @@
 // The texts of sessions, and the codes of statuses.
 ghost use Rattle.flow_notes.specs.Event.{IsEvent};
 ghost use Rattle.std.specs.List.{AllByRecursion};
-ghost use Rattle.std.specs.Prelude.{◌≡◌, ◌<◌, ◌≤◌, IfOk, List, ℕ};
+ghost use Rattle.std.specs.Prelude.{◌<◌, IfOk, List, ℕ};
 
 use crate::show::show_lines;
 use flow_notes::{Event, EventList, Names, PlainEvent};

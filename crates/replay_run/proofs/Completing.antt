@@ -15,7 +15,7 @@ use Rattle.replay_run.specs.Allowed.{Completes, IsAllowed, IsUnrefused}
 use Rattle.session_run.specs.Ending.{Cut, IsRefused, Long, MayNotCome, longest_line}
 use Rattle.session_run.specs.Newlines.{has_newline}
 use Rattle.replay_run.specs.Replays.{Replays}
-use Rattle.replay_run.specs.Lawfully.{IsSeen}
+use Rattle.replay_run.specs.SeenTape.{IsSeen}
 use Rattle.session_lines.specs.Seen.{EventOf, Headed, HeaderOf, Item, LimitsOf, MayCome, Playing, Seen, SpellsNothing, Unread, are_limits, event_lines, header_line, is_playing, item_line, limit_numbers, limits_line, seen_text}
 use Rattle.session_lines.specs.declared.order.Format.{Format}
 use Rattle.session_run.specs.declared.status.Status.{Status}

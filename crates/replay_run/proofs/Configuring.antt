@@ -3,7 +3,7 @@ use Rattle.io_ports.specs.Faults.{Rose}
 use Rattle.proxy_config.specs.Reading.{config_of}
 use Rattle.proxy_config.specs.declared.config.Config.{Config}
 use Rattle.relay_run.specs.Replays.{ReplaysRelay}
-use Rattle.replay_run.specs.Configured.{ConfigEnds, ConfigEndsAs, Configured, EndsAtConfig, ReplaysUnder, Unconfigured, WireCompletes, end_status, end_text}
+use Rattle.replay_run.specs.ReplayUnder.{ConfigEnds, ConfigEndsAs, Configured, EndsAtConfig, ReplaysUnder, Unconfigured, WireCompletes, end_status, end_text}
 use Rattle.session_config.specs.Loading.{CausesFault, Loads, StopsAs, longest_config}
 use Rattle.session_config.specs.declared.load.ConfigEnd.{ConfigEnd}
 use Rattle.session_run.specs.Ends.{AppendsFront}

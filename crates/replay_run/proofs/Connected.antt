@@ -1,7 +1,7 @@
 -- A plain session has one connection.
 use Rattle.flow_notes.specs.declared.events.Event.{Event}
 use Rattle.tape_laws.specs.Following.{MayFollowAll}
-use Rattle.replay_run.specs.Lawfully.{IsSeen, IsTape}
+use Rattle.replay_run.specs.SeenTape.{IsSeen, IsTape}
 use Rattle.session_lines.specs.Seen.{Headed, Playing, Seen, Unread, seen_events}
 use Rattle.std.proofs.Common.{refl, subst, sym}
 use Rattle.std.specs.List.{AllByRecursion}

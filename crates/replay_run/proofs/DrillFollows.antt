@@ -2,7 +2,7 @@
 use Rattle.flow_notes.specs.Event.{IsEvent}
 use Rattle.flow_notes.specs.Fields.{FitsEvent}
 use Rattle.flow_notes.specs.declared.events.Event.{Event}
-use Rattle.replay_run.specs.Drill.{amount, draw, drill, ended, fed, fed_in, let_out, opened, stream_at}
+use Rattle.replay_run.specs.DrillEvents.{amount, draw, drill, ended, fed, fed_in, let_out, opened, stream_at}
 use Rattle.replay_run.specs.GoingOn.{MayGoOn}
 use Rattle.tape_laws.specs.Following.{begun, cut, finished}
 use Rattle.std.proofs.Common.{ap, arith, refl, subst, sym, ◌∙◌}

@@ -5,11 +5,11 @@ use Rattle.io_ports.specs.declared.octets.NoMemory.{NoMemory}
 use Rattle.replay_run.proofs.DrillFollows.{drill_follows}
 use Rattle.plain_laws.proofs.Headlines.{headline_of}
 use Rattle.replay_run.proofs.Tallying.{tally_spelled}
-use Rattle.replay_run.specs.Drill.{drill, drill_limits}
-use Rattle.replay_run.specs.Drilling.{DrillIs, Yields}
-use Rattle.replay_run.specs.Drills.{CountsEvent, Drilled, IsDrillSummary, TalliesDrill}
+use Rattle.replay_run.specs.DrillEvents.{drill, drill_limits}
+use Rattle.replay_run.specs.Drill.{DrillIs, Yields}
+use Rattle.replay_run.specs.ReplayDrill.{CountsEvent, Drilled, IsDrillSummary, TalliesDrill}
 use Rattle.replay_run.specs.GoingOn.{MayGoOn}
-use Rattle.replay_run.specs.Tallying.{TallyGoes, TallyIs, tally_text}
+use Rattle.replay_run.specs.Tally.{TallyGoes, TallyIs, tally_text}
 use Rattle.replay_run.specs.declared.drill.Drill.{Drill}
 use Rattle.replay_run.specs.declared.tally.Tally.{Tally}
 use Rattle.std.proofs.Common.{ap, append_assoc, arith, refl, subst, sym, ◌∙◌}

@@ -1,13 +1,13 @@
 -- The events of a drill, one after another.
 use Rattle.flow_notes.specs.declared.events.Event.{Event}
-use Rattle.replay_run.specs.Drill.{drill, ended, opened, stream_at}
-use Rattle.replay_run.specs.Drilling.{DrillIs, GoesTo, IsPlaced, Yields, drains_from, ends_from, opens_from, rest_of, rounds_from}
+use Rattle.replay_run.specs.DrillEvents.{amount, draw, drill, ended, fed, fed_in, next_number, number_after, opened, stream_at}
+use Rattle.replay_run.specs.Drill.{DrillIs, GoesTo, IsPlaced, Yields, drains_from, ends_from, opens_from, rest_of, round_from, rounds_from}
 use Rattle.replay_run.specs.declared.drill.Drill.{Drill}
 use Rattle.replay_run.specs.declared.drill.Upcoming.{Upcoming}
 use Rattle.std.proofs.Common.{ap, append_assoc, arith, refl, subst, sym, ◌∙◌}
 use Rattle.std.proofs.lemmas.List.{append-nil}
 use Rattle.std.specs.List.{range_with_len}
-use Rattle.std.specs.Prelude.{List, None, Option, Some, [], length, map, suc, ℕ, ◌++◌, ◌+◌, ◌-◌, ◌<◌, ◌∷◌, ◌≡◌}
+use Rattle.std.specs.Prelude.{List, None, Option, Some, [], flat_map, length, map, replicate, suc, ℕ, ◌%◌, ◌*◌, ◌++◌, ◌+◌, ◌-◌, ◌/◌, ◌<◌, ◌∷◌, ◌≡◌}
 use Rattle.flow_notes.specs.declared.events.Event.TheVariants as event
 use Rattle.flow_notes.specs.declared.events.PlainEvent.TheVariants as plain
 use Rattle.replay_run.specs.declared.drill.Upcoming.TheVariants as next
@@ -23,7 +23,8 @@ opens_more n i lt = ap (map opened) (range_first i n lt)
 ends_more : (n i : ℕ) → i < n → ends_from n i ≡ ended i ∷ ends_from n (i + 1)
 ends_more n i lt = ap (map ended) (range_first i n lt)
 
--- ---- what comes next
+round_more : (n r i : ℕ) → i < n → round_from n r i ≡ fed_in n r i ++ round_from n r (i + 1)
+round_more n r i lt = ap (flat_map (fed_in n r)) (range_first i n lt)
 
 -- ---- a drill under way
 
@@ -52,6 +53,25 @@ yields_open d i s u e es g = record {
         later,
         p.1 ∙ ap (λ (v : List Event). v ++ more) (opens_more n i p.0.0) ∙ ap (λ v. event.Plain (plain.Begin v) ∷ later) (sym es),
         gone_on d d.x u later all k (subst G (sym p.0.1) g),
+      );
+}
+
+pub yields_body : (d : Drill) (r i s x : ℕ) (octets : List ℕ) → d.next ≡ next.Body r i → s ≡ stream_at i → x ≡ next_number d.x → octets ≡ replicate (amount (x / 65536)) (s % 256)
+    → Yields d (Some (event.Plain (plain.Body s octets))) (with_next d x (next.Room r i))
+yields_body d r i s x octets e es ex eo = record {
+  goes = λ all k.
+      let n = d.streams in
+      let at : ℕ = 2 * (r * n + i) in
+      let p = placed_as d (next.Body r i) all e k in
+      let more : List Event = rounds_from n (r + 1) ++ (ends_from n 0 ++ drains_from n 0) in
+      let later : List Event = rest_of n (next.Room r i) in
+      let one : suc at ≡ at + 1 = omega arith in
+      let drawn : x ≡ number_after n (at + 1) = ex ∙ ap next_number p.0.2 ∙ ap (number_after n) one in
+      let octets_are : octets ≡ replicate (amount (draw n at)) (stream_at i % 256) = eo ∙ ap (λ (v : ℕ). replicate (amount (v / 65536)) (s % 256)) drawn ∙ ap (λ (v : ℕ). replicate (amount (draw n at)) (v % 256)) es in
+      let given : event.Plain (plain.Body s octets) ≡ fed i (draw n at) = ap (λ (v : ℕ). event.Plain (plain.Body v octets)) es ∙ ap (λ (v : List ℕ). event.Plain (plain.Body (stream_at i) v)) octets_are in (
+        later,
+        p.1 ∙ ap (λ (v : List Event). v ++ more) (round_more n r i p.0.0) ∙ ap (λ (v : Event). v ∷ later) (sym given),
+        gone_on d x (next.Room r i) later all k (record { rest = refl; placed = (p.0.0, p.0.1, drawn) }),
       );
 }
 

@@ -9,7 +9,7 @@ use Rattle.flow_notes.specs.Split.{words_in}
 use Rattle.flow_notes.specs.declared.events.Event.{Event}
 use Rattle.replay_run.proofs.Completing.{compare, header_whole, limits_whole, next_event, nothing_more, opened, same_events, same_header, same_line}
 use Rattle.session_lines.proofs.Readings.{in_ranges, numbers_fit}
-use Rattle.replay_run.specs.Lawfully.{IsSeen}
+use Rattle.replay_run.specs.SeenTape.{IsSeen}
 use Rattle.session_lines.specs.Seen.{Headed, Playing, Seen, Unread, are_limits, event_lines, header_line, is_quantum, limit_numbers, limits_line, seen_text}
 use Rattle.session_lines.specs.declared.order.Format.{Format}
 use Rattle.std.proofs.Common.{ap, arith, inl, inr, refl, subst, sym, ◌∙◌}

@@ -4,12 +4,12 @@ use Rattle.flow_notes.specs.Line.{newline}
 use Rattle.flow_notes.specs.declared.events.Event.{Event}
 use Rattle.flow_notes.specs.declared.notes.Note.{Note}
 use Rattle.io_ports.specs.declared.octets.NoMemory.{NoMemory}
-use Rattle.replay_run.specs.Lawfully.{HasLimits, IsSeen}
+use Rattle.replay_run.specs.SeenTape.{HasLimits, IsSeen}
 use Rattle.tape_summary.specs.Logging.{TapeLogIs, TapeLogs}
 use Rattle.tape_summary.specs.NotesText.{notes_text}
 use Rattle.tape_summary.specs.Summarizes.{Summarizes}
 use Rattle.session_lines.specs.Orders.{Accepts, OrderIs, ReadsLine, read_of}
-use Rattle.replay_run.specs.Played.{DispatchedAs, Played, PlaysEvent, RefusesLine, SumsPlay, plain_kind}
+use Rattle.replay_run.specs.Played.{DispatchedAs, Played, PlaysEvent, plain_kind}
 use Rattle.session_run.specs.Players.{AddsSummary, IsPlaying, PlayedAs, PlaysLine}
 use Rattle.session_run.specs.Runs.{Begins}
 use Rattle.session_lines.specs.Seen.{EventOf, Headed, HeaderOf, Item, LimitsOf, Playing, Seen, Spells, Unread, are_limits, event_lines, header_line, is_quantum, limits_line, seen_events, seen_lines, seen_more, seen_text}

@@ -2,22 +2,22 @@
 use Rattle.plain_laws.proofs.Headlines.{headline_of}
 use Rattle.replay_run.proofs.Connected.{tape_connection}
 use Rattle.replay_run.proofs.Empty.{empty_whole}
-use Rattle.replay_run.specs.Drill.{drill_limits}
-use Rattle.replay_run.specs.Lawfully.{IsTape}
-use Rattle.replay_run.specs.Played.{Played, RefusesLine, SumsPlay, can_end, plain_kind}
+use Rattle.replay_run.specs.DrillEvents.{drill_limits}
+use Rattle.replay_run.specs.SeenTape.{IsTape}
+use Rattle.replay_run.specs.Played.{Played, RefusesLine, can_end, plain_kind}
 use Rattle.replay_run.specs.Replays.{Replays, Tells, TellsAs, TellsFront, last_text}
 use Rattle.replay_run.specs.declared.play.Play.{Play}
 use Rattle.session_lines.proofs.Readings.{seen_at}
 use Rattle.session_lines.specs.Orders.{OrderIs}
-use Rattle.session_lines.specs.Seen.{Seen, SpellsNothing, Unread, is_playing, seen_lines, seen_text}
-use Rattle.session_run.specs.Ending.{Cut, EndsAs, HasLine, IsRefused, Long, MayNotCome}
+use Rattle.session_lines.specs.Seen.{Seen, SpellsNothing, Unread, is_playing, seen_text}
+use Rattle.session_run.specs.Ending.{Cut, EndsAs, IsRefused, Long, MayNotCome}
 use Rattle.session_run.specs.Tells.{IsLast, Replayed, numbered_line}
 use Rattle.session_run.specs.Tells as run
 use Rattle.session_run.specs.declared.status.Status.{Status}
 use Rattle.std.proofs.Common.{ap, refl, subst, sym, ◌∙◌}
 use Rattle.std.proofs.lemmas.List.{append-nil}
 use Rattle.std.specs.Io.KnownBytes.{Appends, Consumes}
-use Rattle.std.specs.Prelude.{Bool, IsTrue, List, None, Option, Some, [], codes, false, suc, true, ℕ, ◌++◌, ◌∷◌, ◌≡◌}
+use Rattle.std.specs.Prelude.{Bool, List, None, Option, Some, [], codes, suc, ℕ, ◌++◌, ◌∷◌, ◌≡◌}
 use Rattle.tape_laws.specs.History.{History, NoMark}
 use Rattle.tape_laws.specs.Text.{tape_text}
 use Rattle.tape_laws.specs.declared.limits.PlainLimits.{PlainLimits}

@@ -2,7 +2,7 @@
 use Rattle.flow_notes.specs.Event.{IsEvent}
 use Rattle.flow_notes.specs.declared.events.Event.{Event}
 use Rattle.replay_run.proofs.DrillFollows.{drill_follows}
-use Rattle.replay_run.specs.Drill.{drill}
+use Rattle.replay_run.specs.DrillEvents.{drill}
 use Rattle.replay_run.specs.GoingOn.{MayGoOn}
 use Rattle.std.proofs.Common.{subst, sym}
 use Rattle.std.specs.List.{AllByRecursion}

@@ -7,10 +7,8 @@ use Rattle.flow_notes.specs.declared.passages.Passage.{Passage}
 use Rattle.io_ports.specs.declared.octets.NoMemory.{NoMemory}
 use Rattle.tape_summary.proofs.Levels.{lawful_back, unwritten_goes}
 use Rattle.tape_summary.proofs.Pausing.{onto_more}
-use Rattle.tape_summary.specs.Levels.{WriteGoes}
-use Rattle.replay_run.specs.Tally.{octets_framed, octets_in, pauses_in, resets_in, short_summary, streams_in}
-use Rattle.replay_run.specs.Tallying.{Counted, TallyGoes, TallyIs, tally_text}
-use Rattle.tape_summary.specs.declared.level.Level.{Level}
+use Rattle.replay_run.specs.ShortSummary.{octets_framed, octets_in, pauses_in, resets_in, short_summary, streams_in}
+use Rattle.replay_run.specs.Tally.{Counted, TallyGoes, TallyIs, tally_text}
 use Rattle.replay_run.specs.declared.tally.Tally.{Tally}
 use Rattle.std.proofs.Common.{Bor, ap, arith, refl, subst, sym, ◌∙◌}
 use Rattle.std.proofs.lemmas.List.{append-nil}
@@ -46,9 +44,6 @@ no_more n = omega arith
 
 counted_as : (old new : Tally) (m n : Note) → m ≡ n → Counted old n new → Counted old m new
 counted_as old new m n e k = let P : Note → Type 0 = λ v. Counted old v new in subst P (sym e) k
-
-written_as : (w v : Level) (m n : Note) → m ≡ n → WriteGoes w m v → WriteGoes w n v
-written_as w v m n e g = let P : Note → Type 0 = λ k. WriteGoes w k v in subst P e g
 
 -- a pause leaves the write buffer as it was
 pub pause_counted : (old : Tally) (m : Note) (f : FlowId) (b : BufferId) (v : ℕ) → m ≡ note.Pause f b → v ≡ old.pauses + 1 → Counted old m (record old { pauses = v })

@@ -5,7 +5,7 @@ use Rattle.flow_notes.specs.declared.events.Event.{Event}
 use Rattle.io_ports.specs.declared.octets.NoMemory.{NoMemory}
 use Rattle.tape_laws.specs.Following.{MayFollowAll}
 use Rattle.replay_run.specs.Formats.{InBothFormats, IsQuantumOfOne}
-use Rattle.replay_run.specs.Lawfully.{IsSeen}
+use Rattle.replay_run.specs.SeenTape.{IsSeen}
 use Rattle.session_lines.specs.Seen.{Playing, event_lines, header_line, limits_line}
 use Rattle.replay_run.specs.SessionText.{event_text_lines, limits_lines}
 use Rattle.std.proofs.Common.{ap, append_assoc, arith, refl, subst, sym, ◌∙◌}

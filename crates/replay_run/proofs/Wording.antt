@@ -1,8 +1,8 @@
 -- The words of a replay.
 use Rattle.replay_run.specs.Forms.{IsDrillWord, IsNoDrill, SpellsForm}
-use Rattle.replay_run.specs.Drills.{DrillsAs}
+use Rattle.replay_run.specs.ReplayDrill.{DrillsAs}
 use Rattle.replay_run.specs.Replays.{Replays}
-use Rattle.replay_run.specs.Told.{ReplaysForm}
+use Rattle.replay_run.specs.ReplayForm.{ReplaysForm}
 use Rattle.replay_run.specs.declared.form.Form.{Form}
 use Rattle.session_run.specs.declared.status.Status.{Status}
 use Rattle.std.proofs.Common.{Decides, ap, arith, inl, inr, refl, subst, sym, ◌∙◌}

@@ -1,54 +1,61 @@
--- The session of a drill: n streams are opened, fed in 32 rounds, ended, and let out.
+-- What the generator of a drill stands for: the events that are still to come.
 use Rattle.flow_notes.specs.declared.events.Event.{Event}
+use Rattle.replay_run.specs.DrillEvents.{amount, draw, ended, fed_in, let_out, number_after, opened}
+use Rattle.replay_run.specs.declared.drill.Drill.{Drill}
+use Rattle.replay_run.specs.declared.drill.Upcoming.{Upcoming}
 use Rattle.std.specs.List.{range_with_len}
-use Rattle.std.specs.Prelude.{List, [], flat_map, map, replicate, suc, zero, ℕ, ◌%◌, ◌*◌, ◌++◌, ◌+◌, ◌/◌, ◌∷◌}
-use Rattle.tape_laws.specs.declared.limits.PlainLimits.{PlainLimits}
-use Rattle.flow_notes.specs.declared.events.Event.TheVariants as event
-use Rattle.flow_notes.specs.declared.events.PlainEvent.TheVariants as plain
+use Rattle.std.specs.Prelude.{List, None, Option, Some, [], flat_map, map, replicate, ℕ, ◌*◌, ◌++◌, ◌+◌, ◌-◌, ◌<◌, ◌∷◌, ◌≡◌, ◌≤◌}
+use Rattle.replay_run.specs.declared.drill.Upcoming.TheVariants as next
 
--- in octets
-abbrev pub drill_limits : PlainLimits
-drill_limits = record { recv = 65535; send = 4096; write = 16384; quantum = 16384 }
+-- from the i-th stream on, and from round r on
+abbrev pub opens_from : ℕ → ℕ → List Event
+opens_from n i = map opened (range_with_len i (n - i))
 
--- the numbers of a linear congruential generator, which starts at n
-abbrev pub next_number : ℕ → ℕ
-next_number x = (1103515245 * x + 12345) % 2147483648
+abbrev pub round_from : ℕ → ℕ → ℕ → List Event
+round_from n r i = flat_map (fed_in n r) (range_with_len i (n - i))
 
-abbrev pub number_after : ℕ → ℕ → ℕ
-number_after n zero = n
-number_after n (suc k) = next_number (number_after n k)
+abbrev pub rounds_from : ℕ → ℕ → List Event
+rounds_from n r = flat_map (λ q. round_from n q 0) (range_with_len r (32 - r))
 
--- the k-th draw, counted from 0
-abbrev pub draw : ℕ → ℕ → ℕ
-draw n k = number_after n (k + 1) / 65536
+abbrev pub ends_from : ℕ → ℕ → List Event
+ends_from n i = map ended (range_with_len i (n - i))
 
--- what a draw makes of itself: 1 to 1,024
-abbrev pub amount : ℕ → ℕ
-amount d = 1 + d % 1024
+-- from the k-th of the last rooms on
+abbrev pub drains_from : ℕ → ℕ → List Event
+drains_from n k = replicate (3 * n - k) (let_out 1000000)
 
--- the i-th stream, counted from 0
-abbrev pub stream_at : ℕ → ℕ
-stream_at i = 2 * i + 1
+abbrev pub rest_of : ℕ → Upcoming → List Event
+rest_of n (next.Open i) = opens_from n i ++ (rounds_from n 0 ++ (ends_from n 0 ++ drains_from n 0))
+rest_of n (next.Body r i) = round_from n r i ++ (rounds_from n (r + 1) ++ (ends_from n 0 ++ drains_from n 0))
+rest_of n (next.Room r i) =
+    let_out (amount (draw n (2 * (r * n + i) + 1))) ∷ (round_from n r (i + 1) ++ (rounds_from n (r + 1) ++ (ends_from n 0 ++ drains_from n 0)))
+rest_of n (next.End i) = ends_from n i ++ drains_from n 0
+rest_of n (next.Drain k) = drains_from n k
 
-abbrev pub opened : ℕ → Event
-opened i = event.Plain (plain.Begin (stream_at i))
+-- the next event is one of those that there are, and the generator's number is that of the draws so far
+abbrev pub IsPlaced : ℕ → ℕ → Upcoming → Type 0
+IsPlaced n x (next.Open i) = (i < n) × (x ≡ n)
+IsPlaced n x (next.Body r i) = (i < n) × (r < 32) × (x ≡ number_after n (2 * (r * n + i)))
+IsPlaced n x (next.Room r i) = (i < n) × (r < 32) × (x ≡ number_after n (2 * (r * n + i) + 1))
+IsPlaced n x (next.End i) = i < n
+IsPlaced n x (next.Drain k) = k ≤ 3 * n
 
-abbrev pub fed : ℕ → ℕ → Event
-fed i d = event.Plain (plain.Body (stream_at i) (replicate (amount d) (stream_at i % 256)))
+-- what comes next, and how these events begin
+pub record GoesTo (n x : ℕ) (es : List Event) (next : Upcoming) : Type 0 where
+  pub rest : es ≡ rest_of n next
+  pub placed : IsPlaced n x next
 
-abbrev pub let_out : ℕ → Event
-let_out n = event.Plain (plain.Room n)
+-- these events are still to come
+pub record DrillIs (d : Drill) (es : List Event) : Type 0 where
+  pub some : 0 < d.streams
+  pub few : d.streams ≤ 1000
+  pub placed : IsPlaced d.streams d.x d.next
+  pub is : es ≡ rest_of d.streams d.next
 
-abbrev pub ended : ℕ → Event
-ended i = event.Plain (plain.Finish (stream_at i))
+-- the next event was given, or there was none
+abbrev pub YieldsAt : Drill → Option Event → List Event → Type 0
+YieldsAt new (Some e) es = (later : List Event) × (es ≡ e ∷ later) × DrillIs new later
+YieldsAt new None es = (es ≡ []) × DrillIs new es
 
--- round r feeds the i-th stream by the next two draws: octets come for it, and others leave
-abbrev pub fed_in : ℕ → ℕ → ℕ → List Event
-fed_in n r i = let k = 2 * (r * n + i) in fed i (draw n k) ∷ let_out (amount (draw n (k + 1))) ∷ []
-
-abbrev pub drill : ℕ → List Event
-drill n =
-    map opened (range_with_len 0 n)
-    ++ (flat_map (λ r. flat_map (fed_in n r) (range_with_len 0 n)) (range_with_len 0 32)
-    ++ (map ended (range_with_len 0 n)
-    ++ replicate (3 * n) (let_out 1000000)))
+pub record Yields (old : Drill) (given : Option Event) (new : Drill) : Type 0 where
+  pub goes : (es : List Event) → DrillIs old es → YieldsAt new given es

@@ -1,7 +1,7 @@
 -- The two formats of a plain session's text.
 use Rattle.flow_notes.specs.Line.{newline}
 use Rattle.flow_notes.specs.declared.events.Event.{Event}
-use Rattle.replay_run.specs.Lawfully.{IsSeen}
+use Rattle.replay_run.specs.SeenTape.{IsSeen}
 use Rattle.session_lines.specs.Seen.{Playing, header_line, seen_text}
 use Rattle.replay_run.specs.SessionText.{session_spelling}
 use Rattle.std.specs.Fmt.{decimal}

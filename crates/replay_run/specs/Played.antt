@@ -2,7 +2,7 @@
 use Rattle.flow_notes.specs.declared.events.Event.{Event}
 use Rattle.io_ports.specs.declared.octets.NoMemory.{NoMemory}
 use Rattle.plain_core.specs.Stands.{Rests}
-use Rattle.replay_run.specs.Lawfully.{IsTape}
+use Rattle.replay_run.specs.SeenTape.{IsTape}
 use Rattle.replay_run.specs.declared.play.Play.{Play}
 use Rattle.session_lines.specs.Orders.{OrderIs, has_played}
 use Rattle.session_lines.specs.Seen.{Seen, SpellsNothing, seen_lines, seen_text}

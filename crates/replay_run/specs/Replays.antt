@@ -2,7 +2,7 @@
 use Rattle.flow_notes.specs.Line.{newline}
 use Rattle.session_run.specs.Ending.{EndsAs}
 use Rattle.session_run.specs.Tells.{numbered_line}
-use Rattle.replay_run.specs.Lawfully.{IsTape}
+use Rattle.replay_run.specs.SeenTape.{IsTape}
 use Rattle.session_lines.specs.Seen.{Seen, SpellsNothing, is_playing, seen_lines, seen_text}
 use Rattle.session_run.specs.declared.status.Status.{Status}
 use Rattle.std.specs.Io.KnownBytes.{Appends, Consumes}

@@ -1,7 +1,7 @@
 // How a replay ends where there is no configuration.
 ghost use Rattle.std.specs.Prelude.{◌≡◌, ◌++◌, ◌≤◌, ◌⊎◌, OnOk};
 ghost use Rattle.io_ports.specs.Faults.{Rose};
-ghost use Rattle.replay_run.specs.Configured.{EndsAtConfig, end_status, end_text};
+ghost use Rattle.replay_run.specs.ReplayUnder.{EndsAtConfig, end_status, end_text};
 
 use crate::reason::{Outcome, Reason};
 use io_ports::{Failed, NoMemory, Octets, Sink};

@@ -2,8 +2,8 @@
 ghost use Rattle.std.specs.List.{AllByRecursion};
 ghost use Rattle.std.specs.Prelude.{◌≡◌, ◌<◌, ◌≤◌, ◌+◌, ◌*◌, ◌/◌, ◌%◌, ◌++◌, replicate, IfOk, List, ℕ};
 ghost use Rattle.flow_notes.specs.Event.{IsEvent};
-ghost use Rattle.replay_run.specs.Drill.{amount as amount_of, drill as drill_of, next_number as number_behind, number_after, stream_at as stream_of};
-ghost use Rattle.replay_run.specs.Drilling.{GoesTo, drains_from, ends_from, opens_from, round_from, rounds_from};
+ghost use Rattle.replay_run.specs.DrillEvents.{amount as amount_of, drill as drill_of, next_number as number_behind, number_after, stream_at as stream_of};
+ghost use Rattle.replay_run.specs.Drill.{GoesTo, drains_from, ends_from, opens_from, round_from, rounds_from};
 
 use flow_notes::{Event, EventList, PlainEvent};
 use io_ports::{NoMemory, Octets};
@@ -37,8 +37,8 @@ pub struct Drill {
 impl Drill {
     ghost use Rattle.std.specs.Prelude.{◌≡◌, ◌<◌, ◌≤◌, List, IfOk, Some};
     ghost use Rattle.flow_notes.specs.declared.events.Event.{Event as EventValue};
-    ghost use Rattle.replay_run.specs.Drill.{drill};
-    ghost use Rattle.replay_run.specs.Drilling.{DrillIs, Yields};
+    ghost use Rattle.replay_run.specs.DrillEvents.{drill};
+    ghost use Rattle.replay_run.specs.Drill.{DrillIs, Yields};
 
     /// Before the first event.
     pub fn new(streams: u32) -> Self
@@ -53,7 +53,7 @@ impl Drill {
         }
     }
 
-    /// The next event. After running out of memory the drill is as it was.
+    /// The next event. Only a body takes memory.
     pub fn next(&mut self, alloc: Global) -> Result<Option<Event>, NoMemory>
         requires { (es : List EventValue) × DrillIs self.old es }
         ensures { IfOk result (λ given. Yields self.old given self.new) }
@@ -185,7 +185,7 @@ fn next_number(x: u32) -> u32
     ((1_103_515_245 * u64::from(x) + 12_345) % 2_147_483_648) as u32
 }
 
-// What a number's draw makes of itself.
+// The length that is drawn: 1 and bits 16 to 25 of x.
 fn amount(x: u32) -> u32
     ensures { result ≡ amount_of (x / 65536) }
 {

@@ -1,13 +1,12 @@
 // The whole of a drill.
 ghost use Rattle.std.specs.Prelude.{◌≡◌, ◌<◌, ◌≤◌, [], IfOk, OnOk};
 ghost use Rattle.io_ports.specs.Faults.{Rose};
-ghost use Rattle.replay_run.specs.Drills.{CountsEvent, DrillsAs, IsDrillSummary, TalliesDrill};
+ghost use Rattle.replay_run.specs.ReplayDrill.{CountsEvent, DrillsAs, IsDrillSummary, TalliesDrill};
 ghost use Rattle.plain_core.specs.Stands.{CanTake, Rests};
-ghost use Rattle.replay_run.specs.Drill.{drill_limits};
+ghost use Rattle.replay_run.specs.DrillEvents.{drill_limits};
 
 use crate::drill::Drill;
-use crate::short::put_short;
-use crate::tally::Tally;
+use crate::tally::{Tally, put_short};
 use flow_notes::{Event, Notes};
 use io_ports::{Failed, NoMemory, Octets, Sink};
 use plain_core::PlainCore;

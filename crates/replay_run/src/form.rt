@@ -1,5 +1,5 @@
 // What the words of a replay ask for.
-ghost use Rattle.std.specs.Prelude.{◌≡◌, ◌∷◌, [], codes, map, IfNone, IfSome};
+ghost use Rattle.std.specs.Prelude.{◌∷◌, [], map, IfNone, IfSome};
 ghost use Rattle.std.specs.String.{string_bytes};
 ghost use Rattle.replay_run.specs.Forms.{HasNoForm, IsDrillWord, IsNoDrill, SpellsForm};
 

@@ -3,7 +3,7 @@ ghost use Rattle.std.specs.Prelude.{◌≡◌, List};
 ghost use Rattle.flow_notes.specs.declared.events.Event.{Event};
 ghost use Rattle.tape_laws.specs.declared.limits.PlainLimits.{PlainLimits};
 ghost use Rattle.replay_run.specs.Formats.{InBothFormats, IsQuantumOfOne};
-ghost use Rattle.replay_run.specs.Lawfully.{IsSeen};
+ghost use Rattle.replay_run.specs.SeenTape.{IsSeen};
 ghost use Rattle.session_lines.specs.Seen.{Seen, seen_text};
 
 /// A text of format 1, and the same text in format 2 with the quantum 16,384 behind its limits, spell

@@ -69,7 +69,7 @@ impl Reason {
 }
 
 /// Appends why a replay ended, in one line without its newline; nothing where it was replayed to its end, or the words have no
-/// form. Running out of memory may leave some of it.
+/// form. Running out of memory may leave some of it. Proved is that what stood there stays in front.
 pub fn put_reason(reason: &Reason, into: &mut Octets) -> Result<(), NoMemory>
     ensures ok { OnOk result (Extends into.old into.new) }
     ensures err { OnErr result (Extends into.old into.new) }

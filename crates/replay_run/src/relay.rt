@@ -2,7 +2,7 @@
 ghost use Rattle.std.specs.Prelude.{◌≡◌, ◌⊎◌};
 ghost use Rattle.io_ports.specs.Faults.{Rose};
 ghost use Rattle.relay_run.specs.Replays.{ReplaysRelay};
-ghost use Rattle.replay_run.specs.Configured.{ReplaysUnder};
+ghost use Rattle.replay_run.specs.ReplayUnder.{ReplaysUnder};
 
 use crate::config_end::end_at_config;
 use crate::reason::{Outcome, Reason};

@@ -5,9 +5,9 @@ ghost use Rattle.io_ports.specs.Faults.{Rose};
 ghost use Rattle.replay_run.specs.Allowed.{Completes};
 ghost use Rattle.replay_run.specs.Forms.{HasNoForm, ReadsConfig, SpellsForm};
 ghost use Rattle.relay_run.specs.Replays.{ReplaysRelay};
-ghost use Rattle.replay_run.specs.Configured.{ReplaysUnder, WireCompletes};
+ghost use Rattle.replay_run.specs.ReplayUnder.{ReplaysUnder, WireCompletes};
 ghost use Rattle.replay_run.specs.Replays.{Replays};
-ghost use Rattle.replay_run.specs.Told.{ReplaysForm};
+ghost use Rattle.replay_run.specs.ReplayForm.{ReplaysForm};
 ghost use Rattle.wire_run.specs.Tapes.{RunsWire};
 
 use crate::drill_run::replay_drill;
@@ -46,7 +46,7 @@ pub fn replay<C: Source, S: Source, K: Sink>(
     replay_with_reason(alloc, words, config, session, out).status
 }
 
-/// The same, and why it ended so.
+/// The same, and why it ended so. That the reason is the right one is in no clause.
 pub fn replay_with_reason<C: Source, S: Source, K: Sink>(
     alloc: Global,
     words: &[String],

@@ -1,10 +1,12 @@
-// What the short summary of a drill tells.
-ghost use Rattle.std.specs.Prelude.{◌≡◌, ◌+◌, IfOk};
-ghost use Rattle.replay_run.specs.Tally.{resets_by as resets_of};
+// What the short summary of a drill tells, and its text.
+ghost use Rattle.std.specs.Prelude.{◌≡◌, ◌+◌, ◌++◌, decimal, IfOk, OnOk};
+ghost use Rattle.flow_notes.specs.Line.{newline};
+ghost use Rattle.replay_run.specs.ShortSummary.{resets_by as resets_of};
+ghost use Rattle.replay_run.specs.Tally.{tally_text};
 
 use flow_notes::{Cause, Note, Notes, Passage};
-use io_ports::NoMemory;
-use tape_summary::{Level, write_after};
+use io_ports::{NoMemory, Octets};
+use tape_summary::{Level, put_behind, write_after};
 
 /// What the short summary tells of the tape of a plain session, kept note by note.
 #[derive(Clone, Copy, Debug, PartialEq, Eq)]
@@ -22,12 +24,12 @@ pub struct Tally {
 }
 
 impl Tally {
-    ghost use Rattle.std.specs.Prelude.{◌≡◌, ◌∷◌, [], OnOk};
+    ghost use Rattle.std.specs.Prelude.{◌≡◌, [], OnOk};
     ghost use Rattle.flow_gate.specs.declared.ids.BufferId.{BufferId};
     ghost use Rattle.flow_gate.specs.declared.ids.FlowId.{FlowId};
     ghost use Rattle.tape_laws.specs.declared.limits.PlainLimits.{PlainLimits};
     ghost use Rattle.flow_notes.specs.Passages.{notes_of_passage};
-    ghost use Rattle.replay_run.specs.Tallying.{Counted, TallyGoes, TallyIs};
+    ghost use Rattle.replay_run.specs.Tally.{Counted, TallyGoes, TallyIs};
 
     /// The tally of an empty tape.
     pub fn new() -> Self
@@ -43,8 +45,8 @@ impl Tally {
         }
     }
 
-    /// Takes up the notes that a tape goes on with. A count past the end of its type counts as want of
-    /// memory, after which the tally is to be let go.
+    /// Takes up the notes that a tape goes on with. A count past the end of its type is answered as out of
+    /// memory, after which the tally is unusable.
     pub fn note_all(&mut self, notes: &Notes) -> Result<(), NoMemory>
         ensures { OnOk result (TallyGoes self.old notes.now self.new) }
     {
@@ -125,4 +127,23 @@ fn add(a: u64, b: u64) -> Result<u64, NoMemory>
         Some(sum) => Ok(sum),
         None => Err(NoMemory),
     }
+}
+
+/// Appends the six lines of a tally. Running out of memory may leave some of them.
+pub fn put_short(into: &mut Octets, tally: Tally) -> Result<(), NoMemory>
+    ensures { OnOk result (into.new ≡ into.old ++ tally_text tally) }
+{
+    put_count(into, b"streams ", tally.streams)?;
+    put_count(into, b"received ", tally.received)?;
+    put_count(into, b"sent ", tally.sent)?;
+    put_count(into, b"peak ", tally.write.most)?;
+    put_count(into, b"pauses ", tally.pauses)?;
+    put_count(into, b"resets ", tally.resets)
+}
+
+fn put_count(into: &mut Octets, word: &[u8], n: u64) -> Result<(), NoMemory>
+    ensures { OnOk result (into.new ≡ into.old ++ (word.now ++ (decimal n ++ newline))) }
+{
+    put_behind(into, word, n)?;
+    into.push_all(b"\n")
 }

@@ -1,7 +1,7 @@
 // A wire session under the configuration that is read first.
 ghost use Rattle.std.specs.Prelude.{◌≡◌, ◌⊎◌};
 ghost use Rattle.io_ports.specs.Faults.{Rose};
-ghost use Rattle.replay_run.specs.Configured.{ReplaysUnder, WireCompletes};
+ghost use Rattle.replay_run.specs.ReplayUnder.{ReplaysUnder, WireCompletes};
 ghost use Rattle.wire_run.specs.Tapes.{RunsWire};
 
 use crate::config_end::end_at_config;

@@ -1,5 +1,5 @@
 //! The fronts of the lists.
-ghost use Rattle.std.specs.Prelude.{◌≡◌, ℕ, ◌+◌, ◌^◌, ◌<◌, ◌≤◌, ⊤, length, MatchOption};
+ghost use Rattle.std.specs.Prelude.{◌≡◌, ◌+◌, ◌^◌, ◌<◌, ◌≤◌, ⊤, length, MatchOption};
 ghost use Rattle.link_lists.specs.Lists.{front_of};
 ghost use Rattle.scaled_timer.specs.Fronts.{due_front};
 

@@ -1,5 +1,5 @@
 //! A queue of fronts, by the order in which they fire.
-ghost use Rattle.std.specs.Prelude.{◌≡◌, ◌<◌, ◌↔◌, ⊤, true, false, [], ◌∷◌, MatchOption, OnOk, OnErr, IsOk};
+ghost use Rattle.std.specs.Prelude.{◌≡◌, ◌<◌, ◌↔◌, ⊤, true, [], ◌∷◌, MatchOption, OnOk, OnErr, IsOk};
 ghost use Rattle.std.specs.List.Sorted.{IsPermutation};
 ghost use Rattle.scaled_timer.specs.Queue.{TakesFirst};
 

@@ -1,5 +1,5 @@
 //! The armed timers, and the turns that fire them.
-ghost use Rattle.std.specs.Prelude.{◌≡◌, ◌⊎◌, vec_len, ℕ, ◌+◌, ◌^◌, ◌<◌, ◌≤◌, List, [], ◌∷◌, ◌++◌, length, map, false, true, ⊤, IfOk, OnErr, MatchOption, Some, None};
+ghost use Rattle.std.specs.Prelude.{◌≡◌, ◌⊎◌, vec_len, ◌+◌, ◌^◌, ◌<◌, ◌≤◌, [], ◌∷◌, ◌++◌, length, map, false, true, IfOk, OnErr};
 ghost use Rattle.std.specs.Vec.{vec_capacity};
 ghost use Rattle.link_lists.specs.Lists.{contains_id, without_id};
 
@@ -61,7 +61,7 @@ impl Model for Timers {
 }
 
 impl Timers {
-    ghost use Rattle.scaled_timer.specs.Due.{Armed, due_timers, waiting_timers};
+    ghost use Rattle.scaled_timer.specs.Due.{due_timers, waiting_timers};
     ghost use Rattle.scaled_timer.specs.Timing.{Timing, has_timer, without_timer, IsHeld, firing, names_of};
 
     /// No armed timer, under the state 0.

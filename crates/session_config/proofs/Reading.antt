@@ -3,18 +3,9 @@ use Rattle.session_config.specs.Loading.{ReadsPiece, ReadsWhole, longest_config}
 use Rattle.session_config.specs.declared.load.ConfigEnd.{ConfigEnd}
 use Rattle.std.proofs.Common.{ap, append_assoc, arith, refl, subst, sym, ◌∙◌}
 use Rattle.std.proofs.lemmas.List.{append-nil}
-use Rattle.std.specs.Io.KnownBytes.{Consumes, Keeps}
+use Rattle.std.specs.Io.KnownBytes.{Consumes}
 use Rattle.std.specs.Prelude.{Err, List, None, Ok, Option, Result, Some, [], length, ℕ, ◌++◌, ◌<◌, ◌∷◌, ◌≡◌, ◌≤◌}
 use Rattle.session_config.specs.declared.load.ConfigEnd.TheVariants as end
-
-pub nothing_consumed : (a : Option (List ℕ)) → Consumes a a []
-nothing_consumed None = tt
-nothing_consumed (Some x) = refl
-
-pub kept_consumes : (a b : Option (List ℕ)) → Keeps a b → Consumes a b []
-kept_consumes None b k = tt
-kept_consumes (Some x) None k = absurd k
-kept_consumes (Some x) (Some y) k = sym k
 
 pub consumes_more : (a b c : Option (List ℕ)) (xs ys : List ℕ) → Consumes a b xs → Consumes b c ys → Consumes a c (xs ++ ys)
 consumes_more None b c xs ys p q = tt

@@ -1,5 +1,5 @@
 // Reading a configuration.
-ghost use Rattle.std.specs.Prelude.{◌≡◌, ◌<◌, ◌≤◌, [], IfOk, length};
+ghost use Rattle.std.specs.Prelude.{◌≡◌, ◌<◌, ◌≤◌, IfOk, length};
 ghost use Rattle.proxy_config.specs.Ranges.{IsInRange};
 ghost use Rattle.session_config.specs.Loading.{CausesFault, Loads, ReadsPiece, ReadsWhole};
 

@@ -1,19 +1,16 @@
 -- What came in a wire session goes on.
 use Rattle.flow_notes.specs.declared.events.Event.{Event}
-use Rattle.flow_notes.specs.declared.events.Job.{Job}
-use Rattle.io_ports.specs.declared.octets.NoMemory.{NoMemory}
 use Rattle.session_lines.specs.Courses.{greatest_of}
-use Rattle.session_lines.specs.WireOrder.{gone, is_new, is_there, may_follow_wire, named, obeyed, posts_of}
-use Rattle.session_lines.specs.WireOrders.{FollowsWire, FollowsWireAt, WireOrderIs, kept_posts}
+use Rattle.session_lines.specs.WireOrder.{gone, is_there, named, obeyed}
+use Rattle.session_lines.specs.WireOrders.{FollowsWire, WireOrderIs, kept_posts}
 use Rattle.session_lines.specs.declared.wire_order.WireOrder.{WireOrder}
 use Rattle.std.proofs.Common.{ap, arith, refl, subst, sym, ◌∙◌}
-use Rattle.std.proofs.lemmas.Bool.{false_from_ne_true}
 use Rattle.std.proofs.lemmas.Bool.Decides.{nat_tests}
 use Rattle.std.specs.BTreeMap.{get}
 use Rattle.std.specs.BTreeSet.{contains}
 use Rattle.std.specs.List.{list_all}
 use Rattle.std.specs.Ordering.{nat_cmp}
-use Rattle.std.specs.Prelude.{Bool, Err, List, Ok, Option, Some, [], false, if◌then◌else◌, length, max, nat_le, nat_lt, not, true, ℕ, ◌&&◌, ◌+◌, ◌<◌, ◌==◌, ◌||◌, ◌∷◌, ◌≡◌, ◌≤◌}
+use Rattle.std.specs.Prelude.{Bool, List, Ok, [], false, if◌then◌else◌, length, max, nat_le, nat_lt, not, true, ℕ, ◌&&◌, ◌<◌, ◌==◌, ◌||◌, ◌∷◌, ◌≡◌, ◌≤◌}
 use Rattle.tape_laws.specs.Dispatches.{has}
 use Rattle.flow_notes.specs.declared.events.Event.TheVariants as event
 
@@ -62,29 +59,6 @@ either true b e = cc
 either false b e = e
 
 -- ---- events that change nothing
-
-read_kept : (o : WireOrder) (r : ℕ) (es : List Event) (c : ℕ) (octets : List ℕ) → WireOrderIs o r es → WireOrderIs o r (event.Read c octets ∷ es)
-read_kept o r es c octets k = record { resources_are = k.resources_are; greatest_is = k.greatest_is; there_are = k.there_are; posts_are = k.posts_are; version_is = k.version_is; fresh = k.fresh }
-
-room_kept : (o : WireOrder) (r : ℕ) (es : List Event) (c n : ℕ) → WireOrderIs o r es → WireOrderIs o r (event.Room c n ∷ es)
-room_kept o r es c n k = record { resources_are = k.resources_are; greatest_is = k.greatest_is; there_are = k.there_are; posts_are = k.posts_are; version_is = k.version_is; fresh = k.fresh }
-
-pub read_follows : (o : WireOrder) (c : ℕ) (octets : List ℕ) (b : Bool) → b ≡ contains nat_cmp o.there c → FollowsWire o (event.Read c octets) o (Ok b)
-read_follows o c octets b e = record { goes = λ r es k. by r es k b (e ∙ k.there_are c) }
-  where
-    by : (r : ℕ) (es : List Event) → WireOrderIs o r es → (b : Bool) → b ≡ is_there es c → FollowsWireAt r es (event.Read c octets) o (Ok b)
-    by r es k true t = (sym t, read_kept o r es c octets k)
-    by r es k false t = (sym t, k)
-
-pub room_follows : (o : WireOrder) (c n : ℕ) (b : Bool) → b ≡ contains nat_cmp o.there c → FollowsWire o (event.Room c n) o (Ok b)
-room_follows o c n b e = record { goes = λ r es k. by r es k b (e ∙ k.there_are c) }
-  where
-    by : (r : ℕ) (es : List Event) → WireOrderIs o r es → (b : Bool) → b ≡ is_there es c → FollowsWireAt r es (event.Room c n) o (Ok b)
-    by r es k true t = (sym t, room_kept o r es c n k)
-    by r es k false t = (sym t, k)
-
-pub tick_follows : (o : WireOrder) (now : ℕ) → FollowsWire o (event.Tick now) o (Ok true)
-tick_follows o now = record { goes = λ r es k. (refl, record { resources_are = k.resources_are; greatest_is = k.greatest_is; there_are = k.there_are; posts_are = k.posts_are; version_is = k.version_is; fresh = k.fresh }) }
 
 -- ---- a connection that comes
 
@@ -137,115 +111,11 @@ came_late o c le = record {
   join = λ cluster. record { goes = λ r es k. (all_below (named es) c ∙ over (greatest_of (named es)) c (omega (arith, k.greatest_is, le)), k) };
 }
 
-pub came_lost : (o new : WireOrder) (e : Event) (x : NoMemory) → new.resources ≡ o.resources → new.greatest ≡ o.greatest → new.posts ≡ o.posts → new.version ≡ o.version
-    → ((q : ℕ) → contains nat_cmp new.there q ≡ contains nat_cmp o.there q) → FollowsWire o e new (Err x)
-came_lost o new e x er eg ep ev et = record {
-  goes = λ r es k. record {
-    resources_are = er ∙ k.resources_are;
-    greatest_is = eg ∙ k.greatest_is;
-    there_are = λ q. et q ∙ k.there_are q;
-    posts_are = λ p. ap (λ m. kept_posts (get nat_cmp m p)) ep ∙ k.posts_are p;
-    version_is = ev ∙ k.version_is;
-    fresh = k.fresh;
-  };
-}
-
 -- ---- a connection that goes
-
-gone_there : (es : List Event) (c d : ℕ) → (if c == d then false else is_there es d) ≡ has (named es) d && not ((c == d) || has (gone es) d)
-gone_there es c d = by (c == d)
-  where
-    never : (b : Bool) → false ≡ b && false
-    never true = refl
-    never false = refl
-
-    by : (b : Bool) → (if b then false else is_there es d) ≡ has (named es) d && not (b || has (gone es) d)
-    by true = never (has (named es) d)
-    by false = refl
-
-was_named : (es : List Event) (c : ℕ) → is_there es c ≡ true → has (named es) c ≡ true
-was_named es c t = first (has (named es) c) (not (has (gone es) c)) t
-  where
-    first : (a b : Bool) → (a && b) ≡ true → a ≡ true
-    first true b t = refl
-    first false b t = cc
-
-gone_fresh : (es : List Event) (c d : ℕ) → has (named es) c ≡ true → (has (named es) d ≡ false → has (gone es) d ≡ false) → has (named es) d ≡ false → ((c == d) || has (gone es) d) ≡ false
-gone_fresh es c d n f none = by (c == d) refl
-  where
-    same : (c d : ℕ) → (c == d) ≡ true → c ≡ d
-    same c d t = grind (arith, nat_tests)
-
-    by : (b : Bool) → (c == d) ≡ b → (b || has (gone es) d) ≡ false
-    by true t = let P : ℕ → Type 0 = λ v. has (named es) v ≡ true in let is : has (named es) d ≡ true = subst P (same c d t) n in cc
-    by false t = f none
-
-pub gone_follows : (o new : WireOrder) (c : ℕ) (b : Bool) → b ≡ contains nat_cmp o.there c → new.resources ≡ o.resources → new.greatest ≡ o.greatest → new.posts ≡ o.posts → new.version ≡ o.version
-    → ((q : ℕ) → contains nat_cmp new.there q ≡ (if c == q then false else contains nat_cmp o.there q)) → (b ≡ false → (q : ℕ) → contains nat_cmp new.there q ≡ contains nat_cmp o.there q)
-    → FollowsWire o (event.Gone c) new (Ok b)
-gone_follows o new c b e er eg ep ev put kept = record { goes = λ r es k. by r es k b (e ∙ k.there_are c) kept }
-  where
-    by : (r : ℕ) (es : List Event) → WireOrderIs o r es → (b : Bool) → b ≡ is_there es c → (b ≡ false → (q : ℕ) → contains nat_cmp new.there q ≡ contains nat_cmp o.there q) → FollowsWireAt r es (event.Gone c) new (Ok b)
-    by r es k true t kept = (
-      sym t,
-      record {
-        resources_are = er ∙ k.resources_are;
-        greatest_is = eg ∙ k.greatest_is;
-        there_are = λ q. put q ∙ ap (λ b. if c == q then false else b) (k.there_are q) ∙ gone_there es c q;
-        posts_are = λ p. ap (λ m. kept_posts (get nat_cmp m p)) ep ∙ k.posts_are p;
-        version_is = ev ∙ k.version_is;
-        fresh = λ q n. gone_fresh es c q (was_named es c (sym t)) (k.fresh q) n;
-      },
-    )
-    by r es k false t kept = (
-      sym t,
-      record {
-        resources_are = er ∙ k.resources_are;
-        greatest_is = eg ∙ k.greatest_is;
-        there_are = λ q. kept refl q ∙ k.there_are q;
-        posts_are = λ p. ap (λ m. kept_posts (get nat_cmp m p)) ep ∙ k.posts_are p;
-        version_is = ev ∙ k.version_is;
-        fresh = k.fresh;
-      },
-    )
 
 -- ---- a post
 
-pub posted_on : (o new : WireOrder) (p n : ℕ) (job : Job) → n ≡ kept_posts (get nat_cmp o.posts p) → new.resources ≡ o.resources → new.greatest ≡ o.greatest → new.there ≡ o.there → new.version ≡ o.version
-    → ((q : ℕ) → get nat_cmp new.posts q ≡ (if p == q then Some (n + 1) else get nat_cmp o.posts q)) → FollowsWire o (event.Post p n job) new (Ok true)
-posted_on o new p n job e er eg et ev put = record {
-  goes = λ r es k. (
-    equal n (posts_of p es) (e ∙ k.posts_are p),
-    record {
-      resources_are = er ∙ k.resources_are;
-      greatest_is = eg ∙ k.greatest_is;
-      there_are = λ q. ap (λ s. contains nat_cmp s q) et ∙ k.there_are q;
-      posts_are = λ q. ap kept_posts (put q) ∙ by r es k q (p == q) refl;
-      version_is = ev ∙ k.version_is;
-      fresh = k.fresh;
-    },
-  );
-}
-  where
-    equal : (m n : ℕ) → m ≡ n → (m == n) ≡ true
-    equal m n e = grind (arith, nat_tests)
-
-    same : (m n : ℕ) → (m == n) ≡ true → m ≡ n
-    same m n e = grind (arith, nat_tests)
-
-    by : (r : ℕ) (es : List Event) → WireOrderIs o r es → (q : ℕ) (b : Bool) → (p == q) ≡ b → kept_posts (if b then Some (n + 1) else get nat_cmp o.posts q) ≡ (if b then posts_of q es + 1 else posts_of q es)
-    by r es k q true t = let P : ℕ → Type 0 = λ v. n ≡ posts_of v es in ap (λ m. m + 1) (subst P (same p q t) (e ∙ k.posts_are p))
-    by r es k q false t = k.posts_are q
-
-pub posted_other : (o : WireOrder) (p n m : ℕ) (job : Job) → m ≡ kept_posts (get nat_cmp o.posts p) → (n == m) ≡ false → FollowsWire o (event.Post p n job) o (Ok false)
-posted_other o p n m job e other = record { goes = λ r es k. (ap (λ v. n == v) (sym (e ∙ k.posts_are p)) ∙ other, k) }
-
 -- ---- a version
-
-third : (a b c : Bool) → c ≡ false → (a && b && c) ≡ false
-third true true c e = e
-third true false c e = refl
-third false b c e = refl
 
 regroup : (a b c : Bool) → (a && b && c) ≡ ((a && b) && c)
 regroup true true c = refl
@@ -276,16 +146,4 @@ obeyed_late o v pressures le = record {
   goes = λ r es k. (regroup (nat_le 1 v) (list_all (λ w. nat_lt w v) (obeyed es)) (length pressures == r) ∙ ap (λ b. b && (length pressures == r)) (from_one (obeyed es) v ∙ over (greatest_of (obeyed es)) v (omega (arith, k.version_is, le))), k);
 }
 
-unequal : (m n : ℕ) → (m ≡ n → ⊥) → (m == n) ≡ false
-unequal m n ne = false_from_ne_true (m == n) (λ t. ne (same m n t))
-  where
-    same : (m n : ℕ) → (m == n) ≡ true → m ≡ n
-    same m n t = grind (arith, nat_tests)
-
-pub obeyed_other : (o : WireOrder) (v : ℕ) (pressures : List ℕ) → (length pressures ≡ o.resources → ⊥) → FollowsWire o (event.Obey v pressures) o (Ok false)
-obeyed_other o v pressures other = record { goes = λ r es k. (third (nat_le 1 v) (list_all (λ w. nat_lt w v) (obeyed es)) (length pressures == r) (ap (λ m. length pressures == m) (sym k.resources_are) ∙ unequal (length pressures) o.resources other), k) }
-
 -- ---- an event of a plain session
-
-pub plain_refused : (o : WireOrder) (e : Event) → ((r : ℕ) (es : List Event) → may_follow_wire r es e ≡ false) → FollowsWire o e o (Ok false)
-plain_refused o e f = record { goes = λ r es k. (f r es, k) }

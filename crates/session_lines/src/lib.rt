@@ -5,12 +5,10 @@ mod courses;
 mod grammar;
 mod order;
 mod plain;
-mod session;
 mod wire_lines;
 mod wire_order;
 
 pub use courses::{Course, Courses};
-pub use order::{Format, LineRead, Order, Stage};
-pub use session::read_session_line;
+pub use order::{Format, LineRead, Order, Stage, read_session_line};
 pub use wire_lines::WireLines;
 pub use wire_order::WireOrder;

@@ -1,4 +1,6 @@
 // The lines of a plain session, in their order.
+ghost use Rattle.session_lines.specs.Orders.{ReadsLine};
+
 use crate::courses::Courses;
 use crate::grammar::{read_header, read_limits};
 use crate::plain::read_plain;
@@ -43,7 +45,7 @@ pub struct Order {
 }
 
 impl Order {
-    ghost use Rattle.std.specs.Prelude.{◌≡◌, Ok, Err};
+    ghost use Rattle.std.specs.Prelude.{◌≡◌, Ok};
     ghost use Rattle.session_lines.specs.Orders.{OrderIs, PlaysNow, ReadsLine, has_played};
     ghost use Rattle.session_lines.specs.Seen.{Unread};
 
@@ -101,4 +103,12 @@ impl Order {
         self.stage = Stage::Plays(Courses::new(self.alloc));
         Ok(LineRead::Limits(limits))
     }
+}
+
+/// Reads the next line of a session, given without its newline. A line that is refused, and running out of
+/// memory, leave the order as it was.
+pub fn read_session_line(state: &mut Order, line: &[u8]) -> Result<LineRead, NoMemory>
+    ensures { ReadsLine state.old line.now state.new result }
+{
+    state.read(line)
 }

@@ -55,3 +55,11 @@ EndsAs Refuses may_end status.Memory lines rest left = Unit {0}
 EndsAs Refuses may_end status.Usage lines rest left = ⊥
 EndsAs Refuses may_end status.Config lines rest left = ⊥
 EndsAs Refuses may_end status.WriteFault lines rest left = ⊥
+
+-- nothing of the session is refused
+abbrev pub IsUnrefused : Status → Type 0
+IsUnrefused status.Done = Unit {0}
+IsUnrefused status.Memory = Unit {0}
+IsUnrefused status.ReadFault = Unit {0}
+IsUnrefused status.WriteFault = Unit {0}
+IsUnrefused status = ⊥

@@ -1,7 +1,6 @@
 //! Runs a session: reads its lines, has each played, and writes what comes of them.
 #![tactic(auto)]
 
-mod input;
 mod last;
 mod lines;
 mod output;

@@ -1,7 +1,8 @@
 // The lines of a source, which is read in large pieces.
-ghost use Rattle.std.specs.Prelude.{◌≡◌, ◌<◌, ◌≤◌, length};
+ghost use Rattle.std.specs.Prelude.{◌≡◌, ◌<◌, ◌≤◌, ◌+◌, length, drop, take, IfOk, OnErr};
+ghost use Rattle.std.specs.Io.KnownBytes.{Consumes, IsAtEnd, Keeps};
+ghost use Rattle.io_ports.specs.Faults.{FailsByFault};
 
-use crate::input::read_behind;
 use io_ports::{Failed, NoMemory, Source};
 use memchr::memchr;
 use std::alloc::Global;
@@ -84,8 +85,22 @@ impl Lines {
         ensures same { held_of self.new ≡ held_of self.old }
         ensures front { self.new.start ≡ 0 }
     {
-        self.octets.rotate_left(self.start);
-        self.end -= self.start;
+        let (start, end) = (self.start, self.end);
+        self.octets.copy_within(start..end, 0);
         self.start = 0;
+        self.end = end - start;
     }
+}
+
+// Reads behind the octets that are held at the front.
+fn read_behind<S: Source>(source: &mut S, into: &mut [u8], held: usize) -> Result<usize, Failed>
+    requires { held ≤ length into.old }
+    ensures front { take held into.new ≡ take held into.old }
+    ensures bound { IfOk result (λ n. held + n ≤ length into.new) }
+    ensures gives { IfOk result (λ n. Consumes (S.left source.old) (S.left source.new) (take n (drop held into.new))) }
+    ensures end { IfOk result (λ n. n ≡ 0 → held < length into.old → IsAtEnd (S.left source.new)) }
+    ensures err { OnErr result (Keeps (S.left source.old) (S.left source.new)) }
+    ensures cause { FailsByFault (S.faults source.old) (S.faults source.new) result }
+{
+    source.read(&mut into[held..])
 }

@@ -1,5 +1,5 @@
 // How permits are made, given and left.
-ghost use Rattle.std.specs.Prelude.{◌≡◌, ◌+◌, ◌-◌, ◌*◌, ◌^◌, ◌<◌, ◌≤◌, ◌++◌, ◌∷◌, [], All, length, IfOk, MatchResult, MatchOption, vec_len};
+ghost use Rattle.std.specs.Prelude.{◌≡◌, ◌+◌, ◌-◌, ◌<◌, ◌≤◌, ◌++◌, ◌∷◌, [], All, length, IfOk, MatchResult, MatchOption, vec_len};
 ghost use Rattle.shared_state.specs.PermitRule.{newcomer, granted, left, most};
 ghost use Rattle.shared_state.specs.PermitSeats.{view, IsSeatOf, IsNewSeat, seats_in, refused_and_paid};
 

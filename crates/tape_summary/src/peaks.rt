@@ -44,7 +44,7 @@ impl PeakLog {
         }
     }
 
-    /// Takes up the notes that a tape goes on with. After running out of memory the log is to be let go.
+    /// Takes up the notes that a tape goes on with. After running out of memory the log is unusable: drop it.
     pub fn note_all(&mut self, notes: &Notes) -> Result<(), NoMemory>
         ensures { OnOk result (PeaksGo self.old notes.now self.new) }
     {

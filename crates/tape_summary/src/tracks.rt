@@ -24,7 +24,7 @@ impl Tracks {
     ghost use Rattle.std.specs.Prelude.{◌≡◌, IfOk};
     ghost use Rattle.std.specs.BTreeMap.{get};
     ghost use Rattle.tape_summary.specs.Placing.{Adds, ArePlaced, Changes, Places, kept_of, spot_cmp};
-    ghost use Rattle.tape_summary.specs.Tracking.{Lone, PausesTrack, ResumesTrack, nothing};
+    ghost use Rattle.tape_summary.specs.Tracking.{PausesTrack, ResumesTrack, nothing};
 
     /// No tracks. Takes no memory.
     pub fn new(alloc: Global) -> Self

@@ -1,5 +1,5 @@
 // A connection of a relay.
-ghost use Rattle.std.specs.Prelude.{◌≡◌, None};
+ghost use Rattle.std.specs.Prelude.{◌≡◌};
 ghost use Rattle.wm_buffer.specs.Buffer.{empty_buffer};
 
 use relay_laws::Feed;

@@ -1,5 +1,5 @@
 // The open connections by number, and what is done to one of them.
-ghost use Rattle.std.specs.Prelude.{◌≡◌, None, Some, IfOk, OnOk, is_some, option_map};
+ghost use Rattle.std.specs.Prelude.{◌≡◌, None, Some, IfOk, OnOk, option_map};
 ghost use Rattle.tcp_relay.specs.Lines.{Changes, added, dropped, fed, feeds_of, held_in, is_idle_at, line_in, rises_by, seen, taken_of};
 
 use crate::conn::Conn;

@@ -56,11 +56,11 @@ fn beginning(alloc: Global) -> Result<Octets, NoMemory> {
     Ok(octets)
 }
 
-/// A DATA frame with this piece.
+/// A DATA frame with this piece, in a block that the inlet may share.
 fn data_frame(alloc: Global, piece: &[u8]) -> Result<Octets, NoMemory> {
     let mut octets = Octets::from_slice(alloc, &frame_head(PIECE, DATA, 0, 1))?;
     octets.push_all(piece)?;
-    Ok(octets)
+    octets.shared()
 }
 
 /// The nine octets before a block that is sent whole.
@@ -69,32 +69,42 @@ fn headers_head(block: &[u8], flags: u8, stream: u32) -> [u8; 9] {
     frame_head(len, HEADERS, flags, stream.min(MAX_STREAM))
 }
 
-/// The frame of a head comes, and is taken.
-fn take_head(inlet: &mut Inlet, block: &[u8], flags: u8, stream: u32) -> anyhow::Result<u64> {
-    inlet.push(&headers_head(block, flags, stream))?;
-    inlet.push(block)?;
+/// The frame of a head, in a block that the inlet may share.
+fn head_frame(alloc: Global, block: &[u8], flags: u8, stream: u32) -> Result<Octets, NoMemory> {
+    let mut octets = Octets::from_slice(alloc, &headers_head(block, flags, stream))?;
+    octets.push_all(block)?;
+    octets.shared()
+}
+
+/// What came is one frame, which is taken.
+fn take_frame(inlet: &mut Inlet, frame: &Octets) -> anyhow::Result<u64> {
+    inlet.push(frame)?;
     take(inlet)
 }
 
 /// What a connection begins with comes, and is taken.
 fn begin(alloc: Global, inlet: &mut Inlet) -> anyhow::Result<u64> {
     let octets = beginning(alloc)?;
-    inlet.push(octets.as_slice())?;
-    take(inlet)
+    take_frame(inlet, &octets)
+}
+
+/// A stream is opened for its body.
+fn open(alloc: Global, inlet: &mut Inlet, block: &[u8], stream: u32) -> anyhow::Result<u64> {
+    let frame = head_frame(alloc, block, END_HEADERS, stream)?;
+    take_frame(inlet, &frame)
 }
 
 /// A round of DATA frames, each taken once it has come. Answers their octets.
-fn take_data(inlet: &mut Inlet, frame: &[u8]) -> anyhow::Result<u64> {
+fn take_data(inlet: &mut Inlet, frame: &Octets) -> anyhow::Result<u64> {
     let mut sum = 0u64;
     for _frame in 0..FRAMES_A_ROUND {
-        inlet.push(frame)?;
-        sum = sum.wrapping_add(take(inlet)?);
+        sum = sum.wrapping_add(take_frame(inlet, frame)?);
     }
     Ok(sum)
 }
 
 /// Nanoseconds of a round of DATA frames.
-fn time_data(rt: &impl CpuClock, inlet: &mut Inlet, frame: &[u8]) -> anyhow::Result<u64> {
+fn time_data(rt: &impl CpuClock, inlet: &mut Inlet, frame: &Octets) -> anyhow::Result<u64> {
     let watch = CpuStopwatch::start(rt)?;
     let content = take_data(inlet, frame)?;
     let nanos = watch.nanos(rt)?;
@@ -107,7 +117,7 @@ fn time_data(rt: &impl CpuClock, inlet: &mut Inlet, frame: &[u8]) -> anyhow::Res
 fn data_round(
     rt: &impl CpuClock,
     inlet: &mut Inlet,
-    frame: &[u8],
+    frame: &Octets,
     copies: &mut Copies,
     spent: &mut Spent,
 ) -> anyhow::Result<()> {
@@ -120,7 +130,7 @@ fn data_round(
 fn data_rounds(
     rt: &impl CpuClock,
     inlet: &mut Inlet,
-    frame: &[u8],
+    frame: &Octets,
     copies: &mut Copies,
 ) -> anyhow::Result<Spent> {
     let mut spent = Spent::none();
@@ -137,7 +147,7 @@ fn play_data(
     copies: &mut Copies,
 ) -> anyhow::Result<()> {
     let frame = data_frame(rt.alloc(), copies.piece.as_slice())?;
-    let spent = data_rounds(rt, inlet, frame.as_slice(), copies)?;
+    let spent = data_rounds(rt, inlet, &frame, copies)?;
     report_octets(rt, "DATA frames taken", spent)
 }
 
@@ -148,30 +158,60 @@ fn play_stream(
     block: &[u8],
 ) -> anyhow::Result<()> {
     begin(rt.alloc(), inlet)?;
-    take_head(inlet, block, END_HEADERS, 1)?;
+    open(rt.alloc(), inlet, block, 1)?;
     let mut copies = Copies::new(rt.alloc())?;
     play_data(rt, inlet, &mut copies)
 }
 
-/// A round of heads, each of the stream that comes next, which is closed. Answers the next stream.
-fn take_heads(inlet: &mut Inlet, block: &[u8], first: u32) -> anyhow::Result<u32> {
+/// A round's frames of heads, each of the stream that comes next.
+fn head_frames(alloc: Global, block: &[u8], first: u32) -> Result<Vec<Octets>, NoMemory> {
+    let mut frames = Vec::new(alloc);
     let mut stream = first;
     for _head in 0..FRAMES_A_ROUND {
-        take_head(inlet, block, ENDS, stream)?;
+        frames.push(head_frame(alloc, block, ENDS, stream)?)?;
+        stream = stream.saturating_add(2);
+    }
+    Ok(frames)
+}
+
+/// A round of heads is taken, each of the stream that comes next, which is closed. Answers the next stream.
+fn take_heads(inlet: &mut Inlet, frames: &[Octets], first: u32) -> anyhow::Result<u32> {
+    let mut stream = first;
+    for frame in frames {
+        take_frame(inlet, frame)?;
         inlet.close_stream(stream);
         stream = stream.saturating_add(2);
     }
     Ok(stream)
 }
 
-/// Nanoseconds of all rounds of heads.
-fn time_heads(rt: &impl CpuClock, inlet: &mut Inlet, block: &[u8]) -> anyhow::Result<u64> {
+/// A round of heads. Answers the next stream, and nanoseconds.
+fn head_round(
+    rt: &(impl AllocGlobal + CpuClock),
+    inlet: &mut Inlet,
+    block: &[u8],
+    first: u32,
+) -> anyhow::Result<(u32, u64)> {
+    let frames = head_frames(rt.alloc(), block, first)?;
     let watch = CpuStopwatch::start(rt)?;
+    let next = take_heads(inlet, frames.as_slice(), first)?;
+    Ok((next, watch.nanos(rt)?))
+}
+
+/// Nanoseconds of all rounds of heads.
+fn time_heads(
+    rt: &(impl AllocGlobal + CpuClock),
+    inlet: &mut Inlet,
+    block: &[u8],
+) -> anyhow::Result<u64> {
+    let mut nanos = 0u64;
     let mut stream = 1;
     for _round in 0..ROUNDS {
-        stream = take_heads(inlet, block, stream)?;
+        let (next, spent) = head_round(rt, inlet, block, stream)?;
+        nanos = nanos.saturating_add(spent);
+        stream = next;
     }
-    Ok(watch.nanos(rt)?)
+    Ok(nanos)
 }
 
 /// Begins the connection, and takes heads.

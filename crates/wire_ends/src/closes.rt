@@ -6,7 +6,7 @@ ghost use Rattle.wire_state.specs.Noting.{Appends};
 ghost use Rattle.wire_state.specs.Progress.{to_go};
 ghost use Rattle.wire_state.specs.Sound.{IsSound, is_open_at};
 
-use crate::dooms::doom;
+use crate::dooms::{Origin, doom};
 use crate::lists::{append, flood};
 use flow_notes::{Cause, CloseCause, FireKind, Note, Notes};
 use h2_frames::codes::NO_ERROR;
@@ -185,7 +185,13 @@ pub fn losses(
 {
     match next_lost(core, conn, last) {
         Some(exchange) if core.flows.is_live(exchange) => {
-            doom(core, exchange, Cause::ConnLost { conn }, false, notes)
+            doom(
+                core,
+                exchange,
+                Cause::ConnLost { conn },
+                Origin::Neither,
+                notes,
+            )
         }
         _ => {
             core.end_task();

@@ -9,6 +9,7 @@ ghost use Rattle.wire_state.specs.Sound.{IsSound};
 use crate::closes::start_draining;
 use crate::lists::{append, append_reset, flood};
 use exchange_core::{Doomed, Reply};
+use flow_gate::FlowId;
 use flow_notes::{Cause, FireKind, Note, Notes};
 use h2_frames::codes::NO_ERROR;
 use io_ports::NoMemory;
@@ -17,12 +18,37 @@ use wire_load::Action;
 use wire_outlet::Waiting;
 use wire_state::{WireCore, is_stream, note};
 
-/// The task Doom: the exchange is doomed, unless it is.
+/// Who gave the cause of a doom.
+#[derive(Clone, Copy, Debug, PartialEq, Eq)]
+pub enum Origin {
+    /// The client, or the request.
+    Request,
+    /// The cluster, or the response.
+    Response,
+    /// Neither of them: an end, a timer, a lost connection, a job, or what a worker bears.
+    Neither,
+}
+
+impl Origin {
+    /// That of what a flow gave.
+    pub fn of(flow: FlowId) -> Self {
+        if flow.back {
+            Origin::Response
+        } else {
+            Origin::Request
+        }
+    }
+
+    fn is_response(self) -> bool {
+        matches!(self, Origin::Response)
+    }
+}
+
+/// The task Doom: the exchange is doomed, unless it is, for a cause that neither of its flows gave.
 pub fn doom_task(
     core: &mut WireCore,
     exchange: u64,
     cause: Cause,
-    back: bool,
     notes: &mut Notes,
 ) -> Result<(), NoMemory>
     requires sound { IsSound core.old }
@@ -32,7 +58,7 @@ pub fn doom_task(
     ensures notes { Appends notes.old notes.new }
 {
     core.end_task();
-    doom(core, exchange, cause, back, notes)
+    doom(core, exchange, cause, Origin::Neither, notes)
 }
 
 /// The task End: an end of the exchange was framed. It is done where both are, and ends early where the response's is.
@@ -56,16 +82,16 @@ pub fn end(core: &mut WireCore, exchange: u64, notes: &mut Notes) -> Result<(), 
     } else {
         Cause::EarlyEnd
     };
-    doom(core, exchange, cause, false, notes)
+    doom(core, exchange, cause, Origin::Neither, notes)
 }
 
-/// Dooms an exchange, unless it is doomed. `back` says that the cluster or the response gave the cause. All units that its
-/// peers are told by are put at once; then the connections whose list was full are to be closed, the client's first.
+/// Dooms an exchange, unless it is doomed. All units that its peers are told by are put at once; then the connections whose list
+/// was full are to be closed, the client's first.
 pub fn doom(
     core: &mut WireCore,
     exchange: u64,
     cause: Cause,
-    back: bool,
+    origin: Origin,
     notes: &mut Notes,
 ) -> Result<(), NoMemory>
     requires sound { IsSound core.old }
@@ -74,7 +100,7 @@ pub fn doom(
     ensures less { is_live_in core.old.flows exchange ≡ true → OnOk result (to_go core.new + 8 ≤ to_go core.old) }
     ensures notes { Appends notes.old notes.new }
 {
-    let Some((ends, doomed)) = unlink(core, exchange, cause, back) else {
+    let Some((ends, doomed)) = unlink(core, exchange, cause, origin) else {
         return Ok(());
     };
     note(notes, Note::Doom { exchange, cause })?;
@@ -96,7 +122,12 @@ pub fn doom(
 
 // A live exchange isn't live any more: it is linked to no connection, and has no octets, timers and class. The answer has the
 // ends that it had, and what its peers are told. None where it isn't live.
-fn unlink(core: &mut WireCore, exchange: u64, cause: Cause, back: bool) -> Option<(Ends, Doomed)>
+fn unlink(
+    core: &mut WireCore,
+    exchange: u64,
+    cause: Cause,
+    origin: Origin,
+) -> Option<(Ends, Doomed)>
     requires sound { IsSound core.old }
     ensures sound { IsSound core.new }
     ensures go { to_go core.new ≤ to_go core.old }
@@ -108,7 +139,7 @@ fn unlink(core: &mut WireCore, exchange: u64, cause: Cause, back: bool) -> Optio
     };
     core.links.are_sound();
     let _ = core.links.doom(exchange);
-    let doomed = core.flows.doom(exchange, cause, back);
+    let doomed = core.flows.doom(exchange, cause, origin.is_response());
     let _ = core.lengths.remove(&exchange);
     core.load.drop_one(exchange);
     core.timers.drop_exchange(exchange);

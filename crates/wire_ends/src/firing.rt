@@ -6,7 +6,7 @@ ghost use Rattle.wire_state.specs.Progress.{to_go};
 ghost use Rattle.wire_state.specs.Sound.{IsSound};
 
 use crate::closes::{begin_draining, close};
-use crate::dooms::doom;
+use crate::dooms::{Origin, doom};
 use flow_notes::{Cause, CloseCause, FireKind, Note, Notes};
 use h2_frames::codes::NO_ERROR;
 use io_ports::NoMemory;
@@ -107,7 +107,7 @@ fn fire_exchange(core: &mut WireCore, due: Due, notes: &mut Notes) -> Result<(),
         return Ok(());
     }
     note(notes, Note::Fire { kind, id })?;
-    doom(core, id, Cause::Timeout { kind }, false, notes)
+    doom(core, id, Cause::Timeout { kind }, Origin::Neither, notes)
 }
 
 /// The task Resets: the next exchange that the overload manager gives up.
@@ -121,7 +121,7 @@ pub fn resets(core: &mut WireCore, left: u32, notes: &mut Notes) -> Result<(), N
     match core.load.next_reset() {
         Some(exchange) if left > 0 => {
             core.go_on(Task::Resets(left - 1))?;
-            doom(core, exchange, Cause::Overload, false, notes)
+            doom(core, exchange, Cause::Overload, Origin::Neither, notes)
         }
         _ => {
             core.end_task();

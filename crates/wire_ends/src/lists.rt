@@ -1,5 +1,5 @@
 // What is put on the waiting list of a connection.
-ghost use Rattle.std.specs.Prelude.{◌≡◌, ◌≤◌, ◌+◌, OnOk};
+ghost use Rattle.std.specs.Prelude.{◌≤◌, ◌+◌, OnOk};
 ghost use Rattle.wire_outlet.specs.Waiting.{IsFrameable};
 ghost use Rattle.wire_state.specs.Progress.{to_go};
 ghost use Rattle.wire_state.specs.Sound.{IsSound};

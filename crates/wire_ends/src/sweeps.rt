@@ -28,7 +28,7 @@ pub fn rest(core: &mut WireCore) -> Result<(), NoMemory>
     while let Some(exchange) = core.load.take_touched() {
         rest_exchange(core, exchange)?;
     }
-    while let Some(conn) = core.stirred.take_first() {
+    while let Some(conn) = core.stirred.take_last() {
         rest_conn(core, conn)?;
     }
     core.cursor = 0;

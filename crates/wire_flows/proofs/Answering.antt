@@ -1,15 +1,15 @@
 -- What the calls that name a flow leave, where the gates stay.
 use Rattle.exchange_core.proofs.Outcomes.{at_found, either, on_err}
 use Rattle.exchange_core.specs.Changes.{ChangesFlow, KnowsFlows}
-use Rattle.exchange_core.specs.Effects.{finished, headed, list_framed, received, received_by}
+use Rattle.exchange_core.specs.Effects.{finished, headed, list_framed}
 use Rattle.exchange_core.specs.Exchange.{flow_id, flow_in as side_of}
-use Rattle.exchange_core.specs.Exchanges.{Exchanges, IsSound as AreSoundExchanges, exchange_at, flow_at}
+use Rattle.exchange_core.specs.Exchanges.{Exchanges, IsSound as AreSoundExchanges, exchange_at}
 use Rattle.exchange_core.specs.Flow.{Flow, held_by}
 use Rattle.exchange_core.specs.Message.{fields_of, head_came}
 use Rattle.exchange_core.specs.Replies.{reckoning}
 use Rattle.exchange_core.specs.Units.{IsFrameable, list_may_end}
 use Rattle.exchange_core.specs.declared.exchange.Exchange.{Exchange}
-use Rattle.exchange_core.specs.declared.reply.Doomed.{Doomed}
+use Rattle.exchange_core.specs.declared.causes.Doomed.{Doomed}
 use Rattle.flow_notes.specs.declared.notes.Cause.{Cause}
 use Rattle.flow_rules.specs.declared.unit.Unit.TheVariants.{Head}
 use Rattle.hpack_codec.specs.declared.fields.Field.{Field}
@@ -20,12 +20,11 @@ use Rattle.std.proofs.lemmas.Option.{none-some, same_Some}
 use Rattle.std.specs.Option.{option_and_then, option_map_or}
 use Rattle.std.specs.Prelude.{Bool, IfSome, IsSome, IsTrue, List, None, OnErr, OnOk, Option, Result, Some, false, is_some, length, option_map, option_to_list, suc, true, zero, ℕ, ◌+◌, ◌++◌, ◌<◌, ◌∷◌, ◌≡◌, ◌≤◌}
 use Rattle.wire_flows.proofs.Boards.{keeps_writes, same_write}
-use Rattle.wire_flows.proofs.Calls.{finished_kept, headed_kept, headed_left, listed_kept, received_kept}
+use Rattle.wire_flows.proofs.Calls.{finished_kept, headed_kept, headed_left, listed_kept}
 use Rattle.wire_flows.proofs.Cases.{if_found, not_both}
-use Rattle.wire_flows.proofs.Found.{flow_after, flow_is}
 use Rattle.wire_flows.proofs.Going.{go_less, go_more}
 use Rattle.wire_flows.proofs.Kept.{KeepsFlow, gates_same, keeps_left, keeps_live, sound_after}
-use Rattle.wire_flows.proofs.Ways.{finished_way, headed_way, listed_way, received_way}
+use Rattle.wire_flows.proofs.Ways.{finished_way, headed_way, listed_way}
 use Rattle.wire_flows.specs.Flows.{Flows, IsThere, flow_in, left_in}
 use Rattle.wire_flows.specs.Measure.{flow_way, to_go}
 use Rattle.wire_flows.specs.Sound.{AreBounded, IsBounded, IsSound, IsWhole, IsWireFlow}

@@ -34,3 +34,4 @@ pub mod Framings
 pub mod Opening
 pub mod Unborn
 pub mod Doomed
+pub mod Awaiting

@@ -1,5 +1,5 @@
 // The exchanges and the gates, and what comes for them.
-ghost use Rattle.std.specs.Prelude.{◌≡◌, ◌↔◌, ◌+◌, ◌*◌, ◌<◌, ◌≤◌, [], IfSome, IsNone, None, OnErr, OnOk, Some, false, if◌then◌else◌, length, nat_eq, not, option_map, slice_get, true, ◌&&◌, ◌==◌, ℕ};
+ghost use Rattle.std.specs.Prelude.{◌≡◌, ◌↔◌, ◌+◌, ◌*◌, ◌<◌, ◌≤◌, [], IfSome, IsNone, None, OnErr, OnOk, Some, false, if◌then◌else◌, length, not, option_map, slice_get, true, ◌&&◌, ◌==◌, ℕ};
 ghost use Rattle.exchange_core.specs.Changes.{ChangesFlow, Dooms, Sweeps, Ticks};
 ghost use Rattle.exchange_core.specs.Effects.{finished, headed, received, received_by};
 ghost use Rattle.exchange_core.specs.Exchange.{flow_id};

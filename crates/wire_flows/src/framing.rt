@@ -1,5 +1,5 @@
 // How a flow's units are framed.
-ghost use Rattle.std.specs.Prelude.{◌≡◌, [], drop, true, ◌-ℤ◌, ◌+◌, ◌<◌, ◌≤◌, ◌^◌, ◌&&◌, ◌++◌, ℕ, Bool, IfOk, IfSome, IsNone, IsOk, OnErr, Some, length, not, option_map, pos, take};
+ghost use Rattle.std.specs.Prelude.{◌≡◌, [], drop, true, ◌-ℤ◌, ◌+◌, ◌<◌, ◌≤◌, ◌^◌, ◌&&◌, ◌++◌, ℕ, Bool, IfOk, IfSome, IsNone, IsOk, IsSome, OnErr, Some, length, not, option_map, pos, take};
 ghost use Rattle.std.specs.Int.{int_min};
 ghost use Rattle.std.specs.Option.{option_and_then, option_copied};
 ghost use Rattle.exchange_core.specs.Changes.{ChangesFlow};
@@ -14,7 +14,7 @@ ghost use Rattle.flow_rules.specs.Narrowed.{octets_of};
 ghost use Rattle.flow_rules.specs.declared.unit.Unit.TheVariants.{Body, Head};
 ghost use Rattle.h2_frames.specs.Head.{data_head as data_head_octets};
 ghost use Rattle.wire_flows.specs.Begins.{Crosses, DrainsTo};
-ghost use Rattle.wire_flows.specs.Flows.{IsThere, KeepsLeft, KeepsLive, flow_in, time_of};
+ghost use Rattle.wire_flows.specs.Flows.{IsThere, KeepsLeft, KeepsLive, flow_in, is_live_in, time_of};
 ghost use Rattle.wire_flows.specs.Measure.{to_go};
 ghost use Rattle.wire_flows.specs.Moves.{is_high, is_low, piece_framed, piece_of};
 ghost use Rattle.wire_flows.specs.Sound.{IsSound};
@@ -53,6 +53,16 @@ impl WireFlows {
         ensures within { (n : ℕ) (last : Bool) → result ≡ Body n last → (n ≤ frame) × (n ≤ octets_of room) × (n < 2 ^ 24) }
     {
         self.exchanges.next_unit(flow, room, frame)
+    }
+
+    /// What of a flow goes next, as `next_unit`. None exactly where the flow isn't live.
+    pub fn unit_of(&self, flow: FlowId, room: i64, frame: u32) -> Option<Unit>
+        ensures unit { result ≡ option_map (next_unit room frame) (flow_in self.now flow) }
+        ensures frameable { IfSome result (λ unit. IfSome (flow_in self.now flow) (IsFrameable unit)) }
+        ensures there { IsSome result → IsThere self.now flow }
+        ensures live { IsSome result → is_live_in self.now flow.exchange ≡ true }
+    {
+        self.exchanges.unit_of(flow, room, frame)
     }
 
     /// The head that waits to be framed, else the trailers that do.

@@ -1,9 +1,10 @@
 // What the flows answer.
-ghost use Rattle.std.specs.Prelude.{◌≡◌, ◌==◌, ◌&&◌, Some, is_some, false, option_map, not, true};
+ghost use Rattle.std.specs.Prelude.{◌≡◌, ◌==◌, ◌&&◌, Some, is_some, false, nat_lt, option_map, not, true};
 ghost use Rattle.std.specs.Option.{option_map_or};
 ghost use Rattle.exchange_core.specs.Exchange.{ends_of, held_in};
 ghost use Rattle.exchange_core.specs.Exchanges.{IsNextMetered, exchange_at};
-ghost use Rattle.exchange_core.specs.Message.{head_came};
+ghost use Rattle.exchange_core.specs.Flow.{held_by};
+ghost use Rattle.exchange_core.specs.Message.{awaited, head_came};
 ghost use Rattle.flow_gate.specs.Board.{count, watchers_of};
 ghost use Rattle.flow_gate.specs.declared.ids.FlowId.{FlowId as Flow};
 ghost use Rattle.wire_flows.specs.Flows.{IsThere, flow_in, is_live_in, is_there, time_of};
@@ -11,7 +12,7 @@ ghost use Rattle.wire_flows.specs.Sound.{AreBounded, IsSound};
 ghost use Rattle.wire_flows.specs.Writes.{write_at};
 
 use crate::flows::WireFlows;
-use exchange_core::Ends;
+use exchange_core::{Awaited, Ends};
 use flow_gate::{BufferId, FlowId, Watchers};
 
 impl WireFlows {
@@ -76,6 +77,15 @@ impl WireFlows {
         self.exchanges.head_came(flow)
     }
 
+    /// What of a flow's message is still to come: nothing where the flow isn't live.
+    pub fn awaits(&self, flow: FlowId) -> Awaited
+        ensures awaited { result ≡ option_map_or (λ f. awaited f.message) (flow_in self.now flow) Awaited.Nothing }
+        ensures head { result ≡ Awaited.Head → (option_map_or (λ f. not f.message.ended) (flow_in self.now flow) false ≡ true) × (option_map_or (λ f. head_came f.message) (flow_in self.now flow) false ≡ false) }
+        ensures body { result ≡ Awaited.Body → (option_map_or (λ f. not f.message.ended) (flow_in self.now flow) false ≡ true) × (option_map_or (λ f. head_came f.message) (flow_in self.now flow) false ≡ true) }
+    {
+        self.exchanges.awaits(flow)
+    }
+
     /// Whether the end of a live flow came.
     pub fn has_ended(&self, flow: FlowId) -> bool
         requires { IsThere self.now flow }
@@ -88,7 +98,14 @@ impl WireFlows {
     pub fn goes_on(&self, flow: FlowId) -> bool
         ensures { result ≡ option_map_or (λ f. not f.message.ended) (flow_in self.now flow) false }
     {
-        self.exchanges.has_flow(flow) && !self.exchanges.has_ended(flow)
+        self.exchanges.goes_on(flow)
+    }
+
+    /// Whether a flow holds octets in some place. False where the flow isn't live.
+    pub fn holds(&self, flow: FlowId) -> bool
+        ensures { result ≡ option_map_or (λ f. nat_lt 0 (held_by f)) (flow_in self.now flow) false }
+    {
+        self.exchanges.holds(flow)
     }
 
     /// Which ends of a live exchange are framed.

@@ -61,8 +61,8 @@ impl WireFlows {
         };
         let (request_held, response_held) = begin_both(&mut self.gates, exchange, spec, config)?;
         if let Err(NoMemory) = self.exchanges.start(spec, config) {
-            self.gates.forget(flow_id(exchange, true));
-            self.gates.forget(flow_id(exchange, false));
+            self.gates.forget(FlowId::response(exchange));
+            self.gates.forget(FlowId::request(exchange));
             return Err(NoMemory);
         }
         Ok(Started {
@@ -92,13 +92,13 @@ fn begin_both(
     ensures sound { AreSoundGates gates.new }
     ensures err { OnErr result (IsSame gates.old gates.new) }
 {
-    let request = flow_id(exchange, false);
+    let request = FlowId::request(exchange);
     let filters = filters_of(config, spec.row, false);
     let request_held = begin(gates, request, filters, spec.to_conn)?;
     let filters = filters_of(config, spec.row, true);
     match begin(
         gates,
-        flow_id(exchange, true),
+        FlowId::response(exchange),
         filters,
         Some(spec.from_conn),
     ) {
@@ -215,10 +215,4 @@ fn filters_of(config: &Config, row: Option<u32>, back: bool) -> &[Filter]
         Some(route) => route.request.as_slice(),
         None => &[],
     }
-}
-
-fn flow_id(exchange: u64, back: bool) -> FlowId
-    ensures { result ≡ flow_number exchange back }
-{
-    FlowId { exchange, back }
 }

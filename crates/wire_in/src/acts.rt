@@ -5,7 +5,7 @@ ghost use Rattle.wire_state.specs.Progress.{to_go};
 ghost use Rattle.wire_state.specs.Sound.{IsSound};
 
 use crate::bodies::{Content, body, late};
-use crate::faults::{close_with, stream_fault};
+use crate::faults::{Concerns, close_with, stream_fault};
 use crate::heads::{head, trailers};
 use crate::settings::settings;
 use flow_gate::FlowId;
@@ -14,7 +14,7 @@ use h2_frames::codes::{COMPRESSION_ERROR, ENHANCE_YOUR_CALM, FLOW_CONTROL_ERROR}
 use h2_session::Act;
 use h2_windows::Overflow;
 use io_ports::{NoMemory, Octets};
-use wire_ends::{doom, put};
+use wire_ends::{Origin, doom, put};
 use wire_inlet::{Reading, Taken};
 use wire_outlet::Control;
 use wire_state::{Task, WireCore};
@@ -52,7 +52,7 @@ pub(crate) fn take_act(
         Act::Trailers { stream, .. } => trailers(core, number, stream, reading, notes),
         Act::OldBlock { .. } => old_block(core, number, reading, notes),
         Act::StreamError { stream, code, .. } => {
-            let fault = stream_fault(stream, code, content, is_update);
+            let fault = stream_fault(stream, code, content, Concerns::of(is_update));
             fault.take(core, number, reading, notes)
         }
         act => control(core, number, act, notes),
@@ -129,7 +129,7 @@ fn window_up(
     };
     core.ask_run(course)?;
     if widen(core, number, course.flow.exchange, n).is_err() {
-        let fault = stream_fault(stream, FLOW_CONTROL_ERROR, 0, true);
+        let fault = stream_fault(stream, FLOW_CONTROL_ERROR, 0, Concerns::Outgoing);
         return fault.end(core, number, notes);
     }
     core.refresh(course)
@@ -196,7 +196,13 @@ fn peer_reset(
     let FlowId { exchange, back } = course.flow;
     core.ask_run(course)?;
     close_resetting(core, number, back)?;
-    doom(core, exchange, Cause::PeerReset { code }, back, notes)
+    doom(
+        core,
+        exchange,
+        Cause::PeerReset { code },
+        Origin::of(course.flow),
+        notes,
+    )
 }
 
 // A client that reset more streams than it may has its connection closed.

@@ -1,12 +1,15 @@
 // DATA frames.
-ghost use Rattle.std.specs.Prelude.{◌≡◌, ◌≤◌, ◌+◌, ◌*◌, OnOk, length, true};
+ghost use Rattle.exchange_core.specs.Message.{head_came};
+ghost use Rattle.std.specs.Option.{option_map_or};
+ghost use Rattle.std.specs.Prelude.{◌≡◌, ◌≤◌, ◌+◌, ◌*◌, IfNone, OnOk, false, length, not, true};
+ghost use Rattle.wire_flows.specs.Flows.{flow_in};
 ghost use Rattle.wire_state.specs.Noting.{Appends};
 ghost use Rattle.wire_state.specs.Progress.{to_go};
 ghost use Rattle.wire_state.specs.Sound.{IsSound};
 
-use crate::faults::{close_with, counts_late, owe, stream_fault};
+use crate::faults::{Concerns, close_with, counts_late, owe, stream_fault};
 use crate::heads::{end_where, finish};
-use exchange_core::Received;
+use exchange_core::{Awaited, Received};
 use flow_notes::{Note, Notes};
 use h2_frames::codes::{FLOW_CONTROL_ERROR, PROTOCOL_ERROR};
 use io_ports::{NoMemory, Octets};
@@ -61,7 +64,8 @@ pub(crate) fn body(
     let Some(course) = core.flow_from(number, stream) else {
         return Ok(());
     };
-    if !content.is_counted() || !core.flows.goes_on(course.flow) {
+    let awaited = core.flows.awaits(course.flow);
+    if !content.is_counted() || awaited == Awaited::Nothing {
         return Ok(());
     }
     let came = count(core, number, course, content.counted);
@@ -69,9 +73,9 @@ pub(crate) fn body(
         return close_with(core, number, FLOW_CONTROL_ERROR, notes);
     }
     core.ask_run(course)?;
-    if let Some(code) = fault_in(core, course, came, content.octets.len(), last) {
+    if let Some(code) = fault_in(core, course, awaited, came, content.octets.len(), last) {
         // What the stream counted is, with its doom, the connection's.
-        let fault = stream_fault(stream, code, content.counted, false);
+        let fault = stream_fault(stream, code, content.counted, Concerns::Incoming);
         return fault.end(core, number, notes);
     }
     enter(core, number, course, content, stream, notes)?;
@@ -95,33 +99,37 @@ fn count(core: &mut WireCore, number: u32, course: Course, n: u32) -> Came
     }
 }
 
-// The stream error that n octets of a body are, if they are one.
-fn fault_in(core: &mut WireCore, course: Course, came: Came, n: usize, last: bool) -> Option<u32>
+// The stream error that n octets of a body are, if they are one: none only behind the head.
+fn fault_in(
+    core: &mut WireCore,
+    course: Course,
+    awaited: Awaited,
+    came: Came,
+    n: usize,
+    last: bool,
+) -> Option<u32>
     requires sound { IsSound core.old }
     ensures sound { IsSound core.new }
     ensures go { to_go core.new ≤ to_go core.old }
     ensures rest { core.new ≡ record core.old { lengths = core.new.lengths } }
+    ensures behind { IfNone result (awaited ≡ Awaited.Body) }
 {
     if came == Came::StreamOver {
         return Some(FLOW_CONTROL_ERROR);
     }
-    if fits(core, course, n, last) {
-        None
-    } else {
-        Some(PROTOCOL_ERROR)
+    match awaited {
+        Awaited::Body if fits(core, course, n, last) => None,
+        _ => Some(PROTOCOL_ERROR),
     }
 }
 
-// Whether a body may have these octets: it comes behind its head, and with a length that was declared.
+// Whether a body may have these octets by the length that was declared.
 fn fits(core: &mut WireCore, course: Course, n: usize, last: bool) -> bool
     requires sound { IsSound core.old }
     ensures sound { IsSound core.new }
     ensures go { to_go core.new ≤ to_go core.old }
     ensures rest { core.new ≡ record core.old { lengths = core.new.lengths } }
 {
-    if !core.flows.head_came(course.flow) {
-        return false;
-    }
     match core.lengths.get_mut(&course.flow.exchange) {
         Some(lengths) if course.flow.back => lengths.response.grows(n, last),
         Some(lengths) => lengths.request.grows(n, last),
@@ -139,6 +147,8 @@ fn enter(
     notes: &mut Notes,
 ) -> Result<(), NoMemory>
     requires sound { IsSound core.old }
+    requires goes_on { option_map_or (λ f. not f.message.ended) (flow_in core.old.flows course.flow) false ≡ true }
+    requires headed { option_map_or (λ f. head_came f.message) (flow_in core.old.flows course.flow) false ≡ true }
     ensures sound { OnOk result (IsSound core.new) }
     ensures go { OnOk result (to_go core.new ≤ to_go core.old + 220 * length content.octets) }
     ensures notes { Appends notes.old notes.new }
@@ -156,6 +166,8 @@ fn arrive(
     notes: &mut Notes,
 ) -> Result<(), NoMemory>
     requires sound { IsSound core.old }
+    requires goes_on { option_map_or (λ f. not f.message.ended) (flow_in core.old.flows course.flow) false ≡ true }
+    requires headed { option_map_or (λ f. head_came f.message) (flow_in core.old.flows course.flow) false ≡ true }
     ensures sound { OnOk result (IsSound core.new) }
     ensures go { OnOk result (to_go core.new ≤ to_go core.old + 220 * length octets) }
     ensures notes { Appends notes.old notes.new }
@@ -164,9 +176,6 @@ fn arrive(
         return Ok(());
     }
     let flow = course.flow;
-    if !core.flows.goes_on(flow) || !core.flows.head_came(flow) {
-        return Ok(());
-    }
     if core.flows.receive(flow, octets.as_slice()) != Received::Arrived {
         return Ok(());
     }

@@ -7,7 +7,7 @@ use flow_notes::{Cause, CloseCause, Event, FireKind, Job, Note, Notes};
 use io_ports::{NoMemory, Octets, PressureList};
 use proxy_config::LimitKeys;
 use std::alloc::Global;
-use wire_ends::{close, doom, lose, put};
+use wire_ends::{Origin, close, doom, lose, put};
 use wire_inlet::Peer;
 use wire_load::Action;
 use wire_outlet::Control;
@@ -119,8 +119,8 @@ fn open(core: &mut WireCore, number: u32, peer: Peer) -> Result<(), NoMemory>
     requires sound { IsSound core.old }
     ensures sound { OnOk result (IsSound core.new) }
 {
-    let conn = Conn::new(core.alloc, peer, &core.config.limits)?;
     core.flows.open_write(number)?;
+    let conn = Conn::new(core.alloc, peer, &core.config.limits)?;
     let _ = core.conns.insert(number, conn)?;
     core.stir(number)
 }
@@ -142,7 +142,7 @@ fn read_at(core: &mut WireCore, number: u32, octets: &Octets) -> Result<bool, No
     ensures sound { OnOk result (IsSound core.new) }
 {
     match core.conns.get_mut(&number) {
-        Some(conn) => conn.read(octets.as_slice()),
+        Some(conn) => conn.read(octets),
         None => Ok(false),
     }
 }
@@ -227,7 +227,7 @@ fn post(
                 core,
                 exchange,
                 Cause::Posted { poster, number },
-                false,
+                Origin::Neither,
                 notes,
             )
         }

@@ -8,7 +8,7 @@ ghost use Rattle.wire_state.specs.Sound.{IsSound};
 use flow_notes::{Cause, CloseCause, Note, Notes};
 use h2_frames::codes::{COMPRESSION_ERROR, FLOW_CONTROL_ERROR};
 use io_ports::NoMemory;
-use wire_ends::{close, doom, put_reset};
+use wire_ends::{Origin, close, doom, put_reset};
 use wire_inlet::Reading;
 use wire_state::{Course, Task, WireCore, note};
 
@@ -34,18 +34,38 @@ pub(crate) struct StreamFault {
     code: u32,
     /// The flow-controlled octets of its frame.
     content: u32,
-    /// Whether its frame was a WINDOW_UPDATE, which concerns the flow that goes to the stream.
-    is_update: bool,
+    concerns: Concerns,
 }
 
-pub(crate) fn stream_fault(stream: u32, code: u32, content: u32, is_update: bool) -> StreamFault
+/// Which flow of the stream's exchange the frame of a stream error concerns.
+#[derive(Clone, Copy)]
+pub(crate) enum Concerns {
+    /// That which comes from the stream.
+    Incoming,
+    /// That which goes to it: the frame was a WINDOW_UPDATE.
+    Outgoing,
+}
+
+impl Concerns {
+    /// By whether the frame was a WINDOW_UPDATE.
+    pub(crate) fn of(is_update: bool) -> Self {
+        if is_update {
+            Concerns::Outgoing
+        } else {
+            Concerns::Incoming
+        }
+    }
+}
+
+/// A stream error with this code, of a frame with so many flow-controlled octets.
+pub(crate) fn stream_fault(stream: u32, code: u32, content: u32, concerns: Concerns) -> StreamFault
     ensures { result.content ≡ content }
 {
     StreamFault {
         stream,
         code,
         content,
-        is_update,
+        concerns,
     }
 }
 
@@ -76,10 +96,9 @@ impl StreamFault {
     }
 
     fn concerned(&self, core: &WireCore, number: u32) -> Option<Course> {
-        if self.is_update {
-            core.flow_to(number, self.stream)
-        } else {
-            core.flow_from(number, self.stream)
+        match self.concerns {
+            Concerns::Incoming => core.flow_from(number, self.stream),
+            Concerns::Outgoing => core.flow_to(number, self.stream),
         }
     }
 
@@ -105,7 +124,13 @@ impl StreamFault {
         }
         if let Some(course) = core.flow_from(number, self.stream) {
             let cause = Cause::StreamError { code: self.code };
-            return doom(core, course.flow.exchange, cause, course.flow.back, notes);
+            return doom(
+                core,
+                course.flow.exchange,
+                cause,
+                Origin::of(course.flow),
+                notes,
+            );
         }
         if is_ignored(core, number, self.stream) {
             return Ok(());

@@ -7,8 +7,9 @@ ghost use Rattle.wire_state.specs.Noting.{Appends};
 ghost use Rattle.wire_state.specs.Progress.{to_go};
 ghost use Rattle.wire_state.specs.Sound.{IsSound};
 
-use crate::faults::{close_with, stream_fault};
+use crate::faults::{Concerns, close_with, stream_fault};
 use crate::requests::request;
+use exchange_core::Awaited;
 use flow_gate::FlowId;
 use flow_notes::Notes;
 use h2_frames::codes::{COMPRESSION_ERROR, PROTOCOL_ERROR};
@@ -70,9 +71,9 @@ fn response(
     let Some(course) = core.flow_from(number, stream) else {
         return Ok(());
     };
-    if !core.flows.goes_on(course.flow) || core.flows.head_came(course.flow) {
+    let Awaited::Head = core.flows.awaits(course.flow) else {
         return Ok(());
-    }
+    };
     core.ask_run(course)?;
     match judged(core, course.flow.exchange, fields.as_ref(), last) {
         Response::Interim => {
@@ -80,7 +81,8 @@ fn response(
             Ok(())
         }
         Response::Malformed => {
-            stream_fault(stream, PROTOCOL_ERROR, 0, false).end(core, number, notes)
+            let fault = stream_fault(stream, PROTOCOL_ERROR, 0, Concerns::Incoming);
+            fault.end(core, number, notes)
         }
         Response::Final { .. } => begin(core, course, stream, fields, last),
     }
@@ -214,7 +216,8 @@ pub(crate) fn trailers(
         return Ok(());
     };
     if !judge_trailers(fields.as_ref(), &expected) {
-        return stream_fault(stream, PROTOCOL_ERROR, 0, false).end(core, number, notes);
+        let fault = stream_fault(stream, PROTOCOL_ERROR, 0, Concerns::Incoming);
+        return fault.end(core, number, notes);
     }
     finish(core, course.flow, fields)?;
     core.flow_ended(course, stream)?;

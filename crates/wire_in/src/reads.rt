@@ -1,5 +1,5 @@
 // The frames of the octets that were read.
-ghost use Rattle.std.specs.Prelude.{◌≡◌, ◌<◌, IfOk, OnOk};
+ghost use Rattle.std.specs.Prelude.{◌≡◌, ◌<◌, ◌≤◌, IfOk, OnOk};
 ghost use Rattle.wire_state.specs.Intakes.{PaysFor};
 ghost use Rattle.wire_state.specs.Agenda.{top_go};
 ghost use Rattle.wire_state.specs.Noting.{Appends};
@@ -32,9 +32,29 @@ pub fn read(core: &mut WireCore, number: u32, notes: &mut Notes) -> Result<(), N
         }
         Intake::Taken(taken) => {
             core.stir(number)?;
+            end_read(core, number);
             core.begin(Task::AskDrain(number))?;
             take_act(core, number, taken, notes)
         }
+    }
+}
+
+// Where all octets of the connection are read, no more frames are taken.
+fn end_read(core: &mut WireCore, number: u32)
+    requires sound { IsSound core.old }
+    ensures sound { IsSound core.new }
+    ensures go { to_go core.new ≤ to_go core.old }
+    ensures rest { core.new ≡ record core.old { agenda = core.new.agenda } }
+{
+    if is_read(core, number) {
+        core.end_task();
+    }
+}
+
+fn is_read(core: &WireCore, number: u32) -> bool {
+    match core.conns.get(&number) {
+        Some(conn) => conn.inlet.is_read(),
+        None => true,
     }
 }
 

@@ -9,13 +9,13 @@ ghost use Rattle.wire_state.specs.Progress.{to_go};
 ghost use Rattle.wire_state.specs.Sound.{IsSound};
 
 use crate::heads::{self, finish};
-use exchange_core::StartSpec;
+use exchange_core::{Awaited, StartSpec};
 use flow_gate::{BufferId, FlowId};
 use flow_notes::{Cause, FireKind, Note, Notes};
 use h2_frames::codes::PROTOCOL_ERROR;
 use hpack_codec::FieldList;
 use io_ports::NoMemory;
-use wire_ends::doom;
+use wire_ends::{Origin, doom};
 use wire_flows::Started;
 use wire_heads::{Decision, Expected, Judged, judge_request, place};
 use wire_load::Action;
@@ -54,7 +54,7 @@ pub(crate) fn request(
     if last {
         finish(core, course.flow, None)?;
     }
-    doom(core, course.flow.exchange, cause, false, notes)
+    doom(core, course.flow.exchange, cause, Origin::Neither, notes)
 }
 
 // A request goes on, whose flow began just now.
@@ -69,10 +69,10 @@ fn go(
     ensures sound { OnOk result (IsSound core.new) }
     ensures go { OnOk result (to_go core.new ≤ to_go core.old + 41) }
 {
-    if !core.flows.goes_on(course.flow) || core.flows.head_came(course.flow) {
-        return Ok(());
+    match core.flows.awaits(course.flow) {
+        Awaited::Head => heads::begin(core, course, stream, fields, last),
+        _ => Ok(()),
     }
-    heads::begin(core, course, stream, fields, last)
 }
 
 // Whether a connection takes no later streams: then the stream is closed.
@@ -146,7 +146,7 @@ fn begin(
     )?;
     note_held(started, number, to, notes)?;
     Ok(Course {
-        flow: request_of(exchange),
+        flow: FlowId::request(exchange),
         from: Some(number),
         to,
     })
@@ -223,13 +223,6 @@ fn begin_stream(core: &mut WireCore, number: u32, exchange: u64) -> Result<(), N
     }
 }
 
-fn request_of(exchange: u64) -> FlowId {
-    FlowId {
-        exchange,
-        back: false,
-    }
-}
-
 // How an exchange begins on a stream of a client's connection, by its row and the connection chosen.
 fn spec_of(
     core: &WireCore,
@@ -276,17 +269,16 @@ fn note_held(
         note(
             notes,
             Note::Pause {
-                flow: request_of(exchange),
+                flow: FlowId::request(exchange),
                 buffer: BufferId::Write(to),
             },
         )?;
     }
     if started.response_held {
-        let back = true;
         note(
             notes,
             Note::Pause {
-                flow: FlowId { exchange, back },
+                flow: FlowId::response(exchange),
                 buffer: BufferId::Write(number),
             },
         )?;

@@ -5,13 +5,16 @@ ghost use Rattle.wire_state.specs.Progress.{conn_go, to_go};
 ghost use Rattle.wire_state.specs.Sound.{IsSound};
 
 use crate::faults::close_with;
+use flow_gate::FlowId;
 use flow_notes::Notes;
 use h2_frames::codes::FLOW_CONTROL_ERROR;
 use h2_session::SettingList;
 use io_ports::NoMemory;
 use wire_ends::put;
+use wire_flows::WireFlows;
+use wire_links::Links;
 use wire_outlet::Control;
-use wire_state::{Conn, Course, WireCore};
+use wire_state::{Conn, WireCore};
 
 const HEADER_TABLE_SIZE: u16 = 1;
 
@@ -86,57 +89,71 @@ fn set_windows_of(conn: &mut Conn, named: Named) -> bool
     }
 }
 
+// It isn't inlined, and the state of its loop is plain numbers, so that it lies in registers: a frame may name many settings.
+#[inline(never)]
 fn named_in(list: &SettingList) -> Named {
-    let mut named = Named {
-        table: false,
-        concurrent: None,
-        payload: None,
-        initial: None,
-    };
+    let mut table = false;
+    let mut concurrent = None;
+    let mut payload = None;
+    let mut windows = false;
+    let mut greatest = 0;
+    let mut last = 0;
     for setting in list.as_slice() {
         let value = setting.value;
         match setting.id {
-            HEADER_TABLE_SIZE => named.table = true,
-            MAX_CONCURRENT_STREAMS => named.concurrent = Some(value),
-            MAX_FRAME_SIZE => named.payload = Some(value),
             INITIAL_WINDOW_SIZE => {
-                let greatest = match named.initial {
-                    Some((greatest, _)) => greatest.max(value),
-                    None => value,
-                };
-                named.initial = Some((greatest, value));
+                windows = true;
+                greatest = value.max(greatest);
+                last = value;
             }
+            HEADER_TABLE_SIZE => table = true,
+            MAX_CONCURRENT_STREAMS => concurrent = Some(value),
+            MAX_FRAME_SIZE => payload = Some(value),
             _ => {}
         }
     }
-    named
+    let initial = if windows {
+        Some((greatest, last))
+    } else {
+        None
+    };
+    Named {
+        table,
+        concurrent,
+        payload,
+        initial,
+    }
 }
 
 // What goes next of each flow that goes to the connection, whose windows are others now.
 fn refresh_all(core: &mut WireCore, number: u32) -> Result<(), NoMemory>
     requires sound { IsSound core.old }
     ensures sound { OnOk result (IsSound core.new) }
-    ensures go { OnOk result (to_go core.new ≤ to_go core.old) }
+    ensures go { to_go core.new ≤ to_go core.old }
 {
+    match core.conns.get_mut(&number) {
+        Some(conn) => refresh_each(conn, &core.links, &core.flows, number),
+        None => Ok(()),
+    }
+}
+
+fn refresh_each(
+    conn: &mut Conn,
+    links: &Links,
+    flows: &WireFlows,
+    number: u32,
+) -> Result<(), NoMemory>
+    ensures rest { conn.new ≡ record conn.old { ready = conn.new.ready } }
+    ensures go { conn_go conn.new ≤ conn_go conn.old }
+{
+    let back = conn.is_client();
     let mut after = 0;
-    for _exchange in 0..core.links.exchanges_of(number) {
-        let Some(exchange) = core.links.next_of(number, after) else {
+    for _exchange in 0..links.exchanges_of(number) {
+        let Some(exchange) = links.next_of(number, after) else {
             return Ok(());
         };
-        refresh_one(core, number, exchange)?;
+        conn.refresh(flows, FlowId { exchange, back })?;
         after = exchange;
     }
     Ok(())
-}
-
-// What goes next of the flow of an exchange that goes to the connection.
-fn refresh_one(core: &mut WireCore, number: u32, exchange: u64) -> Result<(), NoMemory>
-    requires sound { IsSound core.old }
-    ensures sound { OnOk result (IsSound core.new) }
-    ensures go { OnOk result (to_go core.new ≤ to_go core.old) }
-{
-    match core.links.ends_of(exchange) {
-        Some(ends) => core.refresh(Course::of(exchange, ends.client == number, ends)),
-        None => Ok(()),
-    }
 }

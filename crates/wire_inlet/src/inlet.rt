@@ -1,5 +1,5 @@
 // One connection's octets in.
-ghost use Rattle.std.specs.Prelude.{◌≡◌, ◌++◌, ◌∷◌, ◌⊎◌, [], List, Some, None, false, true, is_some, length, if◌then◌else◌, IfErr, IfOk, IsErr, IsNone, MatchOption, OnErr, OnOk};
+ghost use Rattle.std.specs.Prelude.{◌≡◌, ◌==◌, ◌++◌, ◌∷◌, ◌⊎◌, [], List, false, true, is_some, if◌then◌else◌, length, IfErr, IfOk, IsErr, IsNone, MatchOption, OnErr, OnOk};
 ghost use Rattle.h2_session.specs.Happened.{Happening, Opened, Ended, Closed, Interim, next_stream};
 ghost use Rattle.h2_session.specs.Streams.{greatest_of_peer, is_open};
 ghost use Rattle.h2_session.specs.Summary.{StandsFor, noted};
@@ -15,7 +15,7 @@ use crate::unread::Unread;
 use h2_frames::codes::PROTOCOL_ERROR;
 use h2_frames::{ReadFrame, read_frame};
 use h2_session::Prefaced;
-use io_ports::NoMemory;
+use io_ports::{NoMemory, Octets};
 use std::alloc::Global;
 use std::marker::Model;
 
@@ -93,8 +93,9 @@ impl Inlet {
         }
     }
 
-    /// Octets came. After running out of memory nothing changed.
-    pub fn push(&mut self, octets: &[u8]) -> Result<(), NoMemory>
+    /// Octets came. Where they share a block and all that came before is read, they stay there. After
+    /// running out of memory nothing changed.
+    pub fn push(&mut self, octets: &Octets) -> Result<(), NoMemory>
         ensures ok { OnOk result (self.new ≡ record self.old { unread = self.old.unread ++ octets.now }) }
         ensures err { OnErr result (self.new ≡ self.old) }
     {
@@ -134,6 +135,13 @@ impl Inlet {
                 Ok(Intake::Taken(taken))
             }
         }
+    }
+
+    /// Whether all octets that came are read.
+    pub fn is_read(&self) -> bool
+        ensures { result ≡ (length self.now.unread == 0) }
+    {
+        self.unread.is_empty()
     }
 
     /// Whether a stream is open, half-closed too. It isn't where it is idle or closed: on such a

@@ -1,5 +1,5 @@
 // What the frames of a connection mean, and what their header blocks give.
-ghost use Rattle.std.specs.Prelude.{◌≡◌, ◌≤◌, ◌<◌, ◌^◌, ◌⊎◌, [], None, Some, false, true, length, IfOk, IsErr, MatchOption, OnErr};
+ghost use Rattle.std.specs.Prelude.{◌≡◌, ◌≤◌, ◌<◌, ◌^◌, ◌⊎◌, [], None, Some, false, true, IfOk, MatchOption, OnErr};
 ghost use Rattle.h2_frames.specs.Frame.{padding_of};
 ghost use Rattle.h2_frames.specs.Spelling.{IsWritable};
 ghost use Rattle.h2_frames.specs.View.{view};

@@ -1,15 +1,17 @@
 // Octets that came and aren't read yet.
-ghost use Rattle.std.specs.Prelude.{◌≡◌, ◌≤◌, ◌+◌, ◌-◌, ◌++◌, [], length, take, drop, OnOk, OnErr};
+ghost use Rattle.std.specs.Prelude.{◌≡◌, ◌==◌, ◌≤◌, ◌++◌, [], drop, length, OnErr, OnOk};
 
-use io_ports::NoMemory;
+use io_ports::{NoMemory, Octets};
 use std::alloc::Global;
 use std::marker::Model;
 
 /// The octets from a place on. Those before it were read, and go when they are at least as many as
-/// the others: so an octet is moved to the front at the cost of one that was read.
+/// the others: so an octet is moved to the front at the cost of one that was read. Octets that come
+/// where all are read stay in the block that they came in.
 #[derive(Debug, Drop)]
 pub struct Unread {
-    octets: Vec<u8>,
+    alloc: Global,
+    octets: Octets,
     at: usize,
 }
 
@@ -18,9 +20,9 @@ impl Model for Unread {
 
     ghost Value = { List ℕ };
 
-    ghost view = { λ u. drop u.at u.octets.items };
+    ghost view = { λ u. drop u.at u.octets };
 
-    ghost invariant = { λ u. u.at ≤ length u.octets.items };
+    ghost invariant = { λ u. u.at ≤ length u.octets };
 }
 
 impl Unread {
@@ -29,7 +31,8 @@ impl Unread {
         ensures { result ≡ [] }
     {
         Unread {
-            octets: Vec::new(alloc),
+            alloc,
+            octets: Octets::new(alloc),
             at: 0,
         }
     }
@@ -41,14 +44,25 @@ impl Unread {
         unread
     }
 
+    pub fn is_empty(&self) -> bool
+        ensures { result ≡ (length self.now == 0) }
+    {
+        self.octets.len() == self.at
+    }
+
     /// Appends octets. After running out of memory the octets are as they were.
-    pub fn push_all(&mut self, more: &[u8]) -> Result<(), NoMemory>
+    #[tactic(auto, using(crate::proofs::Joined::none_before))]
+    pub fn push_all(&mut self, more: &Octets) -> Result<(), NoMemory>
         ensures ok { OnOk result (self.new ≡ self.old ++ more.now) }
         ensures err { OnErr result (self.new ≡ self.old) }
     {
-        self.cut();
-        self.octets.extend_from_slice(more)?;
-        Ok(())
+        if self.is_empty() {
+            self.octets = more.copied()?;
+            self.at = 0;
+            return Ok(());
+        }
+        self.cut()?;
+        self.octets.push_all(more.as_slice())
     }
 
     /// The first n octets were read.
@@ -56,30 +70,20 @@ impl Unread {
         requires { n ≤ length self.old }
         ensures { self.new ≡ drop n self.old }
     {
-        self.at += n;
+        let left = self.octets.len() - self.at;
+        self.at = self.octets.len() - (left - n);
     }
 
     // Drops the octets that were read where they are at least as many as the others.
-    fn cut(&mut self)
+    fn cut(&mut self) -> Result<(), NoMemory>
         ensures { self.new ≡ self.old }
     {
         let left = self.octets.len() - self.at;
         if self.at < left || self.at == 0 {
-            return;
+            return Ok(());
         }
-        move_to_front(self.octets.as_mut_slice(), self.at);
-        self.octets.truncate(left);
+        self.octets = Octets::from_slice(self.alloc, self.as_slice())?;
         self.at = 0;
+        Ok(())
     }
-}
-
-// The octets from a place on, which are at most as many as those before it, come to the front.
-fn move_to_front(octets: &mut [u8], at: usize)
-    requires within { at ≤ length octets.old }
-    requires few { length octets.old ≤ at + at }
-    ensures { take (length octets.old - at) octets.new ≡ drop at octets.old }
-{
-    let (front, back) = octets.split_at_mut(at);
-    let (first, _) = front.split_at_mut(back.len());
-    first.copy_from_slice(back);
 }

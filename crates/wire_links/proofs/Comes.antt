@@ -139,12 +139,6 @@ module _ (seats : Seats) (exchanges : Exchanges) (offers : Offers) (clients : Li
     clients = ap (λ cs. insert_key nat_cmp cs c) can.kept.clients ∙ sym (come_where seats exchanges offers clients c None can (λ _. is_open_client));
   }
 
--- a cluster gets room for one connection more than there are
-pub record HasMade (seats : Seats) (offers offers' : Offers) (k : ℕ) : Type 0 where
-  pub items : (j : ℕ) → items_at j offers' ≡ items_at j offers
-  pub more : (j : ℕ) → room_at j offers ≤ room_at j offers'
-  pub room : length seats + 1 ≤ room_at k offers'
-
 -- the room that is made alone
 pub room_made : (seats : Seats) (exchanges : Exchanges) (offers offers' : Offers) (clients : List ℕ) → AreKept seats exchanges offers clients → ((j : ℕ) → items_at j offers' ≡ items_at j offers) →
     ((j : ℕ) → room_at j offers ≤ room_at j offers') → AreKept seats exchanges offers' clients

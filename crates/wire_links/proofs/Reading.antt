@@ -10,15 +10,14 @@ use Rattle.std.specs.Option.{is_some, option_and_then, option_map, option_map_or
 use Rattle.std.specs.Ordering.{nat_cmp}
 use Rattle.std.specs.declared.ops.Bound.TheVariants.{Excluded, Unbounded}
 use Rattle.std.specs.Prelude.{Bool, IfSome, List, None, Option, Some, [], false, if◌then◌else◌, nat_lt, slice_get, true, ℕ, ◌<◌, ◌&&◌, ◌^◌, ◌∷◌, ◌≡◌}
-use Rattle.wire_links.proofs.Offered.{Conns, Exchanges, takes}
+use Rattle.wire_links.proofs.Offered.{Exchanges, takes}
 use Rattle.wire_links.proofs.Seen.{keys_seen, under_seen}
-use Rattle.number_set.proofs.Sorted.{rises_none}
 use Rattle.wire_links.proofs.Tables.{is_found, same_itself}
 use Rattle.number_set.proofs.Tests.{same_is}
 use Rattle.wire_links.proofs.Under.{seen_removed, some_is}
 use Rattle.wire_links.proofs.Where.{all_where, first_in, has_where, holds}
 use Rattle.wire_links.specs.Kept.{AreKept, Offers, Seats, conns_of, items_at, streams_at}
-use Rattle.wire_links.specs.Links.{IsOn, IsSound, Links, chosen, no_links, cluster_of, exchange_at, exchanges_of, forgotten, is_on, is_same, is_such, takers}
+use Rattle.wire_links.specs.Links.{IsOn, IsSound, Links, chosen, cluster_of, exchange_at, exchanges_of, forgotten, is_on, is_same, takers}
 use Rattle.number_set.specs.NumberSet.{Rises, first, first_above, has}
 use Rattle.wire_links.specs.Numbers.{numbers_where, under}
 use Rattle.wire_links.specs.Seats.{Seat}
@@ -28,24 +27,12 @@ abbrev pub links_at : Seats → Exchanges → Links
 links_at seats exchanges = record { conns = conns_of seats; exchanges = exchanges }
 
 -- ---- of a connection
-pub such_found : (seats : Seats) (exchanges : Exchanges) (c : ℕ) (p : Conn → Bool) (seat : Seat) → under c seats ≡ Some seat → is_such p c (links_at seats exchanges) ≡ p seat.conn
-such_found seats exchanges c p seat is = ap (λ o. option_map_or p o false) (under_seen seats c ∙ ap (option_map (λ (s : Seat). s.conn)) is)
-
-pub such_none : (seats : Seats) (exchanges : Exchanges) (c : ℕ) (p : Conn → Bool) → under c seats ≡ None → is_such p c (links_at seats exchanges) ≡ false
-such_none seats exchanges c p none = ap (λ o. option_map_or p o false) (under_seen seats c ∙ ap (option_map (λ (s : Seat). s.conn)) none)
-
 pub known_is : (seats : Seats) (c : ℕ) → is_some (under c seats) ≡ is_some (under c (conns_of seats))
 known_is seats c = by_found (under c seats) ∙ ap is_some (sym (under_seen seats c))
   where
     by_found : (o : Option Seat) → is_some o ≡ is_some (option_map (λ (s : Seat). s.conn) o)
     by_found None = refl
     by_found (Some s) = refl
-
-pub field_found : (seats : Seats) (exchanges : Exchanges) (c : ℕ) (p : Conn → Option ℕ) (seat : Seat) → under c seats ≡ Some seat → option_and_then p (under c (conns_of seats)) ≡ p seat.conn
-field_found seats exchanges c p seat is = ap (option_and_then p) (under_seen seats c ∙ ap (option_map (λ (s : Seat). s.conn)) is)
-
-pub field_none : (seats : Seats) (c : ℕ) (p : Conn → Option ℕ) → under c seats ≡ None → option_and_then p (under c (conns_of seats)) ≡ None
-field_none seats c p none = ap (option_and_then p) (under_seen seats c ∙ ap (option_map (λ (s : Seat). s.conn)) none)
 
 module _ (seats : Seats) (exchanges : Exchanges) (offers : Offers) (clients : List ℕ) (kept : AreKept seats exchanges offers clients) where
   -- ---- the exchanges of a connection
@@ -125,33 +112,6 @@ pub next_in : (n : ℕ) (xs : List ℕ) → slice_get (filter (range_contains na
 next_in n xs = first_filter (range_contains nat_cmp (Excluded n) Unbounded) xs ∙ (λ i. find (λ k. range_is n k i) xs)
 
 -- ---- nothing is kept yet
-nothing_kept : AreKept [] [] [] []
-nothing_kept = record {
-  conns = rises_none;
-  small = tt;
-  order = rises_none;
-  ends = λ x. tt;
-  numbers = λ c. refl;
-  tables = λ c. rises_none;
-  streams = λ c stream x. refl;
-  offers = λ k. refl;
-  room = λ k. omega arith;
-  clients = refl;
-}
-
-pub kept_empty : (seats : Seats) (exchanges : Exchanges) (offers : Offers) (clients : List ℕ) → seats ≡ [] → exchanges ≡ [] → offers ≡ [] → clients ≡ [] → AreKept seats exchanges offers clients
-kept_empty seats exchanges offers clients s e o c =
-    subst (λ a. AreKept a exchanges offers clients) (sym s) (subst (λ a. AreKept [] a offers clients) (sym e) (subst (λ a. AreKept [] [] a clients) (sym o) (subst (AreKept [] [] []) (sym c) nothing_kept)))
-
-pub seen_empty : (seats : Seats) (exchanges : Exchanges) → seats ≡ [] → exchanges ≡ [] → links_at seats exchanges ≡ no_links
-seen_empty seats exchanges s e = λ i. links_at (s i) (e i)
-
 -- ---- what is seen after a step
 pub seen_gone : (seats seats' : Seats) (exchanges : Exchanges) (c : ℕ) → seats' ≡ remove_entry (is_at (nat_cmp c)) seats → links_at seats' exchanges ≡ forgotten c (links_at seats exchanges)
 seen_gone seats seats' exchanges c is = λ i. record { conns = (ap conns_of is ∙ seen_removed (λ (s : Seat). s.conn) seats c) i; exchanges = exchanges }
-
-pub seen_same : (seats seats' : Seats) (exchanges exchanges' : Exchanges) → conns_of seats' ≡ conns_of seats → (links : Exchanges) → exchanges' ≡ links → links_at seats' exchanges' ≡ record (links_at seats exchanges) { exchanges = links }
-seen_same seats seats' exchanges exchanges' conns links is = λ i. record { conns = conns i; exchanges = is i }
-
-pub seen_conns : (seats' : Seats) (exchanges : Exchanges) (conns : Conns) → conns_of seats' ≡ conns → links_at seats' exchanges ≡ record { conns = conns; exchanges = exchanges }
-seen_conns seats' exchanges conns is = λ i. record { conns = is i; exchanges = exchanges }

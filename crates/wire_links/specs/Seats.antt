@@ -15,7 +15,7 @@ pub record Seat : Type 0 where
   pub streams : List (ℕ × ℕ)
 
 abbrev pub seat_of : Inside → Seat
-seat_of c = record { conn = c.conn; numbers = c.numbers.items; streams = c.streams.entries }
+seat_of c = record { conn = c.conn; numbers = c.numbers.items; streams = c.streams }
 
 abbrev pub with_state : Conn → Seat → Seat
 with_state conn seat = record seat { conn = conn }

@@ -1,7 +1,7 @@
 // The connections of a worker.
-ghost use Rattle.std.specs.Prelude.{◌≡◌, ◌&&◌, [], IfSome, IsSomeAnd, OnErr, OnOk, Some, false, length, not, true};
+ghost use Rattle.std.specs.Prelude.{◌≡◌, ◌&&◌, IfSome, IsSomeAnd, OnErr, OnOk, Some, false, length, not, true};
 ghost use Rattle.wire_links.specs.Kept.{IsNext};
-ghost use Rattle.wire_links.specs.Links.{IsSound, accepted, chosen, closed, cluster_of, conn_at, drained, exchanges_of, forgotten, goaway_last, is_client, is_draining, is_known, is_open, joined, least_of, next_client, next_of, no_links, takers, with_concurrent, with_conn};
+ghost use Rattle.wire_links.specs.Links.{IsSound, accepted, chosen, closed, cluster_of, conn_at, drained, exchanges_of, forgotten, goaway_last, is_client, is_draining, is_known, is_open, joined, next_client, no_links, takers, with_concurrent, with_conn};
 ghost use Rattle.number_set.specs.NumberSet.{has};
 
 mod exchanges;

@@ -1,5 +1,5 @@
 // A connection as it is kept.
-ghost use Rattle.std.specs.Prelude.{◌≡◌, [], IfOk, OnErr, OnOk, length};
+ghost use Rattle.std.specs.Prelude.{◌≡◌, [], OnErr, OnOk, length};
 ghost use Rattle.wire_links.specs.Links.{takes_one};
 ghost use Rattle.number_set.specs.NumberSet.{first, first_above};
 ghost use Rattle.wire_links.specs.Numbers.{under};
@@ -7,9 +7,8 @@ ghost use Rattle.wire_links.specs.Seats.{left, linked, opened, placed, with_stat
 
 use crate::conn::Conn;
 use io_ports::NoMemory;
-use number_set::NumberSet;
+use number_set::{NumberMap, NumberSet};
 use std::alloc::Global;
-use std::collections::BTreeMap;
 use std::marker::Model;
 
 /// A connection: its state, its exchanges, and which of them is on which stream.
@@ -17,7 +16,7 @@ use std::marker::Model;
 pub(crate) struct Seat {
     conn: Conn,
     numbers: NumberSet,
-    streams: BTreeMap<u32, u64>,
+    streams: NumberMap<u64>,
 }
 
 impl Model for Seat {
@@ -38,7 +37,7 @@ impl Seat {
         Seat {
             conn,
             numbers: NumberSet::new(alloc),
-            streams: BTreeMap::new(alloc),
+            streams: NumberMap::new(alloc),
         }
     }
 
@@ -79,7 +78,7 @@ impl Seat {
     pub(crate) fn exchange_at(&self, stream: u32) -> Option<u64>
         ensures { result ≡ under stream self.now.streams }
     {
-        self.streams.get(&stream).copied()
+        self.streams.get(u64::from(stream))
     }
 
     /// Whether it can take one more exchange for the cluster.
@@ -104,8 +103,7 @@ impl Seat {
         ensures ok { OnOk result (self.new ≡ placed stream exchange self.old) }
         ensures err { OnErr result (self.new ≡ self.old) }
     {
-        self.streams.insert(stream, exchange)?;
-        Ok(())
+        self.streams.insert(u64::from(stream), exchange)
     }
 
     /// An exchange comes on a stream.
@@ -114,7 +112,7 @@ impl Seat {
         ensures err { OnErr result (self.new ≡ self.old) }
     {
         self.numbers.reserve_one()?;
-        self.streams.insert(stream, exchange)?;
+        self.streams.insert(u64::from(stream), exchange)?;
         self.numbers.mark(exchange, true);
         Ok(())
     }
@@ -125,7 +123,7 @@ impl Seat {
     {
         self.numbers.mark(exchange, false);
         if let Some(stream) = stream {
-            let _ = self.streams.remove(&stream);
+            self.streams.remove(u64::from(stream));
         }
     }
 }

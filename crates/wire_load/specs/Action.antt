@@ -1,8 +1,8 @@
 -- Which state an overload action has.
 use Rattle.std.specs.Prelude.{ℕ}
 use Rattle.overload_core.specs.declared.actions.Actions.{Actions}
-use Rattle.wire_load.specs.declared.action.Action.{Action}
-use Rattle.wire_load.specs.declared.action.Action.TheVariants.{StopRequests, StopAccepting, RejectIncoming, NoKeepalive, ReduceTimeouts, ResetStreams}
+use Rattle.wire_load.specs.declared.load.Action.{Action}
+use Rattle.wire_load.specs.declared.load.Action.TheVariants.{StopRequests, StopAccepting, RejectIncoming, NoKeepalive, ReduceTimeouts, ResetStreams}
 
 abbrev pub state_of : Actions → Action → ℕ
 state_of a StopRequests = a.stop_requests

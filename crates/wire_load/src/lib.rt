@@ -2,10 +2,8 @@
 //! dispatch that is under way has touched.
 #![tactic(auto)]
 
-mod action;
 mod following;
 mod load;
 
-pub use action::Action;
 pub use following::load_follows;
-pub use load::Load;
+pub use load::{Action, Load};

@@ -1,11 +1,10 @@
 //! The load that the exchanges of a worker make, and what it asks for.
 ghost use Rattle.std.specs.Prelude.{◌≡◌, ◌≤◌, ◌<◌, [], ◌∷◌, ⊤, IfOk, MatchOption, OnErr, OnOk};
-ghost use Rattle.std.specs.List.{All, AllPairs};
+ghost use Rattle.std.specs.List.{AllPairs};
 ghost use Rattle.overload_core.specs.ActionStates.{actions_at, is_saturated, AreStates};
 ghost use Rattle.wire_load.specs.Action.{state_of};
 ghost use Rattle.wire_load.specs.Load.{unloaded, with_touched, settled, dropped, reset_next};
 
-use crate::action::Action;
 use io_ports::NoMemory;
 use link_lists::Steps;
 use overload_core::{Actions, Classes, action_states, class_has_number, is_saturated};
@@ -14,6 +13,23 @@ use std::alloc::Global;
 use std::collections::BTreeSet;
 use std::marker::{Brand, Model};
 use std::sync::ledger::{Blank, Ledger};
+
+/// What a worker does under load.
+#[derive(Clone, Copy, Debug, PartialEq, Eq)]
+pub enum Action {
+    /// Requests are refused where saturated.
+    StopRequests,
+    /// No connection is taken where saturated.
+    StopAccepting,
+    /// Connections are closed as they come where saturated.
+    RejectIncoming,
+    /// Connections of clients are drained where saturated.
+    NoKeepalive,
+    /// Timers are scaled.
+    ReduceTimeouts,
+    /// Exchanges are reset, those that hold most first.
+    ResetStreams,
+}
 
 /// The states of the six overload actions, the exchanges by memory class, and the exchanges that this dispatch touched.
 ///

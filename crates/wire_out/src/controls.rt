@@ -22,7 +22,7 @@ pub(crate) fn frame_waiting(
     requires sound { IsSound core.old }
     requires top { top_go core.old.agenda ≡ 1 }
     ensures sound { OnOk result (IsSound core.new) }
-    ensures go { OnOk result (to_go core.new + (1 + stirred_at number core.old.stirred.conns.keys) ≤ to_go core.old) }
+    ensures go { OnOk result (to_go core.new + (1 + stirred_at number core.old.stirred.conns.items) ≤ to_go core.old) }
     ensures notes { Appends notes.old notes.new }
 {
     let Some((framed, crossed)) = write_waiting(core, number)? else {
@@ -65,7 +65,7 @@ pub(crate) fn frame_first_credit(
     requires sound { IsSound core.old }
     requires top { top_go core.old.agenda ≡ 1 }
     ensures sound { OnOk result (IsSound core.new) }
-    ensures go { OnOk result (to_go core.new + (1 + stirred_at number core.old.stirred.conns.keys) ≤ to_go core.old) }
+    ensures go { OnOk result (to_go core.new + (1 + stirred_at number core.old.stirred.conns.items) ≤ to_go core.old) }
     ensures notes { Appends notes.old notes.new }
 {
     let n = grant_first(core, number);
@@ -94,7 +94,7 @@ pub(crate) fn frame_credit(
     requires sound { IsSound core.old }
     requires top { top_go core.old.agenda ≡ 1 }
     ensures sound { OnOk result (IsSound core.new) }
-    ensures go { OnOk result (to_go core.new + (1 + stirred_at number core.old.stirred.conns.keys) ≤ to_go core.old) }
+    ensures go { OnOk result (to_go core.new + (1 + stirred_at number core.old.stirred.conns.items) ≤ to_go core.old) }
     ensures notes { Appends notes.old notes.new }
 {
     let n = grant_conn(core, number);
@@ -124,7 +124,7 @@ pub(crate) fn frame_stream_credit(
     requires sound { IsSound core.old }
     requires top { top_go core.old.agenda ≡ 1 }
     ensures sound { OnOk result (IsSound core.new) }
-    ensures go { OnOk result (to_go core.new + (1 + stirred_at number core.old.stirred.conns.keys) ≤ to_go core.old) }
+    ensures go { OnOk result (to_go core.new + (1 + stirred_at number core.old.stirred.conns.items) ≤ to_go core.old) }
     ensures notes { Appends notes.old notes.new }
 {
     let n = grant(core, number, exchange);
@@ -170,7 +170,7 @@ fn frame_update(
     requires top { top_go core.old.agenda ≡ 1 }
     requires fits { n < 2 ^ 31 }
     ensures sound { OnOk result (IsSound core.new) }
-    ensures go { OnOk result (to_go core.new + (1 + stirred_at number core.old.stirred.conns.keys) ≤ to_go core.old + 4 * n) }
+    ensures go { OnOk result (to_go core.new + (1 + stirred_at number core.old.stirred.conns.items) ≤ to_go core.old + 4 * n) }
     ensures notes { Appends notes.old notes.new }
 {
     let Some(crossed) = write_update(core, number, stream, n)? else {

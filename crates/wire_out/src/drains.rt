@@ -31,6 +31,24 @@ pub fn ask_drain(core: &mut WireCore, number: u32, notes: &mut Notes) -> Result<
     }
 }
 
+/// A connection, of which this unit goes next, is drained from now on, unless it is being drained.
+pub(crate) fn drain_by(
+    core: &mut WireCore,
+    number: u32,
+    unit: NextUnit,
+    notes: &mut Notes,
+) -> Result<(), NoMemory>
+    requires sound { IsSound core.old }
+    ensures sound { OnOk result (IsSound core.new) }
+    ensures go { OnOk result (to_go core.new ≤ to_go core.old) }
+    ensures notes { Appends notes.old notes.new }
+{
+    if core.agenda.is_draining(number) {
+        return Ok(());
+    }
+    begin_drain(core, number, unit, notes)
+}
+
 /// A connection is drained from now on, beginning with this unit, which goes next there.
 pub fn begin_drain(
     core: &mut WireCore,
@@ -40,7 +58,7 @@ pub fn begin_drain(
 ) -> Result<(), NoMemory>
     requires sound { IsSound core.old }
     ensures sound { OnOk result (IsSound core.new) }
-    ensures go { OnOk result (to_go core.new + stirred_at number core.old.stirred.conns.keys ≤ to_go core.old) }
+    ensures go { OnOk result (to_go core.new + stirred_at number core.old.stirred.conns.items ≤ to_go core.old) }
     ensures notes { Appends notes.old notes.new }
 {
     core.begin(Task::Drain(number))?;
@@ -74,7 +92,7 @@ fn frame_next(
     requires sound { IsSound core.old }
     requires top { top_go core.old.agenda ≡ 1 }
     ensures sound { OnOk result (IsSound core.new) }
-    ensures go { OnOk result (to_go core.new + (1 + stirred_at number core.old.stirred.conns.keys) ≤ to_go core.old) }
+    ensures go { OnOk result (to_go core.new + (1 + stirred_at number core.old.stirred.conns.items) ≤ to_go core.old) }
     ensures notes { Appends notes.old notes.new }
 {
     match unit {
@@ -87,7 +105,7 @@ fn frame_next(
 }
 
 /// What may be framed at a connection now.
-pub fn next_unit(core: &mut WireCore, number: u32) -> Option<NextUnit>
+pub(crate) fn next_unit(core: &mut WireCore, number: u32) -> Option<NextUnit>
     requires sound { IsSound core.old }
     ensures sound { IsSound core.new }
     ensures go { to_go core.new ≤ to_go core.old }

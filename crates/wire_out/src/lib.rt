@@ -8,6 +8,6 @@ mod runs;
 mod telling;
 mod units;
 
-pub use crate::drains::{ask_drain, begin_drain, drain, next_unit};
+pub use crate::drains::{ask_drain, begin_drain, drain};
 pub use crate::runs::{ask_run, run};
 pub use crate::telling::tell;

@@ -14,7 +14,7 @@ use crate::drains::unit_framed;
 use crate::units::{Going, end_where, unready};
 use flow_notes::{Cause, Notes};
 use io_ports::{NoMemory, Octets};
-use wire_ends::doom;
+use wire_ends::{Origin, doom};
 use wire_state::{Conn, WireCore, note_head};
 use wm_buffer::Crossed;
 
@@ -33,7 +33,7 @@ pub(crate) fn frame_list(
     requires unframed { IfNone going.stream (IsUnframed going.conn going.course.flow.exchange core.old.links) }
     requires unit { IfSome (flow_in core.old.flows going.course.flow) (IsFrameable (Head last)) }
     ensures sound { OnOk result (IsSound core.new) }
-    ensures go { OnOk result (to_go core.new + (1 + stirred_at going.conn core.old.stirred.conns.keys) ≤ to_go core.old) }
+    ensures go { OnOk result (to_go core.new + (1 + stirred_at going.conn core.old.stirred.conns.items) ≤ to_go core.old) }
     ensures notes { Appends notes.old notes.new }
 {
     let exchange = going.course.flow.exchange;
@@ -44,7 +44,7 @@ pub(crate) fn frame_list(
         Some(stream) => frame_fields(core, going, stream, last, notes),
         None => {
             let cause = Cause::ConnLost { conn: going.conn };
-            doom(core, exchange, cause, false, notes)
+            doom(core, exchange, cause, Origin::Neither, notes)
         }
     }
 }
@@ -128,7 +128,7 @@ fn frame_fields(
     requires there { IsThere core.old.flows going.course.flow }
     requires unit { IfSome (flow_in core.old.flows going.course.flow) (IsFrameable (Head last)) }
     ensures sound { OnOk result (IsSound core.new) }
-    ensures go { OnOk result (to_go core.new + (1 + stirred_at going.conn core.old.stirred.conns.keys) ≤ to_go core.old) }
+    ensures go { OnOk result (to_go core.new + (1 + stirred_at going.conn core.old.stirred.conns.items) ≤ to_go core.old) }
     ensures notes { Appends notes.old notes.new }
 {
     let exchange = going.course.flow.exchange;

@@ -8,19 +8,21 @@ ghost use Rattle.wire_state.specs.Progress.{to_go};
 ghost use Rattle.wire_state.specs.Sound.{IsSound};
 ghost use Rattle.flow_notes.specs.Buffer.{CanPause};
 
+use crate::drains::{drain_by, next_unit};
 use flow_gate::{BufferId, FlowId};
 use flow_notes::{Cause, Note, Notes};
 use io_ports::NoMemory;
-use wire_ends::doom;
+use wire_ends::{Origin, doom};
 use wire_flows::{Moved, Outcome};
-use wire_state::{Course, Task, WireCore, note};
+use wire_state::{Course, NextUnit, Task, WireCore, note};
 
-/// The task AskRun: the flow is run, unless it is being run.
-pub fn ask_run(core: &mut WireCore, course: Course) -> Result<(), NoMemory>
+/// The task AskRun: the flow is run, unless it is being run. Its first move is made at once.
+pub fn ask_run(core: &mut WireCore, course: Course, notes: &mut Notes) -> Result<(), NoMemory>
     requires sound { IsSound core.old }
     requires top { top_go core.old.agenda ≡ 7 }
     ensures sound { OnOk result (IsSound core.new) }
     ensures go { OnOk result (to_go core.new < to_go core.old) }
+    ensures notes { Appends notes.old notes.new }
 {
     core.end_task();
     if core.agenda.is_running(course.flow) {
@@ -29,7 +31,8 @@ pub fn ask_run(core: &mut WireCore, course: Course) -> Result<(), NoMemory>
     core.begin(Task::Run {
         course,
         tried: false,
-    })
+    })?;
+    run(core, course, false, notes)
 }
 
 /// The task Run: a move; where none may go, its connections are drained, and it is looked at once more.
@@ -45,10 +48,52 @@ pub fn run(
     ensures go { OnOk result (to_go core.new < to_go core.old) }
     ensures notes { Appends notes.old notes.new }
 {
+    if !core.flows.holds(course.flow) {
+        return run_empty(core, course, tried, notes);
+    }
     match core.flows.step(course.flow)? {
         Outcome::Moved(moved) => go_on(core, course, moved, notes),
         Outcome::TooLarge => overfull(core, course, tried, notes),
-        Outcome::Still => stop(core, course, tried),
+        Outcome::Still => stop(core, course, tried, notes),
+    }
+}
+
+// A flow without octets has nothing to move, and a drain brings it none: it isn't looked at once more. Its connections are
+// drained, the one that it goes to first and at once.
+fn run_empty(
+    core: &mut WireCore,
+    course: Course,
+    tried: bool,
+    notes: &mut Notes,
+) -> Result<(), NoMemory>
+    requires sound { IsSound core.old }
+    requires top { top_go core.old.agenda ≡ (if tried then 1 else 6) }
+    ensures sound { OnOk result (IsSound core.new) }
+    ensures go { OnOk result (to_go core.new < to_go core.old) }
+    ensures notes { Appends notes.old notes.new }
+{
+    core.end_task();
+    if tried {
+        return Ok(());
+    }
+    let unit = unit_to(core, course.to);
+    ask_drain_next(core, course.from)?;
+    match unit {
+        Some((to, unit)) => drain_by(core, to, unit, notes),
+        None => Ok(()),
+    }
+}
+
+// A connection, if there is one, is to be drained next, unless that is what goes on next.
+fn ask_drain_next(core: &mut WireCore, conn: Option<u32>) -> Result<(), NoMemory>
+    requires sound { IsSound core.old }
+    ensures sound { OnOk result (IsSound core.new) }
+    ensures go { OnOk result (to_go core.new ≤ to_go core.old + 2) }
+    ensures rest { core.new ≡ record core.old { agenda = core.new.agenda } }
+{
+    match (core.agenda.top(), conn) {
+        (Some(Task::AskDrain(next)), Some(conn)) if next == conn => Ok(()),
+        _ => ask_drain(core, conn),
     }
 }
 
@@ -68,42 +113,46 @@ fn overfull(
     if core.flows.is_live(course.flow.exchange) {
         return too_large(core, course, notes);
     }
-    stop(core, course, tried)
+    stop(core, course, tried, notes)
 }
 
 // Nothing may move: it is looked at once more, unless it has been.
-fn stop(core: &mut WireCore, course: Course, tried: bool) -> Result<(), NoMemory>
+fn stop(core: &mut WireCore, course: Course, tried: bool, notes: &mut Notes) -> Result<(), NoMemory>
     requires sound { IsSound core.old }
     requires top { top_go core.old.agenda ≡ (if tried then 1 else 6) }
     ensures sound { OnOk result (IsSound core.new) }
     ensures go { OnOk result (to_go core.new < to_go core.old) }
+    ensures notes { Appends notes.old notes.new }
 {
     if tried {
         core.end_task();
         return Ok(());
     }
-    stand_still(core, course)
+    stand_still(core, course, notes)
 }
 
-// Nothing may move: where something may be framed at one of its connections, they are drained. Else the run has ended.
-fn stand_still(core: &mut WireCore, course: Course) -> Result<(), NoMemory>
+// Nothing may move: where something may be framed at one of its connections, they are drained, the one that the flow goes to
+// first and at once, and then it is looked at once more. Else the run has ended.
+fn stand_still(core: &mut WireCore, course: Course, notes: &mut Notes) -> Result<(), NoMemory>
     requires sound { IsSound core.old }
     requires top { top_go core.old.agenda ≡ 6 }
     ensures sound { OnOk result (IsSound core.new) }
     ensures go { OnOk result (to_go core.new < to_go core.old) }
+    ensures notes { Appends notes.old notes.new }
 {
-    if may_frame(core, course.to) {
-        return drain_ends(core, course);
+    if let Some((to, unit)) = unit_to(core, course.to) {
+        look_again(core, course)?;
+        return drain_by(core, to, unit, notes);
     }
     if may_frame(core, course.from) {
-        return drain_ends(core, course);
+        return look_again(core, course);
     }
     core.end_task();
     Ok(())
 }
 
-// Both connections are drained, the one that the flow goes to first, and then it is looked at once more.
-fn drain_ends(core: &mut WireCore, course: Course) -> Result<(), NoMemory>
+// The flow is looked at once more, behind a drain of the connection that it comes from.
+fn look_again(core: &mut WireCore, course: Course) -> Result<(), NoMemory>
     requires sound { IsSound core.old }
     requires top { top_go core.old.agenda ≡ 6 }
     ensures sound { OnOk result (IsSound core.new) }
@@ -113,8 +162,19 @@ fn drain_ends(core: &mut WireCore, course: Course) -> Result<(), NoMemory>
         course,
         tried: true,
     })?;
-    ask_drain(core, course.from)?;
-    ask_drain(core, course.to)
+    ask_drain(core, course.from)
+}
+
+// What goes next at a connection, if there is one, with its number.
+fn unit_to(core: &mut WireCore, conn: Option<u32>) -> Option<(u32, NextUnit)>
+    requires sound { IsSound core.old }
+    ensures sound { IsSound core.new }
+    ensures go { to_go core.new ≤ to_go core.old }
+    ensures rest { core.new ≡ record core.old { conns = core.new.conns } }
+{
+    let number = conn?;
+    let unit = next_unit(core, number)?;
+    Some((number, unit))
 }
 
 // Whether something may be framed at a connection, if there is one.
@@ -157,8 +217,13 @@ fn too_large(core: &mut WireCore, course: Course, notes: &mut Notes) -> Result<(
         tried: false,
     })?;
     ask_drain(core, course.to)?;
-    let FlowId { exchange, back } = course.flow;
-    doom(core, exchange, Cause::TooLarge, back, notes)
+    doom(
+        core,
+        course.flow.exchange,
+        Cause::TooLarge,
+        Origin::of(course.flow),
+        notes,
+    )
 }
 
 // What a move begins, and its notes.
@@ -246,7 +311,6 @@ fn cross(
         return core.begin(Task::Doom {
             exchange: course.flow.exchange,
             cause: Cause::Overflow,
-            back: false,
         });
     }
     match moved.drained {

@@ -1,6 +1,6 @@
 // Units of flows: heads, bodies and trailers.
 ghost use Rattle.exchange_core.specs.Units.{IsFrameable};
-ghost use Rattle.std.specs.Prelude.{◌≡◌, ◌≤◌, ◌+◌, IfNone, IfOk, IfSome, MatchOption, OnOk, true};
+ghost use Rattle.std.specs.Prelude.{◌≡◌, ◌≤◌, ◌+◌, IfNone, IfOk, IfSome, IsSome, MatchOption, OnOk, true};
 ghost use Rattle.wire_flows.specs.Flows.{IsThere, flow_in, is_live_in};
 ghost use Rattle.wire_out.specs.Opening.{IsUnframed};
 ghost use Rattle.wire_state.specs.Agenda.{stirred_at, top_go};
@@ -36,7 +36,7 @@ pub(crate) fn frame_flow(
     requires sound { IsSound core.old }
     requires top { top_go core.old.agenda ≡ 1 }
     ensures sound { OnOk result (IsSound core.new) }
-    ensures go { OnOk result (to_go core.new + (1 + stirred_at conn core.old.stirred.conns.keys) ≤ to_go core.old) }
+    ensures go { OnOk result (to_go core.new + (1 + stirred_at conn core.old.stirred.conns.items) ≤ to_go core.old) }
     ensures notes { Appends notes.old notes.new }
 {
     let Some(going) = going_to(core, conn, exchange) else {
@@ -44,27 +44,22 @@ pub(crate) fn frame_flow(
         return Ok(());
     };
     match unit_of(core, going) {
-        Unit::Nothing => {
+        Some(Unit::Head { last }) => frame_list(core, going, last, notes),
+        Some(Unit::Trailers) => frame_list(core, going, true, notes),
+        Some(Unit::Body { .. }) => frame_body(core, going, notes),
+        Some(Unit::Nothing) | None => {
             unready(core, conn, exchange);
             Ok(())
         }
-        Unit::Head { last } => frame_list(core, going, last, notes),
-        Unit::Trailers => frame_list(core, going, true, notes),
-        Unit::Body { .. } => frame_body(core, going, notes),
     }
 }
 
-// The flow of a live exchange that goes to a connection.
+// The flow of an exchange that goes to a connection.
 fn going_to(core: &WireCore, conn: u32, exchange: u64) -> Option<Going>
-    ensures live { IfSome result (λ going. is_live_in core.entry.now.flows going.course.flow.exchange ≡ true) }
     ensures conn { IfSome result (λ going. going.conn ≡ conn) }
     ensures exchange { IfSome result (λ going. going.course.flow.exchange ≡ exchange) }
-    ensures there { IfSome result (λ going. IsThere core.entry.now.flows going.course.flow) }
     ensures unframed { IfSome result (λ going. IfNone going.stream (IsUnframed conn exchange core.entry.now.links)) }
 {
-    if !core.flows.is_live(exchange) {
-        return None;
-    }
     let ends = core.links.ends_of(exchange)?;
     if ends.client == conn {
         let course = Course {
@@ -99,20 +94,16 @@ fn going_to(core: &WireCore, conn: u32, exchange: u64) -> Option<Going>
     })
 }
 
-// What of a flow may be framed now.
-fn unit_of(core: &WireCore, going: Going) -> Unit
-    requires { IsThere core.now.flows going.course.flow }
-    ensures { IfSome (flow_in core.entry.now.flows going.course.flow) (IsFrameable result) }
+// What of a flow may be framed now. None where it isn't live.
+fn unit_of(core: &WireCore, going: Going) -> Option<Unit>
+    ensures unit { IfSome result (λ unit. IfSome (flow_in core.entry.now.flows going.course.flow) (IsFrameable unit)) }
+    ensures live { IsSome result → is_live_in core.entry.now.flows going.course.flow.exchange ≡ true }
+    ensures there { IsSome result → IsThere core.entry.now.flows going.course.flow }
 {
     let flow = going.course.flow;
-    match core.conns.get(&going.conn) {
-        Some(conn) => {
-            let room = conn.room(flow.exchange);
-            core.flows
-                .next_unit(flow, room, conn.windows.send.payload())
-        }
-        None => Unit::Nothing,
-    }
+    let conn = core.conns.get(&going.conn)?;
+    let room = conn.room(flow.exchange);
+    core.flows.unit_of(flow, room, conn.windows.send.payload())
 }
 
 /// The exchange has no unit for a connection that is drained.
@@ -120,7 +111,7 @@ pub(crate) fn unready(core: &mut WireCore, number: u32, exchange: u64)
     requires sound { IsSound core.old }
     requires top { top_go core.old.agenda ≡ 1 }
     ensures sound { IsSound core.new }
-    ensures go { to_go core.new + (1 + stirred_at number core.old.stirred.conns.keys) ≤ to_go core.old }
+    ensures go { to_go core.new + (1 + stirred_at number core.old.stirred.conns.items) ≤ to_go core.old }
 {
     forget_hint(core, number, exchange);
     core.give_up(number);
@@ -152,7 +143,7 @@ fn frame_body(core: &mut WireCore, going: Going, notes: &mut Notes) -> Result<()
     requires top { top_go core.old.agenda ≡ 1 }
     requires there { IsThere core.old.flows going.course.flow }
     ensures sound { OnOk result (IsSound core.new) }
-    ensures go { OnOk result (to_go core.new + (1 + stirred_at going.conn core.old.stirred.conns.keys) ≤ to_go core.old) }
+    ensures go { OnOk result (to_go core.new + (1 + stirred_at going.conn core.old.stirred.conns.items) ≤ to_go core.old) }
     ensures notes { Appends notes.old notes.new }
 {
     let flow = going.course.flow;

@@ -1,5 +1,6 @@
 -- How many octets the frames of a block take.
-use Rattle.std.proofs.Common.{Bool, List, ap, arith, drop, length, refl, suc, zero, ℕ, ◌*◌, ◌+◌, ◌-◌, ◌/◌, ◌∙◌, ◌≡◌, ◌≤◌}
+use Rattle.std.proofs.Common.{Bool, List, ap, arith, drop, length, refl, suc, sym, zero, ℕ, ◌*◌, ◌+◌, ◌++◌, ◌-◌, ◌/◌, ◌∙◌, ◌≡◌, ◌≤◌}
+use Rattle.std.proofs.Math.Seq.{drop-append_seam}
 use Rattle.std.proofs.lemmas.List.{length-drop}
 use Rattle.h2_frames.specs.Blocks.{block_frames, continued, pieces}
 use Rattle.wire_outlet.specs.Heads.{head_most}
@@ -18,3 +19,7 @@ within_most len frames size count fits = omega arith
 
 pub greatest : (size : ℕ) → size ≤ 61440 → head_most size ≤ 61477
 greatest size fits = omega arith
+
+-- what stands behind the first nine octets
+pub behind_nine : (nine block all : List ℕ) → length nine ≡ 9 → all ≡ nine ++ block → drop 9 all ≡ block
+behind_nine nine block all long is = ap (drop 9) is ∙ ap (λ n. drop n (nine ++ block)) (sym long) ∙ drop-append_seam nine block

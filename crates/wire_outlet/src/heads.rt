@@ -1,11 +1,11 @@
 // Field lists as HEADERS and CONTINUATION frames.
-ghost use Rattle.std.specs.Prelude.{◌≡◌, ◌≤◌, ◌<◌, ◌^◌, length, true, IfOk, OnErr, OnOk, false};
+ghost use Rattle.std.specs.Prelude.{◌≡◌, ◌≤◌, ◌<◌, ◌++◌, ◌^◌, drop, length, true, IfOk, OnErr, OnOk, false};
 ghost use Rattle.h2_frames.specs.Blocks.{block_frames, spellings};
 ghost use Rattle.hpack_codec.specs.Sections.{list_size};
 ghost use Rattle.wire_outlet.specs.Heads.{head_most, head_octets};
 
 use crate::laws::heads_fit;
-use h2_frames::block_frames;
+use h2_frames::{block_frames, block_head};
 use hpack_codec::{Encoder, FieldList};
 use io_ports::{NoMemory, Octets};
 use std::alloc::Global;
@@ -71,6 +71,9 @@ impl HeadWriter {
         ensures err { OnErr result (self.new ≡ self.old) }
     {
         heads_fit();
+        if fields.size() < PIECE {
+            return self.one_frame(stream, last, fields);
+        }
         let anew = self.anew;
         let block = self.encoder.encode(fields)?;
         self.anew = false;
@@ -79,6 +82,24 @@ impl HeadWriter {
             self.undo(anew);
         }
         framed
+    }
+
+    // The one frame of a list whose block is at most a piece: the block is encoded behind the head's octets.
+    fn one_frame(&mut self, stream: u32, last: bool, fields: &FieldList) -> Result<Octets, NoMemory>
+        requires on_stream { 0 < stream }
+        requires fits { stream < 2 ^ 31 }
+        requires few { list_size fields.now < 16384 }
+        ensures octets { IfOk result (λ octets. octets ≡ head_octets self.old stream last fields.now) }
+        ensures ok { OnOk result (self.new ≡ false) }
+        ensures err { OnErr result (self.new ≡ self.old) }
+    {
+        let room = FRAME_HEAD + fields.size() + 1;
+        let mut octets = Vec::with_capacity(self.alloc, room)?;
+        octets.extend_from_slice(&[0u8; FRAME_HEAD])?;
+        self.encoder.encode_onto(fields, &mut octets)?;
+        self.anew = false;
+        write_head(octets.as_mut_slice(), stream, last);
+        Ok(Octets::from_vec(octets))
     }
 
     /// Takes back that a list was encoded, before which the writer was like this.
@@ -92,13 +113,42 @@ impl HeadWriter {
     }
 }
 
+// The octets of a frame's head.
+const FRAME_HEAD: usize = 9;
+
+// The greatest payload that every peer takes (RFC 9113 section 4.2).
+const PIECE: usize = 16_384;
+
+// Writes the head of the one frame of a block before the block, where there are nine octets for it.
+fn write_head(octets: &mut [u8], stream: u32, last: bool)
+    requires on_stream { 0 < stream }
+    requires fits { stream < 2 ^ 31 }
+    requires head { 9 ≤ length octets.old }
+    requires few { length octets.old ≤ 16393 }
+    ensures len { length octets.new ≡ length octets.old }
+    ensures frame { octets.new ≡ spellings (block_frames stream last (drop 9 octets.old)) }
+{
+    let n = octets.len() - FRAME_HEAD;
+    let head = block_head(stream, n as u32, last);
+    write_front(octets, &head);
+}
+
+// Writes octets over the first of a slice.
+fn write_front(octets: &mut [u8], front: &[u8])
+    requires { length front.now ≤ length octets.old }
+    ensures { octets.new ≡ front.now ++ drop (length front.now) octets.old }
+{
+    octets[..front.len()].copy_from_slice(front);
+}
+
 // The frames of a block.
 fn frames_of(alloc: Global, stream: u32, last: bool, block: &[u8]) -> Result<Octets, NoMemory>
     requires on_stream { 0 < stream }
     requires fits { stream < 2 ^ 31 }
     ensures { IfOk result (λ octets. octets ≡ spellings (block_frames stream last block.now)) }
 {
-    let mut octets = Octets::new(alloc);
+    let room = Vec::with_capacity(alloc, block.len().saturating_add(FRAME_HEAD))?;
+    let mut octets = Octets::from_vec(room);
     block_frames(stream, last, block, &mut octets)?;
     Ok(octets)
 }

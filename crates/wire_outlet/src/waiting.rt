@@ -1,5 +1,5 @@
 // Units that wait to be framed.
-ghost use Rattle.std.specs.Prelude.{◌≡◌, ◌<◌, ◌+◌, ◌^◌, ◌++◌, ◌∷◌, [], drop, length, IfSome, IsNone, MatchOption, OnErr, OnOk};
+ghost use Rattle.std.specs.Prelude.{◌≡◌, ◌<◌, ◌+◌, ◌^◌, ◌++◌, ◌∷◌, [], drop, length, IfSome, MatchOption, OnErr, OnOk};
 ghost use Rattle.wire_outlet.specs.Waiting.{IsFrameable};
 
 use crate::control::Control;

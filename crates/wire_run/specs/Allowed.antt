@@ -4,11 +4,11 @@ use Rattle.proxy_config.specs.declared.config.Config.{Config}
 use Rattle.session_config.specs.ClusterNames.{names_in, resources_in}
 use Rattle.session_lines.specs.WireLines.{Behind, wire_text}
 use Rattle.session_lines.specs.WireOrder.{MayFollowWireAll}
+pub use Rattle.session_run.specs.Ending.{IsUnrefused}
 use Rattle.session_run.specs.Ending.{longest_line, most_octets}
 use Rattle.session_run.specs.Newlines.{has_newline}
 use Rattle.session_run.specs.declared.status.Status.{Status}
 use Rattle.std.specs.Prelude.{List, None, Option, Some, false, length, ℕ, ◌++◌, ◌∷◌, ◌≡◌, ◌≤◌}
-use Rattle.session_run.specs.declared.status.Status.TheVariants as status
 
 -- a header and events, each of which may come after those before it, within the most octets of a session and of a line
 pub record IsAllowedWire (config : Config) (text : List ℕ) : Type 0 where
@@ -17,14 +17,6 @@ pub record IsAllowedWire (config : Config) (text : List ℕ) : Type 0 where
   pub is : text ≡ wire_text (names_in config) (Behind events)
   pub within : length text ≤ most_octets
   pub short : (before line behind : List ℕ) → text ≡ before ++ (line ++ 10 ∷ behind) → has_newline line ≡ false → length line ≤ longest_line
-
--- nothing of the session is refused
-abbrev pub IsUnrefused : Status → Type 0
-IsUnrefused status.Done = Unit {0}
-IsUnrefused status.Memory = Unit {0}
-IsUnrefused status.ReadFault = Unit {0}
-IsUnrefused status.WriteFault = Unit {0}
-IsUnrefused status = ⊥
 
 -- such a session is run to its end, but for lack of memory and a source or sink that fails
 abbrev pub Completes : Config → Option (List ℕ) → Status → Type 0

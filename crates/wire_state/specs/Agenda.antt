@@ -1,9 +1,7 @@
 -- What is under way in a dispatch, with what was begun last in front.
 use Rattle.flow_gate.specs.declared.ids.FlowId.{FlowId}
 use Rattle.flow_gate.specs.Ids.{same_flow}
-use Rattle.std.specs.BTreeMap.{is_at}
-use Rattle.std.specs.List.{list_any}
-use Rattle.std.specs.Ordering.{nat_cmp}
+use Rattle.number_set.specs.NumberSet.{has}
 use Rattle.std.specs.Prelude.{Bool, List, [], false, if◌then◌else◌, ℕ, ◌==◌, ◌∷◌}
 use Rattle.wire_state.specs.Progress.{task_go}
 use Rattle.wire_state.specs.declared.agenda.Task.{Task}
@@ -29,4 +27,4 @@ top_go (t ∷ ts) = task_go t
 
 -- the dispatch changed something at the connection
 abbrev pub stirred_at : ℕ → List ℕ → ℕ
-stirred_at c keys = if list_any (is_at (nat_cmp c)) keys then 1 else 0
+stirred_at c conns = if has conns c then 1 else 0

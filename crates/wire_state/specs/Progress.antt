@@ -20,7 +20,7 @@ task_go (task.AskRun course) = 7
 task_go (task.Run course tried) = if tried then 1 else 6
 task_go (task.Tell c) = 1
 task_go (task.End x) = 1
-task_go (task.Doom x cause back) = 1
+task_go (task.Doom x cause) = 1
 task_go (task.Close c code cause) = 1
 task_go (task.Losses c last) = 1
 task_go (task.Read c) = 4
@@ -53,4 +53,4 @@ conns_go conns = sum_by conn_go (values_of conns)
 unfoldable pub to_go : WireCore → ℕ
 to_go core =
     flows_go core.flows + (conns_go core.conns.entries + (tasks_go core.agenda
-    + (length core.timers.armed + (length core.due + length core.stirred.conns.keys))))
+    + (length core.timers.armed + (length core.due + length core.stirred.conns.items))))

@@ -28,11 +28,10 @@ pub enum Task {
     Tell(u32),
     /// An end of the exchange was framed: it is doomed where it is done.
     End(u64),
-    /// The exchange is doomed. `back` says that the response gave the cause.
+    /// The exchange is doomed, for a cause that neither of its flows gave.
     Doom {
         exchange: u64,
         cause: Cause,
-        back: bool,
     },
     /// The connection is closed.
     Close {

@@ -1,18 +1,18 @@
 // What comes in on a connection.
-ghost use Rattle.std.specs.Prelude.{◌≡◌, ◌≤◌, ◌<◌, ◌+◌, ◌*◌, IfOk};
+ghost use Rattle.std.specs.Prelude.{◌≡◌, ◌≤◌, ◌<◌, IfOk};
 ghost use Rattle.wire_state.specs.Intakes.{PaysFor};
 ghost use Rattle.wire_state.specs.Progress.{conn_go};
 
 use crate::conn::Conn;
 use flow_gate::FlowId;
 use h2_windows::{MAX_WINDOW, Overflow};
-use io_ports::NoMemory;
+use io_ports::{NoMemory, Octets};
 use wire_flows::WireFlows;
 use wire_inlet::Intake;
 
 impl Conn {
     /// Octets came. The answer is false where the connection isn't open: then they are dropped.
-    pub fn read(&mut self, octets: &[u8]) -> Result<bool, NoMemory>
+    pub fn read(&mut self, octets: &Octets) -> Result<bool, NoMemory>
         ensures rest { self.new ≡ record self.old { inlet = self.new.inlet } }
     {
         if !self.open {
@@ -126,12 +126,11 @@ impl Conn {
         ensures rest { self.new ≡ record self.old { ready = self.new.ready } }
         ensures go { conn_go self.new ≤ conn_go self.old }
     {
-        if !flows.is_live(flow.exchange) {
-            return Ok(());
-        }
         let send = &self.windows.send;
         let room = send.room(flow.exchange).unwrap_or(0);
-        let unit = flows.next_unit(flow, room, send.payload());
-        self.ready.set(flow.exchange, unit)
+        match flows.unit_of(flow, room, send.payload()) {
+            Some(unit) => self.ready.set(flow.exchange, unit),
+            None => Ok(()),
+        }
     }
 }

@@ -1,5 +1,4 @@
 // The notes of small steps. Each appends notes that have a spelling and begin no dispatch, also where memory is refused.
-ghost use Rattle.std.specs.Prelude.{◌≡◌};
 ghost use Rattle.wire_state.specs.Noting.{Appends, IsStep};
 
 use flow_gate::BufferId;
@@ -8,6 +7,7 @@ use io_ports::{NoMemory, Octets};
 use wire_flows::WireFlows;
 
 /// Writes a note.
+#[inline(always)]
 pub fn note(notes: &mut Notes, note: Note) -> Result<(), NoMemory>
     requires { IsStep note }
     ensures { Appends notes.old notes.new }

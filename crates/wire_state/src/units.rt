@@ -27,6 +27,7 @@ pub enum NextUnit {
 impl Conn {
     /// What goes next into the write buffer, whether it is above or not. Exchanges of which nothing goes next are looked at no
     /// more.
+    #[inline(always)]
     pub fn next_unit(&mut self, flows: &WireFlows) -> Option<NextUnit>
         ensures rest { self.new ≡ record self.old { credits = self.new.credits } }
         ensures go { conn_go self.new ≡ conn_go self.old }
@@ -51,6 +52,7 @@ impl Conn {
     }
 
     // The least exchange whose stream is due a WINDOW_UPDATE and that nothing holds back.
+    #[inline(always)]
     fn next_due(&mut self, flows: &WireFlows) -> Option<u64>
         ensures rest { self.new ≡ record self.old { credits = self.new.credits } }
         ensures readable { IfSome result (λ x. IsReadable flows.now (flow_id x (is_cluster self.old.peer))) }

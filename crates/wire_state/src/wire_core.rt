@@ -70,6 +70,7 @@ impl WireCore {
         requires { IsInRange config }
         ensures sound { IfOk result (λ core. IsSound core) }
         ensures idle { IfOk result (λ core. core.agenda ≡ []) }
+        ensures new { IfOk result (λ core. (core.config ≡ config) × (core.conns.entries ≡ [])) }
     {
         let load = Load::new(alloc, config.overload.class_start)?;
         let timers = WireTimers::new(alloc, &config)?;
@@ -106,6 +107,7 @@ impl WireCore {
     }
 
     /// Begins a task.
+    #[inline(always)]
     pub fn begin(&mut self, task: Task) -> Result<(), NoMemory>
         requires sound { IsSound self.old }
         ensures sound { OnOk result (IsSound self.new) }
@@ -117,6 +119,7 @@ impl WireCore {
     }
 
     /// Ends the task on top.
+    #[inline(always)]
     pub fn end_task(&mut self)
         requires sound { IsSound self.old }
         ensures sound { IsSound self.new }
@@ -138,6 +141,7 @@ impl WireCore {
     }
 
     /// Something changed at a connection in this dispatch.
+    #[inline(always)]
     pub fn stir(&mut self, conn: u32) -> Result<(), NoMemory>
         requires sound { IsSound self.old }
         ensures sound { OnOk result (IsSound self.new) }
@@ -152,7 +156,7 @@ impl WireCore {
     pub fn give_up(&mut self, conn: u32)
         requires sound { IsSound self.old }
         ensures sound { IsSound self.new }
-        ensures go { to_go self.new + (top_go self.old.agenda + stirred_at conn self.old.stirred.conns.keys) ≡ to_go self.old }
+        ensures go { to_go self.new + (top_go self.old.agenda + stirred_at conn self.old.stirred.conns.items) ≡ to_go self.old }
     {
         self.end_task();
         self.stirred.remove(conn);
@@ -170,6 +174,7 @@ impl WireCore {
     }
 
     /// Something changed at a connection, if there is one.
+    #[inline(always)]
     pub fn stir_some(&mut self, conn: Option<u32>) -> Result<(), NoMemory>
         requires sound { IsSound self.old }
         ensures sound { OnOk result (IsSound self.new) }

@@ -27,10 +27,6 @@ others k xs = filter (λ a. not (same_key k (key_of a))) xs
 pub apart_from : (q j k : Key) → same_key j k ≡ false → same_key q j ≡ true → same_key q k ≡ false
 apart_from q j k n t = ap (λ x. same_key x k) (same_is q j t) ∙ n
 
-pub look-none : (q : Key) (xs : List Armed) → Differs q xs → look q xs ≡ None
-look-none q [] h = refl
-look-none q (a ∷ xs) h = ap (λ b. cond b (Some a.timer) (look q xs)) h.0 ∙ look-none q xs h.1
-
 pub none-differs : (q : Key) (xs : List Armed) → look q xs ≡ None → Differs q xs
 none-differs q [] h = tt
 none-differs q (a ∷ xs) h = either (same_key q (key_of a))

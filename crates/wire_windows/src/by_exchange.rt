@@ -1,6 +1,6 @@
 // Values by exchange.
 ghost use Rattle.std.specs.FinMap.{empty, get, insert, len, remove};
-ghost use Rattle.std.specs.Prelude.{◌≡◌, ◌^◌, ◌<◌, IsOk, IsSome, OnErr, OnOk};
+ghost use Rattle.std.specs.Prelude.{◌≡◌, ◌^◌, ◌<◌, IsSome, OnErr, OnOk};
 
 mod shifts;
 

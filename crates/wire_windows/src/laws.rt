@@ -1,6 +1,6 @@
 // What follows from the windows as they stand, and how two numbers are found.
 ghost use Rattle.std.specs.List.{IsDistinct};
-ghost use Rattle.std.specs.Prelude.{◌≡◌, ◌≤◌, ◌++◌, ◌∷◌, [], List, max, nat_eq, sum_by, ℕ};
+ghost use Rattle.std.specs.Prelude.{◌≤◌, ◌++◌, ◌∷◌, [], List, max, nat_eq, sum_by, ℕ};
 ghost use Rattle.wire_windows.specs.RecvWindows.{IsSound, RecvWindows, held_at};
 ghost use Rattle.wire_windows.specs.SendWindows.{AreGreatestAndLast};
 

@@ -1,5 +1,5 @@
 // Octets in a ring, which move by slices.
-ghost use Rattle.std.specs.Prelude.{◌≡◌, ◌<◌, ◌≤◌, ◌+◌, ◌-◌, ◌^◌, ◌++◌, ℕ, List, [], length, take, drop, IsOk, OnOk, OnErr};
+ghost use Rattle.std.specs.Prelude.{◌≡◌, ◌<◌, ◌≤◌, ◌+◌, ◌-◌, ◌^◌, ◌++◌, [], length, take, drop, IsOk, OnOk, OnErr};
 ghost use Rattle.wm_buffer.specs.Stored.{IsDoubled};
 
 use circular_buffer::HeapCircularBuffer;

@@ -1,16 +1,17 @@
 // Rounds: which connection is looked at next, once nothing is under way.
 ghost use Rattle.std.specs.Prelude.{◌≡◌, ◌≤◌, ◌<◌, IfOk, OnOk, true};
 ghost use Rattle.wire_state.specs.Noting.{Appends};
-ghost use Rattle.wire_state.specs.Progress.{to_go};
+ghost use Rattle.wire_state.specs.Progress.{conn_go, to_go};
 ghost use Rattle.wire_state.specs.Sound.{IsSound};
 
 use flow_notes::{CloseCause, Notes};
 use h2_frames::codes::NO_ERROR;
 use io_ports::NoMemory;
-use std::ops::Bound;
 use wire_ends::close;
-use wire_out::{begin_drain, next_unit};
-use wire_state::{NextUnit, WireCore};
+use wire_flows::WireFlows;
+use wire_links::Links;
+use wire_out::begin_drain;
+use wire_state::{Conn, NextUnit, WireCore};
 
 /// What is to be done at a connection.
 #[derive(Clone, Copy)]
@@ -98,7 +99,7 @@ fn first_in(core: &mut WireCore, from: u32, last: u32) -> Option<(u32, Work)>
     ensures rest { core.new ≡ record core.old { conns = core.new.conns } }
 {
     let mut from = from;
-    while let Some(conn) = stirred_from(core, from) {
+    while let Some(conn) = core.stirred.first_from(from) {
         if conn < from || conn > last {
             return None;
         }
@@ -113,14 +114,6 @@ fn first_in(core: &mut WireCore, from: u32, last: u32) -> Option<(u32, Work)>
     None
 }
 
-fn stirred_from(core: &WireCore, from: u32) -> Option<u32> {
-    core.stirred
-        .conns
-        .range((Bound::Included(from), Bound::Unbounded))
-        .next()
-        .copied()
-}
-
 // What is to be done at a connection.
 fn work_at(core: &mut WireCore, number: u32) -> Option<Work>
     requires sound { IsSound core.old }
@@ -128,10 +121,23 @@ fn work_at(core: &mut WireCore, number: u32) -> Option<Work>
     ensures go { to_go core.new ≤ to_go core.old }
     ensures rest { core.new ≡ record core.old { conns = core.new.conns } }
 {
-    if let Some(unit) = next_unit(core, number) {
+    match core.conns.get_mut(&number) {
+        Some(conn) => work_of(conn, &core.flows, &core.links, number),
+        None => None,
+    }
+}
+
+#[tactic(auto, unfolding(wire_state::specs::Progress::conn_go))]
+fn work_of(conn: &mut Conn, flows: &WireFlows, links: &Links, number: u32) -> Option<Work>
+    ensures rest { conn.new ≡ record conn.old { credits = conn.new.credits } }
+    ensures go { conn_go conn.new ≡ conn_go conn.old }
+{
+    if conn.may_write()
+        && let Some(unit) = conn.next_unit(flows)
+    {
         return Some(Work::Frame(unit));
     }
-    if is_drained(core, number) {
+    if is_drained(conn, links, number) {
         Some(Work::Close)
     } else {
         None
@@ -139,14 +145,9 @@ fn work_at(core: &mut WireCore, number: u32) -> Option<Work>
 }
 
 // Whether an open connection is draining, with nothing left to do.
-fn is_drained(core: &WireCore, number: u32) -> bool {
-    match core.conns.get(&number) {
-        Some(conn) => {
-            conn.open
-                && conn.draining.is_some()
-                && !conn.outlet.has_waiting()
-                && core.links.exchanges_of(number) == 0
-        }
-        None => false,
-    }
+fn is_drained(conn: &Conn, links: &Links, number: u32) -> bool {
+    conn.open
+        && conn.draining.is_some()
+        && !conn.outlet.has_waiting()
+        && links.exchanges_of(number) == 0
 }

@@ -51,15 +51,11 @@ fn step(core: &mut WireCore, task: Task, notes: &mut Notes) -> Result<(), NoMemo
     match task {
         Task::AskDrain(conn) => ask_drain(core, conn, notes),
         Task::Drain(conn) => drain(core, conn, notes),
-        Task::AskRun(course) => ask_run(core, course),
+        Task::AskRun(course) => ask_run(core, course, notes),
         Task::Run { course, tried } => run(core, course, tried, notes),
         Task::Tell(conn) => tell(core, conn, notes),
         Task::End(exchange) => end(core, exchange, notes),
-        Task::Doom {
-            exchange,
-            cause,
-            back,
-        } => doom_task(core, exchange, cause, back, notes),
+        Task::Doom { exchange, cause } => doom_task(core, exchange, cause, notes),
         Task::Close { conn, code, cause } => close_task(core, conn, code, cause, notes),
         Task::Losses { conn, last } => losses(core, conn, last, notes),
         Task::Read(conn) => read(core, conn, notes),

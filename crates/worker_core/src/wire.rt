@@ -1,6 +1,6 @@
 // A wire session and its dispatch.
 ghost use Rattle.proxy_config.specs.Ranges.{IsInRange};
-ghost use Rattle.std.specs.Prelude.{◌≡◌, ◌≢◌, ◌++◌, ◌+◌, ◌<◌, ◌∷◌, ◌⊎◌, [], Err, IfOk, OnErr, OnOk, false, not, true};
+ghost use Rattle.std.specs.Prelude.{◌≡◌, ◌≢◌, ◌++◌, ◌+◌, ◌<◌, ◌∷◌, [], Err, IfOk, OnErr, OnOk, false, not, true};
 ghost use Rattle.flow_notes.specs.declared.notes.Note.TheVariants as note;
 ghost use Rattle.wire_state.specs.Noting.{Appends};
 ghost use Rattle.wire_state.specs.Sound.{IsSound, is_open_at};
@@ -31,7 +31,7 @@ pub struct WireSession {
     turn: u64,
     /// The version of the published state that was obeyed last, 0 before the first.
     obeyed: u64,
-    /// Whether memory was refused: then each dispatch is.
+    /// Whether a dispatch ran out of memory: then each later one is refused.
     failed: bool,
 }
 
@@ -43,6 +43,7 @@ impl WireSession {
         ensures well { IfOk result (λ session. session.failed ≡ false) }
         ensures turn { IfOk result (λ session. session.turn ≡ 0) }
         ensures obeyed { IfOk result (λ session. session.obeyed ≡ 0) }
+        ensures new { IfOk result (λ session. (session.core.config ≡ config) × (session.core.conns.entries ≡ [])) }
     {
         Ok(WireSession {
             core: WireCore::new(alloc, config)?,
@@ -112,7 +113,7 @@ impl WireSession {
         }
     }
 
-    /// The least number above `after` of a connection with octets in its write buffer.
+    /// The least number above `after` in the set of connections with octets in their write buffers.
     pub fn out_after(&self, after: u32) -> Option<u32>
         ensures { IsLeastAbove after (has_octets self.now.core) result }
     {
@@ -120,7 +121,7 @@ impl WireSession {
         self.core.outs.range(above).next().copied()
     }
 
-    /// The least number above `after` of a connection that is open or has octets in its write buffer.
+    /// The least number above `after` of a connection that is there.
     pub fn conn_after(&self, after: u32) -> Option<u32>
         ensures { IsLeastAbove after (is_there self.now.core) result }
     {
@@ -152,7 +153,7 @@ impl WireSession {
         self.obeyed
     }
 
-    /// The route row of an exchange that began in the last dispatch.
+    /// The route row of an exchange that began in the last dispatch. No clause says so.
     pub fn row(&self, exchange: u64) -> Option<u32> {
         self.core.row(exchange)
     }

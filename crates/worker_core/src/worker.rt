@@ -1,10 +1,8 @@
 // The core of a worker.
 ghost use Rattle.plain_core.specs.Flows.{AreLimits};
-ghost use Rattle.plain_core.specs.Stands.{Rests};
 ghost use Rattle.proxy_config.specs.Ranges.{IsInRange};
 ghost use Rattle.std.specs.Prelude.{◌≡◌, ◌≢◌, [], Err, IfOk, OnErr, OnOk, false, true};
-ghost use Rattle.wire_state.specs.Sound.{IsSound};
-ghost use Rattle.worker_core.specs.Sessions.{BreaksOff, CarriesOut, IsNextConn, IsNextOut, LendsFront, MayTake, RestsPlain, RestsWire, has_failed, is_closing, takes_clients, version_of};
+ghost use Rattle.worker_core.specs.Sessions.{BreaksOff, CarriesOut, IsNew, IsNextConn, IsNextOut, LendsFront, MayTake, RestsPlain, RestsWire, has_failed, is_closing, takes_clients, version_of};
 
 use crate::wire::WireSession;
 use flow_notes::{Event, Notes};
@@ -32,7 +30,8 @@ impl Core {
     /// The core before the first event of wire sessions. Refused only for lack of memory.
     pub fn new(alloc: Global, config: Config) -> Result<Self, NoMemory>
         requires { IsInRange config }
-        ensures { IfOk result (λ core. RestsWire core.kind) }
+        ensures rests { IfOk result (λ core. RestsWire core.kind) }
+        ensures new { IfOk result (λ core. IsNew config core.kind) }
     {
         Ok(Core {
             kind: Kind::Wire(WireSession::new(alloc, config)?),
@@ -50,7 +49,7 @@ impl Core {
     }
 
     /// Dispatches one event, and appends its notes. After running out of memory the notes so far stand, and each later call answers
-    /// `Failed`. An event of a connection, stream or exchange that isn't there has its turn note alone.
+    /// `Failed`.
     pub fn dispatch(&mut self, event: &Event, notes: &mut Notes) -> Result<(), CoreFault>
         requires { MayTake self.old.kind notes.old event.now }
         ensures ok { OnOk result (CarriesOut self.old.kind notes.old event.now self.new.kind notes.new) }
@@ -78,7 +77,8 @@ impl Core {
         }
     }
 
-    /// The least number above `after` of a connection with octets in its write buffer. None exactly where there is none.
+    /// The least number above `after` in the core's set of connections with octets in their write buffers, as it stood at the end
+    /// of the last dispatch that changed them. None exactly where there is none.
     pub fn out_after(&self, after: u32) -> Option<u32>
         ensures { IsNextOut self.now.kind after result }
     {
@@ -88,8 +88,8 @@ impl Core {
         }
     }
 
-    /// The least number above `after` of a connection that is open or has octets in its write buffer. None exactly where there
-    /// is none.
+    /// The least number above `after` of a connection that is there: it came, and wasn't lost, or closed and emptied. None exactly
+    /// where there is none in the core's table.
     pub fn conn_after(&self, after: u32) -> Option<u32>
         ensures { IsNextConn self.now.kind after result }
     {
@@ -129,8 +129,8 @@ impl Core {
         }
     }
 
-    /// The route row of an exchange that began in the last dispatch. None exactly where it didn't, or its request was refused
-    /// before a row was found.
+    /// The route row of an exchange that began in the last dispatch; None where it didn't, or its request was refused before a row
+    /// was found. No clause says so.
     pub fn row(&self, exchange: u64) -> Option<u32> {
         match &self.kind {
             Kind::Plain(_) => None,

@@ -1,5 +1,5 @@
 // The connections of a worker.
-ghost use Rattle.std.specs.Prelude.{◌≡◌, ◌≤◌, Err, IfOk, OnErr, OnOk, ℕ, false};
+ghost use Rattle.std.specs.Prelude.{◌≡◌, ◌≤◌, Err, IfOk, OnErr, ℕ, false};
 ghost use Rattle.std.specs.Io.{WritesAtMost};
 ghost use Rattle.io_ports.specs.Faults.{FailsByFault, Rose};
 ghost use Rattle.worker_ports.specs.Wires.{Gives, Seen, closed, is_live, offered};

@@ -89,6 +89,17 @@ impl Exchanges {
         self.flow(flow).next_unit(room, frame)
     }
 
+    /// What of a flow goes next, as `next_unit`. None exactly where the flow isn't live.
+    pub fn unit_of(&self, flow: FlowId, room: i64, frame: u32) -> Option<Unit>
+        ensures unit { result ≡ option_map (next_unit room frame) (flow_at self.now flow) }
+        ensures frameable { IfSome result (λ unit. IfSome (flow_at self.now flow) (λ f. IsFrameable unit f)) }
+    {
+        match self.find(flow) {
+            Some(flow) => Some(flow.next_unit(room, frame)),
+            None => None,
+        }
+    }
+
     /// The head of a flow where it came and isn't framed, else the trailers where they came and aren't framed.
     pub fn fields(&self, flow: FlowId) -> Option<&FieldList>
         requires { IsLiveFlow self.now flow }

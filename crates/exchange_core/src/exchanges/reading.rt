@@ -1,14 +1,15 @@
 // What exchanges answer, and leave as they are.
-ghost use Rattle.std.specs.Prelude.{◌≡◌, ◌↔◌, ◌-◌, IsTrue, Some, false, length, option_map, true};
+ghost use Rattle.std.specs.Prelude.{◌≡◌, ◌↔◌, ◌-◌, IsTrue, Some, false, length, nat_lt, not, option_map, true};
 ghost use Rattle.std.specs.Option.{option_map_or};
 ghost use Rattle.exchange_core.specs.Exchange.{ends_of, held_in};
 ghost use Rattle.exchange_core.specs.Exchanges.{IsLiveFlow, IsNextMetered, IsSound, exchange_at, flow_at, is_live};
-ghost use Rattle.exchange_core.specs.Flow.{stages_of};
-ghost use Rattle.exchange_core.specs.Message.{head_came};
+ghost use Rattle.exchange_core.specs.Flow.{held_by, stages_of};
+ghost use Rattle.exchange_core.specs.Message.{awaited, head_came};
 ghost use Rattle.filter_chain.specs.Release.{is_source_at};
 
 use super::Exchanges;
 use crate::exchange::Ends;
+use crate::message::Awaited;
 use flow_gate::FlowId;
 
 impl Exchanges {
@@ -70,12 +71,42 @@ impl Exchanges {
         self.flow(flow).message().ended
     }
 
+    /// Whether a flow is live and its end hasn't come.
+    pub fn goes_on(&self, flow: FlowId) -> bool
+        ensures { result ≡ option_map_or (λ f. not f.message.ended) (flow_at self.now flow) false }
+    {
+        match self.find(flow) {
+            Some(flow) => !flow.message().ended,
+            None => false,
+        }
+    }
+
     /// Whether the head of a flow came: it waits to be framed, or was framed. False where the flow isn't live.
     pub fn head_came(&self, flow: FlowId) -> bool
         ensures { result ≡ option_map_or (λ f. head_came f.message) (flow_at self.now flow) false }
     {
         match self.find(flow) {
             Some(flow) => flow.message().head_came(),
+            None => false,
+        }
+    }
+
+    /// What of a flow's message is still to come: nothing where the flow isn't live.
+    pub fn awaits(&self, flow: FlowId) -> Awaited
+        ensures { result ≡ option_map_or (λ f. awaited f.message) (flow_at self.now flow) Awaited.Nothing }
+    {
+        match self.find(flow) {
+            Some(flow) => flow.message().awaits(),
+            None => Awaited::Nothing,
+        }
+    }
+
+    /// Whether a flow holds octets in some place. False where the flow isn't live.
+    pub fn holds(&self, flow: FlowId) -> bool
+        ensures { result ≡ option_map_or (λ f. nat_lt 0 (held_by f)) (flow_at self.now flow) false }
+    {
+        match self.find(flow) {
+            Some(flow) => flow.held() > 0,
             None => false,
         }
     }

@@ -1,5 +1,5 @@
 // The lines of plain sessions.
-ghost use Rattle.std.specs.Prelude.{◌≡◌, ◌∷◌, ℕ, List, codes, IfOk, IfSome};
+ghost use Rattle.std.specs.Prelude.{◌≡◌, ◌∷◌, codes, IfOk, IfSome};
 ghost use Rattle.flow_notes.specs.Spells.{SpellsPlain};
 ghost use Rattle.flow_notes.specs.EventOf.{open_of, pair_of, body_of, end_of, reset_of, plain_room_of, short_plain_of, plain_of};
 ghost use Rattle.flow_notes.specs.Split.{words_in, words_behind};

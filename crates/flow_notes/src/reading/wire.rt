@@ -47,6 +47,7 @@ fn read_line(alloc: Global, words: Option<&[u8]>) -> Result<Option<Event>, NoMem
     let Some(octets) = piece_word(alloc, octets)? else {
         return Ok(None);
     };
+    let octets = octets.shared()?;
     Ok(Some(Event::Read { conn, octets }))
 }
 

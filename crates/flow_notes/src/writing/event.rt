@@ -1,8 +1,8 @@
 // The lines of events.
 ghost use Rattle.std.specs.Prelude.{◌≡◌, ◌++◌, ◌∷◌, OnOk, OnErr};
-ghost use Rattle.flow_notes.specs.Event.{IsEvent, IsPlainEvent, event_spelling, event_words, plain_words};
+ghost use Rattle.flow_notes.specs.Event.{IsEvent, event_spelling, event_words, plain_words};
 ghost use Rattle.flow_notes.specs.Extends.{Extends};
-ghost use Rattle.flow_notes.specs.Job.{IsJob, job_words};
+ghost use Rattle.flow_notes.specs.Job.{job_words};
 ghost use Rattle.flow_notes.specs.Line.{line_of, newline};
 ghost use Rattle.flow_notes.specs.Word.{turn_words};
 ghost use Rattle.std.specs.Prelude.{codes, decimal};

@@ -104,12 +104,12 @@ fn reset_act(state: Option<Stream>, stream: u32, code: u32) -> Act
     }
 }
 
-// The empty DATA frames in a row after one more DATA frame.
-fn run_after(run: u32, octets: &[u8], padded: u32, last: bool) -> u32
-    ensures { result ≡ (if (length octets.now == 0) && (padded == 0) && not last then min (run + 1) (2 ^ 32 - 1) else 0) }
+// The empty DATA frames in a row after one more DATA frame, of which so many are counted.
+fn run_after(run: u32, most: u32, octets: &[u8], padded: u32, last: bool) -> u32
+    ensures { result ≡ (if (length octets.now == 0) && (padded == 0) && not last then min (run + 1) most else 0) }
 {
     if octets.is_empty() && padded == 0 && !last {
-        run.saturating_add(1)
+        run.saturating_add(1).min(most)
     } else {
         0
     }
@@ -171,7 +171,7 @@ impl Session {
             octets,
         )?;
         self.streams.data_came(stream, last);
-        self.empties = run_after(self.empties, octets, padded, last);
+        self.empties = run_after(self.empties, self.empty_frames, octets, padded, last);
         Ok(act)
     }
 

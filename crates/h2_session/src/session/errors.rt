@@ -1,5 +1,5 @@
 // Connection errors, in the order of the protocol's rules (RFC 9113 section 5.4.1).
-ghost use Rattle.std.specs.Prelude.{◌≡◌, not, Option, if◌then◌else◌};
+ghost use Rattle.std.specs.Prelude.{◌≡◌, not, Option};
 ghost use Rattle.h2_frames.specs.View.{view};
 ghost use Rattle.h2_session.specs.Blocks.{block_with};
 ghost use Rattle.h2_session.specs.Errors.{breaks_block, error_by, first_of, is_empty_data, is_great, is_push, is_settings, is_zero_update, settings_error, value_error};
@@ -7,7 +7,7 @@ ghost use Rattle.h2_session.specs.Summary.{is_idle_in, uses_idle_in};
 
 use super::Session;
 use crate::block::HeaderBlock;
-use crate::settings::{ENABLE_PUSH, INITIAL_WINDOW_SIZE, MAX_FRAME_SIZE, names_outside};
+use crate::settings::named_outside;
 use h2_frames::Frame;
 use h2_frames::codes::{ENHANCE_YOUR_CALM, FLOW_CONTROL_ERROR, PROTOCOL_ERROR};
 
@@ -92,11 +92,12 @@ fn settings_error(frame: &Frame, client_side: bool) -> Option<u32>
         return None;
     };
     let most_push = if client_side { 0 } else { 1 };
-    if names_outside(entries, ENABLE_PUSH, 0, most_push) {
+    let outside = named_outside(entries, most_push);
+    if outside.push {
         Some(PROTOCOL_ERROR)
-    } else if names_outside(entries, INITIAL_WINDOW_SIZE, 0, 0x7fff_ffff) {
+    } else if outside.initial_window {
         Some(FLOW_CONTROL_ERROR)
-    } else if names_outside(entries, MAX_FRAME_SIZE, 16_384, 16_777_215) {
+    } else if outside.frame_size {
         Some(PROTOCOL_ERROR)
     } else {
         None

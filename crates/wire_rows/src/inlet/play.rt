@@ -3,6 +3,7 @@ ghost use Rattle.std.specs.Prelude.{◌<◌, ◌≤◌};
 
 use super::acts::say_taken;
 use crate::words::{Answers, small_number};
+use io_ports::Octets;
 use std::alloc::{AllocError, Global};
 use wire_inlet::{Inlet, Intake, Peer};
 
@@ -137,7 +138,10 @@ impl Played {
 
     // One piece comes, and all frames that are whole then are taken. What is behind them is told.
     fn piece(&mut self, answers: &mut Answers, piece: &[u8]) -> End {
-        if self.inlet.push(piece).is_err() {
+        let Ok(octets) = Octets::from_slice(answers.alloc(), piece) else {
+            return End::NoMemory;
+        };
+        if self.inlet.push(&octets).is_err() {
             return End::NoMemory;
         }
         self.came = self.came.saturating_add(piece.len());

@@ -1,7 +1,6 @@
 // The windows of all open streams under a new initial window.
 ghost use Rattle.std.specs.FinMap.{get};
-ghost use Rattle.std.specs.Option.{unwrap_or};
-ghost use Rattle.std.specs.Prelude.{◌≡◌, IfSome, IsSome, None, Some, option_map, true, false, ℕ};
+ghost use Rattle.std.specs.Prelude.{◌≡◌, IfSome, option_map, true, false, ℕ};
 ghost use Rattle.wire_windows.specs.Shifts.{Refuses, may_move, moved_by};
 
 use super::ByExchange;

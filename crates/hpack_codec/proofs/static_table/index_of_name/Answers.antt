@@ -1,20 +1,35 @@
-use Rattle.std.proofs.Common.{◌∙◌, arith, sym}
+use Rattle.std.proofs.Common.{◌+◌, ◌∙◌, Bool, Some, length, ap, sym}
 use Rattle.std.specs.Str.{bytes_eq}
 use Rattle.hpack_codec.specs.Table.{line, static_table}
-use Rattle.hpack_codec.proofs.StaticRows.{searches_on, searched, searched_all}
+use Rattle.hpack_codec.specs.declared.line.Line.{Line}
+use Rattle.hpack_codec.proofs.StaticPlaces.{among, is_within, named_as_long, search_begins, searched, searched_all, searches_on}
 use Rattle.hpack_codec.proofs.static_table.index_of_name.Goals as goal
+
+pub loop-place-init : goal.loop-place-init
+loop-place-init c =
+    let passes : Line → Bool = λ l. bytes_eq l.name c.args.name.now in
+    search_begins passes (length c.args.name.now) (named_as_long c.args.name.now) ∙ ap (among passes static_table) (sym c.places_of-place-items.ensures)
+
+pub static_entry-requires : goal.static_entry-requires
+static_entry-requires c =
+    is_within c.places_of-place-items.result.now (length c.args.name.now) c.loop-place.place-index c.from.result c.places_of-place-items.ensures c.loop-place-test.true c.from.ensures
 
 pub returns-then-eq : goal.returns-then-eq
 returns-then-eq c =
+    let passes : Line → Bool = λ l. bytes_eq l.name c.args.name.now in
     let entry = c.static_entry.result in
-    sym (c.loop-place.invariant
-    ∙ searched (λ l. bytes_eq l.name c.args.name.now) static_table c.loop-place.place (line entry.name.now entry.value.now) c.static_entry.ensures (sym c.eq.ensures ∙ c.if-eq.true))
+    ap (λ p. Some (p + 1)) (c.from-then-eq.ensures ∙ sym c.from.ensures)
+    ∙ sym (c.loop-place.invariant
+    ∙ searched passes static_table c.places_of-place-items.result.now c.loop-place.place-index c.from.result 0 (line entry.name.now entry.value.now) c.loop-place-test.true c.from.ensures c.static_entry.ensures (sym c.eq.ensures ∙ c.if-eq.true))
 
 pub loop-place-preserved : goal.loop-place-preserved
 loop-place-preserved c =
+    let passes : Line → Bool = λ l. bytes_eq l.name c.args.name.now in
     let entry = c.static_entry.result in
     c.loop-place.invariant
-    ∙ searches_on (λ l. bytes_eq l.name c.args.name.now) static_table c.loop-place.place (line entry.name.now entry.value.now) c.static_entry.ensures (sym c.eq.ensures ∙ c.if-eq.false)
+    ∙ searches_on passes static_table c.places_of-place-items.result.now c.loop-place.place-index c.from.result 0 (line entry.name.now entry.value.now) c.loop-place-test.true c.from.ensures c.static_entry.ensures (sym c.eq.ensures ∙ c.if-eq.false)
 
 pub returns : goal.returns
-returns c = sym (c.loop-place.invariant ∙ searched_all (λ l. bytes_eq l.name c.args.name.now) c.loop-place.place (omega arith))
+returns c =
+    let passes : Line → Bool = λ l. bytes_eq l.name c.args.name.now in
+    sym (c.loop-place.invariant ∙ searched_all passes static_table c.places_of-place-items.result.now c.loop-place.place-index c.loop-place-test.false)

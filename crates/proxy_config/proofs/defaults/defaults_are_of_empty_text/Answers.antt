@@ -5,7 +5,7 @@ use Rattle.toml.specs.Data.{no_members}
 use Rattle.toml.specs.Parse.{parse_document}
 use Rattle.toml.proofs.OnLiterals.{toml_on_literals}
 use Rattle.proxy_config.specs.Keys.{key_faults, unknown_faults}
-use Rattle.proxy_config.specs.Reading.{config_faults, config_made}
+use Rattle.proxy_config.specs.Reading.{config_of, config_faults, config_made}
 use Rattle.proxy_config.specs.Defaults.{config_of_empty}
 use Rattle.proxy_config.proofs.defaults.defaults_are_of_empty_text.Goals as goal
 
@@ -24,4 +24,5 @@ utf8 : is_utf8 [] ≡ true
 utf8 = is_utf8-from_IsUtf8 [] ([], (refl, refl))
 
 pub returns : goal.returns
+unfolding config_of
 returns c = rw (utf8, empty_document, no_faults, made) refl

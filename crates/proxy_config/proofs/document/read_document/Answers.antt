@@ -2,10 +2,12 @@ use Rattle.std.proofs.Common.{inl, inr}
 use Rattle.std.proofs.lemmas.Bool.{cases_Bool}
 use Rattle.std.proofs.lemmas.Str.{IsUtf8-from_is_utf8, is_utf8-from_IsUtf8}
 use Rattle.std.specs.Str.{is_utf8}
+use Rattle.proxy_config.specs.Reading.{config_of}
 use Rattle.proxy_config.proofs.Faults.{on_ok_always}
 use Rattle.proxy_config.proofs.document.read_document.Goals as goal
 
 pub returns-in-Err-clause-refused : goal.returns-in-Err-clause-refused
+unfolding config_of
 returns-in-Err-clause-refused c known =
     elim (cases_Bool (is_utf8 c.args.text.now)) [
       | inl valid ↦ absurd (c.in-Err.ensures.cases.0 (IsUtf8-from_is_utf8 _ valid))

@@ -1,7 +1,7 @@
 use Rattle.std.proofs.Common.{◌≡◌, ◌++◌, List, length}
 use Rattle.flow_notes.specs.declared.events.Event.{Event}
-use Rattle.replay_run.specs.Drill.{drill}
-use Rattle.replay_run.specs.Drilling.{DrillIs, rest_of}
+use Rattle.replay_run.specs.DrillEvents.{drill}
+use Rattle.replay_run.specs.Drill.{DrillIs, rest_of}
 use Rattle.replay_run.proofs.drill.drill_events.Given as goal
 
 abbrev pub invariant-loop-events : goal.invariant-loop-events

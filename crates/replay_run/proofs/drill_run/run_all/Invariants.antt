@@ -1,6 +1,6 @@
 use Rattle.std.proofs.Common.{length}
-use Rattle.replay_run.specs.Drilling.{rest_of}
-use Rattle.replay_run.specs.Drills.{Drilled}
+use Rattle.replay_run.specs.Drill.{rest_of}
+use Rattle.replay_run.specs.ReplayDrill.{Drilled}
 use Rattle.replay_run.proofs.drill_run.run_all.Given as goal
 
 abbrev pub invariant-events : goal.invariant-events

@@ -12,4 +12,4 @@ abbrev pub invariant-loop-conn : goal.invariant-loop-conn
 invariant-loop-conn l = IsSound l.core
 
 abbrev pub decreases-loop-conn : goal.decreases-loop-conn
-decreases-loop-conn l = length l.core.stirred.conns.keys
+decreases-loop-conn l = length l.core.stirred.conns.items

@@ -9,21 +9,21 @@ use Rattle.wire_flows.specs.Begins.{BeginsFlow, IsFresh, watches_from}
 pub begin-requires-2-clause-fresh : goal.begin-requires-2-clause-fresh
 begin-requires-2-clause-fresh c = let one : BeginsFlow (flow_id c.args.exchange false) (watches_from (flow_id c.args.exchange false) (filters_of (side_filters false) c.args.spec.now.row c.args.config.now) c.args.spec.now.to_conn) c.args.spec.now.to_conn c.args.gates.now c.begin.new.gates =
     subst (λ fs. BeginsFlow (flow_id c.args.exchange false) (watches_from (flow_id c.args.exchange false) fs c.args.spec.now.to_conn) c.args.spec.now.to_conn c.args.gates.now c.begin.new.gates) c.filters_of-filters.ensures.filters
-    (subst (λ f. BeginsFlow f (watches_from f c.filters_of-filters.result.now c.args.spec.now.to_conn) c.args.spec.now.to_conn c.args.gates.now c.begin.new.gates) c.flow_id-request.ensures (c.in_ok-request_held.ensures {u = tt}).ok) in
-    subst (λ f. IsFresh f c.begin.new.gates) (sym c.flow_id.ensures) (response_fresh c.args.exchange (watches_from (flow_id c.args.exchange false) (filters_of (side_filters false) c.args.spec.now.row c.args.config.now) c.args.spec.now.to_conn) c.args.spec.now.to_conn c.args.gates.now c.begin.new.gates one (c.requires.fresh true))
+    (subst (λ f. BeginsFlow f (watches_from f c.filters_of-filters.result.now c.args.spec.now.to_conn) c.args.spec.now.to_conn c.args.gates.now c.begin.new.gates) c.request-request.ensures (c.in_ok-request_held.ensures {u = tt}).ok) in
+    subst (λ f. IsFresh f c.begin.new.gates) (sym c.response.ensures) (response_fresh c.args.exchange (watches_from (flow_id c.args.exchange false) (filters_of (side_filters false) c.args.spec.now.row c.args.config.now) c.args.spec.now.to_conn) c.args.spec.now.to_conn c.args.gates.now c.begin.new.gates one (c.requires.fresh true))
 
 pub returns-in-Ok-clause-ok : goal.returns-in-Ok-clause-ok
 returns-in-Ok-clause-ok c = let one : BeginsFlow (flow_id c.args.exchange false) (watches_from (flow_id c.args.exchange false) (filters_of (side_filters false) c.args.spec.now.row c.args.config.now) c.args.spec.now.to_conn) c.args.spec.now.to_conn c.args.gates.now c.begin.new.gates =
     subst (λ fs. BeginsFlow (flow_id c.args.exchange false) (watches_from (flow_id c.args.exchange false) fs c.args.spec.now.to_conn) c.args.spec.now.to_conn c.args.gates.now c.begin.new.gates) c.filters_of-filters.ensures.filters
-    (subst (λ f. BeginsFlow f (watches_from f c.filters_of-filters.result.now c.args.spec.now.to_conn) c.args.spec.now.to_conn c.args.gates.now c.begin.new.gates) c.flow_id-request.ensures (c.in_ok-request_held.ensures {u = tt}).ok) in
+    (subst (λ f. BeginsFlow f (watches_from f c.filters_of-filters.result.now c.args.spec.now.to_conn) c.args.spec.now.to_conn c.args.gates.now c.begin.new.gates) c.request-request.ensures (c.in_ok-request_held.ensures {u = tt}).ok) in
     let two : BeginsFlow (flow_id c.args.exchange true) (watches_from (flow_id c.args.exchange true) (filters_of (side_filters true) c.args.spec.now.row c.args.config.now) (Some c.args.spec.now.from_conn)) (Some c.args.spec.now.from_conn) c.begin.new.gates c.begin-2.new.gates =
     subst (λ fs. BeginsFlow (flow_id c.args.exchange true) (watches_from (flow_id c.args.exchange true) fs (Some c.args.spec.now.from_conn)) (Some c.args.spec.now.from_conn) c.begin.new.gates c.begin-2.new.gates) c.filters_of-filters-2.ensures.filters
-    (subst (λ f. BeginsFlow f (watches_from f c.filters_of-filters-2.result.now (Some c.args.spec.now.from_conn)) (Some c.args.spec.now.from_conn) c.begin.new.gates c.begin-2.new.gates) c.flow_id.ensures (c.in-Ok.ensures {u = tt}).ok) in
+    (subst (λ f. BeginsFlow f (watches_from f c.filters_of-filters-2.result.now (Some c.args.spec.now.from_conn)) (Some c.args.spec.now.from_conn) c.begin.new.gates c.begin-2.new.gates) c.response.ensures (c.in-Ok.ensures {u = tt}).ok) in
     both_begin c.args.exchange (watches_from (flow_id c.args.exchange false) (filters_of (side_filters false) c.args.spec.now.row c.args.config.now) c.args.spec.now.to_conn) c.args.spec.now.to_conn c.args.gates.now c.begin.new.gates one _ c.args.spec.now.from_conn c.begin-2.new.gates c.begin.ensures.sound two
 
 pub returns-in-Err-clause-err : goal.returns-in-Err-clause-err
 returns-in-Err-clause-err c = let one : BeginsFlow (flow_id c.args.exchange false) (watches_from (flow_id c.args.exchange false) (filters_of (side_filters false) c.args.spec.now.row c.args.config.now) c.args.spec.now.to_conn) c.args.spec.now.to_conn c.args.gates.now c.begin.new.gates =
     subst (λ fs. BeginsFlow (flow_id c.args.exchange false) (watches_from (flow_id c.args.exchange false) fs c.args.spec.now.to_conn) c.args.spec.now.to_conn c.args.gates.now c.begin.new.gates) c.filters_of-filters.ensures.filters
-    (subst (λ f. BeginsFlow f (watches_from f c.filters_of-filters.result.now c.args.spec.now.to_conn) c.args.spec.now.to_conn c.args.gates.now c.begin.new.gates) c.flow_id-request.ensures (c.in_ok-request_held.ensures {u = tt}).ok) in
+    (subst (λ f. BeginsFlow f (watches_from f c.filters_of-filters.result.now c.args.spec.now.to_conn) c.args.spec.now.to_conn c.args.gates.now c.begin.new.gates) c.request-request.ensures (c.in_ok-request_held.ensures {u = tt}).ok) in
     request_back c.args.exchange (watches_from (flow_id c.args.exchange false) (filters_of (side_filters false) c.args.spec.now.row c.args.config.now) c.args.spec.now.to_conn) c.args.spec.now.to_conn c.args.gates.now c.begin.new.gates one c.begin-2.new.gates c.forget.new.self (c.in-Err.ensures {u = tt}).err
-    (subst (λ f. Forgets f c.begin-2.new.gates c.forget.new.self) c.flow_id-request.ensures c.forget.ensures.forgets) (c.requires.new false) (c.requires.fresh false) c.requires.sound
+    (subst (λ f. Forgets f c.begin-2.new.gates c.forget.new.self) c.request-request.ensures c.forget.ensures.forgets) (c.requires.new false) (c.requires.fresh false) c.requires.sound

@@ -31,8 +31,8 @@ forget_flows-requires-clause-request c = (known c).0
 pub forget_flows-requires-clause-response : goal.forget_flows-requires-clause-response
 forget_flows-requires-clause-response c = λ some. (known c).1 (some_mapped (at_moment c.self.inside.ticked) c.in-Some.ended.response ∙ sym c.is_some.ensures ∙ some)
 
-abbrev after : goal.Joined-ended-4 → Inside
-after c = record c.self.inside { live = c.remove.new.self; doomed = c.push_back_reserved.new.self; metered = c.mark.new.self }
+abbrev after : goal.After-keep → Inside
+after c = record c.self.inside { live = c.remove.new.self; doomed = c.push_back_reserved.new.self; metered = c.mark.new.self; spares = c.keep.new.self }
 
 pub invariant_of-self : goal.invariant_of-self
 invariant_of-self c = doom_kept c.self.inside (after c) c.args.exchange c.in-Some.ended c.self.invariant c.in-Some.ensures.value c.remove.ensures.updates.0 c.remove.ensures.ordered c.remove.ensures.entries c.in-Some.ensures.len
@@ -40,7 +40,7 @@ invariant_of-self c = doom_kept c.self.inside (after c) c.args.exchange c.in-Som
     (is_unmarked c.self.inside c.args.exchange c.in-Some.ended c.self.invariant c.in-Some.ensures.value c.mark.new.self c.mark.ensures.members c.mark.ensures.len c.mark.ensures.room)
 
 pub returns-clause-answer : goal.returns-clause-answer
-returns-clause-answer c = rw (← c.self.view_is) (ap Some (c.reckoning.ensures ∙ sym (reckoning_seen c.self.inside.ticked c.args.cause c.args.back c.in-Some.ended))
+returns-clause-answer c = rw (← c.self.view_is) (ap Some (c.reckoning-doomed.ensures ∙ sym (reckoning_seen c.self.inside.ticked c.args.cause c.args.back c.in-Some.ended))
     ∙ sym (ap (option_map (reckoning c.args.cause c.args.back)) (exchange_found c.self.inside c.args.exchange (Some c.in-Some.ended) c.in-Some.ensures.value)))
 
 pub returns-clause-dooms : goal.returns-clause-dooms

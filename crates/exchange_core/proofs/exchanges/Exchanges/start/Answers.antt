@@ -14,9 +14,6 @@ use Rattle.exchange_core.specs.declared.exchanges.Exchanges.TheInside.{Inside}
 pub returns-in_err-number-clause-sound : goal.returns-in_err-number-clause-sound
 returns-in_err-number-clause-sound c = rw (← c.self.view_is) (seen_sound c.self.inside c.self.invariant)
 
-pub returns-in_err-exchange-clause-sound : goal.returns-in_err-exchange-clause-sound
-returns-in_err-exchange-clause-sound c = rw (← c.self.view_is) (seen_sound c.self.inside c.self.invariant)
-
 pub returns-in_err-reserve-clause-sound : goal.returns-in_err-reserve-clause-sound
 returns-in_err-reserve-clause-sound c = seen_sound (record c.self.inside { doomed = c.reserve.new.self })
     (room_made c.self.inside (record c.self.inside { doomed = c.reserve.new.self }) c.self.invariant refl c.reserve.ensures.items refl refl refl refl c.reserve.ensures.len c.reserve.ensures.capacity (omega arith)).1
@@ -25,12 +22,20 @@ pub returns-in_err-reserve-2-clause-sound : goal.returns-in_err-reserve-2-clause
 returns-in_err-reserve-2-clause-sound c = seen_sound (record c.self.inside { doomed = c.reserve.new.self; metered = c.reserve-2.new.self })
     (room_made c.self.inside (record c.self.inside { doomed = c.reserve.new.self; metered = c.reserve-2.new.self }) c.self.invariant refl c.reserve.ensures.items refl refl refl c.reserve-2.ensures.items c.reserve.ensures.len c.reserve.ensures.capacity c.reserve-2.ensures.more).1
 
+pub returns-in_err-ready-clause-sound : goal.returns-in_err-ready-clause-sound
+returns-in_err-ready-clause-sound c = seen_sound (record c.self.inside { spares = c.ready.new.self; doomed = c.reserve.new.self; metered = c.reserve-2.new.self })
+    (room_made c.self.inside (record c.self.inside { spares = c.ready.new.self; doomed = c.reserve.new.self; metered = c.reserve-2.new.self }) c.self.invariant refl c.reserve.ensures.items refl refl refl c.reserve-2.ensures.items c.reserve.ensures.len c.reserve.ensures.capacity c.reserve-2.ensures.more).1
+
+pub returns-in_err-exchange-clause-sound : goal.returns-in_err-exchange-clause-sound
+returns-in_err-exchange-clause-sound c = seen_sound (record c.self.inside { spares = c.new.new.spares; doomed = c.reserve.new.self; metered = c.reserve-2.new.self })
+    (room_made c.self.inside (record c.self.inside { spares = c.new.new.spares; doomed = c.reserve.new.self; metered = c.reserve-2.new.self }) c.self.invariant refl c.reserve.ensures.items refl refl refl c.reserve-2.ensures.items c.reserve.ensures.len c.reserve.ensures.capacity c.reserve-2.ensures.more).1
+
 pub returns-in_err-insert-clause-sound : goal.returns-in_err-insert-clause-sound
-returns-in_err-insert-clause-sound c = seen_sound (record c.self.inside { live = c.insert.new.self; doomed = c.reserve.new.self; metered = c.reserve-2.new.self })
-    (room_made c.self.inside (record c.self.inside { live = c.insert.new.self; doomed = c.reserve.new.self; metered = c.reserve-2.new.self }) c.self.invariant c.in_err-insert.ensures.err c.reserve.ensures.items refl refl refl c.reserve-2.ensures.items c.reserve.ensures.len c.reserve.ensures.capacity c.reserve-2.ensures.more).1
+returns-in_err-insert-clause-sound c = seen_sound (record c.self.inside { spares = c.new.new.spares; live = c.insert.new.self; doomed = c.reserve.new.self; metered = c.reserve-2.new.self })
+    (room_made c.self.inside (record c.self.inside { spares = c.new.new.spares; live = c.insert.new.self; doomed = c.reserve.new.self; metered = c.reserve-2.new.self }) c.self.invariant c.in_err-insert.ensures.err c.reserve.ensures.items refl refl refl c.reserve-2.ensures.items c.reserve.ensures.len c.reserve.ensures.capacity c.reserve-2.ensures.more).1
 
 abbrev after : goal.After-self-2-1 → Inside
-after c = record c.self.inside { live = c.insert.new.self; doomed = c.reserve.new.self; metered = c.reserve-2.new.self; last = c.in_ok-number.number; time = c.args.spec.now.now }
+after c = record c.self.inside { spares = c.new.new.spares; live = c.insert.new.self; doomed = c.reserve.new.self; metered = c.reserve-2.new.self; last = c.in_ok-number.number; time = c.args.spec.now.now }
 
 rises : (c : goal.After-self-2-1) → c.self.inside.last < c.in_ok-number.number
 rises c = number_rises c.in_ok-number.number c.args.spec.now (exchanges_of c.self.inside) c.in_ok-number.ensures (rw (← c.self.view_is) at c.requires.rises)

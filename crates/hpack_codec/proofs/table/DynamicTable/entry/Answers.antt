@@ -1,6 +1,5 @@
-use Rattle.std.proofs.Common.{◌-◌, ap, sym, arith, ◌∙◌, Some}
+use Rattle.std.proofs.Common.{◌-◌, arith, ◌∙◌}
 use Rattle.std.proofs.lemmas.Option.{slice_get_past}
-use Rattle.hpack_codec.specs.Table.{line}
 use Rattle.hpack_codec.proofs.StaticRows.{dynamic_at}
 use Rattle.hpack_codec.proofs.table.DynamicTable.entry.Goals as goal
 
@@ -8,8 +7,6 @@ pub returns-in-Some : goal.returns-in-Some
 returns-in-Some c =
     let place = c.args.index - 1 - 61 in
     dynamic_at c.args.self.now c.args.index place (omega arith) ∙ c.in-Some.ensures
-    ∙ ap (λ n. Some (line n c.in-Some.found.now.value)) (sym c.as_slice.ensures)
-    ∙ ap (λ v. Some (line c.as_slice.result.now v)) (sym c.as_slice-in-Some.ensures)
 
 pub returns-in-None : goal.returns-in-None
 returns-in-None c =

@@ -33,31 +33,31 @@ pub returns-in_err-request_held-clause-sound : goal.returns-in_err-request_held-
 returns-in_err-request_held-clause-sound c = (refused_same (flows_of c.self.inside) c.self.inside.exchanges c.begin_both.new.gates c.self.invariant refl (c.in_err-request_held.ensures {u = tt}).err c.begin_both.ensures.sound).sound
 
 pub forget-requires : goal.forget-requires
-forget-requires c = ap (is_open c.begin_both.new.gates) c.flow_id.ensures ∙ response_open _ _ _ _ _ _ _ (c.in_ok-request_held.ensures {u = tt}).ok
+forget-requires c = ap (is_open c.begin_both.new.gates) c.response.ensures ∙ response_open _ _ _ _ _ _ _ (c.in_ok-request_held.ensures {u = tt}).ok
 
 pub forget-requires-in-Err : goal.forget-requires-in-Err
 forget-requires-in-Err c = let greater : c.self.inside.exchanges.last < c.in-Some.exchange = let a = (c.in-Some.ensures {u = tt}).1 in omega (arith, a, c.last.ensures) in
-    ap (is_open c.forget.new.self) c.flow_id-in-Err.ensures ∙ request_there _ _ _ _ _ _ _ (c.in_ok-request_held.ensures {u = tt}).ok c.forget.new.self (back_between _ _ _ _ _ _ _ (c.in_ok-request_held.ensures {u = tt}).ok c.forget.new.self (subst (λ f. Forgets f c.begin_both.new.gates c.forget.new.self) c.flow_id.ensures c.forget.ensures.forgets) (unborn_shut c.in-Some.exchange (flows_of c.self.inside) c.self.invariant greater true) (unborn_fresh c.in-Some.exchange (flows_of c.self.inside) c.self.invariant greater true))
+    ap (is_open c.forget.new.self) c.request.ensures ∙ request_there _ _ _ _ _ _ _ (c.in_ok-request_held.ensures {u = tt}).ok c.forget.new.self (back_between _ _ _ _ _ _ _ (c.in_ok-request_held.ensures {u = tt}).ok c.forget.new.self (subst (λ f. Forgets f c.begin_both.new.gates c.forget.new.self) c.response.ensures c.forget.ensures.forgets) (unborn_shut c.in-Some.exchange (flows_of c.self.inside) c.self.invariant greater true) (unborn_fresh c.in-Some.exchange (flows_of c.self.inside) c.self.invariant greater true))
 
 pub invariant_of-self-in-Err : goal.invariant_of-self-in-Err
 invariant_of-self-in-Err c = let greater : c.self.inside.exchanges.last < c.in-Some.exchange = let a = (c.in-Some.ensures {u = tt}).1 in omega (arith, a, c.last.ensures) in
-    (refused_same (flows_of c.self.inside) c.start.new.self c.forget-in-Err.new.self c.self.invariant (c.in-Err.ensures {u = tt}).err (back_both _ _ _ _ _ _ _ (c.in_ok-request_held.ensures {u = tt}).ok c.forget.new.self c.forget-in-Err.new.self (back_between _ _ _ _ _ _ _ (c.in_ok-request_held.ensures {u = tt}).ok c.forget.new.self (subst (λ f. Forgets f c.begin_both.new.gates c.forget.new.self) c.flow_id.ensures c.forget.ensures.forgets) (unborn_shut c.in-Some.exchange (flows_of c.self.inside) c.self.invariant greater true) (unborn_fresh c.in-Some.exchange (flows_of c.self.inside) c.self.invariant greater true))
-    (subst (λ f. Forgets f c.forget.new.self c.forget-in-Err.new.self) c.flow_id-in-Err.ensures c.forget-in-Err.ensures.forgets) (unborn_shut c.in-Some.exchange (flows_of c.self.inside) c.self.invariant greater false) (unborn_fresh c.in-Some.exchange (flows_of c.self.inside) c.self.invariant greater false) c.self.invariant.gates) c.forget-in-Err.ensures.sound).sound
+    (refused_same (flows_of c.self.inside) c.start.new.self c.forget-in-Err.new.self c.self.invariant (c.in-Err.ensures {u = tt}).err (back_both _ _ _ _ _ _ _ (c.in_ok-request_held.ensures {u = tt}).ok c.forget.new.self c.forget-in-Err.new.self (back_between _ _ _ _ _ _ _ (c.in_ok-request_held.ensures {u = tt}).ok c.forget.new.self (subst (λ f. Forgets f c.begin_both.new.gates c.forget.new.self) c.response.ensures c.forget.ensures.forgets) (unborn_shut c.in-Some.exchange (flows_of c.self.inside) c.self.invariant greater true) (unborn_fresh c.in-Some.exchange (flows_of c.self.inside) c.self.invariant greater true))
+    (subst (λ f. Forgets f c.forget.new.self c.forget-in-Err.new.self) c.request.ensures c.forget-in-Err.ensures.forgets) (unborn_shut c.in-Some.exchange (flows_of c.self.inside) c.self.invariant greater false) (unborn_fresh c.in-Some.exchange (flows_of c.self.inside) c.self.invariant greater false) c.self.invariant.gates) c.forget-in-Err.ensures.sound).sound
 
 pub returns-in-Err-clause-left : goal.returns-in-Err-clause-left
 returns-in-Err-clause-left c = let greater : c.self.inside.exchanges.last < c.in-Some.exchange = let a = (c.in-Some.ensures {u = tt}).1 in omega (arith, a, c.last.ensures) in
-    rw (← c.self.view_is) (refused_same (flows_of c.self.inside) c.start.new.self c.forget-in-Err.new.self c.self.invariant (c.in-Err.ensures {u = tt}).err (back_both _ _ _ _ _ _ _ (c.in_ok-request_held.ensures {u = tt}).ok c.forget.new.self c.forget-in-Err.new.self (back_between _ _ _ _ _ _ _ (c.in_ok-request_held.ensures {u = tt}).ok c.forget.new.self (subst (λ f. Forgets f c.begin_both.new.gates c.forget.new.self) c.flow_id.ensures c.forget.ensures.forgets) (unborn_shut c.in-Some.exchange (flows_of c.self.inside) c.self.invariant greater true) (unborn_fresh c.in-Some.exchange (flows_of c.self.inside) c.self.invariant greater true))
-    (subst (λ f. Forgets f c.forget.new.self c.forget-in-Err.new.self) c.flow_id-in-Err.ensures c.forget-in-Err.ensures.forgets) (unborn_shut c.in-Some.exchange (flows_of c.self.inside) c.self.invariant greater false) (unborn_fresh c.in-Some.exchange (flows_of c.self.inside) c.self.invariant greater false) c.self.invariant.gates) c.forget-in-Err.ensures.sound).left
+    rw (← c.self.view_is) (refused_same (flows_of c.self.inside) c.start.new.self c.forget-in-Err.new.self c.self.invariant (c.in-Err.ensures {u = tt}).err (back_both _ _ _ _ _ _ _ (c.in_ok-request_held.ensures {u = tt}).ok c.forget.new.self c.forget-in-Err.new.self (back_between _ _ _ _ _ _ _ (c.in_ok-request_held.ensures {u = tt}).ok c.forget.new.self (subst (λ f. Forgets f c.begin_both.new.gates c.forget.new.self) c.response.ensures c.forget.ensures.forgets) (unborn_shut c.in-Some.exchange (flows_of c.self.inside) c.self.invariant greater true) (unborn_fresh c.in-Some.exchange (flows_of c.self.inside) c.self.invariant greater true))
+    (subst (λ f. Forgets f c.forget.new.self c.forget-in-Err.new.self) c.request.ensures c.forget-in-Err.ensures.forgets) (unborn_shut c.in-Some.exchange (flows_of c.self.inside) c.self.invariant greater false) (unborn_fresh c.in-Some.exchange (flows_of c.self.inside) c.self.invariant greater false) c.self.invariant.gates) c.forget-in-Err.ensures.sound).left
 
 pub returns-in-Err-clause-writes : goal.returns-in-Err-clause-writes
 returns-in-Err-clause-writes c = let greater : c.self.inside.exchanges.last < c.in-Some.exchange = let a = (c.in-Some.ensures {u = tt}).1 in omega (arith, a, c.last.ensures) in
-    rw (← c.self.view_is) (refused_same (flows_of c.self.inside) c.start.new.self c.forget-in-Err.new.self c.self.invariant (c.in-Err.ensures {u = tt}).err (back_both _ _ _ _ _ _ _ (c.in_ok-request_held.ensures {u = tt}).ok c.forget.new.self c.forget-in-Err.new.self (back_between _ _ _ _ _ _ _ (c.in_ok-request_held.ensures {u = tt}).ok c.forget.new.self (subst (λ f. Forgets f c.begin_both.new.gates c.forget.new.self) c.flow_id.ensures c.forget.ensures.forgets) (unborn_shut c.in-Some.exchange (flows_of c.self.inside) c.self.invariant greater true) (unborn_fresh c.in-Some.exchange (flows_of c.self.inside) c.self.invariant greater true))
-    (subst (λ f. Forgets f c.forget.new.self c.forget-in-Err.new.self) c.flow_id-in-Err.ensures c.forget-in-Err.ensures.forgets) (unborn_shut c.in-Some.exchange (flows_of c.self.inside) c.self.invariant greater false) (unborn_fresh c.in-Some.exchange (flows_of c.self.inside) c.self.invariant greater false) c.self.invariant.gates) c.forget-in-Err.ensures.sound).writes
+    rw (← c.self.view_is) (refused_same (flows_of c.self.inside) c.start.new.self c.forget-in-Err.new.self c.self.invariant (c.in-Err.ensures {u = tt}).err (back_both _ _ _ _ _ _ _ (c.in_ok-request_held.ensures {u = tt}).ok c.forget.new.self c.forget-in-Err.new.self (back_between _ _ _ _ _ _ _ (c.in_ok-request_held.ensures {u = tt}).ok c.forget.new.self (subst (λ f. Forgets f c.begin_both.new.gates c.forget.new.self) c.response.ensures c.forget.ensures.forgets) (unborn_shut c.in-Some.exchange (flows_of c.self.inside) c.self.invariant greater true) (unborn_fresh c.in-Some.exchange (flows_of c.self.inside) c.self.invariant greater true))
+    (subst (λ f. Forgets f c.forget.new.self c.forget-in-Err.new.self) c.request.ensures c.forget-in-Err.ensures.forgets) (unborn_shut c.in-Some.exchange (flows_of c.self.inside) c.self.invariant greater false) (unborn_fresh c.in-Some.exchange (flows_of c.self.inside) c.self.invariant greater false) c.self.invariant.gates) c.forget-in-Err.ensures.sound).writes
 
 pub returns-in-Err-clause-sound : goal.returns-in-Err-clause-sound
 returns-in-Err-clause-sound c = let greater : c.self.inside.exchanges.last < c.in-Some.exchange = let a = (c.in-Some.ensures {u = tt}).1 in omega (arith, a, c.last.ensures) in
-    (refused_same (flows_of c.self.inside) c.start.new.self c.forget-in-Err.new.self c.self.invariant (c.in-Err.ensures {u = tt}).err (back_both _ _ _ _ _ _ _ (c.in_ok-request_held.ensures {u = tt}).ok c.forget.new.self c.forget-in-Err.new.self (back_between _ _ _ _ _ _ _ (c.in_ok-request_held.ensures {u = tt}).ok c.forget.new.self (subst (λ f. Forgets f c.begin_both.new.gates c.forget.new.self) c.flow_id.ensures c.forget.ensures.forgets) (unborn_shut c.in-Some.exchange (flows_of c.self.inside) c.self.invariant greater true) (unborn_fresh c.in-Some.exchange (flows_of c.self.inside) c.self.invariant greater true))
-    (subst (λ f. Forgets f c.forget.new.self c.forget-in-Err.new.self) c.flow_id-in-Err.ensures c.forget-in-Err.ensures.forgets) (unborn_shut c.in-Some.exchange (flows_of c.self.inside) c.self.invariant greater false) (unborn_fresh c.in-Some.exchange (flows_of c.self.inside) c.self.invariant greater false) c.self.invariant.gates) c.forget-in-Err.ensures.sound).sound
+    (refused_same (flows_of c.self.inside) c.start.new.self c.forget-in-Err.new.self c.self.invariant (c.in-Err.ensures {u = tt}).err (back_both _ _ _ _ _ _ _ (c.in_ok-request_held.ensures {u = tt}).ok c.forget.new.self c.forget-in-Err.new.self (back_between _ _ _ _ _ _ _ (c.in_ok-request_held.ensures {u = tt}).ok c.forget.new.self (subst (λ f. Forgets f c.begin_both.new.gates c.forget.new.self) c.response.ensures c.forget.ensures.forgets) (unborn_shut c.in-Some.exchange (flows_of c.self.inside) c.self.invariant greater true) (unborn_fresh c.in-Some.exchange (flows_of c.self.inside) c.self.invariant greater true))
+    (subst (λ f. Forgets f c.forget.new.self c.forget-in-Err.new.self) c.request.ensures c.forget-in-Err.ensures.forgets) (unborn_shut c.in-Some.exchange (flows_of c.self.inside) c.self.invariant greater false) (unborn_fresh c.in-Some.exchange (flows_of c.self.inside) c.self.invariant greater false) c.self.invariant.gates) c.forget-in-Err.ensures.sound).sound
 
 pub invariant_of-self-in_default-start : goal.invariant_of-self-in_default-start
 invariant_of-self-in_default-start c = let greater : c.self.inside.exchanges.last < c.in-Some.exchange = let a = (c.in-Some.ensures {u = tt}).1 in omega (arith, a, c.last.ensures) in

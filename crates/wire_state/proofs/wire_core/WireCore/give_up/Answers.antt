@@ -1,6 +1,5 @@
 use Rattle.std.proofs.Common.{ap, arith}
-use Rattle.std.specs.Prelude.{List, length, ℕ, ◌≡◌}
-use Rattle.wire_state.proofs.Tasks.{unstirred}
+use Rattle.std.specs.Prelude.{◌≡◌}
 use Rattle.wire_state.proofs.wire_core.WireCore.give_up.Goals as goal
 use Rattle.wire_state.specs.Agenda.{stirred_at}
 use Rattle.wire_state.specs.Progress.{to_go}
@@ -9,6 +8,5 @@ use Rattle.wire_state.specs.declared.wire_core.WireCore.{WireCore}
 pub returns-clause-go : goal.returns-clause-go
 unfolding to_go
 returns-clause-go c =
-    let s : stirred_at c.args.conn c.end_task.new.self.stirred.conns.keys ≡ stirred_at c.args.conn c.args.self.now.stirred.conns.keys = ap (λ (w : WireCore). stirred_at c.args.conn w.stirred.conns.keys) c.end_task.ensures.rest in
-    let k = ap (λ (ks : List ℕ). length ks) c.remove.ensures in
-    omega (arith, c.end_task.ensures.go, s, k, unstirred c.args.conn c.end_task.new.self.stirred.conns.keys)
+    let s : stirred_at c.args.conn c.end_task.new.self.stirred.conns.items ≡ stirred_at c.args.conn c.args.self.now.stirred.conns.items = ap (λ (w : WireCore). stirred_at c.args.conn w.stirred.conns.items) c.end_task.ensures.rest in
+    omega (arith, c.end_task.ensures.go, s, c.remove.ensures)

@@ -1,0 +1,123 @@
+// Values by number.
+ghost use Rattle.std.specs.BTreeMap.{insert_entry, is_at};
+ghost use Rattle.std.specs.Map.{remove_entry, set_value};
+ghost use Rattle.std.specs.Ordering.{nat_cmp};
+ghost use Rattle.std.specs.Prelude.{◌≡◌, [], IsNone, IsSome, MatchResult, None, OnErr, OnOk, Some, length};
+
+use io_ports::NoMemory;
+use std::alloc::Global;
+use std::marker::Model;
+
+/// A value for each of some numbers, in the order of the numbers, side by side. It is made for some hundreds, of which the
+/// greatest come last: what stands behind a number that comes or goes is moved as one block.
+#[derive(Drop)]
+pub struct NumberMap<T> {
+    items: Vec<(u64, T)>,
+}
+
+impl<T> Model for NumberMap<T> {
+    ghost use Rattle.number_set.specs.NumberMap.{IsSorted};
+    ghost use Rattle.std.specs.Prelude.{List, ℕ};
+
+    ghost Value = { List (ℕ × T) };
+
+    ghost view = { λ a. a.items.items };
+
+    ghost invariant = { λ a. IsSorted a.items.items };
+}
+
+impl<T: Copy> NumberMap<T> {
+    ghost use Rattle.number_set.specs.NumberMap.{IsAt, IsBelow, IsGap, Puts, value_of};
+
+    /// None. Takes no memory.
+    pub fn new(alloc: Global) -> Self
+        ensures { result ≡ [] }
+    {
+        NumberMap {
+            items: Vec::new(alloc),
+        }
+    }
+
+    /// How many there are.
+    pub fn len(&self) -> usize
+        ensures { result ≡ length self.now }
+    {
+        self.items.len()
+    }
+
+    /// What a number has.
+    pub fn get(&self, number: u64) -> Option<T>
+        ensures { result ≡ value_of number self.now }
+    {
+        match self.place_of(number) {
+            Ok(place) => Some(self.items[place].1),
+            Err(_) => None,
+        }
+    }
+
+    /// From now on the number has this value. After running out of memory nothing has changed.
+    pub fn insert(&mut self, number: u64, value: T) -> Result<(), NoMemory>
+        ensures ok { OnOk result (self.new ≡ insert_entry nat_cmp self.old number value) }
+        ensures puts { OnOk result (Puts number (Some value) self.old self.new) }
+        ensures err { OnErr result (self.new ≡ self.old) }
+    {
+        match self.place_of(number) {
+            Ok(place) => self.items[place] = (number, value),
+            Err(place) => self.items.insert(place, (number, value))?,
+        }
+        Ok(())
+    }
+
+    /// From now on a number that has a value has this one; one that has none stays without. Takes no memory.
+    pub fn set(&mut self, number: u64, value: T)
+        ensures set { self.new ≡ set_value (is_at (nat_cmp number)) self.old value }
+        ensures puts { IsSome (value_of number self.old) → Puts number (Some value) self.old self.new }
+    {
+        if let Ok(place) = self.place_of(number) {
+            self.items[place] = (number, value);
+        }
+    }
+
+    /// From now on the number has no value. Takes no memory.
+    pub fn remove(&mut self, number: u64)
+        ensures removed { self.new ≡ remove_entry (is_at (nat_cmp number)) self.old }
+        ensures puts { Puts number None self.old self.new }
+        ensures none { IsNone (value_of number self.old) → self.new ≡ self.old }
+    {
+        if let Ok(place) = self.place_of(number) {
+            let _ = self.items.remove(place);
+        }
+    }
+
+    // Where a number stands, or else where it would come.
+    fn place_of(&self, number: u64) -> Result<usize, usize>
+        ensures { MatchResult result (λ i. IsAt number i self.now) (λ i. IsGap number i self.now) }
+    {
+        let place = self.count_below(number);
+        match self.items.get(place) {
+            Some(item) => {
+                if item.0 == number {
+                    Ok(place)
+                } else {
+                    Err(place)
+                }
+            }
+            None => Err(place),
+        }
+    }
+
+    // How many are below a number: all of them, where it is above the last.
+    fn count_below(&self, number: u64) -> usize
+        ensures { IsBelow number result self.now }
+    {
+        let Some(last) = self.items.last() else {
+            return 0;
+        };
+        if last.0 < number {
+            return self.items.len();
+        }
+        self.items
+            .as_slice()
+            .partition_point(|item| item.0 < number)
+    }
+}
