@@ -61,11 +61,15 @@ fn run_named<R: AllocGlobal + Wait>(
     requires { IsInRange config }
 {
     match stage_of(rt, &config, names, case) {
-        Ok((mut stage, wires)) => run_staged(rt, config, names, &mut stage, wires, case, said),
+        Ok((mut stage, wires)) => {
+            run_staged(rt, config, names, &mut stage, wires, case, said);
+            drop(stage);
+        }
         Err(NoMemory) => said.lack(),
     }
 }
 
+// The core is dropped by a call, since the check follows a drop without one field by field.
 fn run_staged<R: AllocGlobal + Wait>(
     rt: &R,
     config: Config,
@@ -80,7 +84,10 @@ fn run_staged<R: AllocGlobal + Wait>(
     requires fresh { IsFresh names.now (seen_of wires) }
 {
     match Core::new(rt.alloc(), config) {
-        Ok(mut core) => run_worker(rt, &mut core, names, stage, wires, case, said),
+        Ok(mut core) => {
+            run_worker(rt, &mut core, names, stage, wires, case, said);
+            drop(core);
+        }
         Err(NoMemory) => said.lack(),
     }
 }
