@@ -61,11 +61,16 @@ fn with_names<R: Print + AllocGlobal + Wait + CpuClock>(
     requires { IsInRange config }
 {
     match Stage::new(rt, &config, names, clients) {
-        Ok(mut stage) => with_stage(rt, config, names, &mut stage, clients),
+        Ok(mut stage) => {
+            let end = with_stage(rt, config, names, &mut stage, clients);
+            drop(stage);
+            end
+        }
         Err(_) => Err(anyhow!("out of memory")),
     }
 }
 
+// The core is dropped by a call, since the check follows a drop without one field by field.
 fn with_stage<R: Print + AllocGlobal + Wait + CpuClock>(
     rt: &R,
     config: Config,
@@ -78,7 +83,11 @@ fn with_stage<R: Print + AllocGlobal + Wait + CpuClock>(
     requires fresh { IsFresh names.now (seen_of stage.old.wires) }
 {
     match Core::new(rt.alloc(), config) {
-        Ok(mut core) => report(rt, &mut core, names, stage, clients),
+        Ok(mut core) => {
+            let end = report(rt, &mut core, names, stage, clients);
+            drop(core);
+            end
+        }
         Err(_) => Err(anyhow!("out of memory")),
     }
 }
