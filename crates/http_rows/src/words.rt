@@ -71,16 +71,94 @@ fn frame_octets<'a>(frame: &'a Frame<'_>) -> &'a [u8] {
     }
 }
 
+fn data_words(
+    alloc: Global,
+    stream: u32,
+    last: bool,
+    padded: u32,
+    octets: &str,
+) -> Result<String, AllocError> {
+    format!(in alloc; "DATA {stream} {} {padded} {octets}", end_word(last))
+}
+
+fn headers_words(
+    alloc: Global,
+    stream: u32,
+    last: bool,
+    end_headers: bool,
+    padded: u32,
+    priority: &Option<Weighting>,
+    octets: &str,
+) -> Result<String, AllocError> {
+    let priority = priority_words(alloc, priority)?;
+    let (last, end_headers) = (end_word(last), end_word(end_headers));
+    format!(in alloc; "HEADERS {stream} {last} {end_headers} {padded} {priority} {octets}")
+}
+
+fn weighted_words(alloc: Global, stream: u32, priority: &Weighting) -> Result<String, AllocError> {
+    let priority = weighting_words(alloc, priority)?;
+    format!(in alloc; "PRIORITY {stream} {priority}")
+}
+
+fn push_words(
+    alloc: Global,
+    stream: u32,
+    end_headers: bool,
+    padded: u32,
+    promised: u32,
+    octets: &str,
+) -> Result<String, AllocError> {
+    let end_headers = end_word(end_headers);
+    format!(in alloc; "PUSH_PROMISE {stream} {end_headers} {padded} {promised} {octets}")
+}
+
+fn continuation_words(
+    alloc: Global,
+    stream: u32,
+    end_headers: bool,
+    octets: &str,
+) -> Result<String, AllocError> {
+    format!(in alloc; "CONTINUATION {stream} {} {octets}", end_word(end_headers))
+}
+
+fn unknown_words(
+    alloc: Global,
+    kind: u8,
+    flags: u8,
+    stream: u32,
+    octets: &str,
+) -> Result<String, AllocError> {
+    format!(in alloc; "type {kind} {flags} {stream} {octets}")
+}
+
+fn goaway_words(alloc: Global, last: u32, code: u32, octets: &str) -> Result<String, AllocError> {
+    format!(in alloc; "GOAWAY {last} {code} {octets}")
+}
+
+// A frame that is or isn't an acknowledgement.
+fn ack_words(alloc: Global, name: &str, ack: bool, octets: &str) -> Result<String, AllocError> {
+    format!(in alloc; "{name} {} {octets}", ack_word(ack))
+}
+
+// A frame of a stream and a number.
+fn pair_words(alloc: Global, name: &str, stream: u32, n: u32) -> Result<String, AllocError> {
+    format!(in alloc; "{name} {stream} {n}")
+}
+
 /// A frame in words: its type, its stream, flags and numbers, and its octets.
 pub fn frame_words(alloc: Global, frame: &Frame) -> Result<String, AllocError> {
     let octets = shown(alloc, frame_octets(frame))?;
+    words_before(alloc, frame, octets.as_str())
+}
+
+fn words_before(alloc: Global, frame: &Frame, octets: &str) -> Result<String, AllocError> {
     match *frame {
         Frame::DataFrame {
             stream,
             last,
             padded,
             ..
-        } => format!(in alloc; "DATA {stream} {} {padded} {octets}", end_word(last)),
+        } => data_words(alloc, stream, last, padded, octets),
         Frame::Headers {
             stream,
             last,
@@ -88,43 +166,33 @@ pub fn frame_words(alloc: Global, frame: &Frame) -> Result<String, AllocError> {
             padded,
             priority,
             ..
-        } => {
-            let priority = priority_words(alloc, &priority)?;
-            let (last, end_headers) = (end_word(last), end_word(end_headers));
-            format!(in alloc; "HEADERS {stream} {last} {end_headers} {padded} {priority} {octets}")
-        }
-        Frame::Priority { stream, priority } => {
-            let priority = weighting_words(alloc, &priority)?;
-            format!(in alloc; "PRIORITY {stream} {priority}")
-        }
-        Frame::Reset { stream, code } => format!(in alloc; "RST_STREAM {stream} {code}"),
-        Frame::Settings { ack, .. } => { format!(in alloc; "SETTINGS {} {octets}", ack_word(ack)) }
+        } => headers_words(alloc, stream, last, end_headers, padded, &priority, octets),
+        Frame::Priority { stream, priority } => weighted_words(alloc, stream, &priority),
+        Frame::Reset { stream, code } => pair_words(alloc, "RST_STREAM", stream, code),
+        Frame::Settings { ack, .. } => ack_words(alloc, "SETTINGS", ack, octets),
         Frame::Push {
             stream,
             end_headers,
             padded,
             promised,
             ..
-        } => {
-            let end_headers = end_word(end_headers);
-            format!(in alloc; "PUSH_PROMISE {stream} {end_headers} {padded} {promised} {octets}")
-        }
-        Frame::Ping { ack, .. } => format!(in alloc; "PING {} {octets}", ack_word(ack)),
-        Frame::GoAway { last, code, .. } => format!(in alloc; "GOAWAY {last} {code} {octets}"),
+        } => push_words(alloc, stream, end_headers, padded, promised, octets),
+        Frame::Ping { ack, .. } => ack_words(alloc, "PING", ack, octets),
+        Frame::GoAway { last, code, .. } => goaway_words(alloc, last, code, octets),
         Frame::WindowUpdate { stream, increment } => {
-            format!(in alloc; "WINDOW_UPDATE {stream} {increment}")
+            pair_words(alloc, "WINDOW_UPDATE", stream, increment)
         }
         Frame::Continuation {
             stream,
             end_headers,
             ..
-        } => format!(in alloc; "CONTINUATION {stream} {} {octets}", end_word(end_headers)),
+        } => continuation_words(alloc, stream, end_headers, octets),
         Frame::Unknown {
             kind,
             flags,
             stream,
             ..
-        } => format!(in alloc; "type {kind} {flags} {stream} {octets}"),
+        } => unknown_words(alloc, kind, flags, stream, octets),
     }
 }
 
