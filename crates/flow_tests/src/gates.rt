@@ -332,21 +332,6 @@ fn a_flow_is_clear_where_no_buffer_is_above(rt: HostRuntime) -> Result<(), NoMem
     Ok(())
 }
 
-// Each of the buffers that a flow watches counts, be they few or many.
-#[test]
-fn each_buffer_counts(rt: HostRuntime) -> Result<(), NoMemory> {
-    let mut gates = Gates::new(rt.alloc());
-    make_one(&rt, &mut gates, OpenFlow(FIRST))?;
-    for n in 1..=4 {
-        let buffer = BufferId::Write(n);
-        for call in [OpenBuffer(buffer), Watch(FIRST, buffer), High(buffer)] {
-            make_one(&rt, &mut gates, call)?;
-        }
-        same(&rt, &count(&gates, FIRST), &Some(u64::from(n)));
-    }
-    Ok(())
-}
-
 /// What a watchers' iterator, its length and its slice say agrees with these flows; whether there is a slice.
 fn are_all(rt: &impl Abort, mut watchers: Watchers<'_>, flows: &[FlowId]) -> bool {
     same(rt, &watchers.len(), &flows.len());

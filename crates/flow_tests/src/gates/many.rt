@@ -1,12 +1,27 @@
-// Many flows, and many watchers of one buffer: no call goes through them all.
+// Many buffers of one flow, many flows, and many watchers of one buffer: no call goes through them all.
 use super::Call::{BeginLow, Forget, High, NextLow, OpenBuffer, OpenFlow, Watch};
-use super::{Answer, DONE, LOW, NOBODY, SHARED, count, make, make_one};
+use super::{Answer, DONE, FIRST, LOW, NOBODY, SHARED, count, make, make_one};
 use crate::said::{holds, same};
 use flow_gate::{BufferId, FlowId, Gates};
 use io_ports::NoMemory;
 use std::process::Abort;
 
 const MANY: u64 = 200_000;
+
+// Each of the buffers that a flow watches counts, be they few or many.
+#[test]
+fn each_buffer_counts(rt: HostRuntime) -> Result<(), NoMemory> {
+    let mut gates = Gates::new(rt.alloc());
+    make_one(&rt, &mut gates, OpenFlow(FIRST))?;
+    for n in 1..=4 {
+        let buffer = BufferId::Write(n);
+        for call in [OpenBuffer(buffer), Watch(FIRST, buffer), High(buffer)] {
+            make_one(&rt, &mut gates, call)?;
+        }
+        same(&rt, &count(&gates, FIRST), &Some(u64::from(n)));
+    }
+    Ok(())
+}
 
 /// A flow by its exchange, with its send buffer.
 fn sending(exchange: u64) -> (FlowId, BufferId) {
