@@ -140,7 +140,7 @@ fn ack_words(alloc: Global, name: &str, ack: bool, octets: &str) -> Result<Strin
     format!(in alloc; "{name} {} {octets}", ack_word(ack))
 }
 
-// A frame of a stream and a number.
+// A frame or an act of a stream and a number, or of two numbers.
 fn pair_words(alloc: Global, name: &str, stream: u32, n: u32) -> Result<String, AllocError> {
     format!(in alloc; "{name} {stream} {n}")
 }
@@ -209,33 +209,64 @@ fn act_octets(act: &Act) -> &[u8] {
     }
 }
 
+fn body_words(
+    alloc: Global,
+    stream: u32,
+    octets: &str,
+    padded: u32,
+    last: bool,
+) -> Result<String, AllocError> {
+    format!(in alloc; "body {stream} {octets} {padded} {}", end_word(last))
+}
+
+fn head_words(alloc: Global, stream: u32, octets: &str, last: bool) -> Result<String, AllocError> {
+    format!(in alloc; "head {stream} {octets} {}", end_word(last))
+}
+
+fn error_words(alloc: Global, stream: u32, code: u32, octets: &str) -> Result<String, AllocError> {
+    format!(in alloc; "stream {stream} {code} {octets}")
+}
+
+fn trailers_words(alloc: Global, stream: u32, octets: &str) -> Result<String, AllocError> {
+    format!(in alloc; "trailers {stream} {octets}")
+}
+
+// An act that has octets alone.
+fn bare_words(alloc: Global, name: &str, octets: &str) -> Result<String, AllocError> {
+    format!(in alloc; "{name} {octets}")
+}
+
+fn code_words(alloc: Global, code: u32) -> Result<String, AllocError> {
+    format!(in alloc; "connection {code}")
+}
+
 /// An act in words: what it is, its stream, its numbers and its octets.
 pub fn act_words(alloc: Global, act: &Act) -> Result<String, AllocError> {
     let octets = shown(alloc, act_octets(act))?;
+    act_words_before(alloc, act, octets.as_str())
+}
+
+fn act_words_before(alloc: Global, act: &Act, octets: &str) -> Result<String, AllocError> {
     match act {
-        Act::Ignore => format!(in alloc; "ignore"),
+        Act::Ignore => String::from_str(alloc, "ignore"),
         Act::Body {
             stream,
             padded,
             last,
             ..
-        } => format!(in alloc; "body {stream} {octets} {padded} {}", end_word(*last)),
-        Act::Late { stream, n } => format!(in alloc; "late {stream} {n}"),
-        Act::Head { stream, last, .. } => {
-            format!(in alloc; "head {stream} {octets} {}", end_word(*last))
-        }
-        Act::Trailers { stream, .. } => format!(in alloc; "trailers {stream} {octets}"),
-        Act::OldBlock { .. } => format!(in alloc; "old {octets}"),
+        } => body_words(alloc, *stream, octets, *padded, *last),
+        Act::Late { stream, n } => pair_words(alloc, "late", *stream, *n),
+        Act::Head { stream, last, .. } => head_words(alloc, *stream, octets, *last),
+        Act::Trailers { stream, .. } => trailers_words(alloc, *stream, octets),
+        Act::OldBlock { .. } => bare_words(alloc, "old", octets),
         Act::Settings { list } => list_words(alloc, list),
-        Act::Ack => format!(in alloc; "ack"),
-        Act::Ping { .. } => format!(in alloc; "ping {octets}"),
-        Act::WindowUp { stream, n } => format!(in alloc; "window {stream} {n}"),
-        Act::PeerReset { stream, code } => format!(in alloc; "reset {stream} {code}"),
-        Act::GoAway { last, code } => format!(in alloc; "goaway {last} {code}"),
-        Act::StreamError { stream, code, .. } => {
-            format!(in alloc; "stream {stream} {code} {octets}")
-        }
-        Act::ConnError { code } => format!(in alloc; "connection {code}"),
+        Act::Ack => String::from_str(alloc, "ack"),
+        Act::Ping { .. } => bare_words(alloc, "ping", octets),
+        Act::WindowUp { stream, n } => pair_words(alloc, "window", *stream, *n),
+        Act::PeerReset { stream, code } => pair_words(alloc, "reset", *stream, *code),
+        Act::GoAway { last, code } => pair_words(alloc, "goaway", *last, *code),
+        Act::StreamError { stream, code, .. } => error_words(alloc, *stream, *code, octets),
+        Act::ConnError { code } => code_words(alloc, *code),
     }
 }
 
