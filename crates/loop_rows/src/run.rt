@@ -42,12 +42,16 @@ pub fn run_case<R: AllocGlobal + Wait>(rt: &R, case: &mut Case, said: &mut Said)
     }
 }
 
+// A configuration, a stage and a core are dropped by a call, since the check follows a drop without one field by field.
 fn run_with<R: AllocGlobal + Wait>(rt: &R, config: Config, case: &mut Case, said: &mut Said)
     requires { IsInRange config }
 {
     match names_of(rt.alloc(), &config) {
         Ok(names) => run_named(rt, config, &names, case, said),
-        Err(NoMemory) => said.lack(),
+        Err(NoMemory) => {
+            drop(config);
+            said.lack();
+        }
     }
 }
 
@@ -65,11 +69,13 @@ fn run_named<R: AllocGlobal + Wait>(
             run_staged(rt, config, names, &mut stage, wires, case, said);
             drop(stage);
         }
-        Err(NoMemory) => said.lack(),
+        Err(NoMemory) => {
+            drop(config);
+            said.lack();
+        }
     }
 }
 
-// The core is dropped by a call, since the check follows a drop without one field by field.
 fn run_staged<R: AllocGlobal + Wait>(
     rt: &R,
     config: Config,
