@@ -39,6 +39,7 @@ fn begin<R: Print + AllocGlobal + Wait + CpuClock>(rt: &R, clients: u32) -> anyh
     }
 }
 
+// A configuration, a stage and a core are dropped by a call, since the check follows a drop without one field by field.
 fn with_config<R: Print + AllocGlobal + Wait + CpuClock>(
     rt: &R,
     config: Config,
@@ -48,7 +49,10 @@ fn with_config<R: Print + AllocGlobal + Wait + CpuClock>(
 {
     match names_of(rt.alloc(), &config) {
         Ok(names) => with_names(rt, config, &names, clients),
-        Err(_) => Err(anyhow!("out of memory")),
+        Err(_) => {
+            drop(config);
+            Err(anyhow!("out of memory"))
+        }
     }
 }
 
@@ -66,11 +70,13 @@ fn with_names<R: Print + AllocGlobal + Wait + CpuClock>(
             drop(stage);
             end
         }
-        Err(_) => Err(anyhow!("out of memory")),
+        Err(_) => {
+            drop(config);
+            Err(anyhow!("out of memory"))
+        }
     }
 }
 
-// The core is dropped by a call, since the check follows a drop without one field by field.
 fn with_stage<R: Print + AllocGlobal + Wait + CpuClock>(
     rt: &R,
     config: Config,
