@@ -70,8 +70,13 @@ impl Work {
         ensures { IfOk result (λ work. Belongs work.names work.relay (seen_of work.taps)) }
     {
         let mut work = Work::new(alloc, arrivals(alloc, pairs)?)?;
-        work.run(alloc, 2 * pairs)?;
-        Ok(work)
+        match work.run(alloc, 2 * pairs) {
+            Ok(()) => Ok(work),
+            Err(fault) => {
+                drop(work);
+                Err(fault)
+            }
+        }
     }
 
     /// A round's reads of 100 octets of the client of the first pair, and how long it took to relay them, in nanoseconds.
