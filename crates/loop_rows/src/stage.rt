@@ -72,10 +72,11 @@ pub fn stage_of<R: AllocGlobal + Wait>(
     ensures fresh { IfOk result (λ made. IsFresh names.now (seen_of made.1)) }
 {
     let mut script = Script::new(rt.alloc());
-    let made = match script.read(names, case.lines.as_slice()) {
-        Ok(()) => staged(rt, config, names, &mut script, case),
-        Err(NoMemory) => Err(NoMemory),
-    };
+    if script.read(names, case.lines.as_slice()).is_err() {
+        drop(script);
+        return Err(NoMemory);
+    }
+    let made = staged(rt, config, names, &mut script, case);
     drop(script);
     made
 }
