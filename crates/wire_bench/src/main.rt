@@ -21,10 +21,21 @@ fn main(rt: HostRuntime) -> anyhow::Result<()> {
     let mut words = env::args(&rt)?;
     let _program = words.next();
     match words.next() {
-        Some(word) if word.as_str() == "inlet" => inlet::run(&rt)?,
-        Some(word) if word.as_str() == "outlet" => outlet::run(&rt)?,
-        Some(word) if word.as_str() == "heads" => heads::run(&rt)?,
-        Some(_) | None => rt.print(USAGE)?,
+        Some(bench) => run(&rt, bench.as_str()),
+        None => usage(&rt),
     }
+}
+
+fn run(rt: &HostRuntime, bench: &str) -> anyhow::Result<()> {
+    match bench {
+        "inlet" => inlet::run(rt),
+        "outlet" => outlet::run(rt),
+        "heads" => heads::run(rt),
+        _ => usage(rt),
+    }
+}
+
+fn usage(rt: &impl Print) -> anyhow::Result<()> {
+    rt.print(USAGE)?;
     Ok(())
 }
