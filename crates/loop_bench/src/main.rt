@@ -18,9 +18,20 @@ fn main(rt: HostRuntime) -> anyhow::Result<()> {
     let mut words = env::args(&rt)?;
     let _program = words.next();
     match words.next() {
-        Some(word) if word.as_str() == "turns" => turns::run(&rt)?,
-        Some(word) if word.as_str() == "lines" => lines::run(&rt)?,
-        Some(_) | None => rt.print(USAGE)?,
+        Some(bench) => run(&rt, bench.as_str()),
+        None => usage(&rt),
     }
+}
+
+fn run(rt: &HostRuntime, bench: &str) -> anyhow::Result<()> {
+    match bench {
+        "turns" => turns::run(rt),
+        "lines" => lines::run(rt),
+        _ => usage(rt),
+    }
+}
+
+fn usage(rt: &impl Print) -> anyhow::Result<()> {
+    rt.print(USAGE)?;
     Ok(())
 }
