@@ -10,6 +10,7 @@ mod requests;
 mod stopwatch;
 
 use std::env;
+use std::time::CpuClock;
 
 const USAGE: &str = "usage: wire_bench BENCH
   inlet   DATA frames of 16,384 octets that are taken, beside a plain copy of the same octets; small heads that are taken
@@ -26,7 +27,7 @@ fn main(rt: HostRuntime) -> anyhow::Result<()> {
     }
 }
 
-fn run(rt: &HostRuntime, bench: &str) -> anyhow::Result<()> {
+fn run(rt: &(impl AllocGlobal + Print + CpuClock), bench: &str) -> anyhow::Result<()> {
     match bench {
         "inlet" => inlet::run(rt),
         "outlet" => outlet::run(rt),
