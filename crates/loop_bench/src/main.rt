@@ -8,6 +8,8 @@ mod stopwatch;
 mod turns;
 
 use std::env;
+use std::sync::Wait;
+use std::time::CpuClock;
 
 const USAGE: &str = "usage: loop_bench BENCH
   turns  turns of a live worker beside their dispatches alone, without connections and with 10,000 idle ones
@@ -23,7 +25,7 @@ fn main(rt: HostRuntime) -> anyhow::Result<()> {
     }
 }
 
-fn run(rt: &HostRuntime, bench: &str) -> anyhow::Result<()> {
+fn run<R: Print + AllocGlobal + Wait + CpuClock>(rt: &R, bench: &str) -> anyhow::Result<()> {
     match bench {
         "turns" => turns::run(rt),
         "lines" => lines::run(rt),
