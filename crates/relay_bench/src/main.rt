@@ -7,6 +7,7 @@ mod stopwatch;
 mod turns;
 
 use std::env;
+use std::time::CpuClock;
 
 const USAGE: &str = "usage: relay_bench BENCH
   octets  1 GiB through one pair in reads of 16,384 octets, beside two plain copies
@@ -24,7 +25,11 @@ fn main(rt: HostRuntime) -> anyhow::Result<()> {
     run(&rt, bench.as_str(), word)
 }
 
-fn run(rt: &HostRuntime, bench: &str, word: Option<String>) -> anyhow::Result<()> {
+fn run(
+    rt: &(impl AllocGlobal + Print + CpuClock),
+    bench: &str,
+    word: Option<String>,
+) -> anyhow::Result<()> {
     match bench {
         "octets" => octets::run(rt),
         "turns" => turns::run(rt),
