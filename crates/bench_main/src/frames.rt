@@ -60,11 +60,8 @@ fn read_all(octets: &[u8]) -> (u64, u64) {
     (frames, sum)
 }
 
-fn report(
-    rt: &(impl Print + Clock + AllocGlobal),
-    name: &str,
-    octets: &[u8],
-) -> anyhow::Result<()> {
+// Frames a second of reading them, and the sum of what they give.
+fn time_reading(rt: &impl Clock, octets: &[u8]) -> anyhow::Result<(u64, u64)> {
     let mut frames: u64 = 0;
     let mut sum: u64 = 0;
     let watch = Stopwatch::start(rt)?;
@@ -73,9 +70,11 @@ fn report(
         frames = frames.wrapping_add(read.0);
         sum = sum.wrapping_add(read.1);
     }
-    let rate = per_second(frames, watch.nanos(rt)?);
+    Ok((per_second(frames, watch.nanos(rt)?), sum))
+}
 
-    let mut copy = Octets::new(rt.alloc());
+// Octets a second of a plain copy.
+fn time_copying(rt: &impl Clock, octets: &[u8], copy: &mut Octets) -> anyhow::Result<u64> {
     let watch = Stopwatch::start(rt)?;
     for _ in 0..ROUNDS {
         copy.clear();
@@ -84,7 +83,16 @@ fn report(
         }
     }
     let copied = u64::from(ROUNDS).wrapping_mul(octets.len() as u64);
-    let copy_rate = per_second(copied, watch.nanos(rt)?);
+    Ok(per_second(copied, watch.nanos(rt)?))
+}
+
+fn report(
+    rt: &(impl Print + Clock + AllocGlobal),
+    name: &str,
+    octets: &[u8],
+) -> anyhow::Result<()> {
+    let (rate, sum) = time_reading(rt, octets)?;
+    let copy_rate = time_copying(rt, octets, &mut Octets::new(rt.alloc()))?;
     println!(rt;
         "frames: {name}: {rate} frames a second (sum {sum}); a plain copy takes {copy_rate} octets a second"
     )?;

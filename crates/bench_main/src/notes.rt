@@ -101,42 +101,73 @@ fn read_lines(alloc: Global, text: &[u8]) -> Result<u64, NoMemory> {
     Ok(notes)
 }
 
+// Octets a second of writing the notes into what has room for them.
+fn time_writing(
+    rt: &(impl CpuClock + AllocGlobal),
+    lines: &[Octets],
+    copies: u32,
+    text: &mut Octets,
+) -> anyhow::Result<u64> {
+    text.clear();
+    let watch = CpuStopwatch::start(rt)?;
+    if write_lines(rt.alloc(), lines, copies, text).is_err() {
+        bail!("no memory");
+    }
+    Ok(per_second(text.len() as u64, watch.nanos(rt)?))
+}
+
+// How many notes a text has, and octets a second of reading them.
+fn time_reading(rt: &(impl CpuClock + AllocGlobal), text: &[u8]) -> anyhow::Result<(u64, u64)> {
+    let watch = CpuStopwatch::start(rt)?;
+    let Ok(notes) = read_lines(rt.alloc(), text) else {
+        bail!("no memory");
+    };
+    Ok((notes, per_second(text.len() as u64, watch.nanos(rt)?)))
+}
+
+// Octets a second of a plain copy into what has room for it.
+fn time_copy(rt: &impl CpuClock, text: &[u8], copy: &mut Octets) -> anyhow::Result<u64> {
+    copy.clear();
+    let watch = CpuStopwatch::start(rt)?;
+    if copy.push_all(text).is_err() {
+        bail!("no memory");
+    }
+    Ok(per_second(text.len() as u64, watch.nanos(rt)?))
+}
+
+fn time_copying(rt: &(impl CpuClock + AllocGlobal), text: &[u8]) -> anyhow::Result<u64> {
+    let mut copy = Octets::new(rt.alloc());
+    if copy.push_all(text).is_err() {
+        bail!("no memory");
+    }
+    time_copy(rt, text, &mut copy)
+}
+
 fn report(
     rt: &(impl Print + CpuClock + AllocGlobal),
     name: &str,
     lines: &[Octets],
     copies: u32,
 ) -> anyhow::Result<()> {
-    let alloc = rt.alloc();
-    let mut text = Octets::new(alloc);
+    let mut text = Octets::new(rt.alloc());
     // The first run makes the room that the one measured writes into.
-    if write_lines(alloc, lines, copies, &mut text).is_err() {
+    if write_lines(rt.alloc(), lines, copies, &mut text).is_err() {
         bail!("no memory");
     }
-    text.clear();
-    let watch = CpuStopwatch::start(rt)?;
-    if write_lines(alloc, lines, copies, &mut text).is_err() {
-        bail!("no memory");
-    }
-    let octets = text.len() as u64;
-    let written = per_second(octets, watch.nanos(rt)?);
+    report_on(rt, name, lines, copies, &mut text)
+}
 
-    let watch = CpuStopwatch::start(rt)?;
-    let Ok(notes) = read_lines(alloc, text.as_slice()) else {
-        bail!("no memory");
-    };
-    let read = per_second(octets, watch.nanos(rt)?);
-
-    let mut copy = Octets::new(alloc);
-    if copy.push_all(text.as_slice()).is_err() {
-        bail!("no memory");
-    }
-    copy.clear();
-    let watch = CpuStopwatch::start(rt)?;
-    if copy.push_all(text.as_slice()).is_err() {
-        bail!("no memory");
-    }
-    let copied = per_second(octets, watch.nanos(rt)?);
+fn report_on(
+    rt: &(impl Print + CpuClock + AllocGlobal),
+    name: &str,
+    lines: &[Octets],
+    copies: u32,
+    text: &mut Octets,
+) -> anyhow::Result<()> {
+    let written = time_writing(rt, lines, copies, text)?;
+    let (notes, read) = time_reading(rt, text.as_slice())?;
+    let copied = time_copying(rt, text.as_slice())?;
+    let octets = text.len();
     println!(rt;
         "notes: {name}: {notes} notes in {octets} octets; octets a second: {written} written, {read} read, {copied} by a plain copy"
     )?;

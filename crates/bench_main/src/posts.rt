@@ -357,9 +357,22 @@ fn report(
         lists[round] = timed(rt, Way::PlainLists, three)?;
         pops[round] = timed(rt, Way::PlainPops, three)?;
     }
-    let rate = median_rate(posts);
-    let in_lists = median_rate(lists);
-    let by_pops = median_rate(pops);
+    tell_rates(
+        rt,
+        name,
+        median_rate(posts),
+        median_rate(lists),
+        median_rate(pops),
+    )
+}
+
+fn tell_rates(
+    rt: &impl Print,
+    name: &str,
+    rate: u64,
+    in_lists: u64,
+    by_pops: u64,
+) -> anyhow::Result<()> {
     println!(rt; "posts: {name}: {rate} posts a second")?;
     println!(rt;
         "  a plain queue in lists {in_lists}: {} %",

@@ -82,11 +82,24 @@ fn turn(
     mix: &[u8],
 ) -> Result<(u64, u64)> {
     let mut session = Session::new(rt.alloc(), false, u32::from(open) + 1, 100);
-    if accept_all(&mut session, opening).is_err() {
+    let given = turn_on(rt, &mut session, open, opening, mix);
+    drop(session);
+    given
+}
+
+// A session is dropped by a call, since the check follows a drop without one field by field.
+fn turn_on(
+    rt: &impl CpuClock,
+    session: &mut Session,
+    open: u16,
+    opening: &[u8],
+    mix: &[u8],
+) -> Result<(u64, u64)> {
+    if accept_all(session, opening).is_err() {
         bail!("no memory");
     }
     let watch = CpuStopwatch::start(rt)?;
-    let Ok((acts, sum)) = accept_all(&mut session, mix) else {
+    let Ok((acts, sum)) = accept_all(session, mix) else {
         bail!("no memory");
     };
     let rate = per_second(acts, watch.nanos(rt)?);

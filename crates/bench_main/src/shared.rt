@@ -5,7 +5,7 @@ ghost use Rattle.shared_state.specs.States.{resources_of};
 
 use crate::loads::{Enters, FetchPairs, Fetches, Follows, Load, Takes};
 use crate::stopwatch::CpuStopwatch;
-use anyhow::{anyhow, ensure};
+use anyhow::{anyhow, bail, ensure};
 use proxy_config::{Config, read_config};
 use shared_state::{Followers, Permits, Publisher, make_shared};
 use shared_tokens::Bucket;
@@ -207,6 +207,36 @@ fn states<R: Threads + Wait + AllocGlobal + CpuClock + Sync>(
     Ok((quiet?, loud?))
 }
 
+fn time_fetches<R: Threads + Wait + AllocGlobal + CpuClock + Sync>(
+    rt: &R,
+    threads: u32,
+) -> anyhow::Result<(u64, u64)> {
+    let mut once = fetches(rt.alloc(), threads)?;
+    let once = best(rt, once.as_mut_slice())?;
+    let mut twice = fetch_pairs(rt.alloc(), threads)?;
+    Ok((once, best(rt, twice.as_mut_slice())?))
+}
+
+fn time_takes<R: Threads + Wait + AllocGlobal + CpuClock + Sync>(
+    rt: &R,
+    threads: u32,
+) -> anyhow::Result<u64>
+    requires { (1 ≤ threads) × (threads ≤ 4) }
+{
+    let mut loads = takes(rt.alloc(), threads)?;
+    best(rt, loads.as_mut_slice())
+}
+
+fn time_enters<R: Threads + Wait + AllocGlobal + CpuClock + Sync>(
+    rt: &R,
+    threads: u32,
+) -> anyhow::Result<u64>
+    requires { (1 ≤ threads) × (threads ≤ 4) }
+{
+    let mut loads = enters(rt.alloc(), threads)?;
+    best(rt, loads.as_mut_slice())
+}
+
 fn report<R: Threads + Wait + AllocGlobal + CpuClock + Print + Sync>(
     rt: &R,
     config: &Config,
@@ -215,35 +245,45 @@ fn report<R: Threads + Wait + AllocGlobal + CpuClock + Print + Sync>(
     requires threads { (1 ≤ threads) × (threads ≤ 4) }
     requires resources { length config.now.overload.resources ≡ 2 }
 {
-    let fetched = best(rt, fetches(rt.alloc(), threads)?.as_mut_slice())?;
-    let taken = best(rt, takes(rt.alloc(), threads)?.as_mut_slice())?;
-    let fetched_twice = best(rt, fetch_pairs(rt.alloc(), threads)?.as_mut_slice())?;
-    let entered = best(rt, enters(rt.alloc(), threads)?.as_mut_slice())?;
+    let (fetched, fetched_twice) = time_fetches(rt, threads)?;
+    let taken = time_takes(rt, threads)?;
+    let entered = time_enters(rt, threads)?;
     let (quiet, loud) = states(rt, config, threads)?;
-    let calls = [
-        ("a bare fetch", fetched),
-        ("a take", taken),
-        ("two bare fetches", fetched_twice),
-        ("enter and leave", entered),
-        ("current with nothing new", quiet),
-        ("current beside a publisher", loud),
-    ];
-    for (call, tenths) in calls {
-        println!(rt;
-            "{threads} threads: {}.{} ns {call}",
-            tenths / 10,
-            tenths % 10
-        )?;
-    }
+    tell(rt, threads, "a bare fetch", fetched)?;
+    tell(rt, threads, "a take", taken)?;
+    tell(rt, threads, "two bare fetches", fetched_twice)?;
+    tell(rt, threads, "enter and leave", entered)?;
+    tell(rt, threads, "current with nothing new", quiet)?;
+    tell(rt, threads, "current beside a publisher", loud)
+}
+
+// Prints what a call takes, in nanoseconds with one place behind the point.
+fn tell<R: Print>(rt: &R, threads: u32, call: &str, tenths: u64) -> anyhow::Result<()> {
+    println!(rt;
+        "{threads} threads: {}.{} ns {call}",
+        tenths / 10,
+        tenths % 10
+    )?;
     Ok(())
+}
+
+fn report_both<R: Threads + Wait + AllocGlobal + CpuClock + Print + Sync>(
+    rt: &R,
+    config: &Config,
+) -> anyhow::Result<()> {
+    ensure!(config.overload.resources.len() == 2, "two resources");
+    report(rt, config, 1)?;
+    report(rt, config, 4)
 }
 
 /// Measures on one thread and on four, and prints nanoseconds of processor time for each call.
 pub fn run<R: Threads + Wait + AllocGlobal + CpuClock + Print + Sync>(
     rt: &R,
 ) -> anyhow::Result<()> {
-    let config = read_config(rt.alloc(), CONFIG.as_bytes()).map_err(|_| anyhow!("a bad config"))?;
-    ensure!(config.overload.resources.len() == 2, "two resources");
-    report(rt, &config, 1)?;
-    report(rt, &config, 4)
+    let Ok(config) = read_config(rt.alloc(), CONFIG.as_bytes()) else {
+        bail!("a bad config");
+    };
+    let end = report_both(rt, &config);
+    drop(config);
+    end
 }

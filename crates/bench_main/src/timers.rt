@@ -206,8 +206,35 @@ fn kind_of(delay: u64) -> TimerKind
     }
 }
 
-/// With so many timers armed, one each millisecond: the nanoseconds that it takes to move one, and those of a turn that
-/// fires one, which is armed again.
+/// Arms so many timers, one each millisecond: the nanoseconds that it takes to move one, and those of a turn that fires one, which
+/// is armed again.
+fn time_both<L: Ledger>(
+    rt: &impl CpuClock,
+    count: u64,
+    timers: &mut Timers,
+    held: &mut VecDeque<Timer>,
+    steps: &mut Steps<L>,
+) -> anyhow::Result<(u64, u64)>
+    requires held { AreHeld held.old.items timers.old }
+    requires kind { 0 < length timers.old.kinds }
+    requires first { timers.old.latest ≡ 0 }
+    requires few { count ≤ 1000000 }
+    ensures { AreHeld held.new.items timers.new }
+{
+    let filled = fill(timers, held, count, steps);
+    let watch = CpuStopwatch::start(rt);
+    let moved = move_all(timers, held, count, steps);
+    let moving = watch.and_then(|watch| watch.nanos(rt));
+    let watch = CpuStopwatch::start(rt);
+    let fired = turn_all(timers, held, count + CALLS, steps);
+    let turning = watch.and_then(|watch| watch.nanos(rt));
+    ensure!(filled && moved, "out of memory");
+    ensure!(fired == CALLS, "{fired} timers fired");
+    Ok((moving? / CALLS, turning? / CALLS))
+}
+
+/// The same from none, which are taken back. The timers are dropped by a call, since the check follows a drop without one field by
+/// field.
 fn moving_and_turning<L: Ledger>(
     rt: &(impl AllocGlobal + CpuClock),
     count: u64,
@@ -219,17 +246,10 @@ fn moving_and_turning<L: Ledger>(
         bail!("out of memory");
     };
     let mut held = none_held(rt.alloc(), &timers);
-    let filled = fill(&mut timers, &mut held, count, steps);
-    let watch = CpuStopwatch::start(rt);
-    let moved = move_all(&mut timers, &mut held, count, steps);
-    let moving = watch.and_then(|watch| watch.nanos(rt));
-    let watch = CpuStopwatch::start(rt);
-    let fired = turn_all(&mut timers, &mut held, count + CALLS, steps);
-    let turning = watch.and_then(|watch| watch.nanos(rt));
+    let times = time_both(rt, count, &mut timers, &mut held, steps);
     give_back(&mut timers, held, steps);
-    ensure!(filled && moved, "out of memory");
-    ensure!(fired == CALLS, "{fired} timers fired");
-    Ok((moving? / CALLS, turning? / CALLS))
+    drop(timers);
+    times
 }
 
 fn report<L: Ledger>(

@@ -134,7 +134,11 @@ fn report<R: Print + Clock + AllocGlobal + Threads + Sync>(
         refused = refused.min(turn(rt, threads, 0)?);
         bare = bare.min(bare_turn(rt, threads as usize)?);
     }
-    let (granted, refused, bare) = (tenths(granted), tenths(refused), tenths(bare));
+    tell(rt, name, tenths(granted), tenths(refused), tenths(bare))
+}
+
+// Prints what a call takes, of each in tenths of a nanosecond.
+fn tell<R: Print>(rt: &R, name: &str, granted: u64, refused: u64, bare: u64) -> anyhow::Result<()> {
     println!(rt;
         "tokens: {name}: a take {}.{} ns, a refused take {}.{} ns; a bare fetch {}.{} ns",
         granted / 10,

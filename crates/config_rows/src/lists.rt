@@ -15,10 +15,14 @@ pub fn show_list<R: Print + AllocGlobal>(rt: &R) -> Result<()> {
     println!(rt; "empty {} with {}", filters.is_empty(), filters.len())?;
     let rows = filters.into_vec();
     if rows.len() < u32::MAX as usize {
-        let again = FilterList::from_vec(rows);
-        for filter in again.as_slice() {
-            println!(rt; "{filter:?}")?;
-        }
+        return show_filters(rt, &FilterList::from_vec(rows));
+    }
+    Ok(())
+}
+
+fn show_filters<R: Print>(rt: &R, filters: &FilterList) -> Result<()> {
+    for filter in filters.as_slice() {
+        println!(rt; "{filter:?}")?;
     }
     Ok(())
 }

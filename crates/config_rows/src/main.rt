@@ -15,16 +15,30 @@ use std::fs;
 use std::io::Read;
 
 fn main(rt: HostRuntime) -> anyhow::Result<()> {
-    let mut text = Vec::new(rt.alloc());
-    rt.reader().read_to_end(&mut text)?;
-    show_cases(&rt, text.as_slice())?;
+    show_input(&rt)?;
     let sample = fs::read(&rt, "sample.toml")?;
     show_text(&rt, sample.as_slice())?;
     println!(rt; "## the defaults")?;
-    let Ok(defaults) = Config::of_defaults(rt.alloc()) else {
-        println!(rt; "no memory")?;
-        return Ok(());
-    };
-    show_config(&rt, &defaults)?;
-    show_list(&rt)
+    match Config::of_defaults(rt.alloc()) {
+        Ok(defaults) => {
+            let end = show_defaults(&rt, &defaults);
+            drop(defaults);
+            end
+        }
+        Err(_) => {
+            println!(rt; "no memory")?;
+            Ok(())
+        }
+    }
+}
+
+fn show_input(rt: &HostRuntime) -> anyhow::Result<()> {
+    let mut text = Vec::new(rt.alloc());
+    rt.reader().read_to_end(&mut text)?;
+    show_cases(rt, text.as_slice())
+}
+
+fn show_defaults<R: Print + AllocGlobal>(rt: &R, defaults: &Config) -> anyhow::Result<()> {
+    show_config(rt, defaults)?;
+    show_list(rt)
 }

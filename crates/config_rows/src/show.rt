@@ -2,11 +2,12 @@
 use anyhow::Result;
 use io_ports::Octets;
 use proxy_config::{
-    Config, ConfigFault, Filter, FilterList, Form, OverloadKeys, Point, ProxyKeys, Route,
-    read_config, route,
+    Cluster, Config, ConfigFault, Filter, FilterList, Form, LimitKeys, OverloadKeys, Point,
+    ProxyKeys, Route, ShedRow, TimeoutKeys, Trigger, read_config, route,
 };
 
-/// Prints the name of a text, its configuration or its fault, and the rows that it asks for.
+/// Prints the name of a text, its configuration or its fault, and the rows that it asks for. A configuration is dropped by a
+/// call, since the check follows a drop without one field by field.
 pub fn show_text<R: Print + AllocGlobal>(rt: &R, text: &[u8]) -> Result<()> {
     let name = text.split(|octet| *octet == b'\n').next().unwrap_or(b"");
     println!(rt; "{}", shown(name))?;
@@ -15,11 +16,17 @@ pub fn show_text<R: Print + AllocGlobal>(rt: &R, text: &[u8]) -> Result<()> {
     }
     match read_config(rt.alloc(), text) {
         Ok(config) => {
-            show_config(rt, &config)?;
-            show_rows(rt, &config, text)
+            let end = show_read(rt, &config, text);
+            drop(config);
+            end
         }
         Err(fault) => show_fault(rt, &fault),
     }
+}
+
+fn show_read<R: Print>(rt: &R, config: &Config, text: &[u8]) -> Result<()> {
+    show_config(rt, config)?;
+    show_rows(rt, config, text)
 }
 
 fn shown(octets: &[u8]) -> &str {
@@ -52,7 +59,17 @@ fn show_fault<R: Print>(rt: &R, fault: &ConfigFault) -> Result<()> {
 
 /// Prints a configuration, each key in its place.
 pub fn show_config<R: Print>(rt: &R, config: &Config) -> Result<()> {
-    let limits = &config.limits;
+    show_buffers(rt, &config.limits)?;
+    show_counts(rt, &config.limits)?;
+    show_timeouts(rt, &config.timeouts)?;
+    show_clusters(rt, config.clusters.as_slice())?;
+    show_routes(rt, config.routes.as_slice())?;
+    show_overload(rt, &config.overload)?;
+    show_proxy(rt, &config.proxy)
+}
+
+// The first six limits.
+fn show_buffers<R: Print>(rt: &R, limits: &LimitKeys) -> Result<()> {
     let (write, send, stream) = (
         limits.write_buffer,
         limits.send_buffer,
@@ -64,6 +81,11 @@ pub fn show_config<R: Print>(rt: &R, config: &Config) -> Result<()> {
         limits.field_list,
     );
     print!(rt; "limits {write} {send} {stream} {window} {streams} {fields}")?;
+    Ok(())
+}
+
+// The other limits.
+fn show_counts<R: Print>(rt: &R, limits: &LimitKeys) -> Result<()> {
     let (control, empty, resets) = (
         limits.control_frames,
         limits.empty_frames,
@@ -71,7 +93,10 @@ pub fn show_config<R: Print>(rt: &R, config: &Config) -> Result<()> {
     );
     let (quantum, frame, multiple) = (limits.quantum, limits.frame_size, limits.overflow_multiple);
     println!(rt; " {control} {empty} {resets} {quantum} {frame} {multiple}")?;
-    let timeouts = &config.timeouts;
+    Ok(())
+}
+
+fn show_timeouts<R: Print>(rt: &R, timeouts: &TimeoutKeys) -> Result<()> {
     let (route, stream, connection) = (
         timeouts.route,
         timeouts.stream_idle,
@@ -79,18 +104,25 @@ pub fn show_config<R: Print>(rt: &R, config: &Config) -> Result<()> {
     );
     let (stream_min, connection_min) = (timeouts.stream_idle_min, timeouts.connection_idle_min);
     println!(rt; "timeouts {route} {stream} {connection} {stream_min} {connection_min}")?;
-    for cluster in config.clusters.as_slice() {
+    Ok(())
+}
+
+fn show_clusters<R: Print>(rt: &R, clusters: &[Cluster]) -> Result<()> {
+    for cluster in clusters {
         println!(rt;
             "cluster {} {}",
             shown(cluster.name.as_slice()),
             or_dash(&cluster.address)
         )?;
     }
-    for route in config.routes.as_slice() {
+    Ok(())
+}
+
+fn show_routes<R: Print>(rt: &R, routes: &[Route]) -> Result<()> {
+    for route in routes {
         show_route(rt, route)?;
     }
-    show_overload(rt, &config.overload)?;
-    show_proxy(rt, &config.proxy)
+    Ok(())
 }
 
 fn show_route<R: Print>(rt: &R, route: &Route) -> Result<()> {
@@ -130,12 +162,21 @@ fn show_overload<R: Print>(rt: &R, overload: &OverloadKeys) -> Result<()> {
         print!(rt; " {}", shown(name.as_slice()))?;
     }
     println!(rt; "")?;
-    for trigger in overload.triggers.as_slice() {
+    show_triggers(rt, overload.triggers.as_slice())?;
+    show_shed(rt, overload.shed.as_slice())
+}
+
+fn show_triggers<R: Print>(rt: &R, triggers: &[Trigger]) -> Result<()> {
+    for trigger in triggers {
         let (action, resource) = (trigger.action, trigger.resource);
         print!(rt; "trigger {action} {resource}")?;
         show_form(rt, &trigger.form)?;
     }
-    for row in overload.shed.as_slice() {
+    Ok(())
+}
+
+fn show_shed<R: Print>(rt: &R, rows: &[ShedRow]) -> Result<()> {
+    for row in rows {
         let point = match row.point {
             Point::Accept => "accept",
             Point::Read => "read",

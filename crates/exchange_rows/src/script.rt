@@ -11,6 +11,7 @@ use exchange_core::Step;
 use flow_gate::FlowId;
 use flow_notes::{Names, Note, read_note};
 use std::alloc::Global;
+use std::mem;
 
 /// The most steps of a run.
 const MOST: u32 = 1_000;
@@ -23,13 +24,13 @@ struct Play {
     chain: Option<ChainStage>,
 }
 
-/// Plays each case, and prints each of its calls with its answer.
+/// Plays each case, and prints each of its calls with its answer. What a case is played on is dropped by a call, since the check
+/// follows a drop without one field by field.
 pub fn play_cases(rt: &HostRuntime, rows: &[u8], text: &str) -> Result<()> {
     let mut play = Play::new(rt.alloc());
-    for line in text.lines() {
-        play.heed(rt, rows, line)?;
-    }
-    Ok(())
+    let end = play.heed_all(rt, rows, text);
+    drop(play);
+    end
 }
 
 /// The flow of a run of steps, if a line asks for one.
@@ -49,10 +50,23 @@ impl Play {
         }
     }
 
+    fn heed_all(&mut self, rt: &HostRuntime, rows: &[u8], text: &str) -> Result<()> {
+        for line in text.lines() {
+            self.heed(rt, rows, line)?;
+        }
+        Ok(())
+    }
+
+    /// Nothing is left of the case before.
+    fn begin_case(&mut self, alloc: Global) {
+        let before = mem::replace(self, Play::new(alloc));
+        drop(before);
+    }
+
     /// Begins a case anew where a line is its heading, and prints that; plays a call, and prints it with its answer.
     fn heed(&mut self, rt: &HostRuntime, rows: &[u8], line: &str) -> Result<()> {
         if line.starts_with("## ") {
-            *self = Play::new(rt.alloc());
+            self.begin_case(rt.alloc());
             println!(rt; "{line}")?;
             return Ok(());
         }

@@ -64,9 +64,12 @@ fn counts_up(
     Ok(())
 }
 
-// One buffer: its limit, and for each change the octets added, then those taken, what the adding and
-// the taking crossed, and whether the buffer is above after both.
-const CHANGES: [(u32, [(u32, u32, Crossed, Crossed, bool); 4]); 6] = [
+// The octets added, then those taken, what the adding and the taking crossed, and whether the buffer is
+// above after both.
+type Change = (u32, u32, Crossed, Crossed, bool);
+
+// One buffer: its limit, and its changes.
+const CHANGES: [(u32, [Change; 4]); 6] = [
     // Ten octets rise over 8; five are more than half, four aren't.
     (
         8,
@@ -129,17 +132,38 @@ const CHANGES: [(u32, [(u32, u32, Crossed, Crossed, bool); 4]); 6] = [
     ),
 ];
 
+/// The changes of a buffer of this limit, one after another.
+fn changes_cross(
+    rt: &(impl AllocGlobal + Abort),
+    limit: u32,
+    changes: &[Change],
+) -> Result<(), NoMemory> {
+    let mut buffer = WatermarkBuffer::new(rt.alloc(), limit);
+    same(rt, &buffer.limit(), &limit);
+    for change in changes {
+        change_crosses(rt, limit, &mut buffer, change)?;
+    }
+    Ok(())
+}
+
+fn change_crosses(
+    rt: &(impl AllocGlobal + Abort),
+    limit: u32,
+    buffer: &mut WatermarkBuffer,
+    change: &Change,
+) -> Result<(), NoMemory> {
+    let (added, taken, rose, drained, above) = change;
+    same_in(rt, &limit, &put(rt.alloc(), buffer, 0, *added)?, rose);
+    assert!(rt; *taken <= buffer.len());
+    same_in(rt, &limit, &buffer.take(*taken), drained);
+    same_in(rt, &limit, &buffer.is_above(), above);
+    Ok(())
+}
+
 #[test]
 fn one_buffer_crosses_its_marks(rt: HostRuntime) -> Result<(), NoMemory> {
     for (limit, changes) in CHANGES {
-        let mut buffer = WatermarkBuffer::new(rt.alloc(), limit);
-        same(&rt, &buffer.limit(), &limit);
-        for (added, taken, rose, drained, above) in changes {
-            same_in(&rt, &limit, &put(rt.alloc(), &mut buffer, 0, added)?, &rose);
-            assert!(rt; taken <= buffer.len());
-            same_in(&rt, &limit, &buffer.take(taken), &drained);
-            same_in(&rt, &limit, &buffer.is_above(), &above);
-        }
+        changes_cross(&rt, limit, &changes)?;
     }
     Ok(())
 }
@@ -148,15 +172,23 @@ fn one_buffer_crosses_its_marks(rt: HostRuntime) -> Result<(), NoMemory> {
 #[test]
 fn a_ready_buffer_takes_what_it_has_room_for(rt: HostRuntime) -> Result<(), NoMemory> {
     let mut buffer = WatermarkBuffer::new(rt.alloc(), 10);
-    holds(&rt, buffer.is_empty());
-    buffer.ready(65_536)?;
-    same(&rt, &put(rt.alloc(), &mut buffer, 0, 65_546)?, &HIGH);
-    assert!(rt; 65_541 <= buffer.len());
-    same(&rt, &buffer.take(65_541), &LOW);
-    same(&rt, &put(rt.alloc(), &mut buffer, 65_546, 65_541)?, &HIGH);
-    same(&rt, &buffer.len(), &65_546);
+    goes_over_the_seam(&rt, &mut buffer)?;
     counts_up(&rt, &mut buffer, 65_541, 65_546)?;
     holds(&rt, buffer.is_empty());
+    Ok(())
+}
+
+fn goes_over_the_seam(
+    rt: &(impl AllocGlobal + Abort),
+    buffer: &mut WatermarkBuffer,
+) -> Result<(), NoMemory> {
+    holds(rt, buffer.is_empty());
+    buffer.ready(65_536)?;
+    same(rt, &put(rt.alloc(), buffer, 0, 65_546)?, &HIGH);
+    assert!(rt; 65_541 <= buffer.len());
+    same(rt, &buffer.take(65_541), &LOW);
+    same(rt, &put(rt.alloc(), buffer, 65_546, 65_541)?, &HIGH);
+    same(rt, &buffer.len(), &65_546);
     Ok(())
 }
 

@@ -1,4 +1,6 @@
 // Gates by tables of calls. What each call answers, and the counts after it, were found by hand from the rules.
+mod many;
+
 use crate::said::{holds, same, same_in};
 use flow_gate::{BufferId, FlowId, Gates, Watchers};
 use io_ports::NoMemory;
@@ -18,8 +20,6 @@ const LEAST: FlowId = FlowId {
     exchange: 0,
     back: false,
 };
-
-const MANY: u64 = 200_000;
 
 const SHARED: BufferId = BufferId::Write(0);
 
@@ -283,29 +283,38 @@ fn watchers_stand_in_the_order_in_which_they_began(rt: HostRuntime) -> Result<()
     Ok(())
 }
 
-// Two of three watchers are told at once, and then the third.
+/// All three watchers are still to be told, in the order in which they began.
+fn three_are_to_be_told(rt: &impl Abort, gates: &Gates) {
+    let lows = [FIRST, SECOND, LEAST];
+    let mut seen = 0;
+    for low in gates.lows(SHARED) {
+        same(rt, &lows.get(seen).copied(), &Some(low));
+        seen = seen.saturating_add(1);
+    }
+    same(rt, &seen, &3);
+}
+
+/// Two are told at once, and then the third.
+fn two_and_one_are_told(rt: &impl Abort, gates: &mut Gates) {
+    gates.take_lows(SHARED, 2);
+    for (flow, held) in [(FIRST, 0), (SECOND, 0), (LEAST, 1)] {
+        same(rt, &count(gates, flow), &Some(held));
+    }
+    same(rt, &gates.lows(SHARED).nth(0), &Some(LEAST));
+    same(rt, &gates.lows(SHARED).nth(1), &None);
+    gates.take_lows(SHARED, 2);
+    same(rt, &count(gates, LEAST), &Some(0));
+    same(rt, &gates.lows(SHARED).nth(0), &None);
+    gates.take_lows(OWN, 1);
+    same(rt, &gates.lows(OWN).nth(0), &None);
+}
+
 #[test]
 fn lows_are_told_together(rt: HostRuntime) -> Result<(), NoMemory> {
     let mut gates = Gates::new(rt.alloc());
     make_all(&rt, &mut gates, &TWO_FLOWS[..14])?;
-    let lows = [FIRST, SECOND, LEAST];
-    let mut seen = 0;
-    for low in gates.lows(SHARED) {
-        same(&rt, &lows.get(seen).copied(), &Some(low));
-        seen = seen.saturating_add(1);
-    }
-    same(&rt, &seen, &3);
-    gates.take_lows(SHARED, 2);
-    for (flow, held) in [(FIRST, 0), (SECOND, 0), (LEAST, 1)] {
-        same(&rt, &count(&gates, flow), &Some(held));
-    }
-    same(&rt, &gates.lows(SHARED).nth(0), &Some(LEAST));
-    same(&rt, &gates.lows(SHARED).nth(1), &None);
-    gates.take_lows(SHARED, 2);
-    same(&rt, &count(&gates, LEAST), &Some(0));
-    same(&rt, &gates.lows(SHARED).nth(0), &None);
-    gates.take_lows(OWN, 1);
-    same(&rt, &gates.lows(OWN).nth(0), &None);
+    three_are_to_be_told(&rt, &gates);
+    two_and_one_are_told(&rt, &mut gates);
     Ok(())
 }
 
@@ -320,21 +329,6 @@ fn a_flow_is_clear_where_no_buffer_is_above(rt: HostRuntime) -> Result<(), NoMem
     assert!(rt; gates.is_open(FIRST));
     holds(&rt, gates.is_clear(FIRST, OWN, OWN));
     holds(&rt, !gates.is_clear(FIRST, OWN, SHARED));
-    Ok(())
-}
-
-// Each of the buffers that a flow watches counts, be they few or many.
-#[test]
-fn each_buffer_counts(rt: HostRuntime) -> Result<(), NoMemory> {
-    let mut gates = Gates::new(rt.alloc());
-    make_one(&rt, &mut gates, OpenFlow(FIRST))?;
-    for n in 1..=4 {
-        let buffer = BufferId::Write(n);
-        for call in [OpenBuffer(buffer), Watch(FIRST, buffer), High(buffer)] {
-            make_one(&rt, &mut gates, call)?;
-        }
-        same(&rt, &count(&gates, FIRST), &Some(u64::from(n)));
-    }
     Ok(())
 }
 
@@ -353,114 +347,40 @@ fn are_all(rt: &impl Abort, mut watchers: Watchers<'_>, flows: &[FlowId]) -> boo
     row.is_some()
 }
 
-// The watchers lie side by side until one leaves, and again once the buffer rises or drains.
+/// The watchers lie side by side until one leaves.
+fn one_leaves(rt: &impl Abort, gates: &mut Gates) -> Result<(), NoMemory> {
+    make_all(rt, gates, &TWO_FLOWS[..13])?;
+    holds(
+        rt,
+        are_all(rt, gates.watchers(SHARED), &[FIRST, SECOND, LEAST]),
+    );
+    holds(rt, are_all(rt, gates.lows(SHARED), &[]));
+    make_one(rt, gates, BeginLow(SHARED))?;
+    make_one(rt, gates, NextLow(SHARED))?;
+    holds(rt, are_all(rt, gates.lows(SHARED), &[SECOND, LEAST]));
+    make_one(rt, gates, Forget(SECOND))?;
+    holds(rt, !are_all(rt, gates.watchers(SHARED), &[FIRST, LEAST]));
+    holds(rt, !are_all(rt, gates.lows(SHARED), &[LEAST]));
+    Ok(())
+}
+
+/// They do again once the buffer rises.
+fn it_rises_again(rt: &impl Abort, gates: &mut Gates) -> Result<(), NoMemory> {
+    make_one(rt, gates, OpenFlow(SECOND))?;
+    make_one(rt, gates, Watch(SECOND, SHARED))?;
+    make_one(rt, gates, High(SHARED))?;
+    holds(
+        rt,
+        are_all(rt, gates.watchers(SHARED), &[FIRST, LEAST, SECOND]),
+    );
+    holds(rt, are_all(rt, gates.lows(SHARED), &[LEAST]));
+    holds(rt, are_all(rt, gates.watchers(OWN), &[]));
+    Ok(())
+}
+
 #[test]
 fn watchers_lie_side_by_side(rt: HostRuntime) -> Result<(), NoMemory> {
     let mut gates = Gates::new(rt.alloc());
-    make_all(&rt, &mut gates, &TWO_FLOWS[..13])?;
-    holds(
-        &rt,
-        are_all(&rt, gates.watchers(SHARED), &[FIRST, SECOND, LEAST]),
-    );
-    holds(&rt, are_all(&rt, gates.lows(SHARED), &[]));
-    make_one(&rt, &mut gates, BeginLow(SHARED))?;
-    make_one(&rt, &mut gates, NextLow(SHARED))?;
-    holds(&rt, are_all(&rt, gates.lows(SHARED), &[SECOND, LEAST]));
-    make_one(&rt, &mut gates, Forget(SECOND))?;
-    holds(&rt, !are_all(&rt, gates.watchers(SHARED), &[FIRST, LEAST]));
-    holds(&rt, !are_all(&rt, gates.lows(SHARED), &[LEAST]));
-    make_one(&rt, &mut gates, OpenFlow(SECOND))?;
-    make_one(&rt, &mut gates, Watch(SECOND, SHARED))?;
-    make_one(&rt, &mut gates, High(SHARED))?;
-    holds(
-        &rt,
-        are_all(&rt, gates.watchers(SHARED), &[FIRST, LEAST, SECOND]),
-    );
-    holds(&rt, are_all(&rt, gates.lows(SHARED), &[LEAST]));
-    holds(&rt, are_all(&rt, gates.watchers(OWN), &[]));
-    Ok(())
-}
-
-/// A flow by its exchange, with its send buffer.
-fn sending(exchange: u64) -> (FlowId, BufferId) {
-    let flow = FlowId {
-        exchange,
-        back: false,
-    };
-    (flow, BufferId::Send(flow))
-}
-
-/// Opens a flow that watches its send buffer.
-fn open(rt: &impl Abort, gates: &mut Gates, exchange: u64) -> Result<(), NoMemory> {
-    let (flow, buffer) = sending(exchange);
-    same(rt, &make(gates, OpenFlow(flow))?, &DONE);
-    same(rt, &make(gates, OpenBuffer(buffer))?, &DONE);
-    same(rt, &make(gates, Watch(flow, buffer))?, &LOW);
-    Ok(())
-}
-
-/// The send buffer of a flow rises and drains, and its flow alone is told.
-fn rise_and_drain(rt: &impl Abort, gates: &mut Gates, exchange: u64) -> Result<(), NoMemory> {
-    let (flow, buffer) = sending(exchange);
-    make_one(rt, gates, High(buffer))?;
-    same(rt, &count(gates, flow), &Some(1));
-    make_one(rt, gates, BeginLow(buffer))?;
-    same(
-        rt,
-        &make(gates, NextLow(buffer))?,
-        &Answer::Told(Some(flow)),
-    );
-    same(rt, &make(gates, NextLow(buffer))?, &NOBODY);
-    Ok(())
-}
-
-// 200,000 flows, each with a send buffer of its own: no call goes through them all.
-#[test]
-fn many_flows_cost_little(rt: HostRuntime) -> Result<(), NoMemory> {
-    let mut gates = Gates::new(rt.alloc());
-    for exchange in 1..=MANY {
-        open(&rt, &mut gates, exchange)?;
-    }
-    for exchange in 1..=MANY {
-        rise_and_drain(&rt, &mut gates, exchange)?;
-    }
-    for exchange in 1..=MANY {
-        let (flow, _) = sending(exchange);
-        same(&rt, &count(&gates, flow), &Some(0));
-    }
-    Ok(())
-}
-
-// 200,000 flows watch one buffer. Those of even number leave while the others are told, and these leave last first: no
-// call goes through the whole line each time.
-#[test]
-fn many_watchers_cost_little(rt: HostRuntime) -> Result<(), NoMemory> {
-    let mut gates = Gates::new(rt.alloc());
-    make_one(&rt, &mut gates, OpenBuffer(SHARED))?;
-    for exchange in 1..=MANY {
-        let (flow, _) = sending(exchange);
-        make_one(&rt, &mut gates, OpenFlow(flow))?;
-        make_one(&rt, &mut gates, Watch(flow, SHARED))?;
-    }
-    make_one(&rt, &mut gates, High(SHARED))?;
-    make_one(&rt, &mut gates, BeginLow(SHARED))?;
-    for exchange in 1..=MANY {
-        let (flow, _) = sending(exchange);
-        if exchange % 2 == 0 {
-            make_one(&rt, &mut gates, Forget(flow))?;
-        } else {
-            let told = make(&mut gates, NextLow(SHARED))?;
-            same(&rt, &told, &Answer::Told(Some(flow)));
-        }
-    }
-    same(&rt, &make(&mut gates, NextLow(SHARED))?, &NOBODY);
-    for gone in 0..MANY {
-        let exchange = MANY - gone;
-        let (flow, _) = sending(exchange);
-        if exchange % 2 == 1 {
-            make_one(&rt, &mut gates, Forget(flow))?;
-        }
-    }
-    holds(&rt, !gates.is_watched(SHARED));
-    Ok(())
+    one_leaves(&rt, &mut gates)?;
+    it_rises_again(&rt, &mut gates)
 }

@@ -1,6 +1,7 @@
 // Texts of events and notes, and names that are refused.
 ghost use Rattle.flow_notes.specs.Event.{IsEvent};
 ghost use Rattle.flow_notes.specs.Note.{IsNote};
+ghost use Rattle.std.specs.Prelude.{◌≡◌, length};
 
 mod copies;
 mod passages;
@@ -140,16 +141,20 @@ fn put_closes(names: &Names, text: &mut Octets) -> Result<(), NoMemory> {
     put(Note::Turn { number: 1, event }, names, text)
 }
 
+fn put_others(names: &Names, text: &mut Octets) -> Result<(), NoMemory> {
+    put_moves(names, text)?;
+    put_crossings(names, text)?;
+    put_counts(names, text)?;
+    put_dooms(names, text)?;
+    put_closes(names, text)
+}
+
 #[test]
 fn notes_are_written(rt: HostRuntime) -> Result<(), NoMemory> {
     let names = some_names(rt.alloc())?;
     let mut text = Octets::new(rt.alloc());
     put_bodies(rt.alloc(), &names, &mut text)?;
-    put_moves(&names, &mut text)?;
-    put_crossings(&names, &mut text)?;
-    put_counts(&names, &mut text)?;
-    put_dooms(&names, &mut text)?;
-    put_closes(&names, &mut text)?;
+    put_others(&names, &mut text)?;
     let expected = "in 1q aa01\nanswer 1 00000403\nhead 2 1 83\n\
 move 18446744073709551615r 4294967295 0\nframe 2 1q 10 more\nframe 2 1q 0 end\n\
 pause 1q send\nresume 1q stage 1\nresume 18446744073709551615r write 2\n\
@@ -167,25 +172,31 @@ fn say(event: Event, names: &Names, text: &mut Octets) -> Result<(), NoMemory>
     event_text(&event, names, text)
 }
 
-#[test]
-fn events_are_written(rt: HostRuntime) -> Result<(), NoMemory> {
-    let names = some_names(rt.alloc())?;
-    let mut text = Octets::new(rt.alloc());
-    assert!(rt; names.len() == 2);
-    say(Event::Accept { conn: 1 }, &names, &mut text)?;
+fn say_events(names: &Names, text: &mut Octets) -> Result<(), NoMemory>
+    requires { length names.now ≡ 2 }
+{
+    say(Event::Accept { conn: 1 }, names, text)?;
     let [conn, cluster] = [2, 1];
-    say(Event::Join { conn, cluster }, &names, &mut text)?;
-    say(Event::Room { conn, n: 94 }, &names, &mut text)?;
-    say(Event::Tick { now: 50 }, &names, &mut text)?;
+    say(Event::Join { conn, cluster }, names, text)?;
+    say(Event::Room { conn, n: 94 }, names, text)?;
+    say(Event::Tick { now: 50 }, names, text)?;
     let post = Event::Post {
         poster: 0,
         number: 0,
         job: Job::Cancel { exchange: 1 },
     };
-    say(post, &names, &mut text)?;
+    say(post, names, text)?;
     let [first, second] = [1, 3];
     let pair = PlainEvent::Pair { first, second };
-    say(Event::Plain(pair), &names, &mut text)?;
+    say(Event::Plain(pair), names, text)
+}
+
+#[test]
+fn events_are_written(rt: HostRuntime) -> Result<(), NoMemory> {
+    let names = some_names(rt.alloc())?;
+    let mut text = Octets::new(rt.alloc());
+    assert!(rt; names.len() == 2);
+    say_events(&names, &mut text)?;
     let expected = "accept 1\njoin 2 api-2_b\nroom 2 94\ntick 50\npost 0 0 cancel 1\npair 1 3\n";
     same(&rt, &text.as_slice(), &expected.as_bytes());
     Ok(())

@@ -117,21 +117,43 @@ const WRITES: [(usize, usize, &[u64], &[(&[u8], Answer)], &[u8]); 6] = [
     (0, 100, &[], &[(b"", Ok(0)), (b"a", Err(Failed))], b""),
 ];
 
+// Whether a sink takes the pieces so.
+fn sink_takes(
+    rt: &(impl AllocGlobal + Abort),
+    room: usize,
+    most: usize,
+    failing: &[u64],
+    pieces: &[(&[u8], Answer)],
+    wanted: &[u8],
+) -> Result<(), NoMemory> {
+    let failing = failing.to_vec(rt.alloc())?;
+    let Ok(mut sink) = MemSink::new(rt.alloc(), room, failing) else {
+        return Err(NoMemory);
+    };
+    sink.take_at_most(most);
+    holds(rt, writes(&mut sink, pieces));
+    holds(rt, sink.octets() == wanted);
+    Ok(())
+}
+
 #[test]
 fn sinks_take_pieces(rt: HostRuntime) -> Result<(), NoMemory> {
-    let alloc = rt.alloc();
     for (room, most, failing, pieces, wanted) in WRITES {
-        let Ok(mut sink) = MemSink::new(alloc, room, failing.to_vec(alloc)?) else {
-            return Err(NoMemory);
-        };
-        sink.take_at_most(most);
-        holds(&rt, writes(&mut sink, pieces));
-        holds(&rt, sink.octets() == wanted);
+        sink_takes(&rt, room, most, failing, pieces, wanted)?;
     }
-    let mut held = Vec::new(alloc);
+    Ok(())
+}
+
+#[test]
+fn vectors_take_pieces(rt: HostRuntime) {
+    let mut held = Vec::new(rt.alloc());
     let pieces: [(&[u8], Answer); 2] = [(b"abc", Ok(3)), (b"d", Ok(1))];
     holds(&rt, writes(&mut StdSink::new(&mut held), &pieces));
     holds(&rt, held.as_slice() == b"abcd".as_slice());
+}
+
+#[test]
+fn blocks_take_pieces(rt: HostRuntime) {
     let mut block = [0u8; 4];
     let pieces: [(&[u8], Answer); 3] = [(b"abc", Ok(3)), (b"def", Ok(1)), (b"e", Ok(0))];
     holds(
@@ -143,7 +165,6 @@ fn sinks_take_pieces(rt: HostRuntime) -> Result<(), NoMemory> {
         &rt,
         writes(&mut StdSink::new(Broken), &[(b"abc", Err(Failed))]),
     );
-    Ok(())
 }
 
 /// A reader and writer that always fails.

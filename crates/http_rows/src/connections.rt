@@ -7,14 +7,22 @@ use std::alloc::Global;
 
 /// `STREAMS EMPTY WORD ..`: a connection on which that many streams of the client may be open and
 /// that many empty DATA frames may come in a row, and what its words give; then how many streams
-/// are open, and the number of a GOAWAY.
+/// are open, and the number of a GOAWAY. A session is dropped by a call, since the check follows a
+/// drop without one field by field.
 pub fn connection_words(alloc: Global, client_side: bool, words: &str) -> Result<String> {
     let (streams, rest) = words.split_once(' ').unwrap_or((words, ""));
     let (empty, script) = rest.split_once(' ').unwrap_or((rest, ""));
     let mut session = Session::new(alloc, client_side, number(streams), number(empty));
+    let text = script_words(alloc, &mut session, script);
+    drop(session);
+    text
+}
+
+// What the words give, and what stands then.
+fn script_words(alloc: Global, session: &mut Session, script: &str) -> Result<String> {
     let mut text = String::new(alloc);
     for word in script.split(' ') {
-        let given = step(alloc, &mut session, word)?;
+        let given = step(alloc, session, word)?;
         text.push_str(given.as_str())?;
     }
     let (open, greatest) = (session.streams(), session.greatest());

@@ -17,6 +17,7 @@ pub fn many_words(alloc: Global, words: &str) -> Result<String> {
         take_many(&mut session, number(n))
     };
     let (open, greatest) = (session.streams(), session.greatest());
+    drop(session);
     Ok(format!(in alloc; "opened {opened} = {open}, greatest {greatest}")?)
 }
 

@@ -71,16 +71,94 @@ fn frame_octets<'a>(frame: &'a Frame<'_>) -> &'a [u8] {
     }
 }
 
+fn data_words(
+    alloc: Global,
+    stream: u32,
+    last: bool,
+    padded: u32,
+    octets: &str,
+) -> Result<String, AllocError> {
+    format!(in alloc; "DATA {stream} {} {padded} {octets}", end_word(last))
+}
+
+fn headers_words(
+    alloc: Global,
+    stream: u32,
+    last: bool,
+    end_headers: bool,
+    padded: u32,
+    priority: &Option<Weighting>,
+    octets: &str,
+) -> Result<String, AllocError> {
+    let priority = priority_words(alloc, priority)?;
+    let (last, end_headers) = (end_word(last), end_word(end_headers));
+    format!(in alloc; "HEADERS {stream} {last} {end_headers} {padded} {priority} {octets}")
+}
+
+fn weighted_words(alloc: Global, stream: u32, priority: &Weighting) -> Result<String, AllocError> {
+    let priority = weighting_words(alloc, priority)?;
+    format!(in alloc; "PRIORITY {stream} {priority}")
+}
+
+fn push_words(
+    alloc: Global,
+    stream: u32,
+    end_headers: bool,
+    padded: u32,
+    promised: u32,
+    octets: &str,
+) -> Result<String, AllocError> {
+    let end_headers = end_word(end_headers);
+    format!(in alloc; "PUSH_PROMISE {stream} {end_headers} {padded} {promised} {octets}")
+}
+
+fn continuation_words(
+    alloc: Global,
+    stream: u32,
+    end_headers: bool,
+    octets: &str,
+) -> Result<String, AllocError> {
+    format!(in alloc; "CONTINUATION {stream} {} {octets}", end_word(end_headers))
+}
+
+fn unknown_words(
+    alloc: Global,
+    kind: u8,
+    flags: u8,
+    stream: u32,
+    octets: &str,
+) -> Result<String, AllocError> {
+    format!(in alloc; "type {kind} {flags} {stream} {octets}")
+}
+
+fn goaway_words(alloc: Global, last: u32, code: u32, octets: &str) -> Result<String, AllocError> {
+    format!(in alloc; "GOAWAY {last} {code} {octets}")
+}
+
+// A frame that is or isn't an acknowledgement.
+fn ack_words(alloc: Global, name: &str, ack: bool, octets: &str) -> Result<String, AllocError> {
+    format!(in alloc; "{name} {} {octets}", ack_word(ack))
+}
+
+// A frame or an act of a stream and a number, or of two numbers.
+fn pair_words(alloc: Global, name: &str, stream: u32, n: u32) -> Result<String, AllocError> {
+    format!(in alloc; "{name} {stream} {n}")
+}
+
 /// A frame in words: its type, its stream, flags and numbers, and its octets.
 pub fn frame_words(alloc: Global, frame: &Frame) -> Result<String, AllocError> {
     let octets = shown(alloc, frame_octets(frame))?;
+    words_before(alloc, frame, octets.as_str())
+}
+
+fn words_before(alloc: Global, frame: &Frame, octets: &str) -> Result<String, AllocError> {
     match *frame {
         Frame::DataFrame {
             stream,
             last,
             padded,
             ..
-        } => format!(in alloc; "DATA {stream} {} {padded} {octets}", end_word(last)),
+        } => data_words(alloc, stream, last, padded, octets),
         Frame::Headers {
             stream,
             last,
@@ -88,43 +166,33 @@ pub fn frame_words(alloc: Global, frame: &Frame) -> Result<String, AllocError> {
             padded,
             priority,
             ..
-        } => {
-            let priority = priority_words(alloc, &priority)?;
-            let (last, end_headers) = (end_word(last), end_word(end_headers));
-            format!(in alloc; "HEADERS {stream} {last} {end_headers} {padded} {priority} {octets}")
-        }
-        Frame::Priority { stream, priority } => {
-            let priority = weighting_words(alloc, &priority)?;
-            format!(in alloc; "PRIORITY {stream} {priority}")
-        }
-        Frame::Reset { stream, code } => format!(in alloc; "RST_STREAM {stream} {code}"),
-        Frame::Settings { ack, .. } => { format!(in alloc; "SETTINGS {} {octets}", ack_word(ack)) }
+        } => headers_words(alloc, stream, last, end_headers, padded, &priority, octets),
+        Frame::Priority { stream, priority } => weighted_words(alloc, stream, &priority),
+        Frame::Reset { stream, code } => pair_words(alloc, "RST_STREAM", stream, code),
+        Frame::Settings { ack, .. } => ack_words(alloc, "SETTINGS", ack, octets),
         Frame::Push {
             stream,
             end_headers,
             padded,
             promised,
             ..
-        } => {
-            let end_headers = end_word(end_headers);
-            format!(in alloc; "PUSH_PROMISE {stream} {end_headers} {padded} {promised} {octets}")
-        }
-        Frame::Ping { ack, .. } => format!(in alloc; "PING {} {octets}", ack_word(ack)),
-        Frame::GoAway { last, code, .. } => format!(in alloc; "GOAWAY {last} {code} {octets}"),
+        } => push_words(alloc, stream, end_headers, padded, promised, octets),
+        Frame::Ping { ack, .. } => ack_words(alloc, "PING", ack, octets),
+        Frame::GoAway { last, code, .. } => goaway_words(alloc, last, code, octets),
         Frame::WindowUpdate { stream, increment } => {
-            format!(in alloc; "WINDOW_UPDATE {stream} {increment}")
+            pair_words(alloc, "WINDOW_UPDATE", stream, increment)
         }
         Frame::Continuation {
             stream,
             end_headers,
             ..
-        } => format!(in alloc; "CONTINUATION {stream} {} {octets}", end_word(end_headers)),
+        } => continuation_words(alloc, stream, end_headers, octets),
         Frame::Unknown {
             kind,
             flags,
             stream,
             ..
-        } => format!(in alloc; "type {kind} {flags} {stream} {octets}"),
+        } => unknown_words(alloc, kind, flags, stream, octets),
     }
 }
 
@@ -141,33 +209,64 @@ fn act_octets(act: &Act) -> &[u8] {
     }
 }
 
+fn body_words(
+    alloc: Global,
+    stream: u32,
+    octets: &str,
+    padded: u32,
+    last: bool,
+) -> Result<String, AllocError> {
+    format!(in alloc; "body {stream} {octets} {padded} {}", end_word(last))
+}
+
+fn head_words(alloc: Global, stream: u32, octets: &str, last: bool) -> Result<String, AllocError> {
+    format!(in alloc; "head {stream} {octets} {}", end_word(last))
+}
+
+fn error_words(alloc: Global, stream: u32, code: u32, octets: &str) -> Result<String, AllocError> {
+    format!(in alloc; "stream {stream} {code} {octets}")
+}
+
+fn trailers_words(alloc: Global, stream: u32, octets: &str) -> Result<String, AllocError> {
+    format!(in alloc; "trailers {stream} {octets}")
+}
+
+// An act that has octets alone.
+fn bare_words(alloc: Global, name: &str, octets: &str) -> Result<String, AllocError> {
+    format!(in alloc; "{name} {octets}")
+}
+
+fn code_words(alloc: Global, code: u32) -> Result<String, AllocError> {
+    format!(in alloc; "connection {code}")
+}
+
 /// An act in words: what it is, its stream, its numbers and its octets.
 pub fn act_words(alloc: Global, act: &Act) -> Result<String, AllocError> {
     let octets = shown(alloc, act_octets(act))?;
+    act_words_before(alloc, act, octets.as_str())
+}
+
+fn act_words_before(alloc: Global, act: &Act, octets: &str) -> Result<String, AllocError> {
     match act {
-        Act::Ignore => format!(in alloc; "ignore"),
+        Act::Ignore => String::from_str(alloc, "ignore"),
         Act::Body {
             stream,
             padded,
             last,
             ..
-        } => format!(in alloc; "body {stream} {octets} {padded} {}", end_word(*last)),
-        Act::Late { stream, n } => format!(in alloc; "late {stream} {n}"),
-        Act::Head { stream, last, .. } => {
-            format!(in alloc; "head {stream} {octets} {}", end_word(*last))
-        }
-        Act::Trailers { stream, .. } => format!(in alloc; "trailers {stream} {octets}"),
-        Act::OldBlock { .. } => format!(in alloc; "old {octets}"),
+        } => body_words(alloc, *stream, octets, *padded, *last),
+        Act::Late { stream, n } => pair_words(alloc, "late", *stream, *n),
+        Act::Head { stream, last, .. } => head_words(alloc, *stream, octets, *last),
+        Act::Trailers { stream, .. } => trailers_words(alloc, *stream, octets),
+        Act::OldBlock { .. } => bare_words(alloc, "old", octets),
         Act::Settings { list } => list_words(alloc, list),
-        Act::Ack => format!(in alloc; "ack"),
-        Act::Ping { .. } => format!(in alloc; "ping {octets}"),
-        Act::WindowUp { stream, n } => format!(in alloc; "window {stream} {n}"),
-        Act::PeerReset { stream, code } => format!(in alloc; "reset {stream} {code}"),
-        Act::GoAway { last, code } => format!(in alloc; "goaway {last} {code}"),
-        Act::StreamError { stream, code, .. } => {
-            format!(in alloc; "stream {stream} {code} {octets}")
-        }
-        Act::ConnError { code } => format!(in alloc; "connection {code}"),
+        Act::Ack => String::from_str(alloc, "ack"),
+        Act::Ping { .. } => bare_words(alloc, "ping", octets),
+        Act::WindowUp { stream, n } => pair_words(alloc, "window", *stream, *n),
+        Act::PeerReset { stream, code } => pair_words(alloc, "reset", *stream, *code),
+        Act::GoAway { last, code } => pair_words(alloc, "goaway", *last, *code),
+        Act::StreamError { stream, code, .. } => error_words(alloc, *stream, *code, octets),
+        Act::ConnError { code } => code_words(alloc, *code),
     }
 }
 

@@ -39,6 +39,7 @@ fn begin<R: Print + AllocGlobal + Wait + CpuClock>(rt: &R, clients: u32) -> anyh
     }
 }
 
+// A configuration, a stage and a core are dropped by a call, since the check follows a drop without one field by field.
 fn with_config<R: Print + AllocGlobal + Wait + CpuClock>(
     rt: &R,
     config: Config,
@@ -48,7 +49,10 @@ fn with_config<R: Print + AllocGlobal + Wait + CpuClock>(
 {
     match names_of(rt.alloc(), &config) {
         Ok(names) => with_names(rt, config, &names, clients),
-        Err(_) => Err(anyhow!("out of memory")),
+        Err(_) => {
+            drop(config);
+            Err(anyhow!("out of memory"))
+        }
     }
 }
 
@@ -61,8 +65,15 @@ fn with_names<R: Print + AllocGlobal + Wait + CpuClock>(
     requires { IsInRange config }
 {
     match Stage::new(rt, &config, names, clients) {
-        Ok(mut stage) => with_stage(rt, config, names, &mut stage, clients),
-        Err(_) => Err(anyhow!("out of memory")),
+        Ok(mut stage) => {
+            let end = with_stage(rt, config, names, &mut stage, clients);
+            drop(stage);
+            end
+        }
+        Err(_) => {
+            drop(config);
+            Err(anyhow!("out of memory"))
+        }
     }
 }
 
@@ -78,7 +89,11 @@ fn with_stage<R: Print + AllocGlobal + Wait + CpuClock>(
     requires fresh { IsFresh names.now (seen_of stage.old.wires) }
 {
     match Core::new(rt.alloc(), config) {
-        Ok(mut core) => report(rt, &mut core, names, stage, clients),
+        Ok(mut core) => {
+            let end = report(rt, &mut core, names, stage, clients);
+            drop(core);
+            end
+        }
         Err(_) => Err(anyhow!("out of memory")),
     }
 }

@@ -42,12 +42,17 @@ pub fn run_case<R: AllocGlobal + Wait>(rt: &R, case: &mut Case, said: &mut Said)
     }
 }
 
+// What is great, as a configuration, a core and connections, is dropped by a call, since the check follows a drop without one field by
+// field.
 fn run_with<R: AllocGlobal + Wait>(rt: &R, config: Config, case: &mut Case, said: &mut Said)
     requires { IsInRange config }
 {
     match names_of(rt.alloc(), &config) {
         Ok(names) => run_named(rt, config, &names, case, said),
-        Err(NoMemory) => said.lack(),
+        Err(NoMemory) => {
+            drop(config);
+            said.lack();
+        }
     }
 }
 
@@ -61,8 +66,14 @@ fn run_named<R: AllocGlobal + Wait>(
     requires { IsInRange config }
 {
     match stage_of(rt, &config, names, case) {
-        Ok((mut stage, wires)) => run_staged(rt, config, names, &mut stage, wires, case, said),
-        Err(NoMemory) => said.lack(),
+        Ok((mut stage, wires)) => {
+            run_staged(rt, config, names, &mut stage, wires, case, said);
+            drop(stage);
+        }
+        Err(NoMemory) => {
+            drop(config);
+            said.lack();
+        }
     }
 }
 
@@ -80,7 +91,10 @@ fn run_staged<R: AllocGlobal + Wait>(
     requires fresh { IsFresh names.now (seen_of wires) }
 {
     match Core::new(rt.alloc(), config) {
-        Ok(mut core) => run_worker(rt, &mut core, names, stage, wires, case, said),
+        Ok(mut core) => {
+            run_worker(rt, &mut core, names, stage, wires, case, said);
+            drop(core);
+        }
         Err(NoMemory) => said.lack(),
     }
 }
@@ -102,6 +116,7 @@ fn run_worker<R: AllocGlobal + Wait>(
     if begin_journal(&mut stage.journal).is_err() {
         said.line("no first line");
         say_text(&stage.journal, said);
+        drop(wires);
         return;
     }
     let wires = match case.tokens {
@@ -109,6 +124,7 @@ fn run_worker<R: AllocGlobal + Wait>(
         Some(tokens) => run_metered(rt, core, names, stage, wires, tokens, case, said),
     };
     say_whole(rt.alloc(), case, &stage.journal, &wires, said);
+    drop(wires);
 }
 
 fn run_bare<R: AllocGlobal + Wait>(

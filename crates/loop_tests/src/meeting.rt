@@ -1,6 +1,6 @@
 //! Two workers that wait for each other, so that neither can be run before the other.
 ghost use Rattle.loop_tests.specs.Meetings.{AreParts, ArePlaces, in_memory};
-ghost use Rattle.std.specs.Prelude.{◌≡◌, ◌<◌, length, slice_index_or, vec_capacity, ℕ};
+ghost use Rattle.std.specs.Prelude.{◌≡◌, ◌<◌, IfOk, length, slice_index_or, vec_capacity, ℕ};
 ghost use Rattle.worker_loop.specs.Keeping.{Holds};
 ghost use Rattle.worker_threads.specs.Starting.{IsReady};
 
@@ -123,10 +123,43 @@ fn meet<R: Threads + Wait + Sync>(
     gates: Gates,
 ) -> Result<(bool, bool), NoMemory> {
     let names = names_of_defaults(alloc)?;
-    let places = Places::new(rt, alloc)?;
-    let first = Parts::new(alloc, &names)?;
-    let second = Parts::new(alloc, &names)?;
+    let (places, first, second) = makings(rt, alloc, &names)?;
     Ok(meet_over(rt, alloc, names, places, first, second, gates))
+}
+
+// What two workers share, and what each is made of. A great value is dropped by a call, since the check follows a drop without one field
+// by field.
+fn makings<R: Wait>(
+    rt: &R,
+    alloc: Global,
+    names: &Names,
+) -> Result<(Places, Parts, Parts), NoMemory>
+    ensures places { IfOk result (λ made. ArePlaces made.0.permits made.0.seat made.0.other_seat made.0.posts.items (vec_capacity made.0.posts)) }
+    ensures first { IfOk result (λ made. AreParts names.now made.1.core.kind made.1.posts made.1.pass made.1.wires) }
+    ensures second { IfOk result (λ made. AreParts names.now made.2.core.kind made.2.posts made.2.pass made.2.wires) }
+{
+    let places = Places::new(rt, alloc)?;
+    match two_parts(alloc, names) {
+        Ok((first, second)) => Ok((places, first, second)),
+        Err(NoMemory) => {
+            drop(places);
+            Err(NoMemory)
+        }
+    }
+}
+
+fn two_parts(alloc: Global, names: &Names) -> Result<(Parts, Parts), NoMemory>
+    ensures first { IfOk result (λ made. AreParts names.now made.0.core.kind made.0.posts made.0.pass made.0.wires) }
+    ensures second { IfOk result (λ made. AreParts names.now made.1.core.kind made.1.posts made.1.pass made.1.wires) }
+{
+    let first = Parts::new(alloc, names)?;
+    match Parts::new(alloc, names) {
+        Ok(second) => Ok((first, second)),
+        Err(NoMemory) => {
+            drop(first);
+            Err(NoMemory)
+        }
+    }
 }
 
 fn names_of_defaults(alloc: Global) -> Result<Names, NoMemory> {

@@ -3,7 +3,7 @@ ghost use Rattle.loop_tests.specs.Meetings.{AreParts, ArePlaces, in_memory};
 ghost use Rattle.mem_ports.specs.Memory.{seen_of};
 ghost use Rattle.post_queue.specs.Clauses.{IsRunnerOf};
 ghost use Rattle.shared_state.specs.PermitSeats.{IsNewSeat, IsSeatOf, seats_in};
-ghost use Rattle.std.specs.Prelude.{◌≡◌, All, IfOk, IfSome, length, vec_capacity};
+ghost use Rattle.std.specs.Prelude.{◌≡◌, ◌≤◌, All, IfOk, IfSome, length, vec_capacity};
 ghost use Rattle.worker_core.specs.Sessions.{RestsWire};
 ghost use Rattle.worker_loop.specs.Keeping.{Holds};
 ghost use Rattle.worker_threads.specs.Starting.{IsNew};
@@ -14,7 +14,7 @@ use io_ports::{MemSink, NoMemory};
 use mem_ports::{MemClock, MemWires, Room};
 use post_queue::{PostBox, RunnerPass};
 use proxy_config::Config;
-use shared_state::{Follower, PermitSeat, PermitSeats, Permits, make_shared};
+use shared_state::{Follower, Followers, PermitSeat, PermitSeats, Permits, make_shared};
 use std::alloc::Global;
 use std::collections::VecDeque;
 use std::sync::Wait;
@@ -124,18 +124,22 @@ pub fn end_worker(permits: &Permits, worker: Meeting) -> bool
     requires { Holds permits.now worker.seat worker.held }
 {
     let Worker {
-        core: _core,
+        core,
         pass: _pass,
-        follower: _follower,
+        follower,
         mut seat,
         held,
-        wires: _wires,
+        wires,
         clock: _clock,
         gate,
-        journal: _journal,
+        journal,
         ended,
     } = worker;
     held.give_back(permits, &mut seat);
+    drop(core);
+    drop(follower);
+    drop(wires);
+    drop(journal);
     gate.has_met() && ended == Some(Ended::Turns)
 }
 
@@ -195,10 +199,23 @@ fn seat_of(permits: &Permits, seats: &mut PermitSeats) -> Option<PermitSeat>
 // Two followers. Nothing was published, so each has seen all.
 fn followers_of<R: Wait>(rt: &R, alloc: Global) -> Result<(Follower, Follower), NoMemory> {
     let config = Config::of_defaults(alloc)?;
-    let (publisher, mut followers) = make_shared(rt, alloc, &config, 2)?;
-    publisher.end(rt);
-    match (followers.take_one(), followers.take_one()) {
-        (Some(one), Some(two)) => Ok((one, two)),
-        _ => Err(NoMemory),
+    let mut followers = two_followers(rt, alloc, config)?;
+    let Some(one) = followers.take_one() else {
+        return Err(NoMemory);
+    };
+    match followers.take_one() {
+        Some(two) => Ok((one, two)),
+        None => Err(NoMemory),
     }
+}
+
+// The followers of a publisher that has ended.
+fn two_followers<R: Wait>(rt: &R, alloc: Global, config: Config) -> Result<Followers, NoMemory>
+    requires { length config.overload.resources ≤ 16 }
+{
+    let made = make_shared(rt, alloc, &config, 2);
+    drop(config);
+    let (publisher, followers) = made?;
+    publisher.end(rt);
+    Ok(followers)
 }

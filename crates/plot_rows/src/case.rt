@@ -24,6 +24,14 @@ impl Case {
         }
     }
 
+    /// Makes it as a new one.
+    pub fn clear(&mut self) {
+        self.words.clear();
+        self.reads.clear();
+        self.writes.clear();
+        self.tape.clear();
+    }
+
     /// Takes up a line behind the case's name, given without its newline: the words, a fault, the cut of the last newline, or a
     /// line of the tape.
     pub fn line(&mut self, line: &str) -> Result<(), NoMemory> {

@@ -31,7 +31,8 @@ fn draw(alloc: Global, case: &Case, choice: &Choice, most: usize) -> Result<Draw
 }
 
 /// Prints the status of a case, the line that was refused and why, and the picture. A case without faults comes out the same
-/// where it is read in pieces of 7 octets, or else it is said that it doesn't.
+/// where it is read in pieces of 7 octets, or else it is said that it doesn't. A picture is dropped by a call, since the check
+/// follows a drop without one field by field.
 pub fn show_case<R: Print + AllocGlobal>(rt: &R, case: &Case) -> io::Result<()> {
     let Some(choice) = read_choice(case.words.as_slice()) else {
         return println!(rt; "2 Usage");
@@ -39,6 +40,17 @@ pub fn show_case<R: Print + AllocGlobal>(rt: &R, case: &Case) -> io::Result<()> 
     let Ok(whole) = draw(rt.alloc(), case, &choice, usize::MAX) else {
         return println!(rt; "no memory");
     };
+    let end = show_whole(rt, case, &choice, &whole);
+    drop(whole);
+    end
+}
+
+fn show_whole<R: Print + AllocGlobal>(
+    rt: &R,
+    case: &Case,
+    choice: &Choice,
+    whole: &Drawn,
+) -> io::Result<()> {
     show_outcome(rt, &whole.outcome)?;
     print!(rt;
         "{}",
@@ -47,14 +59,20 @@ pub fn show_case<R: Print + AllocGlobal>(rt: &R, case: &Case) -> io::Result<()> 
     if !case.reads.is_empty() {
         return Ok(());
     }
-    let Ok(pieces) = draw(rt.alloc(), case, &choice, 7) else {
+    let Ok(pieces) = draw(rt.alloc(), case, choice, 7) else {
         return println!(rt; "no memory");
     };
-    if pieces.outcome == whole.outcome && pieces.out.octets() == whole.out.octets() {
+    let same = is_same(&pieces, whole);
+    drop(pieces);
+    if same {
         Ok(())
     } else {
         println!(rt; "otherwise in pieces of 7")
     }
+}
+
+fn is_same(pieces: &Drawn, whole: &Drawn) -> bool {
+    pieces.outcome == whole.outcome && pieces.out.octets() == whole.out.octets()
 }
 
 fn show_outcome<R: Print>(rt: &R, outcome: &Outcome) -> io::Result<()> {

@@ -173,12 +173,24 @@ pub fn run(rt: &(impl AllocGlobal + Print + CpuClock)) -> anyhow::Result<()> {
         noting: 0,
         copying: 0,
     };
-    let mut pair = Pair::new(rt.alloc())?;
     let mut blocks = Blocks::new(rt.alloc())?;
-    for _round in 0..ROUNDS {
-        round(rt, &mut pair, &mut blocks, &mut spent)?;
-    }
+    let mut pair = Pair::new(rt.alloc())?;
+    let end = rounds(rt, &mut pair, &mut blocks, &mut spent);
+    drop(pair);
+    end?;
     show(rt, spent)
+}
+
+fn rounds(
+    rt: &impl CpuClock,
+    pair: &mut Pair,
+    blocks: &mut Blocks,
+    spent: &mut Spent,
+) -> anyhow::Result<()> {
+    for _round in 0..ROUNDS {
+        round(rt, pair, blocks, spent)?;
+    }
+    Ok(())
 }
 
 fn show(rt: &(impl AllocGlobal + Print), spent: Spent) -> anyhow::Result<()> {

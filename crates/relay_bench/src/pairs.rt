@@ -1,8 +1,9 @@
 // Pairs that come and go. What memory they leave is seen from outside.
 use crate::octets::{begin, dispatch, failed};
-use anyhow::anyhow;
+use anyhow::{anyhow, bail};
 use flow_notes::{Event, Notes};
 use io_ports::Octets;
+use std::alloc::Global;
 use tcp_relay::{Relay, RelayFault};
 
 /// One pair: it begins, octets go, the client is lost, and the rest is written.
@@ -23,26 +24,49 @@ fn one_pair(
     dispatch(relay, &Event::Room { conn, n: 1_000 }, notes)
 }
 
-/// As many pairs as the word says, one after the other.
+/// As many pairs as the word says, one after the other. The relay is dropped by a call, since the check follows a drop without one
+/// field by field.
 pub fn run(rt: &(impl AllocGlobal + Print), word: Option<String>) -> anyhow::Result<()> {
-    let pairs = match word {
+    let pairs = number_of(word)?;
+    let mut relay = Relay::new(rt.alloc(), 1_048_576);
+    let end = play(rt, &mut relay, pairs);
+    drop(relay);
+    end
+}
+
+fn number_of(word: Option<String>) -> anyhow::Result<u32> {
+    match word {
         Some(word) => word
             .as_str()
             .parse::<u32>()
-            .map_err(|_| anyhow!("no number of pairs"))?,
-        None => 1_000,
-    };
-    let mut notes = Notes::new(rt.alloc());
-    let mut relay = Relay::new(rt.alloc(), 1_048_576);
-    for pair in 0..pairs.min(1_000_000) {
-        let octets = Octets::from_slice(rt.alloc(), &[7; 1_000]).map_err(|_| anyhow!(
-            "out of memory"
-        ))?;
-        one_pair(&mut relay, 2 * pair + 1, octets, &mut notes).map_err(failed)?;
+            .map_err(|_| anyhow!("no number of pairs")),
+        None => Ok(1_000),
     }
+}
+
+fn play(rt: &(impl AllocGlobal + Print), relay: &mut Relay, pairs: u32) -> anyhow::Result<()> {
+    let mut notes = Notes::new(rt.alloc());
+    let end = all_pairs(rt.alloc(), relay, pairs, &mut notes);
+    drop(notes);
+    end?;
     match relay.conn_after(0) {
         None => println!(rt; "{pairs} pairs came and went")?,
         Some(conn) => println!(rt; "connection {conn} is still there")?,
+    }
+    Ok(())
+}
+
+fn all_pairs(
+    alloc: Global,
+    relay: &mut Relay,
+    pairs: u32,
+    notes: &mut Notes,
+) -> anyhow::Result<()> {
+    for pair in 0..pairs.min(1_000_000) {
+        let Ok(octets) = Octets::from_slice(alloc, &[7; 1_000]) else {
+            bail!("out of memory");
+        };
+        one_pair(relay, 2 * pair + 1, octets, notes).map_err(failed)?;
     }
     Ok(())
 }

@@ -70,8 +70,13 @@ impl Work {
         ensures { IfOk result (λ work. Belongs work.names work.relay (seen_of work.taps)) }
     {
         let mut work = Work::new(alloc, arrivals(alloc, pairs)?)?;
-        work.run(alloc, 2 * pairs)?;
-        Ok(work)
+        match work.run(alloc, 2 * pairs) {
+            Ok(()) => Ok(work),
+            Err(fault) => {
+                drop(work);
+                Err(fault)
+            }
+        }
     }
 
     /// A round's reads of 100 octets of the client of the first pair, and how long it took to relay them, in nanoseconds.
@@ -131,12 +136,40 @@ fn tell_reads(taps: &mut MemTaps, alloc: Global) -> anyhow::Result<()>
 /// Turns with one pair, and with 10,000 idle pairs beside it, in turn.
 pub fn run(rt: &(impl AllocGlobal + Print + CpuClock)) -> anyhow::Result<()> {
     let mut alone = Work::with_pairs(rt.alloc(), 1)?;
+    let end = run_beside(rt, &mut alone);
+    drop(alone);
+    end
+}
+
+// A work is dropped by a call, since the check follows a drop without one field by field.
+fn run_beside(rt: &(impl AllocGlobal + Print + CpuClock), alone: &mut Work) -> anyhow::Result<()>
+    requires { Belongs alone.old.names alone.old.relay (seen_of alone.old.taps) }
+{
     let mut crowded = Work::with_pairs(rt.alloc(), 1 + IDLE)?;
+    let spent = run_rounds(rt, alone, &mut crowded);
+    drop(crowded);
+    let (one, many) = spent?;
+    tell_turns(rt, one, many)
+}
+
+// The nanoseconds of all rounds of the one and of the other, in turn.
+fn run_rounds(
+    rt: &(impl AllocGlobal + CpuClock),
+    alone: &mut Work,
+    crowded: &mut Work,
+) -> anyhow::Result<(u64, u64)>
+    requires alone { Belongs alone.old.names alone.old.relay (seen_of alone.old.taps) }
+    requires crowded { Belongs crowded.old.names crowded.old.relay (seen_of crowded.old.taps) }
+{
     let (mut one, mut many) = (0u64, 0u64);
     for _round in 0..ROUNDS {
         one = one.saturating_add(alone.round(rt)?);
         many = many.saturating_add(crowded.round(rt)?);
     }
+    Ok((one, many))
+}
+
+fn tell_turns(rt: &(impl AllocGlobal + Print), one: u64, many: u64) -> anyhow::Result<()> {
     let turns = u64::from(TURNS) * u64::from(ROUNDS);
     println!(rt; "a turn with one pair: {} ns", one / turns)?;
     println!(rt; "with 10,000 idle pairs beside it: {} ns", many / turns)?;

@@ -17,26 +17,39 @@ mod show;
 
 use crate::case::Case;
 use std::io::{self, Read};
+use std::mem;
 
 fn main(rt: HostRuntime) -> io::Result<()> {
     let mut text = Vec::new(rt.alloc());
     rt.reader().read_to_end(&mut text)?;
-    let text = std::str::from_utf8(text.as_slice()).unwrap_or("");
     let mut case = Case::new(rt.alloc());
+    let end = read_cases(
+        &rt,
+        std::str::from_utf8(text.as_slice()).unwrap_or(""),
+        &mut case,
+    );
+    match end {
+        Ok(()) => end_case(&rt, case),
+        Err(fault) => Err(fault),
+    }
+}
+
+// Ends each case but the last, which is left.
+fn read_cases<R: Print + AllocGlobal>(rt: &R, text: &str, case: &mut Case) -> io::Result<()> {
     let mut is_open = false;
     for line in text.strip_suffix('\n').unwrap_or(text).split('\n') {
         if line.starts_with("## ") {
+            let before = mem::replace(case, Case::new(rt.alloc()));
             if is_open {
-                end_case(&rt, case)?;
+                end_case(rt, before)?;
             }
             println!(rt; "{line}")?;
-            case = Case::new(rt.alloc());
             is_open = true;
         } else if case.line(rt.alloc(), line).is_err() {
             println!(rt; "no memory")?;
         }
     }
-    end_case(&rt, case)
+    Ok(())
 }
 
 fn end_case<R: Print + AllocGlobal>(rt: &R, case: Case) -> io::Result<()> {

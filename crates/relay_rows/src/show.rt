@@ -24,26 +24,45 @@ const JOURNAL: usize = 100_000;
 /// The greatest connection whose state is printed.
 const CONNECTIONS: u32 = 6;
 
-/// Runs a case, and prints how it ends.
+/// Runs a case, and prints how it ends. A great value is dropped by a call, since the check follows a drop without one field by field.
 pub fn show_case<R: Print + AllocGlobal>(rt: &R, case: Case) -> io::Result<()> {
     let mut names = Names::new(rt.alloc());
-    let mut taps = MemTaps::new(rt.alloc(), 1, case.answers, ROOM, case.taps);
-    taps.take_at_most(case.most);
-    let mut relay = Relay::new(rt.alloc(), case.limit);
     let Ok(()) = names.push(b"a") else {
         return println!(rt; "no memory");
     };
     let Ok(mut journal) = MemSink::new(rt.alloc(), JOURNAL, case.journal) else {
         return println!(rt; "no memory");
     };
+    let mut taps = MemTaps::new(rt.alloc(), 1, case.answers, ROOM, case.taps);
+    taps.take_at_most(case.most);
+    let mut relay = Relay::new(rt.alloc(), case.limit);
     let (turns, runs) = (case.turns, case.runs);
-    run(rt, &mut relay, &mut taps, &mut journal, &names, turns, runs)?;
+    let end = show_run(rt, &mut relay, &mut taps, &mut journal, &names, turns, runs);
+    drop(relay);
+    drop(taps);
+    drop(journal);
+    end
+}
+
+// Runs the turns, and prints the journal, the record and the connections.
+fn show_run<R: Print + AllocGlobal>(
+    rt: &R,
+    relay: &mut Relay,
+    taps: &mut MemTaps,
+    journal: &mut MemSink,
+    names: &Names,
+    turns: u64,
+    runs: u32,
+) -> io::Result<()>
+    requires { Belongs names.now relay.old (seen_of taps.old) }
+{
+    run(rt, relay, taps, journal, names, turns, runs)?;
     print!(rt;
         "{}",
         std::str::from_utf8(journal.octets()).unwrap_or("no text\n")
     )?;
-    show_record(rt, &taps)?;
-    show_connections(rt, &taps)
+    show_record(rt, taps)?;
+    show_connections(rt, taps)
 }
 
 // Runs the turns so many times, one after the other, as long as they are whole.

@@ -31,18 +31,24 @@ fn main(rt: HostRuntime) -> io::Result<()> {
 
 fn show_cases<R: Print + AllocGlobal>(rt: &R, text: &str) -> io::Result<()> {
     let mut case = Case::new(rt.alloc());
+    let end = read_cases(rt, text, &mut case);
+    drop(case);
+    end
+}
+
+fn read_cases<R: Print + AllocGlobal>(rt: &R, text: &str, case: &mut Case) -> io::Result<()> {
     let mut is_open = false;
     for line in text.strip_suffix('\n').unwrap_or(text).split('\n') {
         if line.starts_with("## ") {
             if is_open {
-                show_case(rt, &case)?;
+                show_case(rt, case)?;
             }
             println!(rt; "{line}")?;
-            case = Case::new(rt.alloc());
+            case.clear();
             is_open = true;
         } else if case.line(line).is_err() {
             println!(rt; "no memory")?;
         }
     }
-    show_case(rt, &case)
+    show_case(rt, case)
 }

@@ -48,11 +48,18 @@ fn source(alloc: Global, octets: &[u8], failing: &[u64]) -> Result<MemSource, No
 }
 
 /// Prints the status of a case with its reason, and what it writes. A small session without faults ends and writes the
-/// same in pieces of 1 and of 7 octets, or else it is said where it doesn't.
+/// same in pieces of 1 and of 7 octets, or else it is said where it doesn't. A great value is dropped by a call, since the
+/// check follows a drop without one field by field.
 pub fn show_case<R: Print + AllocGlobal>(rt: &R, case: &Case) -> io::Result<()> {
     let Ok(mut whole) = open_outside(rt.alloc(), case, usize::MAX) else {
         return println!(rt; "no memory");
     };
+    let end = show_whole(rt, case, &mut whole);
+    drop(whole);
+    end
+}
+
+fn show_whole<R: Print + AllocGlobal>(rt: &R, case: &Case, whole: &mut Outside) -> io::Result<()> {
     let outcome = replay_with_reason(
         rt.alloc(),
         case.words.as_slice(),
@@ -60,12 +67,24 @@ pub fn show_case<R: Print + AllocGlobal>(rt: &R, case: &Case) -> io::Result<()> 
         &mut whole.session,
         &mut whole.out,
     );
-    show_outcome(rt, &outcome)?;
-    show_lines(rt, whole.out.octets())?;
+    let status = outcome.status;
+    let told = show_outcome(rt, &outcome);
+    drop(outcome);
+    told?;
+    show_written(rt, case, status, whole.out.octets())
+}
+
+fn show_written<R: Print + AllocGlobal>(
+    rt: &R,
+    case: &Case,
+    status: Status,
+    text: &[u8],
+) -> io::Result<()> {
+    show_lines(rt, text)?;
     let session = case.session.len();
     if case.is_sound() && 0 < session && session <= SMALL {
-        show_difference(rt, case, outcome.status, whole.out.octets(), 1)?;
-        show_difference(rt, case, outcome.status, whole.out.octets(), 7)?;
+        show_difference(rt, case, status, text, 1)?;
+        show_difference(rt, case, status, text, 7)?;
     }
     Ok(())
 }
@@ -93,18 +112,25 @@ fn show_difference<R: Print + AllocGlobal>(
     let Ok(mut pieces) = open_outside(rt.alloc(), case, most) else {
         return println!(rt; "no memory");
     };
+    let same = ends_so(rt.alloc(), case, status, text, &mut pieces);
+    drop(pieces);
+    if same {
+        Ok(())
+    } else {
+        println!(rt; "otherwise in pieces of {most}")
+    }
+}
+
+// Whether a replay ends so and writes this text.
+fn ends_so(alloc: Global, case: &Case, status: Status, text: &[u8], pieces: &mut Outside) -> bool {
     let other = replay(
-        rt.alloc(),
+        alloc,
         case.words.as_slice(),
         &mut pieces.config,
         &mut pieces.session,
         &mut pieces.out,
     );
-    if other == status && pieces.out.octets() == text {
-        Ok(())
-    } else {
-        println!(rt; "otherwise in pieces of {most}")
-    }
+    other == status && pieces.out.octets() == text
 }
 
 /// Prints a text, each line of it shortened to its front and its length where it is long.

@@ -21,21 +21,25 @@ const LIMITS: PlainLimits = PlainLimits {
 /// Prints a plain session, a wire session, the whole drill of one stream, and how many events drills have.
 pub fn show_texts<R: Print + AllocGlobal>(rt: &R) -> io::Result<()> {
     println!(rt; "## a plain session of two events as text")?;
-    show_text(rt, &plain_text(rt.alloc()))?;
+    show_text(rt, plain_text(rt.alloc()))?;
     println!(rt; "## a wire session of two events as text")?;
-    show_text(rt, &wire_text(rt.alloc()))?;
+    show_text(rt, wire_text(rt.alloc()))?;
     println!(rt; "## the drill of one stream as a wire session's text")?;
-    show_text(rt, &drill_text(rt.alloc()))?;
+    show_text(rt, drill_text(rt.alloc()))?;
     for n in [1, 2, 1_000] {
-        match drill_events(rt.alloc(), n) {
-            Ok(events) => println!(rt; "## a drill of {n} has {} events", events.len())?,
-            Err(NoMemory) => println!(rt; "no memory")?,
-        }
+        show_drill(rt, n, drill_events(rt.alloc(), n))?;
     }
     Ok(())
 }
 
-fn show_text<R: Print>(rt: &R, text: &Result<Octets, NoMemory>) -> io::Result<()> {
+fn show_drill<R: Print>(rt: &R, n: u32, events: Result<EventList, NoMemory>) -> io::Result<()> {
+    match events {
+        Ok(events) => println!(rt; "## a drill of {n} has {} events", events.len()),
+        Err(NoMemory) => println!(rt; "no memory"),
+    }
+}
+
+fn show_text<R: Print>(rt: &R, text: Result<Octets, NoMemory>) -> io::Result<()> {
     match text {
         Ok(text) => show_lines(rt, text.as_slice()),
         Err(_) => println!(rt; "no memory"),

@@ -166,15 +166,23 @@ fn exchange<R: Threads + Wait + Sync + Abort>(
     (a, b, runner, drained)
 }
 
-#[test]
-fn one_poster(rt: HostRuntime) -> Result<(), Fail> {
-    let alloc = rt.alloc();
-    let (posts, mut passes, mut runner) = PostBox::new(alloc, 1)?;
-    let mut pass = take(&posts, &mut passes).ok_or("a pass")?;
+/// Two posts are drained in their order, and then there is none.
+fn two_are_drained<R: Wait + Abort>(
+    rt: &R,
+    alloc: Global,
+    posts: &PostBox,
+    pass: &mut PosterPass,
+    runner: &mut RunnerPass,
+) -> Result<(), Fail>
+    requires pass { IsPosterOf posts.now pass.old }
+    requires runner { IsRunnerOf posts.now runner.old }
+    ensures pass { IsPosterOf posts.now pass.new }
+    ensures runner { IsRunnerOf posts.now runner.new }
+{
     let cancel = Job::Cancel { exchange: 7 };
-    same(&rt, &posts.post(&rt, &mut pass, Job::Look), &Ok(0));
-    same(&rt, &posts.post(&rt, &mut pass, cancel), &Ok(1));
-    let both = posts.drain(&rt, alloc, &mut runner)?;
+    same(rt, &posts.post(rt, pass, Job::Look), &Ok(0));
+    same(rt, &posts.post(rt, pass, cancel), &Ok(1));
+    let both = posts.drain(rt, alloc, runner)?;
     let wanted = [
         Post {
             poster: 0,
@@ -187,11 +195,36 @@ fn one_poster(rt: HostRuntime) -> Result<(), Fail> {
             job: cancel,
         },
     ];
-    same(&rt, &both.as_slice(), &wanted.as_slice());
-    holds(&rt, posts.drain(&rt, alloc, &mut runner)?.is_empty());
+    same(rt, &both.as_slice(), &wanted.as_slice());
+    holds(rt, posts.drain(rt, alloc, runner)?.is_empty());
+    Ok(())
+}
+
+#[test]
+fn one_poster(rt: HostRuntime) -> Result<(), Fail> {
+    let alloc = rt.alloc();
+    let (posts, mut passes, mut runner) = PostBox::new(alloc, 1)?;
+    let mut pass = take(&posts, &mut passes).ok_or("a pass")?;
+    two_are_drained(&rt, alloc, &posts, &mut pass, &mut runner)?;
     put(&posts, &mut passes, pass);
     let rest = close(&rt, alloc, posts, passes, runner).ok_or("memory")?;
     holds(&rt, rest.is_empty());
+    Ok(())
+}
+
+/// Of 200 posts three drains take 64 each, and the fourth takes the other 8.
+fn drains_of_200<R: Wait + Abort>(
+    rt: &R,
+    alloc: Global,
+    posts: &PostBox,
+    runner: &mut RunnerPass,
+) -> Result<(), Fail>
+    requires { IsRunnerOf posts.now runner.old }
+{
+    same(rt, &posts.drain(rt, alloc, runner)?.len(), &64);
+    same(rt, &posts.drain(rt, alloc, runner)?.len(), &64);
+    same(rt, &posts.drain(rt, alloc, runner)?.len(), &64);
+    same(rt, &posts.drain(rt, alloc, runner)?.len(), &8);
     Ok(())
 }
 
@@ -202,11 +235,7 @@ fn a_drain_takes_64(rt: HostRuntime) -> Result<(), Fail> {
     let pass = take(&posts, &mut passes).ok_or("a pass")?;
     holds(&rt, passes.take_one().is_none());
     same(&rt, &post_all(&rt, &posts, pass, 200).1, &200);
-    same(&rt, &posts.drain(&rt, alloc, &mut runner)?.len(), &64);
-    same(&rt, &posts.drain(&rt, alloc, &mut runner)?.len(), &64);
-    same(&rt, &posts.drain(&rt, alloc, &mut runner)?.len(), &64);
-    same(&rt, &posts.drain(&rt, alloc, &mut runner)?.len(), &8);
-    Ok(())
+    drains_of_200(&rt, alloc, &posts, &mut runner)
 }
 
 #[test]

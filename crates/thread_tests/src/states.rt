@@ -9,14 +9,16 @@ mod entering;
 mod followed;
 mod threads;
 
-use proxy_config::read_config;
+use io_ports::NoMemory;
+use proxy_config::{Config, read_config};
 use shared_state::{Follower, Followers, Publisher, make_shared};
 use std::alloc::AllocGlobal;
 use std::process::Abort;
 use std::sync::Wait;
 use std::test::Fail;
 
-/// A publisher and so many followers, under a configuration of so many resources.
+/// A publisher and so many followers, under a configuration of so many resources. It is dropped by a call, since the check follows a
+/// drop without one field by field.
 fn shared<R: AllocGlobal + Wait + Abort>(
     rt: &R,
     config: &str,
@@ -31,8 +33,25 @@ fn shared<R: AllocGlobal + Wait + Abort>(
     let text = config.as_bytes();
     assert!(rt; text.len() <= u32::MAX as usize);
     let config = read_config(rt.alloc(), text)?;
+    let made = shared_under(rt, &config, resources, followers);
+    drop(config);
+    Ok(made?)
+}
+
+/// The same, where the configuration was read.
+fn shared_under<R: AllocGlobal + Wait + Abort>(
+    rt: &R,
+    config: &Config,
+    resources: u32,
+    followers: u32,
+) -> Result<(Publisher, Followers), NoMemory>
+    requires followers { 1 ≤ followers }
+    requires resources { resources ≤ 16 }
+    ensures resources { IfOk result (λ made. resources_of made.0 ≡ resources) }
+    ensures each { IfOk result (λ made. All (IsNewFollower (arc_value made.0.board)) (followers_in made.1)) }
+{
     assert!(rt; config.overload.resources.len() == resources);
-    Ok(make_shared(rt, rt.alloc(), &config, followers)?)
+    make_shared(rt, rt.alloc(), config, followers)
 }
 
 /// A new follower of this publisher.

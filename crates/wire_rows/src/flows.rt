@@ -83,7 +83,7 @@ pub struct Case {
     pub send: u32,
 }
 
-/// A case, and what each call answers.
+/// A case, and what each call answers. What is great is dropped by a call, since the check follows a drop without one field by field.
 pub fn show(rt: &HostRuntime, line: &str) -> Result<()> {
     let (_, script) = next(line);
     let (first, calls) = script.split_once(" ; ").unwrap_or((script, ""));
@@ -91,7 +91,10 @@ pub fn show(rt: &HostRuntime, line: &str) -> Result<()> {
     let (send, multiple) = next(words);
     let config = route_rows(rt.alloc(), small_number(multiple))?;
     let mut case = new_case(rt.alloc(), small_number(send));
-    play(rt.alloc(), &config, &mut case, calls).print(rt, line)
+    let answers = play(rt.alloc(), &config, &mut case, calls);
+    drop(case);
+    drop(config);
+    answers.print(rt, line)
 }
 
 // The route rows, under which a buffer may hold so many times its limit.

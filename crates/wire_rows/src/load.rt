@@ -42,14 +42,23 @@ value = 900000
 pub fn show(rt: &HostRuntime, line: &str) -> Result<()> {
     let (_, script) = next(line);
     let (first, calls) = script.split_once(" ; ").unwrap_or((script, ""));
-    let Ok(config) = read_config(rt.alloc(), TRIGGERS.as_bytes()) else {
-        bail!("no configuration");
-    };
     let (_, start) = next(first);
     let Some(mut load) = new_load(rt.alloc(), small_number(start)) else {
         bail!("class 1 starts too high");
     };
-    play(rt.alloc(), &config, &mut load, calls).print(rt, line)
+    let answers = play_under(rt.alloc(), &mut load, calls);
+    drop(load);
+    answers?.print(rt, line)
+}
+
+// A configuration is dropped by a call, since the check follows a drop without one field by field.
+fn play_under(alloc: Global, load: &mut Load, calls: &str) -> Result<Answers> {
+    let Ok(config) = read_config(alloc, TRIGGERS.as_bytes()) else {
+        bail!("no configuration");
+    };
+    let answers = play(alloc, &config, load, calls);
+    drop(config);
+    Ok(answers)
 }
 
 // What the calls answer, one after another.

@@ -65,17 +65,21 @@ fn watched(alloc: Global) -> Result<Gates, NoMemory> {
     Ok(gates)
 }
 
-#[test]
-fn rows_are_passages(rt: HostRuntime) -> Result<(), NoMemory> {
-    let alloc = rt.alloc();
-    let gates = watched(alloc)?;
-    let mut notes = Notes::new(alloc);
+fn push_rows(gates: &Gates, notes: &mut Notes) -> Result<(), NoMemory> {
     notes.push(Note::Out { conn: 2, n: 1 })?;
     notes.push_pauses(gates.watchers(WRITE), WRITE)?;
     notes.push_resumes(gates.watchers(WRITE), 1, WRITE)?;
     notes.push(Note::Out { conn: 2, n: 2 })?;
     notes.push(Note::Out { conn: 2, n: 3 })?;
-    notes.push_resumes(gates.watchers(WRITE), 9, WRITE)?;
+    notes.push_resumes(gates.watchers(WRITE), 9, WRITE)
+}
+
+#[test]
+fn rows_are_passages(rt: HostRuntime) -> Result<(), NoMemory> {
+    let alloc = rt.alloc();
+    let gates = watched(alloc)?;
+    let mut notes = Notes::new(alloc);
+    push_rows(&gates, &mut notes)?;
     let rows = [
         Wanted::Out(1),
         Wanted::Pauses(&[REQUEST, RESPONSE]),

@@ -6,7 +6,7 @@ use io_ports::{NoMemory, Octets};
 use std::alloc::AllocGlobal;
 use std::process::Abort;
 
-const NOTES: [&str; 36] = [
+const NOTES: &[&str] = &[
     "turn 1 open 1",
     "turn 18446744073709551615 room 2147483647",
     "turn 2 room 1 2147483647",
@@ -45,7 +45,7 @@ const NOTES: [&str; 36] = [
     "fire stream-idle 7",
 ];
 
-const NO_NOTES: [&str; 36] = [
+const NO_NOTES: &[&str] = &[
     "",
     " ",
     "turn",
@@ -84,7 +84,7 @@ const NO_NOTES: [&str; 36] = [
     "Gone 1",
 ];
 
-const WIRE: [&str; 12] = [
+const WIRE: &[&str] = &[
     "accept 0",
     "accept 4294967295",
     "join 1 web",
@@ -99,7 +99,7 @@ const WIRE: [&str; 12] = [
     "obey 2 0 4294967295 1",
 ];
 
-const NO_WIRE: [&str; 14] = [
+const NO_WIRE: &[&str] = &[
     "open 1",
     "room 1",
     "room 1 0",
@@ -116,7 +116,7 @@ const NO_WIRE: [&str; 14] = [
     "obey 1 ",
 ];
 
-const PLAIN: [&str; 6] = [
+const PLAIN: &[&str] = &[
     "open 2147483647",
     "pair 1 3",
     "in 1 ff00",
@@ -125,7 +125,7 @@ const PLAIN: [&str; 6] = [
     "room 1",
 ];
 
-const NO_PLAIN: [&str; 9] = [
+const NO_PLAIN: &[&str] = &[
     "open 0",
     "open 2147483648",
     "pair 1",
@@ -169,16 +169,33 @@ fn no_note_is_read(
     Ok(())
 }
 
+fn notes_of_lines(
+    rt: &(impl AllocGlobal + Abort),
+    names: &Names,
+    lines: &[&str],
+) -> Result<(), NoMemory> {
+    for line in lines {
+        note_is_read(rt, names, line)?;
+    }
+    Ok(())
+}
+
+fn no_notes_of_lines(
+    rt: &(impl AllocGlobal + Abort),
+    names: &Names,
+    lines: &[&str],
+) -> Result<(), NoMemory> {
+    for line in lines {
+        no_note_is_read(rt, names, line)?;
+    }
+    Ok(())
+}
+
 #[test]
 fn notes_are_read(rt: HostRuntime) -> Result<(), NoMemory> {
     let names = some_names(rt.alloc())?;
-    for line in NOTES {
-        note_is_read(&rt, &names, line)?;
-    }
-    for line in NO_NOTES {
-        no_note_is_read(&rt, &names, line)?;
-    }
-    Ok(())
+    notes_of_lines(&rt, &names, NOTES)?;
+    no_notes_of_lines(&rt, &names, NO_NOTES)
 }
 
 /// Whether the line is an event's, and is written as it was read.
@@ -209,28 +226,50 @@ fn no_event_is_read(
     Ok(())
 }
 
-#[test]
-fn wire_events_are_read(rt: HostRuntime) -> Result<(), NoMemory> {
+/// Whether the first lines are events, and the others are none.
+fn events_of_lines(
+    rt: &(impl AllocGlobal + Abort),
+    lines: &[&str],
+    others: &[&str],
+    plain: bool,
+) -> Result<(), NoMemory> {
     let names = some_names(rt.alloc())?;
-    for line in WIRE {
-        event_is_read(&rt, &names, line, false)?;
+    events_are_read(rt, &names, lines, plain)?;
+    no_events_are_read(rt, &names, others, plain)
+}
+
+fn events_are_read(
+    rt: &(impl AllocGlobal + Abort),
+    names: &Names,
+    lines: &[&str],
+    plain: bool,
+) -> Result<(), NoMemory> {
+    for line in lines {
+        event_is_read(rt, names, line, plain)?;
     }
-    for line in NO_WIRE {
-        no_event_is_read(&rt, &names, line, false)?;
+    Ok(())
+}
+
+fn no_events_are_read(
+    rt: &(impl AllocGlobal + Abort),
+    names: &Names,
+    lines: &[&str],
+    plain: bool,
+) -> Result<(), NoMemory> {
+    for line in lines {
+        no_event_is_read(rt, names, line, plain)?;
     }
     Ok(())
 }
 
 #[test]
+fn wire_events_are_read(rt: HostRuntime) -> Result<(), NoMemory> {
+    events_of_lines(&rt, WIRE, NO_WIRE, false)
+}
+
+#[test]
 fn plain_events_are_read(rt: HostRuntime) -> Result<(), NoMemory> {
-    let names = some_names(rt.alloc())?;
-    for line in PLAIN {
-        event_is_read(&rt, &names, line, true)?;
-    }
-    for line in NO_PLAIN {
-        no_event_is_read(&rt, &names, line, true)?;
-    }
-    Ok(())
+    events_of_lines(&rt, PLAIN, NO_PLAIN, true)
 }
 
 #[test]

@@ -1,4 +1,4 @@
-use Rattle.relay_bench.proofs.turns.run.Given as goal
+use Rattle.relay_bench.proofs.turns.run_rounds.Given as goal
 use Rattle.relay_ports.specs.Memory.{seen_of}
 use Rattle.relay_work.specs.Belonging.{Belongs}
 
