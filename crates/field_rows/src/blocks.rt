@@ -88,29 +88,42 @@ fn is_whole(answer: &Result<FieldList, HpackFault>) -> bool {
 pub fn show_decoded<R: Print + AllocGlobal>(rt: &R, words: &str) -> Result<()> {
     let (mut decoder, blocks) = decoder_of(rt.alloc(), words);
     for word in blocks.split(' ') {
-        let block = block_of(rt.alloc(), word);
-        let answer = decoder.decode(block.as_slice());
-        show_list(rt, &answer)?;
-        if is_whole(&answer) {
-            show_table(rt, &decoder)?;
-        }
+        show_next(rt, &mut decoder, word)?;
     }
     Ok(())
 }
 
-/// Cuts a block short at each place, and prints how many fields are read, or the number of the fault.
+fn show_next<R: Print + AllocGlobal>(rt: &R, decoder: &mut Decoder, word: &str) -> Result<()> {
+    let block = block_of(rt.alloc(), word);
+    let answer = decoder.decode(block.as_slice());
+    show_list(rt, &answer)?;
+    if is_whole(&answer) {
+        show_table(rt, decoder)?;
+    }
+    Ok(())
+}
+
+/// Cuts a block short at each place, and prints how many fields are read, or the number of the fault. A decoder is dropped by a
+/// call, since the check follows a drop without one field by field.
 pub fn show_cuts<R: Print + AllocGlobal>(rt: &R, words: &str) -> Result<()> {
     let (_, word) = decoder_of(rt.alloc(), words);
     let block = block_of(rt.alloc(), word);
     print!(rt; " ")?;
     for cut in 0..block.len() {
-        let (mut decoder, _) = decoder_of(rt.alloc(), words);
-        match decoder.decode(&block.as_slice()[..cut]) {
-            Ok(list) => print!(rt; " {}", list.len())?,
-            Err(fault) => print!(rt; " f{}", fault as u8)?,
-        }
+        show_cut(rt, words, &block.as_slice()[..cut])?;
     }
     println!(rt; "")?;
+    Ok(())
+}
+
+fn show_cut<R: Print + AllocGlobal>(rt: &R, words: &str, block: &[u8]) -> Result<()> {
+    let (mut decoder, _) = decoder_of(rt.alloc(), words);
+    let answer = decoder.decode(block);
+    drop(decoder);
+    match answer {
+        Ok(list) => print!(rt; " {}", list.len())?,
+        Err(fault) => print!(rt; " f{}", fault as u8)?,
+    }
     Ok(())
 }
 

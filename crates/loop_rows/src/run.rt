@@ -42,7 +42,8 @@ pub fn run_case<R: AllocGlobal + Wait>(rt: &R, case: &mut Case, said: &mut Said)
     }
 }
 
-// A configuration, a stage and a core are dropped by a call, since the check follows a drop without one field by field.
+// What is great, as a configuration, a core and connections, is dropped by a call, since the check follows a drop without one field by
+// field.
 fn run_with<R: AllocGlobal + Wait>(rt: &R, config: Config, case: &mut Case, said: &mut Said)
     requires { IsInRange config }
 {
@@ -115,6 +116,7 @@ fn run_worker<R: AllocGlobal + Wait>(
     if begin_journal(&mut stage.journal).is_err() {
         said.line("no first line");
         say_text(&stage.journal, said);
+        drop(wires);
         return;
     }
     let wires = match case.tokens {
@@ -122,6 +124,7 @@ fn run_worker<R: AllocGlobal + Wait>(
         Some(tokens) => run_metered(rt, core, names, stage, wires, tokens, case, said),
     };
     say_whole(rt.alloc(), case, &stage.journal, &wires, said);
+    drop(wires);
 }
 
 fn run_bare<R: AllocGlobal + Wait>(

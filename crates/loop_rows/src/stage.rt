@@ -72,17 +72,43 @@ pub fn stage_of<R: AllocGlobal + Wait>(
     ensures fresh { IfOk result (λ made. IsFresh names.now (seen_of made.1)) }
 {
     let mut script = Script::new(rt.alloc());
-    script.read(names, case.lines.as_slice())?;
+    if script.read(names, case.lines.as_slice()).is_err() {
+        drop(script);
+        return Err(NoMemory);
+    }
+    let made = staged(rt, config, names, &mut script, case);
+    drop(script);
+    made
+}
+
+// The same, where the script was read.
+fn staged<R: AllocGlobal + Wait>(
+    rt: &R,
+    config: &Config,
+    names: &Names,
+    script: &mut Script,
+    case: &mut Case,
+) -> Result<(Stage, MemWires), NoMemory>
+    requires { IsInRange config.now }
+    ensures ready { IfOk result (λ made. IsReady made.0.desk) }
+    ensures fresh { IfOk result (λ made. IsFresh names.now (seen_of made.1)) }
+{
     let journal = journaled(rt.alloc(), case)?;
-    let wires = connected(rt.alloc(), names, &mut script, case)?;
-    let desk = Desk::new(rt, config, &script, case.permits)?;
-    let clock = clock_of(rt.alloc(), script.moments);
+    let desk = Desk::new(rt, config, script, case.permits)?;
+    let moments = mem::replace(&mut script.moments, Vec::new(rt.alloc()));
+    let clock = clock_of(rt.alloc(), moments);
     let stage = Stage {
         desk,
         clock,
         journal,
     };
-    Ok((stage, wires))
+    match connected(rt.alloc(), names, script, case) {
+        Ok(wires) => Ok((stage, wires)),
+        Err(NoMemory) => {
+            drop(stage);
+            Err(NoMemory)
+        }
+    }
 }
 
 impl Desk {

@@ -7,6 +7,7 @@ mod stopwatch;
 mod turns;
 
 use std::env;
+use std::time::CpuClock;
 
 const USAGE: &str = "usage: relay_bench BENCH
   octets  1 GiB through one pair in reads of 16,384 octets, beside two plain copies
@@ -17,11 +18,27 @@ const USAGE: &str = "usage: relay_bench BENCH
 fn main(rt: HostRuntime) -> anyhow::Result<()> {
     let mut words = env::args(&rt)?;
     let _program = words.next();
-    match words.next() {
-        Some(word) if word.as_str() == "octets" => octets::run(&rt)?,
-        Some(word) if word.as_str() == "turns" => turns::run(&rt)?,
-        Some(word) if word.as_str() == "pairs" => pairs::run(&rt, words.next())?,
-        Some(_) | None => rt.print(USAGE)?,
+    let Some(bench) = words.next() else {
+        return usage(&rt);
+    };
+    let word = words.next();
+    run(&rt, bench.as_str(), word)
+}
+
+fn run(
+    rt: &(impl AllocGlobal + Print + CpuClock),
+    bench: &str,
+    word: Option<String>,
+) -> anyhow::Result<()> {
+    match bench {
+        "octets" => octets::run(rt),
+        "turns" => turns::run(rt),
+        "pairs" => pairs::run(rt, word),
+        _ => usage(rt),
     }
+}
+
+fn usage(rt: &impl Print) -> anyhow::Result<()> {
+    rt.print(USAGE)?;
     Ok(())
 }

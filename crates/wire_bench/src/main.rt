@@ -10,6 +10,7 @@ mod requests;
 mod stopwatch;
 
 use std::env;
+use std::time::CpuClock;
 
 const USAGE: &str = "usage: wire_bench BENCH
   inlet   DATA frames of 16,384 octets that are taken, beside a plain copy of the same octets; small heads that are taken
@@ -21,10 +22,21 @@ fn main(rt: HostRuntime) -> anyhow::Result<()> {
     let mut words = env::args(&rt)?;
     let _program = words.next();
     match words.next() {
-        Some(word) if word.as_str() == "inlet" => inlet::run(&rt)?,
-        Some(word) if word.as_str() == "outlet" => outlet::run(&rt)?,
-        Some(word) if word.as_str() == "heads" => heads::run(&rt)?,
-        Some(_) | None => rt.print(USAGE)?,
+        Some(bench) => run(&rt, bench.as_str()),
+        None => usage(&rt),
     }
+}
+
+fn run(rt: &(impl AllocGlobal + Print + CpuClock), bench: &str) -> anyhow::Result<()> {
+    match bench {
+        "inlet" => inlet::run(rt),
+        "outlet" => outlet::run(rt),
+        "heads" => heads::run(rt),
+        _ => usage(rt),
+    }
+}
+
+fn usage(rt: &impl Print) -> anyhow::Result<()> {
+    rt.print(USAGE)?;
     Ok(())
 }

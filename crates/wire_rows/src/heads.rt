@@ -263,14 +263,23 @@ fn word_of(bodies: &mut Bodies, kind: &str, words: &str, alloc: Global) -> &'sta
     }
 }
 
-/// Prints a case and what its calls answer.
+/// Prints a case and what its calls answer. The configuration is dropped by a call, since the check follows a drop without one field by
+/// field.
 pub fn show(rt: &HostRuntime, line: &str) -> Result<()> {
     let config = routes(rt.alloc())?;
+    let answers = play(rt.alloc(), &config, line);
+    drop(config);
+    answers.print(rt, line)
+}
+
+fn play(alloc: Global, config: &Config, line: &str) -> Answers
+    requires { IsInRange config.now }
+{
     let mut bodies = Bodies::none();
-    let mut answers = Answers::new(rt.alloc());
+    let mut answers = Answers::new(alloc);
     for call in line.split(" ; ").skip(1) {
         answers.begin();
-        answer(&mut answers, &config, &mut bodies, call);
+        answer(&mut answers, config, &mut bodies, call);
     }
-    answers.print(rt, line)
+    answers
 }

@@ -72,8 +72,12 @@ fn timed(alloc: Global, timeouts: TimeoutKeys) -> Option<Clock>
 {
     let mut config = Config::of_defaults(alloc).ok()?;
     config.timeouts = timeouts;
-    let timers = WireTimers::new(alloc, &config).ok()?;
-    Some(Clock { timers, now: 0 })
+    let timers = WireTimers::new(alloc, &config);
+    drop(config);
+    Some(Clock {
+        timers: timers.ok()?,
+        now: 0,
+    })
 }
 
 fn kind_of(word: &str) -> FireKind {
