@@ -103,7 +103,7 @@ impl Exchanges {
         self.metered.reserve(self.live.len() + 1)?;
         self.spares.ready()?;
         let exchange = Exchange::new(self.alloc, &mut self.spares, number, spec, config)?;
-        self.live.insert(number, exchange)?;
+        drop(self.live.insert(number, exchange)?);
         self.last = number;
         self.time = spec.now;
         Ok(number)

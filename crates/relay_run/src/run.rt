@@ -32,13 +32,13 @@ pub fn run_relay<S: Source, K: Sink>(
     ensures read_fault { result.status ≡ Status.ReadFault → Rose (S.faults session.old) (S.faults session.new) }
     ensures write_fault { result.status ≡ Status.WriteFault → Rose (K.faults out.old) (K.faults out.new) }
 {
-    let Ok(play) = RelayPlay::new(alloc, config) else {
+    let Ok(lines) = Lines::new(alloc) else {
         return RelayEnd {
             status: Status::Memory,
             fault: None,
         };
     };
-    let Ok(lines) = Lines::new(alloc) else {
+    let Ok(play) = RelayPlay::new(alloc, config) else {
         return RelayEnd {
             status: Status::Memory,
             fault: None,

@@ -56,7 +56,10 @@ fn run_drill(alloc: Global, streams: u32) -> Result<Tally, NoMemory>
 {
     let mut core = PlainCore::new(alloc, LIMITS)?;
     let mut notes = Notes::new(alloc);
-    run_all(alloc, streams, &mut core, &mut notes)
+    let tally = run_all(alloc, streams, &mut core, &mut notes);
+    drop(core);
+    drop(notes);
+    tally
 }
 
 // Dispatches each event to a core that has had none, and keeps of its notes what the short summary tells.

@@ -83,6 +83,6 @@ fn forget(core: &mut WireCore, number: u32)
     if !core.flows.close_write(number) {
         return;
     }
-    let _ = core.conns.remove(&number);
+    drop(core.conns.remove(&number));
     core.links.forget(number);
 }

@@ -121,7 +121,7 @@ fn open(core: &mut WireCore, number: u32, peer: Peer) -> Result<(), NoMemory>
 {
     core.flows.open_write(number)?;
     let conn = Conn::new(core.alloc, peer, &core.config.limits)?;
-    let _ = core.conns.insert(number, conn)?;
+    drop(core.conns.insert(number, conn)?);
     core.stir(number)
 }
 

@@ -41,15 +41,26 @@ impl WirePlay {
         requires { IsInRange config }
         ensures { IfOk result (λ play. (text : List ℕ) → config_of text ≡ Ok config → Begins wire_kind play text) }
     {
-        let names = names_of(alloc, &config)?;
+        let Ok(names) = names_of(alloc, &config) else {
+            drop(config);
+            return Err(NoMemory);
+        };
         names.known();
         let lines = WireLines::new(alloc, names, config.overload.resources.as_slice().len());
         let log = WireLog::new(alloc, limits_of(&config));
+        let Ok(stages) = StageTable::new(alloc, config.routes.as_slice()) else {
+            drop((config, lines, log));
+            return Err(NoMemory);
+        };
+        let Ok(session) = WireSession::new(alloc, config) else {
+            drop((lines, log, stages));
+            return Err(NoMemory);
+        };
         Ok(WirePlay {
             alloc,
             lines,
-            stages: StageTable::new(alloc, config.routes.as_slice())?,
-            session: WireSession::new(alloc, config)?,
+            session,
+            stages,
             log,
             notes: Notes::new(alloc),
         })

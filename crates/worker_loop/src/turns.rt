@@ -126,14 +126,16 @@ fn take_turn<R: Wait, W: Wires, C: Clock, J: Journal>(
 {
     let tick = Event::Tick { now: clock.now() };
     carry_out(core, permits, seat, held, wires, journal, names, pad, &tick)?;
-    let drained = match posts.drain(rt, alloc, pass) {
-        Ok(drained) => drained,
+    drop(tick);
+    let list = match posts.drain(rt, alloc, pass) {
+        Ok(list) => list,
         Err(NoMemory) => return Err(Ended::Memory),
     };
-    let drained = drained.as_slice();
+    let drained = list.as_slice();
     run_posts(
         core, permits, seat, held, wires, journal, names, pad, drained,
     )?;
+    drop(list);
     let snapshot = match follower.current(rt, alloc) {
         Ok(snapshot) => snapshot,
         Err(NoMemory) => return Err(Ended::Memory),

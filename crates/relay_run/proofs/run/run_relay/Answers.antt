@@ -8,10 +8,10 @@ use Rattle.tcp_relay.proofs.Tracked.{whole}
 use Rattle.relay_run.proofs.run.run_relay.Goals as goal
 
 pub play_all-status-requires : goal.play_all-status-requires
-play_all-status-requires g c = record { run = (c.requires.0, [], [], c.new-run.ensures.run c.requires.0 (c.in-Ok.ensures c.requires.0 c.requires.1)) }
+play_all-status-requires g c = record { run = (c.requires.0, [], [], c.new-run.ensures.run c.requires.0 (c.in-Ok-new.ensures c.requires.0 c.requires.1)) }
 
 pub returns-clause-tape : goal.returns-clause-tape
-returns-clause-tape g c = λ text configured. replays_of whole keeps_promise text _ _ _ _ _ (replayed_by _ _ text _ _ _ _ _ _ _ (c.new-run.ensures.run text (c.in-Ok.ensures text configured)) c.play_all-status.ensures.steps c.finish-status.ensures.finishes)
+returns-clause-tape g c = λ text configured. replays_of whole keeps_promise text _ _ _ _ _ (replayed_by _ _ text _ _ _ _ _ _ _ (c.new-run.ensures.run text (c.in-Ok-new.ensures text configured)) c.play_all-status.ensures.steps c.finish-status.ensures.finishes)
 
 pub returns-clause-read_fault : goal.returns-clause-read_fault
 returns-clause-read_fault g c = read_cause _ (Rose (g.K.Sink.faults c.args.out.now) (g.K.Sink.faults c.play_all-status.new.out)) c.play_all-status.result c.finish-status.result c.play_all-status.ensures.caused c.finish-status.ensures.same
