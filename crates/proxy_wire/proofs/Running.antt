@@ -12,7 +12,8 @@ use Rattle.proxy_wire.specs.Crews.{EachTwo, IsHired, IsIdle, IsPaid, OneFailed, 
 use Rattle.proxy_wire.specs.Runs.{CrewIdle, CrewRan, CrewWorks, WorksAll}
 use Rattle.proxy_wire.specs.Serving.{AllRan, NoneRan, Unused, wire_status}
 use Rattle.proxy_wire.specs.Sites.{TellsFitted, TellsReturned, WireTold, numbered}
-use Rattle.proxy_wire.specs.Working.{WorkerRan, ends_status, has_end, is_fault, is_memory}
+use Rattle.proxy_wire.specs.Working.{EndsSo, WorkerRan, ends_status, is_fault, is_memory}
+use Rattle.proxy_wire.specs.declared.end.LoopEnd.{LoopEnd}
 use Rattle.proxy_wire.specs.declared.end.WireEnd.{WireEnd}
 use Rattle.session_run.specs.Ends.{AppendsFront}
 use Rattle.session_run.specs.declared.status.Status.{Status}
@@ -21,7 +22,7 @@ use Rattle.std.proofs.Common.{Vec, ap, arith, inl, inr, refl, subst, sym, ◌∙
 use Rattle.std.proofs.lemmas.Bool.{false≢true}
 use Rattle.std.proofs.lemmas.List.{get_or-map, length-map, with_items_is}
 use Rattle.std.specs.Io.KnownBytes.{Appends}
-use Rattle.std.specs.List.{All}
+use Rattle.std.specs.List.{All, list_any}
 use Rattle.std.specs.Vec.{with_items}
 use Rattle.std.specs.Prelude.{Bool, List, Option, [], false, if◌then◌else◌, length, map, reverse, slice_index_or, suc, true, ℕ, ◌<◌, ◌||◌, ◌∷◌, ◌≡◌, ◌≤◌, ◌⊎◌}
 use Rattle.worker_loop.specs.declared.ended.Ended.{Ended}
@@ -30,6 +31,7 @@ use Rattle.worker_ports.specs.declared.ports.OpenGate.{OpenGate}
 use Rattle.worker_threads.specs.Starting.{IsReady, Outside, Worked, WorkedEach}
 use Rattle.worker_threads.specs.declared.worker.Shared.{Shared}
 use Rattle.worker_threads.specs.declared.worker.Worker.{Worker}
+use Rattle.proxy_wire.specs.declared.end.LoopEnd.TheVariants as loops
 use Rattle.session_run.specs.declared.status.Status.TheVariants as status
 use Rattle.worker_loop.specs.declared.ended.Ended.TheVariants as ended
 
@@ -38,8 +40,8 @@ pub rose_some : (a b : ℕ) → Rose a b → 0 < b
 rose_some a b (inl less) = omega (arith, less)
 rose_some a b (inr end) = omega (arith, end)
 
-by_fault : (ends : List Ended) → ends_status ends ≡ status.WriteFault → has_end is_fault ends ≡ true
-by_fault ends e = by (has_end is_fault ends) (has_end is_memory ends) e
+by_fault : (ends : List Ended) → ends_status ends ≡ status.WriteFault → list_any is_fault ends ≡ true
+by_fault ends e = by (list_any is_fault ends) (list_any is_memory ends) e
   where
     by : (b c : Bool) → (if b then status.WriteFault else if c then status.Memory else status.Done) ≡ status.WriteFault → b ≡ true
     by true c e = refl
@@ -55,11 +57,11 @@ record FaultAt (ends : List Ended) : Type 0 where
 fault_later : (x : Ended) (xs : List Ended) → FaultAt xs → FaultAt (x ∷ xs)
 fault_later x xs f = record { place = suc f.place; least = (let l = f.least in omega (arith, l)); is = f.is }
 
-fault_by : (x : Ended) (xs : List Ended) (b : Bool) → (has_end is_fault xs ≡ true → FaultAt xs) → is_fault x ≡ b → (b || has_end is_fault xs) ≡ true → FaultAt (x ∷ xs)
+fault_by : (x : Ended) (xs : List Ended) (b : Bool) → (list_any is_fault xs ≡ true → FaultAt xs) → is_fault x ≡ b → (b || list_any is_fault xs) ≡ true → FaultAt (x ∷ xs)
 fault_by x xs true later t r = record { place = 0; least = omega arith; is = λ d. t }
 fault_by x xs false later t r = fault_later x xs (later r)
 
-fault_at : (ends : List Ended) → has_end is_fault ends ≡ true → FaultAt ends
+fault_at : (ends : List Ended) → list_any is_fault ends ≡ true → FaultAt ends
 fault_at [] e = absurd (false≢true e)
 fault_at (x ∷ xs) e = fault_by x xs (is_fault x) (λ r. fault_at xs r) refl e
 
@@ -87,6 +89,15 @@ module _ {M C L : Type 0} (o : Outside M C L) where
             least = omega (arith, there, same);
             failed = λ w. worked_fault shared f.place n (slice_index_or old f.place w) (slice_index_or ends f.place d) (slice_index_or new f.place w) (each.each f.place w d there) (f.is d);
           }
+
+  -- a fault of the site's rounds, or of one worker
+  pub ran_cause : (shared : Shared) (n : ℕ) (old new : List (Worker M C OpenGate L)) (ends : List Ended) (led : LoopEnd) (how : Status) (a b x y : ℕ) → WorkedEach o shared n old ends new
+      → (how ≡ status.WriteFault → (led ≡ loops.Round) ⊎ (ends_status ends ≡ status.WriteFault)) → (led ≡ loops.Round → Rose a b) → how ≡ status.WriteFault → (Rose a b ⊎ Rose x y) ⊎ OneFailed o new
+  ran_cause shared n old new ends led how a b x y each cause failed e = by (cause e)
+    where
+      by : (led ≡ loops.Round) ⊎ (ends_status ends ≡ status.WriteFault) → (Rose a b ⊎ Rose x y) ⊎ OneFailed o new
+      by (inl round) = inl (inl (failed round))
+      by (inr fault) = inr (ran_fault shared n old new ends each fault)
 
   pub ran_paid : (shared : Shared) (n : ℕ) (old new : List (Worker M C OpenGate L)) (ends : List Ended) → WorkedEach o shared n old ends new → All (IsPaid shared.permits) new
   ran_paid shared n old new ends each i w less =
@@ -221,7 +232,7 @@ module _ {M C L : Type 0} (o : Outside M C L) where
   pub works_none : (shared : Shared) (n : ℕ) (address : List ℕ) (old new : List (Worker M C OpenGate L)) (out out' : Option (List ℕ)) (end : WireEnd) → new ≡ old → AppendsFront out out' (listening_line address) → IsCutShort (wire_status end) → WorksAll o shared n address old new out out' end
   works_none shared n address old new out out' end same line cut = inl (record { same = same; line = line; cut = cut })
 
-  pub works_each : (shared : Shared) (n : ℕ) (address : List ℕ) (old new : List (Worker M C OpenGate L)) (ends : List Ended) (out out' : Option (List ℕ)) (end : WireEnd) → wire_status end ≡ ends_status ends → Appends out out' (listening_line address) → WorkedEach o shared n old ends new
+  pub works_each : (shared : Shared) (n : ℕ) (address : List ℕ) (old new : List (Worker M C OpenGate L)) (ends : List Ended) (out out' : Option (List ℕ)) (end : WireEnd) → EndsSo (wire_status end) ends → Appends out out' (listening_line address) → WorkedEach o shared n old ends new
       → WorksAll o shared n address old new out out' end
   works_each shared n address old new ends out out' end is line worked = inr (record { ends = ends; status = is; line = line; worked = worked })
 
@@ -243,12 +254,13 @@ module _ {M C L : Type 0} (o : Outside M C L) where
   pub lent_back : {Z : Type 0} (v : Vec (Worker M C OpenGate L) Z) (shared : Shared) (n : ℕ) (address : List ℕ) (first mid : List (Worker M C OpenGate L)) (out out' : Option (List ℕ)) (end : WireEnd) → length first ≡ v.len → WorksAll o shared n address first mid out out' end → (with_items v mid).items ≡ mid
   lent_back v shared n address first mid out out' end len works = with_items_is v mid (works_same shared n address first mid out out' end works ∙ len)
 
-  -- and a fault of one is one there
-  pub cause_back : (how : Status) (a b x y : ℕ) (last mid : List (Worker M C OpenGate L)) → last ≡ mid → (how ≡ status.WriteFault → Rose x y ⊎ OneFailed o mid) → how ≡ status.WriteFault → (Rose a b ⊎ Rose x y) ⊎ OneFailed o last
-  cause_back how a b x y last mid e cause f = by (cause f)
+  -- and a fault of one is one there, and one of the site one since before
+  pub cause_back : (how : Status) (a b c x y : ℕ) (last mid : List (Worker M C OpenGate L)) → a ≤ b → last ≡ mid → (how ≡ status.WriteFault → (Rose b c ⊎ Rose x y) ⊎ OneFailed o mid) → how ≡ status.WriteFault → (Rose a c ⊎ Rose x y) ⊎ OneFailed o last
+  cause_back how a b c x y last mid le e cause f = by (cause f)
     where
-      by : Rose x y ⊎ OneFailed o mid → (Rose a b ⊎ Rose x y) ⊎ OneFailed o last
-      by (inl rose) = inl (inr rose)
+      by : (Rose b c ⊎ Rose x y) ⊎ OneFailed o mid → (Rose a c ⊎ Rose x y) ⊎ OneFailed o last
+      by (inl (inl site)) = inl (inl (rose_before a b c le site))
+      by (inl (inr out)) = inl (inr out)
       by (inr one) = inr (subst (λ (ws : List (Worker M C OpenGate L)). OneFailed o ws) (sym e) one)
 
 module _ {W M C L : Type 0} (bare : M → W) (o : Outside M C L) where

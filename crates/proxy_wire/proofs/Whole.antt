@@ -7,12 +7,13 @@ use Rattle.proxy_site.proofs.Ending.{not_usage}
 use Rattle.proxy_site.specs.Relaying.{SiteOrOut}
 use Rattle.proxy_site.specs.Serving.{TellsEnd, end_status}
 use Rattle.proxy_wire.specs.Serving.{ServesConfig, wire_status}
-use Rattle.proxy_wire.specs.Working.{has_end, is_fault, is_memory}
+use Rattle.proxy_wire.specs.Working.{is_fault, is_memory, is_stopped}
 use Rattle.proxy_wire.specs.declared.end.WireEnd.{WireEnd}
 use Rattle.session_config.specs.Loading.{CausesFault, IsWhole, ReadsAs, ReadsWhole, StopsAs}
 use Rattle.session_config.specs.declared.load.ConfigEnd.{ConfigEnd}
 use Rattle.session_run.specs.declared.status.Status.{Status}
 use Rattle.std.proofs.Common.{ap, arith, inl, inr, refl, subst, sym, ◌∙◌}
+use Rattle.std.specs.List.{list_any}
 use Rattle.std.specs.Prelude.{Bool, Err, List, Ok, Option, Result, false, if◌then◌else◌, length, true, ℕ, ◌<◌, ◌^◌, ◌≡◌, ◌≢◌, ◌≤◌, ◌⊎◌}
 use Rattle.proxy_config.specs.declared.fault.ConfigFault.TheVariants as faults
 use Rattle.proxy_wire.specs.declared.end.WireEnd.TheVariants as ends
@@ -112,13 +113,20 @@ module _ (how : Status) (no_write : status.WriteFault ≡ how → ⊥) (no_memor
   ends_other false true e = no_memory e
   ends_other false false e = no_done e
 
+  threads_other : (f s m : Bool) → (if f then status.WriteFault else if s then status.Memory else if f then status.WriteFault else if m then status.Memory else status.Done) ≡ how → ⊥
+  threads_other true s m e = no_write e
+  threads_other false true m e = no_memory e
+  threads_other false false m e = ends_other false m e
+
   wire_other : (e : WireEnd) → wire_status e ≡ how → ⊥
   wire_other ends.Listen e = no_write e
   wire_other ends.Fit e = no_write e
   wire_other ends.JournalHead e = no_write e
   wire_other ends.Write e = no_write e
   wire_other ends.Memory e = no_memory e
-  wire_other (ends.Workers all) e = ends_other (has_end is_fault all.items) (has_end is_memory all.items) e
+  wire_other (ends.Workers all) e = ends_other (list_any is_fault all.items) (list_any is_memory all.items) e
+  wire_other (ends.Round all) e = no_write e
+  wire_other (ends.Threads all) e = threads_other (list_any is_fault all.items) (list_any is_stopped all.items) (list_any is_memory all.items) e
 
 pub wire_no_usage : (e : WireEnd) (how : Status) → how ≡ wire_status e → how ≡ status.Usage → ⊥
 wire_no_usage e how is u = wire_other status.Usage (λ i. cc) (λ i. cc) (λ i. cc) e (sym is ∙ u)

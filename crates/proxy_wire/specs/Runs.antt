@@ -5,7 +5,7 @@ use Rattle.proxy_wire.specs.Crews.{EachTwo, IsHired, SharesOf}
 use Rattle.proxy_wire.specs.Hires.{HiresSome}
 use Rattle.proxy_wire.specs.Serving.{wire_status}
 use Rattle.proxy_wire.specs.Sites.{TellsFitted, WireTold, numbered}
-use Rattle.proxy_wire.specs.Working.{ends_status}
+use Rattle.proxy_wire.specs.Working.{EndsSo}
 use Rattle.proxy_wire.specs.declared.end.WireEnd.{WireEnd}
 use Rattle.session_run.specs.Ends.{AppendsFront}
 use Rattle.std.specs.Io.KnownBytes.{Appends}
@@ -26,7 +26,7 @@ module _ {M C L : Type 0} (o : Outside M C L) where
   -- each did one work, and the line was written
   pub record WorksEach (shared : Shared) (n : ℕ) (address : List ℕ) (old new : List (Worker M C OpenGate L)) (out_old out_new : Option (List ℕ)) (end : WireEnd) : Type 0 where
     pub ends : List Ended
-    pub status : wire_status end ≡ ends_status ends
+    pub status : EndsSo (wire_status end) ends
     pub line : Appends out_old out_new (listening_line address)
     pub worked : WorkedEach o shared n old ends new
 

@@ -11,6 +11,7 @@ use proxy_config::{Config, read_config};
 use session_config::names_of;
 use shared_state::{Follower, Followers, PermitSeat, PermitSeats, Permits};
 use std::alloc::Global;
+use std::sync::atomic::{AtomicBool, AtomicU32};
 use worker_core::Core;
 use worker_ports::OpenGate;
 use worker_threads::{Shared, Worker};
@@ -50,6 +51,8 @@ pub(crate) fn share(alloc: Global, config: &Config) -> Result<(Shared, PermitSea
         posts: Vec::new(alloc),
         permits,
         names: names_of(alloc, config)?,
+        begun: AtomicU32::new(0),
+        over: AtomicBool::new(false),
     };
     Ok((shared, seats))
 }

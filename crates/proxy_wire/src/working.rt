@@ -25,7 +25,6 @@ use proxy_config::Config;
 use session_run::write_all;
 use std::alloc::Global;
 use std::sync::Wait;
-use std::sync::atomic::AtomicBool;
 use std::thread::Threads;
 use std::time::Clock;
 use worker_ports::{Gauge, OpenGate};
@@ -152,7 +151,7 @@ where
 }
 
 // Runs workers that are fitted, once it is told where the proxy listens.
-#[tactic(auto, using(crate::proofs::Running::works_none, crate::proofs::Running::works_each))]
+#[tactic(auto, using(crate::proofs::Running::works_none, crate::proofs::Running::works_each, crate::proofs::Running::ran_cause))]
 fn work_all<R, T, M, G, K>(
     rt: &R,
     alloc: Global,
@@ -179,7 +178,7 @@ where
     requires ready { (i : ℕ) (w : _) → i < length workers.old → IsReady (record { seen = M.Metered.seen; moments = T.C.moments; text = T.L.contents; told = T.L.told; wires_faults = M.Metered.faults; journal_faults = T.L.faults }) shared.now i (slice_index_or workers.old i w) }
     requires leads { Leads shared.now.posts.items leader.old }
     ensures works { WorksAll (record { seen = M.Metered.seen; moments = T.C.moments; text = T.L.contents; told = T.L.told; wires_faults = M.Metered.faults; journal_faults = T.L.faults }) shared.now turns address.now workers.old workers.new (K.contents out.old) (K.contents out.new) result }
-    ensures cause { wire_status result ≡ status.WriteFault → Rose (K.faults out.old) (K.faults out.new) ⊎ OneFailed (record { seen = M.Metered.seen; moments = T.C.moments; text = T.L.contents; told = T.L.told; wires_faults = M.Metered.faults; journal_faults = T.L.faults }) workers.new }
+    ensures cause { wire_status result ≡ status.WriteFault → (Rose (T.faults site.old) (T.faults site.new) ⊎ Rose (K.faults out.old) (K.faults out.new)) ⊎ OneFailed (record { seen = M.Metered.seen; moments = T.C.moments; text = T.L.contents; told = T.L.told; wires_faults = M.Metered.faults; journal_faults = T.L.faults }) workers.new }
     ensures wired { T.wired site.new ≡ T.wired site.old }
     ensures told { T.told site.new ≡ T.told site.old }
     ensures no_fall { (T.faults site.old ≤ T.faults site.new) × (K.faults out.old ≤ K.faults out.new) }
@@ -189,12 +188,11 @@ where
     }
     leader.look(rt, alloc, config, gauge, shared.posts.as_slice());
     meter.put(config.proxy.accept_rate);
-    let done = AtomicBool::new(false);
-    let ends = run_beside(
-        rt, alloc, config, turns, shared, &done, leader, meter, site, gauge, workers,
+    let (ends, led) = run_beside(
+        rt, alloc, config, turns, shared, leader, meter, site, gauge, workers,
     );
     match ends {
-        Ok(ends) => WireEnd::Workers(ends),
+        Ok(ends) => WireEnd::of(led, ends),
         Err(NoMemory) => WireEnd::Memory,
     }
 }

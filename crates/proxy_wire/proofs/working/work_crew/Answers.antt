@@ -25,7 +25,7 @@ returns-in-Err-clause-few g c = len_few c.hire_all.new.crew.workers _ (idle_few 
 pub returns-in-Ok-clause-cause : goal.returns-in-Ok-clause-cause
 returns-in-Ok-clause-cause g c =
     let back = lent_back _ c.hire_all.new.crew.workers c.hire_all.new.crew.shared c.args.turns c.args.address.now c.as_mut_slice.result.now c.work_all.new.workers _ _ c.work_all.result c.as_mut_slice.ensures.len c.work_all.ensures.works in
-    cause_back _ _ _ _ _ _ _ c.work_all.new.workers back c.work_all.ensures.cause
+    cause_back _ _ _ _ _ _ _ _ c.work_all.new.workers c.hire_all.ensures.no_fall back c.work_all.ensures.cause
 
 pub returns-in-Err-clause-works : goal.returns-in-Err-clause-works
 returns-in-Err-clause-works g c = none_hired g.M.Meter.bare _ c.args.config.now c.args.turns c.args.address.now c.hire_all.new.crew.shared _ _ c.hire_all.new.crew.workers.items _ _ c.in-Err.end c.hire_all.ensures.some refl c.in-Err.ensures.cut
