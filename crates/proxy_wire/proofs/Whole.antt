@@ -1,5 +1,6 @@
 -- The configuration was read whole, or there is none.
 use Rattle.io_ports.specs.Faults.{Rose}
+use Rattle.proxy_config.specs.Ranges.{IsInRange}
 use Rattle.proxy_config.specs.Reading.{config_of}
 use Rattle.proxy_config.specs.declared.config.Config.{Config}
 use Rattle.proxy_config.specs.declared.fault.ConfigFault.{ConfigFault}
@@ -7,8 +8,10 @@ use Rattle.proxy_site.proofs.Ending.{not_usage}
 use Rattle.proxy_site.specs.Relaying.{SiteOrOut}
 use Rattle.proxy_site.specs.Serving.{TellsEnd, end_status}
 use Rattle.proxy_wire.specs.Serving.{ServesConfig, wire_status}
+use Rattle.proxy_wire.specs.Tasks.{IsTask}
 use Rattle.proxy_wire.specs.Working.{is_fault, is_memory, is_stopped}
 use Rattle.proxy_wire.specs.declared.end.WireEnd.{WireEnd}
+use Rattle.proxy_wire.specs.declared.task.Task.{Task}
 use Rattle.session_config.specs.Loading.{CausesFault, IsWhole, ReadsAs, ReadsWhole, StopsAs}
 use Rattle.session_config.specs.declared.load.ConfigEnd.{ConfigEnd}
 use Rattle.session_run.specs.declared.status.Status.{Status}
@@ -77,6 +80,9 @@ short_text l l' r all e reads =
     let most : length k.text ≤ 1048576 = k.is.0.1 in
     let same : length all ≡ length k.text = ap (λ (v : List ℕ). length v) k.is.1 in
     omega (arith, most, same)
+
+pub is_task : (task : Task) → IsInRange task.config.now → config_of task.text.now ≡ Ok task.config.now → length task.text.now < 2 ^ 32 → IsTask task
+is_task task in_range is short = record { in_range = in_range; is = is; short = short }
 
 -- ---- why it ended
 end_fault : (stop : ConfigEnd) → end_status stop ≡ status.ReadFault → stop ≡ end.ReadFault

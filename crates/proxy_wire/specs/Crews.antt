@@ -2,12 +2,13 @@
 use Rattle.proxy_config.specs.declared.config.Config.{Config}
 use Rattle.proxy_wire.specs.Working.{Begins}
 use Rattle.proxy_wire.specs.declared.crew.Crew.{Crew}
+use Rattle.proxy_wire.specs.declared.crew.Staff.{Staff}
 use Rattle.session_config.specs.ClusterNames.{names_in}
 use Rattle.session_run.specs.Ends.{AppendsFront}
-use Rattle.shared_state.specs.PermitSeats.{IsSeatOf}
+use Rattle.shared_state.specs.PermitSeats.{IsSeatOf, seats_in}
 use Rattle.shared_state.specs.declared.permits.Permits.{Permits}
 use Rattle.std.specs.Io.KnownBytes.{Appends}
-use Rattle.std.specs.Prelude.{List, [], length, slice_index_or, ℕ, ◌<◌, ◌≡◌, ◌⊎◌}
+use Rattle.std.specs.Prelude.{All, List, [], length, slice_index_or, vec_len, ℕ, ◌<◌, ◌≡◌, ◌⊎◌}
 use Rattle.worker_ports.specs.declared.ports.OpenGate.{OpenGate}
 use Rattle.worker_threads.specs.Starting.{IsRunnerAt, Outside}
 use Rattle.worker_threads.specs.declared.worker.Shared.{Shared}
@@ -22,6 +23,12 @@ pub record EachTwo {A B : Type 0} (P : ℕ → A → B → Type 0) (xs : List A)
 pub record SharesOf (config : Config) (shared : Shared) : Type 0 where
   pub permits : shared.permits.max ≡ config.proxy.max_connections
   pub names : shared.names ≡ names_in config
+
+-- there is no box yet, and the seats are of the permits
+pub record IsStaff {M : Type 0} (config : Config) (staff : Staff M) : Type 0 where
+  pub shares : SharesOf config staff.shared
+  pub none : vec_len staff.shared.posts ≡ 0
+  pub seats : All (IsSeatOf staff.shared.permits) (seats_in staff.supply.seats)
 
 module _ {W M C L : Type 0} (bare : M → W) (o : Outside M C L) where
   -- the worker at this place may run

@@ -3,14 +3,14 @@ ghost use Rattle.std.specs.Prelude.{IfOk, OnErr, length, slice_index_or, ℕ, �
 ghost use Rattle.io_ports.specs.Faults.{Rose};
 ghost use Rattle.proxy_wire.specs.Lent.{AcceptsLent, LeavesLent};
 ghost use Rattle.proxy_wire.specs.Leading.{Leads};
-ghost use Rattle.worker_threads.specs.Starting.{IsReady, WorkedEach};
+ghost use Rattle.worker_threads.specs.Starting.{IsReady, WorkedEach, outside_of};
 
 use crate::end::LoopEnd;
 use crate::leading::{Leader, lead};
 use crate::meter::Tokens;
 use crate::site::WireSite;
+use crate::task::Task;
 use io_ports::NoMemory;
-use proxy_config::Config;
 use std::alloc::Global;
 use std::sync::Wait;
 use std::sync::atomic::Ordering;
@@ -25,8 +25,7 @@ use worker_threads::{Shared, Worker, start_workers};
 pub(crate) fn run_beside<R, W, C, L, T, P, G>(
     rt: &R,
     alloc: Global,
-    config: &Config,
-    turns: u64,
+    task: &Task<'_>,
     shared: &Shared,
     leader: &mut Leader,
     tokens: &mut P,
@@ -42,22 +41,23 @@ where
     T: WireSite,
     P: Tokens,
     G: Gauge,
-    requires ready { (i : ℕ) (w : _) → i < length workers.old → IsReady (record { seen = W.seen; moments = C.moments; text = L.contents; told = L.told; wires_faults = W.faults; journal_faults = L.faults }) shared.now i (slice_index_or workers.old i w) }
+    requires ready { (i : ℕ) (w : _) → i < length workers.old → IsReady (outside_of W.Wires C.moments L.contents L.told L.faults) shared.now i (slice_index_or workers.old i w) }
     requires leads { Leads shared.now.posts.items leader.old }
-    ensures ok { IfOk result.0 (λ ends. WorkedEach (record { seen = W.seen; moments = C.moments; text = L.contents; told = L.told; wires_faults = W.faults; journal_faults = L.faults }) shared.now turns workers.old ends.items workers.new) }
+    ensures ok { IfOk result.0 (λ ends. WorkedEach (outside_of W.Wires C.moments L.contents L.told L.faults) shared.now task.now.turns workers.old ends.items workers.new) }
     ensures err { OnErr result.0 (workers.new ≡ workers.old) }
     ensures failed { result.1 ≡ LoopEnd.Round → Rose (T.faults site.old) (T.faults site.new) }
     ensures wired { T.wired site.new ≡ T.wired site.old }
     ensures told { T.told site.new ≡ T.told site.old }
     ensures no_fall { T.faults site.old ≤ T.faults site.new }
 {
+    let turns = task.turns;
     lend(
         rt,
         alloc,
-        config,
+        task,
         shared,
         &|lent: &mut [Worker<W, C, OpenGate, L>]|
-            requires { (i : ℕ) (w : _) → i < length lent.now → IsReady (record { seen = W.seen; moments = C.moments; text = L.contents; told = L.told; wires_faults = W.faults; journal_faults = L.faults }) shared.now i (slice_index_or lent.now i w) }
+            requires { (i : ℕ) (w : _) → i < length lent.now → IsReady (outside_of W.Wires C.moments L.contents L.told L.faults) shared.now i (slice_index_or lent.now i w) }
         { run_out(rt, alloc, shared, turns, lent) },
         leader,
         tokens,
@@ -73,7 +73,7 @@ where
 fn lend<R, V, T, P, G, F>(
     rt: &R,
     alloc: Global,
-    config: &Config,
+    task: &Task<'_>,
     shared: &Shared,
     run: &F,
     leader: &mut Leader,
@@ -101,7 +101,7 @@ where
         requires { AcceptsLent F.Fn run.now workers.now }
         ensures { LeavesLent F.Fn run.entry.now workers.entry.now result workers.exit.now }
     { call(run, workers) };
-    let mut guide = || lead(rt, alloc, config, shared, leader, tokens, site, gauge);
+    let mut guide = || lead(rt, alloc, task, shared, leader, tokens, site, gauge);
     join_mut(rt, &mut work, &mut guide)
 }
 
@@ -129,8 +129,8 @@ where
     W: Wires + Send,
     C: Clock + Send,
     L: Journal + Send,
-    requires ready { (i : ℕ) (w : _) → i < length workers.old → IsReady (record { seen = W.seen; moments = C.moments; text = L.contents; told = L.told; wires_faults = W.faults; journal_faults = L.faults }) shared.now i (slice_index_or workers.old i w) }
-    ensures ok { IfOk result (λ ends. WorkedEach (record { seen = W.seen; moments = C.moments; text = L.contents; told = L.told; wires_faults = W.faults; journal_faults = L.faults }) shared.now turns workers.old ends.items workers.new) }
+    requires ready { (i : ℕ) (w : _) → i < length workers.old → IsReady (outside_of W.Wires C.moments L.contents L.told L.faults) shared.now i (slice_index_or workers.old i w) }
+    ensures ok { IfOk result (λ ends. WorkedEach (outside_of W.Wires C.moments L.contents L.told L.faults) shared.now turns workers.old ends.items workers.new) }
     ensures err { OnErr result (workers.new ≡ workers.old) }
 {
     let ends = start_workers(rt, alloc, shared, workers, turns);

@@ -1,11 +1,11 @@
 // The workers of the proxy, and what they are made of.
-ghost use Rattle.std.specs.Prelude.{[], All, IfOk, length, vec_len, ◌≡◌};
+ghost use Rattle.std.specs.Prelude.{[], All, IfOk, length, vec_len, ◌<◌, ◌^◌, ◌≡◌};
 ghost use Rattle.proxy_config.specs.Ranges.{IsInRange};
 ghost use Rattle.proxy_wire.specs.Crews.{SharesOf};
 ghost use Rattle.shared_state.specs.PermitSeats.{IsSeatOf, seats_in};
-ghost use Rattle.std.specs.Prelude.{◌<◌, ◌^◌};
 ghost use Rattle.worker_core.specs.Sessions.{RestsWire};
 
+use crate::meter::Unmetered;
 use io_ports::NoMemory;
 use proxy_config::{Config, read_config};
 use session_config::names_of;
@@ -22,11 +22,19 @@ pub(crate) struct Crew<M, C, L> {
     pub shared: Shared,
 }
 
-/// What is given out to workers.
+/// What workers share, and what is given out to them.
 #[derive(Drop)]
-pub(crate) struct Supply {
+pub(crate) struct Staff<M> {
+    pub shared: Shared,
+    pub supply: Supply<M>,
+}
+
+/// What is given out to workers: followers, seats of permits, and of a meter the rights to have connections.
+#[derive(Drop)]
+pub(crate) struct Supply<M> {
     pub followers: Followers,
     pub seats: PermitSeats,
+    pub meter: M,
 }
 
 /// What a worker is made of.
@@ -57,7 +65,28 @@ pub(crate) fn share(alloc: Global, config: &Config) -> Result<(Shared, PermitSea
     Ok((shared, seats))
 }
 
-impl Supply {
+/// The same staff, with a meter.
+pub(crate) fn metered<M>(staff: Staff<Unmetered>, meter: M) -> Staff<M>
+    ensures shared { result.shared ≡ staff.shared }
+    ensures seats { result.supply.seats ≡ staff.supply.seats }
+{
+    let Staff { shared, supply } = staff;
+    let Supply {
+        followers,
+        seats,
+        meter: _unmetered,
+    } = supply;
+    Staff {
+        shared,
+        supply: Supply {
+            followers,
+            seats,
+            meter,
+        },
+    }
+}
+
+impl<M> Supply<M> {
     /// What one worker more is made of. Its core is made for the configuration of this text.
     pub fn take(&mut self, alloc: Global, text: &[u8], permits: &Permits) -> Result<Parts, NoMemory>
         requires text { length text.now < 2 ^ 32 }

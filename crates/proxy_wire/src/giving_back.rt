@@ -3,6 +3,7 @@ ghost use Rattle.std.specs.Prelude.{All, [], map, reverse, vec_len, ◌<◌, ◌
 ghost use Rattle.io_ports.specs.Faults.{Rose};
 ghost use Rattle.proxy_wire.specs.Crews.{IsPaid, OneFailed, back_of};
 ghost use Rattle.proxy_wire.specs.Sites.{TellsReturned, numbered};
+ghost use Rattle.worker_threads.specs.Starting.{outside_of};
 
 use crate::meter::Meter;
 use crate::site::WireSite;
@@ -20,7 +21,7 @@ pub(crate) fn give_back_all<T: WireSite, M: Meter<T::W>>(
     requires paid { All (IsPaid permits.now) workers.items }
     ensures wired { TellsReturned (T.wired site.old) (reverse (numbered 1 (map (back_of M.bare) workers.items))) (T.wired site.new) }
     ensures told { T.told site.new ≡ T.told site.old }
-    ensures count { OneFailed (record { seen = M.Metered.seen; moments = T.C.moments; text = T.L.contents; told = T.L.told; wires_faults = M.Metered.faults; journal_faults = T.L.faults }) workers.items → Rose (T.faults site.old) (T.faults site.new) }
+    ensures count { OneFailed (outside_of M.Metered.Wires T.C.moments T.L.contents T.L.told T.L.faults) workers.items → Rose (T.faults site.old) (T.faults site.new) }
     ensures no_fall { T.faults site.old ≤ T.faults site.new }
 {
     while let Some(worker) = workers.pop() {

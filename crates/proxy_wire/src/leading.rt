@@ -7,6 +7,7 @@ ghost use Rattle.proxy_wire.specs.Leading.{Accepts, ArePosters, Leads};
 use crate::end::LoopEnd;
 use crate::meter::Tokens;
 use crate::site::WireSite;
+use crate::task::Task;
 use flow_notes::Job;
 use io_ports::{Failed, NoMemory, PressureList};
 use overload_core::{action_states, is_saturated};
@@ -113,7 +114,7 @@ impl Leader {
 pub(crate) fn lead<R: Wait + Clock, T: WireSite, P: Tokens, G: Gauge>(
     rt: &R,
     alloc: Global,
-    config: &Config,
+    task: &Task<'_>,
     shared: &Shared,
     leader: &mut Leader,
     tokens: &mut P,
@@ -127,7 +128,7 @@ pub(crate) fn lead<R: Wait + Clock, T: WireSite, P: Tokens, G: Gauge>(
     ensures failed { result ≡ LoopEnd.Round → Rose (T.faults site.old) (T.faults site.new) }
     ensures no_fall { T.faults site.old ≤ T.faults site.new }
 {
-    let end = make_rounds(rt, alloc, config, shared, leader, tokens, site, gauge);
+    let end = make_rounds(rt, alloc, task, shared, leader, tokens, site, gauge);
     site.stop();
     end
 }
@@ -137,7 +138,7 @@ pub(crate) fn lead<R: Wait + Clock, T: WireSite, P: Tokens, G: Gauge>(
 fn make_rounds<R: Wait + Clock, T: WireSite, P: Tokens, G: Gauge>(
     rt: &R,
     alloc: Global,
-    config: &Config,
+    task: &Task<'_>,
     shared: &Shared,
     leader: &mut Leader,
     tokens: &mut P,
@@ -165,8 +166,8 @@ fn make_rounds<R: Wait + Clock, T: WireSite, P: Tokens, G: Gauge>(
             return LoopEnd::Threads;
         }
         if moment >= due {
-            leader.look(rt, alloc, config, gauge, shared.posts.as_slice());
-            tokens.put(config.proxy.accept_rate);
+            leader.look(rt, alloc, task.config, gauge, shared.posts.as_slice());
+            tokens.put(task.config.proxy.accept_rate);
             due = due.saturating_add(PERIOD).max(moment);
         }
     }

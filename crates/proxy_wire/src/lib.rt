@@ -14,10 +14,10 @@ mod metering;
 mod serve;
 mod serving;
 mod site;
+mod task;
 mod working;
 
 pub use end::WireEnd;
 pub use form::{ProxyForm, read_proxy_form};
 pub use serve::{ProxyReason, ProxyServed, serve_proxy};
-pub use serving::serve_wire;
 pub use site::WireSite;

@@ -3,11 +3,12 @@ use Rattle.proxy_wire.specs.Serving.{ServesWire}
 use Rattle.proxy_site.specs.Relaying.{SiteOrOut}
 use Rattle.session_run.specs.declared.status.Status.{Status}
 use Rattle.std.proofs.Common.{subst, sym}
+use Rattle.worker_threads.specs.Starting.{outside_of}
 use Rattle.proxy_wire.proofs.serve.serve_under.Goals as goal
 
 pub returns-clause-serves : goal.returns-clause-serves
 returns-clause-serves g c =
-    let serves : Status → Type 0 = λ how. ServesWire g.T.W.Wires (record { seen = g.T.W.Wires.seen; moments = g.T.C.Clock.moments; text = g.T.L.Sink.contents; told = g.T.L.Journal.told; wires_faults = g.T.W.Wires.faults; journal_faults = g.T.L.Sink.faults }) c.args.config.now c.args.turns
+    let serves : Status → Type 0 = λ how. ServesWire g.T.W.Wires (outside_of g.T.W.Wires g.T.C.Clock.moments g.T.L.Sink.contents g.T.L.Journal.told g.T.L.Sink.faults) c.args.task.now.config.now c.args.task.now.turns
     (g.T.Site.told c.args.site.now) (g.T.Site.told c.serve_wire-end.new.site) (g.T.WireSite.wired c.args.site.now) (g.T.WireSite.wired c.serve_wire-end.new.site) (g.K.Sink.contents c.args.out.now) (g.K.Sink.contents c.serve_wire-end.new.out) how in
     subst serves (sym c.status.ensures) c.serve_wire-end.ensures.serves
 
