@@ -8,7 +8,6 @@ mod form;
 mod giving_back;
 mod hiring;
 mod leading;
-mod loading;
 mod meter;
 mod metering;
 mod serve;

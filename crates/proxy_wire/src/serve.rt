@@ -12,14 +12,13 @@ ghost use Rattle.worker_threads.specs.Starting.{outside_of};
 
 use crate::end::WireEnd;
 use crate::form::{ProxyForm, read_proxy_form};
-use crate::loading::load_text;
 use crate::serving::serve_wire;
 use crate::site::WireSite;
 use crate::task::Task;
 use io_ports::{Sink, Source};
 use proxy_config::{ConfigFault, read_config};
 use proxy_site::{ServeReason, Status, end_at_config, serve_with_reason};
-use session_config::ConfigEnd;
+use session_config::{ConfigEnd, load_text};
 use std::alloc::Global;
 use std::sync::Wait;
 use std::thread::Threads;
