@@ -25,12 +25,9 @@ use post_queue::RunnerPass;
 use proxy_config::Config;
 use std::alloc::Global;
 use worker_loop::HeldPermits;
-use worker_parts::Journal;
+use worker_parts::{Journal, begin_journal};
 use worker_ports::{Clock, OpenGate, Wires};
 use worker_threads::Worker;
-
-/// The first line of a worker's journal.
-const HEAD: &[u8] = b"h2replay-session 1 wire\n";
 
 /// Fits the configuration's workers in their order, each behind the head of its journal, into a crew that has room for them. Those
 /// that were fitted before a refusal stay in the crew.
@@ -155,7 +152,7 @@ fn enlist<W: Wires, C: Clock, L: Journal>(
     ensures shared { crew.new.shared ≡ crew.old.shared }
     ensures room { vec_capacity crew.new.workers ≡ vec_capacity crew.old.workers }
 {
-    let head = journal.line(HEAD);
+    let head = begin_journal(&mut journal);
     let Parts {
         core,
         follower,
