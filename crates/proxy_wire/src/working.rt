@@ -23,6 +23,7 @@ use crate::meter::Meter;
 use crate::site::WireSite;
 use crate::task::Task;
 use io_ports::{Failed, NoMemory, Octets, Sink};
+use proxy_site::put_listening;
 use session_run::write_all;
 use std::alloc::Global;
 use std::sync::Wait;
@@ -190,9 +191,7 @@ fn tell_listening<K: Sink>(alloc: Global, address: &Octets, out: &mut K) -> Resu
     ensures no_fall { K.faults out.old ≤ K.faults out.new }
 {
     let mut line = Octets::new(alloc);
-    line.push_all(b"listening ")?;
-    line.push_all(address.as_slice())?;
-    line.push_all(b"\n")?;
+    put_listening(address.as_slice(), &mut line)?;
     match write_all(out, line.as_slice()) {
         Ok(()) => Ok(()),
         Err(Failed) => Err(WireEnd::Write),
