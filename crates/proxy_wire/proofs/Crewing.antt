@@ -87,10 +87,10 @@ got_left xs ys zs i e less =
 runner_kept : (old new : Shared) (i : ℕ) (pass : RunnerPass) → SharesMore old new → i < length old.posts.items → IsRunnerAt old i pass → IsRunnerAt new i pass
 runner_kept old new i pass more less at box is = at box (sym (got_left old.posts.items more.more new.posts.items i more.boxes less) ∙ is)
 
-module _ {W M C L : Type 0} (bare : M → W) (o : Outside M C L) where
-  front_of : (a b : Option (List ℕ)) (text : List ℕ) → Appends a b text → AppendsFront a b text
-  front_of a b text p = record { front = text; rest = []; is = sym (append-nil text); appends = p }
+pub front_of : (a b : Option (List ℕ)) (text : List ℕ) → Appends a b text → AppendsFront a b text
+front_of a b text p = record { front = text; rest = []; is = sym (append-nil text); appends = p }
 
+module _ {W M C L : Type 0} (bare : M → W) (o : Outside M C L) where
   pub begins_front : (given : W × (C × L)) (w : Worker M C OpenGate L) → Begins bare o Appends given w → Begins bare o AppendsFront given w
   begins_front given w b = record { wires = b.wires; clock = b.clock; head = front_of (o.text given.1.1) (o.text w.journal) header b.head; told = b.told; core = b.core; none = b.none }
 

@@ -1,7 +1,7 @@
 -- The workers ran, or none did.
 use Rattle.io_ports.specs.Faults.{Rose}
 use Rattle.proxy_config.specs.declared.config.Config.{Config}
-use Rattle.proxy_wire.proofs.Crewing.{all_some, crew_ready, idle_paid, some_of}
+use Rattle.proxy_wire.proofs.Crewing.{all_some, crew_ready, front_of, idle_paid, some_of}
 use Rattle.proxy_site.proofs.Relayed.{front_none}
 use Rattle.proxy_site.specs.Relaying.{IsCutShort, SiteOrOut, listening_line}
 use Rattle.proxy_wire.proofs.Returning.{rose_before, rose_on}
@@ -24,7 +24,7 @@ use Rattle.std.proofs.lemmas.List.{get_or-map, length-map, with_items_is}
 use Rattle.std.specs.Io.KnownBytes.{Appends}
 use Rattle.std.specs.List.{All, list_any}
 use Rattle.std.specs.Vec.{with_items}
-use Rattle.std.specs.Prelude.{Bool, List, Option, [], false, if◌then◌else◌, length, map, reverse, slice_index_or, suc, true, ℕ, ◌<◌, ◌||◌, ◌∷◌, ◌≡◌, ◌≤◌, ◌⊎◌}
+use Rattle.std.specs.Prelude.{Bool, Err, IfOk, List, MatchResult, Ok, OnErr, Option, Result, [], false, if◌then◌else◌, length, map, reverse, slice_index_or, suc, true, ℕ, ◌<◌, ◌||◌, ◌∷◌, ◌≡◌, ◌≤◌, ◌⊎◌}
 use Rattle.worker_loop.specs.declared.ended.Ended.{Ended}
 use Rattle.worker_ports.specs.Wires.{Seen}
 use Rattle.worker_ports.specs.declared.ports.OpenGate.{OpenGate}
@@ -89,15 +89,6 @@ module _ {M C L : Type 0} (o : Outside M C L) where
             least = omega (arith, there, same);
             failed = λ w. worked_fault shared f.place n (slice_index_or old f.place w) (slice_index_or ends f.place d) (slice_index_or new f.place w) (each.each f.place w d there) (f.is d);
           }
-
-  -- a fault of the site's rounds, or of one worker
-  pub ran_cause : (shared : Shared) (n : ℕ) (old new : List (Worker M C OpenGate L)) (ends : List Ended) (led : LoopEnd) (how : Status) (a b x y : ℕ) → WorkedEach o shared n old ends new
-      → (how ≡ status.WriteFault → (led ≡ loops.Round) ⊎ (ends_status ends ≡ status.WriteFault)) → (led ≡ loops.Round → Rose a b) → how ≡ status.WriteFault → (Rose a b ⊎ Rose x y) ⊎ OneFailed o new
-  ran_cause shared n old new ends led how a b x y each cause failed e = by (cause e)
-    where
-      by : (led ≡ loops.Round) ⊎ (ends_status ends ≡ status.WriteFault) → (Rose a b ⊎ Rose x y) ⊎ OneFailed o new
-      by (inl round) = inl (inl (failed round))
-      by (inr fault) = inr (ran_fault shared n old new ends each fault)
 
   pub ran_paid : (shared : Shared) (n : ℕ) (old new : List (Worker M C OpenGate L)) (ends : List Ended) → WorkedEach o shared n old ends new → All (IsPaid shared.permits) new
   ran_paid shared n old new ends each i w less =
@@ -232,9 +223,22 @@ module _ {M C L : Type 0} (o : Outside M C L) where
   pub works_none : (shared : Shared) (n : ℕ) (address : List ℕ) (old new : List (Worker M C OpenGate L)) (out out' : Option (List ℕ)) (end : WireEnd) → new ≡ old → AppendsFront out out' (listening_line address) → IsCutShort (wire_status end) → WorksAll o shared n address old new out out' end
   works_none shared n address old new out out' end same line cut = inl (record { same = same; line = line; cut = cut })
 
-  pub works_each : (shared : Shared) (n : ℕ) (address : List ℕ) (old new : List (Worker M C OpenGate L)) (ends : List Ended) (out out' : Option (List ℕ)) (end : WireEnd) → EndsSo (wire_status end) ends → Appends out out' (listening_line address) → WorkedEach o shared n old ends new
-      → WorksAll o shared n address old new out out' end
-  works_each shared n address old new ends out out' end is line worked = inr (record { ends = ends; status = is; line = line; worked = worked })
+-- by what their run answered
+module _ {M C L Z E : Type 0} (o : Outside M C L) where
+  pub works_by : (shared : Shared) (n : ℕ) (address : List ℕ) (old new : List (Worker M C OpenGate L)) (r : Result (Vec Ended Z) E) (out out' : Option (List ℕ)) (end : WireEnd) → Appends out out' (listening_line address)
+      → IfOk r (λ ends. WorkedEach o shared n old ends.items new) → OnErr r (new ≡ old) → MatchResult r (λ ends. EndsSo (wire_status end) ends.items) (λ e. wire_status end ≡ status.Memory) → WorksAll o shared n address old new out out' end
+  works_by shared n address old new (Ok ends) out out' end line worked same so = inr (record { ends = ends.items; status = so; line = line; worked = worked })
+  works_by shared n address old new (Err e) out out' end line worked same so = inl (record { same = same; line = front_of out out' (listening_line address) line; cut = inl so })
+
+  -- a fault is one of the site's rounds, or of one worker
+  pub cause_by : (shared : Shared) (n : ℕ) (old new : List (Worker M C OpenGate L)) (r : Result (Vec Ended Z) E) (led : LoopEnd) (how : Status) (a b x y : ℕ) → IfOk r (λ ends. WorkedEach o shared n old ends.items new)
+      → MatchResult r (λ ends. how ≡ status.WriteFault → (led ≡ loops.Round) ⊎ (ends_status ends.items ≡ status.WriteFault)) (λ e. how ≡ status.Memory) → (led ≡ loops.Round → Rose a b) → how ≡ status.WriteFault → (Rose a b ⊎ Rose x y) ⊎ OneFailed o new
+  cause_by shared n old new (Err e) led how a b x y worked memory failed f = absurd (let i : status.Memory ≡ status.WriteFault = sym memory ∙ f in cc)
+  cause_by shared n old new (Ok ends) led how a b x y worked cause failed f = by (cause f)
+    where
+      by : (led ≡ loops.Round) ⊎ (ends_status ends.items ≡ status.WriteFault) → (Rose a b ⊎ Rose x y) ⊎ OneFailed o new
+      by (inl round) = inl (inl (failed round))
+      by (inr fault) = inr (ran_fault o shared n old new ends.items worked fault)
 
 -- ---- how many they are
 module _ {X Z : Type 0} where

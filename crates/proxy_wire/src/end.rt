@@ -1,6 +1,6 @@
 // How the proxy of HTTP/2 ended.
 ghost use Rattle.std.specs.List.{list_any};
-ghost use Rattle.std.specs.Prelude.{◌≡◌, ◌⊎◌};
+ghost use Rattle.std.specs.Prelude.{MatchResult, ◌≡◌, ◌⊎◌};
 ghost use Rattle.proxy_site.specs.declared.site.SiteRefusal.TheVariants as refusals;
 ghost use Rattle.proxy_wire.specs.declared.end.WireEnd.TheVariants as ends;
 ghost use Rattle.proxy_site.specs.Relaying.{IsCutShort};
@@ -34,7 +34,7 @@ pub enum WireEnd {
 }
 
 /// Why the loop beside the workers ended.
-#[derive(Clone, Copy, Debug, PartialEq, Eq)]
+#[derive(Clone, Copy)]
 pub(crate) enum LoopEnd {
     /// The workers ended, or one of them otherwise than by its turns.
     Workers,
@@ -59,9 +59,9 @@ impl WireEnd {
         }
     }
 
-    /// The workers ended so, and the loop beside them for this reason.
+    // The workers ended so, and the loop beside them for this reason.
     #[tactic(auto, using(crate::proofs::Ending::threads_so, crate::proofs::Ending::threads_fault))]
-    pub(crate) fn of(led: LoopEnd, ends: Vec<Ended>) -> WireEnd
+    fn of(led: LoopEnd, ends: Vec<Ended>) -> WireEnd
         ensures so { EndsSo (wire_status result) ends.items }
         ensures cause { wire_status result ≡ status.WriteFault → (led ≡ LoopEnd.Round) ⊎ (ends_status ends.items ≡ status.WriteFault) }
     {
@@ -78,6 +78,17 @@ impl From<NoMemory> for WireEnd {
 
     fn from(_: NoMemory) -> Self {
         WireEnd::Memory
+    }
+}
+
+/// The workers ended so, or none ran for want of memory, and the loop beside them ended for this reason.
+pub(crate) fn end_of(ends: Result<Vec<Ended>, NoMemory>, led: LoopEnd) -> WireEnd
+    ensures so { MatchResult ends (λ all. EndsSo (wire_status result) all.items) (λ _. wire_status result ≡ status.Memory) }
+    ensures cause { MatchResult ends (λ all. wire_status result ≡ status.WriteFault → (led ≡ LoopEnd.Round) ⊎ (ends_status all.items ≡ status.WriteFault)) (λ _. wire_status result ≡ status.Memory) }
+{
+    match ends {
+        Ok(ends) => WireEnd::of(led, ends),
+        Err(NoMemory) => WireEnd::Memory,
     }
 }
 

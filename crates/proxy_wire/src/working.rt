@@ -15,14 +15,14 @@ ghost use Rattle.worker_threads.specs.Starting.{IsReady, outside_of};
 
 use crate::beside::run_beside;
 use crate::crew::{Crew, Staff, Supply};
-use crate::end::WireEnd;
+use crate::end::{WireEnd, end_of};
 use crate::giving_back::give_back_all;
 use crate::hiring::hire_all;
 use crate::leading::Leader;
 use crate::meter::Meter;
 use crate::site::WireSite;
 use crate::task::Task;
-use io_ports::{Failed, NoMemory, Octets, Sink};
+use io_ports::{Failed, Octets, Sink};
 use proxy_site::put_listening;
 use session_run::write_all;
 use std::alloc::Global;
@@ -140,7 +140,7 @@ where
 }
 
 // Runs workers that are fitted, once it is told where the proxy listens.
-#[tactic(auto, using(crate::proofs::Running::works_none, crate::proofs::Running::works_each, crate::proofs::Running::ran_cause))]
+#[tactic(auto, using(crate::proofs::Running::works_none, crate::proofs::Running::works_by, crate::proofs::Running::cause_by))]
 fn work_all<R, T, M, G, K>(
     rt: &R,
     alloc: Global,
@@ -177,10 +177,7 @@ where
     leader.look(rt, alloc, task.config, gauge, shared.posts.as_slice());
     meter.put(task.config.proxy.accept_rate);
     let (ends, led) = run_beside(rt, alloc, task, shared, leader, meter, site, gauge, workers);
-    match ends {
-        Ok(ends) => WireEnd::of(led, ends),
-        Err(NoMemory) => WireEnd::Memory,
-    }
+    end_of(ends, led)
 }
 
 fn tell_listening<K: Sink>(alloc: Global, address: &Octets, out: &mut K) -> Result<(), WireEnd>
