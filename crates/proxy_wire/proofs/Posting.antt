@@ -1,10 +1,13 @@
 -- Who posts to which box.
+use Rattle.overload_core.specs.ActionStates.{actions_at, is_saturated}
+use Rattle.overload_core.specs.declared.actions.Actions.{Actions}
 use Rattle.post_queue.specs.Clauses.{IsPosterOf}
 use Rattle.post_queue.specs.declared.passes.PosterPass.{PosterPass}
 use Rattle.post_queue.specs.declared.post_box.PostBox.{PostBox}
+use Rattle.proxy_config.specs.declared.config.Config.{Config}
 use Rattle.proxy_wire.proofs.Crewing.{each_more}
 use Rattle.proxy_wire.specs.Crews.{EachTwo}
-use Rattle.proxy_wire.specs.Leading.{ArePosters, Leads}
+use Rattle.proxy_wire.specs.Leading.{Accepts, ArePosters, Leads}
 use Rattle.proxy_wire.specs.declared.leading.Leader.{Leader}
 use Rattle.shared_state.specs.States.{IsSame, resources_of}
 use Rattle.shared_state.specs.declared.publisher.Publisher.{Publisher}
@@ -13,7 +16,7 @@ use Rattle.std.proofs.lemmas.Bool.{cases_order}
 use Rattle.std.proofs.lemmas.Grind.{get_or-set_at}
 use Rattle.std.proofs.lemmas.List.{get_or_default, get_or-set_other, length-replicate, length-set}
 use Rattle.worker_parts.specs.Samples.{AreSampled, replaced}
-use Rattle.std.specs.Prelude.{List, None, Option, Some, [], length, replicate, slice_index_or, suc, ℕ, ◌++◌, ◌<◌, ◌∷◌, ◌≡◌, ◌≢◌, ◌≤◌, ◌⊎◌}
+use Rattle.std.specs.Prelude.{Bool, List, None, Option, Some, [], length, not, replicate, slice_index_or, suc, ℕ, ◌++◌, ◌<◌, ◌∷◌, ◌≡◌, ◌≢◌, ◌≤◌, ◌⊎◌}
 
 as_each : (boxes : List PostBox) (posters : List PosterPass) → ArePosters boxes posters → EachTwo (λ i b p. IsPosterOf b p) boxes posters
 as_each boxes posters a = record { same = a.same; each = a.each }
@@ -79,3 +82,10 @@ looked boxes old new failed leads sampled same posters =
       publishes = record { pressures = l ∙ leads.publishes.pressures ∙ sym (same_resources old.publisher new.publisher same); few = omega (arith, l, few) };
       posters = posters;
     }
+
+-- ---- by the states that follow from what is published
+pub accepts_so : (config : Config) (before : Bool) (leader : Leader) (pressures : List ℕ) (states : Actions) (full : Bool) → full ≡ is_saturated states.stop_accepting → states ≡ actions_at config.overload.triggers pressures → pressures ≡ leader.pressures → leader.accepts ≡ not full
+    → (leader.accepts ≡ before) ⊎ Accepts config leader
+accepts_so config before leader pressures states full saturated made same is =
+    let whole : states ≡ actions_at config.overload.triggers leader.pressures = made ∙ ap (λ (v : List ℕ). actions_at config.overload.triggers v) same in
+    inr (is ∙ ap not (saturated ∙ ap (λ (s : Actions). is_saturated s.stop_accepting) whole))

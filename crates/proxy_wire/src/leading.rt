@@ -134,7 +134,6 @@ pub(crate) fn lead<R: Wait + Clock, T: WireSite, P: Tokens, G: Gauge>(
 }
 
 // Makes rounds until there is a reason to stop.
-#[tactic(auto, using(crate::proofs::Returning::rose_before))]
 fn make_rounds<R: Wait + Clock, T: WireSite, P: Tokens, G: Gauge>(
     rt: &R,
     alloc: Global,

@@ -1,8 +1,8 @@
 -- What is read, published and posted.
 use Rattle.post_queue.specs.declared.passes.PosterPass.{PosterPass}
-use Rattle.proxy_wire.proofs.Posting.{looked, sampled_same}
+use Rattle.proxy_wire.proofs.Posting.{accepts_so, looked, sampled_same}
 use Rattle.proxy_wire.specs.Leading.{ArePosters}
-use Rattle.std.proofs.Common.{List, ap, arith, length, subst, sym, ℕ, ◌≡◌, ◌∙◌}
+use Rattle.std.proofs.Common.{List, ap, arith, length, refl, subst, sym, ℕ, ◌≡◌, ◌∙◌}
 use Rattle.std.proofs.lemmas.List.{with_items_is}
 use Rattle.std.specs.Vec.{with_items}
 use Rattle.proxy_wire.proofs.leading.Leader.look.Goals as goal
@@ -22,3 +22,6 @@ returns-clause-leads g c =
     let before = c.requires.posters.same in
     let whole : (with_items c.args.self.now.posters c.post_all.new.posters).items ≡ c.post_all.new.posters = with_items_is c.args.self.now.posters c.post_all.new.posters (omega (arith, now, before, c.args.self.now.posters.ok.0)) in
     looked c.args.boxes.now c.args.self.now _ _ c.requires c.sample.ensures.sampled c.publish.ensures.same (subst (λ (ps : List PosterPass). ArePosters c.args.boxes.now ps) (sym whole) c.post_all.ensures)
+
+pub returns-clause-accepts : goal.returns-clause-accepts
+returns-clause-accepts g c = accepts_so c.args.config.now _ _ _ _ _ c.is_saturated.ensures c.action_states-states.ensures.states c.as_slice-2.ensures refl
