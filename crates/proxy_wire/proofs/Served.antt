@@ -56,3 +56,10 @@ fault_later how a b c x y le so e = by (so e)
     by : Rose b c ⊎ Rose x y → Rose a c ⊎ Rose x y
     by (inl site) = inl (rose_later a b c le site)
     by (inr out) = inr out
+
+-- ---- by the status of the end
+pub so_served : {T J W C L : Type 0} (G : Ghosts W) (o : Outside W C L) (config : Config) (n : ℕ) (a b : Option (Told T J)) (w w' : Option (WireTold W C L)) (out out' : Option (List ℕ)) (how told : Status) → told ≡ how → ServesWire G o config n a b w w' out out' how → ServesWire G o config n a b w w' out out' told
+so_served G o config n a b w w' out out' how told e served = subst (λ (v : Status). ServesWire G o config n a b w w' out out' v) (sym e) served
+
+pub so_caused : (how told : Status) (a b x y : ℕ) → told ≡ how → SiteOrOut how a b x y → SiteOrOut told a b x y
+so_caused how told a b x y e cause = subst (λ (v : Status). SiteOrOut v a b x y) (sym e) cause

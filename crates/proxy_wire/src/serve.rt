@@ -134,7 +134,7 @@ where
 }
 
 // Runs the workers under a configuration.
-#[tactic(auto, using(crate::proofs::Whole::wire_no_usage, crate::proofs::Whole::wire_no_read))]
+#[tactic(auto, using(crate::proofs::Whole::wire_no_usage, crate::proofs::Whole::wire_no_read, crate::proofs::Served::so_served, crate::proofs::Served::so_caused))]
 fn serve_under<R, T, G, K>(
     rt: &R,
     alloc: Global,
