@@ -6,7 +6,7 @@ use Rattle.proxy_config.specs.declared.config.Cluster.{Cluster}
 use Rattle.proxy_config.specs.declared.config.Config.{Config}
 use Rattle.proxy_wire.proofs.Telling.{fits_more, fitted_none}
 use Rattle.proxy_wire.specs.Crews.{EachTwo, IsCrew, IsHired, IsIdle, IsPaid, OneFailed, SharesOf}
-use Rattle.proxy_wire.specs.Hires.{Fits, HiresAll, HiresNone, HiresOne, HiresSome, Joins, SharesMore, Stays}
+use Rattle.proxy_wire.specs.Hires.{Fits, HasParts, HiresAll, HiresNone, HiresOne, HiresSome, IsNext, IsTaken, Joins, SharesMore, Stays}
 use Rattle.proxy_wire.specs.Sites.{TellsFitted, WireTold, numbered}
 use Rattle.proxy_wire.specs.Working.{Begins}
 use Rattle.proxy_wire.specs.declared.crew.Crew.{Crew}
@@ -262,11 +262,18 @@ module _ {W M C L : Type 0} (bare : M → W) (o : Outside M C L) where
     tells = f.tells;
   })
 
+-- ---- what the next worker is made of
+some_same : (a b : Parts) → ◌≡◌ {A = Option Parts} (Some a) (Some b) → a ≡ b
+some_same a b e = cc
+
+pub next_made : (permits : Permits) (pass : RunnerPass) (next : Option Parts) (parts : Parts) → next ≡ Some parts → IsSeatOf permits parts.seat → RestsWire parts.core.kind → parts.pass ≡ pass → IsNext permits pass next
+next_made permits pass next parts is seat core pass_is = record { has = record { parts = parts; is = is; core = core }; seat = seat; pass_is = pass_is }
+
 -- ---- the worker that is pushed
 module _ {M C L : Type 0} (o : Outside M C L) where
-  pub joined : (Writes : Option (List ℕ) → Option (List ℕ) → List ℕ → Type 0) (parts : Parts) (pass : RunnerPass) (wires : M) (clock : C) (journal journal' : L) (old new : List (Worker M C OpenGate L)) (w : Worker M C OpenGate L) → new ≡ old ++ w ∷ [] → w.wires ≡ wires → w.clock ≡ clock
-      → w.journal ≡ journal' → w.core ≡ parts.core → w.seat ≡ parts.seat → w.pass ≡ pass → w.held ≡ [] → RestsWire parts.core.kind → Writes (o.text journal) (o.text journal') header → o.told journal' ≡ o.told journal → Joins (λ (m : M). m) o Writes parts pass (wires, (clock, journal)) old new
-  joined Writes parts pass wires clock journal journal' old new w adds ew ec ej eco es ep none rests head told = record {
+  joined : (Writes : Option (List ℕ) → Option (List ℕ) → List ℕ → Type 0) (parts : Parts) (wires : M) (clock : C) (journal journal' : L) (old new : List (Worker M C OpenGate L)) (w : Worker M C OpenGate L) → new ≡ old ++ w ∷ [] → w.wires ≡ wires → w.clock ≡ clock → w.journal ≡ journal'
+      → w.core ≡ parts.core → w.seat ≡ parts.seat → w.pass ≡ parts.pass → w.held ≡ [] → RestsWire parts.core.kind → Writes (o.text journal) (o.text journal') header → o.told journal' ≡ o.told journal → Joins (λ (m : M). m) o Writes parts parts.pass (wires, (clock, journal)) old new
+  joined Writes parts wires clock journal journal' old new w adds ew ec ej eco es ep none rests head told = record {
     worker = w;
     adds = adds;
     begins = record {
@@ -280,6 +287,14 @@ module _ {M C L : Type 0} (o : Outside M C L) where
     seat = es;
     pass_is = ep;
   }
+
+  -- of the parts that were there
+  pub joined_next : (Writes : Option (List ℕ) → Option (List ℕ) → List ℕ → Type 0) (next : Option Parts) (r parts : Parts) (wires : M) (clock : C) (journal journal' : L) (old new : List (Worker M C OpenGate L)) (w : Worker M C OpenGate L) → next ≡ Some parts → IsTaken next r → HasParts next → new ≡ old ++ w ∷ []
+      → w.wires ≡ wires → w.clock ≡ clock → w.journal ≡ journal' → w.core ≡ r.core → w.seat ≡ r.seat → w.pass ≡ r.pass → w.held ≡ [] → Writes (o.text journal) (o.text journal') header → o.told journal' ≡ o.told journal → Joins (λ (m : M). m) o Writes parts parts.pass (wires, (clock, journal)) old new
+  joined_next Writes next r parts wires clock journal journal' old new w is taken has adds ew ec ej eco es ep none head told =
+      let rests : RestsWire r.core.kind = subst (λ (p : Parts). RestsWire p.core.kind) (some_same has.parts r (sym has.is ∙ taken.is)) has.core in
+      let j : Joins (λ (m : M). m) o Writes r r.pass (wires, (clock, journal)) old new = joined Writes r wires clock journal journal' old new w adds ew ec ej eco es ep none rests head told in
+      subst (λ (p : Parts). Joins (λ (m : M). m) o Writes p p.pass (wires, (clock, journal)) old new) (some_same r parts (sym taken.is ∙ is)) j
 
 pub on_ok : {T E : Type 0} (A B : Type 0) (r : Result T E) → (A → B) → OnOk r A → OnOk r B
 on_ok A B (Ok x) f a = f a

@@ -3,6 +3,7 @@ use Rattle.proxy_config.specs.declared.config.Config.{Config}
 use Rattle.proxy_wire.specs.Working.{Begins}
 use Rattle.proxy_wire.specs.declared.crew.Crew.{Crew}
 use Rattle.proxy_wire.specs.declared.crew.Staff.{Staff}
+use Rattle.proxy_wire.specs.declared.giving_back.Back.{Back}
 use Rattle.session_config.specs.ClusterNames.{names_in}
 use Rattle.session_run.specs.Ends.{AppendsFront}
 use Rattle.shared_state.specs.PermitSeats.{IsSeatOf, seats_in}
@@ -64,3 +65,10 @@ back_of bare w = (bare w.wires, w.journal)
 pub record IsPaid {M C L : Type 0} (permits : Permits) (w : Worker M C OpenGate L) : Type 0 where
   pub seat : IsSeatOf permits w.seat
   pub none : w.held ≡ []
+
+-- these go back of the worker
+pub record IsBackOf {M C L : Type 0} (w : Worker M C OpenGate L) (back : Back M L) : Type 0 where
+  pub held : back.held ≡ w.held
+  pub seat : back.seat ≡ w.seat
+  pub wires : back.wires ≡ w.wires
+  pub journal : back.journal ≡ w.journal

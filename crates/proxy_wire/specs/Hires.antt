@@ -7,8 +7,10 @@ use Rattle.proxy_wire.specs.Sites.{TellsFitted, WireTold, numbered}
 use Rattle.proxy_wire.specs.Working.{Begins}
 use Rattle.proxy_wire.specs.declared.crew.Crew.{Crew}
 use Rattle.proxy_wire.specs.declared.crew.Parts.{Parts}
+use Rattle.shared_state.specs.PermitSeats.{IsSeatOf}
 use Rattle.shared_state.specs.declared.permits.Permits.{Permits}
-use Rattle.std.specs.Prelude.{List, Option, [], length, suc, ℕ, ◌++◌, ◌∷◌, ◌≡◌, ◌≤◌, ◌⊎◌}
+use Rattle.std.specs.Prelude.{List, Option, Some, [], length, suc, ℕ, ◌++◌, ◌∷◌, ◌≡◌, ◌≤◌, ◌⊎◌}
+use Rattle.worker_core.specs.Sessions.{RestsWire}
 use Rattle.worker_ports.specs.declared.ports.OpenGate.{OpenGate}
 use Rattle.worker_threads.specs.Starting.{Outside}
 use Rattle.worker_threads.specs.declared.worker.Shared.{Shared}
@@ -20,6 +22,22 @@ pub record SharesMore (old new : Shared) : Type 0 where
   pub names : new.names ≡ old.names
   pub more : List PostBox
   pub boxes : new.posts.items ≡ old.posts.items ++ more
+
+-- there is what a worker is made of, with a core that rests
+pub record HasParts (next : Option Parts) : Type 0 where
+  pub parts : Parts
+  pub is : next ≡ Some parts
+  pub core : RestsWire parts.core.kind
+
+-- and its seat is of the permits, and its pass this one
+pub record IsNext (permits : Permits) (pass : RunnerPass) (next : Option Parts) : Type 0 where
+  pub has : HasParts next
+  pub seat : IsSeatOf permits has.parts.seat
+  pub pass_is : has.parts.pass ≡ pass
+
+-- these were there
+pub record IsTaken (next : Option Parts) (parts : Parts) : Type 0 where
+  pub is : next ≡ Some parts
 
 module _ {W M C L : Type 0} (bare : M → W) (o : Outside M C L) where
   -- a worker of these parts stands behind the others, with what it works over

@@ -1,12 +1,14 @@
 // The workers of the proxy, and what they are made of.
-ghost use Rattle.std.specs.Prelude.{[], All, IfOk, length, vec_len, ◌<◌, ◌^◌, ◌≡◌};
+ghost use Rattle.std.specs.Prelude.{[], All, IfOk, OnOk, length, vec_len, ◌<◌, ◌^◌, ◌≡◌};
 ghost use Rattle.proxy_config.specs.Ranges.{IsInRange};
 ghost use Rattle.proxy_wire.specs.Crews.{SharesOf};
+ghost use Rattle.proxy_wire.specs.Hires.{HasParts, IsNext, IsTaken};
 ghost use Rattle.shared_state.specs.PermitSeats.{IsSeatOf, seats_in};
 ghost use Rattle.worker_core.specs.Sessions.{RestsWire};
 
 use crate::meter::Unmetered;
 use io_ports::NoMemory;
+use post_queue::RunnerPass;
 use proxy_config::{Config, read_config};
 use session_config::names_of;
 use shared_state::{Follower, Followers, PermitSeat, PermitSeats, Permits};
@@ -35,6 +37,8 @@ pub(crate) struct Supply<M> {
     pub followers: Followers,
     pub seats: PermitSeats,
     pub meter: M,
+    /// What the next worker is made of, once it is had.
+    pub next: Option<Parts>,
 }
 
 /// What a worker is made of.
@@ -43,6 +47,7 @@ pub(crate) struct Parts {
     pub core: Core,
     pub follower: Follower,
     pub seat: PermitSeat,
+    pub pass: RunnerPass,
 }
 
 /// What the workers of the configuration share, as long as there are none, and a seat for each.
@@ -75,6 +80,7 @@ pub(crate) fn metered<M>(staff: Staff<Unmetered>, meter: M) -> Staff<M>
         followers,
         seats,
         meter: _unmetered,
+        next,
     } = supply;
     Staff {
         shared,
@@ -82,18 +88,24 @@ pub(crate) fn metered<M>(staff: Staff<Unmetered>, meter: M) -> Staff<M>
             followers,
             seats,
             meter,
+            next,
         },
     }
 }
 
 impl<M> Supply<M> {
-    /// What one worker more is made of. Its core is made for the configuration of this text.
-    pub fn take(&mut self, alloc: Global, text: &[u8], permits: &Permits) -> Result<Parts, NoMemory>
+    /// Has what the next worker is made of, behind this pass. Its core is made for the configuration of this text.
+    pub fn prepare(
+        &mut self,
+        alloc: Global,
+        text: &[u8],
+        permits: &Permits,
+        pass: RunnerPass,
+    ) -> Result<(), NoMemory>
         requires text { length text.now < 2 ^ 32 }
         requires seats { All (IsSeatOf permits.now) (seats_in self.old.seats) }
         ensures seats { All (IsSeatOf permits.now) (seats_in self.new.seats) }
-        ensures seat { IfOk result (λ parts. IsSeatOf permits.now parts.seat) }
-        ensures core { IfOk result (λ parts. RestsWire parts.core.kind) }
+        ensures next { OnOk result (IsNext permits.now pass self.new.next) }
     {
         let Some(follower) = self.followers.take_one() else {
             return Err(NoMemory);
@@ -102,12 +114,25 @@ impl<M> Supply<M> {
             return Err(NoMemory);
         };
         let core = make_core(alloc, text)?;
-        Ok(Parts {
+        self.next = Some(Parts {
             core,
             follower,
             seat,
-        })
+            pass,
+        });
+        Ok(())
     }
+}
+
+/// What the next worker is made of, which is there no more.
+pub(crate) fn take_next(next: &mut Option<Parts>) -> Parts
+    requires { HasParts next.old }
+    ensures { IsTaken next.old result }
+{
+    let Some(parts) = next.take() else {
+        unreachable!()
+    };
+    parts
 }
 
 fn make_core(alloc: Global, text: &[u8]) -> Result<Core, NoMemory>

@@ -66,6 +66,7 @@ where
         followers,
         seats,
         meter: Unmetered,
+        next: None,
     };
     let staff = Staff { shared, supply };
     let end = listen_and_run(rt, alloc, task, staff, &mut leader, site, gauge, out);
