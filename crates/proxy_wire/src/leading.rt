@@ -1,8 +1,8 @@
 // The loop beside the workers.
-ghost use Rattle.std.specs.Prelude.{[], ◌++◌, ◌∷◌, ◌≡◌, ◌≤◌, ◌⊎◌, IfOk, OnErr, OnOk, true};
+ghost use Rattle.std.specs.Prelude.{[], ◌++◌, ◌∷◌, ◌≡◌, ◌≤◌, IfOk, OnErr, OnOk, true};
 ghost use Rattle.io_ports.specs.Faults.{Rose};
 ghost use Rattle.post_queue.specs.Clauses.{IsPosterOf, IsRunnerOf};
-ghost use Rattle.proxy_wire.specs.Leading.{Accepts, ArePosters, Leads};
+ghost use Rattle.proxy_wire.specs.Leading.{Accepts, ArePosters, Leads, Looks};
 
 use crate::end::LoopEnd;
 use crate::meter::Tokens;
@@ -92,16 +92,22 @@ impl Leader {
     )
         requires { Leads boxes.now self.old }
         ensures leads { Leads boxes.now self.new }
-        ensures accepts { (self.new.accepts ≡ self.old.accepts) ⊎ Accepts config.now self.new }
+        ensures looks { Looks config.now self.old self.new }
     {
         sample(alloc, gauge, &mut self.pressures);
-        if self
-            .publisher
-            .publish(rt, self.pressures.as_slice())
-            .is_err()
-        {
-            return;
+        match self.publisher.publish(rt, self.pressures.as_slice()) {
+            Ok(_) => self.act(rt, config, boxes),
+            Err(NoMemory) => {}
         }
+    }
+
+    // Clients are accepted by the pressures that were published, and a look is posted to each worker.
+    fn act<R: Wait>(&mut self, rt: &R, config: &Config, boxes: &[PostBox])
+        requires { ArePosters boxes.now self.old.posters.items }
+        ensures posters { ArePosters boxes.now self.new.posters.items }
+        ensures accepts { Accepts config.now self.new }
+        ensures same { (self.new.publisher ≡ self.old.publisher) × (self.new.pressures ≡ self.old.pressures) }
+    {
         let states = action_states(config, self.pressures.as_slice());
         self.accepts = !is_saturated(states.stop_accepting);
         post_all(rt, boxes, self.posters.as_mut_slice());
