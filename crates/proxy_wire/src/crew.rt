@@ -114,12 +114,14 @@ impl<M> Supply<M> {
             return Err(NoMemory);
         };
         let core = make_core(alloc, text)?;
-        self.next = Some(Parts {
-            core,
-            follower,
-            seat,
-            pass,
-        });
+        drop(
+            self.next.replace(Parts {
+                core,
+                follower,
+                seat,
+                pass,
+            }),
+        );
         Ok(())
     }
 }

@@ -62,17 +62,21 @@ fn take_apart<M, C: Drop, L>(worker: Worker<M, C, OpenGate, L>) -> Back<M, L>
     ensures { IsBackOf worker result }
 {
     let Worker {
-        core: _core,
-        pass: _pass,
-        follower: _follower,
+        core,
+        pass,
+        follower,
         seat,
         held,
         wires,
-        clock: _clock,
+        clock,
         gate: _,
         journal,
         ended: _,
     } = worker;
+    drop(core);
+    drop(pass);
+    drop(follower);
+    drop(clock);
     Back {
         held,
         seat,

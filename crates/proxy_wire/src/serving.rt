@@ -59,6 +59,8 @@ where
         return WireEnd::Memory;
     };
     let Ok((publisher, followers)) = make_shared(rt, alloc, config, config.proxy.workers) else {
+        drop(shared);
+        drop(seats);
         return WireEnd::Memory;
     };
     let mut leader = Leader::new(alloc, publisher, pressures);
@@ -104,8 +106,14 @@ where
     let config = task.config;
     let address = match site.listen_for_workers(&config.proxy.listen) {
         Ok(address) => address,
-        Err(SiteRefusal::Failed) => return WireEnd::Listen,
-        Err(SiteRefusal::NoMemory) => return WireEnd::Memory,
+        Err(SiteRefusal::Failed) => {
+            drop(staff);
+            return WireEnd::Listen;
+        }
+        Err(SiteRefusal::NoMemory) => {
+            drop(staff);
+            return WireEnd::Memory;
+        }
     };
     if config.proxy.accept_rate == 0 {
         run(rt, alloc, task, &address, staff, leader, site, gauge, out)
@@ -146,6 +154,7 @@ where
 {
     let burst = u64::from(task.config.proxy.accept_burst);
     let Ok((bucket, seats, put)) = Bucket::new(alloc, burst, task.config.proxy.workers) else {
+        drop(staff);
         return WireEnd::Memory;
     };
     let meter = Metering {

@@ -63,10 +63,11 @@ where
     ensures write_fault { SiteOrOut (wire_status result) (T.faults site.old) (T.faults site.new) (K.faults out.old) (K.faults out.new) }
     ensures no_fall { (T.faults site.old ≤ T.faults site.new) × (K.faults out.old ≤ K.faults out.new) }
 {
-    let Staff { shared, mut supply } = staff;
     let Ok(workers) = Vec::with_capacity(alloc, task.config.proxy.workers as usize) else {
+        drop(staff);
         return WireEnd::Memory;
     };
+    let Staff { shared, mut supply } = staff;
     let mut crew = Crew { workers, shared };
     let end = work_crew(
         rt,
@@ -80,8 +81,10 @@ where
         out,
         &mut crew,
     );
+    drop(supply);
     let Crew { workers, shared } = crew;
     give_back_all::<T, M>(site, &shared.permits, workers);
+    drop(shared);
     end
 }
 
