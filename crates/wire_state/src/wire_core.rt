@@ -70,6 +70,7 @@ impl WireCore {
         requires { IsInRange config }
         ensures sound { IfOk result (λ core. IsSound core) }
         ensures idle { IfOk result (λ core. core.agenda ≡ []) }
+        ensures new { IfOk result (λ core. (core.config ≡ config) × (core.conns.entries ≡ [])) }
     {
         let load = Load::new(alloc, config.overload.class_start)?;
         let timers = WireTimers::new(alloc, &config)?;

@@ -4,6 +4,7 @@ use Rattle.flow_notes.specs.declared.notes.Note.{Note}
 use Rattle.plain_core.specs.Runs.{CutsTurn, Turns}
 use Rattle.plain_core.specs.Stands.{CanTake, Rests, WaitsInFront}
 use Rattle.overload_core.specs.ActionStates.{is_saturated}
+use Rattle.proxy_config.specs.declared.config.Config.{Config}
 use Rattle.std.specs.Prelude.{Bool, List, None, Option, [], false, not, true, ℕ, ◌<◌, ◌≡◌}
 use Rattle.tape_laws.specs.declared.limits.PlainLimits.{PlainLimits}
 use Rattle.wire_state.specs.Sound.{IsSound, is_open_at}
@@ -16,6 +17,11 @@ use Rattle.worker_core.specs.declared.worker.Kind.TheVariants as kind
 abbrev pub RestsWire : Kind → Type 0
 RestsWire (kind.Plain core) = ⊥
 RestsWire (kind.Wire session) = (session.failed ≡ false) × IsSound session.core
+
+-- wire sessions before their first event, under this configuration
+abbrev pub IsNew : Config → Kind → Type 0
+IsNew config (kind.Plain core) = ⊥
+IsNew config (kind.Wire session) = (session.core.config ≡ config) × (session.core.conns.entries ≡ []) × (session.turn ≡ 0) × (session.obeyed ≡ 0)
 
 -- a plain session before its first event
 abbrev pub RestsPlain : PlainLimits → Kind → Type 0

@@ -43,6 +43,7 @@ impl WireSession {
         ensures well { IfOk result (λ session. session.failed ≡ false) }
         ensures turn { IfOk result (λ session. session.turn ≡ 0) }
         ensures obeyed { IfOk result (λ session. session.obeyed ≡ 0) }
+        ensures new { IfOk result (λ session. (session.core.config ≡ config) × (session.core.conns.entries ≡ [])) }
     {
         Ok(WireSession {
             core: WireCore::new(alloc, config)?,

@@ -4,7 +4,7 @@ ghost use Rattle.plain_core.specs.Stands.{Rests};
 ghost use Rattle.proxy_config.specs.Ranges.{IsInRange};
 ghost use Rattle.std.specs.Prelude.{◌≡◌, ◌≢◌, [], Err, IfOk, OnErr, OnOk, false, true};
 ghost use Rattle.wire_state.specs.Sound.{IsSound};
-ghost use Rattle.worker_core.specs.Sessions.{BreaksOff, CarriesOut, IsNextConn, IsNextOut, LendsFront, MayTake, RestsPlain, RestsWire, has_failed, is_closing, takes_clients, version_of};
+ghost use Rattle.worker_core.specs.Sessions.{BreaksOff, CarriesOut, IsNew, IsNextConn, IsNextOut, LendsFront, MayTake, RestsPlain, RestsWire, has_failed, is_closing, takes_clients, version_of};
 
 use crate::wire::WireSession;
 use flow_notes::{Event, Notes};
@@ -32,7 +32,8 @@ impl Core {
     /// The core before the first event of wire sessions. Refused only for lack of memory.
     pub fn new(alloc: Global, config: Config) -> Result<Self, NoMemory>
         requires { IsInRange config }
-        ensures { IfOk result (λ core. RestsWire core.kind) }
+        ensures rests { IfOk result (λ core. RestsWire core.kind) }
+        ensures new { IfOk result (λ core. IsNew config core.kind) }
     {
         Ok(Core {
             kind: Kind::Wire(WireSession::new(alloc, config)?),
