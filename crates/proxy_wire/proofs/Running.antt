@@ -127,20 +127,21 @@ module _ {W M C L : Type 0} (bare : M → W) (o : Outside M C L) where
     cut = crew.cut;
   }
 
-  all_each : (shared : Shared) (n : ℕ) (given : List (W × (C × L))) (first last : List (Worker M C OpenGate L)) (ends : List Ended) → EachTwo (IsHired bare o shared) given first → WorkedEach o shared n first ends last
-      → (i : ℕ) (g : W × (C × L)) (e : Ended) (b : W × L) → i < length given → WorkerRan bare o shared i n (slice_index_or given i g) (slice_index_or ends i e) (slice_index_or (map (back_of bare) last) i b)
-  all_each shared n given first last ends hired each i g e b less =
+  all_each : (config : Config) (shared : Shared) (n : ℕ) (given : List (W × (C × L))) (first last : List (Worker M C OpenGate L)) (ends : List Ended) → EachTwo (IsHired bare o config shared) given first → WorkedEach o shared n first ends last
+      → (i : ℕ) (g : W × (C × L)) (e : Ended) (b : W × L) → i < length given → WorkerRan bare o config shared i n (slice_index_or given i g) (slice_index_or ends i e) (slice_index_or (map (back_of bare) last) i b)
+  all_each config shared n given first last ends hired each i g e b less =
       let same = hired.same in
       let same_last = each.same in
       let there : i < length first = omega (arith, less, same) in
       let there_last : i < length last = omega (arith, there, same_last) in
       let w : Worker M C OpenGate L = some_of first i there in
-      let h : IsHired bare o shared i (slice_index_or given i g) (slice_index_or first i w) = hired.each i g w less in
+      let h : IsHired bare o config shared i (slice_index_or given i g) (slice_index_or first i w) = hired.each i g w less in
       let back = back_at last i b w there_last in
       record {
         first = slice_index_or first i w;
         last = slice_index_or last i w;
         begins = h.begins;
+        new = h.new;
         worked = each.each i w e there;
         wires = ap (λ (v : W × L). v.0) back;
         journal = ap (λ (v : W × L). v.1) back;
@@ -161,7 +162,7 @@ module _ {W M C L : Type 0} (bare : M → W) (o : Outside M C L) where
       workers = crew.count;
       each_end = crew.works.worked.each_end ∙ crew.hired.same;
       each_back = length-map workers (back_of bare) ∙ crew.works.worked.same ∙ crew.hired.same;
-      each = all_each shared n crew.given crew.first workers crew.works.ends crew.hired crew.works.worked;
+      each = all_each config shared n crew.given crew.first workers crew.works.ends crew.hired crew.works.worked;
     };
     status = crew.works.status;
   }

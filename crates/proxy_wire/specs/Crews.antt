@@ -10,6 +10,7 @@ use Rattle.shared_state.specs.PermitSeats.{IsSeatOf, seats_in}
 use Rattle.shared_state.specs.declared.permits.Permits.{Permits}
 use Rattle.std.specs.Io.KnownBytes.{Appends}
 use Rattle.std.specs.Prelude.{All, List, [], length, slice_index_or, vec_len, ℕ, ◌<◌, ◌≡◌, ◌⊎◌}
+use Rattle.worker_core.specs.Sessions.{IsNew}
 use Rattle.worker_ports.specs.declared.ports.OpenGate.{OpenGate}
 use Rattle.worker_threads.specs.Starting.{IsRunnerAt, Outside}
 use Rattle.worker_threads.specs.declared.worker.Shared.{Shared}
@@ -33,11 +34,12 @@ pub record IsStaff {M : Type 0} (config : Config) (staff : Staff M) : Type 0 whe
 
 module _ {W M C L : Type 0} (bare : M → W) (o : Outside M C L) where
   -- the worker at this place may run
-  pub record IsHired (shared : Shared) (place : ℕ) (given : W × (C × L)) (w : Worker M C OpenGate L) : Type 0 where
+  pub record IsHired (config : Config) (shared : Shared) (place : ℕ) (given : W × (C × L)) (w : Worker M C OpenGate L) : Type 0 where
     pub begins : Begins bare o Appends given w
     pub seat : IsSeatOf shared.permits w.seat
     pub pass : IsRunnerAt shared place w.pass
     pub clusters : (o.seen w.wires).clusters ≡ length shared.names
+    pub new : IsNew config w.core.kind
 
   -- the worker is to be given back
   pub record IsIdle (permits : Permits) (place : ℕ) (given : W × (C × L)) (w : Worker M C OpenGate L) : Type 0 where
@@ -48,7 +50,7 @@ module _ {W M C L : Type 0} (bare : M → W) (o : Outside M C L) where
   pub record IsCrew (config : Config) (crew : Crew M C L) (given : List (W × (C × L))) : Type 0 where
     pub shares : SharesOf config crew.shared
     pub boxes : length crew.shared.posts.items ≡ length given
-    pub workers : EachTwo (IsHired crew.shared) given crew.workers.items
+    pub workers : EachTwo (IsHired config crew.shared) given crew.workers.items
 
 module _ {M C L : Type 0} (o : Outside M C L) where
   -- the connections or the journal of one of them have failed

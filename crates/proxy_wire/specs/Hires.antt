@@ -10,7 +10,7 @@ use Rattle.proxy_wire.specs.declared.crew.Parts.{Parts}
 use Rattle.shared_state.specs.PermitSeats.{IsSeatOf}
 use Rattle.shared_state.specs.declared.permits.Permits.{Permits}
 use Rattle.std.specs.Prelude.{List, Option, Some, [], length, suc, ℕ, ◌++◌, ◌∷◌, ◌≡◌, ◌≤◌, ◌⊎◌}
-use Rattle.worker_core.specs.Sessions.{RestsWire}
+use Rattle.worker_core.specs.Sessions.{IsNew, RestsWire}
 use Rattle.worker_ports.specs.declared.ports.OpenGate.{OpenGate}
 use Rattle.worker_threads.specs.Starting.{Outside}
 use Rattle.worker_threads.specs.declared.worker.Shared.{Shared}
@@ -29,9 +29,10 @@ pub record HasParts (next : Option Parts) : Type 0 where
   pub is : next ≡ Some parts
   pub core : RestsWire parts.core.kind
 
--- and its seat is of the permits, and its pass this one
-pub record IsNext (permits : Permits) (pass : RunnerPass) (next : Option Parts) : Type 0 where
+-- and its core is a new one of the configuration, its seat of the permits, and its pass this one
+pub record IsNext (config : Config) (permits : Permits) (pass : RunnerPass) (next : Option Parts) : Type 0 where
   pub has : HasParts next
+  pub new : IsNew config has.parts.core.kind
   pub seat : IsSeatOf permits has.parts.seat
   pub pass_is : has.parts.pass ≡ pass
 
@@ -45,6 +46,7 @@ module _ {W M C L : Type 0} (bare : M → W) (o : Outside M C L) where
     pub worker : Worker M C OpenGate L
     pub adds : new ≡ old ++ worker ∷ []
     pub begins : Begins bare o Writes given worker
+    pub core : worker.core ≡ parts.core
     pub seat : worker.seat ≡ parts.seat
     pub pass_is : worker.pass ≡ pass
 
@@ -61,11 +63,11 @@ module _ {W M C L : Type 0} (bare : M → W) (o : Outside M C L) where
     pub told : told_new ≡ told_old
 
   -- the next worker may run
-  pub record HiresOne (told_old told_new : Option (WireTold W C L)) (old new : Crew M C L) : Type 0 where
+  pub record HiresOne (config : Config) (told_old told_new : Option (WireTold W C L)) (old new : Crew M C L) : Type 0 where
     pub given : W × (C × L)
     pub worker : Worker M C OpenGate L
     pub adds : new.workers.items ≡ old.workers.items ++ worker ∷ []
-    pub hired : IsHired bare o new.shared (length old.workers.items) given worker
+    pub hired : IsHired bare o config new.shared (length old.workers.items) given worker
     pub box : PostBox
     pub boxes : new.shared.posts.items ≡ old.shared.posts.items ++ box ∷ []
     pub tells : TellsFitted told_old ((suc (length old.workers.items), given) ∷ []) told_new

@@ -47,7 +47,7 @@ module _ {W M C L : Type 0} (bare : M → W) (o : Outside M C L) where
     pub first : List (Worker M C OpenGate L)
     pub count : length given ≡ config.proxy.workers
     pub shares : SharesOf config shared
-    pub hired : EachTwo (IsHired bare o shared) given first
+    pub hired : EachTwo (IsHired bare o config shared) given first
     pub tells : TellsFitted told_old (numbered 1 given) told_new
     pub works : WorksEach o shared n address first workers out_old out_new end
 

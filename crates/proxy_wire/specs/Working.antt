@@ -5,7 +5,7 @@ use Rattle.session_run.specs.declared.status.Status.{Status}
 use Rattle.std.specs.Io.KnownBytes.{Appends}
 use Rattle.std.specs.List.{list_any}
 use Rattle.std.specs.Prelude.{Bool, List, Option, [], false, if◌then◌else◌, length, slice_index_or, true, ℕ, ◌<◌, ◌≡◌, ◌⊎◌}
-use Rattle.worker_core.specs.Sessions.{RestsWire}
+use Rattle.worker_core.specs.Sessions.{IsNew, RestsWire}
 use Rattle.worker_loop.specs.declared.ended.Ended.{Ended}
 use Rattle.worker_parts.specs.Journals.{header}
 use Rattle.worker_ports.specs.declared.ports.OpenGate.{OpenGate}
@@ -51,11 +51,12 @@ module _ {W M C L : Type 0} (bare : M → W) (o : Outside M C L) where
     pub core : RestsWire w.core.kind
     pub none : w.held ≡ []
 
-  -- it did one work, and what it worked over came back
-  pub record WorkerRan (shared : Shared) (place n : ℕ) (given : W × (C × L)) (end : Ended) (back : W × L) : Type 0 where
+  -- it did one work with a new core of the configuration, and what it worked over came back
+  pub record WorkerRan (config : Config) (shared : Shared) (place n : ℕ) (given : W × (C × L)) (end : Ended) (back : W × L) : Type 0 where
     pub first : Worker M C OpenGate L
     pub last : Worker M C OpenGate L
     pub begins : Begins Appends given first
+    pub new : IsNew config first.core.kind
     pub worked : Worked o shared place n first end last
     pub wires : back.0 ≡ bare last.wires
     pub journal : back.1 ≡ last.journal
@@ -68,4 +69,4 @@ module _ {W M C L : Type 0} (bare : M → W) (o : Outside M C L) where
     pub workers : length given ≡ config.proxy.workers
     pub each_end : length ends ≡ length given
     pub each_back : length back ≡ length given
-    pub each : (i : ℕ) (g : W × (C × L)) (e : Ended) (b : W × L) → i < length given → WorkerRan shared i n (slice_index_or given i g) (slice_index_or ends i e) (slice_index_or back i b)
+    pub each : (i : ℕ) (g : W × (C × L)) (e : Ended) (b : W × L) → i < length given → WorkerRan config shared i n (slice_index_or given i g) (slice_index_or ends i e) (slice_index_or back i b)

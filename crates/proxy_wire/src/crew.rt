@@ -1,12 +1,14 @@
 // The workers of the proxy, and what they are made of.
-ghost use Rattle.std.specs.Prelude.{[], All, IfOk, OnOk, length, vec_len, ◌<◌, ◌^◌, ◌≡◌};
+ghost use Rattle.std.specs.Prelude.{[], All, IfOk, OnOk, vec_len, ◌≡◌};
 ghost use Rattle.proxy_config.specs.Ranges.{IsInRange};
 ghost use Rattle.proxy_wire.specs.Crews.{SharesOf};
 ghost use Rattle.proxy_wire.specs.Hires.{HasParts, IsNext, IsTaken};
+ghost use Rattle.proxy_wire.specs.Tasks.{IsTask};
 ghost use Rattle.shared_state.specs.PermitSeats.{IsSeatOf, seats_in};
-ghost use Rattle.worker_core.specs.Sessions.{RestsWire};
+ghost use Rattle.worker_core.specs.Sessions.{IsNew, RestsWire};
 
 use crate::meter::Unmetered;
+use crate::task::Task;
 use io_ports::NoMemory;
 use post_queue::RunnerPass;
 use proxy_config::{Config, read_config};
@@ -94,18 +96,18 @@ pub(crate) fn metered<M>(staff: Staff<Unmetered>, meter: M) -> Staff<M>
 }
 
 impl<M> Supply<M> {
-    /// Has what the next worker is made of, behind this pass. Its core is made for the configuration of this text.
+    /// Has what the next worker is made of, behind this pass.
     pub fn prepare(
         &mut self,
         alloc: Global,
-        text: &[u8],
+        task: &Task<'_>,
         permits: &Permits,
         pass: RunnerPass,
     ) -> Result<(), NoMemory>
-        requires text { length text.now < 2 ^ 32 }
+        requires task { IsTask task.now }
         requires seats { All (IsSeatOf permits.now) (seats_in self.old.seats) }
         ensures seats { All (IsSeatOf permits.now) (seats_in self.new.seats) }
-        ensures next { OnOk result (IsNext permits.now pass self.new.next) }
+        ensures next { OnOk result (IsNext task.now.config.now permits.now pass self.new.next) }
     {
         let Some(follower) = self.followers.take_one() else {
             return Err(NoMemory);
@@ -113,7 +115,7 @@ impl<M> Supply<M> {
         let Some(seat) = self.seats.take_one() else {
             return Err(NoMemory);
         };
-        let core = make_core(alloc, text)?;
+        let core = make_core(alloc, task)?;
         drop(
             self.next.replace(Parts {
                 core,
@@ -137,11 +139,14 @@ pub(crate) fn take_next(next: &mut Option<Parts>) -> Parts
     parts
 }
 
-fn make_core(alloc: Global, text: &[u8]) -> Result<Core, NoMemory>
-    requires { length text.now < 2 ^ 32 }
-    ensures { IfOk result (λ core. RestsWire core.kind) }
+// A core of the configuration, which is read from its text once more, since a core owns it.
+#[tactic(auto, using(crate::proofs::Sharing::new_core))]
+fn make_core(alloc: Global, task: &Task<'_>) -> Result<Core, NoMemory>
+    requires { IsTask task.now }
+    ensures rests { IfOk result (λ core. RestsWire core.kind) }
+    ensures new { IfOk result (λ core. IsNew task.now.config.now core.kind) }
 {
-    match read_config(alloc, text) {
+    match read_config(alloc, task.text) {
         Ok(config) => Core::new(alloc, config),
         Err(_) => Err(NoMemory),
     }

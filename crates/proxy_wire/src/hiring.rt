@@ -73,7 +73,7 @@ fn hire_next<T: WireSite, M: Meter<T::W>>(
     requires shares { SharesOf task.now.config.now crew.old.shared }
     requires seats { All (IsSeatOf crew.old.shared.permits) (seats_in supply.old.seats) }
     requires leads { Leads crew.old.shared.posts.items leader.old }
-    ensures one { OnOk result (HiresOne M.bare (outside_of M.Metered.Wires T.C.moments T.L.contents T.L.told T.L.faults) (T.wired site.old) (T.wired site.new) crew.old crew.new) }
+    ensures one { OnOk result (HiresOne M.bare (outside_of M.Metered.Wires T.C.moments T.L.contents T.L.told T.L.faults) task.now.config.now (T.wired site.old) (T.wired site.new) crew.old crew.new) }
     ensures leads { OnOk result (Leads crew.new.shared.posts.items leader.new) }
     ensures none { OnErr result (HiresNone M.bare (outside_of M.Metered.Wires T.C.moments T.L.contents T.L.told T.L.faults) crew.old.shared.permits (T.wired site.old) (T.wired site.new) crew.old.workers.items crew.new.workers.items) }
     ensures shares { OnOk result (SharesMore crew.old.shared crew.new.shared) }
@@ -89,7 +89,7 @@ fn hire_next<T: WireSite, M: Meter<T::W>>(
         return Err(WireEnd::Memory);
     };
     let pass = leader.add_box(alloc, &mut crew.shared.posts)?;
-    supply.prepare(alloc, task.text, &crew.shared.permits, pass)?;
+    supply.prepare(alloc, task, &crew.shared.permits, pass)?;
     hire::<T, M>(alloc, place, task.config, supply, ticket, site, crew)
 }
 
