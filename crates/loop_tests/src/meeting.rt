@@ -11,7 +11,7 @@ use io_ports::NoMemory;
 use proxy_config::Config;
 use session_config::names_of;
 use std::alloc::Global;
-use std::sync::atomic::AtomicU64;
+use std::sync::atomic::{AtomicBool, AtomicU32, AtomicU64};
 use std::sync::{Arc, Wait};
 use std::test::Fail;
 use std::thread::Threads;
@@ -113,6 +113,8 @@ fn meet_over<R: Threads + Wait + Sync>(
         posts,
         permits,
         names,
+        begun: AtomicU32::new(0),
+        over: AtomicBool::new(false),
     };
     run_both(rt, alloc, &shared, first, second)
 }

@@ -6,7 +6,7 @@ ghost use Rattle.proxy_site.specs.Forms.{HasNoServeForm, IsNoTurns, IsTurnsWord,
 use itoa::Buffer;
 
 /// How many turns there are where the words don't say it: 2^63 - 1.
-const ENDLESS: u64 = 9_223_372_036_854_775_807;
+pub const ENDLESS: u64 = 9_223_372_036_854_775_807;
 
 /// What the words of the proxy ask for.
 #[derive(Clone, Copy, Debug, PartialEq, Eq)]

@@ -10,11 +10,12 @@ mod relaying;
 mod serving;
 mod site;
 
-pub use form::{ServeForm, read_serve_form, read_turns};
+pub use form::{ENDLESS, ServeForm, read_serve_form, read_turns};
 pub use mem_journal::MemJournal;
 pub use mem_site::{MemSite, RelayPlay};
 pub use reason::{ServeReason, Served};
 pub use refused::end_at_config;
+pub use relaying::put_listening;
 pub use serving::{serve, serve_with_reason};
 pub use session_run::Status;
 pub use site::{Site, SiteRefusal};

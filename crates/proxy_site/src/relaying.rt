@@ -116,8 +116,8 @@ fn begin<J: Journal, K: Sink>(
     }
 }
 
-// Appends the line. Running out of memory may leave some of it.
-fn put_listening(address: &[u8], line: &mut Octets) -> Result<(), NoMemory>
+/// Appends the line that tells where the proxy listens. Running out of memory may leave some of it.
+pub fn put_listening(address: &[u8], line: &mut Octets) -> Result<(), NoMemory>
     ensures { OnOk result (line.new ≡ line.old ++ listening_line address.now) }
 {
     line.push_all(b"listening ")?;

@@ -6,7 +6,7 @@ use Rattle.proxy_config.specs.declared.config.Cluster.{Cluster}
 use Rattle.proxy_config.specs.declared.config.Config.{Config}
 use Rattle.proxy_wire.proofs.Telling.{fits_more, fitted_none}
 use Rattle.proxy_wire.specs.Crews.{EachTwo, IsCrew, IsHired, IsIdle, IsPaid, OneFailed, SharesOf}
-use Rattle.proxy_wire.specs.Hires.{Fits, HiresAll, HiresNone, HiresOne, HiresSome, Joins, SharesMore, Stays}
+use Rattle.proxy_wire.specs.Hires.{Fits, HasParts, HiresAll, HiresNone, HiresOne, HiresSome, IsNext, IsTaken, Joins, SharesMore, Stays}
 use Rattle.proxy_wire.specs.Sites.{TellsFitted, WireTold, numbered}
 use Rattle.proxy_wire.specs.Working.{Begins}
 use Rattle.proxy_wire.specs.declared.crew.Crew.{Crew}
@@ -24,7 +24,7 @@ use Rattle.worker_threads.proofs.Readying.{new_ready}
 use Rattle.std.specs.Io.KnownBytes.{Appends}
 use Rattle.std.specs.List.{All}
 use Rattle.std.specs.Prelude.{Err, List, Ok, OnErr, OnOk, Option, Result, Some, [], length, slice_get, slice_index_or, suc, ℕ, ◌+◌, ◌++◌, ◌<◌, ◌∷◌, ◌≡◌, ◌≤◌, ◌⊎◌}
-use Rattle.worker_core.specs.Sessions.{RestsWire}
+use Rattle.worker_core.specs.Sessions.{IsNew, RestsWire}
 use Rattle.worker_core.specs.declared.worker.Core.{Core}
 use Rattle.worker_parts.specs.Journals.{header}
 use Rattle.worker_ports.specs.declared.ports.OpenGate.{OpenGate}
@@ -87,28 +87,29 @@ got_left xs ys zs i e less =
 runner_kept : (old new : Shared) (i : ℕ) (pass : RunnerPass) → SharesMore old new → i < length old.posts.items → IsRunnerAt old i pass → IsRunnerAt new i pass
 runner_kept old new i pass more less at box is = at box (sym (got_left old.posts.items more.more new.posts.items i more.boxes less) ∙ is)
 
-module _ {W M C L : Type 0} (bare : M → W) (o : Outside M C L) where
-  front_of : (a b : Option (List ℕ)) (text : List ℕ) → Appends a b text → AppendsFront a b text
-  front_of a b text p = record { front = text; rest = []; is = sym (append-nil text); appends = p }
+pub front_of : (a b : Option (List ℕ)) (text : List ℕ) → Appends a b text → AppendsFront a b text
+front_of a b text p = record { front = text; rest = []; is = sym (append-nil text); appends = p }
 
+module _ {W M C L : Type 0} (bare : M → W) (o : Outside M C L) where
   pub begins_front : (given : W × (C × L)) (w : Worker M C OpenGate L) → Begins bare o Appends given w → Begins bare o AppendsFront given w
   begins_front given w b = record { wires = b.wires; clock = b.clock; head = front_of (o.text given.1.1) (o.text w.journal) header b.head; told = b.told; core = b.core; none = b.none }
 
-  hired_kept : (old new : Shared) (i : ℕ) (g : W × (C × L)) (w : Worker M C OpenGate L) → SharesMore old new → i < length old.posts.items → IsHired bare o old i g w → IsHired bare o new i g w
-  hired_kept old new i g w more less h = record {
+  hired_kept : (config : Config) (old new : Shared) (i : ℕ) (g : W × (C × L)) (w : Worker M C OpenGate L) → SharesMore old new → i < length old.posts.items → IsHired bare o config old i g w → IsHired bare o config new i g w
+  hired_kept config old new i g w more less h = record {
     begins = h.begins;
     seat = subst (λ (p : Permits). IsSeatOf p w.seat) (sym more.permits) h.seat;
     pass = runner_kept old new i w.pass more less h.pass;
     clusters = h.clusters ∙ ap length (sym more.names);
+    new = h.new;
   }
 
-  hired_idle : (shared : Shared) (permits : Permits) (i : ℕ) (g : W × (C × L)) (w : Worker M C OpenGate L) → permits ≡ shared.permits → IsHired bare o shared i g w → IsIdle bare o permits i g w
-  hired_idle shared permits i g w e h = record { begins = begins_front g w h.begins; seat = subst (λ (p : Permits). IsSeatOf p w.seat) (sym e) h.seat }
+  hired_idle : (config : Config) (shared : Shared) (permits : Permits) (i : ℕ) (g : W × (C × L)) (w : Worker M C OpenGate L) → permits ≡ shared.permits → IsHired bare o config shared i g w → IsIdle bare o permits i g w
+  hired_idle config shared permits i g w e h = record { begins = begins_front g w h.begins; seat = subst (λ (p : Permits). IsSeatOf p w.seat) (sym e) h.seat }
 
   pub crew_none : (config : Config) (crew : Crew M C L) → SharesOf config crew.shared → length crew.workers.items ≡ 0 → length crew.shared.posts.items ≡ 0 → IsCrew bare o config crew []
   crew_none config crew shares no_worker no_box = record { shares = shares; boxes = no_box; workers = record { same = no_worker; each = λ i a b less. absurd (omega (arith, less)) } }
 
-  pub crew_more : (config : Config) (old new : Crew M C L) (given : List (W × (C × L))) (told_a told_b : Option (WireTold W C L)) (one : HiresOne bare o told_a told_b old new) → SharesMore old.shared new.shared → IsCrew bare o config old given
+  pub crew_more : (config : Config) (old new : Crew M C L) (given : List (W × (C × L))) (told_a told_b : Option (WireTold W C L)) (one : HiresOne bare o config told_a told_b old new) → SharesMore old.shared new.shared → IsCrew bare o config old given
       → IsCrew bare o config new (given ++ one.given ∷ [])
   crew_more config old new given told_a told_b one more crew = record {
     shares = record { permits = ap (λ (p : Permits). p.max) more.permits ∙ crew.shares.permits; names = more.names ∙ crew.shares.names };
@@ -119,13 +120,13 @@ module _ {W M C L : Type 0} (bare : M → W) (o : Outside M C L) where
         let is = ap length one.boxes in
         omega (arith, l, k, b, is);
     workers =
-        let kept : EachTwo (IsHired bare o new.shared) given old.workers.items = each_mapped (IsHired bare o old.shared) (IsHired bare o new.shared) given old.workers.items (λ i g w less h. hired_kept old.shared new.shared i g w more (let b = crew.boxes in omega (arith, less, b)) h) crew.workers in
-        let at : IsHired bare o new.shared (length given) one.given one.worker = subst (λ (k : ℕ). IsHired bare o new.shared k one.given one.worker) crew.workers.same one.hired in
-        subst (λ (ws : List (Worker M C OpenGate L)). EachTwo (IsHired bare o new.shared) (given ++ one.given ∷ []) ws) (sym one.adds) (each_more (IsHired bare o new.shared) given old.workers.items one.given one.worker kept at);
+        let kept : EachTwo (IsHired bare o config new.shared) given old.workers.items = each_mapped (IsHired bare o config old.shared) (IsHired bare o config new.shared) given old.workers.items (λ i g w less h. hired_kept config old.shared new.shared i g w more (let b = crew.boxes in omega (arith, less, b)) h) crew.workers in
+        let at : IsHired bare o config new.shared (length given) one.given one.worker = subst (λ (k : ℕ). IsHired bare o config new.shared k one.given one.worker) crew.workers.same one.hired in
+        subst (λ (ws : List (Worker M C OpenGate L)). EachTwo (IsHired bare o config new.shared) (given ++ one.given ∷ []) ws) (sym one.adds) (each_more (IsHired bare o config new.shared) given old.workers.items one.given one.worker kept at);
   }
 
   pub crew_idle : (config : Config) (crew : Crew M C L) (permits : Permits) (given : List (W × (C × L))) → permits ≡ crew.shared.permits → IsCrew bare o config crew given → EachTwo (IsIdle bare o permits) given crew.workers.items
-  crew_idle config crew permits given e c = each_mapped (IsHired bare o crew.shared) (IsIdle bare o permits) given crew.workers.items (λ i g w less h. hired_idle crew.shared permits i g w e h) c.workers
+  crew_idle config crew permits given e c = each_mapped (IsHired bare o config crew.shared) (IsIdle bare o permits) given crew.workers.items (λ i g w less h. hired_idle config crew.shared permits i g w e h) c.workers
 
   -- all that were fitted go back where the next one can't run
   pub hires_some : (config : Config) (old : Crew M C L) (permits : Permits) (new : List (Worker M C OpenGate L)) (given : List (W × (C × L))) (a b c : Option (WireTold W C L)) → permits ≡ old.shared.permits → IsCrew bare o config old given → suc (length given) ≤ config.proxy.workers
@@ -155,7 +156,7 @@ module _ {W M C L : Type 0} (bare : M → W) (o : Outside M C L) where
   crew_ready config crew given c i w less =
       let same = c.workers.same in
       let there : i < length given = omega (arith, less, same) in
-      let h : IsHired bare o crew.shared i (slice_index_or given i (some_of given i there)) (slice_index_or crew.workers.items i w) = c.workers.each i (some_of given i there) w there in
+      let h : IsHired bare o config crew.shared i (slice_index_or given i (some_of given i there)) (slice_index_or crew.workers.items i w) = c.workers.each i (some_of given i there) w there in
       let boxed : i < length crew.shared.posts.items = let b = c.boxes in omega (arith, there, b) in
       let box : PostBox = slice_index_or crew.shared.posts.items i (some_of crew.shared.posts.items i boxed) in
       let at : slice_get crew.shared.posts.items i ≡ Some box = slice_get-get_or crew.shared.posts.items i (some_of crew.shared.posts.items i boxed) boxed in
@@ -179,7 +180,7 @@ module _ {W M C L : Type 0} (bare : M → W) (o : Outside M C L) where
   pub so_none : (config : Config) (a : Option (WireTold W C L)) (crew : Crew M C L) → SharesOf config crew.shared → length crew.workers.items ≡ 0 → length crew.shared.posts.items ≡ 0 → HiredSoFar config 0 a a crew
   so_none config a crew shares no_worker no_box = record { given = []; count = refl; crew_is = crew_none bare o config crew shares no_worker no_box; tells = fitted_none a a refl }
 
-  pub so_more : (config : Config) (n : ℕ) (a b c : Option (WireTold W C L)) (old new : Crew M C L) → HiredSoFar config n a b old → HiresOne bare o b c old new → SharesMore old.shared new.shared → HiredSoFar config (n + 1) a c new
+  pub so_more : (config : Config) (n : ℕ) (a b c : Option (WireTold W C L)) (old new : Crew M C L) → HiredSoFar config n a b old → HiresOne bare o config b c old new → SharesMore old.shared new.shared → HiredSoFar config (n + 1) a c new
   so_more config n a b c old new so one more = record {
     given = so.given ++ one.given ∷ [];
     count = let l = length-append so.given (one.given ∷ []) in let k = so.count in omega (arith, l, k);
@@ -216,16 +217,16 @@ module _ {W M C L : Type 0} (bare : M → W) (o : Outside M C L) where
       → (o.seen wires).clusters ≡ clusters → n ≡ suc (length old) → TellsFitted a ((n, given) ∷ []) b → Joins (λ (m : M). m) o Writes parts pass (wires, given.1) old new → Fits bare o Writes clusters parts pass a b old new
   joins_fits Writes clusters n parts pass a b wires given old new e c len tells j = record {
     given = given;
-    joins = record { worker = j.worker; adds = j.adds; begins = begins_bare Writes wires given j.worker e j.begins; seat = j.seat; pass_is = j.pass_is };
+    joins = record { worker = j.worker; adds = j.adds; begins = begins_bare Writes wires given j.worker e j.begins; core = j.core; seat = j.seat; pass_is = j.pass_is };
     clusters_are = ap (λ (m : M). (o.seen m).clusters) j.begins.wires ∙ c;
     tells = subst (λ (k : ℕ). TellsFitted a ((k, given) ∷ []) b) len tells;
   }
 
   -- one that was fitted behind its box may run
   pub fits_one : (config : Config) (old new : Crew M C L) (mid : List (Worker M C OpenGate L)) (shared : Shared) (parts : Parts) (pass : RunnerPass) (box : PostBox) (a b : Option (WireTold W C L)) → SharesOf config old.shared → length old.workers.items ≡ length old.shared.posts.items → IsSeatOf old.shared.permits parts.seat
-      → mid ≡ old.workers.items → shared.permits ≡ old.shared.permits → shared.names ≡ old.shared.names → shared.posts.items ≡ old.shared.posts.items ++ box ∷ [] → IsRunnerOf box pass → new.shared ≡ shared
-      → Fits bare o Appends (length config.clusters) parts pass a b mid new.workers.items → HiresOne bare o a b old new
-  fits_one config old new mid shared parts pass box a b shares len seat same permits names boxes runs kept f = record {
+      → IsNew config parts.core.kind → mid ≡ old.workers.items → shared.permits ≡ old.shared.permits → shared.names ≡ old.shared.names → shared.posts.items ≡ old.shared.posts.items ++ box ∷ [] → IsRunnerOf box pass → new.shared ≡ shared
+      → Fits bare o Appends (length config.clusters) parts pass a b mid new.workers.items → HiresOne bare o config a b old new
+  fits_one config old new mid shared parts pass box a b shares len seat fresh same permits names boxes runs kept f = record {
     given = f.given;
     worker = f.joins.worker;
     adds = f.joins.adds ∙ ap (λ (ws : List (Worker M C OpenGate L)). ws ++ f.joins.worker ∷ []) same;
@@ -233,6 +234,7 @@ module _ {W M C L : Type 0} (bare : M → W) (o : Outside M C L) where
       begins = f.joins.begins;
       seat = subst (λ (p : Permits). IsSeatOf p f.joins.worker.seat) (sym (ap (λ (s : Shared). s.permits) kept ∙ permits)) (subst (λ (s : PermitSeat). IsSeatOf old.shared.permits s) (sym f.joins.seat) seat);
       pass = pass_at (new.shared.posts.items) (ap (λ (s : Shared). s.posts.items) kept ∙ boxes);
+      new = subst (λ (k : Core). IsNew config k.kind) (sym f.joins.core) fresh;
       clusters = f.clusters_are ∙ sym (length-map config.clusters (λ (c : Cluster). c.name)) ∙ ap length (sym (ap (λ (s : Shared). s.names) kept ∙ names ∙ shares.names));
     };
     box = box;
@@ -262,11 +264,18 @@ module _ {W M C L : Type 0} (bare : M → W) (o : Outside M C L) where
     tells = f.tells;
   })
 
+-- ---- what the next worker is made of
+some_same : (a b : Parts) → ◌≡◌ {A = Option Parts} (Some a) (Some b) → a ≡ b
+some_same a b e = cc
+
+pub next_made : (config : Config) (permits : Permits) (pass : RunnerPass) (next : Option Parts) (parts : Parts) → next ≡ Some parts → IsSeatOf permits parts.seat → RestsWire parts.core.kind → IsNew config parts.core.kind → parts.pass ≡ pass → IsNext config permits pass next
+next_made config permits pass next parts is seat core new pass_is = record { has = record { parts = parts; is = is; core = core }; new = new; seat = seat; pass_is = pass_is }
+
 -- ---- the worker that is pushed
 module _ {M C L : Type 0} (o : Outside M C L) where
-  pub joined : (Writes : Option (List ℕ) → Option (List ℕ) → List ℕ → Type 0) (parts : Parts) (pass : RunnerPass) (wires : M) (clock : C) (journal journal' : L) (old new : List (Worker M C OpenGate L)) (w : Worker M C OpenGate L) → new ≡ old ++ w ∷ [] → w.wires ≡ wires → w.clock ≡ clock
-      → w.journal ≡ journal' → w.core ≡ parts.core → w.seat ≡ parts.seat → w.pass ≡ pass → w.held ≡ [] → RestsWire parts.core.kind → Writes (o.text journal) (o.text journal') header → o.told journal' ≡ o.told journal → Joins (λ (m : M). m) o Writes parts pass (wires, (clock, journal)) old new
-  joined Writes parts pass wires clock journal journal' old new w adds ew ec ej eco es ep none rests head told = record {
+  joined : (Writes : Option (List ℕ) → Option (List ℕ) → List ℕ → Type 0) (parts : Parts) (wires : M) (clock : C) (journal journal' : L) (old new : List (Worker M C OpenGate L)) (w : Worker M C OpenGate L) → new ≡ old ++ w ∷ [] → w.wires ≡ wires → w.clock ≡ clock → w.journal ≡ journal'
+      → w.core ≡ parts.core → w.seat ≡ parts.seat → w.pass ≡ parts.pass → w.held ≡ [] → RestsWire parts.core.kind → Writes (o.text journal) (o.text journal') header → o.told journal' ≡ o.told journal → Joins (λ (m : M). m) o Writes parts parts.pass (wires, (clock, journal)) old new
+  joined Writes parts wires clock journal journal' old new w adds ew ec ej eco es ep none rests head told = record {
     worker = w;
     adds = adds;
     begins = record {
@@ -277,9 +286,18 @@ module _ {M C L : Type 0} (o : Outside M C L) where
       core = subst (λ (k : Core). RestsWire k.kind) (sym eco) rests;
       none = none;
     };
+    core = eco;
     seat = es;
     pass_is = ep;
   }
+
+  -- of the parts that were there
+  pub joined_next : (Writes : Option (List ℕ) → Option (List ℕ) → List ℕ → Type 0) (next : Option Parts) (r parts : Parts) (wires : M) (clock : C) (journal journal' : L) (old new : List (Worker M C OpenGate L)) (w : Worker M C OpenGate L) → next ≡ Some parts → IsTaken next r → HasParts next → new ≡ old ++ w ∷ []
+      → w.wires ≡ wires → w.clock ≡ clock → w.journal ≡ journal' → w.core ≡ r.core → w.seat ≡ r.seat → w.pass ≡ r.pass → w.held ≡ [] → Writes (o.text journal) (o.text journal') header → o.told journal' ≡ o.told journal → Joins (λ (m : M). m) o Writes parts parts.pass (wires, (clock, journal)) old new
+  joined_next Writes next r parts wires clock journal journal' old new w is taken has adds ew ec ej eco es ep none head told =
+      let rests : RestsWire r.core.kind = subst (λ (p : Parts). RestsWire p.core.kind) (some_same has.parts r (sym has.is ∙ taken.is)) has.core in
+      let j : Joins (λ (m : M). m) o Writes r r.pass (wires, (clock, journal)) old new = joined Writes r wires clock journal journal' old new w adds ew ec ej eco es ep none rests head told in
+      subst (λ (p : Parts). Joins (λ (m : M). m) o Writes p p.pass (wires, (clock, journal)) old new) (some_same r parts (sym taken.is ∙ is)) j
 
 pub on_ok : {T E : Type 0} (A B : Type 0) (r : Result T E) → (A → B) → OnOk r A → OnOk r B
 on_ok A B (Ok x) f a = f a

@@ -1,5 +1,6 @@
 pub mod Asked
 pub mod Crewing
+pub mod Ending
 pub mod Posting
 pub mod Returning
 pub mod Running

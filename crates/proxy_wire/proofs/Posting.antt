@@ -1,19 +1,23 @@
 -- Who posts to which box.
+use Rattle.overload_core.specs.ActionStates.{actions_at, is_saturated}
+use Rattle.overload_core.specs.declared.actions.Actions.{Actions}
 use Rattle.post_queue.specs.Clauses.{IsPosterOf}
 use Rattle.post_queue.specs.declared.passes.PosterPass.{PosterPass}
 use Rattle.post_queue.specs.declared.post_box.PostBox.{PostBox}
+use Rattle.proxy_config.specs.declared.config.Config.{Config}
 use Rattle.proxy_wire.proofs.Crewing.{each_more}
 use Rattle.proxy_wire.specs.Crews.{EachTwo}
-use Rattle.proxy_wire.specs.Leading.{ArePosters, Leads}
+use Rattle.proxy_wire.specs.Leading.{Accepts, ArePosters, Leads, Looks}
 use Rattle.proxy_wire.specs.declared.leading.Leader.{Leader}
-use Rattle.shared_state.specs.States.{IsSame, resources_of}
+use Rattle.shared_state.specs.Entries.{padded}
+use Rattle.shared_state.specs.States.{IsSame, published, resources_of}
 use Rattle.shared_state.specs.declared.publisher.Publisher.{Publisher}
 use Rattle.std.proofs.Common.{ap, arith, inl, inr, refl, set, subst, sym, ◌∙◌}
 use Rattle.std.proofs.lemmas.Bool.{cases_order}
 use Rattle.std.proofs.lemmas.Grind.{get_or-set_at}
 use Rattle.std.proofs.lemmas.List.{get_or_default, get_or-set_other, length-replicate, length-set}
 use Rattle.worker_parts.specs.Samples.{AreSampled, replaced}
-use Rattle.std.specs.Prelude.{List, None, Option, Some, [], length, replicate, slice_index_or, suc, ℕ, ◌++◌, ◌<◌, ◌∷◌, ◌≡◌, ◌≢◌, ◌≤◌, ◌⊎◌}
+use Rattle.std.specs.Prelude.{Bool, List, None, Option, Some, [], length, not, replicate, slice_index_or, suc, ℕ, ◌++◌, ◌<◌, ◌∷◌, ◌≡◌, ◌≢◌, ◌≤◌, ◌⊎◌}
 
 as_each : (boxes : List PostBox) (posters : List PosterPass) → ArePosters boxes posters → EachTwo (λ i b p. IsPosterOf b p) boxes posters
 as_each boxes posters a = record { same = a.same; each = a.each }
@@ -79,3 +83,16 @@ looked boxes old new failed leads sampled same posters =
       publishes = record { pressures = l ∙ leads.publishes.pressures ∙ sym (same_resources old.publisher new.publisher same); few = omega (arith, l, few) };
       posters = posters;
     }
+
+pub looked_on : (boxes : List PostBox) (old new : Leader) (publisher : Publisher) (pressures : List ℕ) (failed : ℕ) → Leads boxes old → AreSampled old.pressures pressures failed → IsSame old.publisher publisher → new.publisher ≡ publisher → new.pressures ≡ pressures → ArePosters boxes new.posters.items → Leads boxes new
+looked_on boxes old new publisher pressures failed leads sampled same is pressed posters =
+    looked boxes old new failed leads (subst (λ (v : List ℕ). AreSampled old.pressures v failed) (sym pressed) sampled) (subst (λ (v : Publisher). IsSame old.publisher v) (sym is) same) posters
+
+-- ---- by the states that follow from what is published
+pub accepts_so : (config : Config) (leader : Leader) (pressures : List ℕ) (states : Actions) (full : Bool) → full ≡ is_saturated states.stop_accepting → states ≡ actions_at config.overload.triggers pressures → pressures ≡ leader.pressures → leader.accepts ≡ not full → Accepts config leader
+accepts_so config leader pressures states full saturated made same is =
+    let whole : states ≡ actions_at config.overload.triggers leader.pressures = made ∙ ap (λ (v : List ℕ). actions_at config.overload.triggers v) same in
+    is ∙ ap not (saturated ∙ ap (λ (s : Actions). is_saturated s.stop_accepting) whole)
+
+pub looks_on : (config : Config) (old new : Leader) (publisher : Publisher) (pressures : List ℕ) → published publisher ≡ published old.publisher ++ padded pressures ∷ [] → new.publisher ≡ publisher → new.pressures ≡ pressures → Accepts config new → Looks config old new
+looks_on config old new publisher pressures list is pressed accepts = inr (ap published is ∙ list ∙ ap (λ (v : List ℕ). published old.publisher ++ padded v ∷ []) (sym pressed), accepts)

@@ -1,8 +1,11 @@
 -- Workers go back, the last one first.
 use Rattle.io_ports.specs.Faults.{Rose}
 use Rattle.proxy_wire.proofs.Telling.{returned_none, returns_more}
-use Rattle.proxy_wire.specs.Crews.{IsPaid, OneFailed, back_of}
+use Rattle.proxy_wire.specs.Crews.{IsBackOf, IsPaid, OneFailed, back_of}
 use Rattle.proxy_wire.specs.Sites.{TellsReturned, WireTold, numbered}
+use Rattle.proxy_wire.specs.declared.giving_back.Back.{Back}
+use Rattle.shared_state.specs.PermitSeats.{IsSeatOf}
+use Rattle.shared_state.specs.declared.permits.PermitSeat.{PermitSeat}
 use Rattle.shared_state.specs.declared.permits.Permits.{Permits}
 use Rattle.std.proofs.Common.{ap, arith, inl, inr, refl, subst, sym, ◌∙◌}
 use Rattle.std.proofs.Math.Seq.{get_or-append_seam}
@@ -88,3 +91,19 @@ module _ {M C L : Type 0} (o : Outside M C L) where
 
   pub none_failed : (xs : List (Worker M C OpenGate L)) → length xs ≡ 0 → OneFailed o xs → ⊥
   none_failed xs none f = let l = f.least in omega (arith, none, l)
+
+-- ---- what goes back of one
+pub seat_back : {M C L : Type 0} (permits : Permits) (w : Worker M C OpenGate L) (b : Back M L) → IsBackOf w b → IsPaid permits w → IsSeatOf permits b.seat
+seat_back permits w b is paid = subst (λ (s : PermitSeat). IsSeatOf permits s) (sym is.seat) paid.seat
+
+pub none_back : {M C L : Type 0} (permits : Permits) (w : Worker M C OpenGate L) (b : Back M L) → IsBackOf w b → IsPaid permits w → b.held ≡ []
+none_back permits w b is paid = is.held ∙ paid.none
+
+pub tells_back : {W M C L : Type 0} (bare : M → W) (w : Worker M C OpenGate L) (b : Back M L) (n : ℕ) (x y : Option (WireTold W C L)) → IsBackOf w b → TellsReturned x ((n, (bare b.wires, b.journal)) ∷ []) y → TellsReturned x ((n, back_of bare w) ∷ []) y
+tells_back bare w b n x y is tells =
+    let wires : TellsReturned x ((n, (bare w.wires, b.journal)) ∷ []) y = subst (λ (m : _). TellsReturned x ((n, (bare m, b.journal)) ∷ []) y) is.wires tells in
+    subst (λ (j : _). TellsReturned x ((n, (bare w.wires, j)) ∷ []) y) is.journal wires
+
+pub counts_back : {M C L : Type 0} (wires_faults : M → ℕ) (journal_faults : L → ℕ) (w : Worker M C OpenGate L) (b : Back M L) (x y : ℕ) → IsBackOf w b → ((0 < wires_faults b.wires) ⊎ (0 < journal_faults b.journal) → Rose x y) → (0 < wires_faults w.wires) ⊎ (0 < journal_faults w.journal) → Rose x y
+counts_back wires_faults journal_faults w b x y is count (inl f) = count (inl (subst (λ (m : _). 0 < wires_faults m) (sym is.wires) f))
+counts_back wires_faults journal_faults w b x y is count (inr f) = count (inr (subst (λ (j : _). 0 < journal_faults j) (sym is.journal) f))

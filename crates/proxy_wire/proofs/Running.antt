@@ -1,7 +1,7 @@
 -- The workers ran, or none did.
 use Rattle.io_ports.specs.Faults.{Rose}
 use Rattle.proxy_config.specs.declared.config.Config.{Config}
-use Rattle.proxy_wire.proofs.Crewing.{all_some, crew_ready, idle_paid, some_of}
+use Rattle.proxy_wire.proofs.Crewing.{all_some, crew_ready, front_of, idle_paid, some_of}
 use Rattle.proxy_site.proofs.Relayed.{front_none}
 use Rattle.proxy_site.specs.Relaying.{IsCutShort, SiteOrOut, listening_line}
 use Rattle.proxy_wire.proofs.Returning.{rose_before, rose_on}
@@ -12,7 +12,8 @@ use Rattle.proxy_wire.specs.Crews.{EachTwo, IsHired, IsIdle, IsPaid, OneFailed, 
 use Rattle.proxy_wire.specs.Runs.{CrewIdle, CrewRan, CrewWorks, WorksAll}
 use Rattle.proxy_wire.specs.Serving.{AllRan, NoneRan, Unused, wire_status}
 use Rattle.proxy_wire.specs.Sites.{TellsFitted, TellsReturned, WireTold, numbered}
-use Rattle.proxy_wire.specs.Working.{WorkerRan, ends_status, has_end, is_fault, is_memory}
+use Rattle.proxy_wire.specs.Working.{EndsSo, WorkerRan, ends_status, is_fault, is_memory}
+use Rattle.proxy_wire.specs.declared.end.LoopEnd.{LoopEnd}
 use Rattle.proxy_wire.specs.declared.end.WireEnd.{WireEnd}
 use Rattle.session_run.specs.Ends.{AppendsFront}
 use Rattle.session_run.specs.declared.status.Status.{Status}
@@ -21,15 +22,16 @@ use Rattle.std.proofs.Common.{Vec, ap, arith, inl, inr, refl, subst, sym, ◌∙
 use Rattle.std.proofs.lemmas.Bool.{false≢true}
 use Rattle.std.proofs.lemmas.List.{get_or-map, length-map, with_items_is}
 use Rattle.std.specs.Io.KnownBytes.{Appends}
-use Rattle.std.specs.List.{All}
+use Rattle.std.specs.List.{All, list_any}
 use Rattle.std.specs.Vec.{with_items}
-use Rattle.std.specs.Prelude.{Bool, List, Option, [], false, if◌then◌else◌, length, map, reverse, slice_index_or, suc, true, ℕ, ◌<◌, ◌||◌, ◌∷◌, ◌≡◌, ◌≤◌, ◌⊎◌}
+use Rattle.std.specs.Prelude.{Bool, Err, IfOk, List, MatchResult, Ok, OnErr, Option, Result, [], false, if◌then◌else◌, length, map, reverse, slice_index_or, suc, true, ℕ, ◌<◌, ◌||◌, ◌∷◌, ◌≡◌, ◌≤◌, ◌⊎◌}
 use Rattle.worker_loop.specs.declared.ended.Ended.{Ended}
 use Rattle.worker_ports.specs.Wires.{Seen}
 use Rattle.worker_ports.specs.declared.ports.OpenGate.{OpenGate}
 use Rattle.worker_threads.specs.Starting.{IsReady, Outside, Worked, WorkedEach}
 use Rattle.worker_threads.specs.declared.worker.Shared.{Shared}
 use Rattle.worker_threads.specs.declared.worker.Worker.{Worker}
+use Rattle.proxy_wire.specs.declared.end.LoopEnd.TheVariants as loops
 use Rattle.session_run.specs.declared.status.Status.TheVariants as status
 use Rattle.worker_loop.specs.declared.ended.Ended.TheVariants as ended
 
@@ -38,8 +40,8 @@ pub rose_some : (a b : ℕ) → Rose a b → 0 < b
 rose_some a b (inl less) = omega (arith, less)
 rose_some a b (inr end) = omega (arith, end)
 
-by_fault : (ends : List Ended) → ends_status ends ≡ status.WriteFault → has_end is_fault ends ≡ true
-by_fault ends e = by (has_end is_fault ends) (has_end is_memory ends) e
+by_fault : (ends : List Ended) → ends_status ends ≡ status.WriteFault → list_any is_fault ends ≡ true
+by_fault ends e = by (list_any is_fault ends) (list_any is_memory ends) e
   where
     by : (b c : Bool) → (if b then status.WriteFault else if c then status.Memory else status.Done) ≡ status.WriteFault → b ≡ true
     by true c e = refl
@@ -55,11 +57,11 @@ record FaultAt (ends : List Ended) : Type 0 where
 fault_later : (x : Ended) (xs : List Ended) → FaultAt xs → FaultAt (x ∷ xs)
 fault_later x xs f = record { place = suc f.place; least = (let l = f.least in omega (arith, l)); is = f.is }
 
-fault_by : (x : Ended) (xs : List Ended) (b : Bool) → (has_end is_fault xs ≡ true → FaultAt xs) → is_fault x ≡ b → (b || has_end is_fault xs) ≡ true → FaultAt (x ∷ xs)
+fault_by : (x : Ended) (xs : List Ended) (b : Bool) → (list_any is_fault xs ≡ true → FaultAt xs) → is_fault x ≡ b → (b || list_any is_fault xs) ≡ true → FaultAt (x ∷ xs)
 fault_by x xs true later t r = record { place = 0; least = omega arith; is = λ d. t }
 fault_by x xs false later t r = fault_later x xs (later r)
 
-fault_at : (ends : List Ended) → has_end is_fault ends ≡ true → FaultAt ends
+fault_at : (ends : List Ended) → list_any is_fault ends ≡ true → FaultAt ends
 fault_at [] e = absurd (false≢true e)
 fault_at (x ∷ xs) e = fault_by x xs (is_fault x) (λ r. fault_at xs r) refl e
 
@@ -125,20 +127,21 @@ module _ {W M C L : Type 0} (bare : M → W) (o : Outside M C L) where
     cut = crew.cut;
   }
 
-  all_each : (shared : Shared) (n : ℕ) (given : List (W × (C × L))) (first last : List (Worker M C OpenGate L)) (ends : List Ended) → EachTwo (IsHired bare o shared) given first → WorkedEach o shared n first ends last
-      → (i : ℕ) (g : W × (C × L)) (e : Ended) (b : W × L) → i < length given → WorkerRan bare o shared i n (slice_index_or given i g) (slice_index_or ends i e) (slice_index_or (map (back_of bare) last) i b)
-  all_each shared n given first last ends hired each i g e b less =
+  all_each : (config : Config) (shared : Shared) (n : ℕ) (given : List (W × (C × L))) (first last : List (Worker M C OpenGate L)) (ends : List Ended) → EachTwo (IsHired bare o config shared) given first → WorkedEach o shared n first ends last
+      → (i : ℕ) (g : W × (C × L)) (e : Ended) (b : W × L) → i < length given → WorkerRan bare o config shared i n (slice_index_or given i g) (slice_index_or ends i e) (slice_index_or (map (back_of bare) last) i b)
+  all_each config shared n given first last ends hired each i g e b less =
       let same = hired.same in
       let same_last = each.same in
       let there : i < length first = omega (arith, less, same) in
       let there_last : i < length last = omega (arith, there, same_last) in
       let w : Worker M C OpenGate L = some_of first i there in
-      let h : IsHired bare o shared i (slice_index_or given i g) (slice_index_or first i w) = hired.each i g w less in
+      let h : IsHired bare o config shared i (slice_index_or given i g) (slice_index_or first i w) = hired.each i g w less in
       let back = back_at last i b w there_last in
       record {
         first = slice_index_or first i w;
         last = slice_index_or last i w;
         begins = h.begins;
+        new = h.new;
         worked = each.each i w e there;
         wires = ap (λ (v : W × L). v.0) back;
         journal = ap (λ (v : W × L). v.1) back;
@@ -159,7 +162,7 @@ module _ {W M C L : Type 0} (bare : M → W) (o : Outside M C L) where
       workers = crew.count;
       each_end = crew.works.worked.each_end ∙ crew.hired.same;
       each_back = length-map workers (back_of bare) ∙ crew.works.worked.same ∙ crew.hired.same;
-      each = all_each shared n crew.given crew.first workers crew.works.ends crew.hired crew.works.worked;
+      each = all_each config shared n crew.given crew.first workers crew.works.ends crew.hired crew.works.worked;
     };
     status = crew.works.status;
   }
@@ -221,9 +224,22 @@ module _ {M C L : Type 0} (o : Outside M C L) where
   pub works_none : (shared : Shared) (n : ℕ) (address : List ℕ) (old new : List (Worker M C OpenGate L)) (out out' : Option (List ℕ)) (end : WireEnd) → new ≡ old → AppendsFront out out' (listening_line address) → IsCutShort (wire_status end) → WorksAll o shared n address old new out out' end
   works_none shared n address old new out out' end same line cut = inl (record { same = same; line = line; cut = cut })
 
-  pub works_each : (shared : Shared) (n : ℕ) (address : List ℕ) (old new : List (Worker M C OpenGate L)) (ends : List Ended) (out out' : Option (List ℕ)) (end : WireEnd) → wire_status end ≡ ends_status ends → Appends out out' (listening_line address) → WorkedEach o shared n old ends new
-      → WorksAll o shared n address old new out out' end
-  works_each shared n address old new ends out out' end is line worked = inr (record { ends = ends; status = is; line = line; worked = worked })
+-- by what their run answered
+module _ {M C L Z E : Type 0} (o : Outside M C L) where
+  pub works_by : (shared : Shared) (n : ℕ) (address : List ℕ) (old new : List (Worker M C OpenGate L)) (r : Result (Vec Ended Z) E) (out out' : Option (List ℕ)) (end : WireEnd) → Appends out out' (listening_line address)
+      → IfOk r (λ ends. WorkedEach o shared n old ends.items new) → OnErr r (new ≡ old) → MatchResult r (λ ends. EndsSo (wire_status end) ends.items) (λ e. wire_status end ≡ status.Memory) → WorksAll o shared n address old new out out' end
+  works_by shared n address old new (Ok ends) out out' end line worked same so = inr (record { ends = ends.items; status = so; line = line; worked = worked })
+  works_by shared n address old new (Err e) out out' end line worked same so = inl (record { same = same; line = front_of out out' (listening_line address) line; cut = inl so })
+
+  -- a fault is one of the site's rounds, or of one worker
+  pub cause_by : (shared : Shared) (n : ℕ) (old new : List (Worker M C OpenGate L)) (r : Result (Vec Ended Z) E) (led : LoopEnd) (how : Status) (a b x y : ℕ) → IfOk r (λ ends. WorkedEach o shared n old ends.items new)
+      → MatchResult r (λ ends. how ≡ status.WriteFault → (led ≡ loops.Round) ⊎ (ends_status ends.items ≡ status.WriteFault)) (λ e. how ≡ status.Memory) → (led ≡ loops.Round → Rose a b) → how ≡ status.WriteFault → (Rose a b ⊎ Rose x y) ⊎ OneFailed o new
+  cause_by shared n old new (Err e) led how a b x y worked memory failed f = absurd (let i : status.Memory ≡ status.WriteFault = sym memory ∙ f in cc)
+  cause_by shared n old new (Ok ends) led how a b x y worked cause failed f = by (cause f)
+    where
+      by : (led ≡ loops.Round) ⊎ (ends_status ends.items ≡ status.WriteFault) → (Rose a b ⊎ Rose x y) ⊎ OneFailed o new
+      by (inl round) = inl (inl (failed round))
+      by (inr fault) = inr (ran_fault o shared n old new ends.items worked fault)
 
 -- ---- how many they are
 module _ {X Z : Type 0} where
@@ -243,12 +259,13 @@ module _ {M C L : Type 0} (o : Outside M C L) where
   pub lent_back : {Z : Type 0} (v : Vec (Worker M C OpenGate L) Z) (shared : Shared) (n : ℕ) (address : List ℕ) (first mid : List (Worker M C OpenGate L)) (out out' : Option (List ℕ)) (end : WireEnd) → length first ≡ v.len → WorksAll o shared n address first mid out out' end → (with_items v mid).items ≡ mid
   lent_back v shared n address first mid out out' end len works = with_items_is v mid (works_same shared n address first mid out out' end works ∙ len)
 
-  -- and a fault of one is one there
-  pub cause_back : (how : Status) (a b x y : ℕ) (last mid : List (Worker M C OpenGate L)) → last ≡ mid → (how ≡ status.WriteFault → Rose x y ⊎ OneFailed o mid) → how ≡ status.WriteFault → (Rose a b ⊎ Rose x y) ⊎ OneFailed o last
-  cause_back how a b x y last mid e cause f = by (cause f)
+  -- and a fault of one is one there, and one of the site one since before
+  pub cause_back : (how : Status) (a b c x y : ℕ) (last mid : List (Worker M C OpenGate L)) → a ≤ b → last ≡ mid → (how ≡ status.WriteFault → (Rose b c ⊎ Rose x y) ⊎ OneFailed o mid) → how ≡ status.WriteFault → (Rose a c ⊎ Rose x y) ⊎ OneFailed o last
+  cause_back how a b c x y last mid le e cause f = by (cause f)
     where
-      by : Rose x y ⊎ OneFailed o mid → (Rose a b ⊎ Rose x y) ⊎ OneFailed o last
-      by (inl rose) = inl (inr rose)
+      by : (Rose b c ⊎ Rose x y) ⊎ OneFailed o mid → (Rose a c ⊎ Rose x y) ⊎ OneFailed o last
+      by (inl (inl site)) = inl (inl (rose_before a b c le site))
+      by (inl (inr out)) = inl (inr out)
       by (inr one) = inr (subst (λ (ws : List (Worker M C OpenGate L)). OneFailed o ws) (sym e) one)
 
 module _ {W M C L : Type 0} (bare : M → W) (o : Outside M C L) where

@@ -1,5 +1,6 @@
 -- The configuration was read whole, or there is none.
 use Rattle.io_ports.specs.Faults.{Rose}
+use Rattle.proxy_config.specs.Ranges.{IsInRange}
 use Rattle.proxy_config.specs.Reading.{config_of}
 use Rattle.proxy_config.specs.declared.config.Config.{Config}
 use Rattle.proxy_config.specs.declared.fault.ConfigFault.{ConfigFault}
@@ -7,12 +8,15 @@ use Rattle.proxy_site.proofs.Ending.{not_usage}
 use Rattle.proxy_site.specs.Relaying.{SiteOrOut}
 use Rattle.proxy_site.specs.Serving.{TellsEnd, end_status}
 use Rattle.proxy_wire.specs.Serving.{ServesConfig, wire_status}
-use Rattle.proxy_wire.specs.Working.{has_end, is_fault, is_memory}
+use Rattle.proxy_wire.specs.Tasks.{IsTask}
+use Rattle.proxy_wire.specs.Working.{is_fault, is_memory, is_stopped}
 use Rattle.proxy_wire.specs.declared.end.WireEnd.{WireEnd}
+use Rattle.proxy_wire.specs.declared.task.Task.{Task}
 use Rattle.session_config.specs.Loading.{CausesFault, IsWhole, ReadsAs, ReadsWhole, StopsAs}
 use Rattle.session_config.specs.declared.load.ConfigEnd.{ConfigEnd}
 use Rattle.session_run.specs.declared.status.Status.{Status}
 use Rattle.std.proofs.Common.{ap, arith, inl, inr, refl, subst, sym, ◌∙◌}
+use Rattle.std.specs.List.{list_any}
 use Rattle.std.specs.Prelude.{Bool, Err, List, Ok, Option, Result, false, if◌then◌else◌, length, true, ℕ, ◌<◌, ◌^◌, ◌≡◌, ◌≢◌, ◌≤◌, ◌⊎◌}
 use Rattle.proxy_config.specs.declared.fault.ConfigFault.TheVariants as faults
 use Rattle.proxy_wire.specs.declared.end.WireEnd.TheVariants as ends
@@ -77,6 +81,9 @@ short_text l l' r all e reads =
     let same : length all ≡ length k.text = ap (λ (v : List ℕ). length v) k.is.1 in
     omega (arith, most, same)
 
+pub is_task : (task : Task) → IsInRange task.config.now → config_of task.text.now ≡ Ok task.config.now → length task.text.now < 2 ^ 32 → IsTask task
+is_task task in_range is short = record { in_range = in_range; is = is; short = short }
+
 -- ---- why it ended
 end_fault : (stop : ConfigEnd) → end_status stop ≡ status.ReadFault → stop ≡ end.ReadFault
 end_fault (end.Refused fault) e = cc
@@ -112,13 +119,20 @@ module _ (how : Status) (no_write : status.WriteFault ≡ how → ⊥) (no_memor
   ends_other false true e = no_memory e
   ends_other false false e = no_done e
 
+  threads_other : (f s m : Bool) → (if f then status.WriteFault else if s then status.Memory else if f then status.WriteFault else if m then status.Memory else status.Done) ≡ how → ⊥
+  threads_other true s m e = no_write e
+  threads_other false true m e = no_memory e
+  threads_other false false m e = ends_other false m e
+
   wire_other : (e : WireEnd) → wire_status e ≡ how → ⊥
   wire_other ends.Listen e = no_write e
   wire_other ends.Fit e = no_write e
   wire_other ends.JournalHead e = no_write e
   wire_other ends.Write e = no_write e
   wire_other ends.Memory e = no_memory e
-  wire_other (ends.Workers all) e = ends_other (has_end is_fault all.items) (has_end is_memory all.items) e
+  wire_other (ends.Workers all) e = ends_other (list_any is_fault all.items) (list_any is_memory all.items) e
+  wire_other (ends.Round all) e = no_write e
+  wire_other (ends.Threads all) e = threads_other (list_any is_fault all.items) (list_any is_stopped all.items) (list_any is_memory all.items) e
 
 pub wire_no_usage : (e : WireEnd) (how : Status) → how ≡ wire_status e → how ≡ status.Usage → ⊥
 wire_no_usage e how is u = wire_other status.Usage (λ i. cc) (λ i. cc) (λ i. cc) e (sym is ∙ u)

@@ -2,12 +2,15 @@
 use Rattle.proxy_config.specs.declared.config.Config.{Config}
 use Rattle.proxy_wire.specs.Working.{Begins}
 use Rattle.proxy_wire.specs.declared.crew.Crew.{Crew}
+use Rattle.proxy_wire.specs.declared.crew.Staff.{Staff}
+use Rattle.proxy_wire.specs.declared.giving_back.Back.{Back}
 use Rattle.session_config.specs.ClusterNames.{names_in}
 use Rattle.session_run.specs.Ends.{AppendsFront}
-use Rattle.shared_state.specs.PermitSeats.{IsSeatOf}
+use Rattle.shared_state.specs.PermitSeats.{IsSeatOf, seats_in}
 use Rattle.shared_state.specs.declared.permits.Permits.{Permits}
 use Rattle.std.specs.Io.KnownBytes.{Appends}
-use Rattle.std.specs.Prelude.{List, [], length, slice_index_or, ℕ, ◌<◌, ◌≡◌, ◌⊎◌}
+use Rattle.std.specs.Prelude.{All, List, [], length, slice_index_or, vec_len, ℕ, ◌<◌, ◌≡◌, ◌⊎◌}
+use Rattle.worker_core.specs.Sessions.{IsNew}
 use Rattle.worker_ports.specs.declared.ports.OpenGate.{OpenGate}
 use Rattle.worker_threads.specs.Starting.{IsRunnerAt, Outside}
 use Rattle.worker_threads.specs.declared.worker.Shared.{Shared}
@@ -23,13 +26,20 @@ pub record SharesOf (config : Config) (shared : Shared) : Type 0 where
   pub permits : shared.permits.max ≡ config.proxy.max_connections
   pub names : shared.names ≡ names_in config
 
+-- there is no box yet, and the seats are of the permits
+pub record IsStaff {M : Type 0} (config : Config) (staff : Staff M) : Type 0 where
+  pub shares : SharesOf config staff.shared
+  pub none : vec_len staff.shared.posts ≡ 0
+  pub seats : All (IsSeatOf staff.shared.permits) (seats_in staff.supply.seats)
+
 module _ {W M C L : Type 0} (bare : M → W) (o : Outside M C L) where
   -- the worker at this place may run
-  pub record IsHired (shared : Shared) (place : ℕ) (given : W × (C × L)) (w : Worker M C OpenGate L) : Type 0 where
+  pub record IsHired (config : Config) (shared : Shared) (place : ℕ) (given : W × (C × L)) (w : Worker M C OpenGate L) : Type 0 where
     pub begins : Begins bare o Appends given w
     pub seat : IsSeatOf shared.permits w.seat
     pub pass : IsRunnerAt shared place w.pass
     pub clusters : (o.seen w.wires).clusters ≡ length shared.names
+    pub new : IsNew config w.core.kind
 
   -- the worker is to be given back
   pub record IsIdle (permits : Permits) (place : ℕ) (given : W × (C × L)) (w : Worker M C OpenGate L) : Type 0 where
@@ -40,7 +50,7 @@ module _ {W M C L : Type 0} (bare : M → W) (o : Outside M C L) where
   pub record IsCrew (config : Config) (crew : Crew M C L) (given : List (W × (C × L))) : Type 0 where
     pub shares : SharesOf config crew.shared
     pub boxes : length crew.shared.posts.items ≡ length given
-    pub workers : EachTwo (IsHired crew.shared) given crew.workers.items
+    pub workers : EachTwo (IsHired config crew.shared) given crew.workers.items
 
 module _ {M C L : Type 0} (o : Outside M C L) where
   -- the connections or the journal of one of them have failed
@@ -57,3 +67,10 @@ back_of bare w = (bare w.wires, w.journal)
 pub record IsPaid {M C L : Type 0} (permits : Permits) (w : Worker M C OpenGate L) : Type 0 where
   pub seat : IsSeatOf permits w.seat
   pub none : w.held ≡ []
+
+-- these go back of the worker
+pub record IsBackOf {M C L : Type 0} (w : Worker M C OpenGate L) (back : Back M L) : Type 0 where
+  pub held : back.held ≡ w.held
+  pub seat : back.seat ≡ w.seat
+  pub wires : back.wires ≡ w.wires
+  pub journal : back.journal ≡ w.journal

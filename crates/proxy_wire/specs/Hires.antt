@@ -7,8 +7,10 @@ use Rattle.proxy_wire.specs.Sites.{TellsFitted, WireTold, numbered}
 use Rattle.proxy_wire.specs.Working.{Begins}
 use Rattle.proxy_wire.specs.declared.crew.Crew.{Crew}
 use Rattle.proxy_wire.specs.declared.crew.Parts.{Parts}
+use Rattle.shared_state.specs.PermitSeats.{IsSeatOf}
 use Rattle.shared_state.specs.declared.permits.Permits.{Permits}
-use Rattle.std.specs.Prelude.{List, Option, [], length, suc, ℕ, ◌++◌, ◌∷◌, ◌≡◌, ◌≤◌, ◌⊎◌}
+use Rattle.std.specs.Prelude.{List, Option, Some, [], length, suc, ℕ, ◌++◌, ◌∷◌, ◌≡◌, ◌≤◌, ◌⊎◌}
+use Rattle.worker_core.specs.Sessions.{IsNew, RestsWire}
 use Rattle.worker_ports.specs.declared.ports.OpenGate.{OpenGate}
 use Rattle.worker_threads.specs.Starting.{Outside}
 use Rattle.worker_threads.specs.declared.worker.Shared.{Shared}
@@ -21,12 +23,30 @@ pub record SharesMore (old new : Shared) : Type 0 where
   pub more : List PostBox
   pub boxes : new.posts.items ≡ old.posts.items ++ more
 
+-- there is what a worker is made of, with a core that rests
+pub record HasParts (next : Option Parts) : Type 0 where
+  pub parts : Parts
+  pub is : next ≡ Some parts
+  pub core : RestsWire parts.core.kind
+
+-- and its core is a new one of the configuration, its seat of the permits, and its pass this one
+pub record IsNext (config : Config) (permits : Permits) (pass : RunnerPass) (next : Option Parts) : Type 0 where
+  pub has : HasParts next
+  pub new : IsNew config has.parts.core.kind
+  pub seat : IsSeatOf permits has.parts.seat
+  pub pass_is : has.parts.pass ≡ pass
+
+-- these were there
+pub record IsTaken (next : Option Parts) (parts : Parts) : Type 0 where
+  pub is : next ≡ Some parts
+
 module _ {W M C L : Type 0} (bare : M → W) (o : Outside M C L) where
   -- a worker of these parts stands behind the others, with what it works over
   pub record Joins (Writes : Option (List ℕ) → Option (List ℕ) → List ℕ → Type 0) (parts : Parts) (pass : RunnerPass) (given : W × (C × L)) (old new : List (Worker M C OpenGate L)) : Type 0 where
     pub worker : Worker M C OpenGate L
     pub adds : new ≡ old ++ worker ∷ []
     pub begins : Begins bare o Writes given worker
+    pub core : worker.core ≡ parts.core
     pub seat : worker.seat ≡ parts.seat
     pub pass_is : worker.pass ≡ pass
 
@@ -43,11 +63,11 @@ module _ {W M C L : Type 0} (bare : M → W) (o : Outside M C L) where
     pub told : told_new ≡ told_old
 
   -- the next worker may run
-  pub record HiresOne (told_old told_new : Option (WireTold W C L)) (old new : Crew M C L) : Type 0 where
+  pub record HiresOne (config : Config) (told_old told_new : Option (WireTold W C L)) (old new : Crew M C L) : Type 0 where
     pub given : W × (C × L)
     pub worker : Worker M C OpenGate L
     pub adds : new.workers.items ≡ old.workers.items ++ worker ∷ []
-    pub hired : IsHired bare o new.shared (length old.workers.items) given worker
+    pub hired : IsHired bare o config new.shared (length old.workers.items) given worker
     pub box : PostBox
     pub boxes : new.shared.posts.items ≡ old.shared.posts.items ++ box ∷ []
     pub tells : TellsFitted told_old ((suc (length old.workers.items), given) ∷ []) told_new

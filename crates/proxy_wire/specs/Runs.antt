@@ -5,7 +5,7 @@ use Rattle.proxy_wire.specs.Crews.{EachTwo, IsHired, SharesOf}
 use Rattle.proxy_wire.specs.Hires.{HiresSome}
 use Rattle.proxy_wire.specs.Serving.{wire_status}
 use Rattle.proxy_wire.specs.Sites.{TellsFitted, WireTold, numbered}
-use Rattle.proxy_wire.specs.Working.{ends_status}
+use Rattle.proxy_wire.specs.Working.{EndsSo}
 use Rattle.proxy_wire.specs.declared.end.WireEnd.{WireEnd}
 use Rattle.session_run.specs.Ends.{AppendsFront}
 use Rattle.std.specs.Io.KnownBytes.{Appends}
@@ -26,7 +26,7 @@ module _ {M C L : Type 0} (o : Outside M C L) where
   -- each did one work, and the line was written
   pub record WorksEach (shared : Shared) (n : ℕ) (address : List ℕ) (old new : List (Worker M C OpenGate L)) (out_old out_new : Option (List ℕ)) (end : WireEnd) : Type 0 where
     pub ends : List Ended
-    pub status : wire_status end ≡ ends_status ends
+    pub status : EndsSo (wire_status end) ends
     pub line : Appends out_old out_new (listening_line address)
     pub worked : WorkedEach o shared n old ends new
 
@@ -47,7 +47,7 @@ module _ {W M C L : Type 0} (bare : M → W) (o : Outside M C L) where
     pub first : List (Worker M C OpenGate L)
     pub count : length given ≡ config.proxy.workers
     pub shares : SharesOf config shared
-    pub hired : EachTwo (IsHired bare o shared) given first
+    pub hired : EachTwo (IsHired bare o config shared) given first
     pub tells : TellsFitted told_old (numbered 1 given) told_new
     pub works : WorksEach o shared n address first workers out_old out_new end
 

@@ -6,7 +6,7 @@ use Rattle.proxy_site.specs.Relaying.{IsCutShort, listening_line}
 use Rattle.proxy_site.specs.Serving.{HasConfig, HasNoConfig}
 use Rattle.proxy_site.specs.Sites.{TellsListening, Told}
 use Rattle.proxy_wire.specs.Sites.{TellsWorkers, WireTold}
-use Rattle.proxy_wire.specs.Working.{RanEach, ends_status}
+use Rattle.proxy_wire.specs.Working.{EndsSo, RanEach, ends_status, threads_status}
 use Rattle.proxy_wire.specs.declared.end.WireEnd.{WireEnd}
 use Rattle.session_run.specs.Ends.{AppendsFront}
 use Rattle.session_run.specs.declared.status.Status.{Status}
@@ -28,6 +28,8 @@ wire_status end.JournalHead = status.WriteFault
 wire_status end.Write = status.WriteFault
 wire_status end.Memory = status.Memory
 wire_status (end.Workers ends) = ends_status ends.items
+wire_status (end.Round ends) = status.WriteFault
+wire_status (end.Threads ends) = threads_status ends.items
 
 -- what was given came back unused: of the head of its journal a front was written
 module _ {W C L : Type 0} (seen : W → Seen) (text : L → Option (List ℕ)) where
@@ -55,7 +57,7 @@ module _ {W M C L : Type 0} (bare : M → W) (o : Outside M C L) where
     pub wired : TellsWorkers wired_old given back wired_new
     pub line : Appends out_old out_new (listening_line address)
     pub ran : RanEach bare o config n given ends back
-    pub status : how ≡ ends_status ends
+    pub status : EndsSo how ends
 
 -- connections that take tokens don't tell what was done
 abbrev pub metered_outside : {W C L : Type 0} (G : Ghosts W) → Outside W C L → Outside (MeteredWires W G) C L
@@ -69,13 +71,13 @@ module _ {T J : Type 0} {W C L : Type 0} (G : Ghosts W) (o : Outside W C L) wher
     pub out : out_new ≡ out_old
     pub cut : IsCutShort how
 
-  -- it listened where the configuration says, at an address
+  -- it listened where the configuration says, at an address; clients' connections take tokens exactly where they have a rate
   pub record Listened (config : Config) (n : ℕ) (told_old told_new : Option (Told T J)) (wired_old wired_new : Option (WireTold W C L)) (out_old out_new : Option (List ℕ)) (how : Status) : Type 0 where
     pub address : List ℕ
     pub told : TellsListening told_old (config.proxy.listen, address) told_new
     pub over : NoneRan o.seen o.text config address wired_old wired_new out_old out_new how
-        ⊎ (AllRan (λ (w : W). w) o config n address wired_old wired_new out_old out_new how
-        ⊎ AllRan (λ (m : MeteredWires W G). m.inner) (metered_outside G o) config n address wired_old wired_new out_old out_new how)
+        ⊎ (((config.proxy.accept_rate ≡ 0) × AllRan (λ (w : W). w) o config n address wired_old wired_new out_old out_new how)
+        ⊎ ((0 < config.proxy.accept_rate) × AllRan (λ (m : MeteredWires W G). m.inner) (metered_outside G o) config n address wired_old wired_new out_old out_new how))
 
   abbrev pub ServesWire : (config : Config) (n : ℕ) (told_old told_new : Option (Told T J)) (wired_old wired_new : Option (WireTold W C L)) (out_old out_new : Option (List ℕ)) (how : Status) → Type 0
   ServesWire config n told_old told_new wired_old wired_new out_old out_new how =

@@ -2,9 +2,10 @@
 use Rattle.proxy_config.specs.declared.config.Config.{Config}
 use Rattle.session_config.specs.ClusterNames.{names_in}
 use Rattle.session_run.specs.declared.status.Status.{Status}
-use Rattle.std.specs.Prelude.{Bool, List, Option, [], false, if◌then◌else◌, length, slice_index_or, true, ℕ, ◌<◌, ◌||◌, ◌∷◌, ◌≡◌}
 use Rattle.std.specs.Io.KnownBytes.{Appends}
-use Rattle.worker_core.specs.Sessions.{RestsWire}
+use Rattle.std.specs.List.{list_any}
+use Rattle.std.specs.Prelude.{Bool, List, Option, [], false, if◌then◌else◌, length, slice_index_or, true, ℕ, ◌<◌, ◌≡◌, ◌⊎◌}
+use Rattle.worker_core.specs.Sessions.{IsNew, RestsWire}
 use Rattle.worker_loop.specs.declared.ended.Ended.{Ended}
 use Rattle.worker_parts.specs.Journals.{header}
 use Rattle.worker_ports.specs.declared.ports.OpenGate.{OpenGate}
@@ -23,18 +24,25 @@ abbrev pub is_memory : Ended → Bool
 is_memory ended.Memory = true
 is_memory other = false
 
--- it holds of one of them
-abbrev pub has_end : (Ended → Bool) → List Ended → Bool
-has_end holds [] = false
-has_end holds (e ∷ es) = holds e || has_end holds es
+abbrev pub is_stopped : Ended → Bool
+is_stopped ended.Stopped = true
+is_stopped other = false
 
 -- a fault of one counts before want of memory
 abbrev pub ends_status : List Ended → Status
-ends_status ends = if has_end is_fault ends then status.WriteFault else if has_end is_memory ends then status.Memory else status.Done
+ends_status ends = if list_any is_fault ends then status.WriteFault else if list_any is_memory ends then status.Memory else status.Done
+
+-- where one had no thread, that counts as want of memory once one was stopped by it
+abbrev pub threads_status : List Ended → Status
+threads_status ends = if list_any is_fault ends then status.WriteFault else if list_any is_stopped ends then status.Memory else ends_status ends
+
+-- it is the status of the ends, or that of a round of the site that failed, or where one was stopped that of want of threads
+abbrev pub EndsSo : Status → List Ended → Type 0
+EndsSo how ends = (how ≡ ends_status ends) ⊎ ((how ≡ status.WriteFault) ⊎ ((how ≡ status.Memory) × (list_any is_stopped ends ≡ true)))
 
 -- W is what a site gives, and M how a worker has it
 module _ {W M C L : Type 0} (bare : M → W) (o : Outside M C L) where
-  -- it works over what the site gave it, with a core that has seen nothing, once the head of its journal is written as Writes says
+  -- it works over what the site gave it, with a core that rests, once the head of its journal is written as Writes says
   pub record Begins (Writes : Option (List ℕ) → Option (List ℕ) → List ℕ → Type 0) (given : W × (C × L)) (w : Worker M C OpenGate L) : Type 0 where
     pub wires : bare w.wires ≡ given.0
     pub clock : w.clock ≡ given.1.0
@@ -43,11 +51,12 @@ module _ {W M C L : Type 0} (bare : M → W) (o : Outside M C L) where
     pub core : RestsWire w.core.kind
     pub none : w.held ≡ []
 
-  -- it did one work, and what it worked over came back
-  pub record WorkerRan (shared : Shared) (place n : ℕ) (given : W × (C × L)) (end : Ended) (back : W × L) : Type 0 where
+  -- it did one work with a new core of the configuration, and what it worked over came back
+  pub record WorkerRan (config : Config) (shared : Shared) (place n : ℕ) (given : W × (C × L)) (end : Ended) (back : W × L) : Type 0 where
     pub first : Worker M C OpenGate L
     pub last : Worker M C OpenGate L
     pub begins : Begins Appends given first
+    pub new : IsNew config first.core.kind
     pub worked : Worked o shared place n first end last
     pub wires : back.0 ≡ bare last.wires
     pub journal : back.1 ≡ last.journal
@@ -60,4 +69,4 @@ module _ {W M C L : Type 0} (bare : M → W) (o : Outside M C L) where
     pub workers : length given ≡ config.proxy.workers
     pub each_end : length ends ≡ length given
     pub each_back : length back ≡ length given
-    pub each : (i : ℕ) (g : W × (C × L)) (e : Ended) (b : W × L) → i < length given → WorkerRan shared i n (slice_index_or given i g) (slice_index_or ends i e) (slice_index_or back i b)
+    pub each : (i : ℕ) (g : W × (C × L)) (e : Ended) (b : W × L) → i < length given → WorkerRan config shared i n (slice_index_or given i g) (slice_index_or ends i e) (slice_index_or back i b)

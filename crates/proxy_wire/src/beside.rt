@@ -1,18 +1,19 @@
 // The workers, and beside them the loop that leads them.
 ghost use Rattle.std.specs.Prelude.{IfOk, OnErr, length, slice_index_or, ℕ, ◌<◌, ◌≡◌, ◌≤◌};
+ghost use Rattle.io_ports.specs.Faults.{Rose};
 ghost use Rattle.proxy_wire.specs.Lent.{AcceptsLent, LeavesLent};
 ghost use Rattle.proxy_wire.specs.Leading.{Leads};
-ghost use Rattle.worker_threads.specs.Starting.{IsReady, WorkedEach};
+ghost use Rattle.worker_threads.specs.Starting.{IsReady, WorkedEach, outside_of};
 
+use crate::end::LoopEnd;
 use crate::leading::{Leader, lead};
 use crate::meter::Tokens;
 use crate::site::WireSite;
+use crate::task::Task;
 use io_ports::NoMemory;
-use post_queue::PostBox;
-use proxy_config::Config;
 use std::alloc::Global;
 use std::sync::Wait;
-use std::sync::atomic::{AtomicBool, Ordering};
+use std::sync::atomic::Ordering;
 use std::thread::{Threads, join_mut};
 use std::time::Clock as SystemClock;
 use worker_loop::Ended;
@@ -20,20 +21,18 @@ use worker_parts::Journal;
 use worker_ports::{Clock, Gauge, OpenGate, Wires};
 use worker_threads::{Shared, Worker, start_workers};
 
-/// Runs so many turns of each worker, and beside them the loop that leads them, which ends once the flag is raised.
+/// Runs so many turns of each worker, and beside them the loop that leads them. It answers how each ended, and why the loop did.
 pub(crate) fn run_beside<R, W, C, L, T, P, G>(
     rt: &R,
     alloc: Global,
-    config: &Config,
-    turns: u64,
+    task: &Task<'_>,
     shared: &Shared,
-    done: &AtomicBool,
     leader: &mut Leader,
     tokens: &mut P,
     site: &mut T,
     gauge: &mut G,
     workers: &mut [Worker<W, C, OpenGate, L>],
-) -> Result<Vec<Ended>, NoMemory>
+) -> (Result<Vec<Ended>, NoMemory>, LoopEnd)
 where
     R: Threads + Wait + SystemClock + Sync,
     W: Wires + Send,
@@ -42,24 +41,24 @@ where
     T: WireSite,
     P: Tokens,
     G: Gauge,
-    requires ready { (i : ℕ) (w : _) → i < length workers.old → IsReady (record { seen = W.seen; moments = C.moments; text = L.contents; told = L.told; wires_faults = W.faults; journal_faults = L.faults }) shared.now i (slice_index_or workers.old i w) }
+    requires ready { (i : ℕ) (w : _) → i < length workers.old → IsReady (outside_of W.Wires C.moments L.contents L.told L.faults) shared.now i (slice_index_or workers.old i w) }
     requires leads { Leads shared.now.posts.items leader.old }
-    ensures ok { IfOk result (λ ends. WorkedEach (record { seen = W.seen; moments = C.moments; text = L.contents; told = L.told; wires_faults = W.faults; journal_faults = L.faults }) shared.now turns workers.old ends.items workers.new) }
-    ensures err { OnErr result (workers.new ≡ workers.old) }
+    ensures ok { IfOk result.0 (λ ends. WorkedEach (outside_of W.Wires C.moments L.contents L.told L.faults) shared.now task.now.turns workers.old ends.items workers.new) }
+    ensures err { OnErr result.0 (workers.new ≡ workers.old) }
+    ensures failed { result.1 ≡ LoopEnd.Round → Rose (T.faults site.old) (T.faults site.new) }
     ensures wired { T.wired site.new ≡ T.wired site.old }
     ensures told { T.told site.new ≡ T.told site.old }
     ensures no_fall { T.faults site.old ≤ T.faults site.new }
 {
-    let boxes = shared.posts.as_slice();
+    let turns = task.turns;
     lend(
         rt,
         alloc,
-        config,
-        boxes,
-        done,
+        task,
+        shared,
         &|lent: &mut [Worker<W, C, OpenGate, L>]|
-            requires { (i : ℕ) (w : _) → i < length lent.now → IsReady (record { seen = W.seen; moments = C.moments; text = L.contents; told = L.told; wires_faults = W.faults; journal_faults = L.faults }) shared.now i (slice_index_or lent.now i w) }
-        { run_out(rt, alloc, shared, turns, done, lent) },
+            requires { (i : ℕ) (w : _) → i < length lent.now → IsReady (outside_of W.Wires C.moments L.contents L.told L.faults) shared.now i (slice_index_or lent.now i w) }
+        { run_out(rt, alloc, shared, turns, lent) },
         leader,
         tokens,
         site,
@@ -68,21 +67,21 @@ where
     )
 }
 
-// Lends the workers to a run in a thread of its own, and leads them in this one until the flag is raised. Of the workers it knows
-// nothing more than that they may be sent, since the borrow checker doesn't cover more.
+// Lends the workers to a run in a thread of its own, and leads them in this one. Of the workers it knows nothing more than that they
+// may be sent, since the borrow checker doesn't cover more. Where no thread can be made the run comes after the loop, which then
+// ended since no worker has begun.
 fn lend<R, V, T, P, G, F>(
     rt: &R,
     alloc: Global,
-    config: &Config,
-    boxes: &[PostBox],
-    done: &AtomicBool,
+    task: &Task<'_>,
+    shared: &Shared,
     run: &F,
     leader: &mut Leader,
     tokens: &mut P,
     site: &mut T,
     gauge: &mut G,
     workers: &mut [V],
-) -> Result<Vec<Ended>, NoMemory>
+) -> (Result<Vec<Ended>, NoMemory>, LoopEnd)
 where
     R: Threads + Wait + SystemClock + Sync,
     V: Send,
@@ -91,8 +90,9 @@ where
     G: Gauge,
     F: Fn(&mut [V]) -> Result<Vec<Ended>, NoMemory> + Sync,
     requires run { AcceptsLent F.Fn run.now workers.old }
-    requires leads { Leads boxes.now leader.old }
-    ensures run { LeavesLent F.Fn run.now workers.old result workers.new }
+    requires leads { Leads shared.now.posts.items leader.old }
+    ensures run { LeavesLent F.Fn run.now workers.old result.0 workers.new }
+    ensures failed { result.1 ≡ LoopEnd.Round → Rose (T.faults site.old) (T.faults site.new) }
     ensures wired { T.wired site.new ≡ T.wired site.old }
     ensures told { T.told site.new ≡ T.told site.old }
     ensures no_fall { T.faults site.old ≤ T.faults site.new }
@@ -101,8 +101,8 @@ where
         requires { AcceptsLent F.Fn run.now workers.now }
         ensures { LeavesLent F.Fn run.entry.now workers.entry.now result workers.exit.now }
     { call(run, workers) };
-    let mut guide = || lead(rt, alloc, config, boxes, done, leader, tokens, site, gauge);
-    join_mut(rt, &mut work, &mut guide).0
+    let mut guide = || lead(rt, alloc, task, shared, leader, tokens, site, gauge);
+    join_mut(rt, &mut work, &mut guide)
 }
 
 fn call<V, F: Fn(&mut [V]) -> Result<Vec<Ended>, NoMemory>>(
@@ -116,13 +116,12 @@ fn call<V, F: Fn(&mut [V]) -> Result<Vec<Ended>, NoMemory>>(
     ends
 }
 
-// Runs the workers, and then raises the flag.
+// Runs the workers, and then tells the loop that they have ended, however they did.
 fn run_out<R, W, C, L>(
     rt: &R,
     alloc: Global,
     shared: &Shared,
     turns: u64,
-    done: &AtomicBool,
     workers: &mut [Worker<W, C, OpenGate, L>],
 ) -> Result<Vec<Ended>, NoMemory>
 where
@@ -130,11 +129,11 @@ where
     W: Wires + Send,
     C: Clock + Send,
     L: Journal + Send,
-    requires ready { (i : ℕ) (w : _) → i < length workers.old → IsReady (record { seen = W.seen; moments = C.moments; text = L.contents; told = L.told; wires_faults = W.faults; journal_faults = L.faults }) shared.now i (slice_index_or workers.old i w) }
-    ensures ok { IfOk result (λ ends. WorkedEach (record { seen = W.seen; moments = C.moments; text = L.contents; told = L.told; wires_faults = W.faults; journal_faults = L.faults }) shared.now turns workers.old ends.items workers.new) }
+    requires ready { (i : ℕ) (w : _) → i < length workers.old → IsReady (outside_of W.Wires C.moments L.contents L.told L.faults) shared.now i (slice_index_or workers.old i w) }
+    ensures ok { IfOk result (λ ends. WorkedEach (outside_of W.Wires C.moments L.contents L.told L.faults) shared.now turns workers.old ends.items workers.new) }
     ensures err { OnErr result (workers.new ≡ workers.old) }
 {
     let ends = start_workers(rt, alloc, shared, workers, turns);
-    done.store(true, Ordering::SeqCst);
+    shared.over.store(true, Ordering::SeqCst);
     ends
 }

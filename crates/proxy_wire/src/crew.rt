@@ -1,16 +1,21 @@
 // The workers of the proxy, and what they are made of.
-ghost use Rattle.std.specs.Prelude.{[], All, IfOk, length, vec_len, ◌≡◌};
+ghost use Rattle.std.specs.Prelude.{[], All, IfOk, OnOk, vec_len, ◌≡◌};
 ghost use Rattle.proxy_config.specs.Ranges.{IsInRange};
 ghost use Rattle.proxy_wire.specs.Crews.{SharesOf};
+ghost use Rattle.proxy_wire.specs.Hires.{HasParts, IsNext, IsTaken};
+ghost use Rattle.proxy_wire.specs.Tasks.{IsTask};
 ghost use Rattle.shared_state.specs.PermitSeats.{IsSeatOf, seats_in};
-ghost use Rattle.std.specs.Prelude.{◌<◌, ◌^◌};
-ghost use Rattle.worker_core.specs.Sessions.{RestsWire};
+ghost use Rattle.worker_core.specs.Sessions.{IsNew, RestsWire};
 
+use crate::meter::Unmetered;
+use crate::task::Task;
 use io_ports::NoMemory;
+use post_queue::RunnerPass;
 use proxy_config::{Config, read_config};
 use session_config::names_of;
 use shared_state::{Follower, Followers, PermitSeat, PermitSeats, Permits};
 use std::alloc::Global;
+use std::sync::atomic::{AtomicBool, AtomicU32};
 use worker_core::Core;
 use worker_ports::OpenGate;
 use worker_threads::{Shared, Worker};
@@ -21,11 +26,21 @@ pub(crate) struct Crew<M, C, L> {
     pub shared: Shared,
 }
 
-/// What is given out to workers.
+/// What workers share, and what is given out to them.
 #[derive(Drop)]
-pub(crate) struct Supply {
+pub(crate) struct Staff<M> {
+    pub shared: Shared,
+    pub supply: Supply<M>,
+}
+
+/// What is given out to workers: followers, seats of permits, and of a meter the rights to have connections.
+#[derive(Drop)]
+pub(crate) struct Supply<M> {
     pub followers: Followers,
     pub seats: PermitSeats,
+    pub meter: M,
+    /// What the next worker is made of, once it is had.
+    pub next: Option<Parts>,
 }
 
 /// What a worker is made of.
@@ -34,6 +49,7 @@ pub(crate) struct Parts {
     pub core: Core,
     pub follower: Follower,
     pub seat: PermitSeat,
+    pub pass: RunnerPass,
 }
 
 /// What the workers of the configuration share, as long as there are none, and a seat for each.
@@ -50,18 +66,48 @@ pub(crate) fn share(alloc: Global, config: &Config) -> Result<(Shared, PermitSea
         posts: Vec::new(alloc),
         permits,
         names: names_of(alloc, config)?,
+        begun: AtomicU32::new(0),
+        over: AtomicBool::new(false),
     };
     Ok((shared, seats))
 }
 
-impl Supply {
-    /// What one worker more is made of. Its core is made for the configuration of this text.
-    pub fn take(&mut self, alloc: Global, text: &[u8], permits: &Permits) -> Result<Parts, NoMemory>
-        requires text { length text.now < 2 ^ 32 }
+/// The same staff, with a meter.
+pub(crate) fn metered<M>(staff: Staff<Unmetered>, meter: M) -> Staff<M>
+    ensures shared { result.shared ≡ staff.shared }
+    ensures seats { result.supply.seats ≡ staff.supply.seats }
+{
+    let Staff { shared, supply } = staff;
+    let Supply {
+        followers,
+        seats,
+        meter: _unmetered,
+        next,
+    } = supply;
+    Staff {
+        shared,
+        supply: Supply {
+            followers,
+            seats,
+            meter,
+            next,
+        },
+    }
+}
+
+impl<M> Supply<M> {
+    /// Has what the next worker is made of, behind this pass.
+    pub fn prepare(
+        &mut self,
+        alloc: Global,
+        task: &Task<'_>,
+        permits: &Permits,
+        pass: RunnerPass,
+    ) -> Result<(), NoMemory>
+        requires task { IsTask task.now }
         requires seats { All (IsSeatOf permits.now) (seats_in self.old.seats) }
         ensures seats { All (IsSeatOf permits.now) (seats_in self.new.seats) }
-        ensures seat { IfOk result (λ parts. IsSeatOf permits.now parts.seat) }
-        ensures core { IfOk result (λ parts. RestsWire parts.core.kind) }
+        ensures next { OnOk result (IsNext task.now.config.now permits.now pass self.new.next) }
     {
         let Some(follower) = self.followers.take_one() else {
             return Err(NoMemory);
@@ -69,20 +115,38 @@ impl Supply {
         let Some(seat) = self.seats.take_one() else {
             return Err(NoMemory);
         };
-        let core = make_core(alloc, text)?;
-        Ok(Parts {
-            core,
-            follower,
-            seat,
-        })
+        let core = make_core(alloc, task)?;
+        drop(
+            self.next.replace(Parts {
+                core,
+                follower,
+                seat,
+                pass,
+            }),
+        );
+        Ok(())
     }
 }
 
-fn make_core(alloc: Global, text: &[u8]) -> Result<Core, NoMemory>
-    requires { length text.now < 2 ^ 32 }
-    ensures { IfOk result (λ core. RestsWire core.kind) }
+/// What the next worker is made of, which is there no more.
+pub(crate) fn take_next(next: &mut Option<Parts>) -> Parts
+    requires { HasParts next.old }
+    ensures { IsTaken next.old result }
 {
-    match read_config(alloc, text) {
+    let Some(parts) = next.take() else {
+        unreachable!()
+    };
+    parts
+}
+
+// A core of the configuration, which is read from its text once more, since a core owns it.
+#[tactic(auto, using(crate::proofs::Sharing::new_core))]
+fn make_core(alloc: Global, task: &Task<'_>) -> Result<Core, NoMemory>
+    requires { IsTask task.now }
+    ensures rests { IfOk result (λ core. RestsWire core.kind) }
+    ensures new { IfOk result (λ core. IsNew task.now.config.now core.kind) }
+{
+    match read_config(alloc, task.text) {
         Ok(config) => Core::new(alloc, config),
         Err(_) => Err(NoMemory),
     }

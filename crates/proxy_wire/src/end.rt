@@ -1,11 +1,12 @@
 // How the proxy of HTTP/2 ended.
-ghost use Rattle.std.specs.Prelude.{◌≡◌};
+ghost use Rattle.std.specs.List.{list_any};
+ghost use Rattle.std.specs.Prelude.{MatchResult, ◌≡◌, ◌⊎◌};
 ghost use Rattle.proxy_site.specs.declared.site.SiteRefusal.TheVariants as refusals;
 ghost use Rattle.proxy_wire.specs.declared.end.WireEnd.TheVariants as ends;
 ghost use Rattle.proxy_site.specs.Relaying.{IsCutShort};
 ghost use Rattle.proxy_wire.specs.Serving.{wire_status};
 ghost use Rattle.session_run.specs.declared.status.Status.TheVariants as status;
-ghost use Rattle.proxy_wire.specs.Working.{ends_status, has_end, is_fault, is_memory};
+ghost use Rattle.proxy_wire.specs.Working.{EndsSo, ends_status, is_fault, is_memory, is_stopped, threads_status};
 
 use io_ports::NoMemory;
 use proxy_site::{SiteRefusal, Status};
@@ -26,10 +27,25 @@ pub enum WireEnd {
     Memory,
     /// The workers ended so, in their order.
     Workers(Vec<Ended>),
+    /// A round of the site failed, and the workers then ended so, in their order.
+    Round(Vec<Ended>),
+    /// A worker had no thread. All were told to stop, and ended so, in their order.
+    Threads(Vec<Ended>),
+}
+
+/// Why the loop beside the workers ended.
+#[derive(Clone, Copy)]
+pub(crate) enum LoopEnd {
+    /// The workers ended, or one of them otherwise than by its turns.
+    Workers,
+    /// A round of the site failed.
+    Round,
+    /// A worker had no thread.
+    Threads,
 }
 
 impl WireEnd {
-    /// Its status: a fault of one worker counts before want of memory.
+    /// Its status: a fault of the site or of one worker counts before want of memory, and so does want of threads.
     pub fn status(&self) -> Status
         ensures { result ≡ wire_status self.now }
     {
@@ -38,6 +54,21 @@ impl WireEnd {
                 Status::WriteFault,
             WireEnd::Memory => Status::Memory,
             WireEnd::Workers(ends) => ends_status(ends.as_slice()),
+            WireEnd::Round(_) => Status::WriteFault,
+            WireEnd::Threads(ends) => threads_status(ends.as_slice()),
+        }
+    }
+
+    // The workers ended so, and the loop beside them for this reason.
+    #[tactic(auto, using(crate::proofs::Ending::threads_so, crate::proofs::Ending::threads_fault))]
+    fn of(led: LoopEnd, ends: Vec<Ended>) -> WireEnd
+        ensures so { EndsSo (wire_status result) ends.items }
+        ensures cause { wire_status result ≡ status.WriteFault → (led ≡ LoopEnd.Round) ⊎ (ends_status ends.items ≡ status.WriteFault) }
+    {
+        match led {
+            LoopEnd::Workers => WireEnd::Workers(ends),
+            LoopEnd::Round => WireEnd::Round(ends),
+            LoopEnd::Threads => WireEnd::Threads(ends),
         }
     }
 }
@@ -47,6 +78,17 @@ impl From<NoMemory> for WireEnd {
 
     fn from(_: NoMemory) -> Self {
         WireEnd::Memory
+    }
+}
+
+/// The workers ended so, or none ran for want of memory, and the loop beside them ended for this reason.
+pub(crate) fn end_of(ends: Result<Vec<Ended>, NoMemory>, led: LoopEnd) -> WireEnd
+    ensures so { MatchResult ends (λ all. EndsSo (wire_status result) all.items) (λ _. wire_status result ≡ status.Memory) }
+    ensures cause { MatchResult ends (λ all. wire_status result ≡ status.WriteFault → (led ≡ LoopEnd.Round) ⊎ (ends_status all.items ≡ status.WriteFault)) (λ _. wire_status result ≡ status.Memory) }
+{
+    match ends {
+        Ok(ends) => WireEnd::of(led, ends),
+        Err(NoMemory) => WireEnd::Memory,
     }
 }
 
@@ -73,52 +115,48 @@ fn ends_status(ends: &[Ended]) -> Status
     }
 }
 
-fn has_fault(ends: &[Ended]) -> bool
-    ensures { result ≡ has_end is_fault ends.now }
+fn threads_status(ends: &[Ended]) -> Status
+    ensures { result ≡ threads_status ends.now }
 {
-    let mut rest = ends;
-    while let Some((end, after)) = rest.split_first() {
-        if is_fault(*end) {
-            return true;
-        }
-        rest = after;
+    match (has_fault(ends), has_stopped(ends)) {
+        (true, _) => Status::WriteFault,
+        (false, true) => Status::Memory,
+        (false, false) => ends_status(ends),
     }
-    false
+}
+
+fn has_fault(ends: &[Ended]) -> bool
+    ensures { result ≡ list_any is_fault ends.now }
+{
+    ends.iter().any(|end| is_fault(*end))
 }
 
 fn has_memory(ends: &[Ended]) -> bool
-    ensures { result ≡ has_end is_memory ends.now }
+    ensures { result ≡ list_any is_memory ends.now }
 {
-    let mut rest = ends;
-    while let Some((end, after)) = rest.split_first() {
-        if is_memory(*end) {
-            return true;
-        }
-        rest = after;
-    }
-    false
+    ends.iter().any(|end| is_memory(*end))
+}
+
+fn has_stopped(ends: &[Ended]) -> bool
+    ensures { result ≡ list_any is_stopped ends.now }
+{
+    ends.iter().any(|end| is_stopped(*end))
 }
 
 fn is_fault(end: Ended) -> bool
     ensures { result ≡ is_fault end }
 {
-    match end {
-        Ended::WiresFault => true,
-        Ended::JournalFault => true,
-        Ended::Turns => false,
-        Ended::Stopped => false,
-        Ended::Memory => false,
-    }
+    matches!(end, Ended::WiresFault | Ended::JournalFault)
 }
 
 fn is_memory(end: Ended) -> bool
     ensures { result ≡ is_memory end }
 {
-    match end {
-        Ended::WiresFault => false,
-        Ended::JournalFault => false,
-        Ended::Turns => false,
-        Ended::Stopped => false,
-        Ended::Memory => true,
-    }
+    matches!(end, Ended::Memory)
+}
+
+fn is_stopped(end: Ended) -> bool
+    ensures { result ≡ is_stopped end }
+{
+    matches!(end, Ended::Stopped)
 }

@@ -3,10 +3,7 @@ ghost use Rattle.std.specs.Prelude.{[], map, ◌∷◌, IfNone, IfSome};
 ghost use Rattle.std.specs.String.{string_bytes};
 ghost use Rattle.proxy_wire.specs.Forms.{HasNoProxyForm, IsNoWire, IsWire, SpellsProxy};
 
-use proxy_site::{ServeForm, read_serve_form, read_turns};
-
-/// How many turns there are where the words don't say it: 2^63 - 1.
-const ENDLESS: u64 = 9_223_372_036_854_775_807;
+use proxy_site::{ENDLESS, ServeForm, read_serve_form, read_turns};
 
 /// What the words of the proxy ask for.
 #[derive(Clone, Copy, Debug, PartialEq, Eq)]

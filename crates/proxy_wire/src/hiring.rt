@@ -1,64 +1,58 @@
 // Workers get what they work over.
-ghost use Rattle.std.specs.Prelude.{All, IfErr, OnErr, OnOk, length, vec_capacity, vec_len, ◌+◌, ◌<◌, ◌^◌, ◌≡◌, ◌≤◌, ◌⊎◌};
+ghost use Rattle.std.specs.Prelude.{All, IfErr, OnErr, OnOk, Some, length, vec_capacity, vec_len, ◌+◌, ◌<◌, ◌^◌, ◌≡◌, ◌≤◌, ◌⊎◌};
 ghost use Rattle.std.specs.Io.KnownBytes.{Appends};
 ghost use Rattle.io_ports.specs.Faults.{Rose};
 ghost use Rattle.proxy_site.specs.Relaying.{IsCutShort};
 ghost use Rattle.proxy_wire.specs.Crews.{OneFailed, SharesOf};
-ghost use Rattle.proxy_wire.specs.Hires.{Fits, HiresAll, HiresNone, HiresOne, HiresSome, Joins, SharesMore, Stays};
+ghost use Rattle.proxy_wire.specs.Hires.{Fits, HasParts, HiresAll, HiresNone, HiresOne, HiresSome, Joins, SharesMore, Stays};
 ghost use Rattle.proxy_wire.specs.Leading.{Leads};
 ghost use Rattle.proxy_wire.specs.Serving.{wire_status};
+ghost use Rattle.proxy_wire.specs.Tasks.{IsTask};
 ghost use Rattle.session_run.specs.Ends.{AppendsFront};
 ghost use Rattle.session_run.specs.declared.status.Status.TheVariants as status;
 ghost use Rattle.shared_state.specs.PermitSeats.{IsSeatOf, seats_in};
-ghost use Rattle.worker_core.specs.Sessions.{RestsWire};
+ghost use Rattle.worker_threads.specs.Starting.{outside_of};
 
-use crate::crew::{Crew, Parts, Supply};
+use crate::crew::{Crew, Parts, Supply, take_next};
 use crate::end::{WireEnd, unfitted};
 use crate::leading::Leader;
 use crate::meter::Meter;
 use crate::site::WireSite;
+use crate::task::Task;
 use io_ports::Failed;
-use post_queue::RunnerPass;
 use proxy_config::Config;
 use std::alloc::Global;
 use worker_loop::HeldPermits;
-use worker_parts::Journal;
+use worker_parts::{Journal, begin_journal};
 use worker_ports::{Clock, OpenGate, Wires};
 use worker_threads::Worker;
-
-/// The first line of a worker's journal.
-const HEAD: &[u8] = b"h2replay-session 1 wire\n";
 
 /// Fits the configuration's workers in their order, each behind the head of its journal, into a crew that has room for them. Those
 /// that were fitted before a refusal stay in the crew.
 pub(crate) fn hire_all<T: WireSite, M: Meter<T::W>>(
     alloc: Global,
-    config: &Config,
-    text: &[u8],
-    supply: &mut Supply,
-    meter: &mut M,
+    task: &Task<'_>,
+    supply: &mut Supply<M>,
     leader: &mut Leader,
     site: &mut T,
     crew: &mut Crew<M::Metered, T::C, T::L>,
 ) -> Result<(), WireEnd>
-    requires text { length text.now < 2 ^ 32 }
-    requires shares { SharesOf config.now crew.old.shared }
+    requires task { IsTask task.now }
+    requires shares { SharesOf task.now.config.now crew.old.shared }
     requires none { (vec_len crew.old.workers ≡ 0) × (vec_len crew.old.shared.posts ≡ 0) }
-    requires room { config.now.proxy.workers ≤ vec_capacity crew.old.workers }
+    requires room { task.now.config.now.proxy.workers ≤ vec_capacity crew.old.workers }
     requires seats { All (IsSeatOf crew.old.shared.permits) (seats_in supply.old.seats) }
     requires leads { Leads crew.old.shared.posts.items leader.old }
-    ensures all { OnOk result (HiresAll M.bare (record { seen = M.Metered.seen; moments = T.C.moments; text = T.L.contents; told = T.L.told; wires_faults = M.Metered.faults; journal_faults = T.L.faults }) config.now (T.wired site.old) (T.wired site.new) crew.new) }
+    ensures all { OnOk result (HiresAll M.bare (outside_of M.Metered.Wires T.C.moments T.L.contents T.L.told T.L.faults) task.now.config.now (T.wired site.old) (T.wired site.new) crew.new) }
     ensures leads { OnOk result (Leads crew.new.shared.posts.items leader.new) }
-    ensures some { HiresSome M.bare (record { seen = M.Metered.seen; moments = T.C.moments; text = T.L.contents; told = T.L.told; wires_faults = M.Metered.faults; journal_faults = T.L.faults }) config.now crew.new.shared.permits (T.wired site.old) (T.wired site.new) crew.new.workers.items }
+    ensures some { HiresSome M.bare (outside_of M.Metered.Wires T.C.moments T.L.contents T.L.told T.L.faults) task.now.config.now crew.new.shared.permits (T.wired site.old) (T.wired site.new) crew.new.workers.items }
     ensures cut { IfErr result (λ end. IsCutShort (wire_status end)) }
-    ensures cause { IfErr result (λ end. wire_status end ≡ status.WriteFault → Rose (T.faults site.old) (T.faults site.new) ⊎ OneFailed (record { seen = M.Metered.seen; moments = T.C.moments; text = T.L.contents; told = T.L.told; wires_faults = M.Metered.faults; journal_faults = T.L.faults }) crew.new.workers.items) }
+    ensures cause { IfErr result (λ end. wire_status end ≡ status.WriteFault → Rose (T.faults site.old) (T.faults site.new) ⊎ OneFailed (outside_of M.Metered.Wires T.C.moments T.L.contents T.L.told T.L.faults) crew.new.workers.items) }
     ensures told { T.told site.new ≡ T.told site.old }
     ensures no_fall { T.faults site.old ≤ T.faults site.new }
 {
-    for place in 0..config.proxy.workers {
-        hire_next(
-            alloc, place, config, text, supply, meter, leader, site, crew,
-        )?;
+    for place in 0..task.config.proxy.workers {
+        hire_next(alloc, place, task, supply, leader, site, crew)?;
     }
     Ok(())
 }
@@ -67,60 +61,58 @@ pub(crate) fn hire_all<T: WireSite, M: Meter<T::W>>(
 fn hire_next<T: WireSite, M: Meter<T::W>>(
     alloc: Global,
     place: u32,
-    config: &Config,
-    text: &[u8],
-    supply: &mut Supply,
-    meter: &mut M,
+    task: &Task<'_>,
+    supply: &mut Supply<M>,
     leader: &mut Leader,
     site: &mut T,
     crew: &mut Crew<M::Metered, T::C, T::L>,
 ) -> Result<(), WireEnd>
-    requires text { length text.now < 2 ^ 32 }
+    requires task { IsTask task.now }
     requires place { (place ≡ vec_len crew.old.workers) × (place ≡ vec_len crew.old.shared.posts) }
     requires room { (place + 1 < 2 ^ 32) × (place < vec_capacity crew.old.workers) }
-    requires shares { SharesOf config.now crew.old.shared }
+    requires shares { SharesOf task.now.config.now crew.old.shared }
     requires seats { All (IsSeatOf crew.old.shared.permits) (seats_in supply.old.seats) }
     requires leads { Leads crew.old.shared.posts.items leader.old }
-    ensures one { OnOk result (HiresOne M.bare (record { seen = M.Metered.seen; moments = T.C.moments; text = T.L.contents; told = T.L.told; wires_faults = M.Metered.faults; journal_faults = T.L.faults }) (T.wired site.old) (T.wired site.new) crew.old crew.new) }
+    ensures one { OnOk result (HiresOne M.bare (outside_of M.Metered.Wires T.C.moments T.L.contents T.L.told T.L.faults) task.now.config.now (T.wired site.old) (T.wired site.new) crew.old crew.new) }
     ensures leads { OnOk result (Leads crew.new.shared.posts.items leader.new) }
-    ensures none { OnErr result (HiresNone M.bare (record { seen = M.Metered.seen; moments = T.C.moments; text = T.L.contents; told = T.L.told; wires_faults = M.Metered.faults; journal_faults = T.L.faults }) crew.old.shared.permits (T.wired site.old) (T.wired site.new) crew.old.workers.items crew.new.workers.items) }
+    ensures none { OnErr result (HiresNone M.bare (outside_of M.Metered.Wires T.C.moments T.L.contents T.L.told T.L.faults) crew.old.shared.permits (T.wired site.old) (T.wired site.new) crew.old.workers.items crew.new.workers.items) }
     ensures shares { OnOk result (SharesMore crew.old.shared crew.new.shared) }
     ensures permits { crew.new.shared.permits ≡ crew.old.shared.permits }
     ensures room { vec_capacity crew.new.workers ≡ vec_capacity crew.old.workers }
     ensures seats { All (IsSeatOf crew.old.shared.permits) (seats_in supply.new.seats) }
     ensures cut { IfErr result (λ end. IsCutShort (wire_status end)) }
-    ensures cause { IfErr result (λ end. wire_status end ≡ status.WriteFault → Rose (T.faults site.old) (T.faults site.new) ⊎ OneFailed (record { seen = M.Metered.seen; moments = T.C.moments; text = T.L.contents; told = T.L.told; wires_faults = M.Metered.faults; journal_faults = T.L.faults }) crew.new.workers.items) }
+    ensures cause { IfErr result (λ end. wire_status end ≡ status.WriteFault → Rose (T.faults site.old) (T.faults site.new) ⊎ OneFailed (outside_of M.Metered.Wires T.C.moments T.L.contents T.L.told T.L.faults) crew.new.workers.items) }
     ensures told { T.told site.new ≡ T.told site.old }
     ensures no_fall { T.faults site.old ≤ T.faults site.new }
 {
-    let Some(ticket) = meter.take() else {
+    let Some(ticket) = supply.meter.take() else {
         return Err(WireEnd::Memory);
     };
-    let parts = supply.take(alloc, text, &crew.shared.permits)?;
     let pass = leader.add_box(alloc, &mut crew.shared.posts)?;
-    hire::<T, M>(alloc, place, config, parts, pass, ticket, site, crew)
+    supply.prepare(alloc, task, &crew.shared.permits, pass)?;
+    hire::<T, M>(alloc, place, task.config, supply, ticket, site, crew)
 }
 
-// Fits the worker at this place, which is made of these parts.
+// Fits the worker at this place, which is made of the next parts.
 fn hire<T: WireSite, M: Meter<T::W>>(
     alloc: Global,
     place: u32,
     config: &Config,
-    parts: Parts,
-    pass: RunnerPass,
+    supply: &mut Supply<M>,
     ticket: M::Ticket,
     site: &mut T,
     crew: &mut Crew<M::Metered, T::C, T::L>,
 ) -> Result<(), WireEnd>
     requires place { place ≡ vec_len crew.old.workers }
     requires room { (place + 1 < 2 ^ 32) × (place < vec_capacity crew.old.workers) }
-    requires core { RestsWire parts.core.kind }
-    ensures fits { OnOk result (Fits M.bare (record { seen = M.Metered.seen; moments = T.C.moments; text = T.L.contents; told = T.L.told; wires_faults = M.Metered.faults; journal_faults = T.L.faults }) Appends (length config.now.clusters) parts pass (T.wired site.old) (T.wired site.new) crew.old.workers.items crew.new.workers.items) }
-    ensures some { OnErr result (Stays M.bare (record { seen = M.Metered.seen; moments = T.C.moments; text = T.L.contents; told = T.L.told; wires_faults = M.Metered.faults; journal_faults = T.L.faults }) (T.wired site.old) (T.wired site.new) crew.old.workers.items crew.new.workers.items ⊎ Fits M.bare (record { seen = M.Metered.seen; moments = T.C.moments; text = T.L.contents; told = T.L.told; wires_faults = M.Metered.faults; journal_faults = T.L.faults }) AppendsFront (length config.now.clusters) parts pass (T.wired site.old) (T.wired site.new) crew.old.workers.items crew.new.workers.items) }
+    requires next { HasParts supply.old.next }
+    ensures fits { (parts : Parts) → supply.old.next ≡ Some parts → OnOk result (Fits M.bare (outside_of M.Metered.Wires T.C.moments T.L.contents T.L.told T.L.faults) Appends (length config.now.clusters) parts parts.pass (T.wired site.old) (T.wired site.new) crew.old.workers.items crew.new.workers.items) }
+    ensures some { (parts : Parts) → supply.old.next ≡ Some parts → OnErr result (Stays M.bare (outside_of M.Metered.Wires T.C.moments T.L.contents T.L.told T.L.faults) (T.wired site.old) (T.wired site.new) crew.old.workers.items crew.new.workers.items ⊎ Fits M.bare (outside_of M.Metered.Wires T.C.moments T.L.contents T.L.told T.L.faults) AppendsFront (length config.now.clusters) parts parts.pass (T.wired site.old) (T.wired site.new) crew.old.workers.items crew.new.workers.items) }
+    ensures seats { supply.new.seats ≡ supply.old.seats }
     ensures shared { crew.new.shared ≡ crew.old.shared }
     ensures room { vec_capacity crew.new.workers ≡ vec_capacity crew.old.workers }
     ensures cut { IfErr result (λ end. IsCutShort (wire_status end)) }
-    ensures cause { IfErr result (λ end. wire_status end ≡ status.WriteFault → Rose (T.faults site.old) (T.faults site.new) ⊎ OneFailed (record { seen = M.Metered.seen; moments = T.C.moments; text = T.L.contents; told = T.L.told; wires_faults = M.Metered.faults; journal_faults = T.L.faults }) crew.new.workers.items) }
+    ensures cause { IfErr result (λ end. wire_status end ≡ status.WriteFault → Rose (T.faults site.old) (T.faults site.new) ⊎ OneFailed (outside_of M.Metered.Wires T.C.moments T.L.contents T.L.told T.L.faults) crew.new.workers.items) }
     ensures told { T.told site.new ≡ T.told site.old }
     ensures no_fall { T.faults site.old ≤ T.faults site.new }
 {
@@ -128,8 +120,7 @@ fn hire<T: WireSite, M: Meter<T::W>>(
         Ok((wires, clock, journal)) => {
             enlist(
                 alloc,
-                parts,
-                pass,
+                &mut supply.next,
                 M::wrap(ticket, wires),
                 clock,
                 journal,
@@ -140,29 +131,31 @@ fn hire<T: WireSite, M: Meter<T::W>>(
     }
 }
 
-// A worker of these parts joins the crew, behind the head of its journal, or a front of it.
+// A worker of the next parts joins the crew, behind the head of its journal, or a front of it.
+#[tactic(auto, using(crate::proofs::Crewing::joined_next))]
 fn enlist<W: Wires, C: Clock, L: Journal>(
     alloc: Global,
-    parts: Parts,
-    pass: RunnerPass,
+    next: &mut Option<Parts>,
     wires: W,
     clock: C,
     mut journal: L,
     crew: &mut Crew<W, C, L>,
 ) -> Result<(), WireEnd>
     requires room { vec_len crew.old.workers < vec_capacity crew.old.workers }
-    requires core { RestsWire parts.core.kind }
-    ensures joins { OnOk result (Joins (λ w. w) (record { seen = W.seen; moments = C.moments; text = L.contents; told = L.told; wires_faults = W.faults; journal_faults = L.faults }) Appends parts pass (wires, (clock, journal)) crew.old.workers.items crew.new.workers.items) }
-    ensures front { Joins (λ w. w) (record { seen = W.seen; moments = C.moments; text = L.contents; told = L.told; wires_faults = W.faults; journal_faults = L.faults }) AppendsFront parts pass (wires, (clock, journal)) crew.old.workers.items crew.new.workers.items }
-    ensures failed { IfErr result (λ end. (end ≡ WireEnd.JournalHead) × OneFailed (record { seen = W.seen; moments = C.moments; text = L.contents; told = L.told; wires_faults = W.faults; journal_faults = L.faults }) crew.new.workers.items) }
+    requires next { HasParts next.old }
+    ensures joins { (parts : Parts) → next.old ≡ Some parts → OnOk result (Joins (λ w. w) (outside_of W.Wires C.moments L.contents L.told L.faults) Appends parts parts.pass (wires, (clock, journal)) crew.old.workers.items crew.new.workers.items) }
+    ensures front { (parts : Parts) → next.old ≡ Some parts → Joins (λ w. w) (outside_of W.Wires C.moments L.contents L.told L.faults) AppendsFront parts parts.pass (wires, (clock, journal)) crew.old.workers.items crew.new.workers.items }
+    ensures failed { IfErr result (λ end. (end ≡ WireEnd.JournalHead) × OneFailed (outside_of W.Wires C.moments L.contents L.told L.faults) crew.new.workers.items) }
     ensures shared { crew.new.shared ≡ crew.old.shared }
     ensures room { vec_capacity crew.new.workers ≡ vec_capacity crew.old.workers }
 {
-    let head = journal.line(HEAD);
+    let head = begin_journal(&mut journal);
+    let parts = take_next(next);
     let Parts {
         core,
         follower,
         seat,
+        pass,
     } = parts;
     crew.workers.push_reserved(Worker {
         core,

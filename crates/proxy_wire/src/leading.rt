@@ -1,25 +1,32 @@
 // The loop beside the workers.
-ghost use Rattle.std.specs.Prelude.{[], ◌++◌, ◌∷◌, ◌≡◌, ◌≤◌, IfOk, OnErr, OnOk};
+ghost use Rattle.std.specs.Prelude.{[], ◌++◌, ◌∷◌, ◌≡◌, ◌≤◌, IfOk, OnErr, OnOk, true};
+ghost use Rattle.io_ports.specs.Faults.{Rose};
 ghost use Rattle.post_queue.specs.Clauses.{IsPosterOf, IsRunnerOf};
-ghost use Rattle.proxy_wire.specs.Leading.{ArePosters, Leads};
+ghost use Rattle.proxy_wire.specs.Leading.{Accepts, ArePosters, Leads, Looks};
 
+use crate::end::LoopEnd;
 use crate::meter::Tokens;
 use crate::site::WireSite;
+use crate::task::Task;
 use flow_notes::Job;
-use io_ports::{NoMemory, PressureList};
+use io_ports::{Failed, NoMemory, PressureList};
 use overload_core::{action_states, is_saturated};
 use post_queue::{PostBox, PosterPass, RunnerPass};
 use proxy_config::Config;
 use shared_state::Publisher;
 use std::alloc::Global;
 use std::sync::Wait;
-use std::sync::atomic::{AtomicBool, Ordering};
+use std::sync::atomic::Ordering;
 use std::time::Clock;
 use worker_parts::sample;
 use worker_ports::Gauge;
+use worker_threads::Shared;
 
 /// How long it is from one reading of the gauges to the next, in milliseconds.
 const PERIOD: u64 = 100;
+
+/// How long workers may take to begin, in milliseconds.
+const PATIENCE: u64 = 5_000;
 
 /// What the loop beside the workers keeps. It can't be dropped: `end` ends it.
 pub(crate) struct Leader {
@@ -73,7 +80,8 @@ impl Leader {
         Ok(pass)
     }
 
-    /// Reads the gauges, publishes, and posts a look to each worker. What is refused is made again the next time.
+    /// Reads the gauges, publishes, and posts a look to each worker. What is refused is made again the next time; until then clients
+    /// are accepted as before.
     pub fn look<R: Wait, G: Gauge>(
         &mut self,
         rt: &R,
@@ -83,53 +91,111 @@ impl Leader {
         boxes: &[PostBox],
     )
         requires { Leads boxes.now self.old }
-        ensures { Leads boxes.now self.new }
+        ensures leads { Leads boxes.now self.new }
+        ensures looks { Looks config.now self.old self.new }
     {
         sample(alloc, gauge, &mut self.pressures);
-        if self
-            .publisher
-            .publish(rt, self.pressures.as_slice())
-            .is_err()
-        {
-            return;
+        match self.publisher.publish(rt, self.pressures.as_slice()) {
+            Ok(_) => self.act(rt, config, boxes),
+            Err(NoMemory) => {}
         }
+    }
+
+    // Clients are accepted by the pressures that were published, and a look is posted to each worker.
+    fn act<R: Wait>(&mut self, rt: &R, config: &Config, boxes: &[PostBox])
+        requires { ArePosters boxes.now self.old.posters.items }
+        ensures posters { ArePosters boxes.now self.new.posters.items }
+        ensures accepts { Accepts config.now self.new }
+        ensures same { (self.new.publisher ≡ self.old.publisher) × (self.new.pressures ≡ self.old.pressures) }
+    {
         let states = action_states(config, self.pressures.as_slice());
         self.accepts = !is_saturated(states.stop_accepting);
         post_all(rt, boxes, self.posters.as_mut_slice());
     }
 }
 
-/// Makes rounds at the site, and looks and puts tokens each tenth of a second, until the workers are done. After a round that failed
-/// no further one is made.
+/// Makes rounds at the site, and looks and puts tokens each tenth of a second, until the workers have ended, or one of them otherwise
+/// than by its turns, or a round fails, or a worker hasn't begun within five seconds. Then the connections of the workers tell
+/// them to stop.
 pub(crate) fn lead<R: Wait + Clock, T: WireSite, P: Tokens, G: Gauge>(
     rt: &R,
     alloc: Global,
-    config: &Config,
-    boxes: &[PostBox],
-    done: &AtomicBool,
+    task: &Task<'_>,
+    shared: &Shared,
     leader: &mut Leader,
     tokens: &mut P,
     site: &mut T,
     gauge: &mut G,
-)
-    requires { Leads boxes.now leader.old }
-    ensures leads { Leads boxes.now leader.new }
+) -> LoopEnd
+    requires { Leads shared.now.posts.items leader.old }
+    ensures leads { Leads shared.now.posts.items leader.new }
     ensures wired { T.wired site.new ≡ T.wired site.old }
     ensures told { T.told site.new ≡ T.told site.old }
+    ensures failed { result ≡ LoopEnd.Round → Rose (T.faults site.old) (T.faults site.new) }
     ensures no_fall { T.faults site.old ≤ T.faults site.new }
 {
-    let mut due = now(rt, 0).saturating_add(PERIOD);
+    let end = make_rounds(rt, alloc, task, shared, leader, tokens, site, gauge);
+    site.stop();
+    end
+}
+
+// Makes rounds until there is a reason to stop.
+fn make_rounds<R: Wait + Clock, T: WireSite, P: Tokens, G: Gauge>(
+    rt: &R,
+    alloc: Global,
+    task: &Task<'_>,
+    shared: &Shared,
+    leader: &mut Leader,
+    tokens: &mut P,
+    site: &mut T,
+    gauge: &mut G,
+) -> LoopEnd
+    requires { Leads shared.now.posts.items leader.old }
+    ensures leads { Leads shared.now.posts.items leader.new }
+    ensures wired { T.wired site.new ≡ T.wired site.old }
+    ensures told { T.told site.new ≡ T.told site.old }
+    ensures failed { result ≡ LoopEnd.Round → Rose (T.faults site.old) (T.faults site.new) }
+    ensures no_fall { T.faults site.old ≤ T.faults site.new }
+{
+    let start = now(rt, 0);
+    let mut due = start.saturating_add(PERIOD);
     for _ in rt.forever() {
-        if done.load(Ordering::SeqCst) || site.round(leader.accepts).is_err() {
-            return;
+        if shared.over.load(Ordering::SeqCst) {
+            return LoopEnd::Workers;
+        }
+        if fails(site, leader.accepts) {
+            return LoopEnd::Round;
         }
         let moment = now(rt, due);
+        if is_late(shared, start, moment) {
+            return LoopEnd::Threads;
+        }
         if moment >= due {
-            leader.look(rt, alloc, config, gauge, boxes);
-            tokens.put(config.proxy.accept_rate);
-            due = moment.saturating_add(PERIOD);
+            leader.look(rt, alloc, task.config, gauge, shared.posts.as_slice());
+            tokens.put(task.config.proxy.accept_rate);
+            due = due.saturating_add(PERIOD).max(moment);
         }
     }
+    unreachable!()
+}
+
+// Makes a round, and answers whether it failed.
+fn fails<T: WireSite>(site: &mut T, accept: bool) -> bool
+    ensures wired { T.wired site.new ≡ T.wired site.old }
+    ensures told { T.told site.new ≡ T.told site.old }
+    ensures failed { result ≡ true → Rose (T.faults site.old) (T.faults site.new) }
+    ensures no_fall { T.faults site.old ≤ T.faults site.new }
+{
+    match site.round(accept) {
+        Ok(()) => false,
+        Err(Failed) => true,
+    }
+}
+
+// Whether a worker hasn't begun, though it had the time for it.
+fn is_late(shared: &Shared, start: u64, moment: u64) -> bool {
+    let begun = shared.begun.load(Ordering::SeqCst) as usize;
+    begun < shared.posts.len() && moment.saturating_sub(start) >= PATIENCE
 }
 
 // A box to which one poster posts.
@@ -155,9 +221,9 @@ fn post_all<R: Wait>(rt: &R, boxes: &[PostBox], posters: &mut [PosterPass])
 }
 
 // The moment now, in milliseconds; where the clock can't be read, this one.
-fn now<R: Clock>(rt: &R, else_: u64) -> u64 {
+fn now<R: Clock>(rt: &R, fallback: u64) -> u64 {
     match rt.monotonic() {
-        Ok(since_start) => u64::try_from(since_start.as_millis()).unwrap_or(else_),
-        Err(_) => else_,
+        Ok(since_start) => u64::try_from(since_start.as_millis()).unwrap_or(fallback),
+        Err(_) => fallback,
     }
 }

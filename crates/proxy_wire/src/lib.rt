@@ -8,16 +8,15 @@ mod form;
 mod giving_back;
 mod hiring;
 mod leading;
-mod loading;
 mod meter;
 mod metering;
 mod serve;
 mod serving;
 mod site;
+mod task;
 mod working;
 
 pub use end::WireEnd;
 pub use form::{ProxyForm, read_proxy_form};
 pub use serve::{ProxyReason, ProxyServed, serve_proxy};
-pub use serving::serve_wire;
 pub use site::WireSite;

@@ -1,24 +1,24 @@
 // The whole of the proxy, in all its forms.
-ghost use Rattle.std.specs.Prelude.{Ok, length, map, ℕ, ◌<◌, ◌^◌, ◌≡◌, ◌≢◌, ◌↔◌};
+ghost use Rattle.std.specs.Prelude.{map, ℕ, ◌≡◌, ◌≢◌, ◌↔◌};
 ghost use Rattle.std.specs.String.{string_bytes};
 ghost use Rattle.io_ports.specs.Faults.{Rose};
-ghost use Rattle.proxy_config.specs.Ranges.{IsInRange};
-ghost use Rattle.proxy_config.specs.Reading.{config_of};
 ghost use Rattle.proxy_site.specs.Relaying.{ServesRelay, SiteOrOut};
 ghost use Rattle.proxy_site.specs.Serving.{ServesUnder, TellsEnd};
 ghost use Rattle.proxy_wire.specs.Forms.{HasNoProxyForm, SpellsProxy};
 ghost use Rattle.proxy_wire.specs.Reasons.{proxy_status};
 ghost use Rattle.proxy_wire.specs.Serving.{ServesConfig, ServesWire};
+ghost use Rattle.proxy_wire.specs.Tasks.{IsTask};
+ghost use Rattle.worker_threads.specs.Starting.{outside_of};
 
 use crate::end::WireEnd;
 use crate::form::{ProxyForm, read_proxy_form};
-use crate::loading::load_text;
 use crate::serving::serve_wire;
 use crate::site::WireSite;
+use crate::task::Task;
 use io_ports::{Sink, Source};
-use proxy_config::{Config, ConfigFault, read_config};
+use proxy_config::{ConfigFault, read_config};
 use proxy_site::{ServeReason, Status, end_at_config, serve_with_reason};
-use session_config::ConfigEnd;
+use session_config::{ConfigEnd, load_text};
 use std::alloc::Global;
 use std::sync::Wait;
 use std::thread::Threads;
@@ -67,7 +67,7 @@ where
     ensures usage { (result.status ≡ Status.Usage) ↔ HasNoProxyForm (map string_bytes words.now) }
     ensures nothing { result.status ≡ Status.Usage → (config.new ≡ config.old) × (site.new ≡ site.old) × (out.new ≡ out.old) }
     ensures relay { (n : ℕ) → SpellsProxy (map string_bytes words.now) (ProxyForm.Relay n) → ServesUnder (λ c. ServesRelay T.T.seen T.J.contents c n (T.told site.old) (T.told site.new) (K.contents out.old) (K.contents out.new) result.status) (S.left config.old) (S.left config.new) (T.told site.old) (T.told site.new) (K.contents out.old) (K.contents out.new) result.status }
-    ensures wire { (n : ℕ) → SpellsProxy (map string_bytes words.now) (ProxyForm.Wire n) → ServesConfig (λ c. ServesWire T.W.Wires (record { seen = T.W.seen; moments = T.C.moments; text = T.L.contents; told = T.L.told; wires_faults = T.W.faults; journal_faults = T.L.faults }) c n (T.told site.old) (T.told site.new) (T.wired site.old) (T.wired site.new) (K.contents out.old) (K.contents out.new) result.status) (S.left config.old) (S.left config.new) (T.told site.old) (T.told site.new) (T.wired site.old) (T.wired site.new) (K.contents out.old) (K.contents out.new) result.status }
+    ensures wire { (n : ℕ) → SpellsProxy (map string_bytes words.now) (ProxyForm.Wire n) → ServesConfig (λ c. ServesWire T.W.Wires (outside_of T.W.Wires T.C.moments T.L.contents T.L.told T.L.faults) c n (T.told site.old) (T.told site.new) (T.wired site.old) (T.wired site.new) (K.contents out.old) (K.contents out.new) result.status) (S.left config.old) (S.left config.new) (T.told site.old) (T.told site.new) (T.wired site.old) (T.wired site.new) (K.contents out.old) (K.contents out.new) result.status }
     ensures told { result.status ≡ proxy_status result.reason }
     ensures read_fault { result.status ≡ Status.ReadFault → Rose (S.faults config.old) (S.faults config.new) }
     ensures write_fault { SiteOrOut result.status (T.faults site.old) (T.faults site.new) (K.faults out.old) (K.faults out.new) }
@@ -91,7 +91,7 @@ where
 }
 
 // Reads the configuration, and runs its workers.
-#[tactic(auto, using(crate::proofs::Whole::unread, crate::proofs::Whole::served_whole, crate::proofs::Whole::short_text, crate::proofs::Whole::fault_read, crate::proofs::Whole::fault_other, crate::proofs::Whole::out_fault))]
+#[tactic(auto, using(crate::proofs::Whole::unread, crate::proofs::Whole::served_whole, crate::proofs::Whole::short_text, crate::proofs::Whole::is_task, crate::proofs::Whole::fault_read, crate::proofs::Whole::fault_other, crate::proofs::Whole::out_fault))]
 fn serve_workers<R, S, T, G, K>(
     rt: &R,
     alloc: Global,
@@ -111,7 +111,7 @@ where
     G: Gauge,
     K: Sink,
     ensures some { result.status ≡ Status.Usage → ⊥ }
-    ensures wire { ServesConfig (λ c. ServesWire T.W.Wires (record { seen = T.W.seen; moments = T.C.moments; text = T.L.contents; told = T.L.told; wires_faults = T.W.faults; journal_faults = T.L.faults }) c turns (T.told site.old) (T.told site.new) (T.wired site.old) (T.wired site.new) (K.contents out.old) (K.contents out.new) result.status) (S.left source.old) (S.left source.new) (T.told site.old) (T.told site.new) (T.wired site.old) (T.wired site.new) (K.contents out.old) (K.contents out.new) result.status }
+    ensures wire { ServesConfig (λ c. ServesWire T.W.Wires (outside_of T.W.Wires T.C.moments T.L.contents T.L.told T.L.faults) c turns (T.told site.old) (T.told site.new) (T.wired site.old) (T.wired site.new) (K.contents out.old) (K.contents out.new) result.status) (S.left source.old) (S.left source.new) (T.told site.old) (T.told site.new) (T.wired site.old) (T.wired site.new) (K.contents out.old) (K.contents out.new) result.status }
     ensures told { result.status ≡ proxy_status result.reason }
     ensures read_fault { result.status ≡ Status.ReadFault → Rose (S.faults source.old) (S.faults source.new) }
     ensures write_fault { SiteOrOut result.status (T.faults site.old) (T.faults site.new) (K.faults out.old) (K.faults out.new) }
@@ -121,19 +121,24 @@ where
         Err(end) => return end_without(alloc, end, out),
     };
     match read_config(alloc, text.as_slice()) {
-        Ok(config) => serve_under(rt, alloc, &config, text.as_slice(), turns, site, gauge, out),
+        Ok(config) => {
+            let task = Task {
+                config: &config,
+                text: text.as_slice(),
+                turns,
+            };
+            serve_under(rt, alloc, &task, site, gauge, out)
+        }
         Err(fault) => end_without(alloc, refused(fault), out),
     }
 }
 
-// Runs the workers of a configuration, which was read from this text.
-#[tactic(auto, using(crate::proofs::Whole::wire_no_usage, crate::proofs::Whole::wire_no_read))]
+// Runs the workers under a configuration.
+#[tactic(auto, using(crate::proofs::Whole::wire_no_usage, crate::proofs::Whole::wire_no_read, crate::proofs::Served::so_served, crate::proofs::Served::so_caused))]
 fn serve_under<R, T, G, K>(
     rt: &R,
     alloc: Global,
-    config: &Config,
-    text: &[u8],
-    turns: u64,
+    task: &Task<'_>,
     site: &mut T,
     gauge: &mut G,
     out: &mut K,
@@ -146,16 +151,14 @@ where
     T::L: Send,
     G: Gauge,
     K: Sink,
-    requires is { config_of text.now ≡ Ok config.now }
-    requires in_range { IsInRange config.now }
-    requires text { length text.now < 2 ^ 32 }
-    ensures serves { ServesWire T.W.Wires (record { seen = T.W.seen; moments = T.C.moments; text = T.L.contents; told = T.L.told; wires_faults = T.W.faults; journal_faults = T.L.faults }) config.now turns (T.told site.old) (T.told site.new) (T.wired site.old) (T.wired site.new) (K.contents out.old) (K.contents out.new) result.status }
+    requires task { IsTask task.now }
+    ensures serves { ServesWire T.W.Wires (outside_of T.W.Wires T.C.moments T.L.contents T.L.told T.L.faults) task.now.config.now task.now.turns (T.told site.old) (T.told site.new) (T.wired site.old) (T.wired site.new) (K.contents out.old) (K.contents out.new) result.status }
     ensures some { result.status ≡ Status.Usage → ⊥ }
     ensures read { result.status ≡ Status.ReadFault → ⊥ }
     ensures told { result.status ≡ proxy_status result.reason }
     ensures write_fault { SiteOrOut result.status (T.faults site.old) (T.faults site.new) (K.faults out.old) (K.faults out.new) }
 {
-    let end = serve_wire(rt, alloc, config, text, turns, site, gauge, out);
+    let end = serve_wire(rt, alloc, task, site, gauge, out);
     ProxyServed {
         status: end.status(),
         reason: ProxyReason::Wire(end),

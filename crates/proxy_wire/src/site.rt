@@ -47,12 +47,17 @@ pub trait WireSite: Site {
         ensures no_fall { Self.faults self.old ≤ Self.faults self.new }
         ensures cause { result ≡ Err refusal.Failed → Rose (Self.faults self.old) (Self.faults self.new) };
 
-    /// Waits at most a tenth of a second, and hands the clients that came to the workers in turn, if any are to be accepted. After a
-    /// failure the connections of the workers tell them to stop.
+    /// Waits at most a tenth of a second, and hands the clients that came to the workers in turn, if any are to be accepted.
     fn round(&mut self, accept: bool) -> Result<(), Failed>
         ensures wired { wired self.new ≡ wired self.old }
         ensures told { Self.told self.new ≡ Self.told self.old }
         ensures cause { FailsByFault (Self.faults self.old) (Self.faults self.new) result };
+
+    /// From now on the connections of the workers tell them to stop. No round is made behind it.
+    fn stop(&mut self)
+        ensures wired { wired self.new ≡ wired self.old }
+        ensures told { Self.told self.new ≡ Self.told self.old }
+        ensures no_fall { Self.faults self.old ≤ Self.faults self.new };
 
     /// Takes back what a worker worked over. Where the one or the other has failed, that counts as a failure of the site.
     fn give_back(&mut self, worker: u32, wires: Self::W, journal: Self::L)

@@ -1,49 +1,45 @@
 // The workers are fitted, run, and what they worked over is given back.
-ghost use Rattle.std.specs.Prelude.{All, IfErr, OnOk, length, slice_index_or, vec_capacity, vec_len, ℕ, ◌<◌, ◌^◌, ◌≡◌, ◌≤◌, ◌⊎◌};
+ghost use Rattle.std.specs.Prelude.{All, IfErr, OnOk, length, slice_index_or, vec_capacity, vec_len, ℕ, ◌<◌, ◌≡◌, ◌≤◌, ◌⊎◌};
 ghost use Rattle.std.specs.Io.KnownBytes.{Appends};
 ghost use Rattle.io_ports.specs.Faults.{Rose};
 ghost use Rattle.proxy_site.specs.Relaying.{IsCutShort, SiteOrOut, listening_line};
-ghost use Rattle.proxy_wire.specs.Crews.{IsPaid, OneFailed, SharesOf};
+ghost use Rattle.proxy_wire.specs.Crews.{IsPaid, IsStaff, OneFailed, SharesOf};
 ghost use Rattle.proxy_wire.specs.Leading.{Leads};
 ghost use Rattle.proxy_wire.specs.Runs.{CrewWorks, WorksAll};
 ghost use Rattle.proxy_wire.specs.Serving.{AllRan, NoneRan, wire_status};
+ghost use Rattle.proxy_wire.specs.Tasks.{IsTask};
 ghost use Rattle.session_run.specs.Ends.{AppendsFront};
 ghost use Rattle.session_run.specs.declared.status.Status.TheVariants as status;
 ghost use Rattle.shared_state.specs.PermitSeats.{IsSeatOf, seats_in};
-ghost use Rattle.worker_threads.specs.Starting.{IsReady};
+ghost use Rattle.worker_threads.specs.Starting.{IsReady, outside_of};
 
 use crate::beside::run_beside;
-use crate::crew::{Crew, Supply};
-use crate::end::WireEnd;
+use crate::crew::{Crew, Staff, Supply};
+use crate::end::{WireEnd, end_of};
 use crate::giving_back::give_back_all;
 use crate::hiring::hire_all;
 use crate::leading::Leader;
 use crate::meter::Meter;
 use crate::site::WireSite;
-use io_ports::{Failed, NoMemory, Octets, Sink};
-use proxy_config::Config;
+use crate::task::Task;
+use io_ports::{Failed, Octets, Sink};
+use proxy_site::put_listening;
 use session_run::write_all;
 use std::alloc::Global;
 use std::sync::Wait;
-use std::sync::atomic::AtomicBool;
 use std::thread::Threads;
 use std::time::Clock;
 use worker_ports::{Gauge, OpenGate};
 use worker_threads::{Shared, Worker};
 
-/// Fits the workers of the configuration, which was read from this text, runs so many turns of each, and gives back what they worked
-/// over.
+/// Fits the configuration's workers, runs so many turns of each, and gives back what they worked over.
 #[tactic(auto, using(crate::proofs::Running::crew_back, crate::proofs::Running::none_begun, crate::proofs::Running::fault_of_one))]
 pub(crate) fn run<R, T, M, G, K>(
     rt: &R,
     alloc: Global,
-    config: &Config,
-    text: &[u8],
-    turns: u64,
+    task: &Task<'_>,
     address: &Octets,
-    shared: Shared,
-    mut supply: Supply,
-    mut meter: M,
+    staff: Staff<M>,
     leader: &mut Leader,
     site: &mut T,
     gauge: &mut G,
@@ -58,38 +54,37 @@ where
     T::L: Send,
     G: Gauge,
     K: Sink,
-    requires text { length text.now < 2 ^ 32 }
-    requires shares { SharesOf config.now shared }
-    requires none { vec_len shared.posts ≡ 0 }
-    requires seats { All (IsSeatOf shared.permits) (seats_in supply.seats) }
-    requires leads { Leads shared.posts.items leader.old }
-    ensures ran { NoneRan T.W.seen T.L.contents config.now address.now (T.wired site.old) (T.wired site.new) (K.contents out.old) (K.contents out.new) (wire_status result)
-        ⊎ AllRan M.bare (record { seen = M.Metered.seen; moments = T.C.moments; text = T.L.contents; told = T.L.told; wires_faults = M.Metered.faults; journal_faults = T.L.faults }) config.now turns address.now (T.wired site.old) (T.wired site.new) (K.contents out.old) (K.contents out.new) (wire_status result) }
+    requires task { IsTask task.now }
+    requires staff { IsStaff task.now.config.now staff }
+    requires leads { Leads staff.shared.posts.items leader.old }
+    ensures ran { NoneRan T.W.seen T.L.contents task.now.config.now address.now (T.wired site.old) (T.wired site.new) (K.contents out.old) (K.contents out.new) (wire_status result)
+        ⊎ AllRan M.bare (outside_of M.Metered.Wires T.C.moments T.L.contents T.L.told T.L.faults) task.now.config.now task.now.turns address.now (T.wired site.old) (T.wired site.new) (K.contents out.old) (K.contents out.new) (wire_status result) }
     ensures told { T.told site.new ≡ T.told site.old }
     ensures write_fault { SiteOrOut (wire_status result) (T.faults site.old) (T.faults site.new) (K.faults out.old) (K.faults out.new) }
     ensures no_fall { (T.faults site.old ≤ T.faults site.new) × (K.faults out.old ≤ K.faults out.new) }
 {
-    let Ok(workers) = Vec::with_capacity(alloc, config.proxy.workers as usize) else {
+    let Ok(workers) = Vec::with_capacity(alloc, task.config.proxy.workers as usize) else {
+        drop(staff);
         return WireEnd::Memory;
     };
+    let Staff { shared, mut supply } = staff;
     let mut crew = Crew { workers, shared };
     let end = work_crew(
         rt,
         alloc,
-        config,
-        text,
-        turns,
+        task,
         address,
         &mut supply,
-        &mut meter,
         leader,
         site,
         gauge,
         out,
         &mut crew,
     );
+    drop(supply);
     let Crew { workers, shared } = crew;
     give_back_all::<T, M>(site, &shared.permits, workers);
+    drop(shared);
     end
 }
 
@@ -98,12 +93,9 @@ where
 fn work_crew<R, T, M, G, K>(
     rt: &R,
     alloc: Global,
-    config: &Config,
-    text: &[u8],
-    turns: u64,
+    task: &Task<'_>,
     address: &Octets,
-    supply: &mut Supply,
-    meter: &mut M,
+    supply: &mut Supply<M>,
     leader: &mut Leader,
     site: &mut T,
     gauge: &mut G,
@@ -119,28 +111,27 @@ where
     T::L: Send,
     G: Gauge,
     K: Sink,
-    requires text { length text.now < 2 ^ 32 }
-    requires shares { SharesOf config.now crew.old.shared }
+    requires task { IsTask task.now }
+    requires shares { SharesOf task.now.config.now crew.old.shared }
     requires none { (vec_len crew.old.workers ≡ 0) × (vec_len crew.old.shared.posts ≡ 0) }
-    requires room { config.now.proxy.workers ≤ vec_capacity crew.old.workers }
+    requires room { task.now.config.now.proxy.workers ≤ vec_capacity crew.old.workers }
     requires seats { All (IsSeatOf crew.old.shared.permits) (seats_in supply.old.seats) }
     requires leads { Leads crew.old.shared.posts.items leader.old }
-    ensures works { CrewWorks M.bare (record { seen = M.Metered.seen; moments = T.C.moments; text = T.L.contents; told = T.L.told; wires_faults = M.Metered.faults; journal_faults = T.L.faults }) config.now turns address.now crew.new.shared (T.wired site.old) (T.wired site.new) crew.new.workers.items (K.contents out.old) (K.contents out.new) result }
+    ensures works { CrewWorks M.bare (outside_of M.Metered.Wires T.C.moments T.L.contents T.L.told T.L.faults) task.now.config.now task.now.turns address.now crew.new.shared (T.wired site.old) (T.wired site.new) crew.new.workers.items (K.contents out.old) (K.contents out.new) result }
     ensures paid { All (IsPaid crew.new.shared.permits) crew.new.workers.items }
-    ensures few { vec_len crew.new.workers ≤ config.now.proxy.workers }
-    ensures cause { wire_status result ≡ status.WriteFault → (Rose (T.faults site.old) (T.faults site.new) ⊎ Rose (K.faults out.old) (K.faults out.new)) ⊎ OneFailed (record { seen = M.Metered.seen; moments = T.C.moments; text = T.L.contents; told = T.L.told; wires_faults = M.Metered.faults; journal_faults = T.L.faults }) crew.new.workers.items }
+    ensures few { vec_len crew.new.workers ≤ task.now.config.now.proxy.workers }
+    ensures cause { wire_status result ≡ status.WriteFault → (Rose (T.faults site.old) (T.faults site.new) ⊎ Rose (K.faults out.old) (K.faults out.new)) ⊎ OneFailed (outside_of M.Metered.Wires T.C.moments T.L.contents T.L.told T.L.faults) crew.new.workers.items }
     ensures told { T.told site.new ≡ T.told site.old }
     ensures no_fall { (T.faults site.old ≤ T.faults site.new) × (K.faults out.old ≤ K.faults out.new) }
 {
-    match hire_all(alloc, config, text, supply, meter, leader, site, crew) {
+    match hire_all(alloc, task, supply, leader, site, crew) {
         Ok(()) => work_all(
             rt,
             alloc,
-            config,
-            turns,
+            task,
             address,
             &crew.shared,
-            meter,
+            &mut supply.meter,
             leader,
             site,
             gauge,
@@ -152,12 +143,11 @@ where
 }
 
 // Runs workers that are fitted, once it is told where the proxy listens.
-#[tactic(auto, using(crate::proofs::Running::works_none, crate::proofs::Running::works_each))]
+#[tactic(auto, using(crate::proofs::Running::works_none, crate::proofs::Running::works_by, crate::proofs::Running::cause_by))]
 fn work_all<R, T, M, G, K>(
     rt: &R,
     alloc: Global,
-    config: &Config,
-    turns: u64,
+    task: &Task<'_>,
     address: &Octets,
     shared: &Shared,
     meter: &mut M,
@@ -176,10 +166,10 @@ where
     T::L: Send,
     G: Gauge,
     K: Sink,
-    requires ready { (i : ℕ) (w : _) → i < length workers.old → IsReady (record { seen = M.Metered.seen; moments = T.C.moments; text = T.L.contents; told = T.L.told; wires_faults = M.Metered.faults; journal_faults = T.L.faults }) shared.now i (slice_index_or workers.old i w) }
+    requires ready { (i : ℕ) (w : _) → i < length workers.old → IsReady (outside_of M.Metered.Wires T.C.moments T.L.contents T.L.told T.L.faults) shared.now i (slice_index_or workers.old i w) }
     requires leads { Leads shared.now.posts.items leader.old }
-    ensures works { WorksAll (record { seen = M.Metered.seen; moments = T.C.moments; text = T.L.contents; told = T.L.told; wires_faults = M.Metered.faults; journal_faults = T.L.faults }) shared.now turns address.now workers.old workers.new (K.contents out.old) (K.contents out.new) result }
-    ensures cause { wire_status result ≡ status.WriteFault → Rose (K.faults out.old) (K.faults out.new) ⊎ OneFailed (record { seen = M.Metered.seen; moments = T.C.moments; text = T.L.contents; told = T.L.told; wires_faults = M.Metered.faults; journal_faults = T.L.faults }) workers.new }
+    ensures works { WorksAll (outside_of M.Metered.Wires T.C.moments T.L.contents T.L.told T.L.faults) shared.now task.now.turns address.now workers.old workers.new (K.contents out.old) (K.contents out.new) result }
+    ensures cause { wire_status result ≡ status.WriteFault → (Rose (T.faults site.old) (T.faults site.new) ⊎ Rose (K.faults out.old) (K.faults out.new)) ⊎ OneFailed (outside_of M.Metered.Wires T.C.moments T.L.contents T.L.told T.L.faults) workers.new }
     ensures wired { T.wired site.new ≡ T.wired site.old }
     ensures told { T.told site.new ≡ T.told site.old }
     ensures no_fall { (T.faults site.old ≤ T.faults site.new) × (K.faults out.old ≤ K.faults out.new) }
@@ -187,16 +177,10 @@ where
     if let Err(end) = tell_listening(alloc, address, out) {
         return end;
     }
-    leader.look(rt, alloc, config, gauge, shared.posts.as_slice());
-    meter.put(config.proxy.accept_rate);
-    let done = AtomicBool::new(false);
-    let ends = run_beside(
-        rt, alloc, config, turns, shared, &done, leader, meter, site, gauge, workers,
-    );
-    match ends {
-        Ok(ends) => WireEnd::Workers(ends),
-        Err(NoMemory) => WireEnd::Memory,
-    }
+    leader.look(rt, alloc, task.config, gauge, shared.posts.as_slice());
+    meter.put(task.config.proxy.accept_rate);
+    let (ends, led) = run_beside(rt, alloc, task, shared, leader, meter, site, gauge, workers);
+    end_of(ends, led)
 }
 
 fn tell_listening<K: Sink>(alloc: Global, address: &Octets, out: &mut K) -> Result<(), WireEnd>
@@ -207,9 +191,7 @@ fn tell_listening<K: Sink>(alloc: Global, address: &Octets, out: &mut K) -> Resu
     ensures no_fall { K.faults out.old ≤ K.faults out.new }
 {
     let mut line = Octets::new(alloc);
-    line.push_all(b"listening ")?;
-    line.push_all(address.as_slice())?;
-    line.push_all(b"\n")?;
+    put_listening(address.as_slice(), &mut line)?;
     match write_all(out, line.as_slice()) {
         Ok(()) => Ok(()),
         Err(Failed) => Err(WireEnd::Write),

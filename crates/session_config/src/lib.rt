@@ -6,6 +6,6 @@ mod load;
 mod names;
 mod refusal;
 
-pub use load::{ConfigEnd, load_config};
+pub use load::{ConfigEnd, load_config, load_text};
 pub use names::names_of;
 pub use refusal::{put_key, put_refusal};

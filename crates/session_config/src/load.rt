@@ -33,7 +33,7 @@ pub fn load_config<C: Source>(alloc: Global, source: &mut C) -> Result<Config, C
     ensures cause { CausesFault (C.faults source.old) (C.faults source.new) result }
     ensures no_fall { C.faults source.old ≤ C.faults source.new }
 {
-    let text = read_whole(alloc, source)?;
+    let text = load_text(alloc, source)?;
     match read_config(alloc, text.as_slice()) {
         Ok(config) => Ok(config),
         Err(ConfigFault::NoMemory) => Err(ConfigEnd::Memory),
@@ -41,8 +41,8 @@ pub fn load_config<C: Source>(alloc: Global, source: &mut C) -> Result<Config, C
     }
 }
 
-// Reads to the end, or until there are too many octets.
-fn read_whole<C: Source>(alloc: Global, source: &mut C) -> Result<Octets, ConfigEnd>
+/// Reads a source to its end, or until there are too many octets for a configuration.
+pub fn load_text<C: Source>(alloc: Global, source: &mut C) -> Result<Octets, ConfigEnd>
     ensures reads { ReadsWhole (C.left source.old) (C.left source.new) result }
     ensures cause { CausesFault (C.faults source.old) (C.faults source.new) result }
     ensures no_fall { C.faults source.old ≤ C.faults source.new }

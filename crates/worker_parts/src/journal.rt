@@ -42,13 +42,14 @@ pub trait Journal: Sink {
 }
 
 /// Writes the first line of a journal, or a front of it where it fails.
-pub fn begin_journal<J: Sink>(journal: &mut J) -> Result<(), Failed>
+pub fn begin_journal<J: Journal>(journal: &mut J) -> Result<(), Failed>
     ensures ok { OnOk result (Appends (J.contents journal.old) (J.contents journal.new) header) }
     ensures front { AppendsFront (J.contents journal.old) (J.contents journal.new) header }
+    ensures told { J.told journal.new ≡ J.told journal.old }
     ensures cause { OnErr result (Rose (J.faults journal.old) (J.faults journal.new)) }
     ensures no_fall { J.faults journal.old ≤ J.faults journal.new }
 {
-    write_all(journal, HEADER)
+    journal.line(HEADER)
 }
 
 impl<W: Write> Journal for StdSink<W> {

@@ -19,6 +19,7 @@ use Rattle.worker_loop.specs.declared.ended.Ended.{Ended}
 use Rattle.worker_loop.specs.declared.ended.Ended.TheVariants as ended
 use Rattle.worker_parts.specs.Held.{with_fewer}
 use Rattle.worker_ports.specs.Wires.{Seen}
+use Rattle.worker_ports.specs.declared.wires.Wires.{Ghosts}
 use Rattle.worker_threads.specs.declared.worker.Shared.{Shared}
 use Rattle.worker_threads.specs.declared.worker.Worker.{Worker}
 
@@ -30,6 +31,10 @@ pub record Outside (W C J : Type 0) : Type 0 where
   pub told : J → Option (List Note)
   pub wires_faults : W → ℕ
   pub journal_faults : J → ℕ
+
+-- by what these types tell: connections, a clock's moments, and a journal's text, notes and faults
+abbrev pub outside_of : {W C J : Type 0} → Ghosts W → (C → Option (List ℕ)) → (J → Option (List ℕ)) → (J → Option (List Note)) → (J → ℕ) → Outside W C J
+outside_of wires moments text told faults = record { seen = wires.seen; moments = moments; text = text; told = told; wires_faults = wires.faults; journal_faults = faults }
 
 -- the pass is of the box at this place
 abbrev pub IsRunnerAt : Shared → ℕ → RunnerPass → Type 0

@@ -1,19 +1,21 @@
 // Starting the workers.
 ghost use Rattle.std.specs.Prelude.{◌≡◌, ◌<◌, ◌≤◌, IfOk, OnErr, [], length, map, slice_index_or, vec_capacity, ℕ};
-ghost use Rattle.worker_threads.specs.Starting.{HasWorked, IsReady, WorkedEach, end_of};
+ghost use Rattle.worker_threads.specs.Starting.{HasWorked, IsReady, WorkedEach, end_of, outside_of};
 
 use crate::worker::{Shared, Worker};
 use io_ports::NoMemory;
 use std::alloc::Global;
 use std::mem;
 use std::sync::Wait;
+use std::sync::atomic::Ordering;
 use std::thread::{Threads, for_each_mut};
 use worker_loop::{Ended, HeldPermits, Journal, work};
 use worker_ports::{Clock, Gate, Wires};
 
 /// Runs so many turns of each worker, each in a thread of its own, and gives their permits back. Once all have ended, it answers how, in
 /// their order. Its memory is taken first: after `NoMemory` no turn was run. Where a thread can't be made, workers run one after
-/// another.
+/// another. Each counts itself in `begun` as it begins, and the first that ends otherwise than by its turns raises `over`; the others
+/// go on until their connections tell them to stop.
 #[tactic(auto, using(crate::proofs::Readying::all_worked, crate::proofs::Readying::none_worked))]
 pub fn start_workers<R, W, C, G, J>(
     rt: &R,
@@ -28,8 +30,8 @@ where
     C: Clock + Send,
     G: Gate + Send,
     J: Journal + Send,
-    requires ready { (i : ℕ) (w : _) → i < length workers.old → IsReady (record { seen = W.seen; moments = C.moments; text = J.contents; told = J.told; wires_faults = W.faults; journal_faults = J.faults }) shared.now i (slice_index_or workers.old i w) }
-    ensures ok { IfOk result (λ ends. WorkedEach (record { seen = W.seen; moments = C.moments; text = J.contents; told = J.told; wires_faults = W.faults; journal_faults = J.faults }) shared.now turns workers.old ends.items workers.new) }
+    requires ready { (i : ℕ) (w : _) → i < length workers.old → IsReady (outside_of W.Wires C.moments J.contents J.told J.faults) shared.now i (slice_index_or workers.old i w) }
+    ensures ok { IfOk result (λ ends. WorkedEach (outside_of W.Wires C.moments J.contents J.told J.faults) shared.now turns workers.old ends.items workers.new) }
     ensures err { OnErr result (workers.new ≡ workers.old) }
 {
     let ends = Vec::with_capacity(alloc, workers.len())?;
@@ -69,9 +71,9 @@ where
     G: Gate + Send,
     J: Journal + Send,
     requires some { 0 < length workers.old }
-    requires ready { (i : ℕ) (w : _) → i < length workers.old → IsReady (record { seen = W.seen; moments = C.moments; text = J.contents; told = J.told; wires_faults = W.faults; journal_faults = J.faults }) shared.now i (slice_index_or workers.old i w) }
+    requires ready { (i : ℕ) (w : _) → i < length workers.old → IsReady (outside_of W.Wires C.moments J.contents J.told J.faults) shared.now i (slice_index_or workers.old i w) }
     ensures len { length workers.new ≡ length workers.old }
-    ensures each { (i : ℕ) (w : _) → i < length workers.old → HasWorked (record { seen = W.seen; moments = C.moments; text = J.contents; told = J.told; wires_faults = W.faults; journal_faults = J.faults }) shared.now i turns (slice_index_or workers.old i w) (slice_index_or workers.new i w) }
+    ensures each { (i : ℕ) (w : _) → i < length workers.old → HasWorked (outside_of W.Wires C.moments J.contents J.told J.faults) shared.now i turns (slice_index_or workers.old i w) (slice_index_or workers.new i w) }
 {
     let count = workers.len();
     for_each_mut(
@@ -82,7 +84,7 @@ where
     );
 }
 
-// Runs the turns of the worker at this place, and gives its permits back.
+// Runs the turns of the worker at this place, tells the others of them, and gives its permits back.
 fn run_worker<R: Wait, W: Wires, C: Clock, G: Gate, J: Journal>(
     rt: &R,
     alloc: Global,
@@ -91,9 +93,10 @@ fn run_worker<R: Wait, W: Wires, C: Clock, G: Gate, J: Journal>(
     worker: &mut Worker<W, C, G, J>,
     turns: u64,
 )
-    requires { IsReady (record { seen = W.seen; moments = C.moments; text = J.contents; told = J.told; wires_faults = W.faults; journal_faults = J.faults }) shared.now place worker.old }
-    ensures { HasWorked (record { seen = W.seen; moments = C.moments; text = J.contents; told = J.told; wires_faults = W.faults; journal_faults = J.faults }) shared.now place turns worker.old worker.new }
+    requires { IsReady (outside_of W.Wires C.moments J.contents J.told J.faults) shared.now place worker.old }
+    ensures { HasWorked (outside_of W.Wires C.moments J.contents J.told J.faults) shared.now place turns worker.old worker.new }
 {
+    shared.begun.fetch_add(1, Ordering::SeqCst);
     let ended = work(
         rt,
         alloc,
@@ -111,7 +114,15 @@ fn run_worker<R: Wait, W: Wires, C: Clock, G: Gate, J: Journal>(
         &shared.names,
         turns,
     );
+    tell_end(shared, ended);
     worker.ended = Some(ended);
     let kept = mem::replace(&mut worker.held, HeldPermits::new(alloc));
     kept.give_back(&shared.permits, &mut worker.seat);
+}
+
+// Raises `over` where one has ended otherwise than by its turns.
+fn tell_end(shared: &Shared, ended: Ended) {
+    if ended != Ended::Turns {
+        shared.over.store(true, Ordering::SeqCst);
+    }
 }

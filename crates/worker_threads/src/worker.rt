@@ -2,15 +2,20 @@
 use flow_notes::Names;
 use post_queue::{PostBox, RunnerPass};
 use shared_state::{Follower, PermitSeat, Permits};
+use std::sync::atomic::{AtomicBool, AtomicU32};
 use worker_core::Core;
 use worker_loop::{Ended, HeldPermits};
 
-/// What the workers share: a box of posts for each, in their order, the permits, and the names of the clusters.
+/// What the workers share: a box of posts for each, in their order, the permits, the names of the clusters, and how far they are.
 #[derive(Drop)]
 pub struct Shared {
     pub posts: Vec<PostBox>,
     pub permits: Permits,
     pub names: Names,
+    /// How many workers have begun.
+    pub begun: AtomicU32,
+    /// Whether one has ended otherwise than by its turns.
+    pub over: AtomicBool,
 }
 
 /// A worker. It can't be dropped while it keeps permits: `HeldPermits::give_back` ends those.

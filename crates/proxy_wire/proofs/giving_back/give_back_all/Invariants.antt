@@ -2,6 +2,7 @@ use Rattle.io_ports.specs.Faults.{Rose}
 use Rattle.proxy_wire.specs.Crews.{IsPaid, OneFailed, back_of}
 use Rattle.proxy_wire.specs.Sites.{TellsReturned, numbered}
 use Rattle.std.proofs.Common.{All, map, reverse, vec_len, ◌<◌, ◌^◌, ◌≡◌, ◌≤◌, ◌⊎◌}
+use Rattle.worker_threads.specs.Starting.{outside_of}
 use Rattle.proxy_wire.proofs.giving_back.give_back_all.Given as goal
 
 abbrev pub invariant-loop-worker : goal.invariant-loop-worker
@@ -10,7 +11,7 @@ invariant-loop-worker g l = record {
   paid : All (IsPaid l.permits) l.workers.items;
   wired : (end : _) → TellsReturned (g.T.WireSite.wired l.site) (reverse (numbered 1 (map (back_of g.M.Meter.bare) l.workers.items))) end → TellsReturned (g.T.WireSite.wired l.fn.site) (reverse (numbered 1 (map (back_of g.M.Meter.bare) l.initial.workers.items))) end;
   told : g.T.Site.told l.site ≡ g.T.Site.told l.fn.site;
-  count : OneFailed (record { seen = g.M.Metered.Wires.seen; moments = g.T.C.Clock.moments; text = g.T.L.Sink.contents; told = g.T.L.Journal.told; wires_faults = g.M.Metered.Wires.faults; journal_faults = g.T.L.Sink.faults }) l.initial.workers.items → Rose (g.T.Site.faults l.fn.site) (g.T.Site.faults l.site) ⊎ OneFailed (record { seen = g.M.Metered.Wires.seen; moments = g.T.C.Clock.moments; text = g.T.L.Sink.contents; told = g.T.L.Journal.told; wires_faults = g.M.Metered.Wires.faults; journal_faults = g.T.L.Sink.faults }) l.workers.items;
+  count : OneFailed (outside_of g.M.Metered.Wires g.T.C.Clock.moments g.T.L.Sink.contents g.T.L.Journal.told g.T.L.Sink.faults) l.initial.workers.items → Rose (g.T.Site.faults l.fn.site) (g.T.Site.faults l.site) ⊎ OneFailed (outside_of g.M.Metered.Wires g.T.C.Clock.moments g.T.L.Sink.contents g.T.L.Journal.told g.T.L.Sink.faults) l.workers.items;
   no_fall : g.T.Site.faults l.fn.site ≤ g.T.Site.faults l.site;
 }
 

@@ -3,6 +3,7 @@ use Rattle.proxy_wire.proofs.Asked.{has_form, no_relay, no_wire, relay_has_form,
 use Rattle.proxy_wire.specs.Serving.{ServesConfig, ServesWire}
 use Rattle.std.specs.Prelude.{map, ℕ}
 use Rattle.std.specs.String.{string_bytes}
+use Rattle.worker_threads.specs.Starting.{outside_of}
 use Rattle.proxy_wire.proofs.serve.serve_proxy.Goals as goal
 use Rattle.proxy_wire.specs.declared.form.ProxyForm.TheVariants as form
 
@@ -17,7 +18,7 @@ returns-in-Some-Wire-clause-relay g c n asked = no_relay _ (map string_bytes c.a
 
 pub returns-in-Some-Wire-clause-wire : goal.returns-in-Some-Wire-clause-wire
 returns-in-Some-Wire-clause-wire g c n asked =
-    let serves : ℕ → Type 0 = λ m. ServesConfig (λ config. ServesWire g.T.W.Wires (record { seen = g.T.W.Wires.seen; moments = g.T.C.Clock.moments; text = g.T.L.Sink.contents; told = g.T.L.Journal.told; wires_faults = g.T.W.Wires.faults; journal_faults = g.T.L.Sink.faults }) config m
+    let serves : ℕ → Type 0 = λ m. ServesConfig (λ config. ServesWire g.T.W.Wires (outside_of g.T.W.Wires g.T.C.Clock.moments g.T.L.Sink.contents g.T.L.Journal.told g.T.L.Sink.faults) config m
     (g.T.Site.told c.args.site.now) (g.T.Site.told c.serve_workers.new.site) (g.T.WireSite.wired c.args.site.now) (g.T.WireSite.wired c.serve_workers.new.site) (g.K.Sink.contents c.args.out.now) (g.K.Sink.contents c.serve_workers.new.out) c.serve_workers.result.status)
     (g.S.Source.left c.args.config.now) (g.S.Source.left c.serve_workers.new.source) (g.T.Site.told c.args.site.now) (g.T.Site.told c.serve_workers.new.site) (g.T.WireSite.wired c.args.site.now) (g.T.WireSite.wired c.serve_workers.new.site)
     (g.K.Sink.contents c.args.out.now) (g.K.Sink.contents c.serve_workers.new.out) c.serve_workers.result.status in

@@ -1,24 +1,19 @@
--- What is read, published and posted.
-use Rattle.post_queue.specs.declared.passes.PosterPass.{PosterPass}
-use Rattle.proxy_wire.proofs.Posting.{looked, sampled_same}
-use Rattle.proxy_wire.specs.Leading.{ArePosters}
-use Rattle.std.proofs.Common.{List, ap, arith, length, subst, sym, ℕ, ◌≡◌, ◌∙◌}
-use Rattle.std.proofs.lemmas.List.{with_items_is}
-use Rattle.std.specs.Vec.{with_items}
+-- What is read and published.
+use Rattle.proxy_wire.proofs.Posting.{looked, looked_on, looks_on, sampled_same}
+use Rattle.std.proofs.Common.{List, ap, inl, length, refl, sym, ℕ, ◌∙◌}
 use Rattle.proxy_wire.proofs.leading.Leader.look.Goals as goal
 
 pub publish-requires : goal.publish-requires
 publish-requires g c = ap (λ (v : List ℕ). length v) c.as_slice.ensures ∙ sampled_same _ _ _ c.sample.ensures.sampled ∙ c.requires.publishes.pressures
 
-pub returns-then-is_err : goal.returns-then-is_err
-returns-then-is_err g c = looked c.args.boxes.now c.args.self.now _ _ c.requires c.sample.ensures.sampled c.publish.ensures.same c.requires.posters
+pub returns-in-Ok-clause-leads : goal.returns-in-Ok-clause-leads
+returns-in-Ok-clause-leads g c = looked_on c.args.boxes.now c.args.self.now c.act.new.self _ _ _ c.requires c.sample.ensures.sampled c.in-Ok.ensures.same c.act.ensures.same.0 c.act.ensures.same.1 c.act.ensures.posters
 
-pub post_all-requires : goal.post_all-requires
-post_all-requires g c = subst (λ (ps : List PosterPass). ArePosters c.args.boxes.now ps) (sym c.as_mut_slice.ensures.value) c.requires.posters
+pub returns-in-Ok-clause-looks : goal.returns-in-Ok-clause-looks
+returns-in-Ok-clause-looks g c = looks_on c.args.config.now c.args.self.now c.act.new.self _ _ c.in-Ok.ensures.list c.act.ensures.same.0 (c.act.ensures.same.1 ∙ sym c.as_slice.ensures) c.act.ensures.accepts
 
-pub returns : goal.returns
-returns g c =
-    let now = c.post_all.ensures.same in
-    let before = c.requires.posters.same in
-    let whole : (with_items c.args.self.now.posters c.post_all.new.posters).items ≡ c.post_all.new.posters = with_items_is c.args.self.now.posters c.post_all.new.posters (omega (arith, now, before, c.args.self.now.posters.ok.0)) in
-    looked c.args.boxes.now c.args.self.now _ _ c.requires c.sample.ensures.sampled c.publish.ensures.same (subst (λ (ps : List PosterPass). ArePosters c.args.boxes.now ps) (sym whole) c.post_all.ensures)
+pub returns-in-Err-clause-leads : goal.returns-in-Err-clause-leads
+returns-in-Err-clause-leads g c = looked c.args.boxes.now c.args.self.now _ _ c.requires c.sample.ensures.sampled c.in-Err.ensures.same c.requires.posters
+
+pub returns-in-Err-clause-looks : goal.returns-in-Err-clause-looks
+returns-in-Err-clause-looks g c = inl (c.in-Err.ensures.err.0, refl)

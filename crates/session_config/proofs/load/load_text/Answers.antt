@@ -1,6 +1,6 @@
 -- The pieces so far are what was read.
 use Rattle.session_config.proofs.Reading.{read_much, read_stop}
-use Rattle.session_config.proofs.load.read_whole.Goals as goal
+use Rattle.session_config.proofs.load.load_text.Goals as goal
 use Rattle.std.proofs.Common.{arith, refl}
 use Rattle.std.proofs.lemmas.Result.{err_from_is_err_and}
 

@@ -1,9 +1,0 @@
-use Rattle.proxy_wire.specs.Working.{has_end, is_memory}
-use Rattle.std.proofs.Common.{length, ◌≡◌}
-use Rattle.proxy_wire.proofs.end.has_memory.Given as goal
-
-abbrev pub invariant-loop-end : goal.invariant-loop-end
-invariant-loop-end l = record { same : has_end is_memory l.fn.ends ≡ has_end is_memory l.rest }
-
-abbrev pub decreases-loop-end : goal.decreases-loop-end
-decreases-loop-end l = length l.rest
