@@ -30,6 +30,18 @@ pub(crate) enum Origin {
     Shared { cluster: u32, since: u64 },
 }
 
+impl Origin {
+    /// The cluster for which the connection counts as ready, and since when, if it does.
+    pub fn ready(self) -> Option<(u32, u64)> {
+        match self {
+            Origin::Ready { cluster, since } | Origin::Shared { cluster, since } => Some((
+                cluster, since,
+            )),
+            Origin::Client | Origin::Taken => None,
+        }
+    }
+}
+
 /// The socket of a live connection, and what was seen of it.
 #[derive(Drop)]
 pub(crate) struct Link {

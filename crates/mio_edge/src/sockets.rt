@@ -130,7 +130,11 @@ impl<R: Clock + Net + Drop, I: Inlet + Drop> Sockets<R, I> {
         let Some(link) = self.links.leave(conn) else {
             return;
         };
-        self.let_go(link.origin);
+        if let Some((cluster, since)) = link.origin.ready() {
+            if let Some(dialer) = self.dialers.get_mut(cluster as usize) {
+                dialer.part(self.now, since);
+            }
+        }
         if let Some(stream) = link.into_parting() {
             self.partings.begin(conn, stream, self.now, &mut self.block);
         }
@@ -257,21 +261,13 @@ impl<R: Clock + Net + Drop, I: Inlet + Drop> Sockets<R, I> {
 
     // A connection is lost.
     fn lose(&mut self, conn: u32) {
-        if let Some(link) = self.links.leave(conn) {
-            self.let_go(link.origin);
-        }
-    }
-
-    // A connection is live no more.
-    fn let_go(&mut self, origin: Origin) {
-        let (cluster, since) = match origin {
-            Origin::Ready { cluster, since } | Origin::Shared { cluster, since } => (
-                cluster, since,
-            ),
-            Origin::Client | Origin::Taken => return,
+        let Some(link) = self.links.leave(conn) else {
+            return;
         };
-        if let Some(dialer) = self.dialers.get_mut(cluster as usize) {
-            dialer.lose(self.now, since);
+        if let Some((cluster, since)) = link.origin.ready() {
+            if let Some(dialer) = self.dialers.get_mut(cluster as usize) {
+                dialer.lose(self.now, since);
+            }
         }
     }
 
