@@ -131,7 +131,8 @@ impl<R: Clock + Net + Wait + Drop> Acceptor<R> {
     {
         for place in 0..self.lanes.len() {
             if let Some(lane) = self.lanes.get_mut(place) {
-                lane.look(self.now);
+                let rounds = lane.queue.rounds();
+                lane.look(rounds, self.now);
             }
         }
     }
