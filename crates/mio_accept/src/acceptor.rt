@@ -85,11 +85,12 @@ impl<R: Clock + Net + Wait + Drop> Acceptor<R> {
         }
     }
 
-    /// Waits at most a tenth of a second, and hands on the clients that came, if they are to be accepted.
+    /// Waits at most a tenth of a second, and hands on the clients that came, if they are to be accepted. Those that wait for a worker
+    /// which goes on no more are handed to others in any case.
     pub fn round(&mut self, accept: bool) -> Result<(), Failed>
         ensures { workers self.new ≡ workers self.old }
     {
-        self.read_clock();
+        self.tend();
         if accept && self.hand_on() {
             return Ok(());
         }
@@ -100,19 +101,26 @@ impl<R: Clock + Net + Wait + Drop> Acceptor<R> {
         for _ in &self.events {
             self.door.stir();
         }
-        self.read_clock();
+        self.tend();
         if accept {
             self.hand_on();
         }
         Ok(())
     }
 
+    // Looks at the clock and at the workers, and hands the clients of those that go on no more to others.
+    fn tend(&mut self)
+        ensures { workers self.new ≡ workers self.old }
+    {
+        self.read_clock();
+        self.look();
+        self.take_back();
+    }
+
     // Accepts clients, each for the next worker that takes some. Answers whether more may wait.
     fn hand_on(&mut self) -> bool
         ensures { workers self.new ≡ workers self.old }
     {
-        self.look();
-        self.take_back();
         for _ in 0..MOST_ACCEPTS {
             if !self.door.is_due(self.now) || !self.find_turn() {
                 return false;
