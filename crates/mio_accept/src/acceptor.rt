@@ -3,7 +3,7 @@ ghost use Rattle.std.specs.Prelude.{◌≡◌, ◌+◌, IfOk, OnErr, OnOk, if◌
 ghost use Rattle.mio_accept.specs.Acceptors.{turn_of, workers};
 
 use crate::lane::Lane;
-use crate::queue::AcceptQueue;
+use crate::queue::{AcceptQueue, MOST_WAITING};
 use io_ports::Failed;
 use mio::net::{TcpListener, TcpStream};
 use mio::{Events, Interest, Poll};
@@ -16,6 +16,9 @@ use std::time::{Clock, Duration};
 /// How long a round waits at most, in milliseconds.
 const LONGEST_WAIT: u64 = 100;
 
+/// How long it waits at most where clients wait in the system's queue until a worker takes some, in milliseconds.
+const SHORT_WAIT: u64 = 2;
+
 /// How many clients one round accepts at most.
 const MOST_ACCEPTS: u32 = 1_024;
 
@@ -23,7 +26,8 @@ const MOST_ACCEPTS: u32 = 1_024;
 const MOST_EVENTS: usize = 16;
 
 /// Accepts clients at a listener, and hands them to the workers in turn. A worker that begins no round for a second is passed over,
-/// and the clients that wait for it are handed to others, until it goes on. While all are so, clients wait in the system's queue.
+/// and the clients that wait for it are handed to others, until it goes on; one for which `MOST_WAITING` clients wait is passed over
+/// until it takes some. While all are passed over, clients wait in the system's queue.
 #[derive(Drop)]
 pub struct Acceptor<R: Clock + Net + Wait + Drop> {
     rt: R,
@@ -94,7 +98,7 @@ impl<R: Clock + Net + Wait + Drop> Acceptor<R> {
         if accept && self.hand_on() {
             return Ok(());
         }
-        let wait = Duration::from_millis(LONGEST_WAIT);
+        let wait = self.longest_wait(accept);
         if self.poll.poll(&mut self.events, Some(wait)).is_err() {
             return Err(Failed);
         }
@@ -106,6 +110,15 @@ impl<R: Clock + Net + Wait + Drop> Acceptor<R> {
             self.hand_on();
         }
         Ok(())
+    }
+
+    // Where a client may wait that could be accepted, no worker takes any now. Nothing tells when one does.
+    fn longest_wait(&self, accept: bool) -> Duration {
+        if accept && self.door.is_due(self.now) {
+            Duration::from_millis(SHORT_WAIT)
+        } else {
+            Duration::from_millis(LONGEST_WAIT)
+        }
     }
 
     // Looks at the clock and at the workers, and hands the clients of those that go on no more to others.
@@ -165,11 +178,11 @@ impl<R: Clock + Net + Wait + Drop> Acceptor<R> {
         }
     }
 
-    // A client that waits for a worker which takes none, if another one takes some.
+    // A client that waits for a worker which goes on no more, if another one takes some.
     fn forsaken(&mut self, place: usize) -> Option<TcpStream>
         ensures { workers self.new ≡ workers self.old }
     {
-        if self.takes_at(place) || !self.find_turn() {
+        if self.goes_on(place) || !self.find_turn() {
             return None;
         }
         self.lanes.get(place)?.queue.take_back(&self.rt)
@@ -188,7 +201,15 @@ impl<R: Clock + Net + Wait + Drop> Acceptor<R> {
         false
     }
 
+    // Whether the worker at a place takes clients: it goes on, and not too many wait for it.
     fn takes_at(&self, place: usize) -> bool {
+        match self.lanes.get(place) {
+            Some(lane) => lane.is_taking(self.now) && lane.queue.waiting() < MOST_WAITING,
+            None => false,
+        }
+    }
+
+    fn goes_on(&self, place: usize) -> bool {
         match self.lanes.get(place) {
             Some(lane) => lane.is_taking(self.now),
             None => false,

@@ -9,6 +9,9 @@ use std::io::{self, ErrorKind};
 use std::sync::atomic::{AtomicBool, AtomicU32, Ordering};
 use std::sync::{Arc, Wait};
 
+/// How many clients wait for a worker at most. Further ones wait in the system's queue, where they take no file of the process.
+pub const MOST_WAITING: u64 = 64;
+
 /// Clients that were accepted for a worker, and wait for it.
 #[derive(Drop)]
 pub struct AcceptQueue {
@@ -44,6 +47,11 @@ impl AcceptQueue {
     // A client that waits still.
     pub(crate) fn take_back<R: Wait>(&self, rt: &R) -> Option<TcpStream> {
         self.clients.pop(rt)
+    }
+
+    // How many clients wait.
+    pub(crate) fn waiting(&self) -> u64 {
+        self.clients.claimed()
     }
 
     // How many rounds the worker has begun, as far as they are told apart.

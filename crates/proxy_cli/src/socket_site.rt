@@ -13,7 +13,7 @@ use io_ports::{NoMemory, Octets};
 use itoa::Buffer;
 use mio::net::TcpListener;
 use mio::{Interest, Poll};
-use mio_accept::Acceptor;
+use mio_accept::{Acceptor, MOST_WAITING};
 use mio_edge::{DOOR, EdgeFault, Plan, Sharing, SocketTaps, open_files, read_address};
 use program_ports::Output;
 use proxy_config::{Cluster, Config};
@@ -190,15 +190,17 @@ fn most_clients(config: &Config, sharing: Sharing) -> u32 {
     }
 }
 
-// How many files a relay may have open at once, or all workers, whose clients are the same.
+// How many files a relay may have open at once, or all workers, whose clients are the same. Beside these each worker has some that wait
+// for it.
 fn most_files(plan: &Plan, config: &Config) -> u64 {
-    let workers = match plan.sharing {
-        Sharing::OneEach => 1,
-        Sharing::All => config.proxy.workers,
+    let (workers, waiting) = match plan.sharing {
+        Sharing::OneEach => (1, 0),
+        Sharing::All => (config.proxy.workers, MOST_WAITING),
     };
     let clients = u64::from(plan.clients);
     let others = plan.most_files().saturating_sub(clients);
     others
+        .saturating_add(waiting)
         .saturating_mul(u64::from(workers))
         .saturating_add(clients)
 }
