@@ -4,6 +4,7 @@
 mod address;
 mod clock;
 mod dialer;
+mod dialing;
 mod dials;
 mod door;
 mod fault;

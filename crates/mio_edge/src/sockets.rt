@@ -1,8 +1,7 @@
 // The sockets, as the system has them.
 ghost use Rattle.std.specs.Prelude.{◌≤◌, length};
 
-use crate::dialer::Dialer;
-use crate::dials::Dials;
+use crate::dialing::Dialing;
 use crate::door::Door;
 use crate::fault::EdgeFault;
 use crate::inlet::Inlet;
@@ -13,8 +12,7 @@ use crate::plan::{Plan, Sharing};
 use io_ports::{Failed, NoMemory, Octets};
 use mio::net::TcpStream;
 use mio::{Events, Interest, Poll, Token};
-use std::alloc::{AllocError, Global};
-use std::io::ErrorKind;
+use std::alloc::Global;
 use std::mem;
 use std::net::Net;
 use std::time::{Clock, Duration};
@@ -34,9 +32,6 @@ const MOST_ACCEPTS: u32 = 16;
 
 const MOST_LOOKS: u32 = 64;
 
-/// How many connections to one cluster are begun in one round at most.
-const MOST_DIALS: u32 = 16;
-
 /// The token of the way in for clients. Connections have their numbers, which are above.
 pub const DOOR: Token = Token(0);
 
@@ -52,8 +47,7 @@ pub(crate) struct Sockets<R: Clock + Net + Drop, I: Inlet + Drop> {
     /// The most clients at once.
     most_clients: u32,
     sharing: Sharing,
-    dialers: Vec<Dialer>,
-    dials: Dials,
+    dialing: Dialing,
     links: Links,
     partings: Partings,
     /// Where octets are read to. It is never cleared.
@@ -80,8 +74,7 @@ impl<R: Clock + Net + Drop, I: Inlet + Drop> Sockets<R, I> {
             door: Door::new(inlet),
             most_clients: plan.clients,
             sharing: plan.sharing,
-            dialers: dialers_of(alloc, plan)?,
-            dials: Dials::new(alloc),
+            dialing: Dialing::new(alloc, plan)?,
             links: Links::new(alloc, plan.patience()),
             partings: Partings::new(alloc),
             block: vec![in alloc; 0; PIECE]?,
@@ -130,11 +123,7 @@ impl<R: Clock + Net + Drop, I: Inlet + Drop> Sockets<R, I> {
         let Some(link) = self.links.leave(conn) else {
             return;
         };
-        if let Some((cluster, since)) = link.origin.ready() {
-            if let Some(dialer) = self.dialers.get_mut(cluster as usize) {
-                dialer.part(self.now, since);
-            }
-        }
+        self.dialing.part(link.origin, self.now);
         if let Some(stream) = link.into_parting() {
             self.partings.begin(conn, stream, self.now, &mut self.block);
         }
@@ -142,11 +131,8 @@ impl<R: Clock + Net + Drop, I: Inlet + Drop> Sockets<R, I> {
 
     /// From now on a connection isn't read, or is. One to a cluster that is read for the first time has a client.
     pub fn hold(&mut self, conn: u32, held: bool) {
-        let Some(cluster) = self.links.hold(conn, held) else {
-            return;
-        };
-        if let Some(dialer) = self.dialers.get_mut(cluster as usize) {
-            dialer.take();
+        if let Some(cluster) = self.links.hold(conn, held) {
+            self.dialing.take(cluster);
         }
     }
 
@@ -163,7 +149,7 @@ impl<R: Clock + Net + Drop, I: Inlet + Drop> Sockets<R, I> {
 
     // A connection to a cluster that has been made.
     fn give_join(&mut self, number: Option<u32>) -> Option<Wired> {
-        let dial = self.dials.next_made()?;
+        let dial = self.dialing.next_made()?;
         let cluster = dial.cluster;
         let since = self.now;
         let origin = match self.sharing {
@@ -171,11 +157,9 @@ impl<R: Clock + Net + Drop, I: Inlet + Drop> Sockets<R, I> {
             Sharing::All => Origin::Shared { cluster, since },
         };
         let conn = self.come(number, dial.stream, origin);
-        if let Some(dialer) = self.dialers.get_mut(cluster as usize) {
-            match conn {
-                Some(_) => dialer.join(),
-                None => dialer.fail(self.now),
-            }
+        match conn {
+            Some(_) => self.dialing.join(cluster),
+            None => self.dialing.fail(cluster, self.now),
         }
         Some(Wired::Join(conn?, cluster))
     }
@@ -194,22 +178,17 @@ impl<R: Clock + Net + Drop, I: Inlet + Drop> Sockets<R, I> {
 
     // Whether a client may come in: one waits, and a connection is ready for it, or none can be hoped for.
     fn may_accept(&self) -> bool {
-        self.has_client() && (self.has_ready() || !self.is_hopeful())
+        self.has_client() && (self.dialing.has_ready() || !self.is_hopeful())
     }
 
     // Whether a client does well to wait for a connection of its own.
     fn is_hopeful(&self) -> bool {
-        self.sharing == Sharing::OneEach && self.dialers.iter().any(Dialer::is_hopeful)
+        self.sharing == Sharing::OneEach && self.dialing.is_hopeful()
     }
 
     // Whether a client may wait, and there aren't too many.
     fn has_client(&self) -> bool {
         self.door.is_due(self.now) && self.links.clients() < self.most_clients
-    }
-
-    // Whether a connection to a cluster is ready.
-    fn has_ready(&self) -> bool {
-        self.dialers.iter().any(Dialer::is_ready)
     }
 
     // A socket becomes a live connection. None where the system refuses, memory is wanting, or there is no number for it: then
@@ -261,13 +240,8 @@ impl<R: Clock + Net + Drop, I: Inlet + Drop> Sockets<R, I> {
 
     // A connection is lost.
     fn lose(&mut self, conn: u32) {
-        let Some(link) = self.links.leave(conn) else {
-            return;
-        };
-        if let Some((cluster, since)) = link.origin.ready() {
-            if let Some(dialer) = self.dialers.get_mut(cluster as usize) {
-                dialer.lose(self.now, since);
-            }
+        if let Some(link) = self.links.leave(conn) {
+            self.dialing.lose(link.origin, self.now);
         }
     }
 
@@ -275,7 +249,7 @@ impl<R: Clock + Net + Drop, I: Inlet + Drop> Sockets<R, I> {
     fn begin_round(&mut self) -> Result<(), Failed> {
         self.read_clock();
         self.door.count(self.links.clients());
-        self.dial_all();
+        self.dial();
         let wait = Duration::from_millis(if self.is_busy() { 0 } else { LONGEST_WAIT });
         self.stirred = false;
         self.accepts_left = MOST_ACCEPTS;
@@ -285,9 +259,17 @@ impl<R: Clock + Net + Drop, I: Inlet + Drop> Sockets<R, I> {
         }
         self.read_clock();
         self.take_events();
-        self.give_up_dials();
+        self.dialing.give_up(self.now);
         self.partings.end(self.now);
         Ok(())
+    }
+
+    // Begins the connections to clusters that are wanted, at once where a client waits for one.
+    fn dial(&mut self) {
+        let is_urgent = self.is_hopeful() && self.has_client() && !self.dialing.has_ready();
+        let registry = self.poll.registry();
+        self.dialing
+            .begin_all(&self.rt, registry, self.now, is_urgent);
     }
 
     // Where the clock can't be read it stands still.
@@ -299,7 +281,7 @@ impl<R: Clock + Net + Drop, I: Inlet + Drop> Sockets<R, I> {
 
     // Whether there is something to do without a wait.
     fn is_busy(&self) -> bool {
-        self.stirred || self.links.is_due() || self.dials.is_due() || self.may_accept()
+        self.stirred || self.links.is_due() || self.dialing.is_due() || self.may_accept()
     }
 
     // Takes in what the system tells.
@@ -316,82 +298,8 @@ impl<R: Clock + Net + Drop, I: Inlet + Drop> Sockets<R, I> {
                         self.partings.stir(conn, event, &mut self.block);
                     }
                 }
-                Err(_) => {
-                    let failed = self.dials.stir(token.0, event);
-                    fail(&mut self.dialers, failed, self.now);
-                }
+                Err(_) => self.dialing.stir(token.0, event, self.now),
             }
         }
     }
-
-    // Gives up the connections that weren't made in time.
-    fn give_up_dials(&mut self) {
-        for _ in 0..self.dials.len() {
-            let given_up = self.dials.give_up(self.now);
-            if given_up.is_none() {
-                return;
-            }
-            fail(&mut self.dialers, given_up, self.now);
-        }
-    }
-
-    // Begins the connections to clusters that are wanted, at once where a client waits for one.
-    fn dial_all(&mut self) {
-        let is_urgent = self.is_hopeful() && self.has_client() && !self.has_ready();
-        for place in 0..self.dialers.len() {
-            self.dial(place, is_urgent);
-        }
-    }
-
-    fn dial(&mut self, place: usize, is_urgent: bool) {
-        let Ok(cluster) = u32::try_from(place) else {
-            return;
-        };
-        let Some(dialer) = self.dialers.get_mut(place) else {
-            return;
-        };
-        for _ in 0..MOST_DIALS {
-            let Some(address) = dialer.to_dial(self.now, is_urgent) else {
-                return;
-            };
-            dialer.begin();
-            let begun = self
-                .dials
-                .begin(&self.rt, self.poll.registry(), cluster, address, self.now);
-            if let Err(error) = begun {
-                if is_ours(error.kind()) {
-                    dialer.postpone(self.now);
-                } else {
-                    dialer.fail(self.now);
-                }
-                return;
-            }
-        }
-    }
-}
-
-// A connection to this cluster couldn't be made.
-fn fail(dialers: &mut [Dialer], cluster: Option<u32>, now: u64) {
-    let Some(cluster) = cluster else {
-        return;
-    };
-    if let Some(dialer) = dialers.get_mut(cluster as usize) {
-        dialer.fail(now);
-    }
-}
-
-// Whether an error tells that files, memory or ports are wanting here.
-fn is_ours(kind: ErrorKind) -> bool {
-    matches!(
-        kind,
-        ErrorKind::Uncategorized | ErrorKind::OutOfMemory | ErrorKind::AddrNotAvailable
-    )
-}
-
-fn dialers_of(alloc: Global, plan: &Plan) -> Result<Vec<Dialer>, AllocError> {
-    let mut dialers = Vec::with_capacity(alloc, plan.clusters.len())?;
-    for address in &plan.clusters {
-        dialers.push(Dialer::new(*address, plan.ready))?;
-    }
-    Ok(dialers)
 }
