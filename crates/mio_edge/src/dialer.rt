@@ -87,7 +87,7 @@ impl Dialer {
         self.rest(now);
     }
 
-    /// A connection couldn't be begun, for want of something that isn't the cluster's.
+    /// A connection couldn't be begun or taken in, for want of something that isn't the cluster's.
     pub fn postpone(&mut self, now: u64)
         ensures { self.new ≡ record self.old { begun = self.old.begun - 1; until = later now 100 } }
     {

@@ -48,7 +48,7 @@ impl Dialing {
         self.dials.is_due()
     }
 
-    /// The connection that was made first. It counts as being made until it joins or fails.
+    /// The connection that was made first. It counts as being made until it joins or is postponed.
     pub fn next_made(&mut self) -> Option<Dial> {
         self.dials.next_made()
     }
@@ -64,6 +64,13 @@ impl Dialing {
     pub fn fail(&mut self, cluster: u32, now: u64) {
         if let Some(dialer) = self.dialers.get_mut(cluster as usize) {
             dialer.fail(now);
+        }
+    }
+
+    /// A connection that was made to this cluster couldn't be taken in, for want of something that isn't the cluster's.
+    pub fn postpone(&mut self, cluster: u32, now: u64) {
+        if let Some(dialer) = self.dialers.get_mut(cluster as usize) {
+            dialer.postpone(now);
         }
     }
 

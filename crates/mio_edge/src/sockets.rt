@@ -87,8 +87,11 @@ impl<R: Clock + Net + Drop, I: Inlet + Drop> Sockets<R, I> {
     }
 
     /// What comes next, after a wait where nothing is there; `Idle` where still nothing is. A connection that comes gets the
-    /// number that is handed in, if there is one.
+    /// number that is handed in. Once no number is left nobody can come any more, and it is over.
     pub fn next(&mut self, number: Option<u32>) -> Result<Wired, WireRefusal> {
+        let Some(number) = number else {
+            return Ok(Wired::Stop);
+        };
         if self.door.is_over() {
             return Ok(Wired::Stop);
         }
@@ -137,7 +140,7 @@ impl<R: Clock + Net + Drop, I: Inlet + Drop> Sockets<R, I> {
     }
 
     // What comes next of what this round has left.
-    fn give(&mut self, number: Option<u32>) -> Result<Option<Wired>, NoMemory> {
+    fn give(&mut self, number: u32) -> Result<Option<Wired>, NoMemory> {
         if let Some(wired) = self.give_join(number) {
             return Ok(Some(wired));
         }
@@ -148,7 +151,7 @@ impl<R: Clock + Net + Drop, I: Inlet + Drop> Sockets<R, I> {
     }
 
     // A connection to a cluster that has been made.
-    fn give_join(&mut self, number: Option<u32>) -> Option<Wired> {
+    fn give_join(&mut self, number: u32) -> Option<Wired> {
         let dial = self.dialing.next_made()?;
         let cluster = dial.cluster;
         let since = self.now;
@@ -156,24 +159,24 @@ impl<R: Clock + Net + Drop, I: Inlet + Drop> Sockets<R, I> {
             Sharing::OneEach => Origin::Ready { cluster, since },
             Sharing::All => Origin::Shared { cluster, since },
         };
-        let conn = self.come(number, dial.stream, origin);
-        match conn {
-            Some(_) => self.dialing.join(cluster),
-            None => self.dialing.fail(cluster, self.now),
+        if self.come(number, dial.stream, origin).is_err() {
+            self.dialing.postpone(cluster, self.now);
+            return None;
         }
-        Some(Wired::Join(conn?, cluster))
+        self.dialing.join(cluster);
+        Some(Wired::Join(number, cluster))
     }
 
     // A client that waits at the door, if one may come in.
-    fn give_accept(&mut self, number: Option<u32>) -> Option<Wired> {
+    fn give_accept(&mut self, number: u32) -> Option<Wired> {
         if self.accepts_left == 0 || !self.may_accept() {
             return None;
         }
         self.accepts_left -= 1;
         let stream = self.door.accept(self.now)?;
         stream.set_nodelay(true).ok()?;
-        let conn = self.come(number, stream, Origin::Client)?;
-        Some(Wired::Accept(conn))
+        self.come(number, stream, Origin::Client).ok()?;
+        Some(Wired::Accept(number))
     }
 
     // Whether a client may come in: one waits, and a connection is ready for it, or none can be hoped for.
@@ -191,20 +194,17 @@ impl<R: Clock + Net + Drop, I: Inlet + Drop> Sockets<R, I> {
         self.door.is_due(self.now) && self.links.clients() < self.most_clients
     }
 
-    // A socket becomes a live connection. None where the system refuses, memory is wanting, or there is no number for it: then
-    // it is closed.
-    fn come(&mut self, number: Option<u32>, mut stream: TcpStream, origin: Origin) -> Option<u32> {
-        let conn = number?;
+    // A socket becomes a live connection under a number. Where the system refuses, or memory is wanting, it is closed.
+    fn come(&mut self, conn: u32, mut stream: TcpStream, origin: Origin) -> Result<(), EdgeFault> {
         let token = Token(conn as usize);
         let both = Interest::READABLE | Interest::WRITABLE;
         let registry = self.poll.registry();
-        let registered = match origin {
-            Origin::Client => registry.register(&mut stream, token, both),
-            _ => registry.reregister(&mut stream, token, both),
-        };
-        registered.ok()?;
-        self.links.come(conn, Link::new(stream, origin)).ok()?;
-        Some(conn)
+        match origin {
+            Origin::Client => registry.register(&mut stream, token, both)?,
+            _ => registry.reregister(&mut stream, token, both)?,
+        }
+        self.links.come(conn, Link::new(stream, origin))?;
+        Ok(())
     }
 
     // Octets or a loss of a connection that is due.
