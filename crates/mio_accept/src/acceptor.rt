@@ -7,8 +7,9 @@ use crate::queue::{AcceptQueue, MOST_WAITING};
 use io_ports::Failed;
 use mio::net::{TcpListener, TcpStream};
 use mio::{Events, Interest, Poll};
-use mio_edge::{DOOR, Door, EdgeFault};
+use mio_edge::{DOOR, Door, EdgeFault, tell_wait};
 use std::alloc::Global;
+use std::io::Eprint;
 use std::net::Net;
 use std::sync::{Arc, Wait};
 use std::time::{Clock, Duration};
@@ -41,7 +42,7 @@ pub struct Acceptor<R: Clock + Net + Wait + Drop> {
     now: u64,
 }
 
-impl<R: Clock + Net + Wait + Drop> Acceptor<R> {
+impl<R: Clock + Net + Wait + Eprint + Drop> Acceptor<R> {
     /// Nobody takes clients yet.
     pub fn new(rt: R, alloc: Global, mut listener: TcpListener) -> Result<Self, EdgeFault>
         ensures { IfOk result (λ made. (workers made ≡ 0) × (turn_of made ≡ 0)) }
@@ -90,7 +91,7 @@ impl<R: Clock + Net + Wait + Drop> Acceptor<R> {
     }
 
     /// Waits at most a tenth of a second, and hands on the clients that came, if they are to be accepted. Those that wait for a worker
-    /// which goes on no more are handed to others in any case.
+    /// which goes on no more are handed to others in any case. Why it failed is told on standard error.
     pub fn round(&mut self, accept: bool) -> Result<(), Failed>
         ensures { workers self.new ≡ workers self.old }
     {
@@ -99,7 +100,8 @@ impl<R: Clock + Net + Wait + Drop> Acceptor<R> {
             return Ok(());
         }
         let wait = self.longest_wait(accept);
-        if self.poll.poll(&mut self.events, Some(wait)).is_err() {
+        if let Err(error) = self.poll.poll(&mut self.events, Some(wait)) {
+            tell_wait(&self.rt, &error);
             return Err(Failed);
         }
         for _ in &self.events {
@@ -138,7 +140,7 @@ impl<R: Clock + Net + Wait + Drop> Acceptor<R> {
             if !self.door.is_due(self.now) || !self.find_turn() {
                 return false;
             }
-            if let Some(client) = self.door.accept(self.now) {
+            if let Some(client) = self.door.accept(&self.rt, self.now) {
                 self.hand(client);
             }
         }

@@ -9,10 +9,12 @@ use crate::link::{Found, Link, Origin};
 use crate::links::Links;
 use crate::parting::Partings;
 use crate::plan::{Plan, Sharing};
+use crate::tell::tell_wait;
 use io_ports::{Failed, NoMemory, Octets};
 use mio::net::TcpStream;
 use mio::{Events, Interest, Poll, Token};
 use std::alloc::Global;
+use std::io::Eprint;
 use std::mem;
 use std::net::Net;
 use std::time::{Clock, Duration};
@@ -62,7 +64,7 @@ pub(crate) struct Sockets<R: Clock + Net + Drop, I: Inlet + Drop> {
     stirred: bool,
 }
 
-impl<R: Clock + Net + Drop, I: Inlet + Drop> Sockets<R, I> {
+impl<R: Clock + Net + Eprint + Drop, I: Inlet + Drop> Sockets<R, I> {
     /// The sockets of a plan, without connections. Clients come at the inlet, which doesn't block, and of which the poll tells
     /// under the token `DOOR`.
     pub fn new(rt: R, alloc: Global, poll: Poll, inlet: I, plan: &Plan) -> Result<Self, EdgeFault> {
@@ -163,7 +165,7 @@ impl<R: Clock + Net + Drop, I: Inlet + Drop> Sockets<R, I> {
             self.dialing.postpone(cluster, self.now);
             return None;
         }
-        self.dialing.join(cluster);
+        self.dialing.join(&self.rt, cluster);
         Some(Wired::Join(number, cluster))
     }
 
@@ -173,7 +175,7 @@ impl<R: Clock + Net + Drop, I: Inlet + Drop> Sockets<R, I> {
             return None;
         }
         self.accepts_left -= 1;
-        let stream = self.door.accept(self.now)?;
+        let stream = self.door.accept(&self.rt, self.now)?;
         stream.set_nodelay(true).ok()?;
         self.come(number, stream, Origin::Client).ok()?;
         Some(Wired::Accept(number))
@@ -254,12 +256,13 @@ impl<R: Clock + Net + Drop, I: Inlet + Drop> Sockets<R, I> {
         self.stirred = false;
         self.accepts_left = MOST_ACCEPTS;
         self.looks_left = MOST_LOOKS;
-        if self.poll.poll(&mut self.events, Some(wait)).is_err() {
+        if let Err(error) = self.poll.poll(&mut self.events, Some(wait)) {
+            tell_wait(&self.rt, &error);
             return Err(Failed);
         }
         self.read_clock();
         self.take_events();
-        self.dialing.give_up(self.now);
+        self.dialing.give_up(&self.rt, self.now);
         self.partings.end(self.now);
         Ok(())
     }
@@ -298,7 +301,7 @@ impl<R: Clock + Net + Drop, I: Inlet + Drop> Sockets<R, I> {
                         self.partings.stir(conn, event, &mut self.block);
                     }
                 }
-                Err(_) => self.dialing.stir(token.0, event, self.now),
+                Err(_) => self.dialing.stir(&self.rt, token.0, event, self.now),
             }
         }
     }

@@ -5,7 +5,7 @@ ghost use Rattle.proxy_cli.specs.Journals.{journal_faults};
 use io_ports::{Failed, Sink};
 use program_ports::Output;
 use relay_ports::Journal;
-use std::io::Write;
+use std::io::{ErrorKind, Write};
 
 /// A journal that is written to a file at once, or none.
 #[derive(Drop)]
@@ -22,6 +22,14 @@ impl<F: Write> FileJournal<F> {
         match self {
             FileJournal::File(file) => file.faults(),
             FileJournal::None => 0,
+        }
+    }
+
+    /// Why the last write failed that did.
+    pub fn kind(&self) -> Option<ErrorKind> {
+        match self {
+            FileJournal::File(file) => file.kind(),
+            FileJournal::None => None,
         }
     }
 }
