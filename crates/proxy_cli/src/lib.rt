@@ -9,7 +9,6 @@ mod pages;
 mod socket_site;
 mod tell;
 mod warn;
-mod wire_journal;
 mod wire_sockets;
 
 use crate::opened::Opened;
