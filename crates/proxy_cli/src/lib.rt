@@ -31,7 +31,7 @@ use std::thread::Threads;
 use std::time::Clock;
 
 /// Does what the words ask for, with what the proxy says on the output, and answers the exit code of its status. Why it
-/// isn't 0 is told in a line on standard error; where the words have no form, that is the usage. `--help` and `--version` are
+/// isn't 0 is told in lines on standard error; where the words have no form, that is the usage. `--help` and `--version` are
 /// answered on the output.
 pub fn serve_words<
     R: Env
@@ -101,7 +101,7 @@ where
     code
 }
 
-// Where the words can't be had there is nothing to do.
+// Where the words can't be had, or there is no memory for the counts of clients, there is nothing to do.
 fn end_early<R: Eprint>(rt: &R, status: Status) -> ExitCode {
     let text = if status == Status::Usage {
         USAGE
