@@ -37,8 +37,8 @@ impl AcceptQueue {
         })
     }
 
-    /// Hands a client to the worker. Out of memory, the client's connection is closed.
-    pub fn push<R: Wait>(&self, rt: &R, client: TcpStream) {
+    // Hands a client to the worker. Out of memory, the client's connection is closed.
+    pub(crate) fn push<R: Wait>(&self, rt: &R, client: TcpStream) {
         if self.clients.push(rt, client).is_ok() {
             self.wake();
         }
@@ -59,13 +59,13 @@ impl AcceptQueue {
         self.rounds.load(Ordering::SeqCst)
     }
 
-    /// How many connections of clients the worker has.
-    pub fn live(&self) -> u32 {
+    // How many connections of clients the worker has.
+    pub(crate) fn live(&self) -> u32 {
         self.live.load(Ordering::SeqCst)
     }
 
-    /// Nobody comes any more: the worker is to end.
-    pub fn end(&self) {
+    // Nobody comes any more: the worker is to end.
+    pub(crate) fn end(&self) {
         self.over.store(true, Ordering::SeqCst);
         self.wake();
     }
