@@ -21,9 +21,10 @@ use program_ports::Output;
 use proxy_config::{Cluster, Config};
 use proxy_site::{Site, SiteRefusal};
 use std::alloc::{AllocError, Global};
-use std::fs::File;
-use std::io::{Eprint, ErrorKind};
+use std::fs::OpenOptions;
+use std::io::{self, Eprint, ErrorKind};
 use std::net::{Net, SocketAddr};
+use std::os::unix::fs::OpenOptionsExt;
 use std::rt::Files;
 use std::sync::{Arc, Wait};
 use std::time::Clock;
@@ -189,7 +190,7 @@ impl<R: Eprint + Files + Net + Clock + Wait + AllocGlobal + Copy + Drop> SocketS
             warn_journal(&self.rt, "?", ErrorKind::InvalidInput);
             return Err(SiteRefusal::Failed);
         };
-        match File::create(&self.rt, path) {
+        match make_file(&self.rt, path) {
             Ok(file) => Ok(FileJournal::File(Output::new(file))),
             Err(error) => {
                 warn_journal(&self.rt, path, error.kind());
@@ -229,6 +230,13 @@ fn most_files(plan: &Plan, config: &Config) -> u64 {
         .saturating_add(waiting)
         .saturating_mul(u64::from(workers))
         .saturating_add(clients)
+}
+
+// Opens a file that is empty then. One that wasn't there nobody but its owner may read or write: a journal holds all that anybody sent.
+fn make_file<R: Files>(rt: &R, path: &str) -> io::Result<R::File> {
+    let mut options = OpenOptions::new();
+    options.write(true).create(true).truncate(true).mode(0o600);
+    options.open(rt, path)
 }
 
 fn name_of(front: &Octets, worker: u32, alloc: Global) -> Result<Octets, NoMemory> {
