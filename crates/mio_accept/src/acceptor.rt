@@ -105,7 +105,7 @@ impl<R: Clock + Net + Wait + Eprint + Drop> Acceptor<R> {
             return Err(Failed);
         }
         for _ in &self.events {
-            self.door.stir();
+            self.door.on_event();
         }
         self.tend();
         if accept {
@@ -173,7 +173,7 @@ impl<R: Clock + Net + Wait + Eprint + Drop> Acceptor<R> {
         ensures { workers self.new ≡ workers self.old }
     {
         for _ in 0..MOST_ACCEPTS {
-            let Some(client) = self.forsaken(place) else {
+            let Some(client) = self.take_waiting(place) else {
                 return;
             };
             self.hand(client);
@@ -181,7 +181,7 @@ impl<R: Clock + Net + Wait + Eprint + Drop> Acceptor<R> {
     }
 
     // A client that waits for a worker which goes on no more, if another one takes some.
-    fn forsaken(&mut self, place: usize) -> Option<TcpStream>
+    fn take_waiting(&mut self, place: usize) -> Option<TcpStream>
         ensures { workers self.new ≡ workers self.old }
     {
         if self.goes_on(place) || !self.find_turn() {

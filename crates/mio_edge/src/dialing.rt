@@ -95,8 +95,8 @@ impl Dialing {
     }
 
     /// The system tells something of a connection that is being made.
-    pub fn stir<R: Eprint>(&mut self, rt: &R, token: usize, event: &Event, now: u64) {
-        if let Some((cluster, error)) = self.dials.stir(token, event) {
+    pub fn on_event<R: Eprint>(&mut self, rt: &R, token: usize, event: &Event, now: u64) {
+        if let Some((cluster, error)) = self.dials.on_event(token, event) {
             self.fail(rt, cluster, &error, now);
         }
     }

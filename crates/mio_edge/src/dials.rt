@@ -81,7 +81,7 @@ impl Dials {
 
     /// The system tells something of a connection that is being made: it is made, or it failed, and then its cluster is
     /// answered, and why.
-    pub fn stir(&mut self, token: usize, event: &Event) -> Option<(u32, Error)> {
+    pub fn on_event(&mut self, token: usize, event: &Event) -> Option<(u32, Error)> {
         if !event.is_writable() && !event.is_error() {
             return None;
         }

@@ -37,7 +37,7 @@ impl<I: Inlet + Drop> Door<I> {
     }
 
     /// A client may wait.
-    pub fn stir(&mut self)
+    pub fn on_event(&mut self)
         ensures waits { may_wait self.new ≡ true }
         ensures until { shut_until self.new ≡ shut_until self.old }
     {

@@ -5,7 +5,7 @@ use crate::dialing::Dialing;
 use crate::door::Door;
 use crate::fault::EdgeFault;
 use crate::inlet::Inlet;
-use crate::link::{Found, Link, Origin};
+use crate::link::{Link, Origin, ReadOutcome};
 use crate::links::Links;
 use crate::parting::Partings;
 use crate::plan::{Plan, Sharing};
@@ -61,7 +61,7 @@ pub(crate) struct Sockets<R: Clock + Net + Drop, I: Inlet + Drop> {
     accepts_left: u32,
     looks_left: u32,
     /// Whether a connection took all that it was offered, so that it may be offered more at once.
-    stirred: bool,
+    took_all: bool,
 }
 
 impl<R: Clock + Net + Eprint + Drop, I: Inlet + Drop> Sockets<R, I> {
@@ -84,7 +84,7 @@ impl<R: Clock + Net + Eprint + Drop, I: Inlet + Drop> Sockets<R, I> {
             now: 0,
             accepts_left: 0,
             looks_left: 0,
-            stirred: true,
+            took_all: true,
         })
     }
 
@@ -118,7 +118,7 @@ impl<R: Clock + Net + Eprint + Drop, I: Inlet + Drop> Sockets<R, I> {
     {
         let n = self.links.write(conn, piece, self.now);
         if n > 0 && n == piece.len() {
-            self.stirred = true;
+            self.took_all = true;
         }
         n
     }
@@ -219,20 +219,20 @@ impl<R: Clock + Net + Eprint + Drop, I: Inlet + Drop> Sockets<R, I> {
                 return Ok(None);
             };
             self.looks_left = self.looks_left.saturating_sub(1);
-            match self.links.look(conn, &mut self.block) {
-                Found::Octets(n) => return self.read(conn, n),
-                Found::End => {
+            match self.links.read(conn, &mut self.block) {
+                ReadOutcome::Octets(n) => return self.give_read(conn, n),
+                ReadOutcome::End => {
                     self.lose(conn);
                     return Ok(Some(Wired::Lost(conn)));
                 }
-                Found::Nothing => {}
+                ReadOutcome::Nothing => {}
             }
         }
         Ok(None)
     }
 
     // The first octets of the block came for a connection.
-    fn read(&mut self, conn: u32, n: usize) -> Result<Option<Wired>, NoMemory> {
+    fn give_read(&mut self, conn: u32, n: usize) -> Result<Option<Wired>, NoMemory> {
         let mut octets = mem::replace(&mut self.room, Vec::new(self.alloc));
         if let Some(front) = self.block.get(..n) {
             octets.extend_from_slice(front)?;
@@ -253,7 +253,7 @@ impl<R: Clock + Net + Eprint + Drop, I: Inlet + Drop> Sockets<R, I> {
         self.door.count(self.links.clients());
         self.dial();
         let wait = Duration::from_millis(if self.is_busy() { 0 } else { LONGEST_WAIT });
-        self.stirred = false;
+        self.took_all = false;
         self.accepts_left = MOST_ACCEPTS;
         self.looks_left = MOST_LOOKS;
         if let Err(error) = self.poll.poll(&mut self.events, Some(wait)) {
@@ -284,7 +284,7 @@ impl<R: Clock + Net + Eprint + Drop, I: Inlet + Drop> Sockets<R, I> {
 
     // Whether there is something to do without a wait.
     fn is_busy(&self) -> bool {
-        self.stirred || self.links.is_due() || self.dialing.is_due() || self.may_accept()
+        self.took_all || self.links.is_due() || self.dialing.is_due() || self.may_accept()
     }
 
     // Takes in what the system tells.
@@ -292,16 +292,16 @@ impl<R: Clock + Net + Eprint + Drop, I: Inlet + Drop> Sockets<R, I> {
         for event in &self.events {
             let token = event.token();
             if token == DOOR {
-                self.door.stir();
+                self.door.on_event();
                 continue;
             }
             match u32::try_from(token.0) {
                 Ok(conn) => {
-                    if !self.links.stir(conn, event) {
-                        self.partings.stir(conn, event, &mut self.block);
+                    if !self.links.on_event(conn, event) {
+                        self.partings.on_event(conn, event, &mut self.block);
                     }
                 }
-                Err(_) => self.dialing.stir(&self.rt, token.0, event, self.now),
+                Err(_) => self.dialing.on_event(&self.rt, token.0, event, self.now),
             }
         }
     }
