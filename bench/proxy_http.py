@@ -73,6 +73,9 @@ class Proxy:
         self.url = f'http://{HOST}:{self.port}'
         time.sleep(0.3)
 
+    def files(self):
+        return len(os.listdir(f'/proc/{self.process.pid}/fd'))
+
     def cpu(self):
         total = 0
         for task in os.listdir(f'/proc/{self.process.pid}/task'):
@@ -318,6 +321,28 @@ def a_journal_waits(args):
             drain.flows.set()
             ends = [post.wait(30) for post in posts]
             assert ends == [0, 0], ends
+
+
+@scenario
+def a_burst_waits(args):
+    """Of the clients that come while a worker waits for its journal at most 64 are accepted for it, and take a file each. The others wait
+    in the system's queue. All are served once the worker goes on."""
+    with tempfile.TemporaryDirectory(prefix='journals-') as dir, contextlib.closing(Drain(f'{dir}/J.1')) as drain:
+        with running(args, '--echo-upload', journal=f'{dir}/J', workers=1) as (cluster, proxy):
+            drain.flows.clear()
+            post = subprocess.Popen(['curl', '-sS', '--http2-prior-knowledge', '-o', '/dev/null', '--data-binary', f'@{cluster.dir}/middle', f'{proxy.url}/up'])
+            time.sleep(0.3)
+            before = proxy.files()
+            clients = [socket.create_connection((HOST, proxy.port), timeout=10) for _ in range(400)]
+            time.sleep(0.3)
+            more = proxy.files() - before
+            assert more <= 64, f'{more} files more'
+            drain.flows.set()
+            assert post.wait(30) == 0
+            live = [client for client in clients if client.recv(1) != b'']
+            assert len(live) == len(clients), f'{len(live)} of {len(clients)} clients are live'
+            for client in clients:
+                client.close()
 
 
 @scenario
