@@ -18,7 +18,7 @@ pub use counts::{ClientCounts, ClientGauge};
 pub use journal::FileJournal;
 use program_ports::{Input, Output};
 use proxy_site::Status;
-use proxy_wire::serve_proxy;
+use proxy_wire::{ProxyForm, read_proxy_form, serve_proxy};
 pub use socket_site::SocketSite;
 use std::env::{self, Env};
 use std::fs;
@@ -128,12 +128,16 @@ fn show_page<O: Write + Drop>(mut output: O, text: &str) -> ExitCode {
     }
 }
 
-// The file that the words name. One that can't be opened is a reader whose reads fail.
+// The file that the words name, if they have a form. One that can't be opened is a reader whose reads fail.
 fn open_config<R: Files>(rt: &R, words: &[String]) -> Opened<R::File> {
-    match words {
-        [word, path, ..] if word.as_str() == "relay" => open_file(rt, path.as_str()),
-        [path, ..] => open_file(rt, path.as_str()),
-        [] => Opened::Shut(ErrorKind::NotFound),
+    let path = match read_proxy_form(words) {
+        Some(ProxyForm::Relay { .. }) => words.get(1),
+        Some(ProxyForm::Wire { .. }) => words.first(),
+        None => None,
+    };
+    match path {
+        Some(path) => open_file(rt, path.as_str()),
+        None => Opened::Shut(ErrorKind::NotFound),
     }
 }
 
