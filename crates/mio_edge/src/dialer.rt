@@ -1,6 +1,6 @@
 // When connections to a cluster are made.
-ghost use Rattle.std.specs.Prelude.{◌≡◌, ◌+◌, ◌-◌, ◌^◌, ◌&&◌, ◌<◌, ◌≤◌, IfSome, Some, false, is_some, max, min, nat_lt, not, true};
-ghost use Rattle.mio_edge.specs.Dialers.{MayDial, later, new_dialer, rested};
+ghost use Rattle.std.specs.Prelude.{◌≡◌, ◌+◌, ◌-◌, ◌^◌, ◌&&◌, ◌<◌, ◌≤◌, IfSome, Some, is_some, max, min, nat_lt, not};
+ghost use Rattle.mio_edge.specs.Dialers.{MayDial, failed, joined, later, new_dialer, postponed, rested};
 
 use std::net::SocketAddr;
 
@@ -80,7 +80,7 @@ impl Dialer {
 
     /// A connection couldn't be made.
     pub fn fail(&mut self, now: u64)
-        ensures { self.new ≡ rested now (record self.old { begun = self.old.begun - 1; failing = true }) }
+        ensures { self.new ≡ failed now self.old }
     {
         self.begun = self.begun.saturating_sub(1);
         self.failing = true;
@@ -89,7 +89,7 @@ impl Dialer {
 
     /// A connection couldn't be begun or taken in, for want of something that isn't the cluster's.
     pub fn postpone(&mut self, now: u64)
-        ensures { self.new ≡ record self.old { begun = self.old.begun - 1; until = later now 100 } }
+        ensures { self.new ≡ postponed now self.old }
     {
         self.begun = self.begun.saturating_sub(1);
         self.until = now.saturating_add(FIRST_PAUSE);
@@ -97,7 +97,7 @@ impl Dialer {
 
     /// A connection that was made is live.
     pub fn join(&mut self)
-        ensures { self.new ≡ record self.old { ready = min (self.old.ready + 1) (2 ^ 32 - 1); begun = self.old.begun - 1; failing = false } }
+        ensures { self.new ≡ joined self.old }
     {
         self.begun = self.begun.saturating_sub(1);
         self.ready = self.ready.saturating_add(1);
