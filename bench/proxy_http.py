@@ -373,6 +373,8 @@ def cluster_goes_and_comes(args):
                 break
             time.sleep(0.2)
         assert (code, said) == (0, '200 2'), (code, said, err)
+    gone, back = proxy.said.count("can't be reached: "), proxy.said.count('is reached again')
+    assert gone == 2 and 1 <= back <= 2, proxy.said
 
 
 @scenario
