@@ -48,6 +48,6 @@ octet that was sent. Where the status isn't 0, lines on standard error say why.
   3  the configuration is refused; the only line is `refused config N KEY`
   5  the configuration couldn't be read
   6  it couldn't listen, had no sockets or no journal, or couldn't wait for sockets; or the output or a journal couldn't be written
-  7  out of memory
+  7  out of memory, or a worker had no thread
   9  the configuration has more than 1,048,576 octets
 ";

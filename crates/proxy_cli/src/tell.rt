@@ -65,13 +65,23 @@ fn tell_wire<R: Eprint>(rt: &R, end: WireEnd, out: Option<ErrorKind>) {
         WireEnd::JournalHead => tell_line(rt, line_of(&ServeReason::JournalHead), None),
         WireEnd::Write => tell_line(rt, line_of(&ServeReason::Write), out),
         WireEnd::Memory => tell_line(rt, line_of(&ServeReason::Memory), None),
-        WireEnd::Workers(ends) => {
-            let mut worker = 0u32;
-            for ended in ends.iter() {
-                worker = worker.saturating_add(1);
-                tell_worker(rt, worker, *ended);
-            }
+        WireEnd::Workers(ends) => tell_workers(rt, ends.as_slice()),
+        WireEnd::Round(ends) => {
+            tell_line(rt, "ended, since clients can't be accepted", None);
+            tell_workers(rt, ends.as_slice());
         }
+        WireEnd::Threads(ends) => {
+            tell_line(rt, "ended, since a worker had no thread", None);
+            tell_workers(rt, ends.as_slice());
+        }
+    }
+}
+
+fn tell_workers<R: Eprint>(rt: &R, ends: &[Ended]) {
+    let mut worker = 0u32;
+    for ended in ends {
+        worker = worker.saturating_add(1);
+        tell_worker(rt, worker, *ended);
     }
 }
 
@@ -85,7 +95,7 @@ fn tell_worker<R: Eprint>(rt: &R, worker: u32, ended: Ended) {
 fn cause_of(ended: Ended) -> Option<&'static str> {
     match ended {
         Ended::Turns => None,
-        Ended::Stopped => Some("since no more clients could be taken"),
+        Ended::Stopped => Some("since it was told to stop"),
         Ended::WiresFault => Some("since the system couldn't wait for its sockets"),
         Ended::JournalFault => Some("since its journal can't be written"),
         Ended::Memory => Some("out of memory"),

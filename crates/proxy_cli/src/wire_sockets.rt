@@ -109,10 +109,13 @@ impl<R: Eprint + Files + Net + Clock + Wait + AllocGlobal + Copy + Drop> WireSit
         let done = acceptor.round(accept);
         self.counts.set_live(acceptor.live());
         if done.is_err() {
-            acceptor.end_all();
             self.count();
         }
         done
+    }
+
+    fn stop(&mut self) {
+        self.end_all();
     }
 
     fn give_back(&mut self, worker: u32, wires: Self::W, journal: Self::L) {
