@@ -6,7 +6,7 @@
 Debian's packages curl, nghttp2-client and nghttp2-server. With H2REPLAY the journals of each scenario are replayed as well. Ends
 with 1 where a scenario fails.
 """
-import argparse, contextlib, hashlib, os, random, re, shutil, signal, socket, subprocess, sys, tempfile, threading, time
+import argparse, contextlib, hashlib, os, random, re, resource, shutil, signal, socket, subprocess, sys, tempfile, threading, time
 
 HOST = '127.0.0.1'
 
@@ -49,9 +49,9 @@ class Cluster:
 
 class Proxy:
     """A running proxy before one cluster, and one more at another port for the paths below `/other` if it is given. Its journals are
-    files of its own, or begin with the words given, or there are none."""
+    files of its own, or begin with the words given, or there are none. `before` is called in its process before the program begins."""
 
-    def __init__(self, args, port, other=None, limits='', timeouts='', journal=True, turns=None, **keys):
+    def __init__(self, args, port, other=None, limits='', timeouts='', journal=True, turns=None, before=None, **keys):
         self.args, self.dir = args, tempfile.mkdtemp(prefix='h2proxy-')
         self.journal = os.path.join(self.dir, 'J') if journal is True and args.replay else None
         keys = {'connections': 2, **keys}
@@ -66,7 +66,7 @@ class Proxy:
             f.write('\n'.join(lines) + '\n')
         self.workers = keys.get('workers', 2)
         words = [args.h2proxy, self.config] + ([str(turns)] if turns else [])
-        self.process = subprocess.Popen(words, stdout=subprocess.PIPE, stderr=subprocess.PIPE, text=True)
+        self.process = subprocess.Popen(words, stdout=subprocess.PIPE, stderr=subprocess.PIPE, text=True, preexec_fn=before)
         line = self.process.stdout.readline()
         assert line.startswith('listening '), (line, self.process.poll(), self.process.stderr.read())
         self.port = int(line.rsplit(':', 1)[1])
@@ -343,6 +343,28 @@ def a_burst_waits(args):
             assert len(live) == len(clients), f'{len(live)} of {len(clients)} clients are live'
             for client in clients:
                 client.close()
+
+
+def files_of_64_kib():
+    signal.signal(signal.SIGXFSZ, signal.SIG_IGN)
+    resource.setrlimit(resource.RLIMIT_FSIZE, (1 << 16, 1 << 16))
+
+
+@scenario
+def a_worker_fails(args):
+    """Where the journal of one of two workers can't be written any more both end, and the program with them: it says why, its status is
+    6, and no client is left waiting."""
+    with tempfile.TemporaryDirectory(prefix='journals-') as dir, contextlib.closing(Cluster('--echo-upload')) as cluster:
+        proxy = Proxy(args, cluster.port, journal=f'{dir}/J', workers=2, before=files_of_64_kib)
+        words = ['curl', '-sS', '--http2-prior-knowledge', '-o', '/dev/null', '--data-binary', f'@{cluster.dir}/middle']
+        post = subprocess.Popen([*words, f'{proxy.url}/up'], stderr=subprocess.DEVNULL)
+        status = proxy.process.wait(5)
+        said = proxy.process.stderr.read()
+        shutil.rmtree(proxy.dir)
+        assert status == 6, (status, said)
+        assert re.search(r"the journal of worker \d can't be written: ", said), said
+        assert "ended, since its journal can't be written" in said and 'ended, since it was told to stop' in said, said
+        assert post.wait(5) != 0
 
 
 @scenario
