@@ -281,6 +281,48 @@ def too_many_clients(args):
             client.close()
 
 
+def is_live(client):
+    """Whether the proxy has taken a client, which it tells by its SETTINGS, and hasn't closed it."""
+    return client.recv(1) != b''
+
+
+@scenario
+def accept_rate(args):
+    """One client may come in each tenth of a second: of twenty at once the others are closed, and of those that come more slowly next to
+    none is."""
+    with running(args, accept_rate=1, accept_burst=1) as (cluster, proxy):
+        clients = [socket.create_connection((HOST, proxy.port), timeout=5) for _ in range(20)]
+        live = sum(map(is_live, clients))
+        assert 1 <= live <= 4, f'{live} of 20 are live'
+        live = 0
+        for _ in range(20):
+            time.sleep(0.15)
+            clients.append(socket.create_connection((HOST, proxy.port), timeout=5))
+            live += is_live(clients[-1])
+        assert live >= 18, f'{live} of 20 that came slowly are live'
+        for client in clients:
+            client.close()
+
+
+@scenario
+def stop_accepting(args):
+    """A client that comes while `stop_accepting` is full waits, and is served once another has gone."""
+    overload = '[overload]\nresources = ["connections"]\n[[overload.triggers]]\naction = "stop_accepting"\nresource = "connections"\nvalue = 500000'
+    with running(args, max_connections=4, timeouts=overload) as (cluster, proxy):
+        clients = [socket.create_connection((HOST, proxy.port), timeout=5) for _ in range(2)]
+        assert all(map(is_live, clients))
+        time.sleep(0.6)
+        third = socket.create_connection((HOST, proxy.port), timeout=0.7)
+        with contextlib.suppress(TimeoutError):
+            is_live(third)
+            raise AssertionError('a third was accepted, or closed')
+        clients[0].close()
+        third.settimeout(2)
+        assert is_live(third), 'a third was closed'
+        third.close()
+        clients[1].close()
+
+
 class Drain:
     """A pipe that is read to nowhere, unless it is stopped up."""
 
