@@ -214,7 +214,8 @@ def small_windows_and_increments(args):
 
 
 def stalled(window):
-    """Fifty bodies to a client whose windows have this size at first."""
+    """Fifty bodies to a client whose windows have this size at first. It reads all that comes, so that its windows hold the bodies back
+    and not its socket; bench/proxy_memory.py has clients whose sockets take nothing."""
     def attack(port, until):
         peer = Peer(port, setting(INITIAL_WINDOW_SIZE, window))
         peer.send(b''.join(get(stream, b'/big') for stream in range(1, 101, 2)))

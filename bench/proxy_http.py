@@ -6,7 +6,7 @@
 Debian's packages curl, nghttp2-client and nghttp2-server. With H2REPLAY the journals of each scenario are replayed as well. Ends
 with 1 where a scenario fails.
 """
-import argparse, contextlib, hashlib, os, random, re, shutil, signal, socket, subprocess, sys, tempfile, threading, time
+import argparse, contextlib, hashlib, os, random, re, resource, shutil, signal, socket, subprocess, sys, tempfile, threading, time
 
 HOST = '127.0.0.1'
 
@@ -49,9 +49,9 @@ class Cluster:
 
 class Proxy:
     """A running proxy before one cluster, and one more at another port for the paths below `/other` if it is given. Its journals are
-    files of its own, or begin with the words given, or there are none."""
+    files of its own, or begin with the words given, or there are none. `before` is called in its process before the program begins."""
 
-    def __init__(self, args, port, other=None, limits='', timeouts='', journal=True, turns=None, **keys):
+    def __init__(self, args, port, other=None, limits='', timeouts='', journal=True, turns=None, before=None, **keys):
         self.args, self.dir = args, tempfile.mkdtemp(prefix='h2proxy-')
         self.journal = os.path.join(self.dir, 'J') if journal is True and args.replay else None
         keys = {'connections': 2, **keys}
@@ -66,12 +66,15 @@ class Proxy:
             f.write('\n'.join(lines) + '\n')
         self.workers = keys.get('workers', 2)
         words = [args.h2proxy, self.config] + ([str(turns)] if turns else [])
-        self.process = subprocess.Popen(words, stdout=subprocess.PIPE, stderr=subprocess.PIPE, text=True)
+        self.process = subprocess.Popen(words, stdout=subprocess.PIPE, stderr=subprocess.PIPE, text=True, preexec_fn=before)
         line = self.process.stdout.readline()
         assert line.startswith('listening '), (line, self.process.poll(), self.process.stderr.read())
         self.port = int(line.rsplit(':', 1)[1])
         self.url = f'http://{HOST}:{self.port}'
         time.sleep(0.3)
+
+    def files(self):
+        return len(os.listdir(f'/proc/{self.process.pid}/fd'))
 
     def cpu(self):
         total = 0
@@ -278,6 +281,48 @@ def too_many_clients(args):
             client.close()
 
 
+def is_live(client):
+    """Whether the proxy has taken a client, which it tells by its SETTINGS, and hasn't closed it."""
+    return client.recv(1) != b''
+
+
+@scenario
+def accept_rate(args):
+    """One client may come in each tenth of a second: of twenty at once the others are closed, and of those that come more slowly next to
+    none is."""
+    with running(args, accept_rate=1, accept_burst=1) as (cluster, proxy):
+        clients = [socket.create_connection((HOST, proxy.port), timeout=5) for _ in range(20)]
+        live = sum(map(is_live, clients))
+        assert 1 <= live <= 4, f'{live} of 20 are live'
+        live = 0
+        for _ in range(20):
+            time.sleep(0.15)
+            clients.append(socket.create_connection((HOST, proxy.port), timeout=5))
+            live += is_live(clients[-1])
+        assert live >= 18, f'{live} of 20 that came slowly are live'
+        for client in clients:
+            client.close()
+
+
+@scenario
+def stop_accepting(args):
+    """A client that comes while `stop_accepting` is full waits, and is served once another has gone."""
+    overload = '[overload]\nresources = ["connections"]\n[[overload.triggers]]\naction = "stop_accepting"\nresource = "connections"\nvalue = 500000'
+    with running(args, max_connections=4, timeouts=overload) as (cluster, proxy):
+        clients = [socket.create_connection((HOST, proxy.port), timeout=5) for _ in range(2)]
+        assert all(map(is_live, clients))
+        time.sleep(0.6)
+        third = socket.create_connection((HOST, proxy.port), timeout=0.7)
+        with contextlib.suppress(TimeoutError):
+            is_live(third)
+            raise AssertionError('a third was accepted, or closed')
+        clients[0].close()
+        third.settimeout(2)
+        assert is_live(third), 'a third was closed'
+        third.close()
+        clients[1].close()
+
+
 class Drain:
     """A pipe that is read to nowhere, unless it is stopped up."""
 
@@ -321,6 +366,50 @@ def a_journal_waits(args):
 
 
 @scenario
+def a_burst_waits(args):
+    """Of the clients that come while a worker waits for its journal at most 64 are accepted for it, and take a file each. The others wait
+    in the system's queue. All are served once the worker goes on."""
+    with tempfile.TemporaryDirectory(prefix='journals-') as dir, contextlib.closing(Drain(f'{dir}/J.1')) as drain:
+        with running(args, '--echo-upload', journal=f'{dir}/J', workers=1) as (cluster, proxy):
+            drain.flows.clear()
+            post = subprocess.Popen(['curl', '-sS', '--http2-prior-knowledge', '-o', '/dev/null', '--data-binary', f'@{cluster.dir}/middle', f'{proxy.url}/up'])
+            time.sleep(0.3)
+            before = proxy.files()
+            clients = [socket.create_connection((HOST, proxy.port), timeout=10) for _ in range(400)]
+            time.sleep(0.3)
+            more = proxy.files() - before
+            assert more <= 64, f'{more} files more'
+            drain.flows.set()
+            assert post.wait(30) == 0
+            live = [client for client in clients if client.recv(1) != b'']
+            assert len(live) == len(clients), f'{len(live)} of {len(clients)} clients are live'
+            for client in clients:
+                client.close()
+
+
+def files_of_64_kib():
+    signal.signal(signal.SIGXFSZ, signal.SIG_IGN)
+    resource.setrlimit(resource.RLIMIT_FSIZE, (1 << 16, 1 << 16))
+
+
+@scenario
+def a_worker_fails(args):
+    """Where the journal of one of two workers can't be written any more both end, and the program with them: it says why, its status is
+    6, and no client is left waiting."""
+    with tempfile.TemporaryDirectory(prefix='journals-') as dir, contextlib.closing(Cluster('--echo-upload')) as cluster:
+        proxy = Proxy(args, cluster.port, journal=f'{dir}/J', workers=2, before=files_of_64_kib)
+        words = ['curl', '-sS', '--http2-prior-knowledge', '-o', '/dev/null', '--data-binary', f'@{cluster.dir}/middle']
+        post = subprocess.Popen([*words, f'{proxy.url}/up'], stderr=subprocess.DEVNULL)
+        status = proxy.process.wait(5)
+        said = proxy.process.stderr.read()
+        shutil.rmtree(proxy.dir)
+        assert status == 6, (status, said)
+        assert re.search(r"the journal of worker \d can't be written: ", said), said
+        assert "ended, since its journal can't be written" in said and 'ended, since it was told to stop' in said, said
+        assert post.wait(5) != 0
+
+
+@scenario
 def client_goes_away(args):
     with running(args) as (cluster, proxy):
         for _ in range(5):
@@ -348,6 +437,8 @@ def cluster_goes_and_comes(args):
                 break
             time.sleep(0.2)
         assert (code, said) == (0, '200 2'), (code, said, err)
+    gone, back = proxy.said.count("can't be reached: "), proxy.said.count('is reached again')
+    assert gone == 2 and 1 <= back <= 2, proxy.said
 
 
 @scenario

@@ -426,7 +426,7 @@ def more_than_max(args):
 
 @scenario
 def cluster_goes_and_comes(args):
-    """Without a cluster clients are refused soon and little is tried; once it is back they are served again."""
+    """Without a cluster clients are refused soon and little is tried; once it is back they are served again. Both is told, once."""
     server = Server(echo)
     port = server.port
     proxy = Proxy(args, port)
@@ -457,6 +457,8 @@ def cluster_goes_and_comes(args):
 
     assert soon(served, 8), 'not served again'
     proxy.end()
+    told = proxy.said.count("can't be reached: "), proxy.said.count('is reached again')
+    assert told == (1, 1), proxy.said
     server.close()
 
 
@@ -507,7 +509,8 @@ def few_files(args):
     assert soon(served, 10)
     assert proxy.process.poll() is None
     proxy.end()
-    assert 'open files' in proxy.said, proxy.said
+    assert 'open files are allowed' in proxy.said, proxy.said
+    assert 'Too many open files' in proxy.said, proxy.said
     server.close()
 
 

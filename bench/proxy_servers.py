@@ -5,8 +5,9 @@
 
 Debian's packages curl, nghttp2-client, nghttp2-server and nginx-light. GO_SERVER is bench/go_server, built (golang-go and
 golang-golang-x-net-dev, `GO111MODULE=off GOPATH=/usr/share/gocode go build` in its folder); nginx passes what is
-posted on to it. The one in Python is hypercorn (python3-hypercorn). A kind whose program isn't there is left out. With
-H2REPLAY the journals of each scenario below 64 MiB are replayed as well. Ends with 1 where a scenario fails.
+posted on to it. The one in Python is hypercorn (python3-hypercorn). nginx ends a connection after 1,000 requests, its default;
+hypercorn is told not to. A kind whose program isn't there is left out. With H2REPLAY the journals of each scenario below 64 MiB
+are replayed as well. Ends with 1 where a scenario fails.
 """
 import argparse, contextlib, hashlib, os, random, shutil, subprocess, sys, tempfile, time
 
@@ -20,7 +21,7 @@ daemon off; pid {dir}/pid; error_log {dir}/errors; worker_processes 1;
 events {{ worker_connections 512; }}
 http {{
     access_log off; client_body_temp_path {dir}/tmp; proxy_temp_path {dir}/tmp2; client_max_body_size 0;
-    large_client_header_buffers 8 64k; http2_max_concurrent_streams 128; keepalive_requests 1000000000;
+    large_client_header_buffers 8 64k; http2_max_concurrent_streams 128;
     proxy_request_buffering off; proxy_http_version 1.1;
     server {{
         listen 127.0.0.1:{port} http2; root {dir};
@@ -237,11 +238,13 @@ def large_fields(args, server):
             assert got[0] == 0 and got[1].count('v' * 1500) == 20, (got[0], got[1][-200:], got[3])
 
 
+# nginx ends a connection with GOAWAY after 1,000 requests, its default, and what was under way beyond that gets 502. So where each
+# request must have its answer there are fewer for each connection, and `ends_politely` is about the ends.
 @scenario
 def many_streams(args, server):
     """Ten connections with a hundred streams each, and warm connections enough for them."""
     with proxied(args, server, connections=12, journal=False) as proxy:
-        n = 2_000 if server.kind == 'python' else 20_000
+        n = {'python': 2_000, 'nginx': 4_000}.get(server.kind, 20_000)
         found, codes, said = h2load(proxy, '/one', n, 10, 100)
         assert found[0] == n and codes == (n, 0, 0, 0), said[-600:]
 
@@ -249,7 +252,7 @@ def many_streams(args, server):
 @scenario
 def many_bodies(args, server):
     with proxied(args, server, connections=4, workers=2, journal=False, limits='connection_window = 6553500') as proxy:
-        n = 200 if server.kind == 'python' else 2_000
+        n = {'python': 200, 'nginx': 1_600}.get(server.kind, 2_000)
         found, codes, said = h2load(proxy, '/middle', n, 8, 8)
         assert found[0] == n and codes == (n, 0, 0, 0), said[-600:]
 
@@ -260,6 +263,19 @@ def uploads(args, server):
         with proxied(args, server, connections=4, workers=2, journal=False, limits='connection_window = 6553500') as proxy:
             found, codes, said = h2load(proxy, '/up', 200, 8, 4, '-d', os.path.join(server.dir, 'middle'))
             assert found[0] == 200 and codes == (200, 0, 0, 0), said[-600:]
+
+
+@scenario
+def ends_politely(args, server):
+    """nginx ends a connection after 1,000 requests. That is no failure, so the next one is made at once: of 600 requests a second over
+    one connection, which lives less than two seconds then, at least 98 of 100 are answered. Were each end followed by a pause that
+    doubles, as that of a connection that fails, only some 60 would be within 20 seconds, and fewer later."""
+    if server.kind == 'nginx':
+        with proxied(args, server, workers=1, connections=1, journal=False) as proxy:
+            n = 12_000
+            found, codes, said = h2load(proxy, '/one', n, 4, 4, '--rps', '150')
+            print(f'    {codes[0]} of {n} answered', flush=True)
+            assert codes[0] + codes[3] == n and codes[0] * 100 >= n * 98, said[-600:]
 
 
 @scenario

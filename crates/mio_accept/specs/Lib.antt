@@ -1,2 +1,1 @@
 pub mod Acceptors
-pub mod Lanes

@@ -3,18 +3,22 @@ ghost use Rattle.std.specs.Prelude.{◌≡◌, ◌+◌, IfOk, OnErr, OnOk, if◌
 ghost use Rattle.mio_accept.specs.Acceptors.{turn_of, workers};
 
 use crate::lane::Lane;
-use crate::queue::AcceptQueue;
+use crate::queue::{AcceptQueue, MOST_WAITING};
 use io_ports::Failed;
 use mio::net::{TcpListener, TcpStream};
 use mio::{Events, Interest, Poll};
-use mio_edge::{DOOR, Door, EdgeFault};
+use mio_edge::{DOOR, Door, EdgeFault, tell_wait};
 use std::alloc::Global;
+use std::io::Eprint;
 use std::net::Net;
 use std::sync::{Arc, Wait};
 use std::time::{Clock, Duration};
 
 /// How long a round waits at most, in milliseconds.
 const LONGEST_WAIT: u64 = 100;
+
+/// How long it waits at most where clients wait in the system's queue until a worker takes some, in milliseconds.
+const SHORT_WAIT: u64 = 2;
 
 /// How many clients one round accepts at most.
 const MOST_ACCEPTS: u32 = 1_024;
@@ -23,7 +27,8 @@ const MOST_ACCEPTS: u32 = 1_024;
 const MOST_EVENTS: usize = 16;
 
 /// Accepts clients at a listener, and hands them to the workers in turn. A worker that begins no round for a second is passed over,
-/// and the clients that wait for it are handed to others, until it goes on. While all are so, clients wait in the system's queue.
+/// and the clients that wait for it are handed to others, until it goes on; one for which `MOST_WAITING` clients wait is passed over
+/// until it takes some. While all are passed over, clients wait in the system's queue.
 #[derive(Drop)]
 pub struct Acceptor<R: Clock + Net + Wait + Drop> {
     rt: R,
@@ -37,7 +42,7 @@ pub struct Acceptor<R: Clock + Net + Wait + Drop> {
     now: u64,
 }
 
-impl<R: Clock + Net + Wait + Drop> Acceptor<R> {
+impl<R: Clock + Net + Wait + Eprint + Drop> Acceptor<R> {
     /// Nobody takes clients yet.
     pub fn new(rt: R, alloc: Global, mut listener: TcpListener) -> Result<Self, EdgeFault>
         ensures { IfOk result (λ made. (workers made ≡ 0) × (turn_of made ≡ 0)) }
@@ -85,39 +90,57 @@ impl<R: Clock + Net + Wait + Drop> Acceptor<R> {
         }
     }
 
-    /// Waits at most a tenth of a second, and hands on the clients that came, if they are to be accepted.
+    /// Waits at most a tenth of a second, and hands on the clients that came, if they are to be accepted. Those that wait for a worker
+    /// which goes on no more are handed to others in any case. Why it failed is told on standard error.
     pub fn round(&mut self, accept: bool) -> Result<(), Failed>
         ensures { workers self.new ≡ workers self.old }
     {
-        self.read_clock();
+        self.tend();
         if accept && self.hand_on() {
             return Ok(());
         }
-        let wait = Duration::from_millis(LONGEST_WAIT);
-        if self.poll.poll(&mut self.events, Some(wait)).is_err() {
+        let wait = self.longest_wait(accept);
+        if let Err(error) = self.poll.poll(&mut self.events, Some(wait)) {
+            tell_wait(&self.rt, &error);
             return Err(Failed);
         }
         for _ in &self.events {
-            self.door.stir();
+            self.door.on_event();
         }
-        self.read_clock();
+        self.tend();
         if accept {
             self.hand_on();
         }
         Ok(())
     }
 
+    // Where a client may wait that could be accepted, no worker takes any now. Nothing tells when one does.
+    fn longest_wait(&self, accept: bool) -> Duration {
+        if accept && self.door.is_due(self.now) {
+            Duration::from_millis(SHORT_WAIT)
+        } else {
+            Duration::from_millis(LONGEST_WAIT)
+        }
+    }
+
+    // Looks at the clock and at the workers, and hands the clients of those that go on no more to others.
+    fn tend(&mut self)
+        ensures { workers self.new ≡ workers self.old }
+    {
+        self.read_clock();
+        self.look();
+        self.take_back();
+    }
+
     // Accepts clients, each for the next worker that takes some. Answers whether more may wait.
     fn hand_on(&mut self) -> bool
         ensures { workers self.new ≡ workers self.old }
     {
-        self.look();
-        self.take_back();
         for _ in 0..MOST_ACCEPTS {
             if !self.door.is_due(self.now) || !self.find_turn() {
                 return false;
             }
-            if let Some(client) = self.door.accept(self.now) {
+            if let Some(client) = self.door.accept(&self.rt, self.now) {
                 self.hand(client);
             }
         }
@@ -131,7 +154,8 @@ impl<R: Clock + Net + Wait + Drop> Acceptor<R> {
     {
         for place in 0..self.lanes.len() {
             if let Some(lane) = self.lanes.get_mut(place) {
-                lane.look(self.now);
+                let rounds = lane.queue.rounds();
+                lane.look(rounds, self.now);
             }
         }
     }
@@ -149,18 +173,18 @@ impl<R: Clock + Net + Wait + Drop> Acceptor<R> {
         ensures { workers self.new ≡ workers self.old }
     {
         for _ in 0..MOST_ACCEPTS {
-            let Some(client) = self.forsaken(place) else {
+            let Some(client) = self.take_waiting(place) else {
                 return;
             };
             self.hand(client);
         }
     }
 
-    // A client that waits for a worker which takes none, if another one takes some.
-    fn forsaken(&mut self, place: usize) -> Option<TcpStream>
+    // A client that waits for a worker which goes on no more, if another one takes some.
+    fn take_waiting(&mut self, place: usize) -> Option<TcpStream>
         ensures { workers self.new ≡ workers self.old }
     {
-        if self.takes_at(place) || !self.find_turn() {
+        if self.goes_on(place) || !self.find_turn() {
             return None;
         }
         self.lanes.get(place)?.queue.take_back(&self.rt)
@@ -179,7 +203,15 @@ impl<R: Clock + Net + Wait + Drop> Acceptor<R> {
         false
     }
 
+    // Whether the worker at a place takes clients: it goes on, and not too many wait for it.
     fn takes_at(&self, place: usize) -> bool {
+        match self.lanes.get(place) {
+            Some(lane) => lane.is_taking(self.now) && lane.queue.waiting() < MOST_WAITING,
+            None => false,
+        }
+    }
+
+    fn goes_on(&self, place: usize) -> bool {
         match self.lanes.get(place) {
             Some(lane) => lane.is_taking(self.now),
             None => false,

@@ -1,6 +1,5 @@
 // A worker, as what hands clients on sees it.
-ghost use Rattle.std.specs.Prelude.{◌≡◌, ◌+◌, ◌⊎◌, nat_lt};
-ghost use Rattle.mio_accept.specs.Lanes.{IsLookedAt};
+ghost use Rattle.std.specs.Prelude.{◌≡◌, ◌+◌, if◌then◌else◌, nat_eq, nat_lt};
 
 use crate::queue::AcceptQueue;
 use std::alloc::Global;
@@ -23,7 +22,8 @@ pub(crate) struct Lane {
 impl Lane {
     /// A worker that takes its clients from this queue, and has begun no round.
     pub fn new(queue: Arc<AcceptQueue, Global>, now: u64) -> Self
-        ensures { result.since ≡ now }
+        ensures rounds { result.rounds ≡ 0 }
+        ensures since { result.since ≡ now }
     {
         Lane {
             queue,
@@ -32,15 +32,15 @@ impl Lane {
         }
     }
 
-    /// Looks whether the worker goes on.
-    pub fn look(&mut self, now: u64)
-        ensures { IsLookedAt now self.old self.new }
+    /// Looks whether the worker goes on: at this moment, in milliseconds, it has begun so many rounds.
+    pub fn look(&mut self, rounds: u32, now: u64)
+        ensures { self.new ≡ (if nat_eq rounds self.old.rounds then self.old else record self.old { rounds = rounds; since = now }) }
     {
-        let rounds = self.queue.rounds();
-        if rounds != self.rounds {
-            self.rounds = rounds;
-            self.since = now;
+        if rounds == self.rounds {
+            return;
         }
+        self.rounds = rounds;
+        self.since = now;
     }
 
     /// Whether the worker takes clients, as far as is known.

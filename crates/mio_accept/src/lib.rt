@@ -6,4 +6,4 @@ mod lane;
 mod queue;
 
 pub use acceptor::Acceptor;
-pub use queue::{AcceptQueue, QueueInlet};
+pub use queue::{AcceptQueue, MOST_WAITING, QueueInlet};

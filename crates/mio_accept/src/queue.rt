@@ -9,6 +9,9 @@ use std::io::{self, ErrorKind};
 use std::sync::atomic::{AtomicBool, AtomicU32, Ordering};
 use std::sync::{Arc, Wait};
 
+/// How many clients wait for a worker at most. Further ones wait in the system's queue, where they take no file of the process.
+pub const MOST_WAITING: u64 = 64;
+
 /// Clients that were accepted for a worker, and wait for it.
 #[derive(Drop)]
 pub struct AcceptQueue {
@@ -34,8 +37,8 @@ impl AcceptQueue {
         })
     }
 
-    /// Hands a client to the worker. Out of memory, the client's connection is closed.
-    pub fn push<R: Wait>(&self, rt: &R, client: TcpStream) {
+    // Hands a client to the worker. Out of memory, the client's connection is closed.
+    pub(crate) fn push<R: Wait>(&self, rt: &R, client: TcpStream) {
         if self.clients.push(rt, client).is_ok() {
             self.wake();
         }
@@ -46,18 +49,23 @@ impl AcceptQueue {
         self.clients.pop(rt)
     }
 
+    // How many clients wait.
+    pub(crate) fn waiting(&self) -> u64 {
+        self.clients.claimed()
+    }
+
     // How many rounds the worker has begun, as far as they are told apart.
     pub(crate) fn rounds(&self) -> u32 {
         self.rounds.load(Ordering::SeqCst)
     }
 
-    /// How many connections of clients the worker has.
-    pub fn live(&self) -> u32 {
+    // How many connections of clients the worker has.
+    pub(crate) fn live(&self) -> u32 {
         self.live.load(Ordering::SeqCst)
     }
 
-    /// Nobody comes any more: the worker is to end.
-    pub fn end(&self) {
+    // Nobody comes any more: the worker is to end.
+    pub(crate) fn end(&self) {
         self.over.store(true, Ordering::SeqCst);
         self.wake();
     }

@@ -22,3 +22,15 @@ later now pause = min (now + pause) (2 ^ 64 - 1)
 -- none begins while one is kept
 abbrev pub rested : ℕ → Dialer → Dialer
 rested now d = if nat_lt now d.until then d else record d { pause = next_pause d.pause; until = later now (next_pause d.pause) }
+
+-- one couldn't be made
+abbrev pub failed : ℕ → Dialer → Dialer
+failed now d = rested now (record d { begun = d.begun - 1; failing = true })
+
+-- one couldn't be begun or taken in
+abbrev pub postponed : ℕ → Dialer → Dialer
+postponed now d = record d { begun = d.begun - 1; until = later now 100 }
+
+-- one that was made is ready
+abbrev pub joined : Dialer → Dialer
+joined d = record d { ready = min (d.ready + 1) (2 ^ 32 - 1); begun = d.begun - 1; failing = false }

@@ -1,6 +1,6 @@
 // When connections to a cluster are made.
-ghost use Rattle.std.specs.Prelude.{◌≡◌, ◌+◌, ◌-◌, ◌^◌, ◌&&◌, ◌<◌, ◌≤◌, IfSome, Some, false, is_some, min, nat_lt, not, true};
-ghost use Rattle.mio_edge.specs.Dialers.{MayDial, later, new_dialer, rested};
+ghost use Rattle.std.specs.Prelude.{◌≡◌, ◌+◌, ◌-◌, ◌^◌, ◌&&◌, ◌<◌, ◌≤◌, IfSome, Some, is_some, max, min, nat_lt, not};
+ghost use Rattle.mio_edge.specs.Dialers.{MayDial, failed, joined, later, new_dialer, postponed, rested};
 
 use std::net::SocketAddr;
 
@@ -22,7 +22,7 @@ pub(crate) struct Dialer {
     begun: u32,
     /// Whether the last connection couldn't be made.
     failing: bool,
-    /// How long the last pause was, in milliseconds; 0 after a connection that a client got, or that lived long.
+    /// How long the last pause was, in milliseconds; 0 after a connection that a client got, that lived long, or that was ended here.
     pause: u64,
     /// Until when none is made.
     until: u64,
@@ -80,16 +80,16 @@ impl Dialer {
 
     /// A connection couldn't be made.
     pub fn fail(&mut self, now: u64)
-        ensures { self.new ≡ rested now (record self.old { begun = self.old.begun - 1; failing = true }) }
+        ensures { self.new ≡ failed now self.old }
     {
         self.begun = self.begun.saturating_sub(1);
         self.failing = true;
         self.rest(now);
     }
 
-    /// A connection couldn't be begun, for want of something that isn't the cluster's.
+    /// A connection couldn't be begun or taken in, for want of something that isn't the cluster's.
     pub fn postpone(&mut self, now: u64)
-        ensures { self.new ≡ record self.old { begun = self.old.begun - 1; until = later now 100 } }
+        ensures { self.new ≡ postponed now self.old }
     {
         self.begun = self.begun.saturating_sub(1);
         self.until = now.saturating_add(FIRST_PAUSE);
@@ -97,7 +97,7 @@ impl Dialer {
 
     /// A connection that was made is live.
     pub fn join(&mut self)
-        ensures { self.new ≡ record self.old { ready = min (self.old.ready + 1) (2 ^ 32 - 1); begun = self.old.begun - 1; failing = false } }
+        ensures { self.new ≡ joined self.old }
     {
         self.begun = self.begun.saturating_sub(1);
         self.ready = self.ready.saturating_add(1);
@@ -112,7 +112,7 @@ impl Dialer {
         self.pause = 0;
     }
 
-    /// A connection that was ready is live no more. After one that didn't live long there is a pause.
+    /// A connection that was ready is lost. After one that didn't live long there is a pause.
     pub fn lose(&mut self, now: u64, since: u64)
         ensures soon { now < since + 5000 → self.new ≡ rested now (record self.old { ready = self.old.ready - 1 }) }
         ensures late { since + 5000 ≤ now → self.new ≡ record self.old { ready = self.old.ready - 1; pause = 0 } }
@@ -122,6 +122,19 @@ impl Dialer {
             self.rest(now);
         } else {
             self.pause = 0;
+        }
+    }
+
+    /// A connection that was ready was ended here: its cluster asked for that, or broke a rule. So it can be reached, and the next one
+    /// is made at once, or 100 ms later where this one lived no longer than that.
+    pub fn part(&mut self, now: u64, since: u64)
+        ensures soon { now < since + 100 → self.new ≡ record self.old { ready = self.old.ready - 1; pause = 0; until = max self.old.until (later now 100) } }
+        ensures late { since + 100 ≤ now → self.new ≡ record self.old { ready = self.old.ready - 1; pause = 0 } }
+    {
+        self.ready = self.ready.saturating_sub(1);
+        self.pause = 0;
+        if now.saturating_sub(since) < FIRST_PAUSE {
+            self.until = self.until.max(now.saturating_add(FIRST_PAUSE));
         }
     }
 

@@ -5,7 +5,7 @@ use mio::net::TcpStream;
 use mio::{Interest, Registry, Token};
 use std::alloc::Global;
 use std::collections::{BTreeMap, VecDeque};
-use std::io;
+use std::io::{self, Error, ErrorKind};
 use std::net::{Net, SocketAddr};
 
 /// How long a connection may take to be made, in milliseconds.
@@ -80,18 +80,26 @@ impl Dials {
     }
 
     /// The system tells something of a connection that is being made: it is made, or it failed, and then its cluster is
-    /// answered.
-    pub fn stir(&mut self, token: usize, event: &Event) -> Option<u32> {
+    /// answered, and why.
+    pub fn on_event(&mut self, token: usize, event: &Event) -> Option<(u32, Error)> {
         if !event.is_writable() && !event.is_error() {
             return None;
         }
         let dial = self.begun.remove(&token)?;
         let cluster = dial.cluster;
-        if is_connected(&dial.stream) && self.made.push_back(dial).is_ok() {
-            None
-        } else {
-            Some(cluster)
+        match self.end(dial) {
+            Ok(()) => None,
+            Err(error) => Some((cluster, error)),
         }
+    }
+
+    // A connection is made, as far as no error shows.
+    fn end(&mut self, dial: Dial) -> io::Result<()> {
+        check(&dial.stream)?;
+        if self.made.push_back(dial).is_err() {
+            return Err(Error::from(ErrorKind::OutOfMemory));
+        }
+        Ok(())
     }
 
     /// A connection that wasn't made in time is given up. Answers its cluster.
@@ -106,9 +114,9 @@ impl Dials {
 }
 
 // Whether a socket is connected, as far as no error shows. Octets that are sent at once go without delay.
-fn is_connected(stream: &TcpStream) -> bool {
-    match stream.take_error() {
-        Ok(None) => stream.set_nodelay(true).is_ok(),
-        Ok(Some(_)) | Err(_) => false,
+fn check(stream: &TcpStream) -> io::Result<()> {
+    match stream.take_error()? {
+        None => stream.set_nodelay(true),
+        Some(error) => Err(error),
     }
 }

@@ -3,8 +3,9 @@ ghost use Rattle.std.specs.Prelude.{◌≡◌, ◌&&◌, IfNone, IfSome, nat_le,
 ghost use Rattle.mio_edge.specs.Doors.{Misses, SameDoor, may_wait, shut_until};
 
 use crate::inlet::Inlet;
+use crate::tell::tell_refused;
 use mio::net::TcpStream;
-use std::io::ErrorKind;
+use std::io::{Eprint, Error, ErrorKind};
 
 /// How long no client is accepted after the system couldn't give one, in milliseconds.
 const PAUSE: u64 = 100;
@@ -17,6 +18,8 @@ pub struct Door<I: Inlet + Drop> {
     waits: bool,
     /// Until when none is accepted, in milliseconds.
     until: u64,
+    /// Whether the system couldn't give one, and none was accepted since.
+    is_refused: bool,
 }
 
 impl<I: Inlet + Drop> Door<I> {
@@ -29,11 +32,12 @@ impl<I: Inlet + Drop> Door<I> {
             inlet,
             waits: true,
             until: 0,
+            is_refused: false,
         }
     }
 
     /// A client may wait.
-    pub fn stir(&mut self)
+    pub fn on_event(&mut self)
         ensures waits { may_wait self.new ≡ true }
         ensures until { shut_until self.new ≡ shut_until self.old }
     {
@@ -48,15 +52,18 @@ impl<I: Inlet + Drop> Door<I> {
     }
 
     /// A client that waits. Where the system has no file or no memory for it, none is accepted for a while, and no event is
-    /// needed to go on then.
-    pub fn accept(&mut self, now: u64) -> Option<TcpStream>
+    /// needed to go on then. That is told on standard error, once until one is accepted again.
+    pub fn accept<R: Eprint>(&mut self, rt: &R, now: u64) -> Option<TcpStream>
         ensures some { IfSome result (λ _. SameDoor self.old self.new) }
         ensures none { IfNone result (Misses now self.old self.new) }
     {
         match self.inlet.accept() {
-            Ok(stream) => Some(stream),
+            Ok(stream) => {
+                self.is_refused = false;
+                Some(stream)
+            }
             Err(error) => {
-                self.missed(error.kind(), now);
+                self.missed(rt, &error, now);
                 None
             }
         }
@@ -74,13 +81,26 @@ impl<I: Inlet + Drop> Door<I> {
         self.inlet.is_over()
     }
 
-    fn missed(&mut self, kind: ErrorKind, now: u64)
+    fn missed<R: Eprint>(&mut self, rt: &R, error: &Error, now: u64)
         ensures { Misses now self.old self.new }
     {
-        match kind {
+        match error.kind() {
             ErrorKind::WouldBlock => self.waits = false,
             ErrorKind::ConnectionAborted | ErrorKind::Interrupted => {}
-            _ => self.until = now.saturating_add(PAUSE),
+            _ => {
+                self.refused(rt, error);
+                self.until = now.saturating_add(PAUSE);
+            }
+        }
+    }
+
+    // The system couldn't give a client. Of several such the first is told.
+    fn refused<R: Eprint>(&mut self, rt: &R, error: &Error)
+        ensures { SameDoor self.old self.new }
+    {
+        if !self.is_refused {
+            self.is_refused = true;
+            tell_refused(rt, error);
         }
     }
 }

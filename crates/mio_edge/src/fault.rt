@@ -1,5 +1,6 @@
 // Why there are no sockets.
 
+use io_ports::NoMemory;
 use std::alloc::AllocError;
 use std::error::Error;
 use std::{fmt, io};
@@ -21,6 +22,12 @@ impl From<io::Error> for EdgeFault {
 
 impl From<AllocError> for EdgeFault {
     fn from(_: AllocError) -> Self {
+        EdgeFault::NoMemory
+    }
+}
+
+impl From<NoMemory> for EdgeFault {
+    fn from(_: NoMemory) -> Self {
         EdgeFault::NoMemory
     }
 }

@@ -4,6 +4,7 @@
 mod address;
 mod clock;
 mod dialer;
+mod dialing;
 mod dials;
 mod door;
 mod fault;
@@ -16,6 +17,8 @@ mod plan;
 mod roll;
 mod sockets;
 mod taps;
+mod tell;
+mod upstream;
 
 pub use address::read_address;
 pub use clock::MonotonicClock;
@@ -23,6 +26,7 @@ pub use door::Door;
 pub use fault::EdgeFault;
 pub use file_limit::open_files;
 pub use inlet::Inlet;
-pub use plan::{Plan, Sharing};
+pub use plan::{Plan, Sharing, Target};
 pub use sockets::DOOR;
 pub use taps::SocketTaps;
+pub use tell::tell_wait;

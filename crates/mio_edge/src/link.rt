@@ -8,7 +8,7 @@ use std::io::{ErrorKind, Read, Write};
 
 /// What a read found.
 #[derive(Clone, Copy, Debug, PartialEq, Eq)]
-pub(crate) enum Found {
+pub(crate) enum ReadOutcome {
     /// So many octets, at least 1.
     Octets(usize),
     /// Nothing yet.
@@ -28,6 +28,18 @@ pub(crate) enum Origin {
     Taken,
     /// It was made to a cluster at a moment, in milliseconds, and all clients share it.
     Shared { cluster: u32, since: u64 },
+}
+
+impl Origin {
+    /// The cluster for which the connection counts as ready, and since when, if it does.
+    pub fn ready(self) -> Option<(u32, u64)> {
+        match self {
+            Origin::Ready { cluster, since } | Origin::Shared { cluster, since } => Some((
+                cluster, since,
+            )),
+            Origin::Client | Origin::Taken => None,
+        }
+    }
 }
 
 /// The socket of a live connection, and what was seen of it.
@@ -74,7 +86,7 @@ impl Link {
     }
 
     /// Takes in what the system tells of the socket. An error shows in the reads and writes that follow.
-    pub fn stir(&mut self, event: &Event) {
+    pub fn on_event(&mut self, event: &Event) {
         if event.is_readable() {
             self.readable = true;
         }
@@ -103,26 +115,26 @@ impl Link {
     }
 
     /// Reads once. After a read that didn't fill the block nothing is there until an event tells it, but for the end.
-    pub fn read(&mut self, block: &mut [u8]) -> Found {
+    pub fn read(&mut self, block: &mut [u8]) -> ReadOutcome {
         match self.stream.read(block) {
-            Ok(0) => Found::End,
+            Ok(0) => ReadOutcome::End,
             Ok(n) => {
                 self.readable = n == block.len() || self.ending;
-                Found::Octets(n)
+                ReadOutcome::Octets(n)
             }
             Err(error) => self.missed(error.kind()),
         }
     }
 
     // A read found no octets.
-    fn missed(&mut self, kind: ErrorKind) -> Found {
+    fn missed(&mut self, kind: ErrorKind) -> ReadOutcome {
         match kind {
-            ErrorKind::Interrupted => Found::Nothing,
+            ErrorKind::Interrupted => ReadOutcome::Nothing,
             ErrorKind::WouldBlock => {
                 self.readable = false;
-                Found::Nothing
+                ReadOutcome::Nothing
             }
-            _ => Found::End,
+            _ => ReadOutcome::End,
         }
     }
 
@@ -148,7 +160,7 @@ impl Link {
 
     /// Takes in that of some octets that were offered at this moment so many went. Where it is borne for so many milliseconds that
     /// none go, the connection is lost then.
-    pub fn bear(&mut self, took: usize, now: u64, patience: Option<u64>)
+    pub fn track_stall(&mut self, took: usize, now: u64, patience: Option<u64>)
         ensures since { self.new.stalled ≡ stalled_since took now self.old.stalled }
         ensures stuck { self.new.stuck ≡ (self.old.stuck || is_stuck now patience self.new.stalled) }
     {

@@ -1,7 +1,7 @@
 // The sockets of the live connections by number, and which of them are to be looked at.
 ghost use Rattle.std.specs.Prelude.{◌≤◌, length};
 
-use crate::link::{Found, Link, Origin};
+use crate::link::{Link, Origin, ReadOutcome};
 use io_ports::NoMemory;
 use mio::event::Event;
 use std::alloc::Global;
@@ -62,11 +62,11 @@ impl Links {
     }
 
     /// Takes in what the system tells of a connection, if it is live. Answers whether it is.
-    pub fn stir(&mut self, conn: u32, event: &Event) -> bool {
+    pub fn on_event(&mut self, conn: u32, event: &Event) -> bool {
         let Some(link) = self.live.get_mut(&conn) else {
             return false;
         };
-        link.stir(event);
+        link.on_event(event);
         queue(&mut self.due, conn, link);
         true
     }
@@ -89,7 +89,7 @@ impl Links {
             return 0;
         };
         let n = link.write(piece);
-        link.bear(n, now, self.patience);
+        link.track_stall(n, now, self.patience);
         queue(&mut self.due, conn, link);
         n
     }
@@ -103,16 +103,16 @@ impl Links {
         Some(conn)
     }
 
-    /// Looks at a connection: reads it once, if it may be read.
-    pub fn look(&mut self, conn: u32, block: &mut [u8]) -> Found {
+    /// Reads a connection once, if it may be read, or finds that it is lost.
+    pub fn read(&mut self, conn: u32, block: &mut [u8]) -> ReadOutcome {
         let Some(link) = self.live.get_mut(&conn) else {
-            return Found::Nothing;
+            return ReadOutcome::Nothing;
         };
         if link.is_lost() {
-            return Found::End;
+            return ReadOutcome::End;
         }
         if !link.is_due() {
-            return Found::Nothing;
+            return ReadOutcome::Nothing;
         }
         let found = link.read(block);
         queue(&mut self.due, conn, link);

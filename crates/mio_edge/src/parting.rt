@@ -1,6 +1,6 @@
 // Sockets of closed connections whose peers still have to get octets.
 
-use crate::link::Found;
+use crate::link::ReadOutcome;
 use mio::event::Event;
 use mio::net::TcpStream;
 use std::alloc::Global;
@@ -56,7 +56,7 @@ impl Partings {
     }
 
     /// The system tells something of a closed connection.
-    pub fn stir(&mut self, conn: u32, event: &Event, block: &mut [u8]) {
+    pub fn on_event(&mut self, conn: u32, event: &Event, block: &mut [u8]) {
         let Some(place) = self.all.iter().position(|parting| parting.conn == conn) else {
             return;
         };
@@ -84,19 +84,19 @@ impl Partings {
 fn is_over(stream: &mut TcpStream, block: &mut [u8]) -> bool {
     for _ in 0..MOST_READS {
         match drop_once(stream, block) {
-            Found::Octets(_) => {}
-            Found::Nothing => return false,
-            Found::End => return true,
+            ReadOutcome::Octets(_) => {}
+            ReadOutcome::Nothing => return false,
+            ReadOutcome::End => return true,
         }
     }
     true
 }
 
-fn drop_once(stream: &mut TcpStream, block: &mut [u8]) -> Found {
+fn drop_once(stream: &mut TcpStream, block: &mut [u8]) -> ReadOutcome {
     match stream.read(block) {
-        Ok(0) => Found::End,
-        Ok(n) => Found::Octets(n),
-        Err(error) if error.kind() == ErrorKind::WouldBlock => Found::Nothing,
-        Err(_) => Found::End,
+        Ok(0) => ReadOutcome::End,
+        Ok(n) => ReadOutcome::Octets(n),
+        Err(error) if error.kind() == ErrorKind::WouldBlock => ReadOutcome::Nothing,
+        Err(_) => ReadOutcome::End,
     }
 }

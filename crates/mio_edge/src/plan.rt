@@ -20,11 +20,20 @@ pub enum Sharing {
     All,
 }
 
+/// A cluster to which connections are made.
+#[derive(Drop)]
+pub struct Target {
+    /// What it is called where it is told of, as `cluster web`.
+    pub name: String,
+    /// Without an address none is made.
+    pub address: Option<SocketAddr>,
+}
+
 /// What the sockets are to be.
 #[derive(Drop)]
 pub struct Plan {
-    /// The addresses of the clusters, in their order. One without an address is never joined.
-    pub clusters: Vec<Option<SocketAddr>>,
+    /// The clusters, in their order.
+    pub clusters: Vec<Target>,
     pub sharing: Sharing,
     /// How many connections to each cluster are kept ready.
     pub ready: u32,

@@ -1,20 +1,20 @@
 // The sockets, as the system has them.
 ghost use Rattle.std.specs.Prelude.{◌≤◌, length};
 
-use crate::dialer::Dialer;
-use crate::dials::Dials;
+use crate::dialing::Dialing;
 use crate::door::Door;
 use crate::fault::EdgeFault;
 use crate::inlet::Inlet;
-use crate::link::{Found, Link, Origin};
+use crate::link::{Link, Origin, ReadOutcome};
 use crate::links::Links;
 use crate::parting::Partings;
 use crate::plan::{Plan, Sharing};
+use crate::tell::tell_wait;
 use io_ports::{Failed, NoMemory, Octets};
 use mio::net::TcpStream;
 use mio::{Events, Interest, Poll, Token};
-use std::alloc::{AllocError, Global};
-use std::io::ErrorKind;
+use std::alloc::Global;
+use std::io::Eprint;
 use std::mem;
 use std::net::Net;
 use std::time::{Clock, Duration};
@@ -34,9 +34,6 @@ const MOST_ACCEPTS: u32 = 16;
 
 const MOST_LOOKS: u32 = 64;
 
-/// How many connections to one cluster are begun in one round at most.
-const MOST_DIALS: u32 = 16;
-
 /// The token of the way in for clients. Connections have their numbers, which are above.
 pub const DOOR: Token = Token(0);
 
@@ -52,8 +49,7 @@ pub(crate) struct Sockets<R: Clock + Net + Drop, I: Inlet + Drop> {
     /// The most clients at once.
     most_clients: u32,
     sharing: Sharing,
-    dialers: Vec<Dialer>,
-    dials: Dials,
+    dialing: Dialing,
     links: Links,
     partings: Partings,
     /// Where octets are read to. It is never cleared.
@@ -65,10 +61,10 @@ pub(crate) struct Sockets<R: Clock + Net + Drop, I: Inlet + Drop> {
     accepts_left: u32,
     looks_left: u32,
     /// Whether a connection took all that it was offered, so that it may be offered more at once.
-    stirred: bool,
+    took_all: bool,
 }
 
-impl<R: Clock + Net + Drop, I: Inlet + Drop> Sockets<R, I> {
+impl<R: Clock + Net + Eprint + Drop, I: Inlet + Drop> Sockets<R, I> {
     /// The sockets of a plan, without connections. Clients come at the inlet, which doesn't block, and of which the poll tells
     /// under the token `DOOR`.
     pub fn new(rt: R, alloc: Global, poll: Poll, inlet: I, plan: &Plan) -> Result<Self, EdgeFault> {
@@ -80,8 +76,7 @@ impl<R: Clock + Net + Drop, I: Inlet + Drop> Sockets<R, I> {
             door: Door::new(inlet),
             most_clients: plan.clients,
             sharing: plan.sharing,
-            dialers: dialers_of(alloc, plan)?,
-            dials: Dials::new(alloc),
+            dialing: Dialing::new(alloc, plan)?,
             links: Links::new(alloc, plan.patience()),
             partings: Partings::new(alloc),
             block: vec![in alloc; 0; PIECE]?,
@@ -89,13 +84,16 @@ impl<R: Clock + Net + Drop, I: Inlet + Drop> Sockets<R, I> {
             now: 0,
             accepts_left: 0,
             looks_left: 0,
-            stirred: true,
+            took_all: true,
         })
     }
 
     /// What comes next, after a wait where nothing is there; `Idle` where still nothing is. A connection that comes gets the
-    /// number that is handed in, if there is one.
+    /// number that is handed in. Once no number is left nobody can come any more, and it is over.
     pub fn next(&mut self, number: Option<u32>) -> Result<Wired, WireRefusal> {
+        let Some(number) = number else {
+            return Ok(Wired::Stop);
+        };
         if self.door.is_over() {
             return Ok(Wired::Stop);
         }
@@ -120,7 +118,7 @@ impl<R: Clock + Net + Drop, I: Inlet + Drop> Sockets<R, I> {
     {
         let n = self.links.write(conn, piece, self.now);
         if n > 0 && n == piece.len() {
-            self.stirred = true;
+            self.took_all = true;
         }
         n
     }
@@ -130,7 +128,7 @@ impl<R: Clock + Net + Drop, I: Inlet + Drop> Sockets<R, I> {
         let Some(link) = self.links.leave(conn) else {
             return;
         };
-        self.let_go(link.origin);
+        self.dialing.part(link.origin, self.now);
         if let Some(stream) = link.into_parting() {
             self.partings.begin(conn, stream, self.now, &mut self.block);
         }
@@ -138,16 +136,13 @@ impl<R: Clock + Net + Drop, I: Inlet + Drop> Sockets<R, I> {
 
     /// From now on a connection isn't read, or is. One to a cluster that is read for the first time has a client.
     pub fn hold(&mut self, conn: u32, held: bool) {
-        let Some(cluster) = self.links.hold(conn, held) else {
-            return;
-        };
-        if let Some(dialer) = self.dialers.get_mut(cluster as usize) {
-            dialer.take();
+        if let Some(cluster) = self.links.hold(conn, held) {
+            self.dialing.take(cluster);
         }
     }
 
     // What comes next of what this round has left.
-    fn give(&mut self, number: Option<u32>) -> Result<Option<Wired>, NoMemory> {
+    fn give(&mut self, number: u32) -> Result<Option<Wired>, NoMemory> {
         if let Some(wired) = self.give_join(number) {
             return Ok(Some(wired));
         }
@@ -158,44 +153,42 @@ impl<R: Clock + Net + Drop, I: Inlet + Drop> Sockets<R, I> {
     }
 
     // A connection to a cluster that has been made.
-    fn give_join(&mut self, number: Option<u32>) -> Option<Wired> {
-        let dial = self.dials.next_made()?;
+    fn give_join(&mut self, number: u32) -> Option<Wired> {
+        let dial = self.dialing.next_made()?;
         let cluster = dial.cluster;
         let since = self.now;
         let origin = match self.sharing {
             Sharing::OneEach => Origin::Ready { cluster, since },
             Sharing::All => Origin::Shared { cluster, since },
         };
-        let conn = self.come(number, dial.stream, origin);
-        if let Some(dialer) = self.dialers.get_mut(cluster as usize) {
-            match conn {
-                Some(_) => dialer.join(),
-                None => dialer.fail(self.now),
-            }
+        if self.come(number, dial.stream, origin).is_err() {
+            self.dialing.postpone(cluster, self.now);
+            return None;
         }
-        Some(Wired::Join(conn?, cluster))
+        self.dialing.join(&self.rt, cluster);
+        Some(Wired::Join(number, cluster))
     }
 
     // A client that waits at the door, if one may come in.
-    fn give_accept(&mut self, number: Option<u32>) -> Option<Wired> {
+    fn give_accept(&mut self, number: u32) -> Option<Wired> {
         if self.accepts_left == 0 || !self.may_accept() {
             return None;
         }
         self.accepts_left -= 1;
-        let stream = self.door.accept(self.now)?;
+        let stream = self.door.accept(&self.rt, self.now)?;
         stream.set_nodelay(true).ok()?;
-        let conn = self.come(number, stream, Origin::Client)?;
-        Some(Wired::Accept(conn))
+        self.come(number, stream, Origin::Client).ok()?;
+        Some(Wired::Accept(number))
     }
 
     // Whether a client may come in: one waits, and a connection is ready for it, or none can be hoped for.
     fn may_accept(&self) -> bool {
-        self.has_client() && (self.has_ready() || !self.is_hopeful())
+        self.has_client() && (self.dialing.has_ready() || !self.is_hopeful())
     }
 
     // Whether a client does well to wait for a connection of its own.
     fn is_hopeful(&self) -> bool {
-        self.sharing == Sharing::OneEach && self.dialers.iter().any(Dialer::is_hopeful)
+        self.sharing == Sharing::OneEach && self.dialing.is_hopeful()
     }
 
     // Whether a client may wait, and there aren't too many.
@@ -203,25 +196,17 @@ impl<R: Clock + Net + Drop, I: Inlet + Drop> Sockets<R, I> {
         self.door.is_due(self.now) && self.links.clients() < self.most_clients
     }
 
-    // Whether a connection to a cluster is ready.
-    fn has_ready(&self) -> bool {
-        self.dialers.iter().any(Dialer::is_ready)
-    }
-
-    // A socket becomes a live connection. None where the system refuses, memory is wanting, or there is no number for it: then
-    // it is closed.
-    fn come(&mut self, number: Option<u32>, mut stream: TcpStream, origin: Origin) -> Option<u32> {
-        let conn = number?;
+    // A socket becomes a live connection under a number. Where the system refuses, or memory is wanting, it is closed.
+    fn come(&mut self, conn: u32, mut stream: TcpStream, origin: Origin) -> Result<(), EdgeFault> {
         let token = Token(conn as usize);
         let both = Interest::READABLE | Interest::WRITABLE;
         let registry = self.poll.registry();
-        let registered = match origin {
-            Origin::Client => registry.register(&mut stream, token, both),
-            _ => registry.reregister(&mut stream, token, both),
-        };
-        registered.ok()?;
-        self.links.come(conn, Link::new(stream, origin)).ok()?;
-        Some(conn)
+        match origin {
+            Origin::Client => registry.register(&mut stream, token, both)?,
+            _ => registry.reregister(&mut stream, token, both)?,
+        }
+        self.links.come(conn, Link::new(stream, origin))?;
+        Ok(())
     }
 
     // Octets or a loss of a connection that is due.
@@ -234,20 +219,20 @@ impl<R: Clock + Net + Drop, I: Inlet + Drop> Sockets<R, I> {
                 return Ok(None);
             };
             self.looks_left = self.looks_left.saturating_sub(1);
-            match self.links.look(conn, &mut self.block) {
-                Found::Octets(n) => return self.read(conn, n),
-                Found::End => {
+            match self.links.read(conn, &mut self.block) {
+                ReadOutcome::Octets(n) => return self.give_read(conn, n),
+                ReadOutcome::End => {
                     self.lose(conn);
                     return Ok(Some(Wired::Lost(conn)));
                 }
-                Found::Nothing => {}
+                ReadOutcome::Nothing => {}
             }
         }
         Ok(None)
     }
 
     // The first octets of the block came for a connection.
-    fn read(&mut self, conn: u32, n: usize) -> Result<Option<Wired>, NoMemory> {
+    fn give_read(&mut self, conn: u32, n: usize) -> Result<Option<Wired>, NoMemory> {
         let mut octets = mem::replace(&mut self.room, Vec::new(self.alloc));
         if let Some(front) = self.block.get(..n) {
             octets.extend_from_slice(front)?;
@@ -258,20 +243,7 @@ impl<R: Clock + Net + Drop, I: Inlet + Drop> Sockets<R, I> {
     // A connection is lost.
     fn lose(&mut self, conn: u32) {
         if let Some(link) = self.links.leave(conn) {
-            self.let_go(link.origin);
-        }
-    }
-
-    // A connection is live no more.
-    fn let_go(&mut self, origin: Origin) {
-        let (cluster, since) = match origin {
-            Origin::Ready { cluster, since } | Origin::Shared { cluster, since } => (
-                cluster, since,
-            ),
-            Origin::Client | Origin::Taken => return,
-        };
-        if let Some(dialer) = self.dialers.get_mut(cluster as usize) {
-            dialer.lose(self.now, since);
+            self.dialing.lose(link.origin, self.now);
         }
     }
 
@@ -279,19 +251,28 @@ impl<R: Clock + Net + Drop, I: Inlet + Drop> Sockets<R, I> {
     fn begin_round(&mut self) -> Result<(), Failed> {
         self.read_clock();
         self.door.count(self.links.clients());
-        self.dial_all();
+        self.dial();
         let wait = Duration::from_millis(if self.is_busy() { 0 } else { LONGEST_WAIT });
-        self.stirred = false;
+        self.took_all = false;
         self.accepts_left = MOST_ACCEPTS;
         self.looks_left = MOST_LOOKS;
-        if self.poll.poll(&mut self.events, Some(wait)).is_err() {
+        if let Err(error) = self.poll.poll(&mut self.events, Some(wait)) {
+            tell_wait(&self.rt, &error);
             return Err(Failed);
         }
         self.read_clock();
         self.take_events();
-        self.give_up_dials();
+        self.dialing.give_up(&self.rt, self.now);
         self.partings.end(self.now);
         Ok(())
+    }
+
+    // Begins the connections to clusters that are wanted, at once where a client waits for one.
+    fn dial(&mut self) {
+        let is_urgent = self.is_hopeful() && self.has_client() && !self.dialing.has_ready();
+        let registry = self.poll.registry();
+        self.dialing
+            .begin_all(&self.rt, registry, self.now, is_urgent);
     }
 
     // Where the clock can't be read it stands still.
@@ -303,7 +284,7 @@ impl<R: Clock + Net + Drop, I: Inlet + Drop> Sockets<R, I> {
 
     // Whether there is something to do without a wait.
     fn is_busy(&self) -> bool {
-        self.stirred || self.links.is_due() || self.dials.is_due() || self.may_accept()
+        self.took_all || self.links.is_due() || self.dialing.is_due() || self.may_accept()
     }
 
     // Takes in what the system tells.
@@ -311,91 +292,17 @@ impl<R: Clock + Net + Drop, I: Inlet + Drop> Sockets<R, I> {
         for event in &self.events {
             let token = event.token();
             if token == DOOR {
-                self.door.stir();
+                self.door.on_event();
                 continue;
             }
             match u32::try_from(token.0) {
                 Ok(conn) => {
-                    if !self.links.stir(conn, event) {
-                        self.partings.stir(conn, event, &mut self.block);
+                    if !self.links.on_event(conn, event) {
+                        self.partings.on_event(conn, event, &mut self.block);
                     }
                 }
-                Err(_) => {
-                    let failed = self.dials.stir(token.0, event);
-                    fail(&mut self.dialers, failed, self.now);
-                }
+                Err(_) => self.dialing.on_event(&self.rt, token.0, event, self.now),
             }
         }
     }
-
-    // Gives up the connections that weren't made in time.
-    fn give_up_dials(&mut self) {
-        for _ in 0..self.dials.len() {
-            let given_up = self.dials.give_up(self.now);
-            if given_up.is_none() {
-                return;
-            }
-            fail(&mut self.dialers, given_up, self.now);
-        }
-    }
-
-    // Begins the connections to clusters that are wanted, at once where a client waits for one.
-    fn dial_all(&mut self) {
-        let is_urgent = self.is_hopeful() && self.has_client() && !self.has_ready();
-        for place in 0..self.dialers.len() {
-            self.dial(place, is_urgent);
-        }
-    }
-
-    fn dial(&mut self, place: usize, is_urgent: bool) {
-        let Ok(cluster) = u32::try_from(place) else {
-            return;
-        };
-        let Some(dialer) = self.dialers.get_mut(place) else {
-            return;
-        };
-        for _ in 0..MOST_DIALS {
-            let Some(address) = dialer.to_dial(self.now, is_urgent) else {
-                return;
-            };
-            dialer.begin();
-            let begun = self
-                .dials
-                .begin(&self.rt, self.poll.registry(), cluster, address, self.now);
-            if let Err(error) = begun {
-                if is_ours(error.kind()) {
-                    dialer.postpone(self.now);
-                } else {
-                    dialer.fail(self.now);
-                }
-                return;
-            }
-        }
-    }
-}
-
-// A connection to this cluster couldn't be made.
-fn fail(dialers: &mut [Dialer], cluster: Option<u32>, now: u64) {
-    let Some(cluster) = cluster else {
-        return;
-    };
-    if let Some(dialer) = dialers.get_mut(cluster as usize) {
-        dialer.fail(now);
-    }
-}
-
-// Whether an error tells that files, memory or ports are wanting here.
-fn is_ours(kind: ErrorKind) -> bool {
-    matches!(
-        kind,
-        ErrorKind::Uncategorized | ErrorKind::OutOfMemory | ErrorKind::AddrNotAvailable
-    )
-}
-
-fn dialers_of(alloc: Global, plan: &Plan) -> Result<Vec<Dialer>, AllocError> {
-    let mut dialers = Vec::with_capacity(alloc, plan.clusters.len())?;
-    for address in &plan.clusters {
-        dialers.push(Dialer::new(*address, plan.ready))?;
-    }
-    Ok(dialers)
 }

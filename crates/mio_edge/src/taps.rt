@@ -14,6 +14,7 @@ use io_ports::{Failed, NoMemory, Octets};
 use mio::Poll;
 use relay_ports::Taps;
 use std::alloc::Global;
+use std::io::Eprint;
 use std::net::Net;
 use std::time::Clock;
 use worker_ports::{WireRefusal, Wired, Wires};
@@ -22,7 +23,8 @@ use worker_ports::{WireRefusal, Wired, Wires};
 const MOST_READ: usize = 16_384;
 
 /// Connections over sockets: those of clients that come at an inlet, and those to clusters, of which some are kept ready. What
-/// the sockets tell is given where it may come.
+/// the sockets tell is given where it may come. That a cluster can't be reached, a client not be accepted, or sockets not be waited
+/// for, is told on standard error.
 #[derive(Drop)]
 pub struct SocketTaps<R: Clock + Net + Drop, I: Inlet + Drop> {
     pub(crate) roll: Roll,
@@ -30,7 +32,7 @@ pub struct SocketTaps<R: Clock + Net + Drop, I: Inlet + Drop> {
     pub(crate) faults: u64,
 }
 
-impl<R: Clock + Net + Drop, I: Inlet + Drop> SocketTaps<R, I> {
+impl<R: Clock + Net + Eprint + Drop, I: Inlet + Drop> SocketTaps<R, I> {
     /// The sockets of a plan, without connections. Clients come at the inlet, which doesn't block, and of which the poll tells
     /// under the token `DOOR`.
     pub fn new(rt: R, alloc: Global, poll: Poll, inlet: I, plan: &Plan) -> Result<Self, EdgeFault>
@@ -134,7 +136,7 @@ impl<R: Clock + Net + Drop, I: Inlet + Drop> SocketTaps<R, I> {
     }
 }
 
-impl<R: Clock + Net + Drop, I: Inlet + Drop> Wires for SocketTaps<R, I> {
+impl<R: Clock + Net + Eprint + Drop, I: Inlet + Drop> Wires for SocketTaps<R, I> {
     ghost seen = { seen_of };
 
     ghost faults = { faults_of };
@@ -165,7 +167,7 @@ impl<R: Clock + Net + Drop, I: Inlet + Drop> Wires for SocketTaps<R, I> {
     }
 }
 
-impl<R: Clock + Net + Drop, I: Inlet + Drop> Taps for SocketTaps<R, I> {
+impl<R: Clock + Net + Eprint + Drop, I: Inlet + Drop> Taps for SocketTaps<R, I> {
     fn hold(&mut self, conn: u32, held: bool) {
         self.roll.hold(conn, held);
         self.sockets.hold(conn, held);

@@ -32,12 +32,13 @@ impl ClientCounts {
     pub fn set_up(&self, config: &Config) {
         self.most
             .store(config.proxy.max_connections, Ordering::SeqCst);
-        let mut place = 0u32;
-        for name in config.overload.resources.as_slice() {
-            place = place.saturating_add(1);
-            if name.as_slice() == CONNECTIONS {
-                self.place.store(place, Ordering::SeqCst);
-            }
+        let resources = config.overload.resources.as_slice();
+        let at = resources
+            .iter()
+            .position(|name| name.as_slice() == CONNECTIONS);
+        if let Some(at) = at {
+            let place = u32::try_from(at).unwrap_or(u32::MAX).saturating_add(1);
+            self.place.store(place, Ordering::SeqCst);
         }
     }
 

@@ -1,11 +1,12 @@
-// The journal of a relay.
+// The journal of a relay or a worker.
 ghost use Rattle.std.specs.Prelude.{◌≡◌};
 ghost use Rattle.proxy_cli.specs.Journals.{journal_faults};
 
-use io_ports::{Failed, Sink};
+use flow_notes::Notes;
+use io_ports::{Failed, NoMemory, Sink};
 use program_ports::Output;
-use relay_ports::Journal;
-use std::io::Write;
+use session_run::write_all;
+use std::io::{ErrorKind, Write};
 
 /// A journal that is written to a file at once, or none.
 #[derive(Drop)]
@@ -22,6 +23,14 @@ impl<F: Write> FileJournal<F> {
         match self {
             FileJournal::File(file) => file.faults(),
             FileJournal::None => 0,
+        }
+    }
+
+    /// Why the last write failed that did.
+    pub fn kind(&self) -> Option<ErrorKind> {
+        match self {
+            FileJournal::File(file) => file.kind(),
+            FileJournal::None => None,
         }
     }
 }
@@ -42,8 +51,30 @@ impl<F: Write> Sink for FileJournal<F> {
     }
 }
 
-impl<F: Write> Journal for FileJournal<F> {
+impl<F: Write> relay_ports::Journal for FileJournal<F> {
     fn is_kept(&self) -> bool {
         matches!(self, FileJournal::File(_))
+    }
+}
+
+impl<F: Write> worker_parts::Journal for FileJournal<F> {
+    ghost use Rattle.std.specs.Prelude.{None};
+
+    ghost told = { λ _. None };
+
+    fn is_kept(&self) -> bool {
+        matches!(self, FileJournal::File(_))
+    }
+
+    fn line(&mut self, line: &[u8]) -> Result<(), Failed> {
+        match self {
+            FileJournal::File(file) => write_all(file, line),
+            FileJournal::None => Ok(()),
+        }
+    }
+
+    fn noted(&mut self, notes: &mut Notes) -> Result<(), NoMemory> {
+        notes.clear();
+        Ok(())
     }
 }

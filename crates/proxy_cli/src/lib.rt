@@ -9,7 +9,6 @@ mod pages;
 mod socket_site;
 mod tell;
 mod warn;
-mod wire_journal;
 mod wire_sockets;
 
 use crate::opened::Opened;
@@ -19,7 +18,7 @@ pub use counts::{ClientCounts, ClientGauge};
 pub use journal::FileJournal;
 use program_ports::{Input, Output};
 use proxy_site::Status;
-use proxy_wire::serve_proxy;
+use proxy_wire::{ProxyForm, read_proxy_form, serve_proxy};
 pub use socket_site::SocketSite;
 use std::env::{self, Env};
 use std::fs;
@@ -32,7 +31,7 @@ use std::thread::Threads;
 use std::time::Clock;
 
 /// Does what the words ask for, with what the proxy says on the output, and answers the exit code of its status. Why it
-/// isn't 0 is told in a line on standard error; where the words have no form, that is the usage. `--help` and `--version` are
+/// isn't 0 is told in lines on standard error; where the words have no form, that is the usage. `--help` and `--version` are
 /// answered on the output.
 pub fn serve_words<
     R: Env
@@ -102,7 +101,7 @@ where
     code
 }
 
-// Where the words can't be had there is nothing to do.
+// Where the words can't be had, or there is no memory for the counts of clients, there is nothing to do.
 fn end_early<R: Eprint>(rt: &R, status: Status) -> ExitCode {
     let text = if status == Status::Usage {
         USAGE
@@ -129,12 +128,16 @@ fn show_page<O: Write + Drop>(mut output: O, text: &str) -> ExitCode {
     }
 }
 
-// The file that the words name. One that can't be opened is a reader whose reads fail.
+// The file that the words name, if they have a form. One that can't be opened is a reader whose reads fail.
 fn open_config<R: Files>(rt: &R, words: &[String]) -> Opened<R::File> {
-    match words {
-        [word, path, ..] if word.as_str() == "relay" => open_file(rt, path.as_str()),
-        [path, ..] => open_file(rt, path.as_str()),
-        [] => Opened::Shut(ErrorKind::NotFound),
+    let path = match read_proxy_form(words) {
+        Some(ProxyForm::Relay { .. }) => words.get(1),
+        Some(ProxyForm::Wire { .. }) => words.first(),
+        None => None,
+    };
+    match path {
+        Some(path) => open_file(rt, path.as_str()),
+        None => Opened::Shut(ErrorKind::NotFound),
     }
 }
 

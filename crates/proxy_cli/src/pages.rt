@@ -43,11 +43,11 @@ Once it listens, `listening ADDRESS` stands on standard output. It ends after TU
 which it takes one event or waits for a tenth of a second, or when it is killed. What a journal holds by then is whole to the last
 octet that was sent. Where the status isn't 0, lines on standard error say why.
 
-  0  all turns are over
+  0  all turns are over, or no connection could get a number any more
   2  the words have no form
   3  the configuration is refused; the only line is `refused config N KEY`
   5  the configuration couldn't be read
-  6  it couldn't listen, or the output or a journal couldn't be written
-  7  out of memory
+  6  it couldn't listen, had no sockets or no journal, or couldn't wait for sockets; or the output or a journal couldn't be written
+  7  out of memory, or a worker had no thread
   9  the configuration has more than 1,048,576 octets
 ";

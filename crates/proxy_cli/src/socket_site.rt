@@ -8,20 +8,23 @@ ghost use Rattle.proxy_cli.specs.Sites.{site_faults};
 
 use crate::counts::ClientCounts;
 use crate::journal::FileJournal;
-use crate::warn::{warn_address, warn_files, warn_journal, warn_listen};
+use crate::warn::{
+    shown, warn_address, warn_files, warn_journal, warn_listen, warn_sockets, warn_written,
+};
 use io_ports::{NoMemory, Octets};
 use itoa::Buffer;
 use mio::net::TcpListener;
 use mio::{Interest, Poll};
-use mio_accept::Acceptor;
-use mio_edge::{DOOR, EdgeFault, Plan, Sharing, SocketTaps, open_files, read_address};
+use mio_accept::{Acceptor, MOST_WAITING};
+use mio_edge::{DOOR, EdgeFault, Plan, Sharing, SocketTaps, Target, open_files, read_address};
 use program_ports::Output;
 use proxy_config::{Cluster, Config};
 use proxy_site::{Site, SiteRefusal};
 use std::alloc::{AllocError, Global};
-use std::fs::File;
-use std::io::{Eprint, ErrorKind};
+use std::fs::OpenOptions;
+use std::io::{self, Eprint, ErrorKind};
 use std::net::{Net, SocketAddr};
+use std::os::unix::fs::OpenOptionsExt;
 use std::rt::Files;
 use std::sync::{Arc, Wait};
 use std::time::Clock;
@@ -92,8 +95,8 @@ impl<R: Eprint + Files + Net + Clock + Wait + AllocGlobal + Copy + Drop> SocketS
         }
     }
 
-    // What the sockets of a relay, or of a worker that counts from 1, are to be. Clusters that can't be reached, and too few files,
-    // are told once.
+    // What the sockets of a relay, or of a worker that counts from 1, are to be. Clusters without an address that can be read, and too
+    // few files, are told once.
     pub(crate) fn plan(
         &self,
         config: &Config,
@@ -105,7 +108,7 @@ impl<R: Eprint + Files + Net + Clock + Wait + AllocGlobal + Copy + Drop> SocketS
         let rows = config.clusters.as_slice();
         let mut clusters = Vec::with_capacity(self.rt.alloc(), rows.len())?;
         for cluster in rows {
-            clusters.push(self.address_of(cluster, worker))?;
+            clusters.push(self.target_of(cluster, sharing, worker)?)?;
         }
         let plan = Plan {
             clusters,
@@ -126,6 +129,22 @@ impl<R: Eprint + Files + Net + Clock + Wait + AllocGlobal + Copy + Drop> SocketS
                 warn_files(&self.rt, files, most);
             }
         }
+    }
+
+    // A cluster, and what it is called. Of several workers each says which one it is.
+    fn target_of(
+        &self,
+        cluster: &Cluster,
+        sharing: Sharing,
+        worker: u32,
+    ) -> Result<Target, AllocError> {
+        let cluster_name = shown(cluster.name.as_slice());
+        let name = match sharing {
+            Sharing::OneEach => format!(in self.rt.alloc(); "cluster {cluster_name}")?,
+            Sharing::All => format!(in self.rt.alloc(); "worker {worker}: cluster {cluster_name}")?,
+        };
+        let address = self.address_of(cluster, worker);
+        Ok(Target { name, address })
     }
 
     fn address_of(&self, cluster: &Cluster, worker: u32) -> Option<SocketAddr> {
@@ -168,14 +187,22 @@ impl<R: Eprint + Files + Net + Clock + Wait + AllocGlobal + Copy + Drop> SocketS
             return Err(SiteRefusal::NoMemory);
         };
         let Ok(path) = std::str::from_utf8(name.as_slice()) else {
+            warn_journal(&self.rt, "?", ErrorKind::InvalidInput);
             return Err(SiteRefusal::Failed);
         };
-        match File::create(&self.rt, path) {
+        match make_file(&self.rt, path) {
             Ok(file) => Ok(FileJournal::File(Output::new(file))),
             Err(error) => {
                 warn_journal(&self.rt, path, error.kind());
                 Err(SiteRefusal::Failed)
             }
+        }
+    }
+
+    // Why the journal of a worker, or of a relay, couldn't be written is told, if it couldn't.
+    pub(crate) fn tell_journal(&self, worker: Option<u32>, journal: &FileJournal<R::File>) {
+        if let Some(kind) = journal.kind() {
+            warn_written(&self.rt, worker, kind);
         }
     }
 }
@@ -190,17 +217,26 @@ fn most_clients(config: &Config, sharing: Sharing) -> u32 {
     }
 }
 
-// How many files a relay may have open at once, or all workers, whose clients are the same.
+// How many files a relay may have open at once, or all workers, whose clients are the same. Beside these each worker has some that wait
+// for it.
 fn most_files(plan: &Plan, config: &Config) -> u64 {
-    let workers = match plan.sharing {
-        Sharing::OneEach => 1,
-        Sharing::All => config.proxy.workers,
+    let (workers, waiting) = match plan.sharing {
+        Sharing::OneEach => (1, 0),
+        Sharing::All => (config.proxy.workers, MOST_WAITING),
     };
     let clients = u64::from(plan.clients);
     let others = plan.most_files().saturating_sub(clients);
     others
+        .saturating_add(waiting)
         .saturating_mul(u64::from(workers))
         .saturating_add(clients)
+}
+
+// Opens a file that is empty then. One that wasn't there nobody but its owner may read or write: a journal holds all that anybody sent.
+fn make_file<R: Files>(rt: &R, path: &str) -> io::Result<R::File> {
+    let mut options = OpenOptions::new();
+    options.write(true).create(true).truncate(true).mode(0o600);
+    options.open(rt, path)
 }
 
 fn name_of(front: &Octets, worker: u32, alloc: Global) -> Result<Octets, NoMemory> {
@@ -249,11 +285,15 @@ impl<R: Eprint + Files + Net + Clock + Wait + AllocGlobal + Copy + Drop> Site fo
         match self.sockets(listener, &plan) {
             Ok(taps) => Ok((taps, journal)),
             Err(EdgeFault::NoMemory) => Err(SiteRefusal::NoMemory),
-            Err(EdgeFault::Failed(_)) => Err(self.fail()),
+            Err(EdgeFault::Failed(error)) => {
+                warn_sockets(&self.rt, &error);
+                Err(self.fail())
+            }
         }
     }
 
     fn give_back_taps(&mut self, taps: Self::T, journal: Self::J) {
+        self.tell_journal(None, &journal);
         if taps.faults() > 0 || journal.faults() > 0 {
             self.count();
         }

@@ -9,7 +9,8 @@ use relay_work::RelayEnded;
 use std::io::{Eprint, ErrorKind};
 use worker_loop::Ended;
 
-/// Tells in one line why the proxy ended otherwise than by its turns. Where standard error is closed there is nobody to tell.
+/// Tells why the proxy ended otherwise than by its turns: in one line, or in one for each worker that did. Where standard error is closed
+/// there is nobody to tell.
 pub fn tell_served<R: Eprint + AllocGlobal>(
     rt: &R,
     served: ProxyServed,
@@ -56,7 +57,7 @@ fn line_of(reason: &ServeReason) -> &'static str {
     }
 }
 
-// Tells why the proxy of HTTP/2 ended: in a line for each worker, if they ran.
+// Tells why the proxy of HTTP/2 ended, or if its workers ran, why each of them did.
 fn tell_wire<R: Eprint>(rt: &R, end: WireEnd, out: Option<ErrorKind>) {
     match end {
         WireEnd::Listen => tell_line(rt, line_of(&ServeReason::Listen), None),
@@ -64,25 +65,41 @@ fn tell_wire<R: Eprint>(rt: &R, end: WireEnd, out: Option<ErrorKind>) {
         WireEnd::JournalHead => tell_line(rt, line_of(&ServeReason::JournalHead), None),
         WireEnd::Write => tell_line(rt, line_of(&ServeReason::Write), out),
         WireEnd::Memory => tell_line(rt, line_of(&ServeReason::Memory), None),
-        WireEnd::Workers(ends) => {
-            let mut worker = 0u32;
-            for ended in ends.iter() {
-                worker = worker.saturating_add(1);
-                tell_worker(rt, worker, *ended);
-            }
+        WireEnd::Workers(ends) => tell_workers(rt, ends.as_slice()),
+        WireEnd::Round(ends) => {
+            tell_line(rt, "ended, since clients can't be accepted", None);
+            tell_workers(rt, ends.as_slice());
+        }
+        WireEnd::Threads(ends) => {
+            tell_line(rt, "ended, since a worker had no thread", None);
+            tell_workers(rt, ends.as_slice());
         }
     }
 }
 
+fn tell_workers<R: Eprint>(rt: &R, ends: &[Ended]) {
+    let mut worker = 0u32;
+    for ended in ends {
+        worker = worker.saturating_add(1);
+        tell_worker(rt, worker, *ended);
+    }
+}
+
 fn tell_worker<R: Eprint>(rt: &R, worker: u32, ended: Ended) {
-    let why = match ended {
-        Ended::Turns => "ended by its turns",
-        Ended::Stopped => "ended, since no more clients could be taken",
-        Ended::WiresFault => "ended, since the system couldn't wait for its sockets",
-        Ended::JournalFault => "ended, since its journal can't be written",
-        Ended::Memory => "ended, out of memory",
-    };
-    let _ = eprintln!(rt; "h2proxy: worker {worker} {why}");
+    if let Some(why) = cause_of(ended) {
+        let _ = eprintln!(rt; "h2proxy: worker {worker} ended, {why}");
+    }
+}
+
+// Why a worker ended, where that wasn't by its turns.
+fn cause_of(ended: Ended) -> Option<&'static str> {
+    match ended {
+        Ended::Turns => None,
+        Ended::Stopped => Some("since it was told to stop"),
+        Ended::WiresFault => Some("since the system couldn't wait for its sockets"),
+        Ended::JournalFault => Some("since its journal can't be written"),
+        Ended::Memory => Some("out of memory"),
+    }
 }
 
 fn tell_config<R: Eprint + AllocGlobal>(rt: &R, fault: ConfigFault) {

@@ -6,6 +6,7 @@ ghost use Rattle.proxy_cli.specs.Sites.{site_faults};
 
 use crate::journal::FileJournal;
 use crate::socket_site::SocketSite;
+use crate::warn::warn_sockets;
 use io_ports::{Failed, Octets};
 use mio::Poll;
 use mio_accept::{AcceptQueue, Acceptor, QueueInlet};
@@ -93,7 +94,10 @@ impl<R: Eprint + Files + Net + Clock + Wait + AllocGlobal + Copy + Drop> WireSit
         match self.worker_sockets(worker, config) {
             Ok(wires) => Ok((wires, MonotonicClock::new(self.rt), journal)),
             Err(EdgeFault::NoMemory) => Err(SiteRefusal::NoMemory),
-            Err(EdgeFault::Failed(_)) => Err(self.fail()),
+            Err(EdgeFault::Failed(error)) => {
+                warn_sockets(&self.rt, &error);
+                Err(self.fail())
+            }
         }
     }
 
@@ -105,13 +109,17 @@ impl<R: Eprint + Files + Net + Clock + Wait + AllocGlobal + Copy + Drop> WireSit
         let done = acceptor.round(accept);
         self.counts.set_live(acceptor.live());
         if done.is_err() {
-            acceptor.end_all();
             self.count();
         }
         done
     }
 
-    fn give_back(&mut self, _: u32, wires: Self::W, journal: Self::L) {
+    fn stop(&mut self) {
+        self.end_all();
+    }
+
+    fn give_back(&mut self, worker: u32, wires: Self::W, journal: Self::L) {
+        self.tell_journal(Some(worker), &journal);
         if wires.faults() > 0 || journal.faults() > 0 {
             self.count();
         }

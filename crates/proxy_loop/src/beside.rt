@@ -8,6 +8,7 @@ use io_ports::Failed;
 use mio::net::TcpListener;
 use mio_edge::SocketTaps;
 use relay_ports::Taps;
+use std::io::Eprint;
 use std::net::Net;
 use std::time::Clock;
 use worker_ports::{WireRefusal, Wired, Wires};
@@ -23,7 +24,7 @@ pub struct Beside<R: Clock + Net + Drop> {
     pub counts: Option<(usize, usize)>,
 }
 
-impl<R: Clock + Net + Drop> Beside<R> {
+impl<R: Clock + Net + Eprint + Drop> Beside<R> {
     fn step(&mut self)
         ensures { self.new.taps ≡ self.old.taps }
     {
@@ -49,7 +50,7 @@ impl<R: Clock + Net + Drop> Beside<R> {
     }
 }
 
-impl<R: Clock + Net + Drop> Wires for Beside<R> {
+impl<R: Clock + Net + Eprint + Drop> Wires for Beside<R> {
     ghost seen = { λ b. seen_of b.taps };
 
     ghost faults = { λ b. faults_of b.taps };
@@ -71,7 +72,7 @@ impl<R: Clock + Net + Drop> Wires for Beside<R> {
     }
 }
 
-impl<R: Clock + Net + Drop> Taps for Beside<R> {
+impl<R: Clock + Net + Eprint + Drop> Taps for Beside<R> {
     fn hold(&mut self, conn: u32, held: bool) {
         self.taps.hold(conn, held)
     }

@@ -132,6 +132,10 @@ impl<R: Eprint + Files + Net + Clock + Wait + AllocGlobal + Copy + Drop> WireSit
         self.site.round(accept)
     }
 
+    fn stop(&mut self) {
+        self.site.stop();
+    }
+
     fn give_back(&mut self, worker: u32, wires: Self::W, journal: Self::L) {
         let (file, kept) = journal.into_parts();
         self.kept = Some(kept);
