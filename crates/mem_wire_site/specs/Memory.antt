@@ -7,7 +7,8 @@ use Rattle.proxy_site.specs.Memory.{new_sink}
 use Rattle.proxy_site.specs.declared.mem_site.MemSite.{MemSite}
 use Rattle.proxy_wire.specs.Sites.{WireTold}
 use Rattle.relay_ports.specs.Memory.{TapsMemory, is_new}
-use Rattle.std.specs.Prelude.{List, None, Option, Some, [], false, if◌then◌else◌, min, ℕ, ◌-◌, ◌^◌, ◌∷◌, ◌≡◌}
+use Rattle.std.specs.Option.{option_map}
+use Rattle.std.specs.Prelude.{List, None, Option, Some, [], false, if◌then◌else◌, min, slice_get, ℕ, ◌-◌, ◌^◌, ◌∷◌, ◌≡◌}
 
 -- what a play gives: connections to so many clusters that nobody has used, a clock that nobody has asked, and an empty journal
 abbrev pub wires_of : ℕ → WorkerPlay → TapsMemory
@@ -21,6 +22,10 @@ journal_of play = record { sink = new_sink play.outside.journal_room play.outsid
 
 abbrev pub fit_of : ℕ → WorkerPlay → TapsMemory × (ClockMemory × JournalMemory)
 fit_of clusters play = (wires_of clusters play, (clock_of play.moment, journal_of play))
+
+-- what the worker of a number, counted from 1, is given of these plays, if there is one for it
+abbrev pub given_at : List WorkerPlay → (worker clusters : ℕ) → Option (TapsMemory × (ClockMemory × JournalMemory))
+given_at plays worker clusters = option_map (fit_of clusters) (slice_get plays (worker - 1))
 
 -- all that it gave to workers and that came back is told, unless something that came back couldn't be kept
 abbrev pub wired_of : MemWireSite → Option (WireTold TapsMemory ClockMemory JournalMemory)

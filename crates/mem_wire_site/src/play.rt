@@ -1,8 +1,6 @@
 // What a worker is given.
-ghost use Rattle.std.specs.Prelude.{◌×◌, ◌≡◌, IfOk};
+ghost use Rattle.std.specs.Prelude.{◌≡◌, IfOk};
 ghost use Rattle.mem_wire_site.specs.Memory.{clock_of, fit_of, journal_of, wires_of};
-ghost use Rattle.proxy_site.specs.Sites.{IsUnused};
-ghost use Rattle.relay_ports.specs.Memory.{seen_of};
 
 use crate::journal::PlayJournal;
 use crate::signs::Signs;
@@ -39,9 +37,7 @@ impl WorkerPlay {
         clusters: u32,
         signs: &Arc<Signs, Global>,
     ) -> Result<Given, NoMemory>
-        ensures is { IfOk result (λ given. given ≡ fit_of clusters self.now) }
-        ensures unused { IfOk result (λ given. IsUnused clusters (seen_of given.0)) }
-        ensures well { IfOk result (λ given. (given.0.faults ≡ 0) × (given.1.1.faults ≡ 0)) }
+        ensures { IfOk result (λ given. given ≡ fit_of clusters self.now) }
     {
         let taps = self.taps(alloc, clusters)?;
         let wires = PlayWires::new(taps, signs)?;

@@ -1,9 +1,8 @@
 // A site in memory for workers, and for relays too.
-ghost use Rattle.std.specs.Prelude.{[], ◌×◌, ◌∷◌, ◌-◌, ◌≡◌, ◌≤◌, IfOk, IfSome, OnErr, Some, length, slice_get};
+ghost use Rattle.std.specs.Prelude.{[], ◌∷◌, ◌-◌, ◌≡◌, ◌≤◌, IfOk, IfSome, OnErr, Some, length, slice_get};
 ghost use Rattle.io_ports.specs.Faults.{Rose};
 ghost use Rattle.io_ports.specs.Memory.{counted, is_to_fail};
-ghost use Rattle.mem_wire_site.specs.Memory.{IsNewWireSite, fit_of, wired_of};
-ghost use Rattle.mem_wire_site.specs.declared.play.WorkerPlay.{WorkerPlay};
+ghost use Rattle.mem_wire_site.specs.Memory.{IsNewWireSite, fit_of, given_at, wired_of};
 ghost use Rattle.proxy_site.specs.Memory.{told_of};
 ghost use Rattle.proxy_site.specs.Sites.{IsUnused, TellsListening};
 ghost use Rattle.proxy_site.specs.declared.site.SiteRefusal.TheVariants as refusals;
@@ -152,28 +151,9 @@ impl MemWireSite {
         self.plays.get(place as usize)
     }
 
-    // What a worker is given, with connections to so many clusters, and the same once more.
-    fn make(&self, worker: u32, clusters: u32) -> Result<(Given, Given), SiteRefusal>
-        ensures is { IfOk result (λ made. (play : WorkerPlay) × ((slice_get self.now.plays.items (worker - 1) ≡ Some play) × (made.0 ≡ fit_of clusters play))) }
-        ensures unused { IfOk result (λ made. IsUnused clusters (seen_of made.0.0)) }
-        ensures well { IfOk result (λ made. (made.0.0.faults ≡ 0) × (made.0.1.1.faults ≡ 0)) }
-        ensures same { IfOk result (λ made. made.1 ≡ made.0) }
-    {
-        let Some(play) = self.play_of(worker) else {
-            return Err(SiteRefusal::Failed);
-        };
-        let Ok(kept) = play.give(self.alloc, clusters, &self.signs) else {
-            return Err(SiteRefusal::NoMemory);
-        };
-        match play.give(self.alloc, clusters, &self.signs) {
-            Ok(given) => Ok((given, kept)),
-            Err(NoMemory) => Err(SiteRefusal::NoMemory),
-        }
-    }
-
     // What a worker is given. The same is kept, since what it is given changes.
     fn fit_worker(&mut self, worker: u32, config: &Config) -> Result<Given, SiteRefusal>
-        ensures is { IfOk result (λ given. (play : WorkerPlay) × ((slice_get self.old.plays.items (worker - 1) ≡ Some play) × (given ≡ fit_of (length config.now.clusters) play))) }
+        ensures is { IfOk result (λ given. given_at self.old.plays.items worker (length config.now.clusters) ≡ Some given) }
         ensures unused { IfOk result (λ given. IsUnused (length config.now.clusters) (seen_of given.0)) }
         ensures well { IfOk result (λ given. (given.0.faults ≡ 0) × (given.1.1.faults ≡ 0)) }
         ensures wired { IfOk result (λ given. wired_of self.new ≡ with_fitted ((worker, given) ∷ []) (wired_of self.old)) }
@@ -183,9 +163,11 @@ impl MemWireSite {
         let Ok(clusters) = u32::try_from(config.clusters.as_slice().len()) else {
             return Err(SiteRefusal::NoMemory);
         };
-        let (given, kept) = match self.make(worker, clusters) {
-            Ok(made) => made,
-            Err(refusal) => return Err(refusal),
+        let Some(play) = self.play_of(worker) else {
+            return Err(SiteRefusal::Failed);
+        };
+        let Ok((given, kept)) = give_twice(self.alloc, clusters, play, &self.signs) else {
+            return Err(SiteRefusal::NoMemory);
         };
         match self.fitted.push((worker, kept)) {
             Ok(()) => Ok(given),
@@ -202,6 +184,20 @@ impl MemWireSite {
         self.rounds = self.rounds.saturating_add(1);
         self.failing.contains(&round)
     }
+}
+
+// What a play gives, with connections to so many clusters, and the same once more.
+fn give_twice(
+    alloc: Global,
+    clusters: u32,
+    play: &WorkerPlay,
+    signs: &Arc<Signs, Global>,
+) -> Result<(Given, Given), NoMemory>
+    ensures { IfOk result (λ made. (made.0 ≡ fit_of clusters play.now) × (made.1 ≡ fit_of clusters play.now)) }
+{
+    let given = play.give(alloc, clusters, signs)?;
+    let kept = play.give(alloc, clusters, signs)?;
+    Ok((given, kept))
 }
 
 impl Site for MemWireSite {
@@ -230,10 +226,11 @@ impl Site for MemWireSite {
     }
 
     fn give_back_taps(&mut self, taps: MemTaps, journal: MemJournal) {
-        if taps.faults() > 0 || journal.faults() > 0 {
+        let has_failed = taps.faults() > 0 || journal.faults() > 0;
+        self.relay.give_back_taps(taps, journal);
+        if has_failed {
             self.fault();
         }
-        self.relay.give_back_taps(taps, journal);
     }
 }
 
@@ -268,7 +265,7 @@ impl WireSite for MemWireSite {
 
     // Nobody comes in memory but by the plays. Where it isn't to fail, another thread may run meanwhile.
     fn round(&mut self, accept: bool) -> Result<(), Failed> {
-        self.shut = self.shut || !accept;
+        self.shut |= !accept;
         if self.is_to_fail() {
             self.signs.stop();
             self.fault();

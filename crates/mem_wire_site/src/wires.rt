@@ -1,7 +1,6 @@
 // The connections of a worker in memory.
 ghost use Rattle.std.specs.Prelude.{◌≡◌, IfOk};
 ghost use Rattle.mem_ports.specs.Steps.{steps_in};
-ghost use Rattle.relay_ports.specs.Memory.{seen_of};
 
 use crate::signs::Signs;
 use io_ports::{Failed, NoMemory};
@@ -59,8 +58,7 @@ impl PlayWires {
 
     // Where the workers are to stop, that is to come behind the rest. After running out of memory nothing has changed.
     fn heed(&mut self) -> Result<(), NoMemory>
-        ensures seen { seen_of self.new ≡ seen_of self.old }
-        ensures faults { self.new.faults ≡ self.old.faults }
+        ensures { self.new ≡ record self.old { answers = self.new.answers } }
     {
         if self.ends || !self.signs.is_over() {
             return Ok(());
