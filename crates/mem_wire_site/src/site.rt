@@ -141,14 +141,14 @@ impl MemWireSite {
 
 impl MemWireSite {
     // The play of a worker, unless it is refused.
+    #[tactic(auto, using(crate::proofs::Playing::lent_there))]
     fn play_of(&self, worker: u32) -> Option<&WorkerPlay>
         ensures { IfSome result (λ play. slice_get self.now.plays.items (worker - 1) ≡ Some play.now) }
     {
-        if self.unfit.contains(&worker) {
+        if worker == 0 || self.unfit.contains(&worker) {
             return None;
         }
-        let place = worker.checked_sub(1)?;
-        self.plays.get(place as usize)
+        self.plays.get(worker as usize - 1)
     }
 
     // What a worker is given. The same is kept, since what it is given changes.
