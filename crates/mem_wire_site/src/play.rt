@@ -21,6 +21,8 @@ pub struct WorkerPlay {
     pub outside: RelayPlay,
     /// The moment at which its clock stands, in milliseconds. A greater one than 2^60 - 1 is as good as that.
     pub moment: u64,
+    /// Whether the connections wait until the worker is to stop, once they have brought all.
+    pub lasts: bool,
 }
 
 /// Connections, a clock and a journal.
@@ -40,10 +42,19 @@ impl WorkerPlay {
         ensures { IfOk result (λ given. given ≡ fit_of clusters self.now) }
     {
         let taps = self.taps(alloc, clusters)?;
-        let wires = PlayWires::new(taps, signs)?;
+        let wires = PlayWires::new(taps, signs, self.left())?;
         let clock = clock_at(alloc, self.moment)?;
         let journal = self.journal(alloc)?;
         Ok((wires, (clock, journal)))
+    }
+
+    // How many answers come before the connections wait, if they do.
+    fn left(&self) -> Option<usize> {
+        if self.lasts {
+            Some(self.outside.answers.len())
+        } else {
+            None
+        }
     }
 
     fn taps(&self, alloc: Global, clusters: u32) -> Result<MemTaps, NoMemory>

@@ -3,7 +3,7 @@
 use std::sync::atomic::{AtomicBool, Ordering};
 use std::thread;
 
-/// How often connections look at most whether the site has made a round.
+/// How often connections look at most whether the site has told them something.
 const LOOKS: u32 = 10_000_000;
 
 /// What a site tells the connections that it gave, which other threads have.
@@ -40,12 +40,21 @@ impl Signs {
     }
 
     /// Waits until a round was made or the workers are to stop, but not for ever.
-    pub fn wait(&self) {
-        for _ in 0..LOOKS {
-            if self.begun.load(Ordering::SeqCst) {
-                return;
-            }
-            thread::yield_now();
+    pub fn wait_for_round(&self) {
+        wait_for(&self.begun);
+    }
+
+    /// Waits until the workers are to stop, but not for ever.
+    pub fn wait_for_stop(&self) {
+        wait_for(&self.over);
+    }
+}
+
+fn wait_for(sign: &AtomicBool) {
+    for _ in 0..LOOKS {
+        if sign.load(Ordering::SeqCst) {
+            return;
         }
+        thread::yield_now();
     }
 }

@@ -17,6 +17,8 @@ use worker_ports::{WireRefusal, Wired, Wires};
 pub struct PlayWires {
     taps: MemTaps,
     signs: Arc<Signs, Global>,
+    /// How many answers are to come before they wait for a stop, if they do.
+    left: Option<usize>,
     /// Whether it is to come that the worker is to stop.
     ends: bool,
 }
@@ -30,14 +32,19 @@ impl Model for PlayWires {
 }
 
 impl PlayWires {
-    /// These connections, of a site that gives these signs.
-    pub(crate) fn new(taps: MemTaps, signs: &Arc<Signs, Global>) -> Result<Self, NoMemory>
+    /// These connections, of a site that gives these signs. Behind so many answers they wait until the worker is to stop.
+    pub(crate) fn new(
+        taps: MemTaps,
+        signs: &Arc<Signs, Global>,
+        left: Option<usize>,
+    ) -> Result<Self, NoMemory>
         ensures { IfOk result (λ made. made ≡ taps) }
     {
         let signs = Arc::try_clone(signs)?;
         Ok(PlayWires {
             taps,
             signs,
+            left,
             ends: false,
         })
     }
@@ -54,6 +61,18 @@ impl PlayWires {
         ensures { result ≡ self.now.faults }
     {
         self.taps.faults()
+    }
+
+    // Waits for what the site tells.
+    fn wait(&mut self)
+        ensures { self.new ≡ self.old }
+    {
+        self.signs.wait_for_round();
+        match self.left {
+            Some(left) if left > 0 => self.left = Some(left - 1),
+            Some(_) => self.signs.wait_for_stop(),
+            None => {}
+        }
     }
 
     // Where the workers are to stop, that is to come behind the rest. After running out of memory nothing has changed.
@@ -77,7 +96,7 @@ impl Wires for PlayWires {
     ghost faults = { λ w. w.faults };
 
     fn next(&mut self) -> Result<Wired, WireRefusal> {
-        self.signs.wait();
+        self.wait();
         match self.heed() {
             Ok(()) => self.taps.next(),
             Err(NoMemory) => Err(WireRefusal::NoMemory),

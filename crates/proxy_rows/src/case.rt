@@ -108,6 +108,7 @@ impl Case {
         self.workers.push(WorkerPlay {
             outside: play_of(alloc),
             moment: 0,
+            lasts: false,
         })?;
         Ok(())
     }
@@ -145,6 +146,11 @@ impl Case {
             "tick" => {
                 if let Some(worker) = self.workers.last_mut() {
                     worker.moment = number(rest);
+                }
+            }
+            "wait" => {
+                if let Some(worker) = self.workers.last_mut() {
+                    worker.lasts = true;
                 }
             }
             "room" => self.make_room(number(rest) as usize),

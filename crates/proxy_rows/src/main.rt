@@ -11,6 +11,7 @@
 //! - `worker` begins what the next worker is given. Lines before the first are of the relay.
 //! - `tick T` is the moment at which the worker's clock stands.
 //! - `accept C`, `join C N`, `read C OCTET LENGTH`, `lost C`, `idle` and `stop` are what the connections give, in this order.
+//! - `wait` says that the worker's connections, once they have brought all, wait until the worker is to stop.
 //! - `room N` is for how many octets the journal has room, and before the first `worker` the output too.
 //! - `% PART K` makes a call fail. The calls of `config`, `site` (listening, and what a relay is given), `round`, `out`, `wires` and
 //!   `journal` are counted from 0; `fit` has the number of a worker.
