@@ -19,7 +19,7 @@ const OCTETS: usize = 100_000;
 #[derive(Drop)]
 pub struct Case {
     pub words: Vec<String>,
-    pub config: Octets,
+    pub config: Vec<u8>,
     /// For how many octets the output has room.
     pub room: usize,
     /// What a relay is given.
@@ -57,7 +57,7 @@ impl Case {
     pub fn new(alloc: Global) -> Self {
         Case {
             words: Vec::new(alloc),
-            config: Octets::new(alloc),
+            config: Vec::new(alloc),
             room: OCTETS,
             relay: play_of(alloc),
             workers: Vec::new(alloc),
@@ -72,16 +72,19 @@ impl Case {
         match word {
             "#" => Ok(()),
             "$" => self.words_of(alloc, rest),
-            "=" => {
-                self.config.push_all(rest.as_bytes())?;
-                self.config.push_all(b"\n")
-            }
+            "=" => self.configure(rest),
             "long" => self.lengthen(alloc, number(rest)),
             "gauge" => self.press(small(rest)),
             "worker" => self.next_worker(alloc),
             "%" => self.fail(rest),
             _ => self.give(alloc, word, rest),
         }
+    }
+
+    fn configure(&mut self, line: &str) -> Result<(), NoMemory> {
+        self.config.extend_from_slice(line.as_bytes())?;
+        self.config.push(b'\n')?;
+        Ok(())
     }
 
     fn words_of(&mut self, alloc: Global, words: &str) -> Result<(), NoMemory> {
@@ -96,7 +99,8 @@ impl Case {
     fn lengthen(&mut self, alloc: Global, len: u64) -> Result<(), NoMemory> {
         let more = (len as usize).saturating_sub(self.config.len());
         let newlines = vec![in alloc; b'\n'; more]?;
-        self.config.push_all(newlines.as_slice())
+        self.config.extend_from_slice(newlines.as_slice())?;
+        Ok(())
     }
 
     fn press(&mut self, pressure: u32) -> Result<(), NoMemory> {

@@ -50,7 +50,7 @@ pub fn run_case<R: AllocGlobal + Threads + Wait + Sync + Drop>(
     let mut out = MemSink::new(alloc, room, writes)?;
     let relays = MemSite::new(alloc, address, relay, calls);
     let mut site = MemWireSite::new(alloc, relays, workers, fit, round)?;
-    let mut source = MemSource::new(config.into_vec(), reads);
+    let mut source = MemSource::new(config, reads);
     let mut gauge = gauge_of(alloc, pressures);
     let served = serve_proxy(
         &Still::new(rt),
