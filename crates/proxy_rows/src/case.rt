@@ -174,8 +174,8 @@ impl Case {
     }
 }
 
-// Nothing is given, and nothing fails.
-fn play_of(alloc: Global) -> RelayPlay {
+/// Nothing is given, and nothing fails.
+pub fn play_of(alloc: Global) -> RelayPlay {
     RelayPlay {
         answers: Vec::new(alloc),
         room: ROOM,

@@ -37,7 +37,7 @@ fn main(rt: HostRuntime) -> io::Result<()> {
     for line in text.strip_suffix('\n').unwrap_or(text).split('\n') {
         if line.starts_with("## ") {
             if is_open {
-                show::show_case(rt, case)?;
+                show::show_case(rt, &mut case)?;
             }
             println!(rt; "{line}")?;
             case = Case::new(rt.alloc());
@@ -46,5 +46,5 @@ fn main(rt: HostRuntime) -> io::Result<()> {
             println!(rt; "no memory")?;
         }
     }
-    show::show_case(rt, case)
+    show::show_case(rt, &mut case)
 }

@@ -1,5 +1,5 @@
 // Running a case.
-use crate::case::{Case, Failing};
+use crate::case::{Case, play_of};
 use crate::still::Still;
 use io_ports::{MemSink, MemSource, NoMemory, Octets};
 use mem_ports::MemGauge;
@@ -7,6 +7,7 @@ use mem_wire_site::MemWireSite;
 use proxy_site::MemSite;
 use proxy_wire::serve_proxy;
 use std::alloc::Global;
+use std::mem;
 use std::sync::Wait;
 use std::thread::Threads;
 
@@ -16,60 +17,51 @@ const ADDRESS: &[u8] = b"192.0.2.1:8000";
 /// The greatest pressure of a resource, in parts per million.
 const MOST_PRESSURE: u32 = 1_000_000;
 
-/// What is left of a case that was run.
-#[derive(Drop)]
-pub struct Ran {
-    pub status: u8,
-    pub out: MemSink,
-    pub site: MemWireSite,
+/// The site of a case, which takes over what relays and workers are given.
+pub fn site_of(alloc: Global, case: &mut Case) -> Result<MemWireSite, NoMemory> {
+    let address = Octets::from_slice(alloc, ADDRESS)?;
+    let play = mem::replace(&mut case.relay, play_of(alloc));
+    let calls = mem::replace(&mut case.failing.site, Vec::new(alloc));
+    let relays = MemSite::new(alloc, address, play, calls);
+    let plays = mem::replace(&mut case.workers, Vec::new(alloc));
+    let unfit = mem::replace(&mut case.failing.fit, Vec::new(alloc));
+    let rounds = mem::replace(&mut case.failing.round, Vec::new(alloc));
+    MemWireSite::new(alloc, relays, plays, unfit, rounds)
 }
 
-/// Runs a case.
+/// Where a case writes.
+pub fn out_of(alloc: Global, case: &mut Case) -> Result<MemSink, NoMemory> {
+    let writes = mem::replace(&mut case.failing.out, Vec::new(alloc));
+    MemSink::new(alloc, case.room, writes)
+}
+
+/// Runs a case over its site. The answer is the status.
 pub fn run_case<R: AllocGlobal + Threads + Wait + Sync + Drop>(
     rt: R,
-    case: Case,
-) -> Result<Ran, NoMemory> {
+    case: &mut Case,
+    site: &mut MemWireSite,
+    out: &mut MemSink,
+) -> u8 {
     let alloc = rt.alloc();
-    let Case {
-        words,
-        config,
-        room,
-        relay,
-        workers,
-        pressures,
-        failing,
-    } = case;
-    let Failing {
-        config: reads,
-        site: calls,
-        fit,
-        round,
-        out: writes,
-    } = failing;
-    let address = Octets::from_slice(alloc, ADDRESS)?;
-    let mut out = MemSink::new(alloc, room, writes)?;
-    let relays = MemSite::new(alloc, address, relay, calls);
-    let mut site = MemWireSite::new(alloc, relays, workers, fit, round)?;
+    let config = mem::replace(&mut case.config, Vec::new(alloc));
+    let reads = mem::replace(&mut case.failing.config, Vec::new(alloc));
     let mut source = MemSource::new(config, reads);
-    let mut gauge = gauge_of(alloc, pressures);
+    let mut gauge = gauge_of(alloc, case);
     let served = serve_proxy(
         &Still::new(rt),
         alloc,
-        words.as_slice(),
+        case.words.as_slice(),
         &mut source,
-        &mut site,
-        &mut gauge,
-        &mut out,
-    );
-    Ok(Ran {
-        status: served.status.code(),
-        out,
         site,
-    })
+        &mut gauge,
+        out,
+    );
+    served.status.code()
 }
 
-// A gauge with these pressures, or with none where one is too great.
-fn gauge_of(alloc: Global, pressures: Vec<u32>) -> MemGauge {
+// A gauge with the pressures of a case, or with none where one is too great.
+fn gauge_of(alloc: Global, case: &mut Case) -> MemGauge {
+    let pressures = mem::replace(&mut case.pressures, Vec::new(alloc));
     if pressures.iter().all(|pressure| *pressure <= MOST_PRESSURE) {
         MemGauge::new(pressures, Vec::new(alloc))
     } else {

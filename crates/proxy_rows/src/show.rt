@@ -1,6 +1,6 @@
 // How a case ends.
 use crate::case::Case;
-use crate::run::{Ran, run_case};
+use crate::run::{out_of, run_case, site_of};
 use mem_ports::Kept;
 use mem_wire_site::{MemWireSite, PlayWires};
 use proxy_site::MemSite;
@@ -11,20 +11,34 @@ use std::thread::Threads;
 /// Runs a case, and prints how it ends.
 pub fn show_case<R: Print + AllocGlobal + Threads + Wait + Sync + Copy + Drop>(
     rt: R,
-    case: Case,
+    case: &mut Case,
 ) -> io::Result<()> {
-    match run_case(rt, case) {
-        Ok(ran) => show(&rt, &ran),
+    match site_of(rt.alloc(), case) {
+        Ok(mut site) => show_over(rt, case, &mut site),
         Err(_) => println!(rt; "no memory"),
     }
 }
 
-fn show<R: Print>(rt: &R, ran: &Ran) -> io::Result<()> {
-    println!(rt; "status {}", ran.status)?;
-    print!(rt; "{}", text(ran.out.octets()))?;
-    show_relays(rt, ran.site.relay())?;
-    show_workers(rt, &ran.site)?;
-    println!(rt; "faults of the site: {}", ran.site.faults())
+fn show_over<R: Print + AllocGlobal + Threads + Wait + Sync + Copy + Drop>(
+    rt: R,
+    case: &mut Case,
+    site: &mut MemWireSite,
+) -> io::Result<()> {
+    match out_of(rt.alloc(), case) {
+        Ok(mut out) => {
+            let status = run_case(rt, case, site, &mut out);
+            println!(rt; "status {status}")?;
+            print!(rt; "{}", text(out.octets()))?;
+            show_site(&rt, site)
+        }
+        Err(_) => println!(rt; "no memory"),
+    }
+}
+
+fn show_site<R: Print>(rt: &R, site: &MemWireSite) -> io::Result<()> {
+    show_relays(rt, site.relay())?;
+    show_workers(rt, site)?;
+    println!(rt; "faults of the site: {}", site.faults())
 }
 
 // Where it was to listen, and what came back of relays.
