@@ -41,11 +41,11 @@ impl WorkerPlay {
     ) -> Result<Given, NoMemory>
         ensures { IfOk result (λ given. given ≡ fit_of clusters self.now) }
     {
-        let taps = self.taps(alloc, clusters)?;
-        let wires = PlayWires::new(taps, signs, self.left())?;
+        let signs = Arc::try_clone(signs)?;
         let clock = clock_at(alloc, self.moment)?;
         let journal = self.journal(alloc)?;
-        Ok((wires, (clock, journal)))
+        let taps = self.taps(alloc, clusters)?;
+        Ok((PlayWires::new(taps, signs, self.left()), (clock, journal)))
     }
 
     // How many answers come before the connections wait, if they do.

@@ -163,16 +163,17 @@ impl MemWireSite {
         let Ok(clusters) = u32::try_from(config.clusters.as_slice().len()) else {
             return Err(SiteRefusal::NoMemory);
         };
+        if self.fitted.reserve(1).is_err() {
+            return Err(SiteRefusal::NoMemory);
+        }
         let Some(play) = self.play_of(worker) else {
             return Err(SiteRefusal::Failed);
         };
         let Ok((given, kept)) = give_twice(self.alloc, clusters, play, &self.signs) else {
             return Err(SiteRefusal::NoMemory);
         };
-        match self.fitted.push((worker, kept)) {
-            Ok(()) => Ok(given),
-            Err(_) => Err(SiteRefusal::NoMemory),
-        }
+        self.fitted.push_reserved((worker, kept));
+        Ok(given)
     }
 
     // Counts a round, and answers whether it is to fail.

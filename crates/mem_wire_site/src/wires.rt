@@ -1,5 +1,5 @@
 // The connections of a worker in memory.
-ghost use Rattle.std.specs.Prelude.{◌≡◌, IfOk};
+ghost use Rattle.std.specs.Prelude.{◌≡◌};
 ghost use Rattle.mem_ports.specs.Steps.{steps_in};
 
 use crate::signs::Signs;
@@ -33,20 +33,15 @@ impl Model for PlayWires {
 
 impl PlayWires {
     /// These connections, of a site that gives these signs. Behind so many answers they wait until the worker is to stop.
-    pub(crate) fn new(
-        taps: MemTaps,
-        signs: &Arc<Signs, Global>,
-        left: Option<usize>,
-    ) -> Result<Self, NoMemory>
-        ensures { IfOk result (λ made. made ≡ taps) }
+    pub(crate) fn new(taps: MemTaps, signs: Arc<Signs, Global>, left: Option<usize>) -> Self
+        ensures { result ≡ taps }
     {
-        let signs = Arc::try_clone(signs)?;
-        Ok(PlayWires {
+        PlayWires {
             taps,
             signs,
             left,
             ends: false,
-        })
+        }
     }
 
     /// What was given, offered and closed, in order, and the pieces that were offered, one behind the other.
