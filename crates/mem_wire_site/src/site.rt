@@ -277,6 +277,10 @@ impl WireSite for MemWireSite {
         Ok(())
     }
 
+    fn stop(&mut self) {
+        self.signs.stop();
+    }
+
     fn give_back(&mut self, worker: u32, wires: PlayWires, journal: PlayJournal) {
         if wires.faults() > 0 || journal.faults() > 0 {
             self.fault();
