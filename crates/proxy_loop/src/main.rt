@@ -1,6 +1,7 @@
 //! Serves over loopback, with a client and a server beside the proxy. A relay: the client sends 1,000,000 octets through the proxy to
-//! the server, which sends them back. Then a proxy of HTTP/2, whose client gets what the server answers to its requests; what its
-//! worker wrote is replayed, and the notes are compared. With words the one and the other keep journals of these names.
+//! the server, which sends them back. Then a proxy of HTTP/2 with two workers, whose client gets what the server answers to its
+//! requests, of which one has 100,000 octets; what each worker wrote is replayed, and the notes are compared. Which worker has the
+//! client isn't told, so that the same is printed whichever has. With words the one and the other keep journals of these names.
 #![tactic(auto)]
 
 mod beside;
@@ -20,11 +21,11 @@ use crate::loop_site::LoopSite;
 use crate::server::Server;
 use crate::web_journal::Kept;
 use crate::web_origin::Origin;
-use crate::web_replay::replays_as_noted;
-use crate::web_site::WebSite;
+use crate::web_replay::replay;
+use crate::web_site::{WORKERS, WebSite};
 use crate::web_user::{Answer, User};
 use anyhow::Result;
-use io_ports::{MemSink, MemSource};
+use io_ports::{MemSink, MemSource, Octets};
 use proxy_cli::{ClientCounts, ClientGauge, SocketSite};
 use proxy_site::serve;
 use proxy_wire::serve_proxy;
@@ -41,7 +42,7 @@ use std::time::Clock;
 const RELAY_TURNS: &str = "2000";
 
 /// Within so many turns the answer is there. A turn takes at most a tenth of a second.
-const PROXY_TURNS: &str = "300";
+const PROXY_TURNS: &str = "600";
 
 fn main(rt: HostRuntime) -> Result<()> {
     let mut words = env::args(&rt)?;
@@ -161,7 +162,7 @@ where
     println!(rt; "status {}", served.status.code())?;
     tell_listening(&rt, out.octets())?;
     tell_answers(&rt, &site.user)?;
-    tell_replay(&rt, rt.alloc(), text, &site.kept)
+    tell_replays(&rt, rt.alloc(), text, site.kept.as_slice())
 }
 
 // The configuration: the server, little room for what waits, and a journal if it is to have one.
@@ -172,10 +173,11 @@ fn relay_text(alloc: Global, address: SocketAddr, journal: Option<String>) -> Re
     with_journal(alloc, text, journal)
 }
 
-// The configuration: the server, which requests of one path go to, and one worker.
+// The configuration: windows as great as those of client and server, the server, which requests of one path go to, the workers, and
+// clients that take tokens.
 fn proxy_text(alloc: Global, address: SocketAddr, journal: Option<String>) -> Result<String> {
     let text = format!(in alloc;
-        "[[clusters]]\nname = \"server\"\naddress = \"{address}\"\n[[routes]]\npath = \"/hello\"\ncluster = \"server\"\n[proxy]\nworkers = 1\n"
+        "[limits]\nstream_window = 1048576\n[[clusters]]\nname = \"server\"\naddress = \"{address}\"\n[[routes]]\npath = \"/hello\"\ncluster = \"server\"\n[proxy]\nworkers = {WORKERS}\naccept_rate = 1000\n"
     )?;
     with_journal(alloc, text, journal)
 }
@@ -225,18 +227,34 @@ fn tell_answers<R: Print>(rt: &R, user: &Option<User>) -> Result<()> {
     Ok(())
 }
 
-fn tell_replay<R: Print>(rt: &R, alloc: Global, text: &[u8], kept: &Option<Kept>) -> Result<()> {
-    if let Some(kept) = kept {
-        if replays_as_noted(alloc, text, kept)? {
-            println!(rt; "the worker's journal replays to its very notes")?;
+// How many journals replay as they should, and why exchanges ended. All are the client's, so their order is its worker's.
+fn tell_replays<R: Print>(rt: &R, alloc: Global, text: &[u8], kept: &[Kept]) -> Result<()> {
+    let mut as_noted = 0u32;
+    let mut dooms = Octets::new(alloc);
+    for one in kept {
+        let shown = replay(alloc, text, one)?;
+        if shown.is_as_noted {
+            as_noted = as_noted.saturating_add(1);
         }
+        dooms.push_all(shown.dooms.as_slice())?;
+    }
+    println!(rt; "{as_noted} workers' journals replay to their very notes")?;
+    let dooms = std::str::from_utf8(dooms.as_slice()).unwrap_or("?");
+    for cause in dooms.lines() {
+        println!(rt; "an exchange ended: {cause}")?;
     }
     Ok(())
 }
 
 fn tell_answer<R: Print>(rt: &R, answer: &Answer) -> Result<()> {
     let content = std::str::from_utf8(answer.content.as_slice()).unwrap_or("?");
-    if content.is_empty() {
+    if answer.is_back {
+        let octets = content.len();
+        println!(rt;
+            "{}: {}, and all {octets} octets came back",
+            answer.what, answer.status
+        )?;
+    } else if content.is_empty() {
         println!(rt; "{}: {}", answer.what, answer.status)?;
     } else {
         println!(rt; "{}: {} {content}", answer.what, answer.status)?;

@@ -10,8 +10,8 @@ use std::net::{Ipv4Addr, Net, SocketAddr};
 /// How many octets a preface has (RFC 9113 section 3.4).
 const PREFACE: usize = 24;
 
-/// SETTINGS without entries.
-const SETTINGS: &[u8] = b"\0\0\0\x04\0\0\0\0\0";
+/// How often the server reads what each client sends, at each step.
+const READS: u32 = 16;
 
 /// The field block of the status 200 (RFC 7541 appendix A).
 const OKAY: &[u8] = b"\x88";
@@ -19,14 +19,20 @@ const OKAY: &[u8] = b"\x88";
 /// What a request without content is answered.
 const HELLO: &[u8] = b"hello";
 
-/// A server that answers its first client: a request with content by that content, and others by a greeting.
+/// A server that answers its clients: a request with content by that content, and others by a greeting.
 #[derive(Drop)]
 pub struct Origin {
     alloc: Global,
     listener: TcpListener,
-    peer: Option<Peer>,
-    /// Whether a frame of its client has come.
-    pub is_met: bool,
+    callers: Vec<Caller>,
+}
+
+/// A client of a server.
+#[derive(Drop)]
+struct Caller {
+    peer: Peer,
+    /// Whether a frame of it has come.
+    is_met: bool,
 }
 
 impl Origin {
@@ -36,8 +42,7 @@ impl Origin {
         Ok(Origin {
             alloc,
             listener: TcpListener::bind(rt, at)?,
-            peer: None,
-            is_met: false,
+            callers: Vec::new(alloc),
         })
     }
 
@@ -46,23 +51,45 @@ impl Origin {
         self.listener.local_addr()
     }
 
-    /// Accepts its client, or sends and reads once.
-    pub fn step(&mut self) -> Result<(), NoMemory> {
-        let Some(peer) = &mut self.peer else {
-            return self.accept();
-        };
-        match peer.step()? {
-            Some(told) => {
-                self.is_met = true;
-                answer(peer, &told)
+    /// Of how many clients a frame has come.
+    pub fn met(&self) -> usize {
+        let mut met = 0usize;
+        for caller in self.callers.as_slice() {
+            if caller.is_met {
+                met = met.saturating_add(1);
             }
-            None => Ok(()),
         }
+        met
+    }
+
+    /// Accepts a client, and sends to and reads from each some times.
+    pub fn step(&mut self) -> Result<(), NoMemory> {
+        self.accept()?;
+        for caller in self.callers.iter_mut() {
+            caller.step()?;
+        }
+        Ok(())
     }
 
     fn accept(&mut self) -> Result<(), NoMemory> {
         if let Ok((stream, _)) = self.listener.accept() {
-            self.peer = Some(Peer::new(self.alloc, stream, SETTINGS, PREFACE)?);
+            let peer = Peer::new(self.alloc, stream, &[], PREFACE)?;
+            self.callers.push(Caller {
+                peer,
+                is_met: false,
+            })?;
+        }
+        Ok(())
+    }
+}
+
+impl Caller {
+    fn step(&mut self) -> Result<(), NoMemory> {
+        for _ in 0..READS {
+            if let Some(told) = self.peer.step()? {
+                self.is_met = true;
+                answer(&mut self.peer, &told)?;
+            }
         }
         Ok(())
     }

@@ -15,6 +15,10 @@ const MOST: u32 = 16_384;
 /// Streams have numbers below this one.
 const STREAMS: u32 = 0x8000_0000;
 
+/// SETTINGS with an initial window of 1,048,576 octets, and WINDOW_UPDATE that makes the connection's window as great (RFC 9113 sections
+/// 6.5 and 6.9). So whoever sends less than that needn't look at windows.
+const WINDOWS: &[u8] = b"\0\0\x06\x04\0\0\0\0\0\0\x04\0\x10\0\0\0\0\x04\x08\0\0\0\0\0\0\x0f\0\x01";
+
 /// The acknowledgement of SETTINGS.
 const ACKNOWLEDGED: &[u8] = b"\0\0\0\x04\x01\0\0\0\0";
 
@@ -44,17 +48,19 @@ pub struct Peer {
 }
 
 impl Peer {
-    /// An end that sends these octets first. Of those that come so many stand before the first frame.
+    /// An end that sends these octets first, and opens its windows. Of the octets that come so many stand before the first frame.
     pub fn new(
         alloc: Global,
         stream: TcpStream,
         first: &[u8],
         before: usize,
     ) -> Result<Self, NoMemory> {
+        let mut out = Octets::from_slice(alloc, first)?;
+        out.push_all(WINDOWS)?;
         Ok(Peer {
             alloc,
             stream,
-            out: Octets::from_slice(alloc, first)?,
+            out,
             sent: 0,
             came: Octets::new(alloc),
             taken: before,
@@ -68,6 +74,14 @@ impl Peer {
             return Ok(());
         }
         block_frames(stream, last, block, &mut self.out)
+    }
+
+    /// Sends content on a stream behind the others, and ends the stream.
+    pub fn say_all(&mut self, stream: u32, octets: &[u8]) -> Result<(), NoMemory> {
+        for piece in octets.chunks(MOST as usize) {
+            self.say_content(stream, false, piece)?;
+        }
+        self.say_content(stream, true, &[])
     }
 
     /// Sends content of at most 16,384 octets on a stream behind the others, and ends the stream if it is the last.

@@ -9,26 +9,41 @@ use std::alloc::Global;
 use wire_run::run_wire;
 
 /// How many octets a tape has at most, and the text of a configuration.
-const MOST: usize = 1_000_000;
+const MOST: usize = 8_000_000;
 
-/// Whether a journal that was written under a configuration with this text replays to its end, and to exactly the notes that the
-/// worker handed over, one for one.
-pub fn replays_as_noted(alloc: Global, text: &[u8], kept: &Kept) -> Result<bool, NoMemory> {
+/// What the replay of a worker's journal shows.
+#[derive(Drop)]
+pub struct Replay {
+    /// Whether it went to the journal's end, and to exactly the notes that the worker handed over, one for one.
+    pub is_as_noted: bool,
+    /// Why exchanges ended, in order, each in a line.
+    pub dooms: Octets,
+}
+
+/// Replays a journal that was written under a configuration with this text.
+pub fn replay(alloc: Global, text: &[u8], kept: &Kept) -> Result<Replay, NoMemory> {
+    let none = Replay {
+        is_as_noted: false,
+        dooms: Octets::new(alloc),
+    };
     if text.len() > MOST {
-        return Ok(false);
+        return Ok(none);
     }
     let Ok(config) = read_config(alloc, text) else {
-        return Ok(false);
+        return Ok(none);
     };
     let lines = Vec::from_slice(alloc, kept.lines.as_slice())?;
     let mut session = MemSource::new(lines, Vec::new(alloc));
     let mut tape = MemSink::new(alloc, MOST, Vec::new(alloc))?;
     let end = run_wire(alloc, config, &mut session, &mut tape);
     if end.status != Status::Done || !kept.is_whole {
-        return Ok(false);
+        return Ok(none);
     }
     let notes = notes_in(alloc, tape.octets())?;
-    Ok(!notes.is_empty() && notes.as_slice() == kept.notes.as_slice())
+    Ok(Replay {
+        is_as_noted: !notes.is_empty() && notes.as_slice() == kept.notes.as_slice(),
+        dooms: dooms_in(alloc, tape.octets())?,
+    })
 }
 
 // The notes of a tape, each in a line. Lines of the summary are none.
@@ -45,4 +60,18 @@ fn notes_in(alloc: Global, tape: &[u8]) -> Result<Octets, NoMemory> {
         }
     }
     Ok(notes)
+}
+
+// Why exchanges ended, in order, each in a line. A tape's line of it is `doom X CAUSE`.
+fn dooms_in(alloc: Global, tape: &[u8]) -> Result<Octets, NoMemory> {
+    let mut dooms = Octets::new(alloc);
+    let tape = std::str::from_utf8(tape).unwrap_or("");
+    for line in tape.lines() {
+        if let Some(doom) = line.strip_prefix("doom ") {
+            let (_, cause) = doom.split_once(' ').unwrap_or(("", ""));
+            dooms.push_all(cause.as_bytes())?;
+            dooms.push_all(b"\n")?;
+        }
+    }
+    Ok(dooms)
 }

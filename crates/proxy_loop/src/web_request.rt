@@ -1,7 +1,7 @@
 // What a client of HTTP/2 asks.
 
-/// The preface and SETTINGS without entries.
-pub const FIRST: &[u8] = b"PRI * HTTP/2.0\r\n\r\nSM\r\n\r\n\0\0\0\x04\0\0\0\0\0";
+/// What a client sends before its first frame (RFC 9113 section 3.4).
+pub const PREFACE: &[u8] = b"PRI * HTTP/2.0\r\n\r\nSM\r\n\r\n";
 
 /// A request.
 #[derive(Clone, Copy, Debug)]
@@ -10,7 +10,9 @@ pub struct Request {
     pub stream: u32,
     /// Its field block: entries of the static table and literals (RFC 7541 section 6).
     pub block: &'static [u8],
+    /// Its content is this, so many times over.
     pub content: &'static [u8],
+    pub times: usize,
 }
 
 /// The request that is made behind the one on this stream, or the first one behind 0.
@@ -21,18 +23,21 @@ pub fn next_request(stream: u32) -> Option<Request> {
             stream: 1,
             block: b"\x82\x86\x04\x06/hello\x41\x04loop",
             content: b"",
+            times: 0,
         }),
         1 => Some(Request {
             what: "POST /hello",
             stream: 3,
             block: b"\x83\x86\x04\x06/hello\x41\x04loop",
-            content: b"what was posted",
+            content: b"what was posted now ",
+            times: 5_000,
         }),
         3 => Some(Request {
             what: "GET /nowhere",
             stream: 5,
             block: b"\x82\x86\x04\x08/nowhere\x41\x04loop",
             content: b"",
+            times: 0,
         }),
         _ => None,
     }

@@ -19,8 +19,12 @@ use std::rt::Files;
 use std::sync::Wait;
 use std::time::Clock;
 
+/// How many workers there are, each with a connection to the server.
+pub const WORKERS: usize = 2;
+
 /// The site over sockets. A server may be where its configuration says, and a client comes where it listens once the server has
-/// heard of the proxy. Both do something in each round. Once the client has its answers the workers are to end.
+/// heard of each worker, since any of them may get it. Both do something in each round. Once the client has its answers the workers
+/// are to end.
 #[derive(Drop)]
 pub struct WebSite<R: Clock + Net + Wait + Files + Drop> {
     rt: R,
@@ -29,8 +33,8 @@ pub struct WebSite<R: Clock + Net + Wait + Files + Drop> {
     /// Where the proxy listens.
     at: Option<SocketAddr>,
     pub user: Option<User>,
-    /// What the worker wrote and did, once it is back.
-    pub kept: Option<Kept>,
+    /// What the workers wrote and did, once they are back.
+    pub kept: Vec<Kept>,
 }
 
 impl<R: Eprint + Files + Net + Clock + Wait + AllocGlobal + Copy + Drop> WebSite<R> {
@@ -42,7 +46,7 @@ impl<R: Eprint + Files + Net + Clock + Wait + AllocGlobal + Copy + Drop> WebSite
             origin,
             at: None,
             user: None,
-            kept: None,
+            kept: Vec::new(rt.alloc()),
         }
     }
 
@@ -66,7 +70,7 @@ impl<R: Eprint + Files + Net + Clock + Wait + AllocGlobal + Copy + Drop> WebSite
         let Some(address) = self.at else {
             return;
         };
-        if !self.origin.is_met {
+        if self.origin.met() < WORKERS {
             return;
         }
         if let Ok(stream) = TcpStream::connect(&self.rt, address) {
@@ -138,7 +142,8 @@ impl<R: Eprint + Files + Net + Clock + Wait + AllocGlobal + Copy + Drop> WireSit
 
     fn give_back(&mut self, worker: u32, wires: Self::W, journal: Self::L) {
         let (file, kept) = journal.into_parts();
-        self.kept = Some(kept);
+        // Where there is no memory for it, there is a journal less to be replayed.
+        let _ = self.kept.push(kept);
         self.site.give_back(worker, wires, file);
     }
 }

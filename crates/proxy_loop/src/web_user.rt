@@ -1,11 +1,14 @@
 // A client of HTTP/2.
 
 use crate::web_peer::{Peer, Told};
-use crate::web_request::{FIRST, next_request, status_of};
+use crate::web_request::{PREFACE, next_request, status_of};
 use io_ports::{NoMemory, Octets};
 use mio::net::TcpStream;
 use std::alloc::Global;
 use std::mem;
+
+/// How often the client reads what it is sent, at each step.
+const READS: u32 = 16;
 
 /// The answer to a request.
 #[derive(Drop)]
@@ -15,6 +18,8 @@ pub struct Answer {
     /// 0 where it is none that the client knows.
     pub status: u16,
     pub content: Octets,
+    /// Whether something was posted, and exactly that came back.
+    pub is_back: bool,
 }
 
 /// A client that makes its requests one after another.
@@ -22,9 +27,10 @@ pub struct Answer {
 pub struct User {
     alloc: Global,
     peer: Peer,
-    /// What was asked last, and on which stream.
+    /// What was asked last, on which stream, and what was posted with it.
     what: &'static str,
     stream: u32,
+    posted: Octets,
     /// What has come of the answer.
     status: u16,
     content: Octets,
@@ -39,9 +45,10 @@ impl User {
     pub fn new(alloc: Global, stream: TcpStream) -> Result<Self, NoMemory> {
         let mut user = User {
             alloc,
-            peer: Peer::new(alloc, stream, FIRST, 0)?,
+            peer: Peer::new(alloc, stream, PREFACE, 0)?,
             what: "",
             stream: 0,
+            posted: Octets::new(alloc),
             status: 0,
             content: Octets::new(alloc),
             answers: Vec::new(alloc),
@@ -51,18 +58,27 @@ impl User {
         Ok(user)
     }
 
-    /// Sends and reads once, and takes in what the next frame tells.
+    /// Sends and reads some times, and takes in what the frames tell.
     pub fn step(&mut self) -> Result<(), NoMemory> {
-        match self.peer.step()? {
-            Some(Told::Head(_, block, last)) => {
+        for _ in 0..READS {
+            if let Some(told) = self.peer.step()? {
+                self.take_in(told)?;
+            }
+        }
+        Ok(())
+    }
+
+    fn take_in(&mut self, told: Told) -> Result<(), NoMemory> {
+        match told {
+            Told::Head(_, block, last) => {
                 self.status = status_of(block.as_slice());
                 self.end_at(last)
             }
-            Some(Told::Content(_, octets, last)) => {
+            Told::Content(_, octets, last) => {
                 self.content.push_all(octets.as_slice())?;
                 self.end_at(last)
             }
-            Some(Told::Other) | None => Ok(()),
+            Told::Other => Ok(()),
         }
     }
 
@@ -72,10 +88,12 @@ impl User {
             return Ok(());
         }
         let content = mem::replace(&mut self.content, Octets::new(self.alloc));
+        let is_back = !content.is_empty() && content.as_slice() == self.posted.as_slice();
         self.answers.push(Answer {
             what: self.what,
             status: self.status,
             content,
+            is_back,
         })?;
         self.ask()
     }
@@ -88,11 +106,15 @@ impl User {
         };
         self.what = request.what;
         self.stream = request.stream;
-        let is_short = request.content.is_empty();
+        self.posted.clear();
+        for _ in 0..request.times {
+            self.posted.push_all(request.content)?;
+        }
+        let is_short = self.posted.is_empty();
         self.peer.say_head(self.stream, is_short, request.block)?;
         if is_short {
             return Ok(());
         }
-        self.peer.say_content(self.stream, true, request.content)
+        self.peer.say_all(self.stream, self.posted.as_slice())
     }
 }

@@ -1,22 +1,56 @@
 // A case, line by line.
 use io_ports::{NoMemory, Octets};
+use mem_ports::Room;
+use mem_wire_site::WorkerPlay;
+use proxy_site::RelayPlay;
 use std::alloc::Global;
 use worker_ports::Wired;
+
+/// For how many offers of a turn the record of the connections has room.
+const ROOM: Room = Room {
+    offers: 100,
+    octets: 100_000,
+};
+
+/// For how many octets the output and the journals have room where the case doesn't say it.
+const OCTETS: usize = 100_000;
 
 /// What the proxy meets.
 #[derive(Drop)]
 pub struct Case {
     pub words: Vec<String>,
     pub config: Vec<u8>,
-    /// For how many octets the output and the journal have room.
+    /// For how many octets the output has room.
     pub room: usize,
-    pub answers: Vec<Wired>,
-    /// The calls of each part that fail, counted from 0.
-    pub config_failing: Vec<u64>,
-    pub site_failing: Vec<u64>,
-    pub taps_failing: Vec<u64>,
-    pub journal_failing: Vec<u64>,
-    pub out_failing: Vec<u64>,
+    /// What a relay is given.
+    pub relay: RelayPlay,
+    /// What the workers are given.
+    pub workers: Vec<WorkerPlay>,
+    /// The pressures of the resources, in parts per million.
+    pub pressures: Vec<u32>,
+    pub failing: Failing,
+}
+
+/// The calls that fail, counted from 0, but the numbers of the workers that aren't fitted.
+#[derive(Drop)]
+pub struct Failing {
+    pub config: Vec<u64>,
+    pub site: Vec<u64>,
+    pub fit: Vec<u32>,
+    pub round: Vec<u64>,
+    pub out: Vec<u64>,
+}
+
+impl Failing {
+    fn new(alloc: Global) -> Self {
+        Failing {
+            config: Vec::new(alloc),
+            site: Vec::new(alloc),
+            fit: Vec::new(alloc),
+            round: Vec::new(alloc),
+            out: Vec::new(alloc),
+        }
+    }
 }
 
 impl Case {
@@ -24,30 +58,33 @@ impl Case {
         Case {
             words: Vec::new(alloc),
             config: Vec::new(alloc),
-            room: 100_000,
-            answers: Vec::new(alloc),
-            config_failing: Vec::new(alloc),
-            site_failing: Vec::new(alloc),
-            taps_failing: Vec::new(alloc),
-            journal_failing: Vec::new(alloc),
-            out_failing: Vec::new(alloc),
+            room: OCTETS,
+            relay: play_of(alloc),
+            workers: Vec::new(alloc),
+            pressures: Vec::new(alloc),
+            failing: Failing::new(alloc),
         }
     }
 
-    /// Takes up a line.
+    /// Takes up a line. A number that isn't there, or doesn't fit, is 0.
     pub fn line(&mut self, alloc: Global, line: &str) -> Result<(), NoMemory> {
-        if let Some(key) = line.strip_prefix("= ") {
-            self.config.extend_from_slice(key.as_bytes())?;
-            self.config.push(b'\n')?;
-            return Ok(());
+        let (word, rest) = next(line);
+        match word {
+            "#" => Ok(()),
+            "$" => self.words_of(alloc, rest),
+            "=" => self.configure(rest),
+            "long" => self.lengthen(alloc, number(rest)),
+            "gauge" => self.press(small(rest)),
+            "worker" => self.next_worker(alloc),
+            "%" => self.fail(rest),
+            _ => self.give(alloc, word, rest),
         }
-        if let Some(words) = line.strip_prefix("$ ") {
-            return self.words_of(alloc, words);
-        }
-        if let Some(failing) = line.strip_prefix("% ") {
-            return self.failing(failing);
-        }
-        self.answer(alloc, line)
+    }
+
+    fn configure(&mut self, line: &str) -> Result<(), NoMemory> {
+        self.config.extend_from_slice(line.as_bytes())?;
+        self.config.push(b'\n')?;
+        Ok(())
     }
 
     fn words_of(&mut self, alloc: Global, words: &str) -> Result<(), NoMemory> {
@@ -58,61 +95,123 @@ impl Case {
         Ok(())
     }
 
-    fn failing(&mut self, line: &str) -> Result<(), NoMemory> {
-        let mut words = line.split(' ');
-        let part = words.next().unwrap_or("");
-        let call = number(words.next());
-        let list = match part {
-            "config" => &mut self.config_failing,
-            "site" => &mut self.site_failing,
-            "taps" => &mut self.taps_failing,
-            "journal" => &mut self.journal_failing,
-            _ => &mut self.out_failing,
-        };
-        list.push(call)?;
-        Ok(())
-    }
-
     // Makes the configuration so long, with newlines.
-    fn lengthen(&mut self, alloc: Global, len: usize) -> Result<(), NoMemory> {
-        let more = len.saturating_sub(self.config.len());
+    fn lengthen(&mut self, alloc: Global, len: u64) -> Result<(), NoMemory> {
+        let more = (len as usize).saturating_sub(self.config.len());
         let newlines = vec![in alloc; b'\n'; more]?;
         self.config.extend_from_slice(newlines.as_slice())?;
         Ok(())
     }
 
-    fn answer(&mut self, alloc: Global, line: &str) -> Result<(), NoMemory> {
-        let mut words = line.split(' ');
-        let word = words.next().unwrap_or("");
-        let conn = small(words.next());
-        let second = small(words.next());
-        let third = small(words.next());
-        let wired = match word {
-            "read" => {
-                let octet = u8::try_from(second).unwrap_or(0);
-                let octets = vec![in alloc; octet; third as usize]?;
-                Wired::Read(conn, Octets::from_vec(octets))
-            }
-            "accept" => Wired::Accept(conn),
-            "join" => Wired::Join(conn, second),
-            "lost" => Wired::Lost(conn),
-            "stop" => Wired::Stop,
-            "room" => {
-                self.room = conn as usize;
-                return Ok(());
-            }
-            "long" => return self.lengthen(alloc, conn as usize),
-            _ => Wired::Idle,
-        };
-        self.answers.push(wired)?;
+    fn press(&mut self, pressure: u32) -> Result<(), NoMemory> {
+        self.pressures.push(pressure)?;
         Ok(())
+    }
+
+    fn next_worker(&mut self, alloc: Global) -> Result<(), NoMemory> {
+        self.workers.push(WorkerPlay {
+            outside: play_of(alloc),
+            moment: 0,
+            lasts: false,
+        })?;
+        Ok(())
+    }
+
+    // What the last worker is given, or the relay before the first.
+    fn play(&mut self) -> &mut RelayPlay {
+        match self.workers.last_mut() {
+            Some(worker) => &mut worker.outside,
+            None => &mut self.relay,
+        }
+    }
+
+    fn fail(&mut self, line: &str) -> Result<(), NoMemory> {
+        let (part, rest) = next(line);
+        let list = match part {
+            "fit" => return self.refuse(small(rest)),
+            "config" => &mut self.failing.config,
+            "site" => &mut self.failing.site,
+            "round" => &mut self.failing.round,
+            "out" => &mut self.failing.out,
+            "journal" => &mut self.play().journal_failing,
+            _ => &mut self.play().failing,
+        };
+        list.push(number(rest))?;
+        Ok(())
+    }
+
+    fn refuse(&mut self, worker: u32) -> Result<(), NoMemory> {
+        self.failing.fit.push(worker)?;
+        Ok(())
+    }
+
+    fn give(&mut self, alloc: Global, word: &str, rest: &str) -> Result<(), NoMemory> {
+        match word {
+            "tick" => {
+                if let Some(worker) = self.workers.last_mut() {
+                    worker.moment = number(rest);
+                }
+            }
+            "wait" => {
+                if let Some(worker) = self.workers.last_mut() {
+                    worker.lasts = true;
+                }
+            }
+            "room" => self.make_room(number(rest) as usize),
+            _ => {
+                let answer = answer_of(alloc, word, rest)?;
+                self.play().answers.push(answer)?;
+            }
+        }
+        Ok(())
+    }
+
+    fn make_room(&mut self, octets: usize) {
+        if self.workers.is_empty() {
+            self.room = octets;
+        }
+        self.play().journal_room = octets;
     }
 }
 
-fn number(word: Option<&str>) -> u64 {
-    word.unwrap_or("").parse::<u64>().unwrap_or(0)
+/// Nothing is given, and nothing fails.
+pub fn play_of(alloc: Global) -> RelayPlay {
+    RelayPlay {
+        answers: Vec::new(alloc),
+        room: ROOM,
+        failing: Vec::new(alloc),
+        journal_room: OCTETS,
+        journal_failing: Vec::new(alloc),
+    }
 }
 
-fn small(word: Option<&str>) -> u32 {
-    word.unwrap_or("").parse::<u32>().unwrap_or(0)
+fn answer_of(alloc: Global, word: &str, rest: &str) -> Result<Wired, NoMemory> {
+    let (first, rest) = next(rest);
+    let (second, third) = next(rest);
+    let conn = small(first);
+    Ok(match word {
+        "read" => {
+            let octet = u8::try_from(small(second)).unwrap_or(0);
+            let octets = vec![in alloc; octet; small(third) as usize]?;
+            Wired::Read(conn, Octets::from_vec(octets))
+        }
+        "accept" => Wired::Accept(conn),
+        "join" => Wired::Join(conn, small(second)),
+        "lost" => Wired::Lost(conn),
+        "stop" => Wired::Stop,
+        _ => Wired::Idle,
+    })
+}
+
+// The next word, and the others.
+fn next(words: &str) -> (&str, &str) {
+    words.split_once(' ').unwrap_or((words, ""))
+}
+
+fn number(word: &str) -> u64 {
+    word.parse::<u64>().unwrap_or(0)
+}
+
+fn small(word: &str) -> u32 {
+    word.parse::<u32>().unwrap_or(0)
 }

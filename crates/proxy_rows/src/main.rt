@@ -1,14 +1,29 @@
-//! Serves over a site in memory, one case of standard input after another, and prints how each ends: the status, what was
-//! written to the output and to the journal, and what came back to the site.
+//! Runs the proxy over a site in memory, one case of standard input after another, and prints how each ends: the status, what was
+//! written to the output, where it was to listen, what came back of relays and of workers, with the journals and the connections
+//! that were closed, and how many failures the site counts.
 //!
-//! A case begins with a line `## NAME`. A line `$ WORD WORD ..` has the words, lines `= TEXT` are the configuration, and lines
-//! `% PART K` say that this call, counted from 0, of `config`, `site`, `taps`, `journal` or `out` fails. `room N` is how many
-//! octets the output and the journal have room for, and `long N` makes the configuration N octets long with newlines. The other lines are what the connections give: `accept C`, `join C N`,
-//! `read C OCTET LENGTH`, `lost C`, `idle` and `stop`.
+//! A case begins with a line `## NAME`. Its lines begin with a word:
+//!
+//! - `# TEXT` says why the case ends so, and does nothing.
+//! - `$ WORD WORD ..` has the words of the command line.
+//! - `= TEXT` is a line of the configuration, and `long N` makes it N octets long with newlines.
+//! - `gauge P` is the pressure of the next resource, in parts per million.
+//! - `worker` begins what the next worker is given. Lines before the first are of the relay.
+//! - `tick T` is the moment at which the worker's clock stands.
+//! - `accept C`, `join C N`, `read C OCTET LENGTH`, `lost C`, `idle` and `stop` are what the connections give, in this order.
+//! - `wait` says that the worker's connections, once they have brought all, wait until the worker is to stop.
+//! - `room N` is for how many octets the journal has room, and before the first `worker` the output too.
+//! - `% PART K` makes a call fail. The calls of `config`, `site` (listening, and what a relay is given), `round`, `out`, `wires` and
+//!   `journal` are counted from 0; `fit` has the number of a worker.
+//!
+//! The gauges are read once, before the workers run, since the clock of the loop beside them stands. So each case prints the same
+//! however its threads are run.
 #![tactic(auto)]
 
 mod case;
+mod run;
 mod show;
+mod still;
 
 use crate::case::Case;
 use std::io::{self, Read};
@@ -22,7 +37,7 @@ fn main(rt: HostRuntime) -> io::Result<()> {
     for line in text.strip_suffix('\n').unwrap_or(text).split('\n') {
         if line.starts_with("## ") {
             if is_open {
-                show::show_case(&rt, case)?;
+                show::show_case(rt, &mut case)?;
             }
             println!(rt; "{line}")?;
             case = Case::new(rt.alloc());
@@ -31,5 +46,5 @@ fn main(rt: HostRuntime) -> io::Result<()> {
             println!(rt; "no memory")?;
         }
     }
-    show::show_case(&rt, case)
+    show::show_case(rt, &mut case)
 }

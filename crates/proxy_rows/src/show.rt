@@ -1,46 +1,52 @@
 // How a case ends.
 use crate::case::Case;
-use io_ports::{MemSink, MemSource, Octets};
-use mem_ports::Room;
-use proxy_site::{MemSite, RelayPlay, serve};
+use crate::run::{out_of, run_case, site_of};
+use mem_ports::Kept;
+use mem_wire_site::{MemWireSite, PlayWires};
+use proxy_site::MemSite;
 use std::io;
+use std::sync::Wait;
+use std::thread::Threads;
 
-/// For how many offers of a turn the record of the connections has room.
-const ROOM: Room = Room {
-    offers: 100,
-    octets: 100_000,
-};
+/// Runs a case, and prints how it ends.
+pub fn show_case<R: Print + AllocGlobal + Threads + Wait + Sync + Copy + Drop>(
+    rt: R,
+    case: &mut Case,
+) -> io::Result<()> {
+    match site_of(rt.alloc(), case) {
+        Ok(mut site) => show_over(rt, case, &mut site),
+        Err(_) => println!(rt; "no memory"),
+    }
+}
 
-/// Serves a case, and prints how it ends.
-pub fn show_case<R: Print + AllocGlobal>(rt: &R, case: Case) -> io::Result<()> {
-    let mut config = MemSource::new(case.config, case.config_failing);
-    let play = RelayPlay {
-        answers: case.answers,
-        room: ROOM,
-        failing: case.taps_failing,
-        journal_room: case.room,
-        journal_failing: case.journal_failing,
-    };
-    let (Ok(address), Ok(mut out)) = (
-        Octets::from_slice(rt.alloc(), b"192.0.2.1:8000"),
-        MemSink::new(rt.alloc(), case.room, case.out_failing),
-    ) else {
-        return println!(rt; "no memory");
-    };
-    let mut site = MemSite::new(rt.alloc(), address, play, case.site_failing);
-    let status = serve(
-        rt.alloc(),
-        case.words.as_slice(),
-        &mut config,
-        &mut site,
-        &mut out,
-    );
-    println!(rt; "status {}", status.code())?;
-    print!(rt; "{}", text(out.octets()))?;
-    for at in site.asked() {
+fn show_over<R: Print + AllocGlobal + Threads + Wait + Sync + Copy + Drop>(
+    rt: R,
+    case: &mut Case,
+    site: &mut MemWireSite,
+) -> io::Result<()> {
+    match out_of(rt.alloc(), case) {
+        Ok(mut out) => {
+            let status = run_case(rt, case, site, &mut out);
+            println!(rt; "status {status}")?;
+            print!(rt; "{}", text(out.octets()))?;
+            show_site(&rt, site)
+        }
+        Err(_) => println!(rt; "no memory"),
+    }
+}
+
+fn show_site<R: Print>(rt: &R, site: &MemWireSite) -> io::Result<()> {
+    show_relays(rt, site.relay())?;
+    show_workers(rt, site)?;
+    println!(rt; "faults of the site: {}", site.faults())
+}
+
+// Where it was to listen, and what came back of relays.
+fn show_relays<R: Print>(rt: &R, relays: &MemSite) -> io::Result<()> {
+    for at in relays.asked() {
         println!(rt; "it was to listen at {}", text(at.as_slice()))?;
     }
-    for (taps, journal) in site.back() {
+    for (taps, journal) in relays.back() {
         println!(rt;
             "came back, with {} and {} faults",
             taps.faults(),
@@ -48,7 +54,35 @@ pub fn show_case<R: Print + AllocGlobal>(rt: &R, case: Case) -> io::Result<()> {
         )?;
         print!(rt; "{}", text(journal.octets()))?;
     }
-    println!(rt; "faults of the site: {}", site.faults())
+    Ok(())
+}
+
+// What came back of workers.
+fn show_workers<R: Print>(rt: &R, site: &MemWireSite) -> io::Result<()> {
+    for (worker, (wires, journal)) in site.returned() {
+        println!(rt;
+            "worker {worker} came back, with {} and {} faults",
+            wires.faults(),
+            journal.faults()
+        )?;
+        print!(rt; "{}", text(journal.octets()))?;
+        show_closed(rt, wires)?;
+    }
+    if site.was_shut() {
+        println!(rt; "no client was to be accepted")?;
+    }
+    Ok(())
+}
+
+// Which connections were closed.
+fn show_closed<R: Print>(rt: &R, wires: &PlayWires) -> io::Result<()> {
+    let (steps, _) = wires.record();
+    for step in steps {
+        if let Kept::Closed(conn) = step {
+            println!(rt; "closed {conn}")?;
+        }
+    }
+    Ok(())
 }
 
 fn text(octets: &[u8]) -> &str {
