@@ -1,6 +1,7 @@
 pub mod Ending
 pub mod Flows
 pub mod Goes
+pub mod Highest
 pub mod Kept
 pub mod Lanes
 pub mod Levels
