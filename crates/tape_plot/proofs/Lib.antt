@@ -1,3 +1,4 @@
+pub mod Choosing
 pub mod Columns
 pub mod Drawing
 pub mod Flowing
@@ -7,6 +8,7 @@ pub mod Laning
 pub mod Limiting
 pub mod Lining
 pub mod Mapping
+pub mod Mosts
 pub mod Passing
 pub mod Pathing
 pub mod Picturing

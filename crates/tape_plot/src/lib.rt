@@ -1,6 +1,7 @@
 //! A tape as a picture: the lengths of its buffers, its read-disable counts and its ends, dispatch by dispatch, as one SVG file.
 #![tactic(auto)]
 
+mod buffer;
 mod choice;
 mod clock;
 mod connection;
