@@ -9,6 +9,7 @@ use Rattle.tape_laws.specs.History.{History, NoMark}
 use Rattle.tape_plot.specs.Levels.{at, places, written}
 use Rattle.tape_plot.specs.Said.{Said, Sums}
 use Rattle.tape_plot.specs.declared.buffer.Buffer.{Buffer}
+use Rattle.tape_plot.specs.declared.height.Height.{Height}
 use Rattle.flow_gate.specs.declared.ids.BufferId.TheVariants as id
 use Rattle.tape_plot.specs.declared.buffer.Buffer.TheVariants as buffer
 use Rattle.tape_plot.specs.declared.report.Line.TheVariants as line
@@ -49,18 +50,14 @@ most_from number first [] = number []
 most_from number first (step ∷ past) = if nat_lt (turns (step ∷ past)) first then number (step ∷ past) else max (most_from number first past) (number (step ∷ past))
 
 -- in thousandths of the limit, where that is known and isn't 0, and else in octets
-pub record Height : Type 0 where
-  pub limited : Bool
-  pub height : ℕ
-
 abbrev pub against : ℕ → ℕ → Height
 against limit most =
-    if limit == 0 then record { limited = false; height = most }
-    else record { limited = true; height = min (most * 1000) (2 ^ 64 - 1) / limit }
+    if limit == 0 then record { is_limited = false; height = most }
+    else record { is_limited = true; height = min (most * 1000) (2 ^ 64 - 1) / limit }
 
 -- a buffer with a limit is higher than one without
 abbrev pub is_higher : Height → Height → Bool
-is_higher a b = (a.limited && not b.limited) || ((if a.limited then b.limited else not b.limited) && nat_lt b.height a.height)
+is_higher a b = if xor a.is_limited b.is_limited then a.is_limited else nat_lt b.height a.height
 
 abbrev pub height_in : Buffer → ℕ → History NoMark → List Said → Height
 height_in b first h said = against (limit_of b h said) (most_from (held_in b) first h)

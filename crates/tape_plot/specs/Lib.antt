@@ -5,8 +5,10 @@ pub mod Highest
 pub mod Kept
 pub mod Lanes
 pub mod Levels
+pub mod Limits
 pub mod Lines
 pub mod Path
+pub mod Picks
 pub mod Pictures
 pub mod Reading
 pub mod Reads
