@@ -2,6 +2,7 @@ pub mod Choosing
 pub mod Columns
 pub mod Drawing
 pub mod Flowing
+pub mod Heights
 pub mod Holding
 pub mod Keeping
 pub mod Laning

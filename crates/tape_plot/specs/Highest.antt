@@ -57,7 +57,7 @@ against limit most =
 
 -- a buffer with a limit is higher than one without
 abbrev pub is_higher : Height → Height → Bool
-is_higher a b = if xor a.is_limited b.is_limited then a.is_limited else nat_lt b.height a.height
+is_higher a b = if a.is_limited then not b.is_limited || nat_lt b.height a.height else not b.is_limited && nat_lt b.height a.height
 
 abbrev pub height_in : Buffer → ℕ → History NoMark → List Said → Height
 height_in b first h said = against (limit_of b h said) (most_from (held_in b) first h)

@@ -2,7 +2,7 @@
 use Rattle.flow_gate.specs.Ids.{same_buffer}
 use Rattle.flow_gate.specs.declared.ids.BufferId.{BufferId}
 use Rattle.flow_gate.specs.declared.ids.FlowId.{FlowId}
-use Rattle.std.specs.BTreeMap.{lookup}
+use Rattle.std.specs.Map.{lookup}
 use Rattle.std.specs.Option.{option_or}
 use Rattle.std.specs.Prelude.{List, None, Option, Some, if◌then◌else◌, ℕ, ◌+◌, ◌==◌, ◌≡◌}
 use Rattle.tape_plot.specs.Highest.{limit_named}
