@@ -5,7 +5,7 @@ use Rattle.std.proofs.lemmas.List.Elements.{All-cons, All-contains, All-head, Al
 use Rattle.std.proofs.lemmas.List.{length-take, take-append-drop, take_all}
 use Rattle.std.specs.List.{Contains}
 use Rattle.std.specs.Prelude.{All, Bool, List, [], drop, false, if◌then◌else◌, length, min, nat_lt, suc, take, true, zero, ℕ, ◌++◌, ◌<◌, ◌∷◌, ◌≡◌, ◌≤◌, ◌⊎◌}
-use Rattle.tape_plot.specs.Shown.{AreInOrder}
+use Rattle.tape_plot.specs.Highest.{AreInOrder}
 
 -- behind all that it doesn't come before
 abbrev pub put_by : {X : Type 0} → (X → X → Bool) → X → List X → List X

@@ -3,7 +3,7 @@ use Rattle.flow_gate.specs.Ids.{same_buffer}
 use Rattle.flow_gate.specs.declared.ids.BufferId.{BufferId}
 use Rattle.flow_gate.specs.declared.ids.FlowId.{FlowId}
 use Rattle.std.specs.Option.{option_map_or, option_or}
-use Rattle.std.specs.Prelude.{Bool, List, None, Option, Some, [], false, if◌then◌else◌, length, max, min, nat_lt, not, true, ℕ, ◌&&◌, ◌*◌, ◌+◌, ◌-◌, ◌/◌, ◌==◌, ◌^◌, ◌||◌, ◌∷◌, ◌≡◌}
+use Rattle.std.specs.Prelude.{All, Bool, List, None, Option, Some, [], false, if◌then◌else◌, length, max, min, nat_lt, not, true, ℕ, ◌&&◌, ◌*◌, ◌+◌, ◌-◌, ◌/◌, ◌==◌, ◌^◌, ◌||◌, ◌∷◌, ◌≡◌}
 use Rattle.tape_laws.specs.Dispatches.{turns}
 use Rattle.tape_laws.specs.History.{History, NoMark}
 use Rattle.tape_plot.specs.Levels.{at, places, written}
@@ -76,3 +76,8 @@ is_before (buffer.Write c) (buffer.Write d) = nat_lt c d
 -- the higher of two is drawn before the other, and of two that are equally high the one that comes first
 abbrev pub goes_before : (Buffer → Height) → Buffer → Buffer → Bool
 goes_before height a b = is_higher (height a) (height b) || (not (is_higher (height b) (height a)) && is_before a b)
+
+-- each comes before all behind it
+abbrev pub AreInOrder : {A : Type 0} → (A → A → Bool) → List A → Type 0
+AreInOrder comes [] = Unit {0}
+AreInOrder comes (a ∷ as) = All (λ b. comes a b ≡ true) as × AreInOrder comes as

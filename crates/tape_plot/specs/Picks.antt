@@ -5,10 +5,10 @@ use Rattle.std.specs.List.{Contains, list_any}
 use Rattle.std.specs.Option.{option_map_or}
 use Rattle.std.specs.Ordering.{nat_cmp}
 use Rattle.std.specs.Prelude.{All, Bool, List, None, Option, Some, [], if◌then◌else◌, length, map, true, ℕ, ◌<◌, ◌∷◌, ◌≡◌, ◌≤◌, ◌⊎◌}
-use Rattle.tape_plot.specs.Highest.{against, goes_before, is_higher}
+use Rattle.tape_plot.specs.Highest.{AreInOrder, against, goes_before, is_higher}
 use Rattle.tape_plot.specs.Lanes.{Drawn, most_of}
 use Rattle.tape_plot.specs.Limits.{limit_at, place_limit_at}
-use Rattle.tape_plot.specs.Shown.{AreInOrder, AsksFor}
+use Rattle.tape_plot.specs.Shown.{AsksFor}
 use Rattle.tape_plot.specs.Standing.{flow_of, place_lane, write_lane}
 use Rattle.tape_plot.specs.declared.buffer.Buffer.{Buffer}
 use Rattle.tape_plot.specs.declared.draw.pick.Pick.{Pick}

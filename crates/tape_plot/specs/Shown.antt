@@ -1,10 +1,10 @@
 -- Which lines a picture has.
 use Rattle.flow_gate.specs.declared.ids.FlowId.{FlowId}
 use Rattle.std.specs.List.{Contains}
-use Rattle.std.specs.Prelude.{All, Bool, List, Some, [], length, true, ℕ, ◌++◌, ◌<◌, ◌∷◌, ◌≡◌, ◌≤◌, ◌⊎◌}
+use Rattle.std.specs.Prelude.{All, List, Some, length, true, ℕ, ◌++◌, ◌<◌, ◌≡◌, ◌≤◌, ◌⊎◌}
 use Rattle.tape_laws.specs.Dispatches.{turns}
 use Rattle.tape_laws.specs.History.{History, NoMark}
-use Rattle.tape_plot.specs.Highest.{goes_before, height_in, held_in, limit_of, most_from}
+use Rattle.tape_plot.specs.Highest.{AreInOrder, goes_before, height_in, held_in, limit_of, most_from}
 use Rattle.tape_plot.specs.Lanes.{Drawn, LaneIs, most_of}
 use Rattle.tape_plot.specs.Path.{path_text}
 use Rattle.tape_plot.specs.Said.{Said}
@@ -48,11 +48,6 @@ pub record Shows (text : List ℕ) (b : Buffer) (first : ℕ) (h : History NoMar
 -- the buffer held an octet in a dispatch that is drawn, or just before the first
 abbrev pub WasFilled : ℕ → History NoMark → Buffer → Type 0
 WasFilled first h b = 0 < most_from (held_in b) first h
-
--- each comes before all behind it
-abbrev pub AreInOrder : {A : Type 0} → (A → A → Bool) → List A → Type 0
-AreInOrder comes [] = Unit {0}
-AreInOrder comes (a ∷ as) = All (λ b. comes a b ≡ true) as × AreInOrder comes as
 
 -- Where none are named: 40 of the buffers that held an octet are drawn, or all of them where there aren't more, the highest first; and
 -- each other one comes behind all of these.
