@@ -27,11 +27,12 @@ take_front (suc m) y ys = ap (λ v. y ∷ v) (take_less m (suc m) ys (omega arit
 pub take_put : {X : Type 0} (comes : X → X → Bool) (n : ℕ) (x : X) (xs : List X) → take n (put_by comes x (take n xs)) ≡ take n (put_by comes x xs)
 take_put comes zero x xs = refl
 take_put comes (suc n) x [] = refl
-take_put comes (suc n) x (y ∷ ys) = by (comes x y)
+take_put comes (suc n) x (y ∷ ys) = by (comes x y) (take_put comes n x ys)
   where
-    by : (b : Bool) → take (suc n) (if b then x ∷ y ∷ take n ys else y ∷ put_by comes x (take n ys)) ≡ take (suc n) (if b then x ∷ y ∷ ys else y ∷ put_by comes x ys)
-    by true = ap (λ v. x ∷ v) (take_front n y ys)
-    by false = ap (λ v. y ∷ v) (take_put comes n x ys)
+    by : (b : Bool) → take n (put_by comes x (take n ys)) ≡ take n (put_by comes x ys)
+        → take (suc n) (if b then x ∷ y ∷ take n ys else y ∷ put_by comes x (take n ys)) ≡ take (suc n) (if b then x ∷ y ∷ ys else y ∷ put_by comes x ys)
+    by true e = ap (λ v. x ∷ v) (take_front n y ys)
+    by false e = ap (λ v. y ∷ v) e
 
 -- it is put at the first place before which it comes, or at the end
 pub put_is : {X : Type 0} (comes : X → X → Bool) (x : X) (front back : List X) → All (λ y. comes x y ≡ false) front
@@ -52,7 +53,7 @@ in_tail : {X : Type 0} (y : X) (xs : List X) (x : X) → Contains xs x → Conta
 in_tail y xs x there = Contains-append_right (y ∷ []) xs x there
 
 in_none : {X : Type 0} (x : X) → Contains [] x → ⊥
-in_none x there = omega (arith, there.1.0)
+in_none x there = omega (arith, there.1)
 
 in_one : {X : Type 0} (y x : X) → Contains (y ∷ []) x → y ≡ x
 in_one y x there = by (Contains-push_cases [] y x there)
@@ -63,28 +64,28 @@ in_one y x there = by (Contains-push_cases [] y x there)
 
 pub put_has : {X : Type 0} (comes : X → X → Bool) (x : X) (xs : List X) → Contains (put_by comes x xs) x
 put_has comes x [] = in_head x []
-put_has comes x (y ∷ ys) = by (comes x y)
+put_has comes x (y ∷ ys) = by (comes x y) (put_has comes x ys)
   where
-    by : (b : Bool) → Contains (if b then x ∷ y ∷ ys else y ∷ put_by comes x ys) x
-    by true = in_head x (y ∷ ys)
-    by false = in_tail y (put_by comes x ys) x (put_has comes x ys)
+    by : (b : Bool) → Contains (put_by comes x ys) x → Contains (if b then x ∷ y ∷ ys else y ∷ put_by comes x ys) x
+    by true has = in_head x (y ∷ ys)
+    by false has = in_tail y (put_by comes x ys) x has
 
 pub put_keeps : {X : Type 0} (comes : X → X → Bool) (x : X) (xs : List X) (z : X) → Contains xs z → Contains (put_by comes x xs) z
 put_keeps comes x [] z there = absurd (in_none z there)
-put_keeps comes x (y ∷ ys) z there = by (comes x y) (Contains-append_cases (y ∷ []) ys z there)
+put_keeps comes x (y ∷ ys) z there = by (comes x y) (Contains-append_cases (y ∷ []) ys z there) (put_keeps comes x ys z)
   where
-    by : (b : Bool) → Contains (y ∷ []) z ⊎ Contains ys z → Contains (if b then x ∷ y ∷ ys else y ∷ put_by comes x ys) z
-    by true at = in_tail x (y ∷ ys) z there
-    by false (inl at) = subst (Contains (y ∷ put_by comes x ys)) (in_one y z at) (in_head y (put_by comes x ys))
-    by false (inr at) = in_tail y (put_by comes x ys) z (put_keeps comes x ys z at)
+    by : (b : Bool) → Contains (y ∷ []) z ⊎ Contains ys z → (Contains ys z → Contains (put_by comes x ys) z) → Contains (if b then x ∷ y ∷ ys else y ∷ put_by comes x ys) z
+    by true at keeps = in_tail x (y ∷ ys) z there
+    by false (inl at) keeps = subst (Contains (y ∷ put_by comes x ys)) (in_one y z at) (in_head y (put_by comes x ys))
+    by false (inr at) keeps = in_tail y (put_by comes x ys) z (keeps at)
 
 pub put_all : {X : Type 0} (P : X → Type 0) (comes : X → X → Bool) (x : X) (xs : List X) → All P xs → P x → All P (put_by comes x xs)
 put_all P comes x [] all one = All-cons P x [] one (All-nil P)
-put_all P comes x (y ∷ ys) all one = by (comes x y)
+put_all P comes x (y ∷ ys) all one = by (comes x y) (put_all P comes x ys (All-tail P y ys all) one)
   where
-    by : (b : Bool) → All P (if b then x ∷ y ∷ ys else y ∷ put_by comes x ys)
-    by true = All-cons P x (y ∷ ys) one all
-    by false = All-cons P y (put_by comes x ys) (All-head P y ys all) (put_all P comes x ys (All-tail P y ys all) one)
+    by : (b : Bool) → All P (put_by comes x ys) → All P (if b then x ∷ y ∷ ys else y ∷ put_by comes x ys)
+    by true rest = All-cons P x (y ∷ ys) one all
+    by false rest = All-cons P y (put_by comes x ys) (All-head P y ys all) rest
 
 -- ---- the order
 
@@ -92,14 +93,13 @@ put_all P comes x (y ∷ ys) all one = by (comes x y)
 pub put_in_order : {X : Type 0} (comes : X → X → Bool) (x : X) (xs : List X) → ((a b c : X) → comes a b ≡ true → comes b c ≡ true → comes a c ≡ true)
     → All (λ y. comes x y ≡ false → comes y x ≡ true) xs → AreInOrder comes xs → AreInOrder comes (put_by comes x xs)
 put_in_order comes x [] through meets order = (All-nil (λ y. comes x y ≡ true), tt)
-put_in_order comes x (y ∷ ys) through meets order = by (comes x y) refl
+put_in_order comes x (y ∷ ys) through meets order =
+    by (comes x y) refl (put_in_order comes x ys through (All-tail (λ v. comes x v ≡ false → comes v x ≡ true) y ys meets) order.1)
   where
-    by : (b : Bool) → comes x y ≡ b → AreInOrder comes (if b then x ∷ y ∷ ys else y ∷ put_by comes x ys)
-    by true e =
+    by : (b : Bool) → comes x y ≡ b → AreInOrder comes (put_by comes x ys) → AreInOrder comes (if b then x ∷ y ∷ ys else y ∷ put_by comes x ys)
+    by true e rest =
         (All-cons (λ v. comes x v ≡ true) y ys e (All-weaker (λ v. comes y v ≡ true) (λ v. comes x v ≡ true) (λ v f. through x y v e f) ys order.0), order)
-    by false e =
-        (put_all (λ v. comes y v ≡ true) comes x ys order.0 (All-head (λ v. comes x v ≡ false → comes v x ≡ true) y ys meets e),
-        put_in_order comes x ys through (All-tail (λ v. comes x v ≡ false → comes v x ≡ true) y ys meets) order.1)
+    by false e rest = (put_all (λ v. comes y v ≡ true) comes x ys order.0 (All-head (λ v. comes x v ≡ false → comes v x ≡ true) y ys meets e), rest)
 
 front_in_order : {X : Type 0} (comes : X → X → Bool) (n : ℕ) (xs : List X) → AreInOrder comes xs → AreInOrder comes (take n xs)
 front_in_order comes zero xs order = tt

@@ -1,7 +1,9 @@
 -- The order of buffers: of two one comes before the other, and what comes before a buffer comes before all behind that.
 use Rattle.std.proofs.Common.{ap, arith, inl, inr, refl, sym, ◌∙◌}
-use Rattle.std.proofs.lemmas.Bool.{false≢true, lt-ltb, ltb-false, ltb-true, le-ltb}
-use Rattle.std.specs.Prelude.{Bool, false, if◌then◌else◌, nat_lt, not, true, ℕ, ◌&&◌, ◌<◌, ◌||◌, ◌≡◌, ◌≤◌, ◌⊎◌}
+use Rattle.flow_gate.specs.declared.ids.FlowId.{FlowId}
+use Rattle.std.proofs.lemmas.Bool.{eq-eqb, eqb-true, false≢true, le-ltb, lt-ltb, ltb-false, ltb-true}
+use Rattle.std.specs.Prelude.{Bool, false, if◌then◌else◌, nat_lt, not, true, ℕ, ◌&&◌, ◌<◌, ◌==◌, ◌||◌, ◌≡◌, ◌≤◌, ◌⊎◌}
+use Rattle.tape_plot.specs.declared.buffer.Buffer.TheVariants as buffer
 use Rattle.tape_plot.specs.Highest.{goes_before, is_before, is_higher}
 use Rattle.tape_plot.specs.declared.buffer.Buffer.{Buffer}
 use Rattle.tape_plot.specs.declared.height.Height.{Height}
@@ -19,7 +21,7 @@ weak_weak : (a b c : ℕ) → nat_lt a b ≡ false → nat_lt b c ≡ false → 
 weak_weak a b c e f = le-ltb a c (omega (arith, ltb-false a b e, ltb-false b c f))
 
 -- by whether each has a limit, and its height
-above : Bool → ℕ → Bool → ℕ → Bool
+abbrev above : Bool → ℕ → Bool → ℕ → Bool
 above true a true b = nat_lt b a
 above true a false b = true
 above false a true b = false
@@ -68,6 +70,22 @@ above_is a b = by a.is_limited b.is_limited
     by false true = refl
     by false false = refl
 
+higher_through : (a b c : Height) → is_higher a b ≡ true → is_higher b c ≡ true → is_higher a c ≡ true
+higher_through a b c e f =
+    above_is a c ∙ above_through a.is_limited b.is_limited c.is_limited a.height b.height c.height (sym (above_is a b) ∙ e) (sym (above_is b c) ∙ f)
+
+higher_weak : (a b c : Height) → is_higher a b ≡ true → is_higher c b ≡ false → is_higher a c ≡ true
+higher_weak a b c e f =
+    above_is a c ∙ above_weak a.is_limited b.is_limited c.is_limited a.height b.height c.height (sym (above_is a b) ∙ e) (sym (above_is c b) ∙ f)
+
+weak_higher : (a b c : Height) → is_higher b a ≡ false → is_higher b c ≡ true → is_higher a c ≡ true
+weak_higher a b c e f =
+    above_is a c ∙ weak_above a.is_limited b.is_limited c.is_limited a.height b.height c.height (sym (above_is b a) ∙ e) (sym (above_is b c) ∙ f)
+
+none_higher : (a b c : Height) → is_higher b a ≡ false → is_higher c b ≡ false → is_higher c a ≡ false
+none_higher a b c e f =
+    above_is c a ∙ weak_through a.is_limited b.is_limited c.is_limited a.height b.height c.height (sym (above_is b a) ∙ e) (sym (above_is c b) ∙ f)
+
 -- ---- buffers
 
 -- by the height, or by which comes first where none is above the other
@@ -96,3 +114,100 @@ later_goes height x y e = by (is_higher (height x) (height y)) (is_higher (heigh
 
 pub earlier_goes : (height : Buffer → Height) (x y : Buffer) → is_before y x ≡ true → is_higher (height x) (height y) ≡ false → goes_before height y x ≡ true
 earlier_goes height x y e f = first_goes (is_higher (height y) (height x)) (is_higher (height x) (height y)) (is_before y x) f e
+
+-- ---- which come first
+
+-- a place comes before another
+data ComesBefore (f : FlowId) (p : ℕ) (g : FlowId) (q : ℕ) : Type 0 where
+  EarlierExchange : f.exchange < g.exchange → ComesBefore f p g q
+  ItsRequest : f.exchange ≡ g.exchange → f.back ≡ false → g.back ≡ true → ComesBefore f p g q
+  EarlierPlace : f.exchange ≡ g.exchange → f.back ≡ g.back → p < q → ComesBefore f p g q
+
+same_side : (a b : Bool) → (if a then b else not b) ≡ true → a ≡ b
+same_side true b e = sym e
+same_side false true e = absurd (false≢true e)
+same_side false false e = refl
+
+side_same : (a b : Bool) → a ≡ b → (if a then b else not b) ≡ true
+side_same true true e = refl
+side_same true false e = absurd (false≢true (sym e))
+side_same false true e = absurd (false≢true e)
+side_same false false e = refl
+
+by_parts : (less alike sides less_place : Bool) → less || (alike && (sides || less_place)) ≡ true → (less ≡ true) ⊎ ((alike ≡ true) × ((sides ≡ true) ⊎ (less_place ≡ true)))
+by_parts true alike sides less_place e = inl refl
+by_parts false true true less_place e = inr (refl, inl refl)
+by_parts false true false less_place e = inr (refl, inr e)
+by_parts false false sides less_place e = absurd (false≢true e)
+
+both_true : (a b : Bool) → a && b ≡ true → (a ≡ true) × (b ≡ true)
+both_true true b e = (refl, e)
+both_true false b e = absurd (false≢true e)
+
+request_is : (a b : Bool) → not a && b ≡ true → (a ≡ false) × (b ≡ true)
+request_is true b e = absurd (false≢true e)
+request_is false b e = (refl, e)
+
+before_is : (f g : FlowId) (p q : ℕ) → is_before (buffer.Place f p) (buffer.Place g q) ≡ true → ComesBefore f p g q
+before_is f g p q e = by (by_parts (nat_lt f.exchange g.exchange) (f.exchange == g.exchange) (not f.back && g.back) ((if f.back then g.back else not g.back) && nat_lt p q) e)
+  where
+    by : (nat_lt f.exchange g.exchange ≡ true) ⊎ (((f.exchange == g.exchange) ≡ true) × ((not f.back && g.back ≡ true) ⊎ ((if f.back then g.back else not g.back) && nat_lt p q ≡ true))) → ComesBefore f p g q
+    by (inl less) = EarlierExchange (ltb-true f.exchange g.exchange less)
+    by (inr (alike, inl sides)) = let r = request_is f.back g.back sides in ItsRequest (eqb-true f.exchange g.exchange alike) r.0 r.1
+    by (inr (alike, inr rest)) =
+        let r = both_true (if f.back then g.back else not g.back) (nat_lt p q) rest in
+        EarlierPlace (eqb-true f.exchange g.exchange alike) (same_side f.back g.back r.0) (ltb-true p q r.1)
+
+so_before : (f g : FlowId) (p q : ℕ) → ComesBefore f p g q → is_before (buffer.Place f p) (buffer.Place g q) ≡ true
+so_before f g p q (EarlierExchange less) = rw (lt-ltb f.exchange g.exchange less) refl
+so_before f g p q (ItsRequest alike here there) = by (nat_lt f.exchange g.exchange)
+  where
+    by : (b : Bool) → b || ((f.exchange == g.exchange) && ((not f.back && g.back) || ((if f.back then g.back else not g.back) && nat_lt p q))) ≡ true
+    by true = refl
+    by false = rw (eq-eqb f.exchange g.exchange alike, here, there) refl
+so_before f g p q (EarlierPlace alike sides less) = by (nat_lt f.exchange g.exchange) (not f.back && g.back)
+  where
+    by : (b c : Bool) → b || ((f.exchange == g.exchange) && (c || ((if f.back then g.back else not g.back) && nat_lt p q))) ≡ true
+    by true c = refl
+    by false true = rw (eq-eqb f.exchange g.exchange alike) refl
+    by false false = rw (eq-eqb f.exchange g.exchange alike, side_same f.back g.back sides, lt-ltb p q less) refl
+
+comes_through : (f g k : FlowId) (p q r : ℕ) → ComesBefore f p g q → ComesBefore g q k r → ComesBefore f p k r
+comes_through f g k p q r (EarlierExchange a) (EarlierExchange b) = EarlierExchange (omega (arith, a, b))
+comes_through f g k p q r (EarlierExchange a) (ItsRequest e h t) = EarlierExchange (omega (arith, a, e))
+comes_through f g k p q r (EarlierExchange a) (EarlierPlace e s b) = EarlierExchange (omega (arith, a, e))
+comes_through f g k p q r (ItsRequest e h t) (EarlierExchange b) = EarlierExchange (omega (arith, e, b))
+comes_through f g k p q r (ItsRequest e h t) (ItsRequest d i u) = absurd (false≢true (sym i ∙ t))
+comes_through f g k p q r (ItsRequest e h t) (EarlierPlace d s b) = ItsRequest (e ∙ d) h (sym s ∙ t)
+comes_through f g k p q r (EarlierPlace e s a) (EarlierExchange b) = EarlierExchange (omega (arith, e, b))
+comes_through f g k p q r (EarlierPlace e s a) (ItsRequest d i u) = ItsRequest (e ∙ d) (s ∙ i) u
+comes_through f g k p q r (EarlierPlace e s a) (EarlierPlace d t b) = EarlierPlace (e ∙ d) (s ∙ t) (omega (arith, a, b))
+
+before_through : (a b c : Buffer) → is_before a b ≡ true → is_before b c ≡ true → is_before a c ≡ true
+before_through (buffer.Place f p) (buffer.Place g q) (buffer.Place k r) e d = so_before f k p r (comes_through f g k p q r (before_is f g p q e) (before_is g k q r d))
+before_through (buffer.Place f p) b (buffer.Write c) e d = refl
+before_through (buffer.Place f p) (buffer.Write b) (buffer.Place k r) e d = absurd (false≢true d)
+before_through (buffer.Write a) (buffer.Place g q) c e d = absurd (false≢true e)
+before_through (buffer.Write a) (buffer.Write b) (buffer.Place k r) e d = absurd (false≢true d)
+before_through (buffer.Write a) (buffer.Write b) (buffer.Write c) e d = less_through c b a d e
+
+-- ---- which go before others
+
+pub goes_through : (height : Buffer → Height) (a b c : Buffer) → goes_before height a b ≡ true → goes_before height b c ≡ true → goes_before height a c ≡ true
+goes_through height a b c e d =
+    by (goes_by (is_higher x y) (is_higher y x) (is_before a b) e) (goes_by (is_higher y z) (is_higher z y) (is_before b c) d)
+  where
+    x : Height
+    x = height a
+
+    y : Height
+    y = height b
+
+    z : Height
+    z = height c
+
+    by : (is_higher x y ≡ true) ⊎ ((is_higher y x ≡ false) × (is_before a b ≡ true)) → (is_higher y z ≡ true) ⊎ ((is_higher z y ≡ false) × (is_before b c ≡ true)) → goes_before height a c ≡ true
+    by (inl h) (inl k) = higher_goes (is_higher x z) (is_higher z x) (is_before a c) (higher_through x y z h k)
+    by (inl h) (inr k) = higher_goes (is_higher x z) (is_higher z x) (is_before a c) (higher_weak x y z h k.0)
+    by (inr h) (inl k) = higher_goes (is_higher x z) (is_higher z x) (is_before a c) (weak_higher x y z h.0 k)
+    by (inr h) (inr k) = first_goes (is_higher x z) (is_higher z x) (is_before a c) (none_higher x y z h.0 k.0) (before_through a b c h.1 k.1)

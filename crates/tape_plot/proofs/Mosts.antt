@@ -53,19 +53,19 @@ before_within L first (step ∷ past) = by (nat_lt (turns (step ∷ past)) first
 
 changes_within : (L : History NoMark → ℕ) (first w j : ℕ) (h : History NoMark) → IsUpTo (most_from L first h) (changes L first w j h)
 changes_within L first w j [] = tt
-changes_within L first w j (step ∷ past) = by (nat_lt (turns (step ∷ past)) first) refl
+changes_within L first w j (step ∷ past) = by (nat_lt (turns (step ∷ past)) first) refl (changes_within L first w j past)
   where
-    by : (b : Bool) → nat_lt (turns (step ∷ past)) first ≡ b → IsUpTo (most_from L first (step ∷ past)) (changes L first w j (step ∷ past))
-    by true e = subst (IsUpTo (most_from L first (step ∷ past))) (sym (none_early L first w j (step ∷ past) (ltb-true _ _ e))) tt
-    by false e =
-        let top = max (most_from L first past) (L (step ∷ past)) in
+    by : (b : Bool) → nat_lt (turns (step ∷ past)) first ≡ b → IsUpTo (most_from L first past) (changes L first w j past) → IsUpTo (most_from L first (step ∷ past)) (changes L first w j (step ∷ past))
+    by true e within = subst (IsUpTo (most_from L first (step ∷ past))) (sym (none_early L first w j (step ∷ past) (ltb-true _ _ e))) tt
+    by false e within =
+        let top : ℕ = max (most_from L first past) (L (step ∷ past)) in
         subst (λ (v : ℕ). IsUpTo v (changes L first w j (step ∷ past))) (sym (ap (λ (b : Bool). if b then L (step ∷ past) else top) e))
-        (noted_up _ (changes L first w j past) (L (step ∷ past)) top (up_more (most_from L first past) top (changes L first w j past) (omega arith) (changes_within L first w j past)) (omega arith))
+        (noted_up _ (changes L first w j past) (L (step ∷ past)) top (up_more (most_from L first past) top (changes L first w j past) (omega arith) within) (omega arith))
 
 -- what bounds each column, and what was before the first, bounds the number
 most_bounded : (L : History NoMark → ℕ) (first w n : ℕ) (h : History NoMark) → before L first h ≤ n → ((j : ℕ) → IsUpTo n (changes L first w j h)) → most_from L first h ≤ n
 most_bounded L first w n [] le all = le
-most_bounded L first w n (step ∷ past) le all = by (nat_lt t first) refl
+most_bounded L first w n (step ∷ past) le all = by (nat_lt t first) refl (λ less. most_bounded L first w n past less behind)
   where
     t : ℕ
     t = turns (step ∷ past)
@@ -85,16 +85,16 @@ most_bounded L first w n (step ∷ past) le all = by (nat_lt t first) refl
         let j = (t - first) / w in
         up_here (changes L first w j past) v n (subst (λ (b : Bool). IsUpTo n (noted b (changes L first w j past) v)) (noted_now e f) (all j))
 
-    by : (b : Bool) → nat_lt t first ≡ b → most_from L first (step ∷ past) ≤ n
-    by true e =
+    by : (b : Bool) → nat_lt t first ≡ b → (before L first past ≤ n → most_from L first past ≤ n) → most_from L first (step ∷ past) ≤ n
+    by true e past_most =
         let is : before L first (step ∷ past) ≡ v = ap (λ (b : Bool). if b then v else before L first past) e in
         let most : most_from L first (step ∷ past) ≡ v = ap (λ (b : Bool). if b then v else max (most_from L first past) v) e in
         omega (arith, le, is, most)
-    by false e =
+    by false e past_most =
         let since : before L first (step ∷ past) ≡ before L first past = before_since L first step past (ltb-false t first e) in
-        let past_most : most_from L first past ≤ n = most_bounded L first w n past (omega (arith, le, since)) behind in
+        let was : most_from L first past ≤ n = past_most (omega (arith, le, since)) in
         let most : most_from L first (step ∷ past) ≡ max (most_from L first past) v = ap (λ (b : Bool). if b then v else max (most_from L first past) v) e in
-        omega (arith, past_most, here (v == L past) refl e past_most, most)
+        omega (arith, was, here (v == L past) refl e was, most)
 
 -- ---- the lane
 
@@ -104,11 +104,11 @@ base_within base (p ∷ ps) = omega (arith, base_within (max base p.high) ps)
 
 point_within : (base : ℕ) (ps : List Point) (j : ℕ) → IsUpTo (most_of base ps) (point_at ps j)
 point_within base [] j = tt
-point_within base (p ∷ ps) j = by (p.column == j)
+point_within base (p ∷ ps) j = by (p.column == j) (point_within (max base p.high) ps j)
   where
-    by : (b : Bool) → IsUpTo (most_of (max base p.high) ps) (if b then Some (span_of p) else point_at ps j)
-    by true = omega (arith, base_within (max base p.high) ps)
-    by false = point_within (max base p.high) ps j
+    by : (b : Bool) → IsUpTo (most_of (max base p.high) ps) (point_at ps j) → IsUpTo (most_of (max base p.high) ps) (if b then Some (span_of p) else point_at ps j)
+    by true rest = omega (arith, base_within (max base p.high) ps)
+    by false rest = rest
 
 most_up : (base n from to : ℕ) (ps : List Point) → Rise from ps to → base ≤ n → ((j : ℕ) → from ≤ j → IsUpTo n (point_at ps j)) → most_of base ps ≤ n
 most_up base n from to [] r le all = le

@@ -80,4 +80,4 @@ goes_before height a b = is_higher (height a) (height b) || (not (is_higher (hei
 -- each comes before all behind it
 abbrev pub AreInOrder : {A : Type 0} → (A → A → Bool) → List A → Type 0
 AreInOrder comes [] = Unit {0}
-AreInOrder comes (a ∷ as) = All (λ b. comes a b ≡ true) as × AreInOrder comes as
+AreInOrder comes (a ∷ rest) = All (λ b. comes a b ≡ true) rest × AreInOrder comes rest
