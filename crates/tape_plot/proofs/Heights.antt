@@ -211,3 +211,20 @@ goes_through height a b c e d =
     by (inl h) (inr k) = higher_goes (is_higher x z) (is_higher z x) (is_before a c) (higher_weak x y z h k.0)
     by (inr h) (inl k) = higher_goes (is_higher x z) (is_higher z x) (is_before a c) (weak_higher x y z h.0 k)
     by (inr h) (inr k) = first_goes (is_higher x z) (is_higher z x) (is_before a c) (none_higher x y z h.0 k.0) (before_through a b c h.1 k.1)
+
+never_before : (a : Buffer) → is_before a a ≡ true → ⊥
+never_before (buffer.Place f p) e = by (before_is f f p p e)
+  where
+    by : ComesBefore f p f p → ⊥
+    by (EarlierExchange less) = omega (arith, less)
+    by (ItsRequest same here there) = false≢true (sym here ∙ there)
+    by (EarlierPlace same sides less) = omega (arith, less)
+never_before (buffer.Write c) e = omega (arith, ltb-true c c e)
+
+-- what comes behind doesn't come before
+pub before_flips : (a b : Buffer) → is_before a b ≡ true → is_before b a ≡ false
+before_flips a b e = by (is_before b a) refl
+  where
+    by : (c : Bool) → is_before b a ≡ c → is_before b a ≡ false
+    by true d = absurd (never_before a (before_through a b a e d))
+    by false d = d

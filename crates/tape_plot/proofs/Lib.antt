@@ -13,7 +13,9 @@ pub mod Mosts
 pub mod Passing
 pub mod Pathing
 pub mod Picturing
+pub mod Placing
 pub mod Points
+pub mod Ranks
 pub mod Sayings
 pub mod Standing
 pub mod Stands

@@ -2,8 +2,9 @@
 use Rattle.flow_gate.specs.Ids.{same_buffer}
 use Rattle.flow_gate.specs.declared.ids.BufferId.{BufferId}
 use Rattle.flow_gate.specs.declared.ids.FlowId.{FlowId}
+use Rattle.std.specs.List.{Contains}
 use Rattle.std.specs.Option.{option_map_or, option_or}
-use Rattle.std.specs.Prelude.{All, Bool, List, None, Option, Some, [], false, if◌then◌else◌, length, max, min, nat_lt, not, true, ℕ, ◌&&◌, ◌*◌, ◌+◌, ◌-◌, ◌/◌, ◌==◌, ◌^◌, ◌||◌, ◌∷◌, ◌≡◌}
+use Rattle.std.specs.Prelude.{All, Bool, List, None, Option, Some, [], false, if◌then◌else◌, length, max, min, nat_lt, not, true, ℕ, ◌&&◌, ◌*◌, ◌+◌, ◌-◌, ◌/◌, ◌==◌, ◌^◌, ◌||◌, ◌∷◌, ◌≡◌, ◌≤◌, ◌⊎◌}
 use Rattle.tape_laws.specs.Dispatches.{turns}
 use Rattle.tape_laws.specs.History.{History, NoMark}
 use Rattle.tape_plot.specs.Levels.{at, places, written}
@@ -81,3 +82,12 @@ goes_before height a b = is_higher (height a) (height b) || (not (is_higher (hei
 abbrev pub AreInOrder : {A : Type 0} → (A → A → Bool) → List A → Type 0
 AreInOrder comes [] = Unit {0}
 AreInOrder comes (a ∷ rest) = All (λ b. comes a b ≡ true) rest × AreInOrder comes rest
+
+-- 40 of the buffers that were filled are picked, or all of them where there aren't more, the highest first; and each other one comes
+-- behind all of these.
+pub record ArePicked (height : Buffer → Height) (WasFilled : Buffer → Type 0) (picked : List Buffer) : Type 0 where
+  pub few : length picked ≤ 40
+  pub enough : (length picked ≡ 40) ⊎ ((b : Buffer) → WasFilled b → Contains picked b)
+  pub filled : All WasFilled picked
+  pub order : AreInOrder (goes_before height) picked
+  pub others : (b : Buffer) → WasFilled b → Contains picked b ⊎ All (λ a. goes_before height a b ≡ true) picked

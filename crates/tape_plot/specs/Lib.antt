@@ -10,6 +10,7 @@ pub mod Lines
 pub mod Path
 pub mod Picks
 pub mod Pictures
+pub mod Ranking
 pub mod Reading
 pub mod Reads
 pub mod Said

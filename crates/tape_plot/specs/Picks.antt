@@ -1,18 +1,18 @@
 -- Which buffers are picked of what is kept of a tape.
 use Rattle.flow_gate.specs.declared.ids.FlowId.{FlowId}
 use Rattle.std.specs.BTreeMap.{get}
-use Rattle.std.specs.List.{Contains, list_any}
+use Rattle.std.specs.List.{Contains}
 use Rattle.std.specs.Option.{option_map_or}
 use Rattle.std.specs.Ordering.{nat_cmp}
-use Rattle.std.specs.Prelude.{All, Bool, List, None, Option, Some, [], if◌then◌else◌, length, map, true, ℕ, ◌<◌, ◌∷◌, ◌≡◌, ◌≤◌, ◌⊎◌}
-use Rattle.tape_plot.specs.Highest.{AreInOrder, against, goes_before, is_higher}
+use Rattle.std.specs.Prelude.{Bool, List, None, Option, Some, length, map, ℕ, ◌<◌, ◌≡◌, ◌⊎◌}
+use Rattle.tape_plot.specs.Highest.{ArePicked, against}
 use Rattle.tape_plot.specs.Lanes.{Drawn, most_of}
 use Rattle.tape_plot.specs.Limits.{limit_at, place_limit_at}
+use Rattle.tape_plot.specs.Ranking.{ranked_in}
 use Rattle.tape_plot.specs.Shown.{AsksFor}
 use Rattle.tape_plot.specs.Standing.{flow_of, place_lane, write_lane}
 use Rattle.tape_plot.specs.declared.buffer.Buffer.{Buffer}
 use Rattle.tape_plot.specs.declared.draw.pick.Pick.{Pick}
-use Rattle.tape_plot.specs.declared.draw.pick.Ranked.{Ranked}
 use Rattle.tape_plot.specs.declared.exchange.Exchange.{Exchange}
 use Rattle.tape_plot.specs.declared.height.Height.{Height}
 use Rattle.tape_plot.specs.declared.levels.Levels.{Levels}
@@ -44,21 +44,12 @@ height_kept levels limits b = against (option_map_or (λ n. n) (limit_kept b lev
 
 -- ---- the highest
 
--- a buffer is put behind all that it isn't above
-abbrev pub puts : Ranked → List Ranked → List Ranked
-puts next [] = next ∷ []
-puts next (r ∷ rs) = if is_higher next.height r.height then next ∷ r ∷ rs else r ∷ puts next rs
-
 abbrev pub buffers_of : Pick → List Buffer
-buffers_of pick = map (λ r. r.buffer) pick.highest.items
+buffers_of pick = map (λ r. r.buffer) (ranked_in pick.highest)
 
--- at most 40 in order, or all that held an octet; each other one comes behind them
-pub record RankedIn (levels : Levels) (limits : Limits) (pick : Pick) : Type 0 where
-  pub few : length (buffers_of pick) ≤ 40
-  pub enough : (length (buffers_of pick) ≡ 40) ⊎ ((b : Buffer) → 0 < top_in b levels → Contains (buffers_of pick) b)
-  pub filled : All (λ b. 0 < top_in b levels) (buffers_of pick)
-  pub order : AreInOrder (goes_before (height_kept levels limits)) (buffers_of pick)
-  pub others : (b : Buffer) → 0 < top_in b levels → Contains (buffers_of pick) b ⊎ All (λ a. goes_before (height_kept levels limits) a b ≡ true) (buffers_of pick)
+-- where none are named, the highest of what is kept are picked
+abbrev pub RankedIn : Levels → Limits → Pick → Type 0
+RankedIn levels limits pick = pick.lanes ≡ lanes.Highest → ArePicked (height_kept levels limits) (λ b. 0 < top_in b levels) (buffers_of pick)
 
 -- what a pick takes: what the choice asks for, or the highest
 abbrev pub IsPicked : Pick → Buffer → Type 0

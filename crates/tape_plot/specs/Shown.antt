@@ -1,10 +1,9 @@
 -- Which lines a picture has.
 use Rattle.flow_gate.specs.declared.ids.FlowId.{FlowId}
-use Rattle.std.specs.List.{Contains}
-use Rattle.std.specs.Prelude.{All, List, Some, length, true, ℕ, ◌++◌, ◌<◌, ◌≡◌, ◌≤◌, ◌⊎◌}
+use Rattle.std.specs.Prelude.{All, List, Some, ℕ, ◌++◌, ◌<◌, ◌≡◌, ◌⊎◌}
 use Rattle.tape_laws.specs.Dispatches.{turns}
 use Rattle.tape_laws.specs.History.{History, NoMark}
-use Rattle.tape_plot.specs.Highest.{AreInOrder, goes_before, height_in, held_in, limit_of, most_from}
+use Rattle.tape_plot.specs.Highest.{ArePicked, height_in, held_in, limit_of, most_from}
 use Rattle.tape_plot.specs.Lanes.{Drawn, LaneIs, most_of}
 use Rattle.tape_plot.specs.Path.{path_text}
 use Rattle.tape_plot.specs.Said.{Said}
@@ -49,16 +48,11 @@ pub record Shows (text : List ℕ) (b : Buffer) (first : ℕ) (h : History NoMar
 abbrev pub WasFilled : ℕ → History NoMark → Buffer → Type 0
 WasFilled first h b = 0 < most_from (held_in b) first h
 
--- Where none are named: 40 of the buffers that held an octet are drawn, or all of them where there aren't more, the highest first; and
--- each other one comes behind all of these.
+-- Where none are named: the highest of the buffers that held an octet are drawn.
 pub record ShowsHighest (text : List ℕ) (first : ℕ) (h : History NoMark) (said : List Said) : Type 0 where
   pub picked : List Buffer
-  pub few : length picked ≤ 40
-  pub enough : (length picked ≡ 40) ⊎ ((b : Buffer) → WasFilled first h b → Contains picked b)
-  pub filled : All (WasFilled first h) picked
-  pub shown : All (λ a. Shows text a first h said) picked
-  pub order : AreInOrder (goes_before (λ d. height_in d first h said)) picked
-  pub others : (b : Buffer) → WasFilled first h b → Contains picked b ⊎ All (λ a. goes_before (λ d. height_in d first h said) a b ≡ true) picked
+  pub are : ArePicked (λ b. height_in b first h said) (WasFilled first h) picked
+  pub shown : All (λ b. Shows text b first h said) picked
 
 -- what a picture shows by a choice
 pub record ShowsBuffers (text : List ℕ) (choice : Lanes) (first : ℕ) (h : History NoMark) (said : List Said) : Type 0 where

@@ -11,6 +11,7 @@ mod exchange;
 mod exchanges;
 mod flow;
 mod height;
+mod highest;
 mod held;
 mod lane;
 mod laws;

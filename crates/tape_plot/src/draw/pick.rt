@@ -1,39 +1,32 @@
 // Which lanes are drawn.
-ghost use Rattle.std.specs.Prelude.{◌≡◌, IfOk, OnOk, take, true};
-ghost use Rattle.tape_plot.specs.Picks.{IsPicked, RankedIn, puts};
+ghost use Rattle.std.specs.Prelude.{◌≡◌, IfOk, true};
+ghost use Rattle.tape_plot.specs.Picks.{IsPicked, RankedIn};
 
 use crate::buffer::Buffer;
 use crate::choice::Lanes;
 use crate::exchange::Exchange;
 use crate::flow::{Flow, Place};
 use crate::height::Height;
+use crate::highest::{HIGHEST, Highest, Ranked};
 use crate::levels::Levels;
 use crate::limits::Limits;
 use flow_gate::FlowId;
 use io_ports::NoMemory;
 use std::alloc::Global;
 
-/// How many lanes are drawn where none are named.
-const HIGHEST: usize = 40;
-
-/// A buffer that held an octet, and how high it was.
-#[derive(Clone, Copy)]
-pub struct Ranked {
-    buffer: Buffer,
-    height: Height,
-}
-
 /// Which lanes are drawn: those that are named, or the highest.
 #[derive(Drop)]
 pub struct Pick {
     lanes: Lanes,
-    /// The highest, in order, where none are named.
-    highest: Vec<Ranked>,
+    highest: Highest,
     /// How many buffers ever held an octet.
     pub buffers: u64,
 }
 
 impl Pick {
+    ghost use Rattle.std.specs.Prelude.{◌≡◌, IfOk, true};
+    ghost use Rattle.tape_plot.specs.Picks.{IsPicked, RankedIn};
+
     /// What is picked of these by a choice.
     pub fn new(
         alloc: Global,
@@ -46,7 +39,7 @@ impl Pick {
     {
         let mut pick = Pick {
             lanes,
-            highest: Vec::new(alloc),
+            highest: Highest::new(alloc),
             buffers: 0,
         };
         for (number, exchange) in levels.exchanges.items.iter() {
@@ -82,7 +75,7 @@ impl Pick {
     }
 
     fn is_high(&self, buffer: Buffer) -> bool {
-        self.highest.iter().any(|ranked| ranked.buffer == buffer)
+        self.highest.has(buffer)
     }
 
     fn put_exchange(
@@ -122,25 +115,6 @@ impl Pick {
         }
         self.buffers = self.buffers.saturating_add(1);
         let height = Height::new(most, u64::from(limit.unwrap_or(0)));
-        put_ranked(&mut self.highest, Ranked { buffer, height })
+        self.highest.put(Ranked { buffer, height })
     }
-}
-
-// Puts a buffer behind all that it isn't above, and keeps the first.
-fn put_ranked(highest: &mut Vec<Ranked>, next: Ranked) -> Result<(), NoMemory>
-    ensures { OnOk result (highest.new.items ≡ take 40 (puts next highest.old.items)) }
-{
-    let place = place_of(highest.as_slice(), next);
-    highest.insert(place, next)?;
-    highest.truncate(HIGHEST);
-    Ok(())
-}
-
-// How many stand before the first that it is above.
-fn place_of(highest: &[Ranked], next: Ranked) -> usize {
-    let mut place = 0;
-    while place < highest.len() && !next.height.is_above(highest[place].height) {
-        place += 1;
-    }
-    place
 }
