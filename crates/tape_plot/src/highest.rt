@@ -52,7 +52,14 @@ impl Highest {
     pub fn has(&self, buffer: Buffer) -> bool
         ensures { Contains (map (λ r. r.buffer) (ranked_in self.now)) buffer → result ≡ true }
     {
-        self.items.iter().any(|ranked| ranked.buffer == buffer)
+        let mut rest = self.items.as_slice();
+        while let Some((ranked, after)) = rest.split_first() {
+            if ranked.buffer == buffer {
+                return true;
+            }
+            rest = after;
+        }
+        false
     }
 }
 
