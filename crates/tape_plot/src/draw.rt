@@ -33,7 +33,7 @@ pub fn draw(alloc: Global, plot: &mut Plot, part: Part, lanes: Lanes) -> Result<
     ensures { IfOk result (λ text. LevelsDrawn (Within text) plot.old.clock.first (min plot.old.clock.turn plot.old.clock.last) lanes plot.old.levels) }
 {
     plot.fit_marks()?;
-    let pick = Pick::new(alloc, &plot.levels, lanes)?;
+    let pick = Pick::new(alloc, &plot.levels, &plot.limits, lanes)?;
     let rows = put_rows(alloc, plot, &pick)?;
     let mut text = Octets::new(alloc);
     put_head(
@@ -57,6 +57,6 @@ fn put_rows(alloc: Global, plot: &Plot, pick: &Pick) -> Result<Rows, NoMemory>
 {
     let mut rows = Rows::new(alloc, Frame::new(&plot.clock));
     rows.put_events(plot)?;
-    rows.put_levels(&plot.levels, pick)?;
+    rows.put_levels(&plot.levels, &plot.limits, pick)?;
     Ok(rows)
 }

@@ -10,11 +10,10 @@ use flow_notes::Note;
 use io_ports::NoMemory;
 use std::alloc::Global;
 
-/// A buffer's lane, with the limit that the summary tells.
+/// A buffer's lane.
 #[derive(Drop)]
 pub struct Place {
     pub lane: Lane,
-    pub limit: Option<u32>,
 }
 
 impl Place {
@@ -27,7 +26,6 @@ impl Place {
     {
         Place {
             lane: Lane::new(alloc),
-            limit: None,
         }
     }
 }
@@ -42,7 +40,7 @@ pub struct Flow {
     resumes: u64,
     /// It is given up, and its count is drawn no further.
     is_doomed: bool,
-    /// Its last place is its send buffer, as a note or the summary told.
+    /// Its last place is its send buffer, as a note told.
     pub sends: bool,
 }
 
@@ -173,39 +171,6 @@ impl Flow {
         ensures { FlowStays self.old self.new }
     {
         if matches!(buffer, BufferId::Send(_)) {
-            self.sends = true;
-        }
-    }
-
-    /// The summary tells the limit of one of its buffers.
-    pub fn limit(&mut self, buffer: BufferId, limit: u32)
-        ensures { FlowStays self.old self.new }
-    {
-        match buffer {
-            BufferId::Write(_) => {}
-            BufferId::Recv(_) => self.limit_place(0, limit),
-            BufferId::Stage(_, i) => self.limit_place(i, limit),
-            BufferId::Send(_) => self.limit_send(limit),
-        }
-    }
-
-    // The limit of a place.
-    fn limit_place(&mut self, place: u32, limit: u32)
-        ensures { FlowStays self.old self.new }
-    {
-        let place = place as usize;
-        if place < self.places.len() {
-            self.places[place].limit = Some(limit);
-        }
-    }
-
-    // The limit of the send buffer: the last place, unless that is the receive buffer or a stage.
-    fn limit_send(&mut self, limit: u32)
-        ensures { FlowStays self.old self.new }
-    {
-        let places = self.places.len();
-        if places > 1 && self.places[places - 1].limit.is_none() {
-            self.places[places - 1].limit = Some(limit);
             self.sends = true;
         }
     }

@@ -1,6 +1,7 @@
 // What is drawn of a tape, kept note by note.
 use crate::clock::Clock;
 use crate::levels::Levels;
+use crate::limits::Limits;
 use crate::mark::{Mark, Marks};
 use flow_gate::BufferId;
 use flow_notes::Note;
@@ -12,6 +13,7 @@ use std::alloc::Global;
 pub struct Plot {
     pub clock: Clock,
     pub levels: Levels,
+    pub limits: Limits,
     /// What began each dispatch.
     pub turns: Marks,
     pub dooms: Marks,
@@ -31,6 +33,7 @@ impl Plot {
         Plot {
             clock: Clock::new(first, last),
             levels: Levels::new(alloc),
+            limits: Limits::new(alloc),
             turns: Marks::new(alloc),
             dooms: Marks::new(alloc),
             closes: Marks::new(alloc),
@@ -76,10 +79,11 @@ impl Plot {
     }
 
     /// The summary tells the limit of a buffer.
-    pub fn limit(&mut self, buffer: BufferId, limit: u32)
-        ensures { PlotStays self.old self.new }
+    pub fn limit(&mut self, buffer: BufferId, limit: u32) -> Result<(), NoMemory>
+        ensures stays { OnOk result (PlotStays self.old self.new) }
+        ensures tells { OnOk result (TellsLimit self.old.limits buffer limit self.new.limits) }
     {
-        self.levels.limit(buffer, limit);
+        self.limits.tell(buffer, limit)
     }
 
     /// All marks are brought to the columns of the clock.

@@ -187,7 +187,7 @@ fn take_report(alloc: Global, plot: &mut Plot, line: &[u8]) -> Result<Part, Stop
     };
     match report {
         Line::Peak { buffer, limit, .. } => {
-            plot.limit(buffer, limit);
+            plot.limit(buffer, limit)?;
             Ok(Part::Summary)
         }
         Line::Paused { .. } => Ok(Part::Summary),

@@ -1,7 +1,6 @@
 // Which buffer a lane is of, in words.
 use super::frame::WORDS;
 use super::put::{end_text, open_text};
-use crate::flow::Place;
 use flow_gate::FlowId;
 use io_ports::{NoMemory, Octets};
 use tape_summary::{put_behind, put_flow};
@@ -19,7 +18,7 @@ pub enum Name {
 
 impl Name {
     /// Which buffer a place of a flow is, of so many, the last of which is its send buffer where `sends` says so.
-    pub fn of_place(flow: FlowId, i: u64, end: u64, sends: bool, place: &Place) -> Self {
+    pub fn of_place(flow: FlowId, i: u64, end: u64, sends: bool, limit: Option<u32>) -> Self {
         if i == 0 {
             return Name::Recv(flow);
         }
@@ -29,7 +28,7 @@ impl Name {
         if sends {
             return Name::Send(flow);
         }
-        match place.limit {
+        match limit {
             Some(_) => Name::Stage(flow, i),
             None => Name::Place(flow, i),
         }

@@ -1,69 +1,67 @@
 // Which lanes are drawn.
 ghost use Rattle.std.specs.Prelude.{◌≡◌, IfOk, true};
-ghost use Rattle.tape_plot.specs.Shown.{AsksFlow, AsksWrite};
+ghost use Rattle.tape_plot.specs.Picks.{IsPicked, RankedIn};
 
+use crate::buffer::Buffer;
 use crate::choice::Lanes;
 use crate::exchange::Exchange;
 use crate::flow::{Flow, Place};
+use crate::height::Height;
+use crate::highest::{HIGHEST, Highest, Ranked};
 use crate::levels::Levels;
-use crate::rank::Rank;
+use crate::limits::Limits;
 use flow_gate::FlowId;
 use io_ports::NoMemory;
 use std::alloc::Global;
 
-/// How many lanes are drawn where none are named.
-const HIGHEST: usize = 40;
-
-/// Which lanes are drawn: those that are named, or those of at least this rank.
-#[derive(Clone, Copy)]
+/// Which lanes are drawn: those that are named, or the highest.
+#[derive(Drop)]
 pub struct Pick {
     lanes: Lanes,
-    least: Option<Rank>,
+    highest: Highest,
     /// How many buffers ever held an octet.
     pub buffers: u64,
 }
 
 impl Pick {
     ghost use Rattle.std.specs.Prelude.{◌≡◌, IfOk, true};
-    ghost use Rattle.tape_plot.specs.Shown.{AsksFlow, AsksWrite};
+    ghost use Rattle.tape_plot.specs.Picks.{IsPicked, RankedIn};
 
     /// What is picked of these by a choice.
-    pub fn new(alloc: Global, levels: &Levels, lanes: Lanes) -> Result<Self, NoMemory>
-        ensures { IfOk result (λ pick. pick.lanes ≡ lanes) }
+    pub fn new(
+        alloc: Global,
+        levels: &Levels,
+        limits: &Limits,
+        lanes: Lanes,
+    ) -> Result<Self, NoMemory>
+        ensures lanes { IfOk result (λ pick. pick.lanes ≡ lanes) }
+        ensures ranked { IfOk result (RankedIn levels.now limits.now) }
     {
-        let ranks = ranks_of(alloc, levels)?;
-        let buffers = ranks.len() as u64;
-        let least = if lanes == Lanes::Highest {
-            least_of(ranks)?
-        } else {
-            None
-        };
-        Ok(Pick {
+        let mut pick = Pick {
             lanes,
-            least,
-            buffers,
-        })
-    }
-
-    /// Whether this buffer of a flow, with so many before it, is drawn.
-    pub fn takes_place(&self, flow: FlowId, place: &Place, number: u64) -> bool
-        ensures { AsksFlow self.now.lanes flow → result ≡ true }
-    {
-        match self.lanes {
-            Lanes::Highest => self.takes(place, number),
-            Lanes::All => true,
-            Lanes::Named { flow: named, .. } => named == Some(flow),
+            highest: Highest::new(alloc),
+            buffers: 0,
+        };
+        for (number, exchange) in levels.exchanges.items.iter() {
+            pick.put_exchange(*number, exchange, limits)?;
         }
+        for (conn, connection) in levels.connections.items.iter() {
+            pick.put(Buffer::Write(*conn), &connection.write, limits.of_write(*conn))?;
+        }
+        Ok(pick)
     }
 
-    /// Whether this connection's write buffer, with so many before it, is drawn.
-    pub fn takes_write(&self, conn: u32, place: &Place, number: u64) -> bool
-        ensures { AsksWrite self.now.lanes conn → result ≡ true }
+    /// Whether the lane of a buffer is drawn.
+    pub fn takes(&self, buffer: Buffer) -> bool
+        ensures { IsPicked self.now buffer → result ≡ true }
     {
         match self.lanes {
-            Lanes::Highest => self.takes(place, number),
+            Lanes::Highest => self.is_high(buffer),
             Lanes::All => true,
-            Lanes::Named { conn: named, .. } => named == Some(conn),
+            Lanes::Named { flow, conn } => match buffer {
+                Buffer::Place(id, _) => flow == Some(id),
+                Buffer::Write(id) => conn == Some(id),
+            },
         }
     }
 
@@ -76,53 +74,47 @@ impl Pick {
         }
     }
 
-    fn takes(&self, place: &Place, number: u64) -> bool {
-        match self.least {
-            Some(least) => Rank::new(place, number) >= least,
-            None => true,
+    fn is_high(&self, buffer: Buffer) -> bool {
+        self.highest.has(buffer)
+    }
+
+    fn put_exchange(
+        &mut self,
+        number: u64,
+        exchange: &Exchange,
+        limits: &Limits,
+    ) -> Result<(), NoMemory> {
+        let request = FlowId {
+            exchange: number,
+            back: false,
+        };
+        let response = FlowId {
+            exchange: number,
+            back: true,
+        };
+        self.put_flow(request, &exchange.request, limits)?;
+        self.put_flow(response, &exchange.response, limits)
+    }
+
+    fn put_flow(&mut self, id: FlowId, flow: &Flow, limits: &Limits) -> Result<(), NoMemory> {
+        let count = flow.places.len() as u64;
+        let mut i = 0u64;
+        for place in flow.places.as_slice() {
+            let limit = limits.of_place(id, i, count);
+            self.put(Buffer::Place(id, i), place, limit)?;
+            i = i.saturating_add(1);
         }
+        Ok(())
     }
-}
 
-// The ranks of all buffers that ever held an octet.
-fn ranks_of(alloc: Global, levels: &Levels) -> Result<Vec<Rank>, NoMemory> {
-    let mut ranks = Vec::new(alloc);
-    for exchange in levels.exchanges.items.values() {
-        put_exchange(&mut ranks, exchange)?;
-    }
-    for connection in levels.connections.items.values() {
-        put_rank(&mut ranks, &connection.write)?;
-    }
-    Ok(ranks)
-}
-
-fn put_exchange(ranks: &mut Vec<Rank>, exchange: &Exchange) -> Result<(), NoMemory> {
-    put_flow(ranks, &exchange.request)?;
-    put_flow(ranks, &exchange.response)
-}
-
-fn put_flow(ranks: &mut Vec<Rank>, flow: &Flow) -> Result<(), NoMemory> {
-    for place in flow.places.as_slice() {
-        put_rank(ranks, place)?;
-    }
-    Ok(())
-}
-
-// Appends the rank of a buffer, if it ever held an octet.
-fn put_rank(ranks: &mut Vec<Rank>, place: &Place) -> Result<(), NoMemory> {
-    if place.lane.most() > 0 {
-        let rank = Rank::new(place, ranks.len() as u64);
-        ranks.push(rank)?;
-    }
-    Ok(())
-}
-
-// The least of the highest ranks, where there are more.
-fn least_of(ranks: Vec<Rank>) -> Result<Option<Rank>, NoMemory> {
-    let mut ranks = ranks;
-    ranks.sort()?;
-    match ranks.len().checked_sub(HIGHEST) {
-        Some(n) => Ok(ranks.get(n).copied()),
-        None => Ok(None),
+    // A buffer that ever held an octet is put where it belongs, and kept if that is one of the first.
+    fn put(&mut self, buffer: Buffer, place: &Place, limit: Option<u32>) -> Result<(), NoMemory> {
+        let most = place.lane.most();
+        if most == 0 {
+            return Ok(());
+        }
+        self.buffers = self.buffers.saturating_add(1);
+        let height = Height::new(most, u64::from(limit.unwrap_or(0)));
+        self.highest.put(Ranked { buffer, height })
     }
 }

@@ -18,7 +18,9 @@ use crate::exchange::Exchange;
 use crate::exchanges::Exchanges;
 use crate::flow::Place;
 use crate::lane::Lane;
+use crate::buffer::Buffer;
 use crate::levels::Levels;
+use crate::limits::Limits;
 use crate::mark::{Mark, Marks};
 use crate::plot::Plot;
 use flow_gate::FlowId;
@@ -31,8 +33,6 @@ pub struct Rows {
     pub sheet: Sheet,
     /// Where the next row begins.
     pub y: u64,
-    /// How many buffers that ever held an octet came so far.
-    buffers: u64,
     /// How many lanes are drawn.
     pub lanes: u64,
     /// How many bars are drawn.
@@ -54,7 +54,6 @@ impl Rows {
         Rows {
             sheet: Sheet::new(alloc, frame),
             y: AXIS + 10,
-            buffers: 0,
             lanes: 0,
             bars: 0,
         }
@@ -84,45 +83,46 @@ impl Rows {
     }
 
     /// The lanes that are picked, of flows with their bars and then of connections.
-    pub fn put_levels(&mut self, levels: &Levels, pick: &Pick) -> Result<(), NoMemory>
+    pub fn put_levels(&mut self, levels: &Levels, limits: &Limits, pick: &Pick) -> Result<(), NoMemory>
         ensures { OnOk result (LevelsDrawn (Contains self.new.sheet.pieces.items) self.old.sheet.frame.first self.old.sheet.frame.end pick.now.lanes levels.now) }
     {
-        self.put_exchanges(&levels.exchanges, pick)?;
-        self.put_connections(&levels.connections, pick)
+        self.put_exchanges(&levels.exchanges, limits, pick)?;
+        self.put_connections(&levels.connections, limits, pick)
     }
 
-    fn put_exchanges(&mut self, exchanges: &Exchanges, pick: &Pick) -> Result<(), NoMemory>
+    fn put_exchanges(&mut self, exchanges: &Exchanges, limits: &Limits, pick: &Pick) -> Result<(), NoMemory>
         ensures grows { OnOk result (Grows self.old.sheet self.new.sheet) }
         ensures drawn { OnOk result (All (λ e. ExchangeDrawn self.new.sheet pick.now.lanes e.0 e.1) exchanges.now.items.entries) }
     {
         for (number, exchange) in exchanges.items.iter() {
-            self.put_exchange(*number, exchange, pick)?;
+            self.put_exchange(*number, exchange, limits, pick)?;
         }
         Ok(())
     }
 
-    fn put_connections(&mut self, connections: &Connections, pick: &Pick) -> Result<(), NoMemory>
+    fn put_connections(&mut self, connections: &Connections, limits: &Limits, pick: &Pick) -> Result<(), NoMemory>
         ensures grows { OnOk result (Grows self.old.sheet self.new.sheet) }
         ensures drawn { OnOk result (All (λ e. WriteDrawn self.new.sheet pick.now.lanes e.0 e.1) connections.now.items.entries) }
     {
         for (conn, connection) in connections.items.iter() {
-            self.put_write(*conn, &connection.write, pick)?;
+            self.put_write(*conn, &connection.write, limits, pick)?;
         }
         Ok(())
     }
 
-    fn put_write(&mut self, conn: u32, write: &Place, pick: &Pick) -> Result<(), NoMemory>
+    fn put_write(&mut self, conn: u32, write: &Place, limits: &Limits, pick: &Pick) -> Result<(), NoMemory>
         ensures grows { OnOk result (Grows self.old.sheet self.new.sheet) }
         ensures drawn { OnOk result (AsksWrite pick.now.lanes conn → Has self.new.sheet (drawn_of write.now.lane)) }
     {
-        let is_picked = pick.takes_write(conn, write, self.buffers);
-        self.put_place(Name::Write(conn), write, is_picked)
+        let is_picked = pick.takes(Buffer::Write(conn));
+        self.put_place(Name::Write(conn), write, limits.of_write(conn), is_picked)
     }
 
     fn put_exchange(
         &mut self,
         number: u64,
         exchange: &Exchange,
+        limits: &Limits,
         pick: &Pick,
     ) -> Result<(), NoMemory>
         ensures grows { OnOk result (Grows self.old.sheet self.new.sheet) }
@@ -136,18 +136,18 @@ impl Rows {
             exchange: number,
             back: true,
         };
-        self.put_flow(request, exchange, pick)?;
-        self.put_flow(response, exchange, pick)
+        self.put_flow(request, exchange, limits, pick)?;
+        self.put_flow(response, exchange, limits, pick)
     }
 
     // The lanes of a flow of an exchange, and its bar.
-    fn put_flow(&mut self, id: FlowId, exchange: &Exchange, pick: &Pick) -> Result<(), NoMemory>
+    fn put_flow(&mut self, id: FlowId, exchange: &Exchange, limits: &Limits, pick: &Pick) -> Result<(), NoMemory>
         ensures grows { OnOk result (Grows self.old.sheet self.new.sheet) }
         ensures drawn { OnOk result (FlowDrawn self.new.sheet pick.now.lanes id exchange.now) }
     {
         let before = self.lanes;
         let flow = exchange.flow(id.back);
-        self.put_places(id, flow.places.as_slice(), flow.sends, pick)?;
+        self.put_places(id, flow.places.as_slice(), flow.sends, limits, pick)?;
         let is_paused = exchange.relay.is_some() && flow.count.most() > 0;
         if self.lanes > before || is_paused && pick.takes_bar(id, self.bars) {
             return self.put_count(id, &flow.count, exchange.doom.as_ref());
@@ -160,17 +160,20 @@ impl Rows {
         id: FlowId,
         places: &[Place],
         sends: bool,
+        limits: &Limits,
         pick: &Pick,
     ) -> Result<(), NoMemory>
         ensures grows { OnOk result (Grows self.old.sheet self.new.sheet) }
         ensures drawn { OnOk result (AsksFlow pick.now.lanes id → All (λ p. Has self.new.sheet (drawn_of p.lane)) places.now) }
     {
         let end = places.len() as u64;
+        let sends = sends || end > 1 && limits.is_send(id, end);
         let mut i = 0u64;
         for place in places {
-            let name = Name::of_place(id, i, end, sends, place);
-            let is_picked = pick.takes_place(id, place, self.buffers);
-            self.put_place(name, place, is_picked)?;
+            let limit = limits.of_place(id, i, end);
+            let name = Name::of_place(id, i, end, sends, limit);
+            let is_picked = pick.takes(Buffer::Place(id, i));
+            self.put_place(name, place, limit, is_picked)?;
             i = i.saturating_add(1);
         }
         Ok(())
@@ -191,20 +194,22 @@ impl Rows {
     }
 
     // The lane of a buffer that ever held an octet.
-    fn put_place(&mut self, name: Name, place: &Place, is_picked: bool) -> Result<(), NoMemory>
+    fn put_place(
+        &mut self,
+        name: Name,
+        place: &Place,
+        limit: Option<u32>,
+        is_picked: bool,
+    ) -> Result<(), NoMemory>
         ensures grows { OnOk result (Grows self.old.sheet self.new.sheet) }
         ensures drawn { OnOk result (is_picked ≡ true → Has self.new.sheet (drawn_of place.now.lane)) }
     {
-        if place.lane.most() == 0 {
-            return Ok(());
-        }
-        self.buffers = self.buffers.saturating_add(1);
-        if !is_picked {
+        if place.lane.most() == 0 || !is_picked {
             return Ok(());
         }
         self.lanes = self.lanes.saturating_add(1);
         let lane = place.lane.fitted(self.sheet.frame.width)?;
-        self.put_lane(name, &lane, place.limit)
+        self.put_lane(name, &lane, limit)
     }
 
     fn put_lane(&mut self, name: Name, lane: &Lane, limit: Option<u32>) -> Result<(), NoMemory>
