@@ -208,10 +208,6 @@ levels_on P Q first end lanes levels on d = record {
 pub levels_at : (P : List ℕ → Type 0) (a b first end : ℕ) (lanes : Lanes) (levels : Levels) → a ≡ first → b ≡ end → LevelsDrawn P a b lanes levels → LevelsDrawn P first end lanes levels
 levels_at P a b first end lanes levels e f d = subst (λ (v : ℕ). LevelsDrawn P first v lanes levels) f (subst (λ (v : ℕ). LevelsDrawn P v b lanes levels) e d)
 
-pub both_ok : {A E : Type 0} (P Q R : Type 0) (r : Result A E) → (P → Q → R) → OnOk r P → OnOk r Q → OnOk r R
-both_ok P Q R (Ok x) f p q = f p q
-both_ok P Q R (Err x) f p q = tt
-
 -- the places of a flow were drawn, and perhaps its bar
 pub flow_drawn : (a b : Sheet) (lanes : Lanes) (f : FlowId) (e : Exchange) (flow : Flow) (ps : List Place) → flow ≡ flow_of e f.back → ps ≡ flow.places.items → (AsksFlow lanes f → All (λ p. Has a (drawn_of p.lane)) ps) → Grows a b → FlowDrawn b lanes f e
 flow_drawn a b lanes f e flow ps is same d g = flow_on a b lanes f e g (record {

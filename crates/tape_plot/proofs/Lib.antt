@@ -6,7 +6,6 @@ pub mod Heights
 pub mod Holding
 pub mod Keeping
 pub mod Laning
-pub mod Limiting
 pub mod Lining
 pub mod Mapping
 pub mod Mosts

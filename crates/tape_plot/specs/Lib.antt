@@ -1,4 +1,5 @@
 pub mod Ending
+pub mod Filled
 pub mod Flows
 pub mod Goes
 pub mod Highest

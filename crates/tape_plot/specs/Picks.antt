@@ -2,18 +2,16 @@
 use Rattle.flow_gate.specs.declared.ids.FlowId.{FlowId}
 use Rattle.std.specs.BTreeMap.{get}
 use Rattle.std.specs.List.{Contains}
-use Rattle.std.specs.Option.{option_map_or}
 use Rattle.std.specs.Ordering.{nat_cmp}
-use Rattle.std.specs.Prelude.{Bool, List, None, Option, Some, length, map, ℕ, ◌<◌, ◌≡◌, ◌⊎◌}
+use Rattle.std.specs.Prelude.{List, Option, map, ℕ, ◌<◌, ◌≡◌, ◌⊎◌}
 use Rattle.tape_plot.specs.Highest.{ArePicked, against}
 use Rattle.tape_plot.specs.Lanes.{Drawn, most_of}
-use Rattle.tape_plot.specs.Limits.{limit_at, place_limit_at}
+use Rattle.tape_plot.specs.Limits.{known, limit_at, place_limit_at}
 use Rattle.tape_plot.specs.Ranking.{ranked_in}
 use Rattle.tape_plot.specs.Shown.{AsksFor}
-use Rattle.tape_plot.specs.Standing.{flow_of, place_lane, write_lane}
+use Rattle.tape_plot.specs.Standing.{place_lane, places_in, write_lane}
 use Rattle.tape_plot.specs.declared.buffer.Buffer.{Buffer}
 use Rattle.tape_plot.specs.declared.draw.pick.Pick.{Pick}
-use Rattle.tape_plot.specs.declared.exchange.Exchange.{Exchange}
 use Rattle.tape_plot.specs.declared.height.Height.{Height}
 use Rattle.tape_plot.specs.declared.levels.Levels.{Levels}
 use Rattle.tape_plot.specs.declared.limits.Limits.{Limits}
@@ -30,17 +28,12 @@ lane_of (buffer.Write c) levels = write_lane (get nat_cmp levels.connections.ite
 abbrev pub top_in : Buffer → Levels → ℕ
 top_in b levels = let d = lane_of b levels in most_of d.base d.points
 
--- how many places its flow has
-abbrev pub places_in : Option Exchange → Bool → ℕ
-places_in None back = 0
-places_in (Some e) back = length (flow_of e back).places.items
-
 abbrev pub limit_kept : Buffer → Levels → Limits → Option ℕ
 limit_kept (buffer.Place f p) levels limits = place_limit_at limits f (places_in (get nat_cmp levels.exchanges.items f.exchange) f.back) p
 limit_kept (buffer.Write c) levels limits = limit_at limits (id.Write c)
 
 abbrev pub height_kept : Levels → Limits → Buffer → Height
-height_kept levels limits b = against (option_map_or (λ n. n) (limit_kept b levels limits) 0) (top_in b levels)
+height_kept levels limits b = against (known (limit_kept b levels limits)) (top_in b levels)
 
 -- ---- the highest
 

@@ -1,5 +1,5 @@
 // The places of one flow, and its read-disable count.
-ghost use Rattle.std.specs.Prelude.{◌≡◌, ◌≤◌, ℕ, length, OnOk};
+ghost use Rattle.std.specs.Prelude.{◌≡◌, ◌≤◌, ℕ, length, max, OnOk};
 ghost use Rattle.tape_plot.specs.Flows.{Shows, lane_at, lanes_of};
 
 use crate::clock::Clock;
@@ -45,7 +45,7 @@ pub struct Flow {
 }
 
 impl Flow {
-    ghost use Rattle.std.specs.Prelude.{◌≡◌, ◌-◌, if◌then◌else◌, min, IfOk, OnOk};
+    ghost use Rattle.std.specs.Prelude.{◌≡◌, ◌-◌, if◌then◌else◌, length, min, IfOk, OnOk};
     ghost use Rattle.tape_plot.specs.Flows.{Arrives, Dooms, Frames, IsFresh, Moves, Pauses, Resumes};
     ghost use Rattle.tape_plot.specs.Goes.{FlowGoes, FlowStays, framed_by};
     ghost use Rattle.tape_plot.specs.Levels.{at, top};
@@ -62,6 +62,16 @@ impl Flow {
             resumes: 0,
             is_doomed: false,
             sends: false,
+        }
+    }
+
+    /// How many places there are. Where those are past 2^32 - 1, no note tells of the last.
+    pub fn place_count(&self) -> Result<u32, NoMemory>
+        ensures { IfOk result (λ n. n ≡ length self.now.places.items) }
+    {
+        match u32::try_from(self.places.len()) {
+            Ok(n) => Ok(n),
+            Err(_) => Err(NoMemory),
         }
     }
 
@@ -178,16 +188,17 @@ impl Flow {
 
 // The lanes go on with what lies at their places, those of new places among them.
 fn show(places: &mut Vec<Place>, held: &Held, clock: &Clock) -> Result<(), NoMemory>
-    ensures { OnOk result (Shows (lanes_of places.old.items) held.now.levels.items clock.now (lanes_of places.new.items)) }
+    ensures shows { OnOk result (Shows (lanes_of places.old.items) held.now.levels.items clock.now (lanes_of places.new.items)) }
+    ensures many { OnOk result (length places.new.items ≡ max (length places.old.items) (length held.now.levels.items)) }
 {
     grow(places, held.len())?;
     set_all(places, held, clock)
 }
 
-// There are so many lanes at least.
+// There are so many lanes at least: as many as there were, or so many.
 fn grow(places: &mut Vec<Place>, len: usize) -> Result<(), NoMemory>
     ensures same { OnOk result ((p : ℕ) → lane_at (lanes_of places.new.items) p ≡ lane_at (lanes_of places.old.items) p) }
-    ensures long { OnOk result (len ≤ length places.new.items) }
+    ensures many { OnOk result (length places.new.items ≡ max (length places.old.items) len) }
 {
     while places.len() < len {
         let alloc = *places.allocator();
@@ -199,7 +210,8 @@ fn grow(places: &mut Vec<Place>, len: usize) -> Result<(), NoMemory>
 // The lanes go on with what lies at their places.
 fn set_all(places: &mut Vec<Place>, held: &Held, clock: &Clock) -> Result<(), NoMemory>
     requires { length held.now.levels.items ≤ length places.old.items }
-    ensures { OnOk result (Shows (lanes_of places.old.items) held.now.levels.items clock.now (lanes_of places.new.items)) }
+    ensures shows { OnOk result (Shows (lanes_of places.old.items) held.now.levels.items clock.now (lanes_of places.new.items)) }
+    ensures many { OnOk result (length places.new.items ≡ length places.old.items) }
 {
     let mut i = 0;
     while i < places.len() {

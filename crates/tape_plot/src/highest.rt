@@ -22,6 +22,8 @@ pub struct Ranked {
 #[derive(Drop)]
 pub struct Highest {
     items: Vec<Ranked>,
+    /// How many were put.
+    pub seen: u64,
 }
 
 impl Highest {
@@ -35,6 +37,7 @@ impl Highest {
     {
         Highest {
             items: Vec::new(alloc),
+            seen: 0,
         }
     }
 
@@ -42,6 +45,7 @@ impl Highest {
     pub fn put(&mut self, next: Ranked) -> Result<(), NoMemory>
         ensures { OnOk result (ranked_in self.new ≡ take 40 (puts next (ranked_in self.old))) }
     {
+        self.seen = self.seen.saturating_add(1);
         let place = place_of(self.items.as_slice(), next);
         self.items.insert(place, next)?;
         self.items.truncate(HIGHEST);

@@ -1,4 +1,7 @@
 // The limits that a summary tells.
+ghost use Rattle.std.specs.Prelude.{◌≡◌};
+ghost use Rattle.tape_plot.specs.Limits as spec;
+
 use flow_gate::{BufferId, FlowId};
 use io_ports::NoMemory;
 use std::alloc::Global;
@@ -11,7 +14,8 @@ pub struct Limits {
 }
 
 impl Limits {
-    ghost use Rattle.std.specs.Prelude.{◌≡◌, [], OnOk};
+    ghost use Rattle.std.specs.Prelude.{◌≡◌, ◌+◌, ◌==◌, [], None, if◌then◌else◌, OnOk};
+    ghost use Rattle.flow_gate.specs.declared.ids.BufferId.TheVariants as id;
     ghost use Rattle.tape_plot.specs.Limits.{LimitsAre, TellsLimit, limit_at, place_limit_at};
 
     /// None is told. Takes no memory.
@@ -33,13 +37,13 @@ impl Limits {
 
     /// The limit of a place of a flow with so many: the first is its receive buffer, and each other a stage; the last is its send
     /// buffer where no such stage was told.
-    pub fn of_place(&self, flow: FlowId, place: u64, count: u64) -> Option<u32>
+    pub fn of_place(&self, flow: FlowId, place: u32, count: u32) -> Option<u32>
         ensures { result ≡ place_limit_at self.now flow count place }
     {
         if place == 0 {
             return self.named(BufferId::Recv(flow));
         }
-        match self.of_stage(flow, place) {
+        match self.named(BufferId::Stage(flow, place)) {
             Some(limit) => Some(limit),
             None => self.of_last(flow, place, count),
         }
@@ -53,18 +57,17 @@ impl Limits {
     }
 
     /// Whether the last of so many places of a flow is its send buffer, as far as the summary told.
-    pub fn is_send(&self, flow: FlowId, count: u64) -> bool {
-        self.of_stage(flow, count.saturating_sub(1)).is_none()
+    pub fn is_send(&self, flow: FlowId, count: u32) -> bool {
+        let last = count.saturating_sub(1);
+        self.named(BufferId::Stage(flow, last)).is_none()
             && self.named(BufferId::Send(flow)).is_some()
     }
 
-    fn of_stage(&self, flow: FlowId, place: u64) -> Option<u32> {
-        let stage = u32::try_from(place).ok()?;
-        self.named(BufferId::Stage(flow, stage))
-    }
-
-    fn of_last(&self, flow: FlowId, place: u64, count: u64) -> Option<u32> {
-        if place.saturating_add(1) == count {
+    // The limit of the send buffer, where the place is the last of so many.
+    fn of_last(&self, flow: FlowId, place: u32, count: u32) -> Option<u32>
+        ensures { result ≡ (if place + 1 == count then limit_at self.now (id.Send flow) else None) }
+    {
+        if u64::from(place) + 1 == u64::from(count) {
             return self.named(BufferId::Send(flow));
         }
         None
@@ -74,5 +77,15 @@ impl Limits {
         ensures { result ≡ limit_at self.now buffer }
     {
         self.items.get(&buffer).copied()
+    }
+}
+
+/// A limit that the summary told, 0 where it told none.
+pub fn known(limit: Option<u32>) -> u64
+    ensures { result ≡ spec.known limit }
+{
+    match limit {
+        Some(limit) => u64::from(limit),
+        None => 0,
     }
 }

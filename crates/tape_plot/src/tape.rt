@@ -4,6 +4,7 @@ ghost use Rattle.std.specs.Prelude.{◌≡◌, ◌≤◌, ◌++◌, Err, IfErr, 
 ghost use Rattle.io_ports.specs.Faults.{Rose};
 ghost use Rattle.tape_plot.specs.Ending.{EndsRight, IsRefused};
 ghost use Rattle.tape_plot.specs.Ending as spec;
+ghost use Rattle.tape_plot.specs.Limits.{TellsLine};
 ghost use Rattle.tape_plot.specs.Lines.{line_text};
 ghost use Rattle.tape_plot.specs.Reading.{Caused, ReadsNote, Refuses};
 ghost use Rattle.tape_plot.specs.Goes.{PlotGoes, PlotStays};
@@ -167,6 +168,7 @@ fn take_note(plot: &mut Plot, part: Part, note: &Note, line: &[u8]) -> Result<Pa
     ensures before { IfOk result (λ _. part ≡ parts.Notes) }
     ensures part { IfOk result (λ next. next ≡ parts.Notes) }
     ensures goes { OnOk result (PlotGoes plot.old note.now plot.new) }
+    ensures limits { OnOk result (plot.new.limits ≡ plot.old.limits) }
     ensures stops { IfErr result Refuses }
 {
     if part != Part::Notes {
@@ -178,20 +180,25 @@ fn take_note(plot: &mut Plot, part: Part, note: &Note, line: &[u8]) -> Result<Pa
 
 // Takes up a line of the summary.
 fn take_report(alloc: Global, plot: &mut Plot, line: &[u8]) -> Result<Part, Stop>
-    ensures sums { IfOk result (λ next. (l : Line) × (line.now ++ newline ≡ line_text l) × (next ≡ part_with (said.Sums l))) }
+    ensures sums { IfOk result (λ next. (l : Line) × (line.now ++ newline ≡ line_text l) × (next ≡ part_with (said.Sums l)) × TellsLine plot.old.limits l plot.new.limits) }
     ensures stays { OnOk result (PlotStays plot.old plot.new) }
     ensures stops { IfErr result Refuses }
 {
     let Some(report) = read_line(alloc, line)? else {
         return Err(Stop::Refused(Refusal::NoNote));
     };
+    plot.sum(report)?;
+    Ok(part_behind(report))
+}
+
+// How far a tape was read with a line of its summary.
+fn part_behind(report: Line) -> Part
+    ensures { result ≡ part_with (said.Sums report) }
+{
     match report {
-        Line::Peak { buffer, limit, .. } => {
-            plot.limit(buffer, limit)?;
-            Ok(Part::Summary)
-        }
-        Line::Paused { .. } => Ok(Part::Summary),
-        _ => Ok(Part::Ended(report)),
+        Line::Peak { .. } => Part::Summary,
+        Line::Paused { .. } => Part::Summary,
+        _ => Part::Ended(report),
     }
 }
 

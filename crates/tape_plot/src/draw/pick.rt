@@ -1,15 +1,20 @@
 // Which lanes are drawn.
-ghost use Rattle.std.specs.Prelude.{◌≡◌, IfOk, true};
+ghost use Rattle.std.specs.Ordering.{nat_cmp};
+ghost use Rattle.std.specs.Prelude.{◌≡◌, IfOk, OnOk, true};
 ghost use Rattle.tape_plot.specs.Picks.{IsPicked, RankedIn};
+ghost use Rattle.tape_plot.specs.Filled as spec;
+ghost use Rattle.tape_plot.specs.Ranking.{kept_of, ranked_in};
 
 use crate::buffer::Buffer;
 use crate::choice::Lanes;
+use crate::connections::Connections;
 use crate::exchange::Exchange;
+use crate::exchanges::Exchanges;
 use crate::flow::{Flow, Place};
 use crate::height::Height;
 use crate::highest::{HIGHEST, Highest, Ranked};
 use crate::levels::Levels;
-use crate::limits::Limits;
+use crate::limits::{Limits, known};
 use flow_gate::FlowId;
 use io_ports::NoMemory;
 use std::alloc::Global;
@@ -19,8 +24,6 @@ use std::alloc::Global;
 pub struct Pick {
     lanes: Lanes,
     highest: Highest,
-    /// How many buffers ever held an octet.
-    pub buffers: u64,
 }
 
 impl Pick {
@@ -37,18 +40,15 @@ impl Pick {
         ensures lanes { IfOk result (λ pick. pick.lanes ≡ lanes) }
         ensures ranked { IfOk result (RankedIn levels.now limits.now) }
     {
-        let mut pick = Pick {
-            lanes,
-            highest: Highest::new(alloc),
-            buffers: 0,
-        };
-        for (number, exchange) in levels.exchanges.items.iter() {
-            pick.put_exchange(*number, exchange, limits)?;
-        }
-        for (conn, connection) in levels.connections.items.iter() {
-            pick.put(Buffer::Write(*conn), &connection.write, limits.of_write(*conn))?;
-        }
-        Ok(pick)
+        let mut highest = Highest::new(alloc);
+        rank_exchanges(&mut highest, &levels.exchanges, limits)?;
+        rank_connections(&mut highest, &levels.connections, limits)?;
+        Ok(Pick { lanes, highest })
+    }
+
+    /// How many buffers ever held an octet.
+    pub fn buffers(&self) -> u64 {
+        self.highest.seen
     }
 
     /// Whether the lane of a buffer is drawn.
@@ -56,7 +56,7 @@ impl Pick {
         ensures { IsPicked self.now buffer → result ≡ true }
     {
         match self.lanes {
-            Lanes::Highest => self.is_high(buffer),
+            Lanes::Highest => self.highest.has(buffer),
             Lanes::All => true,
             Lanes::Named { flow, conn } => match buffer {
                 Buffer::Place(id, _) => flow == Some(id),
@@ -73,48 +73,92 @@ impl Pick {
             Lanes::Highest => bars < HIGHEST as u64,
         }
     }
+}
 
-    fn is_high(&self, buffer: Buffer) -> bool {
-        self.highest.has(buffer)
+// The buffers of all exchanges are put, each where it belongs.
+fn rank_exchanges(
+    highest: &mut Highest,
+    exchanges: &Exchanges,
+    limits: &Limits,
+) -> Result<(), NoMemory>
+    ensures put { OnOk result (ranked_in highest.new ≡ kept_of (spec.of_exchanges limits.now exchanges.now.items.entries) (ranked_in highest.old)) }
+    ensures read { OnOk result (spec.IsRead exchanges.now.items) }
+{
+    for (number, exchange) in exchanges.items.iter() {
+        rank_exchange(highest, *number, exchange, limits)?;
     }
+    Ok(())
+}
 
-    fn put_exchange(
-        &mut self,
-        number: u64,
-        exchange: &Exchange,
-        limits: &Limits,
-    ) -> Result<(), NoMemory> {
-        let request = FlowId {
-            exchange: number,
-            back: false,
-        };
-        let response = FlowId {
-            exchange: number,
-            back: true,
-        };
-        self.put_flow(request, &exchange.request, limits)?;
-        self.put_flow(response, &exchange.response, limits)
+// The write buffers of all connections.
+fn rank_connections(
+    highest: &mut Highest,
+    connections: &Connections,
+    limits: &Limits,
+) -> Result<(), NoMemory>
+    ensures put { OnOk result (ranked_in highest.new ≡ kept_of (spec.of_connections limits.now connections.now.items.entries) (ranked_in highest.old)) }
+    ensures read { OnOk result (spec.IsRead connections.now.items) }
+{
+    for (conn, connection) in connections.items.iter() {
+        let limit = limits.of_write(*conn);
+        rank(highest, Buffer::Write(*conn), &connection.write, limit)?;
     }
+    Ok(())
+}
 
-    fn put_flow(&mut self, id: FlowId, flow: &Flow, limits: &Limits) -> Result<(), NoMemory> {
-        let count = flow.places.len() as u64;
-        let mut i = 0u64;
-        for place in flow.places.as_slice() {
-            let limit = limits.of_place(id, i, count);
-            self.put(Buffer::Place(id, i), place, limit)?;
-            i = i.saturating_add(1);
-        }
-        Ok(())
-    }
+// The buffers of an exchange: those of its request come first.
+fn rank_exchange(
+    highest: &mut Highest,
+    number: u64,
+    exchange: &Exchange,
+    limits: &Limits,
+) -> Result<(), NoMemory>
+    ensures { OnOk result (ranked_in highest.new ≡ kept_of (spec.of_exchange limits.now number exchange.now) (ranked_in highest.old)) }
+{
+    let request = FlowId {
+        exchange: number,
+        back: false,
+    };
+    let response = FlowId {
+        exchange: number,
+        back: true,
+    };
+    rank_flow(highest, request, &exchange.request, limits)?;
+    rank_flow(highest, response, &exchange.response, limits)
+}
 
-    // A buffer that ever held an octet is put where it belongs, and kept if that is one of the first.
-    fn put(&mut self, buffer: Buffer, place: &Place, limit: Option<u32>) -> Result<(), NoMemory> {
-        let most = place.lane.most();
-        if most == 0 {
-            return Ok(());
-        }
-        self.buffers = self.buffers.saturating_add(1);
-        let height = Height::new(most, u64::from(limit.unwrap_or(0)));
-        self.highest.put(Ranked { buffer, height })
+// The places of a flow, one after the other.
+fn rank_flow(
+    highest: &mut Highest,
+    id: FlowId,
+    flow: &Flow,
+    limits: &Limits,
+) -> Result<(), NoMemory>
+    ensures { OnOk result (ranked_in highest.new ≡ kept_of (spec.of_flow limits.now id flow.now) (ranked_in highest.old)) }
+{
+    let count = flow.place_count()?;
+    let mut i = 0;
+    while i < count {
+        let place = &flow.places[i as usize];
+        rank(highest, Buffer::Place(id, i), place, limits.of_place(id, i, count))?;
+        i += 1;
     }
+    Ok(())
+}
+
+// A buffer that ever held an octet is put where it belongs, and kept if that is one of the first.
+fn rank(
+    highest: &mut Highest,
+    buffer: Buffer,
+    place: &Place,
+    limit: Option<u32>,
+) -> Result<(), NoMemory>
+    ensures { OnOk result (ranked_in highest.new ≡ kept_of (spec.of_lane buffer limit place.now) (ranked_in highest.old)) }
+{
+    let most = place.lane.most();
+    if most == 0 {
+        return Ok(());
+    }
+    let height = Height::new(most, known(limit));
+    highest.put(Ranked { buffer, height })
 }

@@ -1,6 +1,6 @@
 -- The one flow and then the other.
-use Rattle.tape_plot.proofs.Drawing.{both_drawn, both_ok, grows_more}
-use Rattle.tape_plot.proofs.Passing.{when_ok}
+use Rattle.tape_plot.proofs.Drawing.{both_drawn, grows_more}
+use Rattle.tape_plot.proofs.Passing.{both_ok, when_ok}
 use Rattle.tape_plot.proofs.draw.rows.Rows.put_exchange.Goals as goal
 
 pub returns-clause-grows : goal.returns-clause-grows

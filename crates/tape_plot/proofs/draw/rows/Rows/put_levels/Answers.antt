@@ -1,5 +1,6 @@
 -- The exchanges and then the connections.
-use Rattle.tape_plot.proofs.Drawing.{all_drawn, both_ok}
+use Rattle.tape_plot.proofs.Drawing.{all_drawn}
+use Rattle.tape_plot.proofs.Passing.{both_ok}
 use Rattle.tape_plot.proofs.draw.rows.Rows.put_levels.Goals as goal
 
 pub returns : goal.returns

@@ -1,6 +1,7 @@
 -- A lane that is level at 0 is passed over, and one that isn't picked.
 use Rattle.std.proofs.Common.{sym, ◌∙◌}
-use Rattle.tape_plot.proofs.Drawing.{both_ok, has_flat, has_line}
+use Rattle.tape_plot.proofs.Drawing.{has_flat, has_line}
+use Rattle.tape_plot.proofs.Passing.{both_ok}
 use Rattle.tape_plot.specs.Lanes.{drawn_of}
 use Rattle.tape_plot.proofs.draw.rows.Rows.put_place.Goals as goal
 
