@@ -46,7 +46,7 @@ put_is comes x (z ∷ zs) back none ends =
 
 -- ---- what is in the list
 
-in_head : {X : Type 0} (x : X) (xs : List X) → Contains (x ∷ xs) x
+pub in_head : {X : Type 0} (x : X) (xs : List X) → Contains (x ∷ xs) x
 in_head x xs = Contains-append_left (x ∷ []) xs x (Contains-push [] x)
 
 in_tail : {X : Type 0} (y : X) (xs : List X) (x : X) → Contains xs x → Contains (y ∷ xs) x
@@ -106,7 +106,7 @@ front_in_order comes zero xs order = tt
 front_in_order comes (suc n) [] order = tt
 front_in_order comes (suc n) (x ∷ xs) order = (All-take (λ v. comes x v ≡ true) n xs order.0, front_in_order comes n xs order.1)
 
-behind_all : {X : Type 0} (comes : X → X → Bool) (xs ys : List X) (y : X) → AreInOrder comes (xs ++ ys) → Contains ys y → All (λ x. comes x y ≡ true) xs
+pub behind_all : {X : Type 0} (comes : X → X → Bool) (xs ys : List X) (y : X) → AreInOrder comes (xs ++ ys) → Contains ys y → All (λ x. comes x y ≡ true) xs
 behind_all comes [] ys y order there = All-nil (λ x. comes x y ≡ true)
 behind_all comes (x ∷ xs) ys y order there =
     All-cons (λ v. comes v y ≡ true) x xs (All-contains (λ v. comes x v ≡ true) (xs ++ ys) y order.0 (Contains-append_right xs ys y there)) (behind_all comes xs ys y order.1 there)

@@ -172,6 +172,18 @@ so_before f g p q (EarlierPlace alike sides less) = by (nat_lt f.exchange g.exch
     by false true = rw (eq-eqb f.exchange g.exchange alike) refl
     by false false = rw (eq-eqb f.exchange g.exchange alike, side_same f.back g.back sides, lt-ltb p q less) refl
 
+pub exchange_before : (f g : FlowId) (p q : ℕ) → f.exchange < g.exchange → is_before (buffer.Place f p) (buffer.Place g q) ≡ true
+exchange_before f g p q less = so_before f g p q (EarlierExchange less)
+
+pub request_before : (f g : FlowId) (p q : ℕ) → f.exchange ≡ g.exchange → f.back ≡ false → g.back ≡ true → is_before (buffer.Place f p) (buffer.Place g q) ≡ true
+request_before f g p q alike here there = so_before f g p q (ItsRequest alike here there)
+
+pub place_before : (f g : FlowId) (p q : ℕ) → f ≡ g → p < q → is_before (buffer.Place f p) (buffer.Place g q) ≡ true
+place_before f g p q e less = so_before f g p q (EarlierPlace (ap (λ (v : FlowId). v.exchange) e) (ap (λ (v : FlowId). v.back) e) less)
+
+pub write_before : (c d : ℕ) → c < d → is_before (buffer.Write c) (buffer.Write d) ≡ true
+write_before c d less = lt-ltb c d less
+
 comes_through : (f g k : FlowId) (p q r : ℕ) → ComesBefore f p g q → ComesBefore g q k r → ComesBefore f p k r
 comes_through f g k p q r (EarlierExchange a) (EarlierExchange b) = EarlierExchange (omega (arith, a, b))
 comes_through f g k p q r (EarlierExchange a) (ItsRequest e h t) = EarlierExchange (omega (arith, a, e))

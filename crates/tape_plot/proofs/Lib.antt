@@ -1,6 +1,7 @@
 pub mod Choosing
 pub mod Columns
 pub mod Drawing
+pub mod Filling
 pub mod Flowing
 pub mod Heights
 pub mod Holding
@@ -14,8 +15,10 @@ pub mod Pathing
 pub mod Picturing
 pub mod Placing
 pub mod Points
+pub mod Putting
 pub mod Ranks
 pub mod Sayings
+pub mod Sorting
 pub mod Standing
 pub mod Stands
 pub mod Stopping

@@ -1,13 +1,13 @@
 -- Buffers that are put in order one by one, each behind those that come first.
-use Rattle.std.proofs.Common.{ap, arith, inl, inr, refl, subst, sym, ◌∙◌}
+use Rattle.std.proofs.Common.{ap, append_assoc, arith, inl, inr, refl, subst, sym, ◌∙◌}
 use Rattle.std.proofs.lemmas.List.Elements.{All-contains, All-head, All-map, All-nil, All-tail, All-take, All-weaker, Contains-append_left, Contains-push, Contains-push_cases}
-use Rattle.std.proofs.lemmas.List.{get_or-map, length-map}
+use Rattle.std.proofs.lemmas.List.{append-nil, get_or-map, length-map, map-append}
 use Rattle.std.specs.List.{Contains}
 use Rattle.std.specs.Prelude.{All, Bool, List, [], false, if◌then◌else◌, length, map, take, true, ℕ, ◌++◌, ◌∷◌, ◌≡◌, ◌⊎◌}
-use Rattle.tape_plot.proofs.Choosing.{AreFirst, first_of, put_all, put_by, put_has, put_in_order, put_keeps, take_put}
+use Rattle.tape_plot.proofs.Choosing.{AreFirst, behind_all, first_of, in_head, put_all, put_by, put_has, put_in_order, put_keeps, take_put}
 use Rattle.tape_plot.proofs.Heights.{before_flips, earlier_goes, goes_through, later_goes}
 use Rattle.tape_plot.specs.Highest.{AreInOrder, ArePicked, goes_before, is_before, is_higher}
-use Rattle.tape_plot.specs.Ranking.{puts}
+use Rattle.tape_plot.specs.Ranking.{kept_of, puts}
 use Rattle.tape_plot.specs.declared.buffer.Buffer.{Buffer}
 use Rattle.tape_plot.specs.declared.height.Height.{Height}
 use Rattle.tape_plot.specs.declared.highest.Ranked.{Ranked}
@@ -23,7 +23,7 @@ puts_by next [] = refl
 puts_by next (r ∷ rs) = ap (λ v. if is_higher next.height r.height then next ∷ r ∷ rs else r ∷ v) (puts_by next rs)
 
 -- its height is the buffer's, and it comes before another
-abbrev IsRight : (Buffer → Height) → Ranked → Type 0
+abbrev pub IsRight : (Buffer → Height) → Ranked → Type 0
 IsRight height r = r.height ≡ height r.buffer
 
 abbrev IsFirst : Buffer → Ranked → Type 0
@@ -85,6 +85,34 @@ put_next height seen old new next s e last is = record {
     found : (b : Buffer) → Contains seen b ⊎ (next.buffer ≡ b) → (r : Ranked) × Contains (put_by (goes height) next s.all) r × (r.buffer ≡ b)
     found b (inl there) = let f = s.has b there in (f.0, put_keeps (goes height) next s.all f.0 f.1, f.2)
     found b (inr e) = (next, put_has (goes height) next s.all, e)
+
+-- ---- many that are put
+
+-- the one buffer comes before the other
+abbrev pub comes_first : Ranked → Ranked → Bool
+comes_first a b = is_before a.buffer b.buffer
+
+abbrev pub buffers_in : List Ranked → List Buffer
+buffers_in rs = map (λ r. r.buffer) rs
+
+put_each : (height : Buffer → Height) (done rs kept : List Ranked) → ArePut height (buffers_in done) kept → All (IsRight height) rs → AreInOrder comes_first (done ++ rs) → ArePut height (buffers_in (done ++ rs)) (kept_of rs kept)
+put_each height done [] kept s right order = subst (λ (v : List Ranked). ArePut height (buffers_in v) kept) (sym (append-nil done)) s
+put_each height done (r ∷ rs) kept s right order =
+    subst (λ (v : List Ranked). ArePut height (buffers_in v) (kept_of rs next)) (append_assoc done (r ∷ []) rs)
+    (put_each height (done ++ r ∷ []) rs next (subst (λ (v : List Buffer). ArePut height v next) (sym (map-append (λ (t : Ranked). t.buffer) done (r ∷ []))) one)
+    (All-tail (IsRight height) r rs right) (subst (AreInOrder comes_first) (sym (append_assoc done (r ∷ []) rs)) order))
+  where
+    next : List Ranked
+    next = take 40 (puts r kept)
+
+    last : All (λ b. is_before b r.buffer ≡ true) (buffers_in done)
+    last = All-map (λ b. is_before b r.buffer ≡ true) (λ t. t.buffer) done (behind_all comes_first done (r ∷ rs) r order (in_head r rs))
+
+    one : ArePut height (buffers_in done ++ r.buffer ∷ []) next
+    one = put_next height (buffers_in done) kept next r s (All-head (IsRight height) r rs right) last refl
+
+pub all_put : (height : Buffer → Height) (rs : List Ranked) → All (IsRight height) rs → AreInOrder comes_first rs → ArePut height (buffers_in rs) (kept_of rs [])
+all_put height rs right order = put_each height [] rs [] (none_put height [] refl) right order
 
 -- ---- what is kept of all
 

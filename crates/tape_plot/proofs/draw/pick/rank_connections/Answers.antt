@@ -1,0 +1,28 @@
+-- One after the other is put.
+use Rattle.std.proofs.Common.{List, ap, map, refl, rules, ℕ, ◌∙◌, ◌≡◌}
+use Rattle.std.proofs.lemmas.Map.Iter.{iter_end}
+use Rattle.std.specs.Map.Iter.{deref_pair}
+use Rattle.std.specs.Prelude.{Option}
+use Rattle.tape_plot.proofs.Putting.{connection_put}
+use Rattle.tape_plot.specs.Filled.{of_connections, of_lane}
+use Rattle.tape_plot.specs.Ranking.{kept_of, ranked_in}
+use Rattle.tape_plot.specs.declared.connection.Connection.{Connection}
+use Rattle.tape_plot.specs.declared.buffer.Buffer.TheVariants as buffer
+use Rattle.tape_plot.proofs.draw.pick.rank_connections.Goals as goal
+
+pub loop-conn-init : goal.loop-conn-init
+loop-conn-init c = record { put = refl }
+
+pub loop-conn-preserved : goal.loop-conn-preserved
+loop-conn-preserved c = record {
+  put =
+      connection_put c.args.limits.now _ _ c.of_write-limit.result _ _ _ c.loop-conn.invariant.put
+      (ap (λ (v : Option ℕ). of_lane (buffer.Write c.in-Some.conn.now) v c.in-Some.connection.now.write) c.of_write-limit.ensures) c.in_ok-rank.ensures;
+}
+
+pub returns : goal.returns
+returns c =
+    let e : map deref_pair c.loop-conn.yielded ≡ c.args.connections.now.items.entries = search (rules, iter_end) in record {
+      put = c.loop-conn.invariant.put ∙ ap (λ (v : List (ℕ × Connection)). kept_of (of_connections c.args.limits.now v) (ranked_in c.args.highest.now)) e;
+      read = (c.iter.ensures.ordered, c.iter.ensures.found);
+    }
