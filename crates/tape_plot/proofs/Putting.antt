@@ -13,7 +13,7 @@ use Rattle.tape_plot.proofs.Sorting.{all_order}
 use Rattle.tape_plot.specs.Filled.{IsRead, of_connection, of_connections, of_exchange, of_exchanges, of_flow, of_lane, of_places}
 use Rattle.tape_plot.specs.Highest.{ArePicked, against}
 use Rattle.tape_plot.specs.Lanes.{most_of}
-use Rattle.tape_plot.specs.Limits.{known, place_limit_at}
+use Rattle.tape_plot.specs.Limits.{known, limit_at, place_limit_at}
 use Rattle.tape_plot.specs.Picks.{RankedIn, height_kept, top_in}
 use Rattle.tape_plot.specs.Ranking.{kept_of, puts, ranked_in}
 use Rattle.tape_plot.specs.declared.buffer.Buffer.{Buffer}
@@ -25,6 +25,7 @@ use Rattle.tape_plot.specs.declared.height.Height.{Height}
 use Rattle.tape_plot.specs.declared.highest.Ranked.{Ranked}
 use Rattle.tape_plot.specs.declared.levels.Levels.{Levels}
 use Rattle.tape_plot.specs.declared.limits.Limits.{Limits}
+use Rattle.flow_gate.specs.declared.ids.BufferId.TheVariants as ids
 use Rattle.tape_plot.specs.declared.buffer.Buffer.TheVariants as buffer
 
 kept_more : (xs ys kept : List Ranked) → kept_of (xs ++ ys) kept ≡ kept_of ys (kept_of xs kept)
@@ -88,7 +89,7 @@ exchange_put limits xs x old now new was is =
     kept_both (of_exchanges limits (map deref_pair xs)) (of_exchange limits x.0.now x.1.now) old now new was is
     ∙ ap (λ (v : List Ranked). kept_of (of_exchanges limits (map deref_pair xs) ++ v) old) (sym (append-nil (of_exchange limits x.0.now x.1.now)))
     ∙ ap (λ (v : List Ranked). kept_of v old) (sym (exchanges_append limits (map deref_pair xs) (map deref_pair (x ∷ []))))
-    ∙ ap (λ (v : List (ℕ × Exchange)). kept_of (of_exchanges limits v) old) (sym (map-append deref_pair xs (x ∷ [])))
+    ∙ ap (λ (v : List (ℕ × Exchange)). kept_of (of_exchanges limits v) old) (sym (map-append (deref_pair {K = ℕ} {X = Exchange}) xs (x ∷ [])))
 
 connections_append : (limits : Limits) (xs ys : List (ℕ × Connection)) → of_connections limits (xs ++ ys) ≡ of_connections limits xs ++ of_connections limits ys
 connections_append limits [] ys = refl
@@ -96,25 +97,25 @@ connections_append limits (x ∷ xs) ys =
     ap (λ (v : List Ranked). of_connection limits x.0 x.1 ++ v) (connections_append limits xs ys) ∙ sym (append_assoc (of_connection limits x.0 x.1) (of_connections limits xs) (of_connections limits ys))
 
 pub connection_put : (limits : Limits) (xs : List (Bor ℕ × Bor Connection)) (x : Bor ℕ × Bor Connection) (limit : Option ℕ) (old now new : List Ranked) → now ≡ kept_of (of_connections limits (map deref_pair xs)) old
-    → of_lane (buffer.Write x.0.now) limit x.1.now.write ≡ of_connection limits x.0.now x.1.now → new ≡ kept_of (of_lane (buffer.Write x.0.now) limit x.1.now.write) now
+    → limit ≡ limit_at limits (ids.Write x.0.now) → new ≡ kept_of (of_lane (buffer.Write x.0.now) limit x.1.now.write) now
     → new ≡ kept_of (of_connections limits (map deref_pair (xs ++ x ∷ []))) old
 connection_put limits xs x limit old now new was el is =
-    kept_both (of_connections limits (map deref_pair xs)) (of_connection limits x.0.now x.1.now) old now new was (is ∙ ap (λ (v : List Ranked). kept_of v now) el)
+    kept_both (of_connections limits (map deref_pair xs)) (of_connection limits x.0.now x.1.now) old now new was (is ∙ ap (λ (v : Option ℕ). kept_of (of_lane (buffer.Write x.0.now) v x.1.now.write) now) el)
     ∙ ap (λ (v : List Ranked). kept_of (of_connections limits (map deref_pair xs) ++ v) old) (sym (append-nil (of_connection limits x.0.now x.1.now)))
     ∙ ap (λ (v : List Ranked). kept_of v old) (sym (connections_append limits (map deref_pair xs) (map deref_pair (x ∷ []))))
-    ∙ ap (λ (v : List (ℕ × Connection)). kept_of (of_connections limits v) old) (sym (map-append deref_pair xs (x ∷ [])))
+    ∙ ap (λ (v : List (ℕ × Connection)). kept_of (of_connections limits v) old) (sym (map-append (deref_pair {K = ℕ} {X = Connection}) xs (x ∷ [])))
 
 -- ---- all that is kept
 
 pub all_ranked : (levels : Levels) (limits : Limits) (pick : Pick) (none mid : List Ranked) → IsRead levels.exchanges.items → IsRead levels.connections.items → none ≡ [] → mid ≡ kept_of (of_exchanges limits levels.exchanges.items.entries) none
     → ranked_in pick.highest ≡ kept_of (of_connections limits levels.connections.items.entries) mid → RankedIn levels limits pick
-all_ranked levels limits pick none mid es ks en em e = λ asked. picked_of height Filled (buffers_in all) (ranked_in pick.highest) put (all_have levels limits) filled
+all_ranked levels limits pick none mid es ks en em e = λ asked. picked_of height HeldAny (buffers_in all) (ranked_in pick.highest) put (all_have levels limits) filled
   where
     height : Buffer → Height
     height = height_kept levels limits
 
-    Filled : Buffer → Type 0
-    Filled b = 0 < top_in b levels
+    HeldAny : Buffer → Type 0
+    HeldAny b = 0 < top_in b levels
 
     all : List Ranked
     all = all_of levels limits
@@ -130,5 +131,5 @@ all_ranked levels limits pick none mid es ks en em e = λ asked. picked_of heigh
     put = subst (ArePut height (buffers_in all)) (sym is)
         (all_put height all (All-weaker (IsKept levels limits) (IsRight height) (λ r k. k.0) all kept) (all_order limits levels.exchanges.items.entries levels.connections.items.entries es.0 ks.0))
 
-    filled : All Filled (buffers_in all)
-    filled = All-map Filled (λ r. r.buffer) all (All-weaker (IsKept levels limits) (λ r. Filled r.buffer) (λ r k. k.1) all kept)
+    filled : All HeldAny (buffers_in all)
+    filled = All-map HeldAny (λ r. r.buffer) all (All-weaker (IsKept levels limits) (λ r. HeldAny r.buffer) (λ r k. k.1) all kept)

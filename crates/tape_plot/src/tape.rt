@@ -255,7 +255,7 @@ fn ended(status: Status) -> Outcome
 }
 
 /// Reads a tape with its summary from the source, and keeps lanes of the dispatches that are chosen: that of each buffer and of each
-/// read-disable count stands for what the tape tells. Or how it came to no picture: where a line is refused, the source fails or memory
+/// read-disable count stands for what the tape tells. The limits that are kept are those of the summary. Or how it came to no picture: where a line is refused, the source fails or memory
 /// runs out.
 pub fn read_tape<S: Source>(alloc: Global, choice: &Choice, source: &mut S) -> Result<Tape, Outcome>
     ensures reads { ReadsAs (S.left source.old) (S.left source.new) choice.now.first choice.now.last result }
@@ -277,8 +277,10 @@ pub fn read_tape<S: Source>(alloc: Global, choice: &Choice, source: &mut S) -> R
 }
 
 /// Reads a tape with its summary from the source, and writes the picture of what is chosen of it as one SVG file. It has a line for each
-/// buffer that the choice asks for by name, or with all others, unless that held nothing in the dispatches that are drawn: the line shows
-/// what the tape tells of the buffer. Where a line of the tape is refused, the source fails or memory runs out, nothing is written.
+/// buffer that the choice asks for by name, or with all others, unless that held nothing in the dispatches that are drawn; and by default
+/// for the 40 buffers that were highest in these against their limits, or for each where no more held an octet. The line shows what the
+/// tape tells of the buffer, against the limit that the summary tells. Where a line of the tape is refused, the source fails or memory
+/// runs out, nothing is written.
 pub fn plot_tape<S: Source, K: Sink>(
     alloc: Global,
     choice: &Choice,

@@ -140,7 +140,12 @@ fn rank_flow(
     let mut i = 0;
     while i < count {
         let place = &flow.places[i as usize];
-        rank(highest, Buffer::Place(id, i), place, limits.of_place(id, i, count))?;
+        rank(
+            highest,
+            Buffer::Place(id, i),
+            place,
+            limits.of_place(id, i, count),
+        )?;
         i += 1;
     }
     Ok(())

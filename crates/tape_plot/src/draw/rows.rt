@@ -91,14 +91,24 @@ impl Rows {
     }
 
     /// The lanes that are picked, of flows with their bars and then of connections.
-    pub fn put_levels(&mut self, levels: &Levels, limits: &Limits, pick: &Pick) -> Result<(), NoMemory>
+    pub fn put_levels(
+        &mut self,
+        levels: &Levels,
+        limits: &Limits,
+        pick: &Pick,
+    ) -> Result<(), NoMemory>
         ensures { OnOk result (LevelsDrawn (Contains self.new.sheet.pieces.items) self.old.sheet.frame.first self.old.sheet.frame.end limits.now pick.now levels.now) }
     {
         self.put_exchanges(&levels.exchanges, limits, pick)?;
         self.put_connections(&levels.connections, limits, pick)
     }
 
-    fn put_exchanges(&mut self, exchanges: &Exchanges, limits: &Limits, pick: &Pick) -> Result<(), NoMemory>
+    fn put_exchanges(
+        &mut self,
+        exchanges: &Exchanges,
+        limits: &Limits,
+        pick: &Pick,
+    ) -> Result<(), NoMemory>
         ensures grows { OnOk result (Grows self.old.sheet self.new.sheet) }
         ensures drawn { OnOk result (All (λ e. ExchangeDrawn self.new.sheet limits.now pick.now e.0 e.1) exchanges.now.items.entries) }
     {
@@ -108,7 +118,12 @@ impl Rows {
         Ok(())
     }
 
-    fn put_connections(&mut self, connections: &Connections, limits: &Limits, pick: &Pick) -> Result<(), NoMemory>
+    fn put_connections(
+        &mut self,
+        connections: &Connections,
+        limits: &Limits,
+        pick: &Pick,
+    ) -> Result<(), NoMemory>
         ensures grows { OnOk result (Grows self.old.sheet self.new.sheet) }
         ensures drawn { OnOk result (All (λ e. WriteDrawn self.new.sheet limits.now pick.now e.0 e.1) connections.now.items.entries) }
     {
@@ -118,7 +133,13 @@ impl Rows {
         Ok(())
     }
 
-    fn put_write(&mut self, conn: u32, write: &Place, limits: &Limits, pick: &Pick) -> Result<(), NoMemory>
+    fn put_write(
+        &mut self,
+        conn: u32,
+        write: &Place,
+        limits: &Limits,
+        pick: &Pick,
+    ) -> Result<(), NoMemory>
         ensures grows { OnOk result (Grows self.old.sheet self.new.sheet) }
         ensures drawn { OnOk result (IsPicked pick.now (buffers.Write conn) → Has self.new.sheet (known (limit_at limits.now (ids.Write conn))) (drawn_of write.now.lane)) }
     {
@@ -149,7 +170,13 @@ impl Rows {
     }
 
     // The lanes of a flow of an exchange, and its bar.
-    fn put_flow(&mut self, id: FlowId, exchange: &Exchange, limits: &Limits, pick: &Pick) -> Result<(), NoMemory>
+    fn put_flow(
+        &mut self,
+        id: FlowId,
+        exchange: &Exchange,
+        limits: &Limits,
+        pick: &Pick,
+    ) -> Result<(), NoMemory>
         ensures grows { OnOk result (Grows self.old.sheet self.new.sheet) }
         ensures drawn { OnOk result (FlowDrawn self.new.sheet limits.now pick.now id exchange.now) }
     {
@@ -163,7 +190,13 @@ impl Rows {
         Ok(())
     }
 
-    fn put_places(&mut self, id: FlowId, flow: &Flow, limits: &Limits, pick: &Pick) -> Result<(), NoMemory>
+    fn put_places(
+        &mut self,
+        id: FlowId,
+        flow: &Flow,
+        limits: &Limits,
+        pick: &Pick,
+    ) -> Result<(), NoMemory>
         ensures grows { OnOk result (Grows self.old.sheet self.new.sheet) }
         ensures drawn { OnOk result (PlacesDrawn self.new.sheet limits.now pick.now id flow.now.places.items (length flow.now.places.items)) }
     {

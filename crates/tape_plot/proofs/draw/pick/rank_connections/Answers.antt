@@ -2,12 +2,10 @@
 use Rattle.std.proofs.Common.{List, ap, map, refl, rules, ℕ, ◌∙◌, ◌≡◌}
 use Rattle.std.proofs.lemmas.Map.Iter.{iter_end}
 use Rattle.std.specs.Map.Iter.{deref_pair}
-use Rattle.std.specs.Prelude.{Option}
 use Rattle.tape_plot.proofs.Putting.{connection_put}
-use Rattle.tape_plot.specs.Filled.{of_connections, of_lane}
+use Rattle.tape_plot.specs.Filled.{of_connections}
 use Rattle.tape_plot.specs.Ranking.{kept_of, ranked_in}
 use Rattle.tape_plot.specs.declared.connection.Connection.{Connection}
-use Rattle.tape_plot.specs.declared.buffer.Buffer.TheVariants as buffer
 use Rattle.tape_plot.proofs.draw.pick.rank_connections.Goals as goal
 
 pub loop-conn-init : goal.loop-conn-init
@@ -15,9 +13,7 @@ loop-conn-init c = record { put = refl }
 
 pub loop-conn-preserved : goal.loop-conn-preserved
 loop-conn-preserved c = record {
-  put =
-      connection_put c.args.limits.now _ _ c.of_write-limit.result _ _ _ c.loop-conn.invariant.put
-      (ap (λ (v : Option ℕ). of_lane (buffer.Write c.in-Some.conn.now) v c.in-Some.connection.now.write) c.of_write-limit.ensures) c.in_ok-rank.ensures;
+  put = connection_put c.args.limits.now _ _ c.of_write-limit.result _ _ _ c.loop-conn.invariant.put c.of_write-limit.ensures c.in_ok-rank.ensures;
 }
 
 pub returns : goal.returns
