@@ -21,7 +21,8 @@ use Rattle.tape_plot.specs.declared.buffer.Buffer.TheVariants as buffer
 abbrev pub of_lane : Buffer → Option ℕ → Place → List Ranked
 of_lane b limit place =
     let most = most_of place.lane.base place.lane.points.items in
-    if most == 0 then [] else record { buffer = b; height = against (known limit) most } ∷ []
+    let one : Ranked = record { buffer = b; height = against (known limit) most } in
+    if most == 0 then [] else one ∷ []
 
 -- the places of a flow with so many, from the p-th on
 abbrev pub of_places : Limits → FlowId → ℕ → ℕ → List Place → List Ranked

@@ -65,7 +65,7 @@ impl Flow {
         }
     }
 
-    /// How many places there are. Where those are past 2^32 - 1, no note tells of the last.
+    /// How many places there are; out of memory where they are past 2^32 - 1.
     pub fn place_count(&self) -> Result<u32, NoMemory>
         ensures { IfOk result (λ n. n ≡ length self.now.places.items) }
     {

@@ -238,7 +238,10 @@ impl Rows {
         ensures grows { OnOk result (Grows self.old.sheet self.new.sheet) }
         ensures drawn { OnOk result (is_picked ≡ true → Has self.new.sheet (known limit) (drawn_of place.now.lane)) }
     {
-        if place.lane.most() == 0 || !is_picked {
+        if place.lane.most() == 0 {
+            return Ok(());
+        }
+        if !is_picked {
             return Ok(());
         }
         self.lanes = self.lanes.saturating_add(1);

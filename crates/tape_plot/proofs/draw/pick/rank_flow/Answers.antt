@@ -9,7 +9,7 @@ loop-i-init c = record { put = refl; within = omega arith }
 pub loop-i-preserved : goal.loop-i-preserved
 loop-i-preserved c = record {
   put =
-      place_put c.args.limits.now c.args.id c.args.flow.now.places.items c.loop-i.i c.in_ok-count.count c.index-place.result.now c.of_place.result _ _ _ (omega arith) c.in_ok-count.ensures c.index-place.ensures.value
+      place_put c.args.limits.now c.args.id c.args.flow.now.places.items c.loop-i.i c.in_ok-count.count c.index-place.result.now c.of_place.result _ _ _ (omega arith) c.in_ok-count.ensures c.index-place.ensures
       c.of_place.ensures c.in_ok-rank.ensures c.loop-i.invariant.put;
   within = omega arith;
 }

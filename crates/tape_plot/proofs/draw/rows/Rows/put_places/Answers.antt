@@ -11,7 +11,7 @@ loop-i-preserved c = record {
   grows = grows_more _ _ _ c.loop-i.invariant.grows c.in_ok-put_place.ensures.grows;
   drawn =
       place_next c.loop-i.self.sheet _ c.args.limits.now c.args.pick.now c.args.id c.args.flow.now.places.items c.loop-i.i c.in_ok-end.end c.index.result.now c.of_place-limit.result c.takes-is_picked.result
-      (omega arith) c.in_ok-end.ensures c.in_ok-put_place.ensures.grows c.loop-i.invariant.drawn c.takes-is_picked.ensures c.of_place-limit.ensures c.index.ensures.value c.in_ok-put_place.ensures.drawn;
+      (omega arith) c.in_ok-end.ensures c.in_ok-put_place.ensures.grows c.loop-i.invariant.drawn c.takes-is_picked.ensures c.of_place-limit.ensures c.index.ensures c.in_ok-put_place.ensures.drawn;
   within = omega arith;
 }
 
