@@ -22,5 +22,6 @@ pub mod Sorting
 pub mod Standing
 pub mod Stands
 pub mod Stopping
+pub mod Taking
 pub mod Topping
 pub mod Writing

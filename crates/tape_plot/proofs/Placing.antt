@@ -44,7 +44,7 @@ pub no_more : (b : Buffer) (rest : List Ranked) → length rest ≡ 0 → Contai
 no_more b [] e there = omega (arith, there.1)
 no_more b (r ∷ rs) e there = omega (arith, e)
 
-beq_self : (b : Bool) → beq b b ≡ true
+pub beq_self : (b : Bool) → beq b b ≡ true
 beq_self true = refl
 beq_self false = refl
 

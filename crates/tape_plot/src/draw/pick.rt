@@ -1,7 +1,5 @@
 // Which lanes are drawn.
-ghost use Rattle.std.specs.Ordering.{nat_cmp};
-ghost use Rattle.std.specs.Prelude.{◌≡◌, IfOk, OnOk, true};
-ghost use Rattle.tape_plot.specs.Picks.{IsPicked, RankedIn};
+ghost use Rattle.std.specs.Prelude.{◌≡◌, OnOk};
 ghost use Rattle.tape_plot.specs.Filled as spec;
 ghost use Rattle.tape_plot.specs.Ranking.{kept_of, ranked_in};
 

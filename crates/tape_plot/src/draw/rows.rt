@@ -1,15 +1,4 @@
 // The rows of the picture, from above.
-ghost use Rattle.std.specs.List.{Contains};
-ghost use Rattle.std.specs.Prelude.{◌≡◌, All, OnOk, length, true};
-ghost use Rattle.tape_plot.specs.Lanes.{drawn_of};
-ghost use Rattle.tape_plot.specs.Limits.{known, limit_at};
-ghost use Rattle.tape_plot.specs.Path.{path_text};
-ghost use Rattle.tape_plot.specs.Picks.{IsPicked};
-ghost use Rattle.tape_plot.specs.Sheets.{ExchangeDrawn, FlowDrawn, Grows, Has, LevelsDrawn, PlacesDrawn, WriteDrawn};
-ghost use Rattle.tape_plot.specs.Shown.{HasLine};
-ghost use Rattle.tape_plot.specs.declared.buffer.Buffer.TheVariants as buffers;
-ghost use Rattle.flow_gate.specs.declared.ids.BufferId.TheVariants as ids;
-
 use super::bar::{BAR, put_bar_row};
 use super::events::{Shape, put_doom, put_row};
 use super::frame::{AXIS, Frame, LANE};
