@@ -1,6 +1,6 @@
 -- What is drawn stays, and what is kept of a tape is drawn lane by lane.
 use Rattle.std.proofs.Common.{Bor, ap, arith, append_assoc, inl, inr, refl, subst, sym, ◌∙◌}
-use Rattle.std.proofs.lemmas.Bool.{eqb-true, ltb-false, ltb-true}
+use Rattle.std.proofs.lemmas.Bool.{eqb-true}
 use Rattle.std.proofs.lemmas.List.Elements.{All-contains, All-cons, All-nil, All-push, All-weaker, Contains-append_left, Contains-push}
 use Rattle.std.proofs.lemmas.List.{append-nil, get_or-map, get_or_past, length-map}
 use Rattle.std.proofs.lemmas.Map.Entries.{place_from_lookup}
@@ -8,7 +8,7 @@ use Rattle.std.proofs.lemmas.Option.{get_or_from_slice_get, slice_get_within}
 use Rattle.std.specs.BTreeMap.{BTreeMap, get, is_at}
 use Rattle.std.specs.List.{Contains, concat}
 use Rattle.std.specs.Ordering.{nat_cmp}
-use Rattle.std.specs.Prelude.{All, Bool, List, None, Option, Some, [], false, get_or, length, min, nat_lt, slice_index_or, true, ℕ, ◌+◌, ◌++◌, ◌<◌, ◌∷◌, ◌≡◌, ◌≤◌, ◌⊎◌}
+use Rattle.std.specs.Prelude.{All, Bool, List, None, Option, Some, [], false, get_or, length, min, slice_index_or, true, ℕ, ◌+◌, ◌++◌, ◌<◌, ◌∷◌, ◌≡◌, ◌≤◌, ◌⊎◌}
 use Rattle.flow_gate.specs.declared.ids.FlowId.{FlowId}
 use Rattle.tape_plot.proofs.Holding.{lt_or_le}
 use Rattle.tape_plot.proofs.Laning.{fits_self}

@@ -1,9 +1,9 @@
 -- The most that a lane was is the most that its number was in the dispatches that are drawn, or just before them.
-use Rattle.std.proofs.Common.{ap, arith, refl, subst, sym, ◌∙◌}
+use Rattle.std.proofs.Common.{ap, arith, refl, subst, sym}
 use Rattle.std.proofs.lemmas.Bool.{eqb-true, ltb-false, ltb-true}
 use Rattle.std.specs.Prelude.{Bool, List, None, Option, Some, [], false, if◌then◌else◌, max, nat_lt, not, true, ℕ, ◌&&◌, ◌+◌, ◌-◌, ◌/◌, ◌==◌, ◌∷◌, ◌≡◌, ◌≤◌}
 use Rattle.tape_laws.specs.Dispatches.{turns}
-use Rattle.tape_laws.specs.History.{History, NoMark, Step}
+use Rattle.tape_laws.specs.History.{History, NoMark}
 use Rattle.tape_plot.proofs.Columns.{before_since, eq_false, eq_true, none_early}
 use Rattle.tape_plot.specs.Highest.{most_from}
 use Rattle.tape_plot.specs.Lanes.{Drawn, LaneIs, Rise, most_of, point_at, span_of}

@@ -5,13 +5,13 @@ use Rattle.std.proofs.Math.Seq.{drop-cons}
 use Rattle.std.proofs.lemmas.List.Elements.{All-map, All-weaker}
 use Rattle.std.proofs.lemmas.List.{append-nil, drop_all, map-append}
 use Rattle.std.specs.Map.Iter.{deref_pair}
-use Rattle.std.specs.Prelude.{All, Bool, List, Option, [], drop, false, if◌then◌else◌, length, map, slice_index_or, suc, take, true, ℕ, ◌+◌, ◌++◌, ◌<◌, ◌==◌, ◌∷◌, ◌≡◌, ◌≤◌}
+use Rattle.std.specs.Prelude.{All, Bool, List, Option, [], drop, if◌then◌else◌, length, map, slice_index_or, suc, take, ℕ, ◌+◌, ◌++◌, ◌<◌, ◌∷◌, ◌≡◌, ◌≤◌}
 use Rattle.tape_plot.proofs.Columns.{eq_false, eq_true}
 use Rattle.tape_plot.proofs.Filling.{IsKept, all_have, all_kept, all_of}
 use Rattle.tape_plot.proofs.Ranks.{ArePut, IsRight, all_put, buffers_in, picked_of}
 use Rattle.tape_plot.proofs.Sorting.{all_order}
-use Rattle.tape_plot.specs.Filled.{IsRead, of_connection, of_connections, of_exchange, of_exchanges, of_flow, of_lane, of_places}
-use Rattle.tape_plot.specs.Highest.{ArePicked, against}
+use Rattle.tape_plot.specs.Filled.{IsRead, of_connection, of_connections, of_exchange, of_exchanges, of_lane, of_places}
+use Rattle.tape_plot.specs.Highest.{against}
 use Rattle.tape_plot.specs.Lanes.{most_of}
 use Rattle.tape_plot.specs.Limits.{known, limit_at, place_limit_at}
 use Rattle.tape_plot.specs.Picks.{RankedIn, height_kept, top_in}

@@ -3,7 +3,7 @@ use Rattle.std.proofs.Common.{ap, append_assoc, arith, inl, inr, refl, subst, sy
 use Rattle.std.proofs.lemmas.List.Elements.{All-contains, All-head, All-map, All-nil, All-tail, All-take, All-weaker, Contains-append_left, Contains-push, Contains-push_cases}
 use Rattle.std.proofs.lemmas.List.{append-nil, get_or-map, length-map, map-append}
 use Rattle.std.specs.List.{Contains}
-use Rattle.std.specs.Prelude.{All, Bool, List, [], false, if◌then◌else◌, length, map, take, true, ℕ, ◌++◌, ◌∷◌, ◌≡◌, ◌⊎◌}
+use Rattle.std.specs.Prelude.{All, Bool, List, [], false, if◌then◌else◌, length, map, take, true, ◌++◌, ◌∷◌, ◌≡◌, ◌⊎◌}
 use Rattle.tape_plot.proofs.Choosing.{AreFirst, behind_all, first_of, in_head, put_all, put_by, put_has, put_in_order, put_keeps, take_put}
 use Rattle.tape_plot.proofs.Heights.{before_flips, earlier_goes, goes_through, later_goes}
 use Rattle.tape_plot.specs.Highest.{AreInOrder, ArePicked, goes_before, is_before, is_higher}

@@ -7,7 +7,6 @@ use Rattle.std.specs.Option.{option_map_or, option_or}
 use Rattle.std.specs.Prelude.{List, None, Option, Some, if◌then◌else◌, ℕ, ◌+◌, ◌==◌, ◌≡◌}
 use Rattle.tape_plot.specs.Highest.{limit_named}
 use Rattle.tape_plot.specs.Said.{Said}
-use Rattle.tape_plot.specs.declared.buffer.Buffer.{Buffer}
 use Rattle.tape_plot.specs.declared.limits.Limits.{Limits}
 use Rattle.tape_plot.specs.declared.report.Line.{Line}
 use Rattle.flow_gate.specs.declared.ids.BufferId.TheVariants as id
