@@ -13,12 +13,12 @@ loop-conn-init c = record { put = refl }
 
 pub loop-conn-preserved : goal.loop-conn-preserved
 loop-conn-preserved c = record {
-  put = connection_put c.args.limits.now _ _ c.of_write-limit.result _ _ _ c.loop-conn.invariant.put c.of_write-limit.ensures c.in_ok-rank.ensures;
+  put = connection_put c.args.limits.now c.loop-conn.yielded (c.in-Some.conn, c.in-Some.connection) c.of_write-limit.result (ranked_in c.args.highest.now) (ranked_in c.loop-conn.highest) (ranked_in c.rank.new.highest) c.loop-conn.invariant.put c.of_write-limit.ensures c.in_ok-rank.ensures;
 }
 
 pub returns : goal.returns
 returns c =
     let e : map deref_pair c.loop-conn.yielded ≡ c.args.connections.now.items.entries = search (rules, iter_end) in record {
       put = c.loop-conn.invariant.put ∙ ap (λ (v : List (ℕ × Connection)). kept_of (of_connections c.args.limits.now v) (ranked_in c.args.highest.now)) e;
-      read = (c.iter.ensures.ordered, c.iter.ensures.found);
+      read = (c.iter-conn-items.ensures.ordered, c.iter-conn-items.ensures.found);
     }

@@ -12,11 +12,11 @@ pub loop-number-init : goal.loop-number-init
 loop-number-init c = record { put = refl }
 
 pub loop-number-preserved : goal.loop-number-preserved
-loop-number-preserved c = record { put = exchange_put c.args.limits.now _ _ _ _ _ c.loop-number.invariant.put c.in_ok-rank_exchange.ensures }
+loop-number-preserved c = record { put = exchange_put c.args.limits.now c.loop-number.yielded (c.in-Some.number, c.in-Some.exchange) (ranked_in c.args.highest.now) (ranked_in c.loop-number.highest) (ranked_in c.rank_exchange.new.highest) c.loop-number.invariant.put c.in_ok-rank_exchange.ensures }
 
 pub returns : goal.returns
 returns c =
     let e : map deref_pair c.loop-number.yielded ≡ c.args.exchanges.now.items.entries = search (rules, iter_end) in record {
       put = c.loop-number.invariant.put ∙ ap (λ (v : List (ℕ × Exchange)). kept_of (of_exchanges c.args.limits.now v) (ranked_in c.args.highest.now)) e;
-      read = (c.iter.ensures.ordered, c.iter.ensures.found);
+      read = (c.iter-number-items.ensures.ordered, c.iter-number-items.ensures.found);
     }
