@@ -3,10 +3,10 @@ use Rattle.flow_gate.specs.declared.ids.BufferId.{BufferId}
 use Rattle.flow_gate.specs.declared.ids.FlowId.{FlowId}
 use Rattle.flow_notes.specs.declared.notes.Cause.{Cause}
 use Rattle.io_ports.specs.declared.octets.NoMemory.{NoMemory}
-use Rattle.std.proofs.Common.{ap, arith, inl, inr, refl, subst, sym, ◌∙◌}
+use Rattle.std.proofs.Common.{ap, arith, inl, inr, length-append, refl, subst, sym, ◌∙◌}
 use Rattle.std.proofs.Math.ListN.{get_or-eq_default}
 use Rattle.std.proofs.lemmas.List.{get_or-set_other, get_or-set_same, get_or-map, length-map, length-set, map-set}
-use Rattle.std.specs.Prelude.{Bool, Err, List, None, Ok, OnOk, Result, false, if◌then◌else◌, length, map, not, set, slice_index_or, true, ℕ, ◌&&◌, ◌+◌, ◌-◌, ◌<◌, ◌∷◌, ◌≡◌, ◌≤◌, ◌⊎◌}
+use Rattle.std.specs.Prelude.{Bool, Err, List, None, Ok, OnOk, Option, Result, Some, [], false, if◌then◌else◌, length, map, max, min, not, set, slice_index_or, true, ℕ, ◌&&◌, ◌++◌, ◌+◌, ◌-◌, ◌<◌, ◌==◌, ◌∷◌, ◌≡◌, ◌≤◌, ◌⊎◌}
 use Rattle.tape_laws.specs.Dispatches.{turns}
 use Rattle.tape_laws.specs.Flows.{same_flow}
 use Rattle.tape_laws.specs.History.{History, NoMark, Noted, Step}
@@ -16,7 +16,7 @@ use Rattle.tape_plot.proofs.Holding.{lt_or_le}
 use Rattle.tape_plot.proofs.Laning.{still}
 use Rattle.tape_plot.specs.Flows.{Arrives, Dooms, FlowIs, Frames, LanesAre, Moves, Pauses, Resumes, ShownTo, Shows, lane_at, lanes_of}
 use Rattle.tape_plot.specs.Lanes.{Drawn, LaneIs, Sets, drawn_of, fresh}
-use Rattle.tape_plot.specs.Levels.{at, filled, framed, moved, places, relayed, shown_count, was_doomed}
+use Rattle.tape_plot.specs.Levels.{at, entered, filled, framed, moved, places, relayed, shown_count, top, was_doomed}
 use Rattle.tape_plot.specs.declared.clock.Clock.{Clock}
 use Rattle.tape_plot.specs.declared.flow.Flow.{Flow}
 use Rattle.tape_plot.specs.declared.flow.Place.{Place}
@@ -118,15 +118,60 @@ shown_of doomed p r = if doomed then 0 else p - r
 pub shown_same : (a b : Bool) (p q r s : ℕ) → a ≡ b → p ≡ q → r ≡ s → shown_of a p r ≡ shown_of b q s
 shown_same a b p q r s e f g = ap (λ (v : Bool). shown_of v p r) e ∙ ap (λ (v : ℕ). shown_of b v r) f ∙ ap (λ (v : ℕ). shown_of b q v) g
 
+-- the list of a flow's places never gets shorter
+filled_more : (p n : ℕ) (held : List ℕ) → length held ≤ length (filled p n held)
+filled_more p n held = by (p == length held)
+  where
+    by : (b : Bool) → length held ≤ length (if b then held ++ n ∷ [] else set held p (at held p + n))
+    by true = omega (arith, length-append held (n ∷ []))
+    by false = omega (arith, length-set held p (at held p + n))
+
+entered_more : (o : Option ℕ) (n : ℕ) (held : List ℕ) → length held ≤ length (entered o n held)
+entered_more None n held = filled_more 0 n held
+entered_more (Some c) n held = omega arith
+
+moved_more : (p n : ℕ) (held : List ℕ) → length held ≤ length (moved p n held)
+moved_more p n held = by (m == 0)
+  where
+    m : ℕ
+    m = min n (at held p)
+
+    by : (b : Bool) → length held ≤ length (if b then held else filled (p + 1) m (set held p (at held p - m)))
+    by true = omega arith
+    by false = omega (arith, filled_more (p + 1) m (set held p (at held p - m)), length-set held p (at held p - m))
+
+zeros_more : (held : List ℕ) → length held ≤ length {A = ℕ} (map (λ _. 0) held)
+zeros_more held = let e : length {A = ℕ} (map (λ _. 0) held) ≡ length held = length-map held (λ _. 0) in omega (arith, e)
+
+more_if : (b : Bool) (new old : List ℕ) → length old ≤ length new → length old ≤ length (if b then new else old)
+more_if true new old le = le
+more_if false new old le = omega arith
+
+never_fewer : (f : FlowId) (step : Step NoMark) (h : History NoMark) → length (places f h) ≤ length (places f (step ∷ h))
+never_fewer f (Noted (note.Arrive g octets)) h = more_if (same_flow g f) (entered (relayed f h) (length octets) (places f h)) (places f h) (entered_more (relayed f h) (length octets) (places f h))
+never_fewer f (Noted (note.Move g p n)) h = more_if (same_flow g f) (moved p n (places f h)) (places f h) (moved_more p n (places f h))
+never_fewer f (Noted (note.Frame c g n last)) h =
+    more_if (same_flow g f) (framed n (places f h)) (places f h) (omega (arith, length-set (places f h) (top (places f h)) (at (places f h) (top (places f h)) - n)))
+never_fewer f (Noted (note.Doom x why)) h = more_if (f.exchange == x) (map (λ _. 0) (places f h)) (places f h) (zeros_more (places f h))
+never_fewer f step h = omega arith
+
+many_on : (old new : Flow) (f : FlowId) (step : Step NoMark) (h : History NoMark) → length old.places.items ≡ length (places f h) → new.held.levels.items ≡ places f (step ∷ h)
+    → length new.places.items ≡ max (length old.places.items) (length new.held.levels.items) → length new.places.items ≡ length (places f (step ∷ h))
+many_on old new f step h was eh many = omega (arith, was, ap length eh, many, never_fewer f step h)
+
+many_same : (old new : List Place) → lanes_of new ≡ lanes_of old → length new ≡ length old
+many_same old new e = sym (length-map new (λ (p : Place). drawn_of p.lane)) ∙ ap length e ∙ length-map old (λ (p : Place). drawn_of p.lane)
+
 -- a step that moves octets of the flow, and leaves its count
 moved_flow : (old new : Flow) (f : FlowId) (clock : Clock) (step : Step NoMark) (h : History NoMark) → FlowIs old f clock.first h → turns (step ∷ h) ≡ clock.turn
     → new.held.levels.items ≡ places f (step ∷ h) → Shows (lanes_of old.places.items) new.held.levels.items clock (lanes_of new.places.items)
-    → pauses f (step ∷ h) ≡ pauses f h → resumes f (step ∷ h) ≡ resumes f h → was_doomed f.exchange (step ∷ h) ≡ was_doomed f.exchange h
+    → length new.places.items ≡ max (length old.places.items) (length new.held.levels.items) → pauses f (step ∷ h) ≡ pauses f h → resumes f (step ∷ h) ≡ resumes f h → was_doomed f.exchange (step ∷ h) ≡ was_doomed f.exchange h
     → new.pauses ≡ old.pauses → new.resumes ≡ old.resumes → new.is_doomed ≡ old.is_doomed → drawn_of new.count ≡ drawn_of old.count
     → FlowIs new f clock.first (step ∷ h)
-moved_flow old new f clock step h is t eh shows ep er ed np nr nd nc = record {
+moved_flow old new f clock step h is t eh shows many ep er ed np nr nd nc = record {
   held = eh;
   lanes = shows.goes (places f) step h is.lanes t (sym eh);
+  many = many_on old new f step h is.many eh many;
   pauses = np ∙ is.pauses ∙ sym ep;
   resumes = nr ∙ is.resumes ∙ sym er;
   doomed = nd ∙ is.doomed ∙ sym ed;
@@ -138,27 +183,27 @@ arrived : (f : FlowId) (octets : List ℕ) (n : ℕ) (h : History NoMark) → re
 arrived f octets n h u l = rw (same_self f, u) (ap (λ (v : ℕ). filled 0 v (places f h)) (sym l))
 
 pub flow_arrives : (old new : Flow) (n : ℕ) (clock : Clock) → new.held.levels.items ≡ filled 0 n old.held.levels.items → Shows (lanes_of old.places.items) new.held.levels.items clock (lanes_of new.places.items)
-    → new.pauses ≡ old.pauses → new.resumes ≡ old.resumes → new.is_doomed ≡ old.is_doomed → drawn_of new.count ≡ drawn_of old.count → Arrives old n clock new
-flow_arrives old new n clock eh shows np nr nd nc = record {
-  goes = λ f octets h u l t is. moved_flow old new f clock (Noted (note.Arrive f octets)) h is t (eh ∙ ap (filled 0 n) is.held ∙ arrived f octets n h u l) shows refl refl refl np nr nd nc;
+    → length new.places.items ≡ max (length old.places.items) (length new.held.levels.items) → new.pauses ≡ old.pauses → new.resumes ≡ old.resumes → new.is_doomed ≡ old.is_doomed → drawn_of new.count ≡ drawn_of old.count → Arrives old n clock new
+flow_arrives old new n clock eh shows many np nr nd nc = record {
+  goes = λ f octets h u l t is. moved_flow old new f clock (Noted (note.Arrive f octets)) h is t (eh ∙ ap (filled 0 n) is.held ∙ arrived f octets n h u l) shows many refl refl refl np nr nd nc;
 }
 
 shifted : (f : FlowId) (p n : ℕ) (h : History NoMark) → moved p n (places f h) ≡ places f (Noted (note.Move f p n) ∷ h)
 shifted f p n h = rw (same_self f) refl
 
 pub flow_moves : (old new : Flow) (p n : ℕ) (clock : Clock) → new.held.levels.items ≡ moved p n old.held.levels.items → Shows (lanes_of old.places.items) new.held.levels.items clock (lanes_of new.places.items)
-    → new.pauses ≡ old.pauses → new.resumes ≡ old.resumes → new.is_doomed ≡ old.is_doomed → drawn_of new.count ≡ drawn_of old.count → Moves old p n clock new
-flow_moves old new p n clock eh shows np nr nd nc = record {
-  goes = λ f h t is. moved_flow old new f clock (Noted (note.Move f p n)) h is t (eh ∙ ap (moved p n) is.held ∙ shifted f p n h) shows refl refl refl np nr nd nc;
+    → length new.places.items ≡ max (length old.places.items) (length new.held.levels.items) → new.pauses ≡ old.pauses → new.resumes ≡ old.resumes → new.is_doomed ≡ old.is_doomed → drawn_of new.count ≡ drawn_of old.count → Moves old p n clock new
+flow_moves old new p n clock eh shows many np nr nd nc = record {
+  goes = λ f h t is. moved_flow old new f clock (Noted (note.Move f p n)) h is t (eh ∙ ap (moved p n) is.held ∙ shifted f p n h) shows many refl refl refl np nr nd nc;
 }
 
 left_frame : (c : ℕ) (f : FlowId) (n : ℕ) (last : Bool) (h : History NoMark) → framed n (places f h) ≡ places f (Noted (note.Frame c f n last) ∷ h)
 left_frame c f n last h = rw (same_self f) refl
 
 pub flow_frames : (old new : Flow) (n : ℕ) (clock : Clock) → new.held.levels.items ≡ framed n old.held.levels.items → Shows (lanes_of old.places.items) new.held.levels.items clock (lanes_of new.places.items)
-    → new.pauses ≡ old.pauses → new.resumes ≡ old.resumes → new.is_doomed ≡ old.is_doomed → drawn_of new.count ≡ drawn_of old.count → Frames old n clock new
-flow_frames old new n clock eh shows np nr nd nc = record {
-  goes = λ c f last h t is. moved_flow old new f clock (Noted (note.Frame c f n last)) h is t (eh ∙ ap (framed n) is.held ∙ left_frame c f n last h) shows refl refl refl np nr nd nc;
+    → length new.places.items ≡ max (length old.places.items) (length new.held.levels.items) → new.pauses ≡ old.pauses → new.resumes ≡ old.resumes → new.is_doomed ≡ old.is_doomed → drawn_of new.count ≡ drawn_of old.count → Frames old n clock new
+flow_frames old new n clock eh shows many np nr nd nc = record {
+  goes = λ c f last h t is. moved_flow old new f clock (Noted (note.Frame c f n last)) h is t (eh ∙ ap (framed n) is.held ∙ left_frame c f n last h) shows many refl refl refl np nr nd nc;
 }
 
 dropped : (f : FlowId) (why : Cause) (h : History NoMark) → map (λ _. 0) (places f h) ≡ places f (Noted (note.Doom f.exchange why) ∷ h)
@@ -168,11 +213,12 @@ doomed_now : (f : FlowId) (why : Cause) (h : History NoMark) → true ≡ was_do
 doomed_now f why h = rw (eq_true f.exchange f.exchange _ refl refl) refl
 
 pub flow_dooms : (old new : Flow) (clock : Clock) → new.held.levels.items ≡ map (λ _. 0) old.held.levels.items → Shows (lanes_of old.places.items) new.held.levels.items clock (lanes_of new.places.items)
-    → new.pauses ≡ old.pauses → new.resumes ≡ old.resumes → new.is_doomed ≡ true → Sets (drawn_of old.count) 0 clock (drawn_of new.count) → Dooms old clock new
-flow_dooms old new clock eh shows np nr nd sets = record {
+    → length new.places.items ≡ max (length old.places.items) (length new.held.levels.items) → new.pauses ≡ old.pauses → new.resumes ≡ old.resumes → new.is_doomed ≡ true → Sets (drawn_of old.count) 0 clock (drawn_of new.count) → Dooms old clock new
+flow_dooms old new clock eh shows many np nr nd sets = record {
   goes = λ f why h t is. let step : Step NoMark = Noted (note.Doom f.exchange why) in let e = eh ∙ ap (map (λ _. 0)) is.held ∙ dropped f why h in record {
     held = e;
     lanes = shows.goes (places f) step h is.lanes t (sym e);
+    many = many_on old new f step h is.many e many;
     pauses = np ∙ is.pauses;
     resumes = nr ∙ is.resumes;
     doomed = nd ∙ doomed_now f why h;
@@ -192,6 +238,7 @@ flow_pauses old new shown clock eh el np nr nd es sets = record {
   goes = λ f b h t is. let step : Step NoMark = Noted (note.Pause f b) in let p = np ∙ ap (λ (v : ℕ). v + 1) is.pauses ∙ one_pause f b h in record {
     held = eh ∙ is.held;
     lanes = subst (λ (v : List Drawn). LanesAre v (places f) clock.first (step ∷ h)) (sym el) (lanes_still (lanes_of old.places.items) (places f) clock.first step h is.lanes refl);
+    many = many_same old.places.items new.places.items el ∙ is.many;
     pauses = p;
     resumes = nr ∙ is.resumes;
     doomed = nd ∙ is.doomed;
@@ -205,6 +252,7 @@ flow_resumes old new shown clock eh el np nr nd es sets = record {
   goes = λ f b h t is. let step : Step NoMark = Noted (note.Resume f b) in let r = nr ∙ ap (λ (v : ℕ). v + 1) is.resumes ∙ one_resume f b h in record {
     held = eh ∙ is.held;
     lanes = subst (λ (v : List Drawn). LanesAre v (places f) clock.first (step ∷ h)) (sym el) (lanes_still (lanes_of old.places.items) (places f) clock.first step h is.lanes refl);
+    many = many_same old.places.items new.places.items el ∙ is.many;
     pauses = np ∙ is.pauses;
     resumes = r;
     doomed = nd ∙ is.doomed;

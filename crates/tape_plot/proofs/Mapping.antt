@@ -4,9 +4,10 @@ use Rattle.flow_notes.specs.declared.notes.Note.{Note}
 use Rattle.std.proofs.Common.{ap, arith, refl, subst, sym, true≢false, ◌∙◌}
 use Rattle.std.proofs.lemmas.Bool.Decides.{nat_tests}
 use Rattle.std.proofs.lemmas.Bool.{eqb-false, eqb-true}
+use Rattle.std.proofs.lemmas.List.{length-map}
 use Rattle.std.specs.BTreeMap.{BTreeMap, get, is_at}
 use Rattle.std.specs.Ordering.{nat_cmp}
-use Rattle.std.specs.Prelude.{Bool, List, None, Option, Some, cond, false, if◌then◌else◌, is_some, nat_eq, true, ℕ, ◌+◌, ◌∷◌, ◌≡◌}
+use Rattle.std.specs.Prelude.{Bool, List, None, Option, Some, cond, false, if◌then◌else◌, is_some, length, nat_eq, true, ℕ, ◌+◌, ◌∷◌, ◌≡◌}
 use Rattle.tape_laws.specs.History.{History, NoMark, Noted}
 use Rattle.tape_plot.proofs.Columns.{eq_false, eq_true}
 use Rattle.tape_plot.proofs.Standing.{StillConnection, connection_still, exchange_still, not_both, not_nothing, nothing_not, quiet, same_connection, same_exchange}
@@ -24,6 +25,7 @@ use Rattle.tape_plot.specs.declared.exchange.Fill.{Fill}
 use Rattle.tape_plot.specs.declared.exchange.Relay.{Relay}
 use Rattle.tape_plot.specs.declared.exchanges.Exchanges.{Exchanges}
 use Rattle.tape_plot.specs.declared.flow.Flow.{Flow}
+use Rattle.tape_plot.specs.declared.flow.Place.{Place}
 use Rattle.tape_plot.specs.declared.levels.Levels.{Levels}
 use Rattle.tape_plot.specs.declared.subject.Subject.TheVariants as subject
 
@@ -53,6 +55,7 @@ pub new_flow : (flow : Flow) (f : FlowId) (first : ℕ) (h : History NoMark) →
 new_flow flow f first h is u = record {
   held = is.held ∙ u.held;
   lanes = subst (λ (v : List Drawn). LanesAre v (places f) first h) (sym is.lanes) u.lanes;
+  many = sym (length-map flow.places.items (λ (p : Place). drawn_of p.lane)) ∙ ap length is.lanes ∙ ap length u.held;
   pauses = is.pauses ∙ u.pauses;
   resumes = is.resumes ∙ u.resumes;
   doomed = is.doomed ∙ u.doomed;

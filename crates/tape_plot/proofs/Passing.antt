@@ -26,6 +26,14 @@ pub when_ok : {A E : Type 0} (P Q : Type 0) (r : Result A E) → (P → Q) → O
 when_ok P Q (Ok x) f p = f p
 when_ok P Q (Err e) f p = tt
 
+pub always : {A E : Type 0} (P : Type 0) (r : Result A E) → P → OnOk r P
+always P (Ok x) p = p
+always P (Err e) p = tt
+
+pub both_ok : {A E : Type 0} (P Q R : Type 0) (r : Result A E) → (P → Q → R) → OnOk r P → OnOk r Q → OnOk r R
+both_ok P Q R (Ok x) f p q = f p q
+both_ok P Q R (Err x) f p q = tt
+
 -- ---- a flow with a note of its own
 
 pub arrive_goes : (old new : Flow) (n : Note) (g : FlowId) (octets : List ℕ) (k : ℕ) (clock : Clock) → n ≡ note.Arrive g octets → k ≡ length octets → Arrives old k clock new → FlowGoes old n clock new

@@ -1,48 +1,97 @@
 -- The picture of a tape shows what was read of it.
+use Rattle.flow_gate.specs.declared.ids.FlowId.{FlowId}
 use Rattle.session_run.specs.Newlines.{has_newline}
 use Rattle.session_run.specs.declared.status.Status.{Status}
-use Rattle.std.proofs.Common.{refl, subst, sym}
-use Rattle.std.specs.BTreeMap.{get}
+use Rattle.std.proofs.Common.{ap, inl, inr, refl, subst, sym, ◌∙◌}
+use Rattle.std.proofs.lemmas.List.Elements.{All-contains_itself, All-weaker}
 use Rattle.std.specs.Io.KnownBytes.{IsAtEnd}
-use Rattle.std.specs.Ordering.{nat_cmp}
-use Rattle.std.specs.Prelude.{List, None, Option, Some, false, min, ℕ, ◌≡◌}
+use Rattle.std.specs.List.{Contains}
+use Rattle.std.specs.Option.{option_or}
+use Rattle.std.specs.Prelude.{List, None, Option, Some, false, if◌then◌else◌, length, min, ℕ, ◌+◌, ◌<◌, ◌==◌, ◌≡◌}
 use Rattle.tape_laws.specs.Dispatches.{turns}
 use Rattle.tape_laws.specs.History.{History, NoMark}
+use Rattle.tape_plot.proofs.Mosts.{most_is}
 use Rattle.tape_plot.specs.Ending.{EndsRight, IsNone, IsRefused, Writes, ended}
+use Rattle.tape_plot.specs.Highest.{ArePicked, against, height_in, held_in, limit_named, limit_of, most_from, place_limit}
 use Rattle.tape_plot.specs.Kept.{until}
 use Rattle.tape_plot.specs.Lanes.{Drawn, LaneIs}
-use Rattle.tape_plot.specs.Levels.{at, places, written}
+use Rattle.tape_plot.specs.Levels.{places}
+use Rattle.tape_plot.specs.Limits.{LimitsAre, known, limit_at, place_limit_at}
+use Rattle.tape_plot.specs.Picks.{IsPicked, buffers_of, height_kept, lane_of, limit_kept, top_in}
 use Rattle.tape_plot.specs.Pictures.{DrawsAs, Pictures, WritesAs, WritesText}
 use Rattle.tape_plot.specs.Reads.{EndsHow, Reads, ReadsTape}
 use Rattle.tape_plot.specs.Said.{Said, told}
-use Rattle.tape_plot.specs.Sheets.{LaneDrawn, LevelsDrawn}
-use Rattle.tape_plot.specs.Shown.{IsDrawn, Shows, ShowsBuffers, Within}
-use Rattle.tape_plot.specs.Standing.{LanesStand, place_lane, write_lane}
+use Rattle.tape_plot.specs.Sheets.{LaneDrawn, TextDrawn}
+use Rattle.tape_plot.specs.Shown.{AsksFor, IsDrawn, Shows, ShowsBuffers, WasFilled, Within}
+use Rattle.tape_plot.specs.Standing.{LanesStand}
+use Rattle.tape_plot.specs.declared.buffer.Buffer.{Buffer}
 use Rattle.tape_plot.specs.declared.choice.Choice.{Choice}
 use Rattle.tape_plot.specs.declared.choice.Lanes.{Lanes}
 use Rattle.tape_plot.specs.declared.levels.Levels.{Levels}
+use Rattle.tape_plot.specs.declared.limits.Limits.{Limits}
 use Rattle.tape_plot.specs.declared.outcome.Outcome.{Outcome}
 use Rattle.tape_plot.specs.declared.outcome.Refusal.{Refusal}
 use Rattle.tape_plot.specs.declared.tape.Tape.{Tape}
+use Rattle.flow_gate.specs.declared.ids.BufferId.TheVariants as ids
 use Rattle.session_run.specs.declared.status.Status.TheVariants as status
+use Rattle.tape_plot.specs.declared.buffer.Buffer.TheVariants as buffer
 
 -- ---- what is drawn of the lanes
 
-shows_lane : (text : List ℕ) (L : History NoMark → ℕ) (first end : ℕ) (h : History NoMark) (d : Drawn) → end ≡ turns h → LaneDrawn (Within text) first end d → LaneIs d L first h → Shows text L first h
-shows_lane text L first end h d e l is = record {
+lane_stands : (b : Buffer) (levels : Levels) (first : ℕ) (h : History NoMark) → LanesStand levels first h → LaneIs (lane_of b levels) (held_in b) first h
+lane_stands (buffer.Place f p) levels first h s = s.placed f p
+lane_stands (buffer.Write c) levels first h s = s.wrote c
+
+place_told : (limits : Limits) (f : FlowId) (count p : ℕ) (said : List Said) → LimitsAre limits said → place_limit_at limits f count p ≡ place_limit f count p said
+place_told limits f count p said are =
+    ap (λ (v : Option ℕ). if p == 0 then v else option_or (limit_at limits (ids.Stage f p)) (if p + 1 == count then limit_at limits (ids.Send f) else None)) (are.each (ids.Recv f))
+    ∙ ap (λ (v : Option ℕ). if p == 0 then limit_named (ids.Recv f) said else option_or v (if p + 1 == count then limit_at limits (ids.Send f) else None)) (are.each (ids.Stage f p))
+    ∙ ap (λ (v : Option ℕ). if p == 0 then limit_named (ids.Recv f) said else option_or (limit_named (ids.Stage f p) said) (if p + 1 == count then v else None)) (are.each (ids.Send f))
+
+-- the limit that is kept is the one that the summary tells
+limit_stands : (b : Buffer) (levels : Levels) (limits : Limits) (first : ℕ) (h : History NoMark) (said : List Said) → LanesStand levels first h → LimitsAre limits said → known (limit_kept b levels limits) ≡ limit_of b h said
+limit_stands (buffer.Place f p) levels limits first h said s are = ap (λ (n : ℕ). known (place_limit_at limits f n p)) (s.many f) ∙ ap known (place_told limits f (length (places f h)) p said are)
+limit_stands (buffer.Write c) levels limits first h said s are = ap known (are.each (ids.Write c))
+
+shows_lane : (text : List ℕ) (b : Buffer) (first end limit : ℕ) (h : History NoMark) (said : List Said) (d : Drawn) → end ≡ turns h → limit ≡ limit_of b h said → LaneDrawn (Within text) first end limit d → LaneIs d (held_in b) first h
+    → Shows text b first h said
+shows_lane text b first end limit h said d e el l is = record {
   lane = l.fitted;
-  stands = l.fits.goes L first h is;
-  drawn = subst (λ (v : ℕ). IsDrawn (Within text) first v l.fitted) e l.drawn;
+  stands = l.fits.goes (held_in b) first h is;
+  drawn = subst (λ (v : ℕ). IsDrawn (Within text) first (turns h) v l.fitted) el (subst (λ (v : ℕ). IsDrawn (Within text) first v limit l.fitted) e l.drawn);
 }
 
-shows_buffers : (text : List ℕ) (lanes : Lanes) (levels : Levels) (first end : ℕ) (h : History NoMark) → end ≡ turns h → LevelsDrawn (Within text) first end lanes levels → LanesStand levels first h → ShowsBuffers text lanes first h
-shows_buffers text lanes levels first end h e d s = record {
-  placed = λ f p asks. shows_lane text (λ v. at (places f v) p) first end h (place_lane (get nat_cmp levels.exchanges.items f.exchange) f.back p) e (d.placed f p asks) (s.placed f p);
-  wrote = λ c asks. shows_lane text (written c) first end h (write_lane (get nat_cmp levels.connections.items c)) e (d.wrote c asks) (s.wrote c);
+-- what is picked of the lanes is picked of the buffers
+picked_stands : (levels : Levels) (limits : Limits) (first : ℕ) (h : History NoMark) (said : List Said) (picked : List Buffer) → LanesStand levels first h → LimitsAre limits said
+    → ArePicked (height_kept levels limits) (λ b. 0 < top_in b levels) picked → ArePicked (λ b. height_in b first h said) (WasFilled first h) picked
+picked_stands levels limits first h said picked s are k =
+    subst (λ (t : Buffer → ℕ). ArePicked (λ b. against (limit_of b h said) (t b)) (λ b. 0 < t b) picked) tops
+    (subst (λ (l : Buffer → ℕ). ArePicked (λ b. against (l b) (top_in b levels)) (λ b. 0 < top_in b levels) picked) its_limits k)
+  where
+    its_limits : (λ (b : Buffer). known (limit_kept b levels limits)) ≡ (λ (b : Buffer). limit_of b h said)
+    its_limits = λ i b. limit_stands b levels limits first h said s are i
+
+    tops : (λ (b : Buffer). top_in b levels) ≡ (λ (b : Buffer). most_from (held_in b) first h)
+    tops = λ i b. most_is (lane_of b levels) (held_in b) first h (lane_stands b levels first h s) i
+
+shows_buffers : (text : List ℕ) (lanes : Lanes) (limits : Limits) (levels : Levels) (first end : ℕ) (h : History NoMark) (said : List Said) → end ≡ turns h → TextDrawn text first end limits lanes levels → LanesStand levels first h
+    → LimitsAre limits said → ShowsBuffers text lanes first h said
+shows_buffers text lanes limits levels first end h said e d s are = record {
+  asked = λ b asks. shown b (inl (subst (λ (v : Lanes). AsksFor v b) (sym d.by) asks));
+  highest = λ is. record {
+    picked = buffers_of d.pick;
+    are = picked_stands levels limits first h said (buffers_of d.pick) s are (d.ranked (d.by ∙ is));
+    shown =
+        All-weaker (Contains (buffers_of d.pick)) (λ b. Shows text b first h said) (λ b there. shown b (inr (d.by ∙ is, there))) (buffers_of d.pick) (All-contains_itself (buffers_of d.pick));
+  };
 }
+  where
+    shown : (b : Buffer) → IsPicked d.pick b → Shows text b first h said
+    shown b is =
+        shows_lane text b first end (known (limit_kept b levels limits)) h said (lane_of b levels) e (limit_stands b levels limits first h said s are) (d.drawn.lanes b is) (lane_stands b levels first h s)
 
 pub pictured : (left_old left_new : Option (List ℕ)) (choice : Choice) (tape : Tape) (text : List ℕ) → ReadsTape left_old left_new choice.first choice.last tape
-    → LevelsDrawn (Within text) tape.plot.clock.first (min tape.plot.clock.turn tape.plot.clock.last) choice.lanes tape.plot.levels → Pictures left_old left_new choice text
+    → TextDrawn text tape.plot.clock.first (min tape.plot.clock.turn tape.plot.clock.last) tape.plot.limits choice.lanes tape.plot.levels → Pictures left_old left_new choice text
 pictured left_old left_new choice tape text r d = record {
   read = r.read;
   said = r.said;
@@ -52,8 +101,8 @@ pictured left_old left_new choice tape text r d = record {
   reads = r.reads;
   cut = r.cut;
   end = r.end;
-  shows = shows_buffers text choice.lanes tape.plot.levels choice.first (min tape.plot.clock.turn tape.plot.clock.last) (until choice.last (told r.said)) r.ends
-      (subst (λ (v : ℕ). LevelsDrawn (Within text) v (min tape.plot.clock.turn tape.plot.clock.last) choice.lanes tape.plot.levels) r.starts d) r.lanes;
+  shows = shows_buffers text choice.lanes tape.plot.limits tape.plot.levels choice.first (min tape.plot.clock.turn tape.plot.clock.last) (until choice.last (told r.said)) r.said r.ends
+      (subst (λ (v : ℕ). TextDrawn text v (min tape.plot.clock.turn tape.plot.clock.last) tape.plot.limits choice.lanes tape.plot.levels) r.starts d) r.lanes r.limits;
 }
 
 -- memory ran out behind the reading

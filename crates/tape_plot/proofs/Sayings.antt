@@ -1,4 +1,6 @@
 -- Lines of a tape, as they are taken up.
+use Rattle.flow_gate.specs.Ids.{same_buffer}
+use Rattle.flow_gate.specs.declared.ids.BufferId.{BufferId}
 use Rattle.flow_notes.specs.Fields.{FitsNote}
 use Rattle.flow_notes.specs.Line.{newline}
 use Rattle.flow_notes.specs.Note.{IsNote, note_spelling}
@@ -10,16 +12,19 @@ use Rattle.session_run.specs.declared.status.Status.TheVariants as status
 use Rattle.std.proofs.Common.{ap, append_assoc, arith, length-append, refl, subst, sym, ◌∙◌}
 use Rattle.std.proofs.lemmas.List.{append-nil, length-take-le}
 use Rattle.std.specs.Io.KnownBytes.{Consumes}
-use Rattle.std.specs.Prelude.{Err, IfOk, List, None, Ok, OnOk, Option, Result, Some, [], drop, length, min, suc, take, zero, ℕ, ◌++◌, ◌+◌, ◌-◌, ◌^◌, ◌∷◌, ◌≡◌}
+use Rattle.std.specs.Prelude.{Err, IfOk, List, None, Ok, OnOk, Option, Result, Some, [], drop, if◌then◌else◌, length, min, suc, take, zero, ℕ, ◌++◌, ◌+◌, ◌-◌, ◌^◌, ◌∷◌, ◌≡◌}
 use Rattle.tape_plot.specs.Ending.{ended}
 use Rattle.tape_plot.proofs.Stands.{stands}
 use Rattle.tape_plot.proofs.Writing.{until_end}
 use Rattle.tape_plot.specs.Goes.{PlotGoes, PlotStays}
+use Rattle.tape_plot.specs.Highest.{limit_named}
 use Rattle.tape_plot.specs.Kept.{until}
+use Rattle.tape_plot.specs.Limits.{LimitsAre, TellsLine, limit_at}
 use Rattle.tape_plot.specs.Reading.{Fails, ReadsNote, SpellsNote}
 use Rattle.tape_plot.specs.Reads.{EndsHow, Follows, Goes, Reads, ReadsTape, TakesLine, TapeIs, WentAs}
 use Rattle.tape_plot.specs.Lines.{line_text}
 use Rattle.tape_plot.specs.Said.{MayFollow, Said, Sums, Tells, part_with, said_text, tape_text, told}
+use Rattle.tape_plot.specs.declared.limits.Limits.{Limits}
 use Rattle.tape_plot.specs.declared.outcome.Outcome.{Outcome}
 use Rattle.tape_plot.specs.declared.outcome.Refusal.{Refusal}
 use Rattle.tape_plot.specs.declared.plot.Plot.{Plot}
@@ -27,6 +32,7 @@ use Rattle.tape_plot.specs.declared.report.Line.{Line}
 use Rattle.tape_plot.specs.declared.tape.Part.{Part}
 use Rattle.tape_plot.specs.declared.tape.Stop.{Stop}
 use Rattle.tape_plot.specs.declared.tape.Tape.{Tape}
+use Rattle.tape_plot.specs.declared.report.Line.TheVariants as line
 use Rattle.tape_plot.specs.declared.tape.Part.TheVariants as part
 use Rattle.tape_plot.specs.declared.tape.Stop.TheVariants as stop
 
@@ -82,6 +88,7 @@ line_on old new n b f held er en = record { goes = λ first last said read left 
       count = er ∙ long said k.count;
       number = en ∙ ap (λ (v : ℕ). v + 1) k.number ∙ one_more said;
       plot = f.plot.goes first last said k.plot;
+      limits = f.plot.limits said k.limits;
     }
       where
         one_more : (said : List Said) → length said + 1 ≡ suc (length said)
@@ -93,21 +100,34 @@ line_on old new n b f held er en = record { goes = λ first last said read left 
             let t : length (said_text f.says) ≡ n + 1 = sym (ap length f.text) ∙ length-append (take n (held_of old.lines)) newline ∙ ap (λ (v : ℕ). v + 1) (length-take-le n (held_of old.lines) (omega (arith, b.within))) in
             omega (arith, l, t, c)
 
+-- the limits that are kept are the same, or one more is told
+same_limits : (b : BufferId) (old new : Limits) (said : List Said) → new ≡ old → LimitsAre old said → limit_at new b ≡ limit_named b said
+same_limits b old new said e are = ap (λ (v : Limits). limit_at v b) e ∙ are.each b
+
+sum_limits : (l : Line) (old new : Limits) (said : List Said) → TellsLine old l new → LimitsAre old said → LimitsAre new (Sums l ∷ said)
+sum_limits (line.Peak b limit most) old new said t are = record {
+  each = λ c. t.each c ∙ ap (λ (v : Option ℕ). if same_buffer c b then Some limit else v) (are.each c);
+}
+sum_limits l old new said e are = record { each = λ c. same_limits c old new said e are }
+
 -- a line tells a note before the summary, or it is one of the summary
 pub note_follows : (line : List ℕ) (before after : Plot) (old : Part) (r : Result Part Stop) (read : Option Note) (n : Note) → ReadsNote line read → read ≡ Some n → IfOk r (λ _. old ≡ part.Notes)
-    → IfOk r (λ next. next ≡ part.Notes) → OnOk r (PlotGoes before n after) → IfOk r (Follows line before after old)
-note_follows line before after old (Ok next) read n k e b f g = record {
+    → IfOk r (λ next. next ≡ part.Notes) → OnOk r (PlotGoes before n after) → OnOk r (after.limits ≡ before.limits) → IfOk r (Follows line before after old)
+note_follows line before after old (Ok next) read n k e b f g s = record {
   says = Tells k.names n;
   is = (k.are, spells.1, spells.2);
   may = subst (MayFollow (Tells k.names n)) (sym b) tt;
   text = ap (λ (v : List ℕ). v ++ newline) spells.0;
   part = f;
-  plot = record { goes = λ first last said is. g.goes first last (told said) is };
+  plot = record {
+    goes = λ first last said is. g.goes first last (told said) is;
+    limits = λ said are. record { each = λ c. same_limits c before.limits after.limits said s are };
+  };
 }
   where
     spells : (line ≡ note_spelling k.names n) × IsNote k.names n × FitsNote n
     spells = subst (SpellsNote k.names line) e k.spells
-note_follows line before after old (Err s) read n k e b f g = tt
+note_follows line before after old (Err w) read n k e b f g s = tt
 
 may_sum : (l : Line) (before : Part) → ((m : Line) → before ≡ part.Ended m → ⊥) → MayFollow (Sums l) before
 may_sum l part.Notes goes = tt
@@ -115,14 +135,17 @@ may_sum l part.Summary goes = tt
 may_sum l (part.Ended m) goes = absurd (goes m refl)
 
 pub sum_follows : (line : List ℕ) (before after : Plot) (old : Part) (r : Result Part Stop) → ((m : Line) → old ≡ part.Ended m → ⊥)
-    → IfOk r (λ next. (l : Line) × (line ++ newline ≡ line_text l) × (next ≡ part_with (Sums l))) → OnOk r (PlotStays before after) → IfOk r (Follows line before after old)
+    → IfOk r (λ next. (l : Line) × (line ++ newline ≡ line_text l) × (next ≡ part_with (Sums l)) × TellsLine before.limits l after.limits) → OnOk r (PlotStays before after) → IfOk r (Follows line before after old)
 sum_follows line before after old (Ok next) goes s g = record {
   says = Sums s.0;
   is = tt;
   may = may_sum s.0 old goes;
   text = s.1;
   part = s.2;
-  plot = record { goes = λ first last said is. g.goes first last (told said) is };
+  plot = record {
+    goes = λ first last said is. g.goes first last (told said) is;
+    limits = λ said are. sum_limits s.0 before.limits after.limits said s.3 are;
+  };
 }
 sum_follows line before after old (Err s) goes e g = tt
 
@@ -162,6 +185,7 @@ reads_tape left_old left_new begun tape first last k g =
       starts = l.ends.plot.starts;
       ends = until_end tape.plot.clock.turn last tape.plot.clock.last (told l.said) l.ends.plot.turn l.ends.plot.ends;
       lanes = stands tape.plot.levels first (until last (told l.said)) l.ends.plot.levels;
+      limits = l.ends.limits;
     }
 
 pub reads_refused : (left_old left_new : Option (List ℕ)) (begun tape : Tape) (first last : ℕ) (why : Refusal) (line : ℕ) → TapeIs begun first last [] [] → Goes begun tape left_old left_new (Err (stop.Refused why))

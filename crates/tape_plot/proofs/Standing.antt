@@ -2,7 +2,7 @@
 use Rattle.flow_gate.specs.declared.ids.FlowId.{FlowId}
 use Rattle.flow_notes.specs.declared.notes.Note.{Note}
 use Rattle.std.proofs.Common.{ap, arith, refl, sym, ◌∙◌}
-use Rattle.std.specs.Prelude.{Bool, List, None, Option, Some, [], false, if◌then◌else◌, true, ℕ, ◌+◌, ◌∷◌, ◌≡◌}
+use Rattle.std.specs.Prelude.{Bool, List, None, Option, Some, [], false, if◌then◌else◌, length, true, ℕ, ◌+◌, ◌∷◌, ◌≡◌}
 use Rattle.tape_laws.specs.Connections.{was_closed}
 use Rattle.tape_laws.specs.Flows.{same_flow}
 use Rattle.tape_laws.specs.History.{History, NoMark, Noted, Step}
@@ -80,6 +80,7 @@ pub flow_still : (flow : Flow) (f : FlowId) (first : ℕ) (step : Step NoMark) (
 flow_still flow f first step h is s = record {
   held = is.held ∙ sym s.held;
   lanes = lanes_still (lanes_of flow.places.items) (places f) first step h is.lanes s.held;
+  many = is.many ∙ ap length (sym s.held);
   pauses = is.pauses ∙ sym s.paused;
   resumes = is.resumes ∙ sym s.resumed;
   doomed = is.doomed ∙ sym s.doomed;

@@ -1,4 +1,5 @@
 -- A connection, and the plot, note by note.
+use Rattle.flow_gate.specs.declared.ids.BufferId.{BufferId}
 use Rattle.flow_notes.specs.declared.events.Event.{Event}
 use Rattle.flow_notes.specs.declared.notes.CloseCause.{CloseCause}
 use Rattle.flow_notes.specs.declared.notes.Note.{Note}
@@ -11,19 +12,23 @@ use Rattle.tape_laws.specs.History.{History, NoMark, Noted, Step}
 use Rattle.tape_plot.proofs.Columns.{eq_true, turns_rise}
 use Rattle.tape_plot.proofs.Laning.{still}
 use Rattle.tape_plot.proofs.Standing.{nothing_not, same_connection}
-use Rattle.tape_plot.specs.Goes.{Closes, ConnectionGoes, Forgets, LevelsGo, LevelsStay, PlotGoes, Turns, level_of}
+use Rattle.tape_plot.specs.Goes.{Closes, ConnectionGoes, Forgets, LevelsGo, LevelsStay, PlotGoes, PlotStays, Turns, level_of}
 use Rattle.tape_plot.specs.Kept.{ConnectionIs, LevelsAre, until}
 use Rattle.tape_plot.specs.Lanes.{Drawn, LaneIs, Sets, drawn_of}
 use Rattle.tape_plot.specs.Levels.{written}
+use Rattle.tape_plot.specs.Limits.{TellsLimit, TellsLine}
 use Rattle.tape_plot.specs.Subjects.{subject_of}
 use Rattle.tape_plot.specs.Turns.{Ticks, turns_of}
 use Rattle.tape_plot.specs.declared.clock.Clock.{Clock}
 use Rattle.tape_plot.specs.declared.connection.Connection.{Connection}
 use Rattle.tape_plot.specs.declared.levels.Levels.{Levels}
+use Rattle.tape_plot.specs.declared.limits.Limits.{Limits}
 use Rattle.tape_plot.specs.declared.plot.Plot.{Plot}
+use Rattle.tape_plot.specs.declared.report.Line.{Line}
 use Rattle.flow_notes.specs.declared.events.Event.TheVariants as event
 use Rattle.flow_notes.specs.declared.notes.CloseCause.TheVariants as closed
 use Rattle.flow_notes.specs.declared.notes.Note.TheVariants as note
+use Rattle.tape_plot.specs.declared.report.Line.TheVariants as line
 use Rattle.tape_plot.specs.declared.subject.Subject.TheVariants as subject
 
 -- ---- a connection
@@ -165,6 +170,24 @@ plot_on old new n clock mid t on g s e = record {
             (subst (λ (v : ℕ). LevelsAre new.levels v (Noted n ∷ h)) (t.first ∙ is.starts) (s.goes clock.first (Noted n ∷ h) (g.goes h (sym now) was)));
       };
 }
+
+-- a line of the summary leaves the lanes
+pub plot_same : (old new : Plot) → new.clock ≡ old.clock → new.levels ≡ old.levels → PlotStays old new
+plot_same old new ec el = record {
+  goes = λ first last h is. record {
+    starts = ap (λ (v : Clock). v.first) ec ∙ is.starts;
+    ends = ap (λ (v : Clock). v.last) ec ∙ is.ends;
+    turn = ap (λ (v : Clock). v.turn) ec ∙ is.turn;
+    levels = subst (λ (v : Levels). LevelsAre v first (until last h)) (sym el) is.levels;
+  };
+}
+
+pub tells_peak : (old new : Limits) (l : Line) (b : BufferId) (limit most : ℕ) → l ≡ line.Peak b limit most → TellsLimit old b limit new → TellsLine old l new
+tells_peak old new l b limit most e t = subst (λ (v : Line). TellsLine old v new) (sym e) t
+
+pub tells_none : (old : Limits) (l : Line) → ((b : BufferId) (limit most : ℕ) → l ≡ line.Peak b limit most → ⊥) → TellsLine old l old
+tells_none old (line.Peak b limit most) none = absurd (none b limit most refl)
+tells_none old l none = refl
 
 -- ---- the last dispatch that is drawn
 

@@ -38,6 +38,7 @@ pub record ShownTo (old : List Drawn) (held : List ℕ) (clock : Clock) (new : L
 pub record FlowIs (flow : Flow) (f : FlowId) (first : ℕ) (h : History NoMark) : Type 0 where
   pub held : flow.held.levels.items ≡ places f h
   pub lanes : LanesAre (lanes_of flow.places.items) (places f) first h
+  pub many : length flow.places.items ≡ length (places f h)
   pub pauses : flow.pauses ≡ pauses f h
   pub resumes : flow.resumes ≡ resumes f h
   pub doomed : flow.is_doomed ≡ was_doomed f.exchange h

@@ -1,12 +1,17 @@
 pub mod Ending
+pub mod Filled
 pub mod Flows
 pub mod Goes
+pub mod Highest
 pub mod Kept
 pub mod Lanes
 pub mod Levels
+pub mod Limits
 pub mod Lines
 pub mod Path
+pub mod Picks
 pub mod Pictures
+pub mod Ranking
 pub mod Reading
 pub mod Reads
 pub mod Said

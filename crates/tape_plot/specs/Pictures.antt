@@ -22,7 +22,7 @@ pub record Pictures (left_old left_new : Option (List ℕ)) (choice : Choice) (t
   pub reads : read ≡ tape_text said ++ rest
   pub cut : has_newline rest ≡ false
   pub end : IsAtEnd left_new
-  pub shows : ShowsBuffers text choice.lanes choice.first (until choice.last (told said))
+  pub shows : ShowsBuffers text choice.lanes choice.first (until choice.last (told said)) said
 
 abbrev pub PicturesAs : Option (List ℕ) → Option (List ℕ) → Choice → Result (List ℕ) Outcome → Type 0
 PicturesAs left_old left_new choice (Ok text) = Pictures left_old left_new choice text

@@ -7,6 +7,7 @@ use Rattle.std.specs.Io.KnownBytes.{Consumes, IsAtEnd}
 use Rattle.std.specs.Prelude.{Err, List, Ok, Option, Result, false, length, min, ℕ, ◌++◌, ◌+◌, ◌-◌, ◌^◌, ◌∷◌, ◌≡◌}
 use Rattle.tape_laws.specs.Dispatches.{turns}
 use Rattle.tape_plot.specs.Kept.{PlotIs, until}
+use Rattle.tape_plot.specs.Limits.{LimitsAre}
 use Rattle.tape_plot.specs.Said.{IsSaid, IsTape, MayFollow, Said, part_of, part_with, said_text, tape_text, told}
 use Rattle.tape_plot.specs.Standing.{LanesStand}
 use Rattle.tape_plot.specs.declared.outcome.Outcome.{Outcome}
@@ -20,6 +21,7 @@ use Rattle.tape_plot.specs.declared.tape.Stop.TheVariants as stop
 -- what is kept of a tape goes on with a line
 pub record PlotTells (says : Said) (before after : Plot) : Type 0 where
   pub goes : (first last : ℕ) (said : List Said) → PlotIs before first last (told said) → PlotIs after first last (told (says ∷ said))
+  pub limits : (said : List Said) → LimitsAre before.limits said → LimitsAre after.limits (says ∷ said)
 
 -- a line may follow a tape that was read so far, which was then read so far, and is taken up
 pub record Follows (line : List ℕ) (before after : Plot) (old new : Part) : Type 0 where
@@ -38,6 +40,7 @@ pub record TapeIs (tape : Tape) (first last : ℕ) (said : List Said) (read : Li
   pub count : tape.read ≡ length (tape_text said)
   pub number : tape.number ≡ length said
   pub plot : PlotIs tape.plot first last (told said)
+  pub limits : LimitsAre tape.plot.limits said
 
 -- the whole of a tape was read: what stands behind its lines is the front of a line that was cut
 pub record IsWhole (tape : Tape) (first last : ℕ) (said : List Said) (rest : List ℕ) (left : Option (List ℕ)) : Type 0 where
@@ -45,6 +48,7 @@ pub record IsWhole (tape : Tape) (first last : ℕ) (said : List Said) (rest : L
   pub end : IsAtEnd left
   pub part : tape.part ≡ part_of said
   pub plot : PlotIs tape.plot first last (told said)
+  pub limits : LimitsAre tape.plot.limits said
 
 -- what stands behind the lines, by why reading stops
 abbrev pub EndsBy : Stop → Tape → ℕ → ℕ → List Said → List ℕ → Option (List ℕ) → Type 0
@@ -91,8 +95,8 @@ pub record Reads (left_old left_new : Option (List ℕ)) (outcome : Outcome) : T
   pub reads : read ≡ tape_text said ++ rest
   pub ends : EndsHow outcome.status outcome.line said rest left_new
 
--- The same of a tape that was read whole: its clock stands at the last dispatch that is drawn, and each of its lanes stands for what the
--- tape tells up to that.
+-- The same of a tape that was read whole: its clock stands at the last dispatch that is drawn, each of its lanes stands for what the
+-- tape tells up to that, and the limits are those of its summary.
 pub record ReadsTape (left_old left_new : Option (List ℕ)) (first last : ℕ) (tape : Tape) : Type 0 where
   pub read : List ℕ
   pub said : List Said
@@ -106,6 +110,7 @@ pub record ReadsTape (left_old left_new : Option (List ℕ)) (first last : ℕ) 
   pub starts : tape.plot.clock.first ≡ first
   pub ends : min tape.plot.clock.turn tape.plot.clock.last ≡ turns (until last (told said))
   pub lanes : LanesStand tape.plot.levels first (until last (told said))
+  pub limits : LimitsAre tape.plot.limits said
 
 abbrev pub ReadsAs : Option (List ℕ) → Option (List ℕ) → ℕ → ℕ → Result Tape Outcome → Type 0
 ReadsAs left_old left_new first last (Ok tape) = ReadsTape left_old left_new first last tape

@@ -17,7 +17,7 @@ pub struct Connection {
 
 impl Connection {
     ghost use Rattle.std.specs.Prelude.{◌≡◌, ◌+◌, ◌-◌, false, OnOk};
-    ghost use Rattle.tape_plot.specs.Goes.{Closes, ConnectionGoes, ConnectionStays, Forgets, Turns, level_of};
+    ghost use Rattle.tape_plot.specs.Goes.{Closes, ConnectionGoes, Forgets, Turns, level_of};
     ghost use Rattle.tape_plot.specs.Lanes.{Sets, drawn_of, fresh};
 
     /// Before its first octet. Takes no memory.
@@ -103,12 +103,5 @@ impl Connection {
             return self.drop_all(clock);
         }
         Ok(())
-    }
-
-    /// The summary tells its limit.
-    pub fn limit(&mut self, limit: u32)
-        ensures { ConnectionStays self.old self.new }
-    {
-        self.write.limit = Some(limit);
     }
 }

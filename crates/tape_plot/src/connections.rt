@@ -60,15 +60,6 @@ impl Connections {
         connection.fill(fill.n, clock)
     }
 
-    /// The summary tells the limit of a write buffer.
-    pub fn limit(&mut self, conn: u32, limit: u32)
-        ensures { ConnectionsStay self.old self.new }
-    {
-        if let Some(connection) = self.items.get_mut(&conn) {
-            connection.limit(limit);
-        }
-    }
-
     // The connection is there: one that nothing was told of yet is new.
     fn know(&mut self, conn: u32) -> Result<(), NoMemory>
         ensures same { OnOk result (ConnectionsStay self.old self.new) }

@@ -1,8 +1,7 @@
 // The picture as an SVG file.
 ghost use Rattle.std.specs.List.{Contains};
 ghost use Rattle.std.specs.Prelude.{IfOk, min};
-ghost use Rattle.tape_plot.specs.Sheets.{LevelsDrawn};
-ghost use Rattle.tape_plot.specs.Shown.{Within};
+ghost use Rattle.tape_plot.specs.Sheets.{LevelsDrawn, TextDrawn};
 
 mod bar;
 mod events;
@@ -30,10 +29,10 @@ use ticks::put_ticks;
 
 /// The SVG file of a tape that was read so far.
 pub fn draw(alloc: Global, plot: &mut Plot, part: Part, lanes: Lanes) -> Result<Octets, NoMemory>
-    ensures { IfOk result (λ text. LevelsDrawn (Within text) plot.old.clock.first (min plot.old.clock.turn plot.old.clock.last) lanes plot.old.levels) }
+    ensures { IfOk result (λ text. TextDrawn text plot.old.clock.first (min plot.old.clock.turn plot.old.clock.last) plot.old.limits lanes plot.old.levels) }
 {
     plot.fit_marks()?;
-    let pick = Pick::new(alloc, &plot.levels, lanes)?;
+    let pick = Pick::new(alloc, &plot.levels, &plot.limits, lanes)?;
     let rows = put_rows(alloc, plot, &pick)?;
     let mut text = Octets::new(alloc);
     put_head(
@@ -53,10 +52,10 @@ pub fn draw(alloc: Global, plot: &mut Plot, part: Part, lanes: Lanes) -> Result<
 
 // All rows.
 fn put_rows(alloc: Global, plot: &Plot, pick: &Pick) -> Result<Rows, NoMemory>
-    ensures { IfOk result (λ rows. LevelsDrawn (Contains rows.sheet.pieces.items) plot.now.clock.first (min plot.now.clock.turn plot.now.clock.last) pick.now.lanes plot.now.levels) }
+    ensures { IfOk result (λ rows. LevelsDrawn (Contains rows.sheet.pieces.items) plot.now.clock.first (min plot.now.clock.turn plot.now.clock.last) plot.now.limits pick.now plot.now.levels) }
 {
     let mut rows = Rows::new(alloc, Frame::new(&plot.clock));
     rows.put_events(plot)?;
-    rows.put_levels(&plot.levels, pick)?;
+    rows.put_levels(&plot.levels, &plot.limits, pick)?;
     Ok(rows)
 }

@@ -4,7 +4,6 @@ ghost use Rattle.std.specs.Prelude.{◌≡◌};
 use crate::clock::Clock;
 use crate::flow::Flow;
 use crate::mark::Mark;
-use flow_gate::BufferId;
 use flow_notes::Note;
 use io_ports::NoMemory;
 use std::alloc::Global;
@@ -188,17 +187,6 @@ impl Exchange {
     {
         if self.doom.is_none() {
             self.doom = Some(mark);
-        }
-    }
-
-    /// The summary tells the limit of a buffer of one of its flows.
-    pub fn limit(&mut self, back: bool, buffer: BufferId, limit: u32)
-        ensures { ExchangeStays self.old self.new }
-    {
-        if back {
-            self.response.limit(buffer, limit);
-        } else {
-            self.request.limit(buffer, limit);
         }
     }
 }

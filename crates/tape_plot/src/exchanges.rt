@@ -4,7 +4,6 @@ ghost use Rattle.std.specs.Prelude.{◌≡◌, IfOk, OnOk};
 use crate::clock::Clock;
 use crate::exchange::{Exchange, Fill};
 use crate::mark::Mark;
-use flow_gate::{BufferId, FlowId};
 use flow_notes::Note;
 use io_ports::NoMemory;
 use std::alloc::Global;
@@ -62,15 +61,6 @@ impl Exchanges {
             exchange.mark_doom(mark);
         }
         Ok(())
-    }
-
-    /// The summary tells the limit of a buffer of a flow.
-    pub fn limit(&mut self, flow: FlowId, buffer: BufferId, limit: u32)
-        ensures { ExchangesStay self.old self.new }
-    {
-        if let Some(exchange) = self.items.get_mut(&flow.exchange) {
-            exchange.limit(flow.back, buffer, limit);
-        }
     }
 
     // The exchange is there: one that nothing was told of yet is new.

@@ -1,5 +1,5 @@
 // The places of one flow, and its read-disable count.
-ghost use Rattle.std.specs.Prelude.{◌≡◌, ◌≤◌, ℕ, length, OnOk};
+ghost use Rattle.std.specs.Prelude.{◌≡◌, ◌≤◌, ℕ, length, max, OnOk};
 ghost use Rattle.tape_plot.specs.Flows.{Shows, lane_at, lanes_of};
 
 use crate::clock::Clock;
@@ -10,11 +10,10 @@ use flow_notes::Note;
 use io_ports::NoMemory;
 use std::alloc::Global;
 
-/// A buffer's lane, with the limit that the summary tells.
+/// A buffer's lane.
 #[derive(Drop)]
 pub struct Place {
     pub lane: Lane,
-    pub limit: Option<u32>,
 }
 
 impl Place {
@@ -27,7 +26,6 @@ impl Place {
     {
         Place {
             lane: Lane::new(alloc),
-            limit: None,
         }
     }
 }
@@ -42,12 +40,12 @@ pub struct Flow {
     resumes: u64,
     /// It is given up, and its count is drawn no further.
     is_doomed: bool,
-    /// Its last place is its send buffer, as a note or the summary told.
+    /// Its last place is its send buffer, as a note told.
     pub sends: bool,
 }
 
 impl Flow {
-    ghost use Rattle.std.specs.Prelude.{◌≡◌, ◌-◌, if◌then◌else◌, min, IfOk, OnOk};
+    ghost use Rattle.std.specs.Prelude.{◌≡◌, ◌-◌, if◌then◌else◌, length, min, IfOk, OnOk};
     ghost use Rattle.tape_plot.specs.Flows.{Arrives, Dooms, Frames, IsFresh, Moves, Pauses, Resumes};
     ghost use Rattle.tape_plot.specs.Goes.{FlowGoes, FlowStays, framed_by};
     ghost use Rattle.tape_plot.specs.Levels.{at, top};
@@ -64,6 +62,16 @@ impl Flow {
             resumes: 0,
             is_doomed: false,
             sends: false,
+        }
+    }
+
+    /// How many places there are; out of memory where they are past 2^32 - 1.
+    pub fn place_count(&self) -> Result<u32, NoMemory>
+        ensures { IfOk result (λ n. n ≡ length self.now.places.items) }
+    {
+        match u32::try_from(self.places.len()) {
+            Ok(n) => Ok(n),
+            Err(_) => Err(NoMemory),
         }
     }
 
@@ -176,53 +184,21 @@ impl Flow {
             self.sends = true;
         }
     }
-
-    /// The summary tells the limit of one of its buffers.
-    pub fn limit(&mut self, buffer: BufferId, limit: u32)
-        ensures { FlowStays self.old self.new }
-    {
-        match buffer {
-            BufferId::Write(_) => {}
-            BufferId::Recv(_) => self.limit_place(0, limit),
-            BufferId::Stage(_, i) => self.limit_place(i, limit),
-            BufferId::Send(_) => self.limit_send(limit),
-        }
-    }
-
-    // The limit of a place.
-    fn limit_place(&mut self, place: u32, limit: u32)
-        ensures { FlowStays self.old self.new }
-    {
-        let place = place as usize;
-        if place < self.places.len() {
-            self.places[place].limit = Some(limit);
-        }
-    }
-
-    // The limit of the send buffer: the last place, unless that is the receive buffer or a stage.
-    fn limit_send(&mut self, limit: u32)
-        ensures { FlowStays self.old self.new }
-    {
-        let places = self.places.len();
-        if places > 1 && self.places[places - 1].limit.is_none() {
-            self.places[places - 1].limit = Some(limit);
-            self.sends = true;
-        }
-    }
 }
 
 // The lanes go on with what lies at their places, those of new places among them.
 fn show(places: &mut Vec<Place>, held: &Held, clock: &Clock) -> Result<(), NoMemory>
-    ensures { OnOk result (Shows (lanes_of places.old.items) held.now.levels.items clock.now (lanes_of places.new.items)) }
+    ensures shows { OnOk result (Shows (lanes_of places.old.items) held.now.levels.items clock.now (lanes_of places.new.items)) }
+    ensures many { OnOk result (length places.new.items ≡ max (length places.old.items) (length held.now.levels.items)) }
 {
     grow(places, held.len())?;
     set_all(places, held, clock)
 }
 
-// There are so many lanes at least.
+// There are so many lanes at least: as many as there were, or so many.
 fn grow(places: &mut Vec<Place>, len: usize) -> Result<(), NoMemory>
     ensures same { OnOk result ((p : ℕ) → lane_at (lanes_of places.new.items) p ≡ lane_at (lanes_of places.old.items) p) }
-    ensures long { OnOk result (len ≤ length places.new.items) }
+    ensures many { OnOk result (length places.new.items ≡ max (length places.old.items) len) }
 {
     while places.len() < len {
         let alloc = *places.allocator();
@@ -234,7 +210,8 @@ fn grow(places: &mut Vec<Place>, len: usize) -> Result<(), NoMemory>
 // The lanes go on with what lies at their places.
 fn set_all(places: &mut Vec<Place>, held: &Held, clock: &Clock) -> Result<(), NoMemory>
     requires { length held.now.levels.items ≤ length places.old.items }
-    ensures { OnOk result (Shows (lanes_of places.old.items) held.now.levels.items clock.now (lanes_of places.new.items)) }
+    ensures shows { OnOk result (Shows (lanes_of places.old.items) held.now.levels.items clock.now (lanes_of places.new.items)) }
+    ensures many { OnOk result (length places.new.items ≡ length places.old.items) }
 {
     let mut i = 0;
     while i < places.len() {

@@ -4,7 +4,6 @@ use crate::connections::Connections;
 use crate::exchanges::Exchanges;
 use crate::mark::Mark;
 use crate::subject::{Subject, subject_of};
-use flow_gate::BufferId;
 use flow_notes::Note;
 use io_ports::NoMemory;
 use std::alloc::Global;
@@ -50,17 +49,5 @@ impl Levels {
         ensures { OnOk result (LevelsStay self.old self.new) }
     {
         self.exchanges.mark_doom(exchange, mark)
-    }
-
-    /// The summary tells the limit of a buffer.
-    pub fn limit(&mut self, buffer: BufferId, limit: u32)
-        ensures { LevelsStay self.old self.new }
-    {
-        match buffer {
-            BufferId::Write(conn) => self.connections.limit(conn, limit),
-            BufferId::Recv(flow) => self.exchanges.limit(flow, buffer, limit),
-            BufferId::Stage(flow, _) => self.exchanges.limit(flow, buffer, limit),
-            BufferId::Send(flow) => self.exchanges.limit(flow, buffer, limit),
-        }
     }
 }

@@ -1,6 +1,7 @@
 //! A tape as a picture: the lengths of its buffers, its read-disable counts and its ends, dispatch by dispatch, as one SVG file.
 #![tactic(auto)]
 
+mod buffer;
 mod choice;
 mod clock;
 mod connection;
@@ -9,14 +10,16 @@ mod draw;
 mod exchange;
 mod exchanges;
 mod flow;
+mod height;
 mod held;
+mod highest;
 mod lane;
 mod laws;
 mod levels;
+mod limits;
 mod mark;
 mod outcome;
 mod plot;
-mod rank;
 mod report;
 mod subject;
 mod tape;

@@ -4,6 +4,7 @@ ghost use Rattle.std.specs.Prelude.{◌≡◌, ◌≤◌, ◌++◌, Err, IfErr, 
 ghost use Rattle.io_ports.specs.Faults.{Rose};
 ghost use Rattle.tape_plot.specs.Ending.{EndsRight, IsRefused};
 ghost use Rattle.tape_plot.specs.Ending as spec;
+ghost use Rattle.tape_plot.specs.Limits.{TellsLine};
 ghost use Rattle.tape_plot.specs.Lines.{line_text};
 ghost use Rattle.tape_plot.specs.Reading.{Caused, ReadsNote, Refuses};
 ghost use Rattle.tape_plot.specs.Goes.{PlotGoes, PlotStays};
@@ -167,6 +168,7 @@ fn take_note(plot: &mut Plot, part: Part, note: &Note, line: &[u8]) -> Result<Pa
     ensures before { IfOk result (λ _. part ≡ parts.Notes) }
     ensures part { IfOk result (λ next. next ≡ parts.Notes) }
     ensures goes { OnOk result (PlotGoes plot.old note.now plot.new) }
+    ensures limits { OnOk result (plot.new.limits ≡ plot.old.limits) }
     ensures stops { IfErr result Refuses }
 {
     if part != Part::Notes {
@@ -178,20 +180,25 @@ fn take_note(plot: &mut Plot, part: Part, note: &Note, line: &[u8]) -> Result<Pa
 
 // Takes up a line of the summary.
 fn take_report(alloc: Global, plot: &mut Plot, line: &[u8]) -> Result<Part, Stop>
-    ensures sums { IfOk result (λ next. (l : Line) × (line.now ++ newline ≡ line_text l) × (next ≡ part_with (said.Sums l))) }
+    ensures sums { IfOk result (λ next. (l : Line) × (line.now ++ newline ≡ line_text l) × (next ≡ part_with (said.Sums l)) × TellsLine plot.old.limits l plot.new.limits) }
     ensures stays { OnOk result (PlotStays plot.old plot.new) }
     ensures stops { IfErr result Refuses }
 {
     let Some(report) = read_line(alloc, line)? else {
         return Err(Stop::Refused(Refusal::NoNote));
     };
+    plot.sum(report)?;
+    Ok(part_behind(report))
+}
+
+// How far a tape was read with a line of its summary.
+fn part_behind(report: Line) -> Part
+    ensures { result ≡ part_with (said.Sums report) }
+{
     match report {
-        Line::Peak { buffer, limit, .. } => {
-            plot.limit(buffer, limit);
-            Ok(Part::Summary)
-        }
-        Line::Paused { .. } => Ok(Part::Summary),
-        _ => Ok(Part::Ended(report)),
+        Line::Peak { .. } => Part::Summary,
+        Line::Paused { .. } => Part::Summary,
+        _ => Part::Ended(report),
     }
 }
 
@@ -248,7 +255,7 @@ fn ended(status: Status) -> Outcome
 }
 
 /// Reads a tape with its summary from the source, and keeps lanes of the dispatches that are chosen: that of each buffer and of each
-/// read-disable count stands for what the tape tells. Or how it came to no picture: where a line is refused, the source fails or memory
+/// read-disable count stands for what the tape tells. The limits that are kept are those of the summary. Or how it came to no picture: where a line is refused, the source fails or memory
 /// runs out.
 pub fn read_tape<S: Source>(alloc: Global, choice: &Choice, source: &mut S) -> Result<Tape, Outcome>
     ensures reads { ReadsAs (S.left source.old) (S.left source.new) choice.now.first choice.now.last result }
@@ -270,8 +277,10 @@ pub fn read_tape<S: Source>(alloc: Global, choice: &Choice, source: &mut S) -> R
 }
 
 /// Reads a tape with its summary from the source, and writes the picture of what is chosen of it as one SVG file. It has a line for each
-/// buffer that the choice asks for by name, or with all others, unless that held nothing in the dispatches that are drawn: the line shows
-/// what the tape tells of the buffer. Where a line of the tape is refused, the source fails or memory runs out, nothing is written.
+/// buffer that the choice asks for by name, or with all others, unless that held nothing in the dispatches that are drawn; and by default
+/// for the 40 buffers that were highest in these against their limits, or for each where no more held an octet. The line shows what the
+/// tape tells of the buffer, against the limit that the summary tells. Where a line of the tape is refused, the source fails or memory
+/// runs out, nothing is written.
 pub fn plot_tape<S: Source, K: Sink>(
     alloc: Global,
     choice: &Choice,

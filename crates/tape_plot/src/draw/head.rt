@@ -99,7 +99,7 @@ fn put_facts(
     put_behind(into, b", ", frame.width.turns())?;
     into.push_all(b" in a column; ")?;
     put_behind(into, b"", lanes)?;
-    put_behind(into, b" of the ", pick.buffers)?;
+    put_behind(into, b" of the ", pick.buffers())?;
     into.push_all(b" buffers that ever held an octet; ")?;
     put_end(into, part)?;
     end_text(into)

@@ -1,7 +1,6 @@
 // Which buffer a lane is of, in words.
 use super::frame::WORDS;
 use super::put::{end_text, open_text};
-use crate::flow::Place;
 use flow_gate::FlowId;
 use io_ports::{NoMemory, Octets};
 use tape_summary::{put_behind, put_flow};
@@ -10,16 +9,16 @@ use tape_summary::{put_behind, put_flow};
 #[derive(Clone, Copy)]
 pub enum Name {
     Recv(FlowId),
-    Stage(FlowId, u64),
+    Stage(FlowId, u32),
     Send(FlowId),
     /// A place that is a stage or the send buffer.
-    Place(FlowId, u64),
+    Place(FlowId, u32),
     Write(u32),
 }
 
 impl Name {
     /// Which buffer a place of a flow is, of so many, the last of which is its send buffer where `sends` says so.
-    pub fn of_place(flow: FlowId, i: u64, end: u64, sends: bool, place: &Place) -> Self {
+    pub fn of_place(flow: FlowId, i: u32, end: u32, sends: bool, limit: Option<u32>) -> Self {
         if i == 0 {
             return Name::Recv(flow);
         }
@@ -29,7 +28,7 @@ impl Name {
         if sends {
             return Name::Send(flow);
         }
-        match place.limit {
+        match limit {
             Some(_) => Name::Stage(flow, i),
             None => Name::Place(flow, i),
         }
@@ -76,7 +75,7 @@ fn put_name(into: &mut Octets, name: Name) -> Result<(), NoMemory> {
         }
         Name::Stage(flow, i) => {
             put_flow(into, flow)?;
-            put_behind(into, b" stage ", i)
+            put_behind(into, b" stage ", u64::from(i))
         }
         Name::Send(flow) => {
             put_flow(into, flow)?;
@@ -84,7 +83,7 @@ fn put_name(into: &mut Octets, name: Name) -> Result<(), NoMemory> {
         }
         Name::Place(flow, i) => {
             put_flow(into, flow)?;
-            put_behind(into, b" place ", i)
+            put_behind(into, b" place ", u64::from(i))
         }
         Name::Write(conn) => { put_behind(into, b"write buffer ", u64::from(conn)) }
     }

@@ -1,69 +1,65 @@
 // Which lanes are drawn.
-ghost use Rattle.std.specs.Prelude.{◌≡◌, IfOk, true};
-ghost use Rattle.tape_plot.specs.Shown.{AsksFlow, AsksWrite};
+ghost use Rattle.std.specs.Prelude.{◌≡◌, OnOk};
+ghost use Rattle.tape_plot.specs.Filled as spec;
+ghost use Rattle.tape_plot.specs.Ranking.{kept_of, ranked_in};
 
+use crate::buffer::Buffer;
 use crate::choice::Lanes;
+use crate::connections::Connections;
 use crate::exchange::Exchange;
+use crate::exchanges::Exchanges;
 use crate::flow::{Flow, Place};
+use crate::height::Height;
+use crate::highest::{HIGHEST, Highest, Ranked};
 use crate::levels::Levels;
-use crate::rank::Rank;
+use crate::limits::{Limits, known};
 use flow_gate::FlowId;
 use io_ports::NoMemory;
 use std::alloc::Global;
 
-/// How many lanes are drawn where none are named.
-const HIGHEST: usize = 40;
-
-/// Which lanes are drawn: those that are named, or those of at least this rank.
-#[derive(Clone, Copy)]
+/// Which lanes are drawn: those that are named, or the highest.
+#[derive(Drop)]
 pub struct Pick {
     lanes: Lanes,
-    least: Option<Rank>,
-    /// How many buffers ever held an octet.
-    pub buffers: u64,
+    highest: Highest,
 }
 
 impl Pick {
     ghost use Rattle.std.specs.Prelude.{◌≡◌, IfOk, true};
-    ghost use Rattle.tape_plot.specs.Shown.{AsksFlow, AsksWrite};
+    ghost use Rattle.tape_plot.specs.Picks.{IsPicked, RankedIn};
 
     /// What is picked of these by a choice.
-    pub fn new(alloc: Global, levels: &Levels, lanes: Lanes) -> Result<Self, NoMemory>
-        ensures { IfOk result (λ pick. pick.lanes ≡ lanes) }
+    pub fn new(
+        alloc: Global,
+        levels: &Levels,
+        limits: &Limits,
+        lanes: Lanes,
+    ) -> Result<Self, NoMemory>
+        ensures lanes { IfOk result (λ pick. pick.lanes ≡ lanes) }
+        ensures ranked { IfOk result (RankedIn levels.now limits.now) }
     {
-        let ranks = ranks_of(alloc, levels)?;
-        let buffers = ranks.len() as u64;
-        let least = if lanes == Lanes::Highest {
-            least_of(ranks)?
-        } else {
-            None
-        };
-        Ok(Pick {
-            lanes,
-            least,
-            buffers,
-        })
+        let mut highest = Highest::new(alloc);
+        rank_exchanges(&mut highest, &levels.exchanges, limits)?;
+        rank_connections(&mut highest, &levels.connections, limits)?;
+        Ok(Pick { lanes, highest })
     }
 
-    /// Whether this buffer of a flow, with so many before it, is drawn.
-    pub fn takes_place(&self, flow: FlowId, place: &Place, number: u64) -> bool
-        ensures { AsksFlow self.now.lanes flow → result ≡ true }
-    {
-        match self.lanes {
-            Lanes::Highest => self.takes(place, number),
-            Lanes::All => true,
-            Lanes::Named { flow: named, .. } => named == Some(flow),
-        }
+    /// How many buffers ever held an octet.
+    pub fn buffers(&self) -> u64 {
+        self.highest.seen
     }
 
-    /// Whether this connection's write buffer, with so many before it, is drawn.
-    pub fn takes_write(&self, conn: u32, place: &Place, number: u64) -> bool
-        ensures { AsksWrite self.now.lanes conn → result ≡ true }
+    /// Whether the lane of a buffer is drawn.
+    pub fn takes(&self, buffer: Buffer) -> bool
+        ensures { IsPicked self.now buffer → result ≡ true }
     {
         match self.lanes {
-            Lanes::Highest => self.takes(place, number),
+            Lanes::Highest => self.highest.has(buffer),
             Lanes::All => true,
-            Lanes::Named { conn: named, .. } => named == Some(conn),
+            Lanes::Named { flow, conn } => match buffer {
+                Buffer::Place(id, _) => flow == Some(id),
+                Buffer::Write(id) => conn == Some(id),
+            },
         }
     }
 
@@ -75,54 +71,97 @@ impl Pick {
             Lanes::Highest => bars < HIGHEST as u64,
         }
     }
-
-    fn takes(&self, place: &Place, number: u64) -> bool {
-        match self.least {
-            Some(least) => Rank::new(place, number) >= least,
-            None => true,
-        }
-    }
 }
 
-// The ranks of all buffers that ever held an octet.
-fn ranks_of(alloc: Global, levels: &Levels) -> Result<Vec<Rank>, NoMemory> {
-    let mut ranks = Vec::new(alloc);
-    for exchange in levels.exchanges.items.values() {
-        put_exchange(&mut ranks, exchange)?;
-    }
-    for connection in levels.connections.items.values() {
-        put_rank(&mut ranks, &connection.write)?;
-    }
-    Ok(ranks)
-}
-
-fn put_exchange(ranks: &mut Vec<Rank>, exchange: &Exchange) -> Result<(), NoMemory> {
-    put_flow(ranks, &exchange.request)?;
-    put_flow(ranks, &exchange.response)
-}
-
-fn put_flow(ranks: &mut Vec<Rank>, flow: &Flow) -> Result<(), NoMemory> {
-    for place in flow.places.as_slice() {
-        put_rank(ranks, place)?;
+// The buffers of all exchanges are put, each where it belongs.
+fn rank_exchanges(
+    highest: &mut Highest,
+    exchanges: &Exchanges,
+    limits: &Limits,
+) -> Result<(), NoMemory>
+    ensures put { OnOk result (ranked_in highest.new ≡ kept_of (spec.of_exchanges limits.now exchanges.now.items.entries) (ranked_in highest.old)) }
+    ensures read { OnOk result (spec.IsRead exchanges.now.items) }
+{
+    for (number, exchange) in exchanges.items.iter() {
+        rank_exchange(highest, *number, exchange, limits)?;
     }
     Ok(())
 }
 
-// Appends the rank of a buffer, if it ever held an octet.
-fn put_rank(ranks: &mut Vec<Rank>, place: &Place) -> Result<(), NoMemory> {
-    if place.lane.most() > 0 {
-        let rank = Rank::new(place, ranks.len() as u64);
-        ranks.push(rank)?;
+// The write buffers of all connections.
+fn rank_connections(
+    highest: &mut Highest,
+    connections: &Connections,
+    limits: &Limits,
+) -> Result<(), NoMemory>
+    ensures put { OnOk result (ranked_in highest.new ≡ kept_of (spec.of_connections limits.now connections.now.items.entries) (ranked_in highest.old)) }
+    ensures read { OnOk result (spec.IsRead connections.now.items) }
+{
+    for (conn, connection) in connections.items.iter() {
+        let limit = limits.of_write(*conn);
+        rank(highest, Buffer::Write(*conn), &connection.write, limit)?;
     }
     Ok(())
 }
 
-// The least of the highest ranks, where there are more.
-fn least_of(ranks: Vec<Rank>) -> Result<Option<Rank>, NoMemory> {
-    let mut ranks = ranks;
-    ranks.sort()?;
-    match ranks.len().checked_sub(HIGHEST) {
-        Some(n) => Ok(ranks.get(n).copied()),
-        None => Ok(None),
+// The buffers of an exchange: those of its request come first.
+fn rank_exchange(
+    highest: &mut Highest,
+    number: u64,
+    exchange: &Exchange,
+    limits: &Limits,
+) -> Result<(), NoMemory>
+    ensures { OnOk result (ranked_in highest.new ≡ kept_of (spec.of_exchange limits.now number exchange.now) (ranked_in highest.old)) }
+{
+    let request = FlowId {
+        exchange: number,
+        back: false,
+    };
+    let response = FlowId {
+        exchange: number,
+        back: true,
+    };
+    rank_flow(highest, request, &exchange.request, limits)?;
+    rank_flow(highest, response, &exchange.response, limits)
+}
+
+// The places of a flow, one after the other.
+fn rank_flow(
+    highest: &mut Highest,
+    id: FlowId,
+    flow: &Flow,
+    limits: &Limits,
+) -> Result<(), NoMemory>
+    ensures { OnOk result (ranked_in highest.new ≡ kept_of (spec.of_flow limits.now id flow.now) (ranked_in highest.old)) }
+{
+    let count = flow.place_count()?;
+    let mut i = 0;
+    while i < count {
+        let place = &flow.places[i as usize];
+        rank(
+            highest,
+            Buffer::Place(id, i),
+            place,
+            limits.of_place(id, i, count),
+        )?;
+        i += 1;
     }
+    Ok(())
+}
+
+// A buffer that ever held an octet is put where it belongs, and kept if that is one of the first.
+fn rank(
+    highest: &mut Highest,
+    buffer: Buffer,
+    place: &Place,
+    limit: Option<u32>,
+) -> Result<(), NoMemory>
+    ensures { OnOk result (ranked_in highest.new ≡ kept_of (spec.of_lane buffer limit place.now) (ranked_in highest.old)) }
+{
+    let most = place.lane.most();
+    if most == 0 {
+        return Ok(());
+    }
+    let height = Height::new(most, known(limit));
+    highest.put(Ranked { buffer, height })
 }

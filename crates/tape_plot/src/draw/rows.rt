@@ -1,11 +1,4 @@
 // The rows of the picture, from above.
-ghost use Rattle.std.specs.List.{Contains};
-ghost use Rattle.std.specs.Prelude.{◌≡◌, All, OnOk, true};
-ghost use Rattle.tape_plot.specs.Lanes.{drawn_of};
-ghost use Rattle.tape_plot.specs.Path.{path_text};
-ghost use Rattle.tape_plot.specs.Sheets.{ExchangeDrawn, FlowDrawn, Grows, Has, LevelsDrawn, WriteDrawn};
-ghost use Rattle.tape_plot.specs.Shown.{AsksFlow, AsksWrite, HasLine};
-
 use super::bar::{BAR, put_bar_row};
 use super::events::{Shape, put_doom, put_row};
 use super::frame::{AXIS, Frame, LANE};
@@ -13,12 +6,14 @@ use super::line::{Scene, put_field, put_limits, put_path};
 use super::name::{Name, put_names};
 use super::pick::Pick;
 use super::sheet::Sheet;
+use crate::buffer::Buffer;
 use crate::connections::Connections;
 use crate::exchange::Exchange;
 use crate::exchanges::Exchanges;
-use crate::flow::Place;
+use crate::flow::{Flow, Place};
 use crate::lane::Lane;
 use crate::levels::Levels;
+use crate::limits::{Limits, known};
 use crate::mark::{Mark, Marks};
 use crate::plot::Plot;
 use flow_gate::FlowId;
@@ -31,8 +26,6 @@ pub struct Rows {
     pub sheet: Sheet,
     /// Where the next row begins.
     pub y: u64,
-    /// How many buffers that ever held an octet came so far.
-    buffers: u64,
     /// How many lanes are drawn.
     pub lanes: u64,
     /// How many bars are drawn.
@@ -41,11 +34,15 @@ pub struct Rows {
 
 impl Rows {
     ghost use Rattle.std.specs.List.{Contains};
-    ghost use Rattle.std.specs.Prelude.{◌≡◌, All, OnOk, true};
+    ghost use Rattle.std.specs.Prelude.{◌≡◌, All, OnOk, length, true};
     ghost use Rattle.tape_plot.specs.Lanes.{drawn_of};
+    ghost use Rattle.tape_plot.specs.Limits.{known, limit_at};
     ghost use Rattle.tape_plot.specs.Path.{path_text};
-    ghost use Rattle.tape_plot.specs.Sheets.{ExchangeDrawn, FlowDrawn, Grows, Has, LevelsDrawn, WriteDrawn};
-    ghost use Rattle.tape_plot.specs.Shown.{AsksFlow, AsksWrite, HasLine};
+    ghost use Rattle.tape_plot.specs.Picks.{IsPicked};
+    ghost use Rattle.tape_plot.specs.Sheets.{ExchangeDrawn, FlowDrawn, Grows, Has, LevelsDrawn, PlacesDrawn, WriteDrawn};
+    ghost use Rattle.tape_plot.specs.Shown.{HasLine};
+    ghost use Rattle.tape_plot.specs.declared.buffer.Buffer.TheVariants as buffers;
+    ghost use Rattle.flow_gate.specs.declared.ids.BufferId.TheVariants as ids;
 
     /// No rows. Takes no memory.
     pub fn new(alloc: Global, frame: Frame) -> Self
@@ -54,7 +51,6 @@ impl Rows {
         Rows {
             sheet: Sheet::new(alloc, frame),
             y: AXIS + 10,
-            buffers: 0,
             lanes: 0,
             bars: 0,
         }
@@ -84,49 +80,71 @@ impl Rows {
     }
 
     /// The lanes that are picked, of flows with their bars and then of connections.
-    pub fn put_levels(&mut self, levels: &Levels, pick: &Pick) -> Result<(), NoMemory>
-        ensures { OnOk result (LevelsDrawn (Contains self.new.sheet.pieces.items) self.old.sheet.frame.first self.old.sheet.frame.end pick.now.lanes levels.now) }
+    pub fn put_levels(
+        &mut self,
+        levels: &Levels,
+        limits: &Limits,
+        pick: &Pick,
+    ) -> Result<(), NoMemory>
+        ensures { OnOk result (LevelsDrawn (Contains self.new.sheet.pieces.items) self.old.sheet.frame.first self.old.sheet.frame.end limits.now pick.now levels.now) }
     {
-        self.put_exchanges(&levels.exchanges, pick)?;
-        self.put_connections(&levels.connections, pick)
+        self.put_exchanges(&levels.exchanges, limits, pick)?;
+        self.put_connections(&levels.connections, limits, pick)
     }
 
-    fn put_exchanges(&mut self, exchanges: &Exchanges, pick: &Pick) -> Result<(), NoMemory>
+    fn put_exchanges(
+        &mut self,
+        exchanges: &Exchanges,
+        limits: &Limits,
+        pick: &Pick,
+    ) -> Result<(), NoMemory>
         ensures grows { OnOk result (Grows self.old.sheet self.new.sheet) }
-        ensures drawn { OnOk result (All (λ e. ExchangeDrawn self.new.sheet pick.now.lanes e.0 e.1) exchanges.now.items.entries) }
+        ensures drawn { OnOk result (All (λ e. ExchangeDrawn self.new.sheet limits.now pick.now e.0 e.1) exchanges.now.items.entries) }
     {
         for (number, exchange) in exchanges.items.iter() {
-            self.put_exchange(*number, exchange, pick)?;
+            self.put_exchange(*number, exchange, limits, pick)?;
         }
         Ok(())
     }
 
-    fn put_connections(&mut self, connections: &Connections, pick: &Pick) -> Result<(), NoMemory>
+    fn put_connections(
+        &mut self,
+        connections: &Connections,
+        limits: &Limits,
+        pick: &Pick,
+    ) -> Result<(), NoMemory>
         ensures grows { OnOk result (Grows self.old.sheet self.new.sheet) }
-        ensures drawn { OnOk result (All (λ e. WriteDrawn self.new.sheet pick.now.lanes e.0 e.1) connections.now.items.entries) }
+        ensures drawn { OnOk result (All (λ e. WriteDrawn self.new.sheet limits.now pick.now e.0 e.1) connections.now.items.entries) }
     {
         for (conn, connection) in connections.items.iter() {
-            self.put_write(*conn, &connection.write, pick)?;
+            self.put_write(*conn, &connection.write, limits, pick)?;
         }
         Ok(())
     }
 
-    fn put_write(&mut self, conn: u32, write: &Place, pick: &Pick) -> Result<(), NoMemory>
+    fn put_write(
+        &mut self,
+        conn: u32,
+        write: &Place,
+        limits: &Limits,
+        pick: &Pick,
+    ) -> Result<(), NoMemory>
         ensures grows { OnOk result (Grows self.old.sheet self.new.sheet) }
-        ensures drawn { OnOk result (AsksWrite pick.now.lanes conn → Has self.new.sheet (drawn_of write.now.lane)) }
+        ensures drawn { OnOk result (IsPicked pick.now (buffers.Write conn) → Has self.new.sheet (known (limit_at limits.now (ids.Write conn))) (drawn_of write.now.lane)) }
     {
-        let is_picked = pick.takes_write(conn, write, self.buffers);
-        self.put_place(Name::Write(conn), write, is_picked)
+        let is_picked = pick.takes(Buffer::Write(conn));
+        self.put_place(Name::Write(conn), write, limits.of_write(conn), is_picked)
     }
 
     fn put_exchange(
         &mut self,
         number: u64,
         exchange: &Exchange,
+        limits: &Limits,
         pick: &Pick,
     ) -> Result<(), NoMemory>
         ensures grows { OnOk result (Grows self.old.sheet self.new.sheet) }
-        ensures drawn { OnOk result (ExchangeDrawn self.new.sheet pick.now.lanes number exchange.now) }
+        ensures drawn { OnOk result (ExchangeDrawn self.new.sheet limits.now pick.now number exchange.now) }
     {
         let request = FlowId {
             exchange: number,
@@ -136,18 +154,24 @@ impl Rows {
             exchange: number,
             back: true,
         };
-        self.put_flow(request, exchange, pick)?;
-        self.put_flow(response, exchange, pick)
+        self.put_flow(request, exchange, limits, pick)?;
+        self.put_flow(response, exchange, limits, pick)
     }
 
     // The lanes of a flow of an exchange, and its bar.
-    fn put_flow(&mut self, id: FlowId, exchange: &Exchange, pick: &Pick) -> Result<(), NoMemory>
+    fn put_flow(
+        &mut self,
+        id: FlowId,
+        exchange: &Exchange,
+        limits: &Limits,
+        pick: &Pick,
+    ) -> Result<(), NoMemory>
         ensures grows { OnOk result (Grows self.old.sheet self.new.sheet) }
-        ensures drawn { OnOk result (FlowDrawn self.new.sheet pick.now.lanes id exchange.now) }
+        ensures drawn { OnOk result (FlowDrawn self.new.sheet limits.now pick.now id exchange.now) }
     {
         let before = self.lanes;
         let flow = exchange.flow(id.back);
-        self.put_places(id, flow.places.as_slice(), flow.sends, pick)?;
+        self.put_places(id, flow, limits, pick)?;
         let is_paused = exchange.relay.is_some() && flow.count.most() > 0;
         if self.lanes > before || is_paused && pick.takes_bar(id, self.bars) {
             return self.put_count(id, &flow.count, exchange.doom.as_ref());
@@ -158,20 +182,22 @@ impl Rows {
     fn put_places(
         &mut self,
         id: FlowId,
-        places: &[Place],
-        sends: bool,
+        flow: &Flow,
+        limits: &Limits,
         pick: &Pick,
     ) -> Result<(), NoMemory>
         ensures grows { OnOk result (Grows self.old.sheet self.new.sheet) }
-        ensures drawn { OnOk result (AsksFlow pick.now.lanes id → All (λ p. Has self.new.sheet (drawn_of p.lane)) places.now) }
+        ensures drawn { OnOk result (PlacesDrawn self.new.sheet limits.now pick.now id flow.now.places.items (length flow.now.places.items)) }
     {
-        let end = places.len() as u64;
-        let mut i = 0u64;
-        for place in places {
-            let name = Name::of_place(id, i, end, sends, place);
-            let is_picked = pick.takes_place(id, place, self.buffers);
-            self.put_place(name, place, is_picked)?;
-            i = i.saturating_add(1);
+        let end = flow.place_count()?;
+        let sends = flow.sends || end > 1 && limits.is_send(id, end);
+        let mut i = 0;
+        while i < end {
+            let limit = limits.of_place(id, i, end);
+            let name = Name::of_place(id, i, end, sends, limit);
+            let is_picked = pick.takes(Buffer::Place(id, i));
+            self.put_place(name, &flow.places[i as usize], limit, is_picked)?;
+            i += 1;
         }
         Ok(())
     }
@@ -191,25 +217,30 @@ impl Rows {
     }
 
     // The lane of a buffer that ever held an octet.
-    fn put_place(&mut self, name: Name, place: &Place, is_picked: bool) -> Result<(), NoMemory>
+    fn put_place(
+        &mut self,
+        name: Name,
+        place: &Place,
+        limit: Option<u32>,
+        is_picked: bool,
+    ) -> Result<(), NoMemory>
         ensures grows { OnOk result (Grows self.old.sheet self.new.sheet) }
-        ensures drawn { OnOk result (is_picked ≡ true → Has self.new.sheet (drawn_of place.now.lane)) }
+        ensures drawn { OnOk result (is_picked ≡ true → Has self.new.sheet (known limit) (drawn_of place.now.lane)) }
     {
         if place.lane.most() == 0 {
             return Ok(());
         }
-        self.buffers = self.buffers.saturating_add(1);
         if !is_picked {
             return Ok(());
         }
         self.lanes = self.lanes.saturating_add(1);
         let lane = place.lane.fitted(self.sheet.frame.width)?;
-        self.put_lane(name, &lane, place.limit)
+        self.put_lane(name, &lane, limit)
     }
 
     fn put_lane(&mut self, name: Name, lane: &Lane, limit: Option<u32>) -> Result<(), NoMemory>
         ensures grows { OnOk result (Grows self.old.sheet self.new.sheet) }
-        ensures drawn { OnOk result (HasLine (Contains self.new.sheet.pieces.items) self.old.sheet.frame.first self.old.sheet.frame.end (drawn_of lane.now)) }
+        ensures drawn { OnOk result (HasLine (Contains self.new.sheet.pieces.items) self.old.sheet.frame.first self.old.sheet.frame.end (known limit) (drawn_of lane.now)) }
     {
         let scene = Scene::new(&self.sheet.frame, self.y, lane, known(limit));
         self.put_head(&scene, name, lane, limit)?;
@@ -259,9 +290,4 @@ impl Rows {
         put_limits(&mut text, scene, lane, known(limit), name.is_watched())?;
         self.sheet.push(text)
     }
-}
-
-// A limit that the summary told, 0 where it told none.
-fn known(limit: Option<u32>) -> u64 {
-    u64::from(limit.unwrap_or(0))
 }

@@ -9,7 +9,7 @@ loop-i-init c = record { shown = shown_none _ _ _; long = refl; within = omega a
 
 pub loop-i-preserved : goal.loop-i-preserved
 loop-i-preserved c =
-    let x : Place = record { lane = c.set.new.self; limit = c.index_mut.result.now.limit } in record {
+    let x : Place = record { lane = c.set.new.self } in record {
       shown =
           set_one c.args.places.now.items c.loop-i.places.items _ c.args.held.now.levels.items c.args.clock.now c.loop-i.i c.at.result c.index_mut.result.now x c.loop-i.invariant.shown (omega arith) refl
           c.index_mut.ensures.value c.at.ensures c.in_ok-set.ensures;
@@ -18,5 +18,9 @@ loop-i-preserved c =
     }
 
 pub returns : goal.returns
-returns c =
-    set_all_shows c.args.places.now.items c.loop-i.places.items c.args.held.now.levels.items c.args.clock.now c.loop-i.i c.loop-i.invariant.shown c.loop-i.invariant.long (omega arith) c.loop-i.invariant.within c.requires
+returns c = record {
+  shows =
+      set_all_shows c.args.places.now.items c.loop-i.places.items c.args.held.now.levels.items c.args.clock.now c.loop-i.i c.loop-i.invariant.shown c.loop-i.invariant.long (omega arith) c.loop-i.invariant.within
+      c.requires;
+  many = c.loop-i.invariant.long;
+}

@@ -5,7 +5,7 @@ use Rattle.tape_plot.proofs.tape.take_text.Goals as goal
 pub returns-in-Some : goal.returns-in-Some
 returns-in-Some c = record {
   follows = note_follows c.args.line.now c.args.plot.now c.take_note.new.plot c.args.part c.take_note.result c.in_ok-note.field-0 c.in-Some.note c.in_ok-note.ensures c.in-Some.is c.take_note.ensures.before
-      c.take_note.ensures.part c.take_note.ensures.goes;
+      c.take_note.ensures.part c.take_note.ensures.goes c.take_note.ensures.limits;
   stops = c.take_note.ensures.stops;
 }
 

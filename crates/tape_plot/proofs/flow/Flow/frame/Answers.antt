@@ -6,4 +6,4 @@ use Rattle.tape_plot.proofs.flow.Flow.frame.Goals as goal
 
 pub returns-clause-goes : goal.returns-clause-goes
 returns-clause-goes c =
-    flow_frames c.args.self.now _ c.args.n c.args.clock.now (c.frame-taken.ensures.held ∙ ap (λ (v : ℕ). framed v c.args.self.now.held.levels.items) c.from.ensures) c.in_ok-show.ensures refl refl refl refl
+    flow_frames c.args.self.now _ c.args.n c.args.clock.now (c.frame-taken.ensures.held ∙ ap (λ (v : ℕ). framed v c.args.self.now.held.levels.items) c.from.ensures) c.in_ok-show.ensures.shows c.in_ok-show.ensures.many refl refl refl refl

@@ -14,13 +14,13 @@ loop-conn-init c = record { grows = grows_self _; drawn = All-nil _ }
 pub loop-conn-preserved : goal.loop-conn-preserved
 loop-conn-preserved c = record {
   grows = grows_more _ _ _ c.loop-conn.invariant.grows c.in_ok-put_write.ensures.grows;
-  drawn = write_next _ _ _ _ _ c.in_ok-put_write.ensures.grows c.loop-conn.invariant.drawn (record { lane = c.in_ok-put_write.ensures.drawn });
+  drawn = write_next _ _ _ _ _ _ c.in_ok-put_write.ensures.grows c.loop-conn.invariant.drawn (record { lane = c.in_ok-put_write.ensures.drawn });
 }
 
 pub returns : goal.returns
 returns c =
     let e : map deref_pair c.loop-conn.yielded ≡ c.args.connections.now.items.entries = search (rules, iter_end) in
-    let all = All-map (λ v. WriteDrawn c.loop-conn.self.sheet c.args.pick.now.lanes v.0 v.1) deref_pair c.loop-conn.yielded c.loop-conn.invariant.drawn in record {
+    let all = All-map (λ v. WriteDrawn c.loop-conn.self.sheet c.args.limits.now c.args.pick.now v.0 v.1) deref_pair c.loop-conn.yielded c.loop-conn.invariant.drawn in record {
       grows = c.loop-conn.invariant.grows;
-      drawn = subst (All (λ v. WriteDrawn c.loop-conn.self.sheet c.args.pick.now.lanes v.0 v.1)) e all;
+      drawn = subst (All (λ v. WriteDrawn c.loop-conn.self.sheet c.args.limits.now c.args.pick.now v.0 v.1)) e all;
     }

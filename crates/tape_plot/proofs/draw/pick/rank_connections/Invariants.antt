@@ -1,0 +1,8 @@
+use Rattle.std.specs.Map.Iter.{deref_pair}
+use Rattle.std.specs.Prelude.{map, ◌≡◌}
+use Rattle.tape_plot.specs.Filled.{of_connections}
+use Rattle.tape_plot.specs.Ranking.{kept_of, ranked_in}
+use Rattle.tape_plot.proofs.draw.pick.rank_connections.Given as goal
+
+abbrev pub invariant-loop-conn : goal.invariant-loop-conn
+invariant-loop-conn l = record { put : ranked_in l.highest ≡ kept_of (of_connections l.limits (map deref_pair l.yielded)) (ranked_in l.fn.highest) }
