@@ -132,7 +132,6 @@ fn hire<T: WireSite, M: Meter<T::W>>(
 }
 
 // A worker of the next parts joins the crew, behind the head of its journal, or a front of it.
-#[tactic(auto, using(crate::proofs::Crewing::joined_next))]
 fn enlist<W: Wires, C: Clock, L: Journal>(
     alloc: Global,
     next: &mut Option<Parts>,
