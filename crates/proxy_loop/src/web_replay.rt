@@ -13,7 +13,7 @@ const MOST: usize = 8_000_000;
 
 /// What the replay of a worker's journal shows.
 #[derive(Drop)]
-pub struct Replay {
+pub struct Replayed {
     /// Whether it went to the journal's end, and to exactly the notes that the worker handed over, one for one.
     pub is_as_noted: bool,
     /// Why exchanges ended, in order, each in a line.
@@ -21,8 +21,8 @@ pub struct Replay {
 }
 
 /// Replays a journal that was written under a configuration with this text.
-pub fn replay(alloc: Global, text: &[u8], kept: &Kept) -> Result<Replay, NoMemory> {
-    let none = Replay {
+pub fn replay(alloc: Global, text: &[u8], kept: &Kept) -> Result<Replayed, NoMemory> {
+    let none = Replayed {
         is_as_noted: false,
         dooms: Octets::new(alloc),
     };
@@ -40,7 +40,7 @@ pub fn replay(alloc: Global, text: &[u8], kept: &Kept) -> Result<Replay, NoMemor
         return Ok(none);
     }
     let notes = notes_in(alloc, tape.octets())?;
-    Ok(Replay {
+    Ok(Replayed {
         is_as_noted: !notes.is_empty() && notes.as_slice() == kept.notes.as_slice(),
         dooms: dooms_in(alloc, tape.octets())?,
     })
