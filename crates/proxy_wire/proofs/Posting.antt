@@ -89,10 +89,13 @@ looked_on boxes old new publisher pressures failed leads sampled same is pressed
     looked boxes old new failed leads (subst (λ (v : List ℕ). AreSampled old.pressures v failed) (sym pressed) sampled) (subst (λ (v : Publisher). IsSame old.publisher v) (sym is) same) posters
 
 -- ---- by the states that follow from what is published
-pub accepts_so : (config : Config) (leader : Leader) (pressures : List ℕ) (states : Actions) (full : Bool) → full ≡ is_saturated states.stop_accepting → states ≡ actions_at config.overload.triggers pressures → pressures ≡ leader.pressures → leader.accepts ≡ not full → Accepts config leader
-accepts_so config leader pressures states full saturated made same is =
-    let whole : states ≡ actions_at config.overload.triggers leader.pressures = made ∙ ap (λ (v : List ℕ). actions_at config.overload.triggers v) same in
-    is ∙ ap not (saturated ∙ ap (λ (s : Actions). is_saturated s.stop_accepting) whole)
+pub accepts_so : (config : Config) (pressures pressures' : List ℕ) (states : Actions) (full : Bool) → full ≡ is_saturated states.stop_accepting → states ≡ actions_at config.overload.triggers pressures → pressures ≡ pressures' → not full ≡ not (is_saturated (actions_at config.overload.triggers pressures').stop_accepting)
+accepts_so config pressures pressures' states full saturated made same =
+    let whole : states ≡ actions_at config.overload.triggers pressures' = made ∙ ap (λ (v : List ℕ). actions_at config.overload.triggers v) same in
+    ap not (saturated ∙ ap (λ (s : Actions). is_saturated s.stop_accepting) whole)
 
 pub looks_on : (config : Config) (old new : Leader) (publisher : Publisher) (pressures : List ℕ) → published publisher ≡ published old.publisher ++ padded pressures ∷ [] → new.publisher ≡ publisher → new.pressures ≡ pressures → Accepts config new → Looks config old new
 looks_on config old new publisher pressures list is pressed accepts = inr (ap published is ∙ list ∙ ap (λ (v : List ℕ). published old.publisher ++ padded v ∷ []) (sym pressed), accepts)
+
+pub looks_kept : (config : Config) (old new : Leader) → published new.publisher ≡ published old.publisher → new.accepts ≡ old.accepts → Looks config old new
+looks_kept config old new list accepts = inl (list, accepts)

@@ -3,6 +3,7 @@ pub mod Forms
 pub mod Hires
 pub mod Leading
 pub mod Lent
+pub mod LoopEnds
 pub mod Reasons
 pub mod Runs
 pub mod Serving

@@ -1,8 +1,8 @@
 // The workers, and beside them the loop that leads them.
 ghost use Rattle.std.specs.Prelude.{IfOk, OnErr, length, slice_index_or, ℕ, ◌<◌, ◌≡◌, ◌≤◌};
-ghost use Rattle.io_ports.specs.Faults.{Rose};
 ghost use Rattle.proxy_wire.specs.Lent.{AcceptsLent, LeavesLent};
 ghost use Rattle.proxy_wire.specs.Leading.{Leads};
+ghost use Rattle.proxy_wire.specs.LoopEnds.{EndsByFault};
 ghost use Rattle.worker_threads.specs.Starting.{IsReady, WorkedEach, outside_of};
 
 use crate::end::LoopEnd;
@@ -45,7 +45,7 @@ where
     requires leads { Leads shared.now.posts.items leader.old }
     ensures ok { IfOk result.0 (λ ends. WorkedEach (outside_of W.Wires C.moments L.contents L.told L.faults) shared.now task.now.turns workers.old ends.items workers.new) }
     ensures err { OnErr result.0 (workers.new ≡ workers.old) }
-    ensures failed { result.1 ≡ LoopEnd.Round → Rose (T.faults site.old) (T.faults site.new) }
+    ensures failed { EndsByFault result.1 (T.faults site.old) (T.faults site.new) }
     ensures wired { T.wired site.new ≡ T.wired site.old }
     ensures told { T.told site.new ≡ T.told site.old }
     ensures no_fall { T.faults site.old ≤ T.faults site.new }
@@ -92,7 +92,7 @@ where
     requires run { AcceptsLent F.Fn run.now workers.old }
     requires leads { Leads shared.now.posts.items leader.old }
     ensures run { LeavesLent F.Fn run.now workers.old result.0 workers.new }
-    ensures failed { result.1 ≡ LoopEnd.Round → Rose (T.faults site.old) (T.faults site.new) }
+    ensures failed { EndsByFault result.1 (T.faults site.old) (T.faults site.new) }
     ensures wired { T.wired site.new ≡ T.wired site.old }
     ensures told { T.told site.new ≡ T.told site.old }
     ensures no_fall { T.faults site.old ≤ T.faults site.new }

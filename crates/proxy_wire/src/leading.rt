@@ -3,6 +3,7 @@ ghost use Rattle.std.specs.Prelude.{[], ◌++◌, ◌∷◌, ◌≡◌, ◌≤�
 ghost use Rattle.io_ports.specs.Faults.{Rose};
 ghost use Rattle.post_queue.specs.Clauses.{IsPosterOf, IsRunnerOf};
 ghost use Rattle.proxy_wire.specs.Leading.{Accepts, ArePosters, Leads, Looks};
+ghost use Rattle.proxy_wire.specs.LoopEnds.{EndsByFault};
 
 use crate::end::LoopEnd;
 use crate::meter::Tokens;
@@ -82,6 +83,7 @@ impl Leader {
 
     /// Reads the gauges, publishes, and posts a look to each worker. What is refused is made again the next time; until then clients
     /// are accepted as before.
+    #[tactic(auto, using(crate::proofs::Posting::looked, crate::proofs::Posting::looked_on, crate::proofs::Posting::looks_on, crate::proofs::Posting::looks_kept))]
     pub fn look<R: Wait, G: Gauge>(
         &mut self,
         rt: &R,
@@ -96,9 +98,10 @@ impl Leader {
     {
         sample(alloc, gauge, &mut self.pressures);
         match self.publisher.publish(rt, self.pressures.as_slice()) {
-            Ok(_) => self.act(rt, config, boxes),
-            Err(NoMemory) => {}
+            Ok(_) => {}
+            Err(NoMemory) => return,
         }
+        self.act(rt, config, boxes);
     }
 
     // Clients are accepted by the pressures that were published, and a look is posted to each worker.
@@ -131,7 +134,7 @@ pub(crate) fn lead<R: Wait + Clock, T: WireSite, P: Tokens, G: Gauge>(
     ensures leads { Leads shared.now.posts.items leader.new }
     ensures wired { T.wired site.new ≡ T.wired site.old }
     ensures told { T.told site.new ≡ T.told site.old }
-    ensures failed { result ≡ LoopEnd.Round → Rose (T.faults site.old) (T.faults site.new) }
+    ensures failed { EndsByFault result (T.faults site.old) (T.faults site.new) }
     ensures no_fall { T.faults site.old ≤ T.faults site.new }
 {
     let end = make_rounds(rt, alloc, task, shared, leader, tokens, site, gauge);

@@ -143,7 +143,7 @@ where
 }
 
 // Runs workers that are fitted, once it is told where the proxy listens.
-#[tactic(auto, using(crate::proofs::Running::works_none, crate::proofs::Running::works_by, crate::proofs::Running::cause_by))]
+#[tactic(auto, using(crate::proofs::Running::works_none))]
 fn work_all<R, T, M, G, K>(
     rt: &R,
     alloc: Global,

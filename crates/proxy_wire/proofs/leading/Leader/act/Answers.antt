@@ -2,7 +2,7 @@
 use Rattle.post_queue.specs.declared.passes.PosterPass.{PosterPass}
 use Rattle.proxy_wire.proofs.Posting.{accepts_so}
 use Rattle.proxy_wire.specs.Leading.{ArePosters}
-use Rattle.std.proofs.Common.{List, arith, refl, subst, sym, ◌≡◌}
+use Rattle.std.proofs.Common.{List, arith, subst, sym, ◌≡◌}
 use Rattle.std.proofs.lemmas.List.{with_items_is}
 use Rattle.std.specs.Vec.{with_items}
 use Rattle.proxy_wire.proofs.leading.Leader.act.Goals as goal
@@ -18,4 +18,4 @@ returns-clause-posters g c =
     subst (λ (ps : List PosterPass). ArePosters c.args.boxes.now ps) (sym whole) c.post_all.ensures
 
 pub returns-clause-accepts : goal.returns-clause-accepts
-returns-clause-accepts g c = accepts_so c.args.config.now _ _ _ _ c.is_saturated.ensures c.action_states-states.ensures.states c.as_slice.ensures refl
+returns-clause-accepts g c = accepts_so c.args.config.now _ _ _ _ c.is_saturated.ensures c.action_states-states.ensures.states c.as_slice.ensures
