@@ -68,10 +68,10 @@ picked_stands levels limits first h said picked s are k =
     subst (λ (t : Buffer → ℕ). ArePicked (λ b. against (limit_of b h said) (t b)) (λ b. 0 < t b) picked) tops
     (subst (λ (l : Buffer → ℕ). ArePicked (λ b. against (l b) (top_in b levels)) (λ b. 0 < top_in b levels) picked) its_limits k)
   where
-    its_limits : (λ (b : Buffer). known (limit_kept b levels limits)) ≡ (λ (b : Buffer). limit_of b h said)
+    its_limits : ◌≡◌ {A = Buffer → ℕ} (λ b. known (limit_kept b levels limits)) (λ b. limit_of b h said)
     its_limits = λ i b. limit_stands b levels limits first h said s are i
 
-    tops : (λ (b : Buffer). top_in b levels) ≡ (λ (b : Buffer). most_from (held_in b) first h)
+    tops : ◌≡◌ {A = Buffer → ℕ} (λ b. top_in b levels) (λ b. most_from (held_in b) first h)
     tops = λ i b. most_is (lane_of b levels) (held_in b) first h (lane_stands b levels first h s) i
 
 shows_buffers : (text : List ℕ) (lanes : Lanes) (limits : Limits) (levels : Levels) (first end : ℕ) (h : History NoMark) (said : List Said) → end ≡ turns h → TextDrawn text first end limits lanes levels → LanesStand levels first h

@@ -81,6 +81,9 @@ returns-in_err-run_posts-clause-rises g c =
     let p = err_from_is_err_and c.from_residual-in_err-run_posts.result c.from_residual-in_err-run_posts.ensures.1 in
     rw (p.1, p.2) (rises_err {T = Unit {0}} {U = Bool} _ (g.W.Wires.faults c.args.wires.now) (g.W.Wires.faults c.run_posts.new.wires) (g.J.Sink.faults c.args.journal.now) (g.J.Sink.faults c.run_posts.new.journal) (rises_more _ (g.W.Wires.faults c.args.wires.now) (g.W.Wires.faults c.carry_out.new.wires) (g.W.Wires.faults c.run_posts.new.wires) (g.J.Sink.faults c.args.journal.now) (g.J.Sink.faults c.carry_out.new.journal) (g.J.Sink.faults c.run_posts.new.journal) (omega (arith, c.carry_out.ensures.rises.at_wires)) (omega (arith, c.carry_out.ensures.rises.at_journal)) c.in_err-run_posts.ensures.rises))
 
+pub same-list : goal.same-list
+same-list g c = refl
+
 pub returns-in-Err-current-clause-turns : goal.returns-in-Err-current-clause-turns
 returns-in-Err-current-clause-turns g c =
     broke_obey c.args.names.now ended.Memory (sides_of (g.C.Clock.moments c.args.clock.now) (hands.view c.args.pass.now.pass) (looks c.args.follower.now) c.args.follower.now.kept) (sides_of (g.C.Clock.moments c.now.new.self) (hands.view c.drain.new.pass.pass) (looks c.current.new.self) c.current.new.self.kept) c.now.result c.as_slice-drained.result.now c.args.core.now.kind c.carry_out.new.core.kind c.run_posts.new.core.kind c.run_posts.new.core.kind (place_of (g.J.Sink.contents c.args.journal.now) (g.J.Journal.told c.args.journal.now) (g.W.Wires.seen c.args.wires.now) c.args.held.now (view c.args.seat.now)) (place_of (g.J.Sink.contents c.carry_out.new.journal) (g.J.Journal.told c.carry_out.new.journal) (g.W.Wires.seen c.carry_out.new.wires) c.carry_out.new.held (view c.carry_out.new.seat)) (place_of (g.J.Sink.contents c.run_posts.new.journal) (g.J.Journal.told c.run_posts.new.journal) (g.W.Wires.seen c.run_posts.new.wires) c.run_posts.new.held (view c.run_posts.new.seat)) (place_of (g.J.Sink.contents c.run_posts.new.journal) (g.J.Journal.told c.run_posts.new.journal) (g.W.Wires.seen c.run_posts.new.wires) c.run_posts.new.held (view c.run_posts.new.seat)) c.now.ensures.tells (drained_as c.as_slice-drained.result.now _ _ _ c.as_slice-drained.ensures c.in-Ok.ensures.ran) c.in_ok-carry_out.ensures.carries c.in_ok-run_posts.ensures.runs

@@ -4,7 +4,7 @@ use Rattle.tape_plot.proofs.Drawing.{grows_more, grows_self, place_next, places_
 use Rattle.tape_plot.proofs.draw.rows.Rows.put_places.Goals as goal
 
 pub loop-i-init : goal.loop-i-init
-loop-i-init c = record { grows = grows_self _; drawn = places_none _ _ _ _ _; within = omega arith }
+loop-i-init c = record { grows = grows_self _; drawn = places_none c.args.self.now.sheet c.args.limits.now c.args.pick.now c.args.id c.args.flow.now.places.items; within = omega arith }
 
 pub loop-i-preserved : goal.loop-i-preserved
 loop-i-preserved c = record {
