@@ -4,6 +4,9 @@ use Rattle.proxy_wire.proofs.Sharing.{seat_taken, seats_left}
 use Rattle.std.proofs.Common.{refl}
 use Rattle.proxy_wire.proofs.crew.Supply.prepare.Goals as goal
 
+pub returns-in_err-core-clause-seats : goal.returns-in_err-core-clause-seats
+returns-in_err-core-clause-seats g c = seats_left c.args.permits.now _ _ c.in-Some-take_one.seat c.in-Some-take_one.ensures c.requires.seats
+
 pub returns-clause-seats : goal.returns-clause-seats
 returns-clause-seats g c = seats_left c.args.permits.now _ _ c.in-Some-take_one.seat c.in-Some-take_one.ensures c.requires.seats
 
