@@ -172,6 +172,8 @@ fn one_buffer_crosses_its_marks(rt: HostRuntime) -> Result<(), NoMemory> {
 #[test]
 fn a_ready_buffer_takes_what_it_has_room_for(rt: HostRuntime) -> Result<(), NoMemory> {
     let mut buffer = WatermarkBuffer::new(rt.alloc(), 10);
+    holds(&rt, buffer.is_empty());
+    buffer.ready(65_536)?;
     goes_over_the_seam(&rt, &mut buffer)?;
     counts_up(&rt, &mut buffer, 65_541, 65_546)?;
     holds(&rt, buffer.is_empty());
@@ -182,8 +184,6 @@ fn goes_over_the_seam(
     rt: &(impl AllocGlobal + Abort),
     buffer: &mut WatermarkBuffer,
 ) -> Result<(), NoMemory> {
-    holds(rt, buffer.is_empty());
-    buffer.ready(65_536)?;
     same(rt, &put(rt.alloc(), buffer, 0, 65_546)?, &HIGH);
     assert!(rt; 65_541 <= buffer.len());
     same(rt, &buffer.take(65_541), &LOW);
