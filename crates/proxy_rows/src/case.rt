@@ -127,21 +127,16 @@ impl Case {
 
     fn fail(&mut self, line: &str) -> Result<(), NoMemory> {
         let (part, rest) = next(line);
-        let list = match part {
-            "fit" => return self.refuse(small(rest)),
-            "config" => &mut self.failing.config,
-            "site" => &mut self.failing.site,
-            "round" => &mut self.failing.round,
-            "out" => &mut self.failing.out,
-            "journal" => &mut self.play().journal_failing,
-            _ => &mut self.play().failing,
-        };
-        list.push(number(rest))?;
-        Ok(())
-    }
-
-    fn refuse(&mut self, worker: u32) -> Result<(), NoMemory> {
-        self.failing.fit.push(worker)?;
+        let call = number(rest);
+        match part {
+            "fit" => self.failing.fit.push(small(rest))?,
+            "config" => self.failing.config.push(call)?,
+            "site" => self.failing.site.push(call)?,
+            "round" => self.failing.round.push(call)?,
+            "out" => self.failing.out.push(call)?,
+            "journal" => self.play().journal_failing.push(call)?,
+            _ => self.play().failing.push(call)?,
+        }
         Ok(())
     }
 
