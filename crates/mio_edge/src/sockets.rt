@@ -117,25 +117,31 @@ impl<R: Clock + Net + Eprint + Drop, I: Inlet + Drop> Sockets<R, I> {
         }
     }
 
-    /// Writes a front of a piece to a connection, and answers how many octets went.
-    pub fn write(&mut self, conn: u32, piece: &[u8]) -> usize
+    /// A connection takes a front of a piece, and sends it by the time of the next wait. Answers how many octets it took.
+    pub fn take(&mut self, conn: u32, piece: &[u8]) -> usize
         ensures { result ≤ length piece.now }
     {
-        let n = self.links.write(conn, piece, self.now);
+        let n = self.links.take(conn, piece, self.now);
         if n > 0 && n == piece.len() {
             self.took_all = true;
         }
         n
     }
 
-    /// Ends a connection. What was sent to it still arrives.
+    /// Sends what the connections took, as far as their peers take it.
+    pub fn send_all(&mut self) {
+        self.links.send_all();
+    }
+
+    /// Ends a connection. What it took still arrives.
     pub fn close(&mut self, conn: u32) {
         let Some(link) = self.links.leave(conn) else {
             return;
         };
         self.dialing.part(link.origin, self.now);
-        if let Some(stream) = link.into_parting() {
-            self.partings.begin(conn, stream, self.now, &mut self.block);
+        if let Some((stream, rest)) = link.into_parting() {
+            self.partings
+                .begin(conn, stream, rest, self.now, &mut self.block);
         }
     }
 
@@ -210,7 +216,8 @@ impl<R: Clock + Net + Eprint + Drop, I: Inlet + Drop> Sockets<R, I> {
             Origin::Client => registry.register(&mut stream, token, both)?,
             _ => registry.reregister(&mut stream, token, both)?,
         }
-        self.links.come(conn, Link::new(stream, origin))?;
+        self.links
+            .come(conn, Link::new(self.alloc, stream, origin))?;
         Ok(())
     }
 
@@ -247,13 +254,15 @@ impl<R: Clock + Net + Eprint + Drop, I: Inlet + Drop> Sockets<R, I> {
 
     // A connection is lost.
     fn lose(&mut self, conn: u32) {
-        if let Some(link) = self.links.leave(conn) {
+        if let Some(mut link) = self.links.leave(conn) {
+            link.send();
             self.dialing.lose(link.origin, self.now);
         }
     }
 
-    // Waits until something comes, and takes in what does.
+    // Sends what was gathered, waits until something comes, and takes in what does.
     fn begin_round(&mut self) -> Result<(), Failed> {
+        self.links.send_all();
         self.read_clock();
         self.door.count(self.links.clients());
         self.dial();
