@@ -182,7 +182,10 @@ impl Link {
     {
         let first = self.gathered.unsent();
         let gathered = first.len();
-        match self.stream.write_vectored(&[IoSlice::new(first), IoSlice::new(piece)]) {
+        match self
+            .stream
+            .write_vectored(&[IoSlice::new(first), IoSlice::new(piece)])
+        {
             Ok(n) => {
                 self.writable = n == gathered.saturating_add(piece.len());
                 self.sent = true;
