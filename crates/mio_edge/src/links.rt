@@ -103,7 +103,10 @@ impl Links {
 
     /// Sends what the connections gathered, as far as their peers take it.
     pub fn send_all(&mut self) {
-        while let Some(conn) = self.gathering.pop_front() {
+        for _ in 0..self.gathering.len() {
+            let Some(conn) = self.gathering.pop_front() else {
+                return;
+            };
             if let Some(link) = self.live.get_mut(&conn) {
                 link.gathers = false;
                 link.send();
