@@ -187,7 +187,12 @@ fn put_order(mistake: Mistake, into: &mut Octets) -> Result<(), NoMemory>
             put_conn(into, b"connection ", conn, b" was never accepted or joined")
         }
         Mistake::Lost { conn } => {
-            put_conn(into, b"connection ", conn, b" is gone, or was never accepted or joined")
+            put_conn(
+                into,
+                b"connection ",
+                conn,
+                b" is gone, or was never accepted or joined",
+            )
         }
         Mistake::Paused { conn } => put_conn(
             into,
