@@ -16,7 +16,7 @@ pub struct Kept {
     pub lines: Octets,
     /// The notes of all dispatches, each in a line.
     pub notes: Octets,
-    /// Whether nothing is left out of the text for want of memory.
+    /// Whether nothing is left out of the text because memory ran out.
     pub is_whole: bool,
 }
 
