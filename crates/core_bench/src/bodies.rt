@@ -1,8 +1,10 @@
-// Bodies of a MiB, down and up.
+// Bodies of a MiB, down and up, beside a plain copy of the same octets.
 use crate::frames::Wire;
+use crate::gets::{push, push_room, timed};
 use crate::rig::{Rig, no_memory, piece, stream_after};
-use crate::stopwatch::CpuStopwatch;
-use io_ports::Octets;
+use crate::stopwatch::{CpuStopwatch, tenths};
+use flow_notes::{Event, EventList};
+use io_ports::{NoMemory, Octets};
 use std::alloc::Global;
 use std::time::CpuClock;
 
@@ -11,7 +13,8 @@ const PIECE: usize = 16_384;
 /// The pieces of a body.
 const PIECES: u32 = 64;
 
-const BODIES: u32 = 16;
+/// The bodies of each direction; the best counts.
+const BODIES: u32 = 64;
 
 const CONFIG: &[u8] =
     b"[limits]\nconnection_window = 16777216\n[[clusters]]\nname = \"a\"\n[[routes]]\nprefix = \"/\"\ncluster = \"a\"\n";
@@ -38,29 +41,60 @@ const UP: Direction = Direction {
     to: CLUSTER,
 };
 
-/// Bodies of one direction: nanoseconds of processor time.
-fn pass(rt: &(impl AllocGlobal + CpuClock), way: Direction, body: &[u8]) -> anyhow::Result<u64> {
-    let mut rig = Rig::new(rt.alloc(), CONFIG)?;
-    let nanos = pass_bodies(&mut rig, rt, way, body);
-    drop(rig);
-    nanos
+/// The fewest nanoseconds of processor time that a body took.
+#[derive(Clone, Copy)]
+struct Least {
+    passed: u64,
+    copied: u64,
 }
 
-fn pass_bodies(
+/// Bodies of one direction. What the events of each read is copied plainly too, once it has passed.
+fn pass(rt: &(impl AllocGlobal + CpuClock), way: Direction) -> anyhow::Result<Least> {
+    let mut rig = Rig::new(rt.alloc(), CONFIG)?;
+    let least = pass_bodies(&mut rig, rt, way);
+    drop(rig);
+    least
+}
+
+fn pass_bodies(rig: &mut Rig, clock: &impl CpuClock, way: Direction) -> anyhow::Result<Least> {
+    rig.client(CLIENT, true)?;
+    rig.cluster(CLUSTER, true)?;
+    let body = piece(rig.alloc(), PIECE)?;
+    let mut block = Octets::new(rig.alloc());
+    pass_all(rig, clock, way, body.as_slice(), &mut block)
+}
+
+fn pass_all(
     rig: &mut Rig,
     clock: &impl CpuClock,
     way: Direction,
     body: &[u8],
-) -> anyhow::Result<u64> {
-    rig.client(CLIENT, true)?;
-    rig.cluster(CLUSTER, true)?;
-    let mut nanos = 0u64;
+    block: &mut Octets,
+) -> anyhow::Result<Least> {
+    let mut passed = u64::MAX;
+    let mut copied = u64::MAX;
     for one in 0..BODIES {
-        let stream = stream_after(1, one);
-        begin(rig, stream, way)?;
-        nanos = nanos.saturating_add(pass_one(rig, clock, stream, way, body)?);
+        let least = pass_one(rig, clock, way, stream_after(1, one), body, block)?;
+        passed = passed.min(least.passed);
+        copied = copied.min(least.copied);
     }
-    Ok(nanos)
+    Ok(Least { passed, copied })
+}
+
+// One body.
+fn pass_one(
+    rig: &mut Rig,
+    clock: &impl CpuClock,
+    way: Direction,
+    stream: u32,
+    body: &[u8],
+    block: &mut Octets,
+) -> anyhow::Result<Least> {
+    begin(rig, stream, way)?;
+    let events = events_of(rig.alloc(), stream, way, body)?;
+    let passed = timed(rig, &events, clock)?;
+    let copied = copy_all(&events, block, clock)?;
+    Ok(Least { passed, copied })
 }
 
 // The heads that a body comes behind.
@@ -74,78 +108,68 @@ fn begin(rig: &mut Rig, stream: u32, way: Direction) -> anyhow::Result<()> {
     Ok(())
 }
 
-// One body.
-fn pass_one(
-    rig: &mut Rig,
-    clock: &impl CpuClock,
+// The events of a body: each piece is read, and goes on.
+fn events_of(alloc: Global, stream: u32, way: Direction, body: &[u8]) -> anyhow::Result<EventList> {
+    let mut events = EventList::new(alloc);
+    push_pieces(&mut events, alloc, stream, way, body)?;
+    Ok(events)
+}
+
+fn push_pieces(
+    events: &mut EventList,
+    alloc: Global,
     stream: u32,
     way: Direction,
     body: &[u8],
-) -> anyhow::Result<u64> {
-    let mut nanos = 0u64;
+) -> anyhow::Result<()> {
     for left in (0..PIECES).rev() {
-        let wire = piece_of(rig.alloc(), stream, body, left == 0)?;
-        nanos = nanos.saturating_add(pass_piece(rig, clock, way, wire)?);
+        let octets = piece_of(alloc, stream, body, left == 0).map_err(no_memory)?;
+        push(events, way.from, octets)?;
+        push_room(events, way.to)?;
     }
-    Ok(nanos)
+    Ok(())
 }
 
 // A piece of a body in a frame.
-fn piece_of(alloc: Global, stream: u32, body: &[u8], last: bool) -> anyhow::Result<Wire> {
+fn piece_of(alloc: Global, stream: u32, body: &[u8], last: bool) -> Result<Octets, NoMemory> {
     let mut wire = Wire::new(alloc);
-    wire.data(stream, body, last).map_err(no_memory)?;
-    Ok(wire)
+    wire.data(stream, body, last)?;
+    wire.into_octets()
 }
 
-// A piece is read, and goes on.
-fn pass_piece(
-    rig: &mut Rig,
-    clock: &impl CpuClock,
-    way: Direction,
-    wire: Wire,
-) -> anyhow::Result<u64> {
+// The octets that events read, copied one behind the other into a block: nanoseconds of processor time.
+fn copy_all(events: &EventList, block: &mut Octets, clock: &impl CpuClock) -> anyhow::Result<u64> {
+    block.clear();
     let watch = CpuStopwatch::start(clock)?;
-    rig.read(way.from, wire)?;
-    rig.room(way.to)?;
+    for event in events.as_slice() {
+        copy(event, block).map_err(no_memory)?;
+    }
     Ok(watch.nanos(clock)?)
 }
 
-/// The same octets copied once into a block: nanoseconds of processor time.
-fn copies(rt: &(impl AllocGlobal + CpuClock), body: &[u8]) -> anyhow::Result<u64> {
-    let mut block = Octets::new(rt.alloc());
-    let watch = CpuStopwatch::start(rt)?;
-    for _piece in 0..BODIES.saturating_mul(PIECES) {
-        block.clear();
-        block.push_all(body).map_err(no_memory)?;
+fn copy(event: &Event, block: &mut Octets) -> Result<(), NoMemory> {
+    match event {
+        Event::Read { conn: _, octets } => block.push_all(octets.as_slice()),
+        _ => Ok(()),
     }
-    Ok(watch.nanos(rt)?)
 }
 
 /// A MiB down and up, beside a plain copy.
 pub fn run(rt: &(impl AllocGlobal + Print + CpuClock)) -> anyhow::Result<()> {
-    let body = piece(rt.alloc(), PIECE)?;
-    measure(rt, body.as_slice())
+    let down = pass(rt, DOWN)?;
+    report(rt, "down", down)?;
+    let up = pass(rt, UP)?;
+    report(rt, "up", up)
 }
 
-fn measure(rt: &(impl AllocGlobal + Print + CpuClock), body: &[u8]) -> anyhow::Result<()> {
-    let down = pass(rt, DOWN, body)?;
-    let up = pass(rt, UP, body)?;
-    let plain = copies(rt, body)?;
-    report(rt, down, up, plain.max(1))
-}
-
-fn report(rt: &impl Print, down: u64, up: u64, plain: u64) -> anyhow::Result<()> {
-    let bodies = u64::from(BODIES);
+fn report(rt: &impl Print, way: &str, least: Least) -> anyhow::Result<()> {
+    let times = tenths(least.passed, least.copied);
     println!(rt;
-        "a MiB down: {} ns, up: {} ns, copied: {} ns",
-        down / bodies,
-        up / bodies,
-        plain / bodies
-    )?;
-    println!(rt;
-        "down {} times, up {} times a copy",
-        down / plain.max(1),
-        up / plain.max(1)
+        "a MiB {way}: {} ns, copied: {} ns, {}.{} times",
+        least.passed,
+        least.copied,
+        times / 10,
+        times % 10
     )?;
     Ok(())
 }

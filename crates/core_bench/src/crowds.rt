@@ -1,28 +1,26 @@
-// Small exchanges beside what is idle, and what a tick, a close, a low and a SETTINGS frame cost.
-use crate::frames::Wire;
+// Small exchanges and ticks beside idle connections and exchanges.
 use crate::gets::{CONFIG, EXCHANGES, Route, events_of, timed};
-use crate::rig::{Rig, WIDE, no_memory, piece, stream_after};
-use crate::stopwatch::CpuStopwatch;
-use flow_notes::Event;
-use io_ports::{NoMemory, Octets};
-use std::alloc::Global;
+use crate::rig::{Rig, stream_after};
+use crate::stopwatch::{CpuStopwatch, tenths};
 use std::time::CpuClock;
 
 /// A connection to a cluster takes so many exchanges at once.
 const LANES: u32 = 100;
 
-const TICKS: u64 = 1_000;
+/// So many ticks of a millisecond, fewer than the route's timeout.
+const TICKS: u64 = 10_000;
 
-/// How many exchanges a client has whose connection is lost, or drains, or is set anew.
-const SIZES: [u32; 2] = [100, 1_000];
+/// Milliseconds after which each idle exchange has passed its timeout.
+const IDLE: u64 = 301_000;
 
-const PIECE: usize = 16_384;
+/// How often each side is measured; the best counts.
+const TURNS: u32 = 5;
+
+/// Few idle connections and exchanges.
+const FEW: u32 = 10;
 
 const METERS: &[u8] =
     b"[limits]\nwrite_buffer = 65536\nsend_buffer = 16384\nconnection_window = 16777216\nmax_streams = 1000\nframe_size = 1048576\n[[clusters]]\nname = \"a\"\n[[routes]]\nprefix = \"/\"\ncluster = \"a\"\nrequest = [\"meter\"]\nresponse = [\"meter\"]\n";
-
-const LARGE: &[u8] =
-    b"[limits]\nwrite_buffer = 65536\nsend_buffer = 16384\nconnection_window = 16777216\nmax_streams = 1000\nframe_size = 1048576\n[[clusters]]\nname = \"a\"\n[[routes]]\nprefix = \"/\"\ncluster = \"a\"\n";
 
 /// So many idle exchanges come, a hundred a client, and so many idle connections more. The answer is the first number of a
 /// connection that is free.
@@ -61,12 +59,19 @@ fn lane(rig: &mut Rig, cluster: u32, exchanges: u32) -> anyhow::Result<()> {
     rig.room(client)
 }
 
-/// Small exchanges beside ten and beside so many idle connections and exchanges: nanoseconds each.
+/// Small exchanges beside ten and beside so many idle connections and exchanges: the fewest nanoseconds each, in turn.
 pub fn idle(rt: &(impl AllocGlobal + Print + CpuClock), count: u32) -> anyhow::Result<()> {
-    for n in [10, count] {
-        let nanos = beside(rt, n)? / u64::from(EXCHANGES);
-        println!(rt; "beside {n} idle connections and exchanges: {nanos} ns an exchange")?;
+    let mut few = u64::MAX;
+    let mut many = u64::MAX;
+    for _turn in 0..TURNS {
+        few = few.min(beside(rt, FEW)? / u64::from(EXCHANGES));
+        many = many.min(beside(rt, count)? / u64::from(EXCHANGES));
     }
+    let times = tenths(many.saturating_mul(10), few);
+    println!(rt;
+        "beside {FEW} idle connections and exchanges: {few} ns an exchange; beside {count}: {many} ns, {} hundredths",
+        times
+    )?;
     Ok(())
 }
 
@@ -106,153 +111,64 @@ fn route_beside(rig: &mut Rig, n: u32) -> anyhow::Result<Route> {
     })
 }
 
-/// Ticks beside so many exchanges with idle Meters.
+/// What ticks took.
+#[derive(Clone, Copy)]
+struct Ticked {
+    /// Nanoseconds of a tick that fires nothing.
+    idle: u64,
+    /// Nanoseconds of the tick that fires all.
+    fired: u64,
+    /// The notes of that tick.
+    notes: u64,
+}
+
+/// Ticks beside ten and beside so many exchanges with idle Meters: those that fire nothing, and one that fires all.
 pub fn tick(rt: &(impl AllocGlobal + Print + CpuClock), count: u32) -> anyhow::Result<()> {
-    for n in [10, count] {
-        let nanos = ticks_beside(rt, n)? / TICKS;
-        println!(rt; "a tick beside {n} idle Meters: {nanos} ns")?;
+    for n in [FEW, count, FEW, count] {
+        let ticked = ticks_beside(rt, n)?;
+        report_ticks(rt, n, ticked)?;
     }
     Ok(())
 }
 
-// Ticks beside so many idle Meters: nanoseconds.
-fn ticks_beside(rt: &(impl AllocGlobal + CpuClock), n: u32) -> anyhow::Result<u64> {
-    let mut rig = Rig::new(rt.alloc(), METERS)?;
-    let nanos = ticks(&mut rig, rt, n);
-    drop(rig);
-    nanos
+fn report_ticks(rt: &impl Print, n: u32, ticked: Ticked) -> anyhow::Result<()> {
+    let notes = ticked.notes.max(1);
+    println!(rt;
+        "beside {n} idle Meters: {} ns a tick that fires nothing; {} ns the tick that fires all, {} notes, {} ns a note",
+        ticked.idle,
+        ticked.fired,
+        notes,
+        ticked.fired / notes
+    )?;
+    Ok(())
 }
 
-fn ticks(rig: &mut Rig, clock: &impl CpuClock, n: u32) -> anyhow::Result<u64> {
+// Ticks beside so many idle Meters.
+fn ticks_beside(rt: &(impl AllocGlobal + CpuClock), n: u32) -> anyhow::Result<Ticked> {
+    let mut rig = Rig::new(rt.alloc(), METERS)?;
+    let ticked = ticks(&mut rig, rt, n);
+    drop(rig);
+    ticked
+}
+
+fn ticks(rig: &mut Rig, clock: &impl CpuClock, n: u32) -> anyhow::Result<Ticked> {
     let _first = crowd(rig, n, 0)?;
+    let idle = idle_ticks(rig, clock)? / TICKS;
     let watch = CpuStopwatch::start(clock)?;
-    for now in 1..TICKS {
+    rig.tick(IDLE)?;
+    let fired = watch.nanos(clock)?;
+    Ok(Ticked {
+        idle,
+        fired,
+        notes: rig.written(),
+    })
+}
+
+// Ticks that fire nothing: nanoseconds.
+fn idle_ticks(rig: &mut Rig, clock: &impl CpuClock) -> anyhow::Result<u64> {
+    let watch = CpuStopwatch::start(clock)?;
+    for now in 0..TICKS {
         rig.tick(now)?;
     }
     Ok(watch.nanos(clock)?)
-}
-
-/// A client with so many exchanges, over connections with a hundred each. The answer is its number.
-fn client_of(rig: &mut Rig, exchanges: u32, eager: bool) -> anyhow::Result<u32> {
-    let client = (exchanges / LANES).saturating_add(2);
-    for cluster in 1..client {
-        rig.cluster(cluster, true)?;
-    }
-    rig.client(client, eager)?;
-    rig.posts(client, 1, exchanges)?;
-    drain_below(rig, client)?;
-    Ok(client)
-}
-
-// What waits for the connections below a number goes.
-fn drain_below(rig: &mut Rig, client: u32) -> anyhow::Result<()> {
-    for cluster in 1..client {
-        rig.room(cluster)?;
-    }
-    Ok(())
-}
-
-// The nanoseconds of one dispatch.
-fn dispatched(rig: &mut Rig, event: &Event, clock: &impl CpuClock) -> anyhow::Result<u64> {
-    let watch = CpuStopwatch::start(clock)?;
-    rig.go(event)?;
-    Ok(watch.nanos(clock)?)
-}
-
-/// A lost connection dooms so many exchanges.
-pub fn close(rt: &(impl AllocGlobal + Print + CpuClock)) -> anyhow::Result<()> {
-    for n in SIZES {
-        let nanos = close_of(rt, n)? / u64::from(n.max(1));
-        println!(rt; "a close that dooms {n}: {nanos} ns each")?;
-    }
-    Ok(())
-}
-
-// A client with so many exchanges is lost: nanoseconds.
-fn close_of(rt: &(impl AllocGlobal + CpuClock), n: u32) -> anyhow::Result<u64> {
-    let mut rig = Rig::new(rt.alloc(), LARGE)?;
-    let nanos = lose(&mut rig, rt, n);
-    drop(rig);
-    nanos
-}
-
-fn lose(rig: &mut Rig, clock: &impl CpuClock, n: u32) -> anyhow::Result<u64> {
-    let conn = client_of(rig, n, true)?;
-    dispatched(rig, &Event::Gone { conn }, clock)
-}
-
-/// A write buffer that drains tells so many flows.
-pub fn low(rt: &(impl AllocGlobal + Print + CpuClock)) -> anyhow::Result<()> {
-    for n in SIZES {
-        let nanos = low_of(rt, n)? / u64::from(n.max(1));
-        println!(rt; "a low that tells {n}: {nanos} ns each")?;
-    }
-    Ok(())
-}
-
-// The write buffer of a client with so many exchanges rises and drains: nanoseconds of the latter.
-fn low_of(rt: &(impl AllocGlobal + CpuClock), n: u32) -> anyhow::Result<u64> {
-    let mut rig = Rig::new(rt.alloc(), LARGE)?;
-    let nanos = drain(&mut rig, rt, n);
-    drop(rig);
-    nanos
-}
-
-fn drain(rig: &mut Rig, clock: &impl CpuClock, n: u32) -> anyhow::Result<u64> {
-    let conn = full_client(rig, n)?;
-    dispatched(rig, &Event::Room { conn, n: WIDE }, clock)
-}
-
-// A client with so many exchanges, whose write buffer is above its high watermark. The answer is its number.
-fn full_client(rig: &mut Rig, n: u32) -> anyhow::Result<u32> {
-    let conn = client_of(rig, n, true)?;
-    let body = piece(rig.alloc(), PIECE)?;
-    rise(rig, body.as_slice())?;
-    Ok(conn)
-}
-
-// Responses come from the first connection until the client's write buffer is above.
-fn rise(rig: &mut Rig, body: &[u8]) -> anyhow::Result<()> {
-    for place in 0..5 {
-        respond(rig, stream_after(1, place), body)?;
-    }
-    Ok(())
-}
-
-// The head and a piece of a response come from the first connection.
-fn respond(rig: &mut Rig, stream: u32, body: &[u8]) -> anyhow::Result<()> {
-    let mut wire = Wire::new(rig.alloc());
-    wire.ok(stream).map_err(no_memory)?;
-    wire.data(stream, body, false).map_err(no_memory)?;
-    rig.read(1, wire)
-}
-
-/// A SETTINGS frame of a MiB, on so many streams.
-pub fn settings(rt: &(impl AllocGlobal + Print + CpuClock)) -> anyhow::Result<()> {
-    for n in SIZES {
-        let nanos = settings_of(rt, n)?;
-        println!(rt; "SETTINGS of a MiB on {n} streams: {nanos} ns")?;
-    }
-    Ok(())
-}
-
-// A client with so many exchanges sends SETTINGS of a MiB: nanoseconds.
-fn settings_of(rt: &(impl AllocGlobal + CpuClock), n: u32) -> anyhow::Result<u64> {
-    let mut rig = Rig::new(rt.alloc(), LARGE)?;
-    let nanos = set(&mut rig, rt, n);
-    drop(rig);
-    nanos
-}
-
-fn set(rig: &mut Rig, clock: &impl CpuClock, n: u32) -> anyhow::Result<u64> {
-    let conn = client_of(rig, n, true)?;
-    let octets = great_settings(rig.alloc()).map_err(no_memory)?;
-    dispatched(rig, &Event::Read { conn, octets }, clock)
-}
-
-// SETTINGS of a MiB, which name the initial window over and over.
-fn great_settings(alloc: Global) -> Result<Octets, NoMemory> {
-    let mut wire = Wire::new(alloc);
-    wire.settings(4, 1_000_000, 174_762)?;
-    wire.into_octets()
 }

@@ -14,65 +14,76 @@ const LANES: u32 = 100;
 /// More frames than a stream's window and its buffers take.
 const FRAMES: u32 = 64;
 
-/// What a receive buffer and a send buffer hold at most, and one unit.
-const MOST: u64 = 65_535 + 65_536 + 16_384;
+/// The limits of a flow's receive buffer and of its send buffer.
+const LIMITS: u64 = 65_535 + 65_536;
+
+/// The octets of a unit, by which a buffer may pass its limit.
+const UNIT: u64 = 16_384;
 
 const CONFIG: &[u8] =
     b"[limits]\nconnection_window = 16777216\n[[clusters]]\nname = \"a\"\n[[routes]]\nprefix = \"/\"\ncluster = \"a\"\n";
 
-/// So many hundred exchanges whose buffers are all full. Prints the octets that they may hold at most.
+/// So many hundred exchanges whose buffers are all full. Prints the octets that they took, the sum of their limits, and that
+/// of limits and units.
 pub fn run(rt: &(impl AllocGlobal + Print), clients: u32) -> anyhow::Result<()> {
     let mut rig = Rig::new(rt.alloc(), CONFIG)?;
     let filled = fill_all(&mut rig, clients);
     drop(rig);
-    filled?;
-    report(rt, clients)
+    report(rt, clients, filled?)
 }
 
-fn fill_all(rig: &mut Rig, clients: u32) -> anyhow::Result<()> {
+// The answer is how many octets were taken.
+fn fill_all(rig: &mut Rig, clients: u32) -> anyhow::Result<u64> {
+    let mut taken = 0u64;
     for client in 0..clients {
         let cluster = client.saturating_mul(2).saturating_add(1);
-        fill_hundred(rig, cluster, cluster.saturating_add(1))?;
+        let more = fill_hundred(rig, cluster, cluster.saturating_add(1))?;
+        taken = taken.saturating_add(more);
     }
-    Ok(())
+    Ok(taken)
 }
 
-fn report(rt: &impl Print, clients: u32) -> anyhow::Result<()> {
+fn report(rt: &impl Print, clients: u32, taken: u64) -> anyhow::Result<()> {
     let flows = u64::from(clients).saturating_mul(u64::from(2 * LANES));
-    let octets = flows.saturating_mul(MOST);
-    println!(rt; "{flows} flows with at most {octets} octets")?;
+    let limits = flows.saturating_mul(LIMITS);
+    let most = flows.saturating_mul(LIMITS.saturating_add(UNIT));
+    println!(rt; "{flows} flows took {taken} octets of {limits}; with a unit each {most}")?;
     Ok(())
 }
 
-// A cluster's connection and a client come, which take nothing, and both send on each stream what they may.
-fn fill_hundred(rig: &mut Rig, cluster: u32, client: u32) -> anyhow::Result<()> {
+// A cluster's connection and a client come, which take nothing, and both send on each stream what they may. The answer is
+// how many octets.
+fn fill_hundred(rig: &mut Rig, cluster: u32, client: u32) -> anyhow::Result<u64> {
     rig.cluster(cluster, false)?;
     rig.client(client, false)?;
     rig.posts(client, 1, LANES)?;
     rig.room(cluster)?;
+    let mut taken = 0u64;
     for place in 0..LANES {
         let stream = stream_after(1, place);
         rig.answer(cluster, stream)?;
-        fill(rig, client, stream)?;
-        fill(rig, cluster, stream)?;
+        taken = taken.saturating_add(fill(rig, client, stream)?);
+        taken = taken.saturating_add(fill(rig, cluster, stream)?);
     }
-    Ok(())
+    Ok(taken)
 }
 
-// Body comes on a stream until its window is used up.
-fn fill(rig: &mut Rig, conn: u32, stream: u32) -> anyhow::Result<()> {
+// Body comes on a stream until its window is used up. The answer is how many octets.
+fn fill(rig: &mut Rig, conn: u32, stream: u32) -> anyhow::Result<u64> {
     let mut left = WINDOW;
+    let mut taken = 0u64;
     for _frame in 0..FRAMES {
-        if left == 0 {
-            return Ok(());
-        }
         let n = cmp::min(left, PIECE);
+        if n == 0 {
+            break;
+        }
         send(rig, conn, stream, n)?;
+        taken = taken.saturating_add(u64::try_from(n).unwrap_or(0));
         left = left
             .saturating_sub(n)
             .saturating_add(rig.granted(conn, stream));
     }
-    Ok(())
+    Ok(taken)
 }
 
 // So many octets of body come on a stream.

@@ -14,8 +14,11 @@ const BODY: usize = 100;
 /// The exchanges of a turn.
 pub const EXCHANGES: u32 = 20_000;
 
+/// How many exchanges go on at the same time.
+const AT_ONCE: u32 = 32;
+
 /// How often each side is measured; the best counts.
-const TURNS: u32 = 5;
+const TURNS: u32 = 7;
 
 pub const CONFIG: &[u8] =
     b"[limits]\nwrite_buffer = 65536\nsend_buffer = 16384\nconnection_window = 16777216\n[[clusters]]\nname = \"a\"\n[[routes]]\nprefix = \"/\"\ncluster = \"a\"\n";
@@ -93,11 +96,11 @@ fn responses(alloc: Global, first: u32, count: u32, body: &[u8]) -> Result<Octet
     wire.into_octets()
 }
 
-fn push(events: &mut EventList, conn: u32, octets: Octets) -> anyhow::Result<()> {
+pub fn push(events: &mut EventList, conn: u32, octets: Octets) -> anyhow::Result<()> {
     events.push(Event::Read { conn, octets }).map_err(no_memory)
 }
 
-fn push_room(events: &mut EventList, conn: u32) -> anyhow::Result<()> {
+pub fn push_room(events: &mut EventList, conn: u32) -> anyhow::Result<()> {
     events
         .push(Event::Room { conn, n: WIDE })
         .map_err(no_memory)
@@ -132,36 +135,42 @@ fn exchange(rig: &mut Rig, clock: &impl CpuClock, count: u32, at_once: u32) -> a
     timed(rig, &events, clock)
 }
 
-/// The best of some turns of exchanges, `at_once` at the same time.
-fn best(rt: &(impl AllocGlobal + CpuClock), at_once: u32) -> anyhow::Result<u64> {
-    let mut best = u64::MAX;
-    for _turn in 0..TURNS {
-        best = best.min(once(rt, EXCHANGES, at_once)?);
-    }
-    Ok(best)
+/// The fewest nanoseconds that a drill took, and the exchanges of a turn by ones and by thirty-twos.
+#[derive(Clone, Copy)]
+struct Least {
+    drill: u64,
+    ones: u64,
+    many: u64,
 }
 
-/// The best of some drills.
-fn best_drill(rt: &(impl AllocGlobal + CpuClock)) -> anyhow::Result<u64> {
-    let mut best = u64::MAX;
+// The best of some turns, in which the three are run one after the other.
+fn least(rt: &(impl AllocGlobal + CpuClock)) -> anyhow::Result<Least> {
+    let mut drill = u64::MAX;
+    let mut ones = u64::MAX;
+    let mut many = u64::MAX;
     for _turn in 0..TURNS {
-        best = best.min(drill_once(rt)?);
+        drill = drill.min(drill_once(rt)?);
+        ones = ones.min(once(rt, EXCHANGES, 1)?);
+        many = many.min(once(rt, EXCHANGES, AT_ONCE)?);
     }
-    Ok(best)
+    Ok(Least { drill, ones, many })
 }
 
 /// Small exchanges by ones and by thirty-twos, beside the drill.
 pub fn run(rt: &(impl AllocGlobal + Print + CpuClock)) -> anyhow::Result<()> {
-    let drill = events_a_second(best_drill(rt)?);
+    let least = least(rt)?;
+    let drill = events_a_second(least.drill);
     println!(rt; "drill: {drill} events a second")?;
-    for at_once in [1, 32] {
-        let nanos = best(rt, at_once)?;
-        let rate = per_second(u64::from(EXCHANGES), nanos.max(1));
-        println!(rt;
-            "{at_once} at once: {rate} exchanges a second, {} in a thousand of the drill's events",
-            rate.saturating_mul(1_000) / drill.max(1)
-        )?;
-    }
+    report(rt, 1, least.ones, drill)?;
+    report(rt, AT_ONCE, least.many, drill)
+}
+
+fn report(rt: &impl Print, at_once: u32, nanos: u64, drill: u64) -> anyhow::Result<()> {
+    let rate = per_second(u64::from(EXCHANGES), nanos.max(1));
+    println!(rt;
+        "{at_once} at once: {rate} exchanges a second, {} in a thousand of the drill's events",
+        rate.saturating_mul(1_000) / drill.max(1)
+    )?;
     Ok(())
 }
 

@@ -2,6 +2,7 @@
 #![tactic(auto)]
 
 mod bodies;
+mod bursts;
 mod crowds;
 mod drill;
 mod frames;
@@ -11,6 +12,7 @@ mod many;
 mod rig;
 mod stopwatch;
 
+use bursts::Burst;
 use std::env;
 use std::time::CpuClock;
 
@@ -20,9 +22,9 @@ const USAGE: &str = "usage: core_bench BENCH
   bodies           bodies of a MiB down and up, beside a plain copy
   idle N           small exchanges beside ten and beside N idle connections and exchanges
   tick N           ticks beside ten and beside N exchanges with idle Meters
-  close            a close that dooms 100 and 1,000 exchanges
-  low              a write buffer that drains and tells 100 and 1,000 flows
-  settings         a SETTINGS frame of a MiB on 100 and on 1,000 streams
+  close            a close that dooms 10, 100 and 1,000 exchanges
+  low              a write buffer that drains and tells 10, 100 and 1,000 flows
+  settings         a SETTINGS frame of a MiB on 10, 100 and 1,000 streams
   full N           N hundred exchanges whose buffers are full
   many C N         C connections and N thousand exchanges that come and go
 ";
@@ -50,9 +52,9 @@ fn run(
         "bodies" => bodies::run(rt),
         "idle" => crowds::idle(rt, one),
         "tick" => crowds::tick(rt, one),
-        "close" => crowds::close(rt),
-        "low" => crowds::low(rt),
-        "settings" => crowds::settings(rt),
+        "close" => bursts::run(rt, Burst::Close),
+        "low" => bursts::run(rt, Burst::Low),
+        "settings" => bursts::run(rt, Burst::Settings),
         "full" => full::run(rt, one),
         "many" => many::run(rt, one, two),
         _ => usage(rt),

@@ -140,6 +140,11 @@ impl Rig {
         self.read(conn, wire)
     }
 
+    /// How many notes the last dispatch wrote.
+    pub fn written(&self) -> u64 {
+        u64::try_from(self.notes.len()).unwrap_or(u64::MAX)
+    }
+
     /// What the last dispatch granted on a stream.
     pub fn granted(&self, conn: u32, stream: u32) -> usize {
         let mut sum = 0usize;
