@@ -5,27 +5,25 @@
 
 Runs `full N`: the resident size beside that of `full 0` has to be at most what the buffers of all flows hold, and 20 % more.
 Then `many`: after so many connections that came and went, and after so many thousand exchanges, the greatest resident size has to be
-that after the first thousand, within the spread of that size over some runs. Ends with 1 where it isn't.
+that after the first thousand, within the spread of that size over some runs. Debian's package time. Ends with 1 where it isn't.
 """
 import argparse, os, re, subprocess, sys
 
-# a page more or less of the heap's end, which the kernel moves from run to run
-SPREAD = 256
+# KiB by which the size differs from run to run
+SPREAD = 512
 
 
-def peak(words):
-    """The lines that a run prints, and its greatest resident size in KiB."""
-    run = subprocess.Popen(words, stdout=subprocess.PIPE)
-    said = run.stdout.read().decode()
-    _pid, status, usage = os.wait4(run.pid, 0)
-    if status:
-        sys.exit(f'{" ".join(words)}: status {status}')
-    return said, usage.ru_maxrss
+def peak(*words):
+    """What a run prints, and its greatest resident size in KiB."""
+    run = subprocess.run(['/usr/bin/time', '-f', '%M', *words], capture_output=True, text=True)
+    if run.returncode:
+        sys.exit(f'{" ".join(words)}: {run.stderr}')
+    return run.stdout, int(run.stderr)
 
 
 def full(program, hundreds):
-    _said, empty = peak([program, 'full', '0'])
-    said, size = peak([program, 'full', str(hundreds)])
+    _said, empty = peak(program, 'full', '0')
+    said, size = peak(program, 'full', str(hundreds))
     flows, taken, limits, most = map(int, re.findall(r'\d+', said))
     used = (size - empty) * 1024
     print(f'{flows} flows took {taken} octets, their limits are {limits}, with a unit each {most}; resident {used}, '
@@ -34,9 +32,9 @@ def full(program, hundreds):
 
 
 def many(program, conns, thousands, runs):
-    first = [peak([program, 'many', '1000', '1'])[1] for _run in range(runs)]
-    by_conns = peak([program, 'many', str(conns), '1'])[1]
-    by_exchanges = peak([program, 'many', '1000', str(thousands)])[1]
+    first = [peak(program, 'many', '1000', '1')[1] for _run in range(runs)]
+    by_conns = peak(program, 'many', str(conns), '1')[1]
+    by_exchanges = peak(program, 'many', '1000', str(thousands))[1]
     print(f'resident at most: {min(first)} to {max(first)} KiB after the first thousand, {by_conns} after {conns} connections, '
           f'{by_exchanges} after {thousands} thousand exchanges')
     return max(by_conns, by_exchanges) <= max(first) + SPREAD

@@ -144,7 +144,7 @@ struct Least {
 }
 
 // The best of some turns, in which the three are run one after the other.
-fn least(rt: &(impl AllocGlobal + CpuClock)) -> anyhow::Result<Least> {
+fn measure(rt: &(impl AllocGlobal + CpuClock)) -> anyhow::Result<Least> {
     let mut drill = u64::MAX;
     let mut ones = u64::MAX;
     let mut many = u64::MAX;
@@ -158,7 +158,7 @@ fn least(rt: &(impl AllocGlobal + CpuClock)) -> anyhow::Result<Least> {
 
 /// Small exchanges by ones and by thirty-twos, beside the drill.
 pub fn run(rt: &(impl AllocGlobal + Print + CpuClock)) -> anyhow::Result<()> {
-    let least = least(rt)?;
+    let least = measure(rt)?;
     let drill = events_a_second(least.drill);
     println!(rt; "drill: {drill} events a second")?;
     report(rt, 1, least.ones, drill)?;
