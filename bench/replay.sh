@@ -1,6 +1,7 @@
 #!/bin/sh
 # Replays a session of 67,108,864 octets and prints time, resident memory and octets a second.
 set -eu
+command -v /usr/bin/time > /dev/null || { echo "replay: /usr/bin/time is missing (Debian: apt-get install time)" >&2; exit 1; }
 cd "$(dirname "$0")/.."
 work=$(mktemp -d)
 trap 'rm -rf "$work"' EXIT

@@ -186,7 +186,14 @@ fn put_order(mistake: Mistake, into: &mut Octets) -> Result<(), NoMemory>
         Mistake::NoConnection { conn } => {
             put_conn(into, b"connection ", conn, b" was never accepted or joined")
         }
-        Mistake::Lost { conn } => put_conn(into, b"connection ", conn, b" is gone"),
+        Mistake::Lost { conn } => {
+            put_conn(
+                into,
+                b"connection ",
+                conn,
+                b" is gone, or was never accepted or joined",
+            )
+        }
         Mistake::Paused { conn } => put_conn(
             into,
             b"the flow from connection ",

@@ -52,12 +52,15 @@ fn line_fault(
 }
 
 fn event_fault(alloc: Global, lines: &WireLines, text: &[u8]) -> Result<Fault, NoMemory> {
-    if let Some(event) = read_event(alloc, text, lines.names(), false)? {
-        return whole(alloc, text, order_mistake(lines.order(), &event));
+    let Some(fields) = wire_fields(first_word(text)) else {
+        return whole(alloc, first_word(text), Mistake::NoWireEvent);
+    };
+    if let Some(place) = field_mistake(text, fields, lines.names()) {
+        return at_place(alloc, text, Some(place));
     }
-    match wire_fields(first_word(text)) {
-        Some(fields) => at_place(alloc, text, field_mistake(text, fields, lines.names())),
-        None => whole(alloc, first_word(text), Mistake::NoWireEvent),
+    match read_event(alloc, text, lines.names(), false)? {
+        Some(event) => whole(alloc, text, order_mistake(lines.order(), &event)),
+        None => whole(alloc, text, Mistake::Unspelled),
     }
 }
 

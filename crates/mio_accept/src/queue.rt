@@ -98,6 +98,10 @@ impl<R: Wait + Drop> Inlet for QueueInlet<R> {
         }
     }
 
+    fn waiting(&self) -> u64 {
+        self.queue.waiting()
+    }
+
     fn count(&mut self, clients: u32) {
         self.queue.live.store(clients, Ordering::SeqCst);
         self.queue.rounds.fetch_add(1, Ordering::SeqCst);

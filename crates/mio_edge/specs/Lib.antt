@@ -1,5 +1,6 @@
 pub mod Dialers
 pub mod Doors
+pub mod Gathers
 pub mod Plans
 pub mod Rolls
 pub mod Sockets

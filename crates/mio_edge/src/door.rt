@@ -1,5 +1,5 @@
 // The way in for clients.
-ghost use Rattle.std.specs.Prelude.{◌≡◌, ◌&&◌, IfNone, IfSome, nat_le, true};
+ghost use Rattle.std.specs.Prelude.{◌≡◌, ◌&&◌, IfNone, IfSome, nat_le, nat_lt, true};
 ghost use Rattle.mio_edge.specs.Doors.{Misses, SameDoor, may_wait, shut_until};
 
 use crate::inlet::Inlet;
@@ -49,6 +49,16 @@ impl<I: Inlet + Drop> Door<I> {
         ensures { result ≡ (may_wait self.now && nat_le (shut_until self.now) now) }
     {
         self.waits && self.until <= now
+    }
+
+    /// How many clients wait now, at most.
+    pub fn look(&mut self) -> u64
+        ensures waits { may_wait self.new ≡ (may_wait self.old && nat_lt 0 result) }
+        ensures until { shut_until self.new ≡ shut_until self.old }
+    {
+        let clients = self.inlet.waiting();
+        self.waits = self.waits && clients > 0;
+        clients
     }
 
     /// A client that waits. Where the system has no file or no memory for it, none is accepted for a while, and no event is

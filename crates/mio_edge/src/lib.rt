@@ -9,6 +9,7 @@ mod dials;
 mod door;
 mod fault;
 mod file_limit;
+mod gathered;
 mod inlet;
 mod link;
 mod links;

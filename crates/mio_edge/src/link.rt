@@ -2,9 +2,11 @@
 ghost use Rattle.std.specs.Prelude.{◌≡◌, ◌≤◌, ◌||◌, length};
 ghost use Rattle.mio_edge.specs.Stalls.{stalled_since, is_stuck};
 
+use crate::gathered::Gathered;
 use mio::event::Event;
 use mio::net::TcpStream;
-use std::io::{ErrorKind, Read, Write};
+use std::alloc::Global;
+use std::io::{ErrorKind, IoSlice, Read};
 
 /// What a read found.
 #[derive(Clone, Copy, Debug, PartialEq, Eq)]
@@ -46,11 +48,15 @@ impl Origin {
 #[derive(Drop)]
 pub(crate) struct Link {
     stream: TcpStream,
+    /// What it took and what isn't sent yet.
+    gathered: Gathered,
     pub origin: Origin,
     /// Whether its octets aren't to be read.
     pub held: bool,
     /// Whether it stands among those that are to be looked at.
     pub queued: bool,
+    /// Whether it stands among those that gathered octets.
+    pub gathers: bool,
     /// Whether a read may find something.
     readable: bool,
     /// Whether a write may take something.
@@ -69,12 +75,14 @@ pub(crate) struct Link {
 
 impl Link {
     /// A socket that is connected.
-    pub fn new(stream: TcpStream, origin: Origin) -> Self {
+    pub fn new(alloc: Global, stream: TcpStream, origin: Origin) -> Self {
         Link {
             stream,
+            gathered: Gathered::new(alloc),
             origin,
             held: false,
             queued: false,
+            gathers: false,
             readable: false,
             writable: true,
             ending: false,
@@ -138,18 +146,51 @@ impl Link {
         }
     }
 
-    /// Writes once, and answers how many octets went. While the peer doesn't read this costs no call.
-    pub fn write(&mut self, piece: &[u8]) -> usize
+    /// Takes a front of a piece, and answers how many octets. Few are gathered, until `send`, many are sent at once. While the peer
+    /// doesn't read this costs no call.
+    pub fn take(&mut self, piece: &[u8]) -> usize
         ensures { result ≤ length piece.now }
     {
-        if !self.writable || self.broken {
+        if !self.may_send() {
             return 0;
         }
-        match self.stream.write(piece) {
+        if self.gathered.take(piece) {
+            return piece.len();
+        }
+        self.write(piece)
+    }
+
+    /// Sends what was gathered, as far as the peer takes it.
+    pub fn send(&mut self) {
+        if self.is_sendable() {
+            self.write(&[]);
+        }
+    }
+
+    /// Whether octets are gathered that can be sent.
+    pub fn is_sendable(&self) -> bool {
+        self.may_send() && !self.gathered.unsent().is_empty()
+    }
+
+    fn may_send(&self) -> bool {
+        self.writable && !self.broken
+    }
+
+    // Writes what was gathered and a piece behind it, in one call. Answers how many octets of the piece went.
+    fn write(&mut self, piece: &[u8]) -> usize
+        ensures { result ≤ length piece.now }
+    {
+        let first = self.gathered.unsent();
+        let gathered = first.len();
+        match self
+            .stream
+            .write_vectored(&[IoSlice::new(first), IoSlice::new(piece)])
+        {
             Ok(n) => {
-                self.writable = n == piece.len();
+                self.writable = n == gathered.saturating_add(piece.len());
                 self.sent = true;
-                n
+                self.gathered.leave(n.min(gathered));
+                n.saturating_sub(gathered)
             }
             Err(error) => {
                 self.refused(error.kind());
@@ -190,10 +231,10 @@ impl Link {
         }
     }
 
-    /// The socket, where its peer may still have to get octets: it is to be parted from gently.
-    pub fn into_parting(self) -> Option<TcpStream> {
-        if self.sent && !self.broken {
-            Some(self.stream)
+    /// The socket and what is to be sent there still, where its peer may have to get octets: it is to be parted from gently.
+    pub fn into_parting(self) -> Option<(TcpStream, Gathered)> {
+        if (self.sent || !self.gathered.unsent().is_empty()) && !self.broken {
+            Some((self.stream, self.gathered))
         } else {
             None
         }

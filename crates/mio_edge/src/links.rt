@@ -13,6 +13,8 @@ pub(crate) struct Links {
     live: BTreeMap<u32, Link>,
     /// The numbers of those that are to be looked at, each once, and of some that are live no more.
     due: VecDeque<u32>,
+    /// The numbers of those that gathered octets, each once, and of some that are live no more.
+    gathering: VecDeque<u32>,
     /// How many were made by clients.
     clients: u32,
     /// For how long it is borne that one takes nothing of what waits for it, in milliseconds.
@@ -25,6 +27,7 @@ impl Links {
         Links {
             live: BTreeMap::new(alloc),
             due: VecDeque::new(alloc),
+            gathering: VecDeque::new(alloc),
             clients: 0,
             patience,
         }
@@ -40,11 +43,13 @@ impl Links {
         !self.due.is_empty()
     }
 
-    /// Takes in the socket of a connection. Room is taken for its place among those that are to be looked at. After running
-    /// out of memory nothing has changed, and the socket is closed.
+    /// Takes in the socket of a connection. Room is taken for its place among those that are to be looked at, and among those that
+    /// gathered octets. After running out of memory nothing has changed, and the socket is closed.
     pub fn come(&mut self, conn: u32, link: Link) -> Result<(), NoMemory> {
         let is_client = link.origin == Origin::Client;
-        self.due.reserve(self.live.len().saturating_add(1))?;
+        let most = self.live.len().saturating_add(1);
+        self.due.reserve(most)?;
+        self.gathering.reserve(most)?;
         self.live.insert(conn, link)?;
         if is_client {
             self.clients = self.clients.saturating_add(1);
@@ -68,6 +73,7 @@ impl Links {
         };
         link.on_event(event);
         queue(&mut self.due, conn, link);
+        gather(&mut self.gathering, conn, link);
         true
     }
 
@@ -80,18 +86,33 @@ impl Links {
         cluster
     }
 
-    /// Writes to a connection once, at a moment in milliseconds, and answers how many octets went. Only connections for which octets
-    /// wait are written to, each once a turn, so only those are looked at for a stall.
-    pub fn write(&mut self, conn: u32, piece: &[u8], now: u64) -> usize
+    /// A connection takes a front of a piece, at a moment in milliseconds. Answers how many octets. Only connections for which octets
+    /// wait are offered some, each once a turn, so only those are looked at for a stall.
+    pub fn take(&mut self, conn: u32, piece: &[u8], now: u64) -> usize
         ensures { result ≤ length piece.now }
     {
         let Some(link) = self.live.get_mut(&conn) else {
             return 0;
         };
-        let n = link.write(piece);
+        let n = link.take(piece);
         link.track_stall(n, now, self.patience);
         queue(&mut self.due, conn, link);
+        gather(&mut self.gathering, conn, link);
         n
+    }
+
+    /// Sends what the connections gathered, as far as their peers take it.
+    pub fn send_all(&mut self) {
+        for _ in 0..self.gathering.len() {
+            let Some(conn) = self.gathering.pop_front() else {
+                return;
+            };
+            if let Some(link) = self.live.get_mut(&conn) {
+                link.gathers = false;
+                link.send();
+                queue(&mut self.due, conn, link);
+            }
+        }
     }
 
     /// The connection that is to be looked at next.
@@ -124,6 +145,13 @@ impl Links {
 fn queue(due: &mut VecDeque<u32>, conn: u32, link: &mut Link) {
     if link.is_due() && !link.queued {
         link.queued = due.push_back(conn).is_ok();
+    }
+}
+
+// A connection stands among those that gathered octets, if some can be sent. Its room was taken when it came.
+fn gather(gathering: &mut VecDeque<u32>, conn: u32, link: &mut Link) {
+    if link.is_sendable() && !link.gathers {
+        link.gathers = gathering.push_back(conn).is_ok();
     }
 }
 

@@ -30,7 +30,7 @@ const MOST_EVENTS: usize = 1_024;
 const LONGEST_WAIT: u64 = 100;
 
 /// How many clients are accepted in one round at most, and how many connections are looked at.
-const MOST_ACCEPTS: u32 = 16;
+const MOST_ACCEPTS: u64 = 16;
 
 const MOST_LOOKS: u32 = 64;
 
@@ -58,7 +58,8 @@ pub(crate) struct Sockets<R: Clock + Net + Drop, I: Inlet + Drop> {
     room: Vec<u8>,
     /// When this round began, in milliseconds.
     now: u64,
-    accepts_left: u32,
+    /// How many clients may come in still, all of which waited when this round began.
+    accepts_left: u64,
     looks_left: u32,
     /// Whether a connection took all that it was offered, so that it may be offered more at once.
     took_all: bool,
@@ -89,7 +90,8 @@ impl<R: Clock + Net + Eprint + Drop, I: Inlet + Drop> Sockets<R, I> {
     }
 
     /// What comes next, after a wait where nothing is there; `Idle` where still nothing is. A connection that comes gets the
-    /// number that is handed in. Once no number is left nobody can come any more, and it is over.
+    /// number that is handed in. Once no number is left nobody can come any more, and it is over. A client that comes while it waits
+    /// is given by the next call: who calls has learnt by then of all that was published before the client was let through.
     pub fn next(&mut self, number: Option<u32>) -> Result<Wired, WireRefusal> {
         let Some(number) = number else {
             return Ok(Wired::Stop);
@@ -105,32 +107,41 @@ impl<R: Clock + Net + Eprint + Drop, I: Inlet + Drop> Sockets<R, I> {
         if self.begin_round().is_err() {
             return Err(WireRefusal::Failed);
         }
-        match self.give(number) {
+        if let Some(wired) = self.give_join(number) {
+            return Ok(wired);
+        }
+        match self.give_octets() {
             Ok(Some(wired)) => Ok(wired),
             Ok(None) => Ok(Wired::Idle),
             Err(NoMemory) => Err(WireRefusal::NoMemory),
         }
     }
 
-    /// Writes a front of a piece to a connection, and answers how many octets went.
-    pub fn write(&mut self, conn: u32, piece: &[u8]) -> usize
+    /// A connection takes a front of a piece, and sends it by the time of the next wait. Answers how many octets it took.
+    pub fn take(&mut self, conn: u32, piece: &[u8]) -> usize
         ensures { result ≤ length piece.now }
     {
-        let n = self.links.write(conn, piece, self.now);
+        let n = self.links.take(conn, piece, self.now);
         if n > 0 && n == piece.len() {
             self.took_all = true;
         }
         n
     }
 
-    /// Ends a connection. What was sent to it still arrives.
+    /// Sends what the connections took, as far as their peers take it.
+    pub fn send_all(&mut self) {
+        self.links.send_all();
+    }
+
+    /// Ends a connection. What it took still arrives.
     pub fn close(&mut self, conn: u32) {
         let Some(link) = self.links.leave(conn) else {
             return;
         };
         self.dialing.part(link.origin, self.now);
-        if let Some(stream) = link.into_parting() {
-            self.partings.begin(conn, stream, self.now, &mut self.block);
+        if let Some((stream, rest)) = link.into_parting() {
+            self.partings
+                .begin(conn, stream, rest, self.now, &mut self.block);
         }
     }
 
@@ -205,7 +216,8 @@ impl<R: Clock + Net + Eprint + Drop, I: Inlet + Drop> Sockets<R, I> {
             Origin::Client => registry.register(&mut stream, token, both)?,
             _ => registry.reregister(&mut stream, token, both)?,
         }
-        self.links.come(conn, Link::new(stream, origin))?;
+        self.links
+            .come(conn, Link::new(self.alloc, stream, origin))?;
         Ok(())
     }
 
@@ -242,19 +254,20 @@ impl<R: Clock + Net + Eprint + Drop, I: Inlet + Drop> Sockets<R, I> {
 
     // A connection is lost.
     fn lose(&mut self, conn: u32) {
-        if let Some(link) = self.links.leave(conn) {
+        if let Some(mut link) = self.links.leave(conn) {
+            link.send();
             self.dialing.lose(link.origin, self.now);
         }
     }
 
-    // Waits until something comes, and takes in what does.
+    // Sends what was gathered, waits until something comes, and takes in what does.
     fn begin_round(&mut self) -> Result<(), Failed> {
+        self.links.send_all();
         self.read_clock();
         self.door.count(self.links.clients());
         self.dial();
         let wait = Duration::from_millis(if self.is_busy() { 0 } else { LONGEST_WAIT });
         self.took_all = false;
-        self.accepts_left = MOST_ACCEPTS;
         self.looks_left = MOST_LOOKS;
         if let Err(error) = self.poll.poll(&mut self.events, Some(wait)) {
             tell_wait(&self.rt, &error);
@@ -262,6 +275,7 @@ impl<R: Clock + Net + Eprint + Drop, I: Inlet + Drop> Sockets<R, I> {
         }
         self.read_clock();
         self.take_events();
+        self.accepts_left = self.door.look().min(MOST_ACCEPTS);
         self.dialing.give_up(&self.rt, self.now);
         self.partings.end(self.now);
         Ok(())

@@ -29,6 +29,11 @@ impl<R: Read> Input<R> {
     pub fn kind(&self) -> Option<ErrorKind> {
         self.kind
     }
+
+    /// The reader itself.
+    pub fn reader(&self) -> &R {
+        &self.reader
+    }
 }
 
 impl<R: Read> Source for Input<R> {

@@ -14,6 +14,7 @@ mod wire_sockets;
 use crate::opened::Opened;
 use crate::pages::{HELP, USAGE, VERSION};
 use crate::tell::tell_served;
+use config_text::Kept;
 pub use counts::{ClientCounts, ClientGauge};
 pub use journal::FileJournal;
 use program_ports::{Input, Output};
@@ -96,7 +97,7 @@ where
         // Where standard error is closed there is nobody to tell.
         let _ = rt.eprint(USAGE);
     } else {
-        tell_served(&rt, served, config.kind(), out.kind());
+        tell_served(&rt, served, &config, out.kind());
     }
     code
 }
@@ -129,7 +130,7 @@ fn show_page<O: Write + Drop>(mut output: O, text: &str) -> ExitCode {
 }
 
 // The file that the words name, if they have a form. One that can't be opened is a reader whose reads fail.
-fn open_config<R: Files>(rt: &R, words: &[String]) -> Opened<R::File> {
+fn open_config<R: Files + AllocGlobal>(rt: &R, words: &[String]) -> Opened<Kept<R::File>> {
     let path = match read_proxy_form(words) {
         Some(ProxyForm::Relay { .. }) => words.get(1),
         Some(ProxyForm::Wire { .. }) => words.first(),
@@ -141,9 +142,9 @@ fn open_config<R: Files>(rt: &R, words: &[String]) -> Opened<R::File> {
     }
 }
 
-fn open_file<R: Files>(rt: &R, path: &str) -> Opened<R::File> {
+fn open_file<R: Files + AllocGlobal>(rt: &R, path: &str) -> Opened<Kept<R::File>> {
     match fs::open(rt, path) {
-        Ok(file) => Opened::File(file),
+        Ok(file) => Opened::File(Kept::new(rt.alloc(), file)),
         Err(error) => Opened::Shut(error.kind()),
     }
 }

@@ -1,5 +1,6 @@
 // A file that may not have been opened.
 
+use config_text::Kept;
 use std::io::{self, ErrorKind, Read};
 
 /// A file, or one that couldn't be opened for this reason, whose reads fail.
@@ -7,6 +8,16 @@ use std::io::{self, ErrorKind, Read};
 pub enum Opened<F: Read> {
     File(F),
     Shut(ErrorKind),
+}
+
+impl<F: Read> Opened<Kept<F>> {
+    /// What was read of it.
+    pub fn text(&self) -> &[u8] {
+        match self {
+            Opened::File(file) => file.text(),
+            Opened::Shut(_) => &[],
+        }
+    }
 }
 
 impl<F: Read> Read for Opened<F> {

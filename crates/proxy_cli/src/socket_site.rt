@@ -292,7 +292,8 @@ impl<R: Eprint + Files + Net + Clock + Wait + AllocGlobal + Copy + Drop> Site fo
         }
     }
 
-    fn give_back_taps(&mut self, taps: Self::T, journal: Self::J) {
+    fn give_back_taps(&mut self, mut taps: Self::T, journal: Self::J) {
+        taps.send_all();
         self.tell_journal(None, &journal);
         if taps.faults() > 0 || journal.faults() > 0 {
             self.count();

@@ -1,26 +1,32 @@
 // Why the proxy ended, on standard error.
 
 use crate::config_fault::put_config_fault;
+use crate::opened::Opened;
+use config_text::{Kept, fault_place};
 use io_ports::Octets;
+use program_ports::Input;
 use proxy_config::ConfigFault;
 use proxy_site::{ServeReason, Status};
 use proxy_wire::{ProxyReason, ProxyServed, WireEnd};
 use relay_work::RelayEnded;
-use std::io::{Eprint, ErrorKind};
+use std::io::{Eprint, ErrorKind, Read};
 use worker_loop::Ended;
 
 /// Tells why the proxy ended otherwise than by its turns: in one line, or in one for each worker that did. Where standard error is closed
 /// there is nobody to tell.
-pub fn tell_served<R: Eprint + AllocGlobal>(
+pub fn tell_served<R: Eprint + AllocGlobal, F: Read>(
     rt: &R,
     served: ProxyServed,
-    config: Option<ErrorKind>,
+    config: &Input<Opened<Kept<F>>>,
     out: Option<ErrorKind>,
 ) {
     match served.reason {
         ProxyReason::Wire(end) => tell_wire(rt, end, out),
         ProxyReason::Relay(_) if served.status == Status::Done => {}
-        ProxyReason::Relay(reason) => tell_reason(rt, reason, config, out),
+        ProxyReason::Relay(ServeReason::Config(ConfigFault::NotToml)) => {
+            tell_no_toml(rt, config.reader().text());
+        }
+        ProxyReason::Relay(reason) => tell_reason(rt, reason, config.kind(), out),
     }
 }
 
@@ -109,6 +115,17 @@ fn tell_config<R: Eprint + AllocGlobal>(rt: &R, fault: ConfigFault) {
         (Ok(()), Ok(line)) => tell_line(rt, line, None),
         _ => tell_line(rt, "out of memory", None),
     }
+}
+
+// Tells that a configuration is no TOML, and where, as far as that is found.
+fn tell_no_toml<R: Eprint + AllocGlobal>(rt: &R, text: &[u8]) {
+    let _ = match fault_place(rt.alloc(), text) {
+        Some(place) => eprintln!(rt;
+            "h2proxy: configuration: line {}, column {}: no TOML document in UTF-8",
+            place.line, place.column
+        ),
+        None => eprintln!(rt; "h2proxy: configuration: the text is no TOML document in UTF-8"),
+    };
 }
 
 fn tell_line<R: Eprint>(rt: &R, line: &str, kind: Option<ErrorKind>) {

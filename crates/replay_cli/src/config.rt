@@ -1,5 +1,6 @@
 // The file of a configuration.
 use crate::outside::Input;
+use config_text::Kept;
 use io_ports::{Failed, Source};
 use std::io::{ErrorKind, Read};
 
@@ -24,6 +25,16 @@ impl<F: Read> ConfigFile<F> {
         match self {
             ConfigFile::Open(file) => file.kind(),
             ConfigFile::Shut { kind, .. } => *kind,
+        }
+    }
+}
+
+impl<F: Read> ConfigFile<Kept<F>> {
+    /// What was read of it.
+    pub fn text(&self) -> &[u8] {
+        match self {
+            ConfigFile::Open(file) => file.reader().text(),
+            ConfigFile::Shut { .. } => &[],
         }
     }
 }

@@ -8,9 +8,11 @@ mod tell;
 
 use crate::config::ConfigFile;
 use crate::pages::{HELP, USAGE, VERSION};
-use crate::tell::tell_outcome;
+use crate::tell::{tell_no_toml, tell_outcome};
+use config_text::Kept;
 pub use outside::{Input, Output};
-use replay_run::{Status, replay_with_reason};
+use proxy_config::ConfigFault;
+use replay_run::{Reason, Status, replay_with_reason};
 use std::env::{self, Env};
 use std::fs;
 use std::io::{Eprint, ErrorKind, Read, Write};
@@ -48,6 +50,8 @@ fn replay_session<R: Eprint + Files + AllocGlobal, I: Read + Drop, O: Write + Dr
     if outcome.status == Status::Usage {
         // Where standard error is closed there is nobody to tell.
         let _ = rt.eprint(USAGE);
+    } else if let Reason::Config(ConfigFault::NotToml) = outcome.reason {
+        tell_no_toml(rt, config.text());
     } else {
         tell_outcome(rt, &outcome, config.kind(), session.kind(), out.kind());
     }
@@ -81,10 +85,10 @@ fn show_page<O: Write + Drop>(mut output: O, text: &str) -> ExitCode {
 }
 
 // The file that the second word names. One that can't be opened is a source whose reads fail.
-fn open_config<R: Files>(rt: &R, words: &[String]) -> ConfigFile<R::File> {
+fn open_config<R: Files + AllocGlobal>(rt: &R, words: &[String]) -> ConfigFile<Kept<R::File>> {
     match words {
         [_, path] => match fs::open(rt, path.as_str()) {
-            Ok(file) => ConfigFile::Open(Input::new(file)),
+            Ok(file) => ConfigFile::Open(Input::new(Kept::new(rt.alloc(), file))),
             Err(error) => ConfigFile::shut(Some(error.kind())),
         },
         _ => ConfigFile::shut(None),

@@ -1,0 +1,8 @@
+//! The text of a configuration as a program reads it, which is kept so that the program can say where it is no TOML.
+#![tactic(auto)]
+
+mod kept;
+mod place;
+
+pub use kept::Kept;
+pub use place::{Place, fault_place};
