@@ -32,12 +32,13 @@ struct Parting {
 }
 
 impl Parting {
-    // Sends the rest, tells the peer that no more comes, and drops what it sends. Answers whether it is over.
+    // Sends the rest, then tells the peer that no more comes, and drops what it sends. Answers whether it is over. While some of the rest
+    // waits, what the peer sends is left alone, even its end: it may take the rest all the same.
     fn is_over(&mut self, block: &mut [u8]) -> bool {
         if !self.told && (!self.send_rest() || !self.tell_end()) {
             return true;
         }
-        is_drained(&mut self.stream, block)
+        self.told && is_drained(&mut self.stream, block)
     }
 
     // Answers whether the peer may still take some.
