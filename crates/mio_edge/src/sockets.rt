@@ -15,7 +15,6 @@ use mio::net::TcpStream;
 use mio::{Events, Interest, Poll, Token};
 use std::alloc::Global;
 use std::io::Eprint;
-use std::mem;
 use std::net::Net;
 use std::time::{Clock, Duration};
 use worker_ports::{WireRefusal, Wired};
@@ -54,8 +53,8 @@ pub(crate) struct Sockets<R: Clock + Net + Drop, I: Inlet + Drop> {
     partings: Partings,
     /// Where octets are read to. It is never cleared.
     block: Vec<u8>,
-    /// Room for the octets that come next.
-    room: Vec<u8>,
+    /// The connection whose octets stand in front of the block and aren't given yet, and how many they are.
+    unread: Option<(u32, usize)>,
     /// When this round began, in milliseconds.
     now: u64,
     /// How many clients may come in still, all of which waited when this round began.
@@ -81,7 +80,7 @@ impl<R: Clock + Net + Eprint + Drop, I: Inlet + Drop> Sockets<R, I> {
             links: Links::new(alloc, plan.patience()),
             partings: Partings::new(alloc),
             block: vec![in alloc; 0; PIECE]?,
-            room: Vec::new(alloc),
+            unread: None,
             now: 0,
             accepts_left: 0,
             looks_left: 0,
@@ -221,12 +220,12 @@ impl<R: Clock + Net + Eprint + Drop, I: Inlet + Drop> Sockets<R, I> {
         Ok(())
     }
 
-    // Octets or a loss of a connection that is due.
+    // Octets or a loss of a connection that is due. After running out of memory the octets are still to be given.
     fn give_octets(&mut self) -> Result<Option<Wired>, NoMemory> {
+        if let Some((conn, n)) = self.unread {
+            return self.give_read(conn, n);
+        }
         for _ in 0..self.looks_left {
-            if self.room.capacity() < PIECE {
-                self.room = Vec::with_capacity(self.alloc, PIECE)?;
-            }
             let Some(conn) = self.links.next_due() else {
                 return Ok(None);
             };
@@ -243,13 +242,13 @@ impl<R: Clock + Net + Eprint + Drop, I: Inlet + Drop> Sockets<R, I> {
         Ok(None)
     }
 
-    // The first octets of the block came for a connection.
+    // The first octets of the block came for a connection. They are given in a block of their own, which whoever keeps some shares.
     fn give_read(&mut self, conn: u32, n: usize) -> Result<Option<Wired>, NoMemory> {
-        let mut octets = mem::replace(&mut self.room, Vec::new(self.alloc));
-        if let Some(front) = self.block.get(..n) {
-            octets.extend_from_slice(front)?;
-        }
-        Ok(Some(Wired::Read(conn, Octets::from_vec(octets))))
+        self.unread = Some((conn, n));
+        let front = self.block.get(..n).unwrap_or_default();
+        let octets = Octets::from_slice(self.alloc, front)?.shared()?;
+        self.unread = None;
+        Ok(Some(Wired::Read(conn, octets)))
     }
 
     // A connection is lost.
