@@ -1,16 +1,17 @@
 // One flow of an exchange.
-ghost use Rattle.std.specs.Prelude.{◌≡◌, ◌≢◌, ◌↔◌, ◌+◌, ◌-◌, ◌<◌, ◌≤◌, ◌^◌, [], false, true, IfOk, IfSome, IsOk, IsTrue, OnOk, OnErr, length, nat_le, option_map, Some};
+ghost use Rattle.std.specs.Prelude.{◌≡◌, ◌≢◌, ◌↔◌, ◌+◌, ◌<◌, ◌≤◌, [], false, true, IfOk, IfSome, IsOk, IsTrue, OnOk, OnErr, length, nat_le, option_map, Some};
 ghost use Rattle.exchange_core.specs.Effects.{arrived, finished, headed, moved, received, received_by};
 ghost use Rattle.exchange_core.specs.Exchange.{at_moment, begun_flow};
-ghost use Rattle.exchange_core.specs.Flow.{IsSound, held_by, last_place, meters_hold, stages_of};
+ghost use Rattle.exchange_core.specs.Flow.{IsSound, held_by, last_place};
 ghost use Rattle.exchange_core.specs.Moves.{has_room_ahead, is_held_at, is_target_above, last_free, lets_go, may_release, next_step, overflows, stepped};
 ghost use Rattle.exchange_core.specs.Units.{IsFrameable, next_unit};
 ghost use Rattle.filter_chain.specs.Chain.{above_at};
-ghost use Rattle.filter_chain.specs.Release.{overfills, has_room_at, is_source_at};
+ghost use Rattle.filter_chain.specs.Release.{overfills, has_room_at};
 ghost use Rattle.flow_gate.specs.Board.{is_open};
 ghost use Rattle.proxy_config.specs.Ranges.{AreFilters, IsBetween, most_octets};
 ghost use Rattle.wm_buffer.specs.Watermark.{crossing};
 
+mod reading;
 mod units;
 
 use crate::message::Message;
@@ -332,64 +333,6 @@ impl Flow {
     {
         let most = u64::from(self.multiple) * u64::from(self.chain.limit(place));
         self.chain.is_source(place) && 0 < most && most < u64::from(self.chain.len(place))
-    }
-
-    /// The octets in all places.
-    pub(crate) fn held(&self) -> u64
-        ensures held { result ≡ held_by self.now }
-        ensures bound { result < 2 ^ 36 }
-    {
-        let mut held = u64::from(self.recv.len());
-        for index in 0..self.chain.places() {
-            held += u64::from(self.chain.len(index + 1));
-        }
-        held
-    }
-
-    /// Whether some Meter holds octets.
-    pub(crate) fn meters_hold(&self) -> bool
-        ensures { result ≡ meters_hold self.now }
-    {
-        for place in 1..self.chain.places() {
-            if self.chain.is_source(place) && self.chain.len(place) > 0 {
-                return true;
-            }
-        }
-        false
-    }
-
-    /// The octets in the receive buffer.
-    pub(crate) fn left(&self) -> u32
-        ensures { result ≡ length self.now.recv }
-    {
-        self.recv.len()
-    }
-
-    /// How many octets more the receive buffer takes within its window.
-    pub(crate) fn space(&self) -> u32
-        ensures { result ≡ self.now.window - length self.now.recv }
-    {
-        self.window.saturating_sub(self.recv.len())
-    }
-
-    /// The number of its stages.
-    pub(crate) fn stages(&self) -> u32
-        ensures { result ≡ stages_of self.now }
-    {
-        self.chain.places() - 1
-    }
-
-    /// Whether a place pauses the flow while it is above: a Meter and the send buffer do, and no place that isn't there.
-    pub(crate) fn is_source(&self, place: u32) -> bool
-        ensures { result ≡ is_source_at self.now.chain place }
-    {
-        0 < place && place <= self.chain.places() && self.chain.is_source(place)
-    }
-
-    pub(crate) fn message(&self) -> &Message
-        ensures { result.now ≡ self.now.message }
-    {
-        &self.message
     }
 }
 

@@ -115,7 +115,7 @@ impl MemWireSite {
         self.faults = self.faults.saturating_add(1);
     }
 
-    // A call is refused. Want of memory is no failure.
+    // A call is refused. Running out of memory is no failure.
     fn refuse(&mut self, refusal: SiteRefusal) -> SiteRefusal
         ensures is { result ≡ refusal }
         ensures rose { refusal ≡ refusals.Failed → Rose self.old.faults self.new.faults }

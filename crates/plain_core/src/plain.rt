@@ -13,7 +13,7 @@ use crate::flows::Flows;
 use flow_gate::FlowId;
 use flow_notes::{Event, Note, Notes};
 use io_ports::NoMemory;
-use proxy_config::{Config, read_config};
+use proxy_config::Config;
 use std::alloc::Global;
 use std::collections::BTreeMap;
 use tape_laws::PlainLimits;
@@ -37,12 +37,9 @@ impl PlainCore {
         requires { AreLimits limits }
         ensures { IfOk result (λ core. Rests limits core []) }
     {
-        let Ok(config) = read_config(alloc, b"") else {
-            return Err(NoMemory);
-        };
         Ok(PlainCore {
             alloc,
-            config,
+            config: Config::of_defaults(alloc)?,
             turn: 0,
             flows: Flows::new(alloc, limits)?,
             pairs: BTreeMap::new(alloc),

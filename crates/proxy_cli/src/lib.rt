@@ -1,7 +1,6 @@
 //! The command line of `h2proxy`, whose words are those behind the program's name, and the site over sockets that it serves.
 #![tactic(auto)]
 
-mod config_fault;
 mod counts;
 mod journal;
 mod opened;

@@ -1,6 +1,5 @@
 // Why the proxy ended, on standard error.
 
-use crate::config_fault::put_config_fault;
 use crate::opened::Opened;
 use config_text::{Kept, fault_place};
 use io_ports::Octets;
@@ -9,6 +8,7 @@ use proxy_config::ConfigFault;
 use proxy_site::{ServeReason, Status};
 use proxy_wire::{ProxyReason, ProxyServed, WireEnd};
 use relay_work::RelayEnded;
+use session_config::put_config_fault;
 use std::io::{Eprint, ErrorKind, Read};
 use worker_loop::Ended;
 

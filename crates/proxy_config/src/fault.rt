@@ -1,5 +1,7 @@
 // Why a text is no configuration.
 use io_ports::{NoMemory, Octets};
+use std::error::Error;
+use std::fmt;
 
 /// Why a text is no configuration. A key is spelled with its table and, in a list of tables, the row's number from 0, as
 /// `limits.quantum`, `routes.0.cluster` or `overload.triggers.3.value`.
@@ -30,4 +32,27 @@ impl From<NoMemory> for ConfigFault {
     fn from(_: NoMemory) -> Self {
         ConfigFault::NoMemory
     }
+}
+
+impl fmt::Display for ConfigFault {
+    fn fmt<W: fmt::Write>(&self, f: &mut fmt::Formatter<W>) -> fmt::Result {
+        match self {
+            ConfigFault::NotToml => f.write_str("the text is no TOML document in UTF-8"),
+            ConfigFault::Missing(key) => write_key(f, key, "is missing"),
+            ConfigFault::WrongKind(key) => write_key(f, key, "has a value of another kind"),
+            ConfigFault::OutOfRange(key) => write_key(f, key, "is out of its range"),
+            ConfigFault::Unknown(key) => write_key(f, key, "is no key of the configuration"),
+            ConfigFault::UnknownCluster(key) => write_key(f, key, "names no cluster"),
+            ConfigFault::NoMemory => f.write_str("out of memory"),
+        }
+    }
+}
+
+impl Error for ConfigFault {}
+
+// A key is a part of a text in UTF-8.
+fn write_key<W: fmt::Write>(f: &mut fmt::Formatter<W>, key: &Octets, what: &str) -> fmt::Result {
+    f.write_str(std::str::from_utf8(key.as_slice()).unwrap_or("a key"))?;
+    f.write_str(" ")?;
+    f.write_str(what)
 }

@@ -32,7 +32,7 @@ ended_status ended.TapsFault = status.WriteFault
 ended_status ended.JournalFault = status.WriteFault
 ended_status ended.Memory = status.Memory
 
--- it was cut short for want of memory, or since the site or the output failed
+-- it was cut short since memory ran out, or since the site or the output failed
 abbrev pub IsCutShort : Status → Type 0
 IsCutShort how = (how ≡ status.Memory) ⊎ (how ≡ status.WriteFault)
 

@@ -25,7 +25,7 @@ end_line end.TooLong = codes "refused length config" ++ newline
 end_line end.ReadFault = []
 end_line end.Memory = []
 
--- the line was written; or a front of it, since the output failed; or nothing, for want of memory
+-- the line was written; or a front of it, since the output failed; or nothing, since memory ran out
 abbrev pub TellsEnd : ConfigEnd → Status → (out_old out_new : Option (List ℕ)) → Type 0
 TellsEnd stop how out_old out_new =
     ((how ≡ end_status stop) × Appends out_old out_new (end_line stop)) ⊎ ((how ≡ status.WriteFault) × AppendsFront out_old out_new (end_line stop)) ⊎ ((how ≡ status.Memory) × (out_new ≡ out_old))

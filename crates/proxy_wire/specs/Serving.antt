@@ -64,7 +64,7 @@ abbrev pub metered_outside : {W C L : Type 0} (G : Ghosts W) → Outside W C L �
 metered_outside {W} G o = record { seen = λ (m : MeteredWires W G). untold m.greatest (o.seen m.inner); moments = o.moments; text = o.text; told = o.told; wires_faults = λ (m : MeteredWires W G). o.wires_faults m.inner; journal_faults = o.journal_faults }
 
 module _ {T J : Type 0} {W C L : Type 0} (G : Ghosts W) (o : Outside W C L) where
-  -- it couldn't listen, or for want of memory it didn't; nothing was given to a worker, and nothing was written
+  -- it couldn't listen, or didn't since memory ran out; nothing was given to a worker, and nothing was written
   pub record NotListened (told_old told_new : Option (Told T J)) (wired_old wired_new : Option (WireTold W C L)) (out_old out_new : Option (List ℕ)) (how : Status) : Type 0 where
     pub told : told_new ≡ told_old
     pub wired : wired_new ≡ wired_old

@@ -28,15 +28,15 @@ abbrev pub is_stopped : Ended → Bool
 is_stopped ended.Stopped = true
 is_stopped other = false
 
--- a fault of one counts before want of memory
+-- a fault of one counts before memory that ran out
 abbrev pub ends_status : List Ended → Status
 ends_status ends = if list_any is_fault ends then status.WriteFault else if list_any is_memory ends then status.Memory else status.Done
 
--- where one had no thread, that counts as want of memory once one was stopped by it
+-- where one had no thread, that counts as out of memory once one was stopped by it
 abbrev pub threads_status : List Ended → Status
 threads_status ends = if list_any is_fault ends then status.WriteFault else if list_any is_stopped ends then status.Memory else ends_status ends
 
--- it is the status of the ends, or that of a round of the site that failed, or where one was stopped that of want of threads
+-- it is the status of the ends, or that of a round of the site that failed, or where one was stopped that of threads that couldn't be had
 abbrev pub EndsSo : Status → List Ended → Type 0
 EndsSo how ends = (how ≡ ends_status ends) ⊎ ((how ≡ status.WriteFault) ⊎ ((how ≡ status.Memory) × (list_any is_stopped ends ≡ true)))
 

@@ -45,7 +45,7 @@ pub(crate) enum LoopEnd {
 }
 
 impl WireEnd {
-    /// Its status: a fault of the site or of one worker counts before want of memory, and so does want of threads.
+    /// Its status: a fault of the site or of one worker counts before memory that ran out, and so does a thread that couldn't be had.
     pub fn status(&self) -> Status
         ensures { result ≡ wire_status self.now }
     {
@@ -81,7 +81,7 @@ impl From<NoMemory> for WireEnd {
     }
 }
 
-/// The workers ended so, or none ran for want of memory, and the loop beside them ended for this reason.
+/// The workers ended so, or none ran because memory ran out, and the loop beside them ended for this reason.
 pub(crate) fn end_of(ends: Result<Vec<Ended>, NoMemory>, led: LoopEnd) -> WireEnd
     ensures so { MatchResult ends (λ all. EndsSo (wire_status result) all.items) (λ _. wire_status result ≡ status.Memory) }
     ensures cause { MatchResult ends (λ all. wire_status result ≡ status.WriteFault → (led ≡ LoopEnd.Round) ⊎ (ends_status all.items ≡ status.WriteFault)) (λ _. wire_status result ≡ status.Memory) }

@@ -5,7 +5,7 @@ ghost use Rattle.flow_notes.specs.Extends.{Extends};
 use io_ports::{NoMemory, Octets};
 use line_faults::{LineFault, put_line_fault};
 use proxy_config::ConfigFault;
-use session_config::put_key;
+use session_config::put_config_fault;
 use session_run::Status;
 
 /// How a replay ended, and why.
@@ -88,28 +88,4 @@ pub fn put_reason(reason: &Reason, into: &mut Octets) -> Result<(), NoMemory>
         Reason::Write => into.push_all(b"the output can't be written"),
         Reason::Memory => into.push_all(b"out of memory"),
     }
-}
-
-fn put_config_fault(fault: &ConfigFault, into: &mut Octets) -> Result<(), NoMemory>
-    ensures ok { OnOk result (Extends into.old into.new) }
-    ensures err { OnErr result (Extends into.old into.new) }
-{
-    into.push_all(b"configuration: ")?;
-    match fault {
-        ConfigFault::NotToml => into.push_all(b"the text is no TOML document in UTF-8"),
-        ConfigFault::NoMemory => into.push_all(b"out of memory"),
-        ConfigFault::Missing(_) => put_key_fault(fault, b" is missing", into),
-        ConfigFault::WrongKind(_) => put_key_fault(fault, b" has a value of another kind", into),
-        ConfigFault::OutOfRange(_) => put_key_fault(fault, b" is out of its range", into),
-        ConfigFault::Unknown(_) => put_key_fault(fault, b" is no key of it", into),
-        ConfigFault::UnknownCluster(_) => put_key_fault(fault, b" names no cluster of it", into),
-    }
-}
-
-fn put_key_fault(fault: &ConfigFault, what: &[u8], into: &mut Octets) -> Result<(), NoMemory>
-    ensures ok { OnOk result (Extends into.old into.new) }
-    ensures err { OnErr result (Extends into.old into.new) }
-{
-    put_key(fault, into)?;
-    into.push_all(what)
 }

@@ -5,7 +5,9 @@ mod key;
 mod load;
 mod names;
 mod refusal;
+mod words;
 
 pub use load::{ConfigEnd, load_config, load_text};
 pub use names::names_of;
 pub use refusal::{put_key, put_refusal};
+pub use words::put_config_fault;

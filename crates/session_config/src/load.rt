@@ -6,6 +6,8 @@ ghost use Rattle.session_config.specs.Loading.{CausesFault, Loads, ReadsPiece, R
 use io_ports::{Failed, NoMemory, Octets, Source};
 use proxy_config::{Config, ConfigFault, read_config};
 use std::alloc::Global;
+use std::error::Error;
+use std::fmt;
 
 /// How many octets a configuration has at most.
 const MOST: usize = 1_048_576;
@@ -25,6 +27,19 @@ pub enum ConfigEnd {
     /// Out of memory.
     Memory,
 }
+
+impl fmt::Display for ConfigEnd {
+    fn fmt<W: fmt::Write>(&self, f: &mut fmt::Formatter<W>) -> fmt::Result {
+        match self {
+            ConfigEnd::Refused(fault) => write!(f, "{fault}"),
+            ConfigEnd::TooLong => f.write_str("the configuration has more than 1,048,576 octets"),
+            ConfigEnd::ReadFault => f.write_str("the configuration can't be read"),
+            ConfigEnd::Memory => f.write_str("out of memory"),
+        }
+    }
+}
+
+impl Error for ConfigEnd {}
 
 /// Reads a source to its end, and the configuration that its octets spell.
 pub fn load_config<C: Source>(alloc: Global, source: &mut C) -> Result<Config, ConfigEnd>

@@ -8,8 +8,8 @@ use io_ports::{NoMemory, Octets};
 use itoa::Buffer;
 use proxy_config::ConfigFault;
 
-/// Appends `refused config N KEY` and a newline: the fault's number, 1 to 6 in the order of their kinds, and its key. Want of
-/// memory, which refuses no configuration, has the number 7. Running out of memory here may leave some of the line.
+/// Appends `refused config N KEY` and a newline: the fault's number, 1 to 6 in the order of their kinds, and its key. Out
+/// of memory, which refuses no configuration, has the number 7. Running out of memory here may leave some of the line.
 pub fn put_refusal(fault: &ConfigFault, into: &mut Octets) -> Result<(), NoMemory>
     ensures ok { OnOk result (into.new ≡ into.old ++ refusal_line fault.now) }
     ensures err { OnErr result (Extends into.old into.new) }

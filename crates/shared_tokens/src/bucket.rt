@@ -8,6 +8,8 @@ use crate::seats::{Bucket, PutSeat, TokenSeat, TokenSeats, Words};
 use crate::token::{GivesBack, Puts, SeesPut, SeesTaken, Settles, Size, Takes};
 use io_ports::NoMemory;
 use std::alloc::Global;
+use std::error::Error;
+use std::fmt;
 
 /// No token was there: so many were found taken, where so many had been seen put.
 #[derive(Clone, Copy, Debug, PartialEq, Eq)]
@@ -15,6 +17,14 @@ pub struct NoToken {
     pub found: u64,
     pub put: u64,
 }
+
+impl fmt::Display for NoToken {
+    fn fmt<W: fmt::Write>(&self, f: &mut fmt::Formatter<W>) -> fmt::Result {
+        write!(f, "{} tokens are taken, of {}", self.found, self.put)
+    }
+}
+
+impl Error for NoToken {}
 
 // The word of the tokens taken, with those of refused takes that were not given back yet.
 const TAKEN: usize = 0;

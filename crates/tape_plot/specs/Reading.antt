@@ -26,7 +26,7 @@ pub record ReadsNote (line : List ℕ) (read : Option Note) : Type 0 where
   pub are : AreNames names
   pub spells : SpellsNote names line read
 
--- reading fails by the source only where that failed, and else by want of memory or by the tape's length
+-- reading fails by the source only where that failed, and else by memory or by the tape's length
 abbrev pub Fails : Type 0 → Status → Type 0
 Fails of_source status.ReadFault = of_source
 Fails of_source status.Memory = Unit {0}
@@ -38,7 +38,7 @@ Caused of_source stop.End = Unit {0}
 Caused of_source (stop.Refused why) = Unit {0}
 Caused of_source (stop.Failed how) = Fails of_source how
 
--- a line stops reading where it is refused, and else by want of memory or by the tape's length
+-- a line stops reading where it is refused, and else by memory or by the tape's length
 abbrev pub Refuses : Stop → Type 0
 Refuses stop.End = ⊥
 Refuses (stop.Refused why) = Unit {0}

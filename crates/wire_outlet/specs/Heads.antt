@@ -5,8 +5,8 @@ use Rattle.hpack_codec.specs.declared.fields.Field.{Field}
 use Rattle.std.specs.Prelude.{Bool, List, ℕ, ◌*◌, ◌+◌, ◌/◌}
 
 -- the frames of a list of fields; the block begins with the size update 0 where the encoder begins anew
-abbrev pub head_octets : Bool → ℕ → Bool → List Field → List ℕ
-head_octets anew stream last fields = spellings (block_frames stream last (encode_block anew fields))
+abbrev pub section_octets : Bool → ℕ → Bool → List Field → List ℕ
+section_octets anew stream last fields = spellings (block_frames stream last (encode_block anew fields))
 
 -- the most octets that a list of this size takes: one more than it counts, and nine for each 16,384 of them and a rest
 abbrev pub head_most : ℕ → ℕ

@@ -1,7 +1,7 @@
 -- Units that wait to be framed, and what each is once it is framed.
 use Rattle.h2_heads.specs.Replies.{status_list}
 use Rattle.std.specs.Prelude.{Bool, List, false, true, ℕ, ◌<◌, ◌^◌}
-use Rattle.wire_outlet.specs.Heads.{head_octets}
+use Rattle.wire_outlet.specs.Heads.{section_octets}
 use Rattle.wire_outlet.specs.declared.outlet.Framed.{Framed}
 use Rattle.wire_outlet.specs.declared.outlet.Framed.TheVariants as framed
 use Rattle.wire_outlet.specs.declared.waiting.Waiting.{Waiting}
@@ -15,7 +15,7 @@ IsFrameable (Reply stream status) = (0 < stream) × (stream < 2 ^ 31)
 -- the unit as it is framed, where the encoder begins anew or doesn't: a reply is `:status` alone with END_STREAM
 abbrev pub framed_of : Bool → Waiting → Framed
 framed_of anew (Answer octets) = framed.Answer octets
-framed_of anew (Reply stream status) = framed.Reply stream (head_octets anew stream true (status_list status))
+framed_of anew (Reply stream status) = framed.Reply stream (section_octets anew stream true (status_list status))
 
 -- whether the encoder still begins anew once the unit is framed
 abbrev pub anew_after : Waiting → Bool → Bool

@@ -2,7 +2,7 @@
 ghost use Rattle.std.specs.Prelude.{◌≡◌, ◌≤◌, ◌<◌, ◌++◌, ◌^◌, drop, length, true, IfOk, OnErr, OnOk, false};
 ghost use Rattle.h2_frames.specs.Blocks.{block_frames, spellings};
 ghost use Rattle.hpack_codec.specs.Sections.{list_size};
-ghost use Rattle.wire_outlet.specs.Heads.{head_most, head_octets};
+ghost use Rattle.wire_outlet.specs.Heads.{head_most, section_octets};
 
 use crate::laws::heads_fit;
 use h2_frames::{block_frames, block_head};
@@ -65,7 +65,7 @@ impl HeadWriter {
     ) -> Result<Octets, NoMemory>
         requires on_stream { 0 < stream }
         requires fits { stream < 2 ^ 31 }
-        ensures octets { IfOk result (λ octets. octets ≡ head_octets self.old stream last fields.now) }
+        ensures octets { IfOk result (λ octets. octets ≡ section_octets self.old stream last fields.now) }
         ensures bound { IfOk result (λ octets. length octets ≤ head_most (list_size fields.now)) }
         ensures ok { OnOk result (self.new ≡ false) }
         ensures err { OnErr result (self.new ≡ self.old) }
@@ -89,7 +89,7 @@ impl HeadWriter {
         requires on_stream { 0 < stream }
         requires fits { stream < 2 ^ 31 }
         requires few { list_size fields.now < 16384 }
-        ensures octets { IfOk result (λ octets. octets ≡ head_octets self.old stream last fields.now) }
+        ensures octets { IfOk result (λ octets. octets ≡ section_octets self.old stream last fields.now) }
         ensures ok { OnOk result (self.new ≡ false) }
         ensures err { OnErr result (self.new ≡ self.old) }
     {

@@ -2,7 +2,7 @@
 ghost use Rattle.std.specs.Prelude.{◌≡◌, ◌≤◌, ◌<◌, List, ℕ, Bool, false, length};
 ghost use Rattle.hpack_codec.specs.Sections.{list_size};
 ghost use Rattle.hpack_codec.specs.declared.fields.Field.{Field};
-ghost use Rattle.wire_outlet.specs.Heads.{head_most, head_octets};
+ghost use Rattle.wire_outlet.specs.Heads.{head_most, section_octets};
 ghost use Rattle.wire_outlet.specs.Outgoing.{IsReady};
 ghost use Rattle.wm_buffer.specs.Buffer.{AppendsOctets, Buffer};
 
@@ -12,7 +12,7 @@ use hpack_codec::block_fits;
 /// A head takes at most one octet more than its list counts, and nine octets for each 16,384 of these
 /// and for the rest: 61,477 where the list counts 61,440.
 pub fn heads_fit()
-    ensures most { (anew last : Bool) (stream : ℕ) (fields : List Field) → length (head_octets anew stream last fields) ≤ head_most (list_size fields) }
+    ensures most { (anew last : Bool) (stream : ℕ) (fields : List Field) → length (section_octets anew stream last fields) ≤ head_most (list_size fields) }
     ensures unit { (size : ℕ) → size ≤ 61440 → head_most size ≤ 61477 }
 {
     blocks_are_whole();

@@ -8,7 +8,7 @@ ghost use Rattle.std.specs.Borrow.{sem};
 ghost use Rattle.wm_buffer.specs.Buffer.{DropsOctets, IsWithinMarks, empty_buffer};
 ghost use Rattle.wm_buffer.specs.Watermark.{crossing};
 ghost use Rattle.wire_outlet.specs.Control.{goaway_octets};
-ghost use Rattle.wire_outlet.specs.Heads.{head_most, head_octets};
+ghost use Rattle.wire_outlet.specs.Heads.{head_most, section_octets};
 ghost use Rattle.wire_outlet.specs.Outgoing.{FramesFirst, IsReady, Outgoing, Writes, has_place, put_unit};
 ghost use Rattle.wire_outlet.specs.View.{LendsWrite};
 ghost use Rattle.wire_outlet.specs.Waiting.{IsFrameable, octets_of};
@@ -158,9 +158,9 @@ impl Outlet {
         requires open { self.old.write.above ≡ false }
         requires on_stream { 0 < stream }
         requires fits { stream < 2 ^ 31 }
-        ensures octets { IfOk result (λ framed. framed.0 ≡ head_octets self.old.anew stream true (status_list status)) }
+        ensures octets { IfOk result (λ framed. framed.0 ≡ section_octets self.old.anew stream true (status_list status)) }
         ensures crossed { IfOk result (λ framed. framed.1 ≡ crossing self.old.write.above self.new.write.above) }
-        ensures writes { OnOk result (Writes (head_octets self.old.anew stream true (status_list status)) self.old (record self.old { anew = false }) self.new) }
+        ensures writes { OnOk result (Writes (section_octets self.old.anew stream true (status_list status)) self.old (record self.old { anew = false }) self.new) }
         ensures few { IfOk result (λ framed. length framed.0 ≤ 16417) }
         ensures ready { (unit : ℕ) → 65536 ≤ unit → IsReady unit self.old.write → OnOk result (IsReady unit self.new.write) }
         ensures err { OnErr result (self.new ≡ self.old) }
@@ -181,9 +181,9 @@ impl Outlet {
         requires open { self.old.write.above ≡ false }
         requires on_stream { 0 < stream }
         requires fits { stream < 2 ^ 31 }
-        ensures octets { IfOk result (λ framed. framed.0 ≡ head_octets self.old.anew stream last fields.now) }
+        ensures octets { IfOk result (λ framed. framed.0 ≡ section_octets self.old.anew stream last fields.now) }
         ensures crossed { IfOk result (λ framed. framed.1 ≡ crossing self.old.write.above self.new.write.above) }
-        ensures writes { OnOk result (Writes (head_octets self.old.anew stream last fields.now) self.old (record self.old { anew = false }) self.new) }
+        ensures writes { OnOk result (Writes (section_octets self.old.anew stream last fields.now) self.old (record self.old { anew = false }) self.new) }
         ensures most { IfOk result (λ framed. length framed.0 ≤ head_most (list_size fields.now)) }
         ensures unit { list_size fields.now ≤ 61440 → IfOk result (λ framed. length framed.0 ≤ 61477) }
         ensures ready { (unit : ℕ) → 65536 ≤ unit → list_size fields.now ≤ 61440 → IsReady unit self.old.write → OnOk result (IsReady unit self.new.write) }

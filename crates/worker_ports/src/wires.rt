@@ -7,6 +7,8 @@ ghost use Rattle.worker_ports.specs.declared.wires.WireRefusal.TheVariants as re
 
 use io_ports::{Failed, NoMemory, Octets};
 use std::alloc::Global;
+use std::error::Error;
+use std::fmt;
 
 /// What came next.
 #[derive(Debug, Drop)]
@@ -33,6 +35,17 @@ pub enum WireRefusal {
     /// Out of memory. Nothing was taken.
     NoMemory,
 }
+
+impl fmt::Display for WireRefusal {
+    fn fmt<W: fmt::Write>(&self, f: &mut fmt::Formatter<W>) -> fmt::Result {
+        f.write_str(match self {
+            WireRefusal::Failed => "the outside failed",
+            WireRefusal::NoMemory => "out of memory",
+        })
+    }
+}
+
+impl Error for WireRefusal {}
 
 /// One thing that was done, as a record of wires keeps it.
 #[derive(Debug, Drop)]

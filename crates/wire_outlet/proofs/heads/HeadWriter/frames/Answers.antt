@@ -4,13 +4,13 @@ use Rattle.h2_frames.specs.Blocks.{block_frames, spellings}
 use Rattle.hpack_codec.specs.Encoding.{encode_block}
 use Rattle.hpack_codec.specs.Sections.{list_size}
 use Rattle.wire_outlet.proofs.heads.HeadWriter.frames.Goals as goal
-use Rattle.wire_outlet.specs.Heads.{head_most, head_octets}
+use Rattle.wire_outlet.specs.Heads.{head_most, section_octets}
 
 -- the frames are those of the block, which is the list's
 pub returns-then-size-lt-PIECE-clause-bound : goal.returns-then-size-lt-PIECE-clause-bound
 returns-then-size-lt-PIECE-clause-bound c =
     let most = head_most (list_size c.args.fields.now) in
-    IfOk-weaker c.one_frame.result (λ octets. octets ≡ head_octets c.args.self.now c.args.stream c.args.last c.args.fields.now) (λ octets. length octets ≤ most)
+    IfOk-weaker c.one_frame.result (λ octets. octets ≡ section_octets c.args.self.now c.args.stream c.args.last c.args.fields.now) (λ octets. length octets ≤ most)
     (λ octets e. subst (λ x. length x ≤ most) (sym e) (c.heads_fit.ensures.most c.args.self.now c.args.last c.args.stream c.args.fields.now))
     c.one_frame.ensures.octets
 
