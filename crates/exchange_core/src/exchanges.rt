@@ -215,7 +215,7 @@ impl Exchanges {
             unreachable!()
         };
         self.doomed.push_back_reserved(exchange);
-        self.metered.mark(exchange, false);
+        self.metered.remove(exchange);
         forget_flows(gates, exchange, ended.response.is_some());
         let doomed = ended.reckoning(cause, back);
         self.spares.keep(ended);

@@ -85,6 +85,29 @@ impl NumberSet {
         }
     }
 
+    /// Puts a number in. There must be room for one that isn't there yet; takes no memory.
+    #[inline(always)]
+    pub fn insert(&mut self, number: u64)
+        requires { has self.old.items number ≡ false → length self.old.items < self.old.room }
+        ensures items { self.new.items ≡ marked number true self.old.items }
+        ensures members { (y : ℕ) → has self.new.items y ≡ (if number == y then true else has self.old.items y) }
+        ensures len { length self.new.items + (if has self.old.items number then 1 else 0) ≡ length self.old.items + 1 }
+        ensures room { self.new.room ≡ self.old.room }
+    {
+        self.mark(number, true);
+    }
+
+    /// Takes a number out; one that isn't there changes nothing. Takes no memory.
+    #[inline(always)]
+    pub fn remove(&mut self, number: u64)
+        ensures items { self.new.items ≡ marked number false self.old.items }
+        ensures members { (y : ℕ) → has self.new.items y ≡ (if number == y then false else has self.old.items y) }
+        ensures len { length self.new.items + (if has self.old.items number then 1 else 0) ≡ length self.old.items }
+        ensures room { self.new.room ≡ self.old.room }
+    {
+        self.mark(number, false);
+    }
+
     /// Whether a number is there.
     #[inline(always)]
     pub fn contains(&self, number: u64) -> bool

@@ -94,7 +94,7 @@ impl Seat {
         ensures err { OnErr result (self.new ≡ self.old) }
     {
         self.numbers.reserve_one()?;
-        self.numbers.mark(exchange, true);
+        self.numbers.insert(exchange);
         Ok(())
     }
 
@@ -113,7 +113,7 @@ impl Seat {
     {
         self.numbers.reserve_one()?;
         self.streams.insert(u64::from(stream), exchange)?;
-        self.numbers.mark(exchange, true);
+        self.numbers.insert(exchange);
         Ok(())
     }
 
@@ -121,7 +121,7 @@ impl Seat {
     pub(crate) fn leave(&mut self, exchange: u64, stream: Option<u32>)
         ensures { self.new ≡ left exchange stream self.old }
     {
-        self.numbers.mark(exchange, false);
+        self.numbers.remove(exchange);
         if let Some(stream) = stream {
             self.streams.remove(u64::from(stream));
         }

@@ -28,11 +28,11 @@ impl Ready {
         match unit {
             Unit::Nothing => self.remove(exchange),
             Unit::Body { n, .. } if n > 0 => {
-                self.free.mark(exchange, false);
+                self.free.remove(exchange);
                 insert(&mut self.body, exchange)?;
             }
             _ => {
-                self.body.mark(exchange, false);
+                self.body.remove(exchange);
                 insert(&mut self.free, exchange)?;
             }
         }
@@ -42,8 +42,8 @@ impl Ready {
     /// The exchange has no unit any more.
     #[inline(always)]
     pub fn remove(&mut self, exchange: u64) {
-        self.free.mark(exchange, false);
-        self.body.mark(exchange, false);
+        self.free.remove(exchange);
+        self.body.remove(exchange);
     }
 
     /// The exchange whose unit goes next after that of another, in rotation, where the connection's window has this room.
@@ -77,6 +77,6 @@ impl Ready {
 
 fn insert(exchanges: &mut NumberSet, exchange: u64) -> Result<(), NoMemory> {
     exchanges.reserve_one()?;
-    exchanges.mark(exchange, true);
+    exchanges.insert(exchange);
     Ok(())
 }

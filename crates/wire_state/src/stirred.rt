@@ -33,7 +33,7 @@ impl Stirred {
             return Ok(());
         }
         self.conns.reserve_one()?;
-        self.conns.mark(u64::from(conn), true);
+        self.conns.insert(u64::from(conn));
         self.fresh.push(conn)?;
         Ok(())
     }
@@ -64,7 +64,7 @@ impl Stirred {
     pub fn remove(&mut self, conn: u32)
         ensures { length self.new.conns.items + stirred_at conn self.old.conns.items ≡ length self.old.conns.items }
     {
-        self.conns.mark(u64::from(conn), false);
+        self.conns.remove(u64::from(conn));
     }
 
     /// Takes out the last.
@@ -73,7 +73,7 @@ impl Stirred {
     {
         self.fresh.clear();
         let last = self.conns.last()?;
-        self.conns.mark(last, false);
+        self.conns.remove(last);
         u32::try_from(last).ok()
     }
 }

@@ -7,7 +7,7 @@ use Rattle.std.specs.Prelude.{Bool, None, Option, Some, cond, false, ifâ—Œthenâ—
 use Rattle.wire_windows.proofs.Maps.{get_insert, get_remove}
 use Rattle.wire_windows.proofs.Sums.{sum_insert, sum_less, sum_remove}
 use Rattle.number_set.specs.NumberSet.{NumberSet, has}
-use Rattle.wire_windows.specs.Kept.{AreDue, due_count}
+use Rattle.wire_windows.specs.Kept.{AreDue}
 use Rattle.wire_windows.specs.RecvWindows.{RecvStreams, is_due_stream}
 use Rattle.wire_windows.specs.declared.recv_stream.RecvStream.{RecvStream}
 

@@ -7,13 +7,13 @@ use Rattle.std.specs.FinMap.{contains_key, empty, get, get-empty, insert, len, l
 use Rattle.std.specs.Option.{option_map_or}
 use Rattle.std.specs.Ordering.{nat_cmp}
 use Rattle.std.specs.Result.{is_err}
-use Rattle.std.specs.Prelude.{Bool, Err, IfSome, None, Ok, OnOk, Option, Result, Some, [], cond, false, if◌then◌else◌, is_some, length, nat_eq, true, ℕ, ◌+◌, ◌-◌, ◌<◌, ◌≡◌, ◌≤◌}
+use Rattle.std.specs.Prelude.{Bool, Err, IfSome, None, Ok, OnOk, Option, Result, Some, [], cond, false, if◌then◌else◌, is_some, length, nat_eq, true, ℕ, ◌+◌, ◌-◌, ◌≡◌, ◌≤◌}
 use Rattle.wire_windows.proofs.Due.{Marks, due_gone, due_put, stays_marked}
 use Rattle.wire_windows.proofs.Maps.{get_insert, get_remove, remove_absent}
 use Rattle.wire_windows.proofs.Sums.{sum_at_least, sum_insert, sum_none, sum_remove}
 use Rattle.number_set.specs.NumberSet.{NumberSet, has}
-use Rattle.wire_windows.specs.Kept.{AreDue, AreKept, windows_of}
-use Rattle.wire_windows.specs.RecvWindows.{IsSound, RecvStreams, RecvWindows, begun, changed_at, drops, held_at, held_by_all, is_due_stream, left_in, on_window, received}
+use Rattle.wire_windows.specs.Kept.{AreKept, windows_of}
+use Rattle.wire_windows.specs.RecvWindows.{IsSound, RecvStreams, RecvWindows, begun, changed_at, drops, held_at, is_due_stream, left_in, on_window, received}
 use Rattle.wire_windows.specs.declared.recv_stream.RecvStream.{RecvStream}
 use Rattle.wire_windows.specs.declared.recv_windows.RecvWindows.TheInside.{Inside}
 

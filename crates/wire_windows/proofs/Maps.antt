@@ -3,12 +3,12 @@ use Rattle.std.proofs.Common.{ap, arith, refl, sym, ◌∙◌}
 use Rattle.std.proofs.lemmas.Bool.{false≢true}
 use Rattle.std.proofs.lemmas.Bool.Decides.{nat_tests}
 use Rattle.std.specs.Cmp.{nat_cmp_total}
-use Rattle.std.specs.FinMap.{FinMap, contains_key, empty, from_entries, get, get-empty, get-from_entries, get-insert, get-remove, insert, len, len-empty, len-insert, nat_cmp-IsAntisymmetric, remove, same_map}
+use Rattle.std.specs.FinMap.{FinMap, contains_key, from_entries, get, get-from_entries, get-insert, get-remove, insert, len, len-empty, len-insert, nat_cmp-IsAntisymmetric, remove, same_map}
 use Rattle.std.specs.FinMap.Entries.{find}
 use Rattle.std.specs.List.{AllByRecursion, IsDistinct, list_all}
 use Rattle.std.specs.Map.{keys_of, lookup}
 use Rattle.std.specs.Ordering.{eq_by_cmp, nat_cmp}
-use Rattle.std.specs.Prelude.{Bool, IfSome, List, None, Option, Some, [], cond, false, is_some, length, nat_eq, true, ℕ, ◌&&◌, ◌+◌, ◌∷◌, ◌≡◌}
+use Rattle.std.specs.Prelude.{Bool, IfSome, List, None, Some, [], cond, false, is_some, length, nat_eq, true, ℕ, ◌&&◌, ◌+◌, ◌∷◌, ◌≡◌}
 
 pub eq_by_number : (x y : ℕ) → eq_by_cmp nat_cmp x y ≡ nat_eq x y
 eq_by_number x y = grind (arith, nat_tests)

@@ -2,14 +2,14 @@
 use Rattle.std.proofs.Common.{ap, arith, refl, subst, sym, ◌∙◌}
 use Rattle.std.proofs.lemmas.List.Sums.{sum_by-cons}
 use Rattle.std.specs.Cmp.{nat_cmp_total}
-use Rattle.std.specs.FinMap.{FinMap, contains_key, empty, entries, entries-insert, entries_sorted, get, get-entries, insert, len, len-entries, len-insert, remove, values}
+use Rattle.std.specs.FinMap.{FinMap, contains_key, entries, entries-insert, entries_sorted, get, get-entries, insert, len, len-entries, len-insert, remove, values}
 use Rattle.std.specs.FinMap.Entries.{below_all, by_order, find, is_sorted, put}
 use Rattle.std.specs.Map.{values_of}
 use Rattle.std.specs.Option.{option_map_or}
 use Rattle.std.specs.Ordering.{is_eq, is_lt, nat_cmp}
 use Rattle.std.specs.declared.cmp.Ordering.{Ordering}
 use Rattle.std.specs.declared.cmp.Ordering.TheVariants.{Equal, Greater, Less}
-use Rattle.std.specs.Prelude.{Bool, List, None, Option, Some, T, [], cond, false, is_some, length, sum_by, true, ℕ, ◌&&◌, ◌+◌, ◌-◌, ◌<◌, ◌∷◌, ◌≡◌, ◌≤◌}
+use Rattle.std.specs.Prelude.{Bool, List, None, Option, Some, T, [], cond, false, is_some, length, sum_by, true, ℕ, ◌&&◌, ◌+◌, ◌<◌, ◌∷◌, ◌≡◌, ◌≤◌}
 use Rattle.wire_windows.proofs.Maps.{get_gone, put_back, remove_absent}
 
 first : (a b : Bool) → T (a && b) → T a

@@ -3,7 +3,7 @@ use Rattle.h2_windows.specs.RecvWindow.{AddsUp, Receiving, is_due}
 use Rattle.std.specs.FinMap.{FinMap, empty, get, insert, remove, values}
 use Rattle.std.specs.Option.{option_map_or}
 use Rattle.std.specs.Ordering.{nat_cmp}
-use Rattle.std.specs.Prelude.{Bool, IfSome, IsSomeAnd, Option, Some, cond, false, if◌then◌else◌, is_some, nat_lt, not, sum_by, true, ℕ, ◌&&◌, ◌+◌, ◌-◌, ◌<◌, ◌≡◌, ◌≤◌}
+use Rattle.std.specs.Prelude.{Bool, IfSome, IsSomeAnd, Option, false, if◌then◌else◌, is_some, nat_lt, not, sum_by, true, ℕ, ◌&&◌, ◌+◌, ◌-◌, ◌<◌, ◌≡◌, ◌≤◌}
 use Rattle.wire_windows.specs.declared.recv_stream.Came.TheVariants.{ConnOver, Fits, StreamOver}
 use Rattle.wire_windows.specs.declared.recv_stream.Came.{Came}
 use Rattle.wire_windows.specs.declared.recv_stream.RecvStream.{RecvStream}

@@ -4,7 +4,7 @@ use Rattle.h2_windows.specs.SendWindow.{Sending, Spend, Widen, begun, changed}
 use Rattle.std.specs.FinMap.{FinMap, empty, get, insert, remove}
 use Rattle.std.specs.Option.{option_map_or}
 use Rattle.std.specs.Ordering.{nat_cmp}
-use Rattle.std.specs.Prelude.{Bool, IfSome, IsSomeAnd, List, None, Option, Some, is_some, option_map, pos, ℕ, ◌+ℤ◌, ◌-◌, ◌^◌, ◌∷◌, ◌≡◌, ◌≤ℤ◌, ◌≤◌}
+use Rattle.std.specs.Prelude.{Bool, IfSome, IsSomeAnd, List, None, Some, is_some, option_map, pos, ℕ, ◌+ℤ◌, ◌-◌, ◌^◌, ◌∷◌, ◌≡◌, ◌≤ℤ◌, ◌≤◌}
 
 -- the open streams, by exchange
 abbrev pub SendStreams : Type 0

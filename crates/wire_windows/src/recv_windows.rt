@@ -179,7 +179,7 @@ impl RecvWindows {
         };
         stream.ended = true;
         self.streams.set(x, stream);
-        self.due.mark(x, false);
+        self.due.remove(x);
     }
 
     /// The exchange is doomed: its stream's window goes, and the `buffered` octets of its receive buffer are owed to the connection.
@@ -195,7 +195,7 @@ impl RecvWindows {
         self.conn.discarded(buffered);
         self.stray += stream.window.held() - buffered;
         self.streams.remove(x);
-        self.due.mark(x, false);
+        self.due.remove(x);
     }
 
     /// What the first WINDOW_UPDATE of the connection is to grant: 0 where none is due, or it was framed.
@@ -251,7 +251,7 @@ impl RecvWindows {
         };
         let granted = stream.window.grant();
         self.streams.set(x, stream);
-        self.due.mark(x, false);
+        self.due.remove(x);
         granted
     }
 }

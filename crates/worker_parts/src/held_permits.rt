@@ -66,7 +66,7 @@ impl HeldPermits {
         match permits.enter(seat) {
             Ok(permit) => {
                 self.permits.push_reserved(permit);
-                self.conns.mark(u64::from(conn), true);
+                self.conns.insert(u64::from(conn));
                 Ok(true)
             }
             Err(_) => Ok(false),
@@ -85,7 +85,7 @@ impl HeldPermits {
         ensures others { (c : ℕ) → has self.new c ≡ true → has self.old c ≡ true }
         ensures balance { (view seat.new).held + length self.old ≡ (view seat.old).held + length self.new }
     {
-        self.conns.mark(u64::from(conn), false);
+        self.conns.remove(u64::from(conn));
         if self.conns.len() < self.permits.len() {
             let Some(permit) = self.permits.pop() else {
                 unreachable!()

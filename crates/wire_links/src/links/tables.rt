@@ -145,7 +145,7 @@ pub(super) fn withdraw(offers: &mut Offers, cluster: Option<u32>, conn: u32)
         return;
     };
     if let Some(numbers) = offers.get_mut(&cluster) {
-        numbers.mark(u64::from(conn), false);
+        numbers.remove(u64::from(conn));
     }
 }
 

@@ -10,7 +10,6 @@ use Rattle.exchange_core.specs.Exchange.{at_moment, seen_at}
 use Rattle.exchange_core.specs.Replies.{reckoning}
 use Rattle.exchange_core.specs.declared.exchange.Exchange.{Exchange}
 use Rattle.std.proofs.Common.{ap, arith, refl, sym, ◌∙◌}
-use Rattle.std.proofs.lemmas.Bool.{false≢true}
 use Rattle.std.specs.Prelude.{Some, option_map}
 
 pub unreachable-requires : goal.unreachable-requires
@@ -18,9 +17,6 @@ unreachable-requires c = not_live c.self.inside c.args.exchange (sym c.in_defaul
 
 pub push_back_reserved-requires : goal.push_back_reserved-requires
 push_back_reserved-requires c = omega (arith, c.self.invariant.room, c.in-Some.ensures.len)
-
-pub mark-requires : goal.mark-requires
-mark-requires c = λ there. absurd (false≢true there)
 
 known : (c : goal.After-is_some) → KnowsFlows c.args.exchange (seen_at c.self.inside.ticked c.in-Some.ended) c.args.gates.now
 known c = at_found (λ (e : Exchange). KnowsFlows c.args.exchange e c.args.gates.now) _ (seen_at c.self.inside.ticked c.in-Some.ended) (exchange_found c.self.inside c.args.exchange (Some c.in-Some.ended) c.in-Some.ensures.value) (rw (← c.self.view_is) at c.requires.known)
@@ -32,12 +28,12 @@ pub forget_flows-requires-clause-response : goal.forget_flows-requires-clause-re
 forget_flows-requires-clause-response c = λ some. (known c).1 (some_mapped (at_moment c.self.inside.ticked) c.in-Some.ended.response ∙ sym c.is_some.ensures ∙ some)
 
 abbrev after : goal.After-keep → Inside
-after c = record c.self.inside { live = c.remove.new.self; doomed = c.push_back_reserved.new.self; metered = c.mark.new.self; spares = c.keep.new.self }
+after c = record c.self.inside { live = c.remove.new.self; doomed = c.push_back_reserved.new.self; metered = c.remove-2.new.self; spares = c.keep.new.self }
 
 pub invariant_of-self : goal.invariant_of-self
 invariant_of-self c = doom_kept c.self.inside (after c) c.args.exchange c.in-Some.ended c.self.invariant c.in-Some.ensures.value c.remove.ensures.updates.0 c.remove.ensures.ordered c.remove.ensures.entries c.in-Some.ensures.len
     refl refl refl c.push_back_reserved.ensures.items c.push_back_reserved.ensures.len c.push_back_reserved.ensures.capacity
-    (is_unmarked c.self.inside c.args.exchange c.in-Some.ended c.self.invariant c.in-Some.ensures.value c.mark.new.self c.mark.ensures.members c.mark.ensures.len c.mark.ensures.room)
+    (is_unmarked c.self.inside c.args.exchange c.in-Some.ended c.self.invariant c.in-Some.ensures.value c.remove-2.new.self c.remove-2.ensures.members (omega (arith, c.remove-2.ensures.len)) c.remove-2.ensures.room)
 
 pub returns-clause-answer : goal.returns-clause-answer
 returns-clause-answer c = rw (← c.self.view_is) (ap Some (c.reckoning-doomed.ensures ∙ sym (reckoning_seen c.self.inside.ticked c.args.cause c.args.back c.in-Some.ended))

@@ -10,5 +10,5 @@ any_some P (Some x) p = p
 pub returns : goal.returns
 returns c =
     let gone = ap {B = ℕ} (λ (b : Bool). if b then 1 else 0) c.in_ok-last.ensures.found in
-    let fewer : length c.mark.new.self.items < length c.args.self.now.conns.items = omega (arith, gone, c.mark.ensures.len) in
-    any_some (length c.mark.new.self.items < length c.args.self.now.conns.items) c.ok.result fewer
+    let fewer : length c.remove.new.self.items < length c.args.self.now.conns.items = omega (arith, gone, c.remove.ensures.len) in
+    any_some (length c.remove.new.self.items < length c.args.self.now.conns.items) c.ok.result fewer

@@ -1,4 +1,4 @@
-use Rattle.std.proofs.Common.{ap, arith, refl, subst, sym, ◌∙◌}
+use Rattle.std.proofs.Common.{ap, arith, sym, ◌∙◌}
 use Rattle.std.specs.FinMap.{get}
 use Rattle.std.specs.Prelude.{◌+◌, ◌-◌}
 use Rattle.wire_windows.proofs.Keeping.{drops_nothing, held_of, held_within, kept_gone}
@@ -19,10 +19,10 @@ overflow_add-self c =
     omega (arith, within, less, c.held.ensures.held, c.discarded.ensures.whole, c.self.invariant.sound.conn)
 
 pub invariant_of-self : goal.invariant_of-self
-invariant_of-self c = kept_gone c.self.inside c.self.invariant c.args.x c.in-Some.stream (sym c.in-Some.ensures) c.args.buffered c.discarded.new.self _ c.remove.new.self c.mark.new.self
+invariant_of-self c = kept_gone c.self.inside c.self.invariant c.args.x c.in-Some.stream (sym c.in-Some.ensures) c.args.buffered c.discarded.new.self _ c.remove.new.self c.remove-2.new.self
     (held_of c.self.inside.streams c.args.x c.in-Some.stream c.in-Some.ensures c.args.buffered (rw (← c.self.view_is) at c.requires))
     c.discarded.ensures.owes c.discarded.ensures.whole (ap (λ n. c.self.inside.stray + (n - c.args.buffered)) c.held.ensures.held) c.remove.ensures
-    (record { items = c.mark.ensures.members; len = c.mark.ensures.len }) c.mark.ensures.room
+    (record { items = c.remove-2.ensures.members; len = omega (arith, c.remove-2.ensures.len) }) c.remove-2.ensures.room
 
 pub returns-clause-sound : goal.returns-clause-sound
 returns-clause-sound c = (invariant_of-self c).sound
