@@ -13,27 +13,6 @@ use Rattle.filter_chain.specs.declared.stage.StageKind.TheVariants.{Send}
 use Rattle.wm_buffer.specs.Buffer.{Buffer, DropsOctets}
 use Rattle.wm_buffer.specs.Watermark.{above_after}
 
-none_above : (limit : ℕ) (was : Bool) → above_after limit was 0 ≡ false
-none_above limit true = grind (arith, nat_tests)
-none_above limit false = grind (arith, nat_tests)
-
-abbrev empty_with : ℕ → StageKind → Bool → ℕ → Place
-empty_with limit kind above tokens = record { kind = kind; limit = limit; octets = []; above = above; tokens = tokens }
-
-emptied : (place : Place) → place.kind ≡ Send → IsPlace place → holding [] place ≡ empty_place Send place.limit
-emptied place send sound =
-    let rate : rate_of place.kind ≡ 0 = ap rate_of send in
-    let most : place.tokens ≤ rate_of place.kind = sound.tokens in
-    let none : place.tokens ≡ 0 = omega arith in
-    ap (λ k. empty_with place.limit k (above_after place.limit place.above 0) place.tokens) send
-    ∙ (ap (λ a. empty_with place.limit Send a place.tokens) (none_above place.limit place.above)
-    ∙ ap (λ t. empty_with place.limit Send false t) none)
-
-pub renewed : (stages : List Stage) (d s : Stage) → length stages ≡ 1 → EndsInSend (kinds (places_of stages)) → All IsPlace (places_of stages) → place_of s ≡ holding [] (place_of (get_or stages 0 d)) → places_of (set stages 0 s) ≡ empty_place Send (get_or stages 0 d).buffer.limit ∷ []
-renewed [] d s one order each is = absurd (omega (arith, one))
-renewed (x ∷ []) d s one order each is = ap (λ p. p ∷ []) (is ∙ emptied (place_of x) order (All-head IsPlace (place_of x) [] each))
-renewed (x ∷ y ∷ ys) d s one order each is = absurd (omega (arith, one))
-
 -- a stage whose octets are all dropped
 abbrev pub placed : StageKind → ℕ → ℕ → List ℕ → Bool → Place
 placed kind tokens limit octets above = record { kind = kind; limit = limit; octets = octets; above = above; tokens = tokens }

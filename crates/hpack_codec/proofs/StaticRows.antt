@@ -36,8 +36,5 @@ slice_get-right (x ∷ xs) ys i (suc n) e = slice_get-right xs ys i n (omega ari
 at : (t : Table) (index place : ℕ) → index ≡ suc place → entry_at t index ≡ slice_get (static_table ++ t.lines) place
 at t index place e = ap (entry_at t) e
 
-pub static_at : (t : Table) (index place : ℕ) → index ≡ suc place → place < 61 → entry_at t index ≡ slice_get static_table place
-static_at t index place e h = at t index place e ∙ slice_get-left static_table t.lines place (omega (arith, static_length))
-
 pub dynamic_at : (t : Table) (index place : ℕ) → index ≡ suc (61 + place) → entry_at t index ≡ slice_get t.lines place
 dynamic_at t index place e = at t index (61 + place) e ∙ slice_get-right static_table t.lines place (61 + place) (omega (arith, static_length))

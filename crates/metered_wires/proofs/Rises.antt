@@ -56,9 +56,6 @@ in_behind (x ∷ xs) c d there = elim (any_cases d x (xs ++ c ∷ []) there) [
 up_to_behind : (xs : List ℕ) (n c : ℕ) → AreUpTo n xs → n < c → AreUpTo c (xs ++ c ∷ [])
 up_to_behind xs n c each less d there = elim (in_behind xs c d there) [ inl e ↦ omega (arith, each d e, less) | inr e ↦ omega (arith, e) ]
 
-up_to_more : (xs : List ℕ) (n m : ℕ) → AreUpTo n xs → n ≤ m → AreUpTo m xs
-up_to_more xs n m each less d there = omega (arith, each d there, less)
-
 -- one less
 without_step : (b : Bool) (xs : List ℕ) (c d x : ℕ) → (list_any (nat_eq d) (without c xs) ≡ true → list_any (nat_eq d) xs ≡ true) → list_any (nat_eq d) (cond (not b) (x ∷ without c xs) (without c xs)) ≡ true → list_any (nat_eq d) (x ∷ xs) ≡ true
 without_step true xs c d x behind h = any_behind d x xs (behind h)
@@ -67,9 +64,6 @@ without_step false xs c d x behind h = elim (any_cases d x (without c xs) h) [ i
 in_without : (xs : List ℕ) (c d : ℕ) → list_any (nat_eq d) (without c xs) ≡ true → list_any (nat_eq d) xs ≡ true
 in_without [] c d there = there
 in_without (x ∷ xs) c d there = without_step (nat_eq c x) xs c d x (in_without xs c d) there
-
-up_to_without : (xs : List ℕ) (n c : ℕ) → AreUpTo n xs → AreUpTo n (without c xs)
-up_to_without xs n c each d there = each d (in_without xs c d there)
 
 -- ---- what is given keeps the numbers rising
 comes_rises : (c : ℕ) (old new : Seen) → IsRising old → old.greatest < c → new.live ≡ old.live ++ c ∷ [] → new.held ≡ old.held → new.greatest ≡ c → IsRising new

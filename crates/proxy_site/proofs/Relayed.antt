@@ -36,10 +36,6 @@ pub rose_later : (a b c : ℕ) → a ≤ b → Rose b c → Rose a c
 rose_later a b c l (inl r) = inl (omega (arith, l, r))
 rose_later a b c l (inr r) = inr r
 
-pub rose_before : (a b c : ℕ) → b ≤ c → c ≤ 2 ^ 64 - 1 → Rose a b → Rose a c
-rose_before a b c l m (inl r) = inl (omega (arith, l, r))
-rose_before a b c l m (inr r) = inr (omega (arith, l, m, r))
-
 pub rose_some : (a b : ℕ) → Rose a b → 0 < b
 rose_some a b (inl r) = omega (arith, r)
 rose_some a b (inr r) = omega (arith, r)

@@ -17,8 +17,3 @@ module _ {T J : Type 0} where
   pub listened_alone : (old at new : Option (Told T J)) (asked used : List ℕ) → TellsListening old (asked, used) at → new ≡ at → TellsNoMore old asked new
   listened_alone old at new asked used (inl d) e = inr (used, inl (e ∙ d))
   listened_alone old at new asked used (inr d) e = inr (used, inr (e ∙ d))
-
--- where it was to listen last
-pub listens_more : (used : List ℕ) (asked : List (List ℕ)) (at : List ℕ) → listens_of used (asked ++ at ∷ []) ≡ listens_of used asked ++ (at, used) ∷ []
-listens_more used [] at = refl
-listens_more used (first ∷ asked) at = ap (λ (more : List (List ℕ × List ℕ)). (first, used) ∷ more) (listens_more used asked at)

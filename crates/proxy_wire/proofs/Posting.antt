@@ -19,18 +19,6 @@ use Rattle.std.proofs.lemmas.List.{get_or_default, get_or-set_other, length-repl
 use Rattle.worker_parts.specs.Samples.{AreSampled, replaced}
 use Rattle.std.specs.Prelude.{Bool, List, None, Option, Some, [], length, not, replicate, slice_index_or, suc, ℕ, ◌++◌, ◌<◌, ◌∷◌, ◌≡◌, ◌≢◌, ◌≤◌, ◌⊎◌}
 
-as_each : (boxes : List PostBox) (posters : List PosterPass) → ArePosters boxes posters → EachTwo (λ i b p. IsPosterOf b p) boxes posters
-as_each boxes posters a = record { same = a.same; each = a.each }
-
-of_each : (boxes : List PostBox) (posters : List PosterPass) → EachTwo (λ i b p. IsPosterOf b p) boxes posters → ArePosters boxes posters
-of_each boxes posters e = record { same = e.same; each = e.each }
-
-pub posters_more : (boxes boxes' : List PostBox) (posters posters' : List PosterPass) (b : PostBox) (p : PosterPass) → boxes' ≡ boxes ++ b ∷ [] → posters' ≡ posters ++ p ∷ [] → ArePosters boxes posters → IsPosterOf b p → ArePosters boxes' posters'
-posters_more boxes boxes' posters posters' b p eb ep a is =
-    let more : ArePosters (boxes ++ b ∷ []) (posters ++ p ∷ []) = of_each (boxes ++ b ∷ []) (posters ++ p ∷ []) (each_more (λ i x y. IsPosterOf x y) boxes posters b p (as_each boxes posters a) is) in
-    let one : ArePosters boxes' (posters ++ p ∷ []) = subst (λ (l : List PostBox). ArePosters l (posters ++ p ∷ [])) (sym eb) more in
-    subst (λ (l : List PosterPass). ArePosters boxes' l) (sym ep) one
-
 -- nobody posts yet
 pub leads_none : (boxes : List PostBox) (leader : Leader) (publisher : Publisher) (pressures : List ℕ) (n : ℕ) → boxes ≡ [] → leader.posters.items ≡ [] → leader.publisher ≡ publisher → leader.pressures ≡ pressures → pressures ≡ replicate n 0 → resources_of publisher ≡ n → n ≤ 16 → Leads boxes leader
 leads_none boxes leader publisher pressures n eb ep el epr er res few =

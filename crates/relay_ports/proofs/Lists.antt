@@ -19,14 +19,8 @@ by_test false f g = g refl
 equal_is : (c d : ℕ) → nat_eq c d ≡ true → c ≡ d
 equal_is c d e = grind (arith, nat_tests)
 
-equal_self : (c : ℕ) → nat_eq c c ≡ true
-equal_self c = grind (arith, nat_tests)
-
 below_differs : (c d : ℕ) → c < d → nat_eq c d ≡ false
 below_differs c d l = grind (arith, nat_tests)
-
-above_differs : (c d : ℕ) → d < c → nat_eq c d ≡ false
-above_differs c d l = grind (arith, nat_tests)
 
 turned : (c d : ℕ) → nat_eq c d ≡ false → nat_eq d c ≡ false
 turned c d n = grind (arith, nat_tests)
@@ -42,19 +36,10 @@ compares_above c x l =
     let other : nat_eq c x ≡ false = grind (arith, nat_tests) in
     λ i. cond (below i) Less (cond (other i) Equal Greater)
 
-compares_same : (c x : ℕ) → nat_eq c x ≡ true → nat_cmp c x ≡ Equal
-compares_same c x e =
-    let below : nat_lt c x ≡ false = grind (arith, nat_tests) in
-    λ i. cond (below i) Less (cond (e i) Equal Greater)
-
 at_is : (c x : ℕ) → is_at (nat_cmp c) x ≡ nat_eq c x
 at_is c x = grind (arith, nat_tests)
 
 -- ---- a connection among others
-is_none_above : (c : ℕ) (taps : List Tap) → AllByRecursion (λ (t : Tap). c < t.0) taps → list_any (nat_eq c) (live_in taps) ≡ false
-is_none_above c [] a = refl
-is_none_above c (t ∷ taps) a = ap (λ b. b || list_any (nat_eq c) (live_in taps)) (below_differs c t.0 a.0) ∙ is_none_above c taps a.1
-
 no_held_above : (c : ℕ) (taps : List Tap) → AllByRecursion (λ (t : Tap). c < t.0) taps → list_any (nat_eq c) (held_in taps) ≡ false
 no_held_above c [] a = refl
 no_held_above c ((n, false) ∷ taps) a = no_held_above c taps a.1
@@ -230,23 +215,6 @@ held_rest : (c : ℕ) (h : Bool) (taps : List Tap) → AllByRecursion (λ (t : T
 held_rest c h [] a = refl
 held_rest c h (t ∷ taps) a = (λ i. (if below_differs c t.0 a.0 i then (t.0, h) else t) ∷ held_rest c h taps a.1 i)
 
-pub insert_held : (c : ℕ) (h : Bool) (taps : List Tap) → Rises taps → list_any (nat_eq c) (live_in taps) ≡ true → insert_entry nat_cmp taps c h ≡ held_as c h taps
-insert_held c h [] r e = cc
-insert_held c h (t ∷ taps) r e = by_test (nat_eq c t.0)
-    (λ s. ap (λ o. match_ordering o ((c, h) ∷ t ∷ taps) ((t.0, h) ∷ taps) (t ∷ insert_entry nat_cmp taps c h)) (compares_same c t.0 s)
-    ∙ sym (λ i. (if s i then (t.0, h) else t) ∷ held_rest c h taps (subst (λ m. AllByRecursion (λ (u : Tap). m < u.0) taps) (sym (equal_is c t.0 s)) r.0) i))
-    (λ n.
-    let there : list_any (nat_eq c) (live_in taps) ≡ true = sym (ap (λ b. b || list_any (nat_eq c) (live_in taps)) n) ∙ e in
-    let over : t.0 < c = above t.0 taps r.0 there in
-    ap (λ o. match_ordering o ((c, h) ∷ t ∷ taps) ((t.0, h) ∷ taps) (t ∷ insert_entry nat_cmp taps c h)) (compares_above c t.0 over)
-    ∙ ap (λ v. t ∷ v) (insert_held c h taps r.1 there) ∙ sym (ap (λ b. (if b then (t.0, h) else t) ∷ held_as c h taps) n))
-  where
-    above : (x : ℕ) (us : List Tap) → AllByRecursion (λ (u : Tap). x < u.0) us → list_any (nat_eq c) (live_in us) ≡ true → x < c
-    above x [] a k = cc
-    above x (u ∷ us) a k = by_test (nat_eq c u.0)
-        (λ s. subst (λ m. x < m) (sym (equal_is c u.0 s)) a.0)
-        (λ n. above x us a.1 (sym (ap (λ b. b || list_any (nat_eq c) (live_in us)) n) ∙ k))
-
 pub set_held : (c : ℕ) (h : Bool) (taps : List Tap) → Rises taps → set_value (is_at (nat_cmp c)) taps h ≡ held_as c h taps
 set_held c h [] r = refl
 set_held c h (t ∷ taps) r = by_test (nat_eq c t.0)
@@ -262,10 +230,6 @@ key_if false h t = refl
 pub live_as : (c : ℕ) (h : Bool) (taps : List Tap) → live_in (held_as c h taps) ≡ live_in taps
 live_as c h [] = refl
 live_as c h (t ∷ taps) = λ i. key_if (nat_eq c t.0) h t i ∷ live_as c h taps i
-
-pub length_as : (c : ℕ) (h : Bool) (taps : List Tap) → length (held_as c h taps) ≡ length taps
-length_as c h [] = refl
-length_as c h (t ∷ taps) = let i : length (held_as c h taps) ≡ length taps = length_as c h taps in omega arith
 
 all_as : (P : ℕ → Type 0) (c : ℕ) (h : Bool) (taps : List Tap) → AllByRecursion (λ (t : Tap). P t.0) taps → AllByRecursion (λ (t : Tap). P t.0) (held_as c h taps)
 all_as P c h [] a = tt

@@ -34,16 +34,6 @@ take_put comes (suc n) x (y ∷ ys) = by (comes x y) (take_put comes n x ys)
     by true e = ap (λ v. x ∷ v) (take_front n y ys)
     by false e = ap (λ v. y ∷ v) e
 
--- it is put at the first place before which it comes, or at the end
-pub put_is : {X : Type 0} (comes : X → X → Bool) (x : X) (front back : List X) → All (λ y. comes x y ≡ false) front
-    → ((back ≡ []) ⊎ ((y : X) × (ys : List X) × (back ≡ y ∷ ys) × (comes x y ≡ true))) → put_by comes x (front ++ back) ≡ front ++ x ∷ back
-put_is comes x [] back none (inl e) = ap (put_by comes x) e ∙ ap (λ v. x ∷ v) (sym e)
-put_is comes x [] back none (inr (y, ys, e, before)) =
-    ap (put_by comes x) e ∙ ap (λ (b : Bool). if b then x ∷ y ∷ ys else y ∷ put_by comes x ys) before ∙ ap (λ v. x ∷ v) (sym e)
-put_is comes x (z ∷ zs) back none ends =
-    ap (λ (b : Bool). if b then x ∷ z ∷ (zs ++ back) else z ∷ put_by comes x (zs ++ back)) (All-head (λ y. comes x y ≡ false) z zs none)
-    ∙ ap (λ v. z ∷ v) (put_is comes x zs back (All-tail (λ y. comes x y ≡ false) z zs none) ends)
-
 -- ---- what is in the list
 
 pub in_head : {X : Type 0} (x : X) (xs : List X) → Contains (x ∷ xs) x

@@ -21,12 +21,6 @@ IsBehind next rs i = puts next rs ≡ take i rs ++ puts next (drop i rs)
 puts_at : (next : Ranked) (rs : List Ranked) (i : ℕ) (d : Ranked) → i < length rs → puts next (drop i rs) ≡ puts next (get_or rs i d ∷ drop (suc i) rs)
 puts_at next rs i d less = ap (puts next) (drop-cons rs i d less)
 
-pub behind_more : (next : Ranked) (rs : List Ranked) (i : ℕ) (d : Ranked) → i < length rs → is_higher next.height (get_or rs i d).height ≡ false → IsBehind next rs i → IsBehind next rs (suc i)
-behind_more next rs i d less e is =
-    is ∙ ap (λ v. take i rs ++ v) (puts_at next rs i d less ∙ ap (λ (b : Bool). if b then next ∷ get_or rs i d ∷ drop (suc i) rs else get_or rs i d ∷ puts next (drop (suc i) rs)) e)
-    ∙ sym (append_assoc (take i rs) (get_or rs i d ∷ []) (puts next (drop (suc i) rs)))
-    ∙ ap (λ v. v ++ puts next (drop (suc i) rs)) (sym (take-suc rs i d less))
-
 pub before_it : (next : Ranked) (rs : List Ranked) (i : ℕ) (d : Ranked) → i < length rs → is_higher next.height (get_or rs i d).height ≡ true → IsBehind next rs i → puts next rs ≡ insert rs i next
 before_it next rs i d less e is =
     is ∙ ap (λ v. take i rs ++ v) (puts_at next rs i d less ∙ ap (λ (b : Bool). if b then next ∷ get_or rs i d ∷ drop (suc i) rs else get_or rs i d ∷ puts next (drop (suc i) rs)) e

@@ -51,10 +51,6 @@ module _ (P : ℕ → Type 0) where
   all_at [] y a e = cc
   all_at (x ∷ xs) y a e = by_case (x == y) (λ s. subst P (number_is x y s) a.0) (λ d. all_at xs y a.1 (sym (ap (λ b. b || has xs y) d) ∙ e))
 
-pub all_below : (x y : ℕ) (xs : List ℕ) → x < y → AllByRecursion (λ d. d < x) xs → AllByRecursion (λ d. d < y) xs
-all_below x y [] l a = tt
-all_below x y (z ∷ xs) l a = (lt_trans a.0 l, all_below x y xs l a.1)
-
 rises_if : (b : Bool) (x : ℕ) (ys : List ℕ) → AllByRecursion (λ d. x < d) ys → Rises ys → Rises (cond b (x ∷ ys) ys)
 rises_if true x ys a r = (a, r)
 rises_if false x ys a r = r

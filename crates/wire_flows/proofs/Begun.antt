@@ -60,9 +60,6 @@ pub without_more : (f : FlowId) (xs : List FlowId) (b : Bool) → without f (xs 
 without_more f xs b = without_append f xs (if b then f ∷ [] else []) ∙ (ap (λ ys. without f xs ++ ys) (without_self f b) ∙ append-nil (without f xs))
 
 -- ---- together
-pub grows_none : (f : FlowId) (board : Board) → Grows f board board
-grows_none f board = record { flows = λ g. refl; watched = λ g apart. refl; buffers = λ b other. refl; marks = λ b. refl; watchers = λ b. refl; pending = λ b. refl }
-
 pub grows_more : (f : FlowId) (old mid new : Board) → Grows f old mid → Grows f mid new → Grows f old new
 grows_more f old mid new a b = record {
   flows = λ g. b.flows g ∙ a.flows g;

@@ -93,10 +93,6 @@ pub left_of : (result : Option FlowId) (old new : List FlowId) → (IsNone resul
 left_of None old new none is = sym is ∙ (none.0 refl ∙ sym (ap (drop 1) (none.0 refl)))
 left_of (Some f) old new none is = sym (ap (drop 1) is)
 
-pub first_of : (result : Option FlowId) (old new : List FlowId) → (IsNone result ↔ (old ≡ [])) → old ≡ option_to_list result ++ new → result ≡ slice_get old 0
-first_of None old new none is = sym (ap (λ fs. slice_get fs 0) (none.0 refl))
-first_of (Some f) old new none is = sym (ap (λ fs. slice_get fs 0) is)
-
 -- ---- it opens, closes, rises or drains
 module _ (c : ℕ) (old new : Flows) where
   pub opens : write_at c old ≡ None → Knows (buffer.Write c) old.gates new.gates → ChangesWrite c (Some new_write) old new

@@ -12,10 +12,6 @@ use Rattle.wire_flows.proofs.Cases.{by_case}
 use Rattle.wire_flows.proofs.Kept.{KeepsFlow, KeepsWay}
 use Rattle.wire_flows.specs.Sound.{IsBounded, IsWireFlow, MarksAre}
 
-or_true : (a : Bool) → (a || true) ≡ true
-or_true true = refl
-or_true false = refl
-
 -- ---- a head
 pub headed_kept : (fields : List Field) (last : Bool) (board : Board) (flow : Flow) → KeepsFlow board board flow (headed fields last flow)
 headed_kept fields true board flow = record {

@@ -22,10 +22,6 @@ use Rattle.flow_gate.specs.declared.ids.BufferId.TheVariants as buffer
 pub grown_open : (f : FlowId) (old new : Board) → Grows f old new → is_open old f ≡ true → is_open new f ≡ true
 grown_open f old new g there = g.flows f ∙ there
 
-pub grown_known : (f : FlowId) (to : Option ℕ) (old new : Board) → Grows f old new → IfSome to (λ c. is_known old (buffer.Write c) ≡ true) → IfSome to (λ c. is_known new (buffer.Write c) ≡ true)
-grown_known f None old new g k = tt
-grown_known f (Some c) old new g k = g.buffers (buffer.Write c) refl ∙ k
-
 -- ---- the write buffer, after its Meters and its send buffer
 module _ (f : FlowId) (filters : List Filter) (old mid sent : Board) (g : Grows f old mid) (w : WatchesOwn f (meters f 1 filters) old mid) (h : Grows f mid sent) (v : WatchesOwn f (buffer.Send f ∷ []) mid sent) where
   pub both_grow : Grows f old sent
@@ -57,10 +53,6 @@ either_grow f c old sent new (Err x) g w e = subst (λ b. Grows f old b) (sym e)
 pub either_watched : (r : Result Bool NoMemory) (P Q : Type 0) → (P → Q) → OnOk r P → OnOk r Q
 either_watched (Ok b) P Q k p = k p
 either_watched (Err x) P Q k p = tt
-
-pub either_held : (r : Result Bool NoMemory) (x y : Bool) → x ≡ y → IfOk r (λ b. b ≡ x) → IfOk r (λ b. b ≡ y)
-either_held (Ok b) x y e p = p ∙ e
-either_held (Err z) x y e p = tt
 
 -- ---- a flow that begins
 module _ (f : FlowId) (old mid : Board) (b : Begins f old mid) where

@@ -23,44 +23,12 @@ use Rattle.wire_flows.specs.Sound.{AreInOrder, IsSound, IsWhole, MarksAre, buffe
 use Rattle.flow_gate.specs.declared.ids.BufferId.TheVariants as buffer
 
 -- ---- the gates alone
--- the flows and what they watch stay, no buffer of a flow becomes known, and their marks stay
-pub record KeepsOwn (old new : Board) : Type 0 where
-  pub flows : Same is_open old new
-  pub watched : Same watched_by old new
-  pub known : (f : FlowId) (b : BufferId) → is_own f b ≡ true → is_known new b ≡ is_known old b
-  pub marks : (f : FlowId) (b : BufferId) → is_own f b ≡ true → is_marked new b ≡ is_marked old b
-  pub sends : (g : FlowId) → pending_on new (buffer.Send g) ≡ pending_on old (buffer.Send g)
-  pub watchers : (c : ℕ) → watchers_of new (buffer.Write c) ≡ watchers_of old (buffer.Write c)
-
-pub own_same : (board : Board) → KeepsOwn board board
-own_same board = record { flows = λ g. refl; watched = λ g. refl; known = λ f b own. refl; marks = λ f b own. refl; sends = λ g. refl; watchers = λ c. refl }
-
 -- a write buffer is no flow's own
 pub own_apart : (f : FlowId) (b : BufferId) (c : ℕ) → is_own f b ≡ true → same_buffer (buffer.Write c) b ≡ false
 own_apart f (buffer.Recv g) c own = refl
 own_apart f (buffer.Stage g i) c own = refl
 own_apart f (buffer.Send g) c own = refl
 own_apart f (buffer.Write d) c own = cc
-
-marks_kept : (board board' : Board) (flow : Flow) → ((f : FlowId) (b : BufferId) → is_own f b ≡ true → is_marked board' b ≡ is_marked board b) → MarksAre board flow → MarksAre board' flow
-marks_kept board board' flow same m = record {
-  each = λ p place at source.
-      same flow.chain.flow (buffer_of flow.chain.flow p (kind_of place.kind)) (own_is flow.chain.flow flow.chain.flow p (kind_of place.kind) ∙ same_flow-refl flow.chain.flow)
-      ∙ m.each p place at source;
-}
-
-pub sound_board : (old : Flows) (board : Board) → IsSound old → AreSoundGates board → KeepsOwn old.gates board → IsSound (record { exchanges = old.exchanges; gates = board })
-sound_board old board s gates k = record {
-  exchanges = s.exchanges;
-  gates = gates;
-  each = s.each;
-  there = λ f. k.flows f ∙ s.there f;
-  watched = λ f. k.watched f ∙ s.watched f;
-  own = λ f b own known. s.own f b own (sym (k.known f b own) ∙ known);
-  marks = λ f. if_found (MarksAre old.gates) (MarksAre board) (flow_in old f) (λ flow found m. marks_kept old.gates board flow k.marks m) (s.marks f);
-  told = λ f. k.sends f ∙ s.told f;
-  order = λ c. subst AreInOrder (sym (k.watchers c)) (s.order c);
-}
 
 -- nobody was told, and nobody is to be
 pub go_same : (old new : Flows) → new.exchanges ≡ old.exchanges → ((x : ℕ) → lows_of new x ≡ lows_of old x) → to_go new ≡ to_go old

@@ -65,16 +65,6 @@ wholly_begun f bs to old mid new b s = record {
   pending = λ c. s.pending c ∙ b.pending c;
 }
 
-pub same_twice : (old mid new : Board) → IsSame old mid → IsSame mid new → IsSame old new
-same_twice old mid new a b = record {
-  flows = λ f. b.flows f ∙ a.flows f;
-  watched = λ f. b.watched f ∙ a.watched f;
-  buffers = λ c. b.buffers c ∙ a.buffers c;
-  marks = λ c. b.marks c ∙ a.marks c;
-  watchers = λ c. b.watchers c ∙ a.watchers c;
-  pending = λ c. b.pending c ∙ a.pending c;
-}
-
 pub same_board : (old new : Board) → new ≡ old → IsSame old new
 same_board old new e = record {
   flows = λ f. ap (λ b. is_open b f) e;

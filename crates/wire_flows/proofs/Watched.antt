@@ -34,9 +34,6 @@ pub buffers_append : (xs ys : List SourceAt) → buffers_of (xs ++ ys) ≡ buffe
 buffers_append [] ys = refl
 buffers_append (x ∷ xs) ys = ap (λ bs. x.buffer ∷ bs) (buffers_append xs ys)
 
-none_in : (b : BufferId) → times_of_buffer b [] ≡ 0
-none_in b = refl
-
 one_in : (b c : BufferId) → times_of_buffer b (c ∷ []) ≡ cond (same_buffer b c) 1 0 + 0
 one_in b c = count-cons (same_buffer b) c []
 

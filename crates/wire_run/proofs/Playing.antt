@@ -240,23 +240,6 @@ event_line_played old mid line e text_old new text_new result r es et el p = rec
 
 -- ---- before the first line
 
-pub play_begun : (play : WirePlay) (config : Config) → WireLinesAre play.lines (names_in config) (resources_in config) NoLine → AreNames (names_in config) → PlayRests play config [] → (text : List ℕ) → config_of text ≡ Ok config → Begins wire_kind play text
-play_begun play config r n k text c = record {
-  stands = record {
-    config = config;
-    configured = c;
-    named = n;
-    seen = NoLine;
-    history = [];
-    read = r;
-    rests = k;
-    tape = record { may = tt; shown = refl; in_order = tt; spelled = tt };
-    lines_are = refl;
-    count_is = refl;
-    told_is = refl;
-  };
-}
-
 -- ---- the summary
 
 pub play_summed : (play : WirePlay) (old new : List ℕ) (r : Result (Unit {0}) NoMemory) → OnOk r (Summarizes play.log old new) → OnOk r (AddsSummary wire_kind play old new)
@@ -279,8 +262,3 @@ carried old new e cleared before (Ok u) none d p l es el =
     let P : List Note → Type 0 = λ v. Dispatches old.session v e new.session new.notes in
     record { before = before; dispatches = subst P none d; passes = p; logs = l; stages = es; lines = el }
 carried old new e cleared before (Err x) none d p l es el = tt
-
--- before the first line nothing has happened
-pub begun_rests : (play : WirePlay) (config : Config) → play.session.failed ≡ false → IsSound play.session.core → play.session.turn ≡ 0 → WireLogIs (limits_of config) play.log [] → ((x : ℕ) → known_limits play.log.levels x ≡ None)
-    → AreStages play.stages.rows.items config.routes → PlayRests play config []
-begun_rests play config w s t l none a = record { well = w; sound = s; turn = t; logs = l; rows = record { each = λ x. (let P : Option StageLimits → Type 0 = λ v. IfSome v (IsRow config.routes) in subst P (sym (none x)) tt) }; stages = a }

@@ -21,20 +21,6 @@ use Rattle.proxy_config.specs.declared.routes.Filter.TheVariants as filter
 
 -- ---- filters
 
-stages_split : (f : Filter) (fs : List Filter) → stages_of (f ∷ fs) ≡ stages_of (f ∷ []) ++ stages_of fs
-stages_split filter.Pass fs = refl
-stages_split (filter.Hold limit) fs = refl
-stages_split (filter.Meter limit rate) fs = refl
-
--- one more filter was taken up
-pub limits_more : (filters : List Filter) (f : Filter) (fs : List Filter) (limits more : List ℕ) → limits ++ map kind_limit (stages_of (f ∷ fs)) ≡ map kind_limit (stages_of filters)
-    → more ≡ limits ++ map kind_limit (stages_of (f ∷ [])) → more ++ map kind_limit (stages_of fs) ≡ map kind_limit (stages_of filters)
-limits_more filters f fs limits more all is =
-    ap (λ (v : List ℕ). v ++ map kind_limit (stages_of fs)) is
-    ∙ append_assoc limits (map kind_limit (stages_of (f ∷ []))) (map kind_limit (stages_of fs))
-    ∙ ap (λ (v : List ℕ). limits ++ v) (sym (ap (map kind_limit) (stages_split f fs) ∙ map-append kind_limit (stages_of (f ∷ [])) (stages_of fs)))
-    ∙ all
-
 -- ---- rows
 
 pub rows_more : (ss : List RouteStages) (rs : List Route) (s : RouteStages) (r : Route) → AreStages ss rs → IsStages s r → AreStages (ss ++ s ∷ []) (rs ++ r ∷ [])
@@ -62,9 +48,6 @@ at_row [] (r ∷ rs) i a = absurd a
 at_row (s ∷ ss) [] i a = absurd a
 at_row (s ∷ ss) (r ∷ rs) zero a = a.0
 at_row (s ∷ ss) (r ∷ rs) (suc i) a = at_row ss rs i a.1
-
-pub gives_none : (rows : List RouteStages) (back : Bool) → Gives rows None back []
-gives_none rows back = record { goes = λ routes a. refl }
 
 pub gives_no_row : (rows : List RouteStages) (i : ℕ) (back : Bool) → slice_get rows i ≡ None → Gives rows (Some i) back []
 gives_no_row rows i back none = record { goes = λ routes a. by (slice_get rows i) (slice_get routes i) none (at_row rows routes i a) }
@@ -127,9 +110,6 @@ pub no_row : (routes : List Route) → IsRow routes no_limits
 no_row routes = record { row = None; request_is = refl; response_is = refl }
 
 -- ---- what the log learnt
-
-pub passes_none : (rows : List RouteStages) (log : WireLog) → PassesAll rows log log
-passes_none rows log = record { goes = λ limits h k. k; keeps = λ routes a k. k }
 
 pub passes_more : (rows : List RouteStages) (a b c : WireLog) → PassesAll rows a b → PassesAll rows b c → PassesAll rows a c
 passes_more rows a b c p q = record { goes = λ limits h k. q.goes limits h (p.goes limits h k); keeps = λ routes t k. q.keeps routes t (p.keeps routes t k) }

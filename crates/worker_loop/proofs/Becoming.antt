@@ -11,10 +11,3 @@ becomes_append names (d ∷ ds) es v u w b rest = (b.0, b.1, becomes_append name
 pub becomes_split : (names : List (List ℕ)) (ds es : List Did) (v w : Place) → Becomes names v (ds ++ es) w → (u : Place) × Becomes names v ds u × Becomes names u es w
 becomes_split names [] es v w b = (v, refl, b)
 becomes_split names (d ∷ ds) es v w b = let r = becomes_split names ds es b.0 w b.2 in (r.0, (b.0, b.1, r.1), r.2)
-
-pub becomes_one : (names : List (List ℕ)) (d : Did) (v w : Place) → Changes names v d w → Becomes names v (d ∷ []) w
-becomes_one names d v w change = (w, change, refl)
-
--- the same place under another name
-pub becomes_as : (names : List (List ℕ)) (ds : List Did) (v w x : Place) → x ≡ w → Becomes names v ds x → Becomes names v ds w
-becomes_as names ds v w x e b = subst (λ (p : Place). Becomes names v ds p) e b

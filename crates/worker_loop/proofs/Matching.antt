@@ -43,9 +43,6 @@ map_twice (Some us) xs ys = ap (λ (zs : List WireStep). Some zs) (append_assoc 
 pub grows_more : (a b c : Seen) (xs ys : List WireStep) → Grows a xs b → Grows b ys c → Grows a (xs ++ ys) c
 grows_more a b c xs ys one two = two ∙ ap (option_map (λ (before : List WireStep). before ++ ys)) one ∙ map_twice a.steps xs ys
 
-grows_as : (a b c : Seen) (xs : List WireStep) → b ≡ a → Grows b xs c → Grows a xs c
-grows_as a b c xs e g = subst (λ (s : Seen). Grows s xs c) e g
-
 -- ---- closes
 abbrev closed_if : Bool → ℕ → Seen → Seen
 closed_if b c s = if b then record s { live = without c s.live; held = without c s.held; steps = with_last (step.Closed c) s.steps } else s
