@@ -12,7 +12,6 @@ mod wire_sockets;
 
 use crate::opened::Opened;
 use crate::pages::{HELP, USAGE, VERSION};
-use crate::tell::tell_served;
 use config_text::Kept;
 pub use counts::{ClientCounts, ClientGauge};
 pub use journal::FileJournal;
@@ -29,6 +28,7 @@ use std::rt::Files;
 use std::sync::{Arc, Wait};
 use std::thread::Threads;
 use std::time::Clock;
+pub use tell::tell_served;
 
 /// Does what the words ask for, with what the proxy says on the output, and answers the exit code of its status. Why it
 /// isn't 0 is told in lines on standard error; where the words have no form, that is the usage. `--help` and `--version` are
@@ -92,12 +92,13 @@ where
         &mut out,
     );
     let code = ExitCode::from(served.status.code());
-    if served.status == Status::Usage {
-        // Where standard error is closed there is nobody to tell.
-        let _ = rt.eprint(USAGE);
-    } else {
-        tell_served(&rt, served, &config, out.kind());
-    }
+    tell_served(
+        &rt,
+        served,
+        config.reader().text(),
+        config.kind(),
+        out.kind(),
+    );
     code
 }
 

@@ -1,32 +1,34 @@
 // Why the proxy ended, on standard error.
 
-use crate::opened::Opened;
-use config_text::{Kept, fault_place};
+use crate::pages::USAGE;
+use config_text::fault_place;
 use io_ports::Octets;
-use program_ports::Input;
 use proxy_config::ConfigFault;
 use proxy_site::{ServeReason, Status};
 use proxy_wire::{ProxyReason, ProxyServed, WireEnd};
 use relay_work::RelayEnded;
 use session_config::put_config_fault;
-use std::io::{Eprint, ErrorKind, Read};
+use std::io::{Eprint, ErrorKind};
 use worker_loop::Ended;
 
-/// Tells why the proxy ended otherwise than by its turns: in one line, or in one for each worker that did. Where standard error is closed
-/// there is nobody to tell.
-pub fn tell_served<R: Eprint + AllocGlobal, F: Read>(
+/// Tells why the proxy ended otherwise than by its turns: in one line, or in one for each worker that did; where the words have no
+/// form, that is the usage. Given are what was read of the configuration, and the kinds of the errors that its last read and the
+/// output's last write failed with. Where standard error is closed there is nobody to tell.
+pub fn tell_served<R: Eprint + AllocGlobal>(
     rt: &R,
     served: ProxyServed,
-    config: &Input<Opened<Kept<F>>>,
+    text: &[u8],
+    config: Option<ErrorKind>,
     out: Option<ErrorKind>,
 ) {
     match served.reason {
         ProxyReason::Wire(end) => tell_wire(rt, end, out),
         ProxyReason::Relay(_) if served.status == Status::Done => {}
-        ProxyReason::Relay(ServeReason::Config(ConfigFault::NotToml)) => {
-            tell_no_toml(rt, config.reader().text());
+        ProxyReason::Relay(ServeReason::Words) => {
+            let _ = rt.eprint(USAGE);
         }
-        ProxyReason::Relay(reason) => tell_reason(rt, reason, config.kind(), out),
+        ProxyReason::Relay(ServeReason::Config(ConfigFault::NotToml)) => tell_no_toml(rt, text),
+        ProxyReason::Relay(reason) => tell_reason(rt, reason, config, out),
     }
 }
 

@@ -1,5 +1,5 @@
 //! Runs the proxy over a site in memory, one case of standard input after another, and prints how each ends: the status, what was
-//! written to the output, where it was to listen, what came back of relays and of workers, with the journals and the connections
+//! written to the output, what `h2proxy` tells of it on standard error, where it was to listen, what came back of relays and of workers, with the journals and the connections
 //! that were closed, and how many failures the site counts.
 //!
 //! A case begins with a line `## NAME`. Its lines begin with a word:
@@ -20,6 +20,7 @@
 //! however its threads are run.
 #![tactic(auto)]
 
+mod aloud;
 mod case;
 mod run;
 mod show;

@@ -5,7 +5,7 @@ use io_ports::{MemSink, MemSource, NoMemory, Octets};
 use mem_ports::MemGauge;
 use mem_wire_site::MemWireSite;
 use proxy_site::MemSite;
-use proxy_wire::serve_proxy;
+use proxy_wire::{ProxyServed, serve_proxy};
 use std::alloc::Global;
 use std::mem;
 use std::sync::Wait;
@@ -35,19 +35,20 @@ pub fn out_of(alloc: Global, case: &mut Case) -> Result<MemSink, NoMemory> {
     MemSink::new(alloc, case.room, writes)
 }
 
-/// Runs a case over its site. The answer is the status.
+/// Runs a case over its site. The answer says how the proxy ended.
 pub fn run_case<R: AllocGlobal + Threads + Wait + Sync + Drop>(
     rt: R,
     case: &mut Case,
     site: &mut MemWireSite,
     out: &mut MemSink,
-) -> u8 {
+) -> Result<ProxyServed, NoMemory> {
     let alloc = rt.alloc();
-    let config = mem::replace(&mut case.config, Vec::new(alloc));
+    let mut config = Vec::new(alloc);
+    config.extend_from_slice(case.config.as_slice())?;
     let reads = mem::replace(&mut case.failing.config, Vec::new(alloc));
     let mut source = MemSource::new(config, reads);
     let mut gauge = gauge_of(alloc, case);
-    let served = serve_proxy(
+    Ok(serve_proxy(
         &Still::new(rt),
         alloc,
         case.words.as_slice(),
@@ -55,8 +56,7 @@ pub fn run_case<R: AllocGlobal + Threads + Wait + Sync + Drop>(
         site,
         &mut gauge,
         out,
-    );
-    served.status.code()
+    ))
 }
 
 // A gauge with the pressures of a case, or with none where one is too great.

@@ -1,9 +1,12 @@
 // How a case ends.
+use crate::aloud::Aloud;
 use crate::case::Case;
 use crate::run::{out_of, run_case, site_of};
 use mem_ports::Kept;
 use mem_wire_site::{MemWireSite, PlayWires};
+use proxy_cli::tell_served;
 use proxy_site::MemSite;
+use proxy_wire::ProxyServed;
 use std::io;
 use std::sync::Wait;
 use std::thread::Threads;
@@ -25,14 +28,28 @@ fn show_over<R: Print + AllocGlobal + Threads + Wait + Sync + Copy + Drop>(
     site: &mut MemWireSite,
 ) -> io::Result<()> {
     match out_of(rt.alloc(), case) {
-        Ok(mut out) => {
-            let status = run_case(rt, case, site, &mut out);
-            println!(rt; "status {status}")?;
-            print!(rt; "{}", text(out.octets()))?;
-            show_site(&rt, site)
-        }
+        Ok(mut out) => match run_case(rt, case, site, &mut out) {
+            Ok(served) => {
+                show_served(rt, case, served, out.octets())?;
+                show_site(&rt, site)
+            }
+            Err(_) => println!(rt; "no memory"),
+        },
         Err(_) => println!(rt; "no memory"),
     }
+}
+
+// The status, what was written to the output, and what is told on standard error.
+fn show_served<R: Print + AllocGlobal + Copy + Drop>(
+    rt: R,
+    case: &Case,
+    served: ProxyServed,
+    out: &[u8],
+) -> io::Result<()> {
+    println!(rt; "status {}", served.status.code())?;
+    print!(rt; "{}", text(out))?;
+    tell_served(&Aloud::new(rt), served, case.config.as_slice(), None, None);
+    Ok(())
 }
 
 fn show_site<R: Print>(rt: &R, site: &MemWireSite) -> io::Result<()> {

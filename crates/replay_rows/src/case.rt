@@ -13,6 +13,8 @@ pub struct Case {
     pub writes: Vec<u64>,
     pub config: Octets,
     pub session: Octets,
+    /// Whether of what is written only the end is shown.
+    pub is_long: bool,
 }
 
 impl Case {
@@ -26,6 +28,7 @@ impl Case {
             writes: Vec::new(alloc),
             config: Octets::new(alloc),
             session: Octets::new(alloc),
+            is_long: false,
         }
     }
 
@@ -37,6 +40,7 @@ impl Case {
         self.writes.clear();
         self.config.clear();
         self.session.clear();
+        self.is_long = false;
     }
 
     /// Whether neither a source nor the sink fails.
@@ -44,8 +48,8 @@ impl Case {
         self.config_reads.is_empty() && self.reads.is_empty() && self.writes.is_empty()
     }
 
-    /// Takes up a line behind the case's name, given without its newline: the words, a fault, the cut of
-    /// the last newline, or a line of the configuration or of the session.
+    /// Takes up a line behind the case's name, given without its newline: the words, a fault, the cut of the last
+    /// newline, a length, or a line of the configuration or of the session.
     pub fn line(&mut self, line: &str) -> Result<(), NoMemory> {
         if let Some(words) = line.strip_prefix("$ ") {
             self.take_words(words)
@@ -57,6 +61,10 @@ impl Case {
             Ok(self.reads.push(number(call))?)
         } else if let Some(call) = line.strip_prefix("% write ") {
             Ok(self.writes.push(number(call))?)
+        } else if let Some(len) = line.strip_prefix("% long config ") {
+            self.lengthen_config(number(len))
+        } else if let Some(len) = line.strip_prefix("% long ") {
+            self.lengthen(number(len))
         } else if line == "% cut" {
             self.session.truncate(self.session.len().saturating_sub(1));
             Ok(())
@@ -79,6 +87,29 @@ impl Case {
     fn config_line(&mut self, text: &str) -> Result<(), NoMemory> {
         self.config.push_all(text.as_bytes())?;
         self.config.push_all(b"\n")
+    }
+
+    // Makes the configuration so long, with newlines.
+    fn lengthen_config(&mut self, len: u64) -> Result<(), NoMemory> {
+        for _ in self.config.len() as u64..len {
+            self.config.push_all(b"\n")?;
+        }
+        Ok(())
+    }
+
+    // Adds the last line of the session once more, until it is longer than so many octets.
+    fn lengthen(&mut self, len: u64) -> Result<(), NoMemory> {
+        let mut line = Octets::new(self.alloc);
+        let text = self.session.as_slice();
+        let text = text.strip_suffix(b"\n").unwrap_or(text);
+        line.push_all(text.rsplit(|octet| *octet == b'\n').next().unwrap_or(b""))?;
+        line.push_all(b"\n")?;
+        let missing = len.saturating_sub(self.session.len() as u64);
+        for _ in 0..=missing / line.len().max(1) as u64 {
+            self.session.push_all(line.as_slice())?;
+        }
+        self.is_long = true;
+        Ok(())
     }
 
     // A line of the session. `*N` at its end says that the two digits before it stand N times.

@@ -5,7 +5,9 @@
 //! A case begins with a line `## NAME`. The next line has its words behind a dollar sign, as `$ plain`, where a dash is an
 //! empty word. Lines `| TEXT` are the configuration's. Lines `% config K`, `% read K` and `% write K` say that this read of the
 //! configuration, read of the session or write, counted from 0, fails. The other lines are the session, in which `aa*3` at a
-//! line's end stands for `aaaaaa`; a line `% cut` behind it takes its last newline away.
+//! line's end stands for `aaaaaa`; a line `% cut` behind it takes its last newline away. `% long config N` makes the configuration N
+//! octets long with newlines; `% long N` adds the session's last line until it is longer than N octets, and of what such a session
+//! writes the last line alone is shown.
 #![tactic(auto)]
 
 mod case;

@@ -8,6 +8,9 @@ use std::io;
 /// How many octets a sink has room for.
 const ROOM: usize = 1_000_000;
 
+/// That of a long session.
+const LONG_ROOM: usize = 200_000_000;
+
 /// The most octets of a line that are shown.
 const SHOWN: usize = 200;
 
@@ -28,7 +31,8 @@ fn open_outside(alloc: Global, case: &Case, most: usize) -> Result<Outside, NoMe
     let mut session = source(alloc, case.session.as_slice(), case.reads.as_slice())?;
     let mut writes = Vec::new(alloc);
     writes.extend_from_slice(case.writes.as_slice())?;
-    let mut out = MemSink::new(alloc, ROOM, writes)?;
+    let room = if case.is_long { LONG_ROOM } else { ROOM };
+    let mut out = MemSink::new(alloc, room, writes)?;
     config.give_at_most(most.max(1));
     session.give_at_most(most.max(1));
     out.take_at_most(most);
@@ -80,6 +84,9 @@ fn show_written<R: Print + AllocGlobal>(
     status: Status,
     text: &[u8],
 ) -> io::Result<()> {
+    if case.is_long {
+        return show_lines(rt, last_line(text));
+    }
     show_lines(rt, text)?;
     let session = case.session.len();
     if case.is_sound() && 0 < session && session <= SMALL {
@@ -131,6 +138,11 @@ fn ends_so(alloc: Global, case: &Case, status: Status, text: &[u8], pieces: &mut
         &mut pieces.out,
     );
     other == status && pieces.out.octets() == text
+}
+
+fn last_line(text: &[u8]) -> &[u8] {
+    let lines = text.strip_suffix(b"\n").unwrap_or(text);
+    lines.rsplit(|octet| *octet == b'\n').next().unwrap_or(b"")
 }
 
 /// Prints a text, each line of it shortened to its front and its length where it is long.
