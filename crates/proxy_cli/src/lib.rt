@@ -3,16 +3,14 @@
 
 mod counts;
 mod journal;
-mod opened;
 mod pages;
 mod socket_site;
 mod tell;
 mod warn;
 mod wire_sockets;
 
-use crate::opened::Opened;
 use crate::pages::{HELP, USAGE, VERSION};
-use config_text::Kept;
+use config_text::ConfigFile;
 pub use counts::{ClientCounts, ClientGauge};
 pub use journal::FileJournal;
 use program_ports::{Input, Output};
@@ -130,22 +128,15 @@ fn show_page<O: Write + Drop>(mut output: O, text: &str) -> ExitCode {
 }
 
 // The file that the words name, if they have a form. One that can't be opened is a reader whose reads fail.
-fn open_config<R: Files + AllocGlobal>(rt: &R, words: &[String]) -> Opened<Kept<R::File>> {
+fn open_config<R: Files + AllocGlobal>(rt: &R, words: &[String]) -> ConfigFile<R::File> {
     let path = match read_proxy_form(words) {
         Some(ProxyForm::Relay { .. }) => words.get(1),
         Some(ProxyForm::Wire { .. }) => words.first(),
         None => None,
     };
     match path {
-        Some(path) => open_file(rt, path.as_str()),
-        None => Opened::Shut(ErrorKind::NotFound),
-    }
-}
-
-fn open_file<R: Files + AllocGlobal>(rt: &R, path: &str) -> Opened<Kept<R::File>> {
-    match fs::open(rt, path) {
-        Ok(file) => Opened::File(Kept::new(rt.alloc(), file)),
-        Err(error) => Opened::Shut(error.kind()),
+        Some(path) => ConfigFile::of(rt.alloc(), fs::open(rt, path.as_str())),
+        None => ConfigFile::Shut(ErrorKind::NotFound),
     }
 }
 

@@ -1,16 +1,13 @@
 //! The command line of `h2replay`: its words are those behind the program's name.
 #![tactic(auto)]
 
-mod config;
-mod outside;
 mod pages;
 mod tell;
 
-use crate::config::ConfigFile;
 use crate::pages::{HELP, USAGE, VERSION};
 use crate::tell::{tell_no_toml, tell_outcome};
-use config_text::Kept;
-pub use outside::{Input, Output};
+use config_text::ConfigFile;
+use program_ports::{Input, Output};
 use proxy_config::ConfigFault;
 use replay_run::{Reason, Status, replay_with_reason};
 use std::env::{self, Env};
@@ -43,7 +40,7 @@ fn replay_session<R: Eprint + Files + AllocGlobal, I: Read + Drop, O: Write + Dr
     input: I,
     output: O,
 ) -> ExitCode {
-    let mut config = open_config(rt, words);
+    let mut config = Input::new(open_config(rt, words));
     let mut session = Input::new(input);
     let mut out = Output::new(output);
     let outcome = replay_with_reason(rt.alloc(), words, &mut config, &mut session, &mut out);
@@ -51,7 +48,7 @@ fn replay_session<R: Eprint + Files + AllocGlobal, I: Read + Drop, O: Write + Dr
         // Where standard error is closed there is nobody to tell.
         let _ = rt.eprint(USAGE);
     } else if let Reason::Config(ConfigFault::NotToml) = outcome.reason {
-        tell_no_toml(rt, config.text());
+        tell_no_toml(rt, config.reader().text());
     } else {
         tell_outcome(rt, &outcome, config.kind(), session.kind(), out.kind());
     }
@@ -84,14 +81,11 @@ fn show_page<O: Write + Drop>(mut output: O, text: &str) -> ExitCode {
     }
 }
 
-// The file that the second word names. One that can't be opened is a source whose reads fail.
-fn open_config<R: Files + AllocGlobal>(rt: &R, words: &[String]) -> ConfigFile<Kept<R::File>> {
+// The file that the second word names. One that can't be opened is a reader whose reads fail.
+fn open_config<R: Files + AllocGlobal>(rt: &R, words: &[String]) -> ConfigFile<R::File> {
     match words {
-        [_, path] => match fs::open(rt, path.as_str()) {
-            Ok(file) => ConfigFile::Open(Input::new(Kept::new(rt.alloc(), file))),
-            Err(error) => ConfigFile::shut(Some(error.kind())),
-        },
-        _ => ConfigFile::shut(None),
+        [_, path] => ConfigFile::of(rt.alloc(), fs::open(rt, path.as_str())),
+        _ => ConfigFile::Shut(ErrorKind::NotFound),
     }
 }
 
