@@ -6,3 +6,4 @@ pub mod Found
 pub mod Lowest
 pub mod Passes
 pub mod SoundFields
+pub mod TwoEnds

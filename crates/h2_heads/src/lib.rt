@@ -3,6 +3,7 @@
 #![tactic(auto)]
 
 mod check;
+mod ends;
 mod heads;
 mod lengths;
 mod malformed;

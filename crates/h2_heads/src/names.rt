@@ -1,11 +1,12 @@
 // Names of fields, and fields by their names.
-ghost use Rattle.std.specs.Prelude.{◌≡◌, ◌<◌, ◌^◌, ◌==◌, ◌||◌, length, not, IfSome};
+ghost use Rattle.std.specs.Prelude.{◌≡◌, ◌<◌, ◌≤◌, ◌+◌, ◌^◌, ◌==◌, ◌||◌, length, not, IfSome};
 ghost use Rattle.h2_heads.specs.Named.{has_field, is_named, place_of, value_of, StandsAt};
 ghost use Rattle.h2_heads.specs.Passes.{is_plain};
 ghost use Rattle.h2_heads.specs.Rules.{has_inner_colon, is_bad_in_name, is_bad_name, is_pseudo};
 ghost use Rattle.std.specs.List.{list_all, list_any};
 ghost use Rattle.std.specs.Option.{option_copied};
 
+use crate::ends::ends;
 use crate::octets::PLAIN;
 use hpack_codec::Field;
 
@@ -33,8 +34,30 @@ fn may_begin(octet: u8) -> bool
     is_plain(octet) || octet == b':'
 }
 
-// One pass without a branch for each octet.
+// Whether each octet is plain. Names are short, and most are looked at by their two ends.
 fn all_plain(octets: &[u8]) -> bool
+    ensures { result ≡ list_all is_plain octets.now }
+{
+    match octets.len() {
+        4..=8 => plain_ends(octets, 4),
+        9..=16 => plain_ends(octets, 8),
+        _ => each_plain(octets),
+    }
+}
+
+#[inline(always)]
+fn plain_ends(octets: &[u8], n: usize) -> bool
+    requires within { n ≤ length octets.now }
+    requires covered { length octets.now ≤ n + n }
+    ensures { result ≡ list_all is_plain octets.now }
+{
+    let (front, back) = ends(octets, n);
+    each_plain(front) & each_plain(back)
+}
+
+// One pass without a branch for each octet.
+#[inline(always)]
+fn each_plain(octets: &[u8]) -> bool
     ensures { result ≡ list_all is_plain octets.now }
 {
     let mut plain = true;
