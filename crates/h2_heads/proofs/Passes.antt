@@ -58,11 +58,11 @@ sound_name_at (first ∷ rest) some =
 good_in_value : (octet : ℕ) → is_low octet ≡ false → is_bad_in_value octet ≡ false
 good_in_value octet above = grind (arith, nat_tests)
 
-pub none_left : (a b : Bool) → (a || b) ≡ false → a ≡ false
+none_left : (a b : Bool) → (a || b) ≡ false → a ≡ false
 none_left true b e = cc
 none_left false b e = refl
 
-pub none_right : (a b : Bool) → (a || b) ≡ false → b ≡ false
+none_right : (a b : Bool) → (a || b) ≡ false → b ≡ false
 none_right true b e = cc
 none_right false b e = e
 

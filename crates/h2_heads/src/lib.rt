@@ -4,11 +4,13 @@
 
 mod check;
 mod ends;
+mod front;
 mod heads;
 mod lengths;
 mod malformed;
 mod names;
 mod octets;
+mod pseudo;
 mod replies;
 mod rules;
 mod values;
