@@ -9,7 +9,7 @@ use Rattle.std.specs.Prelude.{codes, nat_eq}
 use Rattle.std.specs.Str.{bytes_eq}
 use Rattle.hpack_codec.specs.declared.fields.Field.{Field}
 use Rattle.h2_heads.specs.Fronts.{has, marked, IsFront, Takes, Tells, TellsPseudo}
-use Rattle.h2_heads.specs.Malformed.{lacks, lowest}
+use Rattle.h2_heads.specs.Malformed.{lacks}
 use Rattle.h2_heads.specs.Named.{has_field, is_named, value_of}
 use Rattle.h2_heads.specs.Passes.{lowest_of_pseudo}
 use Rattle.h2_heads.specs.Pseudos.{field_of, name_of, needed_by}

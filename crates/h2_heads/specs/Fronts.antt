@@ -2,7 +2,6 @@
 use Rattle.h2_heads.specs.Malformed.{lowest}
 use Rattle.h2_heads.specs.Named.{has_field, value_of}
 use Rattle.h2_heads.specs.Passes.{lowest_of_pseudo}
-use Rattle.h2_heads.specs.Pseudos.{name_of}
 use Rattle.h2_heads.specs.Rules.{has_regular}
 use Rattle.h2_heads.specs.declared.front.Front.{Front}
 use Rattle.h2_heads.specs.declared.malformed.Kind.{Kind}
