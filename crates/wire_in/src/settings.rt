@@ -16,13 +16,10 @@ use wire_links::Links;
 use wire_outlet::Control;
 use wire_state::{Conn, WireCore};
 
-const HEADER_TABLE_SIZE: u16 = 1;
-
 const INITIAL_WINDOW_SIZE: u16 = 4;
 
-const MAX_FRAME_SIZE: u16 = 5;
-
-const MAX_CONCURRENT_STREAMS: u16 = 3;
+/// Settings from this number on aren't looked at.
+const OTHERS: u16 = 6;
 
 /// What a SETTINGS frame comes to: each setting that it names has its last value, and of the initial windows the greatest is
 /// looked at too, since no stream may pass it on the way.
@@ -89,39 +86,27 @@ fn set_windows_of(conn: &mut Conn, named: Named) -> bool
     }
 }
 
-// It isn't inlined, and the state of its loop is plain numbers, so that it lies in registers: a frame may name many settings.
+// What the settings come to. The last value of each number lies in that place, and of all that aren't looked at in the last one: so
+// no branch depends on the numbers, of which a frame may have many.
 #[inline(never)]
 fn named_in(list: &SettingList) -> Named {
-    let mut table = false;
-    let mut concurrent = None;
-    let mut payload = None;
-    let mut windows = false;
+    let mut last = [None; 7];
     let mut greatest = 0;
-    let mut last = 0;
-    for setting in list.as_slice() {
-        let value = setting.value;
-        match setting.id {
-            INITIAL_WINDOW_SIZE => {
-                windows = true;
-                greatest = value.max(greatest);
-                last = value;
-            }
-            HEADER_TABLE_SIZE => table = true,
-            MAX_CONCURRENT_STREAMS => concurrent = Some(value),
-            MAX_FRAME_SIZE => payload = Some(value),
-            _ => {}
-        }
+    for setting in list.iter() {
+        last[usize::from(setting.id.min(OTHERS))] = Some(setting.value);
+        let window = if setting.id == INITIAL_WINDOW_SIZE {
+            setting.value
+        } else {
+            0
+        };
+        greatest = window.max(greatest);
     }
-    let initial = if windows {
-        Some((greatest, last))
-    } else {
-        None
-    };
+    let [_, table, _, concurrent, initial, payload, _] = last;
     Named {
-        table,
+        table: table.is_some(),
         concurrent,
         payload,
-        initial,
+        initial: initial.map(|window| (greatest, window)),
     }
 }
 
