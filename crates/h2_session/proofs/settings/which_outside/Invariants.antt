@@ -1,6 +1,6 @@
 use Rattle.std.proofs.Common.{◌≡◌, ◌||◌, length}
 use Rattle.h2_session.specs.Errors.{names_outside, settings_of}
-use Rattle.h2_session.proofs.settings.named_outside.Given as goal
+use Rattle.h2_session.proofs.settings.which_outside.Given as goal
 
 -- what was found so far or is found in what is left is found in the whole
 abbrev pub invariant-loop-rest : goal.invariant-loop-rest

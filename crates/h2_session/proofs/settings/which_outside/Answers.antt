@@ -1,5 +1,5 @@
 use Rattle.h2_session.proofs.Entries.{none_left, one_looked_at}
-use Rattle.h2_session.proofs.settings.named_outside.Goals as goal
+use Rattle.h2_session.proofs.settings.which_outside.Goals as goal
 
 pub loop-rest-preserved : goal.loop-rest-preserved
 loop-rest-preserved c = record {
