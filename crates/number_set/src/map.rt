@@ -6,13 +6,15 @@ ghost use Rattle.std.specs.Prelude.{◌≡◌, [], IsNone, IsSome, MatchResult, 
 
 use io_ports::NoMemory;
 use std::alloc::Global;
+use std::collections::VecDeque;
 use std::marker::Model;
 
 /// A value for each of some numbers, in the order of the numbers, side by side. It is made for some hundreds, of which the
-/// greatest come last: what stands behind a number that comes or goes is moved as one block.
+/// greatest come last and the first or the last go: of what stands before and behind a number that comes or goes the fewer
+/// are moved, as one block.
 #[derive(Drop)]
 pub struct NumberMap<T> {
-    items: Vec<(u64, T)>,
+    items: VecDeque<(u64, T)>,
 }
 
 impl<T> Model for NumberMap<T> {
@@ -34,7 +36,7 @@ impl<T: Copy> NumberMap<T> {
         ensures { result ≡ [] }
     {
         NumberMap {
-            items: Vec::new(alloc),
+            items: VecDeque::new(alloc),
         }
     }
 
@@ -110,14 +112,12 @@ impl<T: Copy> NumberMap<T> {
     fn count_below(&self, number: u64) -> usize
         ensures { IsBelow number result self.now }
     {
-        let Some(last) = self.items.last() else {
+        let Some(last) = self.items.back() else {
             return 0;
         };
         if last.0 < number {
             return self.items.len();
         }
-        self.items
-            .as_slice()
-            .partition_point(|item| item.0 < number)
+        self.items.partition_point(|item| item.0 < number)
     }
 }
