@@ -1,5 +1,5 @@
 // One flow of an exchange.
-ghost use Rattle.std.specs.Prelude.{◌≡◌, ◌≢◌, ◌↔◌, ◌+◌, ◌<◌, ◌≤◌, [], false, true, IfOk, IfSome, IsOk, IsTrue, OnOk, OnErr, length, nat_le, option_map, Some};
+ghost use Rattle.std.specs.Prelude.{◌≡◌, ◌≢◌, ◌↔◌, ◌+◌, ◌<◌, ◌≤◌, ◌^◌, [], false, true, IfOk, IfSome, IsOk, IsTrue, OnOk, OnErr, length, nat_le, option_map, Some};
 ghost use Rattle.exchange_core.specs.Effects.{arrived, finished, headed, moved, received, received_by};
 ghost use Rattle.exchange_core.specs.Exchange.{at_moment, begun_flow};
 ghost use Rattle.exchange_core.specs.Flow.{IsSound, held_by, last_place};
@@ -69,7 +69,7 @@ impl Flow {
         ensures sound { IfOk result IsSound }
     {
         let mut recv = WatermarkBuffer::new(alloc, 0);
-        recv.ready(spec.recv)?;
+        recv.ready(recv_room(filters.is_empty(), spec))?;
         Ok(Flow {
             window: spec.recv,
             recv,
@@ -88,6 +88,7 @@ impl Flow {
         multiple: u32,
     ) -> Result<bool, NoMemory>
         requires recv { spec.now.recv ≤ most_octets }
+        requires send { spec.now.send ≤ most_octets }
         requires quantum { IsBetween 16384 1048576 spec.now.quantum }
         ensures begun { IfOk result (λ fits. fits ≡ true → self.new ≡ begun_flow id [] spec.entry.now multiple) }
         ensures sound { IsSound self.new }
@@ -103,7 +104,7 @@ impl Flow {
         self.window = 0;
         self.message = Message::new();
         self.multiple = multiple;
-        self.recv.ready(spec.recv)?;
+        self.recv.ready(recv_room(true, spec))?;
         self.window = spec.recv;
         Ok(true)
     }
@@ -343,5 +344,21 @@ fn is_target_above(to: Option<u32>, gates: &Gates) -> bool
     match to {
         Some(conn) => gates.is_marked(BufferId::Write(conn)),
         None => false,
+    }
+}
+
+// For how many octets a receive buffer gets room: for its window, and where octets go from it to the send buffer at once, for
+// as many as that has room for. Two buffers with as much room can change places, and then no octet is copied.
+fn recv_room(is_direct: bool, spec: &StartSpec) -> u32
+    requires recv { spec.now.recv ≤ most_octets }
+    requires send { spec.now.send ≤ most_octets }
+    requires quantum { IsBetween 16384 1048576 spec.now.quantum }
+    ensures window { spec.entry.now.recv ≤ result }
+    ensures bound { result < 2 ^ 31 }
+{
+    if is_direct && spec.send > 0 {
+        spec.recv.max(spec.send + spec.quantum)
+    } else {
+        spec.recv
     }
 }

@@ -75,6 +75,7 @@ impl Spares {
         multiple: u32,
     ) -> Result<Option<FlowBox>, NoMemory>
         requires recv { spec.now.recv ≤ most_octets }
+        requires send { spec.now.send ≤ most_octets }
         requires quantum { IsBetween 16384 1048576 spec.now.quantum }
         ensures begun { IfOk result (λ found. IfSome found (λ flow. flow ≡ begun_flow id [] spec.entry.now multiple)) }
         ensures sound { IfOk result (λ found. IfSome found IsSound) }

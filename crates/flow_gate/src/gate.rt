@@ -61,6 +61,28 @@ impl Gate {
         }
     }
 
+    /// A gate as `new` makes it, with the memory of this one.
+    pub(crate) fn renewed(self) -> Self
+        ensures { result ≡ record { above = false; watchers = []; pending = [] } }
+    {
+        let Gate {
+            mut line,
+            mut row,
+            ..
+        } = self;
+        line.clear();
+        row.clear();
+        Gate {
+            above: false,
+            line,
+            row,
+            standing: 0,
+            next: 0,
+            told: 0,
+            drained: 0,
+        }
+    }
+
     pub(crate) fn is_above(&self) -> bool
         ensures { result ≡ self.now.above }
     {

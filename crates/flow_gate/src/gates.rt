@@ -11,6 +11,7 @@ ghost use Rattle.flow_gate.specs.declared.ids.FlowId.{FlowId};
 use crate::gate::Gate;
 use crate::ids::{BufferId, FlowId};
 use crate::line::Watchers;
+use crate::spares::Spares;
 use crate::watcher::{Watch, Watcher};
 use io_ports::NoMemory;
 use std::alloc::Global;
@@ -27,6 +28,7 @@ pub struct Gates {
     alloc: Global,
     flows: BTreeMap<FlowId, Watcher>,
     buffers: BTreeMap<BufferId, Gate>,
+    spares: Spares,
 }
 
 impl Model for Gates {
@@ -51,6 +53,7 @@ impl Gates {
             alloc,
             flows: BTreeMap::new(alloc),
             buffers: BTreeMap::new(alloc),
+            spares: Spares::new(alloc),
         }
     }
 
@@ -177,7 +180,9 @@ impl Gates {
         ensures err { OnErr result (self.new ≡ self.old) }
         ensures sound { IsSound self.new }
     {
-        self.buffers.insert(buffer, Gate::new(self.alloc))?;
+        self.spares.ready()?;
+        let gate = self.spares.begun(self.alloc);
+        self.buffers.insert(buffer, gate)?;
         Ok(())
     }
 
@@ -271,9 +276,10 @@ impl Gates {
             unreachable!()
         };
         leave_each(&mut self.buffers, watcher.watches());
-        close_unwatched(&mut self.buffers, BufferId::Recv(flow));
-        close_stages(&mut self.buffers, flow);
-        close_unwatched(&mut self.buffers, BufferId::Send(flow));
+        let spares = &mut self.spares;
+        close_unwatched(&mut self.buffers, spares, BufferId::Recv(flow));
+        close_stages(&mut self.buffers, spares, flow);
+        close_unwatched(&mut self.buffers, spares, BufferId::Send(flow));
     }
 }
 
@@ -345,23 +351,23 @@ fn leave(buffers: &mut BTreeMap<BufferId, Gate>, watch: Watch)
 }
 
 // A buffer that nobody watches is no longer known.
-fn close_unwatched(buffers: &mut BTreeMap<BufferId, Gate>, buffer: BufferId)
+fn close_unwatched(buffers: &mut BTreeMap<BufferId, Gate>, spares: &mut Spares, buffer: BufferId)
     ensures { (b : BufferId) → buffer_at buffers.new.entries b ≡ (if same_buffer buffer b then kept (buffer_at buffers.old.entries b) else buffer_at buffers.old.entries b) }
 {
     if let Some(gate) = buffers.get(&buffer) {
         if !gate.is_watched() {
-            let _ = buffers.remove(&buffer);
+            spares.keep(buffers.remove(&buffer));
         }
     }
 }
 
 // The stages of a flow that nobody watches are no longer known.
-fn close_stages(buffers: &mut BTreeMap<BufferId, Gate>, flow: FlowId)
+fn close_stages(buffers: &mut BTreeMap<BufferId, Gate>, spares: &mut Spares, flow: FlowId)
     ensures { (b : BufferId) → buffer_at buffers.new.entries b ≡ (if is_stage flow b then kept (buffer_at buffers.old.entries b) else buffer_at buffers.old.entries b) }
 {
     let mut after = None;
     'stages: while let Some(stage) = stage_after(buffers, flow, after) {
-        close_unwatched(buffers, BufferId::Stage(flow, stage));
+        close_unwatched(buffers, spares, BufferId::Stage(flow, stage));
         after = Some(stage);
     }
 }

@@ -6,6 +6,7 @@ mod gates;
 mod ids;
 mod line;
 mod row;
+mod spares;
 mod stands;
 mod watcher;
 

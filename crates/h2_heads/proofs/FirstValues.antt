@@ -17,9 +17,11 @@ value_of-push name (f ∷ fs) field =
     ≡ option_or (option_map (λ (g : Field). g.value) (cond b (Some f) (find (is_named name) fs))) (cond (is_named name field) (Some field.value) None))
     [ true ↦ refl | false ↦ value_of-push name fs field ]
 
+-- the first fields of a list and the next one
+pub more_fields : (fields : List Field) (i : ℕ) (field : Field) → i < length fields → field ≡ get_or fields i field → take (i + 1) fields ≡ take i fields ++ field ∷ []
+more_fields fields i field within same =
+    take_more fields i field within ∙ sym (ap (λ (f : Field). take i fields ++ f ∷ []) same)
+
 pub value_of_more : (name : List ℕ) (fields : List Field) (i : ℕ) (field : Field) → i < length fields → field ≡ get_or fields i field → value_of name (take (i + 1) fields) ≡ option_or (value_of name (take i fields)) (if is_named name field then Some field.value else None)
 value_of_more name fields i field within same =
-    let more = take_more fields i field within in
-    let push = value_of-push name (take i fields) field in
-    let next = ap (λ (f : Field). take i fields ++ f ∷ []) same in
-    ap (value_of name) more ∙ ap (value_of name) (sym next) ∙ push
+    ap (value_of name) (more_fields fields i field within same) ∙ value_of-push name (take i fields) field

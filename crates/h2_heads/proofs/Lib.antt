@@ -3,6 +3,9 @@ pub mod Faults
 pub mod FirstLengths
 pub mod FirstValues
 pub mod Found
+pub mod Fronts
 pub mod Lowest
 pub mod Passes
+pub mod Pseudos
 pub mod SoundFields
+pub mod TwoEnds

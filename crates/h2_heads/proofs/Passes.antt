@@ -1,12 +1,12 @@
 -- What one pass over a name, one over a value and the first octet of a name tell.
-use Rattle.std.proofs.Common.{Bool, List, [], ◌∷◌, ℕ, ◌<◌, ◌≡◌, ◌≤◌, ◌-◌, ◌∙◌, ◌&&◌, ◌||◌, ap, arith, drop, false, get_or, length, map, not, refl, suc, sym, take, true}
+use Rattle.std.proofs.Common.{Bool, List, [], ◌∷◌, ℕ, ◌<◌, ◌≡◌, ◌≤◌, ◌-◌, ◌∙◌, ◌&&◌, ◌||◌, ap, arith, drop, false, get_or, length, map, not, refl, sym, take, true}
 use Rattle.std.proofs.lemmas.Bool.Decides.{nat_tests}
 use Rattle.std.proofs.lemmas.List.{take_all}
 use Rattle.std.proofs.lemmas.List.FromFn.{get_or-map-range_with_len}
 use Rattle.std.specs.List.{list_all, list_any, range_with_len, starts_with}
 use Rattle.std.specs.Prelude.{codes, nat_eq, ◌==◌}
 use Rattle.std.specs.Str.{bytes_eq}
-use Rattle.h2_heads.specs.Passes.{is_plain}
+use Rattle.h2_heads.specs.Passes.{is_low, is_plain}
 use Rattle.h2_heads.specs.Rules.{has_inner_colon, is_bad_in_name, is_bad_in_value, is_bad_name}
 use Rattle.h2_heads.specs.declared.octets.TheConstants.{PLAIN}
 
@@ -55,16 +55,23 @@ sound_name_at (first ∷ rest) some =
     let whole = take_all (length (first ∷ rest) - 1) rest (omega arith) in
     ap (λ others. (is_plain first || (first == 58)) && list_all is_plain others) whole ∙ sound_name first rest
 
-good_in_value : (octet : ℕ) → 13 < octet → is_bad_in_value octet ≡ false
+good_in_value : (octet : ℕ) → is_low octet ≡ false → is_bad_in_value octet ≡ false
 good_in_value octet above = grind (arith, nat_tests)
 
--- a value has no bad octet where each is above 13
-pub none_below : (value : List ℕ) (least : ℕ) → 13 < least → ((k : ℕ) → k < length value → least ≤ get_or value k 0) → list_any is_bad_in_value value ≡ false
-none_below [] least above each = refl
-none_below (o ∷ os) least above each =
-    let first = each 0 (omega arith) in
-    let here = good_in_value o (omega (arith, first)) in
-    ap (λ bad. bad || list_any is_bad_in_value os) here ∙ none_below os least above (λ k h. each (suc k) (omega arith))
+none_left : (a b : Bool) → (a || b) ≡ false → a ≡ false
+none_left true b e = cc
+none_left false b e = refl
+
+none_right : (a b : Bool) → (a || b) ≡ false → b ≡ false
+none_right true b e = cc
+none_right false b e = e
+
+-- a value without a low octet has no bad one
+pub none_low : (value : List ℕ) → list_any is_low value ≡ false → list_any is_bad_in_value value ≡ false
+none_low [] e = refl
+none_low (o ∷ os) e =
+    let here = good_in_value o (none_left (is_low o) (list_any is_low os) e) in
+    ap (λ bad. bad || list_any is_bad_in_value os) here ∙ none_low os (none_right (is_low o) (list_any is_low os) e)
 
 -- a pseudo-field has no name that begins otherwise
 pub pseudo_unnamed : (name other : List ℕ) (first : ℕ) → starts_with nat_eq name (codes ":") ≡ true → (first == 58) ≡ false → bytes_eq name (first ∷ other) ≡ false

@@ -1,8 +1,10 @@
+pub mod Fronts
 pub mod Heads
 pub mod Kinds
 pub mod Malformed
 pub mod Named
 pub mod Numbers
 pub mod Passes
+pub mod Pseudos
 pub mod Replies
 pub mod Rules

@@ -6,12 +6,16 @@ use Rattle.h2_heads.specs.declared.malformed.Kind.TheVariants.{BadLength, BadPse
 use Rattle.h2_heads.specs.declared.malformed.Message.{Message}
 use Rattle.hpack_codec.specs.declared.fields.Field.{Field}
 use Rattle.std.specs.List.{list_any}
-use Rattle.std.specs.Prelude.{Bool, List, None, Option, Some, codes, if◌then◌else◌, not, ℕ, ◌&&◌, ◌==◌, ◌∷◌}
+use Rattle.std.specs.Prelude.{Bool, List, None, Option, Some, codes, if◌then◌else◌, nat_le, not, ℕ, ◌&&◌, ◌==◌, ◌∷◌}
 use Rattle.std.specs.Str.{bytes_eq}
 
 -- an octet that a name may have past its first
 abbrev pub is_plain : ℕ → Bool
 is_plain octet = not (is_bad_in_name octet) && not (octet == 58)
+
+-- an octet up to CR, as all are that no value has
+abbrev pub is_low : ℕ → Bool
+is_low octet = nat_le octet 13
 
 -- the names of regular fields that have rules of their own
 abbrev pub special_names : List (List ℕ)

@@ -3,9 +3,9 @@ ghost use Rattle.std.specs.Prelude.{◌≡◌, ◌^◌, ◌<◌, is_err, length,
 ghost use Rattle.h2_heads.specs.Heads.{length_of};
 ghost use Rattle.h2_heads.specs.Malformed.{fault_at, is_malformed, IsFirst, IsSound};
 
+use crate::front::Front;
 use crate::lengths::first_length;
 use crate::malformed::{Kind, Malformed, Message};
-use crate::rules::{lacks, lowest};
 use crate::values::length_named;
 use hpack_codec::Field;
 
@@ -19,14 +19,16 @@ pub fn check(message: Message, fields: &[Field]) -> Result<Option<u64>, Malforme
     ensures fault { IfErr result (IsFirst (fault_at message fields.now)) }
     ensures malformed { is_err result ≡ is_malformed message fields.now }
 {
+    let mut front = Front::new();
     let mut length = None;
     for (place, field) in fields.iter().enumerate() {
-        if let Some(kind) = lowest(message, &fields[..place], length, field) {
-            return Err(Malformed::at(place, kind));
+        match front.with_field(message, length, field) {
+            Ok(next) => front = next,
+            Err(kind) => return Err(Malformed::at(place, kind)),
         }
         length = first_length(length, field);
     }
-    if lacks(message, fields) {
+    if front.lacks(message) {
         return Err(Malformed::at(fields.len(), Kind::Missing));
     }
     Ok(length_named(length))

@@ -3,11 +3,14 @@
 #![tactic(auto)]
 
 mod check;
+mod ends;
+mod front;
 mod heads;
 mod lengths;
 mod malformed;
 mod names;
 mod octets;
+mod pseudo;
 mod replies;
 mod rules;
 mod values;

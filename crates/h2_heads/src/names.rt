@@ -1,11 +1,14 @@
 // Names of fields, and fields by their names.
-ghost use Rattle.std.specs.Prelude.{◌≡◌, ◌<◌, ◌^◌, ◌==◌, ◌||◌, length, not, IfSome};
-ghost use Rattle.h2_heads.specs.Named.{has_field, is_named, place_of, value_of, StandsAt};
+ghost use Rattle.std.specs.Prelude.{◌≡◌, ◌<◌, ◌≤◌, ◌+◌, ◌^◌, ◌==◌, ◌||◌, codes, if◌then◌else◌, length, nat_eq, not, IfSome};
+ghost use Rattle.h2_heads.specs.Named.{is_named, place_of, value_of, StandsAt};
 ghost use Rattle.h2_heads.specs.Passes.{is_plain};
-ghost use Rattle.h2_heads.specs.Rules.{has_inner_colon, is_bad_in_name, is_bad_name, is_pseudo};
-ghost use Rattle.std.specs.List.{list_all, list_any};
+ghost use Rattle.h2_heads.specs.Rules.{has_inner_colon, is_bad_in_name, is_bad_name};
+ghost use Rattle.h2_heads.specs.declared.malformed.Kind.TheVariants.{BadName, InnerColon};
+ghost use Rattle.std.specs.List.{list_all, list_any, starts_with};
 ghost use Rattle.std.specs.Option.{option_copied};
 
+use crate::ends::ends;
+use crate::malformed::Kind;
 use crate::octets::PLAIN;
 use hpack_codec::Field;
 
@@ -26,6 +29,17 @@ pub fn is_sound_name(name: &[u8]) -> bool
     }
 }
 
+/// The lower of the two rules for names that a name breaks.
+pub fn fault_of_name(name: &[u8]) -> Kind
+    ensures { result ≡ (if is_bad_name name.now then BadName else InnerColon) }
+{
+    if is_bad_name(name) {
+        Kind::BadName
+    } else {
+        Kind::InnerColon
+    }
+}
+
 // Whether a name may begin with the octet.
 fn may_begin(octet: u8) -> bool
     ensures { result ≡ (is_plain octet || octet == 58) }
@@ -33,8 +47,30 @@ fn may_begin(octet: u8) -> bool
     is_plain(octet) || octet == b':'
 }
 
-// One pass without a branch for each octet.
+// Whether each octet is plain. Names are short, and most are looked at by their two ends.
 fn all_plain(octets: &[u8]) -> bool
+    ensures { result ≡ list_all is_plain octets.now }
+{
+    match octets.len() {
+        4..=8 => plain_ends(octets, 4),
+        9..=16 => plain_ends(octets, 8),
+        _ => each_plain(octets),
+    }
+}
+
+#[inline(always)]
+fn plain_ends(octets: &[u8], n: usize) -> bool
+    requires within { n ≤ length octets.now }
+    requires covered { length octets.now ≤ n + n }
+    ensures { result ≡ list_all is_plain octets.now }
+{
+    let (front, back) = ends(octets, n);
+    each_plain(front) & each_plain(back)
+}
+
+// One pass without a branch for each octet.
+#[inline(always)]
+fn each_plain(octets: &[u8]) -> bool
     ensures { result ≡ list_all is_plain octets.now }
 {
     let mut plain = true;
@@ -63,10 +99,11 @@ fn is_bad_in_name(octet: u8) -> bool
     octet.is_ascii_uppercase() || octet < 0x21 || octet > 0x7e
 }
 
-pub fn is_pseudo(field: &Field) -> bool
-    ensures { result ≡ is_pseudo field.now }
+/// Whether the name begins as those of pseudo-fields do.
+pub fn is_pseudo(name: &[u8]) -> bool
+    ensures { result ≡ starts_with nat_eq name.now (codes ":") }
 {
-    field.name.as_slice().starts_with(b":")
+    name.starts_with(b":")
 }
 
 pub fn is_named(field: &Field, name: &[u8]) -> bool
@@ -83,12 +120,6 @@ pub fn value_of<'a>(fields: &'a [Field], name: &[u8]) -> Option<&'a [u8]>
         .iter()
         .find(|field| is_named(field, name))
         .map(|field| field.value.as_slice())
-}
-
-pub fn has_field(fields: &[Field], name: &[u8]) -> bool
-    ensures { result ≡ has_field name.now fields.now }
-{
-    value_of(fields, name).is_some()
 }
 
 /// The place of the first field with the name.

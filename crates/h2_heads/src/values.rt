@@ -1,9 +1,12 @@
 // Values of fields, and the numbers in them.
-ghost use Rattle.std.specs.Prelude.{◌≡◌, ◌≤◌, ◌<◌, ◌^◌, [], ◌∷◌, ◌&&◌, false, true, nat_lt, slice_index, EachIndex, IfSome, IsTrue};
+ghost use Rattle.std.specs.Prelude.{◌≡◌, ◌≤◌, ◌<◌, ◌+◌, ◌^◌, [], ◌∷◌, ◌&&◌, false, length, true, nat_lt, IfSome, IsTrue};
 ghost use Rattle.std.specs.List.{list_any};
 ghost use Rattle.std.specs.Option.{ForSome, SomeIff, option_copied, option_map, option_map_or};
 ghost use Rattle.h2_heads.specs.Numbers.{begins_zero, decimal, is_decimal, is_digit, is_length, is_status, with_digit};
+ghost use Rattle.h2_heads.specs.Passes.{is_low};
 ghost use Rattle.h2_heads.specs.Rules.{is_bad_in_value, is_bad_value, is_blank};
+
+use crate::ends::ends;
 
 /// Whether the value has an octet that no value has, or a space or tab at its start or end.
 pub fn is_bad_value(value: &[u8]) -> bool
@@ -15,29 +18,51 @@ pub fn is_bad_value(value: &[u8]) -> bool
 fn has_bad_octet(value: &[u8]) -> bool
     ensures { result ≡ list_any is_bad_in_value value.now }
 {
-    let least = least_octet(value);
-    if least > b'\r' {
+    if !has_low(value) {
         return false;
     }
     value.iter().any(|octet| is_bad_in_value(*octet))
 }
 
-// The least octet, by one pass without a branch for each; 255 of none.
-fn least_octet(value: &[u8]) -> u8
-    ensures { EachIndex value.now (λ k. result ≤ slice_index value.now k) }
+// Whether some octet is at most CR, as all bad ones are. Most values are looked at by their two
+// ends.
+fn has_low(value: &[u8]) -> bool
+    ensures { result ≡ list_any is_low value.now }
 {
-    let mut least = u8::MAX;
-    for octet in value {
-        least = lesser(least, *octet);
+    match value.len() {
+        8..=16 => low_ends(value, 8),
+        17..=32 => low_ends(value, 16),
+        33..=64 => low_ends(value, 32),
+        _ => any_low(value),
     }
-    least
 }
 
-fn lesser(first: u8, second: u8) -> u8
-    ensures first { result ≤ first }
-    ensures second { result ≤ second }
+#[inline(always)]
+fn low_ends(value: &[u8], n: usize) -> bool
+    requires within { n ≤ length value.now }
+    requires covered { length value.now ≤ n + n }
+    ensures { result ≡ list_any is_low value.now }
 {
-    if second < first { second } else { first }
+    let (front, back) = ends(value, n);
+    any_low(front) | any_low(back)
+}
+
+// One pass without a branch for each octet.
+#[inline(always)]
+fn any_low(octets: &[u8]) -> bool
+    ensures { result ≡ list_any is_low octets.now }
+{
+    let mut low = false;
+    for octet in octets {
+        low |= is_low(*octet);
+    }
+    low
+}
+
+fn is_low(octet: u8) -> bool
+    ensures { result ≡ is_low octet }
+{
+    octet <= b'\r'
 }
 
 fn is_some_blank(octet: Option<&u8>) -> bool

@@ -1,7 +1,7 @@
 -- The entries of a SETTINGS frame, one after another.
 use Rattle.std.proofs.Common.{◌≡◌, ℕ, ◌<◌, ◌≤◌, ◌||◌, Bool, true, false, List, [], ◌∷◌, length, get_or, take, drop, ap, sym, ◌∙◌, refl, arith}
 use Rattle.std.specs.Int.{from_be_bytes, w16, w32}
-use Rattle.std.specs.Prelude.{nat_lt, ◌&&◌, ◌==◌}
+use Rattle.std.specs.Prelude.{nat_lt, suc, ◌&&◌, ◌/◌, ◌==◌}
 use Rattle.h2_session.specs.Errors.{names_outside, settings_of}
 use Rattle.h2_session.specs.declared.act.Setting.{Setting}
 
@@ -36,6 +36,19 @@ no_settings (a ∷ b ∷ c ∷ []) short = refl
 no_settings (a ∷ b ∷ c ∷ d ∷ []) short = refl
 no_settings (a ∷ b ∷ c ∷ d ∷ e ∷ []) short = refl
 no_settings (a ∷ b ∷ c ∷ d ∷ e ∷ f ∷ l) short = absurd (omega arith)
+
+-- six octets are an entry
+pub count_settings : (l : List ℕ) → length (settings_of l) ≡ length l / 6
+count_settings [] = refl
+count_settings (a ∷ []) = refl
+count_settings (a ∷ b ∷ []) = refl
+count_settings (a ∷ b ∷ c ∷ []) = refl
+count_settings (a ∷ b ∷ c ∷ d ∷ []) = refl
+count_settings (a ∷ b ∷ c ∷ d ∷ e ∷ []) = refl
+count_settings (a ∷ b ∷ c ∷ d ∷ e ∷ f ∷ l) = ap suc (count_settings l) ∙ one_more (length l)
+  where
+    one_more : (n : ℕ) → suc (n / 6) ≡ suc (suc (suc (suc (suc (suc n))))) / 6
+    one_more n = omega arith
 
 pub none_left : (id low high : ℕ) (found : Bool) (l : List ℕ) (all : Bool) → (found || names_outside id low high (settings_of l)) ≡ all → length l < 6 → found ≡ all
 none_left id low high found l all so_far short = or_none found ∙ ap (λ k. found || names_outside id low high k) (sym (no_settings l short)) ∙ so_far

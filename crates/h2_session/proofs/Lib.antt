@@ -11,3 +11,4 @@ pub mod Opening
 pub mod Sizes
 pub mod Standing
 pub mod States
+pub mod Within

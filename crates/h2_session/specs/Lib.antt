@@ -2,6 +2,7 @@ pub mod Acts
 pub mod Blocks
 pub mod Errors
 pub mod Happened
+pub mod Iter
 pub mod Kept
 pub mod Preface
 pub mod Streams

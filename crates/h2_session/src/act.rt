@@ -1,8 +1,10 @@
 // What one frame means for the connection that it came on.
-ghost use Rattle.std.specs.Prelude.{◌≡◌, ◌==◌, ◌++◌, ◌∷◌, [], length, IfOk, OnOk, OnErr};
+ghost use Rattle.std.specs.Prelude.{◌≡◌, ◌==◌, length};
+ghost use Rattle.h2_session.specs.Errors.{settings_of};
+ghost use Rattle.h2_session.specs.Iter.{settings_left};
 
-use io_ports::{NoMemory, Octets};
-use std::alloc::Global;
+use crate::settings::{SETTING_SIZE, SettingIter};
+use io_ports::Octets;
 use std::marker::Model;
 
 /// One entry of a SETTINGS frame.
@@ -12,79 +14,54 @@ pub struct Setting {
     pub value: u32,
 }
 
-/// The entries of a SETTINGS frame, in its order.
+/// The entries of a SETTINGS frame, in its order. They are kept as the octets that spell them.
 #[derive(Debug, Drop)]
 pub struct SettingList {
-    settings: Vec<Setting>,
+    octets: Octets,
 }
 
 impl Model for SettingList {
     ghost use Rattle.std.specs.Prelude.{List};
+    ghost use Rattle.h2_session.specs.Errors.{settings_of};
     ghost use Rattle.h2_session.specs.declared.act.Setting.{Setting};
 
     ghost Value = { List Setting };
 
-    ghost view = { λ a. a.settings.items };
+    ghost view = { λ a. settings_of a.octets };
 }
 
 impl SettingList {
-    /// No settings. Takes no memory.
-    pub fn new(alloc: Global) -> Self
-        ensures { result ≡ [] }
+    /// The settings that these octets spell. Takes no memory.
+    pub fn from_octets(octets: Octets) -> Self
+        ensures { result ≡ settings_of octets }
     {
-        SettingList {
-            settings: Vec::new(alloc),
-        }
+        SettingList { octets }
     }
 
-    /// No settings, and room for so many.
-    pub(crate) fn with_room(alloc: Global, n: usize) -> Result<Self, NoMemory>
-        ensures { IfOk result (λ list. list ≡ []) }
+    /// The octets that spell these settings. Takes no memory.
+    pub fn into_octets(self) -> Octets
+        ensures { settings_of result ≡ self }
     {
-        Ok(SettingList {
-            settings: Vec::with_capacity(alloc, n)?,
-        })
+        self.octets
     }
 
-    /// The settings of a vector. Takes no memory.
-    pub fn from_vec(settings: Vec<Setting>) -> Self
-        ensures { result ≡ settings.items }
+    /// The settings, one after another.
+    pub fn iter(&self) -> SettingIter<'_>
+        ensures { settings_left result ≡ self.now }
     {
-        SettingList { settings }
-    }
-
-    /// The vector of these settings. Takes no memory.
-    pub fn into_vec(self) -> Vec<Setting>
-        ensures { result.items ≡ self }
-    {
-        self.settings
-    }
-
-    /// Appends a setting. After running out of memory the list is as it was.
-    pub fn push(&mut self, setting: Setting) -> Result<(), NoMemory>
-        ensures ok { OnOk result (self.new ≡ self.old ++ setting ∷ []) }
-        ensures err { OnErr result (self.new ≡ self.old) }
-    {
-        self.settings.push(setting)?;
-        Ok(())
-    }
-
-    pub fn as_slice(&self) -> &[Setting]
-        ensures { result.now ≡ self.now }
-    {
-        self.settings.as_slice()
+        SettingIter::new(self.octets.as_slice())
     }
 
     pub fn len(&self) -> usize
         ensures { result ≡ length self.now }
     {
-        self.settings.len()
+        self.octets.len() / SETTING_SIZE
     }
 
     pub fn is_empty(&self) -> bool
         ensures { result ≡ (length self.now == 0) }
     {
-        self.settings.is_empty()
+        self.len() == 0
     }
 }
 

@@ -11,3 +11,4 @@ mod streams;
 pub use act::{Act, Setting, SettingList};
 pub use preface::Prefaced;
 pub use session::Session;
+pub use settings::SettingIter;

@@ -1,16 +1,15 @@
--- The places of the static entries whose names have so many octets, and a search among these alone.
-use Rattle.std.proofs.Common.{◌≡◌, ℕ, zero, suc, ◌+◌, ◌<◌, ◌≤◌, ◌∙◌, Bool, true, false, cond, List, [], ◌∷◌, ◌++◌, length, drop, get_or, map, Option, Some, None, refl, subst, sym, ap, arith, eqb, ltb, append_assoc, length-append}
+-- The places of the static entries whose names are in one row, and a search among these alone.
+use Rattle.std.proofs.Common.{◌≡◌, ℕ, zero, suc, ◌+◌, ◌<◌, ◌≤◌, ◌∙◌, Bool, true, false, cond, List, [], ◌∷◌, ◌++◌, length, drop, get_or, map, Option, Some, None, refl, subst, sym, ap, arith, eqb, append_assoc, length-append}
 use Rattle.std.proofs.Math.Seq.{get_or-append_seam}
-use Rattle.std.proofs.lemmas.Bool.{and_parts, eq-eqb, false≢true}
-use Rattle.std.proofs.lemmas.Bool.Decides.{nat_tests}
+use Rattle.std.proofs.lemmas.Bool.{eq-eqb, false≢true}
 use Rattle.std.proofs.lemmas.List.{drop_more, drop_all}
 use Rattle.std.proofs.lemmas.List.FromFn.{get_or-map-range_with_len}
 use Rattle.std.proofs.lemmas.Option.{get_or_from_slice_get}
 use Rattle.std.proofs.lemmas.Slice.Eq.{bytes_eq-Decides}
-use Rattle.std.specs.List.{list_all, range_with_len, slice_get}
+use Rattle.std.specs.List.{range_with_len, slice_get}
 use Rattle.std.specs.Str.{bytes_eq}
 use Rattle.hpack_codec.specs.Encoding.{index_from}
-use Rattle.hpack_codec.specs.Table.{line, places_from, places_of, static_table}
+use Rattle.hpack_codec.specs.Table.{line, places_from, places_of, row_of, static_table}
 use Rattle.hpack_codec.specs.declared.line.Line.{Line}
 use Rattle.hpack_codec.proofs.StaticRows.{static_length}
 
@@ -22,13 +21,13 @@ abbrev pub among : (Line → Bool) → List Line → List ℕ → Option ℕ
 among passes all [] = None
 among passes all (p ∷ ps) = cond (passes (entry all p)) (Some (p + 1)) (among passes all ps)
 
--- what passes has a name of n octets
+-- the name of what passes is in the row n
 abbrev pub OnlyNamed : (Line → Bool) → ℕ → Type 0
-OnlyNamed passes n = (l : Line) → passes l ≡ true → length l.name ≡ n
+OnlyNamed passes n = (l : Line) → passes l ≡ true → row_of l.name ≡ n
 
-no_other : (passes : Line → Bool) (n : ℕ) (l : Line) → OnlyNamed passes n → eqb (length l.name) n ≡ false → (passed : Bool) → passes l ≡ passed → passed ≡ false
+no_other : (passes : Line → Bool) (n : ℕ) (l : Line) → OnlyNamed passes n → eqb (row_of l.name) n ≡ false → (passed : Bool) → passes l ≡ passed → passed ≡ false
 no_other passes n l only other false is = refl
-no_other passes n l only other true is = absurd (false≢true (sym other ∙ eq-eqb (length l.name) n (only l is)))
+no_other passes n l only other true is = absurd (false≢true (sym other ∙ eq-eqb (row_of l.name) n (only l is)))
 
 step : (passes : Line → Bool) (n : ℕ) (l : Line) (all : List Line) (i : ℕ) (rest : Option ℕ) (places : List ℕ) (same : Bool) → entry all i ≡ l → (same ≡ false → passes l ≡ false) → rest ≡ among passes all places → cond (passes l) (Some (i + 1)) rest ≡ among passes all (cond same (i ∷ places) places)
 step passes n l all i rest places true here fails later =
@@ -43,7 +42,7 @@ same_search passes n only front (l ∷ ls) i e =
     let one : i + 1 ≡ length (front ++ l ∷ []) = omega (arith, length-append front (l ∷ [])) in
     let later : index_from (i + 1 + 1) passes ls ≡ among passes (front ++ l ∷ ls) (places_from (i + 1) n ls) =
     same_search passes n only (front ++ l ∷ []) ls (i + 1) one ∙ ap (λ all. among passes all (places_from (i + 1) n ls)) next in
-    step passes n l (front ++ l ∷ ls) i (index_from (i + 1 + 1) passes ls) (places_from (i + 1) n ls) (eqb (length l.name) n) here (λ other. no_other passes n l only other (passes l) refl) later
+    step passes n l (front ++ l ∷ ls) i (index_from (i + 1 + 1) passes ls) (places_from (i + 1) n ls) (eqb (row_of l.name) n) here (λ other. no_other passes n l only other (passes l) refl) later
 
 pub search_begins : (passes : Line → Bool) (n : ℕ) → OnlyNamed passes n → index_from 1 passes static_table ≡ among passes static_table (places_of n)
 search_begins passes n only = same_search passes n only [] static_table 0 refl
@@ -65,9 +64,9 @@ searched passes all places k p d l h is found holds =
 pub searched_all : (passes : Line → Bool) (all : List Line) (places : List ℕ) (k : ℕ) → length places ≤ k → among passes all (drop k places) ≡ None
 searched_all passes all places k h = ap (among passes all) (drop_all k places h)
 
--- ---- who passes has a name as long
-pub named_as_long : (name : List ℕ) → OnlyNamed (λ l. bytes_eq l.name name) (length name)
-named_as_long name l passed = ap length ((bytes_eq-Decides l.name name).0 passed)
+-- ---- the name of who passes is in the row of the name that is looked for
+pub named_alike : (name : List ℕ) → OnlyNamed (λ l. bytes_eq l.name name) (row_of name)
+named_alike name l passed = ap row_of ((bytes_eq-Decides l.name name).0 passed)
 
 -- ---- places are within the table
 -- the places of a list are below its end
@@ -85,31 +84,14 @@ with_one end i places true h all = λ k here. at_one end i places h all k here
 below : (n end : ℕ) (ls : List Line) (i : ℕ) → i + length ls ≤ end → AreBelow end (places_from i n ls)
 below n end [] i h = λ k here. absurd (omega (arith, here))
 below n end (l ∷ ls) i h =
-    with_one end i (places_from (i + 1) n ls) (eqb (length l.name) n) (omega (arith, h)) (below n end ls (i + 1) (omega (arith, h)))
+    with_one end i (places_from (i + 1) n ls) (eqb (row_of l.name) n) (omega (arith, h)) (below n end ls (i + 1) (omega (arith, h)))
 
 pub within_table : (n k : ℕ) → k < length (places_of n) → get_or (places_of n) k 0 < 61
 within_table n k h = below n 61 static_table 0 (omega (arith, static_length)) k h
 
--- ---- the rows of places, by length
-pub row_of : (rows : List (List ℕ)) (n : ℕ) → rows ≡ map places_of (range_with_len 0 28) → n < 28 → get_or rows n [] ≡ places_of n
-row_of rows n e h = ap (λ xs. get_or xs n []) e ∙ get_or-map-range_with_len places_of 0 28 n n [] h (omega arith)
-
-abbrev is_short : Line → Bool
-is_short l = ltb (length l.name) 28
-
-all_short : list_all is_short static_table ≡ true
-unfolding static_table
-all_short = refl
-
-no_place : (n i : ℕ) (ls : List Line) → 28 ≤ n → list_all is_short ls ≡ true → places_from i n ls ≡ []
-no_place n i [] h e = refl
-no_place n i (l ∷ ls) h e =
-    let parts = and_parts (is_short l) (list_all is_short ls) e in
-    let other : eqb (length l.name) n ≡ false = grind (arith, nat_tests, parts.0) in
-    ap (λ b. cond b (i ∷ places_from (i + 1) n ls) (places_from (i + 1) n ls)) other ∙ no_place n (i + 1) ls h parts.1
-
-pub none_as_long : (n : ℕ) → 28 ≤ n → places_of n ≡ []
-none_as_long n h = no_place n 0 static_table h all_short
+-- ---- the rows of places
+pub row_is : (rows : List (List ℕ)) (n : ℕ) → rows ≡ map places_of (range_with_len 0 64) → n < 64 → get_or rows n [] ≡ places_of n
+row_is rows n e h = ap (λ xs. get_or xs n []) e ∙ get_or-map-range_with_len places_of 0 64 n n [] h (omega arith)
 
 -- what stands in a row of places is below 61
 pub is_within : (places : List ℕ) (n k p : ℕ) → places ≡ places_of n → k < length places → p ≡ get_or places k 0 → p < 61

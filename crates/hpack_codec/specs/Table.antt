@@ -1,6 +1,6 @@
 -- The static and the dynamic table of field compression (RFC 7541 section 2.3 and Appendix A).
 use Rattle.hpack_codec.specs.declared.line.Line.{Line}
-use Rattle.std.specs.Prelude.{List, None, Option, [], codes, if◌then◌else◌, length, nat_le, slice_get, suc, zero, ℕ, ◌++◌, ◌+◌, ◌-◌, ◌==◌, ◌∷◌}
+use Rattle.std.specs.Prelude.{List, None, Option, [], codes, if◌then◌else◌, length, nat_le, slice_get, suc, unwrap_or, zero, ℕ, ◌%◌, ◌*◌, ◌++◌, ◌+◌, ◌-◌, ◌==◌, ◌∷◌}
 
 -- an entry of the tables
 abbrev pub line : List ℕ → List ℕ → Line
@@ -32,10 +32,14 @@ static_table =
     ∷ bare (codes "transfer-encoding") ∷ bare (codes "user-agent") ∷ bare (codes "vary") ∷ bare (codes "via")
     ∷ bare (codes "www-authenticate") ∷ []
 
--- the places of the entries whose names have so many octets, counted from i
+-- names are sorted into 64 rows, by their length and their last octet
+abbrev pub row_of : List ℕ → ℕ
+row_of name = (length name % 64 * 31 + unwrap_or (slice_get name (length name - 1)) 0) % 64
+
+-- the places of the entries whose names are in a row, counted from i
 abbrev pub places_from : ℕ → ℕ → List Line → List ℕ
 places_from i n [] = []
-places_from i n (l ∷ ls) = if length l.name == n then i ∷ places_from (i + 1) n ls else places_from (i + 1) n ls
+places_from i n (l ∷ ls) = if row_of l.name == n then i ∷ places_from (i + 1) n ls else places_from (i + 1) n ls
 
 abbrev pub places_of : ℕ → List ℕ
 places_of n = places_from 0 n static_table

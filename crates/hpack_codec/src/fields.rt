@@ -30,18 +30,21 @@ impl Field {
 #[derive(Debug, Drop)]
 pub struct FieldList {
     fields: Vec<Field>,
+    /// What the fields count together, up to 2^64 - 1.
+    size: usize,
 }
 
 impl Model for FieldList {
-    ghost use Rattle.std.specs.Prelude.{All, List};
+    ghost use Rattle.std.specs.Prelude.{All, List, min, ◌-◌, ◌^◌, ◌≡◌};
     ghost use Rattle.hpack_codec.specs.Encoding.{HasSpelling};
+    ghost use Rattle.hpack_codec.specs.Sections.{list_size};
     ghost use Rattle.hpack_codec.specs.declared.fields.Field.{Field};
 
     ghost Value = { List Field };
 
     ghost view = { λ a. a.fields.items };
 
-    ghost invariant = { λ a. All HasSpelling a.fields.items };
+    ghost invariant = { λ a. All HasSpelling a.fields.items × (a.size ≡ min (list_size a.fields.items) (2 ^ 64 - 1)) };
 }
 
 impl FieldList {
@@ -53,6 +56,7 @@ impl FieldList {
     {
         FieldList {
             fields: Vec::new(alloc),
+            size: 0,
         }
     }
 
@@ -62,6 +66,7 @@ impl FieldList {
     {
         Ok(FieldList {
             fields: Vec::with_capacity(alloc, fields)?,
+            size: 0,
         })
     }
 
@@ -85,7 +90,9 @@ impl FieldList {
         ensures ok { OnOk result (self.new ≡ self.old ++ field ∷ []) }
         ensures err { OnErr result (self.new ≡ self.old) }
     {
+        let size = counted_size(field.name.len(), field.value.len());
         self.fields.push(field)?;
+        self.size = self.size.saturating_add(size);
         Ok(())
     }
 
@@ -100,11 +107,7 @@ impl FieldList {
     pub fn size(&self) -> usize
         ensures { result ≡ min (list_size self.now) (2 ^ 64 - 1) }
     {
-        let mut size = 0usize;
-        for field in self.as_slice() {
-            size = size.saturating_add(counted_size(field.name.len(), field.value.len()));
-        }
-        size
+        self.size
     }
 
     /// Whether each field has a spelling. That is so of every list.

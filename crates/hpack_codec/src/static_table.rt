@@ -1,7 +1,7 @@
 // The static table.
 ghost use Rattle.std.specs.Prelude.{◌≡◌, ◌<◌, ◌&&◌, [], Some, length, map, slice_get, slice_index_or};
 ghost use Rattle.std.specs.Str.{bytes_eq};
-ghost use Rattle.hpack_codec.specs.Table.{line, places_of, static_table};
+ghost use Rattle.hpack_codec.specs.Table.{line, places_of, row_of, static_table};
 ghost use Rattle.hpack_codec.specs.Encoding.{index_from};
 
 use crate::line::Row;
@@ -137,36 +137,72 @@ static VALUES: [&str; 61] = [
     "",
 ];
 
-/// The places of the names with so many octets, in their order: a name is looked for among these alone.
-static BY_LENGTH: [&[u8]; 28] = [
+/// The places of the names of each row, in their order: a name is looked for among these alone.
+static ROWS: [&[u8]; 64] = [
+    &[49, 55],
+    &[22, 51],
+    &[20],
+    &[3, 4],
     &[],
     &[],
-    &[],
-    &[20, 59],
-    &[32, 33, 36, 37, 44, 58],
-    &[3, 4, 21, 49],
-    &[18, 31, 34, 53],
-    &[1, 2, 5, 6, 7, 8, 9, 10, 11, 12, 13, 35, 50, 51],
-    &[38, 41, 45],
-    &[],
-    &[0, 54, 57],
+    &[17],
     &[52],
-    &[30, 46],
-    &[17, 22, 23, 29, 40, 43],
-    &[14, 27],
-    &[15, 16],
-    &[25, 26, 28, 60],
-    &[39, 56],
+    &[],
+    &[],
+    &[],
+    &[50],
+    &[7, 8, 9, 10, 11, 12, 13, 35],
+    &[],
+    &[],
+    &[],
+    &[],
+    &[],
+    &[21],
     &[47],
-    &[24, 42, 48],
+    &[],
+    &[26, 60],
+    &[],
+    &[25],
+    &[],
+    &[30],
+    &[27],
+    &[54],
+    &[],
+    &[41],
+    &[28],
+    &[31],
+    &[38],
+    &[32],
+    &[],
+    &[33],
     &[],
     &[],
+    &[14, 45],
+    &[44, 46],
     &[],
+    &[36],
+    &[57],
     &[],
+    &[53],
     &[],
-    &[55],
+    &[18, 34],
+    &[0],
+    &[37],
     &[],
+    &[42],
     &[19],
+    &[39],
+    &[58],
+    &[16, 56],
+    &[43],
+    &[15, 29],
+    &[],
+    &[],
+    &[24, 40, 48],
+    &[],
+    &[1, 2],
+    &[5, 6, 59],
+    &[23],
 ];
 
 /// How many entries the static table has.
@@ -193,29 +229,36 @@ pub(crate) fn static_entry(place: usize) -> Row
     }
 }
 
-/// The places in a row.
-fn row_at<'a>(rows: &[&'a [u8]], len: usize) -> &'a [u8]
-    requires { len < length rows.now }
-    ensures { result.now ≡ slice_index_or (map (λ row. row.now) rows.now) len [] }
+/// The row of a name, by its length and its last octet: few names of the table share one.
+#[inline(always)]
+fn row_of(name: &[u8]) -> usize
+    ensures row { result ≡ row_of name.now }
+    ensures few { result < 64 }
 {
-    rows[len]
+    let last = name.last().copied().unwrap_or(0);
+    (name.len() % 64 * 31 + usize::from(last)) % 64
 }
 
-/// The places of the entries whose names have so many octets, in their order.
-fn places_of(len: usize) -> &'static [u8]
-    ensures { result.now ≡ places_of len }
+/// The places in a row.
+fn row_at<'a>(rows: &[&'a [u8]], row: usize) -> &'a [u8]
+    requires { row < length rows.now }
+    ensures { result.now ≡ slice_index_or (map (λ row. row.now) rows.now) row [] }
 {
-    if len < BY_LENGTH.len() {
-        return row_at(&BY_LENGTH, len);
-    }
-    &[]
+    rows[row]
+}
+
+/// The places of the entries whose names are in the row of this one, in their order.
+fn places_of(name: &[u8]) -> &'static [u8]
+    ensures { result.now ≡ places_of (row_of name.now) }
+{
+    row_at(&ROWS, row_of(name))
 }
 
 /// The lowest index of an entry with this name.
 pub(crate) fn index_of_name(name: &[u8]) -> Option<u32>
     ensures { result ≡ index_from 1 (λ l. bytes_eq l.name name.now) static_table }
 {
-    for place in places_of(name.len()) {
+    for place in places_of(name) {
         if static_entry(usize::from(*place)).name == name {
             return Some(u32::from(*place) + 1);
         }
@@ -227,7 +270,7 @@ pub(crate) fn index_of_name(name: &[u8]) -> Option<u32>
 pub(crate) fn index_of_entry(name: &[u8], value: &[u8]) -> Option<u32>
     ensures { result ≡ index_from 1 (λ l. bytes_eq l.name name.now && bytes_eq l.value value.now) static_table }
 {
-    for place in places_of(name.len()) {
+    for place in places_of(name) {
         let entry = static_entry(usize::from(*place));
         if entry.name == name && entry.value == value {
             return Some(u32::from(*place) + 1);

@@ -2,7 +2,7 @@
 use crate::words::{frame_words, list_words, number, octets_of};
 use anyhow::Result;
 use h2_frames::{ReadFrame, block_frames, read_frame};
-use h2_session::{Prefaced, Session, Setting, SettingList};
+use h2_session::{Prefaced, Session, SettingList};
 use io_ports::Octets;
 use std::alloc::Global;
 
@@ -49,22 +49,18 @@ pub fn preface_words(alloc: Global, words: &str) -> Result<String> {
     Ok(String::from_str(alloc, word)?)
 }
 
-/// `ID=VALUE ..`: a list of settings, made, taken apart and made again.
+/// `ID=VALUE ..`: a list of settings, made of their octets, taken apart and made again.
 pub fn settings_words(alloc: Global, words: &str) -> Result<String> {
-    let mut list = SettingList::new(alloc);
-    let empty = list.is_empty();
+    let mut octets = Octets::new(alloc);
+    let empty = SettingList::from_octets(octets.copied()?).is_empty();
     for word in words.split(' ') {
         let (id, value) = word.split_once('=').unwrap_or((word, "0"));
         let id = (number(id) % 65_536) as u16;
-        let setting = Setting {
-            id,
-            value: number(value),
-        };
-        if list.push(setting).is_err() {
-            return Ok(String::from_str(alloc, "no memory")?);
-        }
+        octets.push_all(&id.to_be_bytes())?;
+        octets.push_all(&number(value).to_be_bytes())?;
     }
-    let again = SettingList::from_vec(list.into_vec());
+    let list = SettingList::from_octets(octets);
+    let again = SettingList::from_octets(list.into_octets());
     let text = list_words(alloc, &again)?;
     Ok(format!(in alloc; "empty {empty}, then {}: {text}", again.len())?)
 }

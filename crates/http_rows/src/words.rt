@@ -273,7 +273,7 @@ fn act_words_before(alloc: Global, act: &Act, octets: &str) -> Result<String, Al
 /// Settings in words: the number and value of each.
 pub fn list_words(alloc: Global, list: &SettingList) -> Result<String, AllocError> {
     let mut text = String::from_str(alloc, "settings")?;
-    for setting in list.as_slice() {
+    for setting in list.iter() {
         let (id, value) = (setting.id, setting.value);
         text.push_str(format!(in alloc; " {id}={value}")?.as_str())?;
     }

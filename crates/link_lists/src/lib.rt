@@ -9,6 +9,7 @@ mod lists;
 mod member;
 mod note;
 mod rings;
+mod spares;
 mod steps;
 
 pub use lists::{Lists, Node};

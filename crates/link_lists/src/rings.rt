@@ -6,6 +6,7 @@ ghost use Rattle.link_lists.specs.Seen.{emptied, IsLone};
 use crate::heap::{Heap, Place};
 use crate::member::{Member, link_before, unlink};
 use crate::note::Note;
+use crate::spares::Spares;
 use crate::steps::Steps;
 use io_ports::NoMemory;
 use std::alloc::Global;
@@ -18,6 +19,7 @@ pub(crate) struct Rings<T> {
     heap: Heap<Member<T>, Global>,
     ends: Vec<Place>,
     alloc: Global,
+    spares: Spares<T>,
     note: Note<T>,
 }
 
@@ -44,6 +46,7 @@ impl<T: Drop> Rings<T> {
             heap: Heap::new(),
             ends: Vec::new(alloc),
             alloc,
+            spares: Spares::new(alloc),
             note: Note::new(),
         }
     }
@@ -90,7 +93,7 @@ impl<T: Drop> Rings<T> {
             next: end,
             value: None,
         };
-        let Ok(whole) = Box::new(self.alloc, node) else {
+        let Ok(whole) = self.spares.boxed(self.alloc, node) else {
             return Err((NoMemory, value));
         };
         let (at, _) = self.heap.put(whole);
@@ -115,7 +118,7 @@ impl<T: Drop> Rings<T> {
         self.note.shift(ring, at);
     }
 
-    /// Takes the node at `at` out, and frees it.
+    /// Takes the node at `at` out, and frees it, or keeps its memory for a later one.
     pub fn remove<L: Ledger>(&mut self, at: Place, steps: &mut Steps<L>) -> T
         requires { IsTrue (has_node at.ptr self.old) }
         ensures value { node_value at.ptr self.old ≡ Some result }
@@ -124,13 +127,10 @@ impl<T: Drop> Rings<T> {
         ensures cost { steps.new ≡ steps.old + 3 }
     {
         unlink(&mut self.heap, at, steps);
-        let whole = self.heap.take(at, self.alloc);
+        let mut whole = self.heap.take(at, self.alloc);
         self.note.pull(at);
-        let Member {
-            prev: _,
-            next: _,
-            value,
-        } = Box::into_inner(whole);
+        let value = whole.value.take();
+        self.spares.keep(whole);
         value.unwrap()
     }
 
@@ -239,6 +239,7 @@ impl<T: Drop> Drop for Rings<T> {
             heap,
             ends: _,
             alloc: _,
+            spares: _,
             note: _,
         } = self;
         heap.close();

@@ -147,23 +147,23 @@ impl Link {
     }
 
     /// Takes a front of a piece, and answers how many octets. Few are gathered, until `send`, many are sent at once. While the peer
-    /// doesn't read this costs no call.
-    pub fn take(&mut self, piece: &[u8]) -> usize
+    /// doesn't read this costs no call. A block of memory is taken from the spare one, and put there again.
+    pub fn take(&mut self, piece: &[u8], spare: &mut Vec<u8>) -> usize
         ensures { result ≤ length piece.now }
     {
         if !self.may_send() {
             return 0;
         }
-        if self.gathered.take(piece) {
+        if self.gathered.take(piece, spare) {
             return piece.len();
         }
-        self.write(piece)
+        self.write(piece, spare)
     }
 
     /// Sends what was gathered, as far as the peer takes it.
-    pub fn send(&mut self) {
+    pub fn send(&mut self, spare: &mut Vec<u8>) {
         if self.is_sendable() {
-            self.write(&[]);
+            self.write(&[], spare);
         }
     }
 
@@ -177,7 +177,7 @@ impl Link {
     }
 
     // Writes what was gathered and a piece behind it, in one call. Answers how many octets of the piece went.
-    fn write(&mut self, piece: &[u8]) -> usize
+    fn write(&mut self, piece: &[u8], spare: &mut Vec<u8>) -> usize
         ensures { result ≤ length piece.now }
     {
         let first = self.gathered.unsent();
@@ -189,7 +189,9 @@ impl Link {
             Ok(n) => {
                 self.writable = n == gathered.saturating_add(piece.len());
                 self.sent = true;
-                self.gathered.leave(n.min(gathered));
+                if let Some(block) = self.gathered.leave(n.min(gathered)) {
+                    keep(spare, block);
+                }
                 n.saturating_sub(gathered)
             }
             Err(error) => {
@@ -238,5 +240,12 @@ impl Link {
         } else {
             None
         }
+    }
+}
+
+// Of two blocks the one with more room is spare from now on.
+fn keep(spare: &mut Vec<u8>, block: Vec<u8>) {
+    if block.capacity() > spare.capacity() {
+        *spare = block;
     }
 }

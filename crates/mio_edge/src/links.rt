@@ -15,6 +15,8 @@ pub(crate) struct Links {
     due: VecDeque<u32>,
     /// The numbers of those that gathered octets, each once, and of some that are live no more.
     gathering: VecDeque<u32>,
+    /// A block of memory for the next that gathers many octets.
+    spare: Vec<u8>,
     /// How many were made by clients.
     clients: u32,
     /// For how long it is borne that one takes nothing of what waits for it, in milliseconds.
@@ -28,6 +30,7 @@ impl Links {
             live: BTreeMap::new(alloc),
             due: VecDeque::new(alloc),
             gathering: VecDeque::new(alloc),
+            spare: Vec::new(alloc),
             clients: 0,
             patience,
         }
@@ -94,7 +97,7 @@ impl Links {
         let Some(link) = self.live.get_mut(&conn) else {
             return 0;
         };
-        let n = link.take(piece);
+        let n = link.take(piece, &mut self.spare);
         link.track_stall(n, now, self.patience);
         queue(&mut self.due, conn, link);
         gather(&mut self.gathering, conn, link);
@@ -109,10 +112,15 @@ impl Links {
             };
             if let Some(link) = self.live.get_mut(&conn) {
                 link.gathers = false;
-                link.send();
+                link.send(&mut self.spare);
                 queue(&mut self.due, conn, link);
             }
         }
+    }
+
+    /// Sends what a connection that has left gathered, as far as its peer takes it.
+    pub fn send_rest(&mut self, link: &mut Link) {
+        link.send(&mut self.spare);
     }
 
     /// The connection that is to be looked at next.

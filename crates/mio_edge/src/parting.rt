@@ -48,7 +48,7 @@ impl Parting {
         }
         match self.stream.write(self.rest.unsent()) {
             Ok(n) => {
-                self.rest.leave(n);
+                let _ = self.rest.leave(n);
                 true
             }
             Err(error) => error.kind() == ErrorKind::WouldBlock,

@@ -254,7 +254,7 @@ impl<R: Clock + Net + Eprint + Drop, I: Inlet + Drop> Sockets<R, I> {
     // A connection is lost.
     fn lose(&mut self, conn: u32) {
         if let Some(mut link) = self.links.leave(conn) {
-            link.send();
+            self.links.send_rest(&mut link);
             self.dialing.lose(link.origin, self.now);
         }
     }

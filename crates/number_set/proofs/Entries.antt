@@ -12,7 +12,7 @@ use Rattle.std.specs.List.{insert, remove}
 use Rattle.std.specs.List.Sorted.{IsNonDecreasingBy, IsPartitionPoint, IsPartitionedBy, IsStrictlySortedBy}
 use Rattle.std.specs.Map.{keys_of, lookup, remove_entry, set_value}
 use Rattle.std.specs.Ordering.{match_ordering, nat_cmp}
-use Rattle.std.specs.Prelude.{Bool, IsNone, IsSome, List, None, Option, Some, [], false, is_some, length, nat_eq, nat_lt, suc, true, zero, ℕ, ◌+◌, ◌-◌, ◌<◌, ◌∷◌, ◌≡◌, ◌≤◌}
+use Rattle.std.specs.Prelude.{Bool, IsNone, IsSome, List, None, Option, Some, [], drop, false, is_some, length, nat_eq, nat_lt, suc, true, zero, ℕ, ◌+◌, ◌-◌, ◌<◌, ◌∷◌, ◌≡◌, ◌≤◌}
 use Rattle.std.specs.Set.{remove_key}
 use Rattle.std.specs.declared.cmp.Ordering.{Ordering}
 use Rattle.std.specs.declared.cmp.Ordering.TheVariants.{Equal, Greater, Less}
@@ -210,6 +210,17 @@ module _ {X : Type 0} where
     within = omega arith;
     before = λ k inside. omega (arith, key_at es (length es - 1) e (omega (arith, some)) is, keys_far es sorted k (length es - 1) (omega (arith, inside)) (omega (arith, some)), less);
     after = λ k from last. absurd (omega (arith, from, last));
+  }
+
+  pub first_gone : (es : List (ℕ × X)) → drop 1 es ≡ remove es 0
+  first_gone [] = refl
+  first_gone (x ∷ es) = refl
+
+  pub is_last : (number : ℕ) (e : ℕ × X) (es : List (ℕ × X)) → IsSorted es → 0 < length es → e ≡ get_or es (length es - 1) e → e.0 ≡ number → IsAt number (length es - 1) es
+  is_last number e es sorted some is same = record {
+    within = omega (arith, some);
+    before = λ k less. omega (arith, key_at es (length es - 1) e (omega (arith, some)) is, same, keys_rise es sorted k (length es - 1) less (omega (arith, some)));
+    is = key_at es (length es - 1) e (omega (arith, some)) is ∙ same;
   }
 
   pub below_none : (number : ℕ) (es : List (ℕ × X)) → length es ≡ 0 → IsBelow number 0 es

@@ -11,7 +11,7 @@ use Rattle.std.specs.List.{find, insert, remove}
 use Rattle.std.specs.List.Sorted.{IsBinarySearchResult, IsStrictlySortedBy}
 use Rattle.std.specs.Option.{option_copied}
 use Rattle.std.specs.Ordering.{match_ordering, nat_cmp}
-use Rattle.std.specs.Prelude.{Bool, Err, IfSome, List, None, Ok, Option, Result, Some, [], false, if◌then◌else◌, is_ok, length, nat_eq, nat_lt, slice_get, suc, true, zero, ℕ, ◌+◌, ◌<◌, ◌||◌, ◌∷◌, ◌≡◌, ◌≤◌}
+use Rattle.std.specs.Prelude.{Bool, Err, IfSome, List, None, Ok, Option, Result, Some, [], false, if◌then◌else◌, is_ok, length, nat_eq, nat_lt, slice_get, suc, take, true, zero, ℕ, ◌+◌, ◌++◌, ◌<◌, ◌||◌, ◌∷◌, ◌≡◌, ◌≤◌}
 use Rattle.std.specs.Set.{remove_key}
 use Rattle.std.specs.declared.cmp.Ordering.TheVariants.{Greater, Less}
 use Rattle.std.specs.Slice.{IsItemAt}
@@ -28,6 +28,19 @@ pub record IsGapAt (xs : List ℕ) (x i : ℕ) : Type 0 where
   pub within : i ≤ length xs
   pub below : (k : ℕ) → k < i → get_or xs k 0 < x
   pub above : (k : ℕ) → i ≤ k → k < length xs → x < get_or xs k 0
+
+-- ---- what comes or goes at the end
+pub put_last : (xs : List ℕ) (x i : ℕ) → i ≡ length xs → xs ++ x ∷ [] ≡ insert xs i x
+put_last [] x zero is = refl
+put_last [] x (suc i) is = absurd (omega (arith, is))
+put_last (y ∷ xs) x zero is = absurd (omega (arith, is))
+put_last (y ∷ xs) x (suc i) is = ap (λ l. y ∷ l) (put_last xs x i (omega (arith, is)))
+
+pub last_gone : (xs : List ℕ) (i : ℕ) → i + 1 ≡ length xs → take i xs ≡ remove xs i
+last_gone [] i is = absurd (omega (arith, is))
+last_gone (x ∷ []) zero is = refl
+last_gone (x ∷ y ∷ xs) zero is = absurd (omega (arith, is))
+last_gone (x ∷ xs) (suc i) is = ap (λ l. x ∷ l) (last_gone xs i (omega (arith, is)))
 
 -- ---- what a search finds
 far : (xs : List ℕ) → Rises xs → (i j : ℕ) → i ≤ j → j < length xs → get_or xs i 0 ≤ get_or xs j 0

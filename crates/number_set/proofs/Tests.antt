@@ -1,9 +1,11 @@
 -- The tests on numbers, and what they say.
 use Rattle.std.proofs.Common.{arith, inl, inr, ◌⊎◌}
+use Rattle.std.proofs.lemmas.Bool.{false≢true}
 use Rattle.std.proofs.lemmas.Bool.Decides.{nat_tests}
 use Rattle.std.specs.BTreeMap.{is_at}
 use Rattle.std.specs.Ordering.{nat_cmp}
-use Rattle.std.specs.Prelude.{Bool, false, nat_eq, refl, true, ℕ, ◌<◌, ◌≡◌}
+use Rattle.std.specs.Option.{OnSome}
+use Rattle.std.specs.Prelude.{Bool, IsSome, None, Option, Some, false, nat_eq, refl, true, ℕ, ◌<◌, ◌≡◌}
 use Rattle.std.specs.declared.cmp.Ordering.{Ordering}
 use Rattle.std.specs.declared.cmp.Ordering.TheVariants.{Equal, Greater, Less}
 
@@ -42,6 +44,11 @@ above_apart m n h = grind (arith, nat_tests)
 
 pub turned : (m n : ℕ) → nat_eq m n ≡ nat_eq n m
 turned m n = grind (arith, nat_tests)
+
+-- what is said of a value that is there
+pub on_some : {T P : Type 0} (o : Option T) → IsSome o → OnSome o P → P
+on_some None some p = absurd (false≢true some)
+on_some (Some x) some p = p
 
 -- ---- cases
 pub same_or_apart : (m n : ℕ) → (m ≡ n) ⊎ (nat_eq m n ≡ false)

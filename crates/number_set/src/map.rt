@@ -1,18 +1,21 @@
 // Values by number.
 ghost use Rattle.std.specs.BTreeMap.{insert_entry, is_at};
+ghost use Rattle.std.specs.List.{remove};
 ghost use Rattle.std.specs.Map.{remove_entry, set_value};
 ghost use Rattle.std.specs.Ordering.{nat_cmp};
-ghost use Rattle.std.specs.Prelude.{◌≡◌, [], IsNone, IsSome, MatchResult, None, OnErr, OnOk, Some, length};
+ghost use Rattle.std.specs.Prelude.{◌≡◌, ◌<◌, [], IsNone, IsSome, MatchResult, None, OnErr, OnOk, Some, length};
 
 use io_ports::NoMemory;
 use std::alloc::Global;
+use std::collections::VecDeque;
 use std::marker::Model;
 
 /// A value for each of some numbers, in the order of the numbers, side by side. It is made for some hundreds, of which the
-/// greatest come last: what stands behind a number that comes or goes is moved as one block.
+/// greatest come last and the first or the last go: of what stands before and behind a number that comes or goes the fewer
+/// are moved, as one block.
 #[derive(Drop)]
 pub struct NumberMap<T> {
-    items: Vec<(u64, T)>,
+    items: VecDeque<(u64, T)>,
 }
 
 impl<T> Model for NumberMap<T> {
@@ -34,7 +37,7 @@ impl<T: Copy> NumberMap<T> {
         ensures { result ≡ [] }
     {
         NumberMap {
-            items: Vec::new(alloc),
+            items: VecDeque::new(alloc),
         }
     }
 
@@ -85,12 +88,26 @@ impl<T: Copy> NumberMap<T> {
         ensures none { IsNone (value_of number self.old) → self.new ≡ self.old }
     {
         if let Ok(place) = self.place_of(number) {
-            let _ = self.items.remove(place);
+            take_out(&mut self.items, place);
         }
     }
 
-    // Where a number stands, or else where it would come.
+    // Where a number stands, or else where it would come. Most that are asked for stand last.
+    #[inline(always)]
     fn place_of(&self, number: u64) -> Result<usize, usize>
+        ensures { MatchResult result (λ i. IsAt number i self.now) (λ i. IsGap number i self.now) }
+    {
+        let Some(last) = self.items.back() else {
+            return Err(0);
+        };
+        if last.0 == number {
+            return Ok(self.items.len() - 1);
+        }
+        self.search(number)
+    }
+
+    // The same without a look at the last.
+    fn search(&self, number: u64) -> Result<usize, usize>
         ensures { MatchResult result (λ i. IsAt number i self.now) (λ i. IsGap number i self.now) }
     {
         let place = self.count_below(number);
@@ -110,14 +127,25 @@ impl<T: Copy> NumberMap<T> {
     fn count_below(&self, number: u64) -> usize
         ensures { IsBelow number result self.now }
     {
-        let Some(last) = self.items.last() else {
+        let Some(last) = self.items.back() else {
             return 0;
         };
         if last.0 < number {
             return self.items.len();
         }
-        self.items
-            .as_slice()
-            .partition_point(|item| item.0 < number)
+        self.items.partition_point(|item| item.0 < number)
     }
+}
+
+// An item goes. Most that go stand first.
+#[inline(always)]
+fn take_out<T: Copy>(items: &mut VecDeque<(u64, T)>, place: usize)
+    requires { place < length items.old.items }
+    ensures { items.new.items ≡ remove items.old.items place }
+{
+    if place == 0 {
+        let _ = items.pop_front();
+        return;
+    }
+    let _ = items.remove(place);
 }

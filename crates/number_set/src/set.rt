@@ -1,6 +1,7 @@
 // A set of numbers in order.
 ghost use Rattle.number_set.specs.NumberSet.{first, first_above, has, marked};
-ghost use Rattle.std.specs.Prelude.{◌≡◌, ◌+◌, ◌-◌, ◌<◌, ◌≤◌, ◌==◌, ℕ, [], IsSomeAnd, IfSome, OnOk, false, if◌then◌else◌, length, slice_get, slice_index, true};
+ghost use Rattle.std.specs.List.{insert, remove};
+ghost use Rattle.std.specs.Prelude.{◌≡◌, ◌+◌, ◌-◌, ◌<◌, ◌≤◌, ◌==◌, ℕ, [], IsSomeAnd, IfSome, OnOk, false, if◌then◌else◌, length, slice_get, slice_index, true, vec_capacity};
 
 use io_ports::NoMemory;
 use std::alloc::Global;
@@ -73,14 +74,8 @@ impl NumberSet {
         ensures room { self.new.room ≡ self.old.room }
     {
         match self.items.binary_search(&number) {
-            Ok(index) if !is_there => {
-                let _ = self.items.remove(index);
-            }
-            Err(index) if is_there => {
-                let Ok(()) = self.items.insert(index, number) else {
-                    unreachable!()
-                };
-            }
+            Ok(index) if !is_there => take_out(&mut self.items, index),
+            Err(index) if is_there => put_in(&mut self.items, index, number),
             _ => {}
         }
     }
@@ -160,4 +155,35 @@ impl NumberSet {
             Err(index) => index,
         }
     }
+}
+
+// A number comes to a place, for which there is room. Most come last.
+#[inline(always)]
+fn put_in(items: &mut Vec<u64>, index: usize, number: u64)
+    requires within { index ≤ length items.old.items }
+    requires room { length items.old.items < vec_capacity items.old }
+    ensures items { items.new.items ≡ insert items.old.items index number }
+    ensures room { vec_capacity items.new ≡ vec_capacity items.old }
+{
+    if index == items.len() {
+        items.push_reserved(number);
+        return;
+    }
+    let Ok(()) = items.insert(index, number) else {
+        unreachable!()
+    };
+}
+
+// The number at a place goes. Most that go stand last.
+#[inline(always)]
+fn take_out(items: &mut Vec<u64>, index: usize)
+    requires { index < length items.old.items }
+    ensures items { items.new.items ≡ remove items.old.items index }
+    ensures room { vec_capacity items.new ≡ vec_capacity items.old }
+{
+    if index == items.len() - 1 {
+        let _ = items.pop();
+        return;
+    }
+    let _ = items.remove(index);
 }

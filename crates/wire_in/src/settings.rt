@@ -5,24 +5,18 @@ ghost use Rattle.wire_state.specs.Progress.{conn_go, to_go};
 ghost use Rattle.wire_state.specs.Sound.{IsSound};
 
 use crate::faults::close_with;
-use flow_gate::FlowId;
 use flow_notes::Notes;
 use h2_frames::codes::FLOW_CONTROL_ERROR;
 use h2_session::SettingList;
 use io_ports::NoMemory;
 use wire_ends::put;
-use wire_flows::WireFlows;
-use wire_links::Links;
 use wire_outlet::Control;
 use wire_state::{Conn, WireCore};
 
-const HEADER_TABLE_SIZE: u16 = 1;
-
 const INITIAL_WINDOW_SIZE: u16 = 4;
 
-const MAX_FRAME_SIZE: u16 = 5;
-
-const MAX_CONCURRENT_STREAMS: u16 = 3;
+/// Settings from this number on aren't looked at.
+const OTHERS: u16 = 6;
 
 /// What a SETTINGS frame comes to: each setting that it names has its last value, and of the initial windows the greatest is
 /// looked at too, since no stream may pass it on the way.
@@ -50,12 +44,11 @@ pub(crate) fn settings(
     if let Some(concurrent) = named.concurrent {
         core.links.set_concurrent(number, concurrent);
     }
+    let before = initial_of(core, number);
     if !set_windows(core, number, named) {
         return close_with(core, number, FLOW_CONTROL_ERROR, notes);
     }
-    if named.payload.is_some() || named.initial.is_some() {
-        refresh_all(core, number)?;
-    }
+    refresh_all(core, number, before)?;
     let ack = Control::settings_ack(core.alloc)?;
     put(core, number, ack)
 }
@@ -89,71 +82,46 @@ fn set_windows_of(conn: &mut Conn, named: Named) -> bool
     }
 }
 
-// It isn't inlined, and the state of its loop is plain numbers, so that it lies in registers: a frame may name many settings.
+// What the settings come to. The last value of each number lies in that place, and of all that aren't looked at in the last one: so
+// no branch depends on the numbers, of which a frame may have many.
 #[inline(never)]
 fn named_in(list: &SettingList) -> Named {
-    let mut table = false;
-    let mut concurrent = None;
-    let mut payload = None;
-    let mut windows = false;
+    let mut last = [None; 7];
     let mut greatest = 0;
-    let mut last = 0;
-    for setting in list.as_slice() {
-        let value = setting.value;
-        match setting.id {
-            INITIAL_WINDOW_SIZE => {
-                windows = true;
-                greatest = value.max(greatest);
-                last = value;
-            }
-            HEADER_TABLE_SIZE => table = true,
-            MAX_CONCURRENT_STREAMS => concurrent = Some(value),
-            MAX_FRAME_SIZE => payload = Some(value),
-            _ => {}
-        }
+    for setting in list.iter() {
+        last[usize::from(setting.id.min(OTHERS))] = Some(setting.value);
+        let window = if setting.id == INITIAL_WINDOW_SIZE {
+            setting.value
+        } else {
+            0
+        };
+        greatest = window.max(greatest);
     }
-    let initial = if windows {
-        Some((greatest, last))
-    } else {
-        None
-    };
+    let [_, table, _, concurrent, initial, payload, _] = last;
     Named {
-        table,
+        table: table.is_some(),
         concurrent,
         payload,
-        initial,
+        initial: initial.map(|window| (greatest, window)),
     }
 }
 
-// What goes next of each flow that goes to the connection, whose windows are others now.
-fn refresh_all(core: &mut WireCore, number: u32) -> Result<(), NoMemory>
+// The initial window of a stream that the peer has granted.
+fn initial_of(core: &WireCore, number: u32) -> u32 {
+    match core.conns.get(&number) {
+        Some(conn) => conn.windows.send.initial(),
+        None => 0,
+    }
+}
+
+// What goes next of the flows that go to the connection, where the initial window was this one before.
+fn refresh_all(core: &mut WireCore, number: u32, before: u32) -> Result<(), NoMemory>
     requires sound { IsSound core.old }
     ensures sound { OnOk result (IsSound core.new) }
     ensures go { to_go core.new ≤ to_go core.old }
 {
     match core.conns.get_mut(&number) {
-        Some(conn) => refresh_each(conn, &core.links, &core.flows, number),
+        Some(conn) => conn.refresh_windowed(&core.flows, before),
         None => Ok(()),
     }
-}
-
-fn refresh_each(
-    conn: &mut Conn,
-    links: &Links,
-    flows: &WireFlows,
-    number: u32,
-) -> Result<(), NoMemory>
-    ensures rest { conn.new ≡ record conn.old { ready = conn.new.ready } }
-    ensures go { conn_go conn.new ≤ conn_go conn.old }
-{
-    let back = conn.is_client();
-    let mut after = 0;
-    for _exchange in 0..links.exchanges_of(number) {
-        let Some(exchange) = links.next_of(number, after) else {
-            return Ok(());
-        };
-        conn.refresh(flows, FlowId { exchange, back })?;
-        after = exchange;
-    }
-    Ok(())
 }

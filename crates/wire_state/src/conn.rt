@@ -270,13 +270,15 @@ impl Conn {
         self.windows.recv.grant(exchange).min(LAST_STREAM)
     }
 
-    /// A unit of a flow of the exchange was framed, which ended its stream here where `last` holds; `next` goes next of it.
+    /// A unit of a flow of the exchange was framed, which ended its stream here where `last` holds; `next` goes next of it, where
+    /// its stream's window has so much left.
     pub fn framed(
         &mut self,
         exchange: u64,
         stream: u32,
         last: bool,
         next: Unit,
+        left: i64,
     ) -> Result<(), NoMemory>
         ensures rest { self.new ≡ record self.old { inlet = self.new.inlet; windows = self.new.windows; ready = self.new.ready; framed_last = exchange } }
         ensures room { self.new.windows.send.conn ≡ self.old.windows.send.conn }
@@ -284,7 +286,7 @@ impl Conn {
     {
         self.framed_last = exchange;
         self.ended_where(last, exchange, stream);
-        self.ready.set(exchange, next)
+        self.ready.set(exchange, next, left)
     }
 
     // This side of a stream ended, where `last` holds.

@@ -129,8 +129,31 @@ impl Conn {
         let send = &self.windows.send;
         let room = send.room(flow.exchange).unwrap_or(0);
         match flows.unit_of(flow, room, send.payload()) {
-            Some(unit) => self.ready.set(flow.exchange, unit),
+            Some(unit) => self.ready.set(flow.exchange, unit, room),
             None => Ok(()),
         }
+    }
+
+    /// Looks up what goes next of the flows that go here, where the peer's initial window of a stream was `before`: of those that
+    /// their streams' windows held where it grew, of those with octets where it shrank, and of none where it is the same.
+    pub fn refresh_windowed(&mut self, flows: &WireFlows, before: u32) -> Result<(), NoMemory>
+        ensures rest { self.new ≡ record self.old { ready = self.new.ready } }
+        ensures go { conn_go self.new ≤ conn_go self.old }
+    {
+        let initial = self.windows.send.initial();
+        if initial == before {
+            return Ok(());
+        }
+        let grew = initial > before;
+        let back = self.is_client();
+        let mut after = 0;
+        for _place in 0..self.ready.windowed(grew).len() {
+            let Some(exchange) = self.ready.windowed(grew).next_above(after) else {
+                return Ok(());
+            };
+            self.refresh(flows, FlowId { exchange, back })?;
+            after = exchange;
+        }
+        Ok(())
     }
 }

@@ -136,7 +136,7 @@ impl Conn {
         flows.list_framed(flow, last);
         let room = self.windows.send.room(flow.exchange).unwrap_or(0);
         let next = flows.next_unit(flow, room, self.windows.send.payload());
-        self.framed(flow.exchange, stream, last, next)?;
+        self.framed(flow.exchange, stream, last, next, room)?;
         Ok(Some(framed))
     }
 
@@ -171,7 +171,8 @@ impl Conn {
             return Ok(None);
         };
         self.windows.send.spend(flow.exchange, framed.n);
-        self.framed(flow.exchange, stream, framed.last, framed.next)?;
+        let left = room.saturating_sub(i64::from(framed.n));
+        self.framed(flow.exchange, stream, framed.last, framed.next, left)?;
         Ok(Some(framed))
     }
 

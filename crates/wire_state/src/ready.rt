@@ -6,11 +6,12 @@ use std::alloc::Global;
 
 /// The exchanges that may have a unit for a connection: `free` those whose unit needs no window (a head, trailers, or an
 /// empty frame for the end), `body` those with octets that fit into their stream's window. What the unit is, the exchange is
-/// asked when it is framed.
+/// asked when it is framed. `held` are those without a unit whose stream's window is used up: once it has room they may have one.
 #[derive(Drop)]
 pub struct Ready {
     free: NumberSet,
     body: NumberSet,
+    held: NumberSet,
 }
 
 impl Ready {
@@ -19,24 +20,35 @@ impl Ready {
         Ready {
             free: NumberSet::new(alloc),
             body: NumberSet::new(alloc),
+            held: NumberSet::new(alloc),
         }
     }
 
-    /// From now on this is what goes next of the exchange.
+    /// From now on this is what goes next of the exchange, whose stream's window has this room.
     #[inline(always)]
-    pub fn set(&mut self, exchange: u64, unit: Unit) -> Result<(), NoMemory> {
+    pub fn set(&mut self, exchange: u64, unit: Unit, room: i64) -> Result<(), NoMemory> {
         match unit {
-            Unit::Nothing => self.remove(exchange),
+            Unit::Nothing if room > 0 => self.remove(exchange),
+            Unit::Nothing => self.hold(exchange)?,
             Unit::Body { n, .. } if n > 0 => {
                 self.free.remove(exchange);
+                self.held.remove(exchange);
                 insert(&mut self.body, exchange)?;
             }
             _ => {
                 self.body.remove(exchange);
+                self.held.remove(exchange);
                 insert(&mut self.free, exchange)?;
             }
         }
         Ok(())
+    }
+
+    // The exchange has no unit until its stream's window has room.
+    fn hold(&mut self, exchange: u64) -> Result<(), NoMemory> {
+        self.free.remove(exchange);
+        self.body.remove(exchange);
+        insert(&mut self.held, exchange)
     }
 
     /// The exchange has no unit any more.
@@ -44,6 +56,13 @@ impl Ready {
     pub fn remove(&mut self, exchange: u64) {
         self.free.remove(exchange);
         self.body.remove(exchange);
+        self.held.remove(exchange);
+    }
+
+    /// The exchanges whose units may be others once the windows of all streams have changed: those that are held where the
+    /// windows grew, and those with octets where they shrank.
+    pub(crate) fn windowed(&self, grew: bool) -> &NumberSet {
+        if grew { &self.held } else { &self.body }
     }
 
     /// The exchange whose unit goes next after that of another, in rotation, where the connection's window has this room.

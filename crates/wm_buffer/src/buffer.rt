@@ -1,5 +1,5 @@
 // The buffer.
-ghost use Rattle.std.specs.Prelude.{◌≡◌, ◌==◌, ◌<◌, ◌≤◌, ◌+◌, ◌^◌, ◌++◌, length, take, IsOk, OnOk, OnErr, IfOk};
+ghost use Rattle.std.specs.Prelude.{◌≡◌, ◌==◌, ◌<◌, ◌≤◌, ◌+◌, ◌^◌, ◌++◌, length, take, true, IsOk, OnOk, OnErr, IfOk};
 ghost use Rattle.wm_buffer.specs.Watermark.{crossing};
 ghost use Rattle.wm_buffer.specs.Buffer.{empty_buffer, AppendsOctets, DropsOctets, KeepsOctets, IsWithinMarks};
 
@@ -104,6 +104,9 @@ impl WatermarkBuffer {
         ensures covered { length head.now + n ≤ to.old.spare → IsOk result }
         ensures err { OnErr result ((self.new ≡ self.old) × (to.new ≡ to.old)) }
     {
+        if head.is_empty() && n as usize == self.store.len() && self.may_swap(to) {
+            return Ok(self.swap_with(to));
+        }
         to.store.reserve(head.len().saturating_add(n as usize))?;
         let (front, back) = self.store.first_pieces(n as usize);
         to.store.append(head);
@@ -115,6 +118,32 @@ impl WatermarkBuffer {
             from: drained,
             to: raised,
         })
+    }
+
+    // Whether another buffer is empty, and has room for as many octets as this one in all.
+    fn may_swap(&self, to: &WatermarkBuffer) -> bool
+        ensures empty { result ≡ true → length to.now.octets ≡ 0 }
+        ensures room { result ≡ true → to.now.spare ≡ length self.now.octets + self.now.spare }
+    {
+        to.is_empty() && to.store.places() == self.store.places()
+    }
+
+    // All octets go to such a buffer, by an exchange of the rings. None is copied.
+    fn swap_with(&mut self, to: &mut WatermarkBuffer) -> Shifted
+        requires empty { length to.old.octets ≡ 0 }
+        requires room { to.old.spare ≡ length self.old.octets + self.old.spare }
+        ensures drops { DropsOctets self.old self.new (length self.old.octets) }
+        ensures appends { AppendsOctets to.old to.new self.old.octets }
+        ensures from { result.from ≡ crossing self.old.above self.new.above }
+        ensures to { result.to ≡ crossing to.old.above to.new.above }
+    {
+        self.store.swap(&mut to.store);
+        let raised = to.watermark.follow(to.store.len());
+        let drained = self.watermark.follow(self.store.len());
+        Shifted {
+            from: drained,
+            to: raised,
+        }
     }
 
     /// A prefix of the octets, nonempty where they are. The ring has two parts, and this is the first

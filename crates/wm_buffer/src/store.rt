@@ -6,6 +6,7 @@ use circular_buffer::HeapCircularBuffer;
 use io_ports::NoMemory;
 use std::alloc::Global;
 use std::marker::Model;
+use std::mem;
 
 /// The octets that a store has places for.
 const PLACES: usize = 2_147_483_647;
@@ -55,6 +56,24 @@ impl Store {
             None => 0,
             Some(ring) => ring.capacity() - ring.len(),
         }
+    }
+
+    /// How many octets there is room for in all.
+    pub fn places(&self) -> usize
+        ensures { result ≡ length self.now.octets + self.now.spare }
+    {
+        match &self.ring {
+            None => 0,
+            Some(ring) => ring.capacity(),
+        }
+    }
+
+    /// The octets of two stores change places, and their room with them.
+    pub fn swap(&mut self, other: &mut Store)
+        ensures here { self.new ≡ other.old }
+        ensures there { other.new ≡ self.old }
+    {
+        mem::swap(&mut self.ring, &mut other.ring);
     }
 
     /// The octets in two slices.

@@ -35,7 +35,7 @@ fn say_octets(answers: &mut Answers, octets: &Octets) {
 
 fn say_settings(answers: &mut Answers, list: &SettingList) {
     answers.say("settings");
-    for setting in list.as_slice() {
+    for setting in list.iter() {
         answers.say_with(" ", u64::from(setting.id));
         answers.say_with("=", u64::from(setting.value));
     }

@@ -1,23 +1,23 @@
-use Rattle.std.proofs.Common.{◌≡◌, ◌+◌, ◌∙◌, ◌&&◌, Bool, List, Some, ℕ, false, length, ap, sym, true}
+use Rattle.std.proofs.Common.{◌≡◌, ◌+◌, ◌∙◌, ◌&&◌, Bool, List, Some, ℕ, false, ap, sym, true}
 use Rattle.std.proofs.lemmas.Bool.{and_from, and_left, and_parts, and_right}
 use Rattle.std.specs.Str.{bytes_eq}
-use Rattle.hpack_codec.specs.Table.{line, static_table}
+use Rattle.hpack_codec.specs.Table.{line, row_of, static_table}
 use Rattle.hpack_codec.specs.declared.line.Line.{Line}
-use Rattle.hpack_codec.proofs.StaticPlaces.{OnlyNamed, among, is_within, named_as_long, search_begins, searched, searched_all, searches_on}
+use Rattle.hpack_codec.proofs.StaticPlaces.{OnlyNamed, among, is_within, named_alike, search_begins, searched, searched_all, searches_on}
 use Rattle.hpack_codec.proofs.static_table.index_of_entry.Goals as goal
 use Rattle.hpack_codec.proofs.static_table.index_of_entry.Goals.{else-eq-via-then-eq+else-eq-2, else-eq-via-else-eq}
 
-as_long : (name value : List ℕ) → OnlyNamed (λ l. bytes_eq l.name name && bytes_eq l.value value) (length name)
-as_long name value l passed = named_as_long name l (and_parts (bytes_eq l.name name) (bytes_eq l.value value) passed).0
+alike : (name value : List ℕ) → OnlyNamed (λ l. bytes_eq l.name name && bytes_eq l.value value) (row_of name)
+alike name value l passed = named_alike name l (and_parts (bytes_eq l.name name) (bytes_eq l.value value) passed).0
 
 pub loop-place-init : goal.loop-place-init
 loop-place-init c =
     let passes : Line → Bool = λ l. bytes_eq l.name c.args.name.now && bytes_eq l.value c.args.value.now in
-    search_begins passes (length c.args.name.now) (as_long c.args.name.now c.args.value.now) ∙ ap (among passes static_table) (sym c.places_of-place-items.ensures)
+    search_begins passes (row_of c.args.name.now) (alike c.args.name.now c.args.value.now) ∙ ap (among passes static_table) (sym c.places_of-place-items.ensures)
 
 pub static_entry-entry-requires : goal.static_entry-entry-requires
 static_entry-entry-requires c =
-    is_within c.places_of-place-items.result.now (length c.args.name.now) c.loop-place.place-index c.from.result c.places_of-place-items.ensures c.loop-place-test.true c.from.ensures
+    is_within c.places_of-place-items.result.now (row_of c.args.name.now) c.loop-place.place-index c.from.result c.places_of-place-items.ensures c.loop-place-test.true c.from.ensures
 
 pub returns-then-eq-2 : goal.returns-then-eq-2
 returns-then-eq-2 c =

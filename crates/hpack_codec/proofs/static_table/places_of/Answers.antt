@@ -1,11 +1,8 @@
-use Rattle.std.proofs.Common.{refl, sym, arith, ◌∙◌}
-use Rattle.hpack_codec.specs.Table.{static_table}
-use Rattle.hpack_codec.proofs.StaticPlaces.{none_as_long, row_of}
+use Rattle.std.proofs.Common.{ap, refl, ◌∙◌}
+use Rattle.hpack_codec.specs.Table.{places_of, static_table}
+use Rattle.hpack_codec.proofs.StaticPlaces.{row_is}
 use Rattle.hpack_codec.proofs.static_table.places_of.Goals as goal
 
-pub returns-then-len-lt28 : goal.returns-then-len-lt28
-unfolding static_table
-returns-then-len-lt28 c = c.row_at.ensures ∙ row_of _ c.args.len refl (omega arith)
-
 pub returns : goal.returns
-returns c = sym (none_as_long c.args.len (omega arith))
+unfolding static_table
+returns c = c.row_at.ensures ∙ row_is _ c.row_of.result refl c.row_of.ensures.few ∙ ap places_of c.row_of.ensures.row

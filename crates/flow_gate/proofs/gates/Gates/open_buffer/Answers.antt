@@ -1,11 +1,11 @@
 use Rattle.flow_gate.proofs.Calls.{buffer_opened}
 use Rattle.flow_gate.proofs.gates.Gates.open_buffer.Goals as goal
-use Rattle.flow_gate.proofs.gates.Gates.open_buffer.Goals.{Joined-branch-2}
+use Rattle.flow_gate.proofs.gates.Gates.open_buffer.Goals.{Joined-branch-3}
 use Rattle.flow_gate.specs.Changes.{Knows}
 use Rattle.flow_gate.specs.Parts.{AreGates, board_of}
 
-done : (c : Joined-branch-2) → Knows c.args.buffer (board_of c.self.inside.flows.entries c.self.inside.buffers.entries) (board_of c.self.inside.flows.entries c.insert.new.self.entries) × AreGates c.self.inside.flows.entries c.insert.new.self.entries
-done c = buffer_opened c.args.buffer c.new.result c.self.inside.flows.entries c.self.inside.buffers.entries _ (rw (← c.self.view_is) at c.requires) c.new.ensures
+done : (c : Joined-branch-3) → Knows c.args.buffer (board_of c.self.inside.flows.entries c.self.inside.buffers.entries) (board_of c.self.inside.flows.entries c.insert.new.self.entries) × AreGates c.self.inside.flows.entries c.insert.new.self.entries
+done c = buffer_opened c.args.buffer c.begun-gate.result c.self.inside.flows.entries c.self.inside.buffers.entries _ (rw (← c.self.view_is) at c.requires) c.begun-gate.ensures
     c.in_ok-insert.ensures.updates.0 c.self.invariant
 
 pub invariant_of-self-2 : goal.invariant_of-self-2

@@ -27,7 +27,10 @@ link_before-requires-clause-end g c =
     (ap (λ p. p.ptr) c.index-end.ensures ∙ end_is i.note.rings i.ends.items c.args.ring c.index-end.result.now c.self.invariant.kept.ends_are (rw c.self.view_is c.requires)))
 
 pub invariant_of-self : goal.invariant_of-self
-invariant_of-self g c =
+invariant_of-self g c = c.self.invariant
+
+pub invariant_of-self-2 : goal.invariant_of-self-2
+invariant_of-self-2 g c =
     let i = c.self.inside in let p = c.put.result.0.ptr in let n = record c.get_mut-node.result.now { value = Some c.args.value } in let s = c.index-end.result.now.ptr in let new = c.link_before.new.heap.cells in
     subst (λ rs. Sound new i.ends.items rs) (sym c.push.ensures)
     (Sound-pushed i.heap.cells i.ends.items i.note.rings c.self.invariant.kept c.args.ring (rw c.self.view_is c.requires) p c.put.result.1 n c.put.ensures.fresh c.args.value refl s new

@@ -22,7 +22,7 @@ pub unwrap-requires : goal.unwrap-requires
 unwrap-requires g c = let i = c.self.inside in let p = c.args.at.ptr in let cs = c.unlink.new.heap.cells in
     let x = the_value i.heap.cells i.ends.items i.note.rings c.self.invariant.kept p (rw c.self.view_is c.requires) in
     let k = had p cs _ (IsIn-both p cs _ _ c.take-whole.ensures.value (Loose-pulled i.heap.cells i.ends.items i.note.rings c.self.invariant.kept p (rw c.self.view_is c.requires) cs c.unlink.ensures.written).value) in
-    subst IsSome (sym (ap (λ m. m.value) c.into_inner-value.ensures ∙ ap (λ m. m.value) k.2.0 ∙ k.2.1)) refl
+    subst IsSome (sym (c.take-value.ensures.value ∙ ap (λ m. m.value) c.deref_mut.ensures.value ∙ ap (λ m. m.value) k.2.0 ∙ k.2.1)) refl
 
 pub invariant_of-self : goal.invariant_of-self
 invariant_of-self g c = let i = c.self.inside in let p = c.args.at.ptr in let cs = c.unlink.new.heap.cells in
@@ -36,7 +36,7 @@ pub returns-clause-value : goal.returns-clause-value
 returns-clause-value g c = let i = c.self.inside in let p = c.args.at.ptr in let cs = c.unlink.new.heap.cells in
     let x = the_value i.heap.cells i.ends.items i.note.rings c.self.invariant.kept p (rw c.self.view_is c.requires) in
     let k = had p cs _ (IsIn-both p cs _ _ c.take-whole.ensures.value (Loose-pulled i.heap.cells i.ends.items i.note.rings c.self.invariant.kept p (rw c.self.view_is c.requires) cs c.unlink.ensures.written).value) in
-    ap (node_value p) (sym c.self.view_is) ∙ x.1 ∙ sym k.2.1 ∙ ap (λ m. m.value) (sym k.2.0) ∙ ap (λ m. m.value) (sym c.into_inner-value.ensures) ∙ c.unwrap.ensures
+    ap (node_value p) (sym c.self.view_is) ∙ x.1 ∙ sym k.2.1 ∙ ap (λ m. m.value) (sym k.2.0) ∙ ap (λ m. m.value) (sym c.deref_mut.ensures.value) ∙ sym c.take-value.ensures.value ∙ c.unwrap.ensures
 
 pub returns-clause-left : goal.returns-clause-left
 returns-clause-left g c = ap seen c.pull.ensures ∙ seen-pull c.args.at.ptr c.self.inside.note.rings ∙ ap (pull_from c.args.at.ptr) c.self.view_is

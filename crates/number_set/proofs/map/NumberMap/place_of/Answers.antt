@@ -1,11 +1,15 @@
-use Rattle.number_set.proofs.Entries.{is_gap}
+use Rattle.number_set.proofs.Entries.{is_last}
 use Rattle.number_set.proofs.map.NumberMap.place_of.Goals as goal
-use Rattle.number_set.specs.NumberMap.{IsGap}
-use Rattle.std.proofs.Common.{subst}
+use Rattle.number_set.specs.NumberMap.{IsAt}
+use Rattle.std.proofs.Common.{arith, subst}
+use Rattle.std.proofs.Math.ListN.{get_or}
+use Rattle.std.specs.Prelude.{length, ◌-◌, ◌≡◌}
 
-pub returns-else-item-number : goal.returns-else-item-number
-returns-else-item-number g c =
-    let item = rw c.deref.ensures.value at c.in-Some.ensures.lookup in
-    subst (λ es. IsGap c.args.number c.count_below-place.result es) c.self.view_is
-    (is_gap c.args.number c.count_below-place.result c.in-Some.item.now c.self.inside.items.items (rw (← c.self.view_is) at c.count_below-place.ensures)
-    c.self.invariant item.3.0 item.1 c.if-item-number.false)
+pub returns-then-last-number : goal.returns-then-last-number
+returns-then-last-number g c =
+    let item = c.in-Some.ensures.item in
+    let long : length c.self.inside.items.items ≡ c.len.result = omega (arith, c.len.ensures, c.self.inside.items.ok.0) in
+    let last = subst (λ n. c.in-Some.last.now ≡ get_or c.self.inside.items.items (n - 1) c.in-Some.last.now) c.self.inside.items.ok.0 item.1 in
+    subst (λ es. IsAt c.args.number (c.len.result - 1) es) c.self.view_is
+    (subst (λ n. IsAt c.args.number (n - 1) c.self.inside.items.items) long
+    (is_last c.args.number c.in-Some.last.now c.self.inside.items.items c.self.invariant (omega (arith, item.3.0, c.self.inside.items.ok.0)) last c.if-last-number.true))

@@ -7,21 +7,26 @@ use Rattle.std.specs.Map.{remove_entry}
 use Rattle.std.specs.Ordering.{nat_cmp}
 use Rattle.std.specs.Prelude.{None}
 
+pub take_out-requires : goal.take_out-requires
+take_out-requires g c =
+    let at : IsAt c.args.number c.in-Ok.place c.self.inside.items.items = rw (← c.self.view_is) at c.in-Ok.ensures in
+    at.within
+
 pub invariant_of-self : goal.invariant_of-self
 invariant_of-self g c =
     let at : IsAt c.args.number c.in-Ok.place c.self.inside.items.items = rw (← c.self.view_is) at c.in-Ok.ensures in
-    sorted_removed c.args.number c.self.inside.items.items c.remove.new.self.items c.self.invariant (c.remove.ensures.items ∙ remove_at c.args.number c.in-Ok.place c.self.inside.items.items at)
+    sorted_removed c.args.number c.self.inside.items.items c.take_out.new.items.items c.self.invariant (c.take_out.ensures ∙ remove_at c.args.number c.in-Ok.place c.self.inside.items.items at)
 
 pub returns-in-Ok-clause-removed : goal.returns-in-Ok-clause-removed
 returns-in-Ok-clause-removed g c =
     let at : IsAt c.args.number c.in-Ok.place c.self.inside.items.items = rw (← c.self.view_is) at c.in-Ok.ensures in
-    c.remove.ensures.items ∙ remove_at c.args.number c.in-Ok.place c.self.inside.items.items at ∙ ap (remove_entry (is_at (nat_cmp c.args.number))) c.self.view_is
+    c.take_out.ensures ∙ remove_at c.args.number c.in-Ok.place c.self.inside.items.items at ∙ ap (remove_entry (is_at (nat_cmp c.args.number))) c.self.view_is
 
 pub returns-in-Ok-clause-puts : goal.returns-in-Ok-clause-puts
 returns-in-Ok-clause-puts g c =
     let at : IsAt c.args.number c.in-Ok.place c.self.inside.items.items = rw (← c.self.view_is) at c.in-Ok.ensures in
-    subst (λ es. Puts c.args.number None es c.remove.new.self.items) c.self.view_is
-    (puts_removed c.args.number c.in-Ok.place c.self.inside.items.items c.remove.new.self.items at c.self.invariant c.remove.ensures.items)
+    subst (λ es. Puts c.args.number None es c.take_out.new.items.items) c.self.view_is
+    (puts_removed c.args.number c.in-Ok.place c.self.inside.items.items c.take_out.new.items.items at c.self.invariant c.take_out.ensures)
 
 pub returns-in-Ok-clause-none : goal.returns-in-Ok-clause-none
 returns-in-Ok-clause-none g c = λ none. absurd (not_none c.args.number c.in-Ok.place c.args.self.now c.in-Ok.ensures none)

@@ -1,9 +1,7 @@
 use Rattle.std.proofs.Common.{ap, arith, subst, sym, ◌∙◌}
-use Rattle.std.proofs.lemmas.Bool.{false≢true}
 use Rattle.std.specs.List.Sorted.{IsBinarySearchResult}
 use Rattle.std.specs.Ordering.{nat_cmp}
-use Rattle.std.specs.Prelude.{Err, IsOk, Ok, false, is_ok, length, true, ◌<◌}
-use Rattle.std.specs.Vec.{vec_capacity}
+use Rattle.std.specs.Prelude.{Err, Ok, false, true}
 use Rattle.number_set.proofs.Counted.{count_of, members_of}
 use Rattle.number_set.proofs.Searching.{IsFoundAt, IsGapAt, found_at, gap_at, has_gap, marked_found, marked_gap, marked_in, marked_out}
 use Rattle.number_set.proofs.Sorted.{rises_marked}
@@ -15,33 +13,42 @@ invariant_of-self c =
     let found : IsFoundAt c.self.inside.items.items c.args.number c.in-Ok.index =
     found_at c.self.inside.items.items c.args.number c.in-Ok.index (subst (λ xs. IsBinarySearchResult (λ y. nat_cmp y c.args.number) xs (Ok c.in-Ok.index)) c.deref.ensures.value c.in-Ok.ensures.position) c.self.invariant.order in
     record {
-      order = subst Rises (sym (c.remove.ensures.items ∙ marked_out c.self.inside.items.items c.args.number c.in-Ok.index found c.self.invariant.order)) (rises_marked c.self.inside.items.items c.args.number false c.self.invariant.order);
-      room = omega (arith, c.remove.new.self.ok.0, c.remove.new.self.ok.1);
+      order = subst Rises (sym (c.take_out.ensures.items ∙ marked_out c.self.inside.items.items c.args.number c.in-Ok.index found c.self.invariant.order)) (rises_marked c.self.inside.items.items c.args.number false c.self.invariant.order);
+      room = omega (arith, c.take_out.new.items.ok.0, c.take_out.new.items.ok.1);
     }
 
-pub unreachable-requires : goal.unreachable-requires
-unreachable-requires c =
+pub take_out-requires : goal.take_out-requires
+take_out-requires c =
+    let found : IsFoundAt c.self.inside.items.items c.args.number c.in-Ok.index =
+    found_at c.self.inside.items.items c.args.number c.in-Ok.index (subst (λ xs. IsBinarySearchResult (λ y. nat_cmp y c.args.number) xs (Ok c.in-Ok.index)) c.deref.ensures.value c.in-Ok.ensures.position) c.self.invariant.order in
+    found.within
+
+pub put_in-requires-clause-within : goal.put_in-requires-clause-within
+put_in-requires-clause-within c =
     let gap : IsGapAt c.self.inside.items.items c.args.number c.in-Err.index =
     gap_at c.self.inside.items.items c.args.number c.in-Err.index (subst (λ xs. IsBinarySearchResult (λ y. nat_cmp y c.args.number) xs (Err c.in-Err.index)) c.deref.ensures.value c.in-Err.ensures.position) c.self.invariant.order in
-    let room : length c.self.inside.items.items < vec_capacity c.self.inside.items =
-    (rw (← c.self.view_is) at c.requires) c.if-is_there.true (has_gap c.self.inside.items.items c.args.number c.in-Err.index gap.below gap.above) in
-    let ok : IsOk c.insert.result = c.insert.ensures.succeeds (omega (arith, room, c.self.inside.items.ok.0)) in
-    false≢true (sym (ap is_ok c.in_default-insert.is) ∙ ok)
+    gap.within
+
+pub put_in-requires-clause-room : goal.put_in-requires-clause-room
+put_in-requires-clause-room c =
+    let gap : IsGapAt c.self.inside.items.items c.args.number c.in-Err.index =
+    gap_at c.self.inside.items.items c.args.number c.in-Err.index (subst (λ xs. IsBinarySearchResult (λ y. nat_cmp y c.args.number) xs (Err c.in-Err.index)) c.deref.ensures.value c.in-Err.ensures.position) c.self.invariant.order in
+    (rw (← c.self.view_is) at c.requires) c.if-is_there.true (has_gap c.self.inside.items.items c.args.number c.in-Err.index gap.below gap.above)
 
 pub invariant_of-self-then-is_there : goal.invariant_of-self-then-is_there
 invariant_of-self-then-is_there c =
     let gap : IsGapAt c.self.inside.items.items c.args.number c.in-Err.index =
     gap_at c.self.inside.items.items c.args.number c.in-Err.index (subst (λ xs. IsBinarySearchResult (λ y. nat_cmp y c.args.number) xs (Err c.in-Err.index)) c.deref.ensures.value c.in-Err.ensures.position) c.self.invariant.order in
     record {
-      order = subst Rises (sym (c.in-Ok-insert.ensures.items ∙ marked_in c.self.inside.items.items c.args.number c.in-Err.index gap)) (rises_marked c.self.inside.items.items c.args.number true c.self.invariant.order);
-      room = omega (arith, c.insert.new.self.ok.0, c.insert.new.self.ok.1);
+      order = subst Rises (sym (c.put_in.ensures.items ∙ marked_in c.self.inside.items.items c.args.number c.in-Err.index gap)) (rises_marked c.self.inside.items.items c.args.number true c.self.invariant.order);
+      room = omega (arith, c.put_in.new.items.ok.0, c.put_in.new.items.ok.1);
     }
 
 pub returns-in-Ok-clause-items : goal.returns-in-Ok-clause-items
 returns-in-Ok-clause-items c =
     let found : IsFoundAt c.self.inside.items.items c.args.number c.in-Ok.index =
     found_at c.self.inside.items.items c.args.number c.in-Ok.index (subst (λ xs. IsBinarySearchResult (λ y. nat_cmp y c.args.number) xs (Ok c.in-Ok.index)) c.deref.ensures.value c.in-Ok.ensures.position) c.self.invariant.order in
-    c.remove.ensures.items ∙ marked_out c.self.inside.items.items c.args.number c.in-Ok.index found c.self.invariant.order
+    c.take_out.ensures.items ∙ marked_out c.self.inside.items.items c.args.number c.in-Ok.index found c.self.invariant.order
     ∙ ap (λ b. marked c.args.number b c.self.inside.items.items) (sym c.if-not-is_there.true)
     ∙ ap (λ (n : NumberSet). marked c.args.number c.args.is_there n.items) c.self.view_is
 
@@ -53,21 +60,13 @@ returns-else-not-is_there-clause-items c =
     ∙ ap (λ b. marked c.args.number b c.self.inside.items.items) (sym c.if-not-is_there.false)
     ∙ ap (λ (n : NumberSet). marked c.args.number c.args.is_there n.items) c.self.view_is
 
-pub returns-in-Ok-insert-clause-items : goal.returns-in-Ok-insert-clause-items
-returns-in-Ok-insert-clause-items c =
+pub returns-in-Err-clause-items : goal.returns-in-Err-clause-items
+returns-in-Err-clause-items c =
     let gap : IsGapAt c.self.inside.items.items c.args.number c.in-Err.index =
     gap_at c.self.inside.items.items c.args.number c.in-Err.index (subst (λ xs. IsBinarySearchResult (λ y. nat_cmp y c.args.number) xs (Err c.in-Err.index)) c.deref.ensures.value c.in-Err.ensures.position) c.self.invariant.order in
-    c.in-Ok-insert.ensures.items ∙ marked_in c.self.inside.items.items c.args.number c.in-Err.index gap
+    c.put_in.ensures.items ∙ marked_in c.self.inside.items.items c.args.number c.in-Err.index gap
     ∙ ap (λ b. marked c.args.number b c.self.inside.items.items) (sym c.if-is_there.true)
     ∙ ap (λ (n : NumberSet). marked c.args.number c.args.is_there n.items) c.self.view_is
-
-pub returns-in-Ok-insert-clause-room : goal.returns-in-Ok-insert-clause-room
-returns-in-Ok-insert-clause-room c =
-    let gap : IsGapAt c.self.inside.items.items c.args.number c.in-Err.index =
-    gap_at c.self.inside.items.items c.args.number c.in-Err.index (subst (λ xs. IsBinarySearchResult (λ y. nat_cmp y c.args.number) xs (Err c.in-Err.index)) c.deref.ensures.value c.in-Err.ensures.position) c.self.invariant.order in
-    let room : length c.self.inside.items.items < vec_capacity c.self.inside.items =
-    (rw (← c.self.view_is) at c.requires) c.if-is_there.true (has_gap c.self.inside.items.items c.args.number c.in-Err.index gap.below gap.above) in
-    (c.insert.ensures.in_place (omega (arith, room, c.self.inside.items.ok.0))).1.0 ∙ ap (λ (n : NumberSet). n.room) c.self.view_is
 
 pub returns-else-is_there-clause-items : goal.returns-else-is_there-clause-items
 returns-else-is_there-clause-items c =
@@ -78,10 +77,10 @@ returns-else-is_there-clause-items c =
     ∙ ap (λ (n : NumberSet). marked c.args.number c.args.is_there n.items) c.self.view_is
 
 pub returns-in-Ok-clause-members : goal.returns-in-Ok-clause-members
-returns-in-Ok-clause-members c = members_of c.args.self.now.items c.remove.new.self.items c.args.number c.args.is_there (subst (λ (n : NumberSet). Rises n.items) c.self.view_is c.self.invariant.order) (returns-in-Ok-clause-items c)
+returns-in-Ok-clause-members c = members_of c.args.self.now.items c.take_out.new.items.items c.args.number c.args.is_there (subst (λ (n : NumberSet). Rises n.items) c.self.view_is c.self.invariant.order) (returns-in-Ok-clause-items c)
 
 pub returns-in-Ok-clause-len : goal.returns-in-Ok-clause-len
-returns-in-Ok-clause-len c = count_of c.args.self.now.items c.remove.new.self.items c.args.number c.args.is_there (subst (λ (n : NumberSet). Rises n.items) c.self.view_is c.self.invariant.order) (returns-in-Ok-clause-items c)
+returns-in-Ok-clause-len c = count_of c.args.self.now.items c.take_out.new.items.items c.args.number c.args.is_there (subst (λ (n : NumberSet). Rises n.items) c.self.view_is c.self.invariant.order) (returns-in-Ok-clause-items c)
 
 pub returns-else-not-is_there-clause-members : goal.returns-else-not-is_there-clause-members
 returns-else-not-is_there-clause-members c = members_of c.args.self.now.items c.args.self.now.items c.args.number c.args.is_there (subst (λ (n : NumberSet). Rises n.items) c.self.view_is c.self.invariant.order) (returns-else-not-is_there-clause-items c)
@@ -89,11 +88,11 @@ returns-else-not-is_there-clause-members c = members_of c.args.self.now.items c.
 pub returns-else-not-is_there-clause-len : goal.returns-else-not-is_there-clause-len
 returns-else-not-is_there-clause-len c = count_of c.args.self.now.items c.args.self.now.items c.args.number c.args.is_there (subst (λ (n : NumberSet). Rises n.items) c.self.view_is c.self.invariant.order) (returns-else-not-is_there-clause-items c)
 
-pub returns-in-Ok-insert-clause-members : goal.returns-in-Ok-insert-clause-members
-returns-in-Ok-insert-clause-members c = members_of c.args.self.now.items c.insert.new.self.items c.args.number c.args.is_there (subst (λ (n : NumberSet). Rises n.items) c.self.view_is c.self.invariant.order) (returns-in-Ok-insert-clause-items c)
+pub returns-in-Err-clause-members : goal.returns-in-Err-clause-members
+returns-in-Err-clause-members c = members_of c.args.self.now.items c.put_in.new.items.items c.args.number c.args.is_there (subst (λ (n : NumberSet). Rises n.items) c.self.view_is c.self.invariant.order) (returns-in-Err-clause-items c)
 
-pub returns-in-Ok-insert-clause-len : goal.returns-in-Ok-insert-clause-len
-returns-in-Ok-insert-clause-len c = count_of c.args.self.now.items c.insert.new.self.items c.args.number c.args.is_there (subst (λ (n : NumberSet). Rises n.items) c.self.view_is c.self.invariant.order) (returns-in-Ok-insert-clause-items c)
+pub returns-in-Err-clause-len : goal.returns-in-Err-clause-len
+returns-in-Err-clause-len c = count_of c.args.self.now.items c.put_in.new.items.items c.args.number c.args.is_there (subst (λ (n : NumberSet). Rises n.items) c.self.view_is c.self.invariant.order) (returns-in-Err-clause-items c)
 
 pub returns-else-is_there-clause-members : goal.returns-else-is_there-clause-members
 returns-else-is_there-clause-members c = members_of c.args.self.now.items c.args.self.now.items c.args.number c.args.is_there (subst (λ (n : NumberSet). Rises n.items) c.self.view_is c.self.invariant.order) (returns-else-is_there-clause-items c)

@@ -1,0 +1,52 @@
+// Gates of buffers that are no longer known, whose memory later ones get.
+ghost use Rattle.std.specs.Prelude.{◌≡◌, [], false};
+
+use crate::gate::Gate;
+use io_ports::NoMemory;
+use std::alloc::Global;
+
+/// The most gates that are kept.
+const MOST: usize = 64;
+
+/// Gates of buffers that are no longer known: a buffer that comes takes the memory of one of them. They are few, so that
+/// a worker at rest holds little.
+#[derive(Drop)]
+pub(crate) struct Spares {
+    gates: Vec<Gate>,
+}
+
+impl Spares {
+    /// None. Takes no memory.
+    pub(crate) fn new(alloc: Global) -> Self {
+        Spares {
+            gates: Vec::new(alloc),
+        }
+    }
+
+    /// Makes room for those that are kept.
+    pub(crate) fn ready(&mut self) -> Result<(), NoMemory> {
+        if self.gates.capacity() < MOST {
+            self.gates.reserve(MOST)?;
+        }
+        Ok(())
+    }
+
+    /// A gate as `Gate::new` makes it, with the memory of one that was kept, if there is one.
+    pub(crate) fn begun(&mut self, alloc: Global) -> Gate
+        ensures { result ≡ record { above = false; watchers = []; pending = [] } }
+    {
+        match self.gates.pop() {
+            Some(gate) => gate.renewed(),
+            None => Gate::new(alloc),
+        }
+    }
+
+    /// Keeps a gate, if there is one, where there is room for it. Takes no memory.
+    pub(crate) fn keep(&mut self, gate: Option<Gate>) {
+        if let Some(gate) = gate
+            && self.gates.len() < self.gates.capacity()
+        {
+            let _ = self.gates.push(gate);
+        }
+    }
+}

@@ -1,0 +1,16 @@
+// Octets by their two ends.
+ghost use Rattle.std.specs.Prelude.{◌≡◌, ◌≤◌, ◌-◌, drop, length, take};
+
+/// The first `n` octets and the last `n`. Of at most twice as many octets each is in one of them, so
+/// that a pass over both looks at all. Where `n` is written out, the compiler makes each of the two
+/// passes of a few instructions for vectors, whatever the length of the whole is.
+#[inline(always)]
+pub fn ends(octets: &[u8], n: usize) -> (&[u8], &[u8])
+    requires { n ≤ length octets.now }
+    ensures front { result.0.now ≡ take n octets.now }
+    ensures back { result.1.now ≡ drop (length octets.now - n) octets.now }
+{
+    let (front, _) = octets.split_at(n);
+    let (_, back) = octets.split_at(octets.len() - n);
+    (front, back)
+}

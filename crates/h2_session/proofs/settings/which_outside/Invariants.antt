@@ -1,0 +1,14 @@
+use Rattle.std.proofs.Common.{◌≡◌, ◌||◌, length}
+use Rattle.h2_session.specs.Errors.{names_outside, settings_of}
+use Rattle.h2_session.proofs.settings.which_outside.Given as goal
+
+-- what was found so far or is found in what is left is found in the whole
+abbrev pub invariant-loop-rest : goal.invariant-loop-rest
+invariant-loop-rest l = record {
+  push : (l.push || names_outside 2 0 l.most_push (settings_of l.rest)) ≡ names_outside 2 0 l.most_push (settings_of l.entries);
+  initial_window : (l.initial_window || names_outside 4 0 2147483647 (settings_of l.rest)) ≡ names_outside 4 0 2147483647 (settings_of l.entries);
+  frame_size : (l.frame_size || names_outside 5 16384 16777215 (settings_of l.rest)) ≡ names_outside 5 16384 16777215 (settings_of l.entries);
+}
+
+abbrev pub decreases-loop-rest : goal.decreases-loop-rest
+decreases-loop-rest l = length l.rest
