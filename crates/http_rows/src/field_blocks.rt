@@ -1,5 +1,6 @@
 // Blocks, decoded and encoded.
-use crate::words::{block_of, list_of, list_words, number, pair_words};
+use crate::field_words::{block_of, list_of, list_words, pair_words};
+use crate::words::number;
 use anyhow::{Result, bail};
 use hpack_codec::{Decoder, Encoder, FieldList, HpackFault};
 use std::alloc::{AllocError, Global};

@@ -1,13 +1,8 @@
-// Numbers, octets and lists of fields in words.
+// Octets and lists of fields in words.
 use anyhow::{Result, bail};
 use hpack_codec::{Field, FieldList};
 use io_ports::Octets;
 use std::alloc::{AllocError, Global};
-
-/// The number of a word, and 0 where it is none.
-pub fn number(word: &str) -> u32 {
-    word.parse::<u32>().unwrap_or(0)
-}
 
 /// The octets that a word spells in hexadecimal. A dash spells none.
 pub fn block_of(alloc: Global, word: &str) -> Vec<u8> {

@@ -1,7 +1,8 @@
 // Lists of fields, checked.
 ghost use Rattle.std.specs.Prelude.{◌<◌, ◌^◌, length, IfOk};
 
-use crate::words::{list_of, list_words, number, number_words};
+use crate::field_words::{list_of, list_words, number_words};
+use crate::words::number;
 use anyhow::{Result, bail};
 use h2_heads::{
     Malformed, check_request, check_response, check_trailers, content_length, status_fields,
