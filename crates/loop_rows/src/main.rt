@@ -12,11 +12,17 @@
 //! what was published last, since the publisher ends before the work begins, and what a follower hasn't read by then it could only
 //! wait for. A line `again` runs the turns once more over what stands.
 //!
+//! A case with a line `meet` runs two workers in threads of their own, each of which waits at a turn for the other, and prints of
+//! each whether it met the other and ran all its turns.
+//!
 //! A case with a line `sample P ..` samples these pressures from a gauge that has those of a line `gauge P ..`, and whose readings
 //! `% gauge K` fail.
 #![tactic(auto)]
 
 mod case;
+mod gates;
+mod meeting;
+mod parts;
 mod points;
 mod run;
 mod said;
@@ -30,6 +36,7 @@ use crate::run::run_case;
 use crate::said::Said;
 use std::io::{self, Read};
 use std::sync::Wait;
+use std::thread::Threads;
 
 fn main(rt: HostRuntime) -> io::Result<()> {
     let mut text = Vec::new(rt.alloc());
@@ -42,13 +49,13 @@ fn main(rt: HostRuntime) -> io::Result<()> {
 }
 
 // Runs the case of this text, and prints how it ends.
-fn show_case<R: Print + AllocGlobal + Wait>(rt: &R, text: &str) -> io::Result<()> {
+fn show_case<R: Print + AllocGlobal + Threads + Wait + Sync>(rt: &R, text: &str) -> io::Result<()> {
     let mut said = Said::new(rt.alloc());
     say_case(rt, text, &mut said);
     said.print(rt)
 }
 
-fn say_case<R: AllocGlobal + Wait>(rt: &R, text: &str, said: &mut Said) {
+fn say_case<R: AllocGlobal + Threads + Wait + Sync>(rt: &R, text: &str, said: &mut Said) {
     let (name, lines) = text.split_once('\n').unwrap_or((text, ""));
     said.say("## ");
     said.line(name);
