@@ -1,5 +1,5 @@
 use Rattle.relay_ports.specs.Memory.{seen_of}
-use Rattle.relay_rows.proofs.show.run.Given as goal
+use Rattle.loop_rows.proofs.relay_show.run.Given as goal
 use Rattle.relay_work.specs.Belonging.{Belongs}
 
 abbrev pub invariant-loop-run : goal.invariant-loop-run

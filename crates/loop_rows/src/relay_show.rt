@@ -2,7 +2,8 @@
 ghost use Rattle.relay_ports.specs.Memory.{seen_of};
 ghost use Rattle.relay_work.specs.Belonging.{Belongs};
 
-use crate::case::Case;
+use crate::relay_case::Case;
+use crate::relay_faults::show_faults;
 use flow_notes::Names;
 use io_ports::MemSink;
 use mem_ports::{Kept, Room};
@@ -24,8 +25,23 @@ const JOURNAL: usize = 100_000;
 /// The greatest connection whose state is printed.
 const CONNECTIONS: u32 = 6;
 
-/// Runs a case, and prints how it ends. A great value is dropped by a call, since the check follows a drop without one field by field.
-pub fn show_case<R: Print + AllocGlobal>(rt: &R, case: Case) -> io::Result<()> {
+/// Reads the case of these lines, runs it, and prints how it ends.
+pub fn show_relay<R: Print + AllocGlobal>(rt: &R, lines: &str) -> io::Result<()> {
+    let mut case = Case::new(rt.alloc());
+    for line in lines.lines() {
+        if case.line(rt.alloc(), line).is_err() {
+            println!(rt; "no memory")?;
+        }
+    }
+    if case.dispatches {
+        show_faults(rt, case)
+    } else {
+        show_case(rt, case)
+    }
+}
+
+// Runs a case, and prints how it ends. A great value is dropped by a call, since the check follows a drop without one field by field.
+fn show_case<R: Print + AllocGlobal>(rt: &R, case: Case) -> io::Result<()> {
     let mut names = Names::new(rt.alloc());
     let Ok(()) = names.push(b"a") else {
         return println!(rt; "no memory");

@@ -1,5 +1,5 @@
 use Rattle.relay_ports.specs.Memory.{TapsMemory, seen_of}
-use Rattle.relay_rows.proofs.show.show_case.Goals as goal
+use Rattle.loop_rows.proofs.relay_show.show_case.Goals as goal
 use Rattle.relay_work.proofs.Beginning.{belongs_new}
 use Rattle.std.proofs.Common.{ap, sym, ◌∙◌}
 use Rattle.std.specs.Prelude.{List, [], length, ℕ, ◌++◌, ◌∷◌}

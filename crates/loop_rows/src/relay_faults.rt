@@ -1,6 +1,6 @@
 // The text of a relay's faults.
-use crate::case::Case;
-use crate::show::show_wired;
+use crate::relay_case::Case;
+use crate::relay_show::show_wired;
 use flow_notes::{Event, Notes};
 use std::io;
 use tcp_relay::{Relay, RelayFault};
