@@ -6,7 +6,7 @@ use Rattle.flow_notes.specs.Line.{spaced}
 use Rattle.flow_notes.specs.Word.{words_of}
 use Rattle.flow_notes.specs.declared.writing.words.Word.{Word}
 use Rattle.flow_notes.proofs.Lines.{line_of_cons}
-use Rattle.flow_notes.proofs.writing.line.push_words.Goals as goal
+use Rattle.flow_notes.proofs.writing.push_words.Goals as goal
 
 pub returns-clause-ok : goal.returns-clause-ok
 returns-clause-ok c =
