@@ -1,6 +1,6 @@
 use Rattle.overload_core.proofs.Following.{begun, started, dropped}
 use Rattle.overload_core.proofs.Turning.{turned}
-use Rattle.overload_core.proofs.course.classes_follow.Goals as goal
+use Rattle.overload_core.proofs.classes.classes_follow.Goals as goal
 
 pub returns-clause-begins : goal.returns-clause-begins
 returns-clause-begins c = begun

@@ -1,5 +1,5 @@
 use Rattle.overload_core.proofs.Turning.{is_class}
-use Rattle.overload_core.proofs.course.class_has_number.Goals as goal
+use Rattle.overload_core.proofs.classes.class_has_number.Goals as goal
 
 pub returns : goal.returns
 returns c = is_class
