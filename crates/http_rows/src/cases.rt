@@ -1,7 +1,9 @@
 // One line of the input.
 use crate::blocks::{block_words, preface_words, settings_words};
 use crate::connections::connection_words;
+use crate::field_blocks::{show_again, show_cuts, show_decoded, show_encoded};
 use crate::frames::{data_words, head_words, read_words};
+use crate::heads::{show_length, show_reply, show_request, show_response, show_trailers};
 use crate::streams::many_words;
 use crate::windows::{receive_words, send_words};
 use anyhow::Result;
@@ -14,16 +16,34 @@ pub fn show_line<R: Print + AllocGlobal>(rt: &R, line: &str) -> Result<()> {
         return Ok(());
     }
     println!(rt; "{line}")?;
-    if !heading {
-        let given = case_words(rt.alloc(), line)?;
-        println!(rt; "  {}", given.as_str())?;
+    if heading { Ok(()) } else { show_case(rt, line) }
+}
+
+// Prints what a case gives, by its first word.
+fn show_case<R: Print + AllocGlobal>(rt: &R, line: &str) -> Result<()> {
+    let (kind, words) = line.split_once(' ').unwrap_or((line, ""));
+    match kind {
+        "decode" => show_decoded(rt, words),
+        "cuts" => show_cuts(rt, words),
+        "encode" => show_encoded(rt, words),
+        "again" => show_again(rt, words),
+        "request" => show_request(rt, words),
+        "response" => show_response(rt, words),
+        "trailers" => show_trailers(rt, words),
+        "length" => show_length(rt, words),
+        "reply" => show_reply(rt, words),
+        _ => show_given(rt, kind, words),
     }
+}
+
+// Prints what a case gives in one line.
+fn show_given<R: Print + AllocGlobal>(rt: &R, kind: &str, words: &str) -> Result<()> {
+    let given = case_words(rt.alloc(), kind, words)?;
+    println!(rt; "  {}", given.as_str())?;
     Ok(())
 }
 
-// What a case gives, by its first word.
-fn case_words(alloc: Global, line: &str) -> Result<String> {
-    let (kind, words) = line.split_once(' ').unwrap_or((line, ""));
+fn case_words(alloc: Global, kind: &str, words: &str) -> Result<String> {
     match kind {
         "read" => read_words(alloc, words),
         "head" => head_words(alloc, words),
