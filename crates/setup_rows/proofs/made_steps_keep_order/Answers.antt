@@ -5,7 +5,7 @@ use Rattle.flow_laws.proofs.Sound.{paced_of}
 use Rattle.flow_laws.proofs.Watching.{each_crosses}
 use Rattle.flow_laws.specs.Made.{made_session, made_setup}
 use Rattle.setup_rows.proofs.Full.{full}
-use Rattle.setup_rows.proofs.rows.made_steps_keep_order.Goals as goal
+use Rattle.setup_rows.proofs.made_steps_keep_order.Goals as goal
 use Rattle.std.proofs.Common.{refl}
 use Rattle.std.specs.Prelude.{◌∷◌}
 

@@ -1,6 +1,6 @@
 -- By the law of the two formats.
 use Rattle.replay_run.proofs.TwoFormats.{in_both, quantum_of_one}
-use Rattle.replay_run.proofs.formats.both_formats_spell_one_session.Goals as goal
+use Rattle.replay_run.proofs.text.both_formats_spell_one_session.Goals as goal
 
 pub returns-clause-quantum : goal.returns-clause-quantum
 returns-clause-quantum c = quantum_of_one

@@ -1,5 +1,5 @@
 use Rattle.plain_laws.proofs.Above.{above_is_flag}
-use Rattle.plain_laws.proofs.laws.above_by_the_past.Goals as goal
+use Rattle.plain_laws.proofs.above_by_the_past.Goals as goal
 use Rattle.tape_laws.specs.Plain.{plain_setup}
 use Rattle.tape_laws.specs.Watermark.{lengths, limit}
 

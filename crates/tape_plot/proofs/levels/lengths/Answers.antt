@@ -1,5 +1,5 @@
 use Rattle.tape_plot.proofs.Holding.{place_lengths, write_lengths}
-use Rattle.tape_plot.proofs.laws.lengths.Goals as goal
+use Rattle.tape_plot.proofs.levels.lengths.Goals as goal
 
 pub returns-clause-places : goal.returns-clause-places
 returns-clause-places c = place_lengths

@@ -1,6 +1,6 @@
 use Rattle.std.proofs.Common.{refl, sym}
 use Rattle.overload_core.specs.Course.{all_set}
-use Rattle.wire_load.proofs.following.load_follows.Goals as goal
+use Rattle.wire_load.proofs.load.load_follows.Goals as goal
 
 pub returns-clause-begins : goal.returns-clause-begins
 returns-clause-begins c = λ start live. c.classes_follow.ensures.begins start live
