@@ -1,11 +1,13 @@
 // Octets through two watermark buffers, beside the same octets copied twice by plain slice copies.
-use crate::copies::{PIECE, block, copy, first_octet};
 use crate::stopwatch::{CpuStopwatch, per_second};
 use anyhow::{bail, ensure};
 use io_ports::NoMemory;
 use std::alloc::{AllocError, Global};
 use std::time::CpuClock;
 use wm_buffer::WatermarkBuffer;
+
+/// The octets of a piece.
+const PIECE: u32 = 16_384;
 
 /// A limit with which the seam of a ready buffer's ring wanders through the pieces.
 const LIMIT: u32 = 65_521;
@@ -114,6 +116,21 @@ impl Copying {
         self.nanos = self.nanos.saturating_add(watch.nanos(clock)?);
         Ok(copied)
     }
+}
+
+/// One plain copy of what fits, which the compiler may not leave out.
+#[inline(never)]
+fn copy(from: &[u8], to: &mut [u8]) {
+    let n = from.len().min(to.len());
+    to[..n].copy_from_slice(&from[..n]);
+}
+
+fn first_octet(octets: &[u8]) -> u64 {
+    octets.first().map_or(0, |octet| u64::from(*octet))
+}
+
+fn block(alloc: Global, octet: u8) -> Result<Vec<u8>, AllocError> {
+    vec![in alloc; octet; PIECE as usize]
 }
 
 /// Moves and copies in turn, and prints how many octets each does in a second of processor time.

@@ -3,7 +3,7 @@ use crate::stopwatch::CpuStopwatch;
 use std::alloc::{AllocError, Global};
 use std::time::CpuClock;
 
-/// The octets of a piece: a DATA frame's, a read's.
+/// The octets of a DATA frame.
 pub const PIECE: u32 = 16_384;
 
 /// The frames of a round, and the rounds.
@@ -20,7 +20,7 @@ pub struct Copies {
 
 impl Copies {
     pub fn new(alloc: Global) -> Result<Self, AllocError> {
-        let piece = block(alloc, 7)?;
+        let piece = vec![in alloc; 7; PIECE as usize]?;
         let copied = vec![in alloc; 0; PIECE as usize * FRAMES_A_ROUND as usize]?;
         Ok(Copies { piece, copied })
     }
@@ -44,14 +44,9 @@ fn copy_all(piece: &[u8], block: &mut [u8]) -> u64 {
     sum
 }
 
-/// A block of the octets of a piece, each of which is this one.
-pub fn block(alloc: Global, octet: u8) -> Result<Vec<u8>, AllocError> {
-    vec![in alloc; octet; PIECE as usize]
-}
-
 /// One plain copy of what fits, which the compiler may not leave out.
 #[inline(never)]
-pub fn copy(from: &[u8], to: &mut [u8]) {
+fn copy(from: &[u8], to: &mut [u8]) {
     let n = from.len().min(to.len());
     to[..n].copy_from_slice(&from[..n]);
 }

@@ -1,5 +1,4 @@
 // Octets through one pair, beside the same octets copied twice by plain slice copies.
-use crate::copies::{PIECE, block, copy, first_octet};
 use crate::stopwatch::{CpuStopwatch, per_second};
 use anyhow::{anyhow, ensure};
 use flow_notes::{Event, Notes};
@@ -7,6 +6,9 @@ use io_ports::Octets;
 use std::alloc::{AllocError, Global};
 use std::time::CpuClock;
 use tcp_relay::{Relay, RelayFault};
+
+/// The octets of a read.
+const PIECE: u32 = 16_384;
 
 /// The limit of each write buffer.
 const LIMIT: u32 = 1_048_576;
@@ -77,6 +79,21 @@ fn copy_round(first: &mut [u8], second: &mut [u8], piece: &[u8]) -> u64 {
         sum = sum.wrapping_add(first_octet(second));
     }
     sum
+}
+
+/// One plain copy of what fits, which the compiler may not leave out.
+#[inline(never)]
+fn copy(from: &[u8], to: &mut [u8]) {
+    let n = from.len().min(to.len());
+    to[..n].copy_from_slice(&from[..n]);
+}
+
+fn first_octet(octets: &[u8]) -> u64 {
+    octets.first().map_or(0, |octet| u64::from(*octet))
+}
+
+fn block(alloc: Global, octet: u8) -> Result<Vec<u8>, AllocError> {
+    vec![in alloc; octet; PIECE as usize]
 }
 
 /// A pair's relay, with what is read of its client.

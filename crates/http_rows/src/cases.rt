@@ -1,13 +1,13 @@
 // One line of the input.
-use crate::blocks::{block_words, preface_words, settings_words};
-use crate::connections::connection_words;
-use crate::field_blocks::{show_again, show_cuts, show_decoded, show_encoded};
-use crate::frames::{data_words, head_words, read_words};
-use crate::heads::{show_length, show_reply, show_request, show_response, show_trailers};
-use crate::streams::many_words;
-use crate::windows::{receive_words, send_words};
+use crate::blocks::{say_block, say_preface, say_settings};
+use crate::connections::say_connection;
+use crate::field_blocks::{say_again, say_cuts, say_decoded, say_encoded};
+use crate::frames::{say_data_head, say_head, say_read};
+use crate::heads::{say_length, say_reply, say_request, say_response, say_trailers};
+use crate::said::Said;
+use crate::streams::say_many;
+use crate::windows::{say_receive, say_send};
 use anyhow::Result;
-use std::alloc::Global;
 
 /// Prints a heading, or a case and what it gives.
 pub fn show_line<R: Print + AllocGlobal>(rt: &R, line: &str) -> Result<()> {
@@ -15,47 +15,47 @@ pub fn show_line<R: Print + AllocGlobal>(rt: &R, line: &str) -> Result<()> {
     if line.is_empty() || (line.starts_with("#") && !heading) {
         return Ok(());
     }
-    println!(rt; "{line}")?;
-    if heading { Ok(()) } else { show_case(rt, line) }
+    let mut said = Said::new(rt.alloc());
+    said.line(line);
+    if !heading {
+        say_case(&mut said, line);
+    }
+    said.print(rt)
 }
 
-// Prints what a case gives, by its first word.
-fn show_case<R: Print + AllocGlobal>(rt: &R, line: &str) -> Result<()> {
+// What a case gives, by its first word.
+fn say_case(said: &mut Said, line: &str) {
     let (kind, words) = line.split_once(' ').unwrap_or((line, ""));
     match kind {
-        "decode" => show_decoded(rt, words),
-        "cuts" => show_cuts(rt, words),
-        "encode" => show_encoded(rt, words),
-        "again" => show_again(rt, words),
-        "request" => show_request(rt, words),
-        "response" => show_response(rt, words),
-        "trailers" => show_trailers(rt, words),
-        "length" => show_length(rt, words),
-        "reply" => show_reply(rt, words),
-        _ => show_given(rt, kind, words),
+        "decode" => say_decoded(said, words),
+        "cuts" => say_cuts(said, words),
+        "encode" => say_encoded(said, words),
+        "again" => say_again(said, words),
+        "request" => say_request(said, words),
+        "response" => say_response(said, words),
+        "trailers" => say_trailers(said, words),
+        "length" => say_length(said, words),
+        "reply" => say_reply(said, words),
+        _ => say_line(said, kind, words),
     }
 }
 
-// Prints what a case gives in one line.
-fn show_given<R: Print + AllocGlobal>(rt: &R, kind: &str, words: &str) -> Result<()> {
-    let given = case_words(rt.alloc(), kind, words)?;
-    println!(rt; "  {}", given.as_str())?;
-    Ok(())
-}
-
-fn case_words(alloc: Global, kind: &str, words: &str) -> Result<String> {
+// What a case gives that gives one line.
+fn say_line(said: &mut Said, kind: &str, words: &str) {
+    said.say("  ");
     match kind {
-        "read" => read_words(alloc, words),
-        "head" => head_words(alloc, words),
-        "data" => data_words(alloc, words),
-        "block" => block_words(alloc, words),
-        "settings" => settings_words(alloc, words),
-        "preface" => preface_words(alloc, words),
-        "client" => connection_words(alloc, false, words),
-        "cluster" => connection_words(alloc, true, words),
-        "many" => many_words(alloc, words),
-        "receive" => receive_words(alloc, words),
-        "send" => send_words(alloc, words),
-        _ => Ok(String::from_str(alloc, "no such case")?),
+        "read" => say_read(said, words),
+        "head" => say_head(said, words),
+        "data" => say_data_head(said, words),
+        "block" => say_block(said, words),
+        "settings" => say_settings(said, words),
+        "preface" => say_preface(said, words),
+        "client" => say_connection(said, false, words),
+        "cluster" => say_connection(said, true, words),
+        "many" => say_many(said, words),
+        "receive" => say_receive(said, words),
+        "send" => say_send(said, words),
+        _ => said.say("no such case"),
     }
+    said.say("\n");
 }

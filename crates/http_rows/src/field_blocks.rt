@@ -1,9 +1,10 @@
-// Blocks, decoded and encoded.
-use crate::field_words::{block_of, list_of, list_words, pair_words};
+// Blocks, decoded and encoded. Decoders, encoders and lists are dropped by calls, since the check follows a drop without one field by
+// field.
+use crate::field_words::{block_of, list_of, say_field, say_fields};
+use crate::said::Said;
 use crate::words::number;
-use anyhow::{Result, bail};
 use hpack_codec::{Decoder, Encoder, FieldList, HpackFault};
-use std::alloc::{AllocError, Global};
+use std::alloc::Global;
 
 /// Greatest sizes of the table and of the lists where none are named.
 const TABLE: u32 = 4096;
@@ -20,61 +21,71 @@ fn decoder_of(alloc: Global, words: &str) -> (Decoder, &str) {
     (Decoder::new(alloc, number(table), number(list)), words)
 }
 
-fn show_list<R: Print + AllocGlobal>(rt: &R, answer: &Result<FieldList, HpackFault>) -> Result<()> {
+fn say_answer(said: &mut Said, answer: &Result<FieldList, HpackFault>) {
     match answer {
-        Ok(list) => {
-            let (octets, fields) = (list.size(), list.len());
-            if fields > SHOWN {
-                println!(rt; "  list of {octets} octets in {fields} fields")?;
-                return Ok(());
-            }
-            let words = list_words(rt.alloc(), list)?;
-            println!(rt; "  list of {octets} octets{words}")?;
-        }
-        Err(fault) => println!(rt; "  fault {} {fault:?}", *fault as u8)?,
+        Ok(list) => say_list(said, list),
+        Err(fault) => say_fault(said, *fault),
     }
-    Ok(())
+    said.say("\n");
 }
 
-// The entries of a table, each behind a bar, or how many there are of more than a few.
-fn table_words(alloc: Global, decoder: &Decoder) -> Result<String, AllocError> {
-    let mut words = String::new(alloc);
+fn say_list(said: &mut Said, list: &FieldList) {
+    said.say_with("  list of ", list.size() as u64);
+    said.say(" octets");
+    if list.len() > SHOWN {
+        said.say_with(" in ", list.len() as u64);
+        said.say(" fields");
+    } else {
+        say_fields(said, list);
+    }
+}
+
+fn say_fault(said: &mut Said, fault: HpackFault) {
+    said.say_small("  fault ", fault as u32);
+    match format!(in said.alloc(); " {fault:?}") {
+        Ok(name) => said.say(name.as_str()),
+        Err(_) => said.lack(),
+    }
+}
+
+// How many entries a table has, and how many octets they count.
+fn table_counts(decoder: &Decoder) -> (usize, usize) {
     let mut entries = 0usize;
-    for place in 0..1000 {
-        let Some(line) = decoder.line(place) else {
-            break;
-        };
-        entries = place.saturating_add(1);
-        if place < SHOWN {
-            let pair = pair_words(alloc, &line.name, &line.value)?;
-            words.push_str(" | ")?;
-            words.push_str(pair.as_str())?;
-        }
-    }
-    if entries > SHOWN {
-        return format!(in alloc; " in {entries} entries");
-    }
-    Ok(words)
-}
-
-// How many octets the entries of a table count.
-fn table_octets(decoder: &Decoder) -> usize {
     let mut octets = 0usize;
     for place in 0..1000 {
         let Some(line) = decoder.line(place) else {
             break;
         };
+        entries = place.saturating_add(1);
         let len = line.name.len().saturating_add(line.value.len());
         octets = octets.saturating_add(len.saturating_add(32));
     }
-    octets
+    (entries, octets)
 }
 
-fn show_table<R: Print + AllocGlobal>(rt: &R, decoder: &Decoder) -> Result<()> {
-    let (size, octets) = (decoder.table_size(), table_octets(decoder));
-    let words = table_words(rt.alloc(), decoder)?;
-    println!(rt; "  table of at most {size}, {octets} octets{words}")?;
-    Ok(())
+fn say_table(said: &mut Said, decoder: &Decoder) {
+    let (entries, octets) = table_counts(decoder);
+    said.say_small("  table of at most ", decoder.table_size());
+    said.say_with(", ", octets as u64);
+    said.say(" octets");
+    if entries > SHOWN {
+        said.say_with(" in ", entries as u64);
+        said.say(" entries");
+    } else {
+        say_lines(said, decoder);
+    }
+    said.say("\n");
+}
+
+// The entries of a table, each behind a bar.
+fn say_lines(said: &mut Said, decoder: &Decoder) {
+    for place in 0..SHOWN {
+        let Some(line) = decoder.line(place) else {
+            break;
+        };
+        said.say(" | ");
+        say_field(said, &line.name, &line.value);
+    }
 }
 
 // Whether the block was read whole.
@@ -85,82 +96,83 @@ fn is_whole(answer: &Result<FieldList, HpackFault>) -> bool {
     }
 }
 
-/// Decodes blocks one after another, and prints the list of each and the table after it.
-pub fn show_decoded<R: Print + AllocGlobal>(rt: &R, words: &str) -> Result<()> {
-    let (mut decoder, blocks) = decoder_of(rt.alloc(), words);
+/// Decodes blocks one after another, and says the list of each and the table after it.
+pub fn say_decoded(said: &mut Said, words: &str) {
+    let (mut decoder, blocks) = decoder_of(said.alloc(), words);
     for word in blocks.split(' ') {
-        show_next(rt, &mut decoder, word)?;
+        say_next(said, &mut decoder, word);
     }
-    Ok(())
+    drop(decoder);
 }
 
-fn show_next<R: Print + AllocGlobal>(rt: &R, decoder: &mut Decoder, word: &str) -> Result<()> {
-    let block = block_of(rt.alloc(), word);
+fn say_next(said: &mut Said, decoder: &mut Decoder, word: &str) {
+    let block = block_of(said.alloc(), word);
     let answer = decoder.decode(block.as_slice());
-    show_list(rt, &answer)?;
+    say_answer(said, &answer);
     if is_whole(&answer) {
-        show_table(rt, decoder)?;
+        say_table(said, decoder);
     }
-    Ok(())
+    drop(answer);
 }
 
-/// Cuts a block short at each place, and prints how many fields are read, or the number of the fault. A decoder is dropped by a
-/// call, since the check follows a drop without one field by field.
-pub fn show_cuts<R: Print + AllocGlobal>(rt: &R, words: &str) -> Result<()> {
-    let (_, word) = decoder_of(rt.alloc(), words);
-    let block = block_of(rt.alloc(), word);
-    print!(rt; " ")?;
+/// Cuts a block short at each place, and says how many fields are read, or the number of the fault.
+pub fn say_cuts(said: &mut Said, words: &str) {
+    let (_, rest) = words.split_once(' ').unwrap_or((words, ""));
+    let (_, word) = rest.split_once(' ').unwrap_or((rest, ""));
+    let block = block_of(said.alloc(), word);
+    said.say(" ");
     for cut in 0..block.len() {
-        show_cut(rt, words, &block.as_slice()[..cut])?;
+        say_cut(said, words, &block.as_slice()[..cut]);
     }
-    println!(rt; "")?;
-    Ok(())
+    said.say("\n");
 }
 
-fn show_cut<R: Print + AllocGlobal>(rt: &R, words: &str, block: &[u8]) -> Result<()> {
-    let (mut decoder, _) = decoder_of(rt.alloc(), words);
+fn say_cut(said: &mut Said, words: &str, block: &[u8]) {
+    let (mut decoder, _) = decoder_of(said.alloc(), words);
     let answer = decoder.decode(block);
     drop(decoder);
-    match answer {
-        Ok(list) => print!(rt; " {}", list.len())?,
-        Err(fault) => print!(rt; " f{}", fault as u8)?,
+    match &answer {
+        Ok(list) => said.say_with(" ", list.len() as u64),
+        Err(fault) => said.say_small(" f", *fault as u32),
     }
-    Ok(())
+    drop(answer);
 }
 
-// Encodes a list, and prints the block and what a decoder reads of it.
-fn show_block<R: Print + AllocGlobal>(
-    rt: &R,
-    encoder: &mut Encoder,
-    list: &FieldList,
-    decoder: &mut Decoder,
-) -> Result<()> {
+// Encodes a list, and says the block and what a decoder reads of it.
+fn say_block(said: &mut Said, encoder: &mut Encoder, list: &FieldList, decoder: &mut Decoder) {
     let Ok(block) = encoder.encode(list) else {
-        bail!("out of memory");
+        said.lack();
+        return;
     };
-    let digits = hex::encode(rt.alloc(), block.as_slice())?;
-    println!(rt; "  block {digits}")?;
-    show_list(rt, &decoder.decode(block.as_slice()))
+    said.say("  block ");
+    said.say_hex(block.as_slice());
+    said.say("\n");
+    let answer = decoder.decode(block.as_slice());
+    say_answer(said, &answer);
+    drop(answer);
 }
 
 /// Encodes a list with a new encoder.
-pub fn show_encoded<R: Print + AllocGlobal>(rt: &R, words: &str) -> Result<()> {
-    let list = list_of(rt.alloc(), words)?;
-    let mut encoder = Encoder::new(rt.alloc());
-    let mut decoder = Decoder::new(rt.alloc(), TABLE, LIST);
-    show_block(rt, &mut encoder, &list, &mut decoder)
+pub fn say_encoded(said: &mut Said, words: &str) {
+    say_blocks(said, words, 1);
 }
 
 /// Encodes a list twice with a new encoder, and twice again once the peer has named a table size.
-pub fn show_again<R: Print + AllocGlobal>(rt: &R, words: &str) -> Result<()> {
-    let list = list_of(rt.alloc(), words)?;
-    let mut encoder = Encoder::new(rt.alloc());
-    let mut decoder = Decoder::new(rt.alloc(), TABLE, LIST);
-    for turn in 0..4u32 {
+pub fn say_again(said: &mut Said, words: &str) {
+    say_blocks(said, words, 4);
+}
+
+fn say_blocks(said: &mut Said, words: &str, turns: u32) {
+    let list = list_of(said, words);
+    let mut encoder = Encoder::new(said.alloc());
+    let mut decoder = Decoder::new(said.alloc(), TABLE, LIST);
+    for turn in 0..turns {
         if turn == 2 {
             encoder.table_size_named();
         }
-        show_block(rt, &mut encoder, &list, &mut decoder)?;
+        say_block(said, &mut encoder, &list, &mut decoder);
     }
-    Ok(())
+    drop(decoder);
+    drop(encoder);
+    drop(list);
 }

@@ -1,8 +1,8 @@
 // Octets and lists of fields in words.
-use anyhow::{Result, bail};
+use crate::said::Said;
 use hpack_codec::{Field, FieldList};
-use io_ports::Octets;
-use std::alloc::{AllocError, Global};
+use io_ports::{NoMemory, Octets};
+use std::alloc::Global;
 
 /// The octets that a word spells in hexadecimal. A dash spells none.
 pub fn block_of(alloc: Global, word: &str) -> Vec<u8> {
@@ -10,40 +10,38 @@ pub fn block_of(alloc: Global, word: &str) -> Vec<u8> {
 }
 
 // A text, or octets in hexadecimal behind `0x`.
-fn octets_of(alloc: Global, word: &str) -> Result<Octets> {
-    let octets = match word.strip_prefix("0x") {
+fn text_of(alloc: Global, word: &str) -> Result<Octets, NoMemory> {
+    match word.strip_prefix("0x") {
         Some(digits) => Ok(Octets::from_vec(block_of(alloc, digits))),
         None => Octets::from_slice(alloc, word.as_bytes()),
-    };
-    match octets {
-        Ok(octets) => Ok(octets),
-        Err(_) => bail!("out of memory"),
     }
 }
 
-fn field_of(alloc: Global, word: &str) -> Result<Field> {
+fn field_of(alloc: Global, word: &str) -> Result<Field, NoMemory> {
     let never = word.starts_with('!');
     let word = word.strip_prefix('!').unwrap_or(word);
     let (name, value) = word.split_once(' ').unwrap_or((word, ""));
-    Ok(Field {
-        name: octets_of(alloc, name)?,
-        value: octets_of(alloc, value)?,
-        never,
-    })
+    let name = text_of(alloc, name)?;
+    let value = text_of(alloc, value)?;
+    Ok(Field { name, value, never })
+}
+
+fn push_field(list: &mut FieldList, alloc: Global, word: &str) -> Result<(), NoMemory> {
+    list.push(field_of(alloc, word)?)
 }
 
 /// The list whose fields stand between bars.
-pub fn list_of(alloc: Global, words: &str) -> Result<FieldList> {
-    let mut list = FieldList::new(alloc);
+pub fn list_of(said: &mut Said, words: &str) -> FieldList {
+    let mut list = FieldList::new(said.alloc());
     if words.is_empty() {
-        return Ok(list);
+        return list;
     }
     for word in words.split(" | ") {
-        if list.push(field_of(alloc, word)?).is_err() {
-            bail!("out of memory");
+        if push_field(&mut list, said.alloc(), word).is_err() {
+            said.lack();
         }
     }
-    Ok(list)
+    list
 }
 
 fn is_printed(octet: u8) -> bool {
@@ -51,41 +49,30 @@ fn is_printed(octet: u8) -> bool {
 }
 
 // Octets as a text, or else in hexadecimal.
-fn octet_words(alloc: Global, octets: &[u8]) -> Result<String, AllocError> {
+fn say_text(said: &mut Said, octets: &[u8]) {
     if let Ok(text) = std::str::from_utf8(octets) {
         if octets.iter().all(|octet| is_printed(*octet)) {
-            return String::from_str(alloc, text);
+            said.say(text);
+            return;
         }
     }
-    let digits = hex::encode(alloc, octets)?;
-    format!(in alloc; "0x{digits}")
+    said.say("0x");
+    said.say_hex(octets);
 }
 
 /// A name and a value, or the name alone where the value is empty.
-pub fn pair_words(alloc: Global, name: &Octets, value: &Octets) -> Result<String, AllocError> {
-    let name = octet_words(alloc, name.as_slice())?;
-    if value.is_empty() {
-        return Ok(name);
+pub fn say_field(said: &mut Said, name: &Octets, value: &Octets) {
+    say_text(said, name.as_slice());
+    if !value.is_empty() {
+        said.say(" ");
+        say_text(said, value.as_slice());
     }
-    let value = octet_words(alloc, value.as_slice())?;
-    format!(in alloc; "{name} {value}")
 }
 
 /// The fields of a list, each behind a bar.
-pub fn list_words(alloc: Global, list: &FieldList) -> Result<String, AllocError> {
-    let mut words = String::new(alloc);
+pub fn say_fields(said: &mut Said, list: &FieldList) {
     for field in list.as_slice() {
-        let pair = pair_words(alloc, &field.name, &field.value)?;
-        words.push_str(if field.never { " | !" } else { " | " })?;
-        words.push_str(pair.as_str())?;
-    }
-    Ok(words)
-}
-
-/// A number, or a dash where there is none.
-pub fn number_words(alloc: Global, number: Option<u64>) -> Result<String, AllocError> {
-    match number {
-        Some(number) => format!(in alloc; "{number}"),
-        None => format!(in alloc; "-"),
+        said.say(if field.never { " | !" } else { " | " });
+        say_field(said, &field.name, &field.value);
     }
 }

@@ -1,104 +1,123 @@
 // Lists of fields, checked.
-ghost use Rattle.std.specs.Prelude.{◌<◌, ◌^◌, length, IfOk};
+ghost use Rattle.std.specs.Prelude.{◌<◌, ◌^◌, length, IfSome};
 
-use crate::field_words::{list_of, list_words, number_words};
+use crate::field_words::{list_of, say_fields};
+use crate::said::Said;
 use crate::words::number;
-use anyhow::{Result, bail};
 use h2_heads::{
-    Malformed, check_request, check_response, check_trailers, content_length, status_fields,
+    Malformed, RequestHead, check_request, check_response, check_trailers, content_length,
+    status_fields,
 };
 use hpack_codec::FieldList;
-use std::alloc::Global;
 
 // A list that is short enough for the checks.
-fn checked_of(alloc: Global, words: &str) -> Result<FieldList>
-    ensures { IfOk result (λ list. length list < 2 ^ 32) }
+fn checked_of(said: &mut Said, words: &str) -> Option<FieldList>
+    ensures { IfSome result (λ list. length list < 2 ^ 32) }
 {
-    let list = list_of(alloc, words)?;
+    let list = list_of(said, words);
     if list.len() > u32::MAX as usize {
-        bail!("too many fields");
+        drop(list);
+        said.lack();
+        return None;
     }
-    Ok(list)
+    Some(list)
 }
 
-fn show_malformed<R: Print>(rt: &R, bad: Malformed) -> Result<()> {
-    println!(rt; "  malformed at {}, rule {}", bad.place, bad.kind)?;
-    Ok(())
+fn say_malformed(said: &mut Said, bad: Malformed) {
+    said.say_small("  malformed at ", bad.place);
+    said.say_small(", rule ", u32::from(bad.kind));
+    said.say("\n");
 }
 
-// Prints the content-length that a list names, or its fault.
-fn show_named<R: Print + AllocGlobal>(
-    rt: &R,
-    answer: Result<Option<u64>, Malformed>,
-) -> Result<()> {
+// The content-length that a list names, or its fault.
+fn say_named(said: &mut Said, answer: Result<Option<u64>, Malformed>) {
     match answer {
         Ok(named) => {
-            println!(rt; "  content-length {}", number_words(rt.alloc(), named)?)?;
-            Ok(())
+            said.say_maybe("  content-length ", named);
+            said.say("\n");
         }
-        Err(bad) => show_malformed(rt, bad),
+        Err(bad) => say_malformed(said, bad),
     }
 }
 
 /// Checks a list as the head of a request.
-pub fn show_request<R: Print + AllocGlobal>(rt: &R, words: &str) -> Result<()> {
-    let list = checked_of(rt.alloc(), words)?;
-    let head = match check_request(&list) {
-        Ok(head) => head,
-        Err(bad) => return show_malformed(rt, bad),
+pub fn say_request(said: &mut Said, words: &str) {
+    let Some(list) = checked_of(said, words) else {
+        return;
     };
-    let authority = number_words(rt.alloc(), head.authority.map(u64::from))?;
-    let path = number_words(rt.alloc(), head.path.map(u64::from))?;
-    let length = number_words(rt.alloc(), head.content_length)?;
-    let (connect, head) = (head.connect, head.head);
-    print!(rt; "  connect {connect}, head {head}, authority {authority}, path {path}")?;
-    println!(rt; ", content-length {length}")?;
-    Ok(())
+    match check_request(&list) {
+        Ok(head) => say_head(said, &head),
+        Err(bad) => say_malformed(said, bad),
+    }
+    drop(list);
 }
 
-fn show_checked<R: Print + AllocGlobal>(rt: &R, list: &FieldList) -> Result<()>
+fn say_head(said: &mut Said, head: &RequestHead) {
+    said.say_truth("  connect ", head.connect);
+    said.say_truth(", head ", head.head);
+    said.say_maybe(", authority ", head.authority.map(u64::from));
+    said.say_maybe(", path ", head.path.map(u64::from));
+    said.say_maybe(", content-length ", head.content_length);
+    said.say("\n");
+}
+
+fn say_checked(said: &mut Said, list: &FieldList)
     requires { length list.now < 2 ^ 32 }
 {
     match check_response(list) {
         Ok(head) => {
-            let length = number_words(rt.alloc(), head.content_length)?;
-            println!(rt; "  status {}, content-length {length}", head.status)?;
-            Ok(())
+            said.say_small("  status ", u32::from(head.status));
+            said.say_maybe(", content-length ", head.content_length);
+            said.say("\n");
         }
-        Err(bad) => show_malformed(rt, bad),
+        Err(bad) => say_malformed(said, bad),
     }
 }
 
 /// Checks a list as the head of a response.
-pub fn show_response<R: Print + AllocGlobal>(rt: &R, words: &str) -> Result<()> {
-    let list = checked_of(rt.alloc(), words)?;
-    show_checked(rt, &list)
+pub fn say_response(said: &mut Said, words: &str) {
+    let Some(list) = checked_of(said, words) else {
+        return;
+    };
+    say_checked(said, &list);
+    drop(list);
 }
 
-/// Checks a list as trailers, and shows the content-length of sound ones.
-pub fn show_trailers<R: Print + AllocGlobal>(rt: &R, words: &str) -> Result<()> {
-    let list = checked_of(rt.alloc(), words)?;
+/// Checks a list as trailers, and says the content-length of sound ones.
+pub fn say_trailers(said: &mut Said, words: &str) {
+    let Some(list) = checked_of(said, words) else {
+        return;
+    };
     match check_trailers(&list) {
-        Ok(()) => show_named(rt, content_length(&list)),
-        Err(bad) => show_malformed(rt, bad),
+        Ok(()) => say_named(said, content_length(&list)),
+        Err(bad) => say_malformed(said, bad),
     }
+    drop(list);
 }
 
 /// Checks the content-length of a list alone.
-pub fn show_length<R: Print + AllocGlobal>(rt: &R, words: &str) -> Result<()> {
-    let list = checked_of(rt.alloc(), words)?;
-    show_named(rt, content_length(&list))
+pub fn say_length(said: &mut Said, words: &str) {
+    let Some(list) = checked_of(said, words) else {
+        return;
+    };
+    say_named(said, content_length(&list));
+    drop(list);
 }
 
 /// Makes the list of a local reply, and checks it as the head of a response.
-pub fn show_reply<R: Print + AllocGlobal>(rt: &R, words: &str) -> Result<()> {
+pub fn say_reply(said: &mut Said, words: &str) {
     let status = (number(words) % 65_536) as u16;
-    let Ok(list) = status_fields(rt.alloc(), status) else {
-        bail!("out of memory");
+    let Ok(list) = status_fields(said.alloc(), status) else {
+        said.lack();
+        return;
     };
-    println!(rt; " {}", list_words(rt.alloc(), &list)?)?;
+    said.say(" ");
+    say_fields(said, &list);
+    said.say("\n");
     if list.len() > u32::MAX as usize {
-        bail!("too many fields");
+        said.lack();
+    } else {
+        say_checked(said, &list);
     }
-    show_checked(rt, &list)
+    drop(list);
 }

@@ -9,6 +9,7 @@ mod field_blocks;
 mod field_words;
 mod frames;
 mod heads;
+mod said;
 mod streams;
 mod windows;
 mod words;
