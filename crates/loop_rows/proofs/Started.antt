@@ -4,8 +4,8 @@ use Rattle.shared_state.specs.PermitSeats.{view}
 use Rattle.std.proofs.Common.{ap, arith, subst, suc, sym, zero, ◌∙◌}
 use Rattle.std.specs.Prelude.{Err, IfOk, List, Ok, OnErr, Result, Some, [], length, slice_get, slice_index_or, ℕ, ◌++◌, ◌<◌, ◌∷◌, ◌≡◌, ◌≤◌}
 use Rattle.worker_loop.specs.Keeping.{Holds}
-use Rattle.worker_loop.specs.declared.ended.Ended.{Ended}
-use Rattle.worker_loop.specs.declared.ended.Ended.TheVariants as ended
+use Rattle.worker_loop.specs.declared.turns.Ended.{Ended}
+use Rattle.worker_loop.specs.declared.turns.Ended.TheVariants as ended
 use Rattle.worker_threads.specs.Starting.{IsReady, Outside, WorkedEach}
 use Rattle.worker_threads.specs.declared.worker.Shared.{Shared}
 use Rattle.worker_threads.specs.declared.worker.Worker.{Worker}

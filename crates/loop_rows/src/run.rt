@@ -6,7 +6,7 @@ ghost use Rattle.shared_tokens.specs.Seats.{IsSeatOf};
 ghost use Rattle.std.specs.Prelude.{◌≡◌, ◌≢◌, IfOk, length, true};
 ghost use Rattle.worker_core.specs.Sessions.{RestsWire};
 ghost use Rattle.worker_loop.specs.Keeping.{Holds};
-ghost use Rattle.worker_loop.specs.declared.ended.Ended.TheVariants as end;
+ghost use Rattle.worker_loop.specs.declared.turns.Ended.TheVariants as end;
 
 use crate::case::Case;
 use crate::meeting::say_meeting;
