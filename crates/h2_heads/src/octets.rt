@@ -17,7 +17,8 @@ pub fn ends(octets: &[u8], n: usize) -> (&[u8], &[u8])
 }
 
 /// Whether the octets are these. As their number is written out, the compiler makes of it a compare
-/// of one or two words.
+/// of one or two words, and no call. Where it is one of several texts, ask for the length first, with a
+/// `match`: then each of these asks for no length again.
 #[inline(always)]
 pub fn is_text<const N: usize>(octets: &[u8], known: &[u8; N]) -> bool
     ensures { result ≡ bytes_eq octets.now known.now }
