@@ -8,13 +8,12 @@ ghost use Rattle.proxy_wire.specs.Tasks.{IsTask};
 ghost use Rattle.metered_wires.specs.declared.metering.MeteredWires.{MeteredWires};
 ghost use Rattle.worker_threads.specs.Starting.{outside_of};
 
-use crate::crew::{Staff, Supply, metered, share};
+use crate::crew::{Staff, Supply, Task, metered, share};
 use crate::end::WireEnd;
 use crate::leading::Leader;
 use crate::meter::Unmetered;
 use crate::metering::Metering;
 use crate::site::WireSite;
-use crate::task::Task;
 use crate::working::run;
 use io_ports::{NoMemory, Octets, PressureList, Sink};
 use proxy_config::Config;
