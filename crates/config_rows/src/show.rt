@@ -251,12 +251,12 @@ pub fn show_list<R: Print + AllocGlobal>(rt: &R) -> Result<()> {
     println!(rt; "empty {} with {}", filters.is_empty(), filters.len())?;
     let rows = filters.into_vec();
     if rows.len() < u32::MAX as usize {
-        return show_filters(rt, &FilterList::from_vec(rows));
+        return show_each(rt, &FilterList::from_vec(rows));
     }
     Ok(())
 }
 
-fn show_filters<R: Print>(rt: &R, filters: &FilterList) -> Result<()> {
+fn show_each<R: Print>(rt: &R, filters: &FilterList) -> Result<()> {
     for filter in filters.as_slice() {
         println!(rt; "{filter:?}")?;
     }

@@ -1,4 +1,5 @@
-//! Measures the core of wire sessions, a live worker over it, and the drill. Run by hand with the name of a bench; without one it prints its usage.
+//! Measures the core of wire sessions, a live worker over it, and the drill. Run by hand with the name of a bench; without one it
+//! prints its usage.
 #![tactic(auto)]
 
 mod bodies;

@@ -103,9 +103,9 @@ fn gives<S: Source>(
 
 #[test]
 fn readers_give_their_octets_in_pieces(rt: HostRuntime) -> Result<(), NoMemory> {
-    let wanted = [Ok(3), Ok(3), Ok(2), Ok(0)];
+    let wanted: [Answer; 4] = [Ok(3), Ok(3), Ok(2), Ok(0)];
     gives(&rt, &mut StdSource::new(ALL), 3, &wanted, ALL)?;
-    let failed = [Err(Failed), Err(Failed)];
+    let failed: [Answer; 2] = [Err(Failed), Err(Failed)];
     gives(&rt, &mut StdSource::new(Broken), 3, &failed, &[])
 }
 

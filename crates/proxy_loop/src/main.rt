@@ -87,7 +87,7 @@ fn serve_relay<R: Print + Eprint + Files + Net + Clock + Wait + AllocGlobal + Co
         }
         Err(fault) => {
             drop(server);
-            Err(fault.into())
+            Err(anyhow::Error::from(fault))
         }
     }
 }
@@ -185,7 +185,7 @@ where
         }
         Err(fault) => {
             drop(origin);
-            Err(fault.into())
+            Err(anyhow::Error::from(fault))
         }
     }
 }

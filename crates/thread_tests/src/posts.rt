@@ -245,23 +245,21 @@ fn two_post_beside_a_runner(rt: HostRuntime) -> Result<(), Fail> {
     let a = take(&posts, &mut passes).ok_or("a pass")?;
     let b = take(&posts, &mut passes).ok_or("a pass")?;
     let (a, b, runner, drained) = exchange(&rt, alloc, &posts, a, b, runner);
-    let mut all = drained.ok_or("memory")?;
-    holds(&rt, all.len() >= 1900);
     put(&posts, &mut passes, b);
     put(&posts, &mut passes, a);
     let rest = close(&rt, alloc, posts, passes, runner).ok_or("memory")?;
-    all.extend_from_slice(rest.as_slice())?;
-    same(&rt, &all.len(), &2000);
-    same(
-        &rt,
-        &count_in_order(all.as_slice(), 0),
-        &Some(u64::from(EACH)),
-    );
-    same(
-        &rt,
-        &count_in_order(all.as_slice(), 1),
-        &Some(u64::from(EACH)),
-    );
+    are_of_two(&rt, drained, rest.as_slice())
+}
+
+// What was drained and the rest are each poster's posts, in order.
+fn are_of_two<R: Abort>(rt: &R, drained: Option<Vec<Post>>, rest: &[Post]) -> Result<(), Fail> {
+    let mut all = drained.ok_or("memory")?;
+    holds(rt, all.len() >= 1900);
+    all.extend_from_slice(rest)?;
+    same(rt, &all.len(), &2000);
+    let each = Some(u64::from(EACH));
+    same(rt, &count_in_order(all.as_slice(), 0), &each);
+    same(rt, &count_in_order(all.as_slice(), 1), &each);
     Ok(())
 }
 
