@@ -9,7 +9,7 @@ use Rattle.std.specs.List.{Contains, insert}
 use Rattle.std.specs.Prelude.{Bool, List, [], drop, false, get_or, if◌then◌else◌, length, map, suc, take, true, ℕ, ◌++◌, ◌<◌, ◌∷◌, ◌≡◌, ◌≤◌}
 use Rattle.tape_plot.specs.Highest.{is_higher}
 use Rattle.tape_plot.specs.Ranking.{puts}
-use Rattle.tape_plot.specs.contracts.buffer.BufferPartialEq.TheImpl as buffer_eq
+use Rattle.tape_plot.specs.contracts.highest.BufferPartialEq.TheImpl as buffer_eq
 use Rattle.tape_plot.specs.declared.highest.Buffer.{Buffer}
 use Rattle.tape_plot.specs.declared.highest.Buffer.TheVariants as buffer
 use Rattle.tape_plot.specs.declared.highest.Ranked.{Ranked}
