@@ -17,10 +17,10 @@ pub fn ticks(core: &mut WireCore, exchange: u64, back: bool) -> Result<(), NoMem
     ensures go { OnOk result (to_go core.new < to_go core.old) }
 {
     if !back {
-        return run_next(core, exchange, true);
+        return run_next(core, FlowId::response(exchange));
     }
     match next_exchange(core, exchange)? {
-        Some(next) => run_next(core, next, false),
+        Some(next) => run_next(core, FlowId::request(next)),
         None => {
             core.walk.clear();
             core.end_task();
@@ -30,13 +30,16 @@ pub fn ticks(core: &mut WireCore, exchange: u64, back: bool) -> Result<(), NoMem
 }
 
 // The flow is run next, if it is live.
-fn run_next(core: &mut WireCore, exchange: u64, back: bool) -> Result<(), NoMemory>
+fn run_next(core: &mut WireCore, flow: FlowId) -> Result<(), NoMemory>
     requires sound { IsSound core.old }
     ensures sound { OnOk result (IsSound core.new) }
-    ensures go { OnOk result (to_go core.new + top_go core.old.agenda ≤ to_go core.old + (9 + task_go (Task.Ticks exchange back))) }
+    ensures go { OnOk result (to_go core.new + top_go core.old.agenda ≤ to_go core.old + (9 + task_go (Task.Ticks flow.exchange flow.back))) }
 {
-    core.go_on(Task::Ticks { exchange, back })?;
-    match core.course(FlowId { exchange, back }) {
+    core.go_on(Task::Ticks {
+        exchange: flow.exchange,
+        back: flow.back,
+    })?;
+    match core.course(flow) {
         Some(course) => core.ask_run(course),
         None => Ok(()),
     }

@@ -168,7 +168,7 @@ fn pass(
     let row = session.row(*exchange);
     log.pass(
         *exchange,
-        stages.limits(row, false)?,
-        stages.limits(row, true)?,
+        stages.request_limits(row)?,
+        stages.response_limits(row)?,
     )
 }

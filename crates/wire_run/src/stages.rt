@@ -23,7 +23,7 @@ pub struct StageTable {
 }
 
 impl StageTable {
-    ghost use Rattle.std.specs.Prelude.{IfOk, Some};
+    ghost use Rattle.std.specs.Prelude.{IfOk, Some, false, true};
     ghost use Rattle.wire_run.specs.Stages.{AreStages, Gives};
 
     /// Those of these routes.
@@ -39,8 +39,21 @@ impl StageTable {
         Ok(StageTable { alloc, rows })
     }
 
-    /// The limits of a row's stages, for its requests or its responses; none where there is no such row.
-    pub fn limits(&self, row: Option<u32>, back: bool) -> Result<Vec<u32>, NoMemory>
+    /// The limits of the stages that a row's requests pass; none where there is no such row.
+    pub fn request_limits(&self, row: Option<u32>) -> Result<Vec<u32>, NoMemory>
+        ensures { IfOk result (λ limits. Gives self.now.rows.items row false limits.items) }
+    {
+        self.limits(row, false)
+    }
+
+    /// The limits of the stages that a row's responses pass; none where there is no such row.
+    pub fn response_limits(&self, row: Option<u32>) -> Result<Vec<u32>, NoMemory>
+        ensures { IfOk result (λ limits. Gives self.now.rows.items row true limits.items) }
+    {
+        self.limits(row, true)
+    }
+
+    fn limits(&self, row: Option<u32>, back: bool) -> Result<Vec<u32>, NoMemory>
         ensures { IfOk result (λ limits. Gives self.now.rows.items row back limits.items) }
     {
         match row {

@@ -43,21 +43,21 @@ fn put_exchange(into: &mut Octets, levels: &Levels, exchange: u64) -> Result<(),
     let Some(places) = levels.exchange(exchange) else {
         return Ok(());
     };
-    put_flow(into, levels.limits(), exchange, false, &places.request)?;
-    put_flow(into, levels.limits(), exchange, true, &places.response)
+    let request = FlowId::request(exchange);
+    put_flow(into, levels.limits(), request, &places.request)?;
+    let response = FlowId::response(exchange);
+    put_flow(into, levels.limits(), response, &places.response)
 }
 
 // Appends the peaks of a flow's buffers, place by place.
 fn put_flow(
     into: &mut Octets,
     limits: BufferLimits,
-    exchange: u64,
-    back: bool,
+    flow: FlowId,
     places: &FlowPlaces,
 ) -> Result<(), NoMemory>
-    ensures { OnOk result (into.new ≡ into.old ++ side_lines limits (record { exchange = exchange; back = back }) (side_of places.now)) }
+    ensures { OnOk result (into.new ≡ into.old ++ side_lines limits flow (side_of places.now)) }
 {
-    let flow = FlowId { exchange, back };
     let send = places.limits().len() + 1;
     put_flow_peak(into, b"recv", flow, limits.recv, places.most(0))?;
     put_stages(into, flow, places)?;
