@@ -56,8 +56,8 @@ impl Exchange {
         ensures sound { IfOk result (IsSoundExchange number spec.entry.now.now) }
     {
         let none = FilterList::new(alloc);
-        let filters = filters_of(&none, &*config, spec.row, false);
         let id = FlowId::request(number);
+        let filters = filters_of(&none, &*config, spec.row, id);
         let request = spares.begun(id, filters, spec, multiple_of(spec, config))?;
         let response = Self::response(spares, number, spec, config, &none)?;
         Ok(Exchange {
@@ -87,9 +87,10 @@ impl Exchange {
         if spec.plain {
             return Ok(None);
         }
-        let filters = filters_of(none, config, spec.row, true);
+        let id = FlowId::response(number);
+        let filters = filters_of(none, config, spec.row, id);
         let multiple = config.limits.overflow_multiple;
-        Ok(Some(spares.begun(FlowId::response(number), filters, spec, multiple)?))
+        Ok(Some(spares.begun(id, filters, spec, multiple)?))
     }
 
     /// The Meters of both flows go on to the moment `now`.
@@ -281,21 +282,21 @@ impl Exchange {
     }
 }
 
-// The filters of one side of a route row, `none` where there is no row.
+// The filters that a route row has for the flow, `none` where there is no row.
 fn filters_of<'a>(
     none: &'a FilterList,
     config: &'a Config,
     row: Option<u32>,
-    back: bool,
+    flow: FlowId,
 ) -> &'a FilterList
-    ensures filters { none.now ≡ [] → result.now ≡ filters_of (side_filters back) row config.now }
+    ensures filters { none.now ≡ [] → result.now ≡ filters_of (side_filters flow.back) row config.now }
     ensures few { none.now ≡ [] → All IsRoute config.now.routes → AreFilters result.now }
 {
     let Some(row) = row else {
         return none;
     };
     match config.routes.as_slice().get(row as usize) {
-        Some(route) if back => &route.response,
+        Some(route) if flow.back => &route.response,
         Some(route) => &route.request,
         None => none,
     }

@@ -4,12 +4,12 @@ ghost use Rattle.flow_gate.specs.Board.{IsSound, count, is_known, is_marked, is_
 ghost use Rattle.flow_gate.specs.Changes.{Begins, Closes, Drains, Forgets, IsEmpty, Knows, Rises, Tells, Watches};
 ghost use Rattle.flow_gate.specs.Ids.{same_buffer};
 ghost use Rattle.flow_gate.specs.Line.{Line, held_in, left, told};
-ghost use Rattle.flow_gate.specs.Parts.{AreWatches, StandsIn, above_at, bound_after, buffer_at, held, is_after, is_stage, kept, stage_of, watched_in};
+ghost use Rattle.flow_gate.specs.Parts.{AreWatches, StandsIn, above_at, bound_after, buffer_at, held, is_after, is_stage, kept, watched_in};
 ghost use Rattle.flow_gate.specs.declared.ids.BufferId.{BufferId};
 ghost use Rattle.flow_gate.specs.declared.ids.FlowId.{FlowId};
 
 use crate::gate::Gate;
-use crate::ids::{BufferId, FlowId};
+use crate::ids::{BufferId, FlowId, stage_of};
 use crate::line::Watchers;
 use crate::spares::Spares;
 use crate::watcher::{Watch, Watcher};
@@ -391,15 +391,5 @@ fn bound_after(flow: FlowId, after: Option<u32>) -> Bound<BufferId>
     match after {
         None => Bound::Included(BufferId::Stage(flow, 0)),
         Some(stage) => Bound::Excluded(BufferId::Stage(flow, stage)),
-    }
-}
-
-// The number of a stage of the flow.
-fn stage_of(flow: FlowId, buffer: BufferId) -> Option<u32>
-    ensures { result ≡ stage_of flow buffer }
-{
-    match buffer {
-        BufferId::Stage(owner, stage) if owner == flow => Some(stage),
-        _ => None,
     }
 }

@@ -1,4 +1,6 @@
 // What names a flow and a buffer.
+ghost use Rattle.std.specs.Prelude.{◌≡◌};
+ghost use Rattle.flow_gate.specs.Parts.{stage_of};
 
 /// A flow: the request of an exchange, or its response, which goes back.
 #[derive(Clone, Copy, Debug, PartialEq, Eq, PartialOrd, Ord)]
@@ -8,7 +10,7 @@ pub struct FlowId {
 }
 
 impl FlowId {
-    ghost use Rattle.std.specs.Prelude.{◌≡◌, false, true};
+    ghost use Rattle.std.specs.Prelude.{false, true};
 
     /// The request flow of an exchange.
     pub fn request(exchange: u64) -> Self
@@ -39,4 +41,14 @@ pub enum BufferId {
     Recv(FlowId),
     Stage(FlowId, u32),
     Send(FlowId),
+}
+
+/// The number of a stage of the flow, where the buffer is one.
+pub(crate) fn stage_of(flow: FlowId, buffer: BufferId) -> Option<u32>
+    ensures { result ≡ stage_of flow buffer }
+{
+    match buffer {
+        BufferId::Stage(owner, stage) if owner == flow => Some(stage),
+        _ => None,
+    }
 }

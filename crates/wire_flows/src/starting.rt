@@ -95,15 +95,11 @@ fn begin_both(
     ensures err { OnErr result (IsSame gates.old gates.new) }
 {
     let request = FlowId::request(exchange);
-    let filters = filters_of(config, spec.row, false);
+    let filters = filters_of(config, spec.row, request);
     let request_held = begin(gates, request, filters, spec.to_conn)?;
-    let filters = filters_of(config, spec.row, true);
-    match begin(
-        gates,
-        FlowId::response(exchange),
-        filters,
-        Some(spec.from_conn),
-    ) {
+    let response = FlowId::response(exchange);
+    let filters = filters_of(config, spec.row, response);
+    match begin(gates, response, filters, Some(spec.from_conn)) {
         Ok(response_held) => Ok((request_held, response_held)),
         Err(NoMemory) => {
             gates.forget(request);
@@ -204,16 +200,16 @@ fn watch_own(gates: &mut Gates, flow: FlowId, buffer: BufferId) -> Result<(), No
     Ok(())
 }
 
-// The filters of one side of a route row, none where there is no row.
-fn filters_of(config: &Config, row: Option<u32>, back: bool) -> &[Filter]
-    ensures filters { result.now ≡ route_filters (side_filters back) row config.now }
+// The filters that a route row has for the flow, none where there is no row.
+fn filters_of(config: &Config, row: Option<u32>, flow: FlowId) -> &[Filter]
+    ensures filters { result.now ≡ route_filters (side_filters flow.back) row config.now }
     ensures few { All IsRoute config.now.routes → length result.now ≤ 8 }
 {
     let Some(row) = row else {
         return &[];
     };
     match config.routes.as_slice().get(row as usize) {
-        Some(route) if back => route.response.as_slice(),
+        Some(route) if flow.back => route.response.as_slice(),
         Some(route) => route.request.as_slice(),
         None => &[],
     }

@@ -25,7 +25,7 @@ use Rattle.number_set.specs.NumberSet.{Rises, has}
 use Rattle.wire_links.specs.Numbers.{changed, under}
 use Rattle.wire_links.specs.Seats.{Seat, left, linked, opened, placed, with_state}
 use Rattle.wire_links.specs.declared.conn.Conn.{Conn}
-use Rattle.wire_links.specs.declared.ends.Ends.{Ends}
+use Rattle.wire_links.specs.declared.links.exchanges.Ends.{Ends}
 
 pub absent_is : (seats : Seats) (c : ℕ) → is_some (under c (conns_of seats)) ≡ false → under c seats ≡ None
 absent_is seats c unknown = by_found (under c seats) (known_is seats c ∙ unknown)

@@ -8,8 +8,8 @@ mod exchanges;
 mod tables;
 
 use crate::conn::Conn;
-use crate::ends::Ends;
 use crate::seat::Seat;
+pub use exchanges::Ends;
 use io_ports::NoMemory;
 use number_set::NumberSet;
 use std::alloc::Global;

@@ -1,20 +1,14 @@
 // Connection errors, in the order of the protocol's rules (RFC 9113 section 5.4.1).
-ghost use Rattle.std.specs.Prelude.{◌≡◌, not, Option};
+ghost use Rattle.std.specs.Prelude.{◌≡◌, not};
 ghost use Rattle.h2_frames.specs.View.{view};
-ghost use Rattle.h2_session.specs.Blocks.{block_with};
-ghost use Rattle.h2_session.specs.Errors.{breaks_block, error_by, first_of, is_empty_data, is_great, is_push, is_settings, is_zero_update, settings_error, value_error};
+ghost use Rattle.h2_session.specs.Errors.{error_by, first_of, is_empty_data, is_push, is_settings, is_zero_update, settings_error, value_error};
 ghost use Rattle.h2_session.specs.Summary.{is_idle_in, uses_idle_in};
 
 use super::Session;
-use crate::block::HeaderBlock;
+use crate::block::{breaks_block, is_great};
 use crate::settings::named_outside;
 use h2_frames::Frame;
 use h2_frames::codes::{ENHANCE_YOUR_CALM, FLOW_CONTROL_ERROR, PROTOCOL_ERROR};
-
-// The most that a header block may have, in octets and in frames.
-const MOST_OCTETS: usize = 65_536;
-
-const MOST_FRAMES: u32 = 128;
 
 // SETTINGS that is no acknowledgement.
 fn is_settings(frame: &Frame) -> bool
@@ -50,36 +44,6 @@ fn is_empty_data(frame: &Frame) -> bool
             octets,
             ..
         } => octets.is_empty() && padded == 0 && !last,
-        _ => false,
-    }
-}
-
-// A frame within an open block that doesn't go on with it, or a CONTINUATION outside one.
-fn breaks_block(frame: &Frame, block: &Option<HeaderBlock>) -> bool
-    ensures { result ≡ breaks_block (view frame.now) block.now }
-{
-    match (*frame, block) {
-        (Frame::Continuation { stream, .. }, Some(block)) => stream != block.stream,
-        (Frame::Continuation { .. }, None) => true,
-        (_, Some(_)) => true,
-        (_, None) => false,
-    }
-}
-
-// The block with the frame is too great.
-fn is_great(frame: &Frame, before: &Option<HeaderBlock>) -> bool
-    ensures { result ≡ is_great (block_with (view frame.now) before.now) }
-{
-    match *frame {
-        Frame::Headers { block, .. } => block.len() > MOST_OCTETS,
-        Frame::Continuation { block, .. } => match before {
-            Some(before) => {
-                before.octets.len() > MOST_OCTETS
-                    || block.len() > MOST_OCTETS - before.octets.len()
-                    || before.frames >= MOST_FRAMES
-            }
-            None => false,
-        },
         _ => false,
     }
 }

@@ -3,9 +3,20 @@ ghost use Rattle.std.specs.Prelude.{◌≡◌, IfSome, IsSome, None, OnErr, OnOk
 ghost use Rattle.wire_links.specs.Links.{IsOn, IsToFrame, cluster_of, doomed, ends_of, exchange_at, exchanges_of, framed, is_client, least_of, next_of, started};
 
 use super::{Links, tables};
-use crate::ends::Ends;
 use io_ports::NoMemory;
 use std::collections::btree_map::Entry;
+
+/// The two ends of an exchange.
+#[derive(Clone, Copy, Debug, PartialEq, Eq)]
+pub struct Ends {
+    /// The client's connection, and the stream of the request on it.
+    pub client: u32,
+    pub stream: u32,
+    /// The connection to a cluster; none where the request is refused.
+    pub cluster: Option<u32>,
+    /// The stream there, once the request's head has been framed.
+    pub cluster_stream: Option<u32>,
+}
 
 impl Links {
     /// The exchange on a stream of the connection, while it is live.
