@@ -1,5 +1,5 @@
 use Rattle.std.proofs.Common.{◌≤◌, vec_len, vec_capacity}
-use Rattle.bench_main.proofs.posts.take_list.Given as goal
+use Rattle.bench_main.proofs.plain_queue.take_list.Given as goal
 
 abbrev pub invariant-loop : goal.invariant-loop
 invariant-loop g l = record {
