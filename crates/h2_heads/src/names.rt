@@ -1,6 +1,6 @@
 // Names of fields, and fields by their names.
-ghost use Rattle.std.specs.Prelude.{◌≡◌, ◌<◌, ◌≤◌, ◌+◌, ◌^◌, ◌==◌, ◌||◌, codes, false, if◌then◌else◌, length, nat_eq, not, IfSome};
-ghost use Rattle.h2_heads.specs.Named.{is_named, place_of, value_of, StandsAt};
+ghost use Rattle.std.specs.Prelude.{◌≡◌, ◌≤◌, ◌+◌, ◌==◌, ◌||◌, codes, false, if◌then◌else◌, length, nat_eq, not};
+ghost use Rattle.h2_heads.specs.Named.{is_named, value_of};
 ghost use Rattle.h2_heads.specs.Passes.{is_plain, is_usual};
 ghost use Rattle.h2_heads.specs.Rules.{has_inner_colon, is_bad_in_name, is_bad_name};
 ghost use Rattle.h2_heads.specs.declared.malformed.Kind.TheVariants.{BadName, InnerColon};
@@ -147,20 +147,4 @@ pub fn value_of<'a>(fields: &'a [Field], name: &[u8]) -> Option<&'a [u8]>
         .iter()
         .find(|field| is_named(field, name))
         .map(|field| field.value.as_slice())
-}
-
-/// The place of the first field with the name.
-pub fn place_of(fields: &[Field], name: &[u8]) -> Option<u32>
-    requires { length fields.now < 2 ^ 32 }
-    ensures place { result ≡ place_of name.now fields.now }
-    ensures stands { StandsAt name.now fields.now result }
-{
-    position_of(fields, name).map(|place| place as u32)
-}
-
-fn position_of(fields: &[Field], name: &[u8]) -> Option<usize>
-    ensures place { result ≡ place_of name.now fields.now }
-    ensures within { IfSome result (λ place. place < length fields.now) }
-{
-    fields.iter().position(|field| is_named(field, name))
 }
