@@ -1,5 +1,5 @@
 -- What is found in a list by a test, and at which place.
-use Rattle.std.proofs.Common.{Bool, List, [], ◌∷◌, ℕ, ◌+◌, ◌<◌, ◌≡◌, ◌≤◌, ◌++◌, ◌∙◌, ◌^◌, None, Option, Some, ⊎_elim, ap, arith, cond, false, get_or, length, nat_lt, refl, rules, subst, suc, sym, true, zero}
+use Rattle.std.proofs.Common.{Bool, List, [], ◌∷◌, ℕ, ◌+◌, ◌<◌, ◌≡◌, ◌≤◌, ◌++◌, ◌∙◌, ◌^◌, None, Option, Some, ⊎_elim, ap, arith, cond, false, get_or, length, nat_lt, not, refl, rules, subst, suc, sym, true, zero}
 use Rattle.std.proofs.lemmas.Bool.{cases_lt}
 use Rattle.std.proofs.lemmas.List.{length-append}
 use Rattle.std.proofs.lemmas.List.Folds.{find_at, position_or_len_push}
@@ -63,7 +63,7 @@ stands_some name fields None stands = sym (ap is_some stands)
 pub is_some_place : (name : List ℕ) (fields : List Field) → is_some (place_of name fields) ≡ has_field name fields
 is_some_place name fields = stands_some name fields (place_of name fields) (stands_at name fields)
 
-within_step : (b : Bool) (k n : ℕ) → k ≤ n → cond b 0 (1 + k) ≤ suc n
+within_step : (b : Bool) (k n : ℕ) → k ≤ n → cond (not b) (1 + k) 0 ≤ suc n
 within_step true k n h = omega arith
 within_step false k n h = omega (arith, h)
 
@@ -71,34 +71,34 @@ position_within : (test : Field → Bool) (fields : List Field) → position_or_
 position_within test [] = omega arith
 position_within test (f ∷ fs) = within_step (test f) (position_or_len test fs) (length fs) (position_within test fs)
 
-pushed : (k n pushed more : ℕ) (named : Bool) → k ≤ n → pushed ≡ cond (k == n) (n + cond named 0 1) k → more ≡ n + 1 → cond (nat_lt pushed more) (Some pushed) None ≡ option_or (cond (nat_lt k n) (Some k) None) (cond named (Some n) None)
-pushed k n pushed more true within at size =
+pushed : (k n at_end more : ℕ) (named : Bool) → k ≤ n → at_end ≡ cond (k == n) (n + cond named 0 1) k → more ≡ n + 1 → cond (nat_lt at_end more) (Some at_end) None ≡ option_or (cond (nat_lt k n) (Some k) None) (cond named (Some n) None)
+pushed k n at_end more true within at size =
     ⊎_elim (λ below.
     let other : (k == n) ≡ false = grind (arith, nat_tests) in
-    let same : pushed ≡ k = at ∙ ap (λ b. cond b (n + 0) k) other in
-    let inside : nat_lt pushed more ≡ true = grind (arith, nat_tests) in
+    let same : at_end ≡ k = at ∙ ap (λ b. cond b (n + 0) k) other in
+    let inside : nat_lt at_end more ≡ true = grind (arith, nat_tests) in
     let before : nat_lt k n ≡ true = grind (arith, nat_tests) in
-    ap (λ b. cond b (Some pushed) None) inside ∙ ap Some same ∙ sym (ap (λ b. option_or (cond b (Some k) None) (Some n)) before)
+    ap (λ b. cond b (Some at_end) None) inside ∙ ap Some same ∙ sym (ap (λ b. option_or (cond b (Some k) None) (Some n)) before)
     ) (λ past.
     let last : (k == n) ≡ true = grind (arith, nat_tests) in
-    let same : pushed ≡ n = omega (arith, at ∙ ap (λ b. cond b (n + 0) k) last) in
-    let inside : nat_lt pushed more ≡ true = grind (arith, nat_tests) in
+    let same : at_end ≡ n = omega (arith, at ∙ ap (λ b. cond b (n + 0) k) last) in
+    let inside : nat_lt at_end more ≡ true = grind (arith, nat_tests) in
     let before : nat_lt k n ≡ false = grind (arith, nat_tests) in
-    ap (λ b. cond b (Some pushed) None) inside ∙ ap Some same ∙ sym (ap (λ b. option_or (cond b (Some k) None) (Some n)) before)
+    ap (λ b. cond b (Some at_end) None) inside ∙ ap Some same ∙ sym (ap (λ b. option_or (cond b (Some k) None) (Some n)) before)
     ) (cases_lt k n)
-pushed k n pushed more false within at size =
+pushed k n at_end more false within at size =
     ⊎_elim (λ below.
     let other : (k == n) ≡ false = grind (arith, nat_tests) in
-    let same : pushed ≡ k = at ∙ ap (λ b. cond b (n + 1) k) other in
-    let inside : nat_lt pushed more ≡ true = grind (arith, nat_tests) in
+    let same : at_end ≡ k = at ∙ ap (λ b. cond b (n + 1) k) other in
+    let inside : nat_lt at_end more ≡ true = grind (arith, nat_tests) in
     let before : nat_lt k n ≡ true = grind (arith, nat_tests) in
-    ap (λ b. cond b (Some pushed) None) inside ∙ ap Some same ∙ sym (ap (λ b. option_or (cond b (Some k) None) None) before)
+    ap (λ b. cond b (Some at_end) None) inside ∙ ap Some same ∙ sym (ap (λ b. option_or (cond b (Some k) None) None) before)
     ) (λ past.
     let last : (k == n) ≡ true = grind (arith, nat_tests) in
-    let same : pushed ≡ n + 1 = at ∙ ap (λ b. cond b (n + 1) k) last in
-    let outside : nat_lt pushed more ≡ false = grind (arith, nat_tests) in
+    let same : at_end ≡ n + 1 = at ∙ ap (λ b. cond b (n + 1) k) last in
+    let outside : nat_lt at_end more ≡ false = grind (arith, nat_tests) in
     let before : nat_lt k n ≡ false = grind (arith, nat_tests) in
-    ap (λ b. cond b (Some pushed) None) outside ∙ sym (ap (λ b. option_or (cond b (Some k) None) None) before)
+    ap (λ b. cond b (Some at_end) None) outside ∙ sym (ap (λ b. option_or (cond b (Some k) None) None) before)
     ) (cases_lt k n)
 
 -- the place of a name with one field more

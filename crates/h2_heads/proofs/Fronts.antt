@@ -154,6 +154,9 @@ lacks_is Trailers front fields is = refl
 pub whole_front : (front : Front) (fields : List Field) (i : ℕ) → IsFront front (take i fields) → length fields ≤ i → IsFront front fields
 whole_front front fields i is past = subst (λ (list : List Field). IsFront front list) (take_all i fields past) is
 
+pub same_front : (front : Front) (fields more : List Field) → more ≡ fields → IsFront front fields → IsFront front more
+same_front front fields more same is = subst (λ (list : List Field). IsFront front list) (sym same) is
+
 -- fields of one name and one value break the same rules for pseudo-fields
 alike : (message : Message) (before : List Field) (f g : Field) → f.name ≡ g.name → f.value ≡ g.value → lowest_of_pseudo message before f ≡ lowest_of_pseudo message before g
 alike message before f g name value = λ k. lowest_of_pseudo message before (record { name = name k; value = value k; never = false })

@@ -2,6 +2,7 @@
 use Rattle.h2_heads.specs.Malformed.{lowest}
 use Rattle.h2_heads.specs.Named.{place_of, value_of}
 use Rattle.h2_heads.specs.Passes.{lowest_of_pseudo}
+use Rattle.h2_heads.specs.Pseudos.{index_of, name_of}
 use Rattle.h2_heads.specs.Rules.{has_regular}
 use Rattle.h2_heads.specs.declared.front.Front.{Front}
 use Rattle.h2_heads.specs.declared.malformed.Kind.{Kind}

@@ -58,6 +58,7 @@ fn may_begin(octet: u8) -> bool
 }
 
 // Whether each octet is plain. Most names have none but usual ones.
+#[inline(always)]
 fn all_plain(octets: &[u8]) -> bool
     ensures { result ≡ list_all is_plain octets.now }
 {

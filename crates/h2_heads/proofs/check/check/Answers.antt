@@ -2,15 +2,13 @@ use Rattle.std.proofs.Common.{List, None, Option, Some, ℕ, ◌≡◌, ◌∙�
 use Rattle.std.proofs.lemmas.List.{length-take-le}
 use Rattle.std.specs.Option.{IfSome, option_copied, option_or}
 use Rattle.std.specs.Prelude.{if◌then◌else◌}
-use Rattle.hpack_codec.specs.declared.fields.Field.{Field}
-use Rattle.h2_heads.specs.Fronts.{IsFront}
 use Rattle.h2_heads.specs.Named.{is_named}
 use Rattle.h2_heads.specs.Numbers.{is_length}
 use Rattle.h2_heads.specs.declared.pseudo.Pseudo.TheVariants.{Authority, Path}
 use Rattle.h2_heads.proofs.Faults.{all_sound, fault_at_field, first_fault, first_missing, malformed_at, malformed_at_end, not_malformed}
 use Rattle.h2_heads.proofs.FirstLengths.{first_good, good_length}
 use Rattle.h2_heads.proofs.FirstValues.{more_fields, value_of_more}
-use Rattle.h2_heads.proofs.Fronts.{lacks_is, whole_front}
+use Rattle.h2_heads.proofs.Fronts.{lacks_is, same_front, whole_front}
 use Rattle.h2_heads.proofs.check.check.Goals as goal
 
 pub loop-place-init : goal.loop-place-init
@@ -43,7 +41,7 @@ loop-place-preserved c =
       below_more _ _ c.loop-place.invariant.0 (there ∙ none),
       c.first_length-length.ensures ∙ joined ∙ sym more,
       subst (λ (o : Option (List ℕ)). IfSome o (λ v. is_length v ≡ true)) (sym c.first_length-length.ensures) first,
-      subst (λ (list : List Field). IsFront _ list) (sym longer) (told.1.each _ c.loop-place.invariant.3 so_far),
+      same_front _ _ _ longer (told.1.each _ c.loop-place.invariant.3 so_far),
     )
 
 pub returns-then-lacks-clause-fault : goal.returns-then-lacks-clause-fault

@@ -21,8 +21,8 @@ pub short-requires : goal.short-requires
 short-requires c =
     within_short (codes ":authority") c.as_slice-fields.result.now _ c.in_ok-said.ensures.authority (rw c.as_slice-fields.ensures c.requires)
 
-pub short-2-requires : goal.short-2-requires
-short-2-requires c =
+pub short-requires-2 : goal.short-requires-2
+short-requires-2 c =
     within_short (codes ":path") c.as_slice-fields.result.now _ c.in_ok-said.ensures.path (rw c.as_slice-fields.ensures c.requires)
 
 pub returns-clause-path_needed : goal.returns-clause-path_needed
