@@ -47,12 +47,13 @@ impl Front {
         requires { name.now ≡ field.now.name }
         ensures { Judges message self.old place (option_copied length.entry) field.now self.new result }
     {
-        let bad_value = is_bad_value(field.value.as_slice());
+        let value = field.value.as_slice();
+        let bad_value = is_bad_value(value);
         if !is_pseudo(name) {
             return self.take_regular(length, place, name, bad_value, field);
         }
         if let Some(pseudo) = pseudo_of(name) {
-            return self.take_pseudo(message, pseudo, place, bad_value, field);
+            return self.take_pseudo(message, pseudo, place, value, bad_value, field);
         }
         Some(self.fault_of_unknown(name, bad_value, field))
     }
@@ -84,17 +85,19 @@ impl Front {
         message: Message,
         pseudo: Pseudo,
         place: usize,
+        value: &[u8],
         bad_value: bool,
         field: &Field,
     ) -> Option<Kind>
         requires name { pseudo_of field.now.name ≡ Some pseudo }
+        requires text { value.now ≡ field.now.value }
         requires value { bad_value ≡ is_bad_value field.now.value }
         ensures { (first : Option (List ℕ)) → Judges message self.old place first field.now self.new result }
     {
         if bad_value {
             return Some(Kind::BadValue);
         }
-        if let Some(kind) = self.fault_of_pseudo(message, pseudo, field.value.as_slice()) {
+        if let Some(kind) = self.fault_of_pseudo(message, pseudo, value) {
             return Some(kind);
         }
         self.places[pseudo.index()] = Some(place);

@@ -11,7 +11,7 @@ ghost use Rattle.h2_heads.specs.declared.malformed.Message.TheVariants.{Connect,
 
 use crate::check::check;
 use crate::malformed::{Malformed, Message};
-use crate::names::value_of;
+use crate::names::{first_method, value_of};
 use crate::octets::is_text;
 use crate::values::status_in;
 use hpack_codec::{Field, FieldList};
@@ -49,7 +49,7 @@ pub fn check_request(fields: &FieldList) -> Result<RequestHead, Malformed>
     ensures malformed { is_err result ≡ is_malformed_request fields.now }
 {
     let fields = fields.as_slice();
-    let method = value_of(fields, b":method");
+    let method = first_method(fields);
     let connect = is_some(method, b"CONNECT");
     let said = check(message_of_request(connect), fields)?;
     Ok(RequestHead {

@@ -8,7 +8,7 @@ ghost use Rattle.std.specs.List.{list_all, list_any, starts_with};
 ghost use Rattle.std.specs.Option.{option_copied};
 
 use crate::malformed::Kind;
-use crate::octets::ends;
+use crate::octets::{ends, is_text};
 use hpack_codec::Field;
 
 /// Whether the name is empty or has an octet that no name has.
@@ -69,6 +69,7 @@ fn all_plain(octets: &[u8]) -> bool
 }
 
 // Names are short, and most are looked at by their two ends.
+#[inline(always)]
 fn all_usual(octets: &[u8]) -> bool
     ensures { result ≡ list_all is_usual octets.now }
 {
@@ -148,4 +149,20 @@ pub fn value_of<'a>(fields: &'a [Field], name: &[u8]) -> Option<&'a [u8]>
         .iter()
         .find(|field| is_named(field, name))
         .map(|field| field.value.as_slice())
+}
+
+/// The value of the first `:method`.
+pub fn first_method(fields: &[Field]) -> Option<&[u8]>
+    ensures { option_copied result ≡ value_of (codes ":method") fields.now }
+{
+    fields
+        .iter()
+        .find(|field| is_method(field))
+        .map(|field| field.value.as_slice())
+}
+
+fn is_method(field: &Field) -> bool
+    ensures { result ≡ is_named (codes ":method") field.now }
+{
+    is_text(field.name.as_slice(), b":method")
 }

@@ -12,7 +12,7 @@ use Rattle.h2_heads.proofs.heads.check_request.Goals as goal
 
 pub returns-clause-sound : goal.returns-clause-sound
 returns-clause-sound c =
-    let connect = c.is_some-connect.ensures ∙ ap (λ (o : Option (List ℕ)). option_map_or (λ (value : List ℕ). bytes_eq value (codes "CONNECT")) o false) c.value_of-method.ensures in
+    let connect = c.is_some-connect.ensures ∙ ap (λ (o : Option (List ℕ)). option_map_or (λ (value : List ℕ). bytes_eq value (codes "CONNECT")) o false) c.first_method-method.ensures in
     let message = c.message_of_request.ensures ∙ ap (λ (b : Bool). if b then Connect else Request) connect in
     let sound = subst (λ (m : Message). IsSound (fault_at m c.as_slice-fields.result.now)) message c.in_ok-said.ensures.sound in
     subst (λ (fields : List Field). IsSound (fault_at (message_of_request fields) fields)) c.as_slice-fields.ensures sound

@@ -17,7 +17,7 @@ returns-in-Some c first =
     let named = named_by c.args.field.now.name c.args.pseudo c.requires.name in
     let good = sym c.requires.value ∙ c.if-bad_value.false in
     let told = rw c.in-Some.is at c.fault_of_pseudo.ensures.tells in
-    (tells_known c.args.message c.args.self.now first c.args.pseudo c.args.field.now c.as_slice.result.now _ named (sym c.as_slice.ensures) good told, tt)
+    (tells_known c.args.message c.args.self.now first c.args.pseudo c.args.field.now c.args.value.now _ named (sym c.requires.text) good told, tt)
 
 pub returns : goal.returns
 returns c first =
@@ -25,6 +25,6 @@ returns c first =
     let good = sym c.requires.value ∙ c.if-bad_value.false in
     let told = rw c.in_default.is at c.fault_of_pseudo.ensures.tells in
     let fresh = c.fault_of_pseudo.ensures.fresh c.in_default.is in (
-      tells_known c.args.message c.args.self.now first c.args.pseudo c.args.field.now c.as_slice.result.now _ named (sym c.as_slice.ensures) good told,
+      tells_known c.args.message c.args.self.now first c.args.pseudo c.args.field.now c.args.value.now _ named (sym c.requires.text) good told,
       takes_pseudo c.args.self.now _ c.args.place c.args.field.now c.args.pseudo named fresh (ap (λ (i : ℕ). set c.args.self.now.places i (Some c.args.place)) c.index.ensures.place) refl,
     )
