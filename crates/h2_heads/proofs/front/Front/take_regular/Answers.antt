@@ -1,4 +1,4 @@
-use Rattle.std.proofs.Common.{refl, sym, ◌∙◌}
+use Rattle.std.proofs.Common.{refl}
 use Rattle.h2_heads.proofs.Fronts.{takes_regular}
 use Rattle.h2_heads.proofs.front.Front.take_regular.Goals as goal
 
