@@ -18,10 +18,10 @@ empty [] none = refl
 empty (x ∷ l) none = absurd (omega (arith, none))
 
 -- ---- a number and its page
-parts : (n : ℕ) → n / 16 * 16 + n % 16 ≡ n
+pub parts : (n : ℕ) → n / 16 * 16 + n % 16 ≡ n
 parts n = omega arith
 
-small : (n : ℕ) → n % 16 < 16
+pub small : (n : ℕ) → n % 16 < 16
 small n = omega arith
 
 -- a value counts
@@ -38,27 +38,27 @@ module _ {X : Type 0} where
   AreLong pages = AllByRecursion (λ page. length page.1 ≡ 16) pages
 
   -- ---- places of pages
-  at_rest : (q place : ℕ) (p : ℕ × List (Option X)) (pages : List (ℕ × List (Option X))) → IsAt q (suc place) (p ∷ pages) → IsAt q place pages
+  pub at_rest : (q place : ℕ) (p : ℕ × List (Option X)) (pages : List (ℕ × List (Option X))) → IsAt q (suc place) (p ∷ pages) → IsAt q place pages
   at_rest q place p pages at = record { within = omega (arith, at.within); before = λ k less. at.before (suc k) (omega (arith, less)); is = at.is }
 
-  gap_rest : (q place : ℕ) (p : ℕ × List (Option X)) (pages : List (ℕ × List (Option X))) → IsGap q (suc place) (p ∷ pages) → IsGap q place pages
+  pub gap_rest : (q place : ℕ) (p : ℕ × List (Option X)) (pages : List (ℕ × List (Option X))) → IsGap q (suc place) (p ∷ pages) → IsGap q place pages
   gap_rest q place p pages gap = record {
     within = omega (arith, gap.within);
     before = λ k less. gap.before (suc k) (omega (arith, less));
     after = λ k from last. gap.after (suc k) (omega (arith, from)) (omega (arith, last));
   }
 
-  gap_past : (q : ℕ) (p : ℕ × List (Option X)) (pages : List (ℕ × List (Option X))) → IsGap q zero (p ∷ pages) → IsGap q zero pages
+  pub gap_past : (q : ℕ) (p : ℕ × List (Option X)) (pages : List (ℕ × List (Option X))) → IsGap q zero (p ∷ pages) → IsGap q zero pages
   gap_past q p pages gap = record {
     within = omega arith;
     before = λ k less. absurd (omega (arith, less));
     after = λ k from last. gap.after (suc k) (omega arith) (omega (arith, last));
   }
 
-  above : (q : ℕ) (p : ℕ × List (Option X)) (pages : List (ℕ × List (Option X))) → IsGap q zero (p ∷ pages) → q < p.0
+  pub above : (q : ℕ) (p : ℕ × List (Option X)) (pages : List (ℕ × List (Option X))) → IsGap q zero (p ∷ pages) → q < p.0
   above q p pages gap = gap.after zero (omega arith) (omega arith)
 
-  below : (q place : ℕ) (p : ℕ × List (Option X)) (pages : List (ℕ × List (Option X))) → IsAt q (suc place) (p ∷ pages) → p.0 < q
+  pub below : (q place : ℕ) (p : ℕ × List (Option X)) (pages : List (ℕ × List (Option X))) → IsAt q (suc place) (p ∷ pages) → p.0 < q
   below q place p pages at = at.before zero (omega arith)
 
   as_many : (pages : List (ℕ × List (Option X))) → length (keys_of pages) ≡ length pages
@@ -69,7 +69,7 @@ module _ {X : Type 0} where
   indexes_rise pages sorted i j less last = below_from_sorted (keys_of pages) i j 0 sorted less (omega (arith, last, as_many pages))
 
   -- behind a page there are greater ones alone
-  behind : (q : ℕ) (p : ℕ × List (Option X)) (pages : List (ℕ × List (Option X))) → IsSorted (p ∷ pages) → p.0 ≡ q → IsGap q zero pages
+  pub behind : (q : ℕ) (p : ℕ × List (Option X)) (pages : List (ℕ × List (Option X))) → IsSorted (p ∷ pages) → p.0 ≡ q → IsGap q zero pages
   behind q p pages sorted is = record {
     within = omega arith;
     before = λ k less. absurd (omega (arith, less));

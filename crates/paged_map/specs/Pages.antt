@@ -1,11 +1,15 @@
 -- How the values lie: each page has a slot for each of 16 numbers that stand next to each other.
 use Rattle.number_set.specs.NumberMap.{IsSorted}
 use Rattle.std.specs.List.{AllByRecursion}
-use Rattle.std.specs.Prelude.{List, None, Option, Some, [], count_by, is_some, length, ℕ, ◌*◌, ◌+◌, ◌++◌, ◌∷◌, ◌≡◌}
+use Rattle.std.specs.Prelude.{List, None, Option, Some, [], count_by, is_some, length, ℕ, ◌*◌, ◌+◌, ◌++◌, ◌<◌, ◌^◌, ◌∷◌, ◌≡◌}
 
 -- how many numbers a page is for
 abbrev pub width : ℕ
 width = 16
+
+-- a 16th of a number
+abbrev pub IsIndex : ℕ → Type 0
+IsIndex index = index < 2 ^ 60
 
 -- A page is seen as its index, a 16th of each of its numbers, and its slots.
 module _ {X : Type 0} where
@@ -21,7 +25,8 @@ module _ {X : Type 0} where
   entries_on (page ∷ pages) = entries_from (page.0 * width) page.1 ++ entries_on pages
 
   -- so many slots of a page are used
-  pub record IsWhole (used : ℕ) (slots : List (Option X)) : Type 0 where
+  pub record IsWhole (index used : ℕ) (slots : List (Option X)) : Type 0 where
+    pub small : IsIndex index
     pub counted : used ≡ count_by is_some slots
     pub long : length slots ≡ width
 

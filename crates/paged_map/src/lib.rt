@@ -2,10 +2,8 @@
 //! look-up costs about the same beside ten and beside ten thousand, and no step moves more than a page's worth of all.
 #![tactic(auto)]
 
-mod key;
 mod map;
 mod page;
 mod pages;
 
-pub use key::Key;
-pub use map::PagedMap;
+pub use map::{Key, PagedMap};

@@ -1,19 +1,47 @@
 // Values by number.
+ghost use Rattle.number_set.specs.NumberMap.{IsSorted};
+ghost use Rattle.number_set.specs.NumberSet.{first_above};
 ghost use Rattle.paged_map.specs.Lends.{LendsValue};
-ghost use Rattle.paged_map.specs.PagedMap.{value_at};
+ghost use Rattle.paged_map.specs.PagedMap.{Updates, value_at};
 ghost use Rattle.std.specs.Borrow.{sem};
 ghost use Rattle.std.specs.BTreeMap.{insert_entry, is_at};
-ghost use Rattle.std.specs.Map.{remove_entry};
+ghost use Rattle.std.specs.Map.{keys_of, remove_entry};
 ghost use Rattle.std.specs.Option.{option_copied, option_copied_mut};
 ghost use Rattle.std.specs.Ordering.{nat_cmp};
-ghost use Rattle.std.specs.Prelude.{◌≡◌, [], IfOk, OnErr, OnOk, is_some, length};
+ghost use Rattle.std.specs.Prelude.{◌≡◌, ◌<◌, ◌≤◌, ◌+◌, [], if◌then◌else◌, IfOk, IfSome, IsSomeAnd, None, OnErr, OnOk, Some, ℕ, is_some, length, true};
 
-use crate::key::Key;
 use crate::page::{Page, WIDTH};
-use crate::pages::{clear, find, page_for};
+use crate::pages::{clear, find, next, page_for};
 use io_ports::NoMemory;
 use std::alloc::Global;
 use std::marker::Model;
+
+/// A number that values stand under.
+pub trait Key: Copy {
+    ghost number: { Self → ℕ };
+
+    /// The number.
+    fn number(self) -> u64
+        ensures { result ≡ number self };
+}
+
+impl Key for u32 {
+    ghost number = { λ n. n };
+
+    #[inline(always)]
+    fn number(self) -> u64 {
+        u64::from(self)
+    }
+}
+
+impl Key for u64 {
+    ghost number = { λ n. n };
+
+    #[inline(always)]
+    fn number(self) -> u64 {
+        self
+    }
+}
 
 /// Values by number, in the order of the numbers. A look-up goes by halves through pages of 16 numbers, of which the last is
 /// looked at first: it is made for numbers that are given in rising order, and for greatest ones that are asked most.
@@ -42,7 +70,8 @@ impl<V> Model for PagedMap<V> {
 impl<V> PagedMap<V> {
     /// None. Takes no memory.
     pub fn new(alloc: Global) -> Self
-        ensures { result.entries ≡ [] }
+        ensures empty { result.entries ≡ [] }
+        ensures ordered { IsSorted result.entries }
     {
         PagedMap {
             alloc,
@@ -55,6 +84,7 @@ impl<V> PagedMap<V> {
     #[inline(always)]
     pub fn len(&self) -> usize
         ensures len { result ≡ length self.now.entries }
+        ensures ordered { IsSorted self.now.entries }
     {
         self.len
     }
@@ -79,11 +109,21 @@ impl<V> PagedMap<V> {
         }
     }
 
+    /// The least number above another that has a value. None only where there is none.
+    pub fn next_above<K: Key>(&self, after: K) -> Option<u64>
+        ensures next { result ≡ first_above (K.number after) (keys_of self.now.entries) }
+        ensures found { IfSome result (λ n. (K.number after < n) × (is_some (value_at n self.now) ≡ true)) }
+        ensures least { (n : ℕ) → K.number after < n → is_some (value_at n self.now) ≡ true → IsSomeAnd result (λ m. m ≤ n) }
+    {
+        next(self.pages.as_slice(), after.number())
+    }
+
     /// What a number has, to be changed.
     #[inline(always)]
     pub fn get_mut<K: Key>(&mut self, key: &K) -> Option<&mut V>
         ensures* writes_back { sem 𝓛 (LendsValue V.row self.entry (K.number key.now) result) }
         ensures value { option_copied_mut result ≡ value_at (K.number key.now) self.old }
+        ensures ordered { IsSorted self.old.entries }
     {
         let number = key.number();
         let slot = (number % WIDTH) as usize;
@@ -104,7 +144,10 @@ impl<V> PagedMap<V> {
     where
         V: Drop,
         ensures old { IfOk result (λ old. old ≡ value_at (K.number key) self.old) }
+        ensures updates { OnOk result (Updates (K.number key) self.old self.new (Some value)) }
         ensures entries { OnOk result (self.new.entries ≡ insert_entry nat_cmp self.old.entries (K.number key) value) }
+        ensures len { IfOk result (λ old. length self.new.entries ≡ length self.old.entries + (if is_some old then 0 else 1)) }
+        ensures ordered { IsSorted self.new.entries }
         ensures err { OnErr result (self.new ≡ self.old) }
     {
         let number = key.number();
@@ -125,7 +168,10 @@ impl<V> PagedMap<V> {
     where
         V: Drop,
         ensures value { result ≡ value_at (K.number key.now) self.old }
+        ensures updates { Updates (K.number key.now) self.old self.new None }
         ensures entries { self.new.entries ≡ remove_entry (is_at (nat_cmp (K.number key.now))) self.old.entries }
+        ensures len { length self.new.entries + (if is_some result then 1 else 0) ≡ length self.old.entries }
+        ensures ordered { IsSorted self.new.entries }
     {
         let number = key.number();
         let Ok(place) = find(self.pages.as_slice(), number / WIDTH) else {
