@@ -3,20 +3,21 @@ use Rattle.number_set.proofs.Entries.{sorted_none}
 use Rattle.number_set.proofs.Sorted.{Above}
 use Rattle.number_set.proofs.Tests.{at_eq, below_apart, compared, is_less, less_is, same_is, turned}
 use Rattle.number_set.specs.NumberMap.{IsSorted}
-use Rattle.number_set.specs.NumberSet.{Rises}
+use Rattle.number_set.specs.NumberSet.{Rises, has}
 use Rattle.paged_map.specs.PagedMap.{PagedMap, Updates, WritesThrough, value_at}
-use Rattle.paged_map.specs.Pages.{AreOrdered, entries_from, entries_on}
-use Rattle.std.proofs.Common.{ap, arith, cond, inl, inr, refl, sym, true≢false, ◌∙◌}
+use Rattle.paged_map.specs.Pages.{AreBelow, AreOrdered, entries_from, entries_on}
+use Rattle.std.proofs.Common.{ap, arith, cond, inl, inr, refl, subst, sym, true≢false, ◌∙◌}
 use Rattle.std.proofs.lemmas.Cmp.{eq_by_cmp_equiv, nat_cmp_total}
+use Rattle.std.proofs.lemmas.Map.Views.{All-keys-insert_entry, All-map-remove_entry}
 use Rattle.std.proofs.lemmas.Map.Keys.{IsDistinct-from_sorted}
 use Rattle.std.proofs.lemmas.Map.{keys-set_value, length-set_value, lookup-remove_entry, lookup-set_value}
 use Rattle.std.specs.BTreeMap.{insert_entry, is_at}
 use Rattle.std.specs.Cmp.{IsEquivalence}
-use Rattle.std.specs.List.{AllByRecursion}
+use Rattle.std.specs.List.{All, AllByRecursion}
 use Rattle.std.specs.List.Sorted.{IsStrictlySortedBy}
 use Rattle.std.specs.Map.{keys_of, lookup, remove_entry, set_value}
 use Rattle.std.specs.Ordering.{eq_by_cmp, match_ordering, nat_cmp}
-use Rattle.std.specs.Prelude.{Bool, IsSome, List, None, Option, Some, [], false, is_some, length, nat_eq, suc, true, ℕ, ◌*◌, ◌+◌, ◌++◌, ◌<◌, ◌∷◌, ◌≡◌, ◌≤◌}
+use Rattle.std.specs.Prelude.{Bool, IsSome, List, None, Option, Some, [], false, is_some, length, nat_eq, suc, true, ℕ, ◌*◌, ◌+◌, ◌++◌, ◌<◌, ◌||◌, ◌∷◌, ◌≡◌, ◌≤◌}
 use Rattle.std.specs.declared.cmp.Ordering.{Ordering}
 use Rattle.std.specs.declared.cmp.Ordering.TheVariants.{Less}
 
@@ -138,3 +139,30 @@ module _ {X : Type 0} where
   updated_out n m new sorted is = told n m new None (λ q.
       ap (lookup (is_at (nat_cmp q))) is
       ∙ lookup-remove_entry laws (is_at (nat_cmp n)) (λ x y h. laws.congr n x y h) q m.entries (IsDistinct-from_sorted nat_cmp (keys_of m.entries) sorted))
+
+  -- ---- each number stays below another
+  pub below_none : (bound : ℕ) (pages : List (ℕ × List (Option X))) → pages ≡ [] → AreBelow bound (entries_on pages)
+  below_none bound pages is = subst (λ l. AreBelow bound (entries_on l)) (sym is) (λ k d within. absurd (omega (arith, within)))
+
+  pub below_same : (bound : ℕ) (es new : List (ℕ × X)) → AreBelow bound es → new ≡ es → AreBelow bound new
+  below_same bound es new all is = subst (AreBelow bound) (sym is) all
+
+  pub below_inserted : (bound n : ℕ) (v : X) (es new : List (ℕ × X)) → AreBelow bound es → n < bound → new ≡ insert_entry nat_cmp es n v → AreBelow bound new
+  below_inserted bound n v es new all less is = subst (AreBelow bound) (sym is) (All-keys-insert_entry nat_cmp n v (λ k. k < bound) es all less)
+
+  pub below_set : (bound n : ℕ) (w : X) (es new : List (ℕ × X)) → AreBelow bound es → new ≡ set_value (is_at (nat_cmp n)) es w → AreBelow bound new
+  below_set bound n w es new all is = subst (λ ks. All (λ k. k < bound) ks) (sym (ap keys_of is ∙ keys-set_value (is_at (nat_cmp n)) es w)) all
+
+  pub below_removed : (bound n : ℕ) (es new : List (ℕ × X)) → AreBelow bound es → new ≡ remove_entry (is_at (nat_cmp n)) es → AreBelow bound new
+  below_removed bound n es new all is = subst (AreBelow bound) (sym is) (All-map-remove_entry (is_at (nat_cmp n)) (λ e. e.0) (λ k. k < bound) es all)
+
+  pub each_below : (bound n : ℕ) (es : List (ℕ × X)) → AreBelow bound es → has (keys_of es) n ≡ true → n < bound
+  each_below bound n es all there = found (keys_of es) all there
+    where
+      found : (ks : List ℕ) → All (λ k. k < bound) ks → has ks n ≡ true → n < bound
+      found [] all there = absurd (true≢false (sym there))
+      found (k ∷ ks) all there = by_test (nat_eq n k) refl there (found ks (λ i d within. all (suc i) d (omega (arith, within))))
+        where
+          by_test : (t : Bool) → nat_eq n k ≡ t → (t || has ks n) ≡ true → (has ks n ≡ true → n < bound) → n < bound
+          by_test true is there rest = omega (arith, same_is n k is, all 0 k (omega arith))
+          by_test false is there rest = rest there

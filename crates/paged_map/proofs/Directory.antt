@@ -11,7 +11,7 @@ use Rattle.std.specs.List.{AllByRecursion, insert, remove, sum_by}
 use Rattle.std.specs.List.Sorted.{IsStrictlySortedBy}
 use Rattle.std.specs.Map.{keys_of, lookup, remove_entry, set_value}
 use Rattle.std.specs.Ordering.{nat_cmp}
-use Rattle.std.specs.Prelude.{List, None, Option, Some, [], count_by, false, is_some, length, suc, true, zero, ℕ, ◌%◌, ◌*◌, ◌+◌, ◌++◌, ◌-◌, ◌/◌, ◌<◌, ◌∷◌, ◌≡◌, ◌≤◌}
+use Rattle.std.specs.Prelude.{List, None, Option, Some, [], count_by, false, is_some, length, suc, true, zero, ℕ, ◌%◌, ◌*◌, ◌+◌, ◌++◌, ◌-◌, ◌/◌, ◌<◌, ◌^◌, ◌∷◌, ◌≡◌, ◌≤◌}
 
 empty : {A : Type 0} (l : List A) → length l ≡ 0 → l ≡ []
 empty [] none = refl
@@ -321,23 +321,25 @@ module _ {X : Type 0} where
 
   -- ---- what holds of a map goes on to hold
   pub kept_none : (pages : List (ℕ × List (Option X))) → pages ≡ [] → AreKept 0 pages
-  kept_none pages is = subst (AreKept 0) (sym is) (record { pages = record { order = sorted_none (List (Option X)); long = tt }; counted = refl })
+  kept_none pages is = subst (AreKept 0) (sym is) (record { pages = record { order = sorted_none (List (Option X)); long = tt }; small = omega arith; counted = refl })
 
-  pub kept_more : (len n place : ℕ) (v : X) (page new : ℕ × List (Option X)) (pages : List (ℕ × List (Option X))) → AreOrdered pages → len ≡ length (entries_on pages) → IsAt (n / 16) place pages
+  pub kept_more : (len n place : ℕ) (v : X) (page new : ℕ × List (Option X)) (pages : List (ℕ × List (Option X))) → AreOrdered pages → len + 1 < 2 ^ 63 → len ≡ length (entries_on pages) → IsAt (n / 16) place pages
       → page ≡ get_or pages place page → new ≡ (page.0, set page.1 (n % 16) (Some v)) → is_some (get_or page.1 (n % 16) None) ≡ false → AreKept (len + 1) (set pages place new)
-  kept_more len n place v page new pages kept counted at is written none =
+  kept_more len n place v page new pages kept small counted at is written none =
       let more : length (entries_on (set pages place new)) + cond (is_some (get_or page.1 (n % 16) None)) 1 0 ≡ length (entries_on pages) + 1 = counted_written n place (Some v) page new pages kept at is written in
       record {
         pages = ordered_written n place (Some v) page new pages kept at is written;
+        small = small;
         counted = omega (arith, counted, more, none_counts (get_or page.1 (n % 16) None) none);
       }
 
-  pub kept_same : (len n place : ℕ) (v : X) (page new : ℕ × List (Option X)) (pages : List (ℕ × List (Option X))) → AreOrdered pages → len ≡ length (entries_on pages) → IsAt (n / 16) place pages
+  pub kept_same : (len n place : ℕ) (v : X) (page new : ℕ × List (Option X)) (pages : List (ℕ × List (Option X))) → AreOrdered pages → len < 2 ^ 63 → len ≡ length (entries_on pages) → IsAt (n / 16) place pages
       → page ≡ get_or pages place page → new ≡ (page.0, set page.1 (n % 16) (Some v)) → is_some (get_or page.1 (n % 16) None) ≡ true → AreKept len (set pages place new)
-  kept_same len n place v page new pages kept counted at is written some =
+  kept_same len n place v page new pages kept small counted at is written some =
       let more : length (entries_on (set pages place new)) + cond (is_some (get_or page.1 (n % 16) None)) 1 0 ≡ length (entries_on pages) + 1 = counted_written n place (Some v) page new pages kept at is written in
       record {
         pages = ordered_written n place (Some v) page new pages kept at is written;
+        small = small;
         counted = omega (arith, counted, more, one_counts (get_or page.1 (n % 16) None) some);
       }
 

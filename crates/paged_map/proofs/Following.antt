@@ -23,6 +23,15 @@ is_upto m n le = grind (arith, nat_tests)
 shift : (n i : ℕ) → n + suc i ≡ n + 1 + i
 shift n i = omega arith
 
+second : (n : ℕ) → n + 1 ≡ n + suc zero
+second n = omega arith
+
+behind_first : (n : ℕ) → n + 0 + 1 ≡ n + suc zero
+behind_first n = omega arith
+
+one_up : (n : ℕ) → suc n ≡ n + 1
+one_up n = omega arith
+
 module _ {X : Type 0} where
   abbrev AreLong : List (ℕ × List (Option X)) → Type 0
   AreLong pages = AllByRecursion (λ page. length page.1 ≡ 16) pages
@@ -44,18 +53,15 @@ module _ {X : Type 0} where
   slot_read n zero (Some v ∷ slots) within some = refl
   slot_read n (suc i) (s ∷ slots) within some = ap (λ k. first (keys_of (entries_from k (drop i slots)))) (shift n i) ∙ slot_read (n + 1) i slots (omega (arith, within)) some ∙ ap Some (sym (shift n i))
 
-  pub slot_past : (n i : ℕ) (slots : List (Option X)) → i < length slots → is_some (get_or slots i None) ≡ false → entries_from (n + i) (drop i slots) ≡ entries_from (n + (i + 1)) (drop (i + 1) slots)
+  slot_past : (n i : ℕ) (slots : List (Option X)) → i < length slots → is_some (get_or slots i None) ≡ false → entries_from (n + i) (drop i slots) ≡ entries_from (n + suc i) (drop (suc i) slots)
   slot_past n i [] within none = absurd (omega (arith, within))
-  slot_past n zero (None ∷ slots) within none = ap (λ k. entries_from k slots) (end n)
-    where
-      end : (n : ℕ) → n + 0 + 1 ≡ n + (0 + 1)
-      end n = omega arith
+  slot_past n zero (None ∷ slots) within none = ap (λ k. entries_from k slots) (behind_first n)
   slot_past n zero (Some v ∷ slots) within none = absurd (true≢false none)
   slot_past n (suc i) (s ∷ slots) within none =
-      ap (λ k. entries_from k (drop i slots)) (shift n i) ∙ slot_past (n + 1) i slots (omega (arith, within)) none ∙ ap (λ k. entries_from k (drop (i + 1) slots)) (sym (further n i))
-    where
-      further : (n i : ℕ) → n + (suc i + 1) ≡ n + 1 + (i + 1)
-      further n i = omega arith
+      ap (λ k. entries_from k (drop i slots)) (shift n i) ∙ slot_past (n + 1) i slots (omega (arith, within)) none ∙ ap (λ k. entries_from k (drop (suc i) slots)) (sym (shift n (suc i)))
+
+  pub slot_by_slot : (n i : ℕ) (slots : List (Option X)) → i < length slots → is_some (get_or slots i None) ≡ false → entries_from (n + (i + 1)) (drop (i + 1) slots) ≡ entries_from (n + i) (drop i slots)
+  slot_by_slot n i slots within none = ap (λ k. entries_from (n + k) (drop k slots)) (sym (one_up i)) ∙ sym (slot_past n i slots within none)
 
   pub slots_past : (n i : ℕ) (slots : List (Option X)) → length slots ≤ i → entries_from n (drop i slots) ≡ []
   slots_past n zero [] past = refl
@@ -80,31 +86,21 @@ module _ {X : Type 0} where
 
   -- those behind one are
   above_slot : (n i : ℕ) (slots : List (Option X)) (rest : List (ℕ × X)) → first_above (n + i) (keys_of rest) ≡ first (keys_of rest)
-      → first_above (n + i) (keys_of (entries_from n slots ++ rest)) ≡ first (keys_of (entries_from (n + (i + 1)) (drop (i + 1) slots) ++ rest))
+      → first_above (n + i) (keys_of (entries_from n slots ++ rest)) ≡ first (keys_of (entries_from (n + suc i) (drop (suc i) slots) ++ rest))
   above_slot n i [] rest is = is
-  above_slot n zero (None ∷ slots) rest is = above_all (n + 0) (n + 1) slots rest (omega arith) is
+  above_slot n zero (None ∷ slots) rest is = above_all (n + 0) (n + 1) slots rest (omega arith) is ∙ ap (λ k. first (keys_of (entries_from k slots ++ rest))) (second n)
   above_slot n zero (Some v ∷ slots) rest is =
-      ap (λ t. cond t (Some n) (find (nat_lt (n + 0)) (keys_of (entries_from (n + 1) slots ++ rest)))) (is_upto (n + 0) n (omega arith)) ∙ above_all (n + 0) (n + 1) slots rest (omega arith) is
-  above_slot n (suc i) (None ∷ slots) rest is = further n i slots rest is (above_slot (n + 1) i slots rest)
-    where
-      turned : (n i : ℕ) → n + 1 + (i + 1) ≡ n + (suc i + 1)
-      turned n i = omega arith
-
-      further : (n i : ℕ) (slots : List (Option X)) (rest : List (ℕ × X)) → first_above (n + suc i) (keys_of rest) ≡ first (keys_of rest)
-          → (first_above (n + 1 + i) (keys_of rest) ≡ first (keys_of rest) → first_above (n + 1 + i) (keys_of (entries_from (n + 1) slots ++ rest)) ≡ first (keys_of (entries_from (n + 1 + (i + 1)) (drop (i + 1) slots) ++ rest)))
-          → first_above (n + suc i) (keys_of (entries_from (n + 1) slots ++ rest)) ≡ first (keys_of (entries_from (n + (suc i + 1)) (drop (i + 1) slots) ++ rest))
-      further n i slots rest is goes =
-          ap (λ k. first_above k (keys_of (entries_from (n + 1) slots ++ rest))) (shift n i)
-          ∙ goes (ap (λ k. first_above k (keys_of rest)) (sym (shift n i)) ∙ is)
-          ∙ ap (λ k. first (keys_of (entries_from k (drop (i + 1) slots) ++ rest))) (turned n i)
+      ap (λ t. cond t (Some n) (find (nat_lt (n + 0)) (keys_of (entries_from (n + 1) slots ++ rest)))) (is_upto (n + 0) n (omega arith))
+      ∙ above_all (n + 0) (n + 1) slots rest (omega arith) is ∙ ap (λ k. first (keys_of (entries_from k slots ++ rest))) (second n)
+  above_slot n (suc i) (None ∷ slots) rest is =
+      ap (λ k. first_above k (keys_of (entries_from (n + 1) slots ++ rest))) (shift n i)
+      ∙ above_slot (n + 1) i slots rest (ap (λ k. first_above k (keys_of rest)) (sym (shift n i)) ∙ is)
+      ∙ ap (λ k. first (keys_of (entries_from k (drop (suc i) slots) ++ rest))) (sym (shift n (suc i)))
   above_slot n (suc i) (Some v ∷ slots) rest is =
       ap (λ t. cond t (Some n) (find (nat_lt (n + suc i)) (keys_of (entries_from (n + 1) slots ++ rest)))) (is_upto (n + suc i) n (omega arith))
       ∙ ap (λ k. first_above k (keys_of (entries_from (n + 1) slots ++ rest))) (shift n i)
       ∙ above_slot (n + 1) i slots rest (ap (λ k. first_above k (keys_of rest)) (sym (shift n i)) ∙ is)
-      ∙ ap (λ k. first (keys_of (entries_from k (drop (i + 1) slots) ++ rest))) (turned n i)
-    where
-      turned : (n i : ℕ) → n + 1 + (i + 1) ≡ n + (suc i + 1)
-      turned n i = omega arith
+      ∙ ap (λ k. first (keys_of (entries_from k (drop (suc i) slots) ++ rest))) (sym (shift n (suc i)))
 
   -- ---- pages
   -- all are above
@@ -120,13 +116,13 @@ module _ {X : Type 0} where
       above_none k (p.0 * 16) p.1 (entries_on pages) (omega (arith, long.0, gap.before zero (omega arith), from)) ∙ above_gap k q place pages (gap_rest q place p pages gap) long.1 from less
 
   above_at : (q i place : ℕ) (page : ℕ × List (Option X)) (pages : List (ℕ × List (Option X))) → IsAt q place pages → IsSorted pages → AreLong pages → i < 16 → page ≡ get_or pages place page
-      → first_above (q * 16 + i) (keys_of (entries_on pages)) ≡ first (keys_of (entries_from (page.0 * 16 + (i + 1)) (drop (i + 1) page.1) ++ entries_on (drop (place + 1) pages)))
+      → first_above (q * 16 + i) (keys_of (entries_on pages)) ≡ first (keys_of (entries_from (page.0 * 16 + suc i) (drop (suc i) page.1) ++ entries_on (drop (suc place) pages)))
   unfolding IsStrictlySortedBy
   above_at q i place page [] at sorted long less is = absurd (omega (arith, at.within))
   above_at q i zero page (p ∷ pages) at sorted long less is =
       ap (λ m. first_above (m * 16 + i) (keys_of (entries_on (p ∷ pages)))) (sym at.is)
       ∙ above_slot (p.0 * 16) i p.1 (entries_on pages) (above_pages (p.0 * 16 + i) p.0 pages (behind p.0 p pages sorted refl) (omega (arith, less)))
-      ∙ ap (λ (s : ℕ × List (Option X)). first (keys_of (entries_from (s.0 * 16 + (i + 1)) (drop (i + 1) s.1) ++ entries_on pages))) (sym is)
+      ∙ ap (λ (s : ℕ × List (Option X)). first (keys_of (entries_from (s.0 * 16 + suc i) (drop (suc i) s.1) ++ entries_on pages))) (sym is)
   above_at q i (suc place) page (p ∷ pages) at sorted long less is =
       above_none (q * 16 + i) (p.0 * 16) p.1 (entries_on pages) (omega (arith, long.0, below q place p pages at))
       ∙ above_at q i place page pages (at_rest q place p pages at) sorted.1 long.1 less is
@@ -139,6 +135,8 @@ module _ {X : Type 0} where
       → first_above n (keys_of (entries_on pages)) ≡ first (keys_of (entries_from (page.0 * 16 + (n % 16 + 1)) (drop (n % 16 + 1) page.1) ++ entries_on (drop (place + 1) pages)))
   next_at n place page pages at ordered is =
       ap (λ k. first_above k (keys_of (entries_on pages))) (sym (parts n)) ∙ above_at (n / 16) (n % 16) place page pages at ordered.order ordered.long (small n) is
+      ∙ ap (λ k. first (keys_of (entries_from (page.0 * 16 + k) (drop k page.1) ++ entries_on (drop (suc place) pages)))) (one_up (n % 16))
+      ∙ ap (λ k. first (keys_of (entries_from (page.0 * 16 + (n % 16 + 1)) (drop (n % 16 + 1) page.1) ++ entries_on (drop k pages)))) (one_up place)
 
   -- ---- page by page
   pub page_first : (page : ℕ × List (Option X)) (rest later : List (ℕ × List (Option X))) (o : Option ℕ) → rest ≡ page ∷ later

@@ -1,6 +1,7 @@
 -- How the values lie: each page has a slot for each of 16 numbers that stand next to each other.
 use Rattle.number_set.specs.NumberMap.{IsSorted}
-use Rattle.std.specs.List.{AllByRecursion}
+use Rattle.std.specs.List.{All, AllByRecursion}
+use Rattle.std.specs.Map.{keys_of}
 use Rattle.std.specs.Prelude.{List, None, Option, Some, [], count_by, is_some, length, ℕ, ◌*◌, ◌+◌, ◌++◌, ◌<◌, ◌^◌, ◌∷◌, ◌≡◌}
 
 -- how many numbers a page is for
@@ -24,6 +25,10 @@ module _ {X : Type 0} where
   entries_on [] = []
   entries_on (page ∷ pages) = entries_from (page.0 * width) page.1 ++ entries_on pages
 
+  -- each number is below another
+  abbrev pub AreBelow : ℕ → List (ℕ × X) → Type 0
+  AreBelow bound es = All (λ k. k < bound) (keys_of es)
+
   -- so many slots of a page are used
   pub record IsWhole (index used : ℕ) (slots : List (Option X)) : Type 0 where
     pub small : IsIndex index
@@ -38,4 +43,5 @@ module _ {X : Type 0} where
   -- and so many values stand on them
   pub record AreKept (len : ℕ) (on : List (ℕ × List (Option X))) : Type 0 where
     pub pages : AreOrdered on
+    pub small : len < 2 ^ 63
     pub counted : len ≡ length (entries_on on)

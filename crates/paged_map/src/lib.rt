@@ -2,8 +2,10 @@
 //! look-up costs about the same beside ten and beside ten thousand, and no step moves more than a page's worth of all.
 #![tactic(auto)]
 
+mod key;
 mod map;
 mod page;
 mod pages;
 
-pub use map::{Key, PagedMap};
+pub use key::Key;
+pub use map::PagedMap;
