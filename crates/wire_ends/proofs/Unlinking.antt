@@ -3,7 +3,7 @@ use Rattle.std.proofs.Common.{ap, refl, sym, ◌∙◌}
 use Rattle.std.specs.Prelude.{Bool, None, Option, false, if◌then◌else◌, is_some, nat_eq, not, true, ℕ, ◌&&◌, ◌==◌, ◌≡◌}
 use Rattle.wire_links.proofs.Under.{under_remove}
 use Rattle.wire_links.specs.Links.{IsSound, Links, doomed, ends_of}
-use Rattle.wire_links.specs.declared.ends.Ends.{Ends}
+use Rattle.wire_links.specs.declared.links.exchanges.Ends.{Ends}
 
 without : (b : Bool) (o : Option Ends) → is_some (if b then None else o) ≡ (not b && is_some o)
 without true o = refl

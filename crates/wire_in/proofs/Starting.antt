@@ -3,7 +3,7 @@ use Rattle.std.proofs.Common.{ap, refl, sym, ◌∙◌}
 use Rattle.std.specs.Prelude.{Bool, None, Option, Some, false, if◌then◌else◌, is_some, nat_eq, true, ℕ, ◌==◌, ◌||◌, ◌≡◌}
 use Rattle.wire_links.proofs.Under.{under_insert}
 use Rattle.wire_links.specs.Links.{Links, ends_of, started}
-use Rattle.wire_links.specs.declared.ends.Ends.{Ends}
+use Rattle.wire_links.specs.declared.links.exchanges.Ends.{Ends}
 
 with_it : (b : Bool) (e : Ends) (o : Option Ends) → is_some (if b then Some e else o) ≡ (b || is_some o)
 with_it true e o = refl

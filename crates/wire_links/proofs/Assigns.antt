@@ -18,7 +18,7 @@ use Rattle.number_set.specs.NumberSet.{Rises, marked}
 use Rattle.wire_links.specs.Numbers.{changed, under}
 use Rattle.wire_links.specs.Seats.{Seat, left, linked, placed}
 use Rattle.wire_links.specs.declared.conn.Conn.{Conn}
-use Rattle.wire_links.specs.declared.ends.Ends.{Ends}
+use Rattle.wire_links.specs.declared.links.exchanges.Ends.{Ends}
 
 pub ends_of_found : (seats : Seats) (exchanges : Exchanges) (x : ℕ) (e : Ends) → under x exchanges ≡ Some e → IfSome (under x exchanges) (HasEnds (conns_of seats)) → HasEnds (conns_of seats) e
 ends_of_found seats exchanges x e is ends = subst (λ o. IfSome o (HasEnds (conns_of seats))) is ends

@@ -20,7 +20,7 @@ use Rattle.number_set.specs.NumberSet.{Rises, has, marked}
 use Rattle.wire_links.specs.Numbers.{changed, under}
 use Rattle.wire_links.specs.Seats.{Seat, left, opened}
 use Rattle.wire_links.specs.declared.conn.Conn.{Conn}
-use Rattle.wire_links.specs.declared.ends.Ends.{Ends}
+use Rattle.wire_links.specs.declared.links.exchanges.Ends.{Ends}
 
 -- ---- what an exchange without a cluster is an end of
 pub end_here : (e : Ends) → is_end e.client e ≡ true

@@ -25,7 +25,7 @@ use Rattle.number_set.specs.NumberSet.{Rises, has}
 use Rattle.wire_links.specs.Numbers.{changed, under}
 use Rattle.wire_links.specs.Seats.{Seat, left, linked, opened, placed, with_state}
 use Rattle.wire_links.specs.declared.conn.Conn.{Conn}
-use Rattle.wire_links.specs.declared.ends.Ends.{Ends}
+use Rattle.wire_links.specs.declared.links.exchanges.Ends.{Ends}
 
 pub absent_is : (seats : Seats) (c : ℕ) → is_some (under c (conns_of seats)) ≡ false → under c seats ≡ None
 absent_is seats c unknown = by_found (under c seats) (known_is seats c ∙ unknown)
@@ -97,6 +97,10 @@ put_seen seats seats' exchanges c state is = same_links (conns_of seats') (chang
 pub accept_kept : (seats : Seats) (exchanges : Exchanges) (offers : Offers) (clients : List ℕ) (c : ℕ) → CanCome seats exchanges offers clients c → (seats' : Seats) (clients' : List ℕ) →
     seats' ≡ come c None seats → clients' ≡ insert_key nat_cmp clients c → AreKept seats' exchanges offers clients'
 accept_kept seats exchanges offers clients c can seats' clients' s k = subst (AreKept seats' exchanges offers) (sym k) (subst (λ p. AreKept p exchanges offers (insert_key nat_cmp clients c)) (sym s) (accepts seats exchanges offers clients c can))
+
+-- what came goes again
+pub undone : {X : Type 0} (es es1 es2 : List (ℕ × X)) (n : ℕ) (v : X) → under n es ≡ None → es1 ≡ insert_entry nat_cmp es n v → es2 ≡ remove_entry (is_at (nat_cmp n)) es1 → es2 ≡ es
+undone es es1 es2 n v absent came goes = goes ∙ ap (remove_entry (is_at (nat_cmp n))) came ∙ remove_insert es n v absent
 
 -- made as it is put there
 pub come_new : (seats seats' : Seats) (c : ℕ) (cluster : Option ℕ) (conn : Conn) (seat : Seat) → conn ≡ new_conn cluster → seat ≡ record { conn = conn; numbers = []; streams = [] } →

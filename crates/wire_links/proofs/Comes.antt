@@ -26,7 +26,7 @@ use Rattle.number_set.specs.NumberSet.{Rises, has, marked}
 use Rattle.wire_links.specs.Numbers.{numbers_where, under}
 use Rattle.wire_links.specs.Seats.{Seat}
 use Rattle.wire_links.specs.declared.conn.Conn.{Conn}
-use Rattle.wire_links.specs.declared.ends.Ends.{Ends}
+use Rattle.wire_links.specs.declared.links.exchanges.Ends.{Ends}
 
 -- ---- small numbers
 all_insert : (P : ℕ → Type 0) (ks : List ℕ) (n : ℕ) → P n → AllByRecursion P ks → AllByRecursion P (insert_key nat_cmp ks n)

@@ -13,7 +13,7 @@ use Rattle.number_set.specs.NumberSet.{NumberSet, Rises, has, marked}
 use Rattle.wire_links.specs.Numbers.{changed, numbers_where, under}
 use Rattle.wire_links.specs.Seats.{Seat}
 use Rattle.wire_links.specs.declared.conn.Conn.{Conn}
-use Rattle.wire_links.specs.declared.ends.Ends.{Ends}
+use Rattle.wire_links.specs.declared.links.exchanges.Ends.{Ends}
 
 abbrev pub Conns : Type 0
 Conns = List (ℕ × Conn)

@@ -21,7 +21,7 @@ use Rattle.number_set.specs.NumberSet.{Rises, marked}
 use Rattle.wire_links.specs.Numbers.{changed, under}
 use Rattle.wire_links.specs.Seats.{Seat, with_state}
 use Rattle.wire_links.specs.declared.conn.Conn.{Conn}
-use Rattle.wire_links.specs.declared.ends.Ends.{Ends}
+use Rattle.wire_links.specs.declared.links.exchanges.Ends.{Ends}
 
 -- ---- the ends of an exchange stay of their kinds
 pub record Stays (conn : Conn) (o : Option Conn) : Type 0 where

@@ -13,7 +13,7 @@ use Rattle.wire_links.specs.Links.{is_on, is_same}
 use Rattle.number_set.specs.NumberSet.{Rises}
 use Rattle.wire_links.specs.Numbers.{changed, under}
 use Rattle.wire_links.specs.Seats.{Seat}
-use Rattle.wire_links.specs.declared.ends.Ends.{Ends}
+use Rattle.wire_links.specs.declared.links.exchanges.Ends.{Ends}
 
 -- the same stream of the same connection
 abbrev pub spot : ℕ → ℕ → ℕ → ℕ → Bool

@@ -9,7 +9,7 @@ use Rattle.number_set.specs.NumberSet.{NumberSet, Rises, has, marked}
 use Rattle.wire_links.specs.Numbers.{changed, numbers_where, under}
 use Rattle.wire_links.specs.Seats.{Seat, left, linked}
 use Rattle.wire_links.specs.declared.conn.Conn.{Conn}
-use Rattle.wire_links.specs.declared.ends.Ends.{Ends}
+use Rattle.wire_links.specs.declared.links.exchanges.Ends.{Ends}
 use Rattle.wire_links.specs.declared.links.Links.TheInside.{Inside}
 
 abbrev pub Seats : Type 0

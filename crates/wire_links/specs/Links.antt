@@ -8,7 +8,7 @@ use Rattle.std.specs.Prelude.{Bool, IfSome, IsSome, List, None, Option, Some, []
 use Rattle.number_set.specs.NumberSet.{Rises, first, first_above}
 use Rattle.wire_links.specs.Numbers.{changed, numbers_where, under}
 use Rattle.wire_links.specs.declared.conn.Conn.{Conn}
-use Rattle.wire_links.specs.declared.ends.Ends.{Ends}
+use Rattle.wire_links.specs.declared.links.exchanges.Ends.{Ends}
 
 pub record Links : Type 0 where
   -- each under its number, in the order of the numbers

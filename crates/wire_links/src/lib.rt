@@ -2,10 +2,8 @@
 #![tactic(auto)]
 
 mod conn;
-mod ends;
 mod links;
 mod seat;
 
 pub use conn::Conn;
-pub use ends::Ends;
-pub use links::Links;
+pub use links::{Ends, Links};

@@ -7,13 +7,14 @@ ghost use Rattle.number_set.specs.NumberSet.{has};
 mod exchanges;
 mod tables;
 
+pub use exchanges::Ends;
+
 use crate::conn::Conn;
-use crate::ends::Ends;
 use crate::seat::Seat;
 use io_ports::NoMemory;
 use number_set::NumberSet;
+use paged_map::PagedMap;
 use std::alloc::Global;
-use std::collections::btree_map::Entry;
 use std::collections::{BTreeMap, BTreeSet};
 use std::marker::Model;
 use std::ops::Bound;
@@ -26,8 +27,8 @@ use std::ops::Bound;
 #[derive(Drop)]
 pub struct Links {
     alloc: Global,
-    seats: BTreeMap<u32, Seat>,
-    exchanges: BTreeMap<u64, Ends>,
+    seats: PagedMap<Seat>,
+    exchanges: PagedMap<Ends>,
     // By cluster, the connections that can take one more exchange, and room for all of its connections.
     offers: BTreeMap<u32, NumberSet>,
     // The client connections that are open.
@@ -53,8 +54,8 @@ impl Links {
     {
         Links {
             alloc,
-            seats: BTreeMap::new(alloc),
-            exchanges: BTreeMap::new(alloc),
+            seats: PagedMap::new(alloc),
+            exchanges: PagedMap::new(alloc),
             offers: BTreeMap::new(alloc),
             clients: BTreeSet::new(alloc),
         }
@@ -135,11 +136,12 @@ impl Links {
         ensures ok { OnOk result (self.new ≡ accepted conn self.old) }
         ensures err { OnErr result (self.new ≡ self.old) }
     {
-        let Entry::Vacant(place) = self.seats.entry(conn)? else {
-            unreachable!()
+        let seat = Seat::new(self.alloc, Conn::new(None));
+        drop(self.seats.insert(conn, seat)?);
+        let Ok(_) = self.clients.insert(conn) else {
+            drop(self.seats.remove(&conn));
+            return Err(NoMemory);
         };
-        self.clients.insert(conn)?;
-        let _ = place.insert(Seat::new(self.alloc, Conn::new(None)));
         Ok(())
     }
 
@@ -151,7 +153,7 @@ impl Links {
     {
         tables::make_room(&mut self.offers, self.alloc, cluster, self.seats.len() + 1)?;
         let seat = Seat::new(self.alloc, Conn::new(Some(cluster)));
-        self.seats.insert(conn, seat)?;
+        drop(self.seats.insert(conn, seat)?);
         tables::tell(&self.seats, &mut self.offers, conn);
         Ok(())
     }

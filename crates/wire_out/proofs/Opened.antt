@@ -5,7 +5,7 @@ use Rattle.std.specs.Option.{option_map}
 use Rattle.std.specs.Prelude.{Bool, IfSome, IsSome, None, Option, Some, false, if◌then◌else◌, is_some, nat_eq, true, ℕ, ◌≡◌}
 use Rattle.wire_links.proofs.Under.{under_changed}
 use Rattle.wire_links.specs.Links.{IsToFrame, Links, ends_of, exchange_at, framed, with_stream}
-use Rattle.wire_links.specs.declared.ends.Ends.{Ends}
+use Rattle.wire_links.specs.declared.links.exchanges.Ends.{Ends}
 use Rattle.wire_out.specs.Opening.{IsUnframed}
 
 is_there : (n : ℕ) → IsSome (Some n)

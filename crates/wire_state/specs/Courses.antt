@@ -5,7 +5,7 @@ use Rattle.std.specs.Option.{option_and_then, option_map}
 use Rattle.std.specs.Prelude.{Bool, List, None, Option, Some, if◌then◌else◌, nat_eq, nat_le, not, slice_get, true, ℕ, ◌&&◌, ◌-◌, ◌==◌, ◌≡◌}
 use Rattle.wire_flows.specs.Flows.{Flows, is_there}
 use Rattle.wire_links.specs.Links.{Links, ends_of, exchange_at}
-use Rattle.wire_links.specs.declared.ends.Ends.{Ends}
+use Rattle.wire_links.specs.declared.links.exchanges.Ends.{Ends}
 use Rattle.wire_state.specs.declared.course.Course.{Course}
 
 -- a request goes from its client to its cluster, if it has one, and a response back
