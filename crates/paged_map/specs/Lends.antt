@@ -2,6 +2,7 @@
 use Rattle.paged_map.specs.PagedMap.{PagedMap, WritesThrough}
 use Rattle.paged_map.specs.contracts.map.PagedMap.{the_row as map_row}
 use Rattle.paged_map.specs.contracts.page.Page.{the_row as page_row}
+use Rattle.paged_map.specs.declared.key.Key as key
 use Rattle.std.specs.Borrow.{Fml, Lends, LendsSo, MutBor, RattleType}
 use Rattle.std.specs.Prelude.{List, Option, Some, slice_set, ℕ, ◌≡◌}
 
@@ -10,11 +11,7 @@ module _ (X : RattleType) where
   abbrev pub LendsSlot : MutBor (ℕ × List (Option X.Denot)) → ℕ → MutBor X.Denot → Fml
   LendsSlot s slot r = Lends (page_row X) X s r (λ w. (s.now.0, slice_set s.now.1 slot (Some w)))
 
--- what a clause has as K.Key
-abbrev pub KeyMembers : Type 0 → Type 0
-KeyMembers K = record { number : K → ℕ; bound : ℕ }
-
-module _ (K X : RattleType) (g : KeyMembers K.Denot) where
+module _ (K X : RattleType) (g : key.Ghosts K.Denot) where
   -- once the borrow r ends, the number has the last value written through r; where it has none, nothing has changed
   abbrev pub LendsValue : MutBor (PagedMap X.Denot) → ℕ → Option (MutBor X.Denot) → Fml
   LendsValue s number r = LendsSo (map_row K X g) X s r (λ n w. WritesThrough number s.now w n) (λ n. n ≡ s.now)

@@ -14,9 +14,9 @@ pub trait Key: Copy {
         ensures bound { result < bound };
 
     /// The key with a number.
-    fn of(number: u64) -> Self
-        requires { number < bound }
-        ensures { number result ≡ number };
+    fn of(n: u64) -> Self
+        requires { n < bound }
+        ensures { number result ≡ n };
 }
 
 impl Key for u32 {
@@ -30,8 +30,8 @@ impl Key for u32 {
     }
 
     #[inline(always)]
-    fn of(number: u64) -> Self {
-        number as u32
+    fn of(n: u64) -> Self {
+        n as u32
     }
 }
 
@@ -46,7 +46,7 @@ impl Key for u64 {
     }
 
     #[inline(always)]
-    fn of(number: u64) -> Self {
-        number
+    fn of(n: u64) -> Self {
+        n
     }
 }

@@ -27,8 +27,8 @@ use std::ops::Bound;
 #[derive(Drop)]
 pub struct Links {
     alloc: Global,
-    seats: PagedMap<Seat>,
-    exchanges: PagedMap<Ends>,
+    seats: PagedMap<u32, Seat>,
+    exchanges: PagedMap<u64, Ends>,
     // By cluster, the connections that can take one more exchange, and room for all of its connections.
     offers: BTreeMap<u32, NumberSet>,
     // The client connections that are open.

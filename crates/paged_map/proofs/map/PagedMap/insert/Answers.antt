@@ -1,3 +1,4 @@
+use Rattle.number_set.specs.NumberMap.{IsSorted}
 use Rattle.paged_map.proofs.Ascending.{ascending, below_inserted, updated_in}
 use Rattle.paged_map.proofs.Directory.{found, kept_more, kept_same, put_on}
 use Rattle.paged_map.proofs.map.PagedMap.insert.Goals as goal
@@ -48,7 +49,7 @@ returns-clause-entries g c =
 
 pub invariant_of-self-2 : goal.invariant_of-self-2
 invariant_of-self-2 g c = (
-      kept_more c.self.inside.len c.number-number.result c.in_ok-place.place c.args.value c.index_mut.result.now c.put-old.new.self c.page_for.new.pages.items c.in_ok-place.ensures.ordered (omega (arith, c.self.invariant.0.small, c.if-self-len-eq.false))
+      kept_more c.self.inside.len c.number-number.result c.in_ok-place.place c.args.value c.index_mut.result.now c.put-old.new.self c.page_for.new.pages.items c.in_ok-place.ensures.ordered (omega (arith, c.self.invariant.0.small, c.if-self-eq-MOST.false))
           (c.self.invariant.0.counted ∙ sym (ap length c.in_ok-place.ensures.same)) c.in_ok-place.ensures.place c.index_mut.ensures.value c.put-old.ensures.new
           (sym (ap is_some c.put-old.ensures.old) ∙ sym c.is_some.ensures ∙ c.if-is_some.false),
       below_inserted g.K.Key.bound (g.K.Key.number c.args.key) c.args.value c.args.self.now.entries _ (subst (λ (m : PagedMap g.row.V.Denot). AreBelow g.K.Key.bound m.entries) c.self.view_is c.self.invariant.1)
@@ -76,3 +77,9 @@ returns-clause-len g c =
 
 pub returns-clause-ordered : goal.returns-clause-ordered
 returns-clause-ordered g c = ascending _ (invariant_of-self-2 g c).0.pages
+
+pub returns-then-self-eq-MOST-clause-ordered : goal.returns-then-self-eq-MOST-clause-ordered
+returns-then-self-eq-MOST-clause-ordered g c = subst (λ (m : PagedMap g.row.V.Denot). IsSorted m.entries) c.self.view_is (ascending c.self.inside.pages.items c.self.invariant.0.pages)
+
+pub returns-in_err-place-clause-ordered : goal.returns-in_err-place-clause-ordered
+returns-in_err-place-clause-ordered g c = ascending c.page_for.new.pages.items c.in_err-place.ensures.ordered
