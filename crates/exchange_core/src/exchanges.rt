@@ -38,7 +38,7 @@ use std::marker::Model;
 #[derive(Drop)]
 pub struct Exchanges {
     alloc: Global,
-    live: PagedMap<Exchange>,
+    live: PagedMap<u64, Exchange>,
     doomed: VecDeque<u64>,
     metered: NumberSet,
     spares: Spares,

@@ -7,10 +7,9 @@ ghost use Rattle.number_set.specs.NumberSet.{has};
 mod exchanges;
 mod tables;
 
-pub use exchanges::Ends;
-
 use crate::conn::Conn;
 use crate::seat::Seat;
+pub use exchanges::Ends;
 use io_ports::NoMemory;
 use number_set::NumberSet;
 use paged_map::PagedMap;
@@ -27,8 +26,8 @@ use std::ops::Bound;
 #[derive(Drop)]
 pub struct Links {
     alloc: Global,
-    seats: PagedMap<Seat>,
-    exchanges: PagedMap<Ends>,
+    seats: PagedMap<u32, Seat>,
+    exchanges: PagedMap<u64, Ends>,
     // By cluster, the connections that can take one more exchange, and room for all of its connections.
     offers: BTreeMap<u32, NumberSet>,
     // The client connections that are open.

@@ -12,7 +12,7 @@ use paged_map::PagedMap;
 use std::alloc::Global;
 use std::collections::BTreeMap;
 
-pub(super) type Seats = PagedMap<Seat>;
+pub(super) type Seats = PagedMap<u32, Seat>;
 
 // By cluster, the connections that can take one more exchange.
 pub(super) type Offers = BTreeMap<u32, NumberSet>;
