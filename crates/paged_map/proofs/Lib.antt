@@ -1,0 +1,2 @@
+mod Directory
+mod Slotted

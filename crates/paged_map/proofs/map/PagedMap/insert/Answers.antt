@@ -1,0 +1,48 @@
+use Rattle.paged_map.proofs.Directory.{found, kept_more, kept_same, put_on}
+use Rattle.paged_map.proofs.map.PagedMap.insert.Goals as goal
+use Rattle.paged_map.specs.PagedMap.{PagedMap, value_at}
+use Rattle.std.proofs.Common.{ap, sym, ◌∙◌}
+use Rattle.std.specs.BTreeMap.{insert_entry, is_at}
+use Rattle.std.specs.Map.{lookup}
+use Rattle.std.specs.Ordering.{nat_cmp}
+use Rattle.std.specs.Prelude.{is_some, length}
+
+pub invariant_of-self-then-is_some : goal.invariant_of-self-then-is_some
+invariant_of-self-then-is_some g c =
+    kept_same c.self.inside.len c.number-number.result c.in_ok-place.place c.args.value c.index_mut.result.now c.put-old.new.self c.page_for.new.pages.items c.in_ok-place.ensures.ordered
+    (c.self.invariant.counted ∙ sym (ap length c.in_ok-place.ensures.same)) c.in_ok-place.ensures.place c.index_mut.ensures.value c.put-old.ensures.new
+    (sym (ap is_some c.put-old.ensures.old) ∙ sym c.is_some.ensures ∙ c.if-is_some.true)
+
+pub returns-then-is_some-clause-old : goal.returns-then-is_some-clause-old
+returns-then-is_some-clause-old g c =
+    c.put-old.ensures.old
+    ∙ sym (found c.number-number.result c.in_ok-place.place c.index_mut.result.now c.page_for.new.pages.items c.in_ok-place.ensures.ordered c.in_ok-place.ensures.place c.index_mut.ensures.value)
+    ∙ ap (lookup (is_at (nat_cmp c.number-number.result))) c.in_ok-place.ensures.same
+    ∙ ap (value_at c.number-number.result) c.self.view_is
+    ∙ ap (λ n. value_at n c.args.self.now) c.number-number.ensures
+
+pub returns-then-is_some-clause-entries : goal.returns-then-is_some-clause-entries
+returns-then-is_some-clause-entries g c =
+    put_on c.number-number.result c.in_ok-place.place c.args.value c.index_mut.result.now c.put-old.new.self c.page_for.new.pages.items c.in_ok-place.ensures.ordered c.in_ok-place.ensures.place c.index_mut.ensures.value c.put-old.ensures.new
+    ∙ ap (λ es. insert_entry nat_cmp es c.number-number.result c.args.value) (c.in_ok-place.ensures.same ∙ ap (λ (m : PagedMap g.row.V.Denot). m.entries) c.self.view_is)
+    ∙ ap (λ n. insert_entry nat_cmp c.args.self.now.entries n c.args.value) c.number-number.ensures
+
+pub invariant_of-self-2 : goal.invariant_of-self-2
+invariant_of-self-2 g c =
+    kept_more c.self.inside.len c.number-number.result c.in_ok-place.place c.args.value c.index_mut.result.now c.put-old.new.self c.page_for.new.pages.items c.in_ok-place.ensures.ordered
+    (c.self.invariant.counted ∙ sym (ap length c.in_ok-place.ensures.same)) c.in_ok-place.ensures.place c.index_mut.ensures.value c.put-old.ensures.new
+    (sym (ap is_some c.put-old.ensures.old) ∙ sym c.is_some.ensures ∙ c.if-is_some.false)
+
+pub returns-clause-old : goal.returns-clause-old
+returns-clause-old g c =
+    c.put-old.ensures.old
+    ∙ sym (found c.number-number.result c.in_ok-place.place c.index_mut.result.now c.page_for.new.pages.items c.in_ok-place.ensures.ordered c.in_ok-place.ensures.place c.index_mut.ensures.value)
+    ∙ ap (lookup (is_at (nat_cmp c.number-number.result))) c.in_ok-place.ensures.same
+    ∙ ap (value_at c.number-number.result) c.self.view_is
+    ∙ ap (λ n. value_at n c.args.self.now) c.number-number.ensures
+
+pub returns-clause-entries : goal.returns-clause-entries
+returns-clause-entries g c =
+    put_on c.number-number.result c.in_ok-place.place c.args.value c.index_mut.result.now c.put-old.new.self c.page_for.new.pages.items c.in_ok-place.ensures.ordered c.in_ok-place.ensures.place c.index_mut.ensures.value c.put-old.ensures.new
+    ∙ ap (λ es. insert_entry nat_cmp es c.number-number.result c.args.value) (c.in_ok-place.ensures.same ∙ ap (λ (m : PagedMap g.row.V.Denot). m.entries) c.self.view_is)
+    ∙ ap (λ n. insert_entry nat_cmp c.args.self.now.entries n c.args.value) c.number-number.ensures

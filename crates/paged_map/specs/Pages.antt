@@ -1,0 +1,36 @@
+-- How the values lie: each page has a slot for each of 16 numbers that stand next to each other.
+use Rattle.number_set.specs.NumberMap.{IsSorted}
+use Rattle.std.specs.List.{AllByRecursion}
+use Rattle.std.specs.Prelude.{List, None, Option, Some, [], count_by, is_some, length, ℕ, ◌*◌, ◌+◌, ◌++◌, ◌∷◌, ◌≡◌}
+
+-- how many numbers a page is for
+abbrev pub width : ℕ
+width = 16
+
+-- A page is seen as its index, a 16th of each of its numbers, and its slots.
+module _ {X : Type 0} where
+  -- the values of these slots with their numbers, where the first slot is this number's
+  abbrev pub entries_from : ℕ → List (Option X) → List (ℕ × X)
+  entries_from number [] = []
+  entries_from number (None ∷ slots) = entries_from (number + 1) slots
+  entries_from number (Some value ∷ slots) = (number, value) ∷ entries_from (number + 1) slots
+
+  -- the values on all pages
+  abbrev pub entries_on : List (ℕ × List (Option X)) → List (ℕ × X)
+  entries_on [] = []
+  entries_on (page ∷ pages) = entries_from (page.0 * width) page.1 ++ entries_on pages
+
+  -- so many slots of a page are used
+  pub record IsWhole (used : ℕ) (slots : List (Option X)) : Type 0 where
+    pub counted : used ≡ count_by is_some slots
+    pub long : length slots ≡ width
+
+  -- each index is greater than those before it, and each page has its slots
+  pub record AreOrdered (pages : List (ℕ × List (Option X))) : Type 0 where
+    pub order : IsSorted pages
+    pub long : AllByRecursion (λ page. length page.1 ≡ width) pages
+
+  -- and so many values stand on them
+  pub record AreKept (len : ℕ) (on : List (ℕ × List (Option X))) : Type 0 where
+    pub pages : AreOrdered on
+    pub counted : len ≡ length (entries_on on)
