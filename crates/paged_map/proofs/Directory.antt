@@ -11,17 +11,17 @@ use Rattle.std.specs.List.{AllByRecursion, insert, remove, sum_by}
 use Rattle.std.specs.List.Sorted.{IsStrictlySortedBy}
 use Rattle.std.specs.Map.{keys_of, lookup, remove_entry, set_value}
 use Rattle.std.specs.Ordering.{nat_cmp}
-use Rattle.std.specs.Prelude.{List, None, Option, Some, [], count_by, false, is_some, length, suc, true, zero, ℕ, ◌%◌, ◌*◌, ◌+◌, ◌++◌, ◌-◌, ◌/◌, ◌<◌, ◌∷◌, ◌≡◌, ◌≤◌}
+use Rattle.std.specs.Prelude.{List, None, Option, Some, [], count_by, false, is_some, length, suc, true, zero, ℕ, ◌%◌, ◌*◌, ◌+◌, ◌++◌, ◌-◌, ◌/◌, ◌<◌, ◌^◌, ◌∷◌, ◌≡◌, ◌≤◌}
 
 empty : {A : Type 0} (l : List A) → length l ≡ 0 → l ≡ []
 empty [] none = refl
 empty (x ∷ l) none = absurd (omega (arith, none))
 
 -- ---- a number and its page
-parts : (n : ℕ) → n / 16 * 16 + n % 16 ≡ n
+pub parts : (n : ℕ) → n / 16 * 16 + n % 16 ≡ n
 parts n = omega arith
 
-small : (n : ℕ) → n % 16 < 16
+pub small : (n : ℕ) → n % 16 < 16
 small n = omega arith
 
 -- a value counts
@@ -38,27 +38,27 @@ module _ {X : Type 0} where
   AreLong pages = AllByRecursion (λ page. length page.1 ≡ 16) pages
 
   -- ---- places of pages
-  at_rest : (q place : ℕ) (p : ℕ × List (Option X)) (pages : List (ℕ × List (Option X))) → IsAt q (suc place) (p ∷ pages) → IsAt q place pages
+  pub at_rest : (q place : ℕ) (p : ℕ × List (Option X)) (pages : List (ℕ × List (Option X))) → IsAt q (suc place) (p ∷ pages) → IsAt q place pages
   at_rest q place p pages at = record { within = omega (arith, at.within); before = λ k less. at.before (suc k) (omega (arith, less)); is = at.is }
 
-  gap_rest : (q place : ℕ) (p : ℕ × List (Option X)) (pages : List (ℕ × List (Option X))) → IsGap q (suc place) (p ∷ pages) → IsGap q place pages
+  pub gap_rest : (q place : ℕ) (p : ℕ × List (Option X)) (pages : List (ℕ × List (Option X))) → IsGap q (suc place) (p ∷ pages) → IsGap q place pages
   gap_rest q place p pages gap = record {
     within = omega (arith, gap.within);
     before = λ k less. gap.before (suc k) (omega (arith, less));
     after = λ k from last. gap.after (suc k) (omega (arith, from)) (omega (arith, last));
   }
 
-  gap_past : (q : ℕ) (p : ℕ × List (Option X)) (pages : List (ℕ × List (Option X))) → IsGap q zero (p ∷ pages) → IsGap q zero pages
+  pub gap_past : (q : ℕ) (p : ℕ × List (Option X)) (pages : List (ℕ × List (Option X))) → IsGap q zero (p ∷ pages) → IsGap q zero pages
   gap_past q p pages gap = record {
     within = omega arith;
     before = λ k less. absurd (omega (arith, less));
     after = λ k from last. gap.after (suc k) (omega arith) (omega (arith, last));
   }
 
-  above : (q : ℕ) (p : ℕ × List (Option X)) (pages : List (ℕ × List (Option X))) → IsGap q zero (p ∷ pages) → q < p.0
+  pub above : (q : ℕ) (p : ℕ × List (Option X)) (pages : List (ℕ × List (Option X))) → IsGap q zero (p ∷ pages) → q < p.0
   above q p pages gap = gap.after zero (omega arith) (omega arith)
 
-  below : (q place : ℕ) (p : ℕ × List (Option X)) (pages : List (ℕ × List (Option X))) → IsAt q (suc place) (p ∷ pages) → p.0 < q
+  pub below : (q place : ℕ) (p : ℕ × List (Option X)) (pages : List (ℕ × List (Option X))) → IsAt q (suc place) (p ∷ pages) → p.0 < q
   below q place p pages at = at.before zero (omega arith)
 
   as_many : (pages : List (ℕ × List (Option X))) → length (keys_of pages) ≡ length pages
@@ -69,7 +69,7 @@ module _ {X : Type 0} where
   indexes_rise pages sorted i j less last = below_from_sorted (keys_of pages) i j 0 sorted less (omega (arith, last, as_many pages))
 
   -- behind a page there are greater ones alone
-  behind : (q : ℕ) (p : ℕ × List (Option X)) (pages : List (ℕ × List (Option X))) → IsSorted (p ∷ pages) → p.0 ≡ q → IsGap q zero pages
+  pub behind : (q : ℕ) (p : ℕ × List (Option X)) (pages : List (ℕ × List (Option X))) → IsSorted (p ∷ pages) → p.0 ≡ q → IsGap q zero pages
   behind q p pages sorted is = record {
     within = omega arith;
     before = λ k less. absurd (omega (arith, less));
@@ -321,23 +321,25 @@ module _ {X : Type 0} where
 
   -- ---- what holds of a map goes on to hold
   pub kept_none : (pages : List (ℕ × List (Option X))) → pages ≡ [] → AreKept 0 pages
-  kept_none pages is = subst (AreKept 0) (sym is) (record { pages = record { order = sorted_none (List (Option X)); long = tt }; counted = refl })
+  kept_none pages is = subst (AreKept 0) (sym is) (record { pages = record { order = sorted_none (List (Option X)); long = tt }; small = omega arith; counted = refl })
 
-  pub kept_more : (len n place : ℕ) (v : X) (page new : ℕ × List (Option X)) (pages : List (ℕ × List (Option X))) → AreOrdered pages → len ≡ length (entries_on pages) → IsAt (n / 16) place pages
+  pub kept_more : (len n place : ℕ) (v : X) (page new : ℕ × List (Option X)) (pages : List (ℕ × List (Option X))) → AreOrdered pages → len + 1 < 2 ^ 63 → len ≡ length (entries_on pages) → IsAt (n / 16) place pages
       → page ≡ get_or pages place page → new ≡ (page.0, set page.1 (n % 16) (Some v)) → is_some (get_or page.1 (n % 16) None) ≡ false → AreKept (len + 1) (set pages place new)
-  kept_more len n place v page new pages kept counted at is written none =
+  kept_more len n place v page new pages kept small counted at is written none =
       let more : length (entries_on (set pages place new)) + cond (is_some (get_or page.1 (n % 16) None)) 1 0 ≡ length (entries_on pages) + 1 = counted_written n place (Some v) page new pages kept at is written in
       record {
         pages = ordered_written n place (Some v) page new pages kept at is written;
+        small = small;
         counted = omega (arith, counted, more, none_counts (get_or page.1 (n % 16) None) none);
       }
 
-  pub kept_same : (len n place : ℕ) (v : X) (page new : ℕ × List (Option X)) (pages : List (ℕ × List (Option X))) → AreOrdered pages → len ≡ length (entries_on pages) → IsAt (n / 16) place pages
+  pub kept_same : (len n place : ℕ) (v : X) (page new : ℕ × List (Option X)) (pages : List (ℕ × List (Option X))) → AreOrdered pages → len < 2 ^ 63 → len ≡ length (entries_on pages) → IsAt (n / 16) place pages
       → page ≡ get_or pages place page → new ≡ (page.0, set page.1 (n % 16) (Some v)) → is_some (get_or page.1 (n % 16) None) ≡ true → AreKept len (set pages place new)
-  kept_same len n place v page new pages kept counted at is written some =
+  kept_same len n place v page new pages kept small counted at is written some =
       let more : length (entries_on (set pages place new)) + cond (is_some (get_or page.1 (n % 16) None)) 1 0 ≡ length (entries_on pages) + 1 = counted_written n place (Some v) page new pages kept at is written in
       record {
         pages = ordered_written n place (Some v) page new pages kept at is written;
+        small = small;
         counted = omega (arith, counted, more, one_counts (get_or page.1 (n % 16) None) some);
       }
 

@@ -1,9 +1,11 @@
 // The values of 16 numbers that stand next to each other.
 ghost use Rattle.paged_map.specs.Lends.{LendsSlot};
-ghost use Rattle.paged_map.specs.Pages.{width};
+ghost use Rattle.number_set.specs.NumberSet.{first};
+ghost use Rattle.paged_map.specs.Pages.{IsIndex, entries_from, width};
 ghost use Rattle.std.specs.Borrow.{sem};
+ghost use Rattle.std.specs.Map.{keys_of};
 ghost use Rattle.std.specs.Option.{option_copied};
-ghost use Rattle.std.specs.Prelude.{◌≡◌, ◌==◌, ◌<◌, IfOk, None, Some, count_by, is_some, length, slice_index_or, slice_set, true};
+ghost use Rattle.std.specs.Prelude.{◌≡◌, ◌==◌, ◌<◌, ◌≤◌, ◌+◌, ◌*◌, IfOk, None, Some, count_by, drop, is_some, length, slice_index_or, slice_set, true};
 
 use io_ports::NoMemory;
 use std::alloc::Global;
@@ -30,7 +32,7 @@ impl<V> Model for Page<V> {
 
     ghost view = { λ p. (p.index, p.slots.items) };
 
-    ghost invariant = { λ p. IsWhole p.used p.slots.items };
+    ghost invariant = { λ p. IsWhole p.index p.used p.slots.items };
 }
 
 impl<V> Page<V> {
@@ -38,6 +40,7 @@ impl<V> Page<V> {
     pub(crate) fn new(alloc: Global, index: u64) -> Result<Self, NoMemory>
     where
         V: Drop,
+        requires { IsIndex index }
         ensures index { IfOk result (λ page. page.0 ≡ index) }
         ensures blank { IfOk result (λ page. count_by is_some page.1 ≡ 0) }
         ensures long { IfOk result (λ page. length page.1 ≡ width) }
@@ -52,6 +55,7 @@ impl<V> Page<V> {
 
     /// A page without values is for these numbers from now on.
     pub(crate) fn turn(&mut self, index: u64)
+        requires { IsIndex index }
         ensures { self.new ≡ (index, self.old.1) }
     {
         self.index = index;
@@ -90,6 +94,21 @@ impl<V> Page<V> {
         ensures { result ≡ is_some (slice_index_or self.now.1 slot None) }
     {
         self.slots[slot].is_some()
+    }
+
+    /// The least number that has a value, from a slot on.
+    pub(crate) fn first_from(&self, from: usize) -> Option<u64>
+        requires { from ≤ width }
+        ensures { result ≡ first (keys_of (entries_from (self.now.0 * width + from) (drop from self.now.1))) }
+    {
+        let mut slot = from;
+        while slot < self.slots.len() {
+            if self.slots[slot].is_some() {
+                return Some(self.index * WIDTH + slot as u64);
+            }
+            slot += 1;
+        }
+        None
     }
 
     /// The value of a slot that has one, to be changed.

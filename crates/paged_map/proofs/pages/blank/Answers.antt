@@ -9,7 +9,7 @@ pub returns-clause-ordered : goal.returns-clause-ordered
 returns-clause-ordered g c =
     let within : c.len-len.result - 1 < length c.args.pages.now.items = omega (arith, c.len-len.ensures, c.args.pages.now.ok.0, c.if-len-eq0.false) in
     subst AreOrdered (sym c.remove-page.ensures.items)
-    (ordered_remove c.index.result.now.0 _ c.args.pages.now.items (stands _ c.index.result.now c.args.pages.now.items c.requires.order within c.index.ensures) c.requires)
+    (ordered_remove c.index.result.now.0 _ c.args.pages.now.items (stands _ c.index.result.now c.args.pages.now.items c.requires.ordered.order within c.index.ensures) c.requires.ordered)
 
 pub returns-clause-same : goal.returns-clause-same
 returns-clause-same g c =

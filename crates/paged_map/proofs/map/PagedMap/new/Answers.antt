@@ -1,5 +1,6 @@
+use Rattle.paged_map.proofs.Ascending.{below_none}
 use Rattle.paged_map.proofs.Directory.{kept_none}
 use Rattle.paged_map.proofs.map.PagedMap.new.Goals as goal
 
 pub invariant_of-result : goal.invariant_of-result
-invariant_of-result g c = kept_none c.new.result.items c.new.ensures.items
+invariant_of-result g c = (kept_none c.new.result.items c.new.ensures.items, below_none g.K.Key.bound c.new.result.items c.new.ensures.items)
