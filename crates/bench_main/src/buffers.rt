@@ -1,4 +1,5 @@
 // Octets through two watermark buffers, beside the same octets copied twice by plain slice copies.
+use crate::line::Line;
 use crate::stopwatch::{CpuStopwatch, per_second};
 use anyhow::{bail, ensure};
 use io_ports::NoMemory;
@@ -21,7 +22,7 @@ const ROUNDS: u64 = 256;
 const OCTETS: u64 = PIECE as u64 * PIECES_A_ROUND * ROUNDS;
 
 /// An empty buffer with room for its limit and a piece.
-pub(crate) fn ready_buffer(alloc: Global) -> Result<WatermarkBuffer, NoMemory> {
+fn ready_buffer(alloc: Global) -> Result<WatermarkBuffer, NoMemory> {
     let mut buffer = WatermarkBuffer::new(alloc, LIMIT);
     buffer.ready(PIECE)?;
     Ok(buffer)
@@ -125,7 +126,7 @@ fn copy(from: &[u8], to: &mut [u8]) {
     to[..n].copy_from_slice(&from[..n]);
 }
 
-pub(crate) fn first_octet(octets: &[u8]) -> u64 {
+fn first_octet(octets: &[u8]) -> u64 {
     octets.first().map_or(0, |octet| u64::from(*octet))
 }
 
@@ -159,13 +160,19 @@ fn take_turns(
     Ok(())
 }
 
-fn report(rt: &impl Print, moving: u64, copying: u64) -> anyhow::Result<()> {
+fn report(rt: &(impl Print + AllocGlobal), moving: u64, copying: u64) -> anyhow::Result<()> {
     let moved = per_second(OCTETS, moving.max(1));
     let copied = per_second(OCTETS, copying.max(1));
-    let hundredths = u128::from(moved) * 100 / u128::from(copied.max(1));
-    let (whole, rest) = (hundredths / 100, hundredths % 100);
-    println!(rt; "two buffers: {moved} octets in a second of processor time")?;
-    println!(rt; "two plain copies: {copied} octets in a second of processor time")?;
-    println!(rt; "ratio: {whole}.{rest:02}")?;
-    Ok(())
+    let mut line = Line::new(rt.alloc());
+    line.say_with("two buffers: ", moved);
+    line.say_with(
+        " octets in a second of processor time\ntwo plain copies: ",
+        copied,
+    );
+    line.say_times(
+        " octets in a second of processor time\nratio: ",
+        moved,
+        copied,
+    );
+    line.print(rt)
 }

@@ -28,7 +28,17 @@ pub struct Stage {
 }
 
 impl Stage {
-    pub fn new(alloc: Global, joined: bool) -> Self {
+    /// One whose steps and frames are made by the calls that do nothing else.
+    pub fn of_single_calls(alloc: Global) -> Self {
+        Stage::new(alloc, false)
+    }
+
+    /// One whose steps and frames are made by the calls that also answer what goes next.
+    pub fn of_joined_calls(alloc: Global) -> Self {
+        Stage::new(alloc, true)
+    }
+
+    fn new(alloc: Global, joined: bool) -> Self {
         Stage {
             alloc,
             exchanges: Exchanges::new(alloc),
@@ -134,15 +144,16 @@ impl Stage {
         Answer::Doomed(self.exchanges.doom(exchange, cause, back, &mut self.gates))
     }
 
-    /// The write buffer of a connection rises, or drains and its flows are told.
-    fn write(&mut self, conn: u32, high: bool) {
+    /// The write buffer of a connection rises.
+    fn rise(&mut self, conn: u32) {
+        rise(&mut self.gates, BufferId::Write(conn));
+    }
+
+    /// The write buffer of a connection drains, and its flows are told.
+    fn drain(&mut self, conn: u32) {
         let buffer = BufferId::Write(conn);
-        if high {
-            rise(&mut self.gates, buffer);
-        } else {
-            drain(&mut self.gates, buffer);
-            tell_all(&mut self.gates, buffer);
-        }
+        drain(&mut self.gates, buffer);
+        tell_all(&mut self.gates, buffer);
     }
 
     /// A flow is told of its own buffers that drained.

@@ -133,19 +133,16 @@ fn shut(core: &mut WireCore, number: u32)
     }
 }
 
-/// A connection is lost: it is closed, and its octets go nowhere. Where they held flows back, these are never told: their
-/// exchanges are lost too.
+/// A connection is lost: it is closed, unless it is, and its octets go nowhere, also where it was closed before. Where they held
+/// flows back, these are never told: their exchanges are lost too.
 pub fn lose(core: &mut WireCore, number: u32, notes: &mut Notes) -> Result<(), NoMemory>
     requires sound { IsSound core.old }
     ensures sound { OnOk result (IsSound core.new) }
     ensures notes { Appends notes.old notes.new }
 {
-    if !core.is_open(number) {
-        return Ok(());
-    }
     close(core, number, 0, CloseCause::Lost, notes)?;
     lose_octets(core, number);
-    Ok(())
+    core.stir(number)
 }
 
 // The octets of a connection go nowhere.

@@ -257,7 +257,6 @@ module _ {X : Type 0} where
       by_found None = refl
       by_found (Some v) = over es (f v)
 
-  -- what came and goes again
   -- nothing was there
   pub remove_absent : (es : List (ℕ × X)) (n : ℕ) → under n es ≡ None → remove_entry (is_at (nat_cmp n)) es ≡ es
   remove_absent [] n none = refl
@@ -267,6 +266,7 @@ module _ {X : Type 0} where
         ∙ ap (λ fs. e ∷ fs) (remove_absent es n (sym (under_later e es n apart) ∙ none))
   ]
 
+  -- what came and goes again
   pub remove_insert : (es : List (ℕ × X)) (n : ℕ) (v : X) → under n es ≡ None → remove_entry (is_at (nat_cmp n)) (insert_entry nat_cmp es n v) ≡ es
   remove_insert [] n v none = ap (λ t. if t then [] else (n, v) ∷ []) (at_here n n refl)
   remove_insert (e ∷ es) n v none = elim (compared n e.0) [

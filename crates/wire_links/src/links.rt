@@ -7,10 +7,9 @@ ghost use Rattle.number_set.specs.NumberSet.{has};
 mod exchanges;
 mod tables;
 
-pub use exchanges::Ends;
-
 use crate::conn::Conn;
 use crate::seat::Seat;
+pub use exchanges::Ends;
 use io_ports::NoMemory;
 use number_set::NumberSet;
 use paged_map::PagedMap;
