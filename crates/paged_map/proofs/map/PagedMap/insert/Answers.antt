@@ -26,12 +26,12 @@ returns-then-is_some-clause-entries g c =
 
 pub invariant_of-self-then-is_some : goal.invariant_of-self-then-is_some
 invariant_of-self-then-is_some g c = (
-      kept_same c.self.inside.len c.number-number.result c.in_ok-place.place c.args.value c.index_mut.result.now c.put-old.new.self c.page_for.new.pages.items c.in_ok-place.ensures.ordered c.self.invariant.0.small
-          (c.self.invariant.0.counted ∙ sym (ap length c.in_ok-place.ensures.same)) c.in_ok-place.ensures.place c.index_mut.ensures.value c.put-old.ensures.new
-          (sym (ap is_some c.put-old.ensures.old) ∙ sym c.is_some.ensures ∙ c.if-is_some.true),
-      below_inserted g.K.Key.bound (g.K.Key.number c.args.key) c.args.value c.args.self.now.entries _ (subst (λ (m : PagedMap g.row.V.Denot). AreBelow g.K.Key.bound m.entries) c.self.view_is c.self.invariant.1)
-          (subst (λ n. n < g.K.Key.bound) c.number-number.ensures.number c.number-number.ensures.bound) (returns-then-is_some-clause-entries g c),
-    )
+  kept_same c.self.inside.len c.number-number.result c.in_ok-place.place c.args.value c.index_mut.result.now c.put-old.new.self c.page_for.new.pages.items c.in_ok-place.ensures.ordered c.self.invariant.0.small
+      (c.self.invariant.0.counted ∙ sym (ap length c.in_ok-place.ensures.same)) c.in_ok-place.ensures.place c.index_mut.ensures.value c.put-old.ensures.new
+      (sym (ap is_some c.put-old.ensures.old) ∙ sym c.is_some.ensures ∙ c.if-is_some.true),
+  below_inserted g.K.Key.bound (g.K.Key.number c.args.key) c.args.value c.args.self.now.entries _ (subst (λ (m : PagedMap g.row.V.Denot). AreBelow g.K.Key.bound m.entries) c.self.view_is c.self.invariant.1)
+      (subst (λ n. n < g.K.Key.bound) c.number-number.ensures.number c.number-number.ensures.bound) (returns-then-is_some-clause-entries g c),
+)
 
 pub returns-clause-old : goal.returns-clause-old
 returns-clause-old g c =
@@ -49,12 +49,12 @@ returns-clause-entries g c =
 
 pub invariant_of-self-2 : goal.invariant_of-self-2
 invariant_of-self-2 g c = (
-      kept_more c.self.inside.len c.number-number.result c.in_ok-place.place c.args.value c.index_mut.result.now c.put-old.new.self c.page_for.new.pages.items c.in_ok-place.ensures.ordered (omega (arith, c.self.invariant.0.small, c.if-self-eq-MOST.false))
-          (c.self.invariant.0.counted ∙ sym (ap length c.in_ok-place.ensures.same)) c.in_ok-place.ensures.place c.index_mut.ensures.value c.put-old.ensures.new
-          (sym (ap is_some c.put-old.ensures.old) ∙ sym c.is_some.ensures ∙ c.if-is_some.false),
-      below_inserted g.K.Key.bound (g.K.Key.number c.args.key) c.args.value c.args.self.now.entries _ (subst (λ (m : PagedMap g.row.V.Denot). AreBelow g.K.Key.bound m.entries) c.self.view_is c.self.invariant.1)
-          (subst (λ n. n < g.K.Key.bound) c.number-number.ensures.number c.number-number.ensures.bound) (returns-clause-entries g c),
-    )
+  kept_more c.self.inside.len c.number-number.result c.in_ok-place.place c.args.value c.index_mut.result.now c.put-old.new.self c.page_for.new.pages.items c.in_ok-place.ensures.ordered (omega (arith, c.self.invariant.0.small, c.if-self-eq-MOST.false))
+      (c.self.invariant.0.counted ∙ sym (ap length c.in_ok-place.ensures.same)) c.in_ok-place.ensures.place c.index_mut.ensures.value c.put-old.ensures.new
+      (sym (ap is_some c.put-old.ensures.old) ∙ sym c.is_some.ensures ∙ c.if-is_some.false),
+  below_inserted g.K.Key.bound (g.K.Key.number c.args.key) c.args.value c.args.self.now.entries _ (subst (λ (m : PagedMap g.row.V.Denot). AreBelow g.K.Key.bound m.entries) c.self.view_is c.self.invariant.1)
+      (subst (λ n. n < g.K.Key.bound) c.number-number.ensures.number c.number-number.ensures.bound) (returns-clause-entries g c),
+)
 
 pub returns-then-is_some-clause-updates : goal.returns-then-is_some-clause-updates
 returns-then-is_some-clause-updates g c = updated_in (g.K.Key.number c.args.key) c.args.value c.args.self.now _ (returns-then-is_some-clause-entries g c)

@@ -67,8 +67,7 @@ invariant_of-self g c =
     let at = subst (IsAt (c.number-number.result / 16) c.in-Ok.place) c.as_slice.ensures.value c.in-Ok.ensures in
     let same = same_read c.in-Ok.place c.index_mut.result.now c.index.result.now c.self.inside.pages.items at.within c.index_mut.ensures.value c.index.ensures in
     let some = ap (λ (s : ℕ × List (Option g.row.V.Denot)). is_some (get_or s.1 (c.number-number.result % 16) None)) same ∙ sym c.has.ensures ∙ c.if-not-has.false in
-    let less = one_less c.self.inside.len c.number-number.result c.in-Ok.place c.index_mut.result.now c.take-old.new.self c.self.inside.pages.items c.self.invariant.0.pages c.self.invariant.0.counted at c.index_mut.ensures.value c.take-old.ensures.new some in
-    (
+    let less = one_less c.self.inside.len c.number-number.result c.in-Ok.place c.index_mut.result.now c.take-old.new.self c.self.inside.pages.items c.self.invariant.0.pages c.self.invariant.0.counted at c.index_mut.ensures.value c.take-old.ensures.new some in (
       record { pages = c.clear.ensures.ordered; small = omega (arith, c.self.invariant.0.small); counted = omega (arith, less, ap length c.clear.ensures.same) },
       below_removed g.K.Key.bound (g.K.Key.number c.args.key.now) c.args.self.now.entries _ (subst (λ (m : PagedMap g.row.V.Denot). AreBelow g.K.Key.bound m.entries) c.self.view_is c.self.invariant.1) (returns-clause-entries g c),
     )
