@@ -122,7 +122,8 @@ impl<K: Key, V> PagedMap<K, V> {
         }
     }
 
-    /// From now on the number has this value. Answers what it had. After running out of memory nothing has changed.
+    /// From now on the number has this value. Answers what it had. After running out of memory, or at 2^63 - 1 values, nothing has
+    /// changed.
     pub fn insert(&mut self, key: K, value: V) -> Result<Option<V>, NoMemory>
     where
         V: Drop,
