@@ -3,7 +3,7 @@ use Rattle.number_set.proofs.Entries.{sorted_none}
 use Rattle.number_set.proofs.Sorted.{Above}
 use Rattle.number_set.proofs.Tests.{at_eq, below_apart, compared, is_less, less_is, same_is, turned}
 use Rattle.number_set.specs.NumberMap.{IsSorted}
-use Rattle.number_set.specs.NumberSet.{Rises, has}
+use Rattle.number_set.specs.NumberSet.{has}
 use Rattle.paged_map.specs.PagedMap.{PagedMap, Updates, WritesThrough, value_at}
 use Rattle.paged_map.specs.Pages.{AreBelow, AreOrdered, entries_from, entries_on}
 use Rattle.std.proofs.Common.{ap, arith, cond, inl, inr, refl, subst, sym, true≢false, ◌∙◌}
@@ -17,9 +17,8 @@ use Rattle.std.specs.List.{All, AllByRecursion}
 use Rattle.std.specs.List.Sorted.{IsStrictlySortedBy}
 use Rattle.std.specs.Map.{keys_of, lookup, remove_entry, set_value}
 use Rattle.std.specs.Ordering.{eq_by_cmp, match_ordering, nat_cmp}
-use Rattle.std.specs.Prelude.{Bool, IsSome, List, None, Option, Some, [], false, is_some, length, nat_eq, suc, true, ℕ, ◌*◌, ◌+◌, ◌++◌, ◌<◌, ◌||◌, ◌∷◌, ◌≡◌, ◌≤◌}
+use Rattle.std.specs.Prelude.{Bool, List, None, Option, Some, [], false, is_some, length, nat_eq, suc, true, ℕ, ◌*◌, ◌+◌, ◌++◌, ◌<◌, ◌||◌, ◌∷◌, ◌≡◌, ◌≤◌}
 use Rattle.std.specs.declared.cmp.Ordering.{Ordering}
-use Rattle.std.specs.declared.cmp.Ordering.TheVariants.{Less}
 
 -- each number is at least m
 abbrev AtLeast : ℕ → List ℕ → Type 0

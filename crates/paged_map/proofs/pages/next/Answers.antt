@@ -1,4 +1,3 @@
-use Rattle.number_set.specs.NumberMap.{IsAt, IsGap}
 use Rattle.number_set.specs.NumberSet.{first}
 use Rattle.paged_map.proofs.Following.{first_behind, first_here, next_at, next_gap}
 use Rattle.paged_map.proofs.pages.next.Goals as goal

@@ -5,7 +5,7 @@ use Rattle.paged_map.proofs.Slotted.{has_none}
 use Rattle.paged_map.proofs.map.PagedMap.get_mut.Goals as goal
 use Rattle.paged_map.specs.PagedMap.{PagedMap, value_at}
 use Rattle.paged_map.specs.Pages.{AreKept, entries_on}
-use Rattle.std.proofs.Common.{Some, ap, inl, inr, refl, set, subst, sym, ◌∙◌}
+use Rattle.std.proofs.Common.{Some, ap, refl, set, subst, sym, ◌∙◌}
 use Rattle.std.specs.BTreeMap.{is_at}
 use Rattle.std.specs.Map.{set_value}
 use Rattle.std.specs.Ordering.{nat_cmp}

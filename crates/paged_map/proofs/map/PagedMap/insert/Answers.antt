@@ -8,7 +8,7 @@ use Rattle.std.proofs.Common.{ap, arith, cond, subst, sym, ◌∙◌}
 use Rattle.std.specs.BTreeMap.{insert_entry, is_at}
 use Rattle.std.specs.Map.{lookup}
 use Rattle.std.specs.Ordering.{nat_cmp}
-use Rattle.std.specs.Prelude.{is_some, length, true, false, ℕ, ◌<◌, ◌≡◌}
+use Rattle.std.specs.Prelude.{is_some, length, ℕ, ◌<◌, ◌≡◌}
 
 pub returns-then-is_some-clause-old : goal.returns-then-is_some-clause-old
 returns-then-is_some-clause-old g c =
