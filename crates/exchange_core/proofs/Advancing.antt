@@ -18,7 +18,7 @@ use Rattle.std.specs.BTreeMap.{is_at}
 use Rattle.std.specs.Map.{lookup}
 use Rattle.std.specs.Option.{option_and_then}
 use Rattle.std.specs.Ordering.{nat_cmp}
-use Rattle.std.specs.Prelude.{Bool, IfSome, None, Option, Some, false, is_some, nat_eq, option_map, true, ℕ, ◌≡◌}
+use Rattle.std.specs.Prelude.{Bool, IfSome, None, Option, Some, false, is_some, nat_eq, option_map, true, ◌≡◌}
 
 -- a change of a flow that isn't there
 pub absent_changed : (back : Bool) (change : Flow → Flow) (exchange : Exchange) → flow_in back exchange ≡ None → flow_changed change back exchange ≡ exchange
