@@ -1,4 +1,4 @@
-use Rattle.replay_rows.proofs.texts.drill_text.Goals as goal
+use Rattle.loop_rows.proofs.texts.drill_text.Goals as goal
 
 -- src/texts.rt:81:5
 pub session_text-requires : goal.session_text-requires

@@ -3,7 +3,7 @@ ghost use Rattle.flow_notes.specs.Event.{IsEvent};
 ghost use Rattle.std.specs.List.{AllByRecursion};
 ghost use Rattle.std.specs.Prelude.{◌<◌, IfOk, List, ℕ};
 
-use crate::show::show_lines;
+use crate::replay_show::show_lines;
 use flow_notes::{Event, EventList, Names, PlainEvent};
 use io_ports::{NoMemory, Octets};
 use replay_run::{Status, drill_events, session_text};
@@ -18,13 +18,17 @@ const LIMITS: PlainLimits = PlainLimits {
     quantum: 16_384,
 };
 
-/// Prints a plain session, a wire session, the whole drill of one stream, and how many events drills have.
-pub fn show_texts<R: Print + AllocGlobal>(rt: &R) -> io::Result<()> {
-    println!(rt; "## a plain session of two events as text")?;
-    show_text(rt, plain_text(rt.alloc()))?;
-    println!(rt; "## a wire session of two events as text")?;
-    show_text(rt, wire_text(rt.alloc()))?;
-    println!(rt; "## the drill of one stream as a wire session's text")?;
+/// Prints the name of a case, and a plain session, a wire session, or the whole drill of one stream and how many events drills have.
+pub fn show_texts<R: Print + AllocGlobal>(rt: &R, name: &str, which: &str) -> io::Result<()> {
+    println!(rt; "## {name}")?;
+    match which {
+        "plain" => show_text(rt, plain_text(rt.alloc())),
+        "wire" => show_text(rt, wire_text(rt.alloc())),
+        _ => show_drills(rt),
+    }
+}
+
+fn show_drills<R: Print + AllocGlobal>(rt: &R) -> io::Result<()> {
     show_text(rt, drill_text(rt.alloc()))?;
     for n in [1, 2, 1_000] {
         show_drill(rt, n, drill_events(rt.alloc(), n))?;
@@ -91,9 +95,9 @@ fn drill_text(alloc: Global) -> Result<Octets, NoMemory> {
     Ok(text)
 }
 
-/// Prints each status with its code.
-pub fn show_codes<R: Print>(rt: &R) -> io::Result<()> {
-    println!(rt; "## the codes of all statuses")?;
+/// Prints the name of a case, and each status with its code.
+pub fn show_codes<R: Print>(rt: &R, name: &str) -> io::Result<()> {
+    println!(rt; "## {name}")?;
     for status in [
         Status::Done,
         Status::Usage,

@@ -1,5 +1,5 @@
-// Prints what comes of a case.
-use crate::case::Case;
+// Prints what comes of a replay.
+use crate::replay_case::Case;
 use io_ports::{MemSink, MemSource, NoMemory, Octets};
 use replay_run::{Outcome, Status, put_reason, replay, replay_with_reason};
 use std::alloc::Global;
@@ -51,10 +51,28 @@ fn source(alloc: Global, octets: &[u8], failing: &[u64]) -> Result<MemSource, No
     Ok(MemSource::new(held, calls))
 }
 
-/// Prints the status of a case with its reason, and what it writes. A small session without faults ends and writes the
-/// same in pieces of 1 and of 7 octets, or else it is said where it doesn't. A great value is dropped by a call, since the
+/// Prints the name of a case, reads its lines, replays it, and prints how it ends. A great value is dropped by a call, since the
 /// check follows a drop without one field by field.
-pub fn show_case<R: Print + AllocGlobal>(rt: &R, case: &Case) -> io::Result<()> {
+pub fn show_replay<R: Print + AllocGlobal>(rt: &R, name: &str, lines: &str) -> io::Result<()> {
+    println!(rt; "## {name}")?;
+    let mut case = Case::new(rt.alloc());
+    let end = read_and_show(rt, lines, &mut case);
+    drop(case);
+    end
+}
+
+fn read_and_show<R: Print + AllocGlobal>(rt: &R, lines: &str, case: &mut Case) -> io::Result<()> {
+    for line in lines.strip_suffix('\n').unwrap_or(lines).split('\n') {
+        if case.line(line).is_err() {
+            println!(rt; "no memory")?;
+        }
+    }
+    show_case(rt, case)
+}
+
+// Prints the status of a case with its reason, and what it writes. A small session without faults ends and writes the
+// same in pieces of 1 and of 7 octets, or else it is said where it doesn't.
+fn show_case<R: Print + AllocGlobal>(rt: &R, case: &Case) -> io::Result<()> {
     let Ok(mut whole) = open_outside(rt.alloc(), case, usize::MAX) else {
         return println!(rt; "no memory");
     };

@@ -32,17 +32,6 @@ impl Case {
         }
     }
 
-    /// Makes it as a new one.
-    pub fn clear(&mut self) {
-        self.words.clear();
-        self.config_reads.clear();
-        self.reads.clear();
-        self.writes.clear();
-        self.config.clear();
-        self.session.clear();
-        self.is_long = false;
-    }
-
     /// Whether neither a source nor the sink fails.
     pub fn is_sound(&self) -> bool {
         self.config_reads.is_empty() && self.reads.is_empty() && self.writes.is_empty()
