@@ -1,7 +1,7 @@
 // How a case ends.
-use crate::aloud::Aloud;
-use crate::case::Case;
-use crate::run::{out_of, run_case, site_of};
+use crate::rows::aloud::Aloud;
+use crate::rows::case::Case;
+use crate::rows::run::{out_of, run_case, site_of};
 use io_ports::MemSink;
 use mem_ports::Kept;
 use mem_wire_site::{MemWireSite, PlayWires};

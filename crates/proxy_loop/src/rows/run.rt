@@ -1,6 +1,6 @@
 // Running a case.
-use crate::case::{Case, play_of};
-use crate::still::Still;
+use crate::rows::case::{Case, play_of};
+use crate::rows::still::Still;
 use io_ports::{MemSink, MemSource, NoMemory, Octets};
 use mem_ports::MemGauge;
 use mem_wire_site::MemWireSite;
