@@ -1,5 +1,4 @@
-//! Plays the scripts of standard input on exchanges and on chains, and prints what each call answers. Then it prints the
-//! configuration that each text of the file `configurations` is, or why it is none, and that of `sample.toml` and the defaults.
+//! Plays the scripts of standard input on exchanges and on chains, and prints what each call answers.
 //!
 //! A line `## NAME` begins a case, with nothing that the one before left. Each other line is a call; an empty line or one that
 //! begins with `# ` says nothing. A flow is its exchange's number with `q` for the request or `r` for the response. Every
@@ -27,36 +26,24 @@
 //!
 //! `refused` is printed where the call may not be made, `?` where a line is none of these. Every exchange is played twice, by
 //! the calls that answer one thing and by those that also answer what goes next; where they differ both are printed.
-//!
-//! In `configurations` a text begins with a line `## NAME`. A line `#? AUTHORITY PATH` in it, with `-` for no authority, asks for
-//! the row of a request.
 #![tactic(auto)]
 
 mod act;
 mod answer;
 mod chain_act;
 mod chain_stage;
-mod config_cases;
-mod config_show;
 mod said;
 mod script;
 mod stage;
 mod words;
 
-use crate::config_cases::show_configurations;
-use crate::script::play_cases;
 use std::fs;
 use std::io::Read;
 
 fn main(rt: HostRuntime) -> anyhow::Result<()> {
-    play_scripts(&rt)?;
-    show_configurations(&rt)
-}
-
-fn play_scripts(rt: &HostRuntime) -> anyhow::Result<()> {
     let mut text = Vec::new(rt.alloc());
     rt.reader().read_to_end(&mut text)?;
-    let rows = fs::read(rt, "rows.toml")?;
+    let rows = fs::read(&rt, "rows.toml")?;
     let text = std::str::from_utf8(text.as_slice()).unwrap_or("?");
-    play_cases(rt, rows.as_slice(), text)
+    script::play_cases(&rt, rows.as_slice(), text)
 }
