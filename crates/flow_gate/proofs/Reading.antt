@@ -1,4 +1,5 @@
 -- What is seen of the gates, by the look-ups of their maps.
+use Rattle.flow_gate.proofs.Orders.{buffer_cmp, is_at-buffer}
 use Rattle.flow_gate.proofs.SameIds.{same_flow_exact}
 use Rattle.flow_gate.specs.Board.{count, is_known, is_marked, is_open, lows, pending_on, times, watched_by, watchers_of}
 use Rattle.flow_gate.specs.Books.{Books}
@@ -11,6 +12,7 @@ use Rattle.flow_gate.specs.declared.ids.FlowId.{FlowId}
 use Rattle.std.proofs.Common.{ap, inl, inr, refl, sym, ◌∙◌}
 use Rattle.std.proofs.lemmas.Bool.{cases_Bool}
 use Rattle.std.proofs.lemmas.Map.Made.{lookup-map_values}
+use Rattle.std.specs.BTreeMap.{is_at}
 use Rattle.std.specs.Map.{lookup, values_of}
 use Rattle.std.specs.Option.{option_map, option_map_or}
 use Rattle.std.specs.Prelude.{Bool, List, None, Option, Some, [], cond, count_by, false, if◌then◌else◌, is_some, map, not, sum_by, true, ◌&&◌, ◌+◌, ◌∷◌, ◌≡◌}
@@ -27,6 +29,16 @@ BufferFound b o es = o ≡ buffer_at es b
 
 abbrev pub BufferUpdated : BufferId → Option Line → Buffers → Buffers → Type 0
 BufferUpdated b w old new = Updates same_buffer b w old new
+
+-- ---- of an ordered map by buffer
+module _ {X : Type 0} where
+  buffer_get : (es : List (BufferId × X)) (b : BufferId) → lookup (is_at (buffer_cmp b)) es ≡ lookup (same_buffer b) es
+  buffer_get es b = λ i. lookup (λ c. is_at-buffer b c i) es
+
+  -- what a change of the map says of its look-ups
+  pub buffer_updates : (old new : List (BufferId × X)) (b : BufferId) (w : Option X) →
+      ((c : BufferId) → lookup (is_at (buffer_cmp c)) new ≡ cond (is_at (buffer_cmp b) c) w (lookup (is_at (buffer_cmp c)) old)) → Updates same_buffer b w old new
+  buffer_updates old new b w updates c = sym (buffer_get new c) ∙ updates c ∙ (λ i. cond (is_at-buffer b c i) w (buffer_get old c i))
 
 -- ---- what is seen
 option_map_or-map : {A B C : Type 0} (g : B → C) (f : A → B) (o : Option A) (d : C) → option_map_or g (option_map f o) d ≡ option_map_or (λ x. g (f x)) o d
