@@ -1,10 +1,10 @@
 // The gates of a worker.
-ghost use Rattle.std.specs.Prelude.{◌≡◌, ◌==◌, ◌&&◌, ◌<◌, ◌≤◌, ◌^◌, ◌↔◌, ℕ, [], false, true, IfNone, IfOk, IfSome, None, Some, OnOk, OnErr, IsNone, count_by, length, not, option_map, option_to_list, slice_get, take, if◌then◌else◌};
+ghost use Rattle.std.specs.Prelude.{◌≡◌, ◌==◌, ◌&&◌, ◌≤◌, ◌^◌, ◌↔◌, [], false, true, IfOk, Some, OnOk, OnErr, IsNone, count_by, length, not, option_map, option_to_list, slice_get, take, if◌then◌else◌};
 ghost use Rattle.flow_gate.specs.Board.{IsSound, count, is_known, is_marked, is_open, pending_on, times, watchers_of};
 ghost use Rattle.flow_gate.specs.Changes.{Begins, Closes, Drains, Forgets, IsEmpty, Knows, Rises, Tells, Watches};
 ghost use Rattle.flow_gate.specs.Ids.{same_buffer};
 ghost use Rattle.flow_gate.specs.Line.{Line, held_in, left, told};
-ghost use Rattle.flow_gate.specs.Parts.{AreWatches, StandsIn, above_at, bound_after, buffer_at, held, is_after, is_stage, kept, watched_in};
+ghost use Rattle.flow_gate.specs.Parts.{AreWatches, StandsIn, above_at, buffer_at, held, is_stage, kept, watched_in};
 ghost use Rattle.flow_gate.specs.declared.ids.BufferId.{BufferId};
 ghost use Rattle.flow_gate.specs.declared.ids.FlowId.{FlowId};
 
