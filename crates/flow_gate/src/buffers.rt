@@ -116,6 +116,9 @@ impl Buffers {
         ensures first { IfSome result (λ i. (j : ℕ) → is_after after j ≡ true → j < i → buffer_at self.now (BufferId.Stage flow j) ≡ None) }
         ensures none { IfNone result ((j : ℕ) → is_after after j ≡ true → buffer_at self.now (BufferId.Stage flow j) ≡ None) }
     {
+        if self.stages.is_empty() {
+            return None;
+        }
         let (&stage, _) = self
             .stages
             .range((bound_after(flow, after), Bound::Unbounded))
