@@ -8,5 +8,5 @@ returns-in-Some c = low_written c.args.buffer c.args.n c.in-Some.gate.now c.tell
     c.in-Some.ensures.value c.tell_first.ensures ((c.get_mut.follows.holds c.tell_first.new.self).1 (search rules))
 
 pub returns-in_default : goal.returns-in_default
-returns-in_default c = none_written c.args.buffer c.args.n c.args.buffers.now _ (λ i. (c.get_mut.follows.holds-at-none i))
+returns-in_default c = none_written c.args.buffer c.args.n c.args.buffers.now _ c.get_mut.follows.holds-at-none
     (ap option_copied_mut (sym c.in_default.is) ∙ c.get_mut.ensures.value)
