@@ -18,28 +18,28 @@ pub returns-in-Recv : goal.returns-in-Recv
 returns-in-Recv c = rw (c.in-Recv.is, ← c.self.view_is) (
   (
     refl,
-    λ w. recv_written c.self.inside.writes.entries c.self.inside.recvs c.self.inside.stages.entries c.self.inside.sends w c.in-Recv.flow _ (c.get_mut.follows.holds w).0,
-    ap (λ m. all_of c.self.inside.writes.entries m c.self.inside.stages.entries c.self.inside.sends) c.get_mut.follows.holds-at-none,
+    λ w. recv_written c.self.inside.writes.entries c.self.inside.recvs c.self.inside.stages.entries c.self.inside.sends w c.in-Recv.flow _ (c.get_mut-in-Recv.follows.holds w).0,
+    ap (λ m. all_of c.self.inside.writes.entries m c.self.inside.stages.entries c.self.inside.sends) c.get_mut-in-Recv.follows.holds-at-none,
   ),
-  record { writes_back = tt; value = c.get_mut.ensures.value ∙ sym (read (Recv c.in-Recv.flow) c.self.inside.writes.entries c.self.inside.recvs c.self.inside.stages.entries c.self.inside.sends) },
+  record { writes_back = tt; value = c.get_mut-in-Recv.ensures.value ∙ sym (read (Recv c.in-Recv.flow) c.self.inside.writes.entries c.self.inside.recvs c.self.inside.stages.entries c.self.inside.sends) },
 )
 
 pub returns-in-Stage : goal.returns-in-Stage
 returns-in-Stage c = rw (c.in-Stage.is, ← c.self.view_is) (
   (
     refl,
-    λ w. stage_written c.self.inside.writes.entries c.self.inside.recvs c.self.inside.stages.entries c.self.inside.sends w c.in-Stage.flow c.in-Stage.stage _ (c.get_mut.follows.holds w).0,
-    ap (λ m. all_of c.self.inside.writes.entries c.self.inside.recvs m.entries c.self.inside.sends) c.get_mut.follows.holds-at-none,
+    λ w. stage_written c.self.inside.writes.entries c.self.inside.recvs c.self.inside.stages.entries c.self.inside.sends w c.in-Stage.flow c.in-Stage.stage _ (c.get_mut-in-Stage.follows.holds w).0,
+    ap (λ m. all_of c.self.inside.writes.entries c.self.inside.recvs m.entries c.self.inside.sends) c.get_mut-in-Stage.follows.holds-at-none,
   ),
-  record { writes_back = tt; value = c.get_mut.ensures.value ∙ sym (read (Stage c.in-Stage.flow c.in-Stage.stage) c.self.inside.writes.entries c.self.inside.recvs c.self.inside.stages.entries c.self.inside.sends) },
+  record { writes_back = tt; value = c.get_mut-in-Stage.ensures.value ∙ sym (read (Stage c.in-Stage.flow c.in-Stage.stage) c.self.inside.writes.entries c.self.inside.recvs c.self.inside.stages.entries c.self.inside.sends) },
 )
 
 pub returns-in-Send : goal.returns-in-Send
 returns-in-Send c = rw (c.in-Send.is, ← c.self.view_is) (
   (
     refl,
-    λ w. send_written c.self.inside.writes.entries c.self.inside.recvs c.self.inside.stages.entries c.self.inside.sends w c.in-Send.flow _ (c.get_mut.follows.holds w).0,
-    ap (λ m. all_of c.self.inside.writes.entries c.self.inside.recvs c.self.inside.stages.entries m) c.get_mut.follows.holds-at-none,
+    λ w. send_written c.self.inside.writes.entries c.self.inside.recvs c.self.inside.stages.entries c.self.inside.sends w c.in-Send.flow _ (c.get_mut-in-Send.follows.holds w).0,
+    ap (λ m. all_of c.self.inside.writes.entries c.self.inside.recvs c.self.inside.stages.entries m) c.get_mut-in-Send.follows.holds-at-none,
   ),
-  record { writes_back = tt; value = c.get_mut.ensures.value ∙ sym (read (Send c.in-Send.flow) c.self.inside.writes.entries c.self.inside.recvs c.self.inside.stages.entries c.self.inside.sends) },
+  record { writes_back = tt; value = c.get_mut-in-Send.ensures.value ∙ sym (read (Send c.in-Send.flow) c.self.inside.writes.entries c.self.inside.recvs c.self.inside.stages.entries c.self.inside.sends) },
 )

@@ -17,8 +17,8 @@ pub returns-else-flow : goal.returns-else-flow
 returns-else-flow g c = rw (← c.self.view_is) (
   (
     refl,
-    λ w. request_written c.args.flow w c.self.inside.requests.entries _ c.self.inside.responses.entries c.if-flow.false (c.get_mut.follows.holds w).0,
-    ap (λ m. both m.entries c.self.inside.responses.entries) c.get_mut.follows.holds-at-none,
+    λ w. request_written c.args.flow w c.self.inside.requests.entries _ c.self.inside.responses.entries c.if-flow.false (c.get_mut-else-flow.follows.holds w).0,
+    ap (λ m. both m.entries c.self.inside.responses.entries) c.get_mut-else-flow.follows.holds-at-none,
   ),
-  record { writes_back = tt; value = c.get_mut.ensures.value ∙ at-request c.args.flow c.self.inside.requests.entries c.self.inside.responses.entries c.if-flow.false },
+  record { writes_back = tt; value = c.get_mut-else-flow.ensures.value ∙ at-request c.args.flow c.self.inside.requests.entries c.self.inside.responses.entries c.if-flow.false },
 )

@@ -18,12 +18,12 @@ pub returns-then-flow-clause-err : goal.returns-then-flow-clause-err
 returns-then-flow-clause-err g c = rw (← c.self.view_is) (on_err (c.insert.new.self ≡ c.self.inside.responses) _ c.insert.result (λ h. ap (λ m. both c.self.inside.requests.entries m.entries) h) c.insert.ensures.err)
 
 pub returns-else-flow-clause-old : goal.returns-else-flow-clause-old
-returns-else-flow-clause-old g c = rw (← c.self.view_is) (subst (λ o. IfOk c.insert.result (λ old. old ≡ o))
-    (at-request c.args.flow c.self.inside.requests.entries c.self.inside.responses.entries c.if-flow.false) c.insert.ensures.old)
+returns-else-flow-clause-old g c = rw (← c.self.view_is) (subst (λ o. IfOk c.insert-else-flow.result (λ old. old ≡ o))
+    (at-request c.args.flow c.self.inside.requests.entries c.self.inside.responses.entries c.if-flow.false) c.insert-else-flow.ensures.old)
 
 pub returns-else-flow-clause-updates : goal.returns-else-flow-clause-updates
-returns-else-flow-clause-updates g c = rw (← c.self.view_is) (on_ok (Updates c.args.flow.exchange c.self.inside.requests c.insert.new.self (Some c.args.value)) _ c.insert.result
-    (λ h. request_updated c.args.flow (Some c.args.value) c.self.inside.requests.entries c.insert.new.self.entries c.self.inside.responses.entries c.if-flow.false h.0) c.insert.ensures.updates)
+returns-else-flow-clause-updates g c = rw (← c.self.view_is) (on_ok (Updates c.args.flow.exchange c.self.inside.requests c.insert-else-flow.new.self (Some c.args.value)) _ c.insert-else-flow.result
+    (λ h. request_updated c.args.flow (Some c.args.value) c.self.inside.requests.entries c.insert-else-flow.new.self.entries c.self.inside.responses.entries c.if-flow.false h.0) c.insert-else-flow.ensures.updates)
 
 pub returns-else-flow-clause-err : goal.returns-else-flow-clause-err
-returns-else-flow-clause-err g c = rw (← c.self.view_is) (on_err (c.insert.new.self ≡ c.self.inside.requests) _ c.insert.result (λ h. ap (λ m. both m.entries c.self.inside.responses.entries) h) c.insert.ensures.err)
+returns-else-flow-clause-err g c = rw (← c.self.view_is) (on_err (c.insert-else-flow.new.self ≡ c.self.inside.requests) _ c.insert-else-flow.result (λ h. ap (λ m. both m.entries c.self.inside.responses.entries) h) c.insert-else-flow.ensures.err)
