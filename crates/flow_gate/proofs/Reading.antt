@@ -15,7 +15,7 @@ use Rattle.std.proofs.lemmas.Map.Made.{lookup-map_values}
 use Rattle.std.specs.BTreeMap.{is_at}
 use Rattle.std.specs.Map.{lookup, values_of}
 use Rattle.std.specs.Option.{option_map, option_map_or}
-use Rattle.std.specs.Prelude.{Bool, List, None, Option, Some, [], cond, count_by, false, if◌then◌else◌, is_some, map, not, sum_by, true, ◌&&◌, ◌+◌, ◌∷◌, ◌≡◌}
+use Rattle.std.specs.Prelude.{Bool, List, None, Option, Some, [], cond, count_by, false, is_some, map, sum_by, ◌+◌, ◌∷◌, ◌≡◌}
 
 -- what a look-up finds, and what a write leaves at each name
 abbrev pub FlowFound : {X : Type 0} → FlowId → Option X → List (FlowId × X) → Type 0
