@@ -56,12 +56,16 @@ def strangers(rng, steps, last, tries):
             yield "put instead", i, steps[:i] + [s] + steps[i + 1:]
 
 
+# What lawful.py says of the last lines, which are those of the tape before its steps were changed.
+OF_LAST_LINES = ("the last line should be", "the summary differs")
+
+
 def accepts(lawful, config_text, session, tape):
-    """What lawful.py says: None where it accepts, the summary aside."""
+    """What lawful.py says: None where it accepts, the last lines aside."""
     try:
         lawful.check("wire", lawful.proto.Config(config_text), session.encode(), tape.encode())
     except lawful.Bad as bad:
-        return None if bad.where in ("D22", "D25") else "%s %s" % (bad.where, bad.text[:100])
+        return None if bad.text.startswith(OF_LAST_LINES) else bad.text[:100]
     return None
 
 
