@@ -51,13 +51,6 @@ impl Posters {
             Posters::Three => "three posters",
         }
     }
-
-    fn count(self) -> u64 {
-        match self {
-            Posters::One => 1,
-            Posters::Three => 3,
-        }
-    }
 }
 
 // Posts so many jobs.
@@ -236,7 +229,10 @@ fn timed(
     way: Way,
     posters: Posters,
 ) -> anyhow::Result<u64> {
-    let count = posters.count();
+    let count: u64 = match posters {
+        Posters::One => 1,
+        Posters::Three => 3,
+    };
     let each = u64::from(POSTS) / count;
     let watch = Stopwatch::start(rt)?;
     let sum = turn(rt, way, posters)?;
