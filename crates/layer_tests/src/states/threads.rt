@@ -94,9 +94,14 @@ fn no_more_than_three_are_inside(rt: HostRuntime) -> Result<(), Fail> {
     let b = seat_of(&permits, &mut seats).ok_or("a seat")?;
     let c = seat_of(&permits, &mut seats).ok_or("a seat")?;
     let d = seat_of(&permits, &mut seats).ok_or("a seat")?;
+    let mut idle: u64 = 0;
     for saw in four(&rt, &permits, (a, b, c, d)) {
         holds(&rt, saw.most <= 3);
-        holds(&rt, saw.given > 0);
+        if saw.given == 0 {
+            idle = idle.saturating_add(1);
+        }
     }
+    // One may be refused each time, where the three others rest inside; no second one can.
+    holds(&rt, idle <= 1);
     Ok(())
 }
