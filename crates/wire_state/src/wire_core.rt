@@ -1,9 +1,11 @@
 // The state of a worker's wire sessions.
 ghost use Rattle.proxy_config.specs.Ranges.{IsInRange};
-ghost use Rattle.std.specs.Prelude.{◌≡◌, ◌≤◌, ◌+◌, ◌∷◌, [], IfOk, OnOk};
+ghost use Rattle.std.specs.Prelude.{◌≡◌, ◌≤◌, ◌+◌, ◌++◌, ◌∷◌, [], IfOk, OnOk};
+ghost use Rattle.wire_flows.specs.Writes.{watchers_on};
+ghost use Rattle.wire_links.specs.Links.{no_links};
 ghost use Rattle.wire_state.specs.Agenda.{stirred_at, top_go};
 ghost use Rattle.wire_state.specs.Courses.{comes_from, course_at, course_in, goes_to, row_of};
-ghost use Rattle.wire_state.specs.Noting.{Appends};
+ghost use Rattle.wire_state.specs.Noting.{Appends, pauses_of};
 ghost use Rattle.wire_state.specs.Progress.{task_go, to_go};
 ghost use Rattle.wire_state.specs.Sound.{IsSound, is_open_at};
 
@@ -71,6 +73,7 @@ impl WireCore {
         ensures sound { IfOk result (λ core. IsSound core) }
         ensures idle { IfOk result (λ core. core.agenda ≡ []) }
         ensures new { IfOk result (λ core. (core.config ≡ config) × (core.conns.entries ≡ [])) }
+        ensures none { IfOk result (λ core. (core.links ≡ no_links) × (core.flows.exchanges.live ≡ [])) }
     {
         let load = Load::new(alloc, config.overload.class_start)?;
         let timers = WireTimers::new(alloc, &config)?;
@@ -157,6 +160,7 @@ impl WireCore {
         requires sound { IsSound self.old }
         ensures sound { IsSound self.new }
         ensures go { to_go self.new + (top_go self.old.agenda + stirred_at conn self.old.stirred.conns.items) ≡ to_go self.old }
+        ensures rest { self.new ≡ record self.old { agenda = self.new.agenda; stirred = self.new.stirred } }
     {
         self.end_task();
         self.stirred.remove(conn);
@@ -235,6 +239,8 @@ impl WireCore {
         ensures go { OnOk result (to_go self.new ≤ to_go self.old) }
         ensures notes { Appends notes.old notes.new }
         ensures rest { self.new ≡ record self.old { flows = self.new.flows } }
+        ensures exchanges { self.new.flows.exchanges ≡ self.old.flows.exchanges }
+        ensures told { OnOk result (notes.new ≡ notes.old ++ pauses_of conn (watchers_on conn self.new.flows)) }
     {
         self.flows.write_rose(conn);
         note_pauses(&self.flows, conn, notes)
