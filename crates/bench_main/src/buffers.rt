@@ -21,7 +21,7 @@ const ROUNDS: u64 = 256;
 const OCTETS: u64 = PIECE as u64 * PIECES_A_ROUND * ROUNDS;
 
 /// An empty buffer with room for its limit and a piece.
-pub(crate) fn ready_buffer(alloc: Global) -> Result<WatermarkBuffer, NoMemory> {
+fn ready_buffer(alloc: Global) -> Result<WatermarkBuffer, NoMemory> {
     let mut buffer = WatermarkBuffer::new(alloc, LIMIT);
     buffer.ready(PIECE)?;
     Ok(buffer)
@@ -125,7 +125,7 @@ fn copy(from: &[u8], to: &mut [u8]) {
     to[..n].copy_from_slice(&from[..n]);
 }
 
-pub(crate) fn first_octet(octets: &[u8]) -> u64 {
+fn first_octet(octets: &[u8]) -> u64 {
     octets.first().map_or(0, |octet| u64::from(*octet))
 }
 

@@ -4,12 +4,10 @@
 #![tactic(auto)]
 
 mod cases;
-mod lists;
 mod show;
 
 use crate::cases::show_cases;
-use crate::lists::show_list;
-use crate::show::{show_config, show_text};
+use crate::show::{show_config, show_list, show_text};
 use proxy_config::Config;
 use std::fs;
 use std::io::Read;

@@ -1,1 +1,2 @@
 pub mod Rigs
+pub mod Workers

@@ -1,4 +1,4 @@
-//! Measures the core of wire sessions. Run by hand with the name of a bench; without one it prints its usage.
+//! Measures the core of wire sessions, a live worker over it, and the drill. Run by hand with the name of a bench; without one it prints its usage.
 #![tactic(auto)]
 
 mod bodies;
@@ -8,12 +8,17 @@ mod drill;
 mod frames;
 mod full;
 mod gets;
+mod lines;
 mod many;
+mod quiet;
 mod rig;
+mod stage;
 mod stopwatch;
+mod turns;
 
 use bursts::Burst;
 use std::env;
+use std::sync::Wait;
 use std::time::CpuClock;
 
 const USAGE: &str = "usage: core_bench BENCH
@@ -27,6 +32,9 @@ const USAGE: &str = "usage: core_bench BENCH
   settings         a SETTINGS frame of a MiB on 10, 100 and 1,000 streams
   full N           N hundred exchanges whose buffers are full
   many C N         C connections and N thousand exchanges that come and go
+  turns            turns of a live worker beside their dispatches alone, without connections and with 10,000 idle ones
+  lines            lines of a worker's journal, beside a plain copy of their octets
+  drill            a drill from end to end, beside its octets through two buffers
 ";
 
 fn main(rt: HostRuntime) -> anyhow::Result<()> {
@@ -41,7 +49,7 @@ fn main(rt: HostRuntime) -> anyhow::Result<()> {
 }
 
 fn run(
-    rt: &(impl AllocGlobal + Print + CpuClock),
+    rt: &(impl AllocGlobal + Print + Wait + CpuClock),
     bench: &str,
     one: u32,
     two: u32,
@@ -57,6 +65,9 @@ fn run(
         "settings" => bursts::run(rt, Burst::Settings),
         "full" => full::run(rt, one),
         "many" => many::run(rt, one, two),
+        "turns" => turns::run(rt),
+        "lines" => lines::run(rt),
+        "drill" => drill::run(rt),
         _ => usage(rt),
     }
 }

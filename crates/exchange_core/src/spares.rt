@@ -13,11 +13,12 @@ use io_ports::NoMemory;
 use proxy_config::FilterList;
 use std::alloc::Global;
 
-/// The most flows that are kept.
-const MOST: usize = 64;
+/// The most flows that are kept: as many as a connection with 100 streams begins at once, and some more. With the defaults each has
+/// room for 163,840 octets in its two buffers, so that these have 42 million octets of room, of which a worker at rest holds what
+/// bodies have filled.
+const MOST: usize = 256;
 
-/// Flows of exchanges that are gone, of which nothing but the room of their buffers is used again. They are few, so that
-/// a worker at rest holds little.
+/// Flows of exchanges that are gone, of which nothing but the room of their buffers is used again.
 #[derive(Drop)]
 pub(crate) struct Spares {
     alloc: Global,

@@ -32,7 +32,6 @@ mod act;
 mod answer;
 mod chain_act;
 mod chain_stage;
-mod rows;
 mod said;
 mod script;
 mod stage;

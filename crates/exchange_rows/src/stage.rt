@@ -134,15 +134,16 @@ impl Stage {
         Answer::Doomed(self.exchanges.doom(exchange, cause, back, &mut self.gates))
     }
 
-    /// The write buffer of a connection rises, or drains and its flows are told.
-    fn write(&mut self, conn: u32, high: bool) {
+    /// The write buffer of a connection rises.
+    fn rise(&mut self, conn: u32) {
+        rise(&mut self.gates, BufferId::Write(conn));
+    }
+
+    /// The write buffer of a connection drains, and its flows are told.
+    fn drain(&mut self, conn: u32) {
         let buffer = BufferId::Write(conn);
-        if high {
-            rise(&mut self.gates, buffer);
-        } else {
-            drain(&mut self.gates, buffer);
-            tell_all(&mut self.gates, buffer);
-        }
+        drain(&mut self.gates, buffer);
+        tell_all(&mut self.gates, buffer);
     }
 
     /// A flow is told of its own buffers that drained.

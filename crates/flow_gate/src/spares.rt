@@ -5,11 +5,11 @@ use crate::gate::Gate;
 use io_ports::NoMemory;
 use std::alloc::Global;
 
-/// The most gates that are kept.
-const MOST: usize = 64;
+/// The most gates that are kept: those of two buffers of each flow that is kept elsewhere.
+const MOST: usize = 512;
 
-/// Gates of buffers that are no longer known: a buffer that comes takes the memory of one of them. They are few, so that
-/// a worker at rest holds little.
+/// Gates of buffers that are no longer known: a buffer that comes takes the memory of one of them. They are small, and few
+/// beside the buffers, so that a worker at rest holds little.
 #[derive(Drop)]
 pub(crate) struct Spares {
     gates: Vec<Gate>,

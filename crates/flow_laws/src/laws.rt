@@ -1,6 +1,7 @@
 // Laws of any setup: they are told by contracts, and do nothing.
 ghost use Rattle.tape_laws.specs.Setup.{Session};
 ghost use Rattle.flow_laws.specs.Laws.{BodiesAreSent, BoundsHold, CountsBalance, EndsOnce, HeadlineFollows, NothingIsLost, OrderIsKept, RestIsQuiet, SourcesCross, StepsAreSound};
+ghost use Rattle.flow_laws.specs.Made.{LawsApply, MadeMark, made_session};
 
 /// A kind of session: its marks, and what lawful tapes of it show. It has nothing but what is said of it.
 pub trait Kind {
@@ -63,3 +64,22 @@ pub fn headline_follows<K: Kind>()
 pub fn steps_are_sound<K: Kind>()
     ensures { StepsAreSound K.session }
 {}
+
+/// Exchanges between two connections, whose requests pass a Meter and whose responses pass a Hold.
+pub struct MadeSession;
+
+impl Kind for MadeSession {
+    ghost marks = { MadeMark };
+
+    ghost session = { made_session };
+}
+
+/// All laws apply to the made-up kind: it has its ways and limits, its tapes begin sound and go on with every kind of step, a tape
+/// of six steps is sound, and what holds of counts, octets, ends, quiet and the headline holds of its tapes.
+pub fn laws_apply()
+    ensures { LawsApply }
+{
+    rest_is_quiet::<MadeSession>();
+    headline_follows::<MadeSession>();
+    steps_are_sound::<MadeSession>();
+}

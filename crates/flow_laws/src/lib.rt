@@ -3,10 +3,8 @@
 #![tactic(auto)]
 
 mod laws;
-mod made;
 
 pub use laws::{
-    Kind, bodies_are_sent, bounds_hold, counts_balance, ends_once, headline_follows,
-    nothing_is_lost, order_is_kept, rest_is_quiet, sources_cross, steps_are_sound,
+    Kind, MadeSession, bodies_are_sent, bounds_hold, counts_balance, ends_once, headline_follows,
+    laws_apply, nothing_is_lost, order_is_kept, rest_is_quiet, sources_cross, steps_are_sound,
 };
-pub use made::{MadeSession, laws_apply};

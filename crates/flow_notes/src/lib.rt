@@ -3,7 +3,6 @@
 
 mod events;
 mod keywords;
-mod laws;
 mod names;
 mod notes;
 mod passages;
@@ -14,9 +13,8 @@ mod writing;
 const HEX_PIECE: usize = 256;
 
 pub use events::{Event, EventList, Job, PlainEvent};
-pub use laws::{one_event, one_note};
 pub use names::{NameRefusal, Names};
 pub use notes::{Cause, CloseCause, FireKind, Note, Notes};
 pub use passages::{Passage, Passages};
-pub use reading::{read_event, read_note, read_numbers};
+pub use reading::{one_event, one_note, read_event, read_note, read_numbers};
 pub use writing::{event_text, note_text};

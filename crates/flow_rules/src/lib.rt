@@ -2,8 +2,6 @@
 //! flows and what judges the notes of a session apply them each to its own flow.
 #![tactic(auto)]
 
-mod laws;
 mod unit;
 
-pub use laws::units_narrow;
-pub use unit::Unit;
+pub use unit::{Unit, units_narrow};

@@ -1,6 +1,8 @@
 // What of a flow goes next.
-ghost use Rattle.std.specs.Prelude.{◌≡◌};
-ghost use Rattle.flow_rules.specs.Narrowed.{narrowed, octets_of};
+ghost use Rattle.std.specs.Prelude.{◌≡◌, ℕ};
+ghost use Rattle.flow_rules.specs.Narrowed.{narrowed, octets_of, within};
+ghost use Rattle.flow_rules.specs.State.{FlowState};
+ghost use Rattle.flow_rules.specs.Units.{next_unit};
 
 /// What of a flow goes next into the write buffer of its connection (RFC 9113 section 8.1).
 #[derive(Clone, Copy, Debug, PartialEq, Eq)]
@@ -35,3 +37,9 @@ impl Unit {
         }
     }
 }
+
+/// The next unit where a DATA frame may carry less is the one for more, narrowed to what it may carry. So a caller that kept
+/// what goes next under one bound may frame it under a smaller one.
+pub fn units_narrow()
+    ensures { (most : ℕ) (flow : FlowState) → next_unit (within most flow) ≡ narrowed most (next_unit flow) }
+{}

@@ -1,66 +1,75 @@
 // The frames of a field block, the preface of a connection, and lists of settings.
-use crate::words::{frame_words, list_words, number, octets_of};
-use anyhow::Result;
+use crate::said::Said;
+use crate::words::{number, octets_of, say_frame, say_list};
 use h2_frames::{ReadFrame, block_frames, read_frame};
 use h2_session::{Prefaced, Session, SettingList};
-use io_ports::Octets;
-use std::alloc::Global;
+use io_ports::{NoMemory, Octets};
 
 /// `STREAM last|more HEX`: the frames in which this field block goes on a stream.
-pub fn block_words(alloc: Global, words: &str) -> Result<String> {
+pub fn say_block(said: &mut Said, words: &str) {
     let (stream, rest) = words.split_once(' ').unwrap_or((words, ""));
     let (end, word) = rest.split_once(' ').unwrap_or((rest, ""));
-    let (stream, block) = (number(stream), octets_of(alloc, word)?);
+    let stream = number(stream);
     if stream == 0 || stream >= 0x8000_0000 {
-        return Ok(String::from_str(alloc, "no stream")?);
+        said.say("no stream");
+        return;
     }
-    let mut into = Octets::new(alloc);
+    let block = octets_of(said, word);
+    let mut into = Octets::new(said.alloc());
     if block_frames(stream, end == "last", &block, &mut into).is_err() {
-        return Ok(String::from_str(alloc, "no memory")?);
+        said.lack();
     }
-    frames_words(alloc, into.as_slice())
+    say_frames(said, into.as_slice());
 }
 
 // The frames that stand one after another.
-fn frames_words(alloc: Global, octets: &[u8]) -> Result<String> {
-    let mut text = String::new(alloc);
+fn say_frames(said: &mut Said, octets: &[u8]) {
     let mut rest = octets;
     for _ in 0..octets.len() {
         let ReadFrame::Whole(frame, used) = read_frame(rest, 16_384) else {
             break;
         };
-        let frame_text = frame_words(alloc, &frame)?;
-        text.push_str(format!(in alloc; "{frame_text}; ")?.as_str())?;
+        say_frame(said, &frame);
+        said.say("; ");
         (_, rest) = rest.split_at(used as usize);
     }
-    text.push_str(format!(in alloc; "{} octets, {} left", octets.len(), rest.len())?.as_str())?;
-    Ok(text)
+    said.say_number(octets.len() as u64);
+    said.say_with(" octets, ", rest.len() as u64);
+    said.say(" left");
 }
 
 /// `HEX`: how these octets compare with the preface.
-pub fn preface_words(alloc: Global, words: &str) -> Result<String> {
-    let octets = octets_of(alloc, words)?;
-    let mut session = Session::new(alloc, false, 1, 1);
-    let word = match session.take_preface(&octets) {
+pub fn say_preface(said: &mut Said, words: &str) {
+    let octets = octets_of(said, words);
+    let mut session = Session::new(said.alloc(), false, 1, 1);
+    said.say(match session.take_preface(&octets) {
         Prefaced::Need => "need",
         Prefaced::Done => "done",
         Prefaced::Bad => "bad",
-    };
-    Ok(String::from_str(alloc, word)?)
+    });
+    drop(session);
 }
 
 /// `ID=VALUE ..`: a list of settings, made of their octets, taken apart and made again.
-pub fn settings_words(alloc: Global, words: &str) -> Result<String> {
-    let mut octets = Octets::new(alloc);
-    let empty = SettingList::from_octets(octets.copied()?).is_empty();
+pub fn say_settings(said: &mut Said, words: &str) {
+    let empty = SettingList::from_octets(Octets::new(said.alloc()));
+    said.say_truth("empty ", empty.is_empty());
+    let mut octets = Octets::new(said.alloc());
     for word in words.split(' ') {
-        let (id, value) = word.split_once('=').unwrap_or((word, "0"));
-        let id = (number(id) % 65_536) as u16;
-        octets.push_all(&id.to_be_bytes())?;
-        octets.push_all(&number(value).to_be_bytes())?;
+        if push_setting(&mut octets, word).is_err() {
+            said.lack();
+        }
     }
     let list = SettingList::from_octets(octets);
     let again = SettingList::from_octets(list.into_octets());
-    let text = list_words(alloc, &again)?;
-    Ok(format!(in alloc; "empty {empty}, then {}: {text}", again.len())?)
+    said.say_with(", then ", again.len() as u64);
+    said.say(": ");
+    say_list(said, &again);
+}
+
+fn push_setting(octets: &mut Octets, word: &str) -> Result<(), NoMemory> {
+    let (id, value) = word.split_once('=').unwrap_or((word, "0"));
+    let id = (number(id) % 65_536) as u16;
+    octets.push_all(&id.to_be_bytes())?;
+    octets.push_all(&number(value).to_be_bytes())
 }

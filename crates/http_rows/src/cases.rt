@@ -1,11 +1,13 @@
 // One line of the input.
-use crate::blocks::{block_words, preface_words, settings_words};
-use crate::connections::connection_words;
-use crate::frames::{data_words, head_words, read_words};
-use crate::streams::many_words;
-use crate::windows::{receive_words, send_words};
+use crate::blocks::{say_block, say_preface, say_settings};
+use crate::connections::say_connection;
+use crate::field_blocks::{say_again, say_cuts, say_decoded, say_encoded};
+use crate::frames::{say_data_head, say_head, say_read};
+use crate::heads::{say_length, say_reply, say_request, say_response, say_trailers};
+use crate::said::Said;
+use crate::streams::say_many;
+use crate::windows::{say_receive, say_send};
 use anyhow::Result;
-use std::alloc::Global;
 
 /// Prints a heading, or a case and what it gives.
 pub fn show_line<R: Print + AllocGlobal>(rt: &R, line: &str) -> Result<()> {
@@ -13,29 +15,47 @@ pub fn show_line<R: Print + AllocGlobal>(rt: &R, line: &str) -> Result<()> {
     if line.is_empty() || (line.starts_with("#") && !heading) {
         return Ok(());
     }
-    println!(rt; "{line}")?;
+    let mut said = Said::new(rt.alloc());
+    said.line(line);
     if !heading {
-        let given = case_words(rt.alloc(), line)?;
-        println!(rt; "  {}", given.as_str())?;
+        say_case(&mut said, line);
     }
-    Ok(())
+    said.print(rt)
 }
 
 // What a case gives, by its first word.
-fn case_words(alloc: Global, line: &str) -> Result<String> {
+fn say_case(said: &mut Said, line: &str) {
     let (kind, words) = line.split_once(' ').unwrap_or((line, ""));
     match kind {
-        "read" => read_words(alloc, words),
-        "head" => head_words(alloc, words),
-        "data" => data_words(alloc, words),
-        "block" => block_words(alloc, words),
-        "settings" => settings_words(alloc, words),
-        "preface" => preface_words(alloc, words),
-        "client" => connection_words(alloc, false, words),
-        "cluster" => connection_words(alloc, true, words),
-        "many" => many_words(alloc, words),
-        "receive" => receive_words(alloc, words),
-        "send" => send_words(alloc, words),
-        _ => Ok(String::from_str(alloc, "no such case")?),
+        "decode" => say_decoded(said, words),
+        "cuts" => say_cuts(said, words),
+        "encode" => say_encoded(said, words),
+        "again" => say_again(said, words),
+        "request" => say_request(said, words),
+        "response" => say_response(said, words),
+        "trailers" => say_trailers(said, words),
+        "length" => say_length(said, words),
+        "reply" => say_reply(said, words),
+        _ => say_line(said, kind, words),
     }
+}
+
+// What a case gives that gives one line.
+fn say_line(said: &mut Said, kind: &str, words: &str) {
+    said.say("  ");
+    match kind {
+        "read" => say_read(said, words),
+        "head" => say_head(said, words),
+        "data" => say_data_head(said, words),
+        "block" => say_block(said, words),
+        "settings" => say_settings(said, words),
+        "preface" => say_preface(said, words),
+        "client" => say_connection(said, false, words),
+        "cluster" => say_connection(said, true, words),
+        "many" => say_many(said, words),
+        "receive" => say_receive(said, words),
+        "send" => say_send(said, words),
+        _ => said.say("no such case"),
+    }
+    said.say("\n");
 }

@@ -1,6 +1,6 @@
 // What each frame on a connection gives, and what this side does with its streams.
-use crate::words::{act_words, number, octets_of};
-use anyhow::Result;
+use crate::said::Said;
+use crate::words::{number, octets_of, say_act};
 use h2_frames::{ReadFrame, read_frame};
 use h2_session::Session;
 use std::alloc::Global;
@@ -9,25 +9,21 @@ use std::alloc::Global;
 /// that many empty DATA frames may come in a row, and what its words give; then how many streams
 /// are open, and the number of a GOAWAY. A session is dropped by a call, since the check follows a
 /// drop without one field by field.
-pub fn connection_words(alloc: Global, client_side: bool, words: &str) -> Result<String> {
+pub fn say_connection(said: &mut Said, client_side: bool, words: &str) {
     let (streams, rest) = words.split_once(' ').unwrap_or((words, ""));
     let (empty, script) = rest.split_once(' ').unwrap_or((rest, ""));
-    let mut session = Session::new(alloc, client_side, number(streams), number(empty));
-    let text = script_words(alloc, &mut session, script);
+    let mut session = Session::new(said.alloc(), client_side, number(streams), number(empty));
+    say_script(said, &mut session, script);
     drop(session);
-    text
 }
 
 // What the words give, and what stands then.
-fn script_words(alloc: Global, session: &mut Session, script: &str) -> Result<String> {
-    let mut text = String::new(alloc);
+fn say_script(said: &mut Said, session: &mut Session, script: &str) {
     for word in script.split(' ') {
-        let given = step(alloc, session, word)?;
-        text.push_str(given.as_str())?;
+        step(said, session, word);
     }
-    let (open, greatest) = (session.streams(), session.greatest());
-    text.push_str(format!(in alloc; "= {open}, greatest {greatest}")?.as_str())?;
-    Ok(text)
+    said.say_small("= ", session.streams());
+    said.say_small(", greatest ", session.greatest());
 }
 
 // The stream that a word names behind a prefix.
@@ -36,59 +32,75 @@ fn stream_behind(word: &str, prefix: &str) -> Option<u32> {
 }
 
 // Takes one word, and tells what it gives, if anything.
-fn step(alloc: Global, session: &mut Session, word: &str) -> Result<String> {
+fn step(said: &mut Said, session: &mut Session, word: &str) {
     if word == "open" {
-        return open_words(alloc, session);
-    }
-    if let Some(stream) = stream_behind(word, "is_open:") {
-        let open = session.is_open(stream);
-        return Ok(format!(in alloc; "{open}; ")?);
-    }
-    if let Some(stream) = stream_behind(word, "end:") {
+        say_open(said, session);
+    } else if let Some(stream) = stream_behind(word, "is_open:") {
+        said.say_truth("", session.is_open(stream));
+        said.say("; ");
+    } else if let Some(stream) = stream_behind(word, "end:") {
         session.end_local(stream);
     } else if let Some(stream) = stream_behind(word, "close:") {
         session.close_stream(stream);
     } else if let Some(stream) = stream_behind(word, "interim:") {
         session.interim(stream);
     } else {
-        return frame_step(alloc, session, word);
+        say_step(said, session, word);
     }
-    Ok(String::new(alloc))
 }
 
-fn open_words(alloc: Global, session: &mut Session) -> Result<String> {
-    let text = match session.open_stream() {
-        Ok(Some(stream)) => format!(in alloc; "opened {stream}; ")?,
-        Ok(None) => String::from_str(alloc, "none left; ")?,
-        Err(_) => String::from_str(alloc, "no memory; ")?,
-    };
-    Ok(text)
+fn say_open(said: &mut Said, session: &mut Session) {
+    match session.open_stream() {
+        Ok(Some(stream)) => said.say_small("opened ", stream),
+        Ok(None) => said.say("none left"),
+        Err(_) => said.say("no memory"),
+    }
+    said.say("; ");
 }
 
 // `HEX`, or `HEX*N` for a frame that comes N times.
-fn frame_step(alloc: Global, session: &mut Session, word: &str) -> Result<String> {
+fn say_step(said: &mut Said, session: &mut Session, word: &str) {
     let (spelled, times) = word.split_once('*').unwrap_or((word, "1"));
-    let octets = octets_of(alloc, spelled)?;
-    let first = given(alloc, session, &octets)?;
+    let octets = octets_of(said, spelled);
+    let mut first = Said::new(said.alloc());
+    say_given(&mut first, session, &octets);
+    let same = same_again(said.alloc(), session, &octets, first.text(), number(times));
+    if same > 1 {
+        said.say_small("", same);
+        said.say(" times ");
+    }
+    said.say_all(&first);
+    said.say("; ");
+}
+
+// How many of so many times a frame gave what it gave first.
+fn same_again(alloc: Global, session: &mut Session, octets: &[u8], first: &str, times: u32) -> u32 {
     let mut same = 1u32;
-    for _ in 1..number(times) {
-        if given(alloc, session, &octets)? == first {
+    for _ in 1..times {
+        if gives(alloc, session, octets, first) {
             same = same.saturating_add(1);
         }
     }
-    if same > 1 {
-        return Ok(format!(in alloc; "{same} times {}; ", first.as_str())?);
-    }
-    Ok(format!(in alloc; "{}; ", first.as_str())?)
+    same
+}
+
+fn gives(alloc: Global, session: &mut Session, octets: &[u8], text: &str) -> bool {
+    let mut said = Said::new(alloc);
+    say_given(&mut said, session, octets);
+    said.text() == text
 }
 
 // What one frame gives.
-fn given(alloc: Global, session: &mut Session, octets: &[u8]) -> Result<String> {
+fn say_given(said: &mut Said, session: &mut Session, octets: &[u8]) {
     let ReadFrame::Whole(frame, _) = read_frame(octets, 100_000) else {
-        return Ok(String::from_str(alloc, "no frame")?);
+        said.say("no frame");
+        return;
     };
     match session.accept(&frame) {
-        Ok(act) => Ok(act_words(alloc, &act)?),
-        Err(_) => Ok(String::from_str(alloc, "no memory")?),
+        Ok(act) => {
+            say_act(said, &act);
+            drop(act);
+        }
+        Err(_) => said.say("no memory"),
     }
 }

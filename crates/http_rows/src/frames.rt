@@ -1,59 +1,62 @@
 // One frame: read and written again, and the nine octets of a head.
-use crate::words::{frame_words, number, octets_of, shown};
-use anyhow::Result;
+use crate::said::Said;
+use crate::words::{number, octets_of, say_frame, say_shown};
 use h2_frames::{FrameFault, ReadFrame, data_head, frame_head, read_frame, write_frame};
 use io_ports::Octets;
-use std::alloc::{AllocError, Global};
 
 /// `MAX HEX`: what is read from these octets, where MAX is the greatest payload.
-pub fn read_words(alloc: Global, words: &str) -> Result<String> {
+pub fn say_read(said: &mut Said, words: &str) {
     let (max, word) = words.split_once(' ').unwrap_or((words, ""));
-    let octets = octets_of(alloc, word)?;
+    let octets = octets_of(said, word);
     match read_frame(&octets, number(max)) {
-        ReadFrame::Need => Ok(String::from_str(alloc, "need")?),
-        ReadFrame::Bad(fault) => Ok(fault_words(alloc, fault)?),
+        ReadFrame::Need => said.say("need"),
+        ReadFrame::Bad(fault) => say_fault(said, fault),
         ReadFrame::Whole(frame, used) => {
-            let (frame_text, content) = (frame_words(alloc, &frame)?, frame.content());
-            let mut into = Octets::new(alloc);
+            say_frame(said, &frame);
+            said.say_small("; used ", used);
+            said.say_small(", content ", frame.content());
+            let mut into = Octets::new(said.alloc());
             if write_frame(&frame, &mut into).is_err() {
-                return Ok(String::from_str(alloc, "no memory")?);
+                said.lack();
             }
-            let written = shown(alloc, into.as_slice())?;
-            Ok(format!(in alloc; "{frame_text}; used {used}, content {content}; {written}")?)
+            said.say("; ");
+            say_shown(said, into.as_slice());
         }
     }
 }
 
-fn fault_words(alloc: Global, fault: FrameFault) -> Result<String, AllocError> {
-    let word = match fault {
-        FrameFault::TooLong => "TooLong",
-        FrameFault::BadStream => "BadStream",
-        FrameFault::BadSize => "BadSize",
-        FrameFault::BadPadding => "BadPadding",
-    };
-    format!(in alloc; "bad {word}, code {}", fault.code())
+fn say_fault(said: &mut Said, fault: FrameFault) {
+    said.say(match fault {
+        FrameFault::TooLong => "bad TooLong",
+        FrameFault::BadStream => "bad BadStream",
+        FrameFault::BadSize => "bad BadSize",
+        FrameFault::BadPadding => "bad BadPadding",
+    });
+    said.say_small(", code ", fault.code());
 }
 
 /// `LEN TYPE FLAGS STREAM`: the nine octets of a frame's head.
-pub fn head_words(alloc: Global, words: &str) -> Result<String> {
+pub fn say_head(said: &mut Said, words: &str) {
     let mut numbers = words.split(' ').map(number);
     let len = numbers.next().unwrap_or(0);
     let kind = (numbers.next().unwrap_or(0) % 256) as u8;
     let flags = (numbers.next().unwrap_or(0) % 256) as u8;
     let stream = numbers.next().unwrap_or(0);
     if len >= 0x100_0000 || stream >= 0x8000_0000 {
-        return Ok(String::from_str(alloc, "no head")?);
+        said.say("no head");
+        return;
     }
-    Ok(shown(alloc, &frame_head(len, kind, flags, stream))?)
+    say_shown(said, &frame_head(len, kind, flags, stream));
 }
 
 /// `STREAM N last|more`: the nine octets of the head of a DATA frame with N octets.
-pub fn data_words(alloc: Global, words: &str) -> Result<String> {
+pub fn say_data_head(said: &mut Said, words: &str) {
     let (stream, rest) = words.split_once(' ').unwrap_or((words, ""));
     let (n, end) = rest.split_once(' ').unwrap_or((rest, ""));
     let n = number(n);
     if n >= 0x100_0000 {
-        return Ok(String::from_str(alloc, "no head")?);
+        said.say("no head");
+        return;
     }
-    Ok(shown(alloc, &data_head(number(stream), n, end == "last"))?)
+    say_shown(said, &data_head(number(stream), n, end == "last"));
 }

@@ -1,11 +1,15 @@
-//! Prints what frames, connections and windows of HTTP/2 give in each case of standard input. The
-//! head of `stdin` says how a case is written.
+//! Prints what frames, connections and windows of HTTP/2, field blocks and lists of fields give in each
+//! case of standard input. The head of `stdin` says how a case is written.
 #![tactic(auto)]
 
 mod blocks;
 mod cases;
 mod connections;
+mod field_blocks;
+mod field_words;
 mod frames;
+mod heads;
+mod said;
 mod streams;
 mod windows;
 mod words;

@@ -1,24 +1,24 @@
 // Many streams, one after another.
+use crate::said::Said;
 use crate::words::number;
-use anyhow::Result;
 use h2_frames::{ReadFrame, frame_head, read_frame};
 use h2_session::{Act, Session};
-use std::alloc::Global;
 
 /// `client N`: a client opens N streams with heads that end them, and this side ends each before
 /// the next. `cluster N`: this side opens N streams, and closes each before the next. Tells how many
 /// were opened so, how many are open then, and the number of a GOAWAY.
-pub fn many_words(alloc: Global, words: &str) -> Result<String> {
+pub fn say_many(said: &mut Said, words: &str) {
     let (kind, n) = words.split_once(' ').unwrap_or((words, ""));
-    let mut session = Session::new(alloc, kind == "cluster", 1, 1);
+    let mut session = Session::new(said.alloc(), kind == "cluster", 1, 1);
     let opened = if kind == "cluster" {
         open_many(&mut session, number(n))
     } else {
         take_many(&mut session, number(n))
     };
-    let (open, greatest) = (session.streams(), session.greatest());
+    said.say_small("opened ", opened);
+    said.say_small(" = ", session.streams());
+    said.say_small(", greatest ", session.greatest());
     drop(session);
-    Ok(format!(in alloc; "opened {opened} = {open}, greatest {greatest}")?)
 }
 
 fn open_many(session: &mut Session, n: u32) -> u32 {

@@ -1,6 +1,6 @@
 // The decoder of a string.
-ghost use Rattle.std.specs.Prelude.{◌≡◌, ◌<◌, ◌++◌, [], length, IfOk, IfErr};
-ghost use Rattle.huffman.specs.Huffman.{bits, octet_bits, IsHuffman};
+ghost use Rattle.std.specs.Prelude.{◌≡◌, ◌<◌, ◌++◌, [], length, IfOk, IfErr, ◌^◌, List, sum_by, ℕ};
+ghost use Rattle.huffman.specs.Huffman.{bits, octet_bits, IsHuffman, symbols, width};
 ghost use Rattle.huffman.specs.Reading.{Reads};
 ghost use Rattle.huffman.specs.Refusal.{Refuses};
 
@@ -80,3 +80,13 @@ pub fn decode(alloc: Global, octets: &[u8]) -> Result<Octets, HuffmanFault>
     read_last(octets, waiting.held, waiting.have, &mut out)?;
     Ok(Octets::from_vec(out))
 }
+
+/// The codes fill the numbers of 30 bits exactly: each begins with the code of one symbol.
+pub fn codes_fill()
+    ensures { sum_by (λ e. width e.1) symbols ≡ 2 ^ 30 }
+{}
+
+/// No octets are the Huffman strings of two texts.
+pub fn one_reading()
+    ensures { (octets text other : List ℕ) → IsHuffman octets text → IsHuffman octets other → text ≡ other }
+{}

@@ -3,11 +3,9 @@
 
 mod decoder;
 mod fault;
-mod laws;
 mod lookup;
 mod tables;
 mod waiting;
 
-pub use decoder::decode;
+pub use decoder::{codes_fill, decode, one_reading};
 pub use fault::HuffmanFault;
-pub use laws::{codes_fill, one_reading};

@@ -6,7 +6,7 @@ use io_ports::NoMemory;
 use std::alloc::Global;
 
 /// The most boxes that are kept.
-const MOST: usize = 64;
+const MOST: usize = 256;
 
 /// Boxes that hold nothing: a node that comes takes one of them, and so no memory. They are few, so that lists that were
 /// long once hold little.

@@ -36,6 +36,8 @@ pub struct Case {
     pub sample: Vec<u32>,
     pub gauge: Vec<u32>,
     pub readings: Vec<u64>,
+    /// Whether two workers meet, in place of what else is said.
+    pub meets: bool,
 }
 
 impl Case {
@@ -56,6 +58,7 @@ impl Case {
             sample: Vec::new(alloc),
             gauge: Vec::new(alloc),
             readings: Vec::new(alloc),
+            meets: false,
         }
     }
 
@@ -94,6 +97,10 @@ impl Case {
             "gauge" => push_all(&mut self.gauge, words),
             "again" => {
                 self.runs = self.runs.saturating_add(1);
+                Ok(())
+            }
+            "meet" => {
+                self.meets = true;
                 Ok(())
             }
             _ => self.happen(line),

@@ -1,6 +1,6 @@
-//! Runs live workers over memory, one case of standard input after another, and prints how each ends: the turns at which its gate
-//! was passed, its journal, how many dispatches and notes there were, what the connections gave, were offered and were closed, how
-//! many permits are kept, and with which status and how many notes the journal replays.
+//! Runs live workers, and live relays, over memory, one case of standard input after another, and prints how each ends: of a worker
+//! the turns at which its gate was passed, its journal, how many dispatches and notes there were, what the connections gave, were
+//! offered and were closed, how many permits are kept, and with which status and how many notes the journal replays.
 //!
 //! A case begins with a line `## NAME`. Lines `| TEXT` are the configuration's. A line `$ TURNS MOST PERMITS` has how many turns
 //! there are, how many octets an offer takes at most, and how many permits; `% tokens N` meters the client connections with N
@@ -12,12 +12,29 @@
 //! what was published last, since the publisher ends before the work begins, and what a follower hasn't read by then it could only
 //! wait for. A line `again` runs the turns once more over what stands.
 //!
+//! A case with a line `meet` runs two workers in threads of their own, each of which waits at a turn for the other, and prints of
+//! each whether it met the other and ran all its turns.
+//!
+//! A case whose first line is `relay` runs a live relay, and prints how it ends: its journal, what the connections gave, were offered
+//! and were closed, and which of them are live and held. A line `$ LIMIT MOST TURNS` has the limit of the write buffers, how many
+//! octets an offer takes at most, and how many turns there are. Lines `% taps K` and `% journal K` say that this call of the
+//! connections, or this write of the journal, counted from 0, fails. The other lines are what the connections give: `accept C`,
+//! `join C N`, `read C OCTET LENGTH`, `lost C`, `idle` and `stop`. A line `again` runs the turns once more over what stands. With a
+//! line `dispatch` there are no turns: what the connections give is dispatched, one after another, and the text of each fault that a
+//! dispatch answers is printed behind it. Then come the texts of the faults in lines `fault paused N`, `fault memory` and `fault failed`.
+//!
 //! A case with a line `sample P ..` samples these pressures from a gauge that has those of a line `gauge P ..`, and whose readings
 //! `% gauge K` fail.
 #![tactic(auto)]
 
 mod case;
+mod gates;
+mod meeting;
+mod parts;
 mod points;
+mod relay_case;
+mod relay_faults;
+mod relay_show;
 mod run;
 mod said;
 mod sampling;
@@ -26,10 +43,12 @@ mod show;
 mod stage;
 
 use crate::case::Case;
+use crate::relay_show::show_relay;
 use crate::run::run_case;
 use crate::said::Said;
 use std::io::{self, Read};
 use std::sync::Wait;
+use std::thread::Threads;
 
 fn main(rt: HostRuntime) -> io::Result<()> {
     let mut text = Vec::new(rt.alloc());
@@ -42,16 +61,30 @@ fn main(rt: HostRuntime) -> io::Result<()> {
 }
 
 // Runs the case of this text, and prints how it ends.
-fn show_case<R: Print + AllocGlobal + Wait>(rt: &R, text: &str) -> io::Result<()> {
+fn show_case<R: Print + AllocGlobal + Threads + Wait + Sync>(rt: &R, text: &str) -> io::Result<()> {
+    let (name, lines) = text.split_once('\n').unwrap_or((text, ""));
+    match lines.strip_prefix("relay\n") {
+        Some(lines) => {
+            println!(rt; "## {name}")?;
+            show_relay(rt, lines)
+        }
+        None => show_worker(rt, name, lines),
+    }
+}
+
+fn show_worker<R: Print + AllocGlobal + Threads + Wait + Sync>(
+    rt: &R,
+    name: &str,
+    lines: &str,
+) -> io::Result<()> {
     let mut said = Said::new(rt.alloc());
-    say_case(rt, text, &mut said);
+    said.say("## ");
+    said.line(name);
+    say_case(rt, lines, &mut said);
     said.print(rt)
 }
 
-fn say_case<R: AllocGlobal + Wait>(rt: &R, text: &str, said: &mut Said) {
-    let (name, lines) = text.split_once('\n').unwrap_or((text, ""));
-    said.say("## ");
-    said.line(name);
+fn say_case<R: AllocGlobal + Threads + Wait + Sync>(rt: &R, lines: &str, said: &mut Said) {
     let mut case = Case::new(rt.alloc());
     match case.read(lines) {
         Ok(()) => run_case(rt, &mut case, said),

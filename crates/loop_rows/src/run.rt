@@ -6,9 +6,10 @@ ghost use Rattle.shared_tokens.specs.Seats.{IsSeatOf};
 ghost use Rattle.std.specs.Prelude.{◌≡◌, ◌≢◌, IfOk, length, true};
 ghost use Rattle.worker_core.specs.Sessions.{RestsWire};
 ghost use Rattle.worker_loop.specs.Keeping.{Holds};
-ghost use Rattle.worker_loop.specs.declared.ended.Ended.TheVariants as end;
+ghost use Rattle.worker_loop.specs.declared.turns.Ended.TheVariants as end;
 
 use crate::case::Case;
+use crate::meeting::say_meeting;
 use crate::points::Points;
 use crate::said::Said;
 use crate::sampling::say_sample;
@@ -23,6 +24,7 @@ use session_config::names_of;
 use shared_tokens::{Bucket, TokenSeat};
 use std::alloc::Global;
 use std::sync::Wait;
+use std::thread::Threads;
 use worker_core::Core;
 use worker_loop::{Ended, HeldPermits, begin_journal, work};
 use worker_ports::Wires;
@@ -31,7 +33,11 @@ use worker_ports::Wires;
 const MOST_TOKENS: u64 = 1 << 40;
 
 /// Runs a case, and says how it ends.
-pub fn run_case<R: AllocGlobal + Wait>(rt: &R, case: &mut Case, said: &mut Said) {
+pub fn run_case<R: AllocGlobal + Threads + Wait + Sync>(rt: &R, case: &mut Case, said: &mut Said) {
+    if case.meets {
+        say_meeting(rt, said);
+        return;
+    }
     if !case.sample.is_empty() {
         say_sample(rt.alloc(), case, said);
         return;

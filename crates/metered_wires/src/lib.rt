@@ -1,7 +1,6 @@
 //! Connections of a worker that come at the rate at which tokens are put into a bucket.
 #![tactic(auto)]
 
-mod metered;
 mod metering;
 
-pub use metered::MeteredWires;
+pub use metering::MeteredWires;

@@ -8,10 +8,22 @@ ghost use Rattle.shared_tokens.specs.Seats.{IsSeatOf, known_of};
 ghost use Rattle.worker_ports.specs.Wires.{Gives, closed, is_live, offered};
 ghost use Rattle.worker_ports.specs.declared.wires.WireRefusal.TheVariants as refusal;
 
-use crate::metered::MeteredWires;
 use io_ports::Failed;
 use shared_tokens::{Bucket, NoToken, TokenSeat};
 use worker_ports::{WireRefusal, Wired, Wires};
+
+/// Connections of which a client's comes only where a token is there for it. They don't tell what was done.
+#[derive(Drop)]
+pub struct MeteredWires<'a, W: Wires> {
+    pub(crate) inner: W,
+    pub(crate) bucket: &'a Bucket,
+    pub(crate) seat: TokenSeat,
+    /// The greatest number that was given.
+    pub(crate) greatest: u32,
+    ghost seat_of: { IsSeatOf bucket.now seat },
+    ghost rising: { IsRising (W.seen inner) },
+    ghost below: { greatest ≤ (W.seen inner).greatest },
+}
 
 impl<'a, W: Wires> MeteredWires<'a, W> {
     /// Of these connections, each client's takes a token. None has been given yet.

@@ -11,7 +11,7 @@ use Rattle.std.specs.Prelude.{Bool, None, Option, Some, [], drop, false, if◌th
 use Rattle.plain_laws.specs.Words.{Past}
 use Rattle.tape_laws.specs.Dispatches.{is_some_of}
 use Rattle.tape_laws.specs.Flows.{request, same_flow}
-use Rattle.tape_laws.specs.declared.limits.PlainLimits.{PlainLimits}
+use Rattle.tape_laws.specs.declared.PlainLimits.{PlainLimits}
 use Rattle.plain_core.specs.Agenda.{Agenda, after_frame, after_move, is_drain_of, is_rounded, is_run_of, is_telling, with_drain, with_run}
 use Rattle.plain_core.specs.Measure.{weight}
 use Rattle.plain_core.specs.Progress.{EndedHere, HasReason, Pairs, will_doom}

@@ -16,7 +16,7 @@ use Rattle.tape_laws.specs.Dispatches.{events_back, has, live, started}
 use Rattle.tape_laws.specs.Following.{MayFollowEvent, may_follow}
 use Rattle.tape_laws.specs.History.{onto}
 use Rattle.tape_laws.specs.PlainSession.{plain_must_end}
-use Rattle.tape_laws.specs.declared.limits.PlainLimits.{PlainLimits}
+use Rattle.tape_laws.specs.declared.PlainLimits.{PlainLimits}
 use Rattle.plain_core.proofs.EventOpens.{IsOpened, good_of, pairs_kept, turn_number, underway_round}
 use Rattle.plain_core.proofs.Fronts.{NoTurn, Opened}
 use Rattle.plain_core.proofs.Rested.{at_rest, may_not, may_same, rest_still, rest_unended}

@@ -15,7 +15,7 @@ use Rattle.tape_laws.specs.Flows.{request, same_flow}
 use Rattle.tape_laws.specs.Following.{MayFollowEvent}
 use Rattle.tape_laws.specs.History.{Noted}
 use Rattle.tape_laws.specs.Plain.{plain_ended}
-use Rattle.tape_laws.specs.declared.limits.PlainLimits.{PlainLimits}
+use Rattle.tape_laws.specs.declared.PlainLimits.{PlainLimits}
 use Rattle.plain_core.proofs.EventOpens.{IsOpened, good_of, pairs_kept, turn_number, underway_of, underway_round}
 use Rattle.plain_core.proofs.Fronts.{Opened}
 use Rattle.plain_core.proofs.Rested.{at_rest, may_same, rest_still, rest_unended}

@@ -13,7 +13,7 @@ use Rattle.tape_laws.specs.Dispatches.{has, is_some_of, turns}
 use Rattle.tape_laws.specs.Flows.{request}
 use Rattle.tape_laws.specs.Plain.{paired_with}
 use Rattle.tape_laws.specs.PlainSession.{plain_must_end}
-use Rattle.tape_laws.specs.declared.limits.PlainLimits.{PlainLimits}
+use Rattle.tape_laws.specs.declared.PlainLimits.{PlainLimits}
 use Rattle.plain_core.specs.Agenda.{Agenda, is_rounded, is_run_of, is_telling, with_run}
 use Rattle.plain_core.specs.Carries.{Lives, may_move}
 use Rattle.plain_core.specs.Flows.{FlowsStand}

@@ -26,7 +26,7 @@ use Rattle.flow_rules.specs.declared.unit.Unit.TheVariants.{Body as BodyUnit, No
 use Rattle.tape_laws.specs.Flows.{request}
 use Rattle.tape_laws.specs.Pauses.{count}
 use Rattle.tape_laws.specs.Plain.{plain_ended}
-use Rattle.tape_laws.specs.declared.limits.PlainLimits.{PlainLimits}
+use Rattle.tape_laws.specs.declared.PlainLimits.{PlainLimits}
 use Rattle.plain_core.specs.Carries.{Begins}
 use Rattle.plain_core.specs.Flows.{ConnectionIs, ExchangesAre, GatesAre, IsSettled, Settled, StreamIs, next_piece, piece_of}
 use Rattle.plain_core.specs.declared.conn.Connection.{Connection}

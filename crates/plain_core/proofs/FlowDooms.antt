@@ -24,7 +24,7 @@ use Rattle.plain_laws.specs.Words.{Past, Alive, conn_lows, lows_of, send_high, t
 use Rattle.tape_laws.specs.Dispatches.{has, live, started}
 use Rattle.tape_laws.specs.Flows.{request, same_flow}
 use Rattle.tape_laws.specs.History.{Noted}
-use Rattle.tape_laws.specs.declared.limits.PlainLimits.{PlainLimits}
+use Rattle.tape_laws.specs.declared.PlainLimits.{PlainLimits}
 use Rattle.plain_core.specs.Carries.{Dooms, Lives}
 use Rattle.plain_core.specs.Flows.{ConnectionIs, ExchangesAre, FlowsStand, GatesAre, HoldingIs, IsSettled}
 use Rattle.plain_core.specs.declared.conn.Connection.{Connection}

@@ -22,7 +22,7 @@ use Rattle.plain_laws.specs.Words.{Past, Alive, end_out, past_body, send_high, t
 use Rattle.tape_laws.specs.Flows.{request}
 use Rattle.tape_laws.specs.History.{NoMark, Step}
 use Rattle.tape_laws.specs.Plain.{plain_ended}
-use Rattle.tape_laws.specs.declared.limits.PlainLimits.{PlainLimits}
+use Rattle.tape_laws.specs.declared.PlainLimits.{PlainLimits}
 use Rattle.plain_core.specs.Carries.{GoesOn}
 use Rattle.plain_core.specs.Flows.{ExchangesAre, FlowsStand, Settled, StreamIs, next_piece, piece_of}
 use Rattle.plain_core.specs.UnitsOf.{piece_at}

@@ -15,7 +15,7 @@ use Rattle.std.specs.Prelude.{Bool, IsSome, List, None, Option, Some, false, ifâ
 use Rattle.plain_laws.specs.Words.{Past, recv_at}
 use Rattle.tape_laws.specs.Dispatches.{has, live}
 use Rattle.tape_laws.specs.Flows.{request}
-use Rattle.tape_laws.specs.declared.limits.PlainLimits.{PlainLimits}
+use Rattle.tape_laws.specs.declared.PlainLimits.{PlainLimits}
 use Rattle.plain_core.proofs.FlowEvents.{arrives}
 use Rattle.plain_core.specs.Carries.{Arrives, Fits, GoesOn, Lives, Receives, ReceivesAs}
 use Rattle.plain_core.specs.Flows.{StreamIs}

@@ -8,7 +8,7 @@ use Rattle.std.specs.Ordering.{nat_cmp}
 use Rattle.std.specs.Prelude.{None, [], false, ℕ, ◌≡◌}
 use Rattle.tape_laws.specs.Dispatches.{live}
 use Rattle.tape_laws.specs.Flows.{request}
-use Rattle.tape_laws.specs.declared.limits.PlainLimits.{PlainLimits}
+use Rattle.tape_laws.specs.declared.PlainLimits.{PlainLimits}
 use Rattle.plain_core.specs.Flows.{AreLimits, ConnectionIs, ExchangesAre, FlowsStand, GatesAre}
 use Rattle.plain_core.specs.declared.conn.Connection.{Connection}
 use Rattle.flow_gate.specs.declared.ids.BufferId.TheVariants as buffer

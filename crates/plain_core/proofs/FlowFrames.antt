@@ -33,7 +33,7 @@ use Rattle.flow_rules.specs.declared.unit.Unit.TheVariants.{Body as BodyUnit}
 use Rattle.tape_laws.specs.Flows.{request}
 use Rattle.tape_laws.specs.History.{NoMark, Step}
 use Rattle.tape_laws.specs.Plain.{plain_ended}
-use Rattle.tape_laws.specs.declared.limits.PlainLimits.{PlainLimits}
+use Rattle.tape_laws.specs.declared.PlainLimits.{PlainLimits}
 use Rattle.wm_buffer.specs.Buffer.{AppendsOctets, Buffer}
 use Rattle.wm_buffer.specs.Watermark.{above_after, crossing}
 use Rattle.wm_buffer.specs.declared.buffer.Shifted.{Shifted}

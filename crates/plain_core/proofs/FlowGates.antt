@@ -11,7 +11,7 @@ use Rattle.tape_laws.specs.Flows.{request}
 use Rattle.tape_laws.specs.Pauses.{count}
 use Rattle.tape_laws.specs.Plain.{plain_setup}
 use Rattle.tape_laws.specs.Sources.{is_live}
-use Rattle.tape_laws.specs.declared.limits.PlainLimits.{PlainLimits}
+use Rattle.tape_laws.specs.declared.PlainLimits.{PlainLimits}
 use Rattle.plain_core.specs.Flows.{GatesAre}
 use Rattle.flow_gate.specs.declared.ids.BufferId.TheVariants as buffer
 

@@ -15,7 +15,7 @@ use Rattle.std.specs.Ordering.{nat_cmp}
 use Rattle.std.specs.Prelude.{Bool, List, false, length, min, nat_lt, not, true, ℕ, ◌&&◌, ◌++◌, ◌+◌, ◌-◌, ◌<◌, ◌==◌, ◌||◌, ◌≡◌}
 use Rattle.plain_laws.specs.Words.{Past, Alive, past_begin, past_body, past_move, recv_at}
 use Rattle.tape_laws.specs.Dispatches.{has, live}
-use Rattle.tape_laws.specs.declared.limits.PlainLimits.{PlainLimits}
+use Rattle.tape_laws.specs.declared.PlainLimits.{PlainLimits}
 use Rattle.plain_core.specs.Flows.{HoldingIs, StreamIs}
 use Rattle.plain_core.specs.UnitsOf.{is_emptied}
 use Rattle.plain_core.specs.declared.flows.Flows.{Flows}

@@ -13,7 +13,7 @@ use Rattle.plain_laws.specs.Words.{Past, conn_drains, conn_high, conn_lows, conn
 use Rattle.tape_laws.specs.Dispatches.{live}
 use Rattle.tape_laws.specs.Flows.{request}
 use Rattle.tape_laws.specs.History.{NoMark, Noted, Step, onto}
-use Rattle.tape_laws.specs.declared.limits.PlainLimits.{PlainLimits}
+use Rattle.tape_laws.specs.declared.PlainLimits.{PlainLimits}
 use Rattle.wm_buffer.specs.Buffer.{Buffer, DropsOctets}
 use Rattle.wm_buffer.specs.Watermark.{above_after}
 use Rattle.plain_core.specs.Carries.{Leaves}

@@ -12,7 +12,7 @@ use Rattle.tape_laws.specs.Flows.{request}
 use Rattle.flow_rules.specs.Units.{is_unit}
 use Rattle.tape_laws.specs.Order.{Flows as FlowsNext}
 use Rattle.tape_laws.specs.Plain.{plain_ended, plain_setup}
-use Rattle.tape_laws.specs.declared.limits.PlainLimits.{PlainLimits}
+use Rattle.tape_laws.specs.declared.PlainLimits.{PlainLimits}
 use Rattle.plain_core.specs.Carries.{IsNextFrame}
 use Rattle.plain_core.specs.Flows.{Settled, next_piece, piece_of}
 use Rattle.plain_core.specs.Ready.{IsNext, IsReadyWith, is_ready_on}

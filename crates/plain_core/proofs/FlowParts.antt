@@ -8,7 +8,7 @@ use Rattle.std.specs.Ordering.{nat_cmp}
 use Rattle.std.specs.Prelude.{Bool, None, false, if◌then◌else◌, pos, true, ℕ, ℤ, ◌<◌, ◌==◌, ◌^◌, ◌≡◌}
 use Rattle.plain_laws.specs.Words.{Past, Alive, conn_high, conn_out, last_out}
 use Rattle.tape_laws.specs.Dispatches.{has, live}
-use Rattle.tape_laws.specs.declared.limits.PlainLimits.{PlainLimits}
+use Rattle.tape_laws.specs.declared.PlainLimits.{PlainLimits}
 use Rattle.plain_core.specs.Flows.{AreLimits, ConnectionIs, IsSettled, StreamIs, next_piece}
 use Rattle.plain_core.specs.UnitsOf.{piece_at}
 use Rattle.plain_core.specs.declared.conn.Connection.{Connection}

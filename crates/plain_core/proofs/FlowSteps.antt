@@ -29,7 +29,7 @@ use Rattle.plain_laws.specs.Words.{Past, Alive, move_of, past_move, recv_at, sen
 use Rattle.tape_laws.specs.Dispatches.{has, live}
 use Rattle.tape_laws.specs.Flows.{request}
 use Rattle.tape_laws.specs.Pauses.{count}
-use Rattle.tape_laws.specs.declared.limits.PlainLimits.{PlainLimits}
+use Rattle.tape_laws.specs.declared.PlainLimits.{PlainLimits}
 use Rattle.wm_buffer.specs.Watermark.{above_after, crossing}
 use Rattle.wm_buffer.specs.declared.buffer.Shifted.{Shifted}
 use Rattle.plain_core.specs.Carries.{MovesAt, StaysAt, Steps}

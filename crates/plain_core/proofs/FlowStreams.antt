@@ -13,7 +13,7 @@ use Rattle.plain_laws.specs.Words.{Past, Alive}
 use Rattle.tape_laws.specs.Dispatches.{has, live, started}
 use Rattle.tape_laws.specs.Doomed.{condemned}
 use Rattle.tape_laws.specs.Flows.{request}
-use Rattle.tape_laws.specs.declared.limits.PlainLimits.{PlainLimits}
+use Rattle.tape_laws.specs.declared.PlainLimits.{PlainLimits}
 use Rattle.plain_core.specs.Flows.{ExchangesAre, StreamIs}
 
 -- the lists of streams stay as they were

@@ -9,7 +9,7 @@ use Rattle.std.specs.Prelude.{IsNone, List, None, Option, Some, [], length, ℕ,
 use Rattle.plain_laws.specs.Words.{Past}
 use Rattle.tape_laws.specs.Doomed.{condemned}
 use Rattle.tape_laws.specs.History.{Noted}
-use Rattle.tape_laws.specs.declared.limits.PlainLimits.{PlainLimits}
+use Rattle.tape_laws.specs.declared.PlainLimits.{PlainLimits}
 use Rattle.plain_core.specs.Carries.{NoneDoomed, Sweeps, SweepsAt}
 use Rattle.plain_core.specs.Flows.{GatesAre, Settled}
 use Rattle.plain_core.specs.declared.flows.Flows.{Flows}

@@ -7,7 +7,7 @@ use Rattle.flow_gate.specs.declared.ids.FlowId.{FlowId}
 use Rattle.std.proofs.Common.{arith, inl, inr, sym, ◌∙◌}
 use Rattle.std.specs.Prelude.{List, false, take, true, ℕ, ◌+◌, ◌≡◌}
 use Rattle.tape_laws.specs.Flows.{request}
-use Rattle.tape_laws.specs.declared.limits.PlainLimits.{PlainLimits}
+use Rattle.tape_laws.specs.declared.PlainLimits.{PlainLimits}
 use Rattle.plain_core.proofs.FlowHolds.{holding_kept}
 use Rattle.plain_core.proofs.FlowGates.{gates_from}
 use Rattle.plain_core.proofs.FlowStreams.{same_exchanges}

@@ -17,7 +17,7 @@ use Rattle.tape_laws.specs.Framing.{next_unit}
 use Rattle.flow_rules.specs.Units.{next_unit as first_unit}
 use Rattle.tape_laws.specs.Flows.{request}
 use Rattle.tape_laws.specs.Plain.{plain_setup}
-use Rattle.tape_laws.specs.declared.limits.PlainLimits.{PlainLimits}
+use Rattle.tape_laws.specs.declared.PlainLimits.{PlainLimits}
 use Rattle.plain_core.specs.Flows.{StreamIs, next_piece, piece_of}
 use Rattle.plain_core.specs.UnitsOf.{piece_at, unit_at}
 use Rattle.exchange_core.specs.declared.step.Piece.{Piece}

@@ -14,7 +14,7 @@ use Rattle.tape_laws.specs.Dispatches.{events_back}
 use Rattle.tape_laws.specs.Following.{MayFollowEvent}
 use Rattle.tape_laws.specs.History.{Noted, onto}
 use Rattle.tape_laws.specs.PlainTape.{IsPlainLawful}
-use Rattle.tape_laws.specs.declared.limits.PlainLimits.{PlainLimits}
+use Rattle.tape_laws.specs.declared.PlainLimits.{PlainLimits}
 use Rattle.plain_core.specs.Noting.{AppendsNotes, AppendsSome, turn_note}
 use Rattle.plain_core.specs.Runs.{Appends, AppendsTurn, AreSpelled, Cuts, CutsTurn, Keeps, Opens}
 use Rattle.plain_core.specs.Stands.{Good, Rests}

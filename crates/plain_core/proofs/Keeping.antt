@@ -10,7 +10,7 @@ use Rattle.std.specs.Prelude.{Bool, Err, List, Ok, OnOk, [], false, true, â„•, â
 use Rattle.plain_laws.specs.Words.{Past}
 use Rattle.tape_laws.specs.Dispatches.{turns}
 use Rattle.tape_laws.specs.Plain.{paired_with}
-use Rattle.tape_laws.specs.declared.limits.PlainLimits.{PlainLimits}
+use Rattle.tape_laws.specs.declared.PlainLimits.{PlainLimits}
 use Rattle.plain_core.proofs.Fronts.{NoTurn, appends_more}
 use Rattle.plain_core.specs.Flows.{FlowsStand}
 use Rattle.plain_core.specs.Noting.{pauses_of, rise_of}

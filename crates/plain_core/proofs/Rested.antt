@@ -8,7 +8,7 @@ use Rattle.plain_laws.specs.Words.{Past, Alive, recv_at}
 use Rattle.tape_laws.specs.Flows.{request}
 use Rattle.tape_laws.specs.Pauses.{count}
 use Rattle.tape_laws.specs.PlainSession.{plain_must_end}
-use Rattle.tape_laws.specs.declared.limits.PlainLimits.{PlainLimits}
+use Rattle.tape_laws.specs.declared.PlainLimits.{PlainLimits}
 use Rattle.plain_core.specs.Agenda.{Agenda}
 use Rattle.plain_core.specs.Carries.{may_move}
 use Rattle.plain_core.specs.Stands.{Rests}

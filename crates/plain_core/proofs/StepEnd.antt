@@ -14,7 +14,7 @@ use Rattle.std.specs.Prelude.{Bool, Err, List, None, Ok, OnOk, Option, Some, [],
 use Rattle.plain_laws.specs.Words.{Past, Alive, conn_lows}
 use Rattle.tape_laws.specs.Dispatches.{has, is_some_of, live}
 use Rattle.tape_laws.specs.History.{Noted, onto}
-use Rattle.tape_laws.specs.declared.limits.PlainLimits.{PlainLimits}
+use Rattle.tape_laws.specs.declared.PlainLimits.{PlainLimits}
 use Rattle.plain_core.proofs.Agendas.{top_is, weight_top}
 use Rattle.plain_core.proofs.Fronts.{NoTurn, Stepped, cuts_result, keeps_result}
 use Rattle.plain_core.proofs.Keeping.{flows_are, good_of, only_moves}

@@ -15,7 +15,7 @@ use Rattle.plain_laws.specs.Words.{Past, past_frame}
 use Rattle.tape_laws.specs.Dispatches.{live}
 use Rattle.tape_laws.specs.Flows.{request}
 use Rattle.tape_laws.specs.History.{onto}
-use Rattle.tape_laws.specs.declared.limits.PlainLimits.{PlainLimits}
+use Rattle.tape_laws.specs.declared.PlainLimits.{PlainLimits}
 use Rattle.plain_core.proofs.Agendas.{grounds_push_drain, holds_push, runs_push, top_is, weight_frame, weight_top}
 use Rattle.plain_core.proofs.Fronts.{NoTurn, Stepped, all_both, appends_both, cuts_front, cuts_result, front_more, keeps_of, keeps_result, spelled_both}
 use Rattle.plain_core.proofs.Keeping.{cuts_more, flows_are, good_of, keeps_then, only_moves, silent_rise, spelled_rise}

@@ -17,7 +17,7 @@ use Rattle.plain_laws.specs.Words.{Past, Alive, past_move, recv_at}
 use Rattle.tape_laws.specs.Dispatches.{has, live}
 use Rattle.tape_laws.specs.Flows.{request}
 use Rattle.tape_laws.specs.History.{onto}
-use Rattle.tape_laws.specs.declared.limits.PlainLimits.{PlainLimits}
+use Rattle.tape_laws.specs.declared.PlainLimits.{PlainLimits}
 use Rattle.plain_core.proofs.Agendas.{grounds_drain, grounds_end, grounds_more, holds_drain, holds_end_run, holds_more, runs_drain, runs_end_run, top_is, weight_move, weight_top}
 use Rattle.plain_core.proofs.Fronts.{Stepped, cuts_result, keeps_of, keeps_result}
 use Rattle.plain_core.proofs.Keeping.{cuts_more, flows_are, good_of, keeps_then, only_moves, silent_rise, spelled_rise, with_flows}

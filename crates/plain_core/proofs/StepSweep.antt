@@ -9,7 +9,7 @@ use Rattle.std.specs.Prelude.{List, None, Option, Some, [], false, true, â„•, â—
 use Rattle.plain_laws.specs.Next.{is_ready}
 use Rattle.plain_laws.specs.Words.{Past, Alive, conn_high, conn_lows}
 use Rattle.tape_laws.specs.History.{Noted, onto}
-use Rattle.tape_laws.specs.declared.limits.PlainLimits.{PlainLimits}
+use Rattle.tape_laws.specs.declared.PlainLimits.{PlainLimits}
 use Rattle.plain_core.proofs.Fronts.{Stepped}
 use Rattle.plain_core.proofs.Keeping.{good_of, only_moves}
 use Rattle.plain_core.specs.Agenda.{Agenda, is_rounded, is_telling}

@@ -10,7 +10,7 @@ use Rattle.std.specs.List.{AllByRecursion, sum_by}
 use Rattle.std.specs.Prelude.{Err, List, None, Ok, OnOk, Option, Some, [], drop, false, length, option_to_list, take, ℕ, ◌*◌, ◌++◌, ◌+◌, ◌<◌, ◌∷◌, ◌≡◌, ◌≤◌}
 use Rattle.plain_laws.specs.Words.{Past, conn_lows}
 use Rattle.tape_laws.specs.Dispatches.{live}
-use Rattle.tape_laws.specs.declared.limits.PlainLimits.{PlainLimits}
+use Rattle.tape_laws.specs.declared.PlainLimits.{PlainLimits}
 use Rattle.plain_core.proofs.Agendas.{after_telling, weight_run, weight_top}
 use Rattle.plain_core.proofs.Fronts.{NoTurn, Stepped, cuts_lawful, keeps_of}
 use Rattle.plain_core.proofs.Keeping.{flows_are, good_of, only_moves}

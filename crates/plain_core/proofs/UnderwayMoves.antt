@@ -24,7 +24,7 @@ use Rattle.tape_laws.specs.Flows.{request}
 use Rattle.tape_laws.specs.Pauses.{count}
 use Rattle.tape_laws.specs.Plain.{paired_with}
 use Rattle.tape_laws.specs.PlainSession.{plain_must_end}
-use Rattle.tape_laws.specs.declared.limits.PlainLimits.{PlainLimits}
+use Rattle.tape_laws.specs.declared.PlainLimits.{PlainLimits}
 use Rattle.plain_core.proofs.Agendas.{Grounds, Holds, Runs, drained_runs, ended_dooms, frame_reasons, holds_end_drain, holds_end_run, holds_frame, runs_end_drain, runs_end_run, runs_frame, top_is}
 use Rattle.plain_core.specs.Agenda.{Agenda, after_frame, is_rounded, is_run_of, is_telling}
 use Rattle.plain_core.specs.Carries.{NextIs, NoNext, may_move}

@@ -15,7 +15,7 @@ use Rattle.plain_laws.specs.Words.{Past, Alive, conn_high, conn_lows, recv_at}
 use Rattle.tape_laws.specs.Flows.{request}
 use Rattle.tape_laws.specs.History.{Noted}
 use Rattle.tape_laws.specs.Pauses.{count}
-use Rattle.tape_laws.specs.declared.limits.PlainLimits.{PlainLimits}
+use Rattle.tape_laws.specs.declared.PlainLimits.{PlainLimits}
 use Rattle.plain_core.proofs.Agendas.{after_telling, grounds_run, grounds_same, holds_run, holds_same, run_is, runs_run, top_is}
 use Rattle.plain_core.proofs.Tellings.{first_is, tell_settled, with_all_told, with_told}
 use Rattle.plain_core.proofs.UnderwayMoves.{LeavesWork, moves_back, same_length, underway_end_tell, underway_of, unswept_rounded}

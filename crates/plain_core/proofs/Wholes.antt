@@ -13,7 +13,7 @@ use Rattle.tape_laws.specs.Order.{Nothing}
 use Rattle.tape_laws.specs.Pauses.{count}
 use Rattle.tape_laws.specs.PlainSession.{plain_must_end}
 use Rattle.tape_laws.specs.PlainTape.{IsPlainWhole}
-use Rattle.tape_laws.specs.declared.limits.PlainLimits.{PlainLimits}
+use Rattle.tape_laws.specs.declared.PlainLimits.{PlainLimits}
 use Rattle.plain_core.proofs.Fronts.{appends_more, turn_appended, turn_more}
 use Rattle.plain_core.proofs.Rested.{no_task}
 use Rattle.plain_core.specs.Agenda.{is_run_of, is_telling}

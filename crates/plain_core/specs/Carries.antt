@@ -15,7 +15,7 @@ use Rattle.tape_laws.specs.Pauses.{count, pending_lows}
 use Rattle.tape_laws.specs.Plain.{plain_setup}
 use Rattle.tape_laws.specs.Watermark.{above, drains_at, rises_at}
 use Rattle.tape_laws.specs.World.{place}
-use Rattle.tape_laws.specs.declared.limits.PlainLimits.{PlainLimits}
+use Rattle.tape_laws.specs.declared.PlainLimits.{PlainLimits}
 use Rattle.plain_core.specs.Flows.{FlowsStand, Settled}
 use Rattle.plain_core.specs.Noting.{resumes_of}
 use Rattle.plain_core.specs.declared.flows.Flows.{Flows}

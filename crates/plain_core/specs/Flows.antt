@@ -25,7 +25,7 @@ use Rattle.tape_laws.specs.Plain.{plain_ended, plain_setup}
 use Rattle.tape_laws.specs.Sources.{is_live}
 use Rattle.tape_laws.specs.Watermark.{above}
 use Rattle.tape_laws.specs.World.{out, place}
-use Rattle.tape_laws.specs.declared.limits.PlainLimits.{PlainLimits}
+use Rattle.tape_laws.specs.declared.PlainLimits.{PlainLimits}
 use Rattle.plain_core.specs.declared.conn.Connection.{Connection}
 use Rattle.exchange_core.specs.declared.step.Piece.{Piece}
 use Rattle.plain_core.specs.declared.flows.Flows.{Flows}

@@ -11,7 +11,7 @@ use Rattle.tape_laws.specs.History.{History, NoMark, onto}
 use Rattle.tape_laws.specs.Plain.{paired_with, plain_setup}
 use Rattle.tape_laws.specs.PlainTape.{IsPlainWhole}
 use Rattle.tape_laws.specs.World.{out}
-use Rattle.tape_laws.specs.declared.limits.PlainLimits.{PlainLimits}
+use Rattle.tape_laws.specs.declared.PlainLimits.{PlainLimits}
 use Rattle.plain_core.specs.Flows.{Settled}
 use Rattle.plain_core.specs.Progress.{Underway}
 use Rattle.plain_core.specs.declared.plain.PlainCore.{PlainCore}

@@ -6,7 +6,6 @@ mod conn;
 mod dooms;
 mod drains;
 mod events;
-mod fault;
 mod flows;
 mod gaps;
 mod noting;
@@ -14,5 +13,4 @@ mod plain;
 mod runs;
 mod telling;
 
-pub use crate::fault::CoreFault;
-pub use crate::plain::PlainCore;
+pub use crate::plain::{CoreFault, PlainCore};

@@ -8,7 +8,6 @@ ghost use Rattle.plain_core.specs.Runs.{Cuts, CutsTurn, IsGood, Keeps, Turns};
 ghost use Rattle.plain_core.specs.Stands.{CanTake, HasFailed, Rests, WaitsInFront};
 
 use crate::agenda::{Agenda, Task};
-use crate::fault::CoreFault;
 use crate::flows::Flows;
 use flow_gate::FlowId;
 use flow_notes::{Event, Note, Notes};
@@ -16,6 +15,8 @@ use io_ports::NoMemory;
 use proxy_config::Config;
 use std::alloc::Global;
 use std::collections::BTreeMap;
+use std::error::Error;
+use std::fmt;
 use tape_laws::PlainLimits;
 
 /// The state of a plain session: its streams, which all go to connection 0, and that connection.
@@ -142,3 +143,23 @@ impl PlainCore {
         self.agenda.push(Task::Drain { conn: 0 })
     }
 }
+
+/// Why a dispatch wasn't carried to its end.
+#[derive(Clone, Copy, Debug, PartialEq, Eq)]
+pub enum CoreFault {
+    /// Memory was refused. The notes so far stand.
+    NoMemory,
+    /// An earlier dispatch of this core ran out of memory.
+    Failed,
+}
+
+impl fmt::Display for CoreFault {
+    fn fmt<W: fmt::Write>(&self, f: &mut fmt::Formatter<W>) -> fmt::Result {
+        f.write_str(match self {
+            CoreFault::NoMemory => "out of memory",
+            CoreFault::Failed => "an earlier dispatch ran out of memory",
+        })
+    }
+}
+
+impl Error for CoreFault {}

@@ -5,7 +5,7 @@ use Rattle.std.specs.Prelude.{[], ◌∷◌, ◌≡◌}
 use Rattle.plain_laws.specs.Words.{Past}
 use Rattle.tape_laws.specs.Plain.{plain_setup}
 use Rattle.tape_laws.specs.Watermark.{above, lengths, limit}
-use Rattle.tape_laws.specs.declared.limits.PlainLimits.{PlainLimits}
+use Rattle.tape_laws.specs.declared.PlainLimits.{PlainLimits}
 use Rattle.wm_buffer.specs.Watermark.{flag}
 use Rattle.flow_gate.specs.declared.ids.BufferId.TheVariants as buffer
 

@@ -14,7 +14,7 @@ use Rattle.tape_laws.specs.Dispatches.{live, started}
 use Rattle.tape_laws.specs.Flows.{request}
 use Rattle.tape_laws.specs.History.{NoMark, Noted, Step}
 use Rattle.tape_laws.specs.World.{received}
-use Rattle.tape_laws.specs.declared.limits.PlainLimits.{PlainLimits}
+use Rattle.tape_laws.specs.declared.PlainLimits.{PlainLimits}
 use Rattle.flow_notes.specs.declared.notes.Note.TheVariants as note
 
 pub arrive_leaves : (limits : PlainLimits) (x y : ℕ) (octets : List ℕ) (h : Past) → (x == y) ≡ false → Leaves limits y (Noted (note.Arrive (request x) octets)) h

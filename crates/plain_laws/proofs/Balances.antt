@@ -18,7 +18,7 @@ use Rattle.tape_laws.specs.Pauses.{IsCounted, PausesInOrder, count, due_pauses, 
 use Rattle.tape_laws.specs.Plain.{plain_setup}
 use Rattle.tape_laws.specs.PlainTape.{IsPlainLawful}
 use Rattle.tape_laws.specs.Sources.{live_flows}
-use Rattle.tape_laws.specs.declared.limits.PlainLimits.{PlainLimits}
+use Rattle.tape_laws.specs.declared.PlainLimits.{PlainLimits}
 use Rattle.flow_notes.specs.declared.notes.Note.TheVariants as note
 
 pub plain_ways : (limits : PlainLimits) → HasWays {Mark = NoMark} (plain_setup limits)

@@ -4,7 +4,7 @@ use Rattle.std.proofs.Common.{arith, refl}
 use Rattle.std.specs.Prelude.{Bool, List, [], count_by, false, if◌then◌else◌, true, ℕ, ◌+◌, ◌∷◌, ◌≡◌}
 use Rattle.plain_laws.specs.Words.{Past, conn_high, conn_lows, disabled_at, lows_at, lows_of, send_high}
 use Rattle.tape_laws.specs.Flows.{request, same_flow}
-use Rattle.tape_laws.specs.declared.limits.PlainLimits.{PlainLimits}
+use Rattle.tape_laws.specs.declared.PlainLimits.{PlainLimits}
 
 abbrev pub one_if : Bool → ℕ
 one_if b = if b then 1 else 0

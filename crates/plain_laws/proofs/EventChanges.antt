@@ -31,7 +31,7 @@ use Rattle.tape_laws.specs.History.{NoMark, Noted, Step, onto}
 use Rattle.tape_laws.specs.Pauses.{Owed, pauses, resumes}
 use Rattle.tape_laws.specs.Plain.{paired_with, plain_ended}
 use Rattle.tape_laws.specs.PlainSession.{plain_must_end}
-use Rattle.tape_laws.specs.declared.limits.PlainLimits.{PlainLimits}
+use Rattle.tape_laws.specs.declared.PlainLimits.{PlainLimits}
 use Rattle.wm_buffer.specs.Watermark.{above_after}
 use Rattle.flow_gate.specs.declared.ids.BufferId.TheVariants as buffer
 use Rattle.flow_notes.specs.declared.events.PlainEvent.TheVariants as plain

@@ -29,7 +29,7 @@ use Rattle.tape_laws.specs.Sources.{EachLive}
 use Rattle.tape_laws.specs.Tied.{IsFront, IsTied}
 use Rattle.tape_laws.specs.Units.{Demand}
 use Rattle.tape_laws.specs.World.{out, received, recv, send}
-use Rattle.tape_laws.specs.declared.limits.PlainLimits.{PlainLimits}
+use Rattle.tape_laws.specs.declared.PlainLimits.{PlainLimits}
 
 -- the note may stand here, by each law that looks at what stood before it
 pub record MayAdd (limits : PlainLimits) (n : Note) (h : Past) : Type 0 where

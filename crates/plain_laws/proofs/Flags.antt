@@ -8,7 +8,7 @@ use Rattle.tape_laws.specs.History.{NoMark, Step}
 use Rattle.tape_laws.specs.Plain.{plain_setup}
 use Rattle.tape_laws.specs.Watermark.{above}
 use Rattle.tape_laws.specs.World.{len, place}
-use Rattle.tape_laws.specs.declared.limits.PlainLimits.{PlainLimits}
+use Rattle.tape_laws.specs.declared.PlainLimits.{PlainLimits}
 use Rattle.wm_buffer.specs.Watermark.{above_after}
 use Rattle.flow_gate.specs.declared.ids.BufferId.TheVariants as buffer
 

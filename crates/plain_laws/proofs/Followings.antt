@@ -13,7 +13,7 @@ use Rattle.tape_laws.specs.Dispatches.{events_back, has, started}
 use Rattle.tape_laws.specs.Following.{begun, cut, finished, is_flowing, may_follow, paired}
 use Rattle.tape_laws.specs.History.{Noted}
 use Rattle.tape_laws.specs.Plain.{plain_ended}
-use Rattle.tape_laws.specs.declared.limits.PlainLimits.{PlainLimits}
+use Rattle.tape_laws.specs.declared.PlainLimits.{PlainLimits}
 use Rattle.flow_notes.specs.declared.events.Event.TheVariants as event
 use Rattle.flow_notes.specs.declared.events.PlainEvent.TheVariants as plain
 use Rattle.flow_notes.specs.declared.notes.Note.TheVariants as note

@@ -5,7 +5,7 @@ use Rattle.plain_laws.specs.Regular.{Books, Regular, Rests}
 use Rattle.std.proofs.Common.{arith, refl}
 use Rattle.std.specs.Bool.{OnTrue}
 use Rattle.std.specs.Prelude.{Bool, [], false, max, nat_lt, true, ℕ, ◌+◌, ◌≤◌}
-use Rattle.tape_laws.specs.declared.limits.PlainLimits.{PlainLimits}
+use Rattle.tape_laws.specs.declared.PlainLimits.{PlainLimits}
 
 none_books : (limits : PlainLimits) → Books limits nothing []
 none_books limits = record {

@@ -28,7 +28,7 @@ use Rattle.tape_laws.specs.Order.{Flows}
 use Rattle.tape_laws.specs.Plain.{paired_with, plain_ended, plain_setup}
 use Rattle.tape_laws.specs.PlainSession.{plain_must_end}
 use Rattle.tape_laws.specs.Sources.{watchers}
-use Rattle.tape_laws.specs.declared.limits.PlainLimits.{PlainLimits}
+use Rattle.tape_laws.specs.declared.PlainLimits.{PlainLimits}
 use Rattle.flow_gate.specs.declared.ids.BufferId.TheVariants as buffer
 use Rattle.flow_notes.specs.declared.notes.Note.TheVariants as note
 use Rattle.plain_laws.proofs.Streams.{number_is as zero_of}

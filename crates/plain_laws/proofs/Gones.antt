@@ -11,7 +11,7 @@ use Rattle.tape_laws.specs.Dispatches.{live}
 use Rattle.tape_laws.specs.Doomed.{condemned}
 use Rattle.tape_laws.specs.History.{NoMark, Noted, Step}
 use Rattle.tape_laws.specs.Pauses.{Heads}
-use Rattle.tape_laws.specs.declared.limits.PlainLimits.{PlainLimits}
+use Rattle.tape_laws.specs.declared.PlainLimits.{PlainLimits}
 use Rattle.flow_notes.specs.declared.notes.Note.TheVariants as note
 
 pub gone_leaves : (limits : PlainLimits) (x y : ℕ) (h : Past) → Leaves limits y (Noted (note.Gone x)) h

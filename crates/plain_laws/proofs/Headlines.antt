@@ -19,7 +19,7 @@ use Rattle.tape_laws.specs.Release.{MayStand}
 use Rattle.tape_laws.specs.Sources.{live_flows}
 use Rattle.tape_laws.specs.Tied.{IsFront, IsTied}
 use Rattle.tape_laws.specs.World.{received}
-use Rattle.tape_laws.specs.declared.limits.PlainLimits.{PlainLimits}
+use Rattle.tape_laws.specs.declared.PlainLimits.{PlainLimits}
 use Rattle.flow_notes.specs.declared.events.Event.TheVariants as event
 use Rattle.flow_notes.specs.declared.events.PlainEvent.TheVariants as plain
 use Rattle.flow_notes.specs.declared.notes.Note.TheVariants as note

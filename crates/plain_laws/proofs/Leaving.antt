@@ -16,7 +16,7 @@ use Rattle.tape_laws.specs.Pauses.{pauses, resumes}
 use Rattle.tape_laws.specs.Plain.{paired_with, plain_body, plain_ended}
 use Rattle.tape_laws.specs.PlainSession.{plain_must_end}
 use Rattle.tape_laws.specs.World.{received}
-use Rattle.tape_laws.specs.declared.limits.PlainLimits.{PlainLimits}
+use Rattle.tape_laws.specs.declared.PlainLimits.{PlainLimits}
 use Rattle.flow_gate.specs.declared.ids.BufferId.TheVariants as buffer
 use Rattle.std.specs.List.{AllByRecursion}
 use Rattle.flow_gate.specs.declared.ids.FlowId.{FlowId}

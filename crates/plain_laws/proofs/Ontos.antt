@@ -9,7 +9,7 @@ use Rattle.tape_laws.specs.Flows.{request}
 use Rattle.tape_laws.specs.History.{Noted, onto}
 use Rattle.tape_laws.specs.Pauses.{Owed, pauses}
 use Rattle.tape_laws.specs.PlainTape.{IsPlainLawful}
-use Rattle.tape_laws.specs.declared.limits.PlainLimits.{PlainLimits}
+use Rattle.tape_laws.specs.declared.PlainLimits.{PlainLimits}
 use Rattle.flow_notes.specs.declared.notes.Note.TheVariants as note
 
 pub onto_append : (ms ns : List Note) (h : Past) → onto (ms ++ ns) h ≡ onto ns (onto ms h)

@@ -16,7 +16,7 @@ use Rattle.tape_laws.specs.Dispatches.{live, started}
 use Rattle.tape_laws.specs.Flows.{request}
 use Rattle.tape_laws.specs.History.{NoMark, Noted, Step, onto}
 use Rattle.tape_laws.specs.Pauses.{Heads, Owed, pauses}
-use Rattle.tape_laws.specs.declared.limits.PlainLimits.{PlainLimits}
+use Rattle.tape_laws.specs.declared.PlainLimits.{PlainLimits}
 use Rattle.flow_notes.specs.declared.notes.Note.TheVariants as note
 
 module _ (limits : PlainLimits) (owing : Owing) (f : FlowId) (b : BufferId) (rest : List Owed) where

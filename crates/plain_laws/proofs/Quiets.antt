@@ -27,7 +27,7 @@ use Rattle.tape_laws.specs.Release.{last_free, may_release}
 use Rattle.tape_laws.specs.Sources.{disabled}
 use Rattle.tape_laws.specs.Watermark.{above}
 use Rattle.tape_laws.specs.World.{received}
-use Rattle.tape_laws.specs.declared.limits.PlainLimits.{PlainLimits}
+use Rattle.tape_laws.specs.declared.PlainLimits.{PlainLimits}
 use Rattle.flow_gate.specs.declared.ids.BufferId.TheVariants as buffer
 
 release_none : (c q n : ℕ) → (c ≡ 0 → n ≡ 0) → (if c == 0 then min q n else 0) ≡ 0

@@ -4,7 +4,7 @@ use Rattle.plain_laws.specs.Keeping.{KeepsStream}
 use Rattle.plain_laws.specs.Next.{is_ready, unit_of}
 use Rattle.std.specs.Prelude.{length, ℕ, ◌≡◌}
 use Rattle.plain_laws.specs.Words.{Past}
-use Rattle.tape_laws.specs.declared.limits.PlainLimits.{PlainLimits}
+use Rattle.tape_laws.specs.declared.PlainLimits.{PlainLimits}
 
 -- what keeps a stream keeps whether it is ready
 pub keeps_ready : (limits : PlainLimits) (x : ℕ) (a b : Past) → KeepsStream limits x a b → is_ready limits x b ≡ is_ready limits x a

@@ -20,7 +20,7 @@ use Rattle.flow_rules.specs.Units.{is_unit}
 use Rattle.tape_laws.specs.Order.{Flows, Nothing, first_flow}
 use Rattle.tape_laws.specs.Plain.{plain_ended, plain_setup}
 use Rattle.tape_laws.specs.State.{state_of}
-use Rattle.tape_laws.specs.declared.limits.PlainLimits.{PlainLimits}
+use Rattle.tape_laws.specs.declared.PlainLimits.{PlainLimits}
 
 -- ---- the unit of a flow
 

@@ -36,7 +36,7 @@ use Rattle.tape_laws.specs.Pauses.{Owed, count}
 use Rattle.tape_laws.specs.Plain.{paired_with}
 use Rattle.tape_laws.specs.PlainSession.{plain_must_end}
 use Rattle.tape_laws.specs.World.{gone}
-use Rattle.tape_laws.specs.declared.limits.PlainLimits.{PlainLimits}
+use Rattle.tape_laws.specs.declared.PlainLimits.{PlainLimits}
 use Rattle.flow_gate.specs.declared.ids.BufferId.TheVariants as buffer
 use Rattle.flow_notes.specs.declared.notes.Cause.TheVariants as cause
 use Rattle.flow_notes.specs.declared.notes.Note.TheVariants as note

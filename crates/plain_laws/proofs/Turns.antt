@@ -22,7 +22,7 @@ use Rattle.tape_laws.specs.Plain.{plain_body, plain_setup}
 use Rattle.tape_laws.specs.PlainSession.{ask_if, plain_demand}
 use Rattle.tape_laws.specs.Units.{Demand, WantsArrive, WantsDoom, WantsOut, WantsStart}
 use Rattle.tape_laws.specs.World.{received, recv}
-use Rattle.tape_laws.specs.declared.limits.PlainLimits.{PlainLimits}
+use Rattle.tape_laws.specs.declared.PlainLimits.{PlainLimits}
 use Rattle.flow_notes.specs.declared.events.Event.TheVariants as event
 use Rattle.flow_notes.specs.declared.events.PlainEvent.TheVariants as plain
 use Rattle.flow_notes.specs.declared.notes.Cause.TheVariants as cause

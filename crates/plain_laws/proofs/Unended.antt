@@ -14,7 +14,7 @@ use Rattle.tape_laws.specs.History.{Noted}
 use Rattle.tape_laws.specs.Plain.{paired_with}
 use Rattle.tape_laws.specs.PlainSession.{plain_must_end, plain_session}
 use Rattle.tape_laws.specs.Quiet.{IsQuiet}
-use Rattle.tape_laws.specs.declared.limits.PlainLimits.{PlainLimits}
+use Rattle.tape_laws.specs.declared.PlainLimits.{PlainLimits}
 use Rattle.flow_notes.specs.declared.notes.Note.TheVariants as note
 
 -- no end of it was framed

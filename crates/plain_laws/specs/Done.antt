@@ -10,7 +10,7 @@ use Rattle.tape_laws.specs.Plain.{plain_setup}
 use Rattle.tape_laws.specs.PlainSession.{plain_must_end}
 use Rattle.tape_laws.specs.Watermark.{above}
 use Rattle.tape_laws.specs.World.{place}
-use Rattle.tape_laws.specs.declared.limits.PlainLimits.{PlainLimits}
+use Rattle.tape_laws.specs.declared.PlainLimits.{PlainLimits}
 use Rattle.flow_gate.specs.declared.ids.BufferId.TheVariants as buffer
 
 -- nothing is left to do

@@ -11,7 +11,7 @@ use Rattle.flow_rules.specs.Units.{is_unit, next_unit as first_unit}
 use Rattle.tape_laws.specs.Order.{framed_last}
 use Rattle.tape_laws.specs.Plain.{plain_setup}
 use Rattle.tape_laws.specs.World.{recv, send}
-use Rattle.tape_laws.specs.declared.limits.PlainLimits.{PlainLimits}
+use Rattle.tape_laws.specs.declared.PlainLimits.{PlainLimits}
 
 -- the stream's flow has a unit
 abbrev pub is_ready : PlainLimits → ℕ → History NoMark → Bool

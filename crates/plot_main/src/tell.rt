@@ -1,30 +1,18 @@
 // Why there is no picture, on standard error.
 use session_run::Status;
 use std::io::Eprint;
-use tape_plot::{Outcome, Refusal};
+use tape_plot::Outcome;
 
 /// Tells in one line why a tape wasn't drawn. Where standard error is closed there is nobody to tell.
 pub fn tell_outcome<R: Eprint>(rt: &R, outcome: &Outcome) {
     let line = outcome.line;
     let _ = match outcome.refusal {
-        Some(refusal) => {
-            let why = reason(refusal);
-            eprintln!(rt; "h2plot: line {line}: {why}")
-        }
+        Some(refusal) => eprintln!(rt; "h2plot: line {line}: {refusal}"),
         None => match fault(outcome.status) {
             Some(why) => eprintln!(rt; "h2plot: {why}"),
             None => Ok(()),
         },
     };
-}
-
-fn reason(refusal: Refusal) -> &'static str {
-    match refusal {
-        Refusal::NoNote => "neither a note of a tape nor a line of its summary",
-        Refusal::BehindSummary => "a note behind a line of the summary",
-        Refusal::BehindEnd => "a line behind the tape's last line",
-        Refusal::Long => "more than 131,071 octets",
-    }
 }
 
 fn fault(status: Status) -> Option<&'static str> {

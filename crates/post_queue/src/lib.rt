@@ -4,7 +4,6 @@
 
 mod close;
 mod hand;
-mod lending;
 mod passes;
 mod post_box;
 mod posts;

@@ -29,6 +29,7 @@ use io_ports::{MemSink, MemSource, Octets};
 use proxy_cli::{ClientCounts, ClientGauge, SocketSite};
 use proxy_site::serve;
 use proxy_wire::serve_proxy;
+use session_run::Status;
 use std::alloc::{AllocError, Global};
 use std::env;
 use std::io::{Eprint, Print};
@@ -51,28 +52,74 @@ fn main(rt: HostRuntime) -> Result<()> {
     proxy(rt, words.next())
 }
 
-// A relay, and what its client and its server saw.
+// A relay, and what its client and its server saw. A server and a site are dropped by a call, since the check follows a drop without
+// one field by field.
 fn relay<R: Print + Eprint + Files + Net + Clock + Wait + AllocGlobal + Copy + Drop>(
     rt: R,
     journal: Option<String>,
 ) -> Result<()> {
     let server = Server::new(&rt, rt.alloc())?;
-    let text = relay_text(rt.alloc(), server.address()?, journal)?;
-    let mut config = MemSource::new(text.into_bytes(), Vec::new(rt.alloc()));
-    let mut out = MemSink::new(rt.alloc(), 100, Vec::new(rt.alloc()))?;
-    let counts = Arc::new(rt.alloc(), ClientCounts::new())?;
-    let mut site = LoopSite::new(rt, SocketSite::new(rt, counts), server);
-    let words = words_of(rt.alloc(), &["relay", "CONFIG", RELAY_TURNS])?;
+    match text_before(rt.alloc(), &server, journal) {
+        Ok(text) => serve_relay(rt, text.as_bytes(), server),
+        Err(fault) => {
+            drop(server);
+            Err(fault)
+        }
+    }
+}
+
+fn text_before(alloc: Global, server: &Server, journal: Option<String>) -> Result<String> {
+    relay_text(alloc, server.address()?, journal)
+}
+
+// Relays over sockets under the configuration of this text, before a server.
+fn serve_relay<R: Print + Eprint + Files + Net + Clock + Wait + AllocGlobal + Copy + Drop>(
+    rt: R,
+    text: &[u8],
+    server: Server,
+) -> Result<()> {
+    match Arc::new(rt.alloc(), ClientCounts::new()) {
+        Ok(counts) => {
+            let mut site = LoopSite::new(rt, SocketSite::new(rt, counts), server);
+            let end = run_relay(rt, text, &mut site);
+            drop(site);
+            end
+        }
+        Err(fault) => {
+            drop(server);
+            Err(fault.into())
+        }
+    }
+}
+
+// Relays over a site, and tells what was seen.
+fn run_relay<R: Print + Eprint + Files + Net + Clock + Wait + AllocGlobal + Copy + Drop>(
+    rt: R,
+    text: &[u8],
+    site: &mut LoopSite<R>,
+) -> Result<()> {
+    let mut play = Play::new(rt.alloc(), text, &["relay", "CONFIG", RELAY_TURNS])?;
     let status = serve(
         rt.alloc(),
-        words.as_slice(),
-        &mut config,
-        &mut site,
-        &mut out,
+        play.words.as_slice(),
+        &mut play.config,
+        site,
+        &mut play.out,
     );
+    let end = tell_relay(&rt, status, play.out.octets(), site);
+    drop(play);
+    end
+}
+
+fn tell_relay<R: Print + Eprint + Files + Net + Clock + Wait + AllocGlobal + Copy + Drop>(
+    rt: &R,
+    status: Status,
+    out: &[u8],
+    site: &LoopSite<R>,
+) -> Result<()> {
     println!(rt; "status {}", status.code())?;
-    tell_listening(&rt, out.octets())?;
-    tell_counts(&rt, site.counts, site.is_over)
+    tell_listening(rt, out)?;
+    tell_counts(rt, site.counts, site.is_over)
 }
 
 // A proxy of HTTP/2, and what its client saw.
@@ -96,8 +143,17 @@ where
     R::Listener: Send,
 {
     let origin = Origin::new(&rt, rt.alloc())?;
-    let text = proxy_text(rt.alloc(), origin.address()?, journal)?;
-    serve_web(rt, text.as_bytes(), origin)
+    match text_of(rt.alloc(), &origin, journal) {
+        Ok(text) => serve_web(rt, text.as_bytes(), origin),
+        Err(fault) => {
+            drop(origin);
+            Err(fault)
+        }
+    }
+}
+
+fn text_of(alloc: Global, origin: &Origin, journal: Option<String>) -> Result<String> {
+    proxy_text(alloc, origin.address()?, journal)
 }
 
 // Serves over sockets under the configuration of this text, before a server.
@@ -120,10 +176,25 @@ where
     R::Stream: Send,
     R::Listener: Send,
 {
-    let counts = Arc::new(rt.alloc(), ClientCounts::new())?;
-    let mut gauge = ClientGauge::new(Arc::try_clone(&counts)?);
-    let mut site = WebSite::new(rt, SocketSite::new(rt, counts), origin);
-    run_web(rt, text, &mut gauge, &mut site)
+    match gauged(rt.alloc()) {
+        Ok((counts, mut gauge)) => {
+            let mut site = WebSite::new(rt, SocketSite::new(rt, counts), origin);
+            let end = run_web(rt, text, &mut gauge, &mut site);
+            drop(site);
+            end
+        }
+        Err(fault) => {
+            drop(origin);
+            Err(fault.into())
+        }
+    }
+}
+
+// Counts of clients, and the gauge that reads them.
+fn gauged(alloc: Global) -> Result<(Arc<ClientCounts, Global>, ClientGauge), AllocError> {
+    let counts = Arc::new(alloc, ClientCounts::new())?;
+    let gauge = ClientGauge::new(Arc::try_clone(&counts)?);
+    Ok((counts, gauge))
 }
 
 // Serves over a site, and tells what was seen.
@@ -146,23 +217,32 @@ where
     R::Stream: Send,
     R::Listener: Send,
 {
-    let octets = Vec::from_slice(rt.alloc(), text)?;
-    let mut config = MemSource::new(octets, Vec::new(rt.alloc()));
-    let mut out = MemSink::new(rt.alloc(), 100, Vec::new(rt.alloc()))?;
-    let words = words_of(rt.alloc(), &["CONFIG", PROXY_TURNS])?;
+    let mut play = Play::new(rt.alloc(), text, &["CONFIG", PROXY_TURNS])?;
     let served = serve_proxy(
         &rt,
         rt.alloc(),
-        words.as_slice(),
-        &mut config,
+        play.words.as_slice(),
+        &mut play.config,
         site,
         gauge,
-        &mut out,
+        &mut play.out,
     );
-    println!(rt; "status {}", served.status.code())?;
-    tell_listening(&rt, out.octets())?;
-    tell_answers(&rt, &site.user)?;
-    tell_replays(&rt, rt.alloc(), text, site.kept.as_slice())
+    let end = tell_web(&rt, served.status, text, play.out.octets(), site);
+    drop(play);
+    end
+}
+
+fn tell_web<R: Print + Eprint + Files + Net + Clock + Wait + AllocGlobal + Copy + Drop>(
+    rt: &R,
+    status: Status,
+    text: &[u8],
+    out: &[u8],
+    site: &WebSite<R>,
+) -> Result<()> {
+    println!(rt; "status {}", status.code())?;
+    tell_listening(rt, out)?;
+    tell_answers(rt, &site.user)?;
+    tell_replays(rt, rt.alloc(), text, site.kept.as_slice())
 }
 
 // The configuration: the server, little room for what waits, and a journal if it is to have one.
@@ -187,6 +267,24 @@ fn with_journal(alloc: Global, text: String, journal: Option<String>) -> Result<
     match journal {
         Some(name) => Ok(format!(in alloc; "{text}journal = \"{name}\"\n")?),
         None => Ok(text),
+    }
+}
+
+// What a run of the proxy is given, and where it writes.
+#[derive(Drop)]
+struct Play {
+    words: Vec<String>,
+    config: MemSource,
+    out: MemSink,
+}
+
+impl Play {
+    fn new(alloc: Global, text: &[u8], words: &[&str]) -> Result<Self> {
+        let octets = Vec::from_slice(alloc, text)?;
+        let config = MemSource::new(octets, Vec::new(alloc));
+        let words = words_of(alloc, words)?;
+        let out = MemSink::new(alloc, 100, Vec::new(alloc))?;
+        Ok(Play { words, config, out })
     }
 }
 

@@ -1,6 +1,6 @@
 //! Runs the proxy over a site in memory, one case of standard input after another, and prints how each ends: the status, what was
-//! written to the output, what `h2proxy` tells of it on standard error, where it was to listen, what came back of relays and of workers, with the journals and the connections
-//! that were closed, and how many failures the site counts.
+//! written to the output, what `h2proxy` tells of it on standard error, where it was to listen, what came back of relays and of
+//! workers, with the journals and the connections that were closed, and how many failures the site counts.
 //!
 //! A case begins with a line `## NAME`. Its lines begin with a word:
 //!
@@ -27,25 +27,37 @@ mod show;
 mod still;
 
 use crate::case::Case;
+use crate::show::show_case;
 use std::io::{self, Read};
+use std::mem;
 
 fn main(rt: HostRuntime) -> io::Result<()> {
     let mut text = Vec::new(rt.alloc());
     rt.reader().read_to_end(&mut text)?;
-    let text = std::str::from_utf8(text.as_slice()).unwrap_or("");
+    show_cases(rt, std::str::from_utf8(text.as_slice()).unwrap_or(""))
+}
+
+// A case is dropped by a call, since the check follows a drop without one field by field.
+fn show_cases(rt: HostRuntime, text: &str) -> io::Result<()> {
     let mut case = Case::new(rt.alloc());
+    let end = read_cases(rt, text, &mut case);
+    drop(case);
+    end
+}
+
+fn read_cases(rt: HostRuntime, text: &str, case: &mut Case) -> io::Result<()> {
     let mut is_open = false;
     for line in text.strip_suffix('\n').unwrap_or(text).split('\n') {
         if line.starts_with("## ") {
             if is_open {
-                show::show_case(rt, &mut case)?;
+                show_case(rt, case)?;
             }
             println!(rt; "{line}")?;
-            case = Case::new(rt.alloc());
+            drop(mem::replace(case, Case::new(rt.alloc())));
             is_open = true;
         } else if case.line(rt.alloc(), line).is_err() {
             println!(rt; "no memory")?;
         }
     }
-    show::show_case(rt, &mut case)
+    show_case(rt, case)
 }

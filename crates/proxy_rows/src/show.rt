@@ -2,6 +2,7 @@
 use crate::aloud::Aloud;
 use crate::case::Case;
 use crate::run::{out_of, run_case, site_of};
+use io_ports::MemSink;
 use mem_ports::Kept;
 use mem_wire_site::{MemWireSite, PlayWires};
 use proxy_cli::tell_served;
@@ -17,7 +18,11 @@ pub fn show_case<R: Print + AllocGlobal + Threads + Wait + Sync + Copy + Drop>(
     case: &mut Case,
 ) -> io::Result<()> {
     match site_of(rt.alloc(), case) {
-        Ok(mut site) => show_over(rt, case, &mut site),
+        Ok(mut site) => {
+            let end = show_over(rt, case, &mut site);
+            drop(site);
+            end
+        }
         Err(_) => println!(rt; "no memory"),
     }
 }
@@ -28,13 +33,26 @@ fn show_over<R: Print + AllocGlobal + Threads + Wait + Sync + Copy + Drop>(
     site: &mut MemWireSite,
 ) -> io::Result<()> {
     match out_of(rt.alloc(), case) {
-        Ok(mut out) => match run_case(rt, case, site, &mut out) {
-            Ok(served) => {
-                show_served(rt, case, served, out.octets())?;
-                show_site(&rt, site)
-            }
-            Err(_) => println!(rt; "no memory"),
-        },
+        Ok(mut out) => {
+            let end = show_run(rt, case, site, &mut out);
+            drop(out);
+            end
+        }
+        Err(_) => println!(rt; "no memory"),
+    }
+}
+
+fn show_run<R: Print + AllocGlobal + Threads + Wait + Sync + Copy + Drop>(
+    rt: R,
+    case: &mut Case,
+    site: &mut MemWireSite,
+    out: &mut MemSink,
+) -> io::Result<()> {
+    match run_case(rt, case, site, out) {
+        Ok(served) => {
+            show_served(rt, case, served, out.octets())?;
+            show_site(&rt, site)
+        }
         Err(_) => println!(rt; "no memory"),
     }
 }

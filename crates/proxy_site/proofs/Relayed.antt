@@ -8,7 +8,7 @@ use Rattle.relay_laws.specs.Pairs.{is_open}
 use Rattle.relay_work.specs.Belonging.{Belong, Belongs}
 use Rattle.relay_work.specs.Live.{live_of}
 use Rattle.relay_work.specs.Works.{WorksFrom}
-use Rattle.relay_work.specs.declared.ended.RelayEnded.{RelayEnded}
+use Rattle.relay_work.specs.declared.turns.RelayEnded.{RelayEnded}
 use Rattle.session_config.specs.ClusterNames.{names_in}
 use Rattle.session_run.specs.Ends.{AppendsFront}
 use Rattle.session_run.specs.declared.status.Status.{Status}
@@ -20,7 +20,7 @@ use Rattle.std.specs.Prelude.{List, None, Option, Some, [], length, nat_eq, fals
 use Rattle.tcp_relay.specs.Rests.{Rests}
 use Rattle.tcp_relay.specs.declared.relay.Relay.{Relay}
 use Rattle.worker_ports.specs.Wires.{Seen, is_live}
-use Rattle.relay_work.specs.declared.ended.RelayEnded.TheVariants as ended
+use Rattle.relay_work.specs.declared.turns.RelayEnded.TheVariants as ended
 use Rattle.session_run.specs.declared.status.Status.TheVariants as status
 
 -- ---- nothing was written

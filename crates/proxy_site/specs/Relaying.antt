@@ -5,7 +5,7 @@ use Rattle.proxy_config.specs.declared.config.Config.{Config}
 use Rattle.proxy_site.specs.Sites.{TellsAll, TellsNoMore, Told}
 use Rattle.relay_work.specs.Live.{live_of}
 use Rattle.relay_work.specs.Works.{Works}
-use Rattle.relay_work.specs.declared.ended.RelayEnded.{RelayEnded}
+use Rattle.relay_work.specs.declared.turns.RelayEnded.{RelayEnded}
 use Rattle.session_config.specs.ClusterNames.{names_in}
 use Rattle.session_run.specs.Ends.{AppendsFront}
 use Rattle.session_run.specs.declared.status.Status.{Status}
@@ -14,7 +14,7 @@ use Rattle.std.specs.Prelude.{List, Option, [], codes, ℕ, ◌++◌, ◌≡◌,
 use Rattle.tcp_relay.specs.Rests.{Rests}
 use Rattle.tcp_relay.specs.declared.relay.Relay.{Relay}
 use Rattle.worker_ports.specs.Wires.{Seen}
-use Rattle.relay_work.specs.declared.ended.RelayEnded.TheVariants as ended
+use Rattle.relay_work.specs.declared.turns.RelayEnded.TheVariants as ended
 use Rattle.session_run.specs.declared.status.Status.TheVariants as status
 
 -- the first line of a relay's journal

@@ -3,7 +3,7 @@ use Rattle.proxy_wire.specs.Working.{EndsSo, ends_status, is_fault, is_memory, i
 use Rattle.std.proofs.Common.{inl, inr, refl}
 use Rattle.std.specs.List.{list_any}
 use Rattle.std.specs.Prelude.{Bool, List, false, if◌then◌else◌, true, ◌≡◌}
-use Rattle.worker_loop.specs.declared.ended.Ended.{Ended}
+use Rattle.worker_loop.specs.declared.turns.Ended.{Ended}
 use Rattle.session_run.specs.declared.status.Status.TheVariants as status
 
 pub threads_so : (ends : List Ended) → EndsSo (threads_status ends) ends

@@ -25,7 +25,7 @@ use Rattle.std.specs.Io.KnownBytes.{Appends}
 use Rattle.std.specs.List.{All, list_any}
 use Rattle.std.specs.Vec.{with_items}
 use Rattle.std.specs.Prelude.{Bool, Err, IfOk, List, MatchResult, Ok, OnErr, Option, Result, [], false, if◌then◌else◌, length, map, reverse, slice_index_or, suc, true, ℕ, ◌<◌, ◌||◌, ◌∷◌, ◌≡◌, ◌≤◌, ◌⊎◌}
-use Rattle.worker_loop.specs.declared.ended.Ended.{Ended}
+use Rattle.worker_loop.specs.declared.turns.Ended.{Ended}
 use Rattle.worker_ports.specs.Wires.{Seen}
 use Rattle.worker_ports.specs.declared.ports.OpenGate.{OpenGate}
 use Rattle.worker_threads.specs.Starting.{IsReady, Outside, Worked, WorkedEach}
@@ -33,7 +33,7 @@ use Rattle.worker_threads.specs.declared.worker.Shared.{Shared}
 use Rattle.worker_threads.specs.declared.worker.Worker.{Worker}
 use Rattle.proxy_wire.specs.declared.end.LoopEnd.TheVariants as loops
 use Rattle.session_run.specs.declared.status.Status.TheVariants as status
-use Rattle.worker_loop.specs.declared.ended.Ended.TheVariants as ended
+use Rattle.worker_loop.specs.declared.turns.Ended.TheVariants as ended
 
 -- ---- a fault of one worker
 pub rose_some : (a b : ℕ) → Rose a b → 0 < b

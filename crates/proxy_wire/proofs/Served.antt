@@ -1,6 +1,6 @@
 -- The proxy listened, or it didn't.
 use Rattle.io_ports.specs.Faults.{Rose}
-use Rattle.metered_wires.specs.declared.metered.MeteredWires.{MeteredWires}
+use Rattle.metered_wires.specs.declared.metering.MeteredWires.{MeteredWires}
 use Rattle.proxy_config.specs.declared.config.Config.{Config}
 use Rattle.proxy_site.proofs.Relayed.{rose_later}
 use Rattle.proxy_site.specs.Relaying.{IsCutShort, SiteOrOut}

@@ -8,8 +8,8 @@ use Rattle.proxy_wire.specs.Crews.{IsStaff, SharesOf}
 use Rattle.proxy_wire.specs.Leading.{Leads}
 use Rattle.proxy_wire.specs.Tasks.{IsTask}
 use Rattle.proxy_wire.specs.declared.crew.Staff.{Staff}
+use Rattle.proxy_wire.specs.declared.crew.Task.{Task}
 use Rattle.proxy_wire.specs.declared.leading.Leader.{Leader}
-use Rattle.proxy_wire.specs.declared.task.Task.{Task}
 use Rattle.shared_state.specs.PermitSeats as permit
 use Rattle.shared_state.specs.declared.permit_rule.PermitView.{PermitView}
 use Rattle.shared_state.specs.declared.permits.PermitSeat.{PermitSeat}

@@ -10,7 +10,7 @@ use Rattle.proxy_wire.specs.declared.end.WireEnd.{WireEnd}
 use Rattle.session_run.specs.Ends.{AppendsFront}
 use Rattle.std.specs.Io.KnownBytes.{Appends}
 use Rattle.std.specs.Prelude.{List, Option, length, ℕ, ◌≡◌, ◌⊎◌}
-use Rattle.worker_loop.specs.declared.ended.Ended.{Ended}
+use Rattle.worker_loop.specs.declared.turns.Ended.{Ended}
 use Rattle.worker_ports.specs.declared.ports.OpenGate.{OpenGate}
 use Rattle.worker_threads.specs.Starting.{Outside, WorkedEach}
 use Rattle.worker_threads.specs.declared.worker.Shared.{Shared}

@@ -1,6 +1,6 @@
 -- What the proxy of HTTP/2 does under its configuration.
 use Rattle.metered_wires.specs.Rising.{untold}
-use Rattle.metered_wires.specs.declared.metered.MeteredWires.{MeteredWires}
+use Rattle.metered_wires.specs.declared.metering.MeteredWires.{MeteredWires}
 use Rattle.proxy_config.specs.declared.config.Config.{Config}
 use Rattle.proxy_site.specs.Relaying.{IsCutShort, listening_line}
 use Rattle.proxy_site.specs.Serving.{HasConfig, HasNoConfig}
@@ -12,7 +12,7 @@ use Rattle.session_run.specs.Ends.{AppendsFront}
 use Rattle.session_run.specs.declared.status.Status.{Status}
 use Rattle.std.specs.Io.KnownBytes.{Appends}
 use Rattle.std.specs.Prelude.{List, Option, length, slice_index_or, ℕ, ◌<◌, ◌≡◌, ◌≤◌, ◌⊎◌}
-use Rattle.worker_loop.specs.declared.ended.Ended.{Ended}
+use Rattle.worker_loop.specs.declared.turns.Ended.{Ended}
 use Rattle.worker_parts.specs.Journals.{header}
 use Rattle.worker_ports.specs.Wires.{Seen}
 use Rattle.worker_ports.specs.declared.wires.Wires.{Ghosts}

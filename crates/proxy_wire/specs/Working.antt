@@ -6,14 +6,14 @@ use Rattle.std.specs.Io.KnownBytes.{Appends}
 use Rattle.std.specs.List.{list_any}
 use Rattle.std.specs.Prelude.{Bool, List, Option, [], false, if◌then◌else◌, length, slice_index_or, true, ℕ, ◌<◌, ◌≡◌, ◌⊎◌}
 use Rattle.worker_core.specs.Sessions.{IsNew, RestsWire}
-use Rattle.worker_loop.specs.declared.ended.Ended.{Ended}
+use Rattle.worker_loop.specs.declared.turns.Ended.{Ended}
 use Rattle.worker_parts.specs.Journals.{header}
 use Rattle.worker_ports.specs.declared.ports.OpenGate.{OpenGate}
 use Rattle.worker_threads.specs.Starting.{Outside, Worked}
 use Rattle.worker_threads.specs.declared.worker.Shared.{Shared}
 use Rattle.worker_threads.specs.declared.worker.Worker.{Worker}
 use Rattle.session_run.specs.declared.status.Status.TheVariants as status
-use Rattle.worker_loop.specs.declared.ended.Ended.TheVariants as ended
+use Rattle.worker_loop.specs.declared.turns.Ended.TheVariants as ended
 
 abbrev pub is_fault : Ended → Bool
 is_fault ended.WiresFault = true

@@ -8,7 +8,6 @@ ghost use Rattle.shared_state.specs.PermitSeats.{IsSeatOf, seats_in};
 ghost use Rattle.worker_core.specs.Sessions.{IsNew, RestsWire};
 
 use crate::meter::Unmetered;
-use crate::task::Task;
 use io_ports::NoMemory;
 use post_queue::RunnerPass;
 use proxy_config::{Config, read_config};
@@ -19,6 +18,14 @@ use std::sync::atomic::{AtomicBool, AtomicU32};
 use worker_core::Core;
 use worker_ports::OpenGate;
 use worker_threads::{Shared, Worker};
+
+/// What the workers are to do: under which configuration, which was read from which text, and for how many turns each.
+#[derive(Drop)]
+pub(crate) struct Task<'a> {
+    pub config: &'a Config,
+    pub text: &'a [u8],
+    pub turns: u64,
+}
 
 /// The workers that were fitted, and what they share. It can't be dropped: `give_back_all` ends it.
 pub(crate) struct Crew<M, C, L> {

@@ -13,12 +13,11 @@ ghost use Rattle.session_run.specs.declared.status.Status.TheVariants as status;
 ghost use Rattle.shared_state.specs.PermitSeats.{IsSeatOf, seats_in};
 ghost use Rattle.worker_threads.specs.Starting.{outside_of};
 
-use crate::crew::{Crew, Parts, Supply, take_next};
+use crate::crew::{Crew, Parts, Supply, Task, take_next};
 use crate::end::{WireEnd, unfitted};
 use crate::leading::Leader;
 use crate::meter::Meter;
 use crate::site::WireSite;
-use crate::task::Task;
 use io_ports::Failed;
 use proxy_config::Config;
 use std::alloc::Global;

@@ -5,10 +5,10 @@ ghost use Rattle.post_queue.specs.Clauses.{IsPosterOf, IsRunnerOf};
 ghost use Rattle.proxy_wire.specs.Leading.{Accepts, ArePosters, Leads, Looks};
 ghost use Rattle.proxy_wire.specs.LoopEnds.{EndsByFault};
 
+use crate::crew::Task;
 use crate::end::LoopEnd;
 use crate::meter::Tokens;
 use crate::site::WireSite;
-use crate::task::Task;
 use flow_notes::Job;
 use io_ports::{Failed, NoMemory, PressureList};
 use overload_core::{action_states, is_saturated};

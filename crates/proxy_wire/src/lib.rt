@@ -13,7 +13,6 @@ mod metering;
 mod serve;
 mod serving;
 mod site;
-mod task;
 mod working;
 
 pub use end::WireEnd;

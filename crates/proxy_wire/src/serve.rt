@@ -10,11 +10,11 @@ ghost use Rattle.proxy_wire.specs.Serving.{ServesConfig, ServesWire};
 ghost use Rattle.proxy_wire.specs.Tasks.{IsTask};
 ghost use Rattle.worker_threads.specs.Starting.{outside_of};
 
+use crate::crew::Task;
 use crate::end::WireEnd;
 use crate::form::{ProxyForm, read_proxy_form};
 use crate::serving::serve_wire;
 use crate::site::WireSite;
-use crate::task::Task;
 use io_ports::{Sink, Source};
 use proxy_config::{ConfigFault, read_config};
 use proxy_site::{ServeReason, Status, end_at_config, serve_with_reason};

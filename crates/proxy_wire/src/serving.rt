@@ -5,16 +5,15 @@ ghost use Rattle.proxy_wire.specs.Crews.{IsStaff};
 ghost use Rattle.proxy_wire.specs.Leading.{Leads};
 ghost use Rattle.proxy_wire.specs.Serving.{AllRan, NoneRan, ServesWire, metered_outside, wire_status};
 ghost use Rattle.proxy_wire.specs.Tasks.{IsTask};
-ghost use Rattle.metered_wires.specs.declared.metered.MeteredWires.{MeteredWires};
+ghost use Rattle.metered_wires.specs.declared.metering.MeteredWires.{MeteredWires};
 ghost use Rattle.worker_threads.specs.Starting.{outside_of};
 
-use crate::crew::{Staff, Supply, metered, share};
+use crate::crew::{Staff, Supply, Task, metered, share};
 use crate::end::WireEnd;
 use crate::leading::Leader;
 use crate::meter::Unmetered;
 use crate::metering::Metering;
 use crate::site::WireSite;
-use crate::task::Task;
 use crate::working::run;
 use io_ports::{NoMemory, Octets, PressureList, Sink};
 use proxy_config::Config;

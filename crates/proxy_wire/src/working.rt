@@ -14,14 +14,13 @@ ghost use Rattle.shared_state.specs.PermitSeats.{IsSeatOf, seats_in};
 ghost use Rattle.worker_threads.specs.Starting.{IsReady, outside_of};
 
 use crate::beside::run_beside;
-use crate::crew::{Crew, Staff, Supply};
+use crate::crew::{Crew, Staff, Supply, Task};
 use crate::end::{WireEnd, end_of};
 use crate::giving_back::give_back_all;
 use crate::hiring::hire_all;
 use crate::leading::Leader;
 use crate::meter::Meter;
 use crate::site::WireSite;
-use crate::task::Task;
 use io_ports::{Failed, Octets, Sink};
 use proxy_site::put_listening;
 use session_run::write_all;

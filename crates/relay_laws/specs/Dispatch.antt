@@ -4,7 +4,7 @@ use Rattle.flow_notes.specs.declared.notes.Note.{Note}
 use Rattle.relay_laws.specs.Given.{given}
 use Rattle.relay_laws.specs.Pairs.{Tape, feed, goes_to, opposite}
 use Rattle.relay_laws.specs.Watermark.{drains_at, rises_at}
-use Rattle.relay_laws.specs.declared.feed.Feed.{Feed}
+use Rattle.relay_laws.specs.declared.Feed.{Feed}
 use Rattle.std.specs.Prelude.{List, None, Option, Some, [], if◌then◌else◌, ℕ, ◌++◌, ◌+◌, ◌∷◌}
 use Rattle.tape_laws.specs.Dispatches.{turns}
 use Rattle.tape_laws.specs.History.{Noted, onto}

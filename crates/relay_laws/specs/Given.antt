@@ -3,7 +3,7 @@ use Rattle.flow_notes.specs.declared.events.Event.{Event}
 use Rattle.flow_notes.specs.declared.notes.Note.{Note}
 use Rattle.relay_laws.specs.Pairs.{Tape, feed, free, is_open, pairs}
 use Rattle.relay_laws.specs.World.{out}
-use Rattle.relay_laws.specs.declared.feed.Feed.{Feed}
+use Rattle.relay_laws.specs.declared.Feed.{Feed}
 use Rattle.std.specs.Prelude.{List, None, Option, Some, [], drop, if◌then◌else◌, is_none, length, min, nat_lt, ℕ, ◌&&◌, ◌++◌, ◌+◌, ◌==◌, ◌∷◌}
 use Rattle.tape_laws.specs.History.{Noted}
 use Rattle.flow_notes.specs.declared.notes.Cause.TheVariants as cause

@@ -3,7 +3,7 @@ use Rattle.relay_laws.specs.Given.{owed}
 use Rattle.relay_laws.specs.Pairs.{Tape, feed, goes_to, opposite}
 use Rattle.relay_laws.specs.Watermark.{drains, rises}
 use Rattle.relay_laws.specs.World.{out}
-use Rattle.relay_laws.specs.declared.feed.Feed.{Feed}
+use Rattle.relay_laws.specs.declared.Feed.{Feed}
 use Rattle.std.specs.Prelude.{IfSome, Some, [], length, ℕ, ◌+◌, ◌<◌, ◌≡◌, ◌≤◌}
 use Rattle.tape_laws.specs.Dispatches.{turns}
 use Rattle.tape_laws.specs.Doomed.{LeavesDoomed}

@@ -3,7 +3,7 @@ use Rattle.relay_laws.specs.Lawful.{EachPaired}
 use Rattle.relay_laws.specs.Order.{is_new}
 use Rattle.relay_laws.specs.Pairs.{Tape, feed, free, goes_to, is_open, opposite, pairs}
 use Rattle.relay_laws.specs.World.{out}
-use Rattle.relay_laws.specs.declared.feed.Feed.{Feed}
+use Rattle.relay_laws.specs.declared.Feed.{Feed}
 use Rattle.std.specs.Prelude.{List, None, Some, [], false, true, ℕ, ◌<◌, ◌∷◌, ◌≡◌, ◌≤◌}
 use Rattle.std.specs.List.{AllByRecursion}
 use Rattle.tape_laws.specs.Dispatches.{events_back, has}

@@ -2,6 +2,11 @@
 //! histories, which are tapes with their newest note first. No relay is named here.
 #![tactic(auto)]
 
-mod feed;
+use flow_gate::FlowId;
 
-pub use feed::Feed;
+/// The flow that comes from a connection, and the connection that it goes to.
+#[derive(Clone, Copy, Debug, PartialEq, Eq)]
+pub struct Feed {
+    pub flow: FlowId,
+    pub to: u32,
+}

@@ -9,8 +9,8 @@ ghost use Rattle.relay_ports.specs.Memory.{AreMost, IsAbove, Rises, answer_of, c
 ghost use Rattle.worker_ports.specs.Wires.{Gives, MayCome, closed, greatest_after, is_held, is_live, offered};
 ghost use Rattle.worker_ports.specs.declared.wires.WireRefusal.TheVariants as refusal;
 
+use crate::Taps;
 use crate::live::{has, hold, insert, is_free, is_held, remove};
-use crate::taps::Taps;
 use io_ports::{Failed, NoMemory};
 use mem_ports::{Kept, Room, Steps};
 use std::alloc::Global;

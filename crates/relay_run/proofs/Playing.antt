@@ -13,7 +13,7 @@ use Rattle.relay_laws.specs.Pairs.{Tape, feed}
 use Rattle.relay_laws.specs.Session.{MayRelayAll, is_held, reads_paused, relay_tape}
 use Rattle.relay_laws.specs.Watermark.{above}
 use Rattle.relay_laws.specs.World.{out}
-use Rattle.relay_laws.specs.declared.feed.Feed.{Feed}
+use Rattle.relay_laws.specs.declared.Feed.{Feed}
 use Rattle.relay_run.proofs.Following.{comes, one_item, spells_none, spells_wire}
 use Rattle.relay_run.specs.Lines.{IsRelaySeen, MayComeRelay, SpellsNoRelay, SpellsRelay, seen_tape}
 use Rattle.relay_run.specs.Logs.{RelayLogIs, RelayLogs}
@@ -36,7 +36,7 @@ use Rattle.std.specs.Prelude.{Bool, Err, List, None, Ok, OnOk, Option, Result, S
 use Rattle.tape_laws.specs.Dispatches.{events_back}
 use Rattle.tape_laws.specs.History.{Noted, onto}
 use Rattle.tape_laws.specs.Text.{note_line, tape_text}
-use Rattle.tape_laws.specs.declared.limits.PlainLimits.{PlainLimits}
+use Rattle.tape_laws.specs.declared.PlainLimits.{PlainLimits}
 use Rattle.tape_summary.specs.NotesText.{notes_text}
 use Rattle.tcp_relay.specs.Rests.{GoesOn, GoesOnFrom, RefusesFrom, Rests, held_behind, held_by}
 use Rattle.tcp_relay.specs.Turns.{Refuses}

@@ -11,14 +11,14 @@ use Rattle.relay_work.specs.Live.{Live, live_of}
 use Rattle.relay_work.specs.Settling.{AreCloses}
 use Rattle.relay_work.specs.Turning.{Answered, AnswersFrom, TurnedCut, event_at}
 use Rattle.relay_work.specs.Turns.{tells_stop}
-use Rattle.relay_work.specs.declared.ended.RelayEnded.{RelayEnded}
+use Rattle.relay_work.specs.declared.turns.RelayEnded.{RelayEnded}
 use Rattle.std.proofs.Common.{ap, refl, subst, sym}
 use Rattle.std.proofs.lemmas.Option.{same_Some}
 use Rattle.std.specs.Prelude.{Bool, Err, List, None, Ok, Option, Some, [], ℕ, ◌≡◌}
 use Rattle.worker_ports.specs.Told.{with_last}
 use Rattle.worker_ports.specs.Wires.{Gives, Seen, given}
 use Rattle.worker_ports.specs.declared.wires.Wired.{Wired}
-use Rattle.relay_work.specs.declared.ended.RelayEnded.TheVariants as ended
+use Rattle.relay_work.specs.declared.turns.RelayEnded.TheVariants as ended
 use Rattle.worker_ports.specs.declared.wires.WireStep.TheVariants as step
 use Rattle.worker_ports.specs.declared.wires.Wired.TheVariants as wired
 

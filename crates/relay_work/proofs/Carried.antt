@@ -10,7 +10,7 @@ use Rattle.relay_work.specs.Carrying.{Carries, CarriesFrom, IsReady, PartsFrom, 
 use Rattle.relay_work.specs.Dispatching.{CanTake, KeepsLine, LineCut, Taken, Takes, TakesFrom, line_of}
 use Rattle.relay_work.specs.Live.{Live, live_of}
 use Rattle.relay_work.specs.Settling.{SettlesFrom, SettlesOne, Unsettled, others, peer_in}
-use Rattle.relay_work.specs.declared.ended.RelayEnded.{RelayEnded}
+use Rattle.relay_work.specs.declared.turns.RelayEnded.{RelayEnded}
 use Rattle.session_run.specs.Ends.{AppendsFront}
 use Rattle.io_ports.specs.Faults.{Rose}
 use Rattle.std.proofs.Common.{ap, arith, inl, inr, refl, subst, sym, ◌∙◌}
@@ -27,7 +27,7 @@ use Rattle.tcp_relay.specs.declared.fault.RelayFault.{RelayFault}
 use Rattle.tcp_relay.specs.declared.interests.Interests.{Interests}
 use Rattle.tcp_relay.specs.declared.relay.Relay.{Relay}
 use Rattle.worker_ports.specs.Wires.{Seen}
-use Rattle.relay_work.specs.declared.ended.RelayEnded.TheVariants as ended
+use Rattle.relay_work.specs.declared.turns.RelayEnded.TheVariants as ended
 use Rattle.tcp_relay.specs.declared.fault.RelayFault.TheVariants as fault
 use Rattle.tcp_relay.specs.declared.interests.Interests.TheVariants as interests
 

@@ -7,7 +7,7 @@ use Rattle.relay_work.specs.Events.{events_in, lines_of, shown_after, tape_after
 use Rattle.relay_work.specs.Live.{Live}
 use Rattle.relay_work.specs.Turns.{with_all}
 use Rattle.relay_work.specs.Works.{Cut, Does, DoesCut, EndsCut, Stands}
-use Rattle.relay_work.specs.declared.ended.RelayEnded.{RelayEnded}
+use Rattle.relay_work.specs.declared.turns.RelayEnded.{RelayEnded}
 use Rattle.std.proofs.Common.{ap, append_assoc, subst, sym, ◌∙◌}
 use Rattle.std.proofs.KnownBytes.{Appends-trans}
 use Rattle.std.specs.Io.KnownBytes.{Appends}
@@ -15,7 +15,7 @@ use Rattle.std.specs.Prelude.{List, ℕ, ◌++◌, ◌≡◌}
 use Rattle.tape_laws.specs.Dispatches.{events_back}
 use Rattle.tcp_relay.specs.Rests.{Rests}
 use Rattle.worker_ports.specs.declared.wires.WireStep.{WireStep}
-use Rattle.relay_work.specs.declared.ended.RelayEnded.TheVariants as ended
+use Rattle.relay_work.specs.declared.turns.RelayEnded.TheVariants as ended
 
 module _ (limit : ℕ) (names : List (List ℕ)) (h : Tape) (old mid new : Live) (s : List WireStep) (p : Does limit names h old s mid) where
   abbrev pub here : Tape

@@ -1,6 +1,6 @@
 -- What an event leaves of the connections of a relay.
 use Rattle.flow_notes.specs.declared.events.Event.{Event}
-use Rattle.relay_laws.specs.declared.feed.Feed.{Feed}
+use Rattle.relay_laws.specs.declared.Feed.{Feed}
 use Rattle.relay_work.specs.Settling.{peer_in}
 use Rattle.std.proofs.Common.{ap, refl, subst, sym, ◌∙◌}
 use Rattle.std.specs.Prelude.{Bool, List, None, Option, Some, [], drop, false, if◌then◌else◌, is_none, is_some, length, not, option_map, true, ℕ, ◌&&◌, ◌+◌, ◌==◌, ◌∷◌, ◌≡◌}

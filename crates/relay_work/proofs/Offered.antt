@@ -11,7 +11,7 @@ use Rattle.relay_work.specs.Events.{event_in, event_taken, tape_with}
 use Rattle.relay_work.specs.Live.{Live, live_of}
 use Rattle.relay_work.specs.Offering.{IsPiece, OffersOne, OffersOneAs, OffersOneCut, OffersOneFrom, Waits}
 use Rattle.relay_work.specs.Settling.{AreCloses}
-use Rattle.relay_work.specs.declared.ended.RelayEnded.{RelayEnded}
+use Rattle.relay_work.specs.declared.turns.RelayEnded.{RelayEnded}
 use Rattle.std.proofs.Common.{ap, arith, refl, subst, sym, ◌∙◌}
 use Rattle.std.proofs.lemmas.Bool.Decides.{nat_tests}
 use Rattle.std.proofs.lemmas.List.{length-take, take-append-drop, take-append-le}
@@ -23,7 +23,7 @@ use Rattle.tcp_relay.specs.declared.relay.Relay.{Relay}
 use Rattle.worker_ports.specs.Wires.{Seen, offered}
 use Rattle.worker_ports.specs.declared.wires.WireStep.{WireStep}
 use Rattle.flow_notes.specs.declared.events.Event.TheVariants as event
-use Rattle.relay_work.specs.declared.ended.RelayEnded.TheVariants as ended
+use Rattle.relay_work.specs.declared.turns.RelayEnded.TheVariants as ended
 use Rattle.worker_ports.specs.declared.wires.WireStep.TheVariants as step
 
 -- ---- a front of a front

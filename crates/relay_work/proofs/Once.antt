@@ -11,7 +11,7 @@ use Rattle.relay_work.specs.Live.{Live, live_of}
 use Rattle.relay_work.specs.Settling.{AreCloses}
 use Rattle.relay_work.specs.Turns.{with_all}
 use Rattle.relay_work.specs.Works.{Cut, Does, DoesCut}
-use Rattle.relay_work.specs.declared.ended.RelayEnded.{RelayEnded}
+use Rattle.relay_work.specs.declared.turns.RelayEnded.{RelayEnded}
 use Rattle.std.proofs.Common.{ap, arith, inl, refl, subst, sym, ◌∙◌}
 use Rattle.std.proofs.KnownBytes.{Appends-nil}
 use Rattle.std.proofs.lemmas.List.{append-nil}
@@ -23,7 +23,7 @@ use Rattle.tcp_relay.specs.Rests.{Rests}
 use Rattle.worker_ports.specs.Told.{with_last}
 use Rattle.worker_ports.specs.Wires.{Seen}
 use Rattle.worker_ports.specs.declared.wires.WireStep.{WireStep}
-use Rattle.relay_work.specs.declared.ended.RelayEnded.TheVariants as ended
+use Rattle.relay_work.specs.declared.turns.RelayEnded.TheVariants as ended
 
 -- ---- nothing was done
 pub no_step : (limit : ℕ) (names : List (List ℕ)) (h : Tape) (old : Live) → Belong limit names old.relay old.seen h → Does limit names h old [] old

@@ -5,7 +5,7 @@ use Rattle.relay_laws.specs.Order.{is_new, named}
 use Rattle.relay_laws.specs.Pairs.{Tape, feed}
 use Rattle.relay_laws.specs.Watermark.{above}
 use Rattle.relay_laws.specs.World.{out}
-use Rattle.relay_laws.specs.declared.feed.Feed.{Feed}
+use Rattle.relay_laws.specs.declared.Feed.{Feed}
 use Rattle.relay_work.proofs.Settled.{any_gone, any_other}
 use Rattle.relay_work.specs.Belonging.{Belong}
 use Rattle.relay_work.specs.Carrying.{Ready}

@@ -2,7 +2,7 @@
 use Rattle.relay_laws.specs.Order.{named}
 use Rattle.relay_laws.specs.Pairs.{Tape, feed, is_open}
 use Rattle.relay_laws.specs.Session.{IsTape}
-use Rattle.relay_laws.specs.declared.feed.Feed.{Feed}
+use Rattle.relay_laws.specs.declared.Feed.{Feed}
 use Rattle.relay_work.proofs.Steps.{closes_both, told_append, told_none}
 use Rattle.relay_work.specs.Belonging.{Belong}
 use Rattle.relay_work.specs.Settling.{SettlesFrom, SettlesOne, SettlesOneFrom, Unsettled, list_of, others, peer_in}

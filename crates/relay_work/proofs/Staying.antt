@@ -5,7 +5,7 @@ use Rattle.relay_laws.specs.Dispatch.{dispatch_notes}
 use Rattle.relay_laws.specs.Order.{is_new, named}
 use Rattle.relay_laws.specs.Pairs.{Tape, feed, is_open}
 use Rattle.relay_laws.specs.Sound.{IsSound}
-use Rattle.relay_laws.specs.declared.feed.Feed.{Feed}
+use Rattle.relay_laws.specs.declared.Feed.{Feed}
 use Rattle.relay_work.proofs.Leaving.{gone_closed, read_feeds, room_feeds}
 use Rattle.relay_work.proofs.Touching.{open_of, unsettled}
 use Rattle.relay_work.specs.Belonging.{Belong}

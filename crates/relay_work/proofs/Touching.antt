@@ -5,7 +5,7 @@ use Rattle.relay_laws.specs.Order.{named}
 use Rattle.relay_laws.specs.Pairs.{Tape, feed, free, is_open, opposite}
 use Rattle.relay_laws.specs.Sound.{IsFresh, IsPaired, IsSound}
 use Rattle.relay_laws.specs.Watermark.{above}
-use Rattle.relay_laws.specs.declared.feed.Feed.{Feed}
+use Rattle.relay_laws.specs.declared.Feed.{Feed}
 use Rattle.relay_work.proofs.Leaving.{IsAt, accepted_feeds, first_of, gone_closed, lines_kept, other_of, others_open, read_opens, room_opens}
 use Rattle.relay_work.specs.Carrying.{IsOf, Ready}
 use Rattle.relay_work.specs.Dispatching.{MayTake, Taken}

@@ -11,14 +11,14 @@ use Rattle.relay_work.specs.Settling.{AreCloses}
 use Rattle.relay_work.specs.Turning.{Answered, AnswersFrom, Turned, TurnedCut, TurnsFrom, Turning, TurningFrom}
 use Rattle.relay_work.specs.Turns.{AreTurns, Begins, IsTurn, Offers, is_stop, joined, reached}
 use Rattle.relay_work.specs.Works.{AllTurns, Does, Short, UntilStop, Works, WorksFrom}
-use Rattle.relay_work.specs.declared.ended.RelayEnded.{RelayEnded}
+use Rattle.relay_work.specs.declared.turns.RelayEnded.{RelayEnded}
 use Rattle.std.proofs.Common.{ap, append_assoc, arith, inl, inr, refl, subst, sym, ◌∙◌}
 use Rattle.std.specs.Prelude.{Bool, Err, List, None, Ok, Some, [], false, length, true, ℕ, ◌+◌, ◌++◌, ◌<◌, ◌∷◌, ◌≡◌, ◌⊎◌}
 use Rattle.tcp_relay.specs.Rests.{ShowsOut, has_octets}
 use Rattle.tcp_relay.specs.Seen.{IsLeast}
 use Rattle.worker_ports.specs.declared.wires.WireStep.{WireStep}
 use Rattle.worker_ports.specs.declared.wires.Wired.{Wired}
-use Rattle.relay_work.specs.declared.ended.RelayEnded.TheVariants as ended
+use Rattle.relay_work.specs.declared.turns.RelayEnded.TheVariants as ended
 use Rattle.worker_ports.specs.declared.wires.WireStep.TheVariants as step
 
 module _ (limit : ℕ) (names : List (List ℕ)) (h : Tape) where

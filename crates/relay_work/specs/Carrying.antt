@@ -8,7 +8,7 @@ use Rattle.relay_work.specs.Dispatching.{LineCut, LineOrNone, MayTake, line_of}
 use Rattle.relay_work.specs.Live.{Live}
 use Rattle.relay_work.specs.Settling.{AreCloses, peer_in}
 use Rattle.relay_work.specs.Turns.{with_all}
-use Rattle.relay_work.specs.declared.ended.RelayEnded.{RelayEnded}
+use Rattle.relay_work.specs.declared.turns.RelayEnded.{RelayEnded}
 use Rattle.std.specs.Io.KnownBytes.{Appends}
 use Rattle.std.specs.List.{AllByRecursion}
 use Rattle.std.specs.Prelude.{Err, List, None, Ok, Option, Result, false, length, not, true, ℕ, ◌==◌, ◌∷◌, ◌≡◌, ◌≤◌}
@@ -20,7 +20,7 @@ use Rattle.tcp_relay.specs.declared.relay.Relay.{Relay}
 use Rattle.worker_ports.specs.Wires.{Seen, is_held, is_live}
 use Rattle.worker_ports.specs.declared.wires.WireStep.{WireStep}
 use Rattle.flow_notes.specs.declared.events.Event.TheVariants as event
-use Rattle.relay_work.specs.declared.ended.RelayEnded.TheVariants as ended
+use Rattle.relay_work.specs.declared.turns.RelayEnded.TheVariants as ended
 
 -- the connection of an event is live as the event says
 abbrev pub IsOf : Event → ℕ → Seen → Tape → Type 0

@@ -5,7 +5,7 @@ use Rattle.flow_notes.specs.declared.events.Event.{Event}
 use Rattle.relay_laws.specs.Dispatch.{dispatch_notes}
 use Rattle.relay_laws.specs.Order.{MayCome}
 use Rattle.relay_laws.specs.Pairs.{Tape}
-use Rattle.relay_work.specs.declared.ended.RelayEnded.{RelayEnded}
+use Rattle.relay_work.specs.declared.turns.RelayEnded.{RelayEnded}
 use Rattle.std.specs.Io.KnownBytes.{Appends}
 use Rattle.std.specs.Prelude.{Err, List, None, Ok, Option, Result, [], ℕ, ◌++◌, ◌∷◌, ◌≡◌, ◌⊎◌}
 use Rattle.tape_laws.specs.Dispatches.{events_back}
@@ -14,7 +14,7 @@ use Rattle.tcp_relay.specs.Interests.{AreKept}
 use Rattle.tcp_relay.specs.Rests.{Rests, held_by}
 use Rattle.tcp_relay.specs.declared.interests.Interests.{Interests}
 use Rattle.tcp_relay.specs.declared.relay.Relay.{Relay}
-use Rattle.relay_work.specs.declared.ended.RelayEnded.TheVariants as ended
+use Rattle.relay_work.specs.declared.turns.RelayEnded.TheVariants as ended
 
 -- a relay at rest, and an event that may come and doesn't read a paused flow
 pub record MayTake (limit : ℕ) (names : List (List ℕ)) (relay : Relay) (e : Event) (h : Tape) : Type 0 where

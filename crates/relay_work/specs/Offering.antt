@@ -7,7 +7,7 @@ use Rattle.relay_work.specs.Live.{Live}
 use Rattle.relay_work.specs.Settling.{AreCloses}
 use Rattle.relay_work.specs.Turns.{Offers, reached}
 use Rattle.relay_work.specs.Works.{Cut, Does, DoesCut}
-use Rattle.relay_work.specs.declared.ended.RelayEnded.{RelayEnded}
+use Rattle.relay_work.specs.declared.turns.RelayEnded.{RelayEnded}
 use Rattle.std.specs.Prelude.{Err, List, None, Ok, Result, [], length, true, ℕ, ◌++◌, ◌<◌, ◌∷◌, ◌≡◌, ◌≤◌}
 use Rattle.tcp_relay.specs.Rests.{has_octets}
 use Rattle.tcp_relay.specs.Seen.{IsFront, IsLeast}

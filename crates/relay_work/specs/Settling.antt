@@ -1,7 +1,7 @@
 -- What the connections are told of the relay after an event.
 use Rattle.relay_laws.specs.Order.{named}
 use Rattle.relay_laws.specs.Pairs.{Tape, feed, is_open}
-use Rattle.relay_laws.specs.declared.feed.Feed.{Feed}
+use Rattle.relay_laws.specs.declared.Feed.{Feed}
 use Rattle.relay_work.specs.Turns.{IsOver, with_all}
 use Rattle.std.specs.List.{AllByRecursion}
 use Rattle.std.specs.Prelude.{List, None, Option, Some, [], false, length, not, option_map, true, ℕ, ◌∷◌, ◌≡◌, ◌≤◌}

@@ -7,7 +7,7 @@ use Rattle.relay_work.specs.Live.{Live}
 use Rattle.relay_work.specs.Settling.{AreCloses}
 use Rattle.relay_work.specs.Turns.{AreTurns, Begins, IsTurn, NoneStops, is_stop, joined, tells_stop}
 use Rattle.relay_work.specs.Works.{Cut, Does, DoesCut}
-use Rattle.relay_work.specs.declared.ended.RelayEnded.{RelayEnded}
+use Rattle.relay_work.specs.declared.turns.RelayEnded.{RelayEnded}
 use Rattle.std.specs.Prelude.{Bool, Err, List, None, Ok, Option, Result, Some, length, ℕ, ◌++◌, ◌∷◌, ◌≡◌}
 use Rattle.worker_ports.specs.declared.wires.WireStep.{WireStep}
 use Rattle.worker_ports.specs.declared.wires.Wired.{Wired}

@@ -4,13 +4,13 @@ use Rattle.relay_work.specs.Belonging.{Belong}
 use Rattle.relay_work.specs.Events.{events_in, lines_of, shown_after, tape_after}
 use Rattle.relay_work.specs.Live.{Live}
 use Rattle.relay_work.specs.Turns.{AreTurns, Begins, LastStops, NoneStops, joined, with_all}
-use Rattle.relay_work.specs.declared.ended.RelayEnded.{RelayEnded}
+use Rattle.relay_work.specs.declared.turns.RelayEnded.{RelayEnded}
 use Rattle.std.specs.Io.KnownBytes.{Appends}
 use Rattle.std.specs.Prelude.{List, [], length, ℕ, ◌++◌, ◌≡◌, ◌≤◌, ◌⊎◌}
 use Rattle.tape_laws.specs.Dispatches.{events_back}
 use Rattle.tcp_relay.specs.Rests.{Rests}
 use Rattle.worker_ports.specs.declared.wires.WireStep.{WireStep}
-use Rattle.relay_work.specs.declared.ended.RelayEnded.TheVariants as ended
+use Rattle.relay_work.specs.declared.turns.RelayEnded.TheVariants as ended
 
 -- These steps were made, and their events dispatched: the connections tell the steps, the journal has the events' lines, and
 -- the relay and the connections belong together, of the tape that goes on with these events.

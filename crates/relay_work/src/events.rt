@@ -7,7 +7,7 @@ ghost use Rattle.relay_work.specs.Dispatching.{CanTake, KeepsLine, TakesFrom, li
 ghost use Rattle.relay_work.specs.Turning.{event_at};
 ghost use Rattle.relay_work.specs.Turns.{tells_stop};
 
-use crate::ended::RelayEnded;
+use crate::turns::RelayEnded;
 use flow_notes::{Event, Names, event_text};
 use io_ports::{Failed, Octets};
 use relay_ports::Journal;

@@ -9,7 +9,6 @@ ghost use Rattle.relay_work.specs.Turning.{AnswersFrom, TurnsFrom};
 ghost use Rattle.relay_work.specs.Works.{WorksFrom};
 ghost use Rattle.tcp_relay.specs.Seen.{IsFront};
 
-use crate::ended::RelayEnded;
 use crate::events::{dispatch, event_of, is_stop};
 use crate::settle::settle;
 use flow_notes::{Event, Names};
@@ -18,6 +17,21 @@ use relay_ports::{Journal, Taps};
 use std::alloc::Global;
 use tcp_relay::{Interests, Relay};
 use worker_ports::WireRefusal;
+
+/// How the work of a relay ended.
+#[derive(Clone, Copy, Debug, PartialEq, Eq)]
+pub enum RelayEnded {
+    /// After all its turns, in none of which it was to stop.
+    Turns,
+    /// At the end of a turn in which it was to stop.
+    Stopped,
+    /// The connections failed.
+    TapsFault,
+    /// The journal failed. The event whose line wasn't written wasn't dispatched.
+    JournalFault,
+    /// Out of memory.
+    Memory,
+}
 
 /// How many octets leave at once at most, as an event of room tells it.
 const MOST_ROOM: usize = 2_147_483_647;

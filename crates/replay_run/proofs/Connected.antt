@@ -10,7 +10,7 @@ use Rattle.tape_laws.specs.Connections.{connections}
 use Rattle.tape_laws.specs.Dispatches.{events_back}
 use Rattle.tape_laws.specs.History.{History, Marked, NoMark, Noted}
 use Rattle.tape_laws.specs.Plain.{plain_setup}
-use Rattle.tape_laws.specs.declared.limits.PlainLimits.{PlainLimits}
+use Rattle.tape_laws.specs.declared.PlainLimits.{PlainLimits}
 use Rattle.flow_notes.specs.declared.events.Event.TheVariants as event
 use Rattle.flow_notes.specs.declared.notes.Note.TheVariants as note
 

@@ -18,7 +18,7 @@ use Rattle.std.specs.Prelude.{Err, List, None, Ok, OnOk, Option, Result, Some, [
 use Rattle.tape_laws.specs.Dispatches.{events_back}
 use Rattle.tape_laws.specs.Following.{MayFollowAll}
 use Rattle.tape_laws.specs.History.{onto}
-use Rattle.tape_laws.specs.declared.limits.PlainLimits.{PlainLimits}
+use Rattle.tape_laws.specs.declared.PlainLimits.{PlainLimits}
 use Rattle.plain_core.specs.Flows.{AreLimits}
 use Rattle.plain_core.specs.Runs.{Turns}
 use Rattle.plain_core.specs.Stands.{CanTake, Rests}

@@ -8,7 +8,7 @@ use Rattle.tape_laws.specs.Plain.{plain_setup}
 use Rattle.tape_laws.specs.PlainSession.{plain_session}
 use Rattle.tape_laws.specs.PlainTape.{IsPlainWhole}
 use Rattle.tape_laws.specs.Quiet.{IsQuiet}
-use Rattle.tape_laws.specs.declared.limits.PlainLimits.{PlainLimits}
+use Rattle.tape_laws.specs.declared.PlainLimits.{PlainLimits}
 
 either : (b : Bool) (P : Type 0) → P → OnTrue b P
 either true P p = p

@@ -31,7 +31,7 @@ use Rattle.tape_laws.specs.Following.{MayFollowAll, MayFollowEvent}
 use Rattle.tape_laws.specs.History.{History, NoMark, Noted, onto}
 use Rattle.tape_laws.specs.PlainTape.{IsPlainWhole}
 use Rattle.tape_laws.specs.Text.{note_line, tape_text}
-use Rattle.tape_laws.specs.declared.limits.PlainLimits.{PlainLimits}
+use Rattle.tape_laws.specs.declared.PlainLimits.{PlainLimits}
 use Rattle.plain_core.specs.Flows.{AreLimits}
 use Rattle.plain_core.specs.Runs.{Turns}
 use Rattle.plain_core.specs.Stands.{CanTake, Rests}

@@ -18,7 +18,7 @@ use Rattle.std.specs.List.{sum_by}
 use Rattle.std.specs.Prelude.{List, OnOk, Result, [], length, map, ℕ, ◌++◌, ◌+◌, ◌∷◌, ◌≡◌}
 use Rattle.tape_laws.specs.History.{History, NoMark, notes_of, onto}
 use Rattle.tape_laws.specs.PlainTape.{IsPlainLawful}
-use Rattle.tape_laws.specs.declared.limits.PlainLimits.{PlainLimits}
+use Rattle.tape_laws.specs.declared.PlainLimits.{PlainLimits}
 use Rattle.flow_notes.specs.declared.notes.Note.TheVariants as note
 use Rattle.flow_notes.specs.declared.passages.Passage.TheVariants as passage
 

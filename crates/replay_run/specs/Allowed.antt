@@ -8,7 +8,7 @@ use Rattle.session_lines.specs.declared.order.Format.{Format}
 use Rattle.session_run.specs.declared.status.Status.{Status}
 use Rattle.flow_notes.specs.declared.events.Event.{Event}
 use Rattle.std.specs.Prelude.{List, None, Option, Some, false, length, ℕ, ◌++◌, ◌∷◌, ◌≡◌, ◌≤◌}
-use Rattle.tape_laws.specs.declared.limits.PlainLimits.{PlainLimits}
+use Rattle.tape_laws.specs.declared.PlainLimits.{PlainLimits}
 
 -- a header, limits and events, each of which may come after those before it, within the most octets of a session and of a line
 pub record IsAllowed (text : List ℕ) : Type 0 where

@@ -2,7 +2,7 @@
 use Rattle.flow_notes.specs.declared.events.Event.{Event}
 use Rattle.std.specs.List.{range_with_len}
 use Rattle.std.specs.Prelude.{List, [], flat_map, map, replicate, suc, zero, ℕ, ◌%◌, ◌*◌, ◌++◌, ◌+◌, ◌/◌, ◌∷◌}
-use Rattle.tape_laws.specs.declared.limits.PlainLimits.{PlainLimits}
+use Rattle.tape_laws.specs.declared.PlainLimits.{PlainLimits}
 use Rattle.flow_notes.specs.declared.events.Event.TheVariants as event
 use Rattle.flow_notes.specs.declared.events.PlainEvent.TheVariants as plain
 

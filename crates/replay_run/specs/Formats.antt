@@ -6,7 +6,7 @@ use Rattle.session_lines.specs.Seen.{Playing, header_line, seen_text}
 use Rattle.replay_run.specs.SessionText.{session_spelling}
 use Rattle.std.specs.Fmt.{decimal}
 use Rattle.std.specs.Prelude.{List, Some, codes, reverse, ℕ, ◌++◌, ◌≡◌, ◌↔◌}
-use Rattle.tape_laws.specs.declared.limits.PlainLimits.{PlainLimits}
+use Rattle.tape_laws.specs.declared.PlainLimits.{PlainLimits}
 use Rattle.session_lines.specs.declared.order.Format.TheVariants as format
 
 -- a text of format 1, by its limits line and the lines behind it

@@ -16,7 +16,7 @@ use Rattle.tape_laws.specs.History.{History, NoMark}
 use Rattle.tape_laws.specs.Plain.{plain_setup}
 use Rattle.tape_laws.specs.Report.{summary_text}
 use Rattle.tape_laws.specs.Text.{tape_text}
-use Rattle.tape_laws.specs.declared.limits.PlainLimits.{PlainLimits}
+use Rattle.tape_laws.specs.declared.PlainLimits.{PlainLimits}
 use Rattle.tape_summary.specs.Logging.{TapeLogIs}
 use Rattle.session_run.specs.declared.player.Went.TheVariants as went
 

@@ -5,7 +5,7 @@ use Rattle.std.specs.Prelude.{IsTrue, [], ◌≡◌}
 use Rattle.tape_laws.specs.Dispatches.{events_back}
 use Rattle.tape_laws.specs.History.{History, NoMark}
 use Rattle.tape_laws.specs.PlainTape.{IsPlainWhole}
-use Rattle.tape_laws.specs.declared.limits.PlainLimits.{PlainLimits}
+use Rattle.tape_laws.specs.declared.PlainLimits.{PlainLimits}
 
 abbrev pub IsSeen : Seen → Type 0
 IsSeen Unread = Unit {0}

@@ -4,7 +4,7 @@ use Rattle.flow_notes.specs.Line.{newline}
 use Rattle.flow_notes.specs.declared.events.Event.{Event}
 use Rattle.session_lines.specs.Seen.{header_line, limits_line}
 use Rattle.std.specs.Prelude.{List, None, Option, Some, [], codes, ℕ, ◌++◌, ◌∷◌}
-use Rattle.tape_laws.specs.declared.limits.PlainLimits.{PlainLimits}
+use Rattle.tape_laws.specs.declared.PlainLimits.{PlainLimits}
 use Rattle.session_lines.specs.declared.order.Format.TheVariants as format
 
 abbrev pub event_text_lines : List (List ℕ) → List Event → List ℕ

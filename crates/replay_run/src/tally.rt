@@ -27,7 +27,7 @@ impl Tally {
     ghost use Rattle.std.specs.Prelude.{◌≡◌, [], OnOk};
     ghost use Rattle.flow_gate.specs.declared.ids.BufferId.{BufferId};
     ghost use Rattle.flow_gate.specs.declared.ids.FlowId.{FlowId};
-    ghost use Rattle.tape_laws.specs.declared.limits.PlainLimits.{PlainLimits};
+    ghost use Rattle.tape_laws.specs.declared.PlainLimits.{PlainLimits};
     ghost use Rattle.flow_notes.specs.Passages.{notes_of_passage};
     ghost use Rattle.replay_run.specs.Tally.{Counted, TallyGoes, TallyIs};
 

@@ -1,9 +1,14 @@
 // The text of a session.
 ghost use Rattle.std.specs.List.{AllByRecursion};
-ghost use Rattle.std.specs.Prelude.{◌≡◌, ◌++◌, OnOk, OnErr};
+ghost use Rattle.std.specs.Prelude.{◌≡◌, ◌++◌, OnOk, OnErr, List};
 ghost use Rattle.flow_notes.specs.Event.{IsEvent};
 ghost use Rattle.flow_notes.specs.Extends.{Extends};
 ghost use Rattle.replay_run.specs.SessionText.{event_text_lines, head_lines, limits_lines, session_spelling};
+ghost use Rattle.flow_notes.specs.declared.events.Event.{Event};
+ghost use Rattle.tape_laws.specs.declared.PlainLimits.{PlainLimits};
+ghost use Rattle.replay_run.specs.Formats.{InBothFormats, IsQuantumOfOne};
+ghost use Rattle.replay_run.specs.SeenTape.{IsSeen};
+ghost use Rattle.session_lines.specs.Seen.{Seen, seen_text};
 
 use flow_notes::{EventList, Names, event_text};
 use io_ports::{NoMemory, Octets};
@@ -80,3 +85,15 @@ fn put_events(events: &EventList, names: &Names, into: &mut Octets) -> Result<()
     }
     Ok(())
 }
+
+/// A text of format 1, and the same text in format 2 with the quantum 16,384 behind its limits, spell
+/// the same limits and the same events; the second is what `session_text` writes of them.
+pub fn both_formats_spell_one_session()
+    ensures quantum { (limits : PlainLimits) (events : List Event) → IsQuantumOfOne limits events }
+    ensures same { (limits : PlainLimits) (events : List Event) → limits.quantum ≡ 16384 → InBothFormats limits events }
+{}
+
+/// A text spells at most one plain session: its format, its limits and its events are given by its octets.
+pub fn one_session()
+    ensures { (s t : Seen) → IsSeen s → IsSeen t → seen_text s ≡ seen_text t → s ≡ t }
+{}

@@ -7,10 +7,10 @@ use Rattle.std.specs.List.Sorted.{IsPermutation}
 use denote.RawPtr.{Ptr}
 use Rattle.link_lists.specs.Lists.{NodeLists, front_of, pull_from}
 use Rattle.link_lists.proofs.Facts.{length-pull_from}
-use Rattle.scaled_timer.specs.declared.entries.Entry.{Entry}
+use Rattle.scaled_timer.specs.declared.timers.Entry.{Entry}
 use Rattle.scaled_timer.specs.declared.fired.Fired.{Fired}
 use Rattle.scaled_timer.specs.declared.fronts.Front.{Front}
-use Rattle.scaled_timer.specs.declared.kinds.TimerKind.{TimerKind}
+use Rattle.scaled_timer.specs.declared.timers.TimerKind.{TimerKind}
 use Rattle.scaled_timer.specs.Due.{Armed, due_timers}
 use Rattle.scaled_timer.specs.Timing.{FiresFirst}
 use Rattle.scaled_timer.specs.Entries.{armed_of, Kept}

@@ -11,7 +11,7 @@ use Rattle.link_lists.proofs.Memory.{either, same_ptr_eq, same_ptr_refl}
 use Rattle.link_lists.proofs.Edges.{same_ptr_symm}
 use Rattle.link_lists.proofs.Splits.{all_left, all_right, all_both, all_unmap, distinct_without, distinct_differs, distinct_with, alike_cut}
 use Rattle.link_lists.proofs.Facts.{length-push_at, length-pull_from}
-use Rattle.scaled_timer.specs.declared.entries.Entry.{Entry}
+use Rattle.scaled_timer.specs.declared.timers.Entry.{Entry}
 use Rattle.scaled_timer.specs.Order.{placed, in_order}
 use Rattle.scaled_timer.specs.Due.{Armed}
 use Rattle.scaled_timer.specs.Timing.{has_timer, without_timer}

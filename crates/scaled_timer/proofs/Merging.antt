@@ -14,9 +14,9 @@ use Rattle.link_lists.specs.Seen.{emptied, IsLone}
 use Rattle.link_lists.proofs.Memory.{either, same_ptr_eq}
 use Rattle.link_lists.proofs.Fronts.{front_gone, option_cases}
 use Rattle.link_lists.proofs.Splits.{all_at, all_from as each_from}
-use Rattle.scaled_timer.specs.declared.entries.Entry.{Entry}
+use Rattle.scaled_timer.specs.declared.timers.Entry.{Entry}
 use Rattle.scaled_timer.specs.declared.fronts.Front.{Front}
-use Rattle.scaled_timer.specs.declared.kinds.TimerKind.{TimerKind}
+use Rattle.scaled_timer.specs.declared.timers.TimerKind.{TimerKind}
 use Rattle.scaled_timer.specs.Due.{delay_at}
 use Rattle.scaled_timer.specs.Timing.{has_timer}
 use Rattle.scaled_timer.specs.Entries.{Aged, aged, all_from}

@@ -3,8 +3,8 @@ use Rattle.std.proofs.Common.{◌≡◌, ℕ, zero, suc, cond, ◌+◌, ◌<◌,
 use Rattle.std.specs.Prelude.{Option, None, Some, MatchOption, nat_le}
 use Rattle.std.proofs.lemmas.Bool.{le-leb, lt-leb}
 use denote.RawPtr.{Ptr}
-use Rattle.scaled_timer.specs.declared.entries.Entry.{Entry}
-use Rattle.scaled_timer.specs.declared.kinds.TimerKind.{TimerKind}
+use Rattle.scaled_timer.specs.declared.timers.Entry.{Entry}
+use Rattle.scaled_timer.specs.declared.timers.TimerKind.{TimerKind}
 use Rattle.scaled_timer.specs.declared.fronts.Front.{Front}
 use Rattle.scaled_timer.specs.Due.{delay_of, delay_at}
 use Rattle.scaled_timer.specs.Fronts.{due_first, NoLater}

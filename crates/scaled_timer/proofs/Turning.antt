@@ -10,9 +10,9 @@ use Rattle.link_lists.specs.Lists.{head_of, front_of, pull_from, has_node}
 use Rattle.link_lists.proofs.Memory.{either}
 use Rattle.link_lists.proofs.Fronts.{front_has}
 use Rattle.link_lists.proofs.Splits.{all_left, all_right, all_both, distinct_differs}
-use Rattle.scaled_timer.specs.declared.entries.Entry.{Entry}
+use Rattle.scaled_timer.specs.declared.timers.Entry.{Entry}
 use Rattle.scaled_timer.specs.declared.fronts.Front.{Front}
-use Rattle.scaled_timer.specs.declared.kinds.TimerKind.{TimerKind}
+use Rattle.scaled_timer.specs.declared.timers.TimerKind.{TimerKind}
 use Rattle.scaled_timer.specs.Order.{in_order}
 use Rattle.scaled_timer.specs.Due.{Armed, delay_at, due_moment, is_due, due_timers, waiting_timers}
 use Rattle.scaled_timer.specs.declared.fired.Fired.{Fired}

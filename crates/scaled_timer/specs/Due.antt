@@ -1,7 +1,7 @@
 -- When a timer is due, and in which order due timers fire.
 use Rattle.std.specs.Prelude.{ℕ, zero, suc, ◌+◌, ◌-◌, ◌*◌, ◌/◌, Bool, nat_le, not, List, [], ◌∷◌, filter}
 use Rattle.link_lists.specs.Lists.{NodeId}
-use Rattle.scaled_timer.specs.declared.kinds.TimerKind.{TimerKind}
+use Rattle.scaled_timer.specs.declared.timers.TimerKind.{TimerKind}
 use Rattle.scaled_timer.specs.Order.{in_order}
 
 -- an armed timer: its name, its kind, the number that it was armed with, and the moment when it was armed

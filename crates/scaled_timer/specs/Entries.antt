@@ -3,7 +3,7 @@ use Rattle.std.specs.Prelude.{◌≡◌, ℕ, ◌+◌, ◌^◌, ◌<◌, ◌≤�
 use Rattle.std.specs.List.{AllByRecursion, IsDistinct}
 use Rattle.link_lists.specs.Places.{same_ptr}
 use Rattle.link_lists.specs.Lists.{NodeId}
-use Rattle.scaled_timer.specs.declared.entries.Entry.{Entry}
+use Rattle.scaled_timer.specs.declared.timers.Entry.{Entry}
 use Rattle.scaled_timer.specs.Order.{in_order}
 use Rattle.scaled_timer.specs.Due.{Armed}
 

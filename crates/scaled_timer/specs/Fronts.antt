@@ -1,8 +1,8 @@
 -- The fronts of the lists.
 use Rattle.std.specs.Prelude.{◌≡◌, ◌⊎◌, ℕ, ◌+◌, ◌<◌, ◌≤◌, cond, nat_le, Option, None, Some, List}
 use Rattle.link_lists.specs.Lists.{NodeId, front_of}
-use Rattle.scaled_timer.specs.declared.kinds.TimerKind.{TimerKind}
-use Rattle.scaled_timer.specs.declared.entries.Entry.{Entry}
+use Rattle.scaled_timer.specs.declared.timers.TimerKind.{TimerKind}
+use Rattle.scaled_timer.specs.declared.timers.Entry.{Entry}
 use Rattle.scaled_timer.specs.declared.fronts.Front.{Front}
 use Rattle.scaled_timer.specs.Due.{delay_at}
 

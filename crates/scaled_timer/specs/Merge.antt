@@ -3,8 +3,8 @@ use Rattle.std.specs.Prelude.{◌≡◌, ℕ, ◌-◌, ◌<◌, nat_eq, Some, Li
 use Rattle.std.specs.List.{AllByRecursion}
 use Rattle.std.specs.Option.{option_to_list}
 use Rattle.link_lists.specs.Lists.{NodeId, NodeLists}
-use Rattle.scaled_timer.specs.declared.kinds.TimerKind.{TimerKind}
-use Rattle.scaled_timer.specs.declared.entries.Entry.{Entry}
+use Rattle.scaled_timer.specs.declared.timers.TimerKind.{TimerKind}
+use Rattle.scaled_timer.specs.declared.timers.Entry.{Entry}
 use Rattle.scaled_timer.specs.declared.fronts.Front.{Front}
 use Rattle.scaled_timer.specs.Timing.{Timing}
 use Rattle.scaled_timer.specs.Entries.{armed_of, Kept}

@@ -3,7 +3,7 @@ use Rattle.std.specs.Prelude.{◌≡◌, ℕ, ◌+◌, Bool, true, false, cond, 
 use Rattle.std.specs.List.{AllByRecursion, IsDistinct}
 use Rattle.link_lists.specs.Places.{same_ptr}
 use Rattle.link_lists.specs.Lists.{NodeId, contains_id}
-use Rattle.scaled_timer.specs.declared.kinds.TimerKind.{TimerKind}
+use Rattle.scaled_timer.specs.declared.timers.TimerKind.{TimerKind}
 use Rattle.scaled_timer.specs.declared.fired.Fired.{Fired}
 use Rattle.scaled_timer.specs.Due.{Armed, due_timers, waiting_timers}
 

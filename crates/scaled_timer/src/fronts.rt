@@ -3,8 +3,7 @@ ghost use Rattle.std.specs.Prelude.{◌≡◌, ◌+◌, ◌^◌, ◌<◌, ◌≤
 ghost use Rattle.link_lists.specs.Lists.{front_of};
 ghost use Rattle.scaled_timer.specs.Fronts.{due_front};
 
-use crate::entries::Entry;
-use crate::kinds::TimerKind;
+use crate::timers::{Entry, TimerKind};
 use link_lists::Lists;
 
 /// The front of a kind's list: when it is due, and how many timers were armed before it. Ordered as the fronts fire.

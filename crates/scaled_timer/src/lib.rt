@@ -4,14 +4,11 @@
 //! timers are due, under every state, and a turn merges the lists by their fronts.
 #![tactic(auto)]
 
-mod entries;
 mod fired;
 mod fronts;
-mod kinds;
 mod merge;
 mod queue;
 mod timers;
 
 pub use fired::{Fired, FiredList};
-pub use kinds::TimerKind;
-pub use timers::{Timer, Timers};
+pub use timers::{Timer, TimerKind, Timers};

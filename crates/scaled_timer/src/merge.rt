@@ -7,11 +7,10 @@ ghost use Rattle.scaled_timer.specs.Timing.{FiresFirst, firing, names_of};
 ghost use Rattle.scaled_timer.specs.Entries.{armed_of};
 ghost use Rattle.scaled_timer.specs.Merge.{HasFronts, AreKept, FewerKept, timing_of};
 
-use crate::entries::Entry;
 use crate::fired::Fired;
 use crate::fronts::front_at;
-use crate::kinds::TimerKind;
 use crate::queue::FrontQueue;
+use crate::timers::{Entry, TimerKind};
 use io_ports::NoMemory;
 use link_lists::Lists;
 use std::alloc::Global;

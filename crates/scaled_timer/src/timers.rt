@@ -1,11 +1,9 @@
 //! The armed timers, and the turns that fire them.
-ghost use Rattle.std.specs.Prelude.{◌≡◌, ◌⊎◌, vec_len, ◌+◌, ◌^◌, ◌<◌, ◌≤◌, [], ◌∷◌, ◌++◌, length, map, false, true, IfOk, OnErr};
+ghost use Rattle.std.specs.Prelude.{◌≡◌, ◌⊎◌, vec_len, ◌+◌, ◌^◌, ◌<◌, ◌≤◌, [], ◌∷◌, ◌++◌, length, map, false, true, IfOk, OnErr, ◌-◌, ◌*◌, ◌/◌};
 ghost use Rattle.std.specs.Vec.{vec_capacity};
 ghost use Rattle.link_lists.specs.Lists.{contains_id, without_id};
 
-use crate::entries::Entry;
 use crate::fired::{Fired, FiredList};
-use crate::kinds::TimerKind;
 use crate::merge::{due_fronts, fire_all};
 use crate::queue::FrontQueue;
 use io_ports::NoMemory;
@@ -13,6 +11,39 @@ use link_lists::{Lists, Node, Steps};
 use std::alloc::Global;
 use std::marker::{Brand, Model};
 use std::sync::ledger::{Blank, Ledger};
+
+/// How long a timer of one kind runs, in milliseconds: `max` where nothing is loaded, `min` where the load is full.
+#[derive(Clone, Copy, Debug)]
+pub struct TimerKind {
+    pub min: u64,
+    pub max: u64,
+    ghost ordered: { min ≤ max },
+    ghost small: { max < 2 ^ 40 },
+}
+
+impl TimerKind {
+    ghost use Rattle.scaled_timer.specs.Due.{delay_of};
+
+    /// How long a timer runs under a state, in milliseconds. A state is in parts per million, from 0 to 1,000,000.
+    ///
+    /// With `min` 1,000 and `max` 5,000 it is 5,000 at 0, 3,000 at 500,000 and 1,000 at 1,000,000.
+    pub fn delay(&self, ppm: u32) -> u64
+        requires { ppm ≤ 1000000 }
+        ensures delay { result ≡ delay_of self.now ppm }
+        ensures small { result < 2 ^ 40 }
+    {
+        let left = u64::from(1_000_000 - ppm);
+        self.min + (self.max - self.min) * left / 1_000_000
+    }
+}
+
+/// The number that the timer was armed with, the moment when it was armed, and how many timers were armed before it.
+#[derive(Clone, Copy)]
+pub(crate) struct Entry {
+    pub id: u64,
+    pub at: u64,
+    pub age: u64,
+}
 
 /// How many timers can be armed.
 const MOST: u64 = (1 << 63) - 1;

@@ -2,7 +2,7 @@
 use Rattle.session_lines.specs.Seen.{are_limits, header_line, limits_line}
 use Rattle.session_lines.specs.declared.order.Format.{Format}
 use Rattle.std.specs.Prelude.{List, true, ℕ, ◌≡◌}
-use Rattle.tape_laws.specs.declared.limits.PlainLimits.{PlainLimits}
+use Rattle.tape_laws.specs.declared.PlainLimits.{PlainLimits}
 
 pub record HasNoHeader (line : List ℕ) : Type 0 where
   pub none : (f : Format) → header_line f ≡ line → ⊥

@@ -6,7 +6,7 @@ use Rattle.tape_laws.specs.Following.{MayFollowEvent}
 use Rattle.session_lines.specs.declared.order.Format.{Format}
 use Rattle.std.specs.Fmt.{decimal}
 use Rattle.std.specs.Prelude.{Bool, IsTrue, List, [], codes, false, length, map, nat_le, true, ℕ, ◌&&◌, ◌++◌, ◌+◌, ◌==◌, ◌∷◌, ◌≡◌}
-use Rattle.tape_laws.specs.declared.limits.PlainLimits.{PlainLimits}
+use Rattle.tape_laws.specs.declared.PlainLimits.{PlainLimits}
 use Rattle.session_lines.specs.declared.order.Format.TheVariants as format
 
 -- no line yet; the header; or header and limits, with the events of the lines behind them, newest first

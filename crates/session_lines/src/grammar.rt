@@ -1,6 +1,6 @@
 // The grammar of a plain session's lines.
 ghost use Rattle.std.specs.Prelude.{◌≡◌, IfSome, IfNone, IfOk};
-ghost use Rattle.tape_laws.specs.declared.limits.PlainLimits.{PlainLimits};
+ghost use Rattle.tape_laws.specs.declared.PlainLimits.{PlainLimits};
 ghost use Rattle.session_lines.specs.Grammar.{HasNoHeader, HasNoLimits, IsLimitsLine};
 ghost use Rattle.session_lines.specs.Seen.{header_line, limit_numbers, are_limits as limits_test, is_quantum as quantum_test};
 

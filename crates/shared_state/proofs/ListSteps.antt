@@ -4,7 +4,7 @@ use mathlib.Core.Option.{some, some-ne-none}
 use lib.ListN.{get_elem?}
 use Rattle.left_right.specs.Register.{Admits, Turns, TurnsAt}
 use Rattle.atomic_table.proofs.Lists.{at_set, at_snoc}
-use Rattle.shared_state.specs.declared.entry.Entry.{Entry}
+use Rattle.shared_state.specs.declared.entries.Entry.{Entry}
 use Rattle.shared_state.specs.Entries.{StartsWith, last_or}
 use Rattle.shared_state.specs.Published.{IsLast, IsOneList, Shows}
 

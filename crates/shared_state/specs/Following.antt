@@ -2,8 +2,8 @@
 use Rattle.std.specs.Prelude.{◌≡◌, ℕ, List, [], cond, nat_lt, replicate}
 use Rattle.std.specs.Arc.{arc_value}
 use Rattle.proxy_config.specs.declared.overload.Trigger.{Trigger}
-use Rattle.shared_state.specs.declared.board.Board.{Board}
-use Rattle.shared_state.specs.declared.entry.Entry.{Entry}
+use Rattle.shared_state.specs.declared.version_word.Board.{Board}
+use Rattle.shared_state.specs.declared.entries.Entry.{Entry}
 use Rattle.shared_state.specs.declared.follower.Follower.{Follower}
 use Rattle.shared_state.specs.declared.follower.Followers.{Followers}
 use Rattle.shared_state.specs.declared.publisher.Told.{Told}

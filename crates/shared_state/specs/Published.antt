@@ -2,7 +2,7 @@
 use Rattle.std.specs.Prelude.{◌≡◌, ℕ, List, length, replicate}
 use mathlib.Core.Option.{some}
 use lib.ListN.{get_elem?}
-use Rattle.shared_state.specs.declared.entry.Entry.{Entry}
+use Rattle.shared_state.specs.declared.entries.Entry.{Entry}
 use Rattle.shared_state.specs.Entries.{StartsWith, last_or}
 
 -- The entry is the last of these, which are the pressures of versions 1, 2 and so on. Where there are none it is version 0, whose pressures are all 0

@@ -1,10 +1,20 @@
-// Making entries, and showing one to all readers.
+// What is published under one version, and how it is shown to all readers.
 ghost use Rattle.std.specs.Prelude.{◌≡◌, ◌≤◌, ◌<◌, ◌^◌, length, replicate};
 ghost use Rattle.shared_state.specs.Entries.{padded};
 
-use crate::entry::{Entry, RESOURCES};
 use left_right::Absorb;
 use std::alloc::AllocError;
+
+/// The most resources, and so the most pressures of a version.
+pub const RESOURCES: usize = 16;
+
+/// The pressures of one version, 0 of each resource that isn't there. Version 0 has 0 of each.
+#[derive(Clone, Copy, Debug)]
+pub struct Entry {
+    pub version: u64,
+    pub pressures: [u32; 16],
+    ghost numbered: { version < 2 ^ 63 },
+}
 
 impl Entry {
     /// Version 0: all pressures are 0.

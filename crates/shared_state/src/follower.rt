@@ -2,10 +2,9 @@
 ghost use Rattle.std.specs.Prelude.{◌≡◌, true, is_some};
 ghost use Rattle.std.specs.Arc.{arc_value};
 
-use crate::board::Board;
-use crate::entry::Entry;
+use crate::entries::Entry;
 use crate::one_list::Eye;
-use crate::version_word::VersionView;
+use crate::version_word::{Board, VersionView};
 use atomic_table::Seat;
 use io_ports::PressureList;
 use overload_core::Actions;

@@ -7,12 +7,11 @@ ghost use Rattle.shared_state.specs.Following.{seen, looks, IsSameEntry, IsSameF
 ghost use Rattle.shared_state.specs.Published.{IsLast, Shows};
 ghost use Rattle.shared_state.specs.Version.{looked};
 
-use crate::board::Board;
-use crate::entry::Entry;
+use crate::entries::Entry;
 use crate::follower::{Follower, Snapshot};
 use crate::one_list::{Eye, OneList, Seen, Sees};
 use crate::publisher::Told;
-use crate::version_word::{Looks, VersionView};
+use crate::version_word::{Board, Looks, VersionView};
 use atomic_table::Seat;
 use io_ports::{NoMemory, PressureList};
 use left_right::reader::Reader;

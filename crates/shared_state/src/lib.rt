@@ -2,10 +2,8 @@
 //! so many are held at once over all threads.
 #![tactic(auto)]
 
-mod board;
 mod entering;
 mod entries;
-mod entry;
 mod follower;
 mod following;
 mod making;
@@ -16,7 +14,7 @@ mod publisher;
 mod publishing;
 mod version_word;
 
-pub use entry::{Entry, RESOURCES};
+pub use entries::{Entry, RESOURCES};
 pub use follower::{Follower, Followers, Snapshot};
 pub use making::make_shared;
 pub use one_list::{OneList, Seen};

@@ -5,12 +5,11 @@ ghost use Rattle.shared_state.specs.Following.{IsNewFollower, followers_in};
 ghost use Rattle.shared_state.specs.States.{published, counts, IsSame};
 ghost use Rattle.shared_state.specs.Version.{first_seat};
 
-use crate::board::Board;
-use crate::entry::Entry;
+use crate::entries::Entry;
 use crate::follower::{Follower, Followers};
 use crate::one_list::Press;
 use crate::publisher::Publisher;
-use crate::version_word::{Deals, VersionTable, VersionView};
+use crate::version_word::{Board, Deals, VersionTable, VersionView};
 use atomic_table::Seat;
 use io_ports::{NoMemory, Octets};
 use proxy_config::{

@@ -1,5 +1,5 @@
 // The rule over the published entry and what the publisher and all readers have seen.
-use crate::entry::Entry;
+use crate::entries::Entry;
 use crossbeam_utils::rule::{Outcome, Protocol};
 use left_right::reader::Reader;
 use left_right::writer::Writer;

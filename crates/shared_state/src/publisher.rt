@@ -5,10 +5,9 @@ ghost use Rattle.std.specs.Option.{ForSome};
 ghost use Rattle.shared_state.specs.Published.{IsLast};
 ghost use Rattle.shared_state.specs.Seen.{published_by};
 
-use crate::board::Board;
-use crate::entry::Entry;
+use crate::entries::Entry;
 use crate::one_list::Press;
-use crate::version_word::VersionView;
+use crate::version_word::{Board, VersionView};
 use atomic_table::Seat;
 use std::alloc::Global;
 use std::sync::Arc;

@@ -6,7 +6,7 @@ ghost use Rattle.shared_state.specs.Published.{IsLast};
 ghost use Rattle.shared_state.specs.States.{published, counts, resources_of, IsToldBy, IsSame};
 ghost use Rattle.shared_state.specs.Version.{raised};
 
-use crate::entry::Entry;
+use crate::entries::Entry;
 use crate::one_list::{Press, Sees};
 use crate::publisher::{Publisher, Told};
 use crate::version_word::{Deals, Raises, VersionView};

@@ -1,5 +1,8 @@
-// The version word: what a seat knows of it, its rule, and each kind of step.
+// The version word: what a seat knows of it, its rule, each kind of step, and what is shared beside it.
+ghost use Rattle.std.specs.Prelude.{◌≡◌, ◌≤◌};
+
 use atomic_table::{Play, Split, Table, TableRule};
+use proxy_config::Config;
 use std::alloc::Global;
 
 /// What a seat knows. No value of it is made.
@@ -56,3 +59,13 @@ impl Split<VersionView> for Deals {
 }
 
 pub(crate) type VersionTable = Table<(), VersionView, (), Counted, Global>;
+
+/// The version word, the number of resources, and a configuration with the triggers of the overload actions.
+#[derive(Drop)]
+pub(crate) struct Board {
+    pub word: VersionTable,
+    pub resources: usize,
+    pub config: Config,
+    ghost words: { word.shared.table_id.words ≡ 1 },
+    ghost few: { resources ≤ 16 },
+}

@@ -3,7 +3,7 @@ use Rattle.std.specs.Prelude.{Bool, List, None, Some, [], false, if◌then◌els
 use Rattle.tape_laws.specs.Flows.{request}
 use Rattle.tape_laws.specs.History.{History, Noted}
 use Rattle.tape_laws.specs.Setup.{Setup}
-use Rattle.tape_laws.specs.declared.limits.PlainLimits.{PlainLimits}
+use Rattle.tape_laws.specs.declared.PlainLimits.{PlainLimits}
 use Rattle.flow_notes.specs.declared.events.Event.TheVariants as event
 use Rattle.flow_notes.specs.declared.notes.Note.TheVariants as note
 use Rattle.flow_notes.specs.declared.events.PlainEvent.TheVariants as plain

@@ -2,7 +2,7 @@
 use Rattle.tape_laws.specs.History.{History, NoMark}
 use Rattle.tape_laws.specs.Lawful.{IsLawful, IsWhole}
 use Rattle.tape_laws.specs.PlainSession.{plain_session}
-use Rattle.tape_laws.specs.declared.limits.PlainLimits.{PlainLimits}
+use Rattle.tape_laws.specs.declared.PlainLimits.{PlainLimits}
 
 -- a history that may be cut short in its last dispatch
 abbrev pub IsPlainLawful : PlainLimits → History NoMark → Type 0

@@ -23,7 +23,7 @@ use Rattle.tape_plot.specs.Scale.{columns_of, top_of}
 use Rattle.tape_plot.specs.Shown.{HasLine, IsDrawn, Within}
 use Rattle.tape_plot.specs.Standing.{flow_of, place_lane, places_in, write_lane}
 use Rattle.tape_plot.specs.Subjects.{flow_id}
-use Rattle.tape_plot.specs.declared.buffer.Buffer.{Buffer}
+use Rattle.tape_plot.specs.declared.highest.Buffer.{Buffer}
 use Rattle.tape_plot.specs.declared.choice.Lanes.{Lanes}
 use Rattle.tape_plot.specs.declared.clock.Clock.{Clock}
 use Rattle.tape_plot.specs.declared.connection.Connection.{Connection}
@@ -37,7 +37,7 @@ use Rattle.tape_plot.specs.declared.flow.Place.{Place}
 use Rattle.tape_plot.specs.declared.levels.Levels.{Levels}
 use Rattle.tape_plot.specs.declared.limits.Limits.{Limits}
 use Rattle.flow_gate.specs.declared.ids.BufferId.TheVariants as ids
-use Rattle.tape_plot.specs.declared.buffer.Buffer.TheVariants as buffer
+use Rattle.tape_plot.specs.declared.highest.Buffer.TheVariants as buffer
 
 -- ---- a lane
 

@@ -23,7 +23,7 @@ use Rattle.tape_plot.specs.Limits.{known, limit_at, place_limit_at}
 use Rattle.tape_plot.specs.Picks.{height_kept, top_in}
 use Rattle.tape_plot.specs.Standing.{flow_of, place_lane, places_in, write_lane}
 use Rattle.tape_plot.specs.Subjects.{flow_id}
-use Rattle.tape_plot.specs.declared.buffer.Buffer.{Buffer}
+use Rattle.tape_plot.specs.declared.highest.Buffer.{Buffer}
 use Rattle.tape_plot.specs.declared.connection.Connection.{Connection}
 use Rattle.tape_plot.specs.declared.exchange.Exchange.{Exchange}
 use Rattle.tape_plot.specs.declared.flow.Flow.{Flow}
@@ -33,7 +33,7 @@ use Rattle.tape_plot.specs.declared.highest.Ranked.{Ranked}
 use Rattle.tape_plot.specs.declared.levels.Levels.{Levels}
 use Rattle.tape_plot.specs.declared.limits.Limits.{Limits}
 use Rattle.flow_gate.specs.declared.ids.BufferId.TheVariants as ids
-use Rattle.tape_plot.specs.declared.buffer.Buffer.TheVariants as buffer
+use Rattle.tape_plot.specs.declared.highest.Buffer.TheVariants as buffer
 
 -- the most that a lane was
 abbrev top_of : Drawn → ℕ

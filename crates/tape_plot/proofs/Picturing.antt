@@ -24,17 +24,17 @@ use Rattle.tape_plot.specs.Said.{Said, told}
 use Rattle.tape_plot.specs.Sheets.{LaneDrawn, TextDrawn}
 use Rattle.tape_plot.specs.Shown.{AsksFor, IsDrawn, Shows, ShowsBuffers, WasFilled, Within}
 use Rattle.tape_plot.specs.Standing.{LanesStand}
-use Rattle.tape_plot.specs.declared.buffer.Buffer.{Buffer}
+use Rattle.tape_plot.specs.declared.highest.Buffer.{Buffer}
 use Rattle.tape_plot.specs.declared.choice.Choice.{Choice}
 use Rattle.tape_plot.specs.declared.choice.Lanes.{Lanes}
 use Rattle.tape_plot.specs.declared.levels.Levels.{Levels}
 use Rattle.tape_plot.specs.declared.limits.Limits.{Limits}
-use Rattle.tape_plot.specs.declared.outcome.Outcome.{Outcome}
-use Rattle.tape_plot.specs.declared.outcome.Refusal.{Refusal}
+use Rattle.tape_plot.specs.declared.report.Outcome.{Outcome}
+use Rattle.tape_plot.specs.declared.report.Refusal.{Refusal}
 use Rattle.tape_plot.specs.declared.tape.Tape.{Tape}
 use Rattle.flow_gate.specs.declared.ids.BufferId.TheVariants as ids
 use Rattle.session_run.specs.declared.status.Status.TheVariants as status
-use Rattle.tape_plot.specs.declared.buffer.Buffer.TheVariants as buffer
+use Rattle.tape_plot.specs.declared.highest.Buffer.TheVariants as buffer
 
 -- ---- what is drawn of the lanes
 

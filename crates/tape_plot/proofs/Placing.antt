@@ -10,8 +10,8 @@ use Rattle.std.specs.Prelude.{Bool, List, [], drop, false, get_or, if◌then◌e
 use Rattle.tape_plot.specs.Highest.{is_higher}
 use Rattle.tape_plot.specs.Ranking.{puts}
 use Rattle.tape_plot.specs.contracts.buffer.BufferPartialEq.TheImpl as buffer_eq
-use Rattle.tape_plot.specs.declared.buffer.Buffer.{Buffer}
-use Rattle.tape_plot.specs.declared.buffer.Buffer.TheVariants as buffer
+use Rattle.tape_plot.specs.declared.highest.Buffer.{Buffer}
+use Rattle.tape_plot.specs.declared.highest.Buffer.TheVariants as buffer
 use Rattle.tape_plot.specs.declared.highest.Ranked.{Ranked}
 
 -- it stands behind so many of them

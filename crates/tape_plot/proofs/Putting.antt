@@ -16,7 +16,7 @@ use Rattle.tape_plot.specs.Lanes.{most_of}
 use Rattle.tape_plot.specs.Limits.{known, limit_at, place_limit_at}
 use Rattle.tape_plot.specs.Picks.{RankedIn, height_kept, top_in}
 use Rattle.tape_plot.specs.Ranking.{kept_of, puts, ranked_in}
-use Rattle.tape_plot.specs.declared.buffer.Buffer.{Buffer}
+use Rattle.tape_plot.specs.declared.highest.Buffer.{Buffer}
 use Rattle.tape_plot.specs.declared.connection.Connection.{Connection}
 use Rattle.tape_plot.specs.declared.draw.pick.Pick.{Pick}
 use Rattle.tape_plot.specs.declared.exchange.Exchange.{Exchange}
@@ -26,7 +26,7 @@ use Rattle.tape_plot.specs.declared.highest.Ranked.{Ranked}
 use Rattle.tape_plot.specs.declared.levels.Levels.{Levels}
 use Rattle.tape_plot.specs.declared.limits.Limits.{Limits}
 use Rattle.flow_gate.specs.declared.ids.BufferId.TheVariants as ids
-use Rattle.tape_plot.specs.declared.buffer.Buffer.TheVariants as buffer
+use Rattle.tape_plot.specs.declared.highest.Buffer.TheVariants as buffer
 
 kept_more : (xs ys kept : List Ranked) → kept_of (xs ++ ys) kept ≡ kept_of ys (kept_of xs kept)
 kept_more [] ys kept = refl

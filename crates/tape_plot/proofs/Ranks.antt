@@ -8,7 +8,7 @@ use Rattle.tape_plot.proofs.Choosing.{AreFirst, behind_all, first_of, in_head, p
 use Rattle.tape_plot.proofs.Heights.{before_flips, earlier_goes, goes_through, later_goes}
 use Rattle.tape_plot.specs.Highest.{AreInOrder, ArePicked, goes_before, is_before, is_higher}
 use Rattle.tape_plot.specs.Ranking.{kept_of, puts}
-use Rattle.tape_plot.specs.declared.buffer.Buffer.{Buffer}
+use Rattle.tape_plot.specs.declared.highest.Buffer.{Buffer}
 use Rattle.tape_plot.specs.declared.height.Height.{Height}
 use Rattle.tape_plot.specs.declared.highest.Ranked.{Ranked}
 

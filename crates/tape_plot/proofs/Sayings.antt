@@ -25,8 +25,8 @@ use Rattle.tape_plot.specs.Reads.{EndsHow, Follows, Goes, Reads, ReadsTape, Take
 use Rattle.tape_plot.specs.Lines.{line_text}
 use Rattle.tape_plot.specs.Said.{MayFollow, Said, Sums, Tells, part_with, said_text, tape_text, told}
 use Rattle.tape_plot.specs.declared.limits.Limits.{Limits}
-use Rattle.tape_plot.specs.declared.outcome.Outcome.{Outcome}
-use Rattle.tape_plot.specs.declared.outcome.Refusal.{Refusal}
+use Rattle.tape_plot.specs.declared.report.Outcome.{Outcome}
+use Rattle.tape_plot.specs.declared.report.Refusal.{Refusal}
 use Rattle.tape_plot.specs.declared.plot.Plot.{Plot}
 use Rattle.tape_plot.specs.declared.report.Line.{Line}
 use Rattle.tape_plot.specs.declared.tape.Part.{Part}

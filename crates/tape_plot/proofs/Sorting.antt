@@ -17,14 +17,14 @@ use Rattle.tape_plot.specs.Highest.{AreInOrder, against, is_before}
 use Rattle.tape_plot.specs.Lanes.{most_of}
 use Rattle.tape_plot.specs.Limits.{known, limit_at, place_limit_at}
 use Rattle.tape_plot.specs.Subjects.{flow_id}
-use Rattle.tape_plot.specs.declared.buffer.Buffer.{Buffer}
+use Rattle.tape_plot.specs.declared.highest.Buffer.{Buffer}
 use Rattle.tape_plot.specs.declared.connection.Connection.{Connection}
 use Rattle.tape_plot.specs.declared.exchange.Exchange.{Exchange}
 use Rattle.tape_plot.specs.declared.flow.Place.{Place}
 use Rattle.tape_plot.specs.declared.highest.Ranked.{Ranked}
 use Rattle.tape_plot.specs.declared.limits.Limits.{Limits}
 use Rattle.flow_gate.specs.declared.ids.BufferId.TheVariants as ids
-use Rattle.tape_plot.specs.declared.buffer.Buffer.TheVariants as buffer
+use Rattle.tape_plot.specs.declared.highest.Buffer.TheVariants as buffer
 
 -- two lists in order, of which the one comes before the other
 order_append : {X : Type 0} (comes : X → X → Bool) (xs ys : List X) → AreInOrder comes xs → AreInOrder comes ys → All (λ x. All (λ y. comes x y ≡ true) ys) xs → AreInOrder comes (xs ++ ys)

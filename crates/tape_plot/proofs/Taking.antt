@@ -9,10 +9,10 @@ use Rattle.std.specs.Prelude.{Bool, Option, Some, nat_eq, true, ℕ, ◌≡◌}
 use Rattle.tape_plot.proofs.Placing.{beq_self}
 use Rattle.tape_plot.specs.Picks.{IsPicked, buffers_of}
 use Rattle.tape_plot.specs.Shown.{AsksFor}
-use Rattle.tape_plot.specs.declared.buffer.Buffer.{Buffer}
+use Rattle.tape_plot.specs.declared.highest.Buffer.{Buffer}
 use Rattle.tape_plot.specs.declared.choice.Lanes.{Lanes}
 use Rattle.tape_plot.specs.declared.draw.pick.Pick.{Pick}
-use Rattle.tape_plot.specs.declared.buffer.Buffer.TheVariants as buffer
+use Rattle.tape_plot.specs.declared.highest.Buffer.TheVariants as buffer
 use Rattle.tape_plot.specs.declared.choice.Lanes.TheVariants as lanes
 
 flow_itself : (f : FlowId) → (flow_eq.ghosts).eq f f ≡ true

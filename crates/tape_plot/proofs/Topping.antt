@@ -9,7 +9,7 @@ use Rattle.tape_laws.specs.History.{EachFollows, History, NoMark, Noted}
 use Rattle.tape_laws.specs.Plain.{plain_setup}
 use Rattle.tape_laws.specs.Release.{MayStand, is_free}
 use Rattle.tape_laws.specs.World.{place}
-use Rattle.tape_laws.specs.declared.limits.PlainLimits.{PlainLimits}
+use Rattle.tape_laws.specs.declared.PlainLimits.{PlainLimits}
 use Rattle.tape_plot.proofs.Holding.{lt_or_le, place_lengths}
 use Rattle.std.proofs.Math.ListN.{get_or-eq_default}
 use Rattle.tape_plot.specs.Levels.{at, entered, filled, framed, moved, places, relayed, top}

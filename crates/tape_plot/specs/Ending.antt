@@ -3,8 +3,8 @@ use Rattle.session_run.specs.Ends.{AppendsFront}
 use Rattle.session_run.specs.declared.status.Status.{Status}
 use Rattle.std.specs.Io.KnownBytes.{Appends}
 use Rattle.std.specs.Prelude.{List, None, Option, Some, ℕ, ◌≡◌}
-use Rattle.tape_plot.specs.declared.outcome.Outcome.{Outcome}
-use Rattle.tape_plot.specs.declared.outcome.Refusal.{Refusal}
+use Rattle.tape_plot.specs.declared.report.Outcome.{Outcome}
+use Rattle.tape_plot.specs.declared.report.Refusal.{Refusal}
 use Rattle.session_run.specs.declared.status.Status.TheVariants as status
 
 -- without a line that was refused

@@ -9,10 +9,10 @@ use Rattle.tape_laws.specs.Dispatches.{turns}
 use Rattle.tape_laws.specs.History.{History, NoMark}
 use Rattle.tape_plot.specs.Levels.{at, places, written}
 use Rattle.tape_plot.specs.Said.{Said, Sums}
-use Rattle.tape_plot.specs.declared.buffer.Buffer.{Buffer}
+use Rattle.tape_plot.specs.declared.highest.Buffer.{Buffer}
 use Rattle.tape_plot.specs.declared.height.Height.{Height}
 use Rattle.flow_gate.specs.declared.ids.BufferId.TheVariants as id
-use Rattle.tape_plot.specs.declared.buffer.Buffer.TheVariants as buffer
+use Rattle.tape_plot.specs.declared.highest.Buffer.TheVariants as buffer
 use Rattle.tape_plot.specs.declared.report.Line.TheVariants as line
 
 -- ---- the limit of a buffer

@@ -9,7 +9,7 @@ use Rattle.tape_plot.specs.Reads.{Reads}
 use Rattle.tape_plot.specs.Said.{IsTape, Said, tape_text, told}
 use Rattle.tape_plot.specs.Shown.{ShowsBuffers}
 use Rattle.tape_plot.specs.declared.choice.Choice.{Choice}
-use Rattle.tape_plot.specs.declared.outcome.Outcome.{Outcome}
+use Rattle.tape_plot.specs.declared.report.Outcome.{Outcome}
 use Rattle.session_run.specs.declared.status.Status.TheVariants as status
 
 -- A tape was read whole, and a text shows the buffers that are chosen: what each holds up to the last dispatch that is drawn.

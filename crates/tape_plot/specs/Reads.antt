@@ -10,7 +10,7 @@ use Rattle.tape_plot.specs.Kept.{PlotIs, until}
 use Rattle.tape_plot.specs.Limits.{LimitsAre}
 use Rattle.tape_plot.specs.Said.{IsSaid, IsTape, MayFollow, Said, part_of, part_with, said_text, tape_text, told}
 use Rattle.tape_plot.specs.Standing.{LanesStand}
-use Rattle.tape_plot.specs.declared.outcome.Outcome.{Outcome}
+use Rattle.tape_plot.specs.declared.report.Outcome.{Outcome}
 use Rattle.tape_plot.specs.declared.plot.Plot.{Plot}
 use Rattle.tape_plot.specs.declared.tape.Part.{Part}
 use Rattle.tape_plot.specs.declared.tape.Stop.{Stop}

@@ -9,7 +9,7 @@ use Rattle.tape_plot.specs.Picks.{IsPicked, RankedIn, lane_of, limit_kept}
 use Rattle.tape_plot.specs.Shown.{IsDrawn, Within}
 use Rattle.tape_plot.specs.Standing.{flow_of}
 use Rattle.tape_plot.specs.Subjects.{flow_id}
-use Rattle.tape_plot.specs.declared.buffer.Buffer.{Buffer}
+use Rattle.tape_plot.specs.declared.highest.Buffer.{Buffer}
 use Rattle.tape_plot.specs.declared.choice.Lanes.{Lanes}
 use Rattle.tape_plot.specs.declared.connection.Connection.{Connection}
 use Rattle.tape_plot.specs.declared.draw.pick.Pick.{Pick}
@@ -19,7 +19,7 @@ use Rattle.tape_plot.specs.declared.flow.Place.{Place}
 use Rattle.tape_plot.specs.declared.levels.Levels.{Levels}
 use Rattle.tape_plot.specs.declared.limits.Limits.{Limits}
 use Rattle.flow_gate.specs.declared.ids.BufferId.TheVariants as id
-use Rattle.tape_plot.specs.declared.buffer.Buffer.TheVariants as buffer
+use Rattle.tape_plot.specs.declared.highest.Buffer.TheVariants as buffer
 
 -- what is put stays
 pub record Grows (old new : Sheet) : Type 0 where

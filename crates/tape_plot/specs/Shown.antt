@@ -7,10 +7,10 @@ use Rattle.tape_plot.specs.Lanes.{Drawn, LaneIs, most_of}
 use Rattle.tape_plot.specs.Path.{path_text}
 use Rattle.tape_plot.specs.Said.{Said}
 use Rattle.tape_plot.specs.Scale.{columns_of, top_of}
-use Rattle.tape_plot.specs.declared.buffer.Buffer.{Buffer}
+use Rattle.tape_plot.specs.declared.highest.Buffer.{Buffer}
 use Rattle.tape_plot.specs.declared.choice.Lanes.{Lanes}
 use Rattle.tape_plot.specs.declared.draw.line.Scene.{Scene}
-use Rattle.tape_plot.specs.declared.buffer.Buffer.TheVariants as buffer
+use Rattle.tape_plot.specs.declared.highest.Buffer.TheVariants as buffer
 use Rattle.tape_plot.specs.declared.choice.Lanes.TheVariants as lanes
 
 -- the buffers that a choice asks for by name or with all others

@@ -3,10 +3,17 @@ ghost use Rattle.std.specs.List.{insert};
 ghost use Rattle.std.specs.Prelude.{◌≡◌, ◌≤◌, length};
 ghost use Rattle.tape_plot.specs.Ranking.{puts};
 
-use crate::buffer::Buffer;
 use crate::height::Height;
+use flow_gate::FlowId;
 use io_ports::NoMemory;
 use std::alloc::Global;
+
+/// A buffer that has a lane: a place of a flow, counted from its receive buffer, which is 0; or the write buffer of a connection.
+#[derive(Clone, Copy, Debug, PartialEq, Eq)]
+pub enum Buffer {
+    Place(FlowId, u32),
+    Write(u32),
+}
 
 /// How many lanes are drawn where none are named.
 pub const HIGHEST: usize = 40;

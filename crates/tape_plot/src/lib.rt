@@ -1,7 +1,6 @@
 //! A tape as a picture: the lengths of its buffers, its read-disable counts and its ends, dispatch by dispatch, as one SVG file.
 #![tactic(auto)]
 
-mod buffer;
 mod choice;
 mod clock;
 mod connection;
@@ -14,11 +13,9 @@ mod height;
 mod held;
 mod highest;
 mod lane;
-mod laws;
 mod levels;
 mod limits;
 mod mark;
-mod outcome;
 mod plot;
 mod report;
 mod subject;
@@ -27,6 +24,6 @@ mod width;
 mod words;
 
 pub use choice::{Choice, Lanes, read_choice};
-pub use laws::{lengths, plain_lengths};
-pub use outcome::{Outcome, Refusal};
+pub use levels::{lengths, plain_lengths};
+pub use report::{Outcome, Refusal};
 pub use tape::{Tape, plot_tape, read_tape};

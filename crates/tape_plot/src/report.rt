@@ -7,8 +7,45 @@ ghost use Rattle.tape_plot.specs.Lines.{line_text, peak_words};
 use crate::words::{first_word, read_flow, read_number, read_u32};
 use flow_gate::{BufferId, FlowId};
 use io_ports::{NoMemory, Octets};
+use session_run::Status;
 use std::alloc::Global;
+use std::error::Error;
+use std::fmt;
 use tape_summary::{LineEnd, put_behind, put_done, put_flow_peak, put_stage_peak, put_write_peak};
+
+/// Why a line was refused.
+#[derive(Clone, Copy, Debug, PartialEq, Eq)]
+pub enum Refusal {
+    /// It is no note, and no line of a summary.
+    NoNote,
+    /// It is a note behind a line of the summary.
+    BehindSummary,
+    /// It stands behind the last line.
+    BehindEnd,
+    /// It has more than 131,071 octets.
+    Long,
+}
+
+impl fmt::Display for Refusal {
+    fn fmt<W: fmt::Write>(&self, f: &mut fmt::Formatter<W>) -> fmt::Result {
+        f.write_str(match self {
+            Refusal::NoNote => "neither a note of a tape nor a line of its summary",
+            Refusal::BehindSummary => "a note behind a line of the summary",
+            Refusal::BehindEnd => "a line behind the tape's last line",
+            Refusal::Long => "more than 131,071 octets",
+        })
+    }
+}
+
+impl Error for Refusal {}
+
+/// How it ended, and which line was refused, counted from 1, and why, where one was.
+#[derive(Clone, Copy, Debug, PartialEq, Eq)]
+pub struct Outcome {
+    pub status: Status,
+    pub line: u64,
+    pub refusal: Option<Refusal>,
+}
 
 // Words of lines.
 const PEAK: &[u8] = b"peak";

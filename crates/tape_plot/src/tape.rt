@@ -17,9 +17,8 @@ ghost use Rattle.tape_plot.specs.declared.tape.Part.TheVariants as parts;
 
 use crate::choice::Choice;
 use crate::draw::draw;
-use crate::outcome::{Outcome, Refusal};
 use crate::plot::Plot;
-use crate::report::{Line, read_line};
+use crate::report::{Line, Outcome, Refusal, read_line};
 use crate::words::first_word;
 use flow_notes::{NameRefusal, Names, Note, read_note};
 use io_ports::{NoMemory, Octets, Sink, Source};

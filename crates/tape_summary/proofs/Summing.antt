@@ -27,7 +27,7 @@ use Rattle.tape_laws.specs.History.{History, NoMark}
 use Rattle.tape_laws.specs.Plain.{plain_setup}
 use Rattle.tape_laws.specs.Report.{flow_peaks, paused_line, peak_line, report_line, until_word, write_peak}
 use Rattle.tape_laws.specs.Summary.{Paused, all_flows, paused_lines, peak}
-use Rattle.tape_laws.specs.declared.limits.PlainLimits.{PlainLimits}
+use Rattle.tape_laws.specs.declared.PlainLimits.{PlainLimits}
 use Rattle.flow_gate.specs.declared.ids.BufferId.TheVariants as buffer
 
 -- ---- pauses

@@ -6,7 +6,7 @@ use Rattle.tape_summary.specs.declared.tape_log.TapeLog.{TapeLog}
 use Rattle.std.specs.Prelude.{List}
 use Rattle.tape_laws.specs.History.{History, NoMark, onto}
 use Rattle.tape_laws.specs.PlainTape.{IsPlainLawful}
-use Rattle.tape_laws.specs.declared.limits.PlainLimits.{PlainLimits}
+use Rattle.tape_laws.specs.declared.PlainLimits.{PlainLimits}
 
 pub record TapeLogIs (limits : PlainLimits) (log : TapeLog) (h : History NoMark) : Type 0 where
   pub peaks : PeaksAre limits log.peaks h

@@ -15,7 +15,7 @@ use Rattle.tape_laws.specs.Flows.{request}
 use Rattle.tape_laws.specs.History.{History, NoMark}
 use Rattle.tape_laws.specs.Plain.{plain_setup}
 use Rattle.tape_laws.specs.Report.{paused_line, peak_line, summary_text}
-use Rattle.tape_laws.specs.declared.limits.PlainLimits.{PlainLimits}
+use Rattle.tape_laws.specs.declared.PlainLimits.{PlainLimits}
 
 -- the lines of the peaks, each where its buffer ever held an octet
 abbrev pub flow_peak_lines : PeakLog → ℕ → List ℕ

@@ -10,7 +10,7 @@ use Rattle.relay_laws.specs.Session.{reads_paused, is_held}
 use Rattle.relay_laws.specs.Sound.{IsPaired, IsSound}
 use Rattle.relay_laws.specs.Watermark.{above}
 use Rattle.relay_laws.specs.World.{out}
-use Rattle.relay_laws.specs.declared.feed.Feed.{Feed}
+use Rattle.relay_laws.specs.declared.Feed.{Feed}
 use Rattle.std.proofs.Common.{ap, append-nil, arith, length-append, refl, subst, sym, ◌∙◌}
 use Rattle.std.proofs.lemmas.List.{length-drop}
 use Rattle.std.specs.Bool.{OnTrue}

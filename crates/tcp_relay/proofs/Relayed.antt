@@ -9,7 +9,7 @@ use Rattle.relay_laws.specs.Pairs.{Tape, feed, free, is_open, opposite, pairs}
 use Rattle.relay_laws.specs.Promise.{RelaysItsReads, read_in, was_lost}
 use Rattle.relay_laws.specs.Sound.{IsPaired, IsSound}
 use Rattle.relay_laws.specs.World.{entered, gone, out}
-use Rattle.relay_laws.specs.declared.feed.Feed.{Feed}
+use Rattle.relay_laws.specs.declared.Feed.{Feed}
 use Rattle.std.proofs.Common.{ap, append-nil, arith, refl, subst, sym, ◌∙◌}
 use Rattle.std.proofs.lemmas.Bool.Decides.{nat_tests}
 use Rattle.std.proofs.lemmas.Option.{same_Some}

@@ -6,7 +6,7 @@ use Rattle.relay_laws.specs.Order.{may_come, is_new}
 use Rattle.relay_laws.specs.Pairs.{Tape, feed, free, is_open, opposite, unless_doomed}
 use Rattle.relay_laws.specs.Sound.{IsFresh, IsPaired, IsSound}
 use Rattle.relay_laws.specs.World.{out}
-use Rattle.relay_laws.specs.declared.feed.Feed.{Feed}
+use Rattle.relay_laws.specs.declared.Feed.{Feed}
 use Rattle.std.proofs.Common.{ap, arith, refl, subst, suc, sym, ◌∙◌}
 use Rattle.std.proofs.lemmas.Bool.Decides.{nat_tests}
 use Rattle.std.specs.List.{AllByRecursion}

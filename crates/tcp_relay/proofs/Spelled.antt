@@ -13,7 +13,7 @@ use Rattle.tcp_relay.specs.Noting.{AppendsSome}
 use Rattle.tcp_relay.specs.Turns.{AreSpelled}
 use Rattle.tcp_relay.specs.declared.conns.Taken.{Taken}
 use Rattle.tcp_relay.specs.declared.effect.Ended.{Ended}
-use Rattle.relay_laws.specs.declared.feed.Feed.{Feed}
+use Rattle.relay_laws.specs.declared.Feed.{Feed}
 use Rattle.flow_notes.specs.declared.events.Event.TheVariants as event
 use Rattle.flow_notes.specs.declared.notes.Note.TheVariants as note
 

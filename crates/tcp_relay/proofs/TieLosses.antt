@@ -6,7 +6,7 @@ use Rattle.relay_laws.specs.Pairs.{Tape, feed, free, goes_to, is_open, opposite,
 use Rattle.relay_laws.specs.Sound.{IsPaired, IsSound}
 use Rattle.relay_laws.specs.Watermark.{above}
 use Rattle.relay_laws.specs.World.{out}
-use Rattle.relay_laws.specs.declared.feed.Feed.{Feed}
+use Rattle.relay_laws.specs.declared.Feed.{Feed}
 use Rattle.std.proofs.Common.{ap, refl, subst, sym, ◌∙◌}
 use Rattle.std.proofs.lemmas.Option.{same_Some}
 use Rattle.std.specs.Prelude.{Bool, List, None, Option, Some, [], false, filter, if◌then◌else◌, length, nat_lt, not, option_map, true, ℕ, ◌&&◌, ◌==◌, ◌∷◌, ◌≡◌}

@@ -7,7 +7,7 @@ use Rattle.relay_laws.specs.Pairs.{Tape, feed, free, is_open}
 use Rattle.relay_laws.specs.Session.{IsTape, MayRelayAll, is_held, reads_paused, relay_tape}
 use Rattle.relay_laws.specs.Sound.{IsPaired, IsSound}
 use Rattle.relay_laws.specs.World.{out}
-use Rattle.relay_laws.specs.declared.feed.Feed.{Feed}
+use Rattle.relay_laws.specs.declared.Feed.{Feed}
 use Rattle.std.proofs.Common.{ap, refl, subst, sym, ◌∙◌}
 use Rattle.std.specs.Prelude.{List, Option, [], drop, false, if◌then◌else◌, is_none, length, min, nat_lt, true, ℕ, ◌&&◌, ◌+◌, ◌-◌, ◌==◌, ◌∷◌, ◌≡◌}
 use Rattle.tape_laws.specs.Dispatches.{events_back, turns}

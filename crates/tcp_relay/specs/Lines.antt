@@ -1,9 +1,9 @@
 -- What is seen of the connections of a relay, each by its number.
-use Rattle.relay_laws.specs.declared.feed.Feed.{Feed}
+use Rattle.relay_laws.specs.declared.Feed.{Feed}
 use Rattle.std.specs.BTreeMap.{BTreeMap, get}
 use Rattle.std.specs.Ordering.{nat_cmp}
 use Rattle.std.specs.Prelude.{Bool, List, None, Option, Some, [], drop, false, if◌then◌else◌, length, min, not, option_map, ℕ, ◌&&◌, ◌++◌, ◌==◌, ◌≡◌}
-use Rattle.tcp_relay.specs.declared.conn.Conn.{Conn}
+use Rattle.tcp_relay.specs.declared.conns.Conn.{Conn}
 use Rattle.tcp_relay.specs.declared.conns.Taken.{Taken}
 use Rattle.wm_buffer.specs.Watermark.{above_after}
 

@@ -7,7 +7,7 @@ use Rattle.relay_laws.specs.Pairs.{Tape, feed, is_open}
 use Rattle.relay_laws.specs.Session.{IsTape}
 use Rattle.relay_laws.specs.Watermark.{above}
 use Rattle.relay_laws.specs.World.{out}
-use Rattle.relay_laws.specs.declared.feed.Feed.{Feed}
+use Rattle.relay_laws.specs.declared.Feed.{Feed}
 use Rattle.std.specs.Prelude.{Bool, List, None, Option, Result, Some, false, if◌then◌else◌, length, nat_lt, not, option_map, ℕ, ◌++◌, ◌||◌, ◌∷◌, ◌≡◌}
 use Rattle.tape_laws.specs.Dispatches.{events_back, turns}
 use Rattle.tape_laws.specs.History.{onto}

@@ -2,7 +2,7 @@
 use Rattle.relay_laws.specs.Pairs.{Tape, feed, free, is_open, pairs}
 use Rattle.relay_laws.specs.Watermark.{above}
 use Rattle.relay_laws.specs.World.{out}
-use Rattle.relay_laws.specs.declared.feed.Feed.{Feed}
+use Rattle.relay_laws.specs.declared.Feed.{Feed}
 use Rattle.std.specs.Prelude.{Bool, List, None, Option, Some, if◌then◌else◌, length, nat_lt, ℕ}
 use Rattle.tcp_relay.specs.Board.{Board}
 use Rattle.tcp_relay.specs.Lines.{Line}

@@ -1,12 +1,35 @@
 // The open connections by number, and what is done to one of them.
 ghost use Rattle.std.specs.Prelude.{◌≡◌, None, Some, IfOk, OnOk, option_map};
 ghost use Rattle.tcp_relay.specs.Lines.{Changes, added, dropped, fed, feeds_of, held_in, is_idle_at, line_in, rises_by, seen, taken_of};
+ghost use Rattle.wm_buffer.specs.Buffer.{empty_buffer};
 
-use crate::conn::Conn;
 use io_ports::NoMemory;
 use relay_laws::Feed;
+use std::alloc::Global;
 use std::collections::BTreeMap;
-use wm_buffer::Crossed;
+use wm_buffer::{Crossed, WatermarkBuffer};
+
+/// An open connection. One that is closed isn't kept: nothing waits for it.
+#[derive(Drop)]
+pub struct Conn {
+    /// The octets that wait for it.
+    pub(crate) write: WatermarkBuffer,
+    /// What it feeds, as long as its pair is live.
+    pub(crate) feeds: Option<Feed>,
+}
+
+impl Conn {
+    /// A connection for which nothing waits, with this limit of its write buffer in octets, 0 for none. Takes no memory.
+    pub(crate) fn new(alloc: Global, limit: u32, feeds: Option<Feed>) -> Self
+        ensures write { result.write ≡ empty_buffer limit }
+        ensures feeds { result.feeds ≡ feeds }
+    {
+        Conn {
+            write: WatermarkBuffer::new(alloc, limit),
+            feeds,
+        }
+    }
+}
 
 /// What the leaving of octets came to.
 #[derive(Clone, Copy, Debug, PartialEq, Eq)]

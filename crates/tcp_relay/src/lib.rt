@@ -1,7 +1,6 @@
 //! A relay of octets between paired connections, which backs off by not reading.
 #![tactic(auto)]
 
-mod conn;
 mod conns;
 mod effect;
 mod fault;

@@ -7,8 +7,8 @@ ghost use Rattle.tcp_relay.specs.Lines.{feeds_of, line_in, octets_of, taken_of};
 ghost use Rattle.tcp_relay.specs.Seen.{IsFront, IsLeast};
 ghost use Rattle.tcp_relay.specs.declared.effect.Effect.TheVariants as effect;
 
-use crate::conn::Conn;
 use crate::conns;
+use crate::conns::Conn;
 use crate::effect::{Effect, Ended, Left};
 use flow_gate::FlowId;
 use flow_notes::Event;

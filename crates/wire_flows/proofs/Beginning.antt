@@ -36,7 +36,7 @@ use Rattle.wire_flows.specs.Begins.{BeginsBoth, IsFresh, is_target, watches_from
 use Rattle.wire_flows.specs.Flows.{Flows, KeepsLeft, flow_in, goes_to, is_there, left_in, watches_in, watches_of}
 use Rattle.wire_flows.specs.Measure.{all_of, low_of, lows_of, to_go, way}
 use Rattle.wire_flows.specs.Sound.{AreInOrder, IsSound, IsWhole, MarksAre, turn_cmp, turn_of}
-use Rattle.wire_flows.specs.Writes.{KeepsWrites, lows_on}
+use Rattle.wire_flows.specs.Writes.{KeepsLows, KeepsWrites, lows_on}
 use Rattle.flow_gate.specs.declared.ids.BufferId.TheVariants as buffer
 
 -- ---- lists in order
@@ -306,6 +306,9 @@ module _ (x : ℕ) (spec : StartSpec) (config : Config) (wire : spec.plain ≡ f
   -- the write buffers stay
   pub writes_new : KeepsWrites old after
   writes_new = keeps_writes old after (λ c. record { known = known_same (buffer.Write c) refl refl; above = marks_same (buffer.Write c); lows = pending_same (buffer.Write c) })
+
+  pub lows_new : KeepsLows old after
+  lows_new = record { lows = pending_same }
 
   -- where they go
   pub request_goes : goes_to after (flow_id x false) ≡ spec.to_conn

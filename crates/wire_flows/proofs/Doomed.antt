@@ -26,7 +26,7 @@ use Rattle.wire_flows.proofs.Watched.{others_none}
 use Rattle.wire_flows.specs.Flows.{Flows, flow_in, goes_to, is_there, left_in, watches_in, watches_of}
 use Rattle.wire_flows.specs.Measure.{all_of, low_of, lows_of, to_go, way}
 use Rattle.wire_flows.specs.Sound.{AreInOrder, IsSound, IsWhole, MarksAre, turn_cmp}
-use Rattle.wire_flows.specs.Writes.{LeavesWrites, left_by, lows_on, write_at}
+use Rattle.wire_flows.specs.Writes.{LeavesLows, LeavesWrites, left_by, lows_on, write_at}
 use Rattle.flow_gate.specs.declared.ids.BufferId.TheVariants as buffer
 
 -- what was forgotten of both flows
@@ -222,6 +222,9 @@ module _ (x : ℕ) (old : Flows) (ex : Exchanges) (board : Board) (s : IsSound o
       left : (known above : Bool) (lows : List FlowId) → write_of known above (without (flow_id x true) (without (flow_id x false) lows)) ≡ option_map (left_by x) (write_of known above lows)
       left true above lows = refl
       left false above lows = refl
+
+  pub lows_gone : LeavesLows x old after
+  lows_gone = record { lows = pending_is }
 
   -- ---- what is to go
   low_other : (f : FlowId) → (x == f.exchange) ≡ false → low_of after f ≡ low_of old f

@@ -11,7 +11,7 @@ use Rattle.flow_gate.specs.declared.ids.FlowId.{FlowId}
 use Rattle.io_ports.specs.declared.octets.NoMemory.{NoMemory}
 use Rattle.std.proofs.Common.{ap, arith, refl, subst, sym, ◌∙◌}
 use Rattle.std.specs.Option.{option_and_then}
-use Rattle.std.specs.Prelude.{Bool, Err, IfSome, IsSome, List, None, Ok, Option, Result, Some, false, is_some, true, ℕ, ◌+◌, ◌<◌, ◌||◌, ◌≡◌, ◌≤◌}
+use Rattle.std.specs.Prelude.{Bool, Err, IfSome, IsSome, List, None, Ok, OnErr, Option, Result, Some, false, is_some, true, ℕ, ◌+◌, ◌<◌, ◌||◌, ◌≡◌, ◌≤◌}
 use Rattle.wire_flows.proofs.Answering.{keeps_same}
 use Rattle.wire_flows.proofs.Boards.{keeps_writes, write_known}
 use Rattle.wire_flows.proofs.Cases.{by_case, if_found, not_both}
@@ -20,7 +20,7 @@ use Rattle.wire_flows.proofs.Restored.{restored, wholly_begun}
 use Rattle.wire_flows.specs.Begins.{BeginsBoth, BeginsFlow, IsFresh, IsSame}
 use Rattle.wire_flows.specs.Flows.{Flows, KeepsLeft, flow_in, is_there}
 use Rattle.wire_flows.specs.Sound.{AreInOrder, IsSound, MarksAre}
-use Rattle.wire_flows.specs.Writes.{KeepsWrites, write_at}
+use Rattle.wire_flows.specs.Writes.{KeepsLows, KeepsWrites, write_at}
 use Rattle.flow_gate.specs.declared.ids.BufferId.TheVariants as buffer
 
 module _ (x : ℕ) (old : Flows) (s : IsSound old) (greater : old.exchanges.last < x) where
@@ -51,12 +51,14 @@ module _ (x : ℕ) (old : Flows) (s : IsSound old) (greater : old.exchanges.last
 pub record Refused (old new : Flows) : Type 0 where
   pub left : KeepsLeft old new
   pub writes : KeepsWrites old new
+  pub lows : KeepsLows old new
   pub sound : IsSound new
 
 pub refused_same : (old : Flows) (ex : Exchanges) (board : Board) → IsSound old → ex ≡ old.exchanges → IsSame old.gates board → AreSoundGates board → Refused old (record { exchanges = ex; gates = board })
 refused_same old ex board s e k gates = subst (λ x. Refused old (record { exchanges = x; gates = board })) (sym e) (record {
   left = record { left = λ f. refl };
   writes = keeps_writes old (record { exchanges = old.exchanges; gates = board }) (λ c. record { known = k.buffers (buffer.Write c); above = k.marks (buffer.Write c); lows = k.pending (buffer.Write c) });
+  lows = record { lows = k.pending };
   sound = record {
     exchanges = s.exchanges;
     gates = gates;
@@ -95,3 +97,8 @@ module _ (x : ℕ) (rs bs : List BufferId) (to : Option ℕ) (from : ℕ) (old b
 pub known_if : (o : Option ℕ) (flows : Flows) → IfSome o (λ c. IsSome (write_at c flows)) → IfSome o (λ c. is_known flows.gates (buffer.Write c) ≡ true)
 known_if None flows k = tt
 known_if (Some c) flows k = sym (write_known c flows) ∙ k
+
+-- where nothing begins the gates are seen as before
+pub same_refused : {T : Type 0} (r : Result T NoMemory) (old new : Board) → IsSame old new → OnErr r (IsSame old new)
+same_refused (Ok x) old new k = tt
+same_refused (Err e) old new k = k

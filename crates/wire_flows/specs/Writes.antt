@@ -2,6 +2,8 @@
 use Rattle.exchange_core.specs.Exchange.{flow_id}
 use Rattle.flow_gate.specs.Board.{is_known, is_marked, pending_on, watchers_of}
 use Rattle.flow_gate.specs.Changes.{without}
+use Rattle.flow_gate.specs.Ids.{same_buffer}
+use Rattle.flow_gate.specs.declared.ids.BufferId.{BufferId}
 use Rattle.flow_gate.specs.declared.ids.FlowId.{FlowId}
 use Rattle.std.specs.Prelude.{Bool, List, None, Option, Some, [], drop, false, if◌then◌else◌, length, option_map, true, ℕ, ◌&&◌, ◌==◌, ◌||◌, ◌≡◌}
 use Rattle.wire_flows.specs.Flows.{Flows, KeepsLeft, KeepsLive, time_of}
@@ -66,3 +68,16 @@ left_by x write = record write { lows = without (flow_id x true) (without (flow_
 
 pub record LeavesWrites (x : ℕ) (old new : Flows) : Type 0 where
   pub writes : (c : ℕ) → write_at c new ≡ option_map (left_by x) (write_at c old)
+
+-- ---- who is still to be told of a drain
+-- of each buffer the same flows are
+pub record KeepsLows (old new : Flows) : Type 0 where
+  pub lows : (b : BufferId) → pending_on new.gates b ≡ pending_on old.gates b
+
+-- of each other buffer the same flows are
+pub record KeepsOtherLows (b : BufferId) (old new : Flows) : Type 0 where
+  pub lows : (c : BufferId) → same_buffer b c ≡ false → pending_on new.gates c ≡ pending_on old.gates c
+
+-- an exchange is gone, and its flows are no longer
+pub record LeavesLows (x : ℕ) (old new : Flows) : Type 0 where
+  pub lows : (b : BufferId) → pending_on new.gates b ≡ without (flow_id x true) (without (flow_id x false) (pending_on old.gates b))

@@ -12,7 +12,7 @@ ghost use Rattle.wire_flows.specs.Begins.{RisesIf};
 ghost use Rattle.wire_flows.specs.Flows.{ChangesLeft, IsThere, KeepsLeft, KeepsLive, flow_in, goes_to, is_live_in, left_in, time_of};
 ghost use Rattle.wire_flows.specs.Measure.{to_go};
 ghost use Rattle.wire_flows.specs.Sound.{IsEmpty, IsSound, IsUnused};
-ghost use Rattle.wire_flows.specs.Writes.{ChangesWrite, Keeps, KeepsWrites, LeavesWrites, lowered, lows_on, new_write, raised, told, watchers_on, write_at};
+ghost use Rattle.wire_flows.specs.Writes.{ChangesWrite, Keeps, KeepsLows, KeepsOtherLows, KeepsWrites, LeavesLows, LeavesWrites, lowered, lows_on, new_write, raised, told, watchers_on, write_at};
 
 use exchange_core::{Doomed, Exchanges, Received};
 use flow_gate::{BufferId, FlowId, Gates};
@@ -59,6 +59,7 @@ impl WireFlows {
     pub fn open_write(&mut self, conn: u32) -> Result<(), NoMemory>
         ensures ok { OnOk result (write_at conn self.old ≡ None → ChangesWrite conn (Some new_write) self.old self.new) }
         ensures known { (write_at conn self.old ≡ None → ⊥) → self.new ≡ self.old }
+        ensures lows { KeepsLows self.old self.new }
         ensures rest { self.new.exchanges ≡ self.old.exchanges }
         ensures go { to_go self.new ≡ to_go self.old }
         ensures sound { IsSound self.new }
@@ -77,6 +78,7 @@ impl WireFlows {
         ensures answer { (result ≡ true) ↔ IsUnused conn self.old }
         ensures closed { result ≡ true → ChangesWrite conn None self.old self.new }
         ensures same { result ≡ false → self.new ≡ self.old }
+        ensures lows { KeepsLows self.old self.new }
         ensures rest { self.new.exchanges ≡ self.old.exchanges }
         ensures go { to_go self.new ≡ to_go self.old }
         ensures sound { IsSound self.new }
@@ -95,6 +97,7 @@ impl WireFlows {
     /// where it was above, or isn't known.
     pub fn write_rose(&mut self, conn: u32)
         ensures rises { ChangesWrite conn (option_map (raised true) (write_at conn self.old)) self.old self.new }
+        ensures lows { KeepsLows self.old self.new }
         ensures rest { self.new.exchanges ≡ self.old.exchanges }
         ensures go { to_go self.new ≡ to_go self.old }
         ensures sound { IsSound self.new }
@@ -107,6 +110,7 @@ impl WireFlows {
     /// isn't known.
     pub fn write_drained(&mut self, conn: u32)
         ensures drains { ChangesWrite conn (option_map (lowered (watchers_on conn self.old)) (write_at conn self.old)) self.old self.new }
+        ensures lows { KeepsOtherLows (BufferId.Write conn) self.old self.new }
         ensures rest { self.new.exchanges ≡ self.old.exchanges }
         ensures sound { IsSound self.new }
     {
@@ -121,6 +125,7 @@ impl WireFlows {
     pub fn next_told(&mut self, conn: u32) -> Option<FlowId>
         ensures first { result ≡ slice_get (lows_on conn self.old) 0 }
         ensures tells { ChangesWrite conn (option_map told (write_at conn self.old)) self.old self.new }
+        ensures lows { KeepsOtherLows (BufferId.Write conn) self.old self.new }
         ensures live { IfSome result (λ f. is_live_in self.old f.exchange ≡ true) }
         ensures goes { IfSome result (λ f. goes_to self.old f ≡ Some conn) }
         ensures rest { self.new.exchanges ≡ self.old.exchanges }
@@ -208,6 +213,7 @@ impl WireFlows {
         ensures left { (f : Flow) → left_in self.new f ≡ (if exchange == f.exchange then 0 else left_in self.old f) }
         ensures time { time_of self.new ≡ time_of self.old }
         ensures writes { LeavesWrites exchange self.old self.new }
+        ensures lows { LeavesLows exchange self.old self.new }
         ensures less { to_go self.new + 64 ≤ to_go self.old }
         ensures sound { IsSound self.new }
     {

@@ -10,7 +10,7 @@ ghost use Rattle.wire_flows.specs.Begins.{BeginsBoth, BeginsFlow, Grows, IsFresh
 ghost use Rattle.wire_flows.specs.Flows.{KeepsLeft, goes_to, is_live_in, time_of};
 ghost use Rattle.wire_flows.specs.Measure.{to_go};
 ghost use Rattle.wire_flows.specs.Sound.{IsSound};
-ghost use Rattle.wire_flows.specs.Writes.{KeepsWrites, is_above, write_at};
+ghost use Rattle.wire_flows.specs.Writes.{KeepsLows, KeepsWrites, is_above, write_at};
 
 use crate::flows::WireFlows;
 use exchange_core::StartSpec;
@@ -52,9 +52,11 @@ impl WireFlows {
         ensures left { KeepsLeft self.old self.new }
         ensures time { OnOk result (time_of self.new ≡ spec.entry.now.now) }
         ensures writes { KeepsWrites self.old self.new }
+        ensures lows { KeepsLows self.old self.new }
         ensures go { OnOk result (to_go self.new ≤ to_go self.old + 144) }
         ensures sound { IsSound self.new }
         ensures err { OnErr result (self.new.exchanges ≡ self.old.exchanges) }
+        ensures gates { OnErr result (IsSame self.old.gates self.new.gates) }
     {
         let Some(exchange) = self.exchanges.last().checked_add(1) else {
             return Err(NoMemory);

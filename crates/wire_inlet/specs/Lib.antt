@@ -1,3 +1,4 @@
 pub mod Incoming
 pub mod Meaning
 pub mod Next
+pub mod Unreads

@@ -2,8 +2,6 @@
 //! dispatch that is under way has touched.
 #![tactic(auto)]
 
-mod following;
 mod load;
 
-pub use following::load_follows;
-pub use load::{Action, Load};
+pub use load::{Action, Load, load_follows};

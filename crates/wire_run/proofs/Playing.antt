@@ -20,7 +20,7 @@ use Rattle.std.proofs.lemmas.List.{append-nil}
 use Rattle.std.specs.List.{AllByRecursion}
 use Rattle.std.specs.Prelude.{Err, IfSome, List, None, Ok, OnOk, Option, Result, [], false, suc, ℕ, ◌++◌, ◌+◌, ◌∷◌, ◌≡◌, ◌⊎◌}
 use Rattle.tape_laws.specs.History.{History, NoMark, onto}
-use Rattle.tape_laws.specs.declared.limits.PlainLimits.{PlainLimits}
+use Rattle.tape_laws.specs.declared.PlainLimits.{PlainLimits}
 use Rattle.tape_summary.specs.NotesText.{notes_text}
 use Rattle.wire_run.proofs.Noting.{dispatch_adds, onto_text, renamed}
 use Rattle.wire_run.proofs.Staging.{no_row, rows_agree, rows_grow, rows_of}

@@ -5,6 +5,8 @@ ghost use Rattle.proxy_config.specs.Ranges.{IsInRange};
 ghost use Rattle.proxy_config.specs.Reading.{config_of};
 ghost use Rattle.wire_run.specs.Allowed.{Completes};
 ghost use Rattle.wire_run.specs.Tapes.{RunsWire};
+ghost use Rattle.flow_notes.specs.Name.{AreNames};
+ghost use Rattle.session_lines.specs.WireLines.{IsWireSeen, WireSeen, wire_text};
 
 use crate::play::WirePlay;
 use io_ports::{Sink, Source};
@@ -68,3 +70,9 @@ fn explain(alloc: Global, status: Status, run: &Run<WirePlay>) -> Option<LineFau
         Err(_) => None,
     }
 }
+
+/// A text spells at most one wire session: its events are given by its octets. So which of its lines is the first that is
+/// refused is given by them too.
+pub fn one_wire_session()
+    ensures { (names : List (List ℕ)) (resources : ℕ) (s t : WireSeen) → AreNames names → IsWireSeen names resources s → IsWireSeen names resources t → wire_text names s ≡ wire_text names t → s ≡ t }
+{}

@@ -1,11 +1,11 @@
 // One connection.
 ghost use Rattle.proxy_config.specs.Ranges.{AreLimits};
-ghost use Rattle.std.specs.Prelude.{◌≡◌, ◌&&◌, ◌<◌, ◌≤◌, ◌≤ℤ◌, ◌+◌, ◌*◌, ◌^◌, [], ℕ, IfOk, not, pos, true};
+ghost use Rattle.std.specs.Prelude.{◌≡◌, ◌&&◌, ◌<◌, ◌≤◌, ◌≤ℤ◌, ◌+◌, ◌*◌, ◌^◌, [], ℕ, IfOk, min, not, pos, true};
 ghost use Rattle.wire_inlet.specs.Incoming.{is_cluster};
 ghost use Rattle.wire_state.specs.Progress.{conn_go};
 ghost use Rattle.wire_state.specs.Sound.{IsKept};
-ghost use Rattle.wire_windows.specs.RecvWindows.{IsSound as AreSoundWindows, arrival, held_at};
-ghost use Rattle.wire_windows.specs.SendWindows.{HasRoom};
+ghost use Rattle.wire_windows.specs.RecvWindows.{IsSound as AreSoundWindows, arrival, drops, held_at};
+ghost use Rattle.wire_windows.specs.SendWindows.{HasRoom, closes};
 
 use crate::ready::Ready;
 use exchange_core::Unit;
@@ -131,6 +131,7 @@ impl Conn {
     // n, or what the stream of an exchange holds where that is less.
     fn at_most_held(&self, exchange: u64, n: u32) -> u32
         ensures held { result ≤ held_at exchange self.now.windows.recv }
+        ensures least { result ≡ min n (held_at exchange self.now.windows.recv) }
         ensures sound { AreSoundWindows self.now.windows.recv }
     {
         match self.windows.recv.stream(exchange) {
@@ -317,8 +318,11 @@ impl Conn {
     }
 
     /// The exchange is doomed, with `left` octets in the receive buffer of the flow that comes from here; it counts as done where
-    /// `done` holds. The answer is whether its stream, if it has one, was open.
+    /// `done` holds. Both its windows go: of the octets that its stream holds, at most `left` are owed to the connection, and the
+    /// others are still to be wasted. The answer is whether its stream, if it has one, was open.
     pub fn leave(&mut self, exchange: u64, stream: Option<u32>, left: u32, done: bool) -> bool
+        ensures recv { self.new.windows.recv ≡ drops exchange (min left (held_at exchange self.old.windows.recv)) self.old.windows.recv }
+        ensures send { self.new.windows.send ≡ closes exchange self.old.windows.send }
         ensures rest { self.new ≡ record self.old { inlet = self.new.inlet; windows = self.new.windows; ready = self.new.ready; credits = self.new.credits; done = self.new.done } }
         ensures go { conn_go self.new ≤ conn_go self.old }
     {

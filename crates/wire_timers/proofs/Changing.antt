@@ -7,7 +7,7 @@ use Rattle.link_lists.specs.Lists.{contains_id}
 use Rattle.flow_notes.specs.declared.notes.FireKind.{FireKind}
 use Rattle.flow_notes.specs.declared.notes.FireKind.TheVariants.{Route, StreamIdle, ConnectionIdle}
 use Rattle.scaled_timer.specs.declared.fired.Fired.{Fired}
-use Rattle.scaled_timer.specs.declared.kinds.TimerKind.{TimerKind}
+use Rattle.scaled_timer.specs.declared.timers.TimerKind.{TimerKind}
 use Rattle.scaled_timer.specs.Due as scaled
 use Rattle.scaled_timer.specs.Due.{Armed as Token, due_timers, waiting_timers}
 use Rattle.scaled_timer.specs.Timing.{Timing, firing, names_of, has_timer, without_timer, IsHeld}

@@ -3,7 +3,7 @@ use Rattle.std.proofs.Common.{◌≡◌, ℕ, zero, suc, ◌<◌, true, false, L
 use Rattle.std.specs.Prelude.{◌==◌}
 use Rattle.std.proofs.lemmas.Bool.{eq-eqb, eqb-true}
 use Rattle.link_lists.proofs.Memory.{either}
-use Rattle.scaled_timer.specs.declared.kinds.TimerKind.{TimerKind}
+use Rattle.scaled_timer.specs.declared.timers.TimerKind.{TimerKind}
 use Rattle.wire_timers.specs.Kinds.{longest_at}
 
 longest-get : (kinds : List TimerKind) (k : ℕ) (d : TimerKind) → k < length kinds → longest_at kinds k ≡ (get_or kinds k d).max

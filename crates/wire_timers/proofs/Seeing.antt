@@ -5,7 +5,7 @@ use Rattle.std.specs.List.{AllByRecursion, list_any}
 use denote.RawPtr.{Ptr}
 use Rattle.flow_notes.specs.declared.notes.FireKind.{FireKind}
 use Rattle.flow_notes.specs.declared.notes.FireKind.TheVariants.{Route, StreamIdle, ConnectionIdle}
-use Rattle.scaled_timer.specs.declared.kinds.TimerKind.{TimerKind}
+use Rattle.scaled_timer.specs.declared.timers.TimerKind.{TimerKind}
 use Rattle.scaled_timer.specs.Due as scaled
 use Rattle.scaled_timer.specs.Due.{Armed as Token, delay_at, due_timers, waiting_timers}
 use Rattle.scaled_timer.specs.Order.{placed, in_order}

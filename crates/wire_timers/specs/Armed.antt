@@ -3,7 +3,7 @@ use Rattle.std.specs.Prelude.{ℕ, Bool, ◌==◌, ◌&&◌, not, cond, List, []
 use Rattle.std.specs.List.{list_any}
 use Rattle.flow_notes.specs.declared.notes.FireKind.{FireKind}
 use Rattle.flow_notes.specs.declared.notes.FireKind.TheVariants.{Route, StreamIdle}
-use Rattle.scaled_timer.specs.declared.kinds.TimerKind.{TimerKind}
+use Rattle.scaled_timer.specs.declared.timers.TimerKind.{TimerKind}
 use Rattle.wire_timers.specs.Kinds.{number_of, longest_at}
 
 -- an armed timer: its kind, the exchange or the connection that it is for, and the moment when it was armed

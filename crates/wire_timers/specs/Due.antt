@@ -1,6 +1,6 @@
 -- Which timers are due.
 use Rattle.std.specs.Prelude.{ℕ, ◌+◌, Bool, nat_le, not, List, map, filter}
-use Rattle.scaled_timer.specs.declared.kinds.TimerKind.{TimerKind}
+use Rattle.scaled_timer.specs.declared.timers.TimerKind.{TimerKind}
 use Rattle.scaled_timer.specs.Due.{delay_at}
 use Rattle.scaled_timer.specs.Order.{in_order}
 use Rattle.wire_timers.specs.declared.due.Due.{Due}

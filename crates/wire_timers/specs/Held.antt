@@ -4,7 +4,7 @@ use Rattle.std.specs.Map.{lookup}
 use Rattle.std.specs.List.{AllByRecursion, IsDistinct}
 use Rattle.link_lists.specs.Places.{same_ptr}
 use Rattle.link_lists.specs.Lists.{NodeId}
-use Rattle.scaled_timer.specs.declared.kinds.TimerKind.{TimerKind}
+use Rattle.scaled_timer.specs.declared.timers.TimerKind.{TimerKind}
 use Rattle.scaled_timer.specs.Due.{Armed as Token}
 use Rattle.scaled_timer.specs.declared.fired.Fired.{Fired}
 use Rattle.scaled_timer.specs.Timing.{Timing, firing, names_of}

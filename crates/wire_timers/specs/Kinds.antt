@@ -3,7 +3,7 @@ use Rattle.std.specs.Prelude.{◌≡◌, ℕ, zero, suc, List, [], ◌∷◌, ma
 use Rattle.flow_notes.specs.declared.notes.FireKind.{FireKind}
 use Rattle.flow_notes.specs.declared.notes.FireKind.TheVariants.{Route, StreamIdle, ConnectionIdle}
 use Rattle.proxy_config.specs.declared.config.TimeoutKeys.{TimeoutKeys}
-use Rattle.scaled_timer.specs.declared.kinds.TimerKind.{TimerKind}
+use Rattle.scaled_timer.specs.declared.timers.TimerKind.{TimerKind}
 
 -- the kinds by number
 abbrev pub number_of : FireKind → ℕ

@@ -3,13 +3,11 @@
 
 mod by_exchange;
 mod conn_windows;
-mod laws;
 mod recv_stream;
 mod recv_windows;
 mod send_windows;
 
 pub use conn_windows::ConnWindows;
-pub use laws::{buffers_fit, one_more_initial};
 pub use recv_stream::{Came, RecvStream};
-pub use recv_windows::RecvWindows;
-pub use send_windows::SendWindows;
+pub use recv_windows::{RecvWindows, buffers_fit};
+pub use send_windows::{SendWindows, one_more_initial};

@@ -1,8 +1,9 @@
 // The windows that this side grants.
 ghost use Rattle.std.specs.FinMap.{get};
-ghost use Rattle.std.specs.Prelude.{◌≡◌, ◌↔◌, ◌≤◌, IsOk, OnErr, OnOk, false, nat_le, true};
+ghost use Rattle.std.specs.Prelude.{◌≡◌, ◌↔◌, ◌≤◌, IsOk, OnErr, OnOk, false, nat_le, true, List, nat_eq, sum_by, ℕ};
 ghost use Rattle.h2_windows.specs.RecvWindow.{is_due};
-ghost use Rattle.wire_windows.specs.RecvWindows.{changed_at, left_in, on_window, received};
+ghost use Rattle.wire_windows.specs.RecvWindows.{changed_at, left_in, on_window, received, IsSound, RecvWindows, held_at};
+ghost use Rattle.std.specs.List.{IsDistinct};
 
 use crate::by_exchange::ByExchange;
 use crate::recv_stream::{Came, RecvStream};
@@ -271,3 +272,10 @@ fn receive(streams: &mut ByExchange<RecvStream>, x: u64, n: u32) -> bool
     streams.set(x, stream);
     true
 }
+
+/// What receive buffers hold together, none of them more than its stream holds here, is at most the window of the connection;
+/// and what a stream holds is at most the window of a stream.
+pub fn buffers_fit()
+    ensures together { (w : RecvWindows) (buffered : ℕ → ℕ) (xs : List ℕ) → IsSound w → ((x : ℕ) → buffered x ≤ held_at x w) → IsDistinct nat_eq xs → sum_by buffered xs ≤ w.conn.window }
+    ensures each { (w : RecvWindows) (x : ℕ) → IsSound w → held_at x w ≤ w.stream_window }
+{}

@@ -1,5 +1,5 @@
 // The windows that the peer grants.
-ghost use Rattle.std.specs.Prelude.{◌≡◌, ◌↔◌, ◌<◌, ◌≤◌, ◌≤ℤ◌, ◌+ℤ◌, List, ℕ, IsOk, OnErr, OnOk, false, option_map, pos};
+ghost use Rattle.std.specs.Prelude.{◌≡◌, ◌↔◌, ◌<◌, ◌≤◌, ◌≤ℤ◌, ◌+ℤ◌, List, ℕ, IsOk, OnErr, OnOk, false, option_map, pos, ◌++◌, ◌∷◌, [], max};
 ghost use Rattle.std.specs.FinMap.{get};
 ghost use Rattle.wire_windows.specs.SendWindows.{AreGreatestAndLast};
 
@@ -179,3 +179,10 @@ impl SendWindows {
         self.payload = n;
     }
 }
+
+/// Of one initial window it is the greatest and the last; of some and one more behind them the greatest is the greater of
+/// theirs and the new one, and the last is the new one.
+pub fn one_more_initial()
+    ensures first { (v : ℕ) → AreGreatestAndLast v v v [] }
+    ensures next { (most end first : ℕ) (later : List ℕ) (v : ℕ) → AreGreatestAndLast most end first later → AreGreatestAndLast (max most v) v first (later ++ v ∷ []) }
+{}

@@ -6,7 +6,7 @@ use Rattle.plain_core.specs.Stands.{CanTake, Rests, WaitsInFront}
 use Rattle.overload_core.specs.ActionStates.{is_saturated}
 use Rattle.proxy_config.specs.declared.config.Config.{Config}
 use Rattle.std.specs.Prelude.{Bool, List, None, Option, [], false, not, true, ℕ, ◌<◌, ◌≡◌}
-use Rattle.tape_laws.specs.declared.limits.PlainLimits.{PlainLimits}
+use Rattle.tape_laws.specs.declared.PlainLimits.{PlainLimits}
 use Rattle.wire_state.specs.Sound.{IsSound, is_open_at}
 use Rattle.worker_core.specs.Dispatching.{Breaks, Dispatches}
 use Rattle.worker_core.specs.Fronts.{IsFront, IsLeastAbove, has_octets, is_there, octets_at}

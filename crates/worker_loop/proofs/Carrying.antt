@@ -20,7 +20,7 @@ use Rattle.worker_loop.specs.Clauses.{Carries, CarriesAs, RunsAs, RunsCut}
 use Rattle.worker_loop.specs.Cutting.{CutsOne}
 use Rattle.worker_loop.specs.Did.{Did}
 use Rattle.worker_loop.specs.Places.{Becomes, Place}
-use Rattle.worker_loop.specs.declared.ended.Ended.{Ended as End}
+use Rattle.worker_loop.specs.declared.turns.Ended.{Ended as End}
 
 pub all_append : {es : List Event} {k : Kind} {ds : List Did} {mid : Kind} → CarriedAll es k ds mid → (fs : List Event) (rest : List Did) (new : Kind) → CarriedAll fs mid rest new → CarriedAll (es ++ fs) k (ds ++ rest) new
 all_append (Nothing k) fs rest new more = more

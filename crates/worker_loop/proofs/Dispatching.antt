@@ -15,8 +15,8 @@ use Rattle.worker_loop.specs.Clauses.{Carries, DispatchesAs, EndsAll, KeepsLine,
 use Rattle.worker_loop.specs.Cutting.{CutsOne, CutsShort}
 use Rattle.worker_loop.specs.Did.{Dispatched, Noted}
 use Rattle.worker_loop.specs.Places.{Becomes, Changes, Place, event_line, place_of}
-use Rattle.worker_loop.specs.declared.ended.Ended.{Ended as End}
-use Rattle.worker_loop.specs.declared.ended.Ended.TheVariants as ended
+use Rattle.worker_loop.specs.declared.turns.Ended.{Ended as End}
+use Rattle.worker_loop.specs.declared.turns.Ended.TheVariants as ended
 use Rattle.worker_parts.specs.Journals.{with_notes}
 use Rattle.worker_ports.specs.Wires.{Seen}
 

@@ -20,8 +20,8 @@ use Rattle.worker_loop.specs.Parts.{AtWires as StandsAtWires}
 use Rattle.worker_loop.specs.Places.{Becomes, Place, event_line}
 use Rattle.worker_loop.specs.Turns.{AreTurns, IsTurn, More, Sides}
 use Rattle.worker_loop.specs.Works.{AreRising, BreaksTurn, Works, posts_in, ticks_in, versions_in}
-use Rattle.worker_loop.specs.declared.ended.Ended.{Ended as End}
-use Rattle.worker_loop.specs.declared.ended.Ended.TheVariants as ended
+use Rattle.worker_loop.specs.declared.turns.Ended.{Ended as End}
+use Rattle.worker_loop.specs.declared.turns.Ended.TheVariants as ended
 use Rattle.worker_parts.specs.Journals.{with_notes}
 use Rattle.worker_ports.specs.Told.{with_last}
 use Rattle.worker_ports.specs.Wires.{Seen}

@@ -10,8 +10,8 @@ use Rattle.std.specs.List.{list_any}
 use Rattle.number_set.specs.NumberSet.{has}
 use Rattle.std.specs.Prelude.{Bool, Err, List, Ok, Result, false, if◌then◌else◌, length, true, ℕ, ◌+◌, ◌<◌, ◌≡◌, ◌≤◌}
 use Rattle.worker_loop.specs.Keeping.{AreUpTo, Holds, Keeps, Permitted, Rises}
-use Rattle.worker_loop.specs.declared.ended.Ended.{Ended as End}
-use Rattle.worker_loop.specs.declared.ended.Ended.TheVariants as ended
+use Rattle.worker_loop.specs.declared.turns.Ended.{Ended as End}
+use Rattle.worker_loop.specs.declared.turns.Ended.TheVariants as ended
 use Rattle.worker_ports.specs.Told.{with_last}
 use Rattle.worker_ports.specs.Wires.{Gives, Seen, closed, greatest_after, is_live, offered, without}
 use Rattle.worker_ports.specs.declared.wires.WireStep.TheVariants as step

@@ -19,8 +19,8 @@ use Rattle.worker_loop.specs.Cutting.{AtWires, Cuts, Midway, TookSome}
 use Rattle.worker_loop.specs.Did.{Did, Offered}
 use Rattle.worker_loop.specs.Places.{Becomes, Place, place_of}
 use Rattle.worker_loop.specs.Turns.{Empty, IsPiece, NoneOffered, Offers, OneOffered}
-use Rattle.worker_loop.specs.declared.ended.Ended.{Ended as End}
-use Rattle.worker_loop.specs.declared.ended.Ended.TheVariants as ended
+use Rattle.worker_loop.specs.declared.turns.Ended.{Ended as End}
+use Rattle.worker_loop.specs.declared.turns.Ended.TheVariants as ended
 use Rattle.worker_ports.specs.Wires.{Seen, offered}
 
 -- ---- one connection

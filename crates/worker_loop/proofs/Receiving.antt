@@ -21,8 +21,8 @@ use Rattle.worker_loop.specs.Did.{Admitted, Did, Gave, Left, Refused, TurnedAway
 use Rattle.worker_loop.specs.Keeping.{AreUpTo, Holds, Permitted}
 use Rattle.worker_loop.specs.Places.{Becomes, Changes, Place, closed_at, place_of, without_permit}
 use Rattle.worker_loop.specs.Turns.{Accepted, Came, Full, Idled, Joined, Shut, Stopped, TakesUp, Went, is_stop}
-use Rattle.worker_loop.specs.declared.ended.Ended.{Ended as End}
-use Rattle.worker_loop.specs.declared.ended.Ended.TheVariants as ended
+use Rattle.worker_loop.specs.declared.turns.Ended.{Ended as End}
+use Rattle.worker_loop.specs.declared.turns.Ended.TheVariants as ended
 use Rattle.worker_parts.specs.Held.{Asked, with_fewer}
 use Rattle.worker_ports.specs.Wires.{Gives, Seen, closed, given}
 use Rattle.worker_ports.specs.declared.wires.Wired.{Wired}

@@ -5,7 +5,7 @@ use Rattle.post_queue.specs.Posts.{IsAllowed}
 use Rattle.post_queue.specs.declared.hand.Hand.{Hand}
 use Rattle.post_queue.specs.declared.posts.Post.{Post}
 use Rattle.shared_state.specs.Version.{looked}
-use Rattle.shared_state.specs.declared.entry.Entry.{Entry}
+use Rattle.shared_state.specs.declared.entries.Entry.{Entry}
 use Rattle.shared_state.specs.declared.version_word.VersionView.{VersionView}
 use Rattle.std.proofs.Common.{All, ap, append_assoc, arith, inl, inr, refl, subst, sym, ◌∙◌, ◌⊎◌}
 use Rattle.std.proofs.lemmas.List.{append-nil}
@@ -21,8 +21,8 @@ use Rattle.worker_loop.specs.Did.{Did, Gave, events_of}
 use Rattle.worker_loop.specs.Places.{Becomes, Place}
 use Rattle.worker_loop.specs.Turns.{Asks, IsTurn, Sides, sides_of}
 use Rattle.worker_loop.specs.Works.{AsksPart, BreaksTurn, InnerRun, MayMiss, NoneRun, Runs, TakenRun, posts_in, ticks_in}
-use Rattle.worker_loop.specs.declared.ended.Ended.{Ended as End}
-use Rattle.worker_loop.specs.declared.ended.Ended.TheVariants as ended
+use Rattle.worker_loop.specs.declared.turns.Ended.{Ended as End}
+use Rattle.worker_loop.specs.declared.turns.Ended.TheVariants as ended
 use Rattle.worker_ports.specs.Told.{TellsLast}
 
 pub cuts_one : (names : List (List ℕ)) (end : End) (k k' : Kind) (v w : Place) → CutsOne names end k v k' w → Cuts names k v end k' w

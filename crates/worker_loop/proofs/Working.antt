@@ -25,8 +25,8 @@ use Rattle.worker_loop.specs.Parts.{EndsLines, EndsWhole, Hands, InTurns, Lines,
 use Rattle.worker_loop.specs.Places.{Becomes, Place, event_line}
 use Rattle.worker_loop.specs.Turns.{AreTurns, IsTurn, More, NoTurns, Sides}
 use Rattle.worker_loop.specs.Works.{BreaksTurn, InnerRun, MayMiss, NoneRun, Runs, StopsIn, TakenRun, Works, posts_in, ticks_in}
-use Rattle.worker_loop.specs.declared.ended.Ended.{Ended as End}
-use Rattle.worker_loop.specs.declared.ended.Ended.TheVariants as ended
+use Rattle.worker_loop.specs.declared.turns.Ended.{Ended as End}
+use Rattle.worker_loop.specs.declared.turns.Ended.TheVariants as ended
 use Rattle.worker_ports.specs.Told.{TellsLast}
 
 -- ---- the moments

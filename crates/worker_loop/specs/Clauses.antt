@@ -16,8 +16,8 @@ use Rattle.worker_loop.specs.Did.{Did, Ended, Gave, Offered}
 use Rattle.worker_loop.specs.Places.{Becomes, Place, closed_at, event_line, place_of, without_permit}
 use Rattle.worker_loop.specs.Turns.{IsPiece, IsTurn, Offers, Sides, TakesUp, is_stop}
 use Rattle.worker_loop.specs.Works.{BreaksTurn}
-use Rattle.worker_loop.specs.declared.ended.Ended.{Ended as End}
-use Rattle.worker_loop.specs.declared.ended.Ended.TheVariants as ended
+use Rattle.worker_loop.specs.declared.turns.Ended.{Ended as End}
+use Rattle.worker_loop.specs.declared.turns.Ended.TheVariants as ended
 use Rattle.worker_parts.specs.Held.{Asked}
 use Rattle.worker_ports.specs.Wires.{Seen}
 use Rattle.worker_ports.specs.declared.wires.Wired.{Wired}

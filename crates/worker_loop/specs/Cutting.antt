@@ -5,8 +5,8 @@ use Rattle.std.specs.Prelude.{List, [], map, ℕ, ◌∷◌, ◌≡◌, ◌⊎�
 use Rattle.worker_core.specs.declared.worker.Kind.{Kind}
 use Rattle.worker_loop.specs.Did.{Admitted, Did, Dispatched, Ended, Gave, Left, Offered}
 use Rattle.worker_loop.specs.Places.{Becomes, Place, event_line}
-use Rattle.worker_loop.specs.declared.ended.Ended.{Ended as End}
-use Rattle.worker_loop.specs.declared.ended.Ended.TheVariants as ended
+use Rattle.worker_loop.specs.declared.turns.Ended.{Ended as End}
+use Rattle.worker_loop.specs.declared.turns.Ended.TheVariants as ended
 use Rattle.worker_ports.specs.declared.wires.Wired.{Wired}
 use Rattle.worker_ports.specs.declared.wires.Wired.TheVariants as wired
 

@@ -6,8 +6,8 @@ use Rattle.shared_state.specs.declared.permit_rule.PermitView.{PermitView}
 use Rattle.shared_state.specs.declared.permits.PermitSeat.{PermitSeat}
 use Rattle.shared_state.specs.declared.permits.Permits.{Permits}
 use Rattle.std.specs.Prelude.{Err, List, Result, length, true, ℕ, ◌+◌, ◌≡◌, ◌≤◌}
-use Rattle.worker_loop.specs.declared.ended.Ended.{Ended as End}
-use Rattle.worker_loop.specs.declared.ended.Ended.TheVariants as ended
+use Rattle.worker_loop.specs.declared.turns.Ended.{Ended as End}
+use Rattle.worker_loop.specs.declared.turns.Ended.TheVariants as ended
 use Rattle.worker_ports.specs.Wires.{Seen}
 
 -- the seat is of these permits, and was given those that are kept

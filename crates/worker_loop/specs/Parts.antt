@@ -14,8 +14,8 @@ use Rattle.worker_loop.specs.Carrying.{post_event}
 use Rattle.worker_loop.specs.Places.{event_line}
 use Rattle.worker_loop.specs.Turns.{Sides}
 use Rattle.worker_loop.specs.Works.{AreRising, MayMiss, posts_in, ticks_in, versions_in}
-use Rattle.worker_loop.specs.declared.ended.Ended.{Ended}
-use Rattle.worker_loop.specs.declared.ended.Ended.TheVariants as ended
+use Rattle.worker_loop.specs.declared.turns.Ended.{Ended}
+use Rattle.worker_loop.specs.declared.turns.Ended.TheVariants as ended
 use Rattle.worker_ports.specs.Wires.{Seen}
 use Rattle.worker_ports.specs.declared.wires.WireStep.{WireStep}
 use Rattle.worker_ports.specs.declared.wires.WireStep.TheVariants as step

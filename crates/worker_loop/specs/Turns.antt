@@ -4,7 +4,7 @@ use Rattle.flow_notes.specs.declared.events.Event.TheVariants as event
 use Rattle.post_queue.specs.declared.hand.Hand.{Hand}
 use Rattle.post_queue.specs.declared.posts.Post.{Post}
 use Rattle.shared_state.specs.Version.{looked}
-use Rattle.shared_state.specs.declared.entry.Entry.{Entry}
+use Rattle.shared_state.specs.declared.entries.Entry.{Entry}
 use Rattle.shared_state.specs.declared.version_word.VersionView.{VersionView}
 use Rattle.std.specs.Prelude.{Bool, List, None, Option, Some, [], false, length, map, suc, take, true, ℕ, ◌++◌, ◌+◌, ◌<◌, ◌∷◌, ◌≡◌, ◌≤◌}
 use Rattle.worker_core.specs.Sessions.{IsNextOut, takes_clients}

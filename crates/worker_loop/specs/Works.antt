@@ -11,8 +11,8 @@ use Rattle.worker_loop.specs.Cutting.{Cuts}
 use Rattle.worker_loop.specs.Did.{Did, Gave, Offered, events_of}
 use Rattle.worker_loop.specs.Places.{Becomes, Place}
 use Rattle.worker_loop.specs.Turns.{AreTurns, IsTurn, Sides, TakesUp}
-use Rattle.worker_loop.specs.declared.ended.Ended.{Ended}
-use Rattle.worker_loop.specs.declared.ended.Ended.TheVariants as ended
+use Rattle.worker_loop.specs.declared.turns.Ended.{Ended}
+use Rattle.worker_loop.specs.declared.turns.Ended.TheVariants as ended
 use Rattle.worker_ports.specs.Told.{TellsLast}
 use Rattle.worker_ports.specs.declared.wires.Wired.{Wired}
 

@@ -4,9 +4,9 @@ ghost use Rattle.io_ports.specs.Faults.{Rose};
 ghost use Rattle.std.specs.Prelude.{◌≡◌, ◌≤◌, Err};
 ghost use Rattle.worker_core.specs.Sessions.{RestsWire};
 ghost use Rattle.worker_loop.specs.Clauses.{DispatchesAs, KeepsLine};
-ghost use Rattle.worker_loop.specs.declared.ended.Ended.TheVariants as ended;
+ghost use Rattle.worker_loop.specs.declared.turns.Ended.TheVariants as ended;
 
-use crate::ended::Ended;
+use crate::turns::Ended;
 use flow_notes::{Event, Names, Notes, event_text};
 use io_ports::{Failed, Octets};
 use std::alloc::Global;

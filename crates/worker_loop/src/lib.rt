@@ -2,13 +2,11 @@
 //! and keeps a journal.
 #![tactic(auto)]
 
-mod ended;
 mod events;
 mod offers;
 mod settling;
 mod taking;
 mod turns;
 
-pub use ended::Ended;
-pub use turns::work;
+pub use turns::{Ended, work};
 pub use worker_parts::{HeldPermits, Journal, MemJournal, begin_journal, sample};

@@ -6,9 +6,9 @@ ghost use Rattle.worker_loop.specs.Clauses.{OffersAllAs, OffersAs};
 ghost use Rattle.worker_loop.specs.Keeping.{Holds, Keeps, Rises};
 ghost use Rattle.worker_loop.specs.Places.{place_of};
 
-use crate::ended::Ended;
 use crate::events::Pad;
 use crate::settling::carry_out;
+use crate::turns::Ended;
 use flow_notes::{Event, Names};
 use io_ports::Failed;
 use shared_state::{PermitSeat, Permits};

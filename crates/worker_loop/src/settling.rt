@@ -9,8 +9,8 @@ ghost use Rattle.worker_loop.specs.Clauses.{CarriesAs, EndsAll, EndsOne, numbers
 ghost use Rattle.worker_loop.specs.Keeping.{Holds, Keeps, Rises};
 ghost use Rattle.worker_loop.specs.Places.{place_of};
 
-use crate::ended::Ended;
 use crate::events::{Pad, dispatch};
+use crate::turns::Ended;
 use flow_notes::{Event, Names, Note, Notes, Passage};
 use shared_state::{PermitSeat, Permits};
 use worker_core::Core;

@@ -7,12 +7,12 @@ ghost use Rattle.worker_loop.specs.Clauses.{Admits, MayTakeUp, TakesAs, TakesUpA
 ghost use Rattle.worker_loop.specs.Keeping.{AreUpTo, Holds, Keeps, Permitted, Rises};
 ghost use Rattle.worker_loop.specs.Places.{place_of};
 ghost use Rattle.worker_loop.specs.Turns as spec;
-ghost use Rattle.worker_loop.specs.declared.ended.Ended.TheVariants as ended;
+ghost use Rattle.worker_loop.specs.declared.turns.Ended.TheVariants as ended;
 ghost use Rattle.worker_ports.specs.declared.wires.Wired.TheVariants as wired;
 
-use crate::ended::Ended;
 use crate::events::Pad;
 use crate::settling::carry_out;
+use crate::turns::Ended;
 use flow_notes::{Event, Names};
 use shared_state::{PermitSeat, Permits};
 use worker_core::Core;

@@ -14,9 +14,8 @@ ghost use Rattle.worker_loop.specs.Parts.{AtWires, InTurns, Lines, Tape};
 ghost use Rattle.worker_loop.specs.Places.{place_of};
 ghost use Rattle.worker_loop.specs.Turns.{sides_of};
 ghost use Rattle.worker_loop.specs.Works.{Works};
-ghost use Rattle.worker_loop.specs.declared.ended.Ended.TheVariants as ended;
+ghost use Rattle.worker_loop.specs.declared.turns.Ended.TheVariants as ended;
 
-use crate::ended::Ended;
 use crate::events::Pad;
 use crate::offers::offer_all;
 use crate::settling::carry_out;
@@ -30,6 +29,29 @@ use std::sync::Wait;
 use worker_core::Core;
 use worker_parts::{HeldPermits, Journal};
 use worker_ports::{Clock, Gate, Wires};
+
+/// How the work of a worker ended.
+#[derive(Clone, Copy, Debug, PartialEq, Eq)]
+pub enum Ended {
+    /// After all its turns, in none of which it was to stop.
+    Turns,
+    /// At the end of a turn in which it was to stop.
+    Stopped,
+    /// The connections failed.
+    WiresFault,
+    /// The journal failed. The event whose line wasn't written whole wasn't dispatched.
+    JournalFault,
+    /// Out of memory.
+    Memory,
+}
+
+impl From<NoMemory> for Ended {
+    ghost from_gives = { λ _ end. end ≡ ended.Memory };
+
+    fn from(_: NoMemory) -> Self {
+        Ended::Memory
+    }
+}
 
 /// Runs so many turns. In each the gate is passed, with the number of the turn; the clock is asked, and its moment dispatched; the
 /// box is drained once, and each post dispatched; the follower is asked once, and what it answers is obeyed where it is newer

@@ -8,8 +8,8 @@ use Rattle.std.proofs.lemmas.List.{get_or-map, length-map}
 use Rattle.std.proofs.lemmas.Option.{slice_get_within}
 use Rattle.std.specs.Prelude.{IsSomeAnd, List, None, Option, Some, [], length, map, slice_get, slice_index_or, unwrap_or, ℕ, ◌<◌, ◌≡◌, ◌≤◌}
 use Rattle.worker_loop.specs.Keeping.{AreUpTo}
-use Rattle.worker_loop.specs.declared.ended.Ended.{Ended}
-use Rattle.worker_loop.specs.declared.ended.Ended.TheVariants as ended
+use Rattle.worker_loop.specs.declared.turns.Ended.{Ended}
+use Rattle.worker_loop.specs.declared.turns.Ended.TheVariants as ended
 use Rattle.worker_threads.specs.Starting.{HasWorked, IsNew, IsReady, Outside, Worked, WorkedEach, end_of}
 use Rattle.worker_threads.specs.declared.worker.Shared.{Shared}
 use Rattle.worker_threads.specs.declared.worker.Worker.{Worker}

@@ -15,8 +15,8 @@ use Rattle.worker_loop.specs.Keeping.{AreUpTo, Holds, Keeps}
 use Rattle.worker_loop.specs.Places.{Place, place_of}
 use Rattle.worker_loop.specs.Turns.{Sides, sides_of}
 use Rattle.worker_loop.specs.Works.{Works}
-use Rattle.worker_loop.specs.declared.ended.Ended.{Ended}
-use Rattle.worker_loop.specs.declared.ended.Ended.TheVariants as ended
+use Rattle.worker_loop.specs.declared.turns.Ended.{Ended}
+use Rattle.worker_loop.specs.declared.turns.Ended.TheVariants as ended
 use Rattle.worker_parts.specs.Held.{with_fewer}
 use Rattle.worker_ports.specs.Wires.{Seen}
 use Rattle.worker_ports.specs.declared.wires.Wires.{Ghosts}

@@ -8,11 +8,11 @@ impl Stage {
     pub fn ask(&mut self, act: Act) -> Answer {
         match act {
             Act::High(conn) => {
-                self.write(conn, true);
+                self.rise(conn);
                 Answer::Done
             }
             Act::Low(conn) => {
-                self.write(conn, false);
+                self.drain(conn);
                 Answer::Done
             }
             Act::Tell(flow) => {

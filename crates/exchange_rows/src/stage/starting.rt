@@ -4,11 +4,11 @@ ghost use Rattle.proxy_config.specs.Ranges.{IsBetween, IsRoute, most_octets};
 
 use super::Stage;
 use crate::answer::Answer;
-use crate::rows::config_of;
 use exchange_core::StartSpec;
 use flow_gate::{BufferId, FlowId, Gates};
 use io_ports::NoMemory;
-use proxy_config::Config;
+use proxy_config::{Config, read_config};
+use std::alloc::Global;
 
 const CLIENT: u32 = 1;
 
@@ -171,4 +171,16 @@ fn watch(gates: &mut Gates, flow: FlowId, buffer: BufferId) -> Result<(), NoMemo
         let _ = gates.watch(flow, buffer)?;
     }
     Ok(())
+}
+
+/// The configuration of these rows, with an overflow multiple.
+fn config_of(alloc: Global, rows: &[u8], multiple: u32) -> Option<Config>
+    ensures { IfSome result (λ config. All IsRoute config.routes) }
+{
+    if rows.len() >= u32::MAX as usize {
+        return None;
+    }
+    let mut config = read_config(alloc, rows).ok()?;
+    config.limits.overflow_multiple = multiple;
+    Some(config)
 }

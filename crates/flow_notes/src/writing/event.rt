@@ -7,7 +7,7 @@ ghost use Rattle.flow_notes.specs.Line.{line_of, newline};
 ghost use Rattle.flow_notes.specs.Word.{turn_words};
 ghost use Rattle.std.specs.Prelude.{codes, decimal};
 
-use super::line::push_line;
+use super::push_line;
 use super::words::{Word, number};
 use crate::keywords::*;
 use crate::{Event, Job, Names, PlainEvent};

@@ -10,7 +10,7 @@ ghost use Rattle.flow_notes.specs.Line.{line_of, newline};
 ghost use Rattle.flow_notes.specs.Note.{IsNote, note_spelling};
 
 use super::event::push_event;
-use super::line::push_line;
+use super::push_line;
 use super::words::{Word, number};
 use crate::keywords::*;
 use crate::{Cause, CloseCause, FireKind, Names, Note};

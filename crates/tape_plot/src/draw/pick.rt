@@ -3,14 +3,13 @@ ghost use Rattle.std.specs.Prelude.{◌≡◌, OnOk};
 ghost use Rattle.tape_plot.specs.Filled as spec;
 ghost use Rattle.tape_plot.specs.Ranking.{kept_of, ranked_in};
 
-use crate::buffer::Buffer;
 use crate::choice::Lanes;
 use crate::connections::Connections;
 use crate::exchange::Exchange;
 use crate::exchanges::Exchanges;
 use crate::flow::{Flow, Place};
 use crate::height::Height;
-use crate::highest::{HIGHEST, Highest, Ranked};
+use crate::highest::{Buffer, HIGHEST, Highest, Ranked};
 use crate::levels::Levels;
 use crate::limits::{Limits, known};
 use flow_gate::FlowId;

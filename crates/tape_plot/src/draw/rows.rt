@@ -6,11 +6,11 @@ use super::line::{Scene, put_field, put_limits, put_path};
 use super::name::{Name, put_names};
 use super::pick::Pick;
 use super::sheet::Sheet;
-use crate::buffer::Buffer;
 use crate::connections::Connections;
 use crate::exchange::Exchange;
 use crate::exchanges::Exchanges;
 use crate::flow::{Flow, Place};
+use crate::highest::Buffer;
 use crate::lane::Lane;
 use crate::levels::Levels;
 use crate::limits::{Limits, known};
@@ -41,7 +41,7 @@ impl Rows {
     ghost use Rattle.tape_plot.specs.Picks.{IsPicked};
     ghost use Rattle.tape_plot.specs.Sheets.{ExchangeDrawn, FlowDrawn, Grows, Has, LevelsDrawn, PlacesDrawn, WriteDrawn};
     ghost use Rattle.tape_plot.specs.Shown.{HasLine};
-    ghost use Rattle.tape_plot.specs.declared.buffer.Buffer.TheVariants as buffers;
+    ghost use Rattle.tape_plot.specs.declared.highest.Buffer.TheVariants as buffers;
     ghost use Rattle.flow_gate.specs.declared.ids.BufferId.TheVariants as ids;
 
     /// No rows. Takes no memory.

@@ -1,6 +1,6 @@
 -- The line is written, and the relay takes the event.
 use Rattle.relay_work.proofs.Carried.{err_again, never_paused, takes_err, takes_memory, takes_ok, well}
-use Rattle.relay_work.specs.declared.ended.RelayEnded.TheVariants as ended
+use Rattle.relay_work.specs.declared.turns.RelayEnded.TheVariants as ended
 use Rattle.std.proofs.Common.{ap, ◌∙◌}
 use Rattle.std.proofs.lemmas.Result.{err_from_is_err_and}
 use Rattle.std.specs.Prelude.{Err}

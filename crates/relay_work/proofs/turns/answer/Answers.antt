@@ -2,7 +2,7 @@
 use Rattle.relay_work.proofs.Answered.{answers_cut, answers_failed, answers_memory, answers_none, answers_some, is_ready_told}
 use Rattle.relay_work.proofs.Carried.{ended_same, err_again, no_taps_fault}
 use Rattle.relay_work.specs.Live.{live_of}
-use Rattle.relay_work.specs.declared.ended.RelayEnded.TheVariants as ended
+use Rattle.relay_work.specs.declared.turns.RelayEnded.TheVariants as ended
 use Rattle.std.proofs.Common.{ap, arith, sym, ◌∙◌}
 use Rattle.std.proofs.lemmas.Result.{err_from_is_err_and}
 use Rattle.std.specs.Prelude.{Bool, Err}

@@ -2,7 +2,7 @@
 use Rattle.relay_work.proofs.Carried.{carries_err, carries_kept, carries_ok, err_again, ready_takes}
 use Rattle.relay_work.specs.Dispatching.{TakesFrom}
 use Rattle.relay_work.specs.Live.{live_of}
-use Rattle.relay_work.specs.declared.ended.RelayEnded.TheVariants as ended
+use Rattle.relay_work.specs.declared.turns.RelayEnded.TheVariants as ended
 use Rattle.std.proofs.Common.{arith, subst}
 use Rattle.std.proofs.lemmas.Result.{err_from_is_err_and}
 use Rattle.std.specs.Prelude.{Ok}

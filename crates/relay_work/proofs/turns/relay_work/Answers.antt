@@ -2,7 +2,7 @@
 use Rattle.relay_work.proofs.Carried.{rose_later}
 use Rattle.relay_work.proofs.Turned.{belongs_again, turning_begin, turning_belongs, turning_more, works_cut, works_stopped, works_turns}
 use Rattle.relay_work.specs.Live.{live_of}
-use Rattle.relay_work.specs.declared.ended.RelayEnded.TheVariants as ended
+use Rattle.relay_work.specs.declared.turns.RelayEnded.TheVariants as ended
 use Rattle.std.proofs.Common.{arith, refl}
 use Rattle.relay_work.proofs.turns.relay_work.Goals as goal
 

@@ -2,7 +2,7 @@
 use Rattle.relay_work.proofs.Carried.{err_again, rose_later}
 use Rattle.relay_work.proofs.Turned.{answered_belongs, turn_cut, turn_cut_first, turn_whole}
 use Rattle.relay_work.specs.Live.{live_of}
-use Rattle.relay_work.specs.declared.ended.RelayEnded.TheVariants as ended
+use Rattle.relay_work.specs.declared.turns.RelayEnded.TheVariants as ended
 use Rattle.std.proofs.Common.{arith}
 use Rattle.std.proofs.lemmas.Result.{err_from_is_err_and}
 use Rattle.std.specs.Prelude.{Bool}

@@ -1,6 +1,6 @@
 use Rattle.std.proofs.Common.{inl, inr, map, length, vec_len, refl, sym, ap, ◌∙◌, arith}
 use Rattle.link_lists.specs.Lists.{NodeLists}
-use Rattle.scaled_timer.specs.declared.entries.Entry.{Entry}
+use Rattle.scaled_timer.specs.declared.timers.Entry.{Entry}
 use Rattle.scaled_timer.specs.Due.{Armed, due_timers}
 use Rattle.scaled_timer.specs.Timing.{firing}
 use Rattle.scaled_timer.specs.Entries.{armed_of}

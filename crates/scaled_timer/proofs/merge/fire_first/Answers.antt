@@ -1,7 +1,7 @@
 use Rattle.std.proofs.Common.{◌≡◌, [], true, sym, ap, ◌∙◌, subst}
 use Rattle.std.specs.Prelude.{⊤, None, Some, MatchOption}
 use Rattle.std.specs.Option.{IsSome}
-use Rattle.scaled_timer.specs.declared.entries.Entry.{Entry}
+use Rattle.scaled_timer.specs.declared.timers.Entry.{Entry}
 use Rattle.scaled_timer.specs.Due.{due_timers}
 use Rattle.scaled_timer.specs.Entries.{armed_of}
 use Rattle.scaled_timer.proofs.Firing.{nothing, low, list_low, taken_is, fewer, new_low, new_early, fires, last_front, next_front, went_well}

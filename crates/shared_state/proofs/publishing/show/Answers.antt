@@ -1,6 +1,6 @@
 use Rattle.std.proofs.Common.{◌≡◌, ◌+◌, ap, ◌∙◌, sym, subst, fold, [], ◌∷◌, ◌++◌}
 use Rattle.left_right.specs.Sides.{view}
-use Rattle.shared_state.specs.declared.entry.Entry.{Entry}
+use Rattle.shared_state.specs.declared.entries.Entry.{Entry}
 use Rattle.shared_state.specs.Published.{IsLast}
 use Rattle.shared_state.proofs.ListSteps.{publishes, known_is}
 use Rattle.shared_state.proofs.publishing.show.Goals as goal

@@ -11,7 +11,7 @@ use Rattle.worker_loop.proofs.Keeping.{keeps_more, keeps_same, rises_err, rises_
 use Rattle.worker_loop.proofs.Turning.{allowed_as, asks_once, broke_drain, broke_obey, broke_offering, broke_posts, broke_taking, broke_tick, cuts_memory, cuts_one, drained_as, front_of_kept, turn_is}
 use Rattle.worker_loop.specs.Places.{place_of}
 use Rattle.worker_loop.specs.Turns.{sides_of}
-use Rattle.worker_loop.specs.declared.ended.Ended.TheVariants as ended
+use Rattle.worker_loop.specs.declared.turns.Ended.TheVariants as ended
 use Rattle.worker_loop.proofs.turns.take_turn.Goals as goal
 
 pub carry_out-requires-clause-core : goal.carry_out-requires-clause-core

@@ -9,8 +9,8 @@ use Rattle.worker_loop.proofs.Keeping.{keeps_more, keeps_same, rose_later}
 use Rattle.worker_loop.proofs.Working.{works_end}
 use Rattle.worker_loop.specs.Places.{place_of}
 use Rattle.worker_loop.specs.Turns.{NoTurns, sides_of}
-use Rattle.worker_loop.specs.declared.ended.Ended.{Ended as End}
-use Rattle.worker_loop.specs.declared.ended.Ended.TheVariants as ended
+use Rattle.worker_loop.specs.declared.turns.Ended.{Ended as End}
+use Rattle.worker_loop.specs.declared.turns.Ended.TheVariants as ended
 use Rattle.worker_loop.proofs.turns.work.Goals as goal
 
 pub turns-init : goal.turns-init

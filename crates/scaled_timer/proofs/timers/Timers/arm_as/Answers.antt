@@ -1,6 +1,6 @@
 use Rattle.std.proofs.Common.{◌<◌, ◌≤◌, ◌+◌, ◌++◌, [], ◌∷◌, length, sym, ap, ◌∙◌, subst, arith}
 use Rattle.link_lists.specs.Lists.{contains_id, NodeLists}
-use Rattle.scaled_timer.specs.declared.entries.Entry.{Entry}
+use Rattle.scaled_timer.specs.declared.timers.Entry.{Entry}
 use Rattle.scaled_timer.specs.Due.{Armed}
 use Rattle.scaled_timer.specs.Timing.{Timing, has_timer}
 use Rattle.scaled_timer.specs.Entries.{armed_of, Kept}

@@ -1,7 +1,7 @@
 use Rattle.std.proofs.Common.{◌-◌, true≢false, sym, ap, ◌∙◌, subst, arith}
 use Rattle.std.specs.Prelude.{◌||◌}
 use Rattle.link_lists.specs.Lists.{contains_id, NodeLists}
-use Rattle.scaled_timer.specs.declared.entries.Entry.{Entry}
+use Rattle.scaled_timer.specs.declared.timers.Entry.{Entry}
 use Rattle.scaled_timer.specs.Timing.{Timing, has_timer, without_timer}
 use Rattle.scaled_timer.specs.Entries.{armed_of, Kept}
 use Rattle.scaled_timer.proofs.Listed.{armed-pull, has-armed, held_some, Kept-pulled}

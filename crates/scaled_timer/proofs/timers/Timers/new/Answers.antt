@@ -1,6 +1,6 @@
 use Rattle.std.proofs.Common.{sym, ap, ◌∙◌, subst, arith}
 use Rattle.link_lists.specs.Lists.{NodeLists}
-use Rattle.scaled_timer.specs.declared.entries.Entry.{Entry}
+use Rattle.scaled_timer.specs.declared.timers.Entry.{Entry}
 use Rattle.scaled_timer.specs.Entries.{armed_of, Kept}
 use Rattle.scaled_timer.proofs.Listed.{armed-empty, Kept-empty}
 use Rattle.scaled_timer.proofs.timers.Timers.new.Goals as goal

@@ -1,5 +1,5 @@
 use Rattle.std.proofs.Common.{◌-◌, inl, inr, List, length, vec_len, sym, ap, ◌∙◌, subst, arith}
-use Rattle.scaled_timer.specs.declared.kinds.TimerKind.{TimerKind}
+use Rattle.scaled_timer.specs.declared.timers.TimerKind.{TimerKind}
 use Rattle.scaled_timer.specs.Timing.{Timing}
 use Rattle.scaled_timer.specs.Entries.{Kept}
 use Rattle.scaled_timer.specs.Merge.{HasFronts}

@@ -15,3 +15,6 @@ returns-then-is_known-clause-go c = rw (← c.self.view_is) (go_untold (flows_of
 
 pub returns-else-is_known-clause-closed : goal.returns-else-is_known-clause-closed
 returns-else-is_known-clause-closed c = rw (← c.self.view_is) (λ yes. changes_none c.args.conn (flows_of c.self.inside) None (write_none c.args.conn (flows_of c.self.inside) (sym c.is_known.ensures ∙ c.if-is_known.false)))
+
+pub returns-then-is_known-clause-lows : goal.returns-then-is_known-clause-lows
+returns-then-is_known-clause-lows c = rw (← c.self.view_is) (record { lows = c.close_buffer.ensures.closes.pending })

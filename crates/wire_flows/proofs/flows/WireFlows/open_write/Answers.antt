@@ -21,3 +21,8 @@ pub returns-clause-go : goal.returns-clause-go
 returns-clause-go c = rw (← c.self.view_is) (either _ _ _ c.open_buffer.result c.open_buffer.ensures.ok c.open_buffer.ensures.err
     (λ k. go_untold (flows_of c.self.inside) c.open_buffer.new.self (λ d. k.pending (buffer.Write d)))
     (λ e. go_untold (flows_of c.self.inside) c.open_buffer.new.self (λ d. ap (λ b. pending_on b (buffer.Write d)) e)))
+
+pub returns-clause-lows : goal.returns-clause-lows
+returns-clause-lows c = rw (← c.self.view_is) (either _ _ _ c.open_buffer.result c.open_buffer.ensures.ok c.open_buffer.ensures.err
+    (λ k. record { lows = k.pending })
+    (λ e. record { lows = λ b. ap (λ g. pending_on g b) e }))

@@ -1,5 +1,0 @@
-use Rattle.flow_rules.proofs.Narrow.{unit_narrowed}
-use Rattle.flow_rules.proofs.laws.units_narrow.Goals as goal
-
-pub returns : goal.returns
-returns c = unit_narrowed

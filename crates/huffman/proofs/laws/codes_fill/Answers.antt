@@ -1,5 +1,0 @@
-use Rattle.huffman.proofs.Whole.{full}
-use Rattle.huffman.proofs.laws.codes_fill.Goals as goal
-
-pub returns : goal.returns
-returns c = full

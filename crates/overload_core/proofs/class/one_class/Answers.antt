@@ -1,5 +1,0 @@
-use Rattle.overload_core.proofs.OneClass.{one_class}
-use Rattle.overload_core.proofs.class.one_class.Goals as goal
-
-pub returns : goal.returns
-returns c = one_class

@@ -1,2 +1,0 @@
-mod Directory
-mod Slotted

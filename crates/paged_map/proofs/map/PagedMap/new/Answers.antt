@@ -1,5 +1,0 @@
-use Rattle.paged_map.proofs.Directory.{kept_none}
-use Rattle.paged_map.proofs.map.PagedMap.new.Goals as goal
-
-pub invariant_of-result : goal.invariant_of-result
-invariant_of-result g c = kept_none c.new.result.items c.new.ensures.items

@@ -1,3 +1,0 @@
-pub mod Lends
-pub mod PagedMap
-pub mod Pages

@@ -1,0 +1,69 @@
+-- From what holds at every history to what a call does to a core and its notes.
+use Rattle.flow_notes.specs.declared.notes.Note.{Note}
+use Rattle.std.proofs.Common.{ap, append_assoc, refl, subst, sym, ◌∙◌}
+use Rattle.std.specs.BTreeMap.{BTreeMap, WritesThrough, get}
+use Rattle.std.specs.Ordering.{nat_cmp}
+use Rattle.std.specs.Prelude.{Bool, List, Some, [], false, if◌then◌else◌, true, ℕ, ◌++◌, ◌==◌, ◌∷◌, ◌≡◌}
+use Rattle.tape_laws.specs.History.{Marked, Noted}
+use Rattle.wire_flows.specs.Flows.{Flows}
+use Rattle.wire_links.specs.Links.{Links}
+use Rattle.wire_state.proofs.Standing.{ConnsAre, KeepsFlows, KeepsShut, Writes, at_one, conns_go, conns_written, same_octets, wrote}
+use Rattle.wire_state.specs.Ways.{WayHistory, WayStep, after, shown}
+use Rattle.wire_state.specs.Worlds.{Keeps, Owes, Stands, Told, octets_of}
+use Rattle.wire_state.specs.declared.conn.Conn.{Conn}
+use Rattle.wire_state.specs.declared.wire_core.WireCore.{WireCore}
+
+after_append : (a b : List WayStep) (h : WayHistory) → after (a ++ b) h ≡ after b (after a h)
+after_append [] b h = refl
+after_append (s ∷ a) b h = after_append a b (s ∷ h)
+
+shown_append : (a b : List WayStep) → shown (a ++ b) ≡ shown a ++ shown b
+shown_append [] b = refl
+shown_append (Noted n ∷ a) b = ap (λ ns. n ∷ ns) (shown_append a b)
+shown_append (Marked m ∷ a) b = shown_append a b
+
+-- the steps that a call makes are still to be noted, where the core stands for them
+pub owes_by : (steps : List WayStep) (old new : WireCore)
+    → ((h : WayHistory) → Stands old.conns old.flows old.links h → Stands new.conns new.flows new.links (after steps h)) → Owes (shown steps) old new
+owes_by steps old new goes = record {
+  goes = λ h start notes t. record {
+    steps = t.steps ++ steps;
+    is = ap (λ (ns : List Note). ns ++ shown steps) t.is ∙ (append_assoc start (shown t.steps) (shown steps) ∙ ap (λ (ns : List Note). start ++ ns) (sym (shown_append t.steps steps)));
+    stands = subst (λ (k : WayHistory). Stands new.conns new.flows new.links k) (sym (after_append t.steps steps h)) (goes (after t.steps h) t.stands);
+  };
+}
+
+pub keeps_by : (old new : WireCore) → ((h : WayHistory) → Stands old.conns old.flows old.links h → Stands new.conns new.flows new.links h) → Keeps old new
+keeps_by old new goes = record { goes = λ h start notes t. record { steps = t.steps; is = t.is; stands = goes (after t.steps h) t.stands } }
+
+-- where these parts are as they were
+pub keeps_same : (old new : WireCore) → new.conns ≡ old.conns → new.flows ≡ old.flows → new.links ≡ old.links → Keeps old new
+keeps_same old new c f l = keeps_by old new (λ h s.
+    subst (λ (v : BTreeMap ℕ Conn). Stands v new.flows new.links h) (sym c)
+    (subst (λ (v : Flows). Stands old.conns v new.links h) (sym f)
+    (subst (λ (v : Links). Stands old.conns old.flows v h) (sym l) s)))
+
+-- ---- one connection
+-- it was written through, and its octets are as they were
+pub conn_keeps : (n : ℕ) (old new : WireCore) (v w : Conn) → get nat_cmp old.conns n ≡ Some v → WritesThrough nat_cmp (nat_cmp n) old.conns w new.conns
+    → w.outlet.write.octets ≡ v.outlet.write.octets → w.open ≡ v.open → new.flows ≡ old.flows → new.links ≡ old.links → Keeps old new
+conn_keeps n old new v w found written octets opened f l = keeps_by old new (λ h s.
+    subst (λ (fs : Flows). Stands new.conns fs new.links h) (sym f)
+    (subst (λ (ls : Links). Stands new.conns old.flows ls h) (sym l)
+    (conns_go old.conns new.conns old.flows old.links h (same_conns (conns_written n old.conns new.conns v w found written (λ xs. xs) octets (λ e. sym opened ∙ e))) s)))
+  where
+    same_one : (b : Bool) (xs : List ℕ) → (if b then xs else xs) ≡ xs
+    same_one true xs = refl
+    same_one false xs = refl
+
+    same_conns : ConnsAre (at_one n (λ xs. xs)) old.conns new.conns → ConnsAre same_octets old.conns new.conns
+    same_conns c = record { octets = λ d. c.octets d ∙ same_one (n == d) (octets_of d old.conns); shut = c.shut; there = c.there }
+
+-- it was written through, and its octets are what the step makes of them
+pub conn_owes : (n : ℕ) (g : List ℕ → List ℕ) (step : WayStep) (old new : WireCore) (v w : Conn) → get nat_cmp old.conns n ≡ Some v → WritesThrough nat_cmp (nat_cmp n) old.conns w new.conns
+    → w.outlet.write.octets ≡ g v.outlet.write.octets → w.open ≡ v.open → new.flows ≡ old.flows → new.links ≡ old.links
+    → ((h : WayHistory) → Writes (at_one n g) step h) → ((h : WayHistory) → KeepsFlows step h) → ((h : WayHistory) → KeepsShut step h) → Owes (shown (step ∷ [])) old new
+conn_owes n g step old new v w found written octets opened f l outs flows shut = owes_by (step ∷ []) old new (λ h s.
+    subst (λ (fs : Flows). Stands new.conns fs new.links (step ∷ h)) (sym f)
+    (subst (λ (ls : Links). Stands new.conns old.flows ls (step ∷ h)) (sym l)
+    (wrote (at_one n g) step h old.conns new.conns old.flows old.links (outs h) (flows h) (shut h) (conns_written n old.conns new.conns v w found written g octets (λ e. sym opened ∙ e)) s)))
