@@ -1,10 +1,12 @@
 // Dooms: an exchange is given up, its peers are told, and it is gone at the end of the dispatch.
-ghost use Rattle.std.specs.Prelude.{◌≡◌, ◌≤◌, ◌<◌, ◌+◌, IfSome, IsSome, OnOk, true};
+ghost use Rattle.std.specs.Prelude.{◌≡◌, ◌≤◌, ◌<◌, ◌+◌, IfSome, IsSome, OnOk, true, ◌∷◌, [], MatchOption};
 ghost use Rattle.wire_flows.specs.Flows.{is_live_in};
 ghost use Rattle.wire_state.specs.Agenda.{top_go};
 ghost use Rattle.wire_state.specs.Noting.{Appends};
 ghost use Rattle.wire_state.specs.Progress.{to_go};
 ghost use Rattle.wire_state.specs.Sound.{IsSound};
+ghost use Rattle.wire_state.specs.Worlds.{Goes, Keeps, Owes};
+ghost use Rattle.flow_notes.specs.declared.notes.Note.TheVariants as note;
 
 use crate::closes::start_draining;
 use crate::lists::{append, append_reset, flood};
@@ -56,6 +58,7 @@ pub fn doom_task(
     ensures sound { OnOk result (IsSound core.new) }
     ensures go { OnOk result (to_go core.new < to_go core.old) }
     ensures notes { Appends notes.old notes.new }
+    ensures octets { OnOk result (Goes core.old notes.old core.new notes.new) }
 {
     core.end_task();
     doom(core, exchange, cause, Origin::Neither, notes)
@@ -68,6 +71,7 @@ pub fn end(core: &mut WireCore, exchange: u64, notes: &mut Notes) -> Result<(), 
     ensures sound { OnOk result (IsSound core.new) }
     ensures go { OnOk result (to_go core.new < to_go core.old) }
     ensures notes { Appends notes.old notes.new }
+    ensures octets { OnOk result (Goes core.old notes.old core.new notes.new) }
 {
     core.end_task();
     if !core.flows.is_live(exchange) {
@@ -99,6 +103,7 @@ pub fn doom(
     ensures go { OnOk result (to_go core.new ≤ to_go core.old) }
     ensures less { is_live_in core.old.flows exchange ≡ true → OnOk result (to_go core.new + 8 ≤ to_go core.old) }
     ensures notes { Appends notes.old notes.new }
+    ensures octets { OnOk result (Goes core.old notes.old core.new notes.new) }
 {
     let Some((ends, doomed)) = unlink(core, exchange, cause, origin) else {
         return Ok(());
@@ -133,6 +138,7 @@ fn unlink(
     ensures go { to_go core.new ≤ to_go core.old }
     ensures less { IfSome result (λ ends. to_go core.new + 64 ≤ to_go core.old) }
     ensures linked { is_live_in core.old.flows exchange ≡ true → IsSome result }
+    ensures octets { MatchOption result (Keeps core.old core.new) (λ r. Owes (note.Doom exchange cause ∷ []) core.old core.new) }
 {
     let Some(ends) = core.links.ends_of(exchange) else {
         return None;
@@ -165,6 +171,7 @@ fn leave_client(
     requires sound { IsSound core.old }
     ensures sound { OnOk result (IsSound core.new) }
     ensures go { OnOk result (to_go core.new ≤ to_go core.old + 1) }
+    ensures octets { OnOk result (Keeps core.old core.new) }
 {
     let (client, stream) = (Some(ends.client), Some(ends.stream));
     let was_open = leave(core, client, exchange, stream, doomed.request_left, done);
@@ -177,6 +184,7 @@ fn idle(core: &mut WireCore, client: u32) -> Result<(), NoMemory>
     requires sound { IsSound core.old }
     ensures sound { OnOk result (IsSound core.new) }
     ensures go { OnOk result (to_go core.new ≤ to_go core.old + 1) }
+    ensures octets { OnOk result (Keeps core.old core.new) }
 {
     if core.links.exchanges_of(client) > 0 || !core.is_open(client) {
         return Ok(());
@@ -196,6 +204,7 @@ fn leave(
     requires sound { IsSound core.old }
     ensures sound { IsSound core.new }
     ensures go { to_go core.new ≤ to_go core.old }
+    ensures octets { Keeps core.old core.new }
 {
     match conn {
         Some(number) => leave_at(core, number, exchange, stream, left, done),
@@ -214,6 +223,7 @@ fn leave_at(
     requires sound { IsSound core.old }
     ensures sound { IsSound core.new }
     ensures go { to_go core.new ≤ to_go core.old }
+    ensures octets { Keeps core.old core.new }
 {
     match core.conns.get_mut(&number) {
         Some(conn) => conn.leave(exchange, stream, left, done),
@@ -227,6 +237,7 @@ fn tell(core: &mut WireCore, ends: Ends, doomed: Doomed, hear: Hear) -> Result<(
     requires sound { IsSound core.old }
     ensures sound { OnOk result (IsSound core.new) }
     ensures go { OnOk result (to_go core.new ≤ to_go core.old + 27) }
+    ensures octets { OnOk result (Keeps core.old core.new) }
 {
     let (client, stream) = (Some(ends.client), Some(ends.stream));
     let client_fits = append_heard(core, hear.client, client, stream, doomed.down)?;
@@ -253,6 +264,7 @@ fn append_heard(
     requires sound { IsSound core.old }
     ensures sound { OnOk result (IsSound core.new) }
     ensures go { OnOk result (to_go core.new ≤ to_go core.old + 10) }
+    ensures octets { OnOk result (Keeps core.old core.new) }
 {
     match (conn, stream) {
         (Some(conn), Some(stream)) if hears => append_reply(core, conn, stream, reply),
@@ -266,6 +278,7 @@ fn stop_keepalive(core: &mut WireCore, client: u32, fits: bool) -> Result<bool, 
     requires sound { IsSound core.old }
     ensures sound { OnOk result (IsSound core.new) }
     ensures go { OnOk result (to_go core.new ≤ to_go core.old + 5) }
+    ensures octets { OnOk result (Keeps core.old core.new) }
 {
     if !fits || !core.load.is_saturated(Action::NoKeepalive) {
         return Ok(fits);
@@ -278,6 +291,7 @@ fn flood_unless(core: &mut WireCore, conn: Option<u32>, fits: bool) -> Result<()
     requires sound { IsSound core.old }
     ensures sound { OnOk result (IsSound core.new) }
     ensures go { OnOk result (to_go core.new ≤ to_go core.old + 1) }
+    ensures octets { OnOk result (Keeps core.old core.new) }
 {
     match conn {
         Some(conn) if !fits => flood(core, conn),
@@ -290,6 +304,7 @@ fn append_reply(core: &mut WireCore, conn: u32, stream: u32, reply: Reply) -> Re
     requires sound { IsSound core.old }
     ensures sound { OnOk result (IsSound core.new) }
     ensures go { OnOk result (to_go core.new ≤ to_go core.old + 10) }
+    ensures octets { OnOk result (Keeps core.old core.new) }
 {
     match reply {
         Reply::Nothing => Ok(true),
@@ -309,6 +324,7 @@ fn append_status(core: &mut WireCore, conn: u32, stream: u32, status: u16) -> Re
     requires sound { IsSound core.old }
     ensures sound { OnOk result (IsSound core.new) }
     ensures go { OnOk result (to_go core.new ≤ to_go core.old + 5) }
+    ensures octets { OnOk result (Keeps core.old core.new) }
 {
     if !is_stream(stream) {
         return Ok(true);

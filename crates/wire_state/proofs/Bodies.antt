@@ -170,8 +170,8 @@ module _ (c : ℕ) (f : FlowId) (n : ℕ) (last : Bool) (h : WayHistory) where
     empty = λ g p none. let gone = sym (there_after f (body_framed n last) before.exchanges after.exchanges change g) ∙ none in
         framed_place g (apart_of f before g (ap is_some found) gone) p ∙ stands.empty g p gone;
     ends = λ x. if_some (ends_of x links) (ends_are_still frame h (λ g. refl) x) (stands.ends x);
-    known = λ d e. wrote_so.there d (stands.known d e);
-    closed = λ d e. stands.closed d (wrote_so.shut d e);
+    known = λ d e. wrote_so.there d ∙ stands.known d e;
+    closed = λ d e. stands.closed d (sym (wrote_so.there d) ∙ e) ∙ sym (wrote_so.shut d);
   }
     where
       here : FlowIs f h flow

@@ -50,7 +50,7 @@ pub conn_keeps : (n : ℕ) (old new : WireCore) (v w : Conn) → get nat_cmp old
 conn_keeps n old new v w found written octets opened f l = keeps_by old new (λ h s.
     subst (λ (fs : Flows). Stands new.conns fs new.links h) (sym f)
     (subst (λ (ls : Links). Stands new.conns old.flows ls h) (sym l)
-    (conns_go old.conns new.conns old.flows old.links h (same_conns (conns_written n old.conns new.conns v w found written (λ xs. xs) octets (λ e. sym opened ∙ e))) s)))
+    (conns_go old.conns new.conns old.flows old.links h (same_conns (conns_written n old.conns new.conns v w found written (λ xs. xs) octets opened)) s)))
   where
     same_one : (b : Bool) (xs : List ℕ) → (if b then xs else xs) ≡ xs
     same_one true xs = refl
@@ -66,4 +66,4 @@ pub conn_owes : (n : ℕ) (g : List ℕ → List ℕ) (step : WayStep) (old new 
 conn_owes n g step old new v w found written octets opened f l outs flows shut = owes_by (step ∷ []) old new (λ h s.
     subst (λ (fs : Flows). Stands new.conns fs new.links (step ∷ h)) (sym f)
     (subst (λ (ls : Links). Stands new.conns old.flows ls (step ∷ h)) (sym l)
-    (wrote (at_one n g) step h old.conns new.conns old.flows old.links (outs h) (flows h) (shut h) (conns_written n old.conns new.conns v w found written g octets (λ e. sym opened ∙ e)) s)))
+    (wrote (at_one n g) step h old.conns new.conns old.flows old.links (outs h) (flows h) (shut h) (conns_written n old.conns new.conns v w found written g octets opened) s)))

@@ -1,9 +1,15 @@
+pub mod Bodies
 pub mod Credits
+pub mod Goings
+pub mod Held
+pub mod Idle
 pub mod Keeping
+pub mod Lives
 pub mod Notings
 pub mod Results
 pub mod Rooms
 pub mod Soundness
+pub mod Standing
 pub mod Tasks
 pub mod Timing
 pub mod Weights

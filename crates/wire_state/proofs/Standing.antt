@@ -23,11 +23,11 @@ use Rattle.wire_flows.proofs.Found.{flow_after, there_after}
 use Rattle.wire_flows.specs.Flows.{Flows, IsThere, flow_in, is_there}
 use Rattle.wire_links.specs.Links.{Links, ends_of, is_known}
 use Rattle.wire_links.specs.declared.ends.Ends.{Ends}
-use Rattle.wire_state.proofs.Held.{KeepsOctets, arrived_held, by_test, framed_held, framed_last, is_number, moved_held, moved_last, number_same}
+use Rattle.wire_state.proofs.Held.{by_test, is_number}
 use Rattle.wire_state.specs.Ways.{WayHistory, WayStep, stream_to, world_setup}
-use Rattle.wire_state.specs.Worlds.{EndsAre, FlowIs, Stands, is_shut, octets_of}
+use Rattle.wire_state.specs.Worlds.{EndsAre, FlowIs, Stands, has_conn, is_shut, left_by, octets_of}
 use Rattle.wire_state.specs.declared.conn.Conn.{Conn}
-use Rattle.flow_notes.specs.declared.notes.CloseCause.TheVariants as closed
+use Rattle.flow_notes.specs.declared.notes.CloseCause.TheVariants as cause
 use Rattle.flow_notes.specs.declared.notes.Note.TheVariants as note
 
 pub if_some : {A : Type 0} {P Q : A → Type 0} (o : Option A) → ((a : A) → P a → Q a) → IfSome o P → IfSome o Q
@@ -35,17 +35,17 @@ if_some None f p = tt
 if_some (Some a) f p = f a p
 
 -- ---- connections
--- each connection's octets are these now, none came and none opened
+-- each connection's octets are these now; the same are there, and the same are open
 pub record ConnsAre (change : ℕ → List ℕ → List ℕ) (old new : BTreeMap ℕ Conn) : Type 0 where
   pub octets : (c : ℕ) → octets_of c new ≡ change c (octets_of c old)
-  pub shut : (c : ℕ) → is_shut c new ≡ true → is_shut c old ≡ true
-  pub there : (c : ℕ) → is_some (get nat_cmp old c) ≡ false → is_some (get nat_cmp new c) ≡ false
+  pub shut : (c : ℕ) → is_shut c new ≡ is_shut c old
+  pub there : (c : ℕ) → has_conn c new ≡ has_conn c old
 
 abbrev pub same_octets : ℕ → List ℕ → List ℕ
 same_octets c octets = octets
 
 pub conns_same : (conns : BTreeMap ℕ Conn) → ConnsAre same_octets conns conns
-conns_same conns = record { octets = λ c. refl; shut = λ c e. e; there = λ c e. e }
+conns_same conns = record { octets = λ c. refl; shut = λ c. refl; there = λ c. refl }
 
 abbrev pub at_one : ℕ → (List ℕ → List ℕ) → ℕ → List ℕ → List ℕ
 at_one n g c octets = if n == c then g octets else octets
@@ -70,24 +70,28 @@ module _ (n : ℕ) (old new : BTreeMap ℕ Conn) (v w : Conn) (found : get nat_c
   other_now : (c : ℕ) → (n == c) ≡ false → get nat_cmp new c ≡ get nat_cmp old c
   other_now c e = now_at c ∙ ap (λ b. if b then Some w else get nat_cmp old c) e
 
-  pub conns_written : (g : List ℕ → List ℕ) → w.outlet.write.octets ≡ g v.outlet.write.octets → (w.open ≡ false → v.open ≡ false) → ConnsAre (at_one n g) old new
-  conns_written g octets shut = record { octets = λ c. by_test (n == c) (λ e. at c e) (λ e. ap octets_in_it (other_now c e)); shut = λ c. by_case (n == c) (λ e. was c e) (λ e s. sym (ap shut_it (other_now c e)) ∙ s); there = λ c. by_case (n == c) (λ e s. absurd (cc (here c e, s))) (λ e s. ap is_some (other_now c e) ∙ s) }
-    where
-      abbrev octets_in_it : Option Conn → List ℕ
-      octets_in_it o = option_map_or (λ conn. conn.outlet.write.octets) o []
+  abbrev octets_in_it : Option Conn → List ℕ
+  octets_in_it o = option_map_or (λ conn. conn.outlet.write.octets) o []
 
-      abbrev shut_it : Option Conn → Bool
-      shut_it o = option_map_or (λ conn. not conn.open) o false
+  abbrev shut_it : Option Conn → Bool
+  shut_it o = option_map_or (λ conn. not conn.open) o false
 
-      at : (c : ℕ) → (n == c) ≡ true → octets_of c new ≡ g (octets_of c old)
-      at c e = ap octets_in_it (there_now c e) ∙ (octets ∙ sym (ap (λ o. g (octets_in_it o)) (here c e)))
+  octets_written : (g : List ℕ → List ℕ) → w.outlet.write.octets ≡ g v.outlet.write.octets → (c : ℕ) → octets_of c new ≡ at_one n g c (octets_of c old)
+  octets_written g octets c = by_test (n == c)
+      (λ e. ap octets_in_it (there_now c e) ∙ (octets ∙ sym (ap (λ o. g (octets_in_it o)) (here c e))))
+      (λ e. ap octets_in_it (other_now c e))
 
-      is_shut_by : (a b : Bool) → (a ≡ false → b ≡ false) → not a ≡ true → not b ≡ true
-      is_shut_by true b f s = cc
-      is_shut_by false b f s = ap not (f refl)
+  there_written : (c : ℕ) → has_conn c new ≡ has_conn c old
+  there_written c = by_case (n == c) (λ e. ap is_some (there_now c e) ∙ sym (ap is_some (here c e))) (λ e. ap is_some (other_now c e))
 
-      was : (c : ℕ) → (n == c) ≡ true → is_shut c new ≡ true → is_shut c old ≡ true
-      was c e s = ap shut_it (here c e) ∙ is_shut_by w.open v.open shut (sym (ap shut_it (there_now c e)) ∙ s)
+  pub conns_written : (g : List ℕ → List ℕ) → w.outlet.write.octets ≡ g v.outlet.write.octets → w.open ≡ v.open → ConnsAre (at_one n g) old new
+  conns_written g octets opened = record {
+    octets = octets_written g octets;
+    shut = λ c. by_case (n == c)
+        (λ e. ap shut_it (there_now c e) ∙ (ap not opened ∙ sym (ap shut_it (here c e))))
+        (λ e. ap shut_it (other_now c e));
+    there = there_written;
+  }
 
 -- ---- steps that move no octets
 -- what a step leaves of all but the write buffers
@@ -97,7 +101,7 @@ pub record KeepsFlows (step : WayStep) (h : WayHistory) : Type 0 where
   pub stream : (f : FlowId) → stream_to f (step ∷ h) ≡ stream_to f h
 
 pub record KeepsShut (step : WayStep) (h : WayHistory) : Type 0 where
-  pub closed : (c : ℕ) → was_closed c h ≡ true → was_closed c (step ∷ h) ≡ true
+  pub closed : (c : ℕ) → was_closed c (step ∷ h) ≡ was_closed c h
 
 -- what it makes of the write buffers
 pub record Writes (change : ℕ → List ℕ → List ℕ) (step : WayStep) (h : WayHistory) : Type 0 where
@@ -117,8 +121,8 @@ wrote change step h old new flows links w k m c s = record {
   flows_are = λ f. if_some (flow_in flows f) (flow_is_still step h k f) (s.flows_are f);
   empty = λ f p none. k.places f p ∙ s.empty f p none;
   ends = λ x. if_some (ends_of x links) (ends_are_still step h k.stream x) (s.ends x);
-  known = λ d e. c.there d (s.known d e);
-  closed = λ d e. m.closed d (s.closed d (c.shut d e));
+  known = λ d e. c.there d ∙ s.known d e;
+  closed = λ d e. m.closed d ∙ (s.closed d (sym (c.there d) ∙ e) ∙ sym (c.shut d));
 }
 
 -- no step
@@ -128,8 +132,8 @@ conns_go old new flows links h c s = record {
   flows_are = s.flows_are;
   empty = s.empty;
   ends = s.ends;
-  known = λ d e. c.there d (s.known d e);
-  closed = λ d e. s.closed d (c.shut d e);
+  known = λ d e. c.there d ∙ s.known d e;
+  closed = λ d e. s.closed d (sym (c.there d) ∙ e) ∙ sym (c.shut d);
 }
 
 -- ---- the kinds of steps
@@ -141,10 +145,6 @@ less_is : (b : Bool) (n : ℕ) (xs : List ℕ) → drop (if b then n else 0) xs 
 less_is true n xs = refl
 less_is false n xs = refl
 
-or_more : (a b : Bool) → b ≡ true → (a || b) ≡ true
-or_more true b e = refl
-or_more false b e = e
-
 module _ (h : WayHistory) where
   -- octets go into a write buffer
   module _ (c : ℕ) (octets : List ℕ) where
@@ -155,7 +155,7 @@ module _ (h : WayHistory) where
     head_flows s = record { places = λ f p. refl; last = λ f. refl; stream = λ f. refl }
 
     pub head_shut : (s : ℕ) → KeepsShut (Noted (note.Head c s octets)) h
-    head_shut s = record { closed = λ d e. e }
+    head_shut s = record { closed = λ d. refl }
 
     pub answer_writes : Writes (at_one c (λ xs. xs ++ octets)) (Noted (note.Answer c octets)) h
     answer_writes = record { outs = λ d. more_is (c == d) (out world_setup d h) octets }
@@ -164,7 +164,7 @@ module _ (h : WayHistory) where
     answer_flows = record { places = λ f p. refl; last = λ f. refl; stream = λ f. refl }
 
     pub answer_shut : KeepsShut (Noted (note.Answer c octets)) h
-    answer_shut = record { closed = λ d e. e }
+    answer_shut = record { closed = λ d. refl }
 
   module _ (c s n : ℕ) where
     pub credit_writes : Writes (at_one c (λ xs. xs ++ window_update s n)) (Noted (note.Credit c s n)) h
@@ -174,7 +174,7 @@ module _ (h : WayHistory) where
     credit_flows = record { places = λ f p. refl; last = λ f. refl; stream = λ f. refl }
 
     pub credit_shut : KeepsShut (Noted (note.Credit c s n)) h
-    credit_shut = record { closed = λ d e. e }
+    credit_shut = record { closed = λ d. refl }
 
   -- octets leave one
   module _ (c n : ℕ) where
@@ -185,18 +185,7 @@ module _ (h : WayHistory) where
     out_flows = record { places = λ f p. refl; last = λ f. refl; stream = λ f. refl }
 
     pub out_shut : KeepsShut (Noted (note.Out c n)) h
-    out_shut = record { closed = λ d e. e }
-
-  -- a connection is closed, and what waits for it is dropped where it is lost
-  module _ (c code : ℕ) where
-    pub lost_writes : Writes (at_one c (λ xs. [])) (Noted (note.Close c code closed.Lost)) h
-    lost_writes = record { outs = λ d. refl }
-
-    pub close_flows : (why : CloseCause) → KeepsFlows (Noted (note.Close c code why)) h
-    close_flows why = record { places = λ f p. refl; last = λ f. refl; stream = λ f. refl }
-
-    pub close_shut : (why : CloseCause) → KeepsShut (Noted (note.Close c code why)) h
-    close_shut why = record { closed = λ d e. or_more (c == d) (was_closed d h) e }
+    out_shut = record { closed = λ d. refl }
 
   -- nothing moves
   module _ (f : FlowId) (b : BufferId) where
@@ -207,7 +196,7 @@ module _ (h : WayHistory) where
     pause_flows = record { places = λ f p. refl; last = λ f. refl; stream = λ f. refl }
 
     pub pause_shut : KeepsShut (Noted (note.Pause f b)) h
-    pause_shut = record { closed = λ d e. e }
+    pause_shut = record { closed = λ d. refl }
 
     pub resume_writes : Writes same_octets (Noted (note.Resume f b)) h
     resume_writes = record { outs = λ d. refl }
@@ -216,5 +205,37 @@ module _ (h : WayHistory) where
     resume_flows = record { places = λ f p. refl; last = λ f. refl; stream = λ f. refl }
 
     pub resume_shut : KeepsShut (Noted (note.Resume f b)) h
-    resume_shut = record { closed = λ d e. e }
+    resume_shut = record { closed = λ d. refl }
 
+
+-- ---- a connection is closed
+-- one connection isn't open any more, with these octets
+pub record Shuts (n : ℕ) (g : List ℕ → List ℕ) (old new : BTreeMap ℕ Conn) : Type 0 where
+  pub octets : (c : ℕ) → octets_of c new ≡ at_one n g c (octets_of c old)
+  pub shut : (c : ℕ) → has_conn c new ≡ true → is_shut c new ≡ ((n == c) || is_shut c old)
+  pub there : (c : ℕ) → has_conn c new ≡ has_conn c old
+
+same_one : (b : Bool) (xs : List ℕ) → xs ≡ (if b then xs else xs)
+same_one true xs = refl
+same_one false xs = refl
+
+close_outs : (c code : ℕ) (why : CloseCause) (h : WayHistory) (d : ℕ) → out world_setup d (Noted (note.Close c code why) ∷ h) ≡ at_one c (left_by why) d (out world_setup d h)
+close_outs c code cause.Lost h d = refl
+close_outs c code cause.Protocol h d = same_one (c == d) (out world_setup d h)
+close_outs c code cause.Idle h d = same_one (c == d) (out world_setup d h)
+close_outs c code cause.Drained h d = same_one (c == d) (out world_setup d h)
+close_outs c code cause.Overload h d = same_one (c == d) (out world_setup d h)
+close_outs c code cause.Flood h d = same_one (c == d) (out world_setup d h)
+
+pub closes : (c code : ℕ) (why : CloseCause) (h : WayHistory) (old new : BTreeMap ℕ Conn) (flows : Flows) (links links' : Links)
+    → Shuts c (left_by why) old new → ((x : ℕ) → ends_of x links' ≡ ends_of x links) → ((d : ℕ) → is_known d links' ≡ is_known d links)
+    → Stands old flows links h → Stands new flows links' (Noted (note.Close c code why) ∷ h)
+closes c code why h old new flows links links' w same known s = record {
+  writes = λ d. w.octets d ∙ (ap (at_one c (left_by why) d) (s.writes d) ∙ sym (close_outs c code why h d));
+  flows_are = λ f. if_some (flow_in flows f) (λ flow is. record { last = is.last; holds = is.holds }) (s.flows_are f);
+  empty = s.empty;
+  ends = λ x. subst (λ (o : Option Ends). IfSome o (EndsAre x (Noted (note.Close c code why) ∷ h))) (sym (same x))
+      (if_some (ends_of x links) (λ e is. record { client = is.client; cluster = is.cluster }) (s.ends x));
+  known = λ d e. w.there d ∙ s.known d (sym (known d) ∙ e);
+  closed = λ d e. ap (λ b. (c == d) || b) (s.closed d (sym (w.there d) ∙ e)) ∙ sym (w.shut d e);
+}

@@ -73,6 +73,7 @@ impl Conn {
         ensures kept { (limits : Limits) → IsKept limits self.old.outlet → IsKept limits self.new.outlet }
         ensures rest { self.new ≡ record self.old { outlet = self.new.outlet } }
         ensures empty { self.new.outlet.write.octets ≡ [] }
+        ensures go { conn_go self.new ≤ conn_go self.old }
     {
         let was_above = self.outlet.is_above();
         self.outlet.drop_all();

@@ -7,6 +7,7 @@ ghost use Rattle.wire_state.specs.Sound.{IsSound, is_open_at};
 ghost use Rattle.overload_core.specs.ActionStates.{is_saturated};
 ghost use Rattle.worker_core.specs.Dispatching.{Breaks, Dispatches, Tells, obeyed_after};
 ghost use Rattle.worker_core.specs.Fronts.{IsFront, IsLeastAbove, has_octets, is_there, octets_at};
+ghost use Rattle.wire_state.specs.Worlds.{Keeps};
 
 use crate::steps::settle;
 use flow_notes::{Event, Note, Notes};
@@ -195,6 +196,7 @@ fn work(core: &mut WireCore, event: &Event, notes: &mut Notes) -> Result<(), NoM
 fn begin_rows(core: &mut WireCore)
     requires sound { IsSound core.old }
     ensures sound { IsSound core.new }
+    ensures octets { Keeps core.old core.new }
 {
     core.before = core.flows.last();
     core.rows.clear();
