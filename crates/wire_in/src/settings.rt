@@ -71,6 +71,7 @@ fn set_windows(core: &mut WireCore, number: u32, named: Named) -> bool
 fn set_windows_of(conn: &mut Conn, named: Named) -> bool
     ensures write { conn.new.outlet.write ≡ conn.old.outlet.write }
     ensures waiting { conn.new.outlet.waiting ≡ conn.old.outlet.waiting }
+    ensures opened { conn.new.open ≡ conn.old.open }
     ensures go { conn_go conn.new ≤ conn_go conn.old }
 {
     if named.table {

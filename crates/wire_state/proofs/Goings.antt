@@ -1,15 +1,22 @@
 -- From what holds at every history to what a call does to a core and its notes.
+use Rattle.exchange_core.specs.Exchange.{flow_in as side_of}
+use Rattle.exchange_core.specs.Exchanges.{Exchanges, exchange_at, flow_at}
+use Rattle.exchange_core.specs.declared.exchange.Exchange.{Exchange}
+use Rattle.flow_gate.specs.declared.ids.FlowId.{FlowId}
 use Rattle.flow_notes.specs.declared.notes.Note.{Note}
 use Rattle.std.proofs.Common.{ap, append_assoc, refl, subst, sym, ◌∙◌}
-use Rattle.std.specs.BTreeMap.{BTreeMap, WritesThrough, get}
+use Rattle.std.specs.BTreeMap.{BTreeMap, WritesThrough, get, is_at}
+use Rattle.std.specs.Map.{lookup}
+use Rattle.std.specs.Option.{option_and_then, option_map_or}
 use Rattle.std.specs.Ordering.{nat_cmp}
-use Rattle.std.specs.Prelude.{Bool, List, Some, [], false, if◌then◌else◌, true, ℕ, ◌++◌, ◌==◌, ◌∷◌, ◌≡◌}
+use Rattle.std.specs.Prelude.{Bool, Err, IfSome, List, Ok, OnOk, Result, Some, [], false, if◌then◌else◌, is_some, nat_eq, not, true, ℕ, ◌++◌, ◌==◌, ◌∷◌, ◌≡◌}
 use Rattle.tape_laws.specs.History.{Marked, Noted}
-use Rattle.wire_flows.specs.Flows.{Flows}
-use Rattle.wire_links.specs.Links.{Links}
+use Rattle.wire_flows.specs.Flows.{Flows, flow_in}
+use Rattle.wire_links.specs.Links.{Links, ends_of, no_links}
+use Rattle.wire_state.proofs.Bodies.{flows_go}
 use Rattle.wire_state.proofs.Standing.{ConnsAre, KeepsFlows, KeepsShut, Writes, at_one, conns_go, conns_written, same_octets, wrote}
 use Rattle.wire_state.specs.Ways.{WayHistory, WayStep, after, shown}
-use Rattle.wire_state.specs.Worlds.{Keeps, Owes, Stands, Told, octets_of}
+use Rattle.wire_state.specs.Worlds.{EndsAre, FlowIs, Goes, Keeps, Owes, Shows, Stands, Told, octets_of}
 use Rattle.wire_state.specs.declared.conn.Conn.{Conn}
 use Rattle.wire_state.specs.declared.wire_core.WireCore.{WireCore}
 
@@ -67,3 +74,34 @@ conn_owes n g step old new v w found written octets opened f l outs flows shut =
     subst (λ (fs : Flows). Stands new.conns fs new.links (step ∷ h)) (sym f)
     (subst (λ (ls : Links). Stands new.conns old.flows ls (step ∷ h)) (sym l)
     (wrote (at_one n g) step h old.conns new.conns old.flows old.links (outs h) (flows h) (shut h) (conns_written n old.conns new.conns v w found written g octets opened) s)))
+
+-- ---- one after the other
+pub keeps_then : (old mid new : WireCore) → Keeps old mid → Keeps mid new → Keeps old new
+keeps_then old mid new a b = record { goes = λ h start notes t. b.goes h start notes (a.goes h start notes t) }
+
+-- flows whose exchanges are as they were
+pub same_found : (old new : Flows) → new.exchanges ≡ old.exchanges → (f : FlowId) → flow_in new f ≡ flow_in old f
+same_found old new e f = ap (λ (ex : Exchanges). flow_at ex f) e
+
+pub gates_keep : (old new : WireCore) → new.conns ≡ old.conns → new.flows.exchanges ≡ old.flows.exchanges → new.links ≡ old.links → Keeps old new
+gates_keep old new c e l = keeps_by old new (λ h s.
+    subst (λ (v : BTreeMap ℕ Conn). Stands v new.flows new.links h) (sym c)
+    (subst (λ (v : Links). Stands old.conns new.flows v h) (sym l)
+    (flows_go old.flows new.flows (same_found old.flows new.flows e) old.conns old.links h s)))
+
+-- a call that keeps the octets, and then notes that move none
+pub shows_behind : {A E : Type 0} (r : Result A E) (old new : WireCore) (before now : List Note) → Keeps old new → OnOk r (Shows before now) → OnOk r (Goes old before new now)
+shows_behind (Ok u) old new before now k s = record { goes = λ h start t. s.goes h start new (k.goes h start before t) }
+shows_behind (Err x) old new before now k s = tt
+
+-- ---- at first
+pub first_stands : (conns : BTreeMap ℕ Conn) (flows : Flows) (links : Links) → conns.entries ≡ [] → flows.exchanges.live ≡ [] → links ≡ no_links → Stands conns flows links []
+unfolding exchange_at
+first_stands conns flows links c f l = record {
+  writes = λ d. ap (λ (es : List (ℕ × Conn)). option_map_or (λ conn. conn.outlet.write.octets) (lookup (is_at (nat_cmp d)) es) []) c;
+  flows_are = λ g. subst (λ (es : List (ℕ × Exchange)). IfSome (option_and_then (side_of g.back) (lookup (nat_eq g.exchange) es)) (FlowIs g [])) (sym f) tt;
+  empty = λ g p none. refl;
+  ends = λ x. subst (λ (v : Links). IfSome (ends_of x v) (EndsAre x [])) (sym l) tt;
+  known = λ d e. ap (λ (es : List (ℕ × Conn)). is_some (lookup (is_at (nat_cmp d)) es)) c;
+  closed = λ d e. sym (ap (λ (es : List (ℕ × Conn)). option_map_or (λ conn. not conn.open) (lookup (is_at (nat_cmp d)) es) false) c);
+}

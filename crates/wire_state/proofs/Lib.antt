@@ -13,3 +13,4 @@ pub mod Standing
 pub mod Tasks
 pub mod Timing
 pub mod Weights
+pub mod Wrote
