@@ -1,4 +1,5 @@
 // Octets through two watermark buffers, beside the same octets copied twice by plain slice copies.
+use crate::line::Line;
 use crate::stopwatch::{CpuStopwatch, per_second};
 use anyhow::{bail, ensure};
 use io_ports::NoMemory;
@@ -159,13 +160,19 @@ fn take_turns(
     Ok(())
 }
 
-fn report(rt: &impl Print, moving: u64, copying: u64) -> anyhow::Result<()> {
+fn report(rt: &(impl Print + AllocGlobal), moving: u64, copying: u64) -> anyhow::Result<()> {
     let moved = per_second(OCTETS, moving.max(1));
     let copied = per_second(OCTETS, copying.max(1));
-    let hundredths = u128::from(moved) * 100 / u128::from(copied.max(1));
-    let (whole, rest) = (hundredths / 100, hundredths % 100);
-    println!(rt; "two buffers: {moved} octets in a second of processor time")?;
-    println!(rt; "two plain copies: {copied} octets in a second of processor time")?;
-    println!(rt; "ratio: {whole}.{rest:02}")?;
-    Ok(())
+    let mut line = Line::new(rt.alloc());
+    line.say_with("two buffers: ", moved);
+    line.say_with(
+        " octets in a second of processor time\ntwo plain copies: ",
+        copied,
+    );
+    line.say_times(
+        " octets in a second of processor time\nratio: ",
+        moved,
+        copied,
+    );
+    line.print(rt)
 }

@@ -1,6 +1,7 @@
 // Exchanges that start, are used once and are doomed, while one and while many others live.
 ghost use Rattle.proxy_config.specs.Ranges.{IsInRange};
 
+use crate::line::Line;
 use crate::stopwatch::{CpuStopwatch, per_second};
 use anyhow::{anyhow, bail, ensure};
 use exchange_core::{Exchanges, StartSpec, Step};
@@ -154,14 +155,17 @@ fn both_sides(alloc: Global, config: &Config) -> Result<(Side, Side), NoMemory>
     Ok((one, Side::new(alloc, config, MANY)?))
 }
 
-fn report(rt: &impl Print, one: u64, many: u64) -> anyhow::Result<()> {
+fn report(rt: &(impl Print + AllocGlobal), one: u64, many: u64) -> anyhow::Result<()> {
+    let mut line = Line::new(rt.alloc());
     for (living, rate) in [(ONE, one), (MANY, many)] {
-        println!(rt; "{living} live: {rate} calls in a second of processor time")?;
+        line.say_with("", living);
+        line.say_with(" live: ", rate);
+        line.say(" calls in a second of processor time\n");
     }
-    let hundredths = u128::from(one) * 100 / u128::from(many.max(1));
-    let (whole, rest) = (hundredths / 100, hundredths % 100);
-    println!(rt; "a call with {MANY} live exchanges costs {whole}.{rest:02} times one with {ONE}")?;
-    Ok(())
+    line.say_with("a call with ", MANY);
+    line.say_times(" live exchanges costs ", one, many);
+    line.say_with(" times one with ", ONE);
+    line.print(rt)
 }
 
 /// The rounds of both sides.

@@ -1,4 +1,5 @@
 // How fast frames are read.
+use crate::line::Line;
 use crate::stopwatch::{Stopwatch, per_second};
 use anyhow::bail;
 use h2_frames::{Frame, ReadFrame, frame_head, read_frame};
@@ -93,10 +94,24 @@ fn report(
 ) -> anyhow::Result<()> {
     let (rate, sum) = time_reading(rt, octets)?;
     let copy_rate = time_copying(rt, octets, &mut Octets::new(rt.alloc()))?;
-    println!(rt;
-        "frames: {name}: {rate} frames a second (sum {sum}); a plain copy takes {copy_rate} octets a second"
-    )?;
-    Ok(())
+    tell(rt, name, rate, sum, copy_rate)
+}
+
+fn tell(
+    rt: &(impl Print + AllocGlobal),
+    name: &str,
+    rate: u64,
+    sum: u64,
+    copy_rate: u64,
+) -> anyhow::Result<()> {
+    let mut line = Line::new(rt.alloc());
+    line.say("frames: ");
+    line.say(name);
+    line.say_with(": ", rate);
+    line.say_with(" frames a second (sum ", sum);
+    line.say_with("); a plain copy takes ", copy_rate);
+    line.say(" octets a second");
+    line.print(rt)
 }
 
 /// Reads a stream of small frames and one of large ones.

@@ -1,6 +1,7 @@
 // Calls of the gates while few and while many flows are open.
 ghost use Rattle.std.specs.Prelude.{◌≤◌};
 
+use crate::line::Line;
 use crate::stopwatch::{CpuStopwatch, per_second};
 use anyhow::{bail, ensure};
 use flow_gate::{BufferId, FlowId, Gates};
@@ -155,12 +156,15 @@ fn take_turns(
     Ok(())
 }
 
-fn report(rt: &impl Print, few: u64, some: u64, many: u64) -> anyhow::Result<()> {
+fn report(rt: &(impl Print + AllocGlobal), few: u64, some: u64, many: u64) -> anyhow::Result<()> {
+    let mut line = Line::new(rt.alloc());
     for (flows, rate) in [(FEW, few), (SOME, some), (MANY, many)] {
-        println!(rt; "{flows} flows: {rate} calls in a second of processor time")?;
+        line.say_with("", flows);
+        line.say_with(" flows: ", rate);
+        line.say(" calls in a second of processor time\n");
     }
-    let hundredths = u128::from(few) * 100 / u128::from(many.max(1));
-    let (whole, rest) = (hundredths / 100, hundredths % 100);
-    println!(rt; "a call at {MANY} flows costs {whole}.{rest:02} times one at {FEW}")?;
-    Ok(())
+    line.say_with("a call at ", MANY);
+    line.say_times(" flows costs ", few, many);
+    line.say_with(" times one at ", FEW);
+    line.print(rt)
 }

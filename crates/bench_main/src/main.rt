@@ -9,6 +9,7 @@ mod frames;
 mod gates;
 mod heads;
 mod inlet;
+mod line;
 mod loads;
 mod notes;
 mod outlet;

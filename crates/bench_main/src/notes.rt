@@ -1,6 +1,7 @@
 // How fast notes are written and read.
 ghost use Rattle.flow_notes.specs.Note.{IsNote};
 
+use crate::line::Line;
 use crate::stopwatch::{CpuStopwatch, per_second};
 use anyhow::bail;
 use flow_notes::{Names, Note, note_text, read_note};
@@ -167,11 +168,16 @@ fn report_on(
     let written = time_writing(rt, lines, copies, text)?;
     let (notes, read) = time_reading(rt, text.as_slice())?;
     let copied = time_copying(rt, text.as_slice())?;
-    let octets = text.len();
-    println!(rt;
-        "notes: {name}: {notes} notes in {octets} octets; octets a second: {written} written, {read} read, {copied} by a plain copy"
-    )?;
-    Ok(())
+    let mut line = Line::new(rt.alloc());
+    line.say("notes: ");
+    line.say(name);
+    line.say_with(": ", notes);
+    line.say_with(" notes in ", text.len() as u64);
+    line.say_with(" octets; octets a second: ", written);
+    line.say_with(" written, ", read);
+    line.say_with(" read, ", copied);
+    line.say(" by a plain copy");
+    line.print(rt)
 }
 
 /// Writes and reads a million small notes, and notes of 16,384 octets in 256 MiB of text.

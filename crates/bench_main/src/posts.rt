@@ -5,6 +5,7 @@ ghost use Rattle.std.specs.Prelude.{All, IfOk};
 ghost use Rattle.std.specs.Thread.{IsSync};
 ghost use Rattle.post_queue.specs.Clauses.{IsPosterOf, IsRunnerOf, passes_in};
 
+use crate::line::Line;
 use crate::stopwatch::{Stopwatch, per_second};
 use anyhow::{bail, ensure};
 use crossbeam_queue::SegQueue;
@@ -367,22 +368,22 @@ fn report(
 }
 
 fn tell_rates(
-    rt: &impl Print,
+    rt: &(impl Print + AllocGlobal),
     name: &str,
     rate: u64,
     in_lists: u64,
     by_pops: u64,
 ) -> anyhow::Result<()> {
-    println!(rt; "posts: {name}: {rate} posts a second")?;
-    println!(rt;
-        "  a plain queue in lists {in_lists}: {} %",
-        percent(rate, in_lists)
-    )?;
-    println!(rt;
-        "  a plain queue by bare pops {by_pops}: {} %",
-        percent(rate, by_pops)
-    )?;
-    Ok(())
+    let mut line = Line::new(rt.alloc());
+    line.say("posts: ");
+    line.say(name);
+    line.say_with(": ", rate);
+    line.say_with(" posts a second\n  a plain queue in lists ", in_lists);
+    line.say_with(": ", percent(rate, in_lists));
+    line.say_with(" %\n  a plain queue by bare pops ", by_pops);
+    line.say_with(": ", percent(rate, by_pops));
+    line.say(" %");
+    line.print(rt)
 }
 
 /// Posts of one poster, and of three.

@@ -1,4 +1,5 @@
 // Octets through one pair, beside the same octets copied twice by plain slice copies.
+use crate::line::Line;
 use crate::stopwatch::{CpuStopwatch, per_second};
 use anyhow::{anyhow, ensure};
 use flow_notes::{Event, Notes};
@@ -197,17 +198,19 @@ fn show(rt: &(impl AllocGlobal + Print), spent: Spent) -> anyhow::Result<()> {
     let relayed = per_second(OCTETS, spent.relaying.max(1));
     let noted = per_second(OCTETS, spent.noting.max(1));
     let copied = per_second(OCTETS, spent.copying.max(1));
-    println!(rt; "two plain copies: {copied} octets in a second of processor time")?;
-    println!(rt; "one pair: {relayed} octets in a second of processor time")?;
-    report(rt, relayed, copied)?;
-    println!(rt; "one pair, with notes: {noted} octets in a second of processor time")?;
-    report(rt, noted, copied)
-}
-
-/// Prints how many times `of` n is, with two places behind the point.
-pub(crate) fn report(rt: &(impl AllocGlobal + Print), n: u64, of: u64) -> anyhow::Result<()> {
-    let hundredths = u128::from(n) * 100 / u128::from(of.max(1));
-    let (whole, rest) = (hundredths / 100, hundredths % 100);
-    println!(rt; "ratio: {whole}.{rest:02}")?;
-    Ok(())
+    let mut line = Line::new(rt.alloc());
+    line.say_with("two plain copies: ", copied);
+    line.say_with(" octets in a second of processor time\none pair: ", relayed);
+    line.say_times(
+        " octets in a second of processor time\nratio: ",
+        relayed,
+        copied,
+    );
+    line.say_with("\none pair, with notes: ", noted);
+    line.say_times(
+        " octets in a second of processor time\nratio: ",
+        noted,
+        copied,
+    );
+    line.print(rt)
 }

@@ -3,7 +3,7 @@ ghost use Rattle.std.specs.Prelude.{◌≡◌, ◌≤◌, IfOk, OnOk};
 ghost use Rattle.relay_ports.specs.Memory.{seen_of};
 ghost use Rattle.relay_work.specs.Belonging.{Belongs};
 
-use crate::relay_octets::report;
+use crate::line::Line;
 use crate::stopwatch::CpuStopwatch;
 use anyhow::anyhow;
 use flow_notes::Names;
@@ -171,7 +171,9 @@ fn run_rounds(
 
 fn tell_turns(rt: &(impl AllocGlobal + Print), one: u64, many: u64) -> anyhow::Result<()> {
     let turns = u64::from(TURNS) * u64::from(ROUNDS);
-    println!(rt; "a turn with one pair: {} ns", one / turns)?;
-    println!(rt; "with 10,000 idle pairs beside it: {} ns", many / turns)?;
-    report(rt, many, one)
+    let mut line = Line::new(rt.alloc());
+    line.say_with("a turn with one pair: ", one / turns);
+    line.say_with(" ns\nwith 10,000 idle pairs beside it: ", many / turns);
+    line.say_times(" ns\nratio: ", many, one);
+    line.print(rt)
 }

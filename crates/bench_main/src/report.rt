@@ -1,5 +1,6 @@
 // How figures are told.
 use crate::copies::{FRAMES_A_ROUND, PIECE, ROUNDS};
+use crate::line::Line;
 use crate::stopwatch::per_second;
 
 /// The nanoseconds that the frames of all rounds took, and those that plain copies of their octets took.
@@ -24,7 +25,8 @@ impl Spent {
     }
 }
 
-/// Prints how many octets in a second of processor time the frames of all rounds come to, and the plain copies.
+/// Prints how many octets in a second of processor time the frames of all rounds come to, and the plain copies, and how many hundredths
+/// of the plain copies the frames are.
 pub fn report_octets(
     rt: &(impl AllocGlobal + Print),
     what: &str,
@@ -33,21 +35,23 @@ pub fn report_octets(
     let octets = u64::from(PIECE) * FRAMES_A_ROUND * ROUNDS;
     let copied = per_second(octets, spent.copies.max(1));
     let framed = per_second(octets, spent.frames.max(1));
-    println!(rt; "a plain copy: {copied} octets in a second of processor time")?;
-    println!(rt; "{what}: {framed} octets in a second of processor time")?;
-    report_ratio(rt, copied, framed)
+    let percent = framed.saturating_mul(100) / copied.max(1);
+    let mut line = Line::new(rt.alloc());
+    line.say_with("a plain copy: ", copied);
+    line.say(" octets in a second of processor time\n");
+    line.say(what);
+    line.say_with(": ", framed);
+    line.say_with(
+        " octets in a second of processor time\nthe second is ",
+        percent,
+    );
+    line.say(" percent of the first");
+    line.print(rt)
 }
 
 /// Prints how many of something in a second of processor time all rounds come to.
 pub fn report_count(rt: &(impl AllocGlobal + Print), what: &str, nanos: u64) -> anyhow::Result<()> {
     let rate = per_second(FRAMES_A_ROUND * ROUNDS, nanos.max(1));
     println!(rt; "{what}: {rate} in a second of processor time")?;
-    Ok(())
-}
-
-// Prints of two rates in a second how many hundredths of the first the second is.
-fn report_ratio(rt: &(impl AllocGlobal + Print), first: u64, second: u64) -> anyhow::Result<()> {
-    let percent = second.saturating_mul(100) / first.max(1);
-    println!(rt; "the second is {percent} percent of the first")?;
     Ok(())
 }

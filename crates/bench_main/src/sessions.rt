@@ -1,4 +1,5 @@
 // How fast frames become acts.
+use crate::line::Line;
 use crate::stopwatch::{CpuStopwatch, per_second};
 use anyhow::{Result, bail, ensure};
 use h2_frames::{ReadFrame, frame_head, read_frame};
@@ -119,8 +120,12 @@ fn report(rt: &(impl Print + CpuClock + AllocGlobal), open: u16) -> Result<()> {
         best = best.max(rate);
         total = total.wrapping_add(sum);
     }
-    println!(rt; "session: {best} acts a second with {open} open streams (sum {total})")?;
-    Ok(())
+    let mut line = Line::new(rt.alloc());
+    line.say_with("session: ", best);
+    line.say_with(" acts a second with ", u64::from(open));
+    line.say_with(" open streams (sum ", total);
+    line.say(")");
+    line.print(rt)
 }
 
 /// A mix of frames with few and with many open streams.

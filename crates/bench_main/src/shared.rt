@@ -3,6 +3,7 @@ ghost use Rattle.std.specs.Prelude.{◌≡◌, ◌≤◌, length};
 ghost use Rattle.std.specs.Thread.{IsSync};
 ghost use Rattle.shared_state.specs.States.{resources_of};
 
+use crate::line::Line;
 use crate::loads::{Enters, FetchPairs, Fetches, Follows, Load, Takes};
 use crate::stopwatch::CpuStopwatch;
 use anyhow::{anyhow, bail, ensure};
@@ -258,13 +259,18 @@ fn report<R: Threads + Wait + AllocGlobal + CpuClock + Print + Sync>(
 }
 
 // Prints what a call takes, in nanoseconds with one place behind the point.
-fn tell<R: Print>(rt: &R, threads: u32, call: &str, tenths: u64) -> anyhow::Result<()> {
-    println!(rt;
-        "{threads} threads: {}.{} ns {call}",
-        tenths / 10,
-        tenths % 10
-    )?;
-    Ok(())
+fn tell<R: Print + AllocGlobal>(
+    rt: &R,
+    threads: u32,
+    call: &str,
+    tenths: u64,
+) -> anyhow::Result<()> {
+    let mut line = Line::new(rt.alloc());
+    line.say_with("", u64::from(threads));
+    line.say_tenths(" threads: ", tenths);
+    line.say(" ns ");
+    line.say(call);
+    line.print(rt)
 }
 
 fn report_both<R: Threads + Wait + AllocGlobal + CpuClock + Print + Sync>(

@@ -3,6 +3,7 @@ ghost use Rattle.std.specs.Prelude.{◌≡◌, ◌+◌, ◌^◌, ◌<◌, ◌≤
 ghost use Rattle.std.specs.VecDeque.{deque_len};
 ghost use Rattle.scaled_timer.specs.Timing.{AreHeld};
 
+use crate::line::Line;
 use crate::stopwatch::CpuStopwatch;
 use anyhow::{bail, ensure};
 use link_lists::Steps;
@@ -263,8 +264,23 @@ fn report<L: Ledger>(
     let mut steps = Steps::<L>::open(blank);
     let arm = arming(rt, count, &mut steps)?;
     let (shift, turn) = moving_and_turning(rt, count, &mut steps)?;
-    println!(rt; "{count} armed: {arm} ns to arm, {shift} ns to move, {turn} ns to turn")?;
-    Ok(())
+    tell(rt, count, arm, shift, turn)
+}
+
+fn tell(
+    rt: &(impl AllocGlobal + Print),
+    count: u64,
+    arm: u64,
+    shift: u64,
+    turn: u64,
+) -> anyhow::Result<()> {
+    let mut line = Line::new(rt.alloc());
+    line.say_with("", count);
+    line.say_with(" armed: ", arm);
+    line.say_with(" ns to arm, ", shift);
+    line.say_with(" ns to move, ", turn);
+    line.say(" ns to turn");
+    line.print(rt)
 }
 
 /// Measures with 100, 10,000 and 1,000,000 armed timers, and prints nanoseconds of processor time for each call.

@@ -2,6 +2,7 @@
 ghost use Rattle.std.specs.Prelude.{◌≤◌, All, IfOk};
 ghost use Rattle.shared_tokens.specs.Seats.{IsSeatOf, seats_in};
 
+use crate::line::Line;
 use crate::stopwatch::Stopwatch;
 use anyhow::{anyhow, ensure};
 use shared_tokens::{Bucket, TokenSeat, TokenSeats};
@@ -138,17 +139,21 @@ fn report<R: Print + Clock + AllocGlobal + Threads + Sync>(
 }
 
 // Prints what a call takes, of each in tenths of a nanosecond.
-fn tell<R: Print>(rt: &R, name: &str, granted: u64, refused: u64, bare: u64) -> anyhow::Result<()> {
-    println!(rt;
-        "tokens: {name}: a take {}.{} ns, a refused take {}.{} ns; a bare fetch {}.{} ns",
-        granted / 10,
-        granted % 10,
-        refused / 10,
-        refused % 10,
-        bare / 10,
-        bare % 10
-    )?;
-    Ok(())
+fn tell<R: Print + AllocGlobal>(
+    rt: &R,
+    name: &str,
+    granted: u64,
+    refused: u64,
+    bare: u64,
+) -> anyhow::Result<()> {
+    let mut line = Line::new(rt.alloc());
+    line.say("tokens: ");
+    line.say(name);
+    line.say_tenths(": a take ", granted);
+    line.say_tenths(" ns, a refused take ", refused);
+    line.say_tenths(" ns; a bare fetch ", bare);
+    line.say(" ns");
+    line.print(rt)
 }
 
 /// Takes on one thread and on four. The time is that of a thread's call.

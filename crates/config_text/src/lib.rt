@@ -7,4 +7,4 @@ mod place;
 
 pub use file::ConfigFile;
 pub use kept::Kept;
-pub use place::{Place, fault_place};
+pub use place::{Place, fault_place, tell_no_toml};

@@ -4,6 +4,7 @@ ghost use Rattle.std.specs.Str.{is_utf8};
 ghost use Rattle.toml.specs.Parse.{parse_document};
 
 use std::alloc::Global;
+use std::io::Eprint;
 
 /// A place of a text: its line and its column, both from 1. A column counts characters.
 #[derive(Clone, Copy, Debug, PartialEq, Eq)]
@@ -21,6 +22,18 @@ pub fn fault_place(alloc: Global, text: &[u8]) -> Option<Place>
         Ok(words) => toml_place(alloc, words),
         Err(error) => Some(place_behind(front(text, error.valid_up_to()))),
     }
+}
+
+/// Tells in one line on standard error, behind the program's name, that a configuration is no TOML, and where, as far as that is
+/// found. Where standard error is closed there is nobody to tell.
+pub fn tell_no_toml<R: Eprint + AllocGlobal>(rt: &R, program: &str, text: &[u8]) {
+    let _ = match fault_place(rt.alloc(), text) {
+        Some(place) => eprintln!(rt;
+            "{program}: configuration: line {}, column {}: no TOML document in UTF-8",
+            place.line, place.column
+        ),
+        None => eprintln!(rt; "{program}: configuration: the text is no TOML document in UTF-8"),
+    };
 }
 
 fn toml_place(alloc: Global, text: &str) -> Option<Place>

@@ -44,8 +44,8 @@ fn run_of(line: &str) -> Option<FlowId> {
 impl Play {
     fn new(alloc: Global) -> Self {
         Play {
-            apart: Stage::new(alloc, false),
-            joined: Stage::new(alloc, true),
+            apart: Stage::of_single_calls(alloc),
+            joined: Stage::of_joined_calls(alloc),
             chain: None,
         }
     }

@@ -28,7 +28,17 @@ pub struct Stage {
 }
 
 impl Stage {
-    pub fn new(alloc: Global, joined: bool) -> Self {
+    /// One whose steps and frames are made by the calls that do nothing else.
+    pub fn of_single_calls(alloc: Global) -> Self {
+        Stage::new(alloc, false)
+    }
+
+    /// One whose steps and frames are made by the calls that also answer what goes next.
+    pub fn of_joined_calls(alloc: Global) -> Self {
+        Stage::new(alloc, true)
+    }
+
+    fn new(alloc: Global, joined: bool) -> Self {
         Stage {
             alloc,
             exchanges: Exchanges::new(alloc),

@@ -230,11 +230,22 @@ fn moves(
     let (from_limit, had) = first;
     let (to_limit, has) = second;
     let lies_before = u64::from(has).wrapping_add(u64::from(ahead));
-    let mut from = filled(rt.alloc(), from_limit, lies_before, had)?;
-    let mut to = filled(rt.alloc(), to_limit, 0, has)?;
     let head = octets(rt.alloc(), u64::from(has), u64::from(ahead))?;
-    assert!(rt; n <= from.len());
-    same_in(rt, &n, &from.move_to(&mut to, &head, n), &Ok(wanted));
+    let mut to = filled(rt.alloc(), to_limit, 0, has)?;
+    let mut from = filled(rt.alloc(), from_limit, lies_before, had)?;
+    moves_to(rt, &mut from, &mut to, head.as_slice(), n, wanted);
     same(rt, &from.len(), &had.saturating_sub(n));
     counts_up(rt, &mut to, 0, lies_before.wrapping_add(u64::from(n)))
+}
+
+fn moves_to(
+    rt: &impl Abort,
+    from: &mut WatermarkBuffer,
+    to: &mut WatermarkBuffer,
+    head: &[u8],
+    n: u32,
+    wanted: Shifted,
+) {
+    assert!(rt; n <= from.len());
+    same_in(rt, &n, &from.move_to(to, head, n), &Ok(wanted));
 }

@@ -68,24 +68,45 @@ const ALL: &[u8] = b"abcdefgh";
 
 #[test]
 fn sources_give_their_octets_in_pieces(rt: HostRuntime) -> Result<(), NoMemory> {
-    let alloc = rt.alloc();
     for (failing, most, room, wanted) in READS {
-        let mut source = MemSource::new(ALL.to_vec(alloc)?, failing.to_vec(alloc)?);
-        assert!(rt; 0 < most);
-        source.give_at_most(most);
-        let given = reads(alloc, &mut source, room, wanted)?;
-        let all = if room == 0 { &[] } else { ALL };
-        holds(&rt, are_given(&given, all));
+        source_gives(&rt, failing, most, room, wanted)?;
     }
-    let mut source = StdSource::new(ALL);
-    let given = reads(alloc, &mut source, 3, &[Ok(3), Ok(3), Ok(2), Ok(0)])?;
-    holds(&rt, are_given(&given, ALL));
-    let mut source = StdSource::new(Broken);
-    holds(
-        &rt,
-        reads(alloc, &mut source, 3, &[Err(Failed), Err(Failed)])?.is_some(),
-    );
     Ok(())
+}
+
+// Whether a source whose calls fail so gives all, or nothing where there is no room.
+fn source_gives(
+    rt: &(impl AllocGlobal + Abort),
+    failing: &[u64],
+    most: usize,
+    room: usize,
+    wanted: &[Answer],
+) -> Result<(), NoMemory> {
+    let mut source = MemSource::new(ALL.to_vec(rt.alloc())?, failing.to_vec(rt.alloc())?);
+    assert!(rt; 0 < most);
+    source.give_at_most(most);
+    let all = if room == 0 { &[] } else { ALL };
+    gives(rt, &mut source, room, wanted, all)
+}
+
+fn gives<S: Source>(
+    rt: &(impl AllocGlobal + Abort),
+    source: &mut S,
+    room: usize,
+    wanted: &[Answer],
+    all: &[u8],
+) -> Result<(), NoMemory> {
+    let given = reads(rt.alloc(), source, room, wanted)?;
+    holds(rt, are_given(&given, all));
+    Ok(())
+}
+
+#[test]
+fn readers_give_their_octets_in_pieces(rt: HostRuntime) -> Result<(), NoMemory> {
+    let wanted = [Ok(3), Ok(3), Ok(2), Ok(0)];
+    gives(&rt, &mut StdSource::new(ALL), 3, &wanted, ALL)?;
+    let failed = [Err(Failed), Err(Failed)];
+    gives(&rt, &mut StdSource::new(Broken), 3, &failed, &[])
 }
 
 // A sink: its room, the most that a call takes, the calls that fail, what the writes answer, and

@@ -1,22 +1,31 @@
 -- What one pass over a name, one over a value and the first octet of a name tell.
-use Rattle.std.proofs.Common.{Bool, List, [], ◌∷◌, ℕ, ◌<◌, ◌≡◌, ◌≤◌, ◌-◌, ◌∙◌, ◌&&◌, ◌||◌, ap, arith, drop, false, get_or, length, map, not, refl, sym, take, true}
+use Rattle.std.proofs.Common.{Bool, List, [], ◌∷◌, ℕ, ◌≡◌, ◌≤◌, ◌-◌, ◌∙◌, ◌&&◌, ◌||◌, ap, arith, drop, false, get_or, length, not, refl, suc, sym, take, true, zero}
 use Rattle.std.proofs.lemmas.Bool.Decides.{nat_tests}
 use Rattle.std.proofs.lemmas.List.{take_all}
-use Rattle.std.proofs.lemmas.List.FromFn.{get_or-map-range_with_len}
-use Rattle.std.specs.List.{list_all, list_any, range_with_len, starts_with}
+use Rattle.std.specs.List.{list_all, list_any, slice_get, starts_with}
+use Rattle.std.specs.Option.{option_map_or}
 use Rattle.std.specs.Prelude.{codes, nat_eq, ◌==◌}
 use Rattle.std.specs.Str.{bytes_eq}
-use Rattle.h2_heads.specs.Passes.{is_low, is_plain}
-use Rattle.h2_heads.specs.Rules.{has_inner_colon, is_bad_in_name, is_bad_in_value, is_bad_name}
-use Rattle.h2_heads.specs.declared.octets.TheConstants.{PLAIN}
+use Rattle.h2_heads.specs.Passes.{is_low, is_plain, is_usual}
+use Rattle.h2_heads.specs.Rules.{has_inner_colon, is_bad_in_name, is_bad_in_value, is_bad_name, is_bad_value, is_blank, is_blank_at}
 
-table_is : PLAIN ≡ map is_plain (range_with_len 0 256)
-table_is = refl
+usual_plain : (octet : ℕ) → is_usual octet ≡ true → is_plain octet ≡ true
+usual_plain octet usual = grind (arith, nat_tests)
 
--- what the table says of an octet
-pub plain_read : (octet : ℕ) → octet < 256 → get_or PLAIN octet false ≡ is_plain octet
-plain_read octet small =
-    ap (λ table. get_or table octet false) table_is ∙ get_or-map-range_with_len is_plain 0 256 octet octet false small (omega arith)
+all_left : (a b : Bool) → (a && b) ≡ true → a ≡ true
+all_left true b e = refl
+all_left false b e = e
+
+all_right : (a b : Bool) → (a && b) ≡ true → b ≡ true
+all_right true b e = e
+all_right false b e = cc
+
+-- octets that are usual are plain
+pub all_usual_plain : (octets : List ℕ) → list_all is_usual octets ≡ true → list_all is_plain octets ≡ true
+all_usual_plain [] e = refl
+all_usual_plain (o ∷ os) e =
+    let here = usual_plain o (all_left (is_usual o) (list_all is_usual os) e) in
+    ap (λ plain. plain && list_all is_plain os) here ∙ all_usual_plain os (all_right (is_usual o) (list_all is_usual os) e)
 
 plain_step : (bad colon bads colons : Bool) → ((not bad && not colon) && not (bads || colons)) ≡ not ((bad || bads) || (colon || colons))
 plain_step true colon bads colons = refl
@@ -55,6 +64,20 @@ sound_name_at (first ∷ rest) some =
     let whole = take_all (length (first ∷ rest) - 1) rest (omega arith) in
     ap (λ others. (is_plain first || (first == 58)) && list_all is_plain others) whole ∙ sound_name first rest
 
+not_first : (plain colon rest : Bool) → colon ≡ false → (plain && rest) ≡ ((plain || colon) && rest)
+not_first true colon rest e = refl
+not_first false false rest e = refl
+not_first false true rest e = cc
+
+regular_first : (first : ℕ) (rest : List ℕ) → starts_with nat_eq (first ∷ rest) (codes ":") ≡ false → (first == 58) ≡ false
+regular_first first rest regular = grind (arith, nat_tests)
+
+-- a name that doesn't begin with a colon is sound whose octets are plain
+pub sound_regular : (name : List ℕ) → starts_with nat_eq name (codes ":") ≡ false → (length name == 0) ≡ false → list_all is_plain name ≡ not (is_bad_name name || has_inner_colon name)
+sound_regular [] regular some = cc
+sound_regular (first ∷ rest) regular some =
+    not_first (is_plain first) (first == 58) (list_all is_plain rest) (regular_first first rest regular) ∙ sound_name first rest
+
 good_in_value : (octet : ℕ) → is_low octet ≡ false → is_bad_in_value octet ≡ false
 good_in_value octet above = grind (arith, nat_tests)
 
@@ -67,11 +90,25 @@ none_right true b e = cc
 none_right false b e = e
 
 -- a value without a low octet has no bad one
-pub none_low : (value : List ℕ) → list_any is_low value ≡ false → list_any is_bad_in_value value ≡ false
+none_low : (value : List ℕ) → list_any is_low value ≡ false → list_any is_bad_in_value value ≡ false
 none_low [] e = refl
 none_low (o ∷ os) e =
     let here = good_in_value o (none_left (is_low o) (list_any is_low os) e) in
     ap (λ bad. bad || list_any is_bad_in_value os) here ∙ none_low os (none_right (is_low o) (list_any is_low os) e)
+
+low_blank : (octet : ℕ) → is_low octet ≡ false → is_blank octet ≡ (octet == 32)
+low_blank octet above = grind (arith, nat_tests)
+
+-- of a value without a low octet a blank is a space
+none_low_blank : (value : List ℕ) (place : ℕ) → list_any is_low value ≡ false → option_map_or (λ octet. octet == 32) (slice_get value place) false ≡ is_blank_at value place
+none_low_blank [] place e = refl
+none_low_blank (o ∷ os) zero e = sym (low_blank o (none_left (is_low o) (list_any is_low os) e))
+none_low_blank (o ∷ os) (suc k) e = none_low_blank os k (none_right (is_low o) (list_any is_low os) e)
+
+-- a value without a low octet is bad that has a space at an end
+pub none_low_bad : (value : List ℕ) → list_any is_low value ≡ false → (option_map_or (λ octet. octet == 32) (slice_get value 0) false || option_map_or (λ octet. octet == 32) (slice_get value (length value - 1)) false) ≡ is_bad_value value
+none_low_bad value e =
+    λ k. sym (none_low value e) k || none_low_blank value 0 e k || none_low_blank value (length value - 1) e k
 
 -- a pseudo-field has no name that begins otherwise
 pub pseudo_unnamed : (name other : List ℕ) (first : ℕ) → starts_with nat_eq name (codes ":") ≡ true → (first == 58) ≡ false → bytes_eq name (first ∷ other) ≡ false

@@ -6,12 +6,16 @@ use Rattle.h2_heads.specs.declared.malformed.Kind.TheVariants.{BadLength, BadPse
 use Rattle.h2_heads.specs.declared.malformed.Message.{Message}
 use Rattle.hpack_codec.specs.declared.fields.Field.{Field}
 use Rattle.std.specs.List.{list_any}
-use Rattle.std.specs.Prelude.{Bool, List, None, Option, Some, codes, if◌then◌else◌, nat_le, not, ℕ, ◌&&◌, ◌==◌, ◌∷◌}
+use Rattle.std.specs.Prelude.{Bool, List, None, Option, Some, codes, if◌then◌else◌, nat_le, not, ℕ, ◌&&◌, ◌==◌, ◌||◌, ◌∷◌}
 use Rattle.std.specs.Str.{bytes_eq}
 
 -- an octet that a name may have past its first
 abbrev pub is_plain : ℕ → Bool
 is_plain octet = not (is_bad_in_name octet) && not (octet == 58)
+
+-- a plain octet of those that names are made of: the small letters, the digits, the hyphen and others
+abbrev pub is_usual : ℕ → Bool
+is_usual octet = (nat_le 33 octet && nat_le octet 57) || (nat_le 91 octet && nat_le octet 126)
 
 -- an octet up to CR, as all are that no value has
 abbrev pub is_low : ℕ → Bool

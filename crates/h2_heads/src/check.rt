@@ -22,11 +22,12 @@ pub fn check(message: Message, fields: &[Field]) -> Result<Option<u64>, Malforme
     let mut front = Front::new();
     let mut length = None;
     for (place, field) in fields.iter().enumerate() {
-        match front.with_field(message, length, field) {
+        let name = field.name.as_slice();
+        match front.with_field(message, length, name, field) {
             Ok(next) => front = next,
             Err(kind) => return Err(Malformed::at(place, kind)),
         }
-        length = first_length(length, field);
+        length = first_length(length, name, field);
     }
     if front.lacks(message) {
         return Err(Malformed::at(fields.len(), Kind::Missing));

@@ -4,11 +4,11 @@ ghost use Rattle.std.specs.List.{list_any};
 ghost use Rattle.std.specs.Option.{option_copied};
 ghost use Rattle.h2_heads.specs.Fronts.{has, marked, IsFront, Judges, Tells, TellsPseudo};
 ghost use Rattle.h2_heads.specs.Pseudos.{field_of, needed_by, pseudo_of};
-ghost use Rattle.h2_heads.specs.Rules.{is_pseudo};
+ghost use Rattle.h2_heads.specs.Rules.{is_bad_value, is_pseudo};
 ghost use Rattle.h2_heads.specs.declared.malformed.Message.{Message};
 
 use crate::malformed::{Kind, Message};
-use crate::names::{fault_of_name, is_pseudo, is_sound_name};
+use crate::names::{fault_of_name, is_pseudo, is_sound_name, is_sound_regular};
 use crate::pseudo::{Pseudo, is_bad_of, knows, pseudo_of};
 use crate::rules::lowest_of_regular;
 use crate::values::is_bad_value;
@@ -47,30 +47,39 @@ impl Front {
         self,
         message: Message,
         length: Option<&[u8]>,
+        name: &[u8],
         field: &Field,
     ) -> Result<Self, Kind>
+        requires { name.now ≡ field.now.name }
         ensures { Judges message self (option_copied length.entry) field.now result }
     {
-        let name = field.name.as_slice();
+        let bad_value = is_bad_value(field.value.as_slice());
         if !is_pseudo(name) {
-            return self.with_regular(length, name, field);
+            return self.with_regular(length, name, bad_value, field);
         }
         if let Some(pseudo) = pseudo_of(name) {
-            return self.with_pseudo(message, pseudo, field);
+            return self.with_pseudo(message, pseudo, bad_value, field);
         }
-        Err(self.fault_of_unknown(name, field))
+        Err(self.fault_of_unknown(name, bad_value, field))
     }
 
     // The same of a regular field.
-    fn with_regular(self, length: Option<&[u8]>, name: &[u8], field: &Field) -> Result<Self, Kind>
+    fn with_regular(
+        self,
+        length: Option<&[u8]>,
+        name: &[u8],
+        bad_value: bool,
+        field: &Field,
+    ) -> Result<Self, Kind>
         requires name { name.now ≡ field.now.name }
+        requires value { bad_value ≡ is_bad_value field.now.value }
         requires regular { is_pseudo field.now ≡ false }
         ensures { (message : Message) → Judges message self (option_copied length.entry) field.now result }
     {
-        if !is_sound_name(name) {
+        if !is_sound_regular(name) {
             return Err(fault_of_name(name));
         }
-        if is_bad_value(field.value.as_slice()) {
+        if bad_value {
             return Err(Kind::BadValue);
         }
         if let Some(kind) = lowest_of_regular(length, name, field) {
@@ -83,14 +92,21 @@ impl Front {
     }
 
     // The same of a pseudo-field that some message knows.
-    fn with_pseudo(self, message: Message, pseudo: Pseudo, field: &Field) -> Result<Self, Kind>
-        requires { pseudo_of field.now.name ≡ Some pseudo }
+    fn with_pseudo(
+        self,
+        message: Message,
+        pseudo: Pseudo,
+        bad_value: bool,
+        field: &Field,
+    ) -> Result<Self, Kind>
+        requires name { pseudo_of field.now.name ≡ Some pseudo }
+        requires value { bad_value ≡ is_bad_value field.now.value }
         ensures { (first : Option (List ℕ)) → Judges message self first field.now result }
     {
-        let value = field.value.as_slice();
-        if is_bad_value(value) {
+        if bad_value {
             return Err(Kind::BadValue);
         }
+        let value = field.value.as_slice();
         if let Some(kind) = self.fault_of_pseudo(message, pseudo, value) {
             return Err(kind);
         }
@@ -117,8 +133,9 @@ impl Front {
     }
 
     // The lowest rule that a pseudo-field breaks that no message knows.
-    fn fault_of_unknown(self, name: &[u8], field: &Field) -> Kind
+    fn fault_of_unknown(self, name: &[u8], bad_value: bool, field: &Field) -> Kind
         requires name { name.now ≡ field.now.name }
+        requires value { bad_value ≡ is_bad_value field.now.value }
         requires pseudo { is_pseudo field.now ≡ true }
         requires unknown { pseudo_of field.now.name ≡ None }
         ensures { (message : Message) (first : Option (List ℕ)) → Tells message self first field.now (Some result) }
@@ -126,7 +143,7 @@ impl Front {
         if !is_sound_name(name) {
             return fault_of_name(name);
         }
-        if is_bad_value(field.value.as_slice()) {
+        if bad_value {
             return Kind::BadValue;
         }
         if self.regular {

@@ -1,9 +1,10 @@
 // The heads of requests and responses, and trailers.
-ghost use Rattle.std.specs.Prelude.{◌≡◌, ◌^◌, ◌<◌, ◌≤◌, codes, if◌then◌else◌, is_err, length, IfErr, IfOk, IfSome, IsSome, IsTrue, OnOk};
+ghost use Rattle.std.specs.Prelude.{◌≡◌, ◌^◌, ◌<◌, ◌≤◌, codes, false, if◌then◌else◌, is_err, length, IfErr, IfOk, IfSome, IsSome, IsTrue, OnOk};
 ghost use Rattle.std.specs.Bool.{OnFalse};
-ghost use Rattle.std.specs.Option.{SomeIff};
-ghost use Rattle.h2_heads.specs.Heads.{is_head, is_malformed_request, is_malformed_response, is_malformed_trailers, length_of, request_head, status_of};
-ghost use Rattle.h2_heads.specs.Malformed.{fault_at, is_connect, message_of_request, IsFirst, IsSound};
+ghost use Rattle.std.specs.Option.{SomeIff, option_copied, option_map_or};
+ghost use Rattle.std.specs.Str.{bytes_eq};
+ghost use Rattle.h2_heads.specs.Heads.{is_malformed_request, is_malformed_response, is_malformed_trailers, length_of, request_head, status_of};
+ghost use Rattle.h2_heads.specs.Malformed.{fault_at, message_of_request, IsFirst, IsSound};
 ghost use Rattle.h2_heads.specs.Named.{StandsAt, value_of};
 ghost use Rattle.h2_heads.specs.Numbers.{decimal, is_status};
 ghost use Rattle.h2_heads.specs.declared.malformed.Message.TheVariants.{Connect, Request, Response, Trailers};
@@ -11,6 +12,7 @@ ghost use Rattle.h2_heads.specs.declared.malformed.Message.TheVariants.{Connect,
 use crate::check::check;
 use crate::malformed::{Malformed, Message};
 use crate::names::{place_of, value_of};
+use crate::octets::is_text;
 use crate::values::status_in;
 use hpack_codec::{Field, FieldList};
 
@@ -47,11 +49,12 @@ pub fn check_request(fields: &FieldList) -> Result<RequestHead, Malformed>
     ensures malformed { is_err result ≡ is_malformed_request fields.now }
 {
     let fields = fields.as_slice();
-    let connect = is_connect(fields);
+    let method = value_of(fields, b":method");
+    let connect = is_some(method, b"CONNECT");
     let content_length = check(message_of_request(connect), fields)?;
     Ok(RequestHead {
         connect,
-        head: is_head(fields),
+        head: is_some(method, b"HEAD"),
         authority: place_of(fields, b":authority"),
         path: place_of(fields, b":path"),
         content_length,
@@ -101,16 +104,14 @@ fn message_of_request(connect: bool) -> Message
     }
 }
 
-fn is_connect(fields: &[Field]) -> bool
-    ensures { result ≡ is_connect fields.now }
+// Whether there is a value, and it is this one.
+fn is_some<const N: usize>(value: Option<&[u8]>, known: &[u8; N]) -> bool
+    ensures { result ≡ option_map_or (λ value. bytes_eq value known.now) (option_copied value.entry) false }
 {
-    value_of(fields, b":method").is_some_and(|method| method == b"CONNECT".as_slice())
-}
-
-fn is_head(fields: &[Field]) -> bool
-    ensures { result ≡ is_head fields.now }
-{
-    value_of(fields, b":method").is_some_and(|method| method == b"HEAD".as_slice())
+    match value {
+        Some(value) => is_text(value, known),
+        None => false,
+    }
 }
 
 // The status that the list names in its form.

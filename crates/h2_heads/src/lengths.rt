@@ -6,7 +6,7 @@ ghost use Rattle.h2_heads.specs.Malformed.{length_fault_at, IsFirst, IsSound};
 ghost use Rattle.h2_heads.specs.Named.{has_field, is_named};
 
 use crate::malformed::{Kind, Malformed};
-use crate::names::is_named;
+use crate::octets::is_text;
 use crate::rules::is_bad_length;
 use crate::values::length_in;
 use hpack_codec::{Field, FieldList};
@@ -25,18 +25,19 @@ pub fn content_length(fields: &FieldList) -> Result<Option<u64>, Malformed>
         if is_bad_length(length, field) {
             return Err(Malformed::at(place, Kind::BadLength));
         }
-        length = first_length(length, field);
+        length = first_length(length, field.name.as_slice(), field);
     }
     Ok(length.and_then(length_in))
 }
 
 /// The value of the first content-length, where one more field follows.
-pub fn first_length<'a>(length: Option<&'a [u8]>, field: &'a Field) -> Option<&'a [u8]>
+pub fn first_length<'a>(length: Option<&'a [u8]>, name: &[u8], field: &'a Field) -> Option<&'a [u8]>
+    requires { name.now ≡ field.now.name }
     ensures { option_copied result
         ≡ option_or (option_copied length.entry)
         (if is_named (codes "content-length") field.now then Some field.now.value else None) }
 {
-    if length.is_none() && is_named(field, b"content-length") {
+    if length.is_none() && is_text(name, b"content-length") {
         return Some(field.value.as_slice());
     }
     length

@@ -3,7 +3,6 @@
 #![tactic(auto)]
 
 mod check;
-mod ends;
 mod front;
 mod heads;
 mod lengths;

@@ -1,15 +1,14 @@
 // Names of fields, and fields by their names.
-ghost use Rattle.std.specs.Prelude.{◌≡◌, ◌<◌, ◌≤◌, ◌+◌, ◌^◌, ◌==◌, ◌||◌, codes, if◌then◌else◌, length, nat_eq, not, IfSome};
+ghost use Rattle.std.specs.Prelude.{◌≡◌, ◌<◌, ◌≤◌, ◌+◌, ◌^◌, ◌==◌, ◌||◌, codes, false, if◌then◌else◌, length, nat_eq, not, IfSome};
 ghost use Rattle.h2_heads.specs.Named.{is_named, place_of, value_of, StandsAt};
-ghost use Rattle.h2_heads.specs.Passes.{is_plain};
+ghost use Rattle.h2_heads.specs.Passes.{is_plain, is_usual};
 ghost use Rattle.h2_heads.specs.Rules.{has_inner_colon, is_bad_in_name, is_bad_name};
 ghost use Rattle.h2_heads.specs.declared.malformed.Kind.TheVariants.{BadName, InnerColon};
 ghost use Rattle.std.specs.List.{list_all, list_any, starts_with};
 ghost use Rattle.std.specs.Option.{option_copied};
 
-use crate::ends::ends;
 use crate::malformed::Kind;
-use crate::octets::PLAIN;
+use crate::octets::ends;
 use hpack_codec::Field;
 
 /// Whether the name is empty or has an octet that no name has.
@@ -27,6 +26,17 @@ pub fn is_sound_name(name: &[u8]) -> bool
         [first, rest @ ..] => may_begin(*first) & all_plain(rest),
         [] => false,
     }
+}
+
+/// The same of a name that doesn't begin with a colon.
+pub fn is_sound_regular(name: &[u8]) -> bool
+    requires { starts_with nat_eq name.now (codes ":") ≡ false }
+    ensures { result ≡ not (is_bad_name name.now || has_inner_colon name.now) }
+{
+    if name.is_empty() {
+        return false;
+    }
+    all_plain(name)
 }
 
 /// The lower of the two rules for names that a name breaks.
@@ -47,44 +57,61 @@ fn may_begin(octet: u8) -> bool
     is_plain(octet) || octet == b':'
 }
 
-// Whether each octet is plain. Names are short, and most are looked at by their two ends.
+// Whether each octet is plain. Most names have none but usual ones.
 fn all_plain(octets: &[u8]) -> bool
     ensures { result ≡ list_all is_plain octets.now }
 {
+    if all_usual(octets) {
+        return true;
+    }
+    octets.iter().all(|octet| is_plain(*octet))
+}
+
+// Names are short, and most are looked at by their two ends.
+fn all_usual(octets: &[u8]) -> bool
+    ensures { result ≡ list_all is_usual octets.now }
+{
     match octets.len() {
-        4..=8 => plain_ends(octets, 4),
-        9..=16 => plain_ends(octets, 8),
-        _ => each_plain(octets),
+        4..=8 => usual_ends(octets, 4),
+        9..=16 => usual_ends(octets, 8),
+        17..=32 => usual_ends(octets, 16),
+        _ => each_usual(octets),
     }
 }
 
 #[inline(always)]
-fn plain_ends(octets: &[u8], n: usize) -> bool
+fn usual_ends(octets: &[u8], n: usize) -> bool
     requires within { n ≤ length octets.now }
     requires covered { length octets.now ≤ n + n }
-    ensures { result ≡ list_all is_plain octets.now }
+    ensures { result ≡ list_all is_usual octets.now }
 {
     let (front, back) = ends(octets, n);
-    each_plain(front) & each_plain(back)
+    each_usual(front) & each_usual(back)
 }
 
 // One pass without a branch for each octet.
 #[inline(always)]
-fn each_plain(octets: &[u8]) -> bool
-    ensures { result ≡ list_all is_plain octets.now }
+fn each_usual(octets: &[u8]) -> bool
+    ensures { result ≡ list_all is_usual octets.now }
 {
-    let mut plain = true;
+    let mut usual = true;
     for octet in octets {
-        plain &= is_plain(*octet);
+        usual &= is_usual(*octet);
     }
-    plain
+    usual
+}
+
+fn is_usual(octet: u8) -> bool
+    ensures { result ≡ is_usual octet }
+{
+    (0x21..=0x39).contains(&octet) | (0x5b..=0x7e).contains(&octet)
 }
 
 // Whether names may have the octet past their first.
 fn is_plain(octet: u8) -> bool
     ensures { result ≡ is_plain octet }
 {
-    PLAIN[usize::from(octet)]
+    !is_bad_in_name(octet) && octet != b':'
 }
 
 fn has_bad_octet(name: &[u8]) -> bool

@@ -1,27 +1,30 @@
-// The octets of names.
+// Octets by their two ends, and beside those of a text that is written out.
+ghost use Rattle.std.specs.Prelude.{◌≡◌, ◌≤◌, ◌-◌, drop, length, take};
+ghost use Rattle.std.specs.Str.{bytes_eq};
 
-const T: bool = true;
+/// The first `n` octets and the last `n`. Of at most twice as many octets each is in one of them, so
+/// that a pass over both looks at all. Where `n` is written out, the compiler makes each of the two
+/// passes of a few instructions for vectors, whatever the length of the whole is.
+#[inline(always)]
+pub fn ends(octets: &[u8], n: usize) -> (&[u8], &[u8])
+    requires { n ≤ length octets.now }
+    ensures front { result.0.now ≡ take n octets.now }
+    ensures back { result.1.now ≡ drop (length octets.now - n) octets.now }
+{
+    let (front, _) = octets.split_at(n);
+    let (_, back) = octets.split_at(octets.len() - n);
+    (front, back)
+}
 
-const F: bool = false;
-
-/// Whether a name may have the octet past its first: those from 0x21 to 0x7e but `A` to `Z` and the
-/// colon (RFC 9113 section 8.2.1).
-#[rattlefmt::skip]
-pub static PLAIN: [bool; 256] = [
-    F, F, F, F, F, F, F, F, F, F, F, F, F, F, F, F,
-    F, F, F, F, F, F, F, F, F, F, F, F, F, F, F, F,
-    F, T, T, T, T, T, T, T, T, T, T, T, T, T, T, T,
-    T, T, T, T, T, T, T, T, T, T, F, T, T, T, T, T,
-    T, F, F, F, F, F, F, F, F, F, F, F, F, F, F, F,
-    F, F, F, F, F, F, F, F, F, F, F, T, T, T, T, T,
-    T, T, T, T, T, T, T, T, T, T, T, T, T, T, T, T,
-    T, T, T, T, T, T, T, T, T, T, T, T, T, T, T, F,
-    F, F, F, F, F, F, F, F, F, F, F, F, F, F, F, F,
-    F, F, F, F, F, F, F, F, F, F, F, F, F, F, F, F,
-    F, F, F, F, F, F, F, F, F, F, F, F, F, F, F, F,
-    F, F, F, F, F, F, F, F, F, F, F, F, F, F, F, F,
-    F, F, F, F, F, F, F, F, F, F, F, F, F, F, F, F,
-    F, F, F, F, F, F, F, F, F, F, F, F, F, F, F, F,
-    F, F, F, F, F, F, F, F, F, F, F, F, F, F, F, F,
-    F, F, F, F, F, F, F, F, F, F, F, F, F, F, F, F,
-];
+/// Whether the octets are these. As their number is written out, the compiler makes of it a compare
+/// of one or two words, and no call. Where it is one of several texts, ask for the length first, with a
+/// `match`: then each of these asks for no length again.
+#[inline(always)]
+pub fn is_text<const N: usize>(octets: &[u8], known: &[u8; N]) -> bool
+    ensures { result ≡ bytes_eq octets.now known.now }
+{
+    match octets.as_array::<N>() {
+        Some(array) => *array == *known,
+        None => false,
+    }
+}

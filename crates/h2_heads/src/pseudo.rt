@@ -6,6 +6,7 @@ ghost use Rattle.h2_heads.specs.Pseudos.{field_of, name_of, pseudo_of};
 ghost use Rattle.h2_heads.specs.Rules.{is_bad_pseudo, known};
 
 use crate::malformed::Message;
+use crate::octets::is_text;
 use crate::values::status_in;
 
 /// A pseudo-field that some message knows (RFC 9113 sections 8.3.1 and 8.3.2).
@@ -23,11 +24,11 @@ pub fn pseudo_of(name: &[u8]) -> Option<Pseudo>
     ensures { result ≡ pseudo_of name.now }
 {
     match name.len() {
-        5 if name == b":path".as_slice() => Some(Pseudo::Path),
-        7 if name == b":method".as_slice() => Some(Pseudo::Method),
-        7 if name == b":scheme".as_slice() => Some(Pseudo::Scheme),
-        7 if name == b":status".as_slice() => Some(Pseudo::Status),
-        10 if name == b":authority".as_slice() => Some(Pseudo::Authority),
+        5 if is_text(name, b":path") => Some(Pseudo::Path),
+        7 if is_text(name, b":method") => Some(Pseudo::Method),
+        7 if is_text(name, b":scheme") => Some(Pseudo::Scheme),
+        7 if is_text(name, b":status") => Some(Pseudo::Status),
+        10 if is_text(name, b":authority") => Some(Pseudo::Authority),
         _ => None,
     }
 }

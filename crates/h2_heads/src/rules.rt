@@ -7,6 +7,7 @@ ghost use Rattle.h2_heads.specs.Rules.{connection_fields, differs, is_bad_length
 
 use crate::malformed::Kind;
 use crate::names::is_named;
+use crate::octets::is_text;
 use crate::values::length_in;
 use hpack_codec::Field;
 
@@ -39,12 +40,12 @@ fn is_special(name: &[u8]) -> bool
     ensures { result ≡ is_special name.now }
 {
     match name.len() {
-        2 => name == b"te".as_slice(),
-        7 => name == b"upgrade".as_slice(),
-        10 => name == b"connection".as_slice() || name == b"keep-alive".as_slice(),
-        14 => name == b"content-length".as_slice(),
-        16 => name == b"proxy-connection".as_slice(),
-        17 => name == b"transfer-encoding".as_slice(),
+        2 => is_text(name, b"te"),
+        7 => is_text(name, b"upgrade"),
+        10 => is_text(name, b"connection") || is_text(name, b"keep-alive"),
+        14 => is_text(name, b"content-length"),
+        16 => is_text(name, b"proxy-connection"),
+        17 => is_text(name, b"transfer-encoding"),
         _ => false,
     }
 }
@@ -53,7 +54,7 @@ fn is_forbidden(field: &Field) -> bool
     ensures { result ≡ is_forbidden field.now }
 {
     is_of_connection(field)
-        || is_named(field, b"te") && field.value.as_slice() != b"trailers".as_slice()
+        || is_named(field, b"te") && !is_text(field.value.as_slice(), b"trailers")
 }
 
 fn is_of_connection(field: &Field) -> bool

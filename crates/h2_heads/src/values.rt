@@ -1,35 +1,51 @@
 // Values of fields, and the numbers in them.
-ghost use Rattle.std.specs.Prelude.{◌≡◌, ◌≤◌, ◌<◌, ◌+◌, ◌^◌, [], ◌∷◌, ◌&&◌, false, length, true, nat_lt, IfSome, IsTrue};
+ghost use Rattle.std.specs.Prelude.{◌≡◌, ◌≤◌, ◌<◌, ◌+◌, ◌-◌, ◌^◌, ◌==◌, [], ◌∷◌, ◌&&◌, ◌||◌, false, length, true, nat_lt, IfSome, IsTrue};
 ghost use Rattle.std.specs.List.{list_any};
 ghost use Rattle.std.specs.Option.{ForSome, SomeIff, option_copied, option_map, option_map_or};
 ghost use Rattle.h2_heads.specs.Numbers.{begins_zero, decimal, is_decimal, is_digit, is_length, is_status, with_digit};
 ghost use Rattle.h2_heads.specs.Passes.{is_low};
-ghost use Rattle.h2_heads.specs.Rules.{is_bad_in_value, is_bad_value, is_blank};
+ghost use Rattle.h2_heads.specs.Rules.{is_bad_in_value, is_bad_value, is_blank, is_blank_at};
 
-use crate::ends::ends;
+use crate::octets::ends;
 
 /// Whether the value has an octet that no value has, or a space or tab at its start or end.
 pub fn is_bad_value(value: &[u8]) -> bool
     ensures { result ≡ is_bad_value value.now }
 {
-    has_bad_octet(value) || is_some_blank(value.first()) || is_some_blank(value.last())
+    if has_low(value) {
+        return has_bad_octet(value) || has_blank_end(value);
+    }
+    has_space_end(value)
+}
+
+fn has_blank_end(value: &[u8]) -> bool
+    ensures { result ≡ (is_blank_at value.now 0 || is_blank_at value.now (length value.now - 1)) }
+{
+    is_some_blank(value.first()) || is_some_blank(value.last())
+}
+
+// Where no octet is low, a blank is a space.
+fn has_space_end(value: &[u8]) -> bool
+    requires { list_any is_low value.now ≡ false }
+    ensures { result ≡ is_bad_value value.now }
+{
+    is_some_space(value.first()) | is_some_space(value.last())
 }
 
 fn has_bad_octet(value: &[u8]) -> bool
     ensures { result ≡ list_any is_bad_in_value value.now }
 {
-    if !has_low(value) {
-        return false;
-    }
     value.iter().any(|octet| is_bad_in_value(*octet))
 }
 
-// Whether some octet is at most CR, as all bad ones are. Most values are looked at by their two
+// Whether some octet is at most CR, as a tab and all bad ones are. Most values are looked at by their two
 // ends.
 fn has_low(value: &[u8]) -> bool
     ensures { result ≡ list_any is_low value.now }
 {
     match value.len() {
+        2..=3 => low_ends(value, 2),
+        4..=7 => low_ends(value, 4),
         8..=16 => low_ends(value, 8),
         17..=32 => low_ends(value, 16),
         33..=64 => low_ends(value, 32),
@@ -63,6 +79,12 @@ fn is_low(octet: u8) -> bool
     ensures { result ≡ is_low octet }
 {
     octet <= b'\r'
+}
+
+fn is_some_space(octet: Option<&u8>) -> bool
+    ensures { result ≡ option_map_or (λ octet. octet == 32) (option_copied octet.entry) false }
+{
+    octet.is_some_and(|octet| *octet == b' ')
 }
 
 fn is_some_blank(octet: Option<&u8>) -> bool

@@ -12,5 +12,4 @@ mod words;
 pub use courses::explain_plain;
 pub use fault::{Fault, LineFault, Mistake};
 pub use fields::{Field, Kind};
-pub use put::put_line_fault;
 pub use wire::explain_wire;

@@ -1,6 +1,5 @@
 // A mistake in words.
-ghost use Rattle.std.specs.Prelude.{◌≡◌, IfOk, OnErr, OnOk};
-ghost use Rattle.flow_notes.specs.Extends.{Extends};
+ghost use Rattle.std.specs.Prelude.{◌≡◌, IfOk};
 
 use crate::fault::{Fault, LineFault, Mistake};
 use crate::fields::{Field, Kind};
@@ -8,6 +7,9 @@ use crate::words::Place;
 use io_ports::{NoMemory, Octets};
 use itoa::Buffer;
 use std::alloc::Global;
+use std::error::Error;
+use std::fmt;
+use std::fmt::Write;
 
 /// The most octets of a line that are shown.
 const SHOWN: usize = 40;
@@ -64,337 +66,309 @@ pub fn at_place(alloc: Global, line: &[u8], place: Option<Place>) -> Result<Faul
     })
 }
 
-/// Appends `line 4, column 6: in: 16,385 octets, at most 16,384`, without a newline: the line, the place, the event, what is
-/// wrong, and what stands there. Running out of memory may leave some of it.
-pub fn put_line_fault(fault: &LineFault, into: &mut Octets) -> Result<(), NoMemory>
-    ensures ok { OnOk result (Extends into.old into.new) }
-    ensures err { OnErr result (Extends into.old into.new) }
-{
-    put_place(fault.line, fault.fault.column, into)?;
-    put_event(&fault.event, into)?;
-    put_mistake(&fault.fault, into)
+/// As `line 4, column 6: in: 16,385 octets, at most 16,384`: the line, the place, the event, what is wrong, and what stands there.
+impl fmt::Display for LineFault {
+    fn fmt<W: Write>(&self, f: &mut fmt::Formatter<W>) -> fmt::Result {
+        write_place(f, self.line, self.fault.column)?;
+        write_event(f, &self.event)?;
+        write_fault(f, &self.fault)
+    }
 }
 
-fn put_place(line: u32, column: Option<usize>, into: &mut Octets) -> Result<(), NoMemory>
-    ensures ok { OnOk result (Extends into.old into.new) }
-    ensures err { OnErr result (Extends into.old into.new) }
-{
-    put_one(into, b"line ", u64::from(line), b"")?;
+impl Error for LineFault {}
+
+/// As `16,385 octets, at most 16,384`: what is wrong, and what stands there.
+impl fmt::Display for Fault {
+    fn fmt<W: Write>(&self, f: &mut fmt::Formatter<W>) -> fmt::Result {
+        write_fault(f, self)
+    }
+}
+
+impl Error for Fault {}
+
+fn write_place<W: Write>(
+    f: &mut fmt::Formatter<W>,
+    line: u32,
+    column: Option<usize>,
+) -> fmt::Result {
+    write_one(f, "line ", u64::from(line), "")?;
     match column {
-        Some(column) => put_one(into, b", column ", column as u64, b": "),
-        None => into.push_all(b": "),
+        Some(column) => write_one(f, ", column ", column as u64, ": "),
+        None => f.write_str(": "),
     }
 }
 
-fn put_event(event: &Option<Octets>, into: &mut Octets) -> Result<(), NoMemory>
-    ensures ok { OnOk result (Extends into.old into.new) }
-    ensures err { OnErr result (Extends into.old into.new) }
-{
-    match event {
-        Some(event) => put_name(event.as_slice(), into),
-        None => Ok(()),
-    }
+// The name of an event is a word of ASCII.
+fn write_event<W: Write>(f: &mut fmt::Formatter<W>, event: &Option<Octets>) -> fmt::Result {
+    let Some(event) = event else {
+        return Ok(());
+    };
+    f.write_str(std::str::from_utf8(event.as_slice()).unwrap_or("an event"))?;
+    f.write_str(": ")
 }
 
-fn put_name(name: &[u8], into: &mut Octets) -> Result<(), NoMemory>
-    ensures ok { OnOk result (Extends into.old into.new) }
-    ensures err { OnErr result (Extends into.old into.new) }
-{
-    into.push_all(name)?;
-    into.push_all(b": ")
-}
-
-fn put_mistake(fault: &Fault, into: &mut Octets) -> Result<(), NoMemory>
-    ensures ok { OnOk result (Extends into.old into.new) }
-    ensures err { OnErr result (Extends into.old into.new) }
-{
+fn write_fault<W: Write>(f: &mut fmt::Formatter<W>, fault: &Fault) -> fmt::Result {
     if let Some(text) = text_of(fault.mistake) {
-        return into.push_all(text);
+        return f.write_str(text);
     }
     let found = fault.found.as_slice();
     if let Some(wanted) = wanted_at(fault.mistake) {
-        return put_expected(into, wanted, found);
+        return write_expected(f, wanted, found);
     }
     match fault.mistake {
-        Mistake::Missing(field) => put_missing(into, field.name.as_bytes()),
-        Mistake::NoNumber(field) => put_expected_number(into, field.name.as_bytes(), found),
-        Mistake::LeadingZero(field) => put_leading_zero(into, field.name.as_bytes(), found),
-        Mistake::OutOfRange(field) => put_out_of_range(into, field, found),
-        Mistake::CapitalDigit => put_wrong(
-            into,
-            b"capital digit in ",
+        Mistake::Missing(field) => write_missing(f, field.name),
+        Mistake::NoNumber(field) => write_expected_number(f, field.name, found),
+        Mistake::LeadingZero(field) => write_leading_zero(f, field.name, found),
+        Mistake::OutOfRange(field) => write_out_of_range(f, field, found),
+        Mistake::CapitalDigit => write_wrong(
+            f,
+            "capital digit in ",
             found,
-            b"; the hexadecimal digits are 0 to 9 and a to f",
+            "; the hexadecimal digits are 0 to 9 and a to f",
         ),
-        Mistake::OddDigits => put_wrong(
-            into,
-            b"an odd number of digits in ",
+        Mistake::OddDigits => write_wrong(
+            f,
+            "an odd number of digits in ",
             found,
-            b"; an octet has two",
+            "; an octet has two",
         ),
-        Mistake::TooMany(n) => put_counted(into, n as u64, b" octets, at most 16,384"),
-        Mistake::NoCluster => put_wrong(into, b"the configuration has no cluster ", found, b""),
-        Mistake::Behind => put_wrong(into, b"the line should end before ", found, b""),
-        Mistake::Unspelled => put_wrong(into, b"no line of the format: ", found, b""),
-        _ => put_order(fault.mistake, into),
+        Mistake::TooMany(n) => write_counted(f, n as u64, " octets, at most 16,384"),
+        Mistake::NoCluster => write_wrong(f, "the configuration has no cluster ", found, ""),
+        Mistake::Behind => write_wrong(f, "the line should end before ", found, ""),
+        Mistake::Unspelled => write_wrong(f, "no line of the format: ", found, ""),
+        _ => write_order(f, fault.mistake),
     }
 }
 
 // The mistakes that a text tells whole.
-fn text_of(mistake: Mistake) -> Option<&'static [u8]> {
+fn text_of(mistake: Mistake) -> Option<&'static str> {
     match mistake {
-        Mistake::Cut => Some(b"ends without a newline"),
-        Mistake::NoHeader => Some(b"the session ends before its header"),
-        Mistake::NoLimits => Some(b"the session ends before its limits"),
-        Mistake::Long => Some(b"more than 40,000 octets"),
+        Mistake::Cut => Some("ends without a newline"),
+        Mistake::NoHeader => Some("the session ends before its header"),
+        Mistake::NoLimits => Some("the session ends before its limits"),
+        Mistake::Long => Some("more than 40,000 octets"),
         Mistake::CarriageReturn => {
-            Some(b"ends with a carriage return (CRLF); a line ends with a newline alone")
+            Some("ends with a carriage return (CRLF); a line ends with a newline alone")
         }
-        Mistake::Empty => Some(b"is empty"),
-        Mistake::WireHeader => Some(b"this is a wire session, which h2replay wire CONFIG replays"),
-        Mistake::PlainHeader => Some(b"this is a plain session, which h2replay plain replays"),
-        Mistake::Space => Some(b"one space stands between two words, and none at the end"),
+        Mistake::Empty => Some("is empty"),
+        Mistake::WireHeader => Some("this is a wire session, which h2replay wire CONFIG replays"),
+        Mistake::PlainHeader => Some("this is a plain session, which h2replay plain replays"),
+        Mistake::Space => Some("one space stands between two words, and none at the end"),
         _ => None,
     }
 }
 
 // What should stand in place of the words that do.
-fn wanted_at(mistake: Mistake) -> Option<&'static [u8]> {
+fn wanted_at(mistake: Mistake) -> Option<&'static str> {
     match mistake {
-        Mistake::NoPlainHeader => Some(b"h2replay-session 1 plain or h2replay-session 2 plain"),
-        Mistake::NoWireHeader => Some(b"h2replay-session 1 wire"),
-        Mistake::NoPlainEvent => Some(b"open, pair, in, end, reset or room"),
-        Mistake::NoWireEvent => Some(b"accept, join, read, gone, room, tick, post or obey"),
-        Mistake::NoLimitsLine => Some(b"limits"),
-        Mistake::NoHexDigit => Some(b"hexadecimal digits 0 to 9 and a to f"),
-        Mistake::NoJob => Some(b"drain, cancel or look"),
+        Mistake::NoPlainHeader => Some("h2replay-session 1 plain or h2replay-session 2 plain"),
+        Mistake::NoWireHeader => Some("h2replay-session 1 wire"),
+        Mistake::NoPlainEvent => Some("open, pair, in, end, reset or room"),
+        Mistake::NoWireEvent => Some("accept, join, read, gone, room, tick, post or obey"),
+        Mistake::NoLimitsLine => Some("limits"),
+        Mistake::NoHexDigit => Some("hexadecimal digits 0 to 9 and a to f"),
+        Mistake::NoJob => Some("drain, cancel or look"),
         _ => None,
     }
 }
 
 // The mistakes of lines that may not follow those before them.
-fn put_order(mistake: Mistake, into: &mut Octets) -> Result<(), NoMemory>
-    ensures ok { OnOk result (Extends into.old into.new) }
-    ensures err { OnErr result (Extends into.old into.new) }
-{
+fn write_order<W: Write>(f: &mut fmt::Formatter<W>, mistake: Mistake) -> fmt::Result {
     match mistake {
-        Mistake::NoStream { stream } => put_stream(into, stream, b" was never opened"),
-        Mistake::Ended { stream } => put_stream(into, stream, b" has ended"),
-        Mistake::Reset { stream } => put_stream(into, stream, b" was reset"),
-        Mistake::Itself { stream } => put_stream(into, stream, b" can't be paired with itself"),
-        Mistake::Paired { stream } => put_stream(into, stream, b" has a pair"),
+        Mistake::NoStream { stream } => write_stream(f, stream, " was never opened"),
+        Mistake::Ended { stream } => write_stream(f, stream, " has ended"),
+        Mistake::Reset { stream } => write_stream(f, stream, " was reset"),
+        Mistake::Itself { stream } => write_stream(f, stream, " can't be paired with itself"),
+        Mistake::Paired { stream } => write_stream(f, stream, " has a pair"),
         Mistake::NoConnection { conn } => {
-            put_conn(into, b"connection ", conn, b" was never accepted or joined")
+            write_conn(f, "connection ", conn, " was never accepted or joined")
         }
         Mistake::Lost { conn } => {
-            put_conn(
-                into,
-                b"connection ",
+            write_conn(
+                f,
+                "connection ",
                 conn,
-                b" is gone, or was never accepted or joined",
+                " is gone, or was never accepted or joined",
             )
         }
-        Mistake::Paused { conn } => put_conn(
-            into,
-            b"the flow from connection ",
+        Mistake::Paused { conn } => write_conn(
+            f,
+            "the flow from connection ",
             conn,
-            b" is paused, so nothing may be read of it",
+            " is paused, so nothing may be read of it",
         ),
-        _ => put_against(mistake, into),
+        _ => write_against(f, mistake),
     }
 }
 
-fn put_stream(into: &mut Octets, stream: u32, behind: &[u8]) -> Result<(), NoMemory>
-    ensures ok { OnOk result (Extends into.old into.new) }
-    ensures err { OnErr result (Extends into.old into.new) }
-{
-    put_one(into, b"stream ", u64::from(stream), behind)
+fn write_stream<W: Write>(f: &mut fmt::Formatter<W>, stream: u32, behind: &str) -> fmt::Result {
+    write_one(f, "stream ", u64::from(stream), behind)
 }
 
-fn put_conn(into: &mut Octets, before: &[u8], conn: u32, behind: &[u8]) -> Result<(), NoMemory>
-    ensures ok { OnOk result (Extends into.old into.new) }
-    ensures err { OnErr result (Extends into.old into.new) }
-{
-    put_one(into, before, u64::from(conn), behind)
+fn write_conn<W: Write>(
+    f: &mut fmt::Formatter<W>,
+    before: &str,
+    conn: u32,
+    behind: &str,
+) -> fmt::Result {
+    write_one(f, before, u64::from(conn), behind)
 }
 
 // The mistakes that two numbers tell.
-fn put_against(mistake: Mistake, into: &mut Octets) -> Result<(), NoMemory>
-    ensures ok { OnOk result (Extends into.old into.new) }
-    ensures err { OnErr result (Extends into.old into.new) }
-{
+fn write_against<W: Write>(f: &mut fmt::Formatter<W>, mistake: Mistake) -> fmt::Result {
     match mistake {
-        Mistake::OldStream { stream, greatest } => put_two(
-            into,
-            b"stream ",
+        Mistake::OldStream { stream, greatest } => write_two(
+            f,
+            "stream ",
             u64::from(stream),
-            b" isn't greater than stream ",
+            " isn't greater than stream ",
             u64::from(greatest),
         ),
-        Mistake::OldConnection { conn, greatest } => put_two(
-            into,
-            b"connection ",
+        Mistake::OldConnection { conn, greatest } => write_two(
+            f,
+            "connection ",
             u64::from(conn),
-            b" isn't greater than connection ",
+            " isn't greater than connection ",
             u64::from(greatest),
         ),
-        Mistake::OtherPost { poster, next, .. } => put_two(
-            into,
-            b"the next post of poster ",
+        Mistake::OtherPost { poster, next, .. } => write_two(
+            f,
+            "the next post of poster ",
             u64::from(poster),
-            b" has the number ",
+            " has the number ",
             next,
         ),
-        Mistake::OldVersion { version, greatest } => put_two(
-            into,
-            b"version ",
+        Mistake::OldVersion { version, greatest } => write_two(
+            f,
+            "version ",
             version,
-            b" isn't greater than version ",
+            " isn't greater than version ",
             greatest,
         ),
-        Mistake::Pressures { found, resources } => put_two(
-            into,
-            b"pressures: ",
+        Mistake::Pressures { found, resources } => write_two(
+            f,
+            "pressures: ",
             found as u64,
-            b" stand here, resources: ",
+            " stand here, resources: ",
             resources as u64,
         ),
         _ => Ok(()),
     }
 }
 
-fn put_one(into: &mut Octets, before: &[u8], n: u64, behind: &[u8]) -> Result<(), NoMemory>
-    ensures ok { OnOk result (Extends into.old into.new) }
-    ensures err { OnErr result (Extends into.old into.new) }
-{
-    into.push_all(before)?;
-    put_number(into, n)?;
-    into.push_all(behind)
+fn write_one<W: Write>(
+    f: &mut fmt::Formatter<W>,
+    before: &str,
+    n: u64,
+    behind: &str,
+) -> fmt::Result {
+    f.write_str(before)?;
+    f.write(n)?;
+    f.write_str(behind)
 }
 
-fn put_two(into: &mut Octets, before: &[u8], n: u64, between: &[u8], m: u64) -> Result<(), NoMemory>
-    ensures ok { OnOk result (Extends into.old into.new) }
-    ensures err { OnErr result (Extends into.old into.new) }
-{
-    put_one(into, before, n, between)?;
-    put_number(into, m)
+fn write_two<W: Write>(
+    f: &mut fmt::Formatter<W>,
+    before: &str,
+    n: u64,
+    between: &str,
+    m: u64,
+) -> fmt::Result {
+    write_one(f, before, n, between)?;
+    f.write(m)
 }
 
-fn put_counted(into: &mut Octets, n: u64, behind: &[u8]) -> Result<(), NoMemory>
-    ensures ok { OnOk result (Extends into.old into.new) }
-    ensures err { OnErr result (Extends into.old into.new) }
-{
-    put_grouped(into, n)?;
-    into.push_all(behind)
+fn write_counted<W: Write>(f: &mut fmt::Formatter<W>, n: u64, behind: &str) -> fmt::Result {
+    write_grouped(f, n)?;
+    f.write_str(behind)
 }
 
-fn put_wrong(into: &mut Octets, before: &[u8], found: &[u8], behind: &[u8]) -> Result<(), NoMemory>
-    ensures ok { OnOk result (Extends into.old into.new) }
-    ensures err { OnErr result (Extends into.old into.new) }
-{
-    into.push_all(before)?;
-    put_shown(into, found)?;
-    into.push_all(behind)
+fn write_wrong<W: Write>(
+    f: &mut fmt::Formatter<W>,
+    before: &str,
+    found: &[u8],
+    behind: &str,
+) -> fmt::Result {
+    f.write_str(before)?;
+    write_shown(f, found)?;
+    f.write_str(behind)
 }
 
-fn put_expected(into: &mut Octets, wanted: &[u8], found: &[u8]) -> Result<(), NoMemory>
-    ensures ok { OnOk result (Extends into.old into.new) }
-    ensures err { OnErr result (Extends into.old into.new) }
-{
-    into.push_all(wanted)?;
-    put_wrong(into, b" expected, not ", found, b"")
+fn write_expected<W: Write>(f: &mut fmt::Formatter<W>, wanted: &str, found: &[u8]) -> fmt::Result {
+    f.write_str(wanted)?;
+    write_wrong(f, " expected, not ", found, "")
 }
 
-fn put_missing(into: &mut Octets, field: &[u8]) -> Result<(), NoMemory>
-    ensures ok { OnOk result (Extends into.old into.new) }
-    ensures err { OnErr result (Extends into.old into.new) }
-{
-    into.push_all(field)?;
-    into.push_all(b" expected, and the line ends")
+fn write_missing<W: Write>(f: &mut fmt::Formatter<W>, field: &str) -> fmt::Result {
+    f.write_str(field)?;
+    f.write_str(" expected, and the line ends")
 }
 
-fn put_expected_number(into: &mut Octets, field: &[u8], found: &[u8]) -> Result<(), NoMemory>
-    ensures ok { OnOk result (Extends into.old into.new) }
-    ensures err { OnErr result (Extends into.old into.new) }
-{
-    into.push_all(field)?;
-    put_wrong(into, b" expected, a number, not ", found, b"")
+fn write_expected_number<W: Write>(
+    f: &mut fmt::Formatter<W>,
+    field: &str,
+    found: &[u8],
+) -> fmt::Result {
+    f.write_str(field)?;
+    write_wrong(f, " expected, a number, not ", found, "")
 }
 
-fn put_leading_zero(into: &mut Octets, field: &[u8], found: &[u8]) -> Result<(), NoMemory>
-    ensures ok { OnOk result (Extends into.old into.new) }
-    ensures err { OnErr result (Extends into.old into.new) }
-{
-    into.push_all(field)?;
-    put_wrong(into, b" begins with a zero: ", found, b"")
+fn write_leading_zero<W: Write>(
+    f: &mut fmt::Formatter<W>,
+    field: &str,
+    found: &[u8],
+) -> fmt::Result {
+    f.write_str(field)?;
+    write_wrong(f, " begins with a zero: ", found, "")
 }
 
-fn put_out_of_range(into: &mut Octets, field: Field, found: &[u8]) -> Result<(), NoMemory>
-    ensures ok { OnOk result (Extends into.old into.new) }
-    ensures err { OnErr result (Extends into.old into.new) }
-{
-    put_beyond(into, field.name.as_bytes(), found)?;
+fn write_out_of_range<W: Write>(
+    f: &mut fmt::Formatter<W>,
+    field: Field,
+    found: &[u8],
+) -> fmt::Result {
+    write_beyond(f, field.name, found)?;
     match field.kind {
-        Kind::Number { least, most } => put_range(into, least, most),
+        Kind::Number { least, most } => write_range(f, least, most),
         _ => Ok(()),
     }
 }
 
-fn put_beyond(into: &mut Octets, field: &[u8], found: &[u8]) -> Result<(), NoMemory>
-    ensures ok { OnOk result (Extends into.old into.new) }
-    ensures err { OnErr result (Extends into.old into.new) }
-{
-    into.push_all(field)?;
-    put_wrong(into, b" is ", found, b", and may be ")
+fn write_beyond<W: Write>(f: &mut fmt::Formatter<W>, field: &str, found: &[u8]) -> fmt::Result {
+    f.write_str(field)?;
+    write_wrong(f, " is ", found, ", and may be ")
 }
 
-fn put_range(into: &mut Octets, least: u64, most: u64) -> Result<(), NoMemory>
-    ensures ok { OnOk result (Extends into.old into.new) }
-    ensures err { OnErr result (Extends into.old into.new) }
-{
-    put_grouped(into, least)?;
-    into.push_all(b" to ")?;
-    put_grouped(into, most)
+fn write_range<W: Write>(f: &mut fmt::Formatter<W>, least: u64, most: u64) -> fmt::Result {
+    write_grouped(f, least)?;
+    f.write_str(" to ")?;
+    write_grouped(f, most)
 }
 
-// Appends octets in quotes; those that no letter, digit or sign of ASCII are as a question mark.
-fn put_shown(into: &mut Octets, found: &[u8]) -> Result<(), NoMemory>
-    ensures ok { OnOk result (Extends into.old into.new) }
-    ensures err { OnErr result (Extends into.old into.new) }
-{
-    into.push_all(b"\"")?;
+// Octets in quotes; those that no letter, digit or sign of ASCII are as a question mark.
+fn write_shown<W: Write>(f: &mut fmt::Formatter<W>, found: &[u8]) -> fmt::Result {
+    f.write_str("\"")?;
     for octet in found {
         let shown = if matches!(*octet, 0x20..=0x7e) {
             *octet
         } else {
             b'?'
         };
-        into.push_all(&[shown])?;
+        f.write_char(char::from(shown))?;
     }
-    into.push_all(b"\"")
+    f.write_str("\"")
 }
 
-fn put_number(into: &mut Octets, n: u64) -> Result<(), NoMemory>
-    ensures ok { OnOk result (Extends into.old into.new) }
-    ensures err { OnErr result (Extends into.old into.new) }
-{
-    let mut digits = Buffer::new();
-    into.push_all(digits.format(n).as_bytes())
-}
-
-// Appends a number with a comma before each three digits at its end.
-fn put_grouped(into: &mut Octets, n: u64) -> Result<(), NoMemory>
-    ensures ok { OnOk result (Extends into.old into.new) }
-    ensures err { OnErr result (Extends into.old into.new) }
-{
+// A number with a comma before each three digits at its end.
+fn write_grouped<W: Write>(f: &mut fmt::Formatter<W>, n: u64) -> fmt::Result {
     let mut digits = Buffer::new();
     let digits = digits.format(n).as_bytes();
     let mut left = digits.len();
     for digit in digits {
-        into.push_all(&[*digit])?;
+        f.write_char(char::from(*digit))?;
         left = left.saturating_sub(1);
         if left > 0 && left % 3 == 0 {
-            into.push_all(b",")?;
+            f.write_str(",")?;
         }
     }
     Ok(())

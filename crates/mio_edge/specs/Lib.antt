@@ -1,6 +1,5 @@
 pub mod Dialers
 pub mod Doors
-pub mod Gathers
 pub mod Plans
 pub mod Rolls
 pub mod Sockets

@@ -2,8 +2,8 @@
 ghost use Rattle.std.specs.Prelude.{◌≡◌, ◌&&◌, IfNone, IfSome, nat_le, nat_lt, true};
 ghost use Rattle.mio_edge.specs.Doors.{Misses, SameDoor, may_wait, shut_until};
 
+use crate::fault::tell_refused;
 use crate::inlet::Inlet;
-use crate::tell::tell_refused;
 use mio::net::TcpStream;
 use std::io::{Eprint, Error, ErrorKind};
 

@@ -2,11 +2,9 @@
 ghost use Rattle.std.specs.Prelude.{◌≡◌, ◌≤◌, ◌||◌, length};
 ghost use Rattle.mio_edge.specs.Stalls.{stalled_since, is_stuck};
 
-use crate::gathered::Gathered;
 use mio::event::Event;
 use mio::net::TcpStream;
-use std::alloc::Global;
-use std::io::{ErrorKind, IoSlice, Read};
+use std::io::{ErrorKind, Read, Write};
 
 /// What a read found.
 #[derive(Clone, Copy, Debug, PartialEq, Eq)]
@@ -48,18 +46,16 @@ impl Origin {
 #[derive(Drop)]
 pub(crate) struct Link {
     stream: TcpStream,
-    /// What it took and what isn't sent yet.
-    gathered: Gathered,
     pub origin: Origin,
     /// Whether its octets aren't to be read.
     pub held: bool,
     /// Whether it stands among those that are to be looked at.
     pub queued: bool,
-    /// Whether it stands among those that gathered octets.
-    pub gathers: bool,
+    /// Whether it left what it was offered, to be offered it again at the end of the round.
+    pub left: bool,
     /// Whether a read may find something.
     readable: bool,
-    /// Whether a write may take something.
+    /// Whether the system may take something.
     writable: bool,
     /// Whether the peer sends no more. Reads go on until they find the end, since no event tells of it again.
     ending: bool,
@@ -75,14 +71,13 @@ pub(crate) struct Link {
 
 impl Link {
     /// A socket that is connected.
-    pub fn new(alloc: Global, stream: TcpStream, origin: Origin) -> Self {
+    pub fn new(stream: TcpStream, origin: Origin) -> Self {
         Link {
             stream,
-            gathered: Gathered::new(alloc),
             origin,
             held: false,
             queued: false,
-            gathers: false,
+            left: false,
             readable: false,
             writable: true,
             ending: false,
@@ -146,53 +141,23 @@ impl Link {
         }
     }
 
-    /// Takes a front of a piece, and answers how many octets. Few are gathered, until `send`, many are sent at once. While the peer
-    /// doesn't read this costs no call. A block of memory is taken from the spare one, and put there again.
-    pub fn take(&mut self, piece: &[u8], spare: &mut Vec<u8>) -> usize
+    /// Whether a write may take something.
+    pub fn may_send(&self) -> bool {
+        self.writable && !self.broken
+    }
+
+    /// Writes once, and answers how many octets of the piece went. While the peer doesn't read this costs no call.
+    pub fn write(&mut self, piece: &[u8]) -> usize
         ensures { result ≤ length piece.now }
     {
         if !self.may_send() {
             return 0;
         }
-        if self.gathered.take(piece, spare) {
-            return piece.len();
-        }
-        self.write(piece, spare)
-    }
-
-    /// Sends what was gathered, as far as the peer takes it.
-    pub fn send(&mut self, spare: &mut Vec<u8>) {
-        if self.is_sendable() {
-            self.write(&[], spare);
-        }
-    }
-
-    /// Whether octets are gathered that can be sent.
-    pub fn is_sendable(&self) -> bool {
-        self.may_send() && !self.gathered.unsent().is_empty()
-    }
-
-    fn may_send(&self) -> bool {
-        self.writable && !self.broken
-    }
-
-    // Writes what was gathered and a piece behind it, in one call. Answers how many octets of the piece went.
-    fn write(&mut self, piece: &[u8], spare: &mut Vec<u8>) -> usize
-        ensures { result ≤ length piece.now }
-    {
-        let first = self.gathered.unsent();
-        let gathered = first.len();
-        match self
-            .stream
-            .write_vectored(&[IoSlice::new(first), IoSlice::new(piece)])
-        {
+        match self.stream.write(piece) {
             Ok(n) => {
-                self.writable = n == gathered.saturating_add(piece.len());
+                self.writable = n == piece.len();
                 self.sent = true;
-                if let Some(block) = self.gathered.leave(n.min(gathered)) {
-                    keep(spare, block);
-                }
-                n.saturating_sub(gathered)
+                n
             }
             Err(error) => {
                 self.refused(error.kind());
@@ -233,19 +198,12 @@ impl Link {
         }
     }
 
-    /// The socket and what is to be sent there still, where its peer may have to get octets: it is to be parted from gently.
-    pub fn into_parting(self) -> Option<(TcpStream, Gathered)> {
-        if (self.sent || !self.gathered.unsent().is_empty()) && !self.broken {
-            Some((self.stream, self.gathered))
+    /// The socket, where its peer may still have to get octets: it is to be parted from gently.
+    pub fn into_parting(self) -> Option<TcpStream> {
+        if self.sent && !self.broken {
+            Some(self.stream)
         } else {
             None
         }
-    }
-}
-
-// Of two blocks the one with more room is spare from now on.
-fn keep(spare: &mut Vec<u8>, block: Vec<u8>) {
-    if block.capacity() > spare.capacity() {
-        *spare = block;
     }
 }

@@ -6,6 +6,10 @@ use io_ports::NoMemory;
 use mio::event::Event;
 use std::alloc::Global;
 use std::collections::{BTreeMap, VecDeque};
+use std::mem;
+
+/// So many octets are sent at once, without a wait for what may come behind them.
+const MANY: usize = 65_536;
 
 /// The sockets of the live connections.
 #[derive(Drop)]
@@ -13,10 +17,8 @@ pub(crate) struct Links {
     live: BTreeMap<u32, Link>,
     /// The numbers of those that are to be looked at, each once, and of some that are live no more.
     due: VecDeque<u32>,
-    /// The numbers of those that gathered octets, each once, and of some that are live no more.
-    gathering: VecDeque<u32>,
-    /// A block of memory for the next that gathers many octets.
-    spare: Vec<u8>,
+    /// Whether one left what it was offered for the end of the round.
+    waiting: bool,
     /// How many were made by clients.
     clients: u32,
     /// For how long it is borne that one takes nothing of what waits for it, in milliseconds.
@@ -29,8 +31,7 @@ impl Links {
         Links {
             live: BTreeMap::new(alloc),
             due: VecDeque::new(alloc),
-            gathering: VecDeque::new(alloc),
-            spare: Vec::new(alloc),
+            waiting: false,
             clients: 0,
             patience,
         }
@@ -46,13 +47,12 @@ impl Links {
         !self.due.is_empty()
     }
 
-    /// Takes in the socket of a connection. Room is taken for its place among those that are to be looked at, and among those that
-    /// gathered octets. After running out of memory nothing has changed, and the socket is closed.
+    /// Takes in the socket of a connection. Room is taken for its place among those that are to be looked at. After running out of
+    /// memory nothing has changed, and the socket is closed.
     pub fn come(&mut self, conn: u32, link: Link) -> Result<(), NoMemory> {
         let is_client = link.origin == Origin::Client;
         let most = self.live.len().saturating_add(1);
         self.due.reserve(most)?;
-        self.gathering.reserve(most)?;
         self.live.insert(conn, link)?;
         if is_client {
             self.clients = self.clients.saturating_add(1);
@@ -76,7 +76,6 @@ impl Links {
         };
         link.on_event(event);
         queue(&mut self.due, conn, link);
-        gather(&mut self.gathering, conn, link);
         true
     }
 
@@ -89,38 +88,41 @@ impl Links {
         cluster
     }
 
-    /// A connection takes a front of a piece, at a moment in milliseconds. Answers how many octets. Only connections for which octets
-    /// wait are offered some, each once a turn, so only those are looked at for a stall.
-    pub fn take(&mut self, conn: u32, piece: &[u8], now: u64) -> usize
+    /// A connection takes a front of a piece, at a moment in milliseconds, and sends it in one call. Answers how many octets. Where it
+    /// isn't the end of the round it leaves a piece that isn't large, since more may come behind it until then. Only connections for
+    /// which octets wait are offered some, each once a turn, so only those are looked at for a stall.
+    pub fn take(&mut self, conn: u32, piece: &[u8], now: u64, is_end: bool) -> usize
         ensures { result ≤ length piece.now }
     {
         let Some(link) = self.live.get_mut(&conn) else {
             return 0;
         };
-        let n = link.take(piece, &mut self.spare);
+        link.left = !is_end && piece.len() < MANY && link.may_send();
+        if link.left {
+            self.waiting = true;
+            return 0;
+        }
+        let n = link.write(piece);
         link.track_stall(n, now, self.patience);
         queue(&mut self.due, conn, link);
-        gather(&mut self.gathering, conn, link);
         n
     }
 
-    /// Sends what the connections gathered, as far as their peers take it.
-    pub fn send_all(&mut self) {
-        for _ in 0..self.gathering.len() {
-            let Some(conn) = self.gathering.pop_front() else {
-                return;
-            };
-            if let Some(link) = self.live.get_mut(&conn) {
-                link.gathers = false;
-                link.send(&mut self.spare);
-                queue(&mut self.due, conn, link);
-            }
-        }
+    /// Whether a connection left what it was offered for the end of the round, which is now. This is told once.
+    pub fn end_wait(&mut self) -> bool {
+        mem::replace(&mut self.waiting, false)
     }
 
-    /// Sends what a connection that has left gathered, as far as its peer takes it.
-    pub fn send_rest(&mut self, link: &mut Link) {
-        link.send(&mut self.spare);
+    /// Whether this connection did. This is told once, and the connection is to be looked at again then.
+    pub fn has_left(&mut self, conn: u32) -> bool {
+        let Some(link) = self.live.get_mut(&conn) else {
+            return false;
+        };
+        let left = mem::replace(&mut link.left, false);
+        if left {
+            queue(&mut self.due, conn, link);
+        }
+        left
     }
 
     /// The connection that is to be looked at next.
@@ -153,13 +155,6 @@ impl Links {
 fn queue(due: &mut VecDeque<u32>, conn: u32, link: &mut Link) {
     if link.is_due() && !link.queued {
         link.queued = due.push_back(conn).is_ok();
-    }
-}
-
-// A connection stands among those that gathered octets, if some can be sent. Its room was taken when it came.
-fn gather(gathering: &mut VecDeque<u32>, conn: u32, link: &mut Link) {
-    if link.is_sendable() && !link.gathers {
-        link.gathers = gathering.push_back(conn).is_ok();
     }
 }
 

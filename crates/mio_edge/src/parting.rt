@@ -1,12 +1,11 @@
 // Sockets of closed connections whose peers still have to get octets.
 
-use crate::gathered::Gathered;
 use crate::link::ReadOutcome;
 use mio::event::Event;
 use mio::net::TcpStream;
 use std::alloc::Global;
 use std::collections::VecDeque;
-use std::io::{ErrorKind, Read, Write};
+use std::io::{ErrorKind, Read};
 use std::net::Shutdown;
 
 /// How many closed connections are parted from gently at once; further ones are closed at once.
@@ -24,45 +23,7 @@ const MOST_READS: u32 = 64;
 struct Parting {
     conn: u32,
     stream: TcpStream,
-    /// What is to be sent still.
-    rest: Gathered,
-    /// Whether the peer was told that no more comes.
-    told: bool,
     until: u64,
-}
-
-impl Parting {
-    // Sends the rest, then tells the peer that no more comes, and drops what it sends. Answers whether it is over. While some of the rest
-    // waits, what the peer sends is left alone, even its end: it may take the rest all the same.
-    fn is_over(&mut self, block: &mut [u8]) -> bool {
-        if !self.told && (!self.send_rest() || !self.tell_end()) {
-            return true;
-        }
-        self.told && is_drained(&mut self.stream, block)
-    }
-
-    // Answers whether the peer may still take some.
-    fn send_rest(&mut self) -> bool {
-        if self.rest.unsent().is_empty() {
-            return true;
-        }
-        match self.stream.write(self.rest.unsent()) {
-            Ok(n) => {
-                let _ = self.rest.leave(n);
-                true
-            }
-            Err(error) => error.kind() == ErrorKind::WouldBlock,
-        }
-    }
-
-    // Once all is sent the peer is told. Answers whether that didn't fail.
-    fn tell_end(&mut self) -> bool {
-        if self.rest.unsent().is_empty() {
-            self.told = self.stream.shutdown(Shutdown::Write).is_ok();
-            return self.told;
-        }
-        true
-    }
 }
 
 /// Sockets of closed connections, in the order in which they were closed.
@@ -78,27 +39,20 @@ impl Partings {
         }
     }
 
-    /// Sends the rest to a peer and then no more, and drops what it sends, until it ends or the time is up.
-    pub fn begin(
-        &mut self,
-        conn: u32,
-        stream: TcpStream,
-        rest: Gathered,
-        now: u64,
-        block: &mut [u8],
-    ) {
-        let mut parting = Parting {
-            conn,
-            stream,
-            rest,
-            told: false,
-            until: now.saturating_add(LONGEST),
-        };
-        if parting.is_over(block) || self.all.len() >= MOST_PARTINGS {
+    /// Sends no more to a peer, and drops what it sends, until it ends or the time is up.
+    pub fn begin(&mut self, conn: u32, mut stream: TcpStream, now: u64, block: &mut [u8]) {
+        if self.all.len() >= MOST_PARTINGS
+            || stream.shutdown(Shutdown::Write).is_err()
+            || is_over(&mut stream, block)
+        {
             return;
         }
         // Out of memory the socket is closed at once.
-        let _ = self.all.push_back(parting);
+        let _ = self.all.push_back(Parting {
+            conn,
+            stream,
+            until: now.saturating_add(LONGEST),
+        });
     }
 
     /// The system tells something of a closed connection.
@@ -109,7 +63,7 @@ impl Partings {
         let Some(parting) = self.all.get_mut(place) else {
             return;
         };
-        if event.is_error() || parting.is_over(block) {
+        if event.is_error() || is_over(&mut parting.stream, block) {
             let _ = self.all.remove(place);
         }
     }
@@ -127,7 +81,7 @@ impl Partings {
 }
 
 // Drops what came, and answers whether the peer has ended, failed, or sends too much.
-fn is_drained(stream: &mut TcpStream, block: &mut [u8]) -> bool {
+fn is_over(stream: &mut TcpStream, block: &mut [u8]) -> bool {
     for _ in 0..MOST_READS {
         match drop_once(stream, block) {
             ReadOutcome::Octets(_) => {}

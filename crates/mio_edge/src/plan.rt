@@ -1,8 +1,11 @@
 // What the sockets are to be.
-ghost use Rattle.std.specs.Prelude.{◌≡◌, ◌-◌, ◌^◌, min};
-ghost use Rattle.mio_edge.specs.Plans.{files_of, patience_of};
+ghost use Rattle.std.specs.Net.Grammar.{IsSocketText};
+ghost use Rattle.std.specs.Prelude.{◌≡◌, ◌-◌, ◌^◌, IfNone, IfSome, min};
+ghost use Rattle.mio_edge.specs.Plans.{SpellsNone, files_of, patience_of};
 
 use crate::parting::MOST_PARTINGS;
+use libc::RLIMIT_NOFILE;
+use libc::types::rlimit;
 use std::net::SocketAddr;
 
 /// How many files are open beside the connections: standard streams, a journal, the listener and the poll.
@@ -67,5 +70,26 @@ impl Plan {
             .saturating_add(ready)
             .saturating_add(MOST_PARTINGS as u64)
             .saturating_add(OTHER_FILES)
+    }
+}
+
+/// The address and port that a text spells, as `127.0.0.1:8080` or `[::1]:8080`, if it spells one. Names aren't looked up.
+pub fn read_address(text: &[u8]) -> Option<SocketAddr>
+    ensures some { IfSome result (IsSocketText text.now) }
+    ensures none { IfNone result (SpellsNone text.now) }
+{
+    SocketAddr::parse_ascii(text).ok()
+}
+
+/// How many files the process may have open at once, sockets among them, where the system tells it.
+pub fn open_files() -> Option<u64> {
+    let mut limit = rlimit {
+        rlim_cur: 0,
+        rlim_max: 0,
+    };
+    if libc::getrlimit(RLIMIT_NOFILE, &mut limit) == 0 {
+        Some(limit.rlim_cur)
+    } else {
+        None
     }
 }

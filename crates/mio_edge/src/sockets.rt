@@ -3,13 +3,12 @@ ghost use Rattle.std.specs.Prelude.{◌≤◌, length};
 
 use crate::dialing::Dialing;
 use crate::door::Door;
-use crate::fault::EdgeFault;
+use crate::fault::{EdgeFault, tell_wait};
 use crate::inlet::Inlet;
 use crate::link::{Link, Origin, ReadOutcome};
 use crate::links::Links;
 use crate::parting::Partings;
 use crate::plan::{Plan, Sharing};
-use crate::tell::tell_wait;
 use io_ports::{Failed, NoMemory, Octets};
 use mio::net::TcpStream;
 use mio::{Events, Interest, Poll, Token};
@@ -60,6 +59,8 @@ pub(crate) struct Sockets<R: Clock + Net + Drop, I: Inlet + Drop> {
     /// How many clients may come in still, all of which waited when this round began.
     accepts_left: u64,
     looks_left: u32,
+    /// Whether this round gives nothing more, so that connections take what they are offered.
+    is_end: bool,
     /// Whether a connection took all that it was offered, so that it may be offered more at once.
     took_all: bool,
 }
@@ -84,14 +85,17 @@ impl<R: Clock + Net + Eprint + Drop, I: Inlet + Drop> Sockets<R, I> {
             now: 0,
             accepts_left: 0,
             looks_left: 0,
+            is_end: true,
             took_all: true,
         })
     }
 
     /// What comes next, after a wait where nothing is there; `Idle` where still nothing is. A connection that comes gets the
     /// number that is handed in. Once no number is left nobody can come any more, and it is over. A client that comes while it waits
-    /// is given by the next call: who calls has learnt by then of all that was published before the client was let through.
+    /// is given by the next call: who calls has learnt by then of all that was published before the client was let through. Before
+    /// a wait, where a connection left what it was offered, it is `Idle` too, so that it is offered that again.
     pub fn next(&mut self, number: Option<u32>) -> Result<Wired, WireRefusal> {
+        self.is_end = true;
         let Some(number) = number else {
             return Ok(Wired::Stop);
         };
@@ -99,37 +103,36 @@ impl<R: Clock + Net + Eprint + Drop, I: Inlet + Drop> Sockets<R, I> {
             return Ok(Wired::Stop);
         }
         match self.give(number) {
-            Ok(Some(wired)) => return Ok(wired),
+            Ok(Some(wired)) => return Ok(self.given(wired)),
             Ok(None) => {}
             Err(NoMemory) => return Err(WireRefusal::NoMemory),
+        }
+        if self.links.end_wait() {
+            return Ok(Wired::Idle);
         }
         if self.begin_round().is_err() {
             return Err(WireRefusal::Failed);
         }
         if let Some(wired) = self.give_join(number) {
-            return Ok(wired);
+            return Ok(self.given(wired));
         }
         match self.give_octets() {
-            Ok(Some(wired)) => Ok(wired),
+            Ok(Some(wired)) => Ok(self.given(wired)),
             Ok(None) => Ok(Wired::Idle),
             Err(NoMemory) => Err(WireRefusal::NoMemory),
         }
     }
 
-    /// A connection takes a front of a piece, and sends it by the time of the next wait. Answers how many octets it took.
+    /// A connection takes a front of a piece, and sends it. Answers how many octets it took. While this round gives more it takes
+    /// only large pieces: what it leaves is offered again, with what comes behind it.
     pub fn take(&mut self, conn: u32, piece: &[u8]) -> usize
         ensures { result ≤ length piece.now }
     {
-        let n = self.links.take(conn, piece, self.now);
+        let n = self.links.take(conn, piece, self.now, self.is_end);
         if n > 0 && n == piece.len() {
             self.took_all = true;
         }
         n
-    }
-
-    /// Sends what the connections took, as far as their peers take it.
-    pub fn send_all(&mut self) {
-        self.links.send_all();
     }
 
     /// Ends a connection. What it took still arrives.
@@ -138,9 +141,8 @@ impl<R: Clock + Net + Eprint + Drop, I: Inlet + Drop> Sockets<R, I> {
             return;
         };
         self.dialing.part(link.origin, self.now);
-        if let Some((stream, rest)) = link.into_parting() {
-            self.partings
-                .begin(conn, stream, rest, self.now, &mut self.block);
+        if let Some(stream) = link.into_parting() {
+            self.partings.begin(conn, stream, self.now, &mut self.block);
         }
     }
 
@@ -149,6 +151,22 @@ impl<R: Clock + Net + Eprint + Drop, I: Inlet + Drop> Sockets<R, I> {
         if let Some(cluster) = self.links.hold(conn, held) {
             self.dialing.take(cluster);
         }
+    }
+
+    // Something is given. Where it is the last of this round nobody waits for its end.
+    fn given(&mut self, wired: Wired) -> Wired {
+        self.is_end = !self.has_more();
+        if self.is_end {
+            self.links.end_wait();
+        }
+        wired
+    }
+
+    // Whether this round has more to give, as far as is known.
+    fn has_more(&self) -> bool {
+        self.dialing.is_due()
+            || (self.looks_left > 0 && self.links.is_due())
+            || (self.accepts_left > 0 && self.may_accept())
     }
 
     // What comes next of what this round has left.
@@ -215,8 +233,7 @@ impl<R: Clock + Net + Eprint + Drop, I: Inlet + Drop> Sockets<R, I> {
             Origin::Client => registry.register(&mut stream, token, both)?,
             _ => registry.reregister(&mut stream, token, both)?,
         }
-        self.links
-            .come(conn, Link::new(self.alloc, stream, origin))?;
+        self.links.come(conn, Link::new(stream, origin))?;
         Ok(())
     }
 
@@ -232,10 +249,7 @@ impl<R: Clock + Net + Eprint + Drop, I: Inlet + Drop> Sockets<R, I> {
             self.looks_left = self.looks_left.saturating_sub(1);
             match self.links.read(conn, &mut self.block) {
                 ReadOutcome::Octets(n) => return self.give_read(conn, n),
-                ReadOutcome::End => {
-                    self.lose(conn);
-                    return Ok(Some(Wired::Lost(conn)));
-                }
+                ReadOutcome::End => return Ok(self.end(conn)),
                 ReadOutcome::Nothing => {}
             }
         }
@@ -251,17 +265,20 @@ impl<R: Clock + Net + Eprint + Drop, I: Inlet + Drop> Sockets<R, I> {
         Ok(Some(Wired::Read(conn, octets)))
     }
 
-    // A connection is lost.
-    fn lose(&mut self, conn: u32) {
-        if let Some(mut link) = self.links.leave(conn) {
-            self.links.send_rest(&mut link);
+    // A connection has ended. Where it left octets the round is over, so that it is offered them again before it is given as lost.
+    fn end(&mut self, conn: u32) -> Option<Wired> {
+        if self.links.has_left(conn) {
+            self.looks_left = 0;
+            return None;
+        }
+        if let Some(link) = self.links.leave(conn) {
             self.dialing.lose(link.origin, self.now);
         }
+        Some(Wired::Lost(conn))
     }
 
-    // Sends what was gathered, waits until something comes, and takes in what does.
+    // Waits until something comes, and takes in what does.
     fn begin_round(&mut self) -> Result<(), Failed> {
-        self.links.send_all();
         self.read_clock();
         self.door.count(self.links.clients());
         self.dial();

@@ -55,14 +55,6 @@ impl<R: Clock + Net + Eprint + Drop, I: Inlet + Drop> SocketTaps<R, I> {
         self.faults
     }
 
-    /// Sends what the connections took, as far as their peers take it.
-    pub fn send_all(&mut self)
-        ensures seen { seen_of self.new ≡ seen_of self.old }
-        ensures faults { faults_of self.new ≡ faults_of self.old }
-    {
-        self.sockets.send_all();
-    }
-
     // What the sockets tell is given, where it may come, and else nothing.
     #[tactic(auto, using(crate::proofs::Admitting::gives_idle, crate::proofs::Admitting::gives_stop))]
     fn admit(&mut self, wired: Wired) -> Result<Wired, WireRefusal>

@@ -3,8 +3,8 @@ ghost use Rattle.std.specs.Prelude.{◌≡◌, ◌⊎◌, ◌&&◌, IfOk, false,
 ghost use Rattle.mio_edge.specs.Dialers.{failed, joined, new_dialer, postponed};
 
 use crate::dialer::Dialer;
+use crate::fault::{tell_reached, tell_unreachable};
 use crate::plan::Target;
-use crate::tell::{tell_reached, tell_unreachable};
 use std::alloc::{AllocError, Global};
 use std::io::{Eprint, Error, ErrorKind};
 

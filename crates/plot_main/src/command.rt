@@ -1,12 +1,11 @@
 // The command line: its words are those behind the program's name.
 use crate::pages::{HELP, USAGE, VERSION};
-use crate::tell::tell_outcome;
 use io_ports::{StdSink, StdSource};
 use session_run::Status;
 use std::env::{self, Env};
 use std::io::{Eprint, ErrorKind, Read, Write};
 use std::process::ExitCode;
-use tape_plot::{plot_tape, read_choice};
+use tape_plot::{Outcome, plot_tape, read_choice};
 
 /// Draws what the words ask for of the tape that is read, and answers the exit code. Why it isn't 0 is told in a line on standard
 /// error; where the words have no form, that is the usage. `--help` and `--version` are answered on the output.
@@ -79,4 +78,25 @@ fn words<R: Env + AllocGlobal>(rt: &R) -> Result<Vec<String>, Status> {
         words.push(word).map_err(|_| Status::Memory)?;
     }
     Ok(words)
+}
+
+/// Tells in one line why a tape wasn't drawn. Where standard error is closed there is nobody to tell.
+fn tell_outcome<R: Eprint>(rt: &R, outcome: &Outcome) {
+    let line = outcome.line;
+    let _ = match outcome.refusal {
+        Some(refusal) => eprintln!(rt; "h2plot: line {line}: {refusal}"),
+        None => match fault(outcome.status) {
+            Some(why) => eprintln!(rt; "h2plot: {why}"),
+            None => Ok(()),
+        },
+    };
+}
+
+fn fault(status: Status) -> Option<&'static str> {
+    match status {
+        Status::ReadFault => Some("standard input couldn't be read"),
+        Status::WriteFault => Some("standard output couldn't be written"),
+        Status::Memory => Some("out of memory"),
+        _ => None,
+    }
 }

@@ -4,7 +4,6 @@
 
 mod command;
 mod pages;
-mod tell;
 
 use std::process::ExitCode;
 

@@ -292,8 +292,7 @@ impl<R: Eprint + Files + Net + Clock + Wait + AllocGlobal + Copy + Drop> Site fo
         }
     }
 
-    fn give_back_taps(&mut self, mut taps: Self::T, journal: Self::J) {
-        taps.send_all();
+    fn give_back_taps(&mut self, taps: Self::T, journal: Self::J) {
         self.tell_journal(None, &journal);
         if taps.faults() > 0 || journal.faults() > 0 {
             self.count();

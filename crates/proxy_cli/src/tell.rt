@@ -1,7 +1,7 @@
 // Why the proxy ended, on standard error.
 
 use crate::pages::USAGE;
-use config_text::fault_place;
+use config_text::tell_no_toml;
 use io_ports::Octets;
 use proxy_config::ConfigFault;
 use proxy_site::{ServeReason, Status};
@@ -27,7 +27,9 @@ pub fn tell_served<R: Eprint + AllocGlobal>(
         ProxyReason::Relay(ServeReason::Words) => {
             let _ = rt.eprint(USAGE);
         }
-        ProxyReason::Relay(ServeReason::Config(ConfigFault::NotToml)) => tell_no_toml(rt, text),
+        ProxyReason::Relay(ServeReason::Config(ConfigFault::NotToml)) => tell_no_toml(
+            rt, "h2proxy", text,
+        ),
         ProxyReason::Relay(reason) => tell_reason(rt, reason, config, out),
     }
 }
@@ -117,17 +119,6 @@ fn tell_config<R: Eprint + AllocGlobal>(rt: &R, fault: ConfigFault) {
         (Ok(()), Ok(line)) => tell_line(rt, line, None),
         _ => tell_line(rt, "out of memory", None),
     }
-}
-
-// Tells that a configuration is no TOML, and where, as far as that is found.
-fn tell_no_toml<R: Eprint + AllocGlobal>(rt: &R, text: &[u8]) {
-    let _ = match fault_place(rt.alloc(), text) {
-        Some(place) => eprintln!(rt;
-            "h2proxy: configuration: line {}, column {}: no TOML document in UTF-8",
-            place.line, place.column
-        ),
-        None => eprintln!(rt; "h2proxy: configuration: the text is no TOML document in UTF-8"),
-    };
 }
 
 fn tell_line<R: Eprint>(rt: &R, line: &str, kind: Option<ErrorKind>) {

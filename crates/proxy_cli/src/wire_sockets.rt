@@ -118,8 +118,7 @@ impl<R: Eprint + Files + Net + Clock + Wait + AllocGlobal + Copy + Drop> WireSit
         self.end_all();
     }
 
-    fn give_back(&mut self, worker: u32, mut wires: Self::W, journal: Self::L) {
-        wires.send_all();
+    fn give_back(&mut self, worker: u32, wires: Self::W, journal: Self::L) {
         self.tell_journal(Some(worker), &journal);
         if wires.faults() > 0 || journal.faults() > 0 {
             self.count();

@@ -30,6 +30,8 @@ use crate::case::Case;
 use crate::show::show_case;
 use std::io::{self, Read};
 use std::mem;
+use std::sync::Wait;
+use std::thread::Threads;
 
 fn main(rt: HostRuntime) -> io::Result<()> {
     let mut text = Vec::new(rt.alloc());
@@ -38,14 +40,21 @@ fn main(rt: HostRuntime) -> io::Result<()> {
 }
 
 // A case is dropped by a call, since the check follows a drop without one field by field.
-fn show_cases(rt: HostRuntime, text: &str) -> io::Result<()> {
+fn show_cases<R: Print + AllocGlobal + Threads + Wait + Sync + Copy + Drop>(
+    rt: R,
+    text: &str,
+) -> io::Result<()> {
     let mut case = Case::new(rt.alloc());
     let end = read_cases(rt, text, &mut case);
     drop(case);
     end
 }
 
-fn read_cases(rt: HostRuntime, text: &str, case: &mut Case) -> io::Result<()> {
+fn read_cases<R: Print + AllocGlobal + Threads + Wait + Sync + Copy + Drop>(
+    rt: R,
+    text: &str,
+    case: &mut Case,
+) -> io::Result<()> {
     let mut is_open = false;
     for line in text.strip_suffix('\n').unwrap_or(text).split('\n') {
         if line.starts_with("## ") {

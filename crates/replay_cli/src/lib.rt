@@ -5,8 +5,8 @@ mod pages;
 mod tell;
 
 use crate::pages::{HELP, USAGE, VERSION};
-use crate::tell::{tell_no_toml, tell_outcome};
-use config_text::ConfigFile;
+use crate::tell::tell_outcome;
+use config_text::{ConfigFile, tell_no_toml};
 use program_ports::{Input, Output};
 use proxy_config::ConfigFault;
 use replay_run::{Reason, Status, replay_with_reason};
@@ -48,7 +48,7 @@ fn replay_session<R: Eprint + Files + AllocGlobal, I: Read + Drop, O: Write + Dr
         // Where standard error is closed there is nobody to tell.
         let _ = rt.eprint(USAGE);
     } else if let Reason::Config(ConfigFault::NotToml) = outcome.reason {
-        tell_no_toml(rt, config.reader().text());
+        tell_no_toml(rt, "h2replay", config.reader().text());
     } else {
         tell_outcome(rt, &outcome, config.kind(), session.kind(), out.kind());
     }

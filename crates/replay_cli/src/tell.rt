@@ -1,5 +1,4 @@
 // Why a replay ended, on standard error.
-use config_text::fault_place;
 use io_ports::Octets;
 use replay_run::{Outcome, Reason, Status, put_reason};
 use std::io::{Eprint, ErrorKind};
@@ -16,7 +15,7 @@ pub fn tell_outcome<R: Eprint + AllocGlobal>(
         return;
     }
     let mut text = Octets::new(rt.alloc());
-    let told = put_reason(&outcome.reason, &mut text);
+    let told = put_reason(rt.alloc(), &outcome.reason, &mut text);
     match (told, std::str::from_utf8(text.as_slice())) {
         (Ok(()), Ok(line)) => {
             let kind = match outcome.reason {
@@ -31,17 +30,6 @@ pub fn tell_outcome<R: Eprint + AllocGlobal>(
             let _ = rt.eprint("h2replay: out of memory\n");
         }
     }
-}
-
-/// Tells in one line that a configuration is no TOML, and where, as far as that is found.
-pub fn tell_no_toml<R: Eprint + AllocGlobal>(rt: &R, text: &[u8]) {
-    let _ = match fault_place(rt.alloc(), text) {
-        Some(place) => eprintln!(rt;
-            "h2replay: configuration: line {}, column {}: no TOML document in UTF-8",
-            place.line, place.column
-        ),
-        None => eprintln!(rt; "h2replay: configuration: the text is no TOML document in UTF-8"),
-    };
 }
 
 fn tell_line<R: Eprint>(rt: &R, line: &str, kind: Option<ErrorKind>) {

@@ -99,7 +99,7 @@ fn show_written<R: Print + AllocGlobal>(
 fn show_outcome<R: Print + AllocGlobal>(rt: &R, outcome: &Outcome) -> io::Result<()> {
     let status = outcome.status;
     let mut text = Octets::new(rt.alloc());
-    let told = put_reason(&outcome.reason, &mut text);
+    let told = put_reason(rt.alloc(), &outcome.reason, &mut text);
     match (told, text.is_empty()) {
         (Ok(()), true) => println!(rt; "{} {status:?}", status.code()),
         (Ok(()), false) => {

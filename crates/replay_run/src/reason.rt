@@ -3,10 +3,12 @@ ghost use Rattle.std.specs.Prelude.{OnErr, OnOk};
 ghost use Rattle.flow_notes.specs.Extends.{Extends};
 
 use io_ports::{NoMemory, Octets};
-use line_faults::{LineFault, put_line_fault};
+use line_faults::LineFault;
 use proxy_config::ConfigFault;
 use session_config::put_config_fault;
 use session_run::Status;
+use std::alloc::Global;
+use std::fmt::Display;
 
 /// How a replay ended, and why.
 #[derive(Debug, Drop)]
@@ -70,7 +72,7 @@ impl Reason {
 
 /// Appends why a replay ended, in one line without its newline; nothing where it was replayed to its end, or the words have no
 /// form. Running out of memory may leave some of it. Proved is that what stood there stays in front.
-pub fn put_reason(reason: &Reason, into: &mut Octets) -> Result<(), NoMemory>
+pub fn put_reason(alloc: Global, reason: &Reason, into: &mut Octets) -> Result<(), NoMemory>
     ensures ok { OnOk result (Extends into.old into.new) }
     ensures err { OnErr result (Extends into.old into.new) }
 {
@@ -81,11 +83,19 @@ pub fn put_reason(reason: &Reason, into: &mut Octets) -> Result<(), NoMemory>
         Reason::SomeConfig => into.push_all(b"the configuration is refused"),
         Reason::LongConfig => into.push_all(b"the configuration has more than 1,048,576 octets"),
         Reason::ConfigRead => into.push_all(b"the configuration can't be read"),
-        Reason::Line(fault) => put_line_fault(fault, into),
+        Reason::Line(fault) => put_line(alloc, fault, into),
         Reason::SomeLine => into.push_all(b"the session is refused"),
         Reason::LongSession => into.push_all(b"the session has more than 67,108,864 octets"),
         Reason::SessionRead => into.push_all(b"the session can't be read"),
         Reason::Write => into.push_all(b"the output can't be written"),
         Reason::Memory => into.push_all(b"out of memory"),
     }
+}
+
+fn put_line(alloc: Global, fault: &LineFault, into: &mut Octets) -> Result<(), NoMemory>
+    ensures ok { OnOk result (Extends into.old into.new) }
+    ensures err { OnErr result (Extends into.old into.new) }
+{
+    let text = fault.to_string(alloc)?;
+    into.push_all(text.as_bytes())
 }

@@ -1,12 +1,12 @@
 // Dooms: an exchange is given up, its peers are told, and it is gone at the end of the dispatch.
-ghost use Rattle.std.specs.Prelude.{◌≡◌, ◌≤◌, ◌<◌, ◌+◌, IfSome, IsSome, OnOk, true, ◌∷◌, [], MatchOption};
+ghost use Rattle.flow_notes.specs.declared.notes.Note.TheVariants as note;
+ghost use Rattle.std.specs.Prelude.{◌≡◌, ◌≤◌, ◌<◌, ◌+◌, ◌++◌, ◌∷◌, [], IfSome, IsSome, MatchOption, OnOk, if◌then◌else◌, true};
 ghost use Rattle.wire_flows.specs.Flows.{is_live_in};
 ghost use Rattle.wire_state.specs.Agenda.{top_go};
 ghost use Rattle.wire_state.specs.Noting.{Appends};
 ghost use Rattle.wire_state.specs.Progress.{to_go};
 ghost use Rattle.wire_state.specs.Sound.{IsSound};
 ghost use Rattle.wire_state.specs.Worlds.{Goes, Keeps, Owes};
-ghost use Rattle.flow_notes.specs.declared.notes.Note.TheVariants as note;
 
 use crate::closes::start_draining;
 use crate::lists::{append, append_reset, flood};
@@ -18,7 +18,7 @@ use io_ports::NoMemory;
 use wire_links::Ends;
 use wire_load::Action;
 use wire_outlet::Waiting;
-use wire_state::{WireCore, is_stream, note};
+use wire_state::{WireCore, is_stream};
 
 /// Who gave the cause of a doom.
 #[derive(Clone, Copy, Debug, PartialEq, Eq)]
@@ -103,12 +103,13 @@ pub fn doom(
     ensures go { OnOk result (to_go core.new ≤ to_go core.old) }
     ensures less { is_live_in core.old.flows exchange ≡ true → OnOk result (to_go core.new + 8 ≤ to_go core.old) }
     ensures notes { Appends notes.old notes.new }
+    ensures told { OnOk result (notes.new ≡ (if is_live_in core.old.flows exchange then notes.old ++ note.Doom exchange cause ∷ [] else notes.old)) }
     ensures octets { OnOk result (Goes core.old notes.old core.new notes.new) }
 {
     let Some((ends, doomed)) = unlink(core, exchange, cause, origin) else {
         return Ok(());
     };
-    note(notes, Note::Doom { exchange, cause })?;
+    note_doom(notes, exchange, cause)?;
     core.stir(ends.client)?;
     core.stir_some(ends.cluster)?;
     let hear = Hear {
@@ -125,6 +126,14 @@ pub fn doom(
     tell(core, ends, doomed, hear)
 }
 
+// Writes that an exchange is doomed.
+fn note_doom(notes: &mut Notes, exchange: u64, cause: Cause) -> Result<(), NoMemory>
+    ensures appends { Appends notes.old notes.new }
+    ensures ok { OnOk result (notes.new ≡ notes.old ++ note.Doom exchange cause ∷ []) }
+{
+    notes.push(Note::Doom { exchange, cause })
+}
+
 // A live exchange isn't live any more: it is linked to no connection, and has no octets, timers and class. The answer has the
 // ends that it had, and what its peers are told. None where it isn't live.
 fn unlink(
@@ -138,6 +147,7 @@ fn unlink(
     ensures go { to_go core.new ≤ to_go core.old }
     ensures less { IfSome result (λ ends. to_go core.new + 64 ≤ to_go core.old) }
     ensures linked { is_live_in core.old.flows exchange ≡ true → IsSome result }
+    ensures live { IfSome result (λ ends. is_live_in core.old.flows exchange ≡ true) }
     ensures octets { MatchOption result (Keeps core.old core.new) (λ r. Owes (note.Doom exchange cause ∷ []) core.old core.new) }
 {
     let Some(ends) = core.links.ends_of(exchange) else {

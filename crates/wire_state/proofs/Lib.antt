@@ -4,6 +4,7 @@ pub mod Goings
 pub mod Held
 pub mod Idle
 pub mod Keeping
+pub mod Linked
 pub mod Lives
 pub mod Notings
 pub mod Results

@@ -35,3 +35,6 @@ unfolding to_go
 returns-clause-less c =
     let f = ap (λ (t : Timeouts). length t.armed) c.drop_exchange.ensures in
     omega (arith, f, c.doom-doomed.ensures.less, gone_fewer c.args.exchange c.args.core.now.timers)
+
+pub returns-clause-live : goal.returns-clause-live
+returns-clause-live c = sym (c.requires.sound.live c.args.exchange) ∙ ap is_some (sym c.in-Some.ensures)

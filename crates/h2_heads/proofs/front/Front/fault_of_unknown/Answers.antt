@@ -10,20 +10,20 @@ returns-then-not-is_sound_name c message first =
     let said = rw c.requires.name at c.fault_of_name.ensures in
     record { each = λ before is at. sym (ap Some said ∙ name_faulty message before c.args.field.now unsound) }
 
-pub returns-then-is_bad_value : goal.returns-then-is_bad_value
-returns-then-is_bad_value c message first =
+pub returns-then-bad_value : goal.returns-then-bad_value
+returns-then-bad_value c message first =
     let sound = rw c.requires.name at (sym c.is_sound_name.ensures ∙ c.if-not-is_sound_name.false) in
-    let bad = rw c.as_slice.ensures at (sym c.is_bad_value.ensures ∙ c.if-is_bad_value.true) in
+    let bad = sym c.requires.value ∙ c.if-bad_value.true in
     record { each = λ before is at. sym (value_faulty message before c.args.field.now sound bad) }
 
 pub returns-then-self : goal.returns-then-self
 returns-then-self c message first =
     let sound = rw c.requires.name at (sym c.is_sound_name.ensures ∙ c.if-not-is_sound_name.false) in
-    let good = rw c.as_slice.ensures at (sym c.is_bad_value.ensures ∙ c.if-is_bad_value.false) in
+    let good = sym c.requires.value ∙ c.if-bad_value.false in
     tells_behind message c.args.self first c.args.field.now _ sound good c.requires.pseudo (late_told message c.args.self c.args.field.now c.if-self.true)
 
 pub returns : goal.returns
 returns c message first =
     let sound = rw c.requires.name at (sym c.is_sound_name.ensures ∙ c.if-not-is_sound_name.false) in
-    let good = rw c.as_slice.ensures at (sym c.is_bad_value.ensures ∙ c.if-is_bad_value.false) in
+    let good = sym c.requires.value ∙ c.if-bad_value.false in
     tells_behind message c.args.self first c.args.field.now _ sound good c.requires.pseudo (unknown_told message c.args.self c.args.field.now c.if-self.false (unknown_to message c.args.field.now.name c.requires.unknown))

@@ -4,23 +4,23 @@ use Rattle.h2_heads.proofs.front.Front.with_field.Goals as goal
 
 pub with_regular-requires-clause-regular : goal.with_regular-requires-clause-regular
 with_regular-requires-clause-regular c =
-    rw c.as_slice-name.ensures at (sym c.is_pseudo.ensures ∙ c.if-not-is_pseudo.true)
+    rw c.requires at (sym c.is_pseudo.ensures ∙ c.if-not-is_pseudo.true)
 
 pub returns-then-not-is_pseudo : goal.returns-then-not-is_pseudo
 returns-then-not-is_pseudo c = c.with_regular.ensures c.args.message
 
-pub with_pseudo-requires : goal.with_pseudo-requires
-with_pseudo-requires c = rw c.as_slice-name.ensures at (sym c.pseudo_of.ensures ∙ c.in-Some.is)
+pub with_pseudo-requires-clause-name : goal.with_pseudo-requires-clause-name
+with_pseudo-requires-clause-name c = rw c.requires at (sym c.pseudo_of.ensures ∙ c.in-Some.is)
 
 pub returns-in-Some : goal.returns-in-Some
 returns-in-Some c = c.with_pseudo.ensures (option_copied c.args.length)
 
 pub fault_of_unknown-requires-clause-pseudo : goal.fault_of_unknown-requires-clause-pseudo
 fault_of_unknown-requires-clause-pseudo c =
-    rw c.as_slice-name.ensures at (sym c.is_pseudo.ensures ∙ c.if-not-is_pseudo.false)
+    rw c.requires at (sym c.is_pseudo.ensures ∙ c.if-not-is_pseudo.false)
 
 pub fault_of_unknown-requires-clause-unknown : goal.fault_of_unknown-requires-clause-unknown
-fault_of_unknown-requires-clause-unknown c = rw c.as_slice-name.ensures at (sym c.pseudo_of.ensures ∙ c.in_default.is)
+fault_of_unknown-requires-clause-unknown c = rw c.requires at (sym c.pseudo_of.ensures ∙ c.in_default.is)
 
 pub returns : goal.returns
 returns c = c.fault_of_unknown.ensures c.args.message (option_copied c.args.length)

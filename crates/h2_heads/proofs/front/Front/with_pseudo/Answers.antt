@@ -4,24 +4,24 @@ use Rattle.h2_heads.proofs.Lowest.{value_faulty}
 use Rattle.h2_heads.proofs.Pseudos.{named_by, sound_pseudo}
 use Rattle.h2_heads.proofs.front.Front.with_pseudo.Goals as goal
 
-pub returns-then-is_bad_value : goal.returns-then-is_bad_value
-returns-then-is_bad_value c first =
-    let named = named_by c.args.field.now.name c.args.pseudo c.requires in
+pub returns-then-bad_value : goal.returns-then-bad_value
+returns-then-bad_value c first =
+    let named = named_by c.args.field.now.name c.args.pseudo c.requires.name in
     let sound = sound_pseudo c.args.field.now.name c.args.pseudo named in
-    let bad = rw c.as_slice-value.ensures at (sym c.is_bad_value.ensures ∙ c.if-is_bad_value.true) in
+    let bad = sym c.requires.value ∙ c.if-bad_value.true in
     record { each = λ before is at. sym (value_faulty c.args.message before c.args.field.now sound bad) }
 
 pub returns-in-Some : goal.returns-in-Some
 returns-in-Some c first =
-    let named = named_by c.args.field.now.name c.args.pseudo c.requires in
-    let good = rw c.as_slice-value.ensures at (sym c.is_bad_value.ensures ∙ c.if-is_bad_value.false) in
+    let named = named_by c.args.field.now.name c.args.pseudo c.requires.name in
+    let good = sym c.requires.value ∙ c.if-bad_value.false in
     let told = rw c.in-Some.is at c.fault_of_pseudo.ensures in
     tells_known c.args.message c.args.self first c.args.pseudo c.args.field.now c.as_slice-value.result.now _ named (sym c.as_slice-value.ensures) good told
 
 pub returns : goal.returns
 returns c first =
-    let named = named_by c.args.field.now.name c.args.pseudo c.requires in
-    let good = rw c.as_slice-value.ensures at (sym c.is_bad_value.ensures ∙ c.if-is_bad_value.false) in
+    let named = named_by c.args.field.now.name c.args.pseudo c.requires.name in
+    let good = sym c.requires.value ∙ c.if-bad_value.false in
     let told = rw c.in_default.is at c.fault_of_pseudo.ensures in (
       tells_known c.args.message c.args.self first c.args.pseudo c.args.field.now c.as_slice-value.result.now _ named (sym c.as_slice-value.ensures) good told,
       rw c.marked.ensures (takes_marked c.args.self c.args.field.now c.args.pseudo named),

@@ -4,22 +4,25 @@ use Rattle.h2_heads.proofs.Fronts.{takes_regular}
 use Rattle.h2_heads.proofs.Lowest.{name_faulty, regular_field, value_faulty}
 use Rattle.h2_heads.proofs.front.Front.with_regular.Goals as goal
 
-pub returns-then-not-is_sound_name : goal.returns-then-not-is_sound_name
-returns-then-not-is_sound_name c message =
-    let unsound = rw c.requires.name at (sym c.is_sound_name.ensures ∙ c.if-not-is_sound_name.true) in
+pub is_sound_regular-requires : goal.is_sound_regular-requires
+is_sound_regular-requires c = rw c.requires.name c.requires.regular
+
+pub returns-then-not-is_sound_regular : goal.returns-then-not-is_sound_regular
+returns-then-not-is_sound_regular c message =
+    let unsound = rw c.requires.name at (sym c.is_sound_regular.ensures ∙ c.if-not-is_sound_regular.true) in
     let said = rw c.requires.name at c.fault_of_name.ensures in
     record { each = λ before is at. sym (ap Some said ∙ name_faulty message before c.args.field.now unsound) }
 
-pub returns-then-is_bad_value : goal.returns-then-is_bad_value
-returns-then-is_bad_value c message =
-    let sound = rw c.requires.name at (sym c.is_sound_name.ensures ∙ c.if-not-is_sound_name.false) in
-    let bad = rw c.as_slice.ensures at (sym c.is_bad_value.ensures ∙ c.if-is_bad_value.true) in
+pub returns-then-bad_value : goal.returns-then-bad_value
+returns-then-bad_value c message =
+    let sound = rw c.requires.name at (sym c.is_sound_regular.ensures ∙ c.if-not-is_sound_regular.false) in
+    let bad = sym c.requires.value ∙ c.if-bad_value.true in
     record { each = λ before is at. sym (value_faulty message before c.args.field.now sound bad) }
 
 pub returns-in-Some : goal.returns-in-Some
 returns-in-Some c message =
-    let sound = rw c.requires.name at (sym c.is_sound_name.ensures ∙ c.if-not-is_sound_name.false) in
-    let good = rw c.as_slice.ensures at (sym c.is_bad_value.ensures ∙ c.if-is_bad_value.false) in
+    let sound = rw c.requires.name at (sym c.is_sound_regular.ensures ∙ c.if-not-is_sound_regular.false) in
+    let good = sym c.requires.value ∙ c.if-bad_value.false in
     record {
       each = λ before is at.
           sym (regular_field message before c.args.field.now sound good c.requires.regular)
@@ -30,8 +33,8 @@ returns-in-Some c message =
 
 pub returns : goal.returns
 returns c message =
-    let sound = rw c.requires.name at (sym c.is_sound_name.ensures ∙ c.if-not-is_sound_name.false) in
-    let good = rw c.as_slice.ensures at (sym c.is_bad_value.ensures ∙ c.if-is_bad_value.false) in (
+    let sound = rw c.requires.name at (sym c.is_sound_regular.ensures ∙ c.if-not-is_sound_regular.false) in
+    let good = sym c.requires.value ∙ c.if-bad_value.false in (
       record {
         each = λ before is at.
             sym (regular_field message before c.args.field.now sound good c.requires.regular)

@@ -1,0 +1,7 @@
+use Rattle.flow_notes.specs.declared.notes.Note.TheVariants as note
+use Rattle.std.specs.Prelude.{[], ◌∷◌}
+use Rattle.wire_ends.proofs.dooms.note_doom.Goals as goal
+use Rattle.wire_state.proofs.Notings.{appends_of}
+
+pub returns-clause-appends : goal.returns-clause-appends
+returns-clause-appends c = appends_of c.push.result c.args.notes.now (note.Doom c.args.exchange c.args.cause ∷ []) c.push.new.self (tt, tt) c.push.ensures.ok c.push.ensures.err
