@@ -6,7 +6,7 @@ ghost use Rattle.wire_state.specs.Agenda.{top_go};
 ghost use Rattle.wire_state.specs.Noting.{Appends};
 ghost use Rattle.wire_state.specs.Progress.{to_go};
 ghost use Rattle.wire_state.specs.Sound.{IsSound};
-ghost use Rattle.wire_state.specs.Worlds.{Goes, Keeps, Owes};
+ghost use Rattle.wire_state.specs.Worlds.{Goes, Keeps, Owes, Pays};
 
 use crate::closes::start_draining;
 use crate::lists::{append, append_reset, flood};
@@ -130,6 +130,7 @@ pub fn doom(
 fn note_doom(notes: &mut Notes, exchange: u64, cause: Cause) -> Result<(), NoMemory>
     ensures appends { Appends notes.old notes.new }
     ensures ok { OnOk result (notes.new ≡ notes.old ++ note.Doom exchange cause ∷ []) }
+    ensures paid { OnOk result (Pays (note.Doom exchange cause ∷ []) notes.old notes.new) }
 {
     notes.push(Note::Doom { exchange, cause })
 }

@@ -11,6 +11,7 @@ pub mod Results
 pub mod Rooms
 pub mod Soundness
 pub mod Standing
+pub mod Stepping
 pub mod Tasks
 pub mod Timing
 pub mod Weights

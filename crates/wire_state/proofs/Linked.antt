@@ -13,13 +13,13 @@ use Rattle.wire_links.specs.Links.{IsSound, Links, accepted, doomed, ends_of, fo
 use Rattle.wire_links.specs.declared.conn.Conn.{Conn as Link}
 use Rattle.wire_links.specs.declared.ends.Ends.{Ends}
 use Rattle.wire_state.proofs.Held.{is_number}
-use Rattle.wire_state.proofs.Lives.{LinksOne, Places, Unlinks}
+use Rattle.wire_state.proofs.Lives.{LinksOne, OpensStream, UnlinksOne}
 use Rattle.wire_state.specs.Ways.{WayHistory, world_setup}
 use Rattle.wire_state.specs.Worlds.{EndsAre, Stands, has_conn, is_shut, octets_of}
 use Rattle.wire_state.specs.declared.conn.Conn.{Conn}
 
 -- ---- exchanges
-pub unlinks : (x : ℕ) (links new : Links) → IsSound links → new ≡ doomed x links → Unlinks x links new
+pub unlinks : (x : ℕ) (links new : Links) → IsSound links → new ≡ doomed x links → UnlinksOne x links new
 unlinks x links new s e = record {
   ends = λ y. ap (λ (l : Links). ends_of y l) e ∙ under_remove links.exchanges x y s.exchanges;
   known = λ c. ap (λ (l : Links). is_known c l) e;
@@ -31,7 +31,7 @@ links_one x c s to links new e = record {
   known = λ d. ap (λ (l : Links). is_known d l) e;
 }
 
-pub links_placed : (x s : ℕ) (links new : Links) → new ≡ framed x s links → Places x s links new
+pub links_placed : (x s : ℕ) (links new : Links) → new ≡ framed x s links → OpensStream x s links new
 links_placed x s links new e = record {
   ends = λ y. ap (λ (l : Links). ends_of y l) e ∙ under_changed links.exchanges x y (with_stream s);
   known = λ d. ap (λ (l : Links). is_known d l) e;
@@ -82,7 +82,7 @@ joined_keeps c k links new e = record {
 
 -- ---- a connection comes
 -- it is there now, open and without octets, where none was; the others are as they were
-pub record Comes (n : ℕ) (old new : BTreeMap ℕ Conn) : Type 0 where
+pub record ComesNew (n : ℕ) (old new : BTreeMap ℕ Conn) : Type 0 where
   pub none : has_conn n old ≡ false
   pub octets : octets_of n new ≡ []
   pub opened : is_shut n new ≡ false
@@ -95,7 +95,7 @@ none_octets n conns e = at (get nat_cmp conns n) e
     at None e = refl
     at (Some v) e = cc
 
-pub comes : (n : ℕ) (old new : BTreeMap ℕ Conn) → Comes n old new → (flows : Flows) (links : Links) (h : WayHistory) → is_known n links ≡ true → was_closed n h ≡ false
+pub comes : (n : ℕ) (old new : BTreeMap ℕ Conn) → ComesNew n old new → (flows : Flows) (links : Links) (h : WayHistory) → is_known n links ≡ true → was_closed n h ≡ false
     → Stands old flows links h → Stands new flows links h
 comes n old new c flows links h known fresh s = record {
   writes = λ d. by_case (n == d)
@@ -114,12 +114,12 @@ comes n old new c flows links h known fresh s = record {
 }
 
 -- ---- a connection is forgotten
-pub record Forgets (n : ℕ) (old new : BTreeMap ℕ Conn) : Type 0 where
+pub record ForgetsConn (n : ℕ) (old new : BTreeMap ℕ Conn) : Type 0 where
   pub empty : octets_of n old ≡ []
   pub gone : get nat_cmp new n ≡ None
   pub others : (c : ℕ) → (n == c) ≡ false → get nat_cmp new c ≡ get nat_cmp old c
 
-pub forgets : (n : ℕ) (old new : BTreeMap ℕ Conn) → Forgets n old new → (flows : Flows) (links links' : Links) (h : WayHistory) → ((x : ℕ) → ends_of x links' ≡ ends_of x links)
+pub forgets : (n : ℕ) (old new : BTreeMap ℕ Conn) → ForgetsConn n old new → (flows : Flows) (links links' : Links) (h : WayHistory) → ((x : ℕ) → ends_of x links' ≡ ends_of x links)
     → ((c : ℕ) → (n == c) ≡ false → is_known c links' ≡ is_known c links) → Stands old flows links h → Stands new flows links' h
 forgets n old new f flows links links' h same known s = record {
   writes = λ d. by_case (n == d)

@@ -37,7 +37,7 @@ use Rattle.flow_notes.specs.declared.notes.Note.TheVariants as note
 
 -- ---- doom
 -- the exchange has no ends any more, and the others those that they had
-pub record Unlinks (x : ℕ) (old new : Links) : Type 0 where
+pub record UnlinksOne (x : ℕ) (old new : Links) : Type 0 where
   pub ends : (y : ℕ) → ends_of y new ≡ (if x == y then None else ends_of y old)
   pub known : (c : ℕ) → is_known c new ≡ is_known c old
 
@@ -54,7 +54,7 @@ module _ (x : ℕ) (why : Cause) (h : WayHistory) (old new : Flows) (d : Dooms x
   place_stays : (f : FlowId) → (x == f.exchange) ≡ false → (p : ℕ) → place world_setup f p (end ∷ h) ≡ place world_setup f p h
   place_stays f e p = ap (λ b. if b then [] else place world_setup f p h) (turned x f.exchange false e)
 
-  pub dooms : (conns : BTreeMap ℕ Conn) (links links' : Links) → Unlinks x links links' → Stands conns old links h → Stands conns new links' (end ∷ h)
+  pub dooms : (conns : BTreeMap ℕ Conn) (links links' : Links) → UnlinksOne x links links' → Stands conns old links h → Stands conns new links' (end ∷ h)
   dooms conns links links' u s = record {
     writes = s.writes;
     flows_are = λ f. by_case (x == f.exchange)
@@ -164,7 +164,7 @@ module _ (x c s d : ℕ) (to : Option ℕ) (spec : StartSpec) (config : Config) 
         linked = record { client = c; stream = s; cluster = to; cluster_stream = None }
 
 -- ---- the stream of a request at its cluster
-pub record Places (x s : ℕ) (old new : Links) : Type 0 where
+pub record OpensStream (x s : ℕ) (old new : Links) : Type 0 where
   pub ends : (y : ℕ) → ends_of y new ≡ (if x == y then option_map (with_stream s) (ends_of y old) else ends_of y old)
   pub known : (c : ℕ) → is_known c new ≡ is_known c old
 
@@ -179,7 +179,7 @@ module _ (x s : ℕ) (h : WayHistory) where
   other_ends : (y : ℕ) → (x == y) ≡ false → (v : Ends) → EndsAre y h v → EndsAre y (opening ∷ h) v
   other_ends y e v is = record { client = is.client; cluster = if_some v.cluster_stream (λ k at. at ∙ sym (ap (λ b. if true && b then s else stream_to (request y) h) e)) is.cluster }
 
-  pub places : (conns : BTreeMap ℕ Conn) (flows : Flows) (links links' : Links) → Places x s links links' → Stands conns flows links h → Stands conns flows links' (opening ∷ h)
+  pub places : (conns : BTreeMap ℕ Conn) (flows : Flows) (links links' : Links) → OpensStream x s links links' → Stands conns flows links h → Stands conns flows links' (opening ∷ h)
   places conns flows links links' l stands = record {
     writes = stands.writes;
     flows_are = λ f. if_some (flow_in flows f) (λ flow was. record { last = was.last; holds = was.holds }) (stands.flows_are f);
