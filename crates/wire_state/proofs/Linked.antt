@@ -1,18 +1,22 @@
 -- What the links are after each of their calls, as far as a world asks.
+use Rattle.flow_notes.specs.declared.events.Event.TheVariants as event
+use Rattle.flow_notes.specs.declared.notes.Note.TheVariants as note
 use Rattle.std.proofs.Common.{ap, refl, subst, sym, ◌∙◌}
 use Rattle.std.specs.BTreeMap.{BTreeMap, get}
 use Rattle.std.specs.Option.{option_map, option_map_or}
 use Rattle.std.specs.Ordering.{nat_cmp}
-use Rattle.std.specs.Prelude.{Bool, IfSome, List, None, Option, Some, [], false, if◌then◌else◌, is_some, nat_eq, not, true, ℕ, ◌==◌, ◌∷◌, ◌≡◌}
+use Rattle.std.specs.Prelude.{Bool, IfSome, List, None, Option, Some, [], false, if◌then◌else◌, is_some, nat_eq, not, true, ℕ, ◌&&◌, ◌==◌, ◌∷◌, ◌≡◌}
 use Rattle.tape_laws.specs.Connections.{was_closed}
+use Rattle.tape_laws.specs.History.{Noted}
 use Rattle.tape_laws.specs.World.{out}
 use Rattle.wire_flows.proofs.Cases.{by_case}
-use Rattle.wire_flows.specs.Flows.{Flows}
+use Rattle.wire_flows.specs.Flows.{Flows, flow_in}
 use Rattle.wire_links.proofs.Under.{under_changed, under_insert, under_remove}
 use Rattle.wire_links.specs.Links.{IsSound, Links, accepted, doomed, ends_of, forgotten, framed, is_known, joined, new_conn, started, with_conn, with_stream}
 use Rattle.wire_links.specs.declared.conn.Conn.{Conn as Link}
 use Rattle.wire_links.specs.declared.ends.Ends.{Ends}
 use Rattle.wire_state.proofs.Held.{is_number}
+use Rattle.wire_state.proofs.Standing.{if_some}
 use Rattle.wire_state.proofs.Lives.{LinksOne, OpensStream, UnlinksOne}
 use Rattle.wire_state.specs.Ways.{WayHistory, world_setup}
 use Rattle.wire_state.specs.Worlds.{EndsAre, Stands, has_conn, is_shut, octets_of}
@@ -136,3 +140,38 @@ forgets n old new f flows links links' h same known s = record {
       (λ e. absurd (cc (ap (λ v. has_conn v new) (sym (is_number n d e)) ∙ ap is_some f.gone, there)))
       (λ e. s.closed d (sym (ap is_some (f.others d e)) ∙ there) ∙ sym (ap (λ (o : Option Conn). option_map_or (λ conn. not conn.open) o false) (f.others d e)));
 }
+
+-- ---- a connection that is closed is lost
+-- its octets are dropped by the turn note that tells so
+pub record DropsRest (n : ℕ) (old new : BTreeMap ℕ Conn) : Type 0 where
+  pub closed_ : has_conn n old ≡ true → is_shut n old ≡ true
+  pub octets : (c : ℕ) → octets_of c new ≡ (if n == c then [] else octets_of c old)
+  pub shut : (c : ℕ) → is_shut c new ≡ is_shut c old
+  pub there : (c : ℕ) → has_conn c new ≡ has_conn c old
+
+pub drops_rest : (n k : ℕ) (old new : BTreeMap ℕ Conn) → DropsRest n old new → (flows : Flows) (links : Links) (h : WayHistory)
+    → Stands old flows links h → Stands new flows links (Noted (note.Turn k (event.Gone n)) ∷ h)
+drops_rest n k old new d flows links h s = record {
+  writes = at;
+  flows_are = λ f. if_some (flow_in flows f) (λ flow is. record { last = is.last; holds = is.holds }) (s.flows_are f);
+  empty = s.empty;
+  ends = λ x. if_some (ends_of x links) (λ e is. record { client = is.client; cluster = is.cluster }) (s.ends x);
+  known = λ c e. d.there c ∙ s.known c e;
+  closed = λ c e. s.closed c (sym (d.there c) ∙ e) ∙ sym (d.shut c);
+}
+  where
+    -- where it isn't there nothing waited for it
+    dropped : (b : Bool) → has_conn n old ≡ b → (if was_closed n h then [] else out world_setup n h) ≡ []
+    dropped true e = ap (λ c. if c then [] else out world_setup n h) (s.closed n e ∙ d.closed_ e)
+    dropped false e = none (was_closed n h)
+      where
+        none : (c : Bool) → (if c then [] else out world_setup n h) ≡ []
+        none true = refl
+        none false = sym (s.writes n) ∙ none_octets n old e
+
+    at : (c : ℕ) → octets_of c new ≡ (if (n == c) && was_closed c h then [] else out world_setup c h)
+    at c = by_case (n == c)
+        (λ e. let is = is_number n c e in
+            d.octets c ∙ (ap (λ b. if b then [] else octets_of c old) e
+            ∙ (sym (dropped (has_conn n old) refl) ∙ (ap (λ v. if was_closed v h then [] else out world_setup v h) is ∙ sym (ap (λ b. if b && was_closed c h then [] else out world_setup c h) e)))))
+        (λ e. d.octets c ∙ (ap (λ b. if b then [] else octets_of c old) e ∙ (s.writes c ∙ sym (ap (λ b. if b && was_closed c h then [] else out world_setup c h) e))))

@@ -64,10 +64,10 @@ module _ (n : ℕ) (old new : BTreeMap ℕ Conn) (v w : Conn) (found : get nat_c
   here : (c : ℕ) → (n == c) ≡ true → get nat_cmp old c ≡ Some v
   here c e = ap (get nat_cmp old) (sym (is_number n c e)) ∙ found
 
-  there_now : (c : ℕ) → (n == c) ≡ true → get nat_cmp new c ≡ Some w
+  pub there_now : (c : ℕ) → (n == c) ≡ true → get nat_cmp new c ≡ Some w
   there_now c e = now_at c ∙ ap (λ b. if b then Some w else get nat_cmp old c) e
 
-  other_now : (c : ℕ) → (n == c) ≡ false → get nat_cmp new c ≡ get nat_cmp old c
+  pub other_now : (c : ℕ) → (n == c) ≡ false → get nat_cmp new c ≡ get nat_cmp old c
   other_now c e = now_at c ∙ ap (λ b. if b then Some w else get nat_cmp old c) e
 
   abbrev octets_in_it : Option Conn → List ℕ
@@ -76,12 +76,12 @@ module _ (n : ℕ) (old new : BTreeMap ℕ Conn) (v w : Conn) (found : get nat_c
   abbrev shut_it : Option Conn → Bool
   shut_it o = option_map_or (λ conn. not conn.open) o false
 
-  octets_written : (g : List ℕ → List ℕ) → w.outlet.write.octets ≡ g v.outlet.write.octets → (c : ℕ) → octets_of c new ≡ at_one n g c (octets_of c old)
+  pub octets_written : (g : List ℕ → List ℕ) → w.outlet.write.octets ≡ g v.outlet.write.octets → (c : ℕ) → octets_of c new ≡ at_one n g c (octets_of c old)
   octets_written g octets c = by_test (n == c)
       (λ e. ap octets_in_it (there_now c e) ∙ (octets ∙ sym (ap (λ o. g (octets_in_it o)) (here c e))))
       (λ e. ap octets_in_it (other_now c e))
 
-  there_written : (c : ℕ) → has_conn c new ≡ has_conn c old
+  pub there_written : (c : ℕ) → has_conn c new ≡ has_conn c old
   there_written c = by_case (n == c) (λ e. ap is_some (there_now c e) ∙ sym (ap is_some (here c e))) (λ e. ap is_some (other_now c e))
 
   pub conns_written : (g : List ℕ → List ℕ) → w.outlet.write.octets ≡ g v.outlet.write.octets → w.open ≡ v.open → ConnsAre (at_one n g) old new
@@ -238,4 +238,15 @@ closes c code why h old new flows links links' w same known s = record {
       (if_some (ends_of x links) (λ e is. record { client = is.client; cluster = is.cluster }) (s.ends x));
   known = λ d e. w.there d ∙ s.known d (sym (known d) ∙ e);
   closed = λ d e. ap (λ b. (c == d) || b) (s.closed d (sym (w.there d) ∙ e)) ∙ sym (w.shut d e);
+}
+
+-- one connection was written through, and isn't open any more
+pub conn_shut : (n : ℕ) (old new : BTreeMap ℕ Conn) (v w : Conn) → get nat_cmp old n ≡ Some v → WritesThrough nat_cmp (nat_cmp n) old w new
+    → (g : List ℕ → List ℕ) → w.outlet.write.octets ≡ g v.outlet.write.octets → w.open ≡ false → Shuts n g old new
+conn_shut n old new v w found written g octets shut = record {
+  octets = octets_written n old new v w found written g octets;
+  shut = λ c there. by_case (n == c)
+      (λ e. ap (λ (o : Option Conn). option_map_or (λ conn. not conn.open) o false) (there_now n old new v w found written c e) ∙ (ap not shut ∙ sym (ap (λ b. b || is_shut c old) e)))
+      (λ e. ap (λ (o : Option Conn). option_map_or (λ conn. not conn.open) o false) (other_now n old new v w found written c e) ∙ sym (ap (λ b. b || is_shut c old) e));
+  there = there_written n old new v w found written;
 }

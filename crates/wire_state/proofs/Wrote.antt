@@ -8,12 +8,13 @@ use Rattle.flow_notes.specs.declared.notes.Note.TheVariants as note
 use Rattle.h2_frames.specs.Frame.{WindowUpdate}
 use Rattle.h2_frames.specs.Head.{data_head}
 use Rattle.h2_frames.specs.Spelling.{spelling}
+use Rattle.io_ports.specs.declared.octets.NoMemory.{NoMemory}
 use Rattle.std.proofs.Common.{ap, refl, subst, sym, ◌∙◌}
 use Rattle.std.proofs.lemmas.List.{append-nil}
 use Rattle.std.specs.BTreeMap.{BTreeMap, WritesThrough, get}
 use Rattle.std.specs.Option.{option_and_then}
 use Rattle.std.specs.Ordering.{nat_cmp}
-use Rattle.std.specs.Prelude.{Bool, IfSome, List, None, Option, Some, [], drop, false, if◌then◌else◌, take, true, ℕ, ◌++◌, ◌==◌, ◌∷◌, ◌≡◌}
+use Rattle.std.specs.Prelude.{Bool, Err, IfOk, IfSome, List, MatchOption, None, Ok, Option, Result, Some, [], drop, false, if◌then◌else◌, take, true, ℕ, ◌++◌, ◌==◌, ◌∷◌, ◌≡◌}
 use Rattle.tape_laws.specs.Flows.{request}
 use Rattle.tape_laws.specs.History.{Noted}
 use Rattle.tape_laws.specs.World.{window_update}
@@ -27,6 +28,7 @@ use Rattle.wire_state.proofs.Standing.{ConnsAre, KeepsFlows, KeepsShut, Writes, 
 use Rattle.wire_state.specs.Ways.{WayHistory, WayStep, shown, stream_to}
 use Rattle.wire_state.specs.Worlds.{EndsAre, Keeps, Owes, Stands, Told, octets_of, outs_of, stream_in}
 use Rattle.wire_state.specs.Noting.{answers_of, heads_of}
+use Rattle.wm_buffer.specs.declared.watermark.Crossed.{Crossed}
 use Rattle.wire_state.specs.declared.conn.Conn.{Conn}
 use Rattle.wire_state.specs.declared.wire_core.WireCore.{WireCore}
 
@@ -89,6 +91,15 @@ module _ (n : ℕ) (old new : WireCore) (v w : Conn) (found : get nat_cmp old.co
       at : (b : Bool) → (k == 0) ≡ b → Owes (if b then [] else note.Out n k ∷ []) old new
       at true z = owes_none old new (nothing_written (e ∙ ap (λ j. drop j v.outlet.write.octets) (is_number k 0 z)))
       at false z = step_written (drop k) (Noted (note.Out n k)) e (λ h. out_writes h n k) (λ h. out_flows h n k) (λ h. out_shut h n k)
+
+-- a GOAWAY went in, or nothing did
+pub farewell_written : (n : ℕ) (old new : WireCore) (v w : Conn) → get nat_cmp old.conns n ≡ Some v → WritesThrough nat_cmp (nat_cmp n) old.conns w new.conns → w.open ≡ v.open
+    → new.flows ≡ old.flows → new.links ≡ old.links → (r : Result (Option (List ℕ × Crossed)) NoMemory)
+    → IfOk r (λ o. MatchOption o (w ≡ v) (λ f. w.outlet.write.octets ≡ v.outlet.write.octets ++ f.0))
+    → IfOk r (λ o. MatchOption o (Keeps old new) (λ f. Owes (answers_of n f.0) old new))
+farewell_written n old new v w found written opened f l (Err e) p = tt
+farewell_written n old new v w found written opened f l (Ok None) p = nothing_written n old new v w found written opened (same_bodies old.flows new.flows f) l (ap (λ (k : Conn). k.outlet.write.octets) p)
+farewell_written n old new v w found written opened f l (Ok (Some u)) p = answer_written n old new v w found written opened (same_bodies old.flows new.flows f) l u.0 p
 
 -- ---- DATA frames
 -- the stream of a flow where it goes is that of the world
