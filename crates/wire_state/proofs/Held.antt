@@ -148,7 +148,7 @@ framed_last n last flow = changed_length (losing n) flow.chain.places (length fl
 -- ---- octets that come
 by_more : (b : Bool) {xs ys octets : List ℕ} → (b ≡ true → xs ≡ ys ++ octets) → (b ≡ false → xs ≡ ys) → xs ≡ ys ++ (if b then octets else [])
 by_more true f g = f refl
-by_more false {xs} {ys} {octets} f g = g refl ∙ sym (append-nil ys)
+by_more false f g = g refl ∙ sym (append-nil _)
 
 pub arrived_held : (octets : List ℕ) (flow : Flow) (r : ℕ) → octets_in (arrived octets flow) r ≡ octets_in flow r ++ (if r == 0 then octets else [])
 arrived_held octets flow zero = refl

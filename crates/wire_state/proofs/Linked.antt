@@ -68,6 +68,9 @@ conn_changed_keeps c f links new e = record {
   known = λ d none. sym (ap (λ (l : Links). is_known d l) e ∙ (ap is_some (under_changed links.conns c d f) ∙ still_some (nat_eq c d) f _)) ∙ none;
 }
 
+pub conn_changed_known : (c : ℕ) (f : Link → Link) (links new : Links) → new ≡ with_conn c f links → (d : ℕ) → is_known d new ≡ is_known d links
+conn_changed_known c f links new e d = ap (λ (l : Links). is_known d l) e ∙ (ap is_some (under_changed links.conns c d f) ∙ still_some (nat_eq c d) f _)
+
 inserted_none : (b : Bool) (v : Link) (o : Option Link) → is_some (if b then Some v else o) ≡ false → is_some o ≡ false
 inserted_none true v o e = cc
 inserted_none false v o e = e

@@ -42,8 +42,8 @@ pub record UnlinksOne (x : ℕ) (old new : Links) : Type 0 where
   pub known : (c : ℕ) → is_known c new ≡ is_known c old
 
 module _ (x : ℕ) (why : Cause) (h : WayHistory) (old new : Flows) (d : Dooms x old.exchanges new.exchanges) where
-  abbrev end : WayStep
-  end = Noted (note.Doom x why)
+  abbrev ending : WayStep
+  ending = Noted (note.Doom x why)
 
   gone : (f : FlowId) → (x == f.exchange) ≡ true → flow_in new f ≡ None
   gone f e = ap (option_and_then (side_of f.back)) (d.gone.live f.exchange ∙ ap (λ b. if b then None else exchange_at old.exchanges f.exchange) e)
@@ -51,23 +51,23 @@ module _ (x : ℕ) (why : Cause) (h : WayHistory) (old new : Flows) (d : Dooms x
   stays : (f : FlowId) → (x == f.exchange) ≡ false → flow_in new f ≡ flow_in old f
   stays f e = ap (option_and_then (side_of f.back)) (d.gone.live f.exchange ∙ ap (λ b. if b then None else exchange_at old.exchanges f.exchange) e)
 
-  place_stays : (f : FlowId) → (x == f.exchange) ≡ false → (p : ℕ) → place world_setup f p (end ∷ h) ≡ place world_setup f p h
+  place_stays : (f : FlowId) → (x == f.exchange) ≡ false → (p : ℕ) → place world_setup f p (ending ∷ h) ≡ place world_setup f p h
   place_stays f e p = ap (λ b. if b then [] else place world_setup f p h) (turned x f.exchange false e)
 
-  pub dooms : (conns : BTreeMap ℕ Conn) (links links' : Links) → UnlinksOne x links links' → Stands conns old links h → Stands conns new links' (end ∷ h)
+  pub dooms : (conns : BTreeMap ℕ Conn) (links links' : Links) → UnlinksOne x links links' → Stands conns old links h → Stands conns new links' (ending ∷ h)
   dooms conns links links' u s = record {
     writes = s.writes;
     flows_are = λ f. by_case (x == f.exchange)
-        (λ e. subst (λ (o : Option Flow). IfSome o (FlowIs f (end ∷ h))) (sym (gone f e)) tt)
-        (λ e. subst (λ (o : Option Flow). IfSome o (FlowIs f (end ∷ h))) (sym (stays f e))
+        (λ e. subst (λ (o : Option Flow). IfSome o (FlowIs f (ending ∷ h))) (sym (gone f e)) tt)
+        (λ e. subst (λ (o : Option Flow). IfSome o (FlowIs f (ending ∷ h))) (sym (stays f e))
             (if_some (flow_in old f) (λ flow was. record { last = was.last; holds = λ p. was.holds p ∙ sym (place_stays f e p) }) (s.flows_are f)));
     empty = λ f p none. by_case (x == f.exchange)
         (λ e. ap (λ b. if b then [] else place world_setup f p h) (turned x f.exchange true e))
         (λ e. place_stays f e p ∙ s.empty f p (sym (ap is_some (stays f e)) ∙ none));
     ends = λ y. by_case (x == y)
-        (λ e. subst (λ (o : Option Ends). IfSome o (EndsAre y (end ∷ h))) (sym (u.ends y ∙ ap (λ b. if b then None else ends_of y links) e)) tt)
-        (λ e. subst (λ (o : Option Ends). IfSome o (EndsAre y (end ∷ h))) (sym (u.ends y ∙ ap (λ b. if b then None else ends_of y links) e))
-            (if_some (ends_of y links) (ends_are_still end h (λ g. refl) y) (s.ends y)));
+        (λ e. subst (λ (o : Option Ends). IfSome o (EndsAre y (ending ∷ h))) (sym (u.ends y ∙ ap (λ b. if b then None else ends_of y links) e)) tt)
+        (λ e. subst (λ (o : Option Ends). IfSome o (EndsAre y (ending ∷ h))) (sym (u.ends y ∙ ap (λ b. if b then None else ends_of y links) e))
+            (if_some (ends_of y links) (ends_are_still ending h (λ g. refl) y) (s.ends y)));
     known = λ c e. s.known c (sym (u.known c) ∙ e);
     closed = s.closed;
   }
