@@ -5,6 +5,7 @@ use Rattle.exchange_core.specs.declared.exchange.Exchange.{Exchange}
 use Rattle.flow_gate.specs.declared.ids.FlowId.{FlowId}
 use Rattle.flow_notes.specs.declared.notes.Note.{Note}
 use Rattle.std.proofs.Common.{ap, append_assoc, refl, subst, sym, ◌∙◌}
+use Rattle.std.proofs.lemmas.List.{append-nil}
 use Rattle.std.specs.BTreeMap.{BTreeMap, WritesThrough, get, is_at}
 use Rattle.std.specs.Map.{lookup}
 use Rattle.std.specs.Option.{option_and_then, option_map_or}
@@ -15,7 +16,7 @@ use Rattle.wire_flows.specs.Flows.{Flows, flow_in}
 use Rattle.wire_links.specs.Links.{Links, ends_of, no_links}
 use Rattle.wire_state.proofs.Bodies.{flows_go}
 use Rattle.wire_state.proofs.Standing.{ConnsAre, KeepsFlows, KeepsShut, Writes, at_one, conns_go, conns_written, same_octets, wrote}
-use Rattle.wire_state.specs.Ways.{WayHistory, WayStep, after, shown}
+use Rattle.wire_state.specs.Ways.{Way, WayHistory, WayStep, after, shown}
 use Rattle.wire_state.specs.Worlds.{EndsAre, FlowIs, Goes, Keeps, Owes, Shows, Stands, Told, octets_of}
 use Rattle.wire_state.specs.declared.conn.Conn.{Conn}
 use Rattle.wire_state.specs.declared.wire_core.WireCore.{WireCore}
@@ -104,4 +105,16 @@ first_stands conns flows links c f l = record {
   ends = λ x. subst (λ (v : Links). IfSome (ends_of x v) (EndsAre x [])) (sym l) tt;
   known = λ d e. ap (λ (es : List (ℕ × Conn)). is_some (lookup (is_at (nat_cmp d)) es)) c;
   closed = λ d e. sym (ap (λ (es : List (ℕ × Conn)). option_map_or (λ conn. not conn.open) (lookup (is_at (nat_cmp d)) es) false) c);
+}
+
+-- ---- a mark
+-- nothing is noted, but the history has a mark more
+pub keeps_marked : (m : Way) (old new : WireCore)
+    → ((h : WayHistory) → Stands old.conns old.flows old.links h → Stands new.conns new.flows new.links (Marked m ∷ h)) → Keeps old new
+keeps_marked m old new goes = record {
+  goes = λ h start notes t. record {
+    steps = t.steps ++ Marked m ∷ [];
+    is = t.is ∙ ap (λ (ns : List Note). start ++ ns) (sym (shown_append t.steps (Marked m ∷ []) ∙ append-nil (shown t.steps)));
+    stands = subst (λ (k : WayHistory). Stands new.conns new.flows new.links k) (sym (after_append t.steps (Marked m ∷ []) h)) (goes (after t.steps h) t.stands);
+  };
 }
