@@ -115,7 +115,6 @@ IsFresh (event.Accept c) h = was_closed c h ≡ false
 IsFresh (event.Join c cluster) h = was_closed c h ≡ false
 IsFresh e h = Unit {0}
 
--- from before the turn note of an event on
+-- From before the turn note of an event on: the core stood for a history, and stands for it with the dispatch's steps.
 pub record Turns (k : ℕ) (e : Event) (old : WireCore) (noted : List Note) (new : WireCore) (now : List Note) : Type 0 where
-  pub goes : (h : WayHistory) (start before : List Note) → noted ≡ before ++ note.Turn k e ∷ []
-      → (t : Told h start old before) → IsFresh e (after t.steps h) → Told h start new now
+  pub goes : (h : WayHistory) (before : List Note) → noted ≡ before ++ note.Turn k e ∷ [] → Stands old.conns old.flows old.links h → IsFresh e h → Told h before new now
