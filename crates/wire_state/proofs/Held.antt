@@ -97,11 +97,11 @@ module _ (places : List Place) (p n : ℕ) (y : Place) (next : place_at places (
       ≡ (if r == p then drop n (held (place_at places r)) else (if r == p + 1 then held (place_at places r) ++ came else held (place_at places r)))
   passed_held r = by_test (r == p)
       (λ here. let there = is_number r p here in
-          held_other (gaining came) mid (p + 1) r (ap (λ v. p + 1 == v) there ∙ behind)
-          ∙ (held_same (letting_go n) places p r (turned r p true here) ∙ let_go_held n (place_at places r)))
+      held_other (gaining came) mid (p + 1) r (ap (λ v. p + 1 == v) there ∙ behind)
+      ∙ (held_same (letting_go n) places p r (turned r p true here) ∙ let_go_held n (place_at places r)))
       (λ past. by_test (r == p + 1)
-          (λ follows. at_next r (turned r (p + 1) true follows))
-          (λ beyond. held_other (gaining came) mid (p + 1) r (turned r (p + 1) false beyond) ∙ held_other (letting_go n) places p r (turned r p false past)))
+      (λ follows. at_next r (turned r (p + 1) true follows))
+      (λ beyond. held_other (gaining came) mid (p + 1) r (turned r (p + 1) false beyond) ∙ held_other (letting_go n) places p r (turned r p false past)))
 
 -- ---- a move of a flow
 -- the first n octets of a place go to the end of the next, where there is one
@@ -111,10 +111,10 @@ moved_held flow zero n y next zero = refl
 moved_held flow zero n y next (suc r) = by_test (suc r == 0)
     (λ e. absurd (grind (arith, nat_tests)))
     (λ past. by_test (suc r == 0 + 1)
-        (λ e. let one : 1 ≡ suc r = sym (is_number (suc r) (0 + 1) e) in
-            held_same (gaining (take n flow.recv)) flow.chain.places 1 (suc r) (ap (λ v. 1 == v) (sym one) ∙ number_same 1)
-            ∙ gained_held (take n flow.recv) (place_at flow.chain.places (suc r)) y (ap (place_at flow.chain.places) (sym one) ∙ next))
-        (λ e. held_other (gaining (take n flow.recv)) flow.chain.places 1 (suc r) (turned (suc r) 1 false e)))
+    (λ e. let one : 1 ≡ suc r = sym (is_number (suc r) (0 + 1) e) in
+    held_same (gaining (take n flow.recv)) flow.chain.places 1 (suc r) (ap (λ v. 1 == v) (sym one) ∙ number_same 1)
+    ∙ gained_held (take n flow.recv) (place_at flow.chain.places (suc r)) y (ap (place_at flow.chain.places) (sym one) ∙ next))
+    (λ e. held_other (gaining (take n flow.recv)) flow.chain.places 1 (suc r) (turned (suc r) 1 false e)))
 moved_held flow (suc p) n y next zero = by_test (0 == suc p)
     (λ e. absurd (grind (arith, nat_tests)))
     (λ past. by_test (0 == suc p + 1) (λ e. absurd (grind (arith, nat_tests))) (λ e. refl))

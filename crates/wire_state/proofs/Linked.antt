@@ -107,7 +107,7 @@ pub comes : (n : ℕ) (old new : BTreeMap ℕ Conn) → ComesNew n old new → (
 comes n old new c flows links h known fresh s = record {
   writes = λ d. by_case (n == d)
       (λ e. let is = is_number n d e in
-          ap (λ v. octets_of v new) (sym is) ∙ (c.octets ∙ (sym (none_octets n old c.none) ∙ (s.writes n ∙ ap (λ v. out world_setup v h) is))))
+      ap (λ v. octets_of v new) (sym is) ∙ (c.octets ∙ (sym (none_octets n old c.none) ∙ (s.writes n ∙ ap (λ v. out world_setup v h) is))))
       (λ e. ap (λ (o : Option Conn). option_map_or (λ conn. conn.outlet.write.octets) o []) (c.others d e) ∙ s.writes d);
   flows_are = s.flows_are;
   empty = s.empty;
@@ -131,7 +131,7 @@ pub forgets : (n : ℕ) (old new : BTreeMap ℕ Conn) → ForgetsConn n old new 
 forgets n old new f flows links links' h same known s = record {
   writes = λ d. by_case (n == d)
       (λ e. let is = is_number n d e in
-          ap (λ v. octets_of v new) (sym is) ∙ (ap (λ (o : Option Conn). option_map_or (λ conn. conn.outlet.write.octets) o []) f.gone ∙ (sym f.empty ∙ (s.writes n ∙ ap (λ v. out world_setup v h) is))))
+      ap (λ v. octets_of v new) (sym is) ∙ (ap (λ (o : Option Conn). option_map_or (λ conn. conn.outlet.write.octets) o []) f.gone ∙ (sym f.empty ∙ (s.writes n ∙ ap (λ v. out world_setup v h) is))))
       (λ e. ap (λ (o : Option Conn). option_map_or (λ conn. conn.outlet.write.octets) o []) (f.others d e) ∙ s.writes d);
   flows_are = s.flows_are;
   empty = s.empty;
@@ -175,6 +175,6 @@ drops_rest n k old new d flows links h s = record {
     at : (c : ℕ) → octets_of c new ≡ (if (n == c) && was_closed c h then [] else out world_setup c h)
     at c = by_case (n == c)
         (λ e. let is = is_number n c e in
-            d.octets c ∙ (ap (λ b. if b then [] else octets_of c old) e
-            ∙ (sym (dropped (has_conn n old) refl) ∙ (ap (λ v. if was_closed v h then [] else out world_setup v h) is ∙ sym (ap (λ b. if b && was_closed c h then [] else out world_setup c h) e)))))
+        d.octets c ∙ (ap (λ b. if b then [] else octets_of c old) e
+        ∙ (sym (dropped (has_conn n old) refl) ∙ (ap (λ v. if was_closed v h then [] else out world_setup v h) is ∙ sym (ap (λ b. if b && was_closed c h then [] else out world_setup c h) e)))))
         (λ e. d.octets c ∙ (ap (λ b. if b then [] else octets_of c old) e ∙ (s.writes c ∙ sym (ap (λ b. if b && was_closed c h then [] else out world_setup c h) e))))

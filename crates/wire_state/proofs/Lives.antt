@@ -60,14 +60,14 @@ module _ (x : ℕ) (why : Cause) (h : WayHistory) (old new : Flows) (d : Dooms x
     flows_are = λ f. by_case (x == f.exchange)
         (λ e. subst (λ (o : Option Flow). IfSome o (FlowIs f (ending ∷ h))) (sym (gone f e)) tt)
         (λ e. subst (λ (o : Option Flow). IfSome o (FlowIs f (ending ∷ h))) (sym (stays f e))
-            (if_some (flow_in old f) (λ flow was. record { last = was.last; holds = λ p. was.holds p ∙ sym (place_stays f e p) }) (s.flows_are f)));
+        (if_some (flow_in old f) (λ flow was. record { last = was.last; holds = λ p. was.holds p ∙ sym (place_stays f e p) }) (s.flows_are f)));
     empty = λ f p none. by_case (x == f.exchange)
         (λ e. ap (λ b. if b then [] else place world_setup f p h) (turned x f.exchange true e))
         (λ e. place_stays f e p ∙ s.empty f p (sym (ap is_some (stays f e)) ∙ none));
     ends = λ y. by_case (x == y)
         (λ e. subst (λ (o : Option Ends). IfSome o (EndsAre y (ending ∷ h))) (sym (u.ends y ∙ ap (λ b. if b then None else ends_of y links) e)) tt)
         (λ e. subst (λ (o : Option Ends). IfSome o (EndsAre y (ending ∷ h))) (sym (u.ends y ∙ ap (λ b. if b then None else ends_of y links) e))
-            (if_some (ends_of y links) (ends_are_still ending h (λ g. refl) y) (s.ends y)));
+        (if_some (ends_of y links) (ends_are_still ending h (λ g. refl) y) (s.ends y)));
     known = λ c e. s.known c (sym (u.known c) ∙ e);
     closed = s.closed;
   }
@@ -141,27 +141,27 @@ module _ (x c s d : ℕ) (to : Option ℕ) (spec : StartSpec) (config : Config) 
       holds = λ p. begun_held (flow_id x f.back) (filters f.back) spec (multiple f.back) p ∙ sym (empty f p (none_there f e));
     }
 
+    abbrev linked : Ends
+    linked = record { client = c; stream = s; cluster = to; cluster_stream = None }
+
     pub starts : (conns : BTreeMap ℕ Conn) (links links' : Links) → LinksOne x c s to links links' → Stands conns old links h → Stands conns new links' then_
     starts conns links links' l stands = record {
       writes = stands.writes;
       flows_are = λ f. by_case (x == f.exchange)
           (λ e. subst (λ (o : Option Flow). IfSome o (FlowIs f then_)) (sym (mine f e ∙ new_flow f.back)) (mine_is stands.empty f e))
           (λ e. subst (λ (o : Option Flow). IfSome o (FlowIs f then_)) (sym (other f e))
-              (if_some (flow_in old f) (λ flow was. record { last = was.last ∙ sym (passed f false e); holds = was.holds }) (stands.flows_are f)));
+          (if_some (flow_in old f) (λ flow was. record { last = was.last ∙ sym (passed f false e); holds = was.holds }) (stands.flows_are f)));
       empty = λ f p none. by_case (x == f.exchange)
           (λ e. absurd (cc (ap is_some (mine f e ∙ new_flow f.back), none)))
           (λ e. stands.empty f p (sym (ap is_some (other f e)) ∙ none));
       ends = λ y. by_case (x == y)
           (λ e. subst (λ (o : Option Ends). IfSome o (EndsAre y then_)) (sym (l.ends y ∙ ap (λ b. if b then Some (linked) else ends_of y links) e))
-              (record { client = sym (ap (λ b. if true && b then s else stream_to (response y) h) e); cluster = tt }))
+          (record { client = sym (ap (λ b. if true && b then s else stream_to (response y) h) e); cluster = tt }))
           (λ e. subst (λ (o : Option Ends). IfSome o (EndsAre y then_)) (sym (l.ends y ∙ ap (λ b. if b then Some (linked) else ends_of y links) e))
-              (if_some (ends_of y links) (λ v was. record { client = was.client ∙ sym (ap (λ b. if true && b then s else stream_to (response y) h) e); cluster = was.cluster }) (stands.ends y)));
+          (if_some (ends_of y links) (λ v was. record { client = was.client ∙ sym (ap (λ b. if true && b then s else stream_to (response y) h) e); cluster = was.cluster }) (stands.ends y)));
       known = λ n e. stands.known n (sym (l.known n) ∙ e);
       closed = stands.closed;
     }
-      where
-        abbrev linked : Ends
-        linked = record { client = c; stream = s; cluster = to; cluster_stream = None }
 
 -- ---- the stream of a request at its cluster
 pub record OpensStream (x s : ℕ) (old new : Links) : Type 0 where

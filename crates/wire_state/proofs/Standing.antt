@@ -207,7 +207,6 @@ module _ (h : WayHistory) where
     pub resume_shut : KeepsShut (Noted (note.Resume f b)) h
     resume_shut = record { closed = λ d. refl }
 
-
 -- ---- a connection is closed
 -- one connection isn't open any more, with these octets
 pub record Shuts (n : ℕ) (g : List ℕ → List ℕ) (old new : BTreeMap ℕ Conn) : Type 0 where
