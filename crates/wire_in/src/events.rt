@@ -1,7 +1,8 @@
 // Events: what each does before anything is run.
-ghost use Rattle.std.specs.Prelude.{◌≤◌, ◌*◌, IfOk, OnOk, length};
+ghost use Rattle.std.specs.Prelude.{◌≤◌, ◌*◌, IfOk, OnOk, length, MatchOption, ℕ, is_some, false};
 ghost use Rattle.wire_state.specs.Noting.{Appends};
 ghost use Rattle.wire_state.specs.Sound.{IsSound};
+ghost use Rattle.wire_state.specs.Worlds.{Goes, Keeps, Owes, Pays, Turns, outs_of};
 
 use flow_notes::{Cause, CloseCause, Event, FireKind, Job, Note, Notes};
 use io_ports::{NoMemory, Octets, PressureList};
@@ -39,6 +40,7 @@ pub fn take_event(core: &mut WireCore, event: &Event, notes: &mut Notes) -> Resu
     requires sound { IsSound core.old }
     ensures sound { OnOk result (IsSound core.new) }
     ensures notes { Appends notes.old notes.new }
+    ensures octets { (k : ℕ) → OnOk result (Turns k event.now core.old notes.old core.new notes.new) }
 {
     match event {
         Event::Accept { conn } => accept(core, *conn, notes),
@@ -62,6 +64,7 @@ fn accept(core: &mut WireCore, number: u32, notes: &mut Notes) -> Result<(), NoM
     requires sound { IsSound core.old }
     ensures sound { OnOk result (IsSound core.new) }
     ensures notes { Appends notes.old notes.new }
+    ensures octets { OnOk result (Goes core.old notes.old core.new notes.new) }
 {
     if core.links.is_known(number) {
         return Ok(());
@@ -84,6 +87,7 @@ fn accept(core: &mut WireCore, number: u32, notes: &mut Notes) -> Result<(), NoM
 fn join(core: &mut WireCore, number: u32, cluster: u32) -> Result<(), NoMemory>
     requires sound { IsSound core.old }
     ensures sound { OnOk result (IsSound core.new) }
+    ensures octets { OnOk result (Keeps core.old core.new) }
 {
     if core.links.is_known(number) {
         return Ok(());
@@ -118,6 +122,7 @@ fn settings_of(
 fn open(core: &mut WireCore, number: u32, peer: Peer) -> Result<(), NoMemory>
     requires sound { IsSound core.old }
     ensures sound { OnOk result (IsSound core.new) }
+    ensures octets { is_some (get nat_cmp core.old.conns number) ≡ false → OnOk result (Keeps core.old core.new) }
 {
     core.flows.open_write(number)?;
     let conn = Conn::new(core.alloc, peer, &core.config.limits)?;
@@ -129,6 +134,7 @@ fn open(core: &mut WireCore, number: u32, peer: Peer) -> Result<(), NoMemory>
 fn read(core: &mut WireCore, number: u32, octets: &Octets) -> Result<(), NoMemory>
     requires sound { IsSound core.old }
     ensures sound { OnOk result (IsSound core.new) }
+    ensures octets { OnOk result (Keeps core.old core.new) }
 {
     if read_at(core, number, octets)? {
         return core.begin(Task::Read(number));
@@ -140,6 +146,7 @@ fn read(core: &mut WireCore, number: u32, octets: &Octets) -> Result<(), NoMemor
 fn read_at(core: &mut WireCore, number: u32, octets: &Octets) -> Result<bool, NoMemory>
     requires sound { IsSound core.old }
     ensures sound { OnOk result (IsSound core.new) }
+    ensures octets { OnOk result (Keeps core.old core.new) }
 {
     match core.conns.get_mut(&number) {
         Some(conn) => conn.read(octets),
@@ -152,6 +159,7 @@ fn room(core: &mut WireCore, number: u32, n: u32, notes: &mut Notes) -> Result<(
     requires sound { IsSound core.old }
     ensures sound { OnOk result (IsSound core.new) }
     ensures notes { Appends notes.old notes.new }
+    ensures octets { OnOk result (Goes core.old notes.old core.new notes.new) }
 {
     let Some((n, crossed)) = leave_at(core, number, n) else {
         return Ok(());
@@ -169,6 +177,7 @@ fn room(core: &mut WireCore, number: u32, n: u32, notes: &mut Notes) -> Result<(
 fn leave_at(core: &mut WireCore, number: u32, n: u32) -> Option<(u32, Crossed)>
     requires sound { IsSound core.old }
     ensures sound { IsSound core.new }
+    ensures octets { MatchOption result (core.new ≡ core.old) (λ r. Owes (outs_of number r.0) core.old core.new) }
 {
     match core.conns.get_mut(&number) {
         Some(conn) => Some(conn.leave_write(n)),
@@ -179,6 +188,7 @@ fn leave_at(core: &mut WireCore, number: u32, n: u32) -> Option<(u32, Crossed)>
 // The note of octets that went to the socket. Without octets there is nothing to say.
 fn note_out(notes: &mut Notes, conn: u32, n: u32) -> Result<(), NoMemory>
     ensures notes { Appends notes.old notes.new }
+    ensures octets { OnOk result (Pays (outs_of conn n) notes.old notes.new) }
 {
     if n == 0 {
         return Ok(());
@@ -190,6 +200,7 @@ fn note_out(notes: &mut Notes, conn: u32, n: u32) -> Result<(), NoMemory>
 fn tick(core: &mut WireCore, now: u64) -> Result<(), NoMemory>
     requires sound { IsSound core.old }
     ensures sound { OnOk result (IsSound core.new) }
+    ensures octets { OnOk result (Keeps core.old core.new) }
 {
     set_clock(core, now);
     core.begin(Task::Fires)?;
@@ -203,6 +214,7 @@ fn tick(core: &mut WireCore, now: u64) -> Result<(), NoMemory>
 fn set_clock(core: &mut WireCore, now: u64)
     requires sound { IsSound core.old }
     ensures sound { IsSound core.new }
+    ensures octets { Keeps core.old core.new }
 {
     core.now = core.now.max(now).min(LAST_MOMENT);
     core.flows.tick(core.now);
@@ -219,6 +231,7 @@ fn post(
     requires sound { IsSound core.old }
     ensures sound { OnOk result (IsSound core.new) }
     ensures notes { Appends notes.old notes.new }
+    ensures octets { OnOk result (Goes core.old notes.old core.new notes.new) }
 {
     match job {
         Job::Drain => core.begin(Task::Drains(0)),
@@ -239,6 +252,7 @@ fn post(
 fn obey(core: &mut WireCore, version: u64, pressures: &PressureList) -> Result<(), NoMemory>
     requires sound { IsSound core.old }
     ensures sound { OnOk result (IsSound core.new) }
+    ensures octets { OnOk result (Keeps core.old core.new) }
 {
     core.obeyed = version;
     core.load.obey(&core.config, pressures.as_slice());

@@ -1,12 +1,14 @@
 // Heads of requests: an exchange begins.
 ghost use Rattle.proxy_config.specs.Ranges.{IsBetween, IsInRange, most_octets};
 ghost use Rattle.std.specs.Option.{ForSome, option_copied};
-ghost use Rattle.std.specs.Prelude.{◌≡◌, ◌<◌, ◌≤◌, ◌+◌, ◌^◌, IfSome, IsSome, None, OnOk, false, length, true};
+ghost use Rattle.std.specs.Prelude.{◌≡◌, ◌<◌, ◌≤◌, ◌+◌, ◌^◌, IfSome, IsSome, None, OnOk, false, length, true, ◌∷◌, [], IfOk, ℕ};
 ghost use Rattle.wire_flows.specs.Writes.{write_at};
 ghost use Rattle.wire_links.specs.Links.{cluster_of, exchange_at, is_client};
 ghost use Rattle.wire_state.specs.Noting.{Appends};
 ghost use Rattle.wire_state.specs.Progress.{to_go};
 ghost use Rattle.wire_state.specs.Sound.{IsSound};
+ghost use Rattle.wire_state.specs.Worlds.{Goes, Keeps, Owes, Shows};
+ghost use Rattle.flow_notes.specs.declared.notes.Note.TheVariants as note;
 
 use crate::heads::{self, finish};
 use exchange_core::{Awaited, StartSpec};
@@ -36,6 +38,7 @@ pub(crate) fn request(
     ensures sound { OnOk result (IsSound core.new) }
     ensures go { OnOk result (to_go core.new ≤ to_go core.old + 300) }
     ensures notes { Appends notes.old notes.new }
+    ensures octets { OnOk result (Goes core.old notes.old core.new notes.new) }
 {
     if ignores(core, number, stream) || !is_unused(core, number, stream) {
         return Ok(());
@@ -68,6 +71,7 @@ fn go(
     requires sound { IsSound core.old }
     ensures sound { OnOk result (IsSound core.new) }
     ensures go { OnOk result (to_go core.new ≤ to_go core.old + 41) }
+    ensures octets { OnOk result (Keeps core.old core.new) }
 {
     match core.flows.awaits(course.flow) {
         Awaited::Head => heads::begin(core, course, stream, fields, last),
@@ -81,6 +85,7 @@ fn ignores(core: &mut WireCore, number: u32, stream: u32) -> bool
     ensures sound { IsSound core.new }
     ensures go { to_go core.new ≤ to_go core.old }
     ensures rest { core.new ≡ record core.old { conns = core.new.conns } }
+    ensures octets { Keeps core.old core.new }
 {
     match core.conns.get_mut(&number) {
         Some(conn) => conn.ignores(stream),
@@ -126,6 +131,7 @@ fn begin(
     ensures sound { OnOk result (IsSound core.new) }
     ensures go { OnOk result (to_go core.new ≤ to_go core.old + 225) }
     ensures notes { Appends notes.old notes.new }
+    ensures octets { OnOk result (Goes core.old notes.old core.new notes.new) }
 {
     let (row, to) = goal_of(core, decision);
     let started = start(core, number, stream, row, to)?;
@@ -205,6 +211,7 @@ fn start(
     requires cluster { IfSome to (λ c. IsSome (cluster_of c core.old.links)) }
     ensures sound { OnOk result (IsSound core.new) }
     ensures go { OnOk result (to_go core.new ≤ to_go core.old + 144) }
+    ensures octets { IfOk result (λ s. (d : ℕ) → Owes (note.Start s.exchange number stream d ∷ []) core.old core.new) }
 {
     let spec = spec_of(core, number, stream, row, to);
     let started = core.flows.start(&spec, &core.config)?;
@@ -216,6 +223,7 @@ fn begin_stream(core: &mut WireCore, number: u32, exchange: u64) -> Result<(), N
     requires sound { IsSound core.old }
     ensures sound { OnOk result (IsSound core.new) }
     ensures go { to_go core.new ≤ to_go core.old }
+    ensures octets { OnOk result (Keeps core.old core.new) }
 {
     match core.conns.get_mut(&number) {
         Some(conn) => conn.begin(exchange),
@@ -261,6 +269,7 @@ fn note_held(
     notes: &mut Notes,
 ) -> Result<(), NoMemory>
     ensures notes { Appends notes.old notes.new }
+    ensures octets { OnOk result (Shows notes.old notes.new) }
 {
     let exchange = started.exchange;
     if started.request_held

@@ -1,11 +1,14 @@
 // The state of a worker's wire sessions.
 ghost use Rattle.proxy_config.specs.Ranges.{IsInRange};
-ghost use Rattle.std.specs.Prelude.{◌≡◌, ◌≤◌, ◌+◌, ◌∷◌, [], IfOk, OnOk};
+ghost use Rattle.std.specs.Prelude.{◌≡◌, ◌≤◌, ◌+◌, ◌++◌, ◌∷◌, [], IfOk, OnOk};
+ghost use Rattle.wire_flows.specs.Writes.{watchers_on};
+ghost use Rattle.wire_links.specs.Links.{no_links};
 ghost use Rattle.wire_state.specs.Agenda.{stirred_at, top_go};
 ghost use Rattle.wire_state.specs.Courses.{comes_from, course_at, course_in, goes_to, row_of};
-ghost use Rattle.wire_state.specs.Noting.{Appends};
+ghost use Rattle.wire_state.specs.Noting.{Appends, pauses_of};
 ghost use Rattle.wire_state.specs.Progress.{task_go, to_go};
 ghost use Rattle.wire_state.specs.Sound.{IsSound, is_open_at};
+ghost use Rattle.wire_state.specs.Worlds.{Goes, Keeps, Stands};
 
 use crate::agenda::{Agenda, Task};
 use crate::conn::Conn;
@@ -71,6 +74,8 @@ impl WireCore {
         ensures sound { IfOk result (λ core. IsSound core) }
         ensures idle { IfOk result (λ core. core.agenda ≡ []) }
         ensures new { IfOk result (λ core. (core.config ≡ config) × (core.conns.entries ≡ [])) }
+        ensures none { IfOk result (λ core. (core.links ≡ no_links) × (core.flows.exchanges.live ≡ [])) }
+        ensures octets { IfOk result (λ core. Stands core.conns core.flows core.links []) }
     {
         let load = Load::new(alloc, config.overload.class_start)?;
         let timers = WireTimers::new(alloc, &config)?;
@@ -114,6 +119,7 @@ impl WireCore {
         ensures go { OnOk result (to_go self.new ≡ to_go self.old + task_go task) }
         ensures agenda { OnOk result (self.new.agenda ≡ task ∷ self.old.agenda) }
         ensures rest { self.new ≡ record self.old { agenda = self.new.agenda } }
+        ensures octets { Keeps self.old self.new }
     {
         self.agenda.push(task)
     }
@@ -125,6 +131,7 @@ impl WireCore {
         ensures sound { IsSound self.new }
         ensures go { to_go self.new + top_go self.old.agenda ≡ to_go self.old }
         ensures rest { self.new ≡ record self.old { agenda = self.new.agenda } }
+        ensures octets { Keeps self.old self.new }
     {
         self.agenda.pop();
     }
@@ -135,6 +142,7 @@ impl WireCore {
         ensures sound { OnOk result (IsSound self.new) }
         ensures go { OnOk result (to_go self.new + top_go self.old.agenda ≡ to_go self.old + task_go task) }
         ensures rest { self.new ≡ record self.old { agenda = self.new.agenda } }
+        ensures octets { Keeps self.old self.new }
     {
         self.end_task();
         self.begin(task)
@@ -147,6 +155,7 @@ impl WireCore {
         ensures sound { OnOk result (IsSound self.new) }
         ensures go { OnOk result (to_go self.new ≤ to_go self.old + 1) }
         ensures rest { self.new ≡ record self.old { stirred = self.new.stirred } }
+        ensures octets { Keeps self.old self.new }
     {
         self.stirred.add(conn)
     }
@@ -157,6 +166,8 @@ impl WireCore {
         requires sound { IsSound self.old }
         ensures sound { IsSound self.new }
         ensures go { to_go self.new + (top_go self.old.agenda + stirred_at conn self.old.stirred.conns.items) ≡ to_go self.old }
+        ensures rest { self.new ≡ record self.old { agenda = self.new.agenda; stirred = self.new.stirred } }
+        ensures octets { Keeps self.old self.new }
     {
         self.end_task();
         self.stirred.remove(conn);
@@ -168,6 +179,7 @@ impl WireCore {
         ensures sound { OnOk result (IsSound self.new) }
         ensures go { OnOk result (to_go self.new ≤ to_go self.old + 2) }
         ensures rest { self.new ≡ record self.old { stirred = self.new.stirred } }
+        ensures octets { Keeps self.old self.new }
     {
         self.stir_some(course.from)?;
         self.stir_some(course.to)
@@ -180,6 +192,7 @@ impl WireCore {
         ensures sound { OnOk result (IsSound self.new) }
         ensures go { OnOk result (to_go self.new ≤ to_go self.old + 1) }
         ensures rest { self.new ≡ record self.old { stirred = self.new.stirred } }
+        ensures octets { Keeps self.old self.new }
     {
         match conn {
             Some(conn) => self.stir(conn),
@@ -193,6 +206,7 @@ impl WireCore {
         ensures sound { OnOk result (IsSound self.new) }
         ensures go { OnOk result (to_go self.new ≤ to_go self.old + 9) }
         ensures rest { self.new ≡ record self.old { stirred = self.new.stirred; agenda = self.new.agenda } }
+        ensures octets { Keeps self.old self.new }
     {
         self.stir_course(course)?;
         self.begin(Task::AskRun(course))
@@ -204,6 +218,7 @@ impl WireCore {
         ensures sound { OnOk result (IsSound self.new) }
         ensures go { OnOk result (to_go self.new ≡ to_go self.old) }
         ensures rest { self.new ≡ record self.old { load = self.new.load } }
+        ensures octets { Keeps self.old self.new }
     {
         self.load.touch(exchange)
     }
@@ -214,6 +229,7 @@ impl WireCore {
         ensures sound { OnOk result (IsSound self.new) }
         ensures go { OnOk result (to_go self.new ≤ to_go self.old + 1) }
         ensures rest { self.new ≡ record self.old { timers = self.new.timers } }
+        ensures octets { Keeps self.old self.new }
     {
         self.timers.arm(kind, id, self.now)
     }
@@ -224,6 +240,7 @@ impl WireCore {
         ensures sound { IsSound self.new }
         ensures go { to_go self.new ≤ to_go self.old }
         ensures rest { self.new ≡ record self.old { timers = self.new.timers } }
+        ensures octets { Keeps self.old self.new }
     {
         self.timers.disarm(kind, id);
     }
@@ -235,6 +252,9 @@ impl WireCore {
         ensures go { OnOk result (to_go self.new ≤ to_go self.old) }
         ensures notes { Appends notes.old notes.new }
         ensures rest { self.new ≡ record self.old { flows = self.new.flows } }
+        ensures exchanges { self.new.flows.exchanges ≡ self.old.flows.exchanges }
+        ensures told { OnOk result (notes.new ≡ notes.old ++ pauses_of conn (watchers_on conn self.new.flows)) }
+        ensures octets { OnOk result (Goes self.old notes.old self.new notes.new) }
     {
         self.flows.write_rose(conn);
         note_pauses(&self.flows, conn, notes)
@@ -274,6 +294,7 @@ impl WireCore {
         ensures sound { IsSound self.new }
         ensures go { to_go self.new ≡ to_go self.old }
         ensures rest { self.new ≡ record self.old { conns = self.new.conns } }
+        ensures octets { Keeps self.old self.new }
     {
         match self.conns.get_mut(&conn) {
             Some(conn) => conn.may_frame(&self.flows),
@@ -287,6 +308,7 @@ impl WireCore {
         ensures sound { OnOk result (IsSound self.new) }
         ensures go { to_go self.new ≤ to_go self.old }
         ensures rest { self.new ≡ record self.old { conns = self.new.conns } }
+        ensures octets { Keeps self.old self.new }
     {
         match course.from {
             Some(from) => self.look_due_at(from, course.flow.exchange),
@@ -299,6 +321,7 @@ impl WireCore {
         ensures sound { OnOk result (IsSound self.new) }
         ensures go { to_go self.new ≤ to_go self.old }
         ensures rest { self.new ≡ record self.old { conns = self.new.conns } }
+        ensures octets { Keeps self.old self.new }
     {
         match self.conns.get_mut(&number) {
             Some(conn) => conn.look_due(exchange),
@@ -312,6 +335,7 @@ impl WireCore {
         ensures sound { OnOk result (IsSound self.new) }
         ensures go { to_go self.new ≤ to_go self.old }
         ensures rest { self.new ≡ record self.old { conns = self.new.conns } }
+        ensures octets { Keeps self.old self.new }
     {
         match course.to {
             Some(to) => self.refresh_at(to, course.flow),
@@ -324,6 +348,7 @@ impl WireCore {
         ensures sound { OnOk result (IsSound self.new) }
         ensures go { to_go self.new ≤ to_go self.old }
         ensures rest { self.new ≡ record self.old { conns = self.new.conns } }
+        ensures octets { Keeps self.old self.new }
     {
         match self.conns.get_mut(&number) {
             Some(conn) => conn.refresh(&self.flows, flow),
@@ -337,6 +362,7 @@ impl WireCore {
         ensures sound { OnOk result (IsSound self.new) }
         ensures go { OnOk result (to_go self.new ≤ to_go self.old + 1) }
         ensures rest { self.new ≡ record self.old { conns = self.new.conns; timers = self.new.timers } }
+        ensures octets { Keeps self.old self.new }
     {
         let exchange = course.flow.exchange;
         self.peer_ended(course.from, exchange, stream);
@@ -352,6 +378,7 @@ impl WireCore {
         ensures sound { IsSound self.new }
         ensures go { to_go self.new ≤ to_go self.old }
         ensures rest { self.new ≡ record self.old { conns = self.new.conns } }
+        ensures octets { Keeps self.old self.new }
     {
         match from {
             Some(from) => self.peer_ended_at(from, exchange, stream),
@@ -364,6 +391,7 @@ impl WireCore {
         ensures sound { IsSound self.new }
         ensures go { to_go self.new ≤ to_go self.old }
         ensures rest { self.new ≡ record self.old { conns = self.new.conns } }
+        ensures octets { Keeps self.old self.new }
     {
         match self.conns.get_mut(&number) {
             Some(conn) => conn.peer_ended(exchange, stream),

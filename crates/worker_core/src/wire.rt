@@ -1,12 +1,14 @@
 // A wire session and its dispatch.
 ghost use Rattle.proxy_config.specs.Ranges.{IsInRange};
-ghost use Rattle.std.specs.Prelude.{◌≡◌, ◌≢◌, ◌++◌, ◌+◌, ◌<◌, ◌∷◌, [], Err, IfOk, OnErr, OnOk, false, not, true};
+ghost use Rattle.std.specs.Prelude.{◌≡◌, ◌≢◌, ◌++◌, ◌+◌, ◌<◌, ◌∷◌, [], Err, IfOk, OnErr, OnOk, false, not, true, ℕ};
 ghost use Rattle.flow_notes.specs.declared.notes.Note.TheVariants as note;
 ghost use Rattle.wire_state.specs.Noting.{Appends};
 ghost use Rattle.wire_state.specs.Sound.{IsSound, is_open_at};
 ghost use Rattle.overload_core.specs.ActionStates.{is_saturated};
 ghost use Rattle.worker_core.specs.Dispatching.{Breaks, Dispatches, Tells, obeyed_after};
 ghost use Rattle.worker_core.specs.Fronts.{IsFront, IsLeastAbove, has_octets, is_there, octets_at};
+ghost use Rattle.wire_state.specs.Ways.{WayHistory};
+ghost use Rattle.wire_state.specs.Worlds.{IsFresh, Stands, Told, Turns};
 
 use crate::steps::settle;
 use flow_notes::{Event, Note, Notes};
@@ -92,6 +94,7 @@ impl WireSession {
         ensures obeyed { OnOk result (self.new.obeyed ≡ obeyed_after event.now self.old.obeyed) }
         ensures cut { Breaks self.old notes.old event.now notes.new }
         ensures well { self.new.failed ≡ self.old.failed }
+        ensures octets { OnOk result ((h : WayHistory) → Stands self.old.core.conns self.old.core.flows self.old.core.links h → IsFresh event.now h → Told h notes.old self.new.core notes.new) }
     {
         if self.turn >= LAST_TURN {
             return Err(NoMemory);
@@ -183,6 +186,7 @@ fn work(core: &mut WireCore, event: &Event, notes: &mut Notes) -> Result<(), NoM
     requires sound { IsSound core.old }
     ensures sound { OnOk result (IsSound core.new) }
     ensures notes { Appends notes.old notes.new }
+    ensures octets { (k : ℕ) → OnOk result (Turns k event.now core.old notes.old core.new notes.new) }
 {
     begin_rows(core);
     take_event(core, event, notes)?;
@@ -195,6 +199,7 @@ fn work(core: &mut WireCore, event: &Event, notes: &mut Notes) -> Result<(), NoM
 fn begin_rows(core: &mut WireCore)
     requires sound { IsSound core.old }
     ensures sound { IsSound core.new }
+    ensures rest { core.new ≡ record core.old { before = core.new.before; rows = core.new.rows } }
 {
     core.before = core.flows.last();
     core.rows.clear();

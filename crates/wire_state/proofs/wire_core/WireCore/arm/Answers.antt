@@ -1,9 +1,10 @@
-use Rattle.std.proofs.Common.{ap, arith}
+use Rattle.std.proofs.Common.{ap, arith, refl}
 use Rattle.std.specs.Prelude.{length, ◌≡◌}
+use Rattle.wire_state.proofs.Goings.{keeps_same}
 use Rattle.wire_state.proofs.Results.{ok_map}
 use Rattle.wire_state.proofs.Timing.{armed_more, armed_until}
-use Rattle.wire_state.specs.Progress.{to_go}
 use Rattle.wire_state.proofs.wire_core.WireCore.arm.Goals as goal
+use Rattle.wire_state.specs.Progress.{to_go}
 use Rattle.wire_timers.specs.Armed.{Timeouts, armed_anew}
 
 pub returns-clause-sound : goal.returns-clause-sound
@@ -26,3 +27,6 @@ returns-clause-go c =
     ok_map c.arm.result (λ (e : c.arm.new.self ≡ armed_anew c.args.kind c.args.id c.args.self.now.now c.args.self.now.timers).
     let f = ap (λ (t : Timeouts). length t.armed) e in
     omega (arith, f, armed_more c.args.kind c.args.id c.args.self.now.now c.args.self.now.timers)) c.arm.ensures.ok
+
+pub returns-clause-octets : goal.returns-clause-octets
+returns-clause-octets c = keeps_same _ _ refl refl refl

@@ -1,0 +1,180 @@
+-- What the links are after each of their calls, as far as a world asks.
+use Rattle.flow_notes.specs.declared.events.Event.TheVariants as event
+use Rattle.flow_notes.specs.declared.notes.Note.TheVariants as note
+use Rattle.std.proofs.Common.{ap, refl, subst, sym, ◌∙◌}
+use Rattle.std.specs.BTreeMap.{BTreeMap, get}
+use Rattle.std.specs.Option.{option_map, option_map_or}
+use Rattle.std.specs.Ordering.{nat_cmp}
+use Rattle.std.specs.Prelude.{Bool, IfSome, List, None, Option, Some, [], false, if◌then◌else◌, is_some, nat_eq, not, true, ℕ, ◌&&◌, ◌==◌, ◌∷◌, ◌≡◌}
+use Rattle.tape_laws.specs.Connections.{was_closed}
+use Rattle.tape_laws.specs.History.{Noted}
+use Rattle.tape_laws.specs.World.{out}
+use Rattle.wire_flows.proofs.Cases.{by_case}
+use Rattle.wire_flows.specs.Flows.{Flows, flow_in}
+use Rattle.wire_links.proofs.Under.{under_changed, under_insert, under_remove}
+use Rattle.wire_links.specs.Links.{IsSound, Links, accepted, doomed, ends_of, forgotten, framed, is_known, joined, new_conn, started, with_conn, with_stream}
+use Rattle.wire_links.specs.declared.conn.Conn.{Conn as Link}
+use Rattle.wire_links.specs.declared.ends.Ends.{Ends}
+use Rattle.wire_state.proofs.Held.{is_number}
+use Rattle.wire_state.proofs.Standing.{if_some}
+use Rattle.wire_state.proofs.Lives.{LinksOne, OpensStream, UnlinksOne}
+use Rattle.wire_state.specs.Ways.{WayHistory, world_setup}
+use Rattle.wire_state.specs.Worlds.{EndsAre, Stands, has_conn, is_shut, octets_of}
+use Rattle.wire_state.specs.declared.conn.Conn.{Conn}
+
+-- ---- exchanges
+pub unlinks : (x : ℕ) (links new : Links) → IsSound links → new ≡ doomed x links → UnlinksOne x links new
+unlinks x links new s e = record {
+  ends = λ y. ap (λ (l : Links). ends_of y l) e ∙ under_remove links.exchanges x y s.exchanges;
+  known = λ c. ap (λ (l : Links). is_known c l) e;
+}
+
+pub links_one : (x c s : ℕ) (to : Option ℕ) (links new : Links) → new ≡ started x c s to links → LinksOne x c s to links new
+links_one x c s to links new e = record {
+  ends = λ y. ap (λ (l : Links). ends_of y l) e ∙ under_insert links.exchanges x y (record { client = c; stream = s; cluster = to; cluster_stream = None });
+  known = λ d. ap (λ (l : Links). is_known d l) e;
+}
+
+pub links_placed : (x s : ℕ) (links new : Links) → new ≡ framed x s links → OpensStream x s links new
+links_placed x s links new e = record {
+  ends = λ y. ap (λ (l : Links). ends_of y l) e ∙ under_changed links.exchanges x y (with_stream s);
+  known = λ d. ap (λ (l : Links). is_known d l) e;
+}
+
+-- ---- connections
+-- the exchanges have the ends that they had, and no number was forgotten
+pub record KeepsEnds (old new : Links) : Type 0 where
+  pub ends : (x : ℕ) → ends_of x new ≡ ends_of x old
+  pub known : (c : ℕ) → is_known c new ≡ false → is_known c old ≡ false
+
+pub links_go : (old new : Links) → KeepsEnds old new → (conns : BTreeMap ℕ Conn) (flows : Flows) (h : WayHistory) → Stands conns flows old h → Stands conns flows new h
+links_go old new k conns flows h s = record {
+  writes = s.writes;
+  flows_are = s.flows_are;
+  empty = s.empty;
+  ends = λ x. subst (λ (o : Option Ends). IfSome o (EndsAre x h)) (sym (k.ends x)) (s.ends x);
+  known = λ c e. s.known c (k.known c e);
+  closed = s.closed;
+}
+
+still_some : (b : Bool) (f : Link → Link) (o : Option Link) → is_some (if b then option_map f o else o) ≡ is_some o
+still_some true f None = refl
+still_some true f (Some v) = refl
+still_some false f o = refl
+
+pub conn_changed_keeps : (c : ℕ) (f : Link → Link) (links new : Links) → new ≡ with_conn c f links → KeepsEnds links new
+conn_changed_keeps c f links new e = record {
+  ends = λ x. ap (λ (l : Links). ends_of x l) e;
+  known = λ d none. sym (ap (λ (l : Links). is_known d l) e ∙ (ap is_some (under_changed links.conns c d f) ∙ still_some (nat_eq c d) f _)) ∙ none;
+}
+
+pub conn_changed_known : (c : ℕ) (f : Link → Link) (links new : Links) → new ≡ with_conn c f links → (d : ℕ) → is_known d new ≡ is_known d links
+conn_changed_known c f links new e d = ap (λ (l : Links). is_known d l) e ∙ (ap is_some (under_changed links.conns c d f) ∙ still_some (nat_eq c d) f _)
+
+inserted_none : (b : Bool) (v : Link) (o : Option Link) → is_some (if b then Some v else o) ≡ false → is_some o ≡ false
+inserted_none true v o e = cc
+inserted_none false v o e = e
+
+pub accepted_keeps : (c : ℕ) (links new : Links) → new ≡ accepted c links → KeepsEnds links new
+accepted_keeps c links new e = record {
+  ends = λ x. ap (λ (l : Links). ends_of x l) e;
+  known = λ d none. inserted_none (nat_eq c d) (new_conn None) _ (sym (ap is_some (under_insert links.conns c d (new_conn None))) ∙ (sym (ap (λ (l : Links). is_known d l) e) ∙ none));
+}
+
+pub joined_keeps : (c k : ℕ) (links new : Links) → new ≡ joined c k links → KeepsEnds links new
+joined_keeps c k links new e = record {
+  ends = λ x. ap (λ (l : Links). ends_of x l) e;
+  known = λ d none. inserted_none (nat_eq c d) (new_conn (Some k)) _ (sym (ap is_some (under_insert links.conns c d (new_conn (Some k)))) ∙ (sym (ap (λ (l : Links). is_known d l) e) ∙ none));
+}
+
+-- ---- a connection comes
+-- it is there now, open and without octets, where none was; the others are as they were
+pub record ComesNew (n : ℕ) (old new : BTreeMap ℕ Conn) : Type 0 where
+  pub none : has_conn n old ≡ false
+  pub octets : octets_of n new ≡ []
+  pub opened : is_shut n new ≡ false
+  pub others : (c : ℕ) → (n == c) ≡ false → get nat_cmp new c ≡ get nat_cmp old c
+
+none_octets : (n : ℕ) (conns : BTreeMap ℕ Conn) → has_conn n conns ≡ false → octets_of n conns ≡ []
+none_octets n conns e = at (get nat_cmp conns n) e
+  where
+    at : (o : Option Conn) → is_some o ≡ false → option_map_or (λ conn. conn.outlet.write.octets) o [] ≡ []
+    at None e = refl
+    at (Some v) e = cc
+
+pub comes : (n : ℕ) (old new : BTreeMap ℕ Conn) → ComesNew n old new → (flows : Flows) (links : Links) (h : WayHistory) → is_known n links ≡ true → was_closed n h ≡ false
+    → Stands old flows links h → Stands new flows links h
+comes n old new c flows links h known fresh s = record {
+  writes = λ d. by_case (n == d)
+      (λ e. let is = is_number n d e in
+      ap (λ v. octets_of v new) (sym is) ∙ (c.octets ∙ (sym (none_octets n old c.none) ∙ (s.writes n ∙ ap (λ v. out world_setup v h) is))))
+      (λ e. ap (λ (o : Option Conn). option_map_or (λ conn. conn.outlet.write.octets) o []) (c.others d e) ∙ s.writes d);
+  flows_are = s.flows_are;
+  empty = s.empty;
+  ends = s.ends;
+  known = λ d none. by_case (n == d)
+      (λ e. absurd (cc (ap (λ v. is_known v links) (is_number n d e), known, none)))
+      (λ e. ap is_some (c.others d e) ∙ s.known d none);
+  closed = λ d there. by_case (n == d)
+      (λ e. let is = is_number n d e in ap (λ v. was_closed v h) (sym is) ∙ (fresh ∙ (sym c.opened ∙ ap (λ v. is_shut v new) is)))
+      (λ e. s.closed d (sym (ap is_some (c.others d e)) ∙ there) ∙ sym (ap (λ (o : Option Conn). option_map_or (λ conn. not conn.open) o false) (c.others d e)));
+}
+
+-- ---- a connection is forgotten
+pub record ForgetsConn (n : ℕ) (old new : BTreeMap ℕ Conn) : Type 0 where
+  pub empty : octets_of n old ≡ []
+  pub gone : get nat_cmp new n ≡ None
+  pub others : (c : ℕ) → (n == c) ≡ false → get nat_cmp new c ≡ get nat_cmp old c
+
+pub forgets : (n : ℕ) (old new : BTreeMap ℕ Conn) → ForgetsConn n old new → (flows : Flows) (links links' : Links) (h : WayHistory) → ((x : ℕ) → ends_of x links' ≡ ends_of x links)
+    → ((c : ℕ) → (n == c) ≡ false → is_known c links' ≡ is_known c links) → Stands old flows links h → Stands new flows links' h
+forgets n old new f flows links links' h same known s = record {
+  writes = λ d. by_case (n == d)
+      (λ e. let is = is_number n d e in
+      ap (λ v. octets_of v new) (sym is) ∙ (ap (λ (o : Option Conn). option_map_or (λ conn. conn.outlet.write.octets) o []) f.gone ∙ (sym f.empty ∙ (s.writes n ∙ ap (λ v. out world_setup v h) is))))
+      (λ e. ap (λ (o : Option Conn). option_map_or (λ conn. conn.outlet.write.octets) o []) (f.others d e) ∙ s.writes d);
+  flows_are = s.flows_are;
+  empty = s.empty;
+  ends = λ x. subst (λ (o : Option Ends). IfSome o (EndsAre x h)) (sym (same x)) (s.ends x);
+  known = λ d none. by_case (n == d)
+      (λ e. ap (λ v. has_conn v new) (sym (is_number n d e)) ∙ ap is_some f.gone)
+      (λ e. ap is_some (f.others d e) ∙ s.known d (sym (known d e) ∙ none));
+  closed = λ d there. by_case (n == d)
+      (λ e. absurd (cc (ap (λ v. has_conn v new) (sym (is_number n d e)) ∙ ap is_some f.gone, there)))
+      (λ e. s.closed d (sym (ap is_some (f.others d e)) ∙ there) ∙ sym (ap (λ (o : Option Conn). option_map_or (λ conn. not conn.open) o false) (f.others d e)));
+}
+
+-- ---- a connection that is closed is lost
+-- its octets are dropped by the turn note that tells so
+pub record DropsRest (n : ℕ) (old new : BTreeMap ℕ Conn) : Type 0 where
+  pub closed_ : has_conn n old ≡ true → is_shut n old ≡ true
+  pub octets : (c : ℕ) → octets_of c new ≡ (if n == c then [] else octets_of c old)
+  pub shut : (c : ℕ) → is_shut c new ≡ is_shut c old
+  pub there : (c : ℕ) → has_conn c new ≡ has_conn c old
+
+pub drops_rest : (n k : ℕ) (old new : BTreeMap ℕ Conn) → DropsRest n old new → (flows : Flows) (links : Links) (h : WayHistory)
+    → Stands old flows links h → Stands new flows links (Noted (note.Turn k (event.Gone n)) ∷ h)
+drops_rest n k old new d flows links h s = record {
+  writes = at;
+  flows_are = λ f. if_some (flow_in flows f) (λ flow is. record { last = is.last; holds = is.holds }) (s.flows_are f);
+  empty = s.empty;
+  ends = λ x. if_some (ends_of x links) (λ e is. record { client = is.client; cluster = is.cluster }) (s.ends x);
+  known = λ c e. d.there c ∙ s.known c e;
+  closed = λ c e. s.closed c (sym (d.there c) ∙ e) ∙ sym (d.shut c);
+}
+  where
+    -- where it isn't there nothing waited for it
+    dropped : (b : Bool) → has_conn n old ≡ b → (if was_closed n h then [] else out world_setup n h) ≡ []
+    dropped true e = ap (λ c. if c then [] else out world_setup n h) (s.closed n e ∙ d.closed_ e)
+    dropped false e = none (was_closed n h)
+      where
+        none : (c : Bool) → (if c then [] else out world_setup n h) ≡ []
+        none true = refl
+        none false = sym (s.writes n) ∙ none_octets n old e
+
+    at : (c : ℕ) → octets_of c new ≡ (if (n == c) && was_closed c h then [] else out world_setup c h)
+    at c = by_case (n == c)
+        (λ e. let is = is_number n c e in
+        d.octets c ∙ (ap (λ b. if b then [] else octets_of c old) e
+        ∙ (sym (dropped (has_conn n old) refl) ∙ (ap (λ v. if was_closed v h then [] else out world_setup v h) is ∙ sym (ap (λ b. if b && was_closed c h then [] else out world_setup c h) e)))))
+        (λ e. d.octets c ∙ (ap (λ b. if b then [] else octets_of c old) e ∙ (s.writes c ∙ sym (ap (λ b. if b && was_closed c h then [] else out world_setup c h) e))))

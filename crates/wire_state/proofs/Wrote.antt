@@ -1,0 +1,130 @@
+-- Units that went into a write buffer, with the notes that are owed for them.
+use Rattle.exchange_core.specs.Changes.{ChangesFlow}
+use Rattle.exchange_core.specs.Effects.{body_framed, list_framed}
+use Rattle.exchange_core.specs.Flow.{Flow, send}
+use Rattle.flow_gate.specs.declared.ids.FlowId.{FlowId}
+use Rattle.flow_notes.specs.declared.notes.Note.{Note}
+use Rattle.flow_notes.specs.declared.notes.Note.TheVariants as note
+use Rattle.h2_frames.specs.Frame.{WindowUpdate}
+use Rattle.h2_frames.specs.Head.{data_head}
+use Rattle.h2_frames.specs.Spelling.{spelling}
+use Rattle.io_ports.specs.declared.octets.NoMemory.{NoMemory}
+use Rattle.std.proofs.Common.{ap, refl, subst, sym, ◌∙◌}
+use Rattle.std.proofs.lemmas.List.{append-nil}
+use Rattle.std.specs.BTreeMap.{BTreeMap, WritesThrough, get}
+use Rattle.std.specs.Option.{option_and_then}
+use Rattle.std.specs.Ordering.{nat_cmp}
+use Rattle.std.specs.Prelude.{Bool, Err, IfOk, IfSome, List, MatchOption, None, Ok, Option, Result, Some, [], drop, false, if◌then◌else◌, take, true, ℕ, ◌++◌, ◌==◌, ◌∷◌, ◌≡◌}
+use Rattle.tape_laws.specs.Flows.{request}
+use Rattle.tape_laws.specs.History.{Noted}
+use Rattle.tape_laws.specs.World.{window_update}
+use Rattle.wire_flows.specs.Flows.{Flows, flow_in}
+use Rattle.wire_links.specs.Links.{Links, ends_of}
+use Rattle.wire_links.specs.declared.ends.Ends.{Ends}
+use Rattle.wire_state.proofs.Bodies.{flow_goes, frames}
+use Rattle.wire_state.proofs.Goings.{keeps_by, owes_by}
+use Rattle.wire_state.proofs.Held.{is_number, listed_keeps}
+use Rattle.wire_state.proofs.Standing.{ConnsAre, KeepsFlows, KeepsShut, Writes, answer_flows, answer_shut, answer_writes, at_one, conns_go, conns_written, credit_flows, credit_shut, credit_writes, head_flows, head_shut, head_writes, out_flows, out_shut, out_writes, same_octets, wrote}
+use Rattle.wire_state.specs.Ways.{WayHistory, WayStep, shown, stream_to}
+use Rattle.wire_state.specs.Worlds.{EndsAre, Keeps, Owes, Stands, Told, octets_of, outs_of, stream_in}
+use Rattle.wire_state.specs.Noting.{answers_of, heads_of}
+use Rattle.wm_buffer.specs.declared.watermark.Crossed.{Crossed}
+use Rattle.wire_state.specs.declared.conn.Conn.{Conn}
+use Rattle.wire_state.specs.declared.wire_core.WireCore.{WireCore}
+
+-- the flows changed, but not their octets
+pub record KeepBodies (old new : Flows) : Type 0 where
+  pub goes : (conns : BTreeMap ℕ Conn) (links : Links) (h : WayHistory) → Stands conns old links h → Stands conns new links h
+
+pub same_bodies : (old new : Flows) → new ≡ old → KeepBodies old new
+same_bodies old new e = record { goes = λ conns links h s. subst (λ (f : Flows). Stands conns f links h) (sym e) s }
+
+pub listed_bodies : (f : FlowId) (last : Bool) (old new : Flows) → ChangesFlow f (list_framed last) old.exchanges new.exchanges → KeepBodies old new
+listed_bodies f last old new c = record { goes = flow_goes f (list_framed last) (listed_keeps last) old new c }
+
+pub owes_none : (old new : WireCore) → Keeps old new → Owes [] old new
+owes_none old new k = record { goes = λ h start notes t. subst (λ (ns : List Note). Told h start new ns) (sym (append-nil notes)) (k.goes h start notes t) }
+
+module _ (n : ℕ) (old new : WireCore) (v w : Conn) (found : get nat_cmp old.conns n ≡ Some v) (written : WritesThrough nat_cmp (nat_cmp n) old.conns w new.conns)
+    (opened : w.open ≡ v.open) (bodies : KeepBodies old.flows new.flows) (linked : new.links ≡ old.links) where
+  with_links : (h : WayHistory) → Stands new.conns new.flows old.links h → Stands new.conns new.flows new.links h
+  with_links h s = subst (λ (l : Links). Stands new.conns new.flows l h) (sym linked) s
+
+  same_one : (b : Bool) (xs : List ℕ) → (if b then xs else xs) ≡ xs
+  same_one true xs = refl
+  same_one false xs = refl
+
+  stays : w.outlet.write.octets ≡ v.outlet.write.octets → ConnsAre same_octets old.conns new.conns
+  stays e =
+      let c = conns_written n old.conns new.conns v w found written (λ xs. xs) e opened in
+      record { octets = λ d. c.octets d ∙ same_one (n == d) (octets_of d old.conns); shut = c.shut; there = c.there }
+
+  -- nothing went in
+  pub nothing_written : w.outlet.write.octets ≡ v.outlet.write.octets → Keeps old new
+  nothing_written e = keeps_by old new (λ h s. with_links h (bodies.goes new.conns old.links h (conns_go old.conns new.conns old.flows old.links h (stays e) s)))
+
+  -- a step writes these
+  pub step_written : (g : List ℕ → List ℕ) (step : WayStep) → w.outlet.write.octets ≡ g v.outlet.write.octets
+      → ((h : WayHistory) → Writes (at_one n g) step h) → ((h : WayHistory) → KeepsFlows step h) → ((h : WayHistory) → KeepsShut step h) → Owes (shown (step ∷ [])) old new
+  step_written g step e outs flows shut = owes_by (step ∷ []) old new (λ h s. with_links (step ∷ h)
+      (bodies.goes new.conns old.links (step ∷ h) (wrote (at_one n g) step h old.conns new.conns old.flows old.links (outs h) (flows h) (shut h) (conns_written n old.conns new.conns v w found written g e opened) s)))
+
+  pub answer_written : (octets : List ℕ) → w.outlet.write.octets ≡ v.outlet.write.octets ++ octets → Owes (answers_of n octets) old new
+  answer_written [] e = owes_none old new (nothing_written (e ∙ append-nil v.outlet.write.octets))
+  answer_written (o ∷ os) e = step_written (λ xs. xs ++ o ∷ os) (Noted (note.Answer n (o ∷ os))) e (λ h. answer_writes h n (o ∷ os)) (λ h. answer_flows h n (o ∷ os)) (λ h. answer_shut h n (o ∷ os))
+
+  pub head_written : (s : ℕ) (octets : List ℕ) → w.outlet.write.octets ≡ v.outlet.write.octets ++ octets → Owes (heads_of n s octets) old new
+  head_written s [] e = owes_none old new (nothing_written (e ∙ append-nil v.outlet.write.octets))
+  head_written s (o ∷ os) e = step_written (λ xs. xs ++ o ∷ os) (Noted (note.Head n s (o ∷ os))) e (λ h. head_writes h n (o ∷ os) s) (λ h. head_flows h n (o ∷ os) s) (λ h. head_shut h n (o ∷ os) s)
+
+  -- a WINDOW_UPDATE frame is spelled as the definitions have it
+  update_is : (s k : ℕ) → spelling (WindowUpdate s k) ≡ window_update s k
+  update_is s k = refl
+
+  pub credit_written : (s k : ℕ) → w.outlet.write.octets ≡ v.outlet.write.octets ++ spelling (WindowUpdate s k) → Owes (note.Credit n s k ∷ []) old new
+  credit_written s k e = step_written (λ xs. xs ++ window_update s k) (Noted (note.Credit n s k)) (e ∙ ap (λ xs. v.outlet.write.octets ++ xs) (update_is s k))
+      (λ h. credit_writes h n s k) (λ h. credit_flows h n s k) (λ h. credit_shut h n s k)
+
+  pub out_written : (k : ℕ) → w.outlet.write.octets ≡ drop k v.outlet.write.octets → Owes (outs_of n k) old new
+  out_written k e = at (k == 0) refl
+    where
+      at : (b : Bool) → (k == 0) ≡ b → Owes (if b then [] else note.Out n k ∷ []) old new
+      at true z = owes_none old new (nothing_written (e ∙ ap (λ j. drop j v.outlet.write.octets) (is_number k 0 z)))
+      at false z = step_written (drop k) (Noted (note.Out n k)) e (λ h. out_writes h n k) (λ h. out_flows h n k) (λ h. out_shut h n k)
+
+-- a GOAWAY went in, or nothing did
+pub farewell_written : (n : ℕ) (old new : WireCore) (v w : Conn) → get nat_cmp old.conns n ≡ Some v → WritesThrough nat_cmp (nat_cmp n) old.conns w new.conns → w.open ≡ v.open
+    → new.flows ≡ old.flows → new.links ≡ old.links → (r : Result (Option (List ℕ × Crossed)) NoMemory)
+    → IfOk r (λ o. MatchOption o (w ≡ v) (λ f. w.outlet.write.octets ≡ v.outlet.write.octets ++ f.0))
+    → IfOk r (λ o. MatchOption o (Keeps old new) (λ f. Owes (answers_of n f.0) old new))
+farewell_written n old new v w found written opened f l (Err e) p = tt
+farewell_written n old new v w found written opened f l (Ok None) p = nothing_written n old new v w found written opened (same_bodies old.flows new.flows f) l (ap (λ (k : Conn). k.outlet.write.octets) p)
+farewell_written n old new v w found written opened f l (Ok (Some u)) p = answer_written n old new v w found written opened (same_bodies old.flows new.flows f) l u.0 p
+
+-- ---- DATA frames
+-- the stream of a flow where it goes is that of the world
+pub stream_known : (f : FlowId) (links : Links) (h : WayHistory) (k : ℕ) → ((x : ℕ) → IfSome (ends_of x links) (EndsAre x h)) → stream_in links f ≡ Some k → k ≡ stream_to f h
+stream_known f links h k ends is = at f.back (ends_of f.exchange links) (ends f.exchange) is
+  where
+    same_some : (a b : ℕ) → Some a ≡ Some b → a ≡ b
+    same_some a b e = cc
+
+    some_of : (o : Option ℕ) → o ≡ Some k → IfSome o (λ s. s ≡ stream_to (request f.exchange) h) → k ≡ stream_to (request f.exchange) h
+    some_of None e p = cc
+    some_of (Some s) e p = same_some k s (sym e) ∙ p
+
+    at : (back : Bool) (o : Option Ends) → IfSome o (EndsAre f.exchange h) → option_and_then (λ e. if back then Some e.stream else e.cluster_stream) o ≡ Some k
+        → k ≡ stream_to (record { exchange = f.exchange; back = back }) h
+    at back None is e = cc
+    at true (Some v) is e = same_some k v.stream (sym e) ∙ is.client
+    at false (Some v) is e = some_of v.cluster_stream e is.cluster
+
+-- the octets of a DATA frame went from a flow's send buffer into the write buffer
+pub body_written : (n : ℕ) (old new : WireCore) (v w : Conn) → get nat_cmp old.conns n ≡ Some v → WritesThrough nat_cmp (nat_cmp n) old.conns w new.conns → w.open ≡ v.open → new.links ≡ old.links
+    → (f : FlowId) (s k : ℕ) (last : Bool) (flow : Flow) → stream_in old.links f ≡ Some s → flow_in old.flows f ≡ Some flow
+    → w.outlet.write.octets ≡ v.outlet.write.octets ++ (data_head s k last ++ take k (send flow)) → ChangesFlow f (body_framed k last) old.flows.exchanges new.flows.exchanges
+    → Owes (note.Frame n f k last ∷ []) old new
+body_written n old new v w found written opened linked f s k last flow on there octets change = owes_by (Noted (note.Frame n f k last) ∷ []) old new (λ h stands.
+    subst (λ (l : Links). Stands new.conns new.flows l (Noted (note.Frame n f k last) ∷ h)) (sym linked)
+    (frames n f k last h old.conns new.conns old.flows new.flows old.links s flow (stream_known f old.links h s stands.ends on) there change
+    (conns_written n old.conns new.conns v w found written (λ xs. xs ++ (data_head s k last ++ take k (send flow))) octets opened) stands))
