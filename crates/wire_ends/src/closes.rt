@@ -3,11 +3,12 @@
 ghost use Rattle.std.specs.Prelude.{◌≡◌, ◌≤◌, ◌<◌, ◌+◌, ◌^◌, IfSome, OnOk, true, ◌∷◌, [], IfOk, MatchOption, ℕ, false};
 ghost use Rattle.wire_state.specs.Agenda.{top_go};
 ghost use Rattle.wire_state.specs.Noting.{Appends, answers_of};
-ghost use Rattle.wire_state.specs.Progress.{to_go};
-ghost use Rattle.wire_state.specs.Sound.{IsSound, is_open_at};
+ghost use Rattle.wire_state.specs.Progress.{conn_go, to_go};
+ghost use Rattle.wire_state.specs.Sound.{IsKept, IsSound, is_open_at};
 ghost use Rattle.wire_state.specs.Worlds.{Goes, Keeps, Owes, Turns, left_by};
 ghost use Rattle.flow_notes.specs.declared.notes.Note.TheVariants as note;
 ghost use Rattle.flow_notes.specs.declared.events.Event.TheVariants as event;
+ghost use Rattle.proxy_config.specs.declared.config.LimitKeys.{LimitKeys as Limits};
 
 use crate::dooms::{Origin, doom};
 use crate::lists::{append, flood};
@@ -15,7 +16,7 @@ use flow_notes::{Cause, CloseCause, FireKind, Note, Notes};
 use h2_frames::codes::NO_ERROR;
 use io_ports::{NoMemory, Octets};
 use wire_outlet::{Control, Waiting};
-use wire_state::{Task, WireCore, note, note_answer};
+use wire_state::{Conn, Task, WireCore, note, note_answer};
 use wm_buffer::Crossed;
 
 /// The task Close: the connection is closed, unless it is.

@@ -52,7 +52,7 @@ fn write_waiting(core: &mut WireCore, number: u32) -> Result<Option<(Framed, Cro
 
 // The note of a unit that waited.
 fn note_waiting(notes: &mut Notes, conn: u32, framed: Framed) -> Result<(), NoMemory>
-    ensures { Appends notes.old notes.new }
+    ensures notes { Appends notes.old notes.new }
     ensures octets { OnOk result (Pays (waited_of conn framed) notes.old notes.new) }
 {
     match framed {

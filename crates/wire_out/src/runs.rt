@@ -341,7 +341,7 @@ fn cross(
 // The buffer of a flow that its octets went to became above.
 fn note_pause(flow: FlowId, rose: Option<BufferId>, notes: &mut Notes) -> Result<(), NoMemory>
     requires { IfSome rose (CanPause flow) }
-    ensures { Appends notes.old notes.new }
+    ensures notes { Appends notes.old notes.new }
     ensures octets { OnOk result (Shows notes.old notes.new) }
 {
     match rose {

@@ -229,7 +229,7 @@ pub(crate) fn end_where(core: &mut WireCore, exchange: u64, last: bool) -> Resul
 
 // Where the write buffer rose, the flows that go to the connection are held back.
 fn note_risen(core: &WireCore, conn: u32, rose: bool, notes: &mut Notes) -> Result<(), NoMemory>
-    ensures { Appends notes.old notes.new }
+    ensures notes { Appends notes.old notes.new }
     ensures octets { OnOk result (Shows notes.old notes.new) }
 {
     if rose {
