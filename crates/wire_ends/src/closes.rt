@@ -5,7 +5,7 @@ ghost use Rattle.wire_state.specs.Agenda.{top_go};
 ghost use Rattle.wire_state.specs.Noting.{Appends, answers_of};
 ghost use Rattle.wire_state.specs.Progress.{conn_go, to_go};
 ghost use Rattle.wire_state.specs.Sound.{IsKept, IsSound, is_open_at};
-ghost use Rattle.wire_state.specs.Worlds.{Goes, Keeps, Owes, Turns, left_by};
+ghost use Rattle.wire_state.specs.Worlds.{Goes, Keeps, KeepsOk, Owes, Turns, left_by};
 ghost use Rattle.flow_notes.specs.declared.notes.Note.TheVariants as note;
 ghost use Rattle.flow_notes.specs.declared.events.Event.TheVariants as event;
 ghost use Rattle.proxy_config.specs.declared.config.LimitKeys.{LimitKeys as Limits};
@@ -32,7 +32,7 @@ pub fn close_task(
     ensures sound { OnOk result (IsSound core.new) }
     ensures go { OnOk result (to_go core.new < to_go core.old) }
     ensures notes { Appends notes.old notes.new }
-    ensures octets { OnOk result (Goes core.old notes.old core.new notes.new) }
+    ensures octets { Goes result core.old notes.old core.new notes.new }
 {
     core.end_task();
     close(core, conn, code, cause, notes)
@@ -51,7 +51,7 @@ pub fn close(
     ensures go { OnOk result (to_go core.new ≤ to_go core.old) }
     ensures less { is_open_at number core.old ≡ true → OnOk result (to_go core.new < to_go core.old) }
     ensures notes { Appends notes.old notes.new }
-    ensures octets { OnOk result (Goes core.old notes.old core.new notes.new) }
+    ensures octets { Goes result core.old notes.old core.new notes.new }
 {
     if !core.is_open(number) {
         return Ok(());
@@ -74,7 +74,7 @@ fn end_conn(core: &mut WireCore, number: u32) -> Result<(), NoMemory>
     requires sound { IsSound core.old }
     ensures sound { OnOk result (IsSound core.new) }
     ensures go { OnOk result (to_go core.new ≤ to_go core.old + 2) }
-    ensures octets { OnOk result (Keeps core.old core.new) }
+    ensures octets { KeepsOk result core.old core.new }
 {
     core.stir(number)?;
     core.disarm(FireKind::ConnectionIdle, u64::from(number));
@@ -105,7 +105,7 @@ fn say_farewell(
     ensures sound { OnOk result (IsSound core.new) }
     ensures go { OnOk result (to_go core.new ≤ to_go core.old) }
     ensures notes { Appends notes.old notes.new }
-    ensures octets { OnOk result (Goes core.old notes.old core.new notes.new) }
+    ensures octets { Goes result core.old notes.old core.new notes.new }
     ensures stays { OnOk result (is_open_at number core.new ≡ is_open_at number core.old) }
 {
     if !is_told(cause) {
@@ -172,7 +172,7 @@ pub fn lose(core: &mut WireCore, number: u32, notes: &mut Notes) -> Result<(), N
     requires sound { IsSound core.old }
     ensures sound { OnOk result (IsSound core.new) }
     ensures notes { Appends notes.old notes.new }
-    ensures octets { (k : ℕ) → OnOk result (Turns k (event.Gone number) core.old notes.old core.new notes.new) }
+    ensures octets { Turns result (event.Gone number) core.old notes.old core.new notes.new }
 {
     if core.is_open(number) {
         close(core, number, 0, CloseCause::Lost, notes)?;
@@ -220,7 +220,7 @@ pub fn losses(
     ensures sound { OnOk result (IsSound core.new) }
     ensures go { OnOk result (to_go core.new < to_go core.old) }
     ensures notes { Appends notes.old notes.new }
-    ensures octets { OnOk result (Goes core.old notes.old core.new notes.new) }
+    ensures octets { Goes result core.old notes.old core.new notes.new }
 {
     match next_lost(core, conn, last) {
         Some(exchange) if core.flows.is_live(exchange) => {
@@ -271,7 +271,7 @@ pub fn begin_draining(core: &mut WireCore, conn: u32) -> Result<(), NoMemory>
     requires sound { IsSound core.old }
     ensures sound { OnOk result (IsSound core.new) }
     ensures go { OnOk result (to_go core.new ≤ to_go core.old + 6) }
-    ensures octets { OnOk result (Keeps core.old core.new) }
+    ensures octets { KeepsOk result core.old core.new }
 {
     if start_draining(core, conn)? {
         return Ok(());
@@ -284,7 +284,7 @@ pub(crate) fn start_draining(core: &mut WireCore, number: u32) -> Result<bool, N
     requires sound { IsSound core.old }
     ensures sound { OnOk result (IsSound core.new) }
     ensures go { OnOk result (to_go core.new ≤ to_go core.old + 5) }
-    ensures octets { OnOk result (Keeps core.old core.new) }
+    ensures octets { KeepsOk result core.old core.new }
 {
     let Some(last) = drain_link(core, number) else {
         return Ok(true);

@@ -6,7 +6,7 @@ ghost use Rattle.wire_state.specs.Agenda.{top_go};
 ghost use Rattle.wire_state.specs.Noting.{Appends};
 ghost use Rattle.wire_state.specs.Progress.{to_go};
 ghost use Rattle.wire_state.specs.Sound.{IsSound};
-ghost use Rattle.wire_state.specs.Worlds.{Goes, Keeps, Owes, Pays};
+ghost use Rattle.wire_state.specs.Worlds.{Goes, Keeps, KeepsOk, Owes, Pays};
 
 use crate::closes::start_draining;
 use crate::lists::{append, append_reset, flood};
@@ -58,7 +58,7 @@ pub fn doom_task(
     ensures sound { OnOk result (IsSound core.new) }
     ensures go { OnOk result (to_go core.new < to_go core.old) }
     ensures notes { Appends notes.old notes.new }
-    ensures octets { OnOk result (Goes core.old notes.old core.new notes.new) }
+    ensures octets { Goes result core.old notes.old core.new notes.new }
 {
     core.end_task();
     doom(core, exchange, cause, Origin::Neither, notes)
@@ -71,7 +71,7 @@ pub fn end(core: &mut WireCore, exchange: u64, notes: &mut Notes) -> Result<(), 
     ensures sound { OnOk result (IsSound core.new) }
     ensures go { OnOk result (to_go core.new < to_go core.old) }
     ensures notes { Appends notes.old notes.new }
-    ensures octets { OnOk result (Goes core.old notes.old core.new notes.new) }
+    ensures octets { Goes result core.old notes.old core.new notes.new }
 {
     core.end_task();
     if !core.flows.is_live(exchange) {
@@ -104,7 +104,7 @@ pub fn doom(
     ensures less { is_live_in core.old.flows exchange ≡ true → OnOk result (to_go core.new + 8 ≤ to_go core.old) }
     ensures notes { Appends notes.old notes.new }
     ensures told { OnOk result (notes.new ≡ (if is_live_in core.old.flows exchange then notes.old ++ note.Doom exchange cause ∷ [] else notes.old)) }
-    ensures octets { OnOk result (Goes core.old notes.old core.new notes.new) }
+    ensures octets { Goes result core.old notes.old core.new notes.new }
 {
     let Some((ends, doomed)) = unlink(core, exchange, cause, origin) else {
         return Ok(());
@@ -130,7 +130,7 @@ pub fn doom(
 fn note_doom(notes: &mut Notes, exchange: u64, cause: Cause) -> Result<(), NoMemory>
     ensures appends { Appends notes.old notes.new }
     ensures ok { OnOk result (notes.new ≡ notes.old ++ note.Doom exchange cause ∷ []) }
-    ensures paid { OnOk result (Pays (note.Doom exchange cause ∷ []) notes.old notes.new) }
+    ensures paid { Pays result (note.Doom exchange cause ∷ []) notes.old notes.new }
 {
     notes.push(Note::Doom { exchange, cause })
 }
@@ -182,7 +182,7 @@ fn leave_client(
     requires sound { IsSound core.old }
     ensures sound { OnOk result (IsSound core.new) }
     ensures go { OnOk result (to_go core.new ≤ to_go core.old + 1) }
-    ensures octets { OnOk result (Keeps core.old core.new) }
+    ensures octets { KeepsOk result core.old core.new }
 {
     let (client, stream) = (Some(ends.client), Some(ends.stream));
     let was_open = leave(core, client, exchange, stream, doomed.request_left, done);
@@ -195,7 +195,7 @@ fn idle(core: &mut WireCore, client: u32) -> Result<(), NoMemory>
     requires sound { IsSound core.old }
     ensures sound { OnOk result (IsSound core.new) }
     ensures go { OnOk result (to_go core.new ≤ to_go core.old + 1) }
-    ensures octets { OnOk result (Keeps core.old core.new) }
+    ensures octets { KeepsOk result core.old core.new }
 {
     if core.links.exchanges_of(client) > 0 || !core.is_open(client) {
         return Ok(());
@@ -248,7 +248,7 @@ fn tell(core: &mut WireCore, ends: Ends, doomed: Doomed, hear: Hear) -> Result<(
     requires sound { IsSound core.old }
     ensures sound { OnOk result (IsSound core.new) }
     ensures go { OnOk result (to_go core.new ≤ to_go core.old + 27) }
-    ensures octets { OnOk result (Keeps core.old core.new) }
+    ensures octets { KeepsOk result core.old core.new }
 {
     let (client, stream) = (Some(ends.client), Some(ends.stream));
     let client_fits = append_heard(core, hear.client, client, stream, doomed.down)?;
@@ -275,7 +275,7 @@ fn append_heard(
     requires sound { IsSound core.old }
     ensures sound { OnOk result (IsSound core.new) }
     ensures go { OnOk result (to_go core.new ≤ to_go core.old + 10) }
-    ensures octets { OnOk result (Keeps core.old core.new) }
+    ensures octets { KeepsOk result core.old core.new }
 {
     match (conn, stream) {
         (Some(conn), Some(stream)) if hears => append_reply(core, conn, stream, reply),
@@ -289,7 +289,7 @@ fn stop_keepalive(core: &mut WireCore, client: u32, fits: bool) -> Result<bool, 
     requires sound { IsSound core.old }
     ensures sound { OnOk result (IsSound core.new) }
     ensures go { OnOk result (to_go core.new ≤ to_go core.old + 5) }
-    ensures octets { OnOk result (Keeps core.old core.new) }
+    ensures octets { KeepsOk result core.old core.new }
 {
     if !fits || !core.load.is_saturated(Action::NoKeepalive) {
         return Ok(fits);
@@ -302,7 +302,7 @@ fn flood_unless(core: &mut WireCore, conn: Option<u32>, fits: bool) -> Result<()
     requires sound { IsSound core.old }
     ensures sound { OnOk result (IsSound core.new) }
     ensures go { OnOk result (to_go core.new ≤ to_go core.old + 1) }
-    ensures octets { OnOk result (Keeps core.old core.new) }
+    ensures octets { KeepsOk result core.old core.new }
 {
     match conn {
         Some(conn) if !fits => flood(core, conn),
@@ -315,7 +315,7 @@ fn append_reply(core: &mut WireCore, conn: u32, stream: u32, reply: Reply) -> Re
     requires sound { IsSound core.old }
     ensures sound { OnOk result (IsSound core.new) }
     ensures go { OnOk result (to_go core.new ≤ to_go core.old + 10) }
-    ensures octets { OnOk result (Keeps core.old core.new) }
+    ensures octets { KeepsOk result core.old core.new }
 {
     match reply {
         Reply::Nothing => Ok(true),
@@ -335,7 +335,7 @@ fn append_status(core: &mut WireCore, conn: u32, stream: u32, status: u16) -> Re
     requires sound { IsSound core.old }
     ensures sound { OnOk result (IsSound core.new) }
     ensures go { OnOk result (to_go core.new ≤ to_go core.old + 5) }
-    ensures octets { OnOk result (Keeps core.old core.new) }
+    ensures octets { KeepsOk result core.old core.new }
 {
     if !is_stream(stream) {
         return Ok(true);

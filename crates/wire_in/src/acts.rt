@@ -3,7 +3,7 @@ ghost use Rattle.std.specs.Prelude.{◌≡◌, ◌≤◌, ◌+◌, ◌*◌, OnOk
 ghost use Rattle.wire_state.specs.Noting.{Appends};
 ghost use Rattle.wire_state.specs.Progress.{to_go};
 ghost use Rattle.wire_state.specs.Sound.{IsSound};
-ghost use Rattle.wire_state.specs.Worlds.{Goes, Keeps};
+ghost use Rattle.wire_state.specs.Worlds.{Goes, Keeps, KeepsOk};
 
 use crate::bodies::{Content, body, late};
 use crate::faults::{Concerns, close_with, stream_fault};
@@ -31,7 +31,7 @@ pub(crate) fn take_act(
     ensures sound { OnOk result (IsSound core.new) }
     ensures go { OnOk result (to_go core.new ≤ to_go core.old + 300 + 392 * taken.content) }
     ensures notes { Appends notes.old notes.new }
-    ensures octets { OnOk result (Goes core.old notes.old core.new notes.new) }
+    ensures octets { Goes result core.old notes.old core.new notes.new }
 {
     let Taken {
         act,
@@ -67,7 +67,7 @@ fn control(core: &mut WireCore, number: u32, act: Act, notes: &mut Notes) -> Res
     ensures sound { OnOk result (IsSound core.new) }
     ensures go { OnOk result (to_go core.new ≤ to_go core.old + 17) }
     ensures notes { Appends notes.old notes.new }
-    ensures octets { OnOk result (Goes core.old notes.old core.new notes.new) }
+    ensures octets { Goes result core.old notes.old core.new notes.new }
 {
     match act {
         Act::Settings { list } => settings(core, number, &list, notes),
@@ -91,7 +91,7 @@ fn old_block(
     ensures sound { OnOk result (IsSound core.new) }
     ensures go { OnOk result (to_go core.new ≤ to_go core.old) }
     ensures notes { Appends notes.old notes.new }
-    ensures octets { OnOk result (Goes core.old notes.old core.new notes.new) }
+    ensures octets { Goes result core.old notes.old core.new notes.new }
 {
     match reading {
         Reading::Refused => close_with(core, number, COMPRESSION_ERROR, notes),
@@ -104,7 +104,7 @@ fn ping(core: &mut WireCore, number: u32, octets: Octets) -> Result<(), NoMemory
     requires sound { IsSound core.old }
     ensures sound { OnOk result (IsSound core.new) }
     ensures go { OnOk result (to_go core.new ≤ to_go core.old + 6) }
-    ensures octets { OnOk result (Keeps core.old core.new) }
+    ensures octets { KeepsOk result core.old core.new }
 {
     if octets.len() != 8 {
         return Ok(());
@@ -125,7 +125,7 @@ fn window_up(
     ensures sound { OnOk result (IsSound core.new) }
     ensures go { OnOk result (to_go core.new ≤ to_go core.old + 17) }
     ensures notes { Appends notes.old notes.new }
-    ensures octets { OnOk result (Goes core.old notes.old core.new notes.new) }
+    ensures octets { Goes result core.old notes.old core.new notes.new }
 {
     if stream == 0 {
         return conn_window_up(core, number, n, notes);
@@ -146,7 +146,7 @@ fn widen(core: &mut WireCore, number: u32, exchange: u64, n: u32) -> Result<(), 
     ensures sound { IsSound core.new }
     ensures go { to_go core.new ≤ to_go core.old }
     ensures rest { core.new ≡ record core.old { conns = core.new.conns } }
-    ensures octets { OnOk result (Keeps core.old core.new) }
+    ensures octets { KeepsOk result core.old core.new }
 {
     match core.conns.get_mut(&number) {
         Some(conn) => conn.widen(exchange, n),
@@ -165,7 +165,7 @@ fn conn_window_up(
     ensures sound { OnOk result (IsSound core.new) }
     ensures go { OnOk result (to_go core.new ≤ to_go core.old) }
     ensures notes { Appends notes.old notes.new }
-    ensures octets { OnOk result (Goes core.old notes.old core.new notes.new) }
+    ensures octets { Goes result core.old notes.old core.new notes.new }
 {
     if widen_conn(core, number, n).is_err() {
         return close_with(core, number, FLOW_CONTROL_ERROR, notes);
@@ -178,7 +178,7 @@ fn widen_conn(core: &mut WireCore, number: u32, n: u32) -> Result<(), Overflow>
     ensures sound { IsSound core.new }
     ensures go { to_go core.new ≤ to_go core.old }
     ensures rest { core.new ≡ record core.old { conns = core.new.conns } }
-    ensures octets { OnOk result (Keeps core.old core.new) }
+    ensures octets { KeepsOk result core.old core.new }
 {
     match core.conns.get_mut(&number) {
         Some(conn) => conn.widen_conn(n),
@@ -198,7 +198,7 @@ fn peer_reset(
     ensures sound { OnOk result (IsSound core.new) }
     ensures go { OnOk result (to_go core.new ≤ to_go core.old + 10) }
     ensures notes { Appends notes.old notes.new }
-    ensures octets { OnOk result (Goes core.old notes.old core.new notes.new) }
+    ensures octets { Goes result core.old notes.old core.new notes.new }
 {
     let Some(course) = core.flow_from(number, stream) else {
         return Ok(());
@@ -220,7 +220,7 @@ fn close_resetting(core: &mut WireCore, number: u32, back: bool) -> Result<(), N
     requires sound { IsSound core.old }
     ensures sound { OnOk result (IsSound core.new) }
     ensures go { OnOk result (to_go core.new ≤ to_go core.old + 1) }
-    ensures octets { OnOk result (Keeps core.old core.new) }
+    ensures octets { KeepsOk result core.old core.new }
 {
     if back || !resets_too_often(core, number) {
         return Ok(());
@@ -251,7 +251,7 @@ fn goaway(core: &mut WireCore, number: u32, last: u32) -> Result<(), NoMemory>
     requires sound { IsSound core.old }
     ensures sound { OnOk result (IsSound core.new) }
     ensures go { OnOk result (to_go core.new ≤ to_go core.old + 1) }
-    ensures octets { OnOk result (Keeps core.old core.new) }
+    ensures octets { KeepsOk result core.old core.new }
 {
     if !leaves(core, number, last) {
         return Ok(());

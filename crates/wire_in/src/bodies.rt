@@ -6,7 +6,7 @@ ghost use Rattle.wire_flows.specs.Flows.{flow_in};
 ghost use Rattle.wire_state.specs.Noting.{Appends};
 ghost use Rattle.wire_state.specs.Progress.{to_go};
 ghost use Rattle.wire_state.specs.Sound.{IsSound};
-ghost use Rattle.wire_state.specs.Worlds.{Goes, Keeps};
+ghost use Rattle.wire_state.specs.Worlds.{Goes, Keeps, KeepsOk};
 
 use crate::faults::{Concerns, close_with, counts_late, owe, stream_fault};
 use crate::heads::{end_where, finish};
@@ -61,7 +61,7 @@ pub(crate) fn body(
     ensures sound { OnOk result (IsSound core.new) }
     ensures go { OnOk result (to_go core.new ≤ to_go core.old + 60 + 228 * content.counted) }
     ensures notes { Appends notes.old notes.new }
-    ensures octets { OnOk result (Goes core.old notes.old core.new notes.new) }
+    ensures octets { Goes result core.old notes.old core.new notes.new }
 {
     let Some(course) = core.flow_from(number, stream) else {
         return Ok(());
@@ -157,7 +157,7 @@ fn enter(
     ensures sound { OnOk result (IsSound core.new) }
     ensures go { OnOk result (to_go core.new ≤ to_go core.old + 220 * length content.octets) }
     ensures notes { Appends notes.old notes.new }
-    ensures octets { OnOk result (Goes core.old notes.old core.new notes.new) }
+    ensures octets { Goes result core.old notes.old core.new notes.new }
 {
     let Content { octets, padded, .. } = content;
     arrive(core, course, octets, notes)?;
@@ -177,7 +177,7 @@ fn arrive(
     ensures sound { OnOk result (IsSound core.new) }
     ensures go { OnOk result (to_go core.new ≤ to_go core.old + 220 * length octets) }
     ensures notes { Appends notes.old notes.new }
-    ensures octets { OnOk result (Goes core.old notes.old core.new notes.new) }
+    ensures octets { Goes result core.old notes.old core.new notes.new }
 {
     if octets.is_empty() {
         return Ok(());
@@ -203,7 +203,7 @@ fn pad(
     ensures sound { OnOk result (IsSound core.new) }
     ensures go { OnOk result (to_go core.new ≤ to_go core.old) }
     ensures notes { Appends notes.old notes.new }
-    ensures octets { OnOk result (Goes core.old notes.old core.new notes.new) }
+    ensures octets { Goes result core.old notes.old core.new notes.new }
 {
     if padded == 0 {
         return Ok(());
@@ -223,7 +223,7 @@ fn owe_padding(core: &mut WireCore, number: u32, exchange: u64, n: u32) -> Resul
     requires sound { IsSound core.old }
     ensures sound { OnOk result (IsSound core.new) }
     ensures go { to_go core.new ≤ to_go core.old }
-    ensures octets { OnOk result (Keeps core.old core.new) }
+    ensures octets { KeepsOk result core.old core.new }
 {
     match core.conns.get_mut(&number) {
         Some(conn) => conn.moved(exchange, n),
@@ -243,7 +243,7 @@ pub(crate) fn late(
     ensures sound { OnOk result (IsSound core.new) }
     ensures go { OnOk result (to_go core.new ≤ to_go core.old + 1 + 4 * n) }
     ensures notes { Appends notes.old notes.new }
-    ensures octets { OnOk result (Goes core.old notes.old core.new notes.new) }
+    ensures octets { Goes result core.old notes.old core.new notes.new }
 {
     if !counts_late(core, number, n) {
         return close_with(core, number, FLOW_CONTROL_ERROR, notes);

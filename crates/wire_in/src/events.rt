@@ -1,8 +1,10 @@
 // Events: what each does before anything is run.
-ghost use Rattle.std.specs.Prelude.{◌≤◌, ◌*◌, IfOk, OnOk, length, MatchOption, ℕ, is_some, false};
+ghost use Rattle.flow_notes.specs.declared.events.Event.TheVariants as event;
+ghost use Rattle.std.specs.Prelude.{◌≡◌, ◌≤◌, ◌*◌, IfOk, OnOk, length, MatchOption, false, true};
+ghost use Rattle.wire_links.specs.Links.{is_known};
 ghost use Rattle.wire_state.specs.Noting.{Appends};
 ghost use Rattle.wire_state.specs.Sound.{IsSound};
-ghost use Rattle.wire_state.specs.Worlds.{Goes, Keeps, Owes, Pays, Turns, outs_of};
+ghost use Rattle.wire_state.specs.Worlds.{Comes, Goes, Keeps, KeepsOk, Owes, Pays, Turns, has_conn, outs_of};
 
 use flow_notes::{Cause, CloseCause, Event, FireKind, Job, Note, Notes};
 use io_ports::{NoMemory, Octets, PressureList};
@@ -40,7 +42,7 @@ pub fn take_event(core: &mut WireCore, event: &Event, notes: &mut Notes) -> Resu
     requires sound { IsSound core.old }
     ensures sound { OnOk result (IsSound core.new) }
     ensures notes { Appends notes.old notes.new }
-    ensures octets { (k : ℕ) → OnOk result (Turns k event.now core.old notes.old core.new notes.new) }
+    ensures octets { Turns result event.now core.old notes.old core.new notes.new }
 {
     match event {
         Event::Accept { conn } => accept(core, *conn, notes),
@@ -64,13 +66,33 @@ fn accept(core: &mut WireCore, number: u32, notes: &mut Notes) -> Result<(), NoM
     requires sound { IsSound core.old }
     ensures sound { OnOk result (IsSound core.new) }
     ensures notes { Appends notes.old notes.new }
-    ensures octets { OnOk result (Goes core.old notes.old core.new notes.new) }
+    ensures octets { Turns result (event.Accept number) core.old notes.old core.new notes.new }
 {
     if core.links.is_known(number) {
         return Ok(());
     }
+    take_client(core, number)?;
+    greet_client(core, number, notes)
+}
+
+// A client's connection is linked.
+fn take_client(core: &mut WireCore, number: u32) -> Result<(), NoMemory>
+    requires sound { IsSound core.old }
+    requires unknown { is_known number core.old.links ≡ false }
+    ensures sound { OnOk result (IsSound core.new) }
+    ensures octets { Comes result number core.old core.new }
+{
     core.links.accept(number)?;
-    open(core, number, Peer::Client)?;
+    open(core, number, Peer::Client)
+}
+
+// A new client connection is told the settings, or closed where none is taken.
+fn greet_client(core: &mut WireCore, number: u32, notes: &mut Notes) -> Result<(), NoMemory>
+    requires sound { IsSound core.old }
+    ensures sound { OnOk result (IsSound core.new) }
+    ensures notes { Appends notes.old notes.new }
+    ensures octets { Goes result core.old notes.old core.new notes.new }
+{
     if core.load.is_saturated(Action::RejectIncoming) {
         return close(core, number, 0, CloseCause::Overload, notes);
     }
@@ -87,13 +109,32 @@ fn accept(core: &mut WireCore, number: u32, notes: &mut Notes) -> Result<(), NoM
 fn join(core: &mut WireCore, number: u32, cluster: u32) -> Result<(), NoMemory>
     requires sound { IsSound core.old }
     ensures sound { OnOk result (IsSound core.new) }
-    ensures octets { OnOk result (Keeps core.old core.new) }
+    ensures octets { Comes result number core.old core.new }
 {
     if core.links.is_known(number) {
         return Ok(());
     }
+    take_cluster(core, number, cluster)?;
+    greet_cluster(core, number)
+}
+
+// A connection to a cluster is linked.
+fn take_cluster(core: &mut WireCore, number: u32, cluster: u32) -> Result<(), NoMemory>
+    requires sound { IsSound core.old }
+    requires unknown { is_known number core.old.links ≡ false }
+    ensures sound { OnOk result (IsSound core.new) }
+    ensures octets { Comes result number core.old core.new }
+{
     core.links.join(number, cluster)?;
-    open(core, number, Peer::Cluster)?;
+    open(core, number, Peer::Cluster)
+}
+
+// The peer of a new connection to a cluster is told the settings.
+fn greet_cluster(core: &mut WireCore, number: u32) -> Result<(), NoMemory>
+    requires sound { IsSound core.old }
+    ensures sound { OnOk result (IsSound core.new) }
+    ensures octets { KeepsOk result core.old core.new }
+{
     core.begin(Task::AskDrain(number))?;
     let settings = settings_of(core.alloc, (ENABLE_PUSH, 0), &core.config.limits)?;
     let control = Control::preface_settings(core.alloc, settings.as_slice())?;
@@ -122,7 +163,7 @@ fn settings_of(
 fn open(core: &mut WireCore, number: u32, peer: Peer) -> Result<(), NoMemory>
     requires sound { IsSound core.old }
     ensures sound { OnOk result (IsSound core.new) }
-    ensures octets { is_some (get nat_cmp core.old.conns number) ≡ false → OnOk result (Keeps core.old core.new) }
+    ensures octets { is_known number core.old.links ≡ true → has_conn number core.old.conns ≡ false → Comes result number core.old core.new }
 {
     core.flows.open_write(number)?;
     let conn = Conn::new(core.alloc, peer, &core.config.limits)?;
@@ -134,7 +175,7 @@ fn open(core: &mut WireCore, number: u32, peer: Peer) -> Result<(), NoMemory>
 fn read(core: &mut WireCore, number: u32, octets: &Octets) -> Result<(), NoMemory>
     requires sound { IsSound core.old }
     ensures sound { OnOk result (IsSound core.new) }
-    ensures octets { OnOk result (Keeps core.old core.new) }
+    ensures octets { KeepsOk result core.old core.new }
 {
     if read_at(core, number, octets)? {
         return core.begin(Task::Read(number));
@@ -146,7 +187,7 @@ fn read(core: &mut WireCore, number: u32, octets: &Octets) -> Result<(), NoMemor
 fn read_at(core: &mut WireCore, number: u32, octets: &Octets) -> Result<bool, NoMemory>
     requires sound { IsSound core.old }
     ensures sound { OnOk result (IsSound core.new) }
-    ensures octets { OnOk result (Keeps core.old core.new) }
+    ensures octets { KeepsOk result core.old core.new }
 {
     match core.conns.get_mut(&number) {
         Some(conn) => conn.read(octets),
@@ -159,7 +200,7 @@ fn room(core: &mut WireCore, number: u32, n: u32, notes: &mut Notes) -> Result<(
     requires sound { IsSound core.old }
     ensures sound { OnOk result (IsSound core.new) }
     ensures notes { Appends notes.old notes.new }
-    ensures octets { OnOk result (Goes core.old notes.old core.new notes.new) }
+    ensures octets { Goes result core.old notes.old core.new notes.new }
 {
     let Some((n, crossed)) = leave_at(core, number, n) else {
         return Ok(());
@@ -177,7 +218,7 @@ fn room(core: &mut WireCore, number: u32, n: u32, notes: &mut Notes) -> Result<(
 fn leave_at(core: &mut WireCore, number: u32, n: u32) -> Option<(u32, Crossed)>
     requires sound { IsSound core.old }
     ensures sound { IsSound core.new }
-    ensures octets { MatchOption result (core.new ≡ core.old) (λ r. Owes (outs_of number r.0) core.old core.new) }
+    ensures octets { MatchOption result (Keeps core.old core.new) (λ r. Owes (outs_of number r.0) core.old core.new) }
 {
     match core.conns.get_mut(&number) {
         Some(conn) => Some(conn.leave_write(n)),
@@ -188,7 +229,7 @@ fn leave_at(core: &mut WireCore, number: u32, n: u32) -> Option<(u32, Crossed)>
 // The note of octets that went to the socket. Without octets there is nothing to say.
 fn note_out(notes: &mut Notes, conn: u32, n: u32) -> Result<(), NoMemory>
     ensures notes { Appends notes.old notes.new }
-    ensures octets { OnOk result (Pays (outs_of conn n) notes.old notes.new) }
+    ensures octets { Pays result (outs_of conn n) notes.old notes.new }
 {
     if n == 0 {
         return Ok(());
@@ -200,7 +241,7 @@ fn note_out(notes: &mut Notes, conn: u32, n: u32) -> Result<(), NoMemory>
 fn tick(core: &mut WireCore, now: u64) -> Result<(), NoMemory>
     requires sound { IsSound core.old }
     ensures sound { OnOk result (IsSound core.new) }
-    ensures octets { OnOk result (Keeps core.old core.new) }
+    ensures octets { KeepsOk result core.old core.new }
 {
     set_clock(core, now);
     core.begin(Task::Fires)?;
@@ -231,7 +272,7 @@ fn post(
     requires sound { IsSound core.old }
     ensures sound { OnOk result (IsSound core.new) }
     ensures notes { Appends notes.old notes.new }
-    ensures octets { OnOk result (Goes core.old notes.old core.new notes.new) }
+    ensures octets { Goes result core.old notes.old core.new notes.new }
 {
     match job {
         Job::Drain => core.begin(Task::Drains(0)),
@@ -252,7 +293,7 @@ fn post(
 fn obey(core: &mut WireCore, version: u64, pressures: &PressureList) -> Result<(), NoMemory>
     requires sound { IsSound core.old }
     ensures sound { OnOk result (IsSound core.new) }
-    ensures octets { OnOk result (Keeps core.old core.new) }
+    ensures octets { KeepsOk result core.old core.new }
 {
     core.obeyed = version;
     core.load.obey(&core.config, pressures.as_slice());

@@ -24,7 +24,7 @@ pub(crate) fn close_with(
     ensures sound { OnOk result (IsSound core.new) }
     ensures go { OnOk result (to_go core.new ≤ to_go core.old) }
     ensures notes { Appends notes.old notes.new }
-    ensures octets { OnOk result (Goes core.old notes.old core.new notes.new) }
+    ensures octets { Goes result core.old notes.old core.new notes.new }
 {
     close(core, number, code, CloseCause::Protocol, notes)
 }
@@ -84,7 +84,7 @@ impl StreamFault {
         ensures sound { OnOk result (IsSound core.new) }
         ensures go { OnOk result (to_go core.new ≤ to_go core.old + 17 + 4 * self.content) }
         ensures notes { Appends notes.old notes.new }
-        ensures octets { OnOk result (Goes core.old notes.old core.new notes.new) }
+        ensures octets { Goes result core.old notes.old core.new notes.new }
     {
         if self.content > 0 && !counts_late(core, number, self.content) {
             return close_with(core, number, FLOW_CONTROL_ERROR, notes);
@@ -117,7 +117,7 @@ impl StreamFault {
         ensures sound { OnOk result (IsSound core.new) }
         ensures go { OnOk result (to_go core.new ≤ to_go core.old + 8) }
         ensures notes { Appends notes.old notes.new }
-        ensures octets { OnOk result (Goes core.old notes.old core.new notes.new) }
+        ensures octets { Goes result core.old notes.old core.new notes.new }
     {
         if self.content > 0 {
             core.begin(Task::Waste {
@@ -178,7 +178,7 @@ pub fn waste(
     ensures sound { OnOk result (IsSound core.new) }
     ensures go { OnOk result (to_go core.new < to_go core.old) }
     ensures notes { Appends notes.old notes.new }
-    ensures octets { OnOk result (Goes core.old notes.old core.new notes.new) }
+    ensures octets { Goes result core.old notes.old core.new notes.new }
 {
     core.end_task();
     owe(core, number, stream, n, notes)
@@ -196,7 +196,7 @@ pub(crate) fn owe(
     ensures sound { OnOk result (IsSound core.new) }
     ensures go { OnOk result (to_go core.new ≤ to_go core.old + 1) }
     ensures notes { Appends notes.old notes.new }
-    ensures octets { OnOk result (Goes core.old notes.old core.new notes.new) }
+    ensures octets { Goes result core.old notes.old core.new notes.new }
 {
     let n = n.min(strays(core, number));
     if n == 0 {

@@ -6,7 +6,7 @@ ghost use Rattle.wire_flows.specs.Flows.{flow_in};
 ghost use Rattle.wire_state.specs.Noting.{Appends};
 ghost use Rattle.wire_state.specs.Progress.{to_go};
 ghost use Rattle.wire_state.specs.Sound.{IsSound};
-ghost use Rattle.wire_state.specs.Worlds.{Goes, Keeps};
+ghost use Rattle.wire_state.specs.Worlds.{Goes, Keeps, KeepsOk};
 
 use crate::faults::{Concerns, close_with, stream_fault};
 use crate::requests::request;
@@ -33,7 +33,7 @@ pub(crate) fn head(
     ensures sound { OnOk result (IsSound core.new) }
     ensures go { OnOk result (to_go core.new ≤ to_go core.old + 300) }
     ensures notes { Appends notes.old notes.new }
-    ensures octets { OnOk result (Goes core.old notes.old core.new notes.new) }
+    ensures octets { Goes result core.old notes.old core.new notes.new }
 {
     if let Reading::Refused = reading {
         return close_with(core, number, COMPRESSION_ERROR, notes);
@@ -69,7 +69,7 @@ fn response(
     ensures sound { OnOk result (IsSound core.new) }
     ensures go { OnOk result (to_go core.new ≤ to_go core.old + 60) }
     ensures notes { Appends notes.old notes.new }
-    ensures octets { OnOk result (Goes core.old notes.old core.new notes.new) }
+    ensures octets { Goes result core.old notes.old core.new notes.new }
 {
     let Some(course) = core.flow_from(number, stream) else {
         return Ok(());
@@ -135,7 +135,7 @@ pub(crate) fn begin(
     requires first { option_map_or (λ f. head_came f.message) (flow_in core.old.flows course.flow) false ≡ false }
     ensures sound { OnOk result (IsSound core.new) }
     ensures go { OnOk result (to_go core.new ≤ to_go core.old + 41) }
-    ensures octets { OnOk result (Keeps core.old core.new) }
+    ensures octets { KeepsOk result core.old core.new }
 {
     put_head(core, course.flow, fields, last)?;
     end_where(core, last, course, stream)?;
@@ -154,7 +154,7 @@ fn put_head(
     requires first { option_map_or (λ f. head_came f.message) (flow_in core.old.flows flow) false ≡ false }
     ensures sound { OnOk result (IsSound core.new) }
     ensures go { OnOk result (to_go core.new ≤ to_go core.old + 40) }
-    ensures octets { OnOk result (Keeps core.old core.new) }
+    ensures octets { KeepsOk result core.old core.new }
 {
     match fields {
         Some(fields) => core.flows.head(flow, fields, last),
@@ -172,7 +172,7 @@ pub(crate) fn end_where(
     requires sound { IsSound core.old }
     ensures sound { OnOk result (IsSound core.new) }
     ensures go { OnOk result (to_go core.new ≤ to_go core.old + 1) }
-    ensures octets { OnOk result (Keeps core.old core.new) }
+    ensures octets { KeepsOk result core.old core.new }
 {
     if !last {
         return Ok(());
@@ -189,7 +189,7 @@ pub(crate) fn finish(
     requires sound { IsSound core.old }
     ensures sound { OnOk result (IsSound core.new) }
     ensures go { OnOk result (to_go core.new ≤ to_go core.old + 40) }
-    ensures octets { OnOk result (Keeps core.old core.new) }
+    ensures octets { KeepsOk result core.old core.new }
 {
     if !core.flows.goes_on(flow) {
         return Ok(());
@@ -209,7 +209,7 @@ pub(crate) fn trailers(
     ensures sound { OnOk result (IsSound core.new) }
     ensures go { OnOk result (to_go core.new ≤ to_go core.old + 60) }
     ensures notes { Appends notes.old notes.new }
-    ensures octets { OnOk result (Goes core.old notes.old core.new notes.new) }
+    ensures octets { Goes result core.old notes.old core.new notes.new }
 {
     if let Reading::Refused = reading {
         return close_with(core, number, COMPRESSION_ERROR, notes);

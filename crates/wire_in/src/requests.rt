@@ -7,7 +7,7 @@ ghost use Rattle.wire_links.specs.Links.{cluster_of, exchange_at, is_client};
 ghost use Rattle.wire_state.specs.Noting.{Appends};
 ghost use Rattle.wire_state.specs.Progress.{to_go};
 ghost use Rattle.wire_state.specs.Sound.{IsSound};
-ghost use Rattle.wire_state.specs.Worlds.{Goes, Keeps, Owes, Shows};
+ghost use Rattle.wire_state.specs.Worlds.{Goes, Keeps, KeepsOk, Owes, Shows};
 ghost use Rattle.flow_notes.specs.declared.notes.Note.TheVariants as note;
 
 use crate::heads::{self, finish};
@@ -38,7 +38,7 @@ pub(crate) fn request(
     ensures sound { OnOk result (IsSound core.new) }
     ensures go { OnOk result (to_go core.new ≤ to_go core.old + 300) }
     ensures notes { Appends notes.old notes.new }
-    ensures octets { OnOk result (Goes core.old notes.old core.new notes.new) }
+    ensures octets { Goes result core.old notes.old core.new notes.new }
 {
     if ignores(core, number, stream) || !is_unused(core, number, stream) {
         return Ok(());
@@ -71,7 +71,7 @@ fn go(
     requires sound { IsSound core.old }
     ensures sound { OnOk result (IsSound core.new) }
     ensures go { OnOk result (to_go core.new ≤ to_go core.old + 41) }
-    ensures octets { OnOk result (Keeps core.old core.new) }
+    ensures octets { KeepsOk result core.old core.new }
 {
     match core.flows.awaits(course.flow) {
         Awaited::Head => heads::begin(core, course, stream, fields, last),
@@ -131,7 +131,7 @@ fn begin(
     ensures sound { OnOk result (IsSound core.new) }
     ensures go { OnOk result (to_go core.new ≤ to_go core.old + 225) }
     ensures notes { Appends notes.old notes.new }
-    ensures octets { OnOk result (Goes core.old notes.old core.new notes.new) }
+    ensures octets { Goes result core.old notes.old core.new notes.new }
 {
     let (row, to) = goal_of(core, decision);
     let started = start(core, number, stream, row, to)?;
@@ -223,7 +223,7 @@ fn begin_stream(core: &mut WireCore, number: u32, exchange: u64) -> Result<(), N
     requires sound { IsSound core.old }
     ensures sound { OnOk result (IsSound core.new) }
     ensures go { to_go core.new ≤ to_go core.old }
-    ensures octets { OnOk result (Keeps core.old core.new) }
+    ensures octets { KeepsOk result core.old core.new }
 {
     match core.conns.get_mut(&number) {
         Some(conn) => conn.begin(exchange),
@@ -269,7 +269,7 @@ fn note_held(
     notes: &mut Notes,
 ) -> Result<(), NoMemory>
     ensures notes { Appends notes.old notes.new }
-    ensures octets { OnOk result (Shows notes.old notes.new) }
+    ensures octets { Shows result notes.old notes.new }
 {
     let exchange = started.exchange;
     if started.request_held

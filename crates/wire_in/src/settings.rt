@@ -3,7 +3,7 @@ ghost use Rattle.std.specs.Prelude.{◌≡◌, ◌≤◌, ◌+◌, OnOk};
 ghost use Rattle.wire_state.specs.Noting.{Appends};
 ghost use Rattle.wire_state.specs.Progress.{conn_go, to_go};
 ghost use Rattle.wire_state.specs.Sound.{IsSound};
-ghost use Rattle.wire_state.specs.Worlds.{Goes, Keeps};
+ghost use Rattle.wire_state.specs.Worlds.{Goes, Keeps, KeepsOk};
 
 use crate::faults::close_with;
 use flow_notes::Notes;
@@ -40,7 +40,7 @@ pub(crate) fn settings(
     ensures sound { OnOk result (IsSound core.new) }
     ensures go { OnOk result (to_go core.new ≤ to_go core.old + 6) }
     ensures notes { Appends notes.old notes.new }
-    ensures octets { OnOk result (Goes core.old notes.old core.new notes.new) }
+    ensures octets { Goes result core.old notes.old core.new notes.new }
 {
     let named = named_in(list);
     if let Some(concurrent) = named.concurrent {
@@ -123,7 +123,7 @@ fn refresh_all(core: &mut WireCore, number: u32, before: u32) -> Result<(), NoMe
     requires sound { IsSound core.old }
     ensures sound { OnOk result (IsSound core.new) }
     ensures go { to_go core.new ≤ to_go core.old }
-    ensures octets { OnOk result (Keeps core.old core.new) }
+    ensures octets { KeepsOk result core.old core.new }
 {
     match core.conns.get_mut(&number) {
         Some(conn) => conn.refresh_windowed(&core.flows, before),

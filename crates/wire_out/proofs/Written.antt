@@ -19,7 +19,8 @@ use Rattle.wire_outlet.specs.Waiting.{octets_of}
 use Rattle.wire_outlet.specs.declared.outlet.Framed.{Framed}
 use Rattle.wire_outlet.specs.declared.outlet.Framed.TheVariants as framed
 use Rattle.wire_state.proofs.Rooms.{of_some}
-use Rattle.wire_state.proofs.Wrote.{answer_written, body_written, credit_written, head_written, listed_bodies, nothing_written, same_bodies}
+use Rattle.wire_state.proofs.Goings.{same_bodies}
+use Rattle.wire_state.proofs.Wrote.{answer_written, body_written, credit_written, head_written, listed_bodies, nothing_written}
 use Rattle.wire_state.specs.Noting.{heads_of}
 use Rattle.wire_state.specs.Worlds.{Keeps, Owes, stream_in, waited_of}
 use Rattle.wire_state.specs.declared.conn.Conn.{Conn}

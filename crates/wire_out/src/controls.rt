@@ -26,7 +26,7 @@ pub(crate) fn frame_waiting(
     ensures sound { OnOk result (IsSound core.new) }
     ensures go { OnOk result (to_go core.new + (1 + stirred_at number core.old.stirred.conns.items) ≤ to_go core.old) }
     ensures notes { Appends notes.old notes.new }
-    ensures octets { OnOk result (Goes core.old notes.old core.new notes.new) }
+    ensures octets { Goes result core.old notes.old core.new notes.new }
 {
     let Some((framed, crossed)) = write_waiting(core, number)? else {
         core.give_up(number);
@@ -53,7 +53,7 @@ fn write_waiting(core: &mut WireCore, number: u32) -> Result<Option<(Framed, Cro
 // The note of a unit that waited.
 fn note_waiting(notes: &mut Notes, conn: u32, framed: Framed) -> Result<(), NoMemory>
     ensures notes { Appends notes.old notes.new }
-    ensures octets { OnOk result (Pays (waited_of conn framed) notes.old notes.new) }
+    ensures octets { Pays result (waited_of conn framed) notes.old notes.new }
 {
     match framed {
         Framed::Answer(octets) => note_answer(notes, conn, octets),
@@ -72,7 +72,7 @@ pub(crate) fn frame_first_credit(
     ensures sound { OnOk result (IsSound core.new) }
     ensures go { OnOk result (to_go core.new + (1 + stirred_at number core.old.stirred.conns.items) ≤ to_go core.old) }
     ensures notes { Appends notes.old notes.new }
-    ensures octets { OnOk result (Goes core.old notes.old core.new notes.new) }
+    ensures octets { Goes result core.old notes.old core.new notes.new }
 {
     let n = grant_first(core, number);
     frame_update(core, number, 0, n, notes)
@@ -103,7 +103,7 @@ pub(crate) fn frame_credit(
     ensures sound { OnOk result (IsSound core.new) }
     ensures go { OnOk result (to_go core.new + (1 + stirred_at number core.old.stirred.conns.items) ≤ to_go core.old) }
     ensures notes { Appends notes.old notes.new }
-    ensures octets { OnOk result (Goes core.old notes.old core.new notes.new) }
+    ensures octets { Goes result core.old notes.old core.new notes.new }
 {
     let n = grant_conn(core, number);
     frame_update(core, number, 0, n, notes)
@@ -135,7 +135,7 @@ pub(crate) fn frame_stream_credit(
     ensures sound { OnOk result (IsSound core.new) }
     ensures go { OnOk result (to_go core.new + (1 + stirred_at number core.old.stirred.conns.items) ≤ to_go core.old) }
     ensures notes { Appends notes.old notes.new }
-    ensures octets { OnOk result (Goes core.old notes.old core.new notes.new) }
+    ensures octets { Goes result core.old notes.old core.new notes.new }
 {
     let n = grant(core, number, exchange);
     match core.links.ends_of(exchange) {
@@ -183,7 +183,7 @@ fn frame_update(
     ensures sound { OnOk result (IsSound core.new) }
     ensures go { OnOk result (to_go core.new + (1 + stirred_at number core.old.stirred.conns.items) ≤ to_go core.old + 4 * n) }
     ensures notes { Appends notes.old notes.new }
-    ensures octets { OnOk result (Goes core.old notes.old core.new notes.new) }
+    ensures octets { Goes result core.old notes.old core.new notes.new }
 {
     let Some(crossed) = write_update(core, number, stream, n)? else {
         core.give_up(number);

@@ -21,7 +21,7 @@ pub fn ask_drain(core: &mut WireCore, number: u32, notes: &mut Notes) -> Result<
     ensures sound { OnOk result (IsSound core.new) }
     ensures go { OnOk result (to_go core.new < to_go core.old) }
     ensures notes { Appends notes.old notes.new }
-    ensures octets { OnOk result (Goes core.old notes.old core.new notes.new) }
+    ensures octets { Goes result core.old notes.old core.new notes.new }
 {
     core.end_task();
     if core.agenda.is_draining(number) {
@@ -44,7 +44,7 @@ pub(crate) fn drain_by(
     ensures sound { OnOk result (IsSound core.new) }
     ensures go { OnOk result (to_go core.new ≤ to_go core.old) }
     ensures notes { Appends notes.old notes.new }
-    ensures octets { OnOk result (Goes core.old notes.old core.new notes.new) }
+    ensures octets { Goes result core.old notes.old core.new notes.new }
 {
     if core.agenda.is_draining(number) {
         return Ok(());
@@ -63,7 +63,7 @@ pub fn begin_drain(
     ensures sound { OnOk result (IsSound core.new) }
     ensures go { OnOk result (to_go core.new + stirred_at number core.old.stirred.conns.items ≤ to_go core.old) }
     ensures notes { Appends notes.old notes.new }
-    ensures octets { OnOk result (Goes core.old notes.old core.new notes.new) }
+    ensures octets { Goes result core.old notes.old core.new notes.new }
 {
     core.begin(Task::Drain(number))?;
     frame_next(core, number, unit, notes)
@@ -76,7 +76,7 @@ pub fn drain(core: &mut WireCore, number: u32, notes: &mut Notes) -> Result<(), 
     ensures sound { OnOk result (IsSound core.new) }
     ensures go { OnOk result (to_go core.new < to_go core.old) }
     ensures notes { Appends notes.old notes.new }
-    ensures octets { OnOk result (Goes core.old notes.old core.new notes.new) }
+    ensures octets { Goes result core.old notes.old core.new notes.new }
 {
     match next_unit(core, number) {
         Some(unit) => frame_next(core, number, unit, notes),
@@ -99,7 +99,7 @@ fn frame_next(
     ensures sound { OnOk result (IsSound core.new) }
     ensures go { OnOk result (to_go core.new + (1 + stirred_at number core.old.stirred.conns.items) ≤ to_go core.old) }
     ensures notes { Appends notes.old notes.new }
-    ensures octets { OnOk result (Goes core.old notes.old core.new notes.new) }
+    ensures octets { Goes result core.old notes.old core.new notes.new }
 {
     match unit {
         NextUnit::Waiting => frame_waiting(core, number, notes),
@@ -146,7 +146,7 @@ pub(crate) fn unit_framed(
     ensures sound { OnOk result (IsSound core.new) }
     ensures go { OnOk result (to_go core.new ≤ to_go core.old + 1) }
     ensures notes { Appends notes.old notes.new }
-    ensures octets { OnOk result (Goes core.old notes.old core.new notes.new) }
+    ensures octets { Goes result core.old notes.old core.new notes.new }
 {
     core.stir(conn)?;
     if crossed == Crossed::High {

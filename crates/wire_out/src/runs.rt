@@ -7,7 +7,7 @@ ghost use Rattle.wire_state.specs.Noting.{Appends};
 ghost use Rattle.wire_state.specs.Progress.{to_go};
 ghost use Rattle.wire_state.specs.Sound.{IsSound};
 ghost use Rattle.flow_notes.specs.Buffer.{CanPause};
-ghost use Rattle.wire_state.specs.Worlds.{Goes, Keeps, Shows};
+ghost use Rattle.wire_state.specs.Worlds.{Goes, Keeps, KeepsOk, Shows};
 ghost use Rattle.flow_notes.specs.declared.notes.Note.TheVariants as note;
 
 use crate::drains::{drain_by, next_unit};
@@ -25,7 +25,7 @@ pub fn ask_run(core: &mut WireCore, course: Course, notes: &mut Notes) -> Result
     ensures sound { OnOk result (IsSound core.new) }
     ensures go { OnOk result (to_go core.new < to_go core.old) }
     ensures notes { Appends notes.old notes.new }
-    ensures octets { OnOk result (Goes core.old notes.old core.new notes.new) }
+    ensures octets { Goes result core.old notes.old core.new notes.new }
 {
     core.end_task();
     if core.agenda.is_running(course.flow) {
@@ -50,7 +50,7 @@ pub fn run(
     ensures sound { OnOk result (IsSound core.new) }
     ensures go { OnOk result (to_go core.new < to_go core.old) }
     ensures notes { Appends notes.old notes.new }
-    ensures octets { OnOk result (Goes core.old notes.old core.new notes.new) }
+    ensures octets { Goes result core.old notes.old core.new notes.new }
 {
     if !core.flows.holds(course.flow) {
         return run_empty(core, course, tried, notes);
@@ -75,7 +75,7 @@ fn run_empty(
     ensures sound { OnOk result (IsSound core.new) }
     ensures go { OnOk result (to_go core.new < to_go core.old) }
     ensures notes { Appends notes.old notes.new }
-    ensures octets { OnOk result (Goes core.old notes.old core.new notes.new) }
+    ensures octets { Goes result core.old notes.old core.new notes.new }
 {
     core.end_task();
     if tried {
@@ -95,7 +95,7 @@ fn ask_drain_next(core: &mut WireCore, conn: Option<u32>) -> Result<(), NoMemory
     ensures sound { OnOk result (IsSound core.new) }
     ensures go { OnOk result (to_go core.new ≤ to_go core.old + 2) }
     ensures rest { core.new ≡ record core.old { agenda = core.new.agenda } }
-    ensures octets { OnOk result (Keeps core.old core.new) }
+    ensures octets { KeepsOk result core.old core.new }
 {
     match (core.agenda.top(), conn) {
         (Some(Task::AskDrain(next)), Some(conn)) if next == conn => Ok(()),
@@ -115,7 +115,7 @@ fn overfull(
     ensures sound { OnOk result (IsSound core.new) }
     ensures go { OnOk result (to_go core.new < to_go core.old) }
     ensures notes { Appends notes.old notes.new }
-    ensures octets { OnOk result (Goes core.old notes.old core.new notes.new) }
+    ensures octets { Goes result core.old notes.old core.new notes.new }
 {
     if core.flows.is_live(course.flow.exchange) {
         return too_large(core, course, notes);
@@ -130,7 +130,7 @@ fn stop(core: &mut WireCore, course: Course, tried: bool, notes: &mut Notes) -> 
     ensures sound { OnOk result (IsSound core.new) }
     ensures go { OnOk result (to_go core.new < to_go core.old) }
     ensures notes { Appends notes.old notes.new }
-    ensures octets { OnOk result (Goes core.old notes.old core.new notes.new) }
+    ensures octets { Goes result core.old notes.old core.new notes.new }
 {
     if tried {
         core.end_task();
@@ -147,7 +147,7 @@ fn stand_still(core: &mut WireCore, course: Course, notes: &mut Notes) -> Result
     ensures sound { OnOk result (IsSound core.new) }
     ensures go { OnOk result (to_go core.new < to_go core.old) }
     ensures notes { Appends notes.old notes.new }
-    ensures octets { OnOk result (Goes core.old notes.old core.new notes.new) }
+    ensures octets { Goes result core.old notes.old core.new notes.new }
 {
     if let Some((to, unit)) = unit_to(core, course.to) {
         look_again(core, course)?;
@@ -166,7 +166,7 @@ fn look_again(core: &mut WireCore, course: Course) -> Result<(), NoMemory>
     requires top { top_go core.old.agenda ≡ 6 }
     ensures sound { OnOk result (IsSound core.new) }
     ensures go { OnOk result (to_go core.new < to_go core.old) }
-    ensures octets { OnOk result (Keeps core.old core.new) }
+    ensures octets { KeepsOk result core.old core.new }
 {
     core.go_on(Task::Run {
         course,
@@ -208,7 +208,7 @@ fn ask_drain(core: &mut WireCore, conn: Option<u32>) -> Result<(), NoMemory>
     ensures sound { OnOk result (IsSound core.new) }
     ensures go { OnOk result (to_go core.new ≤ to_go core.old + 2) }
     ensures rest { core.new ≡ record core.old { agenda = core.new.agenda } }
-    ensures octets { OnOk result (Keeps core.old core.new) }
+    ensures octets { KeepsOk result core.old core.new }
 {
     match conn {
         Some(conn) => core.begin(Task::AskDrain(conn)),
@@ -224,7 +224,7 @@ fn too_large(core: &mut WireCore, course: Course, notes: &mut Notes) -> Result<(
     ensures sound { OnOk result (IsSound core.new) }
     ensures go { OnOk result (to_go core.new < to_go core.old) }
     ensures notes { Appends notes.old notes.new }
-    ensures octets { OnOk result (Goes core.old notes.old core.new notes.new) }
+    ensures octets { Goes result core.old notes.old core.new notes.new }
 {
     core.go_on(Task::Run {
         course,
@@ -253,7 +253,7 @@ fn go_on(
     ensures sound { OnOk result (IsSound core.new) }
     ensures go { OnOk result (to_go core.new ≤ to_go core.old + 11) }
     ensures notes { Appends notes.old notes.new }
-    ensures octets { OnOk result (Goes core.old (notes.old ++ note.Move course.flow moved.place moved.n ∷ []) core.new notes.new) }
+    ensures octets { Goes result core.old (notes.old ++ note.Move course.flow moved.place moved.n ∷ []) core.new notes.new }
 {
     core.go_on(Task::Run {
         course,
@@ -280,7 +280,7 @@ fn owe_moved(core: &mut WireCore, course: Course, moved: Moved) -> Result<(), No
     requires sound { IsSound core.old }
     ensures sound { OnOk result (IsSound core.new) }
     ensures go { OnOk result (to_go core.new ≤ to_go core.old + 1) }
-    ensures octets { OnOk result (Keeps core.old core.new) }
+    ensures octets { KeepsOk result core.old core.new }
 {
     match course.from {
         Some(from) if moved.place == 0 => owe_from(core, from, course.flow.exchange, moved.n),
@@ -292,7 +292,7 @@ fn owe_from(core: &mut WireCore, from: u32, exchange: u64, n: u32) -> Result<(),
     requires sound { IsSound core.old }
     ensures sound { OnOk result (IsSound core.new) }
     ensures go { OnOk result (to_go core.new ≤ to_go core.old + 1) }
-    ensures octets { OnOk result (Keeps core.old core.new) }
+    ensures octets { KeepsOk result core.old core.new }
 {
     core.stir(from)?;
     moved_at(core, from, exchange, n)
@@ -303,7 +303,7 @@ fn moved_at(core: &mut WireCore, number: u32, exchange: u64, n: u32) -> Result<(
     ensures sound { OnOk result (IsSound core.new) }
     ensures go { OnOk result (to_go core.new ≤ to_go core.old) }
     ensures rest { core.new ≡ record core.old { conns = core.new.conns } }
-    ensures octets { OnOk result (Keeps core.old core.new) }
+    ensures octets { KeepsOk result core.old core.new }
 {
     match core.conns.get_mut(&number) {
         Some(conn) => conn.moved(exchange, n),
@@ -323,7 +323,7 @@ fn cross(
     ensures sound { OnOk result (IsSound core.new) }
     ensures go { OnOk result (to_go core.new ≤ to_go core.old + 1) }
     ensures notes { Appends notes.old notes.new }
-    ensures octets { OnOk result (Goes core.old notes.old core.new notes.new) }
+    ensures octets { Goes result core.old notes.old core.new notes.new }
 {
     note_pause(course.flow, moved.rose, notes)?;
     if moved.overflow {
@@ -342,7 +342,7 @@ fn cross(
 fn note_pause(flow: FlowId, rose: Option<BufferId>, notes: &mut Notes) -> Result<(), NoMemory>
     requires { IfSome rose (CanPause flow) }
     ensures notes { Appends notes.old notes.new }
-    ensures octets { OnOk result (Shows notes.old notes.new) }
+    ensures octets { Shows result notes.old notes.new }
 {
     match rose {
         Some(buffer) => note(notes, Note::Pause { flow, buffer }),
@@ -362,7 +362,7 @@ fn resume(
     ensures sound { OnOk result (IsSound core.new) }
     ensures go { OnOk result (to_go core.new ≤ to_go core.old) }
     ensures notes { Appends notes.old notes.new }
-    ensures octets { OnOk result (Goes core.old notes.old core.new notes.new) }
+    ensures octets { Goes result core.old notes.old core.new notes.new }
 {
     let flow = course.flow;
     core.look_due(course)?;

@@ -7,7 +7,7 @@ ghost use Rattle.wire_state.specs.Agenda.{stirred_at, top_go};
 ghost use Rattle.wire_state.specs.Noting.{Appends};
 ghost use Rattle.wire_state.specs.Progress.{conn_go, to_go};
 ghost use Rattle.wire_state.specs.Sound.{IsSound};
-ghost use Rattle.wire_state.specs.Worlds.{Goes, Keeps, Owes, Shows, stream_in};
+ghost use Rattle.wire_state.specs.Worlds.{Goes, Keeps, KeepsOk, Owes, Shows, stream_in};
 ghost use Rattle.flow_notes.specs.declared.notes.Note.TheVariants as note;
 
 use crate::lists::frame_list;
@@ -40,7 +40,7 @@ pub(crate) fn frame_flow(
     ensures sound { OnOk result (IsSound core.new) }
     ensures go { OnOk result (to_go core.new + (1 + stirred_at conn core.old.stirred.conns.items) ≤ to_go core.old) }
     ensures notes { Appends notes.old notes.new }
-    ensures octets { OnOk result (Goes core.old notes.old core.new notes.new) }
+    ensures octets { Goes result core.old notes.old core.new notes.new }
 {
     let Some(going) = going_to(core, conn, exchange) else {
         unready(core, conn, exchange);
@@ -152,7 +152,7 @@ fn frame_body(core: &mut WireCore, going: Going, notes: &mut Notes) -> Result<()
     ensures sound { OnOk result (IsSound core.new) }
     ensures go { OnOk result (to_go core.new + (1 + stirred_at going.conn core.old.stirred.conns.items) ≤ to_go core.old) }
     ensures notes { Appends notes.old notes.new }
-    ensures octets { OnOk result (Goes core.old notes.old core.new notes.new) }
+    ensures octets { Goes result core.old notes.old core.new notes.new }
 {
     let flow = going.course.flow;
     let Some(framed) = write_body(core, going)? else {
@@ -219,7 +219,7 @@ pub(crate) fn end_where(core: &mut WireCore, exchange: u64, last: bool) -> Resul
     ensures sound { OnOk result (IsSound core.new) }
     ensures go { OnOk result (to_go core.new ≤ to_go core.old + 1) }
     ensures rest { core.new ≡ record core.old { agenda = core.new.agenda } }
-    ensures octets { OnOk result (Keeps core.old core.new) }
+    ensures octets { KeepsOk result core.old core.new }
 {
     if last {
         return core.begin(Task::End(exchange));
@@ -230,7 +230,7 @@ pub(crate) fn end_where(core: &mut WireCore, exchange: u64, last: bool) -> Resul
 // Where the write buffer rose, the flows that go to the connection are held back.
 fn note_risen(core: &WireCore, conn: u32, rose: bool, notes: &mut Notes) -> Result<(), NoMemory>
     ensures notes { Appends notes.old notes.new }
-    ensures octets { OnOk result (Shows notes.old notes.new) }
+    ensures octets { Shows result notes.old notes.new }
 {
     if rose {
         return note_pauses(&core.flows, conn, notes);
@@ -249,7 +249,7 @@ fn resume_where(
     ensures sound { OnOk result (IsSound core.new) }
     ensures go { OnOk result (to_go core.new ≤ to_go core.old + 9) }
     ensures notes { Appends notes.old notes.new }
-    ensures octets { OnOk result (Goes core.old notes.old core.new notes.new) }
+    ensures octets { Goes result core.old notes.old core.new notes.new }
 {
     if !drained {
         return Ok(());

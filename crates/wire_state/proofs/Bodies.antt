@@ -119,11 +119,11 @@ module _ (f : FlowId) (q n : ℕ) (h : WayHistory) where
     pub moves_so : change flow ≡ moved q n flow
 
   pub moves : (old new : Flows) (conns : BTreeMap ℕ Conn) (links : Links) (change : Flow → Flow) → ChangesFlow f change old.exchanges new.exchanges → IsThere old f
-      → ((flow : Flow) → flow_in old f ≡ Some flow → IsMoved change flow) → Stands conns old links h → Stands conns new links (move ∷ h)
+      → ((flow : Flow) → flow_in old f ≡ Some flow → FlowIs f h flow → IsMoved change flow) → Stands conns old links h → Stands conns new links (move ∷ h)
   moves old new conns links change c there is s = record {
     writes = s.writes;
     flows_are = flows_changed f change old new c h (move ∷ h)
-        (λ flow e was. let m = is flow e in subst (FlowIs f (move ∷ h)) (sym m.moves_so) (moved_own flow m.next m.there was))
+        (λ flow e was. let m = is flow e was in subst (FlowIs f (move ∷ h)) (sym m.moves_so) (moved_own flow m.next m.there was))
         (λ g other flow was. record { last = was.last; holds = λ p. was.holds p ∙ sym (moved_place g other p) })
         s.flows_are;
     empty = λ g p none. let gone = sym (there_after f change old.exchanges new.exchanges c g) ∙ none in
@@ -181,11 +181,11 @@ module _ (c : ℕ) (f : FlowId) (n : ℕ) (last : Bool) (h : WayHistory) where
 pub keeps_flow : (f : FlowId) (h : WayHistory) (old new : Flow) → KeepsOctets old new → FlowIs f h old → FlowIs f h new
 keeps_flow f h old new k is = record { last = k.last ∙ is.last; holds = λ p. k.holds p ∙ is.holds p }
 
-pub flow_goes : (f : FlowId) (change : Flow → Flow) → ((flow : Flow) → KeepsOctets flow (change flow)) → (old new : Flows) → ChangesFlow f change old.exchanges new.exchanges
+pub flow_goes : (f : FlowId) (change : Flow → Flow) (old new : Flows) → ((flow : Flow) → flow_in old f ≡ Some flow → KeepsOctets flow (change flow)) → ChangesFlow f change old.exchanges new.exchanges
     → (conns : BTreeMap ℕ Conn) (links : Links) (h : WayHistory) → Stands conns old links h → Stands conns new links h
-flow_goes f change keeps old new c conns links h s = record {
+flow_goes f change old new keeps c conns links h s = record {
   writes = s.writes;
-  flows_are = flows_changed f change old new c h h (λ flow e was. keeps_flow f h flow (change flow) (keeps flow) was) (λ g other flow was. was) s.flows_are;
+  flows_are = flows_changed f change old new c h h (λ flow e was. keeps_flow f h flow (change flow) (keeps flow e) was) (λ g other flow was. was) s.flows_are;
   empty = λ g p none. s.empty g p (sym (there_after f change old.exchanges new.exchanges c g) ∙ none);
   ends = s.ends;
   known = s.known;

@@ -1,6 +1,8 @@
 -- From what holds at every history to what a call does to a core and its notes.
+use Rattle.exchange_core.specs.Changes.{ChangesFlow}
 use Rattle.exchange_core.specs.Exchange.{flow_in as side_of}
 use Rattle.exchange_core.specs.Exchanges.{Exchanges, exchange_at, flow_at}
+use Rattle.exchange_core.specs.Flow.{Flow}
 use Rattle.exchange_core.specs.declared.exchange.Exchange.{Exchange}
 use Rattle.flow_gate.specs.declared.ids.FlowId.{FlowId}
 use Rattle.flow_notes.specs.declared.notes.Note.{Note}
@@ -14,10 +16,11 @@ use Rattle.std.specs.Prelude.{Bool, Err, IfSome, List, Ok, OnOk, Result, Some, [
 use Rattle.tape_laws.specs.History.{Marked, Noted}
 use Rattle.wire_flows.specs.Flows.{Flows, flow_in}
 use Rattle.wire_links.specs.Links.{Links, ends_of, no_links}
-use Rattle.wire_state.proofs.Bodies.{flows_go}
+use Rattle.wire_state.proofs.Bodies.{flow_goes, flows_go}
+use Rattle.wire_state.proofs.Held.{KeepsOctets}
 use Rattle.wire_state.proofs.Standing.{ConnsAre, KeepsFlows, KeepsShut, Writes, at_one, conns_go, conns_written, same_octets, wrote}
 use Rattle.wire_state.specs.Ways.{Way, WayHistory, WayStep, after, shown}
-use Rattle.wire_state.specs.Worlds.{EndsAre, FlowIs, Goes, Keeps, Owes, Shows, Stands, Told, octets_of}
+use Rattle.wire_state.specs.Worlds.{EndsAre, FlowIs, Keeps, KeepsOk, Owes, Stands, ToldBy, octets_of}
 use Rattle.wire_state.specs.declared.conn.Conn.{Conn}
 use Rattle.wire_state.specs.declared.wire_core.WireCore.{WireCore}
 
@@ -31,18 +34,26 @@ shown_append (Noted n ∷ a) b = ap (λ ns. n ∷ ns) (shown_append a b)
 shown_append (Marked m ∷ a) b = shown_append a b
 
 -- the steps that a call makes are still to be noted, where the core stands for them
+pub told_by : (steps : List WayStep) (conns conns' : BTreeMap ℕ Conn) (flows flows' : Flows) (links links' : Links)
+    → ((h : WayHistory) → Stands conns flows links h → Stands conns' flows' links' (after steps h))
+    → (h : WayHistory) (start notes : List Note) → ToldBy h start conns flows links notes → ToldBy h start conns' flows' links' (notes ++ shown steps)
+told_by steps conns conns' flows flows' links links' goes h start notes t = record {
+  steps = t.steps ++ steps;
+  is = ap (λ (ns : List Note). ns ++ shown steps) t.is ∙ (append_assoc start (shown t.steps) (shown steps) ∙ ap (λ (ns : List Note). start ++ ns) (sym (shown_append t.steps steps)));
+  stands = subst (λ (k : WayHistory). Stands conns' flows' links' k) (sym (after_append t.steps steps h)) (goes (after t.steps h) t.stands);
+}
+
 pub owes_by : (steps : List WayStep) (old new : WireCore)
     → ((h : WayHistory) → Stands old.conns old.flows old.links h → Stands new.conns new.flows new.links (after steps h)) → Owes (shown steps) old new
-owes_by steps old new goes = record {
-  goes = λ h start notes t. record {
-    steps = t.steps ++ steps;
-    is = ap (λ (ns : List Note). ns ++ shown steps) t.is ∙ (append_assoc start (shown t.steps) (shown steps) ∙ ap (λ (ns : List Note). start ++ ns) (sym (shown_append t.steps steps)));
-    stands = subst (λ (k : WayHistory). Stands new.conns new.flows new.links k) (sym (after_append t.steps steps h)) (goes (after t.steps h) t.stands);
-  };
-}
+owes_by steps old new goes = record { goes = told_by steps old.conns new.conns old.flows new.flows old.links new.links goes }
 
 pub keeps_by : (old new : WireCore) → ((h : WayHistory) → Stands old.conns old.flows old.links h → Stands new.conns new.flows new.links h) → Keeps old new
 keeps_by old new goes = record { goes = λ h start notes t. record { steps = t.steps; is = t.is; stands = goes (after t.steps h) t.stands } }
+
+-- the same of a call that may fail
+pub keeps_on : {A E : Type 0} (r : Result A E) (old new : WireCore) → Keeps old new → KeepsOk r old new
+keeps_on (Ok u) old new k = record { goes = k.goes }
+keeps_on (Err x) old new k = record { goes = λ h start notes t. tt }
 
 -- where these parts are as they were
 pub keeps_same : (old new : WireCore) → new.conns ≡ old.conns → new.flows ≡ old.flows → new.links ≡ old.links → Keeps old new
@@ -76,24 +87,27 @@ conn_owes n g step old new v w found written octets opened f l outs flows shut =
     (subst (λ (ls : Links). Stands new.conns old.flows ls (step ∷ h)) (sym l)
     (wrote (at_one n g) step h old.conns new.conns old.flows old.links (outs h) (flows h) (shut h) (conns_written n old.conns new.conns v w found written g octets opened) s)))
 
--- ---- one after the other
-pub keeps_then : (old mid new : WireCore) → Keeps old mid → Keeps mid new → Keeps old new
-keeps_then old mid new a b = record { goes = λ h start notes t. b.goes h start notes (a.goes h start notes t) }
+-- ---- flows whose octets stay
+pub record KeepBodies (old new : Flows) : Type 0 where
+  pub goes : (conns : BTreeMap ℕ Conn) (links : Links) (h : WayHistory) → Stands conns old links h → Stands conns new links h
 
--- flows whose exchanges are as they were
-pub same_found : (old new : Flows) → new.exchanges ≡ old.exchanges → (f : FlowId) → flow_in new f ≡ flow_in old f
-same_found old new e f = ap (λ (ex : Exchanges). flow_at ex f) e
+pub same_bodies : (old new : Flows) → new ≡ old → KeepBodies old new
+same_bodies old new e = record { goes = λ conns links h s. subst (λ (f : Flows). Stands conns f links h) (sym e) s }
 
-pub gates_keep : (old new : WireCore) → new.conns ≡ old.conns → new.flows.exchanges ≡ old.flows.exchanges → new.links ≡ old.links → Keeps old new
-gates_keep old new c e l = keeps_by old new (λ h s.
-    subst (λ (v : BTreeMap ℕ Conn). Stands v new.flows new.links h) (sym c)
-    (subst (λ (v : Links). Stands old.conns new.flows v h) (sym l)
-    (flows_go old.flows new.flows (same_found old.flows new.flows e) old.conns old.links h s)))
+pub gate_bodies : (old new : Flows) → new.exchanges ≡ old.exchanges → KeepBodies old new
+gate_bodies old new e = record { goes = flows_go old new (λ f. ap (λ (ex : Exchanges). flow_at ex f) e) }
 
--- a call that keeps the octets, and then notes that move none
-pub shows_behind : {A E : Type 0} (r : Result A E) (old new : WireCore) (before now : List Note) → Keeps old new → OnOk r (Shows before now) → OnOk r (Goes old before new now)
-shows_behind (Ok u) old new before now k s = record { goes = λ h start t. s.goes h start new (k.goes h start before t) }
-shows_behind (Err x) old new before now k s = tt
+pub changed_bodies : (f : FlowId) (change : Flow → Flow) (old new : Flows) → ((flow : Flow) → flow_in old f ≡ Some flow → KeepsOctets flow (change flow)) → ChangesFlow f change old.exchanges new.exchanges → KeepBodies old new
+changed_bodies f change old new keeps c = record { goes = flow_goes f change old new keeps c }
+
+pub bodies_told : (old new : Flows) → KeepBodies old new → (conns : BTreeMap ℕ Conn) (links : Links) (h : WayHistory) (start notes : List Note) → ToldBy h start conns old links notes → ToldBy h start conns new links notes
+bodies_told old new k conns links h start notes t = record { steps = t.steps; is = t.is; stands = k.goes conns links (after t.steps h) t.stands }
+
+-- the same of a call that may fail
+pub changed_told : {A E : Type 0} (r : Result A E) (f : FlowId) (change : Flow → Flow) (old new : Flows) → ((flow : Flow) → KeepsOctets flow (change flow)) → OnOk r (ChangesFlow f change old.exchanges new.exchanges)
+    → (conns : BTreeMap ℕ Conn) (links : Links) (h : WayHistory) (start notes : List Note) → ToldBy h start conns old links notes → OnOk r (ToldBy h start conns new links notes)
+changed_told (Ok u) f change old new keeps c conns links h start notes t = bodies_told old new (changed_bodies f change old new (λ flow e. keeps flow) c) conns links h start notes t
+changed_told (Err x) f change old new keeps c conns links h start notes t = tt
 
 -- ---- at first
 pub first_stands : (conns : BTreeMap ℕ Conn) (flows : Flows) (links : Links) → conns.entries ≡ [] → flows.exchanges.live ≡ [] → links ≡ no_links → Stands conns flows links []
@@ -109,12 +123,8 @@ first_stands conns flows links c f l = record {
 
 -- ---- a mark
 -- nothing is noted, but the history has a mark more
-pub keeps_marked : (m : Way) (old new : WireCore)
-    → ((h : WayHistory) → Stands old.conns old.flows old.links h → Stands new.conns new.flows new.links (Marked m ∷ h)) → Keeps old new
-keeps_marked m old new goes = record {
-  goes = λ h start notes t. record {
-    steps = t.steps ++ Marked m ∷ [];
-    is = t.is ∙ ap (λ (ns : List Note). start ++ ns) (sym (shown_append t.steps (Marked m ∷ []) ∙ append-nil (shown t.steps)));
-    stands = subst (λ (k : WayHistory). Stands new.conns new.flows new.links k) (sym (after_append t.steps (Marked m ∷ []) h)) (goes (after t.steps h) t.stands);
-  };
-}
+pub marked_told : (m : Way) (conns conns' : BTreeMap ℕ Conn) (flows flows' : Flows) (links links' : Links)
+    → ((h : WayHistory) → Stands conns flows links h → Stands conns' flows' links' (Marked m ∷ h))
+    → (h : WayHistory) (start notes : List Note) → ToldBy h start conns flows links notes → ToldBy h start conns' flows' links' notes
+marked_told m conns conns' flows flows' links links' goes h start notes t =
+    subst (λ (ns : List Note). ToldBy h start conns' flows' links' ns) (append-nil notes) (told_by (Marked m ∷ []) conns conns' flows flows' links links' goes h start notes t)

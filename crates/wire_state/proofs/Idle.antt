@@ -5,17 +5,20 @@ use Rattle.flow_notes.specs.declared.notes.Note.{Note}
 use Rattle.flow_notes.specs.declared.notes.Note.TheVariants as note
 use Rattle.std.proofs.Common.{ap, append_assoc, refl, subst, sym, ◌∙◌}
 use Rattle.std.proofs.lemmas.List.{append-nil}
+use Rattle.std.specs.BTreeMap.{BTreeMap}
 use Rattle.std.specs.Prelude.{Err, List, Ok, OnOk, Result, [], map, ℕ, ◌++◌, ◌∷◌, ◌≡◌}
 use Rattle.tape_laws.specs.History.{Noted}
-use Rattle.wire_state.proofs.Goings.{owes_by}
+use Rattle.wire_flows.specs.Flows.{Flows}
+use Rattle.wire_links.specs.Links.{Links}
+use Rattle.wire_state.proofs.Goings.{told_by}
 use Rattle.wire_state.proofs.Standing.{KeepsFlows, KeepsShut, Writes, conns_same, same_octets, wrote}
 use Rattle.wire_state.specs.Ways.{WayHistory}
-use Rattle.wire_state.specs.Worlds.{IsIdle, Owes, Pays, Shows, Stands, Told}
-use Rattle.wire_state.specs.declared.wire_core.WireCore.{WireCore}
+use Rattle.wire_state.specs.Worlds.{IsIdle, Pays, Shows, ToldBy}
+use Rattle.wire_state.specs.declared.conn.Conn.{Conn}
 
-pub paid : {A E : Type 0} (r : Result A E) (owed before now : List Note) → OnOk r (now ≡ before ++ owed) → OnOk r (Pays owed before now)
-paid (Ok u) owed before now e = record { goes = λ h start core t. subst (λ (ns : List Note). Told h start core ns) (sym e) t }
-paid (Err x) owed before now e = tt
+pub paid : {A E : Type 0} (r : Result A E) (owed before now : List Note) → OnOk r (now ≡ before ++ owed) → Pays r owed before now
+paid (Ok u) owed before now e = record { goes = λ h start conns flows links t. subst (λ (ns : List Note). ToldBy h start conns flows links ns) (sym e) t }
+paid (Err x) owed before now e = record { goes = λ h start conns flows links t. tt }
 
 -- a step that changes nothing
 record IsNothing (n : Note) : Type 0 where
@@ -41,20 +44,22 @@ nothing_of (note.Out c n) i = absurd i
 nothing_of (note.Doom x why) i = absurd i
 nothing_of (note.Close c code why) i = absurd i
 
-one_owed : (n : Note) → IsIdle n → (core : WireCore) → Owes (n ∷ []) core core
-one_owed n i core = let e = nothing_of n i in
-    owes_by (Noted n ∷ []) core core (λ h s. wrote same_octets (Noted n) h core.conns core.conns core.flows core.links (e.writes h) (e.flows h) (e.shut h) (conns_same core.conns) s)
+module _ (conns : BTreeMap ℕ Conn) (flows : Flows) (links : Links) where
+  one_told : (n : Note) → IsIdle n → (h : WayHistory) (start before : List Note) → ToldBy h start conns flows links before → ToldBy h start conns flows links (before ++ n ∷ [])
+  one_told n i = let e = nothing_of n i in
+      told_by (Noted n ∷ []) conns conns flows flows links links (λ h s. wrote same_octets (Noted n) h conns conns flows links (e.writes h) (e.flows h) (e.shut h) (conns_same conns) s)
 
-pub idle : {A E : Type 0} (r : Result A E) (n : Note) (before now : List Note) → OnOk r (now ≡ before ++ n ∷ []) → IsIdle n → OnOk r (Shows before now)
-idle (Ok u) n before now e i = record { goes = λ h start core t. subst (λ (ns : List Note). Told h start core ns) (sym e) ((one_owed n i core).goes h start before t) }
-idle (Err x) n before now e i = tt
+  pauses_told : (c : ℕ) (fs : List FlowId) (h : WayHistory) (start before : List Note) → ToldBy h start conns flows links before
+      → ToldBy h start conns flows links (before ++ map (λ f. note.Pause f (buffer.Write c)) fs)
+  pauses_told c [] h start before t = subst (λ (ns : List Note). ToldBy h start conns flows links ns) (sym (append-nil before)) t
+  pauses_told c (f ∷ fs) h start before t =
+      subst (λ (ns : List Note). ToldBy h start conns flows links ns) (append_assoc before (note.Pause f (buffer.Write c) ∷ []) (map (λ g. note.Pause g (buffer.Write c)) fs))
+      (pauses_told c fs h start (before ++ note.Pause f (buffer.Write c) ∷ []) (one_told (note.Pause f (buffer.Write c)) tt h start before t))
 
-pauses_shown : (c : ℕ) (flows : List FlowId) (h : WayHistory) (start : List Note) (core : WireCore) (before : List Note) → Told h start core before → Told h start core (before ++ map (λ f. note.Pause f (buffer.Write c)) flows)
-pauses_shown c [] h start core before t = subst (λ (ns : List Note). Told h start core ns) (sym (append-nil before)) t
-pauses_shown c (f ∷ flows) h start core before t =
-    subst (λ (ns : List Note). Told h start core ns) (append_assoc before (note.Pause f (buffer.Write c) ∷ []) (map (λ g. note.Pause g (buffer.Write c)) flows))
-    (pauses_shown c flows h start core (before ++ note.Pause f (buffer.Write c) ∷ []) ((one_owed (note.Pause f (buffer.Write c)) tt core).goes h start before t))
+pub idle : {A E : Type 0} (r : Result A E) (n : Note) (before now : List Note) → OnOk r (now ≡ before ++ n ∷ []) → IsIdle n → Shows r before now
+idle (Ok u) n before now e i = record { goes = λ h start conns flows links t. subst (λ (ns : List Note). ToldBy h start conns flows links ns) (sym e) (one_told conns flows links n i h start before t) }
+idle (Err x) n before now e i = record { goes = λ h start conns flows links t. tt }
 
-pub pauses : {A E : Type 0} (r : Result A E) (c : ℕ) (flows : List FlowId) (before now : List Note) → OnOk r (now ≡ before ++ map (λ f. note.Pause f (buffer.Write c)) flows) → OnOk r (Shows before now)
-pauses (Ok u) c flows before now e = record { goes = λ h start core t. subst (λ (ns : List Note). Told h start core ns) (sym e) (pauses_shown c flows h start core before t) }
-pauses (Err x) c flows before now e = tt
+pub pauses : {A E : Type 0} (r : Result A E) (c : ℕ) (fs : List FlowId) (before now : List Note) → OnOk r (now ≡ before ++ map (λ f. note.Pause f (buffer.Write c)) fs) → Shows r before now
+pauses (Ok u) c fs before now e = record { goes = λ h start conns flows links t. subst (λ (ns : List Note). ToldBy h start conns flows links ns) (sym e) (pauses_told conns flows links c fs h start before t) }
+pauses (Err x) c fs before now e = record { goes = λ h start conns flows links t. tt }

@@ -14,5 +14,6 @@ pub mod Standing
 pub mod Stepping
 pub mod Tasks
 pub mod Timing
+pub mod Turned
 pub mod Weights
 pub mod Wrote

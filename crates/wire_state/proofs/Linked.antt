@@ -1,25 +1,28 @@
 -- What the links are after each of their calls, as far as a world asks.
 use Rattle.flow_notes.specs.declared.events.Event.TheVariants as event
+use Rattle.flow_notes.specs.declared.notes.Note.{Note}
 use Rattle.flow_notes.specs.declared.notes.Note.TheVariants as note
 use Rattle.std.proofs.Common.{ap, refl, subst, sym, ◌∙◌}
-use Rattle.std.specs.BTreeMap.{BTreeMap, get}
+use Rattle.exchange_core.proofs.Maps.{eq_by_number}
+use Rattle.std.specs.BTreeMap.{BTreeMap, Updates, WritesThrough, get}
 use Rattle.std.specs.Option.{option_map, option_map_or}
 use Rattle.std.specs.Ordering.{nat_cmp}
-use Rattle.std.specs.Prelude.{Bool, IfSome, List, None, Option, Some, [], false, if◌then◌else◌, is_some, nat_eq, not, true, ℕ, ◌&&◌, ◌==◌, ◌∷◌, ◌≡◌}
+use Rattle.std.specs.Prelude.{Bool, IfSome, List, None, Option, Some, [], cond, false, if◌then◌else◌, is_some, nat_eq, not, true, ℕ, ◌&&◌, ◌==◌, ◌∷◌, ◌≡◌}
 use Rattle.tape_laws.specs.Connections.{was_closed}
 use Rattle.tape_laws.specs.History.{Noted}
 use Rattle.tape_laws.specs.World.{out}
 use Rattle.wire_flows.proofs.Cases.{by_case}
 use Rattle.wire_flows.specs.Flows.{Flows, flow_in}
-use Rattle.wire_links.proofs.Under.{under_changed, under_insert, under_remove}
+use Rattle.wire_links.proofs.Under.{choice, under_changed, under_insert, under_remove}
 use Rattle.wire_links.specs.Links.{IsSound, Links, accepted, doomed, ends_of, forgotten, framed, is_known, joined, new_conn, started, with_conn, with_stream}
+use Rattle.wire_links.specs.Numbers.{under}
 use Rattle.wire_links.specs.declared.conn.Conn.{Conn as Link}
-use Rattle.wire_links.specs.declared.ends.Ends.{Ends}
+use Rattle.wire_links.specs.declared.links.exchanges.Ends.{Ends}
 use Rattle.wire_state.proofs.Held.{is_number}
-use Rattle.wire_state.proofs.Standing.{if_some}
+use Rattle.wire_state.proofs.Standing.{as_if, conns_written, if_some}
 use Rattle.wire_state.proofs.Lives.{LinksOne, OpensStream, UnlinksOne}
-use Rattle.wire_state.specs.Ways.{WayHistory, world_setup}
-use Rattle.wire_state.specs.Worlds.{EndsAre, Stands, has_conn, is_shut, octets_of}
+use Rattle.wire_state.specs.Ways.{WayHistory, after, world_setup}
+use Rattle.wire_state.specs.Worlds.{EndsAre, Stands, ToldBy, has_conn, is_shut, octets_of}
 use Rattle.wire_state.specs.declared.conn.Conn.{Conn}
 
 -- ---- exchanges
@@ -57,6 +60,9 @@ links_go old new k conns flows h s = record {
   closed = s.closed;
 }
 
+pub links_told : (old new : Links) → KeepsEnds old new → (conns : BTreeMap ℕ Conn) (flows : Flows) (h : WayHistory) (start notes : List Note) → ToldBy h start conns flows old notes → ToldBy h start conns flows new notes
+links_told old new k conns flows h start notes t = record { steps = t.steps; is = t.is; stands = links_go old new k conns flows (after t.steps h) t.stands }
+
 still_some : (b : Bool) (f : Link → Link) (o : Option Link) → is_some (if b then option_map f o else o) ≡ is_some o
 still_some true f None = refl
 still_some true f (Some v) = refl
@@ -87,6 +93,12 @@ joined_keeps c k links new e = record {
   known = λ d none. inserted_none (nat_eq c d) (new_conn (Some k)) _ (sym (ap is_some (under_insert links.conns c d (new_conn (Some k)))) ∙ (sym (ap (λ (l : Links). is_known d l) e) ∙ none));
 }
 
+pub accepted_known : (c : ℕ) (links new : Links) → new ≡ accepted c links → is_known c new ≡ true
+accepted_known c links new e = ap (λ (l : Links). is_known c l) e ∙ ap is_some (under_insert links.conns c c (new_conn None) ∙ choice c c (Some (new_conn None)) _ refl)
+
+pub joined_known : (c k : ℕ) (links new : Links) → new ≡ joined c k links → is_known c new ≡ true
+joined_known c k links new e = ap (λ (l : Links). is_known c l) e ∙ ap is_some (under_insert links.conns c c (new_conn (Some k)) ∙ choice c c (Some (new_conn (Some k))) _ refl)
+
 -- ---- a connection comes
 -- it is there now, open and without octets, where none was; the others are as they were
 pub record ComesNew (n : ℕ) (old new : BTreeMap ℕ Conn) : Type 0 where
@@ -94,6 +106,20 @@ pub record ComesNew (n : ℕ) (old new : BTreeMap ℕ Conn) : Type 0 where
   pub octets : octets_of n new ≡ []
   pub opened : is_shut n new ≡ false
   pub others : (c : ℕ) → (n == c) ≡ false → get nat_cmp new c ≡ get nat_cmp old c
+
+pub updated_at : (n : ℕ) (old new : BTreeMap ℕ Conn) (o : Option Conn) → Updates nat_cmp old new n o → (q : ℕ) → get nat_cmp new q ≡ (if n == q then o else get nat_cmp old q)
+updated_at n old new o u q = u.0 q ∙ (ap (λ b. cond b o (get nat_cmp old q)) (eq_by_number n q) ∙ as_if (n == q) o (get nat_cmp old q))
+
+other_there : (n : ℕ) (old new : BTreeMap ℕ Conn) (o : Option Conn) → Updates nat_cmp old new n o → (c : ℕ) → (n == c) ≡ false → get nat_cmp new c ≡ get nat_cmp old c
+other_there n old new o u c e = updated_at n old new o u c ∙ ap (λ b. if b then o else get nat_cmp old c) e
+
+pub comes_new : (n : ℕ) (old new : BTreeMap ℕ Conn) (v : Conn) → has_conn n old ≡ false → Updates nat_cmp old new n (Some v) → v.outlet.write.octets ≡ [] → v.open ≡ true → ComesNew n old new
+comes_new n old new v none u empty opened = record {
+  none = none;
+  octets = ap (λ (o : Option Conn). option_map_or (λ conn. conn.outlet.write.octets) o []) u.1 ∙ empty;
+  opened = ap (λ (o : Option Conn). option_map_or (λ conn. not conn.open) o false) u.1 ∙ ap not opened;
+  others = other_there n old new (Some v) u;
+}
 
 none_octets : (n : ℕ) (conns : BTreeMap ℕ Conn) → has_conn n conns ≡ false → octets_of n conns ≡ []
 none_octets n conns e = at (get nat_cmp conns n) e
@@ -120,11 +146,21 @@ comes n old new c flows links h known fresh s = record {
       (λ e. s.closed d (sym (ap is_some (c.others d e)) ∙ there) ∙ sym (ap (λ (o : Option Conn). option_map_or (λ conn. not conn.open) o false) (c.others d e)));
 }
 
+pub come_told : (n : ℕ) (old new : BTreeMap ℕ Conn) → ComesNew n old new → (flows : Flows) (links : Links) → is_known n links ≡ true
+    → (h : WayHistory) (start notes : List Note) (t : ToldBy h start old flows links notes) → was_closed n (after t.steps h) ≡ false → ToldBy h start new flows links notes
+come_told n old new c flows links known h start notes t fresh = record { steps = t.steps; is = t.is; stands = comes n old new c flows links (after t.steps h) known fresh t.stands }
+
 -- ---- a connection is forgotten
 pub record ForgetsConn (n : ℕ) (old new : BTreeMap ℕ Conn) : Type 0 where
   pub empty : octets_of n old ≡ []
   pub gone : get nat_cmp new n ≡ None
   pub others : (c : ℕ) → (n == c) ≡ false → get nat_cmp new c ≡ get nat_cmp old c
+
+pub forgotten_known : (c : ℕ) (links new : Links) → IsSound links → new ≡ forgotten c links → (d : ℕ) → (c == d) ≡ false → is_known d new ≡ is_known d links
+forgotten_known c links new s e d apart = ap (λ (l : Links). is_known d l) e ∙ ap is_some (under_remove links.conns c d s.conns ∙ ap (λ b. if b then None else under d links.conns) apart)
+
+pub forgets_conn : (n : ℕ) (old new : BTreeMap ℕ Conn) → octets_of n old ≡ [] → Updates nat_cmp old new n None → ForgetsConn n old new
+forgets_conn n old new empty u = record { empty = empty; gone = u.1; others = other_there n old new None u }
 
 pub forgets : (n : ℕ) (old new : BTreeMap ℕ Conn) → ForgetsConn n old new → (flows : Flows) (links links' : Links) (h : WayHistory) → ((x : ℕ) → ends_of x links' ≡ ends_of x links)
     → ((c : ℕ) → (n == c) ≡ false → is_known c links' ≡ is_known c links) → Stands old flows links h → Stands new flows links' h
@@ -151,6 +187,28 @@ pub record DropsRest (n : ℕ) (old new : BTreeMap ℕ Conn) : Type 0 where
   pub octets : (c : ℕ) → octets_of c new ≡ (if n == c then [] else octets_of c old)
   pub shut : (c : ℕ) → is_shut c new ≡ is_shut c old
   pub there : (c : ℕ) → has_conn c new ≡ has_conn c old
+
+-- one connection, which isn't open, has no octets any more
+pub one_drops : (n : ℕ) (old new : BTreeMap ℕ Conn) (v w : Conn) → get nat_cmp old n ≡ Some v → WritesThrough nat_cmp (nat_cmp n) old w new → w.outlet.write.octets ≡ [] → w.open ≡ v.open → v.open ≡ false → DropsRest n old new
+one_drops n old new v w found written empty opened shut =
+    let c = conns_written n old new v w found written (λ xs. []) empty opened in
+    record {
+      closed_ = λ there. ap (λ (o : Option Conn). option_map_or (λ conn. not conn.open) o false) found ∙ ap not shut;
+      octets = c.octets;
+      shut = c.shut;
+      there = c.there;
+    }
+
+-- none is there
+pub none_drops : (n : ℕ) (conns : BTreeMap ℕ Conn) → get nat_cmp conns n ≡ None → DropsRest n conns conns
+none_drops n conns none = record {
+  closed_ = λ there. absurd (cc (ap is_some none, there));
+  octets = λ c. by_case (n == c)
+      (λ e. ap (λ v. octets_of v conns) (sym (is_number n c e)) ∙ (none_octets n conns (ap is_some none) ∙ sym (ap (λ b. if b then [] else octets_of c conns) e)))
+      (λ e. sym (ap (λ b. if b then [] else octets_of c conns) e));
+  shut = λ c. refl;
+  there = λ c. refl;
+}
 
 pub drops_rest : (n k : ℕ) (old new : BTreeMap ℕ Conn) → DropsRest n old new → (flows : Flows) (links : Links) (h : WayHistory)
     → Stands old flows links h → Stands new flows links (Noted (note.Turn k (event.Gone n)) ∷ h)

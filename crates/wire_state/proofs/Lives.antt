@@ -26,7 +26,7 @@ use Rattle.wire_flows.proofs.Cases.{by_case}
 use Rattle.wire_flows.proofs.Starts.{response_new}
 use Rattle.wire_flows.specs.Flows.{Flows, flow_in, is_there}
 use Rattle.wire_links.specs.Links.{Links, ends_of, is_known, with_stream}
-use Rattle.wire_links.specs.declared.ends.Ends.{Ends}
+use Rattle.wire_links.specs.declared.links.exchanges.Ends.{Ends}
 use Rattle.wire_state.proofs.Held.{begun_held, is_number, seen_keeps, turned}
 use Rattle.wire_state.proofs.Standing.{ends_are_still, if_some}
 use Rattle.wire_state.proofs.Bodies.{flows_go, flows_mapped}

@@ -22,7 +22,7 @@ use Rattle.wire_flows.proofs.Cases.{by_case, if_found, if_mapped}
 use Rattle.wire_flows.proofs.Found.{flow_after, there_after}
 use Rattle.wire_flows.specs.Flows.{Flows, IsThere, flow_in, is_there}
 use Rattle.wire_links.specs.Links.{Links, ends_of, is_known}
-use Rattle.wire_links.specs.declared.ends.Ends.{Ends}
+use Rattle.wire_links.specs.declared.links.exchanges.Ends.{Ends}
 use Rattle.wire_state.proofs.Held.{by_test, is_number}
 use Rattle.wire_state.specs.Ways.{WayHistory, WayStep, stream_to, world_setup}
 use Rattle.wire_state.specs.Worlds.{EndsAre, FlowIs, Stands, has_conn, is_shut, left_by, octets_of}
@@ -50,12 +50,12 @@ conns_same conns = record { octets = λ c. refl; shut = λ c. refl; there = λ c
 abbrev pub at_one : ℕ → (List ℕ → List ℕ) → ℕ → List ℕ → List ℕ
 at_one n g c octets = if n == c then g octets else octets
 
+pub as_if : {X : Type 0} (b : Bool) (x y : X) → cond b x y ≡ (if b then x else y)
+as_if true x y = refl
+as_if false x y = refl
+
 -- one connection was written through
 module _ (n : ℕ) (old new : BTreeMap ℕ Conn) (v w : Conn) (found : get nat_cmp old n ≡ Some v) (written : WritesThrough nat_cmp (nat_cmp n) old w new) where
-  as_if : {X : Type 0} (b : Bool) (x y : X) → cond b x y ≡ (if b then x else y)
-  as_if true x y = refl
-  as_if false x y = refl
-
   pub now_at : (q : ℕ) → get nat_cmp new q ≡ (if n == q then Some w else get nat_cmp old q)
   now_at q =
       (written.3 (subst (λ (o : Option Conn). IsSome o) (sym found) refl)).0 q

@@ -20,30 +20,23 @@ use Rattle.tape_laws.specs.History.{Noted}
 use Rattle.tape_laws.specs.World.{window_update}
 use Rattle.wire_flows.specs.Flows.{Flows, flow_in}
 use Rattle.wire_links.specs.Links.{Links, ends_of}
-use Rattle.wire_links.specs.declared.ends.Ends.{Ends}
-use Rattle.wire_state.proofs.Bodies.{flow_goes, frames}
-use Rattle.wire_state.proofs.Goings.{keeps_by, owes_by}
+use Rattle.wire_links.specs.declared.links.exchanges.Ends.{Ends}
+use Rattle.wire_state.proofs.Bodies.{frames}
+use Rattle.wire_state.proofs.Goings.{KeepBodies, changed_bodies, keeps_by, owes_by, same_bodies}
 use Rattle.wire_state.proofs.Held.{is_number, listed_keeps}
 use Rattle.wire_state.proofs.Standing.{ConnsAre, KeepsFlows, KeepsShut, Writes, answer_flows, answer_shut, answer_writes, at_one, conns_go, conns_written, credit_flows, credit_shut, credit_writes, head_flows, head_shut, head_writes, out_flows, out_shut, out_writes, same_octets, wrote}
 use Rattle.wire_state.specs.Ways.{WayHistory, WayStep, shown, stream_to}
-use Rattle.wire_state.specs.Worlds.{EndsAre, Keeps, Owes, Stands, Told, octets_of, outs_of, stream_in}
+use Rattle.wire_state.specs.Worlds.{EndsAre, Keeps, Owes, Stands, ToldBy, octets_of, outs_of, stream_in}
 use Rattle.wire_state.specs.Noting.{answers_of, heads_of}
 use Rattle.wm_buffer.specs.declared.watermark.Crossed.{Crossed}
 use Rattle.wire_state.specs.declared.conn.Conn.{Conn}
 use Rattle.wire_state.specs.declared.wire_core.WireCore.{WireCore}
 
--- the flows changed, but not their octets
-pub record KeepBodies (old new : Flows) : Type 0 where
-  pub goes : (conns : BTreeMap ℕ Conn) (links : Links) (h : WayHistory) → Stands conns old links h → Stands conns new links h
-
-pub same_bodies : (old new : Flows) → new ≡ old → KeepBodies old new
-same_bodies old new e = record { goes = λ conns links h s. subst (λ (f : Flows). Stands conns f links h) (sym e) s }
-
 pub listed_bodies : (f : FlowId) (last : Bool) (old new : Flows) → ChangesFlow f (list_framed last) old.exchanges new.exchanges → KeepBodies old new
-listed_bodies f last old new c = record { goes = flow_goes f (list_framed last) (listed_keeps last) old new c }
+listed_bodies f last old new c = changed_bodies f (list_framed last) old new (λ flow e. listed_keeps last flow) c
 
 pub owes_none : (old new : WireCore) → Keeps old new → Owes [] old new
-owes_none old new k = record { goes = λ h start notes t. subst (λ (ns : List Note). Told h start new ns) (sym (append-nil notes)) (k.goes h start notes t) }
+owes_none old new k = record { goes = λ h start notes t. subst (λ (ns : List Note). ToldBy h start new.conns new.flows new.links ns) (sym (append-nil notes)) (k.goes h start notes t) }
 
 module _ (n : ℕ) (old new : WireCore) (v w : Conn) (found : get nat_cmp old.conns n ≡ Some v) (written : WritesThrough nat_cmp (nat_cmp n) old.conns w new.conns)
     (opened : w.open ≡ v.open) (bodies : KeepBodies old.flows new.flows) (linked : new.links ≡ old.links) where

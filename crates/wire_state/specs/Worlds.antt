@@ -10,13 +10,13 @@ use Rattle.flow_notes.specs.declared.notes.Note.TheVariants as note
 use Rattle.std.specs.BTreeMap.{BTreeMap, get}
 use Rattle.std.specs.Option.{option_and_then, option_map_or}
 use Rattle.std.specs.Ordering.{nat_cmp}
-use Rattle.std.specs.Prelude.{Bool, IfSome, List, Option, Some, [], false, if◌then◌else◌, is_some, not, true, ℕ, ◌++◌, ◌==◌, ◌∷◌, ◌≡◌}
+use Rattle.std.specs.Prelude.{Bool, IfSome, List, OnOk, Option, Result, Some, [], false, if◌then◌else◌, is_some, not, true, ℕ, ◌++◌, ◌==◌, ◌∷◌, ◌≡◌}
 use Rattle.tape_laws.specs.Connections.{was_closed}
 use Rattle.tape_laws.specs.Flows.{request, response}
 use Rattle.tape_laws.specs.World.{last_place, out, place}
 use Rattle.wire_flows.specs.Flows.{Flows, flow_in, is_there}
 use Rattle.wire_links.specs.Links.{Links, ends_of, is_known}
-use Rattle.wire_links.specs.declared.ends.Ends.{Ends}
+use Rattle.wire_links.specs.declared.links.exchanges.Ends.{Ends}
 use Rattle.wire_outlet.specs.declared.outlet.Framed.{Framed}
 use Rattle.wire_outlet.specs.declared.outlet.Framed.TheVariants as framed
 use Rattle.wire_state.specs.Noting.{answers_of, heads_of}
@@ -56,18 +56,25 @@ pub record Stands (conns : BTreeMap ℕ Conn) (flows : Flows) (links : Links) (h
   pub closed : (c : ℕ) → has_conn c conns ≡ true → was_closed c h ≡ is_shut c conns
 
 -- the notes were made by these steps behind that history, and the core stands for what they lead to
-pub record Told (h : WayHistory) (start : List Note) (core : WireCore) (notes : List Note) : Type 0 where
+pub record ToldBy (h : WayHistory) (start : List Note) (conns : BTreeMap ℕ Conn) (flows : Flows) (links : Links) (notes : List Note) : Type 0 where
   pub steps : List WayStep
   pub is : notes ≡ start ++ shown steps
-  pub stands : Stands core.conns core.flows core.links (after steps h)
+  pub stands : Stands conns flows links (after steps h)
 
+abbrev pub Told : WayHistory → List Note → WireCore → List Note → Type 0
+Told h start core notes = ToldBy h start core.conns core.flows core.links notes
+
+-- Words between a core and its notes before a call and after it. Where memory was refused nothing is said.
 -- it goes on to
-pub record Goes (old : WireCore) (before : List Note) (new : WireCore) (now : List Note) : Type 0 where
-  pub goes : (h : WayHistory) (start : List Note) → Told h start old before → Told h start new now
+pub record Goes {A E : Type 0} (r : Result A E) (old : WireCore) (before : List Note) (new : WireCore) (now : List Note) : Type 0 where
+  pub goes : (h : WayHistory) (start : List Note) → Told h start old before → OnOk r (Told h start new now)
 
 -- whatever was noted, also what is still to be noted
 pub record Keeps (old new : WireCore) : Type 0 where
   pub goes : (h : WayHistory) (start notes : List Note) → Told h start old notes → Told h start new notes
+
+pub record KeepsOk {A E : Type 0} (r : Result A E) (old new : WireCore) : Type 0 where
+  pub goes : (h : WayHistory) (start notes : List Note) → Told h start old notes → OnOk r (Told h start new notes)
 
 -- this is still to be noted
 pub record Owes (owed : List Note) (old new : WireCore) : Type 0 where
@@ -75,12 +82,12 @@ pub record Owes (owed : List Note) (old new : WireCore) : Type 0 where
 
 -- ---- notes
 -- what was still to be noted is
-pub record Pays (owed before now : List Note) : Type 0 where
-  pub goes : (h : WayHistory) (start : List Note) (core : WireCore) → Told h start core (before ++ owed) → Told h start core now
+pub record Pays {A E : Type 0} (r : Result A E) (owed before now : List Note) : Type 0 where
+  pub goes : (h : WayHistory) (start : List Note) (conns : BTreeMap ℕ Conn) (flows : Flows) (links : Links) → ToldBy h start conns flows links (before ++ owed) → OnOk r (ToldBy h start conns flows links now)
 
 -- what was noted moves no octets
-pub record Shows (before now : List Note) : Type 0 where
-  pub goes : (h : WayHistory) (start : List Note) (core : WireCore) → Told h start core before → Told h start core now
+pub record Shows {A E : Type 0} (r : Result A E) (before now : List Note) : Type 0 where
+  pub goes : (h : WayHistory) (start : List Note) (conns : BTreeMap ℕ Conn) (flows : Flows) (links : Links) → ToldBy h start conns flows links before → OnOk r (ToldBy h start conns flows links now)
 
 -- the note moves no octets, wherever it stands
 abbrev pub IsIdle : Note → Type 0
@@ -116,5 +123,9 @@ IsFresh (event.Join c cluster) h = was_closed c h ≡ false
 IsFresh e h = Unit {0}
 
 -- From before the turn note of an event on: the core stood for a history, and stands for it with the dispatch's steps.
-pub record Turns (k : ℕ) (e : Event) (old : WireCore) (noted : List Note) (new : WireCore) (now : List Note) : Type 0 where
-  pub goes : (h : WayHistory) (before : List Note) → noted ≡ before ++ note.Turn k e ∷ [] → Stands old.conns old.flows old.links h → IsFresh e h → Told h before new now
+pub record Turns {A E : Type 0} (r : Result A E) (e : Event) (old : WireCore) (noted : List Note) (new : WireCore) (now : List Note) : Type 0 where
+  pub goes : (h : WayHistory) (before : List Note) (k : ℕ) → noted ≡ before ++ note.Turn k e ∷ [] → Stands old.conns old.flows old.links h → IsFresh e h → OnOk r (Told h before new now)
+
+-- A connection comes, whose number isn't one that was closed.
+pub record Comes {A E : Type 0} (r : Result A E) (c : ℕ) (old new : WireCore) : Type 0 where
+  pub goes : (h : WayHistory) (start notes : List Note) (t : Told h start old notes) → was_closed c (after t.steps h) ≡ false → OnOk r (Told h start new notes)

@@ -54,6 +54,7 @@ impl Conn {
     pub fn new(alloc: Global, peer: Peer, limits: &LimitKeys) -> Result<Self, NoMemory>
         requires { AreLimits limits.now }
         ensures kept { IfOk result (λ conn. IsKept limits.now conn.outlet) }
+        ensures opened { IfOk result (λ conn. conn.open ≡ true) }
         ensures empty { IfOk result (λ conn. conn.outlet.write.octets ≡ []) }
     {
         let unit = LEAST_UNIT.max(limits.quantum + FRAME_HEAD);

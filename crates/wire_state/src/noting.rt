@@ -15,8 +15,8 @@ pub fn note(notes: &mut Notes, note: Note) -> Result<(), NoMemory>
     requires { IsStep note }
     ensures notes { Appends notes.old notes.new }
     ensures told { OnOk result (notes.new ≡ notes.old ++ note ∷ []) }
-    ensures paid { OnOk result (Pays (note ∷ []) notes.old notes.new) }
-    ensures idle { IsIdle note → OnOk result (Shows notes.old notes.new) }
+    ensures paid { Pays result (note ∷ []) notes.old notes.new }
+    ensures idle { IsIdle note → Shows result notes.old notes.new }
 {
     notes.push(note)
 }
@@ -25,7 +25,7 @@ pub fn note(notes: &mut Notes, note: Note) -> Result<(), NoMemory>
 pub fn note_answer(notes: &mut Notes, conn: u32, octets: Octets) -> Result<(), NoMemory>
     ensures notes { Appends notes.old notes.new }
     ensures told { OnOk result (notes.new ≡ notes.old ++ answers_of conn octets) }
-    ensures paid { OnOk result (Pays (answers_of conn octets) notes.old notes.new) }
+    ensures paid { Pays result (answers_of conn octets) notes.old notes.new }
 {
     if octets.is_empty() {
         return Ok(());
@@ -37,7 +37,7 @@ pub fn note_answer(notes: &mut Notes, conn: u32, octets: Octets) -> Result<(), N
 pub fn note_head(notes: &mut Notes, conn: u32, stream: u32, octets: Octets) -> Result<(), NoMemory>
     ensures notes { Appends notes.old notes.new }
     ensures told { OnOk result (notes.new ≡ notes.old ++ heads_of conn stream octets) }
-    ensures paid { OnOk result (Pays (heads_of conn stream octets) notes.old notes.new) }
+    ensures paid { Pays result (heads_of conn stream octets) notes.old notes.new }
 {
     if octets.is_empty() {
         return Ok(());
@@ -56,7 +56,7 @@ pub fn note_head(notes: &mut Notes, conn: u32, stream: u32, octets: Octets) -> R
 pub fn note_pauses(flows: &WireFlows, conn: u32, notes: &mut Notes) -> Result<(), NoMemory>
     ensures notes { Appends notes.old notes.new }
     ensures told { OnOk result (notes.new ≡ notes.old ++ pauses_of conn (watchers_on conn flows.now)) }
-    ensures idle { OnOk result (Shows notes.old notes.new) }
+    ensures idle { Shows result notes.old notes.new }
 {
     let buffer = BufferId::Write(conn);
     notes.push_pauses(flows.watchers(buffer), buffer)

@@ -254,7 +254,7 @@ impl WireCore {
         ensures rest { self.new ≡ record self.old { flows = self.new.flows } }
         ensures exchanges { self.new.flows.exchanges ≡ self.old.flows.exchanges }
         ensures told { OnOk result (notes.new ≡ notes.old ++ pauses_of conn (watchers_on conn self.new.flows)) }
-        ensures octets { OnOk result (Goes self.old notes.old self.new notes.new) }
+        ensures octets { Goes result self.old notes.old self.new notes.new }
     {
         self.flows.write_rose(conn);
         note_pauses(&self.flows, conn, notes)

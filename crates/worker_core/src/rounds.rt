@@ -30,7 +30,7 @@ pub(crate) fn next_round(core: &mut WireCore, notes: &mut Notes) -> Result<bool,
     ensures sound { OnOk result (IsSound core.new) }
     ensures go { IfOk result (λ more. more ≡ true → to_go core.new < to_go core.old) }
     ensures notes { Appends notes.old notes.new }
-    ensures octets { OnOk result (Goes core.old notes.old core.new notes.new) }
+    ensures octets { Goes result core.old notes.old core.new notes.new }
 {
     let Some((conn, work)) = next_work(core) else {
         return Ok(false);
@@ -53,7 +53,7 @@ fn frame_at(
     ensures sound { OnOk result (IsSound core.new) }
     ensures go { IfOk result (λ more. more ≡ true → to_go core.new < to_go core.old) }
     ensures notes { Appends notes.old notes.new }
-    ensures octets { OnOk result (Goes core.old notes.old core.new notes.new) }
+    ensures octets { Goes result core.old notes.old core.new notes.new }
 {
     if !core.stirred.has(conn) {
         return Ok(false);
@@ -68,7 +68,7 @@ fn close_at(core: &mut WireCore, conn: u32, notes: &mut Notes) -> Result<bool, N
     ensures sound { OnOk result (IsSound core.new) }
     ensures go { IfOk result (λ more. more ≡ true → to_go core.new < to_go core.old) }
     ensures notes { Appends notes.old notes.new }
-    ensures octets { OnOk result (Goes core.old notes.old core.new notes.new) }
+    ensures octets { Goes result core.old notes.old core.new notes.new }
 {
     if !core.is_open(conn) {
         return Ok(false);

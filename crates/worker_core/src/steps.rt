@@ -19,7 +19,7 @@ pub(crate) fn settle(core: &mut WireCore, notes: &mut Notes) -> Result<(), NoMem
     requires sound { IsSound core.old }
     ensures sound { OnOk result (IsSound core.new) }
     ensures notes { Appends notes.old notes.new }
-    ensures octets { OnOk result (Goes core.old notes.old core.new notes.new) }
+    ensures octets { Goes result core.old notes.old core.new notes.new }
 {
     while go_on(core, notes)? {}
     Ok(())
@@ -32,6 +32,7 @@ fn go_on(core: &mut WireCore, notes: &mut Notes) -> Result<bool, NoMemory>
     ensures sound { OnOk result (IsSound core.new) }
     ensures go { IfOk result (λ more. more ≡ true → to_go core.new < to_go core.old) }
     ensures notes { Appends notes.old notes.new }
+    ensures octets { Goes result core.old notes.old core.new notes.new }
 {
     match core.agenda.top() {
         Some(task) => {
@@ -49,7 +50,7 @@ fn step(core: &mut WireCore, task: Task, notes: &mut Notes) -> Result<(), NoMemo
     ensures sound { OnOk result (IsSound core.new) }
     ensures go { OnOk result (to_go core.new < to_go core.old) }
     ensures notes { Appends notes.old notes.new }
-    ensures octets { OnOk result (Goes core.old notes.old core.new notes.new) }
+    ensures octets { Goes result core.old notes.old core.new notes.new }
 {
     match task {
         Task::AskDrain(conn) => ask_drain(core, conn, notes),

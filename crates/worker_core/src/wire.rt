@@ -186,7 +186,7 @@ fn work(core: &mut WireCore, event: &Event, notes: &mut Notes) -> Result<(), NoM
     requires sound { IsSound core.old }
     ensures sound { OnOk result (IsSound core.new) }
     ensures notes { Appends notes.old notes.new }
-    ensures octets { (k : ℕ) → OnOk result (Turns k event.now core.old notes.old core.new notes.new) }
+    ensures octets { Turns result event.now core.old notes.old core.new notes.new }
 {
     begin_rows(core);
     take_event(core, event, notes)?;

@@ -9,3 +9,6 @@ unfolding to_go
 returns-clause-go c =
     let n = ap (λ (os : List ℕ). length os) c.as_slice.ensures in
     on_ok c.note.result (omega (arith, n, c.in_ok-touch.ensures.go, c.receive.ensures.go))
+
+pub returns-clause-octets : goal.returns-clause-octets
+returns-clause-octets c = ?

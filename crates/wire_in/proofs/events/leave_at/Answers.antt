@@ -1,6 +1,7 @@
 use Rattle.std.proofs.Common.{ap, refl, sym}
 use Rattle.wire_in.proofs.events.leave_at.Goals as goal
-use Rattle.wire_state.proofs.Wrote.{out_written, same_bodies}
+use Rattle.wire_state.proofs.Goings.{same_bodies}
+use Rattle.wire_state.proofs.Wrote.{out_written}
 use Rattle.wire_state.specs.declared.conn.Conn.{Conn}
 
 pub returns-in-Some-clause-octets : goal.returns-in-Some-clause-octets

@@ -1,8 +1,7 @@
 use Rattle.std.proofs.Common.{ap, arith, refl, sym}
 use Rattle.wire_in.proofs.Paying.{pays_as}
 use Rattle.wire_in.proofs.reads.next.Goals as goal
-use Rattle.wire_state.proofs.Goings.{conn_keeps}
-use Rattle.wire_state.proofs.Results.{on_ok}
+use Rattle.wire_state.proofs.Goings.{conn_keeps, keeps_on}
 use Rattle.wire_state.proofs.Weights.{conn_changed}
 use Rattle.wire_state.specs.Progress.{conn_go, to_go}
 use Rattle.wire_state.specs.declared.conn.Conn.{Conn}
@@ -15,4 +14,4 @@ returns-in-Some-clause-go c =
 
 pub returns-in-Some-clause-octets : goal.returns-in-Some-clause-octets
 returns-in-Some-clause-octets c =
-    on_ok c.take_frame.result (conn_keeps c.args.number c.args.core.now _ c.in-Some.conn.now c.take_frame.new.self (sym c.in-Some.ensures.value) (c.get_mut.follows.holds c.take_frame.new.self) (ap (λ (k : Conn). k.outlet.write.octets) c.take_frame.ensures.rest) (ap (λ (k : Conn). k.open) c.take_frame.ensures.rest) refl refl)
+    keeps_on c.take_frame.result _ _ (conn_keeps c.args.number c.args.core.now _ c.in-Some.conn.now c.take_frame.new.self (sym c.in-Some.ensures.value) (c.get_mut.follows.holds c.take_frame.new.self) (ap (λ (k : Conn). k.outlet.write.octets) c.take_frame.ensures.rest) (ap (λ (k : Conn). k.open) c.take_frame.ensures.rest) refl refl)

@@ -1,7 +1,6 @@
 use Rattle.std.proofs.Common.{ap, arith, refl, sym}
 use Rattle.wire_in.proofs.settings.refresh_all.Goals as goal
-use Rattle.wire_state.proofs.Goings.{conn_keeps}
-use Rattle.wire_state.proofs.Results.{on_ok}
+use Rattle.wire_state.proofs.Goings.{conn_keeps, keeps_on}
 use Rattle.wire_state.proofs.Weights.{conn_changed}
 use Rattle.wire_state.specs.Progress.{to_go}
 use Rattle.wire_state.specs.declared.conn.Conn.{Conn}
@@ -13,4 +12,4 @@ returns-in-Some-clause-go c =
 
 pub returns-in-Some-clause-octets : goal.returns-in-Some-clause-octets
 returns-in-Some-clause-octets c =
-    on_ok c.refresh_windowed.result (conn_keeps c.args.number c.args.core.now _ c.in-Some.conn.now c.refresh_windowed.new.self (sym c.in-Some.ensures.value) (c.get_mut.follows.holds c.refresh_windowed.new.self) (ap (λ (k : Conn). k.outlet.write.octets) c.refresh_windowed.ensures.rest) (ap (λ (k : Conn). k.open) c.refresh_windowed.ensures.rest) refl refl)
+    keeps_on c.refresh_windowed.result _ _ (conn_keeps c.args.number c.args.core.now _ c.in-Some.conn.now c.refresh_windowed.new.self (sym c.in-Some.ensures.value) (c.get_mut.follows.holds c.refresh_windowed.new.self) (ap (λ (k : Conn). k.outlet.write.octets) c.refresh_windowed.ensures.rest) (ap (λ (k : Conn). k.open) c.refresh_windowed.ensures.rest) refl refl)

@@ -1,6 +1,6 @@
 use Rattle.std.proofs.Common.{ap, arith, refl, sym}
 use Rattle.wire_out.proofs.lists.next_stream.Goals as goal
-use Rattle.wire_state.proofs.Goings.{conn_keeps}
+use Rattle.wire_state.proofs.Goings.{conn_keeps, keeps_on}
 use Rattle.wire_state.proofs.Results.{on_ok}
 use Rattle.wire_state.proofs.Weights.{conn_changed}
 use Rattle.wire_state.specs.Progress.{to_go}
@@ -13,4 +13,4 @@ returns-in-Some-clause-go c =
 
 pub returns-in-Some-clause-octets : goal.returns-in-Some-clause-octets
 returns-in-Some-clause-octets c =
-    on_ok c.next_number.result (conn_keeps c.args.number c.args.core.now _ c.in-Some.conn.now c.next_number.new.conn (sym c.in-Some.ensures.value) (c.get_mut.follows.holds c.next_number.new.conn) (ap (λ (k : Conn). k.outlet.write.octets) c.next_number.ensures.rest) (ap (λ (k : Conn). k.open) c.next_number.ensures.rest) refl refl)
+    keeps_on c.next_number.result _ _ (conn_keeps c.args.number c.args.core.now _ c.in-Some.conn.now c.next_number.new.conn (sym c.in-Some.ensures.value) (c.get_mut.follows.holds c.next_number.new.conn) (ap (λ (k : Conn). k.outlet.write.octets) c.next_number.ensures.rest) (ap (λ (k : Conn). k.open) c.next_number.ensures.rest) refl refl)

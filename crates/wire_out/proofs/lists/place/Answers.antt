@@ -1,6 +1,6 @@
 use Rattle.std.proofs.Common.{arith}
 use Rattle.wire_out.proofs.lists.place.Goals as goal
-use Rattle.wire_state.proofs.Goings.{keeps_marked, keeps_then}
+use Rattle.wire_state.proofs.Goings.{marked_told}
 use Rattle.wire_state.proofs.Linked.{links_placed}
 use Rattle.wire_state.proofs.Lives.{places}
 use Rattle.wire_state.specs.Progress.{to_go}
@@ -11,8 +11,11 @@ unfolding to_go
 returns-clause-go c = omega (arith, c.in_ok-begin_stream.ensures.go)
 
 pub returns-clause-octets : goal.returns-clause-octets
-returns-clause-octets c =
-    let mid = c.begin_stream.new.core in
-    let x = c.args.going.course.flow.exchange in
-    keeps_then _ mid _ c.in_ok-begin_stream.ensures.octets
-    (keeps_marked (Opens x c.args.stream) mid _ (λ h s. places x c.args.stream h mid.conns mid.flows mid.links c.framed_to.new.self (links_placed x c.args.stream mid.links c.framed_to.new.self c.in_ok-framed_to.ensures.ok) s))
+returns-clause-octets c = record {
+  goes = λ h start notes t.
+      let mid = c.begin_stream.new.core in
+      let x = c.args.going.course.flow.exchange in
+      marked_told (Opens x c.args.stream) mid.conns mid.conns mid.flows mid.flows mid.links c.framed_to.new.self
+      (λ k s. places x c.args.stream k mid.conns mid.flows mid.links c.framed_to.new.self (links_placed x c.args.stream mid.links c.framed_to.new.self c.in_ok-framed_to.ensures.ok) s)
+      h start notes (c.in_ok-begin_stream.ensures.octets.goes h start notes t);
+}

@@ -1,6 +1,5 @@
-use Rattle.std.proofs.Common.{ap, arith, refl}
+use Rattle.std.proofs.Common.{ap, arith}
 use Rattle.std.specs.Prelude.{length, ◌≡◌}
-use Rattle.wire_state.proofs.Goings.{keeps_same}
 use Rattle.wire_state.proofs.Results.{ok_map}
 use Rattle.wire_state.proofs.Timing.{armed_more, armed_until}
 use Rattle.wire_state.proofs.wire_core.WireCore.arm.Goals as goal
@@ -27,6 +26,3 @@ returns-clause-go c =
     ok_map c.arm.result (λ (e : c.arm.new.self ≡ armed_anew c.args.kind c.args.id c.args.self.now.now c.args.self.now.timers).
     let f = ap (λ (t : Timeouts). length t.armed) e in
     omega (arith, f, armed_more c.args.kind c.args.id c.args.self.now.now c.args.self.now.timers)) c.arm.ensures.ok
-
-pub returns-clause-octets : goal.returns-clause-octets
-returns-clause-octets c = keeps_same _ _ refl refl refl

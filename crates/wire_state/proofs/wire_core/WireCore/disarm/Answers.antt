@@ -1,6 +1,5 @@
-use Rattle.std.proofs.Common.{ap, arith, refl}
+use Rattle.std.proofs.Common.{ap, arith}
 use Rattle.std.specs.Prelude.{length}
-use Rattle.wire_state.proofs.Goings.{keeps_same}
 use Rattle.wire_state.proofs.Timing.{disarmed_fewer}
 use Rattle.wire_state.proofs.wire_core.WireCore.disarm.Goals as goal
 use Rattle.wire_state.specs.Progress.{to_go}
@@ -23,6 +22,3 @@ unfolding to_go
 returns-clause-go c =
     let f = ap (λ (t : Timeouts). length t.armed) c.disarm.ensures in
     omega (arith, f, disarmed_fewer c.args.kind c.args.id c.args.self.now.timers)
-
-pub returns-clause-octets : goal.returns-clause-octets
-returns-clause-octets c = keeps_same _ _ refl refl refl

@@ -1,5 +1,4 @@
-use Rattle.std.proofs.Common.{ap, arith, refl}
-use Rattle.wire_state.proofs.Goings.{keeps_same}
+use Rattle.std.proofs.Common.{ap, arith}
 use Rattle.wire_state.proofs.Tasks.{rest_go}
 use Rattle.wire_state.proofs.wire_core.WireCore.end_task.Goals as goal
 use Rattle.wire_state.specs.Progress.{tasks_go, to_go}
@@ -9,6 +8,3 @@ unfolding to_go
 returns-clause-go c =
     let e = ap tasks_go c.pop.ensures in
     omega (arith, e, rest_go c.args.self.now.agenda)
-
-pub returns-clause-octets : goal.returns-clause-octets
-returns-clause-octets c = keeps_same _ _ refl refl refl

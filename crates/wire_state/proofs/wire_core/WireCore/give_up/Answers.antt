@@ -1,6 +1,5 @@
-use Rattle.std.proofs.Common.{ap, arith, refl}
+use Rattle.std.proofs.Common.{ap, arith}
 use Rattle.std.specs.Prelude.{◌≡◌}
-use Rattle.wire_state.proofs.Goings.{keeps_same, keeps_then}
 use Rattle.wire_state.proofs.wire_core.WireCore.give_up.Goals as goal
 use Rattle.wire_state.specs.Agenda.{stirred_at}
 use Rattle.wire_state.specs.Progress.{to_go}
@@ -11,6 +10,3 @@ unfolding to_go
 returns-clause-go c =
     let s : stirred_at c.args.conn c.end_task.new.self.stirred.conns.items ≡ stirred_at c.args.conn c.args.self.now.stirred.conns.items = ap (λ (w : WireCore). stirred_at c.args.conn w.stirred.conns.items) c.end_task.ensures.rest in
     omega (arith, c.end_task.ensures.go, s, c.remove.ensures)
-
-pub returns-clause-octets : goal.returns-clause-octets
-returns-clause-octets c = keeps_then _ c.end_task.new.self _ c.end_task.ensures.octets (keeps_same _ _ refl refl refl)

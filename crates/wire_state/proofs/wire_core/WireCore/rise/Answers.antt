@@ -1,5 +1,5 @@
-use Rattle.std.proofs.Common.{arith, refl}
-use Rattle.wire_state.proofs.Goings.{gates_keep, shows_behind}
+use Rattle.std.proofs.Common.{arith}
+use Rattle.wire_state.proofs.Goings.{bodies_told, gate_bodies}
 use Rattle.wire_state.proofs.Results.{on_ok}
 use Rattle.wire_state.proofs.Soundness.{gates_sound}
 use Rattle.wire_state.proofs.wire_core.WireCore.rise.Goals as goal
@@ -13,4 +13,6 @@ unfolding to_go
 returns-clause-go c = on_ok c.note_pauses.result (omega (arith, c.write_rose.ensures.go))
 
 pub returns-clause-octets : goal.returns-clause-octets
-returns-clause-octets c = shows_behind c.note_pauses.result _ _ c.args.notes.now c.note_pauses.new.notes (gates_keep _ _ refl c.write_rose.ensures.rest refl) c.note_pauses.ensures.idle
+returns-clause-octets c = record {
+  goes = λ h start t. c.note_pauses.ensures.idle.goes h start _ _ _ (bodies_told c.args.self.now.flows c.write_rose.new.self (gate_bodies c.args.self.now.flows c.write_rose.new.self c.write_rose.ensures.rest) c.args.self.now.conns c.args.self.now.links h start c.args.notes.now t);
+}

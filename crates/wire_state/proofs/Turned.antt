@@ -1,0 +1,111 @@
+-- The turn note of an event, and what a dispatch of the event does behind it.
+use Rattle.flow_notes.specs.declared.events.Event.{Event}
+use Rattle.flow_notes.specs.declared.events.Event.TheVariants as event
+use Rattle.flow_notes.specs.declared.notes.Note.{Note}
+use Rattle.flow_notes.specs.declared.notes.Note.TheVariants as note
+use Rattle.std.proofs.Common.{ap, refl, sym, ◌∙◌}
+use Rattle.std.proofs.lemmas.List.{append-nil}
+use Rattle.std.specs.BTreeMap.{BTreeMap, get}
+use Rattle.std.specs.Option.{option_map_or}
+use Rattle.std.specs.Ordering.{nat_cmp}
+use Rattle.std.specs.Prelude.{Bool, Err, List, None, Ok, Option, Result, Some, [], false, if◌then◌else◌, is_some, not, true, ℕ, ◌&&◌, ◌++◌, ◌==◌, ◌∷◌, ◌≡◌}
+use Rattle.tape_laws.specs.Connections.{was_closed}
+use Rattle.tape_laws.specs.History.{Noted}
+use Rattle.tape_laws.specs.World.{out}
+use Rattle.wire_flows.proofs.Cases.{by_case}
+use Rattle.wire_flows.specs.Flows.{Flows}
+use Rattle.wire_links.specs.Links.{Links}
+use Rattle.wire_state.proofs.Held.{is_number}
+use Rattle.wire_state.proofs.Standing.{KeepsFlows, KeepsShut, Writes, conns_same, same_octets, wrote}
+use Rattle.wire_state.specs.Ways.{WayHistory, world_setup}
+use Rattle.wire_state.specs.Worlds.{Comes, Goes, IsFresh, KeepsOk, Stands, Told, ToldBy, Turns, has_conn, is_shut}
+use Rattle.wire_state.specs.declared.conn.Conn.{Conn}
+use Rattle.wire_state.specs.declared.wire_core.WireCore.{WireCore}
+
+-- the event loses no connection
+abbrev pub LosesNone : Event → Type 0
+LosesNone (event.Gone c) = ⊥
+LosesNone e = Unit {0}
+
+turn_flows : (k : ℕ) (e : Event) (h : WayHistory) → KeepsFlows (Noted (note.Turn k e)) h
+turn_flows k e h = record { places = λ f p. refl; last = λ f. refl; stream = λ f. refl }
+
+turn_shut : (k : ℕ) (e : Event) (h : WayHistory) → KeepsShut (Noted (note.Turn k e)) h
+turn_shut k e h = record { closed = λ c. refl }
+
+turn_writes : (k : ℕ) (e : Event) → LosesNone e → (h : WayHistory) → Writes same_octets (Noted (note.Turn k e)) h
+turn_writes k (event.Accept c) l h = record { outs = λ d. refl }
+turn_writes k (event.Join c cluster) l h = record { outs = λ d. refl }
+turn_writes k (event.Read c octets) l h = record { outs = λ d. refl }
+turn_writes k (event.Gone c) l h = absurd l
+turn_writes k (event.Room c n) l h = record { outs = λ d. refl }
+turn_writes k (event.Tick now) l h = record { outs = λ d. refl }
+turn_writes k (event.Post poster number job) l h = record { outs = λ d. refl }
+turn_writes k (event.Obey version pressures) l h = record { outs = λ d. refl }
+turn_writes k (event.Plain e) l h = record { outs = λ d. refl }
+
+-- the loss of a connection that wasn't closed
+lost_writes : (k c : ℕ) (h : WayHistory) → was_closed c h ≡ false → Writes same_octets (Noted (note.Turn k (event.Gone c))) h
+lost_writes k c h e = record {
+  outs = λ d. by_case (c == d)
+      (λ same. ap (λ b. if b then [] else out world_setup d h) (ap (λ b. b && was_closed d h) same ∙ (ap (λ v. was_closed v h) (sym (is_number c d same)) ∙ e)))
+      (λ other. ap (λ b. if b && was_closed d h then [] else out world_setup d h) other);
+}
+
+module _ (conns : BTreeMap ℕ Conn) (flows : Flows) (links : Links) (h : WayHistory) where
+  -- nothing is noted behind the notes before
+  pub told_none : (before : List Note) → Stands conns flows links h → ToldBy h before conns flows links before
+  told_none before s = record { steps = []; is = sym (append-nil before); stands = s }
+
+  turned : (k : ℕ) (e : Event) → Writes same_octets (Noted (note.Turn k e)) h → Stands conns flows links h → Stands conns flows links (Noted (note.Turn k e) ∷ h)
+  turned k e w s = wrote same_octets (Noted (note.Turn k e)) h conns conns flows links w (turn_flows k e h) (turn_shut k e h) (conns_same conns) s
+
+  turn_stands : (k : ℕ) (e : Event) → LosesNone e → Stands conns flows links h → Stands conns flows links (Noted (note.Turn k e) ∷ h)
+  turn_stands k e l s = turned k e (turn_writes k e l h) s
+
+  pub turn_told : (k : ℕ) (e : Event) → LosesNone e → (before noted : List Note) → noted ≡ before ++ note.Turn k e ∷ [] → Stands conns flows links h
+      → ToldBy h before conns flows links noted
+  turn_told k e l before noted is s = record { steps = Noted (note.Turn k e) ∷ []; is = is; stands = turn_stands k e l s }
+
+  pub lost_told : (k c : ℕ) → option_map_or (λ conn. conn.open) (get nat_cmp conns c) false ≡ true → (before noted : List Note) → noted ≡ before ++ note.Turn k (event.Gone c) ∷ []
+      → Stands conns flows links h → ToldBy h before conns flows links noted
+  lost_told k c opened before noted is s = record {
+    steps = Noted (note.Turn k (event.Gone c)) ∷ [];
+    is = is;
+    stands = turned k (event.Gone c) (lost_writes k c h (s.closed c (there (get nat_cmp conns c) opened) ∙ not_shut (get nat_cmp conns c) opened)) s;
+  }
+    where
+      there : (o : Option Conn) → option_map_or (λ conn. conn.open) o false ≡ true → is_some o ≡ true
+      there None e = cc
+      there (Some v) e = refl
+
+      not_shut : (o : Option Conn) → option_map_or (λ conn. conn.open) o false ≡ true → option_map_or (λ conn. not conn.open) o false ≡ false
+      not_shut None e = cc
+      not_shut (Some v) e = ap not e
+
+-- ---- what a call does from before the turn note on
+module _ {A E : Type 0} (r : Result A E) (e : Event) (l : LosesNone e) (old new : WireCore) where
+  pub turns_of : (noted now : List Note) → Goes r old noted new now → Turns r e old noted new now
+  turns_of noted now g = record { goes = λ h before k is s fresh. g.goes h before (turn_told old.conns old.flows old.links h k e l before noted is s) }
+
+  -- it writes no note
+  pub turns_kept : (noted : List Note) → KeepsOk r old new → Turns r e old noted new noted
+  turns_kept noted g = record { goes = λ h before k is s fresh. g.goes h before noted (turn_told old.conns old.flows old.links h k e l before noted is s) }
+
+-- it does nothing
+pub turns_same : {A E : Type 0} (a : A) (e : Event) → LosesNone e → (core : WireCore) (noted : List Note) → Turns (Ok {E = E} a) e core noted core noted
+turns_same a e l core noted = record { goes = λ h before k is s fresh. turn_told core.conns core.flows core.links h k e l before noted is s }
+
+-- a connection comes
+pub turns_joined : {A E : Type 0} (r : Result A E) (c cluster : ℕ) (old new : WireCore) (noted : List Note) → Comes r c old new → Turns r (event.Join c cluster) old noted new noted
+turns_joined r c cluster old new noted comes = record {
+  goes = λ h before k is s fresh.
+      comes.goes h before noted (record { steps = Noted (note.Turn k (event.Join c cluster)) ∷ []; is = is; stands = turn_stands old.conns old.flows old.links h k (event.Join c cluster) tt s }) fresh;
+}
+
+pub turns_accepted : {A B E : Type 0} (a : A) (r : Result B E) (c : ℕ) (old mid new : WireCore) (noted now : List Note) → Comes (Ok {E = E} a) c old mid → Goes r mid noted new now
+    → Turns r (event.Accept c) old noted new now
+turns_accepted a r c old mid new noted now comes goes = record {
+  goes = λ h before k is s fresh. goes.goes h before
+      (comes.goes h before noted (record { steps = Noted (note.Turn k (event.Accept c)) ∷ []; is = is; stands = turn_stands old.conns old.flows old.links h k (event.Accept c) tt s }) fresh);
+}
