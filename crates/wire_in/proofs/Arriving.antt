@@ -31,9 +31,9 @@ pub arrived_is : (octets : List ℕ) (flow : Flow) → received_by (length octet
 arrived_is octets flow e = by_fit (nat_le (length flow.recv + length octets) flow.window) octets flow e
 
 pub arrival_told : (f : FlowId) (octets : List ℕ) (old new : Flows) (r : Received) → r ≡ received_by (length octets) (flow_in old f) → r ≡ Arrived → (IsThere old f → ChangesFlow f (received octets) old.exchanges new.exchanges)
-    → (conns : BTreeMap ℕ Conn) (links : Links) (h : WayHistory) (start notes : List Note) → ToldBy h start conns old links notes → ToldBy h start conns new links (notes ++ note.Arrive f octets ∷ [])
+    → (conns : BTreeMap ℕ Conn) (links : Links) (h : WayHistory) (g : ℕ → List ℕ) (start notes : List Note) → ToldBy h g start conns old links notes → ToldBy h g start conns new links (notes ++ note.Arrive f octets ∷ [])
 arrival_told f octets old new r is arrives_so changes conns links =
     let here : received_by (length octets) (flow_in old f) ≡ Arrived = sym is ∙ arrives_so in
     let there = arrived_there (length octets) (flow_in old f) here in
-    told_by (Noted (note.Arrive f octets) ∷ []) conns conns old new links links (λ h s.
+    told_by (Noted (note.Arrive f octets) ∷ []) (λ h c. refl) conns conns old new links links (λ h s.
     arrives f octets h old new conns links (received octets) (changes there) there (λ flow found. arrived_is octets flow (ap (received_by (length octets)) (sym found) ∙ here)) s)

@@ -1,10 +1,11 @@
 // Events: what each does before anything is run.
 ghost use Rattle.flow_notes.specs.declared.events.Event.TheVariants as event;
+ghost use Rattle.std.specs.Option.{option_map_or};
 ghost use Rattle.std.specs.Prelude.{◌≡◌, ◌≤◌, ◌*◌, IfOk, OnOk, length, MatchOption, false, true};
 ghost use Rattle.wire_links.specs.Links.{is_known};
 ghost use Rattle.wire_state.specs.Noting.{Appends};
 ghost use Rattle.wire_state.specs.Sound.{IsSound};
-ghost use Rattle.wire_state.specs.Worlds.{Comes, Goes, Keeps, KeepsOk, Owes, Pays, Turns, has_conn, outs_of};
+ghost use Rattle.wire_state.specs.Worlds.{Comes, Goes, Keeps, KeepsOk, Leaves, Pays, Turns, has_conn, outs_of};
 
 use flow_notes::{Cause, CloseCause, Event, FireKind, Job, Note, Notes};
 use io_ports::{NoMemory, Octets, PressureList};
@@ -200,7 +201,7 @@ fn room(core: &mut WireCore, number: u32, n: u32, notes: &mut Notes) -> Result<(
     requires sound { IsSound core.old }
     ensures sound { OnOk result (IsSound core.new) }
     ensures notes { Appends notes.old notes.new }
-    ensures octets { Goes result core.old notes.old core.new notes.new }
+    ensures octets { Turns result (event.Room number n) core.old notes.old core.new notes.new }
 {
     let Some((n, crossed)) = leave_at(core, number, n) else {
         return Ok(());
@@ -218,7 +219,7 @@ fn room(core: &mut WireCore, number: u32, n: u32, notes: &mut Notes) -> Result<(
 fn leave_at(core: &mut WireCore, number: u32, n: u32) -> Option<(u32, Crossed)>
     requires sound { IsSound core.old }
     ensures sound { IsSound core.new }
-    ensures octets { MatchOption result (Keeps core.old core.new) (λ r. Owes (outs_of number r.0) core.old core.new) }
+    ensures octets { Leaves number n (option_map_or (λ r. r.0) result 0) core.old core.new }
 {
     match core.conns.get_mut(&number) {
         Some(conn) => Some(conn.leave_write(n)),

@@ -14,12 +14,13 @@ use Rattle.std.specs.Option.{option_and_then, option_map_or}
 use Rattle.std.specs.Ordering.{nat_cmp}
 use Rattle.std.specs.Prelude.{Bool, Err, IfSome, List, Ok, OnOk, Result, Some, [], false, if◌then◌else◌, is_some, nat_eq, not, true, ℕ, ◌++◌, ◌==◌, ◌∷◌, ◌≡◌}
 use Rattle.tape_laws.specs.History.{Marked, Noted}
+use Rattle.tape_laws.specs.World.{gone}
 use Rattle.wire_flows.specs.Flows.{Flows, flow_in}
 use Rattle.wire_links.specs.Links.{Links, ends_of, no_links}
 use Rattle.wire_state.proofs.Bodies.{flow_goes, flows_go}
 use Rattle.wire_state.proofs.Held.{KeepsOctets}
-use Rattle.wire_state.proofs.Standing.{ConnsAre, KeepsFlows, KeepsShut, Writes, at_one, conns_go, conns_written, same_octets, wrote}
-use Rattle.wire_state.specs.Ways.{Way, WayHistory, WayStep, after, shown}
+use Rattle.wire_state.proofs.Standing.{ConnsAre, at_one, conns_go, conns_written, same_octets}
+use Rattle.wire_state.specs.Ways.{Way, WayHistory, WayStep, after, shown, world_setup}
 use Rattle.wire_state.specs.Worlds.{EndsAre, FlowIs, Keeps, KeepsOk, Owes, Stands, ToldBy, octets_of}
 use Rattle.wire_state.specs.declared.conn.Conn.{Conn}
 use Rattle.wire_state.specs.declared.wire_core.WireCore.{WireCore}
@@ -33,27 +34,38 @@ shown_append [] b = refl
 shown_append (Noted n ∷ a) b = ap (λ ns. n ∷ ns) (shown_append a b)
 shown_append (Marked m ∷ a) b = shown_append a b
 
+-- no octets left a connection by these steps
+abbrev pub KeepsLeft : List WayStep → Type 0
+KeepsLeft steps = (h : WayHistory) (c : ℕ) → gone world_setup c (after steps h) ≡ gone world_setup c h
+
 -- the steps that a call makes are still to be noted, where the core stands for them
-pub told_by : (steps : List WayStep) (conns conns' : BTreeMap ℕ Conn) (flows flows' : Flows) (links links' : Links)
+pub told_as : (steps : List WayStep) (more : (ℕ → List ℕ) → ℕ → List ℕ) (conns conns' : BTreeMap ℕ Conn) (flows flows' : Flows) (links links' : Links)
+    → ((h : WayHistory) (g : ℕ → List ℕ) → Stands conns flows links h → ((c : ℕ) → gone world_setup c h ≡ g c) → (c : ℕ) → gone world_setup c (after steps h) ≡ more g c)
     → ((h : WayHistory) → Stands conns flows links h → Stands conns' flows' links' (after steps h))
-    → (h : WayHistory) (start notes : List Note) → ToldBy h start conns flows links notes → ToldBy h start conns' flows' links' (notes ++ shown steps)
-told_by steps conns conns' flows flows' links links' goes h start notes t = record {
+    → (h : WayHistory) (g : ℕ → List ℕ) (start notes : List Note) → ToldBy h g start conns flows links notes → ToldBy h (more g) start conns' flows' links' (notes ++ shown steps)
+told_as steps more conns conns' flows flows' links links' leaves goes h g start notes t = record {
   steps = t.steps ++ steps;
   is = ap (λ (ns : List Note). ns ++ shown steps) t.is ∙ (append_assoc start (shown t.steps) (shown steps) ∙ ap (λ (ns : List Note). start ++ ns) (sym (shown_append t.steps steps)));
   stands = subst (λ (k : WayHistory). Stands conns' flows' links' k) (sym (after_append t.steps steps h)) (goes (after t.steps h) t.stands);
+  left = λ c. ap (gone world_setup c) (after_append t.steps steps h) ∙ leaves (after t.steps h) g t.stands t.left c;
 }
 
-pub owes_by : (steps : List WayStep) (old new : WireCore)
+pub told_by : (steps : List WayStep) → KeepsLeft steps → (conns conns' : BTreeMap ℕ Conn) (flows flows' : Flows) (links links' : Links)
+    → ((h : WayHistory) → Stands conns flows links h → Stands conns' flows' links' (after steps h))
+    → (h : WayHistory) (g : ℕ → List ℕ) (start notes : List Note) → ToldBy h g start conns flows links notes → ToldBy h g start conns' flows' links' (notes ++ shown steps)
+told_by steps keeps conns conns' flows flows' links links' goes = told_as steps (λ g. g) conns conns' flows flows' links links' (λ h g s is c. keeps h c ∙ is c) goes
+
+pub owes_by : (steps : List WayStep) → KeepsLeft steps → (old new : WireCore)
     → ((h : WayHistory) → Stands old.conns old.flows old.links h → Stands new.conns new.flows new.links (after steps h)) → Owes (shown steps) old new
-owes_by steps old new goes = record { goes = told_by steps old.conns new.conns old.flows new.flows old.links new.links goes }
+owes_by steps keeps old new goes = record { goes = told_by steps keeps old.conns new.conns old.flows new.flows old.links new.links goes }
 
 pub keeps_by : (old new : WireCore) → ((h : WayHistory) → Stands old.conns old.flows old.links h → Stands new.conns new.flows new.links h) → Keeps old new
-keeps_by old new goes = record { goes = λ h start notes t. record { steps = t.steps; is = t.is; stands = goes (after t.steps h) t.stands } }
+keeps_by old new goes = record { goes = λ h g start notes t. record { steps = t.steps; is = t.is; stands = goes (after t.steps h) t.stands; left = t.left } }
 
 -- the same of a call that may fail
 pub keeps_on : {A E : Type 0} (r : Result A E) (old new : WireCore) → Keeps old new → KeepsOk r old new
 keeps_on (Ok u) old new k = record { goes = k.goes }
-keeps_on (Err x) old new k = record { goes = λ h start notes t. tt }
+keeps_on (Err x) old new k = record { goes = λ h g start notes t. tt }
 
 -- where these parts are as they were
 pub keeps_same : (old new : WireCore) → new.conns ≡ old.conns → new.flows ≡ old.flows → new.links ≡ old.links → Keeps old new
@@ -78,15 +90,6 @@ conn_keeps n old new v w found written octets opened f l = keeps_by old new (λ 
     same_conns : ConnsAre (at_one n (λ xs. xs)) old.conns new.conns → ConnsAre same_octets old.conns new.conns
     same_conns c = record { octets = λ d. c.octets d ∙ same_one (n == d) (octets_of d old.conns); shut = c.shut; there = c.there }
 
--- it was written through, and its octets are what the step makes of them
-pub conn_owes : (n : ℕ) (g : List ℕ → List ℕ) (step : WayStep) (old new : WireCore) (v w : Conn) → get nat_cmp old.conns n ≡ Some v → WritesThrough nat_cmp (nat_cmp n) old.conns w new.conns
-    → w.outlet.write.octets ≡ g v.outlet.write.octets → w.open ≡ v.open → new.flows ≡ old.flows → new.links ≡ old.links
-    → ((h : WayHistory) → Writes (at_one n g) step h) → ((h : WayHistory) → KeepsFlows step h) → ((h : WayHistory) → KeepsShut step h) → Owes (shown (step ∷ [])) old new
-conn_owes n g step old new v w found written octets opened f l outs flows shut = owes_by (step ∷ []) old new (λ h s.
-    subst (λ (fs : Flows). Stands new.conns fs new.links (step ∷ h)) (sym f)
-    (subst (λ (ls : Links). Stands new.conns old.flows ls (step ∷ h)) (sym l)
-    (wrote (at_one n g) step h old.conns new.conns old.flows old.links (outs h) (flows h) (shut h) (conns_written n old.conns new.conns v w found written g octets opened) s)))
-
 -- ---- flows whose octets stay
 pub record KeepBodies (old new : Flows) : Type 0 where
   pub goes : (conns : BTreeMap ℕ Conn) (links : Links) (h : WayHistory) → Stands conns old links h → Stands conns new links h
@@ -100,14 +103,14 @@ gate_bodies old new e = record { goes = flows_go old new (λ f. ap (λ (ex : Exc
 pub changed_bodies : (f : FlowId) (change : Flow → Flow) (old new : Flows) → ((flow : Flow) → flow_in old f ≡ Some flow → KeepsOctets flow (change flow)) → ChangesFlow f change old.exchanges new.exchanges → KeepBodies old new
 changed_bodies f change old new keeps c = record { goes = flow_goes f change old new keeps c }
 
-pub bodies_told : (old new : Flows) → KeepBodies old new → (conns : BTreeMap ℕ Conn) (links : Links) (h : WayHistory) (start notes : List Note) → ToldBy h start conns old links notes → ToldBy h start conns new links notes
-bodies_told old new k conns links h start notes t = record { steps = t.steps; is = t.is; stands = k.goes conns links (after t.steps h) t.stands }
+pub bodies_told : (old new : Flows) → KeepBodies old new → (conns : BTreeMap ℕ Conn) (links : Links) (h : WayHistory) (g : ℕ → List ℕ) (start notes : List Note) → ToldBy h g start conns old links notes → ToldBy h g start conns new links notes
+bodies_told old new k conns links h g start notes t = record { steps = t.steps; is = t.is; stands = k.goes conns links (after t.steps h) t.stands; left = t.left }
 
 -- the same of a call that may fail
 pub changed_told : {A E : Type 0} (r : Result A E) (f : FlowId) (change : Flow → Flow) (old new : Flows) → ((flow : Flow) → KeepsOctets flow (change flow)) → OnOk r (ChangesFlow f change old.exchanges new.exchanges)
-    → (conns : BTreeMap ℕ Conn) (links : Links) (h : WayHistory) (start notes : List Note) → ToldBy h start conns old links notes → OnOk r (ToldBy h start conns new links notes)
-changed_told (Ok u) f change old new keeps c conns links h start notes t = bodies_told old new (changed_bodies f change old new (λ flow e. keeps flow) c) conns links h start notes t
-changed_told (Err x) f change old new keeps c conns links h start notes t = tt
+    → (conns : BTreeMap ℕ Conn) (links : Links) (h : WayHistory) (g : ℕ → List ℕ) (start notes : List Note) → ToldBy h g start conns old links notes → OnOk r (ToldBy h g start conns new links notes)
+changed_told (Ok u) f change old new keeps c conns links h g start notes t = bodies_told old new (changed_bodies f change old new (λ flow e. keeps flow) c) conns links h g start notes t
+changed_told (Err x) f change old new keeps c conns links h g start notes t = tt
 
 -- ---- at first
 pub first_stands : (conns : BTreeMap ℕ Conn) (flows : Flows) (links : Links) → conns.entries ≡ [] → flows.exchanges.live ≡ [] → links ≡ no_links → Stands conns flows links []
@@ -125,6 +128,6 @@ first_stands conns flows links c f l = record {
 -- nothing is noted, but the history has a mark more
 pub marked_told : (m : Way) (conns conns' : BTreeMap ℕ Conn) (flows flows' : Flows) (links links' : Links)
     → ((h : WayHistory) → Stands conns flows links h → Stands conns' flows' links' (Marked m ∷ h))
-    → (h : WayHistory) (start notes : List Note) → ToldBy h start conns flows links notes → ToldBy h start conns' flows' links' notes
-marked_told m conns conns' flows flows' links links' goes h start notes t =
-    subst (λ (ns : List Note). ToldBy h start conns' flows' links' ns) (append-nil notes) (told_by (Marked m ∷ []) conns conns' flows flows' links links' goes h start notes t)
+    → (h : WayHistory) (g : ℕ → List ℕ) (start notes : List Note) → ToldBy h g start conns flows links notes → ToldBy h g start conns' flows' links' notes
+marked_told m conns conns' flows flows' links links' goes h g start notes t =
+    subst (λ (ns : List Note). ToldBy h g start conns' flows' links' ns) (append-nil notes) (told_by (Marked m ∷ []) (λ k c. refl) conns conns' flows flows' links links' goes h g start notes t)

@@ -60,8 +60,8 @@ links_go old new k conns flows h s = record {
   closed = s.closed;
 }
 
-pub links_told : (old new : Links) → KeepsEnds old new → (conns : BTreeMap ℕ Conn) (flows : Flows) (h : WayHistory) (start notes : List Note) → ToldBy h start conns flows old notes → ToldBy h start conns flows new notes
-links_told old new k conns flows h start notes t = record { steps = t.steps; is = t.is; stands = links_go old new k conns flows (after t.steps h) t.stands }
+pub links_told : (old new : Links) → KeepsEnds old new → (conns : BTreeMap ℕ Conn) (flows : Flows) (h : WayHistory) (g : ℕ → List ℕ) (start notes : List Note) → ToldBy h g start conns flows old notes → ToldBy h g start conns flows new notes
+links_told old new k conns flows h g start notes t = record { steps = t.steps; is = t.is; stands = links_go old new k conns flows (after t.steps h) t.stands; left = t.left }
 
 still_some : (b : Bool) (f : Link → Link) (o : Option Link) → is_some (if b then option_map f o else o) ≡ is_some o
 still_some true f None = refl
@@ -147,8 +147,8 @@ comes n old new c flows links h known fresh s = record {
 }
 
 pub come_told : (n : ℕ) (old new : BTreeMap ℕ Conn) → ComesNew n old new → (flows : Flows) (links : Links) → is_known n links ≡ true
-    → (h : WayHistory) (start notes : List Note) (t : ToldBy h start old flows links notes) → was_closed n (after t.steps h) ≡ false → ToldBy h start new flows links notes
-come_told n old new c flows links known h start notes t fresh = record { steps = t.steps; is = t.is; stands = comes n old new c flows links (after t.steps h) known fresh t.stands }
+    → (h : WayHistory) (g : ℕ → List ℕ) (start notes : List Note) (t : ToldBy h g start old flows links notes) → was_closed n (after t.steps h) ≡ false → ToldBy h g start new flows links notes
+come_told n old new c flows links known h g start notes t fresh = record { steps = t.steps; is = t.is; stands = comes n old new c flows links (after t.steps h) known fresh t.stands; left = t.left }
 
 -- ---- a connection is forgotten
 pub record ForgetsConn (n : ℕ) (old new : BTreeMap ℕ Conn) : Type 0 where

@@ -3,29 +3,44 @@ use Rattle.flow_notes.specs.declared.events.Event.{Event}
 use Rattle.flow_notes.specs.declared.events.Event.TheVariants as event
 use Rattle.flow_notes.specs.declared.notes.Note.{Note}
 use Rattle.flow_notes.specs.declared.notes.Note.TheVariants as note
-use Rattle.std.proofs.Common.{ap, refl, sym, ◌∙◌}
+use Rattle.std.proofs.Common.{ap, refl, subst, sym, ◌∙◌}
 use Rattle.std.proofs.lemmas.List.{append-nil}
 use Rattle.std.specs.BTreeMap.{BTreeMap, get}
 use Rattle.std.specs.Option.{option_map_or}
 use Rattle.std.specs.Ordering.{nat_cmp}
-use Rattle.std.specs.Prelude.{Bool, Err, List, None, Ok, Option, Result, Some, [], false, if◌then◌else◌, is_some, not, true, ℕ, ◌&&◌, ◌++◌, ◌==◌, ◌∷◌, ◌≡◌}
+use Rattle.std.specs.Prelude.{Bool, List, None, Ok, OnOk, Option, Result, Some, [], false, if◌then◌else◌, is_some, not, true, ℕ, ◌&&◌, ◌++◌, ◌==◌, ◌∷◌, ◌≡◌}
 use Rattle.tape_laws.specs.Connections.{was_closed}
 use Rattle.tape_laws.specs.History.{Noted}
-use Rattle.tape_laws.specs.World.{out}
+use Rattle.tape_laws.specs.World.{gone, out}
 use Rattle.wire_flows.proofs.Cases.{by_case}
 use Rattle.wire_flows.specs.Flows.{Flows}
 use Rattle.wire_links.specs.Links.{Links}
 use Rattle.wire_state.proofs.Held.{is_number}
 use Rattle.wire_state.proofs.Standing.{KeepsFlows, KeepsShut, Writes, conns_same, same_octets, wrote}
 use Rattle.wire_state.specs.Ways.{WayHistory, world_setup}
-use Rattle.wire_state.specs.Worlds.{Comes, Goes, IsFresh, KeepsOk, Stands, Told, ToldBy, Turns, has_conn, is_shut}
+use Rattle.wire_state.specs.Worlds.{Comes, Goes, IsFresh, KeepsOk, Stands, Told, ToldBy, Turns, left_after}
 use Rattle.wire_state.specs.declared.conn.Conn.{Conn}
 use Rattle.wire_state.specs.declared.wire_core.WireCore.{WireCore}
 
--- the event loses no connection
+-- the event loses no connection; no octets leave one by it
 abbrev pub LosesNone : Event → Type 0
 LosesNone (event.Gone c) = ⊥
 LosesNone e = Unit {0}
+
+abbrev pub TakesNone : Event → Type 0
+TakesNone (event.Room c n) = ⊥
+TakesNone e = Unit {0}
+
+left_same : (e : Event) → TakesNone e → (conns : BTreeMap ℕ Conn) (g : ℕ → List ℕ) → left_after e conns g ≡ g
+left_same (event.Accept c) t conns g = refl
+left_same (event.Join c cluster) t conns g = refl
+left_same (event.Read c octets) t conns g = refl
+left_same (event.Gone c) t conns g = refl
+left_same (event.Room c n) t conns g = absurd t
+left_same (event.Tick now) t conns g = refl
+left_same (event.Post poster number job) t conns g = refl
+left_same (event.Obey version pressures) t conns g = refl
+left_same (event.Plain e) t conns g = refl
 
 turn_flows : (k : ℕ) (e : Event) (h : WayHistory) → KeepsFlows (Noted (note.Turn k e)) h
 turn_flows k e h = record { places = λ f p. refl; last = λ f. refl; stream = λ f. refl }
@@ -52,10 +67,10 @@ lost_writes k c h e = record {
       (λ other. ap (λ b. if b && was_closed d h then [] else out world_setup d h) other);
 }
 
-module _ (conns : BTreeMap ℕ Conn) (flows : Flows) (links : Links) (h : WayHistory) where
+module _ (conns : BTreeMap ℕ Conn) (flows : Flows) (links : Links) (h : WayHistory) (g : ℕ → List ℕ) (left : (c : ℕ) → gone world_setup c h ≡ g c) where
   -- nothing is noted behind the notes before
-  pub told_none : (before : List Note) → Stands conns flows links h → ToldBy h before conns flows links before
-  told_none before s = record { steps = []; is = sym (append-nil before); stands = s }
+  pub told_none : (before : List Note) → Stands conns flows links h → ToldBy h g before conns flows links before
+  told_none before s = record { steps = []; is = sym (append-nil before); stands = s; left = left }
 
   turned : (k : ℕ) (e : Event) → Writes same_octets (Noted (note.Turn k e)) h → Stands conns flows links h → Stands conns flows links (Noted (note.Turn k e) ∷ h)
   turned k e w s = wrote same_octets (Noted (note.Turn k e)) h conns conns flows links w (turn_flows k e h) (turn_shut k e h) (conns_same conns) s
@@ -64,15 +79,16 @@ module _ (conns : BTreeMap ℕ Conn) (flows : Flows) (links : Links) (h : WayHis
   turn_stands k e l s = turned k e (turn_writes k e l h) s
 
   pub turn_told : (k : ℕ) (e : Event) → LosesNone e → (before noted : List Note) → noted ≡ before ++ note.Turn k e ∷ [] → Stands conns flows links h
-      → ToldBy h before conns flows links noted
-  turn_told k e l before noted is s = record { steps = Noted (note.Turn k e) ∷ []; is = is; stands = turn_stands k e l s }
+      → ToldBy h g before conns flows links noted
+  turn_told k e l before noted is s = record { steps = Noted (note.Turn k e) ∷ []; is = is; stands = turn_stands k e l s; left = left }
 
   pub lost_told : (k c : ℕ) → option_map_or (λ conn. conn.open) (get nat_cmp conns c) false ≡ true → (before noted : List Note) → noted ≡ before ++ note.Turn k (event.Gone c) ∷ []
-      → Stands conns flows links h → ToldBy h before conns flows links noted
+      → Stands conns flows links h → ToldBy h g before conns flows links noted
   lost_told k c opened before noted is s = record {
     steps = Noted (note.Turn k (event.Gone c)) ∷ [];
     is = is;
     stands = turned k (event.Gone c) (lost_writes k c h (s.closed c (there (get nat_cmp conns c) opened) ∙ not_shut (get nat_cmp conns c) opened)) s;
+    left = left;
   }
     where
       there : (o : Option Conn) → option_map_or (λ conn. conn.open) o false ≡ true → is_some o ≡ true
@@ -84,28 +100,35 @@ module _ (conns : BTreeMap ℕ Conn) (flows : Flows) (links : Links) (h : WayHis
       not_shut (Some v) e = ap not e
 
 -- ---- what a call does from before the turn note on
-module _ {A E : Type 0} (r : Result A E) (e : Event) (l : LosesNone e) (old new : WireCore) where
+module _ {A E : Type 0} (r : Result A E) (e : Event) (l : LosesNone e) (m : TakesNone e) (old new : WireCore) where
+  as_after : (h : WayHistory) (g : ℕ → List ℕ) (before now : List Note) → OnOk r (Told h g before new now) → OnOk r (Told h (left_after e old.conns g) before new now)
+  as_after h g before now t = subst (λ (f : ℕ → List ℕ). OnOk r (Told h f before new now)) (sym (left_same e m old.conns g)) t
+
   pub turns_of : (noted now : List Note) → Goes r old noted new now → Turns r e old noted new now
-  turns_of noted now g = record { goes = λ h before k is s fresh. g.goes h before (turn_told old.conns old.flows old.links h k e l before noted is s) }
+  turns_of noted now goes = record {
+    goes = λ h g before k is s left fresh. as_after h g before now (goes.goes h g before (turn_told old.conns old.flows old.links h g left k e l before noted is s));
+  }
 
   -- it writes no note
   pub turns_kept : (noted : List Note) → KeepsOk r old new → Turns r e old noted new noted
-  turns_kept noted g = record { goes = λ h before k is s fresh. g.goes h before noted (turn_told old.conns old.flows old.links h k e l before noted is s) }
+  turns_kept noted keeps = record {
+    goes = λ h g before k is s left fresh. as_after h g before noted (keeps.goes h g before noted (turn_told old.conns old.flows old.links h g left k e l before noted is s));
+  }
 
 -- it does nothing
-pub turns_same : {A E : Type 0} (a : A) (e : Event) → LosesNone e → (core : WireCore) (noted : List Note) → Turns (Ok {E = E} a) e core noted core noted
-turns_same a e l core noted = record { goes = λ h before k is s fresh. turn_told core.conns core.flows core.links h k e l before noted is s }
+pub turns_same : {A E : Type 0} (a : A) (e : Event) → LosesNone e → TakesNone e → (core : WireCore) (noted : List Note) → Turns (Ok {E = E} a) e core noted core noted
+turns_same a e l m core noted = turns_kept (Ok {E = E} a) e l m core core noted (record { goes = λ h g start notes t. t })
 
 -- a connection comes
 pub turns_joined : {A E : Type 0} (r : Result A E) (c cluster : ℕ) (old new : WireCore) (noted : List Note) → Comes r c old new → Turns r (event.Join c cluster) old noted new noted
 turns_joined r c cluster old new noted comes = record {
-  goes = λ h before k is s fresh.
-      comes.goes h before noted (record { steps = Noted (note.Turn k (event.Join c cluster)) ∷ []; is = is; stands = turn_stands old.conns old.flows old.links h k (event.Join c cluster) tt s }) fresh;
+  goes = λ h g before k is s left fresh.
+      comes.goes h g before noted (record { steps = Noted (note.Turn k (event.Join c cluster)) ∷ []; is = is; stands = turn_stands old.conns old.flows old.links h g left k (event.Join c cluster) tt s; left = left }) fresh;
 }
 
 pub turns_accepted : {A B E : Type 0} (a : A) (r : Result B E) (c : ℕ) (old mid new : WireCore) (noted now : List Note) → Comes (Ok {E = E} a) c old mid → Goes r mid noted new now
     → Turns r (event.Accept c) old noted new now
 turns_accepted a r c old mid new noted now comes goes = record {
-  goes = λ h before k is s fresh. goes.goes h before
-      (comes.goes h before noted (record { steps = Noted (note.Turn k (event.Accept c)) ∷ []; is = is; stands = turn_stands old.conns old.flows old.links h k (event.Accept c) tt s }) fresh);
+  goes = λ h g before k is s left fresh. goes.goes h g before
+      (comes.goes h g before noted (record { steps = Noted (note.Turn k (event.Accept c)) ∷ []; is = is; stands = turn_stands old.conns old.flows old.links h g left k (event.Accept c) tt s; left = left }) fresh);
 }

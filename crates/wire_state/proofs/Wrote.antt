@@ -3,6 +3,7 @@ use Rattle.exchange_core.specs.Changes.{ChangesFlow}
 use Rattle.exchange_core.specs.Effects.{body_framed, list_framed}
 use Rattle.exchange_core.specs.Flow.{Flow, send}
 use Rattle.flow_gate.specs.declared.ids.FlowId.{FlowId}
+use Rattle.flow_notes.specs.declared.events.Event.TheVariants as event
 use Rattle.flow_notes.specs.declared.notes.Note.{Note}
 use Rattle.flow_notes.specs.declared.notes.Note.TheVariants as note
 use Rattle.h2_frames.specs.Frame.{WindowUpdate}
@@ -10,11 +11,11 @@ use Rattle.h2_frames.specs.Head.{data_head}
 use Rattle.h2_frames.specs.Spelling.{spelling}
 use Rattle.io_ports.specs.declared.octets.NoMemory.{NoMemory}
 use Rattle.std.proofs.Common.{ap, refl, subst, sym, ◌∙◌}
-use Rattle.std.proofs.lemmas.List.{append-nil}
+use Rattle.std.proofs.lemmas.List.{append-nil, take_min}
 use Rattle.std.specs.BTreeMap.{BTreeMap, WritesThrough, get}
-use Rattle.std.specs.Option.{option_and_then}
+use Rattle.std.specs.Option.{option_and_then, option_map_or}
 use Rattle.std.specs.Ordering.{nat_cmp}
-use Rattle.std.specs.Prelude.{Bool, Err, IfOk, IfSome, List, MatchOption, None, Ok, Option, Result, Some, [], drop, false, if◌then◌else◌, take, true, ℕ, ◌++◌, ◌==◌, ◌∷◌, ◌≡◌}
+use Rattle.std.specs.Prelude.{Bool, Err, IfOk, IfSome, List, MatchOption, None, Ok, Option, Result, Some, [], drop, false, if◌then◌else◌, length, min, suc, take, true, zero, ℕ, ◌++◌, ◌==◌, ◌∷◌, ◌≡◌}
 use Rattle.tape_laws.specs.Flows.{request}
 use Rattle.tape_laws.specs.History.{Noted}
 use Rattle.tape_laws.specs.World.{window_update}
@@ -22,11 +23,11 @@ use Rattle.wire_flows.specs.Flows.{Flows, flow_in}
 use Rattle.wire_links.specs.Links.{Links, ends_of}
 use Rattle.wire_links.specs.declared.links.exchanges.Ends.{Ends}
 use Rattle.wire_state.proofs.Bodies.{frames}
-use Rattle.wire_state.proofs.Goings.{KeepBodies, changed_bodies, keeps_by, owes_by, same_bodies}
+use Rattle.wire_state.proofs.Goings.{KeepBodies, KeepsLeft, changed_bodies, keeps_by, owes_by, same_bodies, told_as}
 use Rattle.wire_state.proofs.Held.{is_number, listed_keeps}
 use Rattle.wire_state.proofs.Standing.{ConnsAre, KeepsFlows, KeepsShut, Writes, answer_flows, answer_shut, answer_writes, at_one, conns_go, conns_written, credit_flows, credit_shut, credit_writes, head_flows, head_shut, head_writes, out_flows, out_shut, out_writes, same_octets, wrote}
 use Rattle.wire_state.specs.Ways.{WayHistory, WayStep, shown, stream_to}
-use Rattle.wire_state.specs.Worlds.{EndsAre, Keeps, Owes, Stands, ToldBy, octets_of, outs_of, stream_in}
+use Rattle.wire_state.specs.Worlds.{EndsAre, Keeps, Leaves, Owes, Stands, ToldBy, left_after, octets_of, stream_in}
 use Rattle.wire_state.specs.Noting.{answers_of, heads_of}
 use Rattle.wm_buffer.specs.declared.watermark.Crossed.{Crossed}
 use Rattle.wire_state.specs.declared.conn.Conn.{Conn}
@@ -36,7 +37,7 @@ pub listed_bodies : (f : FlowId) (last : Bool) (old new : Flows) → ChangesFlow
 listed_bodies f last old new c = changed_bodies f (list_framed last) old new (λ flow e. listed_keeps last flow) c
 
 pub owes_none : (old new : WireCore) → Keeps old new → Owes [] old new
-owes_none old new k = record { goes = λ h start notes t. subst (λ (ns : List Note). ToldBy h start new.conns new.flows new.links ns) (sym (append-nil notes)) (k.goes h start notes t) }
+owes_none old new k = record { goes = λ h g start notes t. subst (λ (ns : List Note). ToldBy h g start new.conns new.flows new.links ns) (sym (append-nil notes)) (k.goes h g start notes t) }
 
 module _ (n : ℕ) (old new : WireCore) (v w : Conn) (found : get nat_cmp old.conns n ≡ Some v) (written : WritesThrough nat_cmp (nat_cmp n) old.conns w new.conns)
     (opened : w.open ≡ v.open) (bodies : KeepBodies old.flows new.flows) (linked : new.links ≡ old.links) where
@@ -57,33 +58,91 @@ module _ (n : ℕ) (old new : WireCore) (v w : Conn) (found : get nat_cmp old.co
   nothing_written e = keeps_by old new (λ h s. with_links h (bodies.goes new.conns old.links h (conns_go old.conns new.conns old.flows old.links h (stays e) s)))
 
   -- a step writes these
-  pub step_written : (g : List ℕ → List ℕ) (step : WayStep) → w.outlet.write.octets ≡ g v.outlet.write.octets
+  step_stands : (g : List ℕ → List ℕ) (step : WayStep) → w.outlet.write.octets ≡ g v.outlet.write.octets
+      → ((h : WayHistory) → Writes (at_one n g) step h) → ((h : WayHistory) → KeepsFlows step h) → ((h : WayHistory) → KeepsShut step h)
+      → (h : WayHistory) → Stands old.conns old.flows old.links h → Stands new.conns new.flows new.links (step ∷ h)
+  step_stands g step e outs flows shut h s = with_links (step ∷ h)
+      (bodies.goes new.conns old.links (step ∷ h) (wrote (at_one n g) step h old.conns new.conns old.flows old.links (outs h) (flows h) (shut h) (conns_written n old.conns new.conns v w found written g e opened) s))
+
+  step_written : (g : List ℕ → List ℕ) (step : WayStep) → KeepsLeft (step ∷ []) → w.outlet.write.octets ≡ g v.outlet.write.octets
       → ((h : WayHistory) → Writes (at_one n g) step h) → ((h : WayHistory) → KeepsFlows step h) → ((h : WayHistory) → KeepsShut step h) → Owes (shown (step ∷ [])) old new
-  step_written g step e outs flows shut = owes_by (step ∷ []) old new (λ h s. with_links (step ∷ h)
-      (bodies.goes new.conns old.links (step ∷ h) (wrote (at_one n g) step h old.conns new.conns old.flows old.links (outs h) (flows h) (shut h) (conns_written n old.conns new.conns v w found written g e opened) s)))
+  step_written g step left e outs flows shut = owes_by (step ∷ []) left old new (step_stands g step e outs flows shut)
 
   pub answer_written : (octets : List ℕ) → w.outlet.write.octets ≡ v.outlet.write.octets ++ octets → Owes (answers_of n octets) old new
   answer_written [] e = owes_none old new (nothing_written (e ∙ append-nil v.outlet.write.octets))
-  answer_written (o ∷ os) e = step_written (λ xs. xs ++ o ∷ os) (Noted (note.Answer n (o ∷ os))) e (λ h. answer_writes h n (o ∷ os)) (λ h. answer_flows h n (o ∷ os)) (λ h. answer_shut h n (o ∷ os))
+  answer_written (o ∷ os) e = step_written (λ xs. xs ++ o ∷ os) (Noted (note.Answer n (o ∷ os))) (λ h c. refl) e (λ h. answer_writes h n (o ∷ os)) (λ h. answer_flows h n (o ∷ os)) (λ h. answer_shut h n (o ∷ os))
 
   pub head_written : (s : ℕ) (octets : List ℕ) → w.outlet.write.octets ≡ v.outlet.write.octets ++ octets → Owes (heads_of n s octets) old new
   head_written s [] e = owes_none old new (nothing_written (e ∙ append-nil v.outlet.write.octets))
-  head_written s (o ∷ os) e = step_written (λ xs. xs ++ o ∷ os) (Noted (note.Head n s (o ∷ os))) e (λ h. head_writes h n (o ∷ os) s) (λ h. head_flows h n (o ∷ os) s) (λ h. head_shut h n (o ∷ os) s)
+  head_written s (o ∷ os) e = step_written (λ xs. xs ++ o ∷ os) (Noted (note.Head n s (o ∷ os))) (λ h c. refl) e (λ h. head_writes h n (o ∷ os) s) (λ h. head_flows h n (o ∷ os) s) (λ h. head_shut h n (o ∷ os) s)
 
   -- a WINDOW_UPDATE frame is spelled as the definitions have it
   update_is : (s k : ℕ) → spelling (WindowUpdate s k) ≡ window_update s k
   update_is s k = refl
 
   pub credit_written : (s k : ℕ) → w.outlet.write.octets ≡ v.outlet.write.octets ++ spelling (WindowUpdate s k) → Owes (note.Credit n s k ∷ []) old new
-  credit_written s k e = step_written (λ xs. xs ++ window_update s k) (Noted (note.Credit n s k)) (e ∙ ap (λ xs. v.outlet.write.octets ++ xs) (update_is s k))
+  credit_written s k e = step_written (λ xs. xs ++ window_update s k) (Noted (note.Credit n s k)) (λ h c. refl) (e ∙ ap (λ xs. v.outlet.write.octets ++ xs) (update_is s k))
       (λ h. credit_writes h n s k) (λ h. credit_flows h n s k) (λ h. credit_shut h n s k)
 
-  pub out_written : (k : ℕ) → w.outlet.write.octets ≡ drop k v.outlet.write.octets → Owes (outs_of n k) old new
-  out_written k e = at (k == 0) refl
+  -- up to this many octets left, as many as there were
+  pub out_left : (most k : ℕ) → k ≡ min most (length v.outlet.write.octets) → w.outlet.write.octets ≡ drop k v.outlet.write.octets → Leaves n most k old new
+  out_left most k many e = record { goes = at (k == 0) refl }
     where
-      at : (b : Bool) → (k == 0) ≡ b → Owes (if b then [] else note.Out n k ∷ []) old new
-      at true z = owes_none old new (nothing_written (e ∙ ap (λ j. drop j v.outlet.write.octets) (is_number k 0 z)))
-      at false z = step_written (drop k) (Noted (note.Out n k)) e (λ h. out_writes h n k) (λ h. out_flows h n k) (λ h. out_shut h n k)
+      here : (c : ℕ) → (n == c) ≡ true → octets_of c old.conns ≡ v.outlet.write.octets
+      here c same = ap (λ d. octets_of d old.conns) (sym (is_number n c same)) ∙ ap (λ (o : Option Conn). option_map_or (λ conn. conn.outlet.write.octets) o []) found
+
+      front : (xs : List ℕ) → k ≡ min most (length xs) → take k xs ≡ take most xs
+      front xs m = ap (λ j. take j xs) m ∙ take_min most xs
+
+      took : (c : ℕ) → (if n == c then take k (octets_of c old.conns) else []) ≡ (if n == c then take most (octets_of c old.conns) else [])
+      took c = by_test (n == c) refl
+        where
+          by_test : (b : Bool) → (n == c) ≡ b → (if b then take k (octets_of c old.conns) else []) ≡ (if b then take most (octets_of c old.conns) else [])
+          by_test true same = front (octets_of c old.conns) (many ∙ ap (λ xs. min most (length xs)) (sym (here c same)))
+          by_test false other = refl
+
+      none : (b : Bool) (xs : List ℕ) → (if b then take 0 xs else []) ≡ []
+      none true [] = refl
+      none true (x ∷ xs) = refl
+      none false xs = refl
+
+      at : (b : Bool) → (k == 0) ≡ b → (h : WayHistory) (g : ℕ → List ℕ) (start notes : List Note) → ToldBy h g start old.conns old.flows old.links notes
+          → ToldBy h (left_after (event.Room n most) old.conns g) start new.conns new.flows new.links (notes ++ (if b then [] else note.Out n k ∷ []))
+      at true z h g start notes t =
+          let zero_is = is_number k 0 z in
+          let stays = (nothing_written (e ∙ ap (λ j. drop j v.outlet.write.octets) zero_is)).goes h g start notes t in
+          record {
+            steps = stays.steps;
+            is = append-nil notes ∙ stays.is;
+            stands = stays.stands;
+            left = λ c. stays.left c ∙ (sym (append-nil (g c)) ∙ ap (λ xs. g c ++ xs)
+                (sym (ap (λ j. if n == c then take j (octets_of c old.conns) else []) zero_is ∙ none (n == c) (octets_of c old.conns)) ∙ took c));
+          }
+      at false z h g start notes t = told_as (Noted (note.Out n k) ∷ []) (left_after (event.Room n most) old.conns) old.conns new.conns old.flows new.flows old.links new.links
+          (λ j f s is c. (λ i. is c i ++ (if n == c then take k (sym (s.writes c) i) else [])) ∙ ap (λ xs. f c ++ xs) (took c))
+          (step_stands (drop k) (Noted (note.Out n k)) e (λ j. out_writes j n k) (λ j. out_flows j n k) (λ j. out_shut j n k)) h g start notes t
+
+-- no connection is there, and none left
+pub none_left : (n most : ℕ) (core : WireCore) → get nat_cmp core.conns n ≡ None → Leaves n most 0 core core
+none_left n most core gone_ = record {
+  goes = λ h g start notes t. record {
+    steps = t.steps;
+    is = append-nil notes ∙ t.is;
+    stands = t.stands;
+    left = λ c. t.left c ∙ (sym (append-nil (g c)) ∙ ap (λ xs. g c ++ xs) (sym (nothing c (n == c) refl)));
+  };
+}
+  where
+    no_front : (xs : List ℕ) → xs ≡ [] → take most xs ≡ []
+    no_front xs e = ap (take most) e ∙ of_none most
+      where
+        of_none : (j : ℕ) → take {A = ℕ} j [] ≡ []
+        of_none zero = refl
+        of_none (suc j) = refl
+
+    nothing : (c : ℕ) (b : Bool) → (n == c) ≡ b → (if b then take most (octets_of c core.conns) else []) ≡ []
+    nothing c true same = no_front (octets_of c core.conns) (ap (λ d. octets_of d core.conns) (sym (is_number n c same)) ∙ ap (λ (o : Option Conn). option_map_or (λ conn. conn.outlet.write.octets) o []) gone_)
+    nothing c false other = refl
 
 -- a GOAWAY went in, or nothing did
 pub farewell_written : (n : ℕ) (old new : WireCore) (v w : Conn) → get nat_cmp old.conns n ≡ Some v → WritesThrough nat_cmp (nat_cmp n) old.conns w new.conns → w.open ≡ v.open
@@ -117,7 +176,7 @@ pub body_written : (n : ℕ) (old new : WireCore) (v w : Conn) → get nat_cmp o
     → (f : FlowId) (s k : ℕ) (last : Bool) (flow : Flow) → stream_in old.links f ≡ Some s → flow_in old.flows f ≡ Some flow
     → w.outlet.write.octets ≡ v.outlet.write.octets ++ (data_head s k last ++ take k (send flow)) → ChangesFlow f (body_framed k last) old.flows.exchanges new.flows.exchanges
     → Owes (note.Frame n f k last ∷ []) old new
-body_written n old new v w found written opened linked f s k last flow on there octets change = owes_by (Noted (note.Frame n f k last) ∷ []) old new (λ h stands.
+body_written n old new v w found written opened linked f s k last flow on there octets change = owes_by (Noted (note.Frame n f k last) ∷ []) (λ h c. refl) old new (λ h stands.
     subst (λ (l : Links). Stands new.conns new.flows l (Noted (note.Frame n f k last) ∷ h)) (sym linked)
     (frames n f k last h old.conns new.conns old.flows new.flows old.links s flow (stream_known f old.links h s stands.ends on) there change
     (conns_written n old.conns new.conns v w found written (λ xs. xs ++ (data_head s k last ++ take k (send flow))) octets opened) stands))

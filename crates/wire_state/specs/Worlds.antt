@@ -10,10 +10,10 @@ use Rattle.flow_notes.specs.declared.notes.Note.TheVariants as note
 use Rattle.std.specs.BTreeMap.{BTreeMap, get}
 use Rattle.std.specs.Option.{option_and_then, option_map_or}
 use Rattle.std.specs.Ordering.{nat_cmp}
-use Rattle.std.specs.Prelude.{Bool, IfSome, List, OnOk, Option, Result, Some, [], false, if◌then◌else◌, is_some, not, true, ℕ, ◌++◌, ◌==◌, ◌∷◌, ◌≡◌}
+use Rattle.std.specs.Prelude.{Bool, IfSome, List, OnOk, Option, Result, Some, [], false, if◌then◌else◌, is_some, not, take, true, ℕ, ◌++◌, ◌==◌, ◌∷◌, ◌≡◌}
 use Rattle.tape_laws.specs.Connections.{was_closed}
 use Rattle.tape_laws.specs.Flows.{request, response}
-use Rattle.tape_laws.specs.World.{last_place, out, place}
+use Rattle.tape_laws.specs.World.{gone, last_place, out, place}
 use Rattle.wire_flows.specs.Flows.{Flows, flow_in, is_there}
 use Rattle.wire_links.specs.Links.{Links, ends_of, is_known}
 use Rattle.wire_links.specs.declared.links.exchanges.Ends.{Ends}
@@ -55,39 +55,41 @@ pub record Stands (conns : BTreeMap ℕ Conn) (flows : Flows) (links : Links) (h
   pub known : (c : ℕ) → is_known c links ≡ false → has_conn c conns ≡ false
   pub closed : (c : ℕ) → has_conn c conns ≡ true → was_closed c h ≡ is_shut c conns
 
--- the notes were made by these steps behind that history, and the core stands for what they lead to
-pub record ToldBy (h : WayHistory) (start : List Note) (conns : BTreeMap ℕ Conn) (flows : Flows) (links : Links) (notes : List Note) : Type 0 where
+-- The notes were made by these steps behind that history, and the core stands for what they lead to. What left each connection's
+-- write buffer up to there is told beside it.
+pub record ToldBy (h : WayHistory) (g : ℕ → List ℕ) (start : List Note) (conns : BTreeMap ℕ Conn) (flows : Flows) (links : Links) (notes : List Note) : Type 0 where
   pub steps : List WayStep
   pub is : notes ≡ start ++ shown steps
   pub stands : Stands conns flows links (after steps h)
+  pub left : (c : ℕ) → gone world_setup c (after steps h) ≡ g c
 
-abbrev pub Told : WayHistory → List Note → WireCore → List Note → Type 0
-Told h start core notes = ToldBy h start core.conns core.flows core.links notes
+abbrev pub Told : WayHistory → (ℕ → List ℕ) → List Note → WireCore → List Note → Type 0
+Told h g start core notes = ToldBy h g start core.conns core.flows core.links notes
 
 -- Words between a core and its notes before a call and after it. Where memory was refused nothing is said.
 -- it goes on to
 pub record Goes {A E : Type 0} (r : Result A E) (old : WireCore) (before : List Note) (new : WireCore) (now : List Note) : Type 0 where
-  pub goes : (h : WayHistory) (start : List Note) → Told h start old before → OnOk r (Told h start new now)
+  pub goes : (h : WayHistory) (g : ℕ → List ℕ) (start : List Note) → Told h g start old before → OnOk r (Told h g start new now)
 
 -- whatever was noted, also what is still to be noted
 pub record Keeps (old new : WireCore) : Type 0 where
-  pub goes : (h : WayHistory) (start notes : List Note) → Told h start old notes → Told h start new notes
+  pub goes : (h : WayHistory) (g : ℕ → List ℕ) (start notes : List Note) → Told h g start old notes → Told h g start new notes
 
 pub record KeepsOk {A E : Type 0} (r : Result A E) (old new : WireCore) : Type 0 where
-  pub goes : (h : WayHistory) (start notes : List Note) → Told h start old notes → OnOk r (Told h start new notes)
+  pub goes : (h : WayHistory) (g : ℕ → List ℕ) (start notes : List Note) → Told h g start old notes → OnOk r (Told h g start new notes)
 
 -- this is still to be noted
 pub record Owes (owed : List Note) (old new : WireCore) : Type 0 where
-  pub goes : (h : WayHistory) (start notes : List Note) → Told h start old notes → Told h start new (notes ++ owed)
+  pub goes : (h : WayHistory) (g : ℕ → List ℕ) (start notes : List Note) → Told h g start old notes → Told h g start new (notes ++ owed)
 
 -- ---- notes
 -- what was still to be noted is
 pub record Pays {A E : Type 0} (r : Result A E) (owed before now : List Note) : Type 0 where
-  pub goes : (h : WayHistory) (start : List Note) (conns : BTreeMap ℕ Conn) (flows : Flows) (links : Links) → ToldBy h start conns flows links (before ++ owed) → OnOk r (ToldBy h start conns flows links now)
+  pub goes : (h : WayHistory) (g : ℕ → List ℕ) (start : List Note) (conns : BTreeMap ℕ Conn) (flows : Flows) (links : Links) → ToldBy h g start conns flows links (before ++ owed) → OnOk r (ToldBy h g start conns flows links now)
 
 -- what was noted moves no octets
 pub record Shows {A E : Type 0} (r : Result A E) (before now : List Note) : Type 0 where
-  pub goes : (h : WayHistory) (start : List Note) (conns : BTreeMap ℕ Conn) (flows : Flows) (links : Links) → ToldBy h start conns flows links before → OnOk r (ToldBy h start conns flows links now)
+  pub goes : (h : WayHistory) (g : ℕ → List ℕ) (start : List Note) (conns : BTreeMap ℕ Conn) (flows : Flows) (links : Links) → ToldBy h g start conns flows links before → OnOk r (ToldBy h g start conns flows links now)
 
 -- the note moves no octets, wherever it stands
 abbrev pub IsIdle : Note → Type 0
@@ -122,10 +124,24 @@ IsFresh (event.Accept c) h = was_closed c h ≡ false
 IsFresh (event.Join c cluster) h = was_closed c h ≡ false
 IsFresh e h = Unit {0}
 
+-- what has left each connection once the event was carried out: room takes a front of what waits
+abbrev pub left_after : Event → BTreeMap ℕ Conn → (ℕ → List ℕ) → ℕ → List ℕ
+left_after (event.Room d n) conns g = λ c. g c ++ (if d == c then take n (octets_of c conns) else [])
+left_after e conns g = g
+
 -- From before the turn note of an event on: the core stood for a history, and stands for it with the dispatch's steps.
 pub record Turns {A E : Type 0} (r : Result A E) (e : Event) (old : WireCore) (noted : List Note) (new : WireCore) (now : List Note) : Type 0 where
-  pub goes : (h : WayHistory) (before : List Note) (k : ℕ) → noted ≡ before ++ note.Turn k e ∷ [] → Stands old.conns old.flows old.links h → IsFresh e h → OnOk r (Told h before new now)
+  pub goes : (h : WayHistory) (g : ℕ → List ℕ) (before : List Note) (k : ℕ) → noted ≡ before ++ note.Turn k e ∷ [] → Stands old.conns old.flows old.links h → ((c : ℕ) → gone world_setup c h ≡ g c)
+      → IsFresh e h → OnOk r (Told h (left_after e old.conns g) before new now)
+
+-- The whole dispatch: from the notes before it on.
+pub record Follows (old : WireCore) (before : List Note) (e : Event) (new : WireCore) (now : List Note) : Type 0 where
+  pub goes : (h : WayHistory) (g : ℕ → List ℕ) → Stands old.conns old.flows old.links h → ((c : ℕ) → gone world_setup c h ≡ g c) → IsFresh e h → Told h (left_after e old.conns g) before new now
 
 -- A connection comes, whose number isn't one that was closed.
 pub record Comes {A E : Type 0} (r : Result A E) (c : ℕ) (old new : WireCore) : Type 0 where
-  pub goes : (h : WayHistory) (start notes : List Note) (t : Told h start old notes) → was_closed c (after t.steps h) ≡ false → OnOk r (Told h start new notes)
+  pub goes : (h : WayHistory) (g : ℕ → List ℕ) (start notes : List Note) (t : Told h g start old notes) → was_closed c (after t.steps h) ≡ false → OnOk r (Told h g start new notes)
+
+-- Up to n octets left a connection's write buffer, k of them there were.
+pub record Leaves (c n k : ℕ) (old new : WireCore) : Type 0 where
+  pub goes : (h : WayHistory) (g : ℕ → List ℕ) (start notes : List Note) → Told h g start old notes → Told h (left_after (event.Room c n) old.conns g) start new (notes ++ outs_of c k)

@@ -7,8 +7,7 @@ ghost use Rattle.wire_state.specs.Sound.{IsSound, is_open_at};
 ghost use Rattle.overload_core.specs.ActionStates.{is_saturated};
 ghost use Rattle.worker_core.specs.Dispatching.{Breaks, Dispatches, Tells, obeyed_after};
 ghost use Rattle.worker_core.specs.Fronts.{IsFront, IsLeastAbove, has_octets, is_there, octets_at};
-ghost use Rattle.wire_state.specs.Ways.{WayHistory};
-ghost use Rattle.wire_state.specs.Worlds.{IsFresh, Stands, Told, Turns};
+ghost use Rattle.wire_state.specs.Worlds.{Follows, Turns};
 
 use crate::steps::settle;
 use flow_notes::{Event, Note, Notes};
@@ -94,7 +93,7 @@ impl WireSession {
         ensures obeyed { OnOk result (self.new.obeyed ≡ obeyed_after event.now self.old.obeyed) }
         ensures cut { Breaks self.old notes.old event.now notes.new }
         ensures well { self.new.failed ≡ self.old.failed }
-        ensures octets { OnOk result ((h : WayHistory) → Stands self.old.core.conns self.old.core.flows self.old.core.links h → IsFresh event.now h → Told h notes.old self.new.core notes.new) }
+        ensures octets { OnOk result (Follows self.old.core notes.old event.now self.new.core notes.new) }
     {
         if self.turn >= LAST_TURN {
             return Err(NoMemory);

@@ -1,8 +1,11 @@
-use Rattle.std.proofs.Common.{ap, arith}
-use Rattle.std.specs.Prelude.{List, length, ℕ}
+use Rattle.flow_notes.specs.declared.notes.Note.TheVariants as note
+use Rattle.std.proofs.Common.{ap, arith, subst}
+use Rattle.std.specs.Prelude.{List, [], length, ℕ, ◌++◌, ◌∷◌}
+use Rattle.wire_in.proofs.Arriving.{arrival_told}
 use Rattle.wire_in.proofs.bodies.arrive.Goals as goal
 use Rattle.wire_state.proofs.Results.{on_ok}
 use Rattle.wire_state.specs.Progress.{to_go}
+use Rattle.wire_state.specs.Worlds.{ToldBy}
 
 pub returns-clause-go : goal.returns-clause-go
 unfolding to_go
@@ -11,4 +14,10 @@ returns-clause-go c =
     on_ok c.note.result (omega (arith, n, c.in_ok-touch.ensures.go, c.receive.ensures.go))
 
 pub returns-clause-octets : goal.returns-clause-octets
-returns-clause-octets c = ?
+returns-clause-octets c = record {
+  goes = λ h g start t.
+      let k = c.args.core.now in
+      let f = c.args.course.flow in
+      let came = arrival_told f c.as_slice.result k.flows c.receive.new.self c.receive.result c.receive.ensures.answer ? c.receive.ensures.flow k.conns k.links h g start c.args.notes.now t in
+      c.note.ensures.paid.goes h g start _ _ _ (c.in_ok-touch.ensures.octets.goes h g start _ (subst (λ (octets : List ℕ). ToldBy h g start k.conns c.receive.new.self k.links (c.args.notes.now ++ note.Arrive f octets ∷ [])) c.as_slice.ensures came));
+}

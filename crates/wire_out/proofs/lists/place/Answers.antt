@@ -12,10 +12,10 @@ returns-clause-go c = omega (arith, c.in_ok-begin_stream.ensures.go)
 
 pub returns-clause-octets : goal.returns-clause-octets
 returns-clause-octets c = record {
-  goes = λ h start notes t.
+  goes = λ h g start notes t.
       let mid = c.begin_stream.new.core in
       let x = c.args.going.course.flow.exchange in
       marked_told (Opens x c.args.stream) mid.conns mid.conns mid.flows mid.flows mid.links c.framed_to.new.self
       (λ k s. places x c.args.stream k mid.conns mid.flows mid.links c.framed_to.new.self (links_placed x c.args.stream mid.links c.framed_to.new.self c.in_ok-framed_to.ensures.ok) s)
-      h start notes (c.in_ok-begin_stream.ensures.octets.goes h start notes t);
+      h g start notes (c.in_ok-begin_stream.ensures.octets.goes h g start notes t);
 }

@@ -8,7 +8,7 @@ use Rattle.wire_state.specs.Worlds.{Told}
 use Rattle.worker_core.proofs.steps.settle.Given as goal
 
 abbrev pub invariant-loop : goal.invariant-loop
-invariant-loop l = record { sound : IsSound l.core; notes : Appends l.fn.notes l.notes; octets : (h : WayHistory) (start : List Note) → Told h start l.fn.core l.fn.notes → Told h start l.core l.notes }
+invariant-loop l = record { sound : IsSound l.core; notes : Appends l.fn.notes l.notes; octets : (h : WayHistory) (g : ℕ → List ℕ) (start : List Note) → Told h g start l.fn.core l.fn.notes → Told h g start l.core l.notes }
 
 abbrev pub decreases-loop : goal.decreases-loop
 decreases-loop l = to_go l.core

@@ -14,5 +14,5 @@ returns-clause-go c = on_ok c.note_pauses.result (omega (arith, c.write_rose.ens
 
 pub returns-clause-octets : goal.returns-clause-octets
 returns-clause-octets c = record {
-  goes = λ h start t. c.note_pauses.ensures.idle.goes h start _ _ _ (bodies_told c.args.self.now.flows c.write_rose.new.self (gate_bodies c.args.self.now.flows c.write_rose.new.self c.write_rose.ensures.rest) c.args.self.now.conns c.args.self.now.links h start c.args.notes.now t);
+  goes = λ h g start t. c.note_pauses.ensures.idle.goes h g start _ _ _ (bodies_told c.args.self.now.flows c.write_rose.new.self (gate_bodies c.args.self.now.flows c.write_rose.new.self c.write_rose.ensures.rest) c.args.self.now.conns c.args.self.now.links h g start c.args.notes.now t);
 }
