@@ -89,6 +89,7 @@ fn forget(core: &mut WireCore, number: u32)
     if !core.flows.close_write(number) {
         return;
     }
+    core.links.are_sound();
     drop(core.conns.remove(&number));
     core.links.forget(number);
 }

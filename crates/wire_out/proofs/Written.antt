@@ -12,13 +12,11 @@ use Rattle.std.proofs.Common.{ap, refl, subst, sym, ◌∙◌}
 use Rattle.std.specs.BTreeMap.{WritesThrough, get}
 use Rattle.std.specs.Ordering.{nat_cmp}
 use Rattle.std.specs.Prelude.{Bool, Err, IfOk, IfSome, IsSome, List, MatchOption, None, Ok, Option, Result, Some, [], take, ℕ, ◌++◌, ◌∷◌, ◌≡◌}
-use Rattle.wire_flows.specs.Flows.{Flows, IsThere, flow_in}
+use Rattle.wire_flows.specs.Flows.{IsThere, flow_in}
 use Rattle.wire_flows.specs.declared.framing.Framed.{Framed as FramedBody}
-use Rattle.wire_links.specs.Links.{Links}
 use Rattle.wire_outlet.specs.Waiting.{octets_of}
 use Rattle.wire_outlet.specs.declared.outlet.Framed.{Framed}
 use Rattle.wire_outlet.specs.declared.outlet.Framed.TheVariants as framed
-use Rattle.wire_state.proofs.Rooms.{of_some}
 use Rattle.wire_state.proofs.Goings.{same_bodies}
 use Rattle.wire_state.proofs.Wrote.{answer_written, body_written, credit_written, head_written, listed_bodies, nothing_written}
 use Rattle.wire_state.specs.Noting.{heads_of}

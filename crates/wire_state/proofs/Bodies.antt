@@ -1,10 +1,7 @@
 -- A core goes on to stand for its tape where octets of a flow come, go on, are framed or dropped.
-use Rattle.exchange_core.proofs.Untouched.{flow_seen}
-use Rattle.exchange_core.specs.Changes.{ChangesFlow, Dooms, Starts, Ticks}
+use Rattle.exchange_core.specs.Changes.{ChangesFlow}
 use Rattle.exchange_core.specs.Effects.{arrived, body_framed, moved}
-use Rattle.exchange_core.specs.Exchange.{at_moment, begun, flow_id, flow_in as side_of, seen_at}
-use Rattle.exchange_core.specs.Exchanges.{exchange_at, flow_at}
-use Rattle.exchange_core.specs.Flow.{Flow, last_place as send_place, octets_in, send}
+use Rattle.exchange_core.specs.Flow.{Flow, last_place as send_place, send}
 use Rattle.exchange_core.specs.declared.exchange.Exchange.{Exchange}
 use Rattle.filter_chain.specs.Place.{Place}
 use Rattle.flow_gate.proofs.SameIds.{same_flow_exact}
@@ -16,9 +13,9 @@ use Rattle.std.proofs.lemmas.List.{append-nil}
 use Rattle.std.specs.BTreeMap.{BTreeMap}
 use Rattle.std.specs.Option.{option_and_then, option_map}
 use Rattle.std.specs.Prelude.{Bool, IfSome, List, None, Option, Some, [], drop, false, if◌then◌else◌, is_some, not, slice_get, take, true, ℕ, ◌&&◌, ◌++◌, ◌+◌, ◌<◌, ◌==◌, ◌∷◌, ◌≡◌}
-use Rattle.tape_laws.specs.Flows.{request, response, same_flow}
-use Rattle.tape_laws.specs.History.{Marked, Noted}
-use Rattle.tape_laws.specs.World.{data_frame, last_place, out, place, send as sends}
+use Rattle.tape_laws.specs.Flows.{same_flow}
+use Rattle.tape_laws.specs.History.{Noted}
+use Rattle.tape_laws.specs.World.{last_place, out, place, send as sends}
 use Rattle.wire_flows.proofs.Cases.{by_case, if_mapped, some_mapped}
 use Rattle.wire_flows.proofs.Found.{flow_after, there_after}
 use Rattle.wire_flows.specs.Flows.{Flows, IsThere, flow_in, is_there}

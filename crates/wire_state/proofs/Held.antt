@@ -1,5 +1,5 @@
 -- What the places of a flow hold once some of its octets went on, came or left.
-use Rattle.exchange_core.specs.Effects.{arrived, body_framed, end_came, finished, headed, list_framed, moved}
+use Rattle.exchange_core.specs.Effects.{arrived, body_framed, finished, headed, list_framed, moved}
 use Rattle.exchange_core.specs.Exchange.{at_moment, begun_flow}
 use Rattle.exchange_core.specs.Flow.{Flow, last_place, octets_in}
 use Rattle.exchange_core.specs.declared.start.StartSpec.{StartSpec}
@@ -32,7 +32,7 @@ number_same p = grind (arith, nat_tests)
 pub apart : (p q : ℕ) → (p == q) ≡ false → q ≡ p → ⊥
 apart p q e same = let one : (q == q) ≡ false = subst (λ (v : ℕ). (v == q) ≡ false) (sym same) e in absurd (cc (one, number_same q))
 
-turned : (p q : ℕ) (b : Bool) → (p == q) ≡ b → (q == p) ≡ b
+pub turned : (p q : ℕ) (b : Bool) → (p == q) ≡ b → (q == p) ≡ b
 turned p q true e = grind (arith, nat_tests)
 turned p q false e = grind (arith, nat_tests)
 

@@ -2,8 +2,8 @@
 use Rattle.exchange_core.proofs.Untouched.{flow_seen}
 use Rattle.exchange_core.specs.Changes.{Dooms, Starts, Sweeps, Ticks}
 use Rattle.exchange_core.specs.Exchange.{at_moment, begun, begun_flow, filters_of, flow_id, flow_in as side_of, multiple_of, seen_at, side_filters}
-use Rattle.exchange_core.specs.Exchanges.{exchange_at, flow_at, is_live}
-use Rattle.exchange_core.specs.Flow.{Flow, last_place as send_place, octets_in}
+use Rattle.exchange_core.specs.Exchanges.{exchange_at, is_live}
+use Rattle.exchange_core.specs.Flow.{Flow}
 use Rattle.exchange_core.specs.declared.exchange.Exchange.{Exchange}
 use Rattle.exchange_core.specs.declared.start.StartSpec.{StartSpec}
 use Rattle.filter_chain.specs.Chain.{stages}
@@ -20,7 +20,6 @@ use Rattle.std.specs.Option.{option_and_then, option_map}
 use Rattle.std.specs.Prelude.{Bool, IfSome, List, None, Option, Some, [], false, if◌then◌else◌, is_some, length, not, suc, true, ℕ, ◌&&◌, ◌++◌, ◌+◌, ◌==◌, ◌∷◌, ◌≡◌}
 use Rattle.tape_laws.specs.Flows.{request, response}
 use Rattle.tape_laws.specs.History.{Marked, Noted}
-use Rattle.tape_laws.specs.Units.{StageKind}
 use Rattle.tape_laws.specs.World.{last_place, place}
 use Rattle.wire_flows.proofs.Cases.{by_case}
 use Rattle.wire_flows.proofs.Starts.{response_new}
@@ -73,11 +72,14 @@ module _ (x : ℕ) (why : Cause) (h : WayHistory) (old new : Flows) (d : Dooms x
   }
 
 -- ---- start
+one_more : (a b : ℕ) → a ≡ b + 1 → suc a ≡ suc b + 1
+one_more a b e = omega (arith, e)
+
 stages_long : (fs : List Filter) (last : Place) → length (stages fs ++ last ∷ []) ≡ length (stages_of fs) + 1
 stages_long [] last = refl
 stages_long (filter.Pass ∷ fs) last = stages_long fs last
-stages_long (filter.Hold limit ∷ fs) last = ap suc (stages_long fs last)
-stages_long (filter.Meter limit rate ∷ fs) last = ap suc (stages_long fs last)
+stages_long (filter.Hold limit ∷ fs) last = one_more _ _ (stages_long fs last)
+stages_long (filter.Meter limit rate ∷ fs) last = one_more _ _ (stages_long fs last)
 
 -- a linked exchange more
 pub record LinksOne (x c s : ℕ) (to : Option ℕ) (old new : Links) : Type 0 where

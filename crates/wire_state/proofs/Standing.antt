@@ -1,9 +1,6 @@
 -- A core goes on to stand for its tape, with each kind of step.
 use Rattle.exchange_core.proofs.Maps.{eq_by_number}
-use Rattle.exchange_core.specs.Changes.{ChangesFlow}
-use Rattle.exchange_core.specs.Effects.{arrived, body_framed, moved}
-use Rattle.exchange_core.specs.Flow.{Flow, last_place as send_place, octets_in}
-use Rattle.flow_gate.proofs.SameIds.{same_flow_exact}
+use Rattle.exchange_core.specs.Flow.{Flow}
 use Rattle.flow_gate.specs.declared.ids.BufferId.{BufferId}
 use Rattle.flow_gate.specs.declared.ids.FlowId.{FlowId}
 use Rattle.flow_notes.specs.declared.notes.CloseCause.{CloseCause}
@@ -15,12 +12,11 @@ use Rattle.std.specs.Option.{option_map, option_map_or}
 use Rattle.std.specs.Ordering.{nat_cmp}
 use Rattle.std.specs.Prelude.{Bool, IfSome, IsSome, List, None, Option, Some, [], cond, drop, false, if◌then◌else◌, is_some, not, take, true, ℕ, ◌&&◌, ◌++◌, ◌+◌, ◌<◌, ◌==◌, ◌||◌, ◌∷◌, ◌≡◌}
 use Rattle.tape_laws.specs.Connections.{was_closed}
-use Rattle.tape_laws.specs.Flows.{request, response, same_flow}
-use Rattle.tape_laws.specs.History.{Marked, Noted}
+use Rattle.tape_laws.specs.Flows.{request, response}
+use Rattle.tape_laws.specs.History.{Noted}
 use Rattle.tape_laws.specs.World.{last_place, out, place, window_update}
-use Rattle.wire_flows.proofs.Cases.{by_case, if_found, if_mapped}
-use Rattle.wire_flows.proofs.Found.{flow_after, there_after}
-use Rattle.wire_flows.specs.Flows.{Flows, IsThere, flow_in, is_there}
+use Rattle.wire_flows.proofs.Cases.{by_case}
+use Rattle.wire_flows.specs.Flows.{Flows, flow_in}
 use Rattle.wire_links.specs.Links.{Links, ends_of, is_known}
 use Rattle.wire_links.specs.declared.links.exchanges.Ends.{Ends}
 use Rattle.wire_state.proofs.Held.{by_test, is_number}

@@ -18,7 +18,7 @@ use Rattle.wire_links.specs.Links.{Links}
 use Rattle.wire_state.proofs.Held.{is_number}
 use Rattle.wire_state.proofs.Standing.{KeepsFlows, KeepsShut, Writes, conns_same, same_octets, wrote}
 use Rattle.wire_state.specs.Ways.{WayHistory, world_setup}
-use Rattle.wire_state.specs.Worlds.{Comes, Goes, IsFresh, KeepsOk, Stands, Told, ToldBy, Turns, left_after}
+use Rattle.wire_state.specs.Worlds.{Comes, Goes, KeepsOk, Stands, Told, ToldBy, Turns, left_after}
 use Rattle.wire_state.specs.declared.conn.Conn.{Conn}
 use Rattle.wire_state.specs.declared.wire_core.WireCore.{WireCore}
 
