@@ -19,23 +19,23 @@ pub returns-in-Still-clause-go : goal.returns-in-Still-clause-go
 unfolding to_go
 returns-in-Still-clause-go c = ok_map c.stop.result (λ g. omega (arith, g, c.in_ok-moved.ensures.less)) c.stop.ensures.go
 
-pub returns-in_ok-in-Moved-clause-octets : goal.returns-in_ok-in-Moved-clause-octets
-returns-in_ok-in-Moved-clause-octets c = record {
+pub returns-in-Moved-clause-octets : goal.returns-in-Moved-clause-octets
+returns-in-Moved-clause-octets c = record {
   goes = λ h g start t.
       let k = c.args.core.now in
-      c.go_on.ensures.octets.goes h g start (moved_told c.args.course.flow k.flows c.step.new.self _ c.in_ok-step.ensures.outcome c.in_ok-step.ensures.flow c.in-Moved.moved c.in-Moved.is k.conns k.links h g start c.args.notes.now t);
+      c.go_on.ensures.octets.goes h g start (moved_told c.args.course.flow k.flows c.step.new.self _ c.in_ok-moved.ensures.outcome c.in_ok-moved.ensures.flow c.in-Moved.moved c.in-Moved.is k.conns k.links h g start c.args.notes.now t);
 }
 
-pub returns-in_ok-in-TooLarge-clause-octets : goal.returns-in_ok-in-TooLarge-clause-octets
-returns-in_ok-in-TooLarge-clause-octets c = record {
+pub returns-in-TooLarge-clause-octets : goal.returns-in-TooLarge-clause-octets
+returns-in-TooLarge-clause-octets c = record {
   goes = λ h g start t.
       let k = c.args.core.now in
-      c.overfull.ensures.octets.goes h g start (still_told c.args.course.flow k.flows c.step.new.self _ c.in_ok-step.ensures.outcome c.in_ok-step.ensures.flow (λ m e. cc (c.in-TooLarge.is, e)) k.conns k.links h g start c.args.notes.now t);
+      c.overfull.ensures.octets.goes h g start (still_told c.args.course.flow k.flows c.step.new.self _ c.in_ok-moved.ensures.outcome c.in_ok-moved.ensures.flow (λ m e. cc (c.in-TooLarge.is, e)) k.conns k.links h g start c.args.notes.now t);
 }
 
-pub returns-in_ok-in-Still-clause-octets : goal.returns-in_ok-in-Still-clause-octets
-returns-in_ok-in-Still-clause-octets c = record {
+pub returns-in-Still-clause-octets : goal.returns-in-Still-clause-octets
+returns-in-Still-clause-octets c = record {
   goes = λ h g start t.
       let k = c.args.core.now in
-      c.stop.ensures.octets.goes h g start (still_told c.args.course.flow k.flows c.step.new.self _ c.in_ok-step.ensures.outcome c.in_ok-step.ensures.flow (λ m e. cc (c.in-Still.is, e)) k.conns k.links h g start c.args.notes.now t);
+      c.stop.ensures.octets.goes h g start (still_told c.args.course.flow k.flows c.step.new.self _ c.in_ok-moved.ensures.outcome c.in_ok-moved.ensures.flow (λ m e. cc (c.in-Still.is, e)) k.conns k.links h g start c.args.notes.now t);
 }
