@@ -1,5 +1,5 @@
 use Rattle.flow_notes.specs.declared.notes.Note.TheVariants as note
-use Rattle.std.proofs.Common.{ap, arith, subst, sym, ◌∙◌}
+use Rattle.std.proofs.Common.{ap, arith, refl, subst, sym, ◌∙◌}
 use Rattle.std.specs.Prelude.{[], is_some, length, ℕ, ◌∷◌, ◌≤◌}
 use Rattle.tape_laws.specs.History.{Noted}
 use Rattle.wire_ends.proofs.Unlinking.{live_doomed}

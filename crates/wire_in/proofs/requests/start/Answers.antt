@@ -1,6 +1,6 @@
 use Rattle.exchange_core.specs.Exchange.{filters_of, side_filters}
 use Rattle.flow_notes.specs.declared.notes.Note.TheVariants as note
-use Rattle.std.proofs.Common.{ap, arith, ◌∙◌}
+use Rattle.std.proofs.Common.{ap, arith, refl, ◌∙◌}
 use Rattle.std.specs.Prelude.{[], false, is_some, true, ◌∷◌}
 use Rattle.tape_laws.specs.History.{Marked, Noted}
 use Rattle.wire_flows.specs.Flows.{is_live_in}
