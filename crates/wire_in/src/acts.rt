@@ -146,7 +146,7 @@ fn widen(core: &mut WireCore, number: u32, exchange: u64, n: u32) -> Result<(), 
     ensures sound { IsSound core.new }
     ensures go { to_go core.new ≤ to_go core.old }
     ensures rest { core.new ≡ record core.old { conns = core.new.conns } }
-    ensures octets { KeepsOk result core.old core.new }
+    ensures octets { Keeps core.old core.new }
 {
     match core.conns.get_mut(&number) {
         Some(conn) => conn.widen(exchange, n),
@@ -178,7 +178,7 @@ fn widen_conn(core: &mut WireCore, number: u32, n: u32) -> Result<(), Overflow>
     ensures sound { IsSound core.new }
     ensures go { to_go core.new ≤ to_go core.old }
     ensures rest { core.new ≡ record core.old { conns = core.new.conns } }
-    ensures octets { KeepsOk result core.old core.new }
+    ensures octets { Keeps core.old core.new }
 {
     match core.conns.get_mut(&number) {
         Some(conn) => conn.widen_conn(n),

@@ -43,9 +43,7 @@ pub(crate) fn settings(
     ensures octets { Goes result core.old notes.old core.new notes.new }
 {
     let named = named_in(list);
-    if let Some(concurrent) = named.concurrent {
-        core.links.set_concurrent(number, concurrent);
-    }
+    set_concurrent(core, number, named.concurrent);
     let before = initial_of(core, number);
     if !set_windows(core, number, named) {
         return close_with(core, number, FLOW_CONTROL_ERROR, notes);
@@ -53,6 +51,19 @@ pub(crate) fn settings(
     refresh_all(core, number, before)?;
     let ack = Control::settings_ack(core.alloc)?;
     put(core, number, ack)
+}
+
+// The number of concurrent streams that the peer names, if it does.
+fn set_concurrent(core: &mut WireCore, number: u32, n: Option<u32>)
+    requires sound { IsSound core.old }
+    ensures sound { IsSound core.new }
+    ensures go { to_go core.new ≤ to_go core.old }
+    ensures octets { Keeps core.old core.new }
+{
+    match n {
+        Some(n) => core.links.set_concurrent(number, n),
+        None => {}
+    }
 }
 
 // The greatest payload, and the initial window of each stream. The answer is false where a window would be too large.

@@ -1,6 +1,6 @@
 use Rattle.std.proofs.Common.{ap, arith, refl, sym}
 use Rattle.wire_in.proofs.acts.widen_conn.Goals as goal
-use Rattle.wire_state.proofs.Goings.{conn_keeps, keeps_on}
+use Rattle.wire_state.proofs.Goings.{conn_keeps}
 use Rattle.wire_state.proofs.Weights.{conn_changed}
 use Rattle.wire_state.specs.Progress.{to_go}
 use Rattle.wire_state.specs.declared.conn.Conn.{Conn}
@@ -12,4 +12,4 @@ returns-in-Some-clause-go c =
 
 pub returns-in-Some-clause-octets : goal.returns-in-Some-clause-octets
 returns-in-Some-clause-octets c =
-    keeps_on c.widen_conn.result _ _ (conn_keeps c.args.number c.args.core.now _ c.in-Some.conn.now c.widen_conn.new.self (sym c.in-Some.ensures.value) (c.get_mut.follows.holds c.widen_conn.new.self) (ap (λ (k : Conn). k.outlet.write.octets) c.widen_conn.ensures.rest) (ap (λ (k : Conn). k.open) c.widen_conn.ensures.rest) refl refl)
+    conn_keeps c.args.number c.args.core.now _ c.in-Some.conn.now c.widen_conn.new.self (sym c.in-Some.ensures.value) (c.get_mut.follows.holds c.widen_conn.new.self) (ap (λ (k : Conn). k.outlet.write.octets) c.widen_conn.ensures.rest) (ap (λ (k : Conn). k.open) c.widen_conn.ensures.rest) refl refl
