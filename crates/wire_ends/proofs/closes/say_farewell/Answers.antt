@@ -11,3 +11,8 @@ returns-clause-octets c = record {
   goes = λ h g start t.
       c.in_ok-note_answer.ensures.paid.goes h g start _ _ _ ((rw c.in-Some.is at c.in_ok-octets.ensures.octets).goes h g start c.args.notes.now t);
 }
+
+pub returns-in_default-clause-octets : goal.returns-in_default-clause-octets
+returns-in_default-clause-octets c = record {
+  goes = λ h g start t. ((rw c.in_default.is at c.in_ok-octets.ensures.octets).goes h g start c.args.notes.now t);
+}
