@@ -87,6 +87,7 @@ module _ (f : FlowId) (octets : List ℕ) (h : WayHistory) where
     ends = λ x. if_some (ends_of x links) (ends_are_still arrival h (λ g. refl) x) (s.ends x);
     known = s.known;
     closed = s.closed;
+    come = s.come;
   }
 
 -- ---- octets go on to the next place
@@ -128,6 +129,7 @@ module _ (f : FlowId) (q n : ℕ) (h : WayHistory) where
     ends = λ x. if_some (ends_of x links) (ends_are_still move h (λ g. refl) x) (s.ends x);
     known = s.known;
     closed = s.closed;
+    come = s.come;
   }
 
 -- ---- octets are framed
@@ -169,6 +171,7 @@ module _ (c : ℕ) (f : FlowId) (n : ℕ) (last : Bool) (h : WayHistory) where
     ends = λ x. if_some (ends_of x links) (ends_are_still frame h (λ g. refl) x) (stands.ends x);
     known = λ d e. wrote_so.there d ∙ stands.known d e;
     closed = λ d e. stands.closed d (sym (wrote_so.there d) ∙ e) ∙ sym (wrote_so.shut d);
+    come = λ d e. let never = stands.come d e in (wrote_so.there d ∙ never.0, never.1);
   }
     where
       here : FlowIs f h flow
@@ -187,6 +190,7 @@ flow_goes f change old new keeps c conns links h s = record {
   ends = s.ends;
   known = s.known;
   closed = s.closed;
+  come = s.come;
 }
 
 -- other flows, of which each is found as before
@@ -198,6 +202,7 @@ flows_go old new same conns links h s = record {
   ends = s.ends;
   known = s.known;
   closed = s.closed;
+  come = s.come;
 }
 
 -- each flow is found as a change makes it that keeps its octets
@@ -210,4 +215,5 @@ flows_mapped change keeps old new same conns links h s = record {
   ends = s.ends;
   known = s.known;
   closed = s.closed;
+  come = s.come;
 }

@@ -122,6 +122,7 @@ first_stands conns flows links c f l = record {
   ends = λ x. subst (λ (v : Links). IfSome (ends_of x v) (EndsAre x [])) (sym l) tt;
   known = λ d e. ap (λ (es : List (ℕ × Conn)). is_some (lookup (is_at (nat_cmp d)) es)) c;
   closed = λ d e. sym (ap (λ (es : List (ℕ × Conn)). option_map_or (λ conn. not conn.open) (lookup (is_at (nat_cmp d)) es) false) c);
+  come = λ d e. (ap (λ (es : List (ℕ × Conn)). is_some (lookup (is_at (nat_cmp d)) es)) c, refl);
 }
 
 -- ---- a mark

@@ -8,7 +8,8 @@ use Rattle.std.specs.BTreeMap.{BTreeMap, Updates, WritesThrough, get}
 use Rattle.std.specs.Option.{option_map, option_map_or}
 use Rattle.std.specs.Ordering.{nat_cmp}
 use Rattle.std.specs.Prelude.{Bool, IfSome, List, None, Option, Some, [], cond, false, if◌then◌else◌, is_some, nat_eq, not, true, ℕ, ◌&&◌, ◌==◌, ◌∷◌, ◌≡◌}
-use Rattle.tape_laws.specs.Connections.{was_closed}
+use Rattle.tape_laws.specs.Connections.{connections, was_closed}
+use Rattle.tape_laws.specs.Dispatches.{has}
 use Rattle.tape_laws.specs.History.{Noted}
 use Rattle.tape_laws.specs.World.{out}
 use Rattle.wire_flows.proofs.Cases.{by_case}
@@ -58,6 +59,7 @@ links_go old new k conns flows h s = record {
   ends = λ x. subst (λ (o : Option Ends). IfSome o (EndsAre x h)) (sym (k.ends x)) (s.ends x);
   known = λ c e. s.known c (k.known c e);
   closed = s.closed;
+  come = s.come;
 }
 
 pub links_told : (old new : Links) → KeepsEnds old new → (conns : BTreeMap ℕ Conn) (flows : Flows) (h : WayHistory) (g : ℕ → List ℕ) (start notes : List Note) → ToldBy h g start conns flows old notes → ToldBy h g start conns flows new notes
@@ -128,9 +130,9 @@ none_octets n conns e = at (get nat_cmp conns n) e
     at None e = refl
     at (Some v) e = cc
 
-pub comes : (n : ℕ) (old new : BTreeMap ℕ Conn) → ComesNew n old new → (flows : Flows) (links : Links) (h : WayHistory) → is_known n links ≡ true → was_closed n h ≡ false
+pub comes : (n : ℕ) (old new : BTreeMap ℕ Conn) → ComesNew n old new → (flows : Flows) (links : Links) (h : WayHistory) → is_known n links ≡ true → has (connections world_setup h) n ≡ true → was_closed n h ≡ false
     → Stands old flows links h → Stands new flows links h
-comes n old new c flows links h known fresh s = record {
+comes n old new c flows links h known came fresh s = record {
   writes = λ d. by_case (n == d)
       (λ e. let is = is_number n d e in
       ap (λ v. octets_of v new) (sym is) ∙ (c.octets ∙ (sym (none_octets n old c.none) ∙ (s.writes n ∙ ap (λ v. out world_setup v h) is))))
@@ -144,11 +146,14 @@ comes n old new c flows links h known fresh s = record {
   closed = λ d there. by_case (n == d)
       (λ e. let is = is_number n d e in ap (λ v. was_closed v h) (sym is) ∙ (fresh ∙ (sym c.opened ∙ ap (λ v. is_shut v new) is)))
       (λ e. s.closed d (sym (ap is_some (c.others d e)) ∙ there) ∙ sym (ap (λ (o : Option Conn). option_map_or (λ conn. not conn.open) o false) (c.others d e)));
+  come = λ d e. let never = s.come d e in by_case (n == d)
+      (λ same. absurd (cc (ap (λ v. has (connections world_setup h) v) (is_number n d same), came, e)))
+      (λ other. (ap is_some (c.others d other) ∙ never.0, never.1));
 }
 
 pub come_told : (n : ℕ) (old new : BTreeMap ℕ Conn) → ComesNew n old new → (flows : Flows) (links : Links) → is_known n links ≡ true
-    → (h : WayHistory) (g : ℕ → List ℕ) (start notes : List Note) (t : ToldBy h g start old flows links notes) → was_closed n (after t.steps h) ≡ false → ToldBy h g start new flows links notes
-come_told n old new c flows links known h g start notes t fresh = record { steps = t.steps; is = t.is; stands = comes n old new c flows links (after t.steps h) known fresh t.stands; left = t.left }
+    → (h : WayHistory) (g : ℕ → List ℕ) (start notes : List Note) (t : ToldBy h g start old flows links notes) → has (connections world_setup (after t.steps h)) n ≡ true → was_closed n (after t.steps h) ≡ false → ToldBy h g start new flows links notes
+come_told n old new c flows links known h g start notes t came fresh = record { steps = t.steps; is = t.is; stands = comes n old new c flows links (after t.steps h) known came fresh t.stands; left = t.left }
 
 -- ---- a connection is forgotten
 pub record ForgetsConn (n : ℕ) (old new : BTreeMap ℕ Conn) : Type 0 where
@@ -178,6 +183,8 @@ forgets n old new f flows links links' h same known s = record {
   closed = λ d there. by_case (n == d)
       (λ e. absurd (cc (ap (λ v. has_conn v new) (sym (is_number n d e)) ∙ ap is_some f.gone, there)))
       (λ e. s.closed d (sym (ap is_some (f.others d e)) ∙ there) ∙ sym (ap (λ (o : Option Conn). option_map_or (λ conn. not conn.open) o false) (f.others d e)));
+  come = λ d e. let never = s.come d e in
+      (by_case (n == d) (λ same. ap (λ v. has_conn v new) (sym (is_number n d same)) ∙ ap is_some f.gone) (λ other. ap is_some (f.others d other) ∙ never.0), never.1);
 }
 
 -- ---- a connection that is closed is lost
@@ -219,6 +226,7 @@ drops_rest n k old new d flows links h s = record {
   ends = λ x. if_some (ends_of x links) (λ e is. record { client = is.client; cluster = is.cluster }) (s.ends x);
   known = λ c e. d.there c ∙ s.known c e;
   closed = λ c e. s.closed c (sym (d.there c) ∙ e) ∙ sym (d.shut c);
+  come = λ c e. let never = s.come c e in (d.there c ∙ never.0, never.1);
 }
   where
     -- where it isn't there nothing waited for it

@@ -69,6 +69,7 @@ module _ (x : ℕ) (why : Cause) (h : WayHistory) (old new : Flows) (d : Dooms x
         (if_some (ends_of y links) (ends_are_still ending h (λ g. refl) y) (s.ends y)));
     known = λ c e. s.known c (sym (u.known c) ∙ e);
     closed = s.closed;
+    come = s.come;
   }
 
 -- ---- start
@@ -163,6 +164,7 @@ module _ (x c s d : ℕ) (to : Option ℕ) (spec : StartSpec) (config : Config) 
           (if_some (ends_of y links) (λ v was. record { client = was.client ∙ sym (ap (λ b. if true && b then s else stream_to (response y) h) e); cluster = was.cluster }) (stands.ends y)));
       known = λ n e. stands.known n (sym (l.known n) ∙ e);
       closed = stands.closed;
+      come = stands.come;
     }
 
 -- ---- the stream of a request at its cluster
@@ -191,6 +193,7 @@ module _ (x s : ℕ) (h : WayHistory) where
         (λ e. subst (λ (o : Option Ends). IfSome o (EndsAre y (opening ∷ h))) (sym (l.ends y ∙ ap (λ b. if b then option_map (with_stream s) (ends_of y links) else ends_of y links) e)) (if_some (ends_of y links) (other_ends y e) (stands.ends y)));
     known = λ c e. stands.known c (sym (l.known c) ∙ e);
     closed = stands.closed;
+    come = stands.come;
   }
 
 -- ---- the clock

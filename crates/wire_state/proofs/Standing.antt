@@ -11,7 +11,8 @@ use Rattle.std.specs.BTreeMap.{BTreeMap, WritesThrough, get, is_at}
 use Rattle.std.specs.Option.{option_map, option_map_or}
 use Rattle.std.specs.Ordering.{nat_cmp}
 use Rattle.std.specs.Prelude.{Bool, IfSome, IsSome, List, None, Option, Some, [], cond, drop, false, if◌then◌else◌, is_some, not, take, true, ℕ, ◌&&◌, ◌++◌, ◌+◌, ◌<◌, ◌==◌, ◌||◌, ◌∷◌, ◌≡◌}
-use Rattle.tape_laws.specs.Connections.{was_closed}
+use Rattle.tape_laws.specs.Connections.{connections, was_closed}
+use Rattle.tape_laws.specs.Dispatches.{has}
 use Rattle.tape_laws.specs.Flows.{request, response}
 use Rattle.tape_laws.specs.History.{Noted}
 use Rattle.tape_laws.specs.World.{last_place, out, place, window_update}
@@ -98,6 +99,7 @@ pub record KeepsFlows (step : WayStep) (h : WayHistory) : Type 0 where
 
 pub record KeepsShut (step : WayStep) (h : WayHistory) : Type 0 where
   pub closed : (c : ℕ) → was_closed c (step ∷ h) ≡ was_closed c h
+  pub come : (c : ℕ) → has (connections world_setup (step ∷ h)) c ≡ false → has (connections world_setup h) c ≡ false
 
 -- what it makes of the write buffers
 pub record Writes (change : ℕ → List ℕ → List ℕ) (step : WayStep) (h : WayHistory) : Type 0 where
@@ -119,6 +121,7 @@ wrote change step h old new flows links w k m c s = record {
   ends = λ x. if_some (ends_of x links) (ends_are_still step h k.stream x) (s.ends x);
   known = λ d e. c.there d ∙ s.known d e;
   closed = λ d e. m.closed d ∙ (s.closed d (sym (c.there d) ∙ e) ∙ sym (c.shut d));
+  come = λ d e. let never = s.come d (m.come d e) in (c.there d ∙ never.0, m.closed d ∙ never.1);
 }
 
 -- no step
@@ -130,6 +133,7 @@ conns_go old new flows links h c s = record {
   ends = s.ends;
   known = λ d e. c.there d ∙ s.known d e;
   closed = λ d e. s.closed d (sym (c.there d) ∙ e) ∙ sym (c.shut d);
+  come = λ d e. let never = s.come d e in (c.there d ∙ never.0, never.1);
 }
 
 -- ---- the kinds of steps
@@ -151,7 +155,7 @@ module _ (h : WayHistory) where
     head_flows s = record { places = λ f p. refl; last = λ f. refl; stream = λ f. refl }
 
     pub head_shut : (s : ℕ) → KeepsShut (Noted (note.Head c s octets)) h
-    head_shut s = record { closed = λ d. refl }
+    head_shut s = record { closed = λ d. refl; come = λ d e. e }
 
     pub answer_writes : Writes (at_one c (λ xs. xs ++ octets)) (Noted (note.Answer c octets)) h
     answer_writes = record { outs = λ d. more_is (c == d) (out world_setup d h) octets }
@@ -160,7 +164,7 @@ module _ (h : WayHistory) where
     answer_flows = record { places = λ f p. refl; last = λ f. refl; stream = λ f. refl }
 
     pub answer_shut : KeepsShut (Noted (note.Answer c octets)) h
-    answer_shut = record { closed = λ d. refl }
+    answer_shut = record { closed = λ d. refl; come = λ d e. e }
 
   module _ (c s n : ℕ) where
     pub credit_writes : Writes (at_one c (λ xs. xs ++ window_update s n)) (Noted (note.Credit c s n)) h
@@ -170,7 +174,7 @@ module _ (h : WayHistory) where
     credit_flows = record { places = λ f p. refl; last = λ f. refl; stream = λ f. refl }
 
     pub credit_shut : KeepsShut (Noted (note.Credit c s n)) h
-    credit_shut = record { closed = λ d. refl }
+    credit_shut = record { closed = λ d. refl; come = λ d e. e }
 
   -- octets leave one
   module _ (c n : ℕ) where
@@ -181,7 +185,7 @@ module _ (h : WayHistory) where
     out_flows = record { places = λ f p. refl; last = λ f. refl; stream = λ f. refl }
 
     pub out_shut : KeepsShut (Noted (note.Out c n)) h
-    out_shut = record { closed = λ d. refl }
+    out_shut = record { closed = λ d. refl; come = λ d e. e }
 
   -- nothing moves
   module _ (f : FlowId) (b : BufferId) where
@@ -192,7 +196,7 @@ module _ (h : WayHistory) where
     pause_flows = record { places = λ f p. refl; last = λ f. refl; stream = λ f. refl }
 
     pub pause_shut : KeepsShut (Noted (note.Pause f b)) h
-    pause_shut = record { closed = λ d. refl }
+    pause_shut = record { closed = λ d. refl; come = λ d e. e }
 
     pub resume_writes : Writes same_octets (Noted (note.Resume f b)) h
     resume_writes = record { outs = λ d. refl }
@@ -201,11 +205,12 @@ module _ (h : WayHistory) where
     resume_flows = record { places = λ f p. refl; last = λ f. refl; stream = λ f. refl }
 
     pub resume_shut : KeepsShut (Noted (note.Resume f b)) h
-    resume_shut = record { closed = λ d. refl }
+    resume_shut = record { closed = λ d. refl; come = λ d e. e }
 
 -- ---- a connection is closed
--- one connection isn't open any more, with these octets
+-- one connection that is there isn't open any more, with these octets
 pub record Shuts (n : ℕ) (g : List ℕ → List ℕ) (old new : BTreeMap ℕ Conn) : Type 0 where
+  pub was : has_conn n old ≡ true
   pub octets : (c : ℕ) → octets_of c new ≡ at_one n g c (octets_of c old)
   pub shut : (c : ℕ) → has_conn c new ≡ true → is_shut c new ≡ ((n == c) || is_shut c old)
   pub there : (c : ℕ) → has_conn c new ≡ has_conn c old
@@ -233,12 +238,19 @@ closes c code why h old new flows links links' w same known s = record {
       (if_some (ends_of x links) (λ e is. record { client = is.client; cluster = is.cluster }) (s.ends x));
   known = λ d e. w.there d ∙ s.known d (sym (known d) ∙ e);
   closed = λ d e. ap (λ b. (c == d) || b) (s.closed d (sym (w.there d) ∙ e)) ∙ sym (w.shut d e);
+  come = λ d e. let never = s.come d e in (
+    w.there d ∙ never.0,
+    by_case (c == d)
+        (λ same. absurd (cc (ap (λ v. has_conn v old) (is_number c d same), w.was, never.0)))
+        (λ other. ap (λ b. b || was_closed d h) other ∙ never.1),
+  );
 }
 
 -- one connection was written through, and isn't open any more
 pub conn_shut : (n : ℕ) (old new : BTreeMap ℕ Conn) (v w : Conn) → get nat_cmp old n ≡ Some v → WritesThrough nat_cmp (nat_cmp n) old w new
     → (g : List ℕ → List ℕ) → w.outlet.write.octets ≡ g v.outlet.write.octets → w.open ≡ false → Shuts n g old new
 conn_shut n old new v w found written g octets shut = record {
+  was = ap is_some found;
   octets = octets_written n old new v w found written g octets;
   shut = λ c there. by_case (n == c)
       (λ e. ap (λ (o : Option Conn). option_map_or (λ conn. not conn.open) o false) (there_now n old new v w found written c e) ∙ (ap not shut ∙ sym (ap (λ b. b || is_shut c old) e)))

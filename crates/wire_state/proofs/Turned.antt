@@ -5,17 +5,19 @@ use Rattle.flow_notes.specs.declared.notes.Note.{Note}
 use Rattle.flow_notes.specs.declared.notes.Note.TheVariants as note
 use Rattle.std.proofs.Common.{ap, refl, subst, sym, ◌∙◌}
 use Rattle.std.proofs.lemmas.List.{append-nil}
+use Rattle.std.proofs.lemmas.List.Folds.{list_any-append}
 use Rattle.std.specs.BTreeMap.{BTreeMap, get}
 use Rattle.std.specs.Option.{option_map_or}
 use Rattle.std.specs.Ordering.{nat_cmp}
-use Rattle.std.specs.Prelude.{Bool, List, None, Ok, OnOk, Option, Result, Some, [], false, if◌then◌else◌, is_some, not, true, ℕ, ◌&&◌, ◌++◌, ◌==◌, ◌∷◌, ◌≡◌}
-use Rattle.tape_laws.specs.Connections.{was_closed}
+use Rattle.std.specs.Prelude.{Bool, List, None, Ok, OnOk, Option, Result, Some, [], false, if◌then◌else◌, is_some, not, true, ℕ, ◌&&◌, ◌++◌, ◌==◌, ◌||◌, ◌∷◌, ◌≡◌}
+use Rattle.tape_laws.specs.Connections.{connections, was_closed}
+use Rattle.tape_laws.specs.Dispatches.{has}
 use Rattle.tape_laws.specs.History.{Noted}
 use Rattle.tape_laws.specs.World.{gone, out}
 use Rattle.wire_flows.proofs.Cases.{by_case}
 use Rattle.wire_flows.specs.Flows.{Flows}
 use Rattle.wire_links.specs.Links.{Links}
-use Rattle.wire_state.proofs.Held.{is_number}
+use Rattle.wire_state.proofs.Held.{is_number, number_same}
 use Rattle.wire_state.proofs.Standing.{KeepsFlows, KeepsShut, Writes, conns_same, same_octets, wrote}
 use Rattle.wire_state.specs.Ways.{WayHistory, world_setup}
 use Rattle.wire_state.specs.Worlds.{Comes, Goes, KeepsOk, Stands, Told, ToldBy, Turns, left_after}
@@ -45,8 +47,37 @@ left_same (event.Plain e) t conns g = refl
 turn_flows : (k : ℕ) (e : Event) (h : WayHistory) → KeepsFlows (Noted (note.Turn k e)) h
 turn_flows k e h = record { places = λ f p. refl; last = λ f. refl; stream = λ f. refl }
 
+first_false : (a b : Bool) → (a || b) ≡ false → a ≡ false
+first_false true b e = cc
+first_false false b e = refl
+
+second_true : (a b : Bool) → b ≡ true → (a || b) ≡ true
+second_true true b e = refl
+second_true false b e = e
+
+has_more : (xs : List ℕ) (x y : ℕ) → has (xs ++ x ∷ []) y ≡ (has xs y || (x == y))
+has_more xs x y = list_any-append (λ z. z == y) xs (x ∷ []) ∙ ap (λ b. has xs y || b) (or_false (x == y))
+  where
+    or_false : (b : Bool) → (b || false) ≡ b
+    or_false true = refl
+    or_false false = refl
+
+less : (xs : List ℕ) (x y : ℕ) → has (xs ++ x ∷ []) y ≡ false → has xs y ≡ false
+less xs x y e = first_false (has xs y) (x == y) (sym (has_more xs x y) ∙ e)
+
+came_last : (xs : List ℕ) (x : ℕ) → has (xs ++ x ∷ []) x ≡ true
+came_last xs x = has_more xs x x ∙ second_true (has xs x) (x == x) (number_same x)
+
 turn_shut : (k : ℕ) (e : Event) (h : WayHistory) → KeepsShut (Noted (note.Turn k e)) h
-turn_shut k e h = record { closed = λ c. refl }
+turn_shut k (event.Accept c) h = record { closed = λ d. refl; come = λ d e. less (connections world_setup h) c d e }
+turn_shut k (event.Join c cluster) h = record { closed = λ d. refl; come = λ d e. less (connections world_setup h) c d e }
+turn_shut k (event.Read c octets) h = record { closed = λ d. refl; come = λ d e. e }
+turn_shut k (event.Gone c) h = record { closed = λ d. refl; come = λ d e. e }
+turn_shut k (event.Room c n) h = record { closed = λ d. refl; come = λ d e. e }
+turn_shut k (event.Tick now) h = record { closed = λ d. refl; come = λ d e. e }
+turn_shut k (event.Post poster number job) h = record { closed = λ d. refl; come = λ d e. e }
+turn_shut k (event.Obey version pressures) h = record { closed = λ d. refl; come = λ d e. e }
+turn_shut k (event.Plain e) h = record { closed = λ d. refl; come = λ d e. e }
 
 turn_writes : (k : ℕ) (e : Event) → LosesNone e → (h : WayHistory) → Writes same_octets (Noted (note.Turn k e)) h
 turn_writes k (event.Accept c) l h = record { outs = λ d. refl }
@@ -123,12 +154,14 @@ turns_same a e l m core noted = turns_kept (Ok {E = E} a) e l m core core noted 
 pub turns_joined : {A E : Type 0} (r : Result A E) (c cluster : ℕ) (old new : WireCore) (noted : List Note) → Comes r c old new → Turns r (event.Join c cluster) old noted new noted
 turns_joined r c cluster old new noted comes = record {
   goes = λ h g before k is s left fresh.
-      comes.goes h g before noted (record { steps = Noted (note.Turn k (event.Join c cluster)) ∷ []; is = is; stands = turn_stands old.conns old.flows old.links h g left k (event.Join c cluster) tt s; left = left }) fresh;
+      comes.goes h g before noted (record { steps = Noted (note.Turn k (event.Join c cluster)) ∷ []; is = is; stands = turn_stands old.conns old.flows old.links h g left k (event.Join c cluster) tt s; left = left })
+      (came_last (connections world_setup h) c) (s.come c fresh).1;
 }
 
 pub turns_accepted : {A B E : Type 0} (a : A) (r : Result B E) (c : ℕ) (old mid new : WireCore) (noted now : List Note) → Comes (Ok {E = E} a) c old mid → Goes r mid noted new now
     → Turns r (event.Accept c) old noted new now
 turns_accepted a r c old mid new noted now comes goes = record {
   goes = λ h g before k is s left fresh. goes.goes h g before
-      (comes.goes h g before noted (record { steps = Noted (note.Turn k (event.Accept c)) ∷ []; is = is; stands = turn_stands old.conns old.flows old.links h g left k (event.Accept c) tt s; left = left }) fresh);
+      (comes.goes h g before noted (record { steps = Noted (note.Turn k (event.Accept c)) ∷ []; is = is; stands = turn_stands old.conns old.flows old.links h g left k (event.Accept c) tt s; left = left })
+      (came_last (connections world_setup h) c) (s.come c fresh).1);
 }

@@ -11,7 +11,8 @@ use Rattle.std.specs.BTreeMap.{BTreeMap, get}
 use Rattle.std.specs.Option.{option_and_then, option_map_or}
 use Rattle.std.specs.Ordering.{nat_cmp}
 use Rattle.std.specs.Prelude.{Bool, IfSome, List, OnOk, Option, Result, Some, [], false, if◌then◌else◌, is_some, not, take, true, ℕ, ◌++◌, ◌==◌, ◌∷◌, ◌≡◌}
-use Rattle.tape_laws.specs.Connections.{was_closed}
+use Rattle.tape_laws.specs.Connections.{connections, was_closed}
+use Rattle.tape_laws.specs.Dispatches.{has}
 use Rattle.tape_laws.specs.Flows.{request, response}
 use Rattle.tape_laws.specs.World.{gone, last_place, out, place}
 use Rattle.wire_flows.specs.Flows.{Flows, flow_in, is_there}
@@ -54,6 +55,8 @@ pub record Stands (conns : BTreeMap ℕ Conn) (flows : Flows) (links : Links) (h
   -- a number that isn't known has no connection, and a connection isn't open exactly where a note closed it
   pub known : (c : ℕ) → is_known c links ≡ false → has_conn c conns ≡ false
   pub closed : (c : ℕ) → has_conn c conns ≡ true → was_closed c h ≡ is_shut c conns
+  -- one that never came has none, and wasn't closed
+  pub come : (c : ℕ) → has (connections world_setup h) c ≡ false → (has_conn c conns ≡ false) × (was_closed c h ≡ false)
 
 -- The notes were made by these steps behind that history, and the core stands for what they lead to. What left each connection's
 -- write buffer up to there is told beside it.
@@ -118,10 +121,10 @@ abbrev pub stream_in : Links → FlowId → Option ℕ
 stream_in links f = option_and_then (λ e. if f.back then Some e.stream else e.cluster_stream) (ends_of f.exchange links)
 
 -- ---- a dispatch
--- the number of a connection that comes isn't one that was closed
+-- a connection that comes is a new one
 abbrev pub IsFresh : Event → WayHistory → Type 0
-IsFresh (event.Accept c) h = was_closed c h ≡ false
-IsFresh (event.Join c cluster) h = was_closed c h ≡ false
+IsFresh (event.Accept c) h = has (connections world_setup h) c ≡ false
+IsFresh (event.Join c cluster) h = has (connections world_setup h) c ≡ false
 IsFresh e h = Unit {0}
 
 -- what has left each connection once the event was carried out: room takes a front of what waits
@@ -138,9 +141,9 @@ pub record Turns {A E : Type 0} (r : Result A E) (e : Event) (old : WireCore) (n
 pub record Follows (old : WireCore) (before : List Note) (e : Event) (new : WireCore) (now : List Note) : Type 0 where
   pub goes : (h : WayHistory) (g : ℕ → List ℕ) → Stands old.conns old.flows old.links h → ((c : ℕ) → gone world_setup c h ≡ g c) → IsFresh e h → Told h (left_after e old.conns g) before new now
 
--- A connection comes, whose number isn't one that was closed.
+-- A connection comes: it is among those that came, and wasn't closed.
 pub record Comes {A E : Type 0} (r : Result A E) (c : ℕ) (old new : WireCore) : Type 0 where
-  pub goes : (h : WayHistory) (g : ℕ → List ℕ) (start notes : List Note) (t : Told h g start old notes) → was_closed c (after t.steps h) ≡ false → OnOk r (Told h g start new notes)
+  pub goes : (h : WayHistory) (g : ℕ → List ℕ) (start notes : List Note) (t : Told h g start old notes) → has (connections world_setup (after t.steps h)) c ≡ true → was_closed c (after t.steps h) ≡ false → OnOk r (Told h g start new notes)
 
 -- Up to n octets left a connection's write buffer, k of them there were.
 pub record Leaves (c n k : ℕ) (old new : WireCore) : Type 0 where

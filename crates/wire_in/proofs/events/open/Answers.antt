@@ -15,10 +15,10 @@ stir-requires c =
 
 pub returns-clause-octets : goal.returns-clause-octets
 returns-clause-octets c = λ known none. record {
-  goes = λ h g start notes t fresh.
+  goes = λ h g start notes t came fresh.
       let k = c.args.core.now in
       let n = c.args.number in
       on_ok c.stir.result (c.stir.ensures.octets.goes h g start notes
       (bodies_told k.flows c.open_write.new.self (gate_bodies k.flows c.open_write.new.self c.open_write.ensures.rest) c.insert.new.self k.links h g start notes
-      (come_told n k.conns c.insert.new.self (comes_new n k.conns c.insert.new.self c.in_ok-conn.conn none c.in_ok-insert.ensures.updates c.in_ok-conn.ensures.empty c.in_ok-conn.ensures.opened) k.flows k.links known h g start notes t fresh)));
+      (come_told n k.conns c.insert.new.self (comes_new n k.conns c.insert.new.self c.in_ok-conn.conn none c.in_ok-insert.ensures.updates c.in_ok-conn.ensures.empty c.in_ok-conn.ensures.opened) k.flows k.links known h g start notes t came fresh)));
 }

@@ -13,9 +13,9 @@ open-requires c =
 
 pub returns-clause-octets : goal.returns-clause-octets
 returns-clause-octets c = record {
-  goes = λ h g start notes t fresh.
+  goes = λ h g start notes t came fresh.
       let k = c.args.core.now in
       let n = c.args.number in
       (c.open.ensures.octets (accepted_known n k.links c.accept.new.self c.in_ok-accept.ensures.ok) (t.stands.known n c.requires.unknown)).goes h g start notes
-      (record { steps = t.steps; is = t.is; stands = links_go k.links c.accept.new.self (accepted_keeps n k.links c.accept.new.self c.in_ok-accept.ensures.ok) k.conns k.flows (after t.steps h) t.stands; left = t.left }) fresh;
+      (record { steps = t.steps; is = t.is; stands = links_go k.links c.accept.new.self (accepted_keeps n k.links c.accept.new.self c.in_ok-accept.ensures.ok) k.conns k.flows (after t.steps h) t.stands; left = t.left }) came fresh;
 }
