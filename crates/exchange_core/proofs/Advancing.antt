@@ -13,11 +13,12 @@ use Rattle.flow_gate.specs.declared.ids.FlowId.{FlowId}
 use Rattle.std.proofs.Common.{ap, inl, inr, refl, sym, ◌∙◌}
 use Rattle.std.proofs.lemmas.Bool.{cases_Bool, eqb-true, false≢true}
 use Rattle.std.proofs.lemmas.Option.{none-some}
-use Rattle.std.specs.BTreeMap.{BTreeMap, is_at}
+use Rattle.paged_map.specs.PagedMap.{PagedMap}
+use Rattle.std.specs.BTreeMap.{is_at}
 use Rattle.std.specs.Map.{lookup}
 use Rattle.std.specs.Option.{option_and_then}
 use Rattle.std.specs.Ordering.{nat_cmp}
-use Rattle.std.specs.Prelude.{Bool, IfSome, None, Option, Some, false, is_some, nat_eq, option_map, true, ℕ, ◌≡◌}
+use Rattle.std.specs.Prelude.{Bool, IfSome, None, Option, Some, false, is_some, nat_eq, option_map, true, ◌≡◌}
 
 -- a change of a flow that isn't there
 pub absent_changed : (back : Bool) (change : Flow → Flow) (exchange : Exchange) → flow_in back exchange ≡ None → flow_changed change back exchange ≡ exchange
@@ -43,7 +44,7 @@ absent_flow f change old new none same = record {
 }
 
 -- ---- what the map doesn't find
-pub left_alone : (c : Inside) (lent : BTreeMap ℕ Exchange) → lent ≡ c.live → exchanges_of (record c { live = lent }) ≡ exchanges_of c
+pub left_alone : (c : Inside) (lent : PagedMap Exchange) → lent ≡ c.live → exchanges_of (record c { live = lent }) ≡ exchanges_of c
 left_alone c lent same = λ i. exchanges_of (record c { live = same i })
 
 pub not_there : (c : Inside) (f : FlowId) → None ≡ lookup (is_at (nat_cmp f.exchange)) c.live.entries → flow_at (exchanges_of c) f ≡ None

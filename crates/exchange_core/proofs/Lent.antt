@@ -15,7 +15,8 @@ use Rattle.exchange_core.specs.declared.exchanges.Exchanges.TheInside.{Inside}
 use Rattle.filter_chain.specs.Chain.{EndsInSend, kinds}
 use Rattle.flow_gate.specs.declared.ids.FlowId.{FlowId}
 use Rattle.std.proofs.Common.{refl, subst, sym, ◌∙◌}
-use Rattle.std.specs.BTreeMap.{BTreeMap, WritesThrough, is_at}
+use Rattle.paged_map.specs.PagedMap.{PagedMap, WritesThrough}
+use Rattle.std.specs.BTreeMap.{is_at}
 use Rattle.std.specs.Map.{lookup}
 use Rattle.std.specs.Ordering.{nat_cmp}
 use Rattle.std.specs.Prelude.{IfSome, Option, Some, option_map, ℕ, ◌≡◌}
@@ -44,17 +45,17 @@ module _ (c : Inside) (f : FlowId) {found : Exchange} (is : Some found ≡ looku
   says_aimed P h = rw seen_is (subst (λ t. IfSome (flow_in f.back (seen_at c.ticked found)) (P t)) (sym aimed_is) h)
 
 -- ---- a flow
-pub record Lent (c : Inside) (lender : Exchange → BTreeMap ℕ Exchange) (f : FlowId) (found : Exchange) (flow written : Flow) : Type 0 where
+pub record Lent (c : Inside) (lender : Exchange → PagedMap Exchange) (f : FlowId) (found : Exchange) (flow written : Flow) : Type 0 where
   pub kept : IsKept c
   pub is : Some found ≡ lookup (is_at (nat_cmp f.exchange)) c.live.entries
   pub there : Some flow ≡ flow_in f.back (seen_at c.ticked found)
   pub sound : IsSoundFlow written
-  pub through : WritesThrough nat_cmp (nat_cmp f.exchange) c.live (with_flow f.back written (seen_at c.ticked found)) (lender (with_flow f.back written (seen_at c.ticked found)))
+  pub through : WritesThrough f.exchange c.live (with_flow f.back written (seen_at c.ticked found)) (lender (with_flow f.back written (seen_at c.ticked found)))
 
-abbrev pub left : Inside → (Exchange → BTreeMap ℕ Exchange) → FlowId → Exchange → Flow → Inside
+abbrev pub left : Inside → (Exchange → PagedMap Exchange) → FlowId → Exchange → Flow → Inside
 left c lender f found written = record c { live = lender (with_flow f.back written (seen_at c.ticked found)) }
 
-module _ {c : Inside} {lender : Exchange → BTreeMap ℕ Exchange} {f : FlowId} {found : Exchange} {flow written : Flow} (l : Lent c lender f found flow written) where
+module _ {c : Inside} {lender : Exchange → PagedMap Exchange} {f : FlowId} {found : Exchange} {flow written : Flow} (l : Lent c lender f found flow written) where
   pub lent_order : EndsInSend (kinds flow.chain.places)
   lent_order = (found_sound c f found flow l.kept l.is l.there).sound.chain.order
 
@@ -84,17 +85,17 @@ module _ {c : Inside} {lender : Exchange → BTreeMap ℕ Exchange} {f : FlowId}
       )
 
 -- ---- an exchange, whose Meters may hold octets now or not
-pub record LentWhole (c : Inside) (lender : Exchange → BTreeMap ℕ Exchange) (marked : NumberSet) (f : FlowId) (found written : Exchange) : Type 0 where
+pub record LentWhole (c : Inside) (lender : Exchange → PagedMap Exchange) (marked : NumberSet) (f : FlowId) (found written : Exchange) : Type 0 where
   pub kept : IsKept c
   pub is : Some found ≡ lookup (is_at (nat_cmp f.exchange)) c.live.entries
   pub sound : IfSome (flow_in f.back written) IsSoundFlow
-  pub through : WritesThrough nat_cmp (nat_cmp f.exchange) c.live written (lender written)
+  pub through : WritesThrough f.exchange c.live written (lender written)
   pub marks : IsMarked f.exchange (is_metered found) (is_metered written) c.metered marked
 
-abbrev pub left_whole : Inside → (Exchange → BTreeMap ℕ Exchange) → NumberSet → Exchange → Inside
+abbrev pub left_whole : Inside → (Exchange → PagedMap Exchange) → NumberSet → Exchange → Inside
 left_whole c lender marked written = record c { live = lender written; metered = marked }
 
-module _ {c : Inside} {lender : Exchange → BTreeMap ℕ Exchange} {marked : NumberSet} {f : FlowId} {found written : Exchange} (l : LentWhole c lender marked f found written) where
+module _ {c : Inside} {lender : Exchange → PagedMap Exchange} {marked : NumberSet} {f : FlowId} {found written : Exchange} (l : LentWhole c lender marked f found written) where
   pub whole_done : (change : Flow → Flow) → IsSteady change → written ≡ flow_changed change f.back (seen_at c.ticked found) →
       ChangesFlow f change (exchanges_of c) (exchanges_of (left_whole c lender marked written)) × IsKept (left_whole c lender marked written)
   whole_done change steady is =

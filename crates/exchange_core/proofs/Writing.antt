@@ -20,7 +20,8 @@ use Rattle.flow_gate.proofs.Places.{weaken}
 use Rattle.std.proofs.Common.{ap, arith, inl, inr, refl, subst, sym, ◌∙◌}
 use Rattle.std.proofs.lemmas.Bool.{cases_Bool, eq-eqb, eqb-true}
 use Rattle.std.proofs.lemmas.Option.{none-some, same_Some}
-use Rattle.std.specs.BTreeMap.{BTreeMap, WritesThrough, is_at}
+use Rattle.paged_map.specs.PagedMap.{PagedMap, WritesThrough}
+use Rattle.std.specs.BTreeMap.{is_at}
 use Rattle.std.specs.List.Sorted.{IsStrictlySortedBy}
 use Rattle.std.specs.Map.{keys_of, lookup}
 use Rattle.std.specs.Option.{option_and_then, option_map_or}
@@ -139,11 +140,11 @@ calm true change exchange same = cc (by_response exchange.response same)
     by_response None is = refl
     by_response (Some flow) is = is
 
-module _ (c : Inside) (lent : BTreeMap ℕ Exchange) (marked : NumberSet) (f : FlowId) (change : Flow → Flow) (found written : Exchange) (kept : IsKept c) (steady : IsSteady change)
+module _ (c : Inside) (lent : PagedMap Exchange) (marked : NumberSet) (f : FlowId) (change : Flow → Flow) (found written : Exchange) (kept : IsKept c) (steady : IsSteady change)
     (found_is : Some found ≡ lookup (is_at (nat_cmp f.exchange)) c.live.entries)
     (is : written ≡ flow_changed change f.back (seen_at c.ticked found))
     (sound : IfSome (flow_in f.back (seen_at c.ticked found)) (λ flow. IsSoundFlow (change flow)))
-    (through : WritesThrough nat_cmp (nat_cmp f.exchange) c.live written lent) where
+    (through : WritesThrough f.exchange c.live written lent) where
   abbrev after : Inside
   after = record c { live = lent; metered = marked }
 
@@ -229,8 +230,8 @@ module _ (f : FlowId) (change : Flow → Flow) (old new : Exchanges) where
       (cc (changes.flow.live f.exchange, eq-eqb f.exchange f.exchange refl))
 
 -- the exchange was touched, and hasn't the flow
-pub touched_alone : (c : Inside) (lent : BTreeMap ℕ Exchange) (f : FlowId) (found written : Exchange) → IsKept c → Some found ≡ lookup (is_at (nat_cmp f.exchange)) c.live.entries →
-    None ≡ flow_in f.back (seen_at c.ticked found) → written ≡ seen_at c.ticked found → WritesThrough nat_cmp (nat_cmp f.exchange) c.live written lent →
+pub touched_alone : (c : Inside) (lent : PagedMap Exchange) (f : FlowId) (found written : Exchange) → IsKept c → Some found ≡ lookup (is_at (nat_cmp f.exchange)) c.live.entries →
+    None ≡ flow_in f.back (seen_at c.ticked found) → written ≡ seen_at c.ticked found → WritesThrough f.exchange c.live written lent →
     (exchanges_of (record c { live = lent }) ≡ exchanges_of c) × IsKept (record c { live = lent })
 touched_alone c lent f found written kept found_is gone is through =
     let e : written ≡ flow_changed (λ (g : Flow). g) f.back (seen_at c.ticked found) = is ∙ sym (unchanged f.back (seen_at c.ticked found)) in

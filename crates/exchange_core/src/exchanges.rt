@@ -25,9 +25,10 @@ use flow_notes::Cause;
 use hpack_codec::FieldList;
 use io_ports::NoMemory;
 use number_set::NumberSet;
+use paged_map::PagedMap;
 use proxy_config::Config;
 use std::alloc::Global;
-use std::collections::{BTreeMap, VecDeque};
+use std::collections::VecDeque;
 use std::marker::Model;
 
 /// The exchanges of a worker.
@@ -37,7 +38,7 @@ use std::marker::Model;
 #[derive(Drop)]
 pub struct Exchanges {
     alloc: Global,
-    live: BTreeMap<u64, Exchange>,
+    live: PagedMap<u64, Exchange>,
     doomed: VecDeque<u64>,
     metered: NumberSet,
     spares: Spares,
@@ -69,7 +70,7 @@ impl Exchanges {
     {
         Exchanges {
             alloc,
-            live: BTreeMap::new(alloc),
+            live: PagedMap::new(alloc),
             doomed: VecDeque::new(alloc),
             metered: NumberSet::new(alloc),
             spares: Spares::new(alloc),

@@ -8,7 +8,7 @@ use Rattle.flow_gate.specs.declared.ids.FlowId.{FlowId}
 use Rattle.flow_notes.specs.declared.notes.Note.{Note}
 use Rattle.flow_notes.specs.declared.notes.Note.TheVariants as note
 use Rattle.std.proofs.Common.{ap, refl, sym, ◌∙◌}
-use Rattle.std.specs.BTreeMap.{BTreeMap}
+use Rattle.paged_map.specs.PagedMap.{PagedMap}
 use Rattle.std.specs.Prelude.{Bool, IsSome, List, None, Option, Some, [], false, if◌then◌else◌, length, nat_le, true, ℕ, ◌++◌, ◌+◌, ◌∷◌, ◌≡◌}
 use Rattle.tape_laws.specs.History.{Noted}
 use Rattle.wire_flows.specs.Flows.{Flows, IsThere, flow_in}
@@ -31,7 +31,7 @@ pub arrived_is : (octets : List ℕ) (flow : Flow) → received_by (length octet
 arrived_is octets flow e = by_fit (nat_le (length flow.recv + length octets) flow.window) octets flow e
 
 pub arrival_told : (f : FlowId) (octets : List ℕ) (old new : Flows) (r : Received) → r ≡ received_by (length octets) (flow_in old f) → r ≡ Arrived → (IsThere old f → ChangesFlow f (received octets) old.exchanges new.exchanges)
-    → (conns : BTreeMap ℕ Conn) (links : Links) (h : WayHistory) (g : ℕ → List ℕ) (start notes : List Note) → ToldBy h g start conns old links notes → ToldBy h g start conns new links (notes ++ note.Arrive f octets ∷ [])
+    → (conns : PagedMap Conn) (links : Links) (h : WayHistory) (g : ℕ → List ℕ) (start notes : List Note) → ToldBy h g start conns old links notes → ToldBy h g start conns new links (notes ++ note.Arrive f octets ∷ [])
 arrival_told f octets old new r is arrives_so changes conns links =
     let here : received_by (length octets) (flow_in old f) ≡ Arrived = sym is ∙ arrives_so in
     let there = arrived_there (length octets) (flow_in old f) here in

@@ -98,6 +98,10 @@ pub accept_kept : (seats : Seats) (exchanges : Exchanges) (offers : Offers) (cli
     seats' ≡ come c None seats → clients' ≡ insert_key nat_cmp clients c → AreKept seats' exchanges offers clients'
 accept_kept seats exchanges offers clients c can seats' clients' s k = subst (AreKept seats' exchanges offers) (sym k) (subst (λ p. AreKept p exchanges offers (insert_key nat_cmp clients c)) (sym s) (accepts seats exchanges offers clients c can))
 
+-- what came goes again
+pub undone : {X : Type 0} (es es1 es2 : List (ℕ × X)) (n : ℕ) (v : X) → under n es ≡ None → es1 ≡ insert_entry nat_cmp es n v → es2 ≡ remove_entry (is_at (nat_cmp n)) es1 → es2 ≡ es
+undone es es1 es2 n v absent came goes = goes ∙ ap (remove_entry (is_at (nat_cmp n))) came ∙ remove_insert es n v absent
+
 -- made as it is put there
 pub come_new : (seats seats' : Seats) (c : ℕ) (cluster : Option ℕ) (conn : Conn) (seat : Seat) → conn ≡ new_conn cluster → seat ≡ record { conn = conn; numbers = []; streams = [] } →
     seats' ≡ insert_entry nat_cmp seats c seat → seats' ≡ come c cluster seats

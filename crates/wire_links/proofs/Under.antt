@@ -257,6 +257,15 @@ module _ {X : Type 0} where
       by_found None = refl
       by_found (Some v) = over es (f v)
 
+  -- nothing was there
+  pub remove_absent : (es : List (ℕ × X)) (n : ℕ) → under n es ≡ None → remove_entry (is_at (nat_cmp n)) es ≡ es
+  remove_absent [] n none = refl
+  remove_absent (e ∷ es) n none = elim (same_or_apart n e.0) [
+    | inl same ↦ absurd (none-some e.1 (sym none ∙ under_first e es n same))
+    | inr apart ↦ ap (λ t. if t then es else e ∷ remove_entry (is_at (nat_cmp n)) es) (at_apart n e.0 apart)
+        ∙ ap (λ fs. e ∷ fs) (remove_absent es n (sym (under_later e es n apart) ∙ none))
+  ]
+
   -- what came and goes again
   pub remove_insert : (es : List (ℕ × X)) (n : ℕ) (v : X) → under n es ≡ None → remove_entry (is_at (nat_cmp n)) (insert_entry nat_cmp es n v) ≡ es
   remove_insert [] n v none = ap (λ t. if t then [] else (n, v) ∷ []) (at_here n n refl)

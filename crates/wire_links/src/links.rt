@@ -12,8 +12,8 @@ use crate::seat::Seat;
 pub use exchanges::Ends;
 use io_ports::NoMemory;
 use number_set::NumberSet;
+use paged_map::PagedMap;
 use std::alloc::Global;
-use std::collections::btree_map::Entry;
 use std::collections::{BTreeMap, BTreeSet};
 use std::marker::Model;
 use std::ops::Bound;
@@ -26,8 +26,8 @@ use std::ops::Bound;
 #[derive(Drop)]
 pub struct Links {
     alloc: Global,
-    seats: BTreeMap<u32, Seat>,
-    exchanges: BTreeMap<u64, Ends>,
+    seats: PagedMap<u32, Seat>,
+    exchanges: PagedMap<u64, Ends>,
     // By cluster, the connections that can take one more exchange, and room for all of its connections.
     offers: BTreeMap<u32, NumberSet>,
     // The client connections that are open.
@@ -53,8 +53,8 @@ impl Links {
     {
         Links {
             alloc,
-            seats: BTreeMap::new(alloc),
-            exchanges: BTreeMap::new(alloc),
+            seats: PagedMap::new(alloc),
+            exchanges: PagedMap::new(alloc),
             offers: BTreeMap::new(alloc),
             clients: BTreeSet::new(alloc),
         }
@@ -135,11 +135,12 @@ impl Links {
         ensures ok { OnOk result (self.new ≡ accepted conn self.old) }
         ensures err { OnErr result (self.new ≡ self.old) }
     {
-        let Entry::Vacant(place) = self.seats.entry(conn)? else {
-            unreachable!()
+        let seat = Seat::new(self.alloc, Conn::new(None));
+        drop(self.seats.insert(conn, seat)?);
+        let Ok(_) = self.clients.insert(conn) else {
+            drop(self.seats.remove(&conn));
+            return Err(NoMemory);
         };
-        self.clients.insert(conn)?;
-        let _ = place.insert(Seat::new(self.alloc, Conn::new(None)));
         Ok(())
     }
 
@@ -151,7 +152,7 @@ impl Links {
     {
         tables::make_room(&mut self.offers, self.alloc, cluster, self.seats.len() + 1)?;
         let seat = Seat::new(self.alloc, Conn::new(Some(cluster)));
-        self.seats.insert(conn, seat)?;
+        drop(self.seats.insert(conn, seat)?);
         tables::tell(&self.seats, &mut self.offers, conn);
         Ok(())
     }

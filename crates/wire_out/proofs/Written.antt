@@ -9,7 +9,7 @@ use Rattle.h2_frames.specs.Head.{data_head}
 use Rattle.h2_frames.specs.Spelling.{spelling}
 use Rattle.io_ports.specs.declared.octets.NoMemory.{NoMemory}
 use Rattle.std.proofs.Common.{ap, refl, subst, sym, ◌∙◌}
-use Rattle.std.specs.BTreeMap.{WritesThrough, get}
+use Rattle.paged_map.specs.PagedMap.{WritesThrough, value_at}
 use Rattle.std.specs.Ordering.{nat_cmp}
 use Rattle.std.specs.Prelude.{Bool, Err, IfOk, IfSome, IsSome, List, MatchOption, None, Ok, Option, Result, Some, [], take, ℕ, ◌++◌, ◌∷◌, ◌≡◌}
 use Rattle.wire_flows.specs.Flows.{IsThere, flow_in}
@@ -25,7 +25,7 @@ use Rattle.wire_state.specs.declared.conn.Conn.{Conn}
 use Rattle.wire_state.specs.declared.wire_core.WireCore.{WireCore}
 use Rattle.wm_buffer.specs.declared.watermark.Crossed.{Crossed}
 
-module _ (n : ℕ) (old new : WireCore) (v w : Conn) (found : get nat_cmp old.conns n ≡ Some v) (written : WritesThrough nat_cmp (nat_cmp n) old.conns w new.conns) (opened : w.open ≡ v.open) where
+module _ (n : ℕ) (old new : WireCore) (v w : Conn) (found : value_at n old.conns ≡ Some v) (written : WritesThrough n old.conns w new.conns) (opened : w.open ≡ v.open) where
   abbrev octets_now : Conn → List ℕ
   octets_now k = k.outlet.write.octets
 
@@ -68,23 +68,23 @@ module _ (n : ℕ) (old new : WireCore) (v w : Conn) (found : get nat_cmp old.co
       at None is some octets = absurd (cc some)
       at (Some g) is some octets = body_written n old new v w found written opened l f s u.n u.last g on is octets q
 
-pub waits_written : (r : Result (Option (Framed × Crossed)) NoMemory) (n : ℕ) (old new : WireCore) (v w : Conn) → get nat_cmp old.conns n ≡ Some v → WritesThrough nat_cmp (nat_cmp n) old.conns w new.conns → w.open ≡ v.open → new.flows ≡ old.flows → new.links ≡ old.links
+pub waits_written : (r : Result (Option (Framed × Crossed)) NoMemory) (n : ℕ) (old new : WireCore) (v w : Conn) → value_at n old.conns ≡ Some v → WritesThrough n old.conns w new.conns → w.open ≡ v.open → new.flows ≡ old.flows → new.links ≡ old.links
     → IfOk r (λ o. MatchOption o (w ≡ v) (λ f. w.outlet.write.octets ≡ v.outlet.write.octets ++ octets_of f.0))
     → IfOk r (λ o. MatchOption o (Keeps old new) (λ f. Owes (waited_of n f.0) old new))
 waits_written r n old new v w found written opened f l p = waits_on n old new v w found written opened f l r p
 
-pub update_written : (r : Result (Option Crossed) NoMemory) (n s k : ℕ) (old new : WireCore) (v w : Conn) → get nat_cmp old.conns n ≡ Some v → WritesThrough nat_cmp (nat_cmp n) old.conns w new.conns → w.open ≡ v.open → new.flows ≡ old.flows → new.links ≡ old.links
+pub update_written : (r : Result (Option Crossed) NoMemory) (n s k : ℕ) (old new : WireCore) (v w : Conn) → value_at n old.conns ≡ Some v → WritesThrough n old.conns w new.conns → w.open ≡ v.open → new.flows ≡ old.flows → new.links ≡ old.links
     → IfOk r (λ o. MatchOption o (w ≡ v) (λ c. w.outlet.write.octets ≡ v.outlet.write.octets ++ spelling (WindowUpdate s k)))
     → IfOk r (λ o. MatchOption o (Keeps old new) (λ c. Owes (note.Credit n s k ∷ []) old new))
 update_written r n s k old new v w found written opened f l p = update_on n old new v w found written opened s k f l r p
 
-pub list_written : (r : Result (Option (List ℕ × Crossed)) NoMemory) (n s : ℕ) (f : FlowId) (last : Bool) (old new : WireCore) (v w : Conn) → get nat_cmp old.conns n ≡ Some v → WritesThrough nat_cmp (nat_cmp n) old.conns w new.conns → w.open ≡ v.open → new.links ≡ old.links
+pub list_written : (r : Result (Option (List ℕ × Crossed)) NoMemory) (n s : ℕ) (f : FlowId) (last : Bool) (old new : WireCore) (v w : Conn) → value_at n old.conns ≡ Some v → WritesThrough n old.conns w new.conns → w.open ≡ v.open → new.links ≡ old.links
     → IfOk r (λ o. MatchOption o (w ≡ v) (λ u. w.outlet.write.octets ≡ v.outlet.write.octets ++ u.0))
     → IfOk r (λ o. MatchOption o (new.flows ≡ old.flows) (λ u. ChangesFlow f (list_framed last) old.flows.exchanges new.flows.exchanges))
     → IfOk r (λ o. MatchOption o (Keeps old new) (λ u. Owes (heads_of n s u.0) old new))
 list_written r n s f last old new v w found written opened l p q = list_on n old new v w found written opened s f last l r p q
 
-pub body_written_on : (r : Result (Option FramedBody) NoMemory) (n s : ℕ) (f : FlowId) (old new : WireCore) (v w : Conn) → get nat_cmp old.conns n ≡ Some v → WritesThrough nat_cmp (nat_cmp n) old.conns w new.conns → w.open ≡ v.open → new.links ≡ old.links
+pub body_written_on : (r : Result (Option FramedBody) NoMemory) (n s : ℕ) (f : FlowId) (old new : WireCore) (v w : Conn) → value_at n old.conns ≡ Some v → WritesThrough n old.conns w new.conns → w.open ≡ v.open → new.links ≡ old.links
     → stream_in old.links f ≡ Some s → IsThere old.flows f
     → IfOk r (λ o. MatchOption o (w ≡ v) (λ u. IfSome (flow_in old.flows f) (λ g. w.outlet.write.octets ≡ v.outlet.write.octets ++ (data_head s u.n u.last ++ take u.n (send g)))))
     → IfOk r (λ o. MatchOption o (new.flows ≡ old.flows) (λ u. ChangesFlow f (body_framed u.n u.last) old.flows.exchanges new.flows.exchanges))

@@ -10,7 +10,7 @@ use Rattle.flow_notes.specs.declared.notes.Cause.{Cause}
 use Rattle.h2_frames.specs.Head.{data_head}
 use Rattle.std.proofs.Common.{ap, arith, refl, subst, sym, ◌∙◌}
 use Rattle.std.proofs.lemmas.List.{append-nil}
-use Rattle.std.specs.BTreeMap.{BTreeMap}
+use Rattle.paged_map.specs.PagedMap.{PagedMap}
 use Rattle.std.specs.Option.{option_and_then, option_map}
 use Rattle.std.specs.Prelude.{Bool, IfSome, List, None, Option, Some, [], drop, false, if◌then◌else◌, is_some, not, slice_get, take, true, ℕ, ◌&&◌, ◌++◌, ◌+◌, ◌<◌, ◌==◌, ◌∷◌, ◌≡◌}
 use Rattle.tape_laws.specs.Flows.{same_flow}
@@ -74,7 +74,7 @@ module _ (f : FlowId) (octets : List ℕ) (h : WayHistory) where
         ∙ sym (ap (λ b. place world_setup f p h ++ (if b && (p == 0) then octets else [])) (same_flow_refl f)));
   }
 
-  pub arrives : (old new : Flows) (conns : BTreeMap ℕ Conn) (links : Links) (change : Flow → Flow) → ChangesFlow f change old.exchanges new.exchanges → IsThere old f
+  pub arrives : (old new : Flows) (conns : PagedMap Conn) (links : Links) (change : Flow → Flow) → ChangesFlow f change old.exchanges new.exchanges → IsThere old f
       → ((flow : Flow) → flow_in old f ≡ Some flow → change flow ≡ arrived octets flow) → Stands conns old links h → Stands conns new links (arrival ∷ h)
   arrives old new conns links change c there is s = record {
     writes = s.writes;
@@ -116,7 +116,7 @@ module _ (f : FlowId) (q n : ℕ) (h : WayHistory) where
     pub there : slice_get flow.chain.places q ≡ Some next
     pub moves_so : change flow ≡ moved q n flow
 
-  pub moves : (old new : Flows) (conns : BTreeMap ℕ Conn) (links : Links) (change : Flow → Flow) → ChangesFlow f change old.exchanges new.exchanges → IsThere old f
+  pub moves : (old new : Flows) (conns : PagedMap Conn) (links : Links) (change : Flow → Flow) → ChangesFlow f change old.exchanges new.exchanges → IsThere old f
       → ((flow : Flow) → flow_in old f ≡ Some flow → FlowIs f h flow → IsMoved change flow) → Stands conns old links h → Stands conns new links (move ∷ h)
   moves old new conns links change c there is s = record {
     writes = s.writes;
@@ -155,7 +155,7 @@ module _ (c : ℕ) (f : FlowId) (n : ℕ) (last : Bool) (h : WayHistory) where
   carried : (flow : Flow) → FlowIs f h flow → send flow ≡ sends world_setup f h
   carried flow is = is.holds (send_place flow) ∙ ap (λ (p : ℕ). place world_setup f p h) is.last
 
-  pub frames : (old new : BTreeMap ℕ Conn) (before after : Flows) (links : Links) (s : ℕ) (flow : Flow) → s ≡ stream_to f h → flow_in before f ≡ Some flow
+  pub frames : (old new : PagedMap Conn) (before after : Flows) (links : Links) (s : ℕ) (flow : Flow) → s ≡ stream_to f h → flow_in before f ≡ Some flow
       → ChangesFlow f (body_framed n last) before.exchanges after.exchanges
       → ConnsAre (at_one c (λ xs. xs ++ (data_head s n last ++ take n (send flow)))) old new → Stands old before links h → Stands new after links (frame ∷ h)
   frames old new before after links s flow on found change wrote_so stands = record {
@@ -182,7 +182,7 @@ pub keeps_flow : (f : FlowId) (h : WayHistory) (old new : Flow) → KeepsOctets 
 keeps_flow f h old new k is = record { last = k.last ∙ is.last; holds = λ p. k.holds p ∙ is.holds p }
 
 pub flow_goes : (f : FlowId) (change : Flow → Flow) (old new : Flows) → ((flow : Flow) → flow_in old f ≡ Some flow → KeepsOctets flow (change flow)) → ChangesFlow f change old.exchanges new.exchanges
-    → (conns : BTreeMap ℕ Conn) (links : Links) (h : WayHistory) → Stands conns old links h → Stands conns new links h
+    → (conns : PagedMap Conn) (links : Links) (h : WayHistory) → Stands conns old links h → Stands conns new links h
 flow_goes f change old new keeps c conns links h s = record {
   writes = s.writes;
   flows_are = flows_changed f change old new c h h (λ flow e was. keeps_flow f h flow (change flow) (keeps flow e) was) (λ g other flow was. was) s.flows_are;
@@ -194,7 +194,7 @@ flow_goes f change old new keeps c conns links h s = record {
 }
 
 -- other flows, of which each is found as before
-pub flows_go : (old new : Flows) → ((f : FlowId) → flow_in new f ≡ flow_in old f) → (conns : BTreeMap ℕ Conn) (links : Links) (h : WayHistory) → Stands conns old links h → Stands conns new links h
+pub flows_go : (old new : Flows) → ((f : FlowId) → flow_in new f ≡ flow_in old f) → (conns : PagedMap Conn) (links : Links) (h : WayHistory) → Stands conns old links h → Stands conns new links h
 flows_go old new same conns links h s = record {
   writes = s.writes;
   flows_are = λ f. subst (λ (o : Option Flow). IfSome o (FlowIs f h)) (sym (same f)) (s.flows_are f);
@@ -207,7 +207,7 @@ flows_go old new same conns links h s = record {
 
 -- each flow is found as a change makes it that keeps its octets
 pub flows_mapped : (change : Flow → Flow) → ((flow : Flow) → KeepsOctets flow (change flow)) → (old new : Flows) → ((f : FlowId) → flow_in new f ≡ option_map change (flow_in old f))
-    → (conns : BTreeMap ℕ Conn) (links : Links) (h : WayHistory) → Stands conns old links h → Stands conns new links h
+    → (conns : PagedMap Conn) (links : Links) (h : WayHistory) → Stands conns old links h → Stands conns new links h
 flows_mapped change keeps old new same conns links h s = record {
   writes = s.writes;
   flows_are = λ f. subst (λ (o : Option Flow). IfSome o (FlowIs f h)) (sym (same f)) (if_mapped (FlowIs f h) (FlowIs f h) change (flow_in old f) (λ flow e was. keeps_flow f h flow (change flow) (keeps flow) was) (s.flows_are f));

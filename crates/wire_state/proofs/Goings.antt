@@ -8,7 +8,9 @@ use Rattle.flow_gate.specs.declared.ids.FlowId.{FlowId}
 use Rattle.flow_notes.specs.declared.notes.Note.{Note}
 use Rattle.std.proofs.Common.{ap, append_assoc, refl, subst, sym, ◌∙◌}
 use Rattle.std.proofs.lemmas.List.{append-nil}
-use Rattle.std.specs.BTreeMap.{BTreeMap, WritesThrough, get, is_at}
+use Rattle.std.specs.BTreeMap.{is_at}
+use Rattle.paged_map.specs.PagedMap.{}
+use Rattle.paged_map.specs.PagedMap.{PagedMap, WritesThrough, value_at}
 use Rattle.std.specs.Map.{lookup}
 use Rattle.std.specs.Option.{option_and_then, option_map_or}
 use Rattle.std.specs.Ordering.{nat_cmp}
@@ -39,7 +41,7 @@ abbrev pub KeepsLeft : List WayStep → Type 0
 KeepsLeft steps = (h : WayHistory) (c : ℕ) → gone world_setup c (after steps h) ≡ gone world_setup c h
 
 -- the steps that a call makes are still to be noted, where the core stands for them
-pub told_as : (steps : List WayStep) (more : (ℕ → List ℕ) → ℕ → List ℕ) (conns conns' : BTreeMap ℕ Conn) (flows flows' : Flows) (links links' : Links)
+pub told_as : (steps : List WayStep) (more : (ℕ → List ℕ) → ℕ → List ℕ) (conns conns' : PagedMap Conn) (flows flows' : Flows) (links links' : Links)
     → ((h : WayHistory) (g : ℕ → List ℕ) → Stands conns flows links h → ((c : ℕ) → gone world_setup c h ≡ g c) → (c : ℕ) → gone world_setup c (after steps h) ≡ more g c)
     → ((h : WayHistory) → Stands conns flows links h → Stands conns' flows' links' (after steps h))
     → (h : WayHistory) (g : ℕ → List ℕ) (start notes : List Note) → ToldBy h g start conns flows links notes → ToldBy h (more g) start conns' flows' links' (notes ++ shown steps)
@@ -50,7 +52,7 @@ told_as steps more conns conns' flows flows' links links' leaves goes h g start 
   left = λ c. ap (gone world_setup c) (after_append t.steps steps h) ∙ leaves (after t.steps h) g t.stands t.left c;
 }
 
-pub told_by : (steps : List WayStep) → KeepsLeft steps → (conns conns' : BTreeMap ℕ Conn) (flows flows' : Flows) (links links' : Links)
+pub told_by : (steps : List WayStep) → KeepsLeft steps → (conns conns' : PagedMap Conn) (flows flows' : Flows) (links links' : Links)
     → ((h : WayHistory) → Stands conns flows links h → Stands conns' flows' links' (after steps h))
     → (h : WayHistory) (g : ℕ → List ℕ) (start notes : List Note) → ToldBy h g start conns flows links notes → ToldBy h g start conns' flows' links' (notes ++ shown steps)
 told_by steps keeps conns conns' flows flows' links links' goes = told_as steps (λ g. g) conns conns' flows flows' links links' (λ h g s is c. keeps h c ∙ is c) goes
@@ -70,13 +72,13 @@ keeps_on (Err x) old new k = record { goes = λ h g start notes t. tt }
 -- where these parts are as they were
 pub keeps_same : (old new : WireCore) → new.conns ≡ old.conns → new.flows ≡ old.flows → new.links ≡ old.links → Keeps old new
 keeps_same old new c f l = keeps_by old new (λ h s.
-    subst (λ (v : BTreeMap ℕ Conn). Stands v new.flows new.links h) (sym c)
+    subst (λ (v : PagedMap Conn). Stands v new.flows new.links h) (sym c)
     (subst (λ (v : Flows). Stands old.conns v new.links h) (sym f)
     (subst (λ (v : Links). Stands old.conns old.flows v h) (sym l) s)))
 
 -- ---- one connection
 -- it was written through, and its octets are as they were
-pub conn_keeps : (n : ℕ) (old new : WireCore) (v w : Conn) → get nat_cmp old.conns n ≡ Some v → WritesThrough nat_cmp (nat_cmp n) old.conns w new.conns
+pub conn_keeps : (n : ℕ) (old new : WireCore) (v w : Conn) → value_at n old.conns ≡ Some v → WritesThrough n old.conns w new.conns
     → w.outlet.write.octets ≡ v.outlet.write.octets → w.open ≡ v.open → new.flows ≡ old.flows → new.links ≡ old.links → Keeps old new
 conn_keeps n old new v w found written octets opened f l = keeps_by old new (λ h s.
     subst (λ (fs : Flows). Stands new.conns fs new.links h) (sym f)
@@ -92,7 +94,7 @@ conn_keeps n old new v w found written octets opened f l = keeps_by old new (λ 
 
 -- ---- flows whose octets stay
 pub record KeepBodies (old new : Flows) : Type 0 where
-  pub goes : (conns : BTreeMap ℕ Conn) (links : Links) (h : WayHistory) → Stands conns old links h → Stands conns new links h
+  pub goes : (conns : PagedMap Conn) (links : Links) (h : WayHistory) → Stands conns old links h → Stands conns new links h
 
 pub same_bodies : (old new : Flows) → new ≡ old → KeepBodies old new
 same_bodies old new e = record { goes = λ conns links h s. subst (λ (f : Flows). Stands conns f links h) (sym e) s }
@@ -103,17 +105,17 @@ gate_bodies old new e = record { goes = flows_go old new (λ f. ap (λ (ex : Exc
 pub changed_bodies : (f : FlowId) (change : Flow → Flow) (old new : Flows) → ((flow : Flow) → flow_in old f ≡ Some flow → KeepsOctets flow (change flow)) → ChangesFlow f change old.exchanges new.exchanges → KeepBodies old new
 changed_bodies f change old new keeps c = record { goes = flow_goes f change old new keeps c }
 
-pub bodies_told : (old new : Flows) → KeepBodies old new → (conns : BTreeMap ℕ Conn) (links : Links) (h : WayHistory) (g : ℕ → List ℕ) (start notes : List Note) → ToldBy h g start conns old links notes → ToldBy h g start conns new links notes
+pub bodies_told : (old new : Flows) → KeepBodies old new → (conns : PagedMap Conn) (links : Links) (h : WayHistory) (g : ℕ → List ℕ) (start notes : List Note) → ToldBy h g start conns old links notes → ToldBy h g start conns new links notes
 bodies_told old new k conns links h g start notes t = record { steps = t.steps; is = t.is; stands = k.goes conns links (after t.steps h) t.stands; left = t.left }
 
 -- the same of a call that may fail
 pub changed_told : {A E : Type 0} (r : Result A E) (f : FlowId) (change : Flow → Flow) (old new : Flows) → ((flow : Flow) → KeepsOctets flow (change flow)) → OnOk r (ChangesFlow f change old.exchanges new.exchanges)
-    → (conns : BTreeMap ℕ Conn) (links : Links) (h : WayHistory) (g : ℕ → List ℕ) (start notes : List Note) → ToldBy h g start conns old links notes → OnOk r (ToldBy h g start conns new links notes)
+    → (conns : PagedMap Conn) (links : Links) (h : WayHistory) (g : ℕ → List ℕ) (start notes : List Note) → ToldBy h g start conns old links notes → OnOk r (ToldBy h g start conns new links notes)
 changed_told (Ok u) f change old new keeps c conns links h g start notes t = bodies_told old new (changed_bodies f change old new (λ flow e. keeps flow) c) conns links h g start notes t
 changed_told (Err x) f change old new keeps c conns links h g start notes t = tt
 
 -- ---- at first
-pub first_stands : (conns : BTreeMap ℕ Conn) (flows : Flows) (links : Links) → conns.entries ≡ [] → flows.exchanges.live ≡ [] → links ≡ no_links → Stands conns flows links []
+pub first_stands : (conns : PagedMap Conn) (flows : Flows) (links : Links) → conns.entries ≡ [] → flows.exchanges.live ≡ [] → links ≡ no_links → Stands conns flows links []
 unfolding exchange_at
 first_stands conns flows links c f l = record {
   writes = λ d. ap (λ (es : List (ℕ × Conn)). option_map_or (λ conn. conn.outlet.write.octets) (lookup (is_at (nat_cmp d)) es) []) c;
@@ -127,7 +129,7 @@ first_stands conns flows links c f l = record {
 
 -- ---- a mark
 -- nothing is noted, but the history has a mark more
-pub marked_told : (m : Way) (conns conns' : BTreeMap ℕ Conn) (flows flows' : Flows) (links links' : Links)
+pub marked_told : (m : Way) (conns conns' : PagedMap Conn) (flows flows' : Flows) (links links' : Links)
     → ((h : WayHistory) → Stands conns flows links h → Stands conns' flows' links' (Marked m ∷ h))
     → (h : WayHistory) (g : ℕ → List ℕ) (start notes : List Note) → ToldBy h g start conns flows links notes → ToldBy h g start conns' flows' links' notes
 marked_told m conns conns' flows flows' links links' goes h g start notes t =

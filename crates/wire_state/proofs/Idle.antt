@@ -5,7 +5,7 @@ use Rattle.flow_notes.specs.declared.notes.Note.{Note}
 use Rattle.flow_notes.specs.declared.notes.Note.TheVariants as note
 use Rattle.std.proofs.Common.{ap, append_assoc, refl, subst, sym, ◌∙◌}
 use Rattle.std.proofs.lemmas.List.{append-nil}
-use Rattle.std.specs.BTreeMap.{BTreeMap}
+use Rattle.paged_map.specs.PagedMap.{PagedMap}
 use Rattle.std.specs.Prelude.{Err, List, Ok, OnOk, Result, [], map, ℕ, ◌++◌, ◌∷◌, ◌≡◌}
 use Rattle.tape_laws.specs.History.{Noted}
 use Rattle.wire_flows.specs.Flows.{Flows}
@@ -45,7 +45,7 @@ nothing_of (note.Out c n) i = absurd i
 nothing_of (note.Doom x why) i = absurd i
 nothing_of (note.Close c code why) i = absurd i
 
-module _ (conns : BTreeMap ℕ Conn) (flows : Flows) (links : Links) where
+module _ (conns : PagedMap Conn) (flows : Flows) (links : Links) where
   one_told : (n : Note) → IsIdle n → (h : WayHistory) (g : ℕ → List ℕ) (start before : List Note) → ToldBy h g start conns flows links before → ToldBy h g start conns flows links (before ++ n ∷ [])
   one_told n i = let e = nothing_of n i in
       told_by (Noted n ∷ []) (e.left) conns conns flows flows links links (λ h s. wrote same_octets (Noted n) h conns conns flows links (e.writes h) (e.flows h) (e.shut h) (conns_same conns) s)

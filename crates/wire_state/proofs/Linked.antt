@@ -4,7 +4,7 @@ use Rattle.flow_notes.specs.declared.notes.Note.{Note}
 use Rattle.flow_notes.specs.declared.notes.Note.TheVariants as note
 use Rattle.std.proofs.Common.{ap, refl, subst, sym, ◌∙◌}
 use Rattle.exchange_core.proofs.Maps.{eq_by_number}
-use Rattle.std.specs.BTreeMap.{BTreeMap, Updates, WritesThrough, get}
+use Rattle.paged_map.specs.PagedMap.{PagedMap, Updates, WritesThrough, value_at}
 use Rattle.std.specs.Option.{option_map, option_map_or}
 use Rattle.std.specs.Ordering.{nat_cmp}
 use Rattle.std.specs.Prelude.{Bool, IfSome, List, None, Option, Some, [], cond, false, if◌then◌else◌, is_some, nat_eq, not, true, ℕ, ◌&&◌, ◌==◌, ◌∷◌, ◌≡◌}
@@ -51,7 +51,7 @@ pub record KeepsEnds (old new : Links) : Type 0 where
   pub ends : (x : ℕ) → ends_of x new ≡ ends_of x old
   pub known : (c : ℕ) → is_known c new ≡ false → is_known c old ≡ false
 
-pub links_go : (old new : Links) → KeepsEnds old new → (conns : BTreeMap ℕ Conn) (flows : Flows) (h : WayHistory) → Stands conns flows old h → Stands conns flows new h
+pub links_go : (old new : Links) → KeepsEnds old new → (conns : PagedMap Conn) (flows : Flows) (h : WayHistory) → Stands conns flows old h → Stands conns flows new h
 links_go old new k conns flows h s = record {
   writes = s.writes;
   flows_are = s.flows_are;
@@ -62,7 +62,7 @@ links_go old new k conns flows h s = record {
   come = s.come;
 }
 
-pub links_told : (old new : Links) → KeepsEnds old new → (conns : BTreeMap ℕ Conn) (flows : Flows) (h : WayHistory) (g : ℕ → List ℕ) (start notes : List Note) → ToldBy h g start conns flows old notes → ToldBy h g start conns flows new notes
+pub links_told : (old new : Links) → KeepsEnds old new → (conns : PagedMap Conn) (flows : Flows) (h : WayHistory) (g : ℕ → List ℕ) (start notes : List Note) → ToldBy h g start conns flows old notes → ToldBy h g start conns flows new notes
 links_told old new k conns flows h g start notes t = record { steps = t.steps; is = t.is; stands = links_go old new k conns flows (after t.steps h) t.stands; left = t.left }
 
 still_some : (b : Bool) (f : Link → Link) (o : Option Link) → is_some (if b then option_map f o else o) ≡ is_some o
@@ -103,19 +103,19 @@ joined_known c k links new e = ap (λ (l : Links). is_known c l) e ∙ ap is_som
 
 -- ---- a connection comes
 -- it is there now, open and without octets, where none was; the others are as they were
-pub record ComesNew (n : ℕ) (old new : BTreeMap ℕ Conn) : Type 0 where
+pub record ComesNew (n : ℕ) (old new : PagedMap Conn) : Type 0 where
   pub none : has_conn n old ≡ false
   pub octets : octets_of n new ≡ []
   pub opened : is_shut n new ≡ false
-  pub others : (c : ℕ) → (n == c) ≡ false → get nat_cmp new c ≡ get nat_cmp old c
+  pub others : (c : ℕ) → (n == c) ≡ false → value_at c new ≡ value_at c old
 
-pub updated_at : (n : ℕ) (old new : BTreeMap ℕ Conn) (o : Option Conn) → Updates nat_cmp old new n o → (q : ℕ) → get nat_cmp new q ≡ (if n == q then o else get nat_cmp old q)
-updated_at n old new o u q = u.0 q ∙ (ap (λ b. cond b o (get nat_cmp old q)) (eq_by_number n q) ∙ as_if (n == q) o (get nat_cmp old q))
+pub updated_at : (n : ℕ) (old new : PagedMap Conn) (o : Option Conn) → Updates n old new o → (q : ℕ) → value_at q new ≡ (if n == q then o else value_at q old)
+updated_at n old new o u q = u.0 q ∙ (ap (λ b. cond b o (value_at q old)) (eq_by_number n q) ∙ as_if (n == q) o (value_at q old))
 
-other_there : (n : ℕ) (old new : BTreeMap ℕ Conn) (o : Option Conn) → Updates nat_cmp old new n o → (c : ℕ) → (n == c) ≡ false → get nat_cmp new c ≡ get nat_cmp old c
-other_there n old new o u c e = updated_at n old new o u c ∙ ap (λ b. if b then o else get nat_cmp old c) e
+other_there : (n : ℕ) (old new : PagedMap Conn) (o : Option Conn) → Updates n old new o → (c : ℕ) → (n == c) ≡ false → value_at c new ≡ value_at c old
+other_there n old new o u c e = updated_at n old new o u c ∙ ap (λ b. if b then o else value_at c old) e
 
-pub comes_new : (n : ℕ) (old new : BTreeMap ℕ Conn) (v : Conn) → has_conn n old ≡ false → Updates nat_cmp old new n (Some v) → v.outlet.write.octets ≡ [] → v.open ≡ true → ComesNew n old new
+pub comes_new : (n : ℕ) (old new : PagedMap Conn) (v : Conn) → has_conn n old ≡ false → Updates n old new (Some v) → v.outlet.write.octets ≡ [] → v.open ≡ true → ComesNew n old new
 comes_new n old new v none u empty opened = record {
   none = none;
   octets = ap (λ (o : Option Conn). option_map_or (λ conn. conn.outlet.write.octets) o []) u.1 ∙ empty;
@@ -123,14 +123,14 @@ comes_new n old new v none u empty opened = record {
   others = other_there n old new (Some v) u;
 }
 
-none_octets : (n : ℕ) (conns : BTreeMap ℕ Conn) → has_conn n conns ≡ false → octets_of n conns ≡ []
-none_octets n conns e = at (get nat_cmp conns n) e
+none_octets : (n : ℕ) (conns : PagedMap Conn) → has_conn n conns ≡ false → octets_of n conns ≡ []
+none_octets n conns e = at (value_at n conns) e
   where
     at : (o : Option Conn) → is_some o ≡ false → option_map_or (λ conn. conn.outlet.write.octets) o [] ≡ []
     at None e = refl
     at (Some v) e = cc
 
-pub comes : (n : ℕ) (old new : BTreeMap ℕ Conn) → ComesNew n old new → (flows : Flows) (links : Links) (h : WayHistory) → is_known n links ≡ true → has (connections world_setup h) n ≡ true → was_closed n h ≡ false
+pub comes : (n : ℕ) (old new : PagedMap Conn) → ComesNew n old new → (flows : Flows) (links : Links) (h : WayHistory) → is_known n links ≡ true → has (connections world_setup h) n ≡ true → was_closed n h ≡ false
     → Stands old flows links h → Stands new flows links h
 comes n old new c flows links h known came fresh s = record {
   writes = λ d. by_case (n == d)
@@ -151,23 +151,23 @@ comes n old new c flows links h known came fresh s = record {
       (λ other. (ap is_some (c.others d other) ∙ never.0, never.1));
 }
 
-pub come_told : (n : ℕ) (old new : BTreeMap ℕ Conn) → ComesNew n old new → (flows : Flows) (links : Links) → is_known n links ≡ true
+pub come_told : (n : ℕ) (old new : PagedMap Conn) → ComesNew n old new → (flows : Flows) (links : Links) → is_known n links ≡ true
     → (h : WayHistory) (g : ℕ → List ℕ) (start notes : List Note) (t : ToldBy h g start old flows links notes) → has (connections world_setup (after t.steps h)) n ≡ true → was_closed n (after t.steps h) ≡ false → ToldBy h g start new flows links notes
 come_told n old new c flows links known h g start notes t came fresh = record { steps = t.steps; is = t.is; stands = comes n old new c flows links (after t.steps h) known came fresh t.stands; left = t.left }
 
 -- ---- a connection is forgotten
-pub record ForgetsConn (n : ℕ) (old new : BTreeMap ℕ Conn) : Type 0 where
+pub record ForgetsConn (n : ℕ) (old new : PagedMap Conn) : Type 0 where
   pub empty : octets_of n old ≡ []
-  pub gone : get nat_cmp new n ≡ None
-  pub others : (c : ℕ) → (n == c) ≡ false → get nat_cmp new c ≡ get nat_cmp old c
+  pub gone : value_at n new ≡ None
+  pub others : (c : ℕ) → (n == c) ≡ false → value_at c new ≡ value_at c old
 
 pub forgotten_known : (c : ℕ) (links new : Links) → IsSound links → new ≡ forgotten c links → (d : ℕ) → (c == d) ≡ false → is_known d new ≡ is_known d links
 forgotten_known c links new s e d apart = ap (λ (l : Links). is_known d l) e ∙ ap is_some (under_remove links.conns c d s.conns ∙ ap (λ b. if b then None else under d links.conns) apart)
 
-pub forgets_conn : (n : ℕ) (old new : BTreeMap ℕ Conn) → octets_of n old ≡ [] → Updates nat_cmp old new n None → ForgetsConn n old new
+pub forgets_conn : (n : ℕ) (old new : PagedMap Conn) → octets_of n old ≡ [] → Updates n old new None → ForgetsConn n old new
 forgets_conn n old new empty u = record { empty = empty; gone = u.1; others = other_there n old new None u }
 
-pub forgets : (n : ℕ) (old new : BTreeMap ℕ Conn) → ForgetsConn n old new → (flows : Flows) (links links' : Links) (h : WayHistory) → ((x : ℕ) → ends_of x links' ≡ ends_of x links)
+pub forgets : (n : ℕ) (old new : PagedMap Conn) → ForgetsConn n old new → (flows : Flows) (links links' : Links) (h : WayHistory) → ((x : ℕ) → ends_of x links' ≡ ends_of x links)
     → ((c : ℕ) → (n == c) ≡ false → is_known c links' ≡ is_known c links) → Stands old flows links h → Stands new flows links' h
 forgets n old new f flows links links' h same known s = record {
   writes = λ d. by_case (n == d)
@@ -189,14 +189,14 @@ forgets n old new f flows links links' h same known s = record {
 
 -- ---- a connection that is closed is lost
 -- its octets are dropped by the turn note that tells so
-pub record DropsRest (n : ℕ) (old new : BTreeMap ℕ Conn) : Type 0 where
+pub record DropsRest (n : ℕ) (old new : PagedMap Conn) : Type 0 where
   pub closed_ : has_conn n old ≡ true → is_shut n old ≡ true
   pub octets : (c : ℕ) → octets_of c new ≡ (if n == c then [] else octets_of c old)
   pub shut : (c : ℕ) → is_shut c new ≡ is_shut c old
   pub there : (c : ℕ) → has_conn c new ≡ has_conn c old
 
 -- one connection, which isn't open, has no octets any more
-pub one_drops : (n : ℕ) (old new : BTreeMap ℕ Conn) (v w : Conn) → get nat_cmp old n ≡ Some v → WritesThrough nat_cmp (nat_cmp n) old w new → w.outlet.write.octets ≡ [] → w.open ≡ v.open → v.open ≡ false → DropsRest n old new
+pub one_drops : (n : ℕ) (old new : PagedMap Conn) (v w : Conn) → value_at n old ≡ Some v → WritesThrough n old w new → w.outlet.write.octets ≡ [] → w.open ≡ v.open → v.open ≡ false → DropsRest n old new
 one_drops n old new v w found written empty opened shut =
     let c = conns_written n old new v w found written (λ xs. []) empty opened in
     record {
@@ -207,7 +207,7 @@ one_drops n old new v w found written empty opened shut =
     }
 
 -- none is there
-pub none_drops : (n : ℕ) (conns : BTreeMap ℕ Conn) → get nat_cmp conns n ≡ None → DropsRest n conns conns
+pub none_drops : (n : ℕ) (conns : PagedMap Conn) → value_at n conns ≡ None → DropsRest n conns conns
 none_drops n conns none = record {
   closed_ = λ there. absurd (cc (ap is_some none, there));
   octets = λ c. by_case (n == c)
@@ -217,7 +217,7 @@ none_drops n conns none = record {
   there = λ c. refl;
 }
 
-pub drops_rest : (n k : ℕ) (old new : BTreeMap ℕ Conn) → DropsRest n old new → (flows : Flows) (links : Links) (h : WayHistory)
+pub drops_rest : (n k : ℕ) (old new : PagedMap Conn) → DropsRest n old new → (flows : Flows) (links : Links) (h : WayHistory)
     → Stands old flows links h → Stands new flows links (Noted (note.Turn k (event.Gone n)) ∷ h)
 drops_rest n k old new d flows links h s = record {
   writes = at;

@@ -15,7 +15,7 @@ use Rattle.proxy_config.specs.declared.config.Config.{Config}
 use Rattle.proxy_config.specs.declared.routes.Filter.{Filter}
 use Rattle.proxy_config.specs.declared.routes.Filter.TheVariants as filter
 use Rattle.std.proofs.Common.{ap, arith, refl, subst, sym, ◌∙◌}
-use Rattle.std.specs.BTreeMap.{BTreeMap}
+use Rattle.paged_map.specs.PagedMap.{PagedMap}
 use Rattle.std.specs.Option.{option_and_then, option_map}
 use Rattle.std.specs.Prelude.{Bool, IfSome, List, None, Option, Some, [], false, if◌then◌else◌, is_some, length, not, suc, true, ℕ, ◌&&◌, ◌++◌, ◌+◌, ◌==◌, ◌∷◌, ◌≡◌}
 use Rattle.tape_laws.specs.Flows.{request, response}
@@ -53,7 +53,7 @@ module _ (x : ℕ) (why : Cause) (h : WayHistory) (old new : Flows) (d : Dooms x
   place_stays : (f : FlowId) → (x == f.exchange) ≡ false → (p : ℕ) → place world_setup f p (ending ∷ h) ≡ place world_setup f p h
   place_stays f e p = ap (λ b. if b then [] else place world_setup f p h) (turned x f.exchange false e)
 
-  pub dooms : (conns : BTreeMap ℕ Conn) (links links' : Links) → UnlinksOne x links links' → Stands conns old links h → Stands conns new links' (ending ∷ h)
+  pub dooms : (conns : PagedMap Conn) (links links' : Links) → UnlinksOne x links links' → Stands conns old links h → Stands conns new links' (ending ∷ h)
   dooms conns links links' u s = record {
     writes = s.writes;
     flows_are = λ f. by_case (x == f.exchange)
@@ -147,7 +147,7 @@ module _ (x c s d : ℕ) (to : Option ℕ) (spec : StartSpec) (config : Config) 
     abbrev linked : Ends
     linked = record { client = c; stream = s; cluster = to; cluster_stream = None }
 
-    pub starts : (conns : BTreeMap ℕ Conn) (links links' : Links) → LinksOne x c s to links links' → Stands conns old links h → Stands conns new links' then_
+    pub starts : (conns : PagedMap Conn) (links links' : Links) → LinksOne x c s to links links' → Stands conns old links h → Stands conns new links' then_
     starts conns links links' l stands = record {
       writes = stands.writes;
       flows_are = λ f. by_case (x == f.exchange)
@@ -183,7 +183,7 @@ module _ (x s : ℕ) (h : WayHistory) where
   other_ends : (y : ℕ) → (x == y) ≡ false → (v : Ends) → EndsAre y h v → EndsAre y (opening ∷ h) v
   other_ends y e v is = record { client = is.client; cluster = if_some v.cluster_stream (λ k at. at ∙ sym (ap (λ b. if true && b then s else stream_to (request y) h) e)) is.cluster }
 
-  pub places : (conns : BTreeMap ℕ Conn) (flows : Flows) (links links' : Links) → OpensStream x s links links' → Stands conns flows links h → Stands conns flows links' (opening ∷ h)
+  pub places : (conns : PagedMap Conn) (flows : Flows) (links links' : Links) → OpensStream x s links links' → Stands conns flows links h → Stands conns flows links' (opening ∷ h)
   places conns flows links links' l stands = record {
     writes = stands.writes;
     flows_are = λ f. if_some (flow_in flows f) (λ flow was. record { last = was.last; holds = was.holds }) (stands.flows_are f);
@@ -201,10 +201,10 @@ seen_found : (now : ℕ) (side : Bool) (o : Option Exchange) → option_and_then
 seen_found now side None = refl
 seen_found now side (Some v) = flow_seen now side v
 
-pub ticks : (now : ℕ) (old new : Flows) → Ticks now old.exchanges new.exchanges → (conns : BTreeMap ℕ Conn) (links : Links) (h : WayHistory) → Stands conns old links h → Stands conns new links h
+pub ticks : (now : ℕ) (old new : Flows) → Ticks now old.exchanges new.exchanges → (conns : PagedMap Conn) (links : Links) (h : WayHistory) → Stands conns old links h → Stands conns new links h
 ticks now old new t conns links h s = flows_mapped (at_moment now) (seen_keeps now) old new
     (λ f. ap (option_and_then (side_of f.back)) (t.live f.exchange) ∙ seen_found now f.back (exchange_at old.exchanges f.exchange)) conns links h s
 
 -- ---- the deferred list
-pub sweeps : (swept : Option ℕ) (old new : Flows) → Sweeps swept old.exchanges new.exchanges → (conns : BTreeMap ℕ Conn) (links : Links) (h : WayHistory) → Stands conns old links h → Stands conns new links h
+pub sweeps : (swept : Option ℕ) (old new : Flows) → Sweeps swept old.exchanges new.exchanges → (conns : PagedMap Conn) (links : Links) (h : WayHistory) → Stands conns old links h → Stands conns new links h
 sweeps swept old new w conns links h s = flows_go old new (λ f. ap (option_and_then (side_of f.back)) (w.live f.exchange)) conns links h s

@@ -7,7 +7,9 @@ use Rattle.flow_notes.specs.declared.notes.CloseCause.{CloseCause}
 use Rattle.flow_notes.specs.declared.notes.FireKind.{FireKind}
 use Rattle.std.proofs.Common.{ap, arith, refl, subst, sym, ◌∙◌}
 use Rattle.std.proofs.lemmas.List.{append-nil}
-use Rattle.std.specs.BTreeMap.{BTreeMap, WritesThrough, get, is_at}
+use Rattle.std.specs.BTreeMap.{is_at}
+use Rattle.paged_map.specs.PagedMap.{}
+use Rattle.paged_map.specs.PagedMap.{PagedMap, WritesThrough, value_at}
 use Rattle.std.specs.Option.{option_map, option_map_or}
 use Rattle.std.specs.Ordering.{nat_cmp}
 use Rattle.std.specs.Prelude.{Bool, IfSome, IsSome, List, None, Option, Some, [], cond, drop, false, if◌then◌else◌, is_some, not, take, true, ℕ, ◌&&◌, ◌++◌, ◌+◌, ◌<◌, ◌==◌, ◌||◌, ◌∷◌, ◌≡◌}
@@ -33,7 +35,7 @@ if_some (Some a) f p = f a p
 
 -- ---- connections
 -- each connection's octets are these now; the same are there, and the same are open
-pub record ConnsAre (change : ℕ → List ℕ → List ℕ) (old new : BTreeMap ℕ Conn) : Type 0 where
+pub record ConnsAre (change : ℕ → List ℕ → List ℕ) (old new : PagedMap Conn) : Type 0 where
   pub octets : (c : ℕ) → octets_of c new ≡ change c (octets_of c old)
   pub shut : (c : ℕ) → is_shut c new ≡ is_shut c old
   pub there : (c : ℕ) → has_conn c new ≡ has_conn c old
@@ -41,7 +43,7 @@ pub record ConnsAre (change : ℕ → List ℕ → List ℕ) (old new : BTreeMap
 abbrev pub same_octets : ℕ → List ℕ → List ℕ
 same_octets c octets = octets
 
-pub conns_same : (conns : BTreeMap ℕ Conn) → ConnsAre same_octets conns conns
+pub conns_same : (conns : PagedMap Conn) → ConnsAre same_octets conns conns
 conns_same conns = record { octets = λ c. refl; shut = λ c. refl; there = λ c. refl }
 
 abbrev pub at_one : ℕ → (List ℕ → List ℕ) → ℕ → List ℕ → List ℕ
@@ -52,20 +54,20 @@ as_if true x y = refl
 as_if false x y = refl
 
 -- one connection was written through
-module _ (n : ℕ) (old new : BTreeMap ℕ Conn) (v w : Conn) (found : get nat_cmp old n ≡ Some v) (written : WritesThrough nat_cmp (nat_cmp n) old w new) where
-  pub now_at : (q : ℕ) → get nat_cmp new q ≡ (if n == q then Some w else get nat_cmp old q)
+module _ (n : ℕ) (old new : PagedMap Conn) (v w : Conn) (found : value_at n old ≡ Some v) (written : WritesThrough n old w new) where
+  pub now_at : (q : ℕ) → value_at q new ≡ (if n == q then Some w else value_at q old)
   now_at q =
       (written.3 (subst (λ (o : Option Conn). IsSome o) (sym found) refl)).0 q
-      ∙ (ap (λ b. cond b (Some w) (get nat_cmp old q)) (eq_by_number n q) ∙ as_if (n == q) (Some w) (get nat_cmp old q))
+      ∙ (ap (λ b. cond b (Some w) (value_at q old)) (eq_by_number n q) ∙ as_if (n == q) (Some w) (value_at q old))
 
-  here : (c : ℕ) → (n == c) ≡ true → get nat_cmp old c ≡ Some v
-  here c e = ap (get nat_cmp old) (sym (is_number n c e)) ∙ found
+  here : (c : ℕ) → (n == c) ≡ true → value_at c old ≡ Some v
+  here c e = ap (λ q. value_at q old) (sym (is_number n c e)) ∙ found
 
-  pub there_now : (c : ℕ) → (n == c) ≡ true → get nat_cmp new c ≡ Some w
-  there_now c e = now_at c ∙ ap (λ b. if b then Some w else get nat_cmp old c) e
+  pub there_now : (c : ℕ) → (n == c) ≡ true → value_at c new ≡ Some w
+  there_now c e = now_at c ∙ ap (λ b. if b then Some w else value_at c old) e
 
-  pub other_now : (c : ℕ) → (n == c) ≡ false → get nat_cmp new c ≡ get nat_cmp old c
-  other_now c e = now_at c ∙ ap (λ b. if b then Some w else get nat_cmp old c) e
+  pub other_now : (c : ℕ) → (n == c) ≡ false → value_at c new ≡ value_at c old
+  other_now c e = now_at c ∙ ap (λ b. if b then Some w else value_at c old) e
 
   abbrev octets_in_it : Option Conn → List ℕ
   octets_in_it o = option_map_or (λ conn. conn.outlet.write.octets) o []
@@ -112,7 +114,7 @@ pub ends_are_still : (step : WayStep) (h : WayHistory) → ((f : FlowId) → str
 ends_are_still step h s x e is = record { client = is.client ∙ sym (s (response x)); cluster = if_some e.cluster_stream (λ k at. at ∙ sym (s (request x))) is.cluster }
 
 -- a step of the connections
-pub wrote : (change : ℕ → List ℕ → List ℕ) (step : WayStep) (h : WayHistory) (old new : BTreeMap ℕ Conn) (flows : Flows) (links : Links)
+pub wrote : (change : ℕ → List ℕ → List ℕ) (step : WayStep) (h : WayHistory) (old new : PagedMap Conn) (flows : Flows) (links : Links)
     → Writes change step h → KeepsFlows step h → KeepsShut step h → ConnsAre change old new → Stands old flows links h → Stands new flows links (step ∷ h)
 wrote change step h old new flows links w k m c s = record {
   writes = λ d. c.octets d ∙ (ap (change d) (s.writes d) ∙ sym (w.outs d));
@@ -125,7 +127,7 @@ wrote change step h old new flows links w k m c s = record {
 }
 
 -- no step
-pub conns_go : (old new : BTreeMap ℕ Conn) (flows : Flows) (links : Links) (h : WayHistory) → ConnsAre same_octets old new → Stands old flows links h → Stands new flows links h
+pub conns_go : (old new : PagedMap Conn) (flows : Flows) (links : Links) (h : WayHistory) → ConnsAre same_octets old new → Stands old flows links h → Stands new flows links h
 conns_go old new flows links h c s = record {
   writes = λ d. c.octets d ∙ s.writes d;
   flows_are = s.flows_are;
@@ -209,7 +211,7 @@ module _ (h : WayHistory) where
 
 -- ---- a connection is closed
 -- one connection that is there isn't open any more, with these octets
-pub record Shuts (n : ℕ) (g : List ℕ → List ℕ) (old new : BTreeMap ℕ Conn) : Type 0 where
+pub record Shuts (n : ℕ) (g : List ℕ → List ℕ) (old new : PagedMap Conn) : Type 0 where
   pub was : has_conn n old ≡ true
   pub octets : (c : ℕ) → octets_of c new ≡ at_one n g c (octets_of c old)
   pub shut : (c : ℕ) → has_conn c new ≡ true → is_shut c new ≡ ((n == c) || is_shut c old)
@@ -227,7 +229,7 @@ close_outs c code cause.Drained h d = same_one (c == d) (out world_setup d h)
 close_outs c code cause.Overload h d = same_one (c == d) (out world_setup d h)
 close_outs c code cause.Flood h d = same_one (c == d) (out world_setup d h)
 
-pub closes : (c code : ℕ) (why : CloseCause) (h : WayHistory) (old new : BTreeMap ℕ Conn) (flows : Flows) (links links' : Links)
+pub closes : (c code : ℕ) (why : CloseCause) (h : WayHistory) (old new : PagedMap Conn) (flows : Flows) (links links' : Links)
     → Shuts c (left_by why) old new → ((x : ℕ) → ends_of x links' ≡ ends_of x links) → ((d : ℕ) → is_known d links' ≡ is_known d links)
     → Stands old flows links h → Stands new flows links' (Noted (note.Close c code why) ∷ h)
 closes c code why h old new flows links links' w same known s = record {
@@ -247,7 +249,7 @@ closes c code why h old new flows links links' w same known s = record {
 }
 
 -- one connection was written through, and isn't open any more
-pub conn_shut : (n : ℕ) (old new : BTreeMap ℕ Conn) (v w : Conn) → get nat_cmp old n ≡ Some v → WritesThrough nat_cmp (nat_cmp n) old w new
+pub conn_shut : (n : ℕ) (old new : PagedMap Conn) (v w : Conn) → value_at n old ≡ Some v → WritesThrough n old w new
     → (g : List ℕ → List ℕ) → w.outlet.write.octets ≡ g v.outlet.write.octets → w.open ≡ false → Shuts n g old new
 conn_shut n old new v w found written g octets shut = record {
   was = ap is_some found;

@@ -11,7 +11,7 @@ use Rattle.std.proofs.Common.{ap, arith, refl, subst, sym, ◌∙◌}
 use Rattle.exchange_core.specs.Changes.{ChangesFlow}
 use Rattle.flow_notes.specs.declared.notes.Note.{Note}
 use Rattle.flow_notes.specs.declared.notes.Note.TheVariants as note
-use Rattle.std.specs.BTreeMap.{BTreeMap}
+use Rattle.paged_map.specs.PagedMap.{PagedMap}
 use Rattle.std.specs.Option.{option_map_or}
 use Rattle.std.specs.Prelude.{Bool, IsSome, List, None, Option, Some, [], length, slice_get, true, ℕ, ◌++◌, ◌+◌, ◌-◌, ◌<◌, ◌∷◌, ◌≡◌, ◌≤◌}
 use Rattle.tape_laws.specs.History.{Noted}
@@ -66,7 +66,7 @@ module _ (f : FlowId) (old new : Flows) (o : Outcome) (is : o ≡ option_map_or 
   outcome_at flow found = is ∙ ap (λ (v : Option Flow). option_map_or (λ g. outcome_of f g (next_step old.gates (goes_to old f) g)) v outcome.Still) found
 
   -- octets moved
-  pub moved_told : (m : Moved) → o ≡ outcome.Moved m → (conns : BTreeMap ℕ Conn) (links : Links) (h : WayHistory) (g : ℕ → List ℕ) (start notes : List Note)
+  pub moved_told : (m : Moved) → o ≡ outcome.Moved m → (conns : PagedMap Conn) (links : Links) (h : WayHistory) (g : ℕ → List ℕ) (start notes : List Note)
       → ToldBy h g start conns old links notes → ToldBy h g start conns new links (notes ++ note.Move f m.place m.n ∷ [])
   moved_told m e conns links = told_by (Noted (note.Move f m.place m.n) ∷ []) (λ h c. refl) conns conns old new links links (λ h s.
       moves f m.place m.n h old new conns links (stepped old.gates (goes_to old f)) changes (there (flow_in old f) refl)
@@ -81,7 +81,7 @@ module _ (f : FlowId) (old new : Flows) (o : Outcome) (is : o ≡ option_map_or 
       there (Some flow) some = subst IsSome (sym some) refl
 
   -- nothing did
-  pub still_told : ((m : Moved) → o ≡ outcome.Moved m → ⊥) → (conns : BTreeMap ℕ Conn) (links : Links) (h : WayHistory) (g : ℕ → List ℕ) (start notes : List Note)
+  pub still_told : ((m : Moved) → o ≡ outcome.Moved m → ⊥) → (conns : PagedMap Conn) (links : Links) (h : WayHistory) (g : ℕ → List ℕ) (start notes : List Note)
       → ToldBy h g start conns old links notes → ToldBy h g start conns new links notes
   still_told none = bodies_told old new (changed_bodies f (stepped old.gates (goes_to old f)) old new
       (λ flow found. let stays = still_stays old.gates (goes_to old f) flow (λ p n shifted overflow e. none _ (outcome_at flow found ∙ ap (outcome_of f flow) e)) in

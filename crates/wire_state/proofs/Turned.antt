@@ -6,7 +6,7 @@ use Rattle.flow_notes.specs.declared.notes.Note.TheVariants as note
 use Rattle.std.proofs.Common.{ap, refl, subst, sym, ◌∙◌}
 use Rattle.std.proofs.lemmas.List.{append-nil}
 use Rattle.std.proofs.lemmas.List.Folds.{list_any-append}
-use Rattle.std.specs.BTreeMap.{BTreeMap, get}
+use Rattle.paged_map.specs.PagedMap.{PagedMap, value_at}
 use Rattle.std.specs.Option.{option_map_or}
 use Rattle.std.specs.Ordering.{nat_cmp}
 use Rattle.std.specs.Prelude.{Bool, List, None, Ok, OnOk, Option, Result, Some, [], false, if◌then◌else◌, is_some, not, true, ℕ, ◌&&◌, ◌++◌, ◌==◌, ◌||◌, ◌∷◌, ◌≡◌}
@@ -33,7 +33,7 @@ abbrev pub TakesNone : Event → Type 0
 TakesNone (event.Room c n) = ⊥
 TakesNone e = Unit {0}
 
-left_same : (e : Event) → TakesNone e → (conns : BTreeMap ℕ Conn) (g : ℕ → List ℕ) → left_after e conns g ≡ g
+left_same : (e : Event) → TakesNone e → (conns : PagedMap Conn) (g : ℕ → List ℕ) → left_after e conns g ≡ g
 left_same (event.Accept c) t conns g = refl
 left_same (event.Join c cluster) t conns g = refl
 left_same (event.Read c octets) t conns g = refl
@@ -98,7 +98,7 @@ lost_writes k c h e = record {
       (λ other. ap (λ b. if b && was_closed d h then [] else out world_setup d h) other);
 }
 
-module _ (conns : BTreeMap ℕ Conn) (flows : Flows) (links : Links) (h : WayHistory) (g : ℕ → List ℕ) (left : (c : ℕ) → gone world_setup c h ≡ g c) where
+module _ (conns : PagedMap Conn) (flows : Flows) (links : Links) (h : WayHistory) (g : ℕ → List ℕ) (left : (c : ℕ) → gone world_setup c h ≡ g c) where
   -- nothing is noted behind the notes before
   pub told_none : (before : List Note) → Stands conns flows links h → ToldBy h g before conns flows links before
   told_none before s = record { steps = []; is = sym (append-nil before); stands = s; left = left }
@@ -113,12 +113,12 @@ module _ (conns : BTreeMap ℕ Conn) (flows : Flows) (links : Links) (h : WayHis
       → ToldBy h g before conns flows links noted
   turn_told k e l before noted is s = record { steps = Noted (note.Turn k e) ∷ []; is = is; stands = turn_stands k e l s; left = left }
 
-  pub lost_told : (k c : ℕ) → option_map_or (λ conn. conn.open) (get nat_cmp conns c) false ≡ true → (before noted : List Note) → noted ≡ before ++ note.Turn k (event.Gone c) ∷ []
+  pub lost_told : (k c : ℕ) → option_map_or (λ conn. conn.open) (value_at c conns) false ≡ true → (before noted : List Note) → noted ≡ before ++ note.Turn k (event.Gone c) ∷ []
       → Stands conns flows links h → ToldBy h g before conns flows links noted
   lost_told k c opened before noted is s = record {
     steps = Noted (note.Turn k (event.Gone c)) ∷ [];
     is = is;
-    stands = turned k (event.Gone c) (lost_writes k c h (s.closed c (there (get nat_cmp conns c) opened) ∙ not_shut (get nat_cmp conns c) opened)) s;
+    stands = turned k (event.Gone c) (lost_writes k c h (s.closed c (there (value_at c conns) opened) ∙ not_shut (value_at c conns) opened)) s;
     left = left;
   }
     where

@@ -12,7 +12,7 @@ use Rattle.h2_frames.specs.Spelling.{spelling}
 use Rattle.io_ports.specs.declared.octets.NoMemory.{NoMemory}
 use Rattle.std.proofs.Common.{ap, refl, subst, sym, ◌∙◌}
 use Rattle.std.proofs.lemmas.List.{append-nil, take_min}
-use Rattle.std.specs.BTreeMap.{BTreeMap, WritesThrough, get}
+use Rattle.paged_map.specs.PagedMap.{WritesThrough, value_at}
 use Rattle.std.specs.Option.{option_and_then, option_map_or}
 use Rattle.std.specs.Ordering.{nat_cmp}
 use Rattle.std.specs.Prelude.{Bool, Err, IfOk, IfSome, List, MatchOption, None, Ok, Option, Result, Some, [], drop, false, if◌then◌else◌, length, min, suc, take, true, zero, ℕ, ◌++◌, ◌==◌, ◌∷◌, ◌≡◌}
@@ -39,7 +39,7 @@ listed_bodies f last old new c = changed_bodies f (list_framed last) old new (λ
 pub owes_none : (old new : WireCore) → Keeps old new → Owes [] old new
 owes_none old new k = record { goes = λ h g start notes t. subst (λ (ns : List Note). ToldBy h g start new.conns new.flows new.links ns) (sym (append-nil notes)) (k.goes h g start notes t) }
 
-module _ (n : ℕ) (old new : WireCore) (v w : Conn) (found : get nat_cmp old.conns n ≡ Some v) (written : WritesThrough nat_cmp (nat_cmp n) old.conns w new.conns)
+module _ (n : ℕ) (old new : WireCore) (v w : Conn) (found : value_at n old.conns ≡ Some v) (written : WritesThrough n old.conns w new.conns)
     (opened : w.open ≡ v.open) (bodies : KeepBodies old.flows new.flows) (linked : new.links ≡ old.links) where
   with_links : (h : WayHistory) → Stands new.conns new.flows old.links h → Stands new.conns new.flows new.links h
   with_links h s = subst (λ (l : Links). Stands new.conns new.flows l h) (sym linked) s
@@ -123,7 +123,7 @@ module _ (n : ℕ) (old new : WireCore) (v w : Conn) (found : get nat_cmp old.co
           (step_stands (drop k) (Noted (note.Out n k)) e (λ j. out_writes j n k) (λ j. out_flows j n k) (λ j. out_shut j n k)) h g start notes t
 
 -- no connection is there, and none left
-pub none_left : (n most : ℕ) (core : WireCore) → get nat_cmp core.conns n ≡ None → Leaves n most 0 core core
+pub none_left : (n most : ℕ) (core : WireCore) → value_at n core.conns ≡ None → Leaves n most 0 core core
 none_left n most core gone_ = record {
   goes = λ h g start notes t. record {
     steps = t.steps;
@@ -145,7 +145,7 @@ none_left n most core gone_ = record {
     nothing c false other = refl
 
 -- a GOAWAY went in, or nothing did
-pub farewell_written : (n : ℕ) (old new : WireCore) (v w : Conn) → get nat_cmp old.conns n ≡ Some v → WritesThrough nat_cmp (nat_cmp n) old.conns w new.conns → w.open ≡ v.open
+pub farewell_written : (n : ℕ) (old new : WireCore) (v w : Conn) → value_at n old.conns ≡ Some v → WritesThrough n old.conns w new.conns → w.open ≡ v.open
     → new.flows ≡ old.flows → new.links ≡ old.links → (r : Result (Option (List ℕ × Crossed)) NoMemory)
     → IfOk r (λ o. MatchOption o (w ≡ v) (λ f. w.outlet.write.octets ≡ v.outlet.write.octets ++ f.0))
     → IfOk r (λ o. MatchOption o (Keeps old new) (λ f. Owes (answers_of n f.0) old new))
@@ -172,7 +172,7 @@ stream_known f links h k ends is = at f.back (ends_of f.exchange links) (ends f.
     at false (Some v) is e = some_of v.cluster_stream e is.cluster
 
 -- the octets of a DATA frame went from a flow's send buffer into the write buffer
-pub body_written : (n : ℕ) (old new : WireCore) (v w : Conn) → get nat_cmp old.conns n ≡ Some v → WritesThrough nat_cmp (nat_cmp n) old.conns w new.conns → w.open ≡ v.open → new.links ≡ old.links
+pub body_written : (n : ℕ) (old new : WireCore) (v w : Conn) → value_at n old.conns ≡ Some v → WritesThrough n old.conns w new.conns → w.open ≡ v.open → new.links ≡ old.links
     → (f : FlowId) (s k : ℕ) (last : Bool) (flow : Flow) → stream_in old.links f ≡ Some s → flow_in old.flows f ≡ Some flow
     → w.outlet.write.octets ≡ v.outlet.write.octets ++ (data_head s k last ++ take k (send flow)) → ChangesFlow f (body_framed k last) old.flows.exchanges new.flows.exchanges
     → Owes (note.Frame n f k last ∷ []) old new

@@ -1,9 +1,8 @@
 -- What holds of a core between any two calls.
+use Rattle.paged_map.specs.PagedMap.{PagedMap, value_at}
 use Rattle.proxy_config.specs.Ranges.{IsInRange}
 use Rattle.proxy_config.specs.declared.config.Config.{Config}
 use Rattle.proxy_config.specs.declared.config.LimitKeys.{LimitKeys}
-use Rattle.std.specs.BTreeMap.{BTreeMap, get}
-use Rattle.std.specs.Ordering.{nat_cmp}
 use Rattle.std.specs.Option.{option_map_or}
 use Rattle.std.specs.Prelude.{Bool, IfSome, false, is_some, length, max, ℕ, ◌+◌, ◌<◌, ◌^◌, ◌≡◌, ◌≤◌}
 use Rattle.wire_flows.specs.Flows.{Flows, is_live_in, time_of}
@@ -24,10 +23,10 @@ pub record IsKept (limits : LimitKeys) (outlet : Outgoing) : Type 0 where
   pub write : IsReady (unit_of limits) outlet.write
   pub waiting : length outlet.waiting ≤ limits.control_frames
 
-abbrev pub AreKept : LimitKeys → BTreeMap ℕ Conn → Type 0
-AreKept limits conns = (c : ℕ) → IfSome (get nat_cmp conns c) (λ conn. IsKept limits conn.outlet)
+abbrev pub AreKept : LimitKeys → PagedMap Conn → Type 0
+AreKept limits conns = (c : ℕ) → IfSome (value_at c conns) (λ conn. IsKept limits conn.outlet)
 
-pub record AreSound (config : Config) (now : ℕ) (links : Links) (conns : BTreeMap ℕ Conn) (flows : Flows) (timers : Timeouts) : Type 0 where
+pub record AreSound (config : Config) (now : ℕ) (links : Links) (conns : PagedMap Conn) (flows : Flows) (timers : Timeouts) : Type 0 where
   pub range : IsInRange config
   -- no timer and no Meter was told of a later moment
   pub moment : now < 2 ^ 60
@@ -42,4 +41,4 @@ IsSound core = AreSound core.config core.now core.links core.conns core.flows co
 
 -- the connection is there, and hasn't been closed
 abbrev pub is_open_at : ℕ → WireCore → Bool
-is_open_at c core = option_map_or (λ conn. conn.open) (get nat_cmp core.conns c) false
+is_open_at c core = option_map_or (λ conn. conn.open) (value_at c core.conns) false

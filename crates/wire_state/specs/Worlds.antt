@@ -7,7 +7,7 @@ use Rattle.flow_notes.specs.declared.notes.CloseCause.{CloseCause}
 use Rattle.flow_notes.specs.declared.notes.CloseCause.TheVariants as cause
 use Rattle.flow_notes.specs.declared.notes.Note.{Note}
 use Rattle.flow_notes.specs.declared.notes.Note.TheVariants as note
-use Rattle.std.specs.BTreeMap.{BTreeMap, get}
+use Rattle.paged_map.specs.PagedMap.{PagedMap, value_at}
 use Rattle.std.specs.Option.{option_and_then, option_map_or}
 use Rattle.std.specs.Ordering.{nat_cmp}
 use Rattle.std.specs.Prelude.{Bool, IfSome, List, OnOk, Option, Result, Some, [], false, if◌then◌else◌, is_some, not, take, true, ℕ, ◌++◌, ◌==◌, ◌∷◌, ◌≡◌}
@@ -26,15 +26,15 @@ use Rattle.wire_state.specs.declared.conn.Conn.{Conn}
 use Rattle.wire_state.specs.declared.wire_core.WireCore.{WireCore}
 
 -- the octets that wait for the socket of a connection
-abbrev pub octets_of : ℕ → BTreeMap ℕ Conn → List ℕ
-octets_of c conns = option_map_or (λ conn. conn.outlet.write.octets) (get nat_cmp conns c) []
+abbrev pub octets_of : ℕ → PagedMap Conn → List ℕ
+octets_of c conns = option_map_or (λ conn. conn.outlet.write.octets) (value_at c conns) []
 
-abbrev pub has_conn : ℕ → BTreeMap ℕ Conn → Bool
-has_conn c conns = is_some (get nat_cmp conns c)
+abbrev pub has_conn : ℕ → PagedMap Conn → Bool
+has_conn c conns = is_some (value_at c conns)
 
 -- it is there, and isn't open
-abbrev pub is_shut : ℕ → BTreeMap ℕ Conn → Bool
-is_shut c conns = option_map_or (λ conn. not conn.open) (get nat_cmp conns c) false
+abbrev pub is_shut : ℕ → PagedMap Conn → Bool
+is_shut c conns = option_map_or (λ conn. not conn.open) (value_at c conns) false
 
 -- a flow's places hold what those of the world do
 pub record FlowIs (f : FlowId) (h : WayHistory) (flow : Flow) : Type 0 where
@@ -46,7 +46,7 @@ pub record EndsAre (x : ℕ) (h : WayHistory) (ends : Ends) : Type 0 where
   pub client : ends.stream ≡ stream_to (response x) h
   pub cluster : IfSome ends.cluster_stream (λ s. s ≡ stream_to (request x) h)
 
-pub record Stands (conns : BTreeMap ℕ Conn) (flows : Flows) (links : Links) (h : WayHistory) : Type 0 where
+pub record Stands (conns : PagedMap Conn) (flows : Flows) (links : Links) (h : WayHistory) : Type 0 where
   pub writes : (c : ℕ) → octets_of c conns ≡ out world_setup c h
   pub flows_are : (f : FlowId) → IfSome (flow_in flows f) (FlowIs f h)
   -- a flow that isn't there holds nothing
@@ -60,7 +60,7 @@ pub record Stands (conns : BTreeMap ℕ Conn) (flows : Flows) (links : Links) (h
 
 -- The notes were made by these steps behind that history, and the core stands for what they lead to. What left each connection's
 -- write buffer up to there is told beside it.
-pub record ToldBy (h : WayHistory) (g : ℕ → List ℕ) (start : List Note) (conns : BTreeMap ℕ Conn) (flows : Flows) (links : Links) (notes : List Note) : Type 0 where
+pub record ToldBy (h : WayHistory) (g : ℕ → List ℕ) (start : List Note) (conns : PagedMap Conn) (flows : Flows) (links : Links) (notes : List Note) : Type 0 where
   pub steps : List WayStep
   pub is : notes ≡ start ++ shown steps
   pub stands : Stands conns flows links (after steps h)
@@ -88,11 +88,11 @@ pub record Owes (owed : List Note) (old new : WireCore) : Type 0 where
 -- ---- notes
 -- what was still to be noted is
 pub record Pays {A E : Type 0} (r : Result A E) (owed before now : List Note) : Type 0 where
-  pub goes : (h : WayHistory) (g : ℕ → List ℕ) (start : List Note) (conns : BTreeMap ℕ Conn) (flows : Flows) (links : Links) → ToldBy h g start conns flows links (before ++ owed) → OnOk r (ToldBy h g start conns flows links now)
+  pub goes : (h : WayHistory) (g : ℕ → List ℕ) (start : List Note) (conns : PagedMap Conn) (flows : Flows) (links : Links) → ToldBy h g start conns flows links (before ++ owed) → OnOk r (ToldBy h g start conns flows links now)
 
 -- what was noted moves no octets
 pub record Shows {A E : Type 0} (r : Result A E) (before now : List Note) : Type 0 where
-  pub goes : (h : WayHistory) (g : ℕ → List ℕ) (start : List Note) (conns : BTreeMap ℕ Conn) (flows : Flows) (links : Links) → ToldBy h g start conns flows links before → OnOk r (ToldBy h g start conns flows links now)
+  pub goes : (h : WayHistory) (g : ℕ → List ℕ) (start : List Note) (conns : PagedMap Conn) (flows : Flows) (links : Links) → ToldBy h g start conns flows links before → OnOk r (ToldBy h g start conns flows links now)
 
 -- the note moves no octets, wherever it stands
 abbrev pub IsIdle : Note → Type 0
@@ -128,7 +128,7 @@ IsFresh (event.Join c cluster) h = has (connections world_setup h) c ≡ false
 IsFresh e h = Unit {0}
 
 -- what has left each connection once the event was carried out: room takes a front of what waits
-abbrev pub left_after : Event → BTreeMap ℕ Conn → (ℕ → List ℕ) → ℕ → List ℕ
+abbrev pub left_after : Event → PagedMap Conn → (ℕ → List ℕ) → ℕ → List ℕ
 left_after (event.Room d n) conns g = λ c. g c ++ (if d == c then take n (octets_of c conns) else [])
 left_after e conns g = g
 

@@ -19,9 +19,10 @@ use crate::walk::Walk;
 use flow_gate::FlowId;
 use flow_notes::{FireKind, Notes};
 use io_ports::NoMemory;
+use paged_map::PagedMap;
 use proxy_config::Config;
 use std::alloc::Global;
-use std::collections::{BTreeMap, BTreeSet};
+use std::collections::BTreeSet;
 use wire_flows::WireFlows;
 use wire_heads::Expected;
 use wire_links::Links;
@@ -46,12 +47,12 @@ pub struct WireCore {
     pub obeyed: u64,
     pub links: Links,
     /// The open connections, and closed ones with octets in their write buffer.
-    pub conns: BTreeMap<u32, Conn>,
+    pub conns: PagedMap<u32, Conn>,
     /// Of these, at rest, the ones with octets in their write buffer.
     pub outs: BTreeSet<u32>,
     pub flows: WireFlows,
     /// By live exchange.
-    pub lengths: BTreeMap<u64, Lengths>,
+    pub lengths: PagedMap<u64, Lengths>,
     pub timers: WireTimers,
     pub load: Load,
     pub agenda: Agenda,
@@ -85,10 +86,10 @@ impl WireCore {
             now: 0,
             obeyed: 0,
             links: Links::new(alloc),
-            conns: BTreeMap::new(alloc),
+            conns: PagedMap::new(alloc),
             outs: BTreeSet::new(alloc),
             flows: WireFlows::new(alloc),
-            lengths: BTreeMap::new(alloc),
+            lengths: PagedMap::new(alloc),
             timers,
             load,
             agenda: Agenda::new(alloc),

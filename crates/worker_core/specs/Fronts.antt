@@ -1,5 +1,6 @@
 -- What waits for the sockets.
-use Rattle.std.specs.BTreeMap.{get, is_at}
+use Rattle.paged_map.specs.PagedMap.{value_at}
+use Rattle.std.specs.BTreeMap.{is_at}
 use Rattle.std.specs.List.{list_any}
 use Rattle.std.specs.Option.{option_map_or}
 use Rattle.std.specs.Ordering.{nat_cmp}
@@ -13,7 +14,7 @@ pub record IsFront (octets all : List ℕ) : Type 0 where
 
 -- the octets that wait for the connection's socket
 abbrev pub octets_at : ℕ → WireCore → List ℕ
-octets_at c core = option_map_or (λ conn. conn.outlet.write.octets) (get nat_cmp core.conns c) []
+octets_at c core = option_map_or (λ conn. conn.outlet.write.octets) (value_at c core.conns) []
 
 -- the least number above another for which it holds, and none only where there is none
 pub record IsLeastAbove (after : ℕ) (there : ℕ → Bool) (least : Option ℕ) : Type 0 where
@@ -22,7 +23,7 @@ pub record IsLeastAbove (after : ℕ) (there : ℕ → Bool) (least : Option ℕ
 
 -- the connection is open, or has octets that wait for its socket
 abbrev pub is_there : WireCore → ℕ → Bool
-is_there core c = is_some (get nat_cmp core.conns c)
+is_there core c = is_some (value_at c core.conns)
 
 -- it has octets that wait for its socket, as seen at the end of the last dispatch that changed anything there
 abbrev pub has_octets : WireCore → ℕ → Bool

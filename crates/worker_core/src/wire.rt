@@ -127,11 +127,7 @@ impl WireSession {
     pub fn conn_after(&self, after: u32) -> Option<u32>
         ensures { IsLeastAbove after (is_there self.now.core) result }
     {
-        let above = (Bound::Excluded(after), Bound::Unbounded);
-        match self.core.conns.range(above).next() {
-            Some((conn, _)) => Some(*conn),
-            None => None,
-        }
+        self.core.conns.next_above(after)
     }
 
     /// Whether the connection, which came, isn't open any more.

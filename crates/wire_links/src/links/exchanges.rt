@@ -4,7 +4,6 @@ ghost use Rattle.wire_links.specs.Links.{IsOn, IsToFrame, cluster_of, doomed, en
 
 use super::{Links, tables};
 use io_ports::NoMemory;
-use std::collections::btree_map::Entry;
 
 /// The two ends of an exchange.
 #[derive(Clone, Copy, Debug, PartialEq, Eq)]
@@ -73,20 +72,22 @@ impl Links {
         ensures ok { OnOk result (self.new ≡ started exchange conn stream to self.old) }
         ensures err { OnErr result (self.new ≡ self.old) }
     {
-        let Entry::Vacant(entry) = self.exchanges.entry(exchange)? else {
-            unreachable!()
-        };
-        tables::open(&mut self.seats, conn, stream, exchange)?;
-        let Ok(()) = tables::connect(&mut self.seats, &mut self.offers, to, exchange) else {
-            tables::leave(&mut self.seats, conn, exchange, Some(stream));
-            return Err(NoMemory);
-        };
-        let _ = entry.insert(Ends {
+        let ends = Ends {
             client: conn,
             stream,
             cluster: to,
             cluster_stream: None,
-        });
+        };
+        let _ = self.exchanges.insert(exchange, ends)?;
+        let Ok(()) = tables::open(&mut self.seats, conn, stream, exchange) else {
+            let _ = self.exchanges.remove(&exchange);
+            return Err(NoMemory);
+        };
+        let Ok(()) = tables::connect(&mut self.seats, &mut self.offers, to, exchange) else {
+            tables::leave(&mut self.seats, conn, exchange, Some(stream));
+            let _ = self.exchanges.remove(&exchange);
+            return Err(NoMemory);
+        };
         Ok(())
     }
 

@@ -8,10 +8,11 @@ use crate::conn::Conn;
 use crate::seat::Seat;
 use io_ports::NoMemory;
 use number_set::NumberSet;
+use paged_map::PagedMap;
 use std::alloc::Global;
 use std::collections::BTreeMap;
 
-pub(super) type Seats = BTreeMap<u32, Seat>;
+pub(super) type Seats = PagedMap<u32, Seat>;
 
 // By cluster, the connections that can take one more exchange.
 pub(super) type Offers = BTreeMap<u32, NumberSet>;

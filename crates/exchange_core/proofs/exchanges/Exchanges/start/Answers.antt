@@ -32,7 +32,7 @@ returns-in_err-exchange-clause-sound c = seen_sound (record c.self.inside { spar
 
 pub returns-in_err-insert-clause-sound : goal.returns-in_err-insert-clause-sound
 returns-in_err-insert-clause-sound c = seen_sound (record c.self.inside { spares = c.new.new.spares; live = c.insert.new.self; doomed = c.reserve.new.self; metered = c.reserve-2.new.self })
-    (room_made c.self.inside (record c.self.inside { spares = c.new.new.spares; live = c.insert.new.self; doomed = c.reserve.new.self; metered = c.reserve-2.new.self }) c.self.invariant c.in_err-insert.ensures.err c.reserve.ensures.items refl refl refl c.reserve-2.ensures.items c.reserve.ensures.len c.reserve.ensures.capacity c.reserve-2.ensures.more).1
+    (room_made c.self.inside (record c.self.inside { spares = c.new.new.spares; live = c.insert.new.self; doomed = c.reserve.new.self; metered = c.reserve-2.new.self }) c.self.invariant (λ i. (c.in_err-insert.ensures.err i).entries) c.reserve.ensures.items refl refl refl c.reserve-2.ensures.items c.reserve.ensures.len c.reserve.ensures.capacity c.reserve-2.ensures.more).1
 
 abbrev after : goal.After-self-2-1 → Inside
 after c = record c.self.inside { spares = c.new.new.spares; live = c.insert.new.self; doomed = c.reserve.new.self; metered = c.reserve-2.new.self; last = c.in_ok-number.number; time = c.args.spec.now.now }

@@ -1,0 +1,4 @@
+mod Ascending
+mod Directory
+mod Following
+mod Slotted
