@@ -146,13 +146,13 @@ pub framed_last : (n : ℕ) (last : Bool) (flow : Flow) → last_place (body_fra
 framed_last n last flow = changed_length (losing n) flow.chain.places (length flow.chain.places)
 
 -- ---- octets that come
-by_more : (b : Bool) {xs ys octets : List ℕ} → (b ≡ true → xs ≡ ys ++ octets) → (b ≡ false → xs ≡ ys) → xs ≡ ys ++ (if b then octets else [])
-by_more true f g = f refl
-by_more false f g = g refl ∙ sym (append-nil _)
+by_more : (b : Bool) {xs ys : List ℕ} (octets : List ℕ) → (b ≡ true → xs ≡ ys ++ octets) → (b ≡ false → xs ≡ ys) → xs ≡ ys ++ (if b then octets else [])
+by_more true octets f g = f refl
+by_more false octets f g = g refl ∙ sym (append-nil _)
 
 pub arrived_held : (octets : List ℕ) (flow : Flow) (r : ℕ) → octets_in (arrived octets flow) r ≡ octets_in flow r ++ (if r == 0 then octets else [])
 arrived_held octets flow zero = refl
-arrived_held octets flow (suc r) = by_more (suc r == 0) (λ e. absurd (grind (arith, nat_tests))) (λ e. refl)
+arrived_held octets flow (suc r) = by_more (suc r == 0) octets (λ e. absurd (grind (arith, nat_tests))) (λ e. refl)
 
 -- ---- what moves none
 pub record KeepsOctets (old new : Flow) : Type 0 where

@@ -12,7 +12,7 @@ use Rattle.tape_laws.specs.Connections.{connections, was_closed}
 use Rattle.tape_laws.specs.Dispatches.{has}
 use Rattle.tape_laws.specs.History.{Noted}
 use Rattle.tape_laws.specs.World.{out}
-use Rattle.wire_flows.proofs.Cases.{by_case}
+use Rattle.wire_flows.proofs.Cases.{by_case, some_mapped}
 use Rattle.wire_flows.specs.Flows.{Flows, flow_in}
 use Rattle.wire_links.proofs.Under.{choice, under_changed, under_insert, under_remove}
 use Rattle.wire_links.specs.Links.{IsSound, Links, accepted, doomed, ends_of, forgotten, framed, is_known, joined, new_conn, started, with_conn, with_stream}
@@ -65,19 +65,19 @@ links_go old new k conns flows h s = record {
 pub links_told : (old new : Links) → KeepsEnds old new → (conns : PagedMap Conn) (flows : Flows) (h : WayHistory) (g : ℕ → List ℕ) (start notes : List Note) → ToldBy h g start conns flows old notes → ToldBy h g start conns flows new notes
 links_told old new k conns flows h g start notes t = record { steps = t.steps; is = t.is; stands = links_go old new k conns flows (after t.steps h) t.stands; left = t.left }
 
-still_some : (b : Bool) (f : Link → Link) (o : Option Link) → is_some (if b then option_map f o else o) ≡ is_some o
-still_some true f None = refl
-still_some true f (Some v) = refl
-still_some false f o = refl
+still_there : (c d : ℕ) (f : Link → Link) (es : List (ℕ × Link)) → is_some (if nat_eq c d then option_map f (under c es) else under d es) ≡ is_some (under d es)
+still_there c d f es = by_case (nat_eq c d)
+    (λ e. ap (λ b. is_some (if b then option_map f (under c es) else under d es)) e ∙ (some_mapped f (under c es) ∙ ap (λ v. is_some (under v es)) (is_number c d e)))
+    (λ e. ap (λ b. is_some (if b then option_map f (under c es) else under d es)) e)
 
 pub conn_changed_keeps : (c : ℕ) (f : Link → Link) (links new : Links) → new ≡ with_conn c f links → KeepsEnds links new
 conn_changed_keeps c f links new e = record {
   ends = λ x. ap (λ (l : Links). ends_of x l) e;
-  known = λ d none. sym (ap (λ (l : Links). is_known d l) e ∙ (ap is_some (under_changed links.conns c d f) ∙ still_some (nat_eq c d) f _)) ∙ none;
+  known = λ d none. sym (ap (λ (l : Links). is_known d l) e ∙ (ap is_some (under_changed links.conns c d f) ∙ still_there c d f links.conns)) ∙ none;
 }
 
 pub conn_changed_known : (c : ℕ) (f : Link → Link) (links new : Links) → new ≡ with_conn c f links → (d : ℕ) → is_known d new ≡ is_known d links
-conn_changed_known c f links new e d = ap (λ (l : Links). is_known d l) e ∙ (ap is_some (under_changed links.conns c d f) ∙ still_some (nat_eq c d) f _)
+conn_changed_known c f links new e d = ap (λ (l : Links). is_known d l) e ∙ (ap is_some (under_changed links.conns c d f) ∙ still_there c d f links.conns)
 
 inserted_none : (b : Bool) (v : Link) (o : Option Link) → is_some (if b then Some v else o) ≡ false → is_some o ≡ false
 inserted_none true v o e = cc

@@ -118,10 +118,10 @@ module _ (x c s d : ℕ) (to : Option ℕ) (spec : StartSpec) (config : Config) 
     none_there : (f : FlowId) → (x == f.exchange) ≡ true → is_there old f ≡ false
     none_there f e = none_of (exchange_at old.exchanges f.exchange) f.back (subst (λ (v : ℕ). is_some (exchange_at old.exchanges v) ≡ false) (is_number x f.exchange e) fresh)
 
-    multiple : Bool → ℕ
+    abbrev multiple : Bool → ℕ
     multiple side = if side then config.limits.overflow_multiple else multiple_of spec config
 
-    filters : Bool → List Filter
+    abbrev filters : Bool → List Filter
     filters side = if side then back else there
 
     -- both begin
@@ -169,7 +169,7 @@ module _ (x c s d : ℕ) (to : Option ℕ) (spec : StartSpec) (config : Config) 
 
 -- ---- the stream of a request at its cluster
 pub record OpensStream (x s : ℕ) (old new : Links) : Type 0 where
-  pub ends : (y : ℕ) → ends_of y new ≡ (if x == y then option_map (with_stream s) (ends_of y old) else ends_of y old)
+  pub ends : (y : ℕ) → ends_of y new ≡ (if x == y then option_map (with_stream s) (ends_of x old) else ends_of y old)
   pub known : (c : ℕ) → is_known c new ≡ is_known c old
 
 module _ (x s : ℕ) (h : WayHistory) where
@@ -189,8 +189,8 @@ module _ (x s : ℕ) (h : WayHistory) where
     flows_are = λ f. if_some (flow_in flows f) (λ flow was. record { last = was.last; holds = was.holds }) (stands.flows_are f);
     empty = stands.empty;
     ends = λ y. by_case (x == y)
-        (λ e. subst (λ (o : Option Ends). IfSome o (EndsAre y (opening ∷ h))) (sym (l.ends y ∙ ap (λ b. if b then option_map (with_stream s) (ends_of y links) else ends_of y links) e)) (placed_ends y e (ends_of y links) (stands.ends y)))
-        (λ e. subst (λ (o : Option Ends). IfSome o (EndsAre y (opening ∷ h))) (sym (l.ends y ∙ ap (λ b. if b then option_map (with_stream s) (ends_of y links) else ends_of y links) e)) (if_some (ends_of y links) (other_ends y e) (stands.ends y)));
+        (λ e. subst (λ (o : Option Ends). IfSome o (EndsAre y (opening ∷ h))) (sym (l.ends y ∙ (ap (λ b. if b then option_map (with_stream s) (ends_of x links) else ends_of y links) e ∙ ap (λ v. option_map (with_stream s) (ends_of v links)) (is_number x y e)))) (placed_ends y e (ends_of y links) (stands.ends y)))
+        (λ e. subst (λ (o : Option Ends). IfSome o (EndsAre y (opening ∷ h))) (sym (l.ends y ∙ ap (λ b. if b then option_map (with_stream s) (ends_of x links) else ends_of y links) e)) (if_some (ends_of y links) (other_ends y e) (stands.ends y)));
     known = λ c e. stands.known c (sym (l.known c) ∙ e);
     closed = stands.closed;
     come = stands.come;

@@ -147,8 +147,8 @@ module _ {A E : Type 0} (r : Result A E) (e : Event) (l : LosesNone e) (m : Take
   }
 
 -- it does nothing
-pub turns_same : {A E : Type 0} (a : A) (e : Event) → LosesNone e → TakesNone e → (core : WireCore) (noted : List Note) → Turns (Ok {E = E} a) e core noted core noted
-turns_same a e l m core noted = turns_kept (Ok {E = E} a) e l m core core noted (record { goes = λ h g start notes t. t })
+pub turns_same : {A E : Type 0} (a : A) (e : Event) → LosesNone e → TakesNone e → (core : WireCore) (noted : List Note) → Turns {A = A} {E = E} (Ok a) e core noted core noted
+turns_same {A = A} {E = E} a e l m core noted = turns_kept {A = A} {E = E} (Ok a) e l m core core noted (record { goes = λ h g start notes t. t })
 
 -- a connection comes
 pub turns_joined : {A E : Type 0} (r : Result A E) (c cluster : ℕ) (old new : WireCore) (noted : List Note) → Comes r c old new → Turns r (event.Join c cluster) old noted new noted
@@ -158,7 +158,7 @@ turns_joined r c cluster old new noted comes = record {
       (came_last (connections world_setup h) c) (s.come c fresh).1;
 }
 
-pub turns_accepted : {A B E : Type 0} (a : A) (r : Result B E) (c : ℕ) (old mid new : WireCore) (noted now : List Note) → Comes (Ok {E = E} a) c old mid → Goes r mid noted new now
+pub turns_accepted : {A B E : Type 0} (a : A) (r : Result B E) (c : ℕ) (old mid new : WireCore) (noted now : List Note) → Comes {A = A} {E = E} (Ok a) c old mid → Goes r mid noted new now
     → Turns r (event.Accept c) old noted new now
 turns_accepted a r c old mid new noted now comes goes = record {
   goes = λ h g before k is s left fresh. goes.goes h g before
