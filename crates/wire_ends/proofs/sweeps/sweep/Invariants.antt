@@ -1,5 +1,5 @@
 use Rattle.flow_notes.specs.declared.notes.Note.{Note}
-use Rattle.std.specs.Prelude.{List, length}
+use Rattle.std.specs.Prelude.{List, length, ℕ}
 use Rattle.wire_ends.proofs.sweeps.sweep.Given as goal
 use Rattle.wire_state.specs.Noting.{Appends}
 use Rattle.wire_state.specs.Sound.{IsSound}

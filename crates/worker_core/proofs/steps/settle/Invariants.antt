@@ -1,5 +1,5 @@
 use Rattle.flow_notes.specs.declared.notes.Note.{Note}
-use Rattle.std.specs.Prelude.{List}
+use Rattle.std.specs.Prelude.{List, ℕ}
 use Rattle.wire_state.specs.Noting.{Appends}
 use Rattle.wire_state.specs.Progress.{to_go}
 use Rattle.wire_state.specs.Sound.{IsSound}
