@@ -13,6 +13,7 @@ mod line;
 mod loads;
 mod notes;
 mod outlet;
+mod plain_queue;
 mod posts;
 mod relay_octets;
 mod relay_pairs;

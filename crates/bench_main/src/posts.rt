@@ -6,25 +6,25 @@ ghost use Rattle.std.specs.Thread.{IsSync};
 ghost use Rattle.post_queue.specs.Clauses.{IsPosterOf, IsRunnerOf, passes_in};
 
 use crate::line::Line;
+use crate::plain_queue::{Emptying, plain_turn_of_one, plain_turn_of_three};
 use crate::stopwatch::{Stopwatch, per_second};
 use anyhow::{bail, ensure};
-use crossbeam_queue::SegQueue;
 use flow_notes::Job;
-use post_queue::{BATCH, Post, PostBox, PosterPass, PosterPasses, RunnerPass};
-use std::alloc::{AllocError, Global};
+use post_queue::{Post, PostBox, PosterPass, PosterPasses, RunnerPass};
+use std::alloc::Global;
 use std::rt::Clock;
 use std::sync::Wait;
 use std::thread;
 use std::thread::Threads;
 
 /// How many posts there are in one turn, of all posters together.
-const POSTS: u32 = 900_000;
+pub const POSTS: u32 = 900_000;
 
 /// How many rounds there are. In each, each way has one turn, and its median counts.
 const ROUNDS: usize = 21;
 
 /// How often the runner looks for posts in a turn, at most.
-const LOOKS: u64 = 1_000_000_000;
+pub const LOOKS: u64 = 1_000_000_000;
 
 /// How values go from one thread to another.
 #[derive(Clone, Copy)]
@@ -35,6 +35,29 @@ enum Way {
     PlainLists,
     /// Through a plain queue, by bare pops.
     PlainPops,
+}
+
+/// How many threads post.
+#[derive(Clone, Copy)]
+enum Posters {
+    One,
+    Three,
+}
+
+impl Posters {
+    fn name(self) -> &'static str {
+        match self {
+            Posters::One => "one poster",
+            Posters::Three => "three posters",
+        }
+    }
+
+    fn count(self) -> u64 {
+        match self {
+            Posters::One => 1,
+            Posters::Three => 3,
+        }
+    }
 }
 
 // Posts so many jobs.
@@ -67,7 +90,8 @@ fn empty<R: Wait>(rt: &R, alloc: Global, posts: &PostBox, mut runner: RunnerPass
     sum
 }
 
-fn add_all(sum: u64, posts: &[Post]) -> u64 {
+/// The sum, and the numbers of these posts.
+pub fn add_all(sum: u64, posts: &[Post]) -> u64 {
     let mut sum = sum;
     for post in posts {
         sum = sum.wrapping_add(post.number);
@@ -190,133 +214,19 @@ fn exchange_by_three<R: Threads + Wait + Sync>(
     .1
 }
 
-// The same through a plain queue.
-fn fill_plain<R: Wait>(rt: &R, queue: &SegQueue<Post>, poster: u32, n: u32) {
-    for number in 0..n {
-        let post = Post {
-            poster,
-            number: u64::from(number),
-            job: Job::Look,
-        };
-        if queue.push(rt, post).is_err() {
-            return;
-        }
-    }
-}
-
-// At most as many values as a drain takes.
-fn take_list<R: Wait>(
-    rt: &R,
-    alloc: Global,
-    queue: &SegQueue<Post>,
-) -> Result<Vec<Post>, AllocError> {
-    let mut posts = Vec::with_capacity(alloc, BATCH)?;
-    for _ in 0..BATCH {
-        match queue.pop(rt) {
-            Some(post) => posts.push_reserved(post),
-            None => break,
-        }
-    }
-    Ok(posts)
-}
-
-fn empty_in_lists<R: Wait>(rt: &R, alloc: Global, queue: &SegQueue<Post>) -> u64 {
-    let mut taken: u64 = 0;
-    let mut sum: u64 = 0;
-    for _ in 0..LOOKS {
-        if taken >= u64::from(POSTS) {
-            break;
-        }
-        let Ok(list) = take_list(rt, alloc, queue) else {
-            break;
-        };
-        taken = taken.wrapping_add(list.len() as u64);
-        sum = add_all(sum, list.as_slice());
-    }
-    sum
-}
-
-fn empty_by_pops<R: Wait>(rt: &R, queue: &SegQueue<Post>) -> u64 {
-    let mut taken: u64 = 0;
-    let mut sum: u64 = 0;
-    for _ in 0..LOOKS {
-        if taken >= u64::from(POSTS) {
-            break;
-        }
-        if let Some(post) = queue.pop(rt) {
-            taken = taken.wrapping_add(1);
-            sum = sum.wrapping_add(post.number);
-        }
-    }
-    sum
-}
-
-fn empty_plain<R: Wait>(rt: &R, alloc: Global, queue: &SegQueue<Post>, in_lists: bool) -> u64 {
-    if in_lists {
-        empty_in_lists(rt, alloc, queue)
-    } else {
-        empty_by_pops(rt, queue)
-    }
-}
-
-fn plain_turn_of_one<R: Threads + Wait + Sync>(
-    rt: &R,
-    alloc: Global,
-    in_lists: bool,
-) -> anyhow::Result<u64> {
-    let queue = SegQueue::new(alloc)?;
-    let queue = &queue;
-    let (_, sum) = thread::join(
-        rt,
-        move || fill_plain(rt, queue, 0, POSTS),
-        move || empty_plain(rt, alloc, queue, in_lists),
-    );
-    Ok(sum)
-}
-
-fn fill_plain_by_three<R: Threads + Wait + Sync>(rt: &R, queue: &SegQueue<Post>) {
-    thread::join(
-        rt,
-        move || fill_plain(rt, queue, 0, POSTS / 3),
-        move || fill_plain_by_two(rt, queue),
-    );
-}
-
-fn fill_plain_by_two<R: Threads + Wait + Sync>(rt: &R, queue: &SegQueue<Post>) {
-    thread::join(
-        rt,
-        move || fill_plain(rt, queue, 1, POSTS / 3),
-        move || fill_plain(rt, queue, 2, POSTS / 3),
-    );
-}
-
-fn plain_turn_of_three<R: Threads + Wait + Sync>(
-    rt: &R,
-    alloc: Global,
-    in_lists: bool,
-) -> anyhow::Result<u64> {
-    let queue = SegQueue::new(alloc)?;
-    let queue = &queue;
-    let (_, sum) = thread::join(
-        rt,
-        move || fill_plain_by_three(rt, queue),
-        move || empty_plain(rt, alloc, queue, in_lists),
-    );
-    Ok(sum)
-}
-
 fn turn(
     rt: &(impl AllocGlobal + Threads + Wait + Sync),
     way: Way,
-    three: bool,
+    posters: Posters,
 ) -> anyhow::Result<u64> {
-    match (way, three) {
-        (Way::Posts, false) => turn_of_one(rt, rt.alloc()),
-        (Way::Posts, true) => turn_of_three(rt, rt.alloc()),
-        (Way::PlainLists, false) => plain_turn_of_one(rt, rt.alloc(), true),
-        (Way::PlainLists, true) => plain_turn_of_three(rt, rt.alloc(), true),
-        (Way::PlainPops, false) => plain_turn_of_one(rt, rt.alloc(), false),
-        (Way::PlainPops, true) => plain_turn_of_three(rt, rt.alloc(), false),
+    let alloc = rt.alloc();
+    match (way, posters) {
+        (Way::Posts, Posters::One) => turn_of_one(rt, alloc),
+        (Way::Posts, Posters::Three) => turn_of_three(rt, alloc),
+        (Way::PlainLists, Posters::One) => plain_turn_of_one(rt, alloc, Emptying::InLists),
+        (Way::PlainLists, Posters::Three) => plain_turn_of_three(rt, alloc, Emptying::InLists),
+        (Way::PlainPops, Posters::One) => plain_turn_of_one(rt, alloc, Emptying::ByPops),
+        (Way::PlainPops, Posters::Three) => plain_turn_of_three(rt, alloc, Emptying::ByPops),
     }
 }
 
@@ -324,14 +234,14 @@ fn turn(
 fn timed(
     rt: &(impl Clock + AllocGlobal + Threads + Wait + Sync),
     way: Way,
-    three: bool,
+    posters: Posters,
 ) -> anyhow::Result<u64> {
-    let posters: u64 = if three { 3 } else { 1 };
-    let each = u64::from(POSTS) / posters;
+    let count = posters.count();
+    let each = u64::from(POSTS) / count;
     let watch = Stopwatch::start(rt)?;
-    let sum = turn(rt, way, three)?;
+    let sum = turn(rt, way, posters)?;
     let nanos = watch.nanos(rt)?;
-    ensure!(sum == posters * (each * (each - 1) / 2), "a post was lost");
+    ensure!(sum == count * (each * (each - 1) / 2), "a post was lost");
     Ok(nanos)
 }
 
@@ -347,20 +257,19 @@ fn percent(part: u64, whole: u64) -> u64 {
 
 fn report(
     rt: &(impl Print + Clock + AllocGlobal + Threads + Wait + Sync),
-    name: &str,
-    three: bool,
+    posters: Posters,
 ) -> anyhow::Result<()> {
     let mut posts = [0; ROUNDS];
     let mut lists = [0; ROUNDS];
     let mut pops = [0; ROUNDS];
     for round in 0..ROUNDS {
-        posts[round] = timed(rt, Way::Posts, three)?;
-        lists[round] = timed(rt, Way::PlainLists, three)?;
-        pops[round] = timed(rt, Way::PlainPops, three)?;
+        posts[round] = timed(rt, Way::Posts, posters)?;
+        lists[round] = timed(rt, Way::PlainLists, posters)?;
+        pops[round] = timed(rt, Way::PlainPops, posters)?;
     }
     tell_rates(
         rt,
-        name,
+        posters.name(),
         median_rate(posts),
         median_rate(lists),
         median_rate(pops),
@@ -388,6 +297,6 @@ fn tell_rates(
 
 /// Posts of one poster, and of three.
 pub fn run(rt: &(impl Print + Clock + AllocGlobal + Threads + Wait + Sync)) -> anyhow::Result<()> {
-    report(rt, "one poster", false)?;
-    report(rt, "three posters", true)
+    report(rt, Posters::One)?;
+    report(rt, Posters::Three)
 }

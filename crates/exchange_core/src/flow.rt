@@ -69,7 +69,7 @@ impl Flow {
         ensures sound { IfOk result IsSound }
     {
         let mut recv = WatermarkBuffer::new(alloc, 0);
-        recv.ready(recv_room(filters.is_empty(), spec))?;
+        recv.ready(recv_room(filters.len(), spec))?;
         Ok(Flow {
             window: spec.recv,
             recv,
@@ -104,7 +104,7 @@ impl Flow {
         self.window = 0;
         self.message = Message::new();
         self.multiple = multiple;
-        self.recv.ready(recv_room(true, spec))?;
+        self.recv.ready(recv_room(0, spec))?;
         self.window = spec.recv;
         Ok(true)
     }
@@ -347,16 +347,16 @@ fn is_target_above(to: Option<u32>, gates: &Gates) -> bool
     }
 }
 
-// For how many octets a receive buffer gets room: for its window, and where octets go from it to the send buffer at once, for
-// as many as that has room for. Two buffers with as much room can change places, and then no octet is copied.
-fn recv_room(is_direct: bool, spec: &StartSpec) -> u32
+// For how many octets a receive buffer before so many stages gets room: for its window, and before none, where octets go to the
+// send buffer at once, for as many as that has room for. Two buffers with as much room can change places, and then no octet is copied.
+fn recv_room(stages: u32, spec: &StartSpec) -> u32
     requires recv { spec.now.recv ≤ most_octets }
     requires send { spec.now.send ≤ most_octets }
     requires quantum { IsBetween 16384 1048576 spec.now.quantum }
     ensures window { spec.entry.now.recv ≤ result }
     ensures bound { result < 2 ^ 31 }
 {
-    if is_direct && spec.send > 0 {
+    if stages == 0 && spec.send > 0 {
         spec.recv.max(spec.send + spec.quantum)
     } else {
         spec.recv

@@ -1,7 +1,7 @@
 -- What each call writes makes its change, and what holds of the gates stays.
 use Rattle.flow_gate.proofs.Counting.{count-cons}
 use Rattle.flow_gate.proofs.Placed.{gates_same, line_in, watches_in}
-use Rattle.flow_gate.proofs.Reading.{BufferFound, BufferUpdated, FlowFound, FlowUpdated, above_in, buffer_get, buffer_updates, counted-board, flow_get, flow_updates, is_known-board, is_open-board, pending-board, pending_in, values-nil, watched-board, watchers-board, watchers_in}
+use Rattle.flow_gate.proofs.Reading.{BufferFound, BufferUpdated, FlowFound, FlowUpdated, above_in, counted-board, is_known-board, is_open-board, pending-board, pending_in, values-nil, watched-board, watchers-board, watchers_in}
 use Rattle.flow_gate.proofs.SameIds.{same_buffer_exact, same_flow-refl}
 use Rattle.flow_gate.proofs.Sound.{Begins-sound, Drains-sound, Knows-sound, Rises-sound, Tells-sound}
 use Rattle.flow_gate.proofs.SoundEnds.{Closes-sound}
@@ -24,10 +24,10 @@ use Rattle.std.specs.Prelude.{Err, List, None, Ok, OnErr, Option, Result, Some, 
 
 -- ---- small facts
 pub books_found : (f : FlowId) (books : Books) (flows : Flows) → FlowFound f (Some books) flows → flow_at flows f ≡ Some books
-books_found f books flows found = sym (found ∙ flow_get flows f)
+books_found f books flows found = sym found
 
 pub line_found : (b : BufferId) (line : Line) (buffers : Buffers) → BufferFound b (Some line) buffers → buffer_at buffers b ≡ Some line
-line_found b line buffers found = sym (found ∙ buffer_get buffers b)
+line_found b line buffers found = sym found
 
 nothing : {X : Type 0} (o : Option X) → is_some o ≡ false → o ≡ None
 nothing None e = refl
@@ -63,12 +63,11 @@ pub flow_opened : (f : FlowId) (books : Books) (flows flows' : Flows) (buffers :
     books.watches ≡ [] → FlowUpdated f (Some books) flows flows' → AreGates flows buffers →
     Begins f (board_of flows buffers) (board_of flows' buffers) × AreGates flows' buffers
 flow_opened f books flows flows' buffers closed empty updated gates =
-    let writes = flow_updates flows flows' f (Some books) updated in
     let none : flow_at flows f ≡ None = nothing (flow_at flows f) (sym (is_open-board flows buffers f) ∙ closed) in
-    let change = begins f books flows flows' buffers none empty writes in (
+    let change = begins f books flows flows' buffers none empty updated in (
       change,
       gates_same flows flows' buffers buffers (Begins-sound f _ _ (counted-board flows' buffers) change gates.sound)
-          (kept_flow watches_in f (Some books) flows flows' writes (empty ∙ sym (ap watches_in none))) (λ b. refl) gates,
+          (kept_flow watches_in f (Some books) flows flows' updated (empty ∙ sym (ap watches_in none))) (λ b. refl) gates,
     )
 
 -- ---- a buffer is known
@@ -77,7 +76,7 @@ pub buffer_opened : (b : BufferId) (line : Line) (flows : Flows) (buffers buffer
     Knows b (board_of flows buffers) (board_of flows buffers') × AreGates flows buffers'
 buffer_opened b line flows buffers buffers' unknown fresh updated gates =
     let writes : BufferWrites b (Some (record { above = false; watchers = []; pending = [] })) buffers buffers' =
-    subst (λ l. BufferWrites b (Some l) buffers buffers') fresh (buffer_updates buffers buffers' b (Some line) updated) in
+    subst (λ l. BufferWrites b (Some l) buffers buffers') fresh updated in
     let none : buffer_at buffers b ≡ None = nothing (buffer_at buffers b) (sym (is_known-board flows buffers b) ∙ unknown) in
     let change = knows b flows buffers buffers' none writes in (
       change,
@@ -94,12 +93,11 @@ pub buffer_closed : (b : BufferId) (flows : Flows) (buffers buffers' : Buffers) 
     BufferUpdated b None buffers buffers' → AreGates flows buffers →
     Closes b (board_of flows buffers) (board_of flows buffers') × AreGates flows buffers'
 buffer_closed b flows buffers buffers' unwatched updated gates =
-    let writes = buffer_updates buffers buffers' b None updated in
     let none : watchers_in (buffer_at buffers b) ≡ [] = sym (watchers-board flows buffers b) ∙ unwatched in
-    let change = closes b flows buffers buffers' unwatched (silent flows buffers b gates unwatched) gates.sound writes in (
+    let change = closes b flows buffers buffers' unwatched (silent flows buffers b gates unwatched) gates.sound updated in (
       change,
       gates_same flows flows buffers buffers' (Closes-sound b _ _ (counted-board flows buffers') change gates.sound) (λ f. refl)
-          (kept_buffer line_in b None buffers buffers' writes (sym (line_in-nil (buffer_at buffers b) none))) gates,
+          (kept_buffer line_in b None buffers buffers' updated (sym (line_in-nil (buffer_at buffers b) none))) gates,
     )
 
 -- ---- a drain
@@ -111,7 +109,7 @@ buffer_drained b line line' flows buffers buffers' found drained updated high no
     let is = line_found b line buffers found in
     let told : values_of line.pending ≡ [] = sym (pending-board flows buffers b ∙ ap pending_in is) ∙ none in
     let joined : BufferWrites b (Some (record { above = false; watchers = line.watchers; pending = line.watchers })) buffers buffers' =
-    subst (λ l. BufferWrites b (Some l) buffers buffers') drained (buffer_updates buffers buffers' b (Some line') updated) in
+    subst (λ l. BufferWrites b (Some l) buffers buffers') drained updated in
     let change = drains b line flows buffers buffers' is told high gates.sound joined in (
       change,
       gates_same flows flows buffers buffers' (Drains-sound b _ _ none (counted-board flows buffers') change gates.sound) (λ f. refl)
@@ -125,7 +123,7 @@ pub buffer_rose : (b : BufferId) (line line' : Line) (flows : Flows) (buffers bu
 buffer_rose b line line' flows buffers buffers' found rose updated low gates =
     let is = line_found b line buffers found in
     let joined : BufferWrites b (Some (record line { above = true })) buffers buffers' =
-    subst (λ l. BufferWrites b (Some l) buffers buffers') rose (buffer_updates buffers buffers' b (Some line') updated) in
+    subst (λ l. BufferWrites b (Some l) buffers buffers') rose updated in
     let change = rises b line flows buffers buffers' is low gates.sound joined in (
       change,
       gates_same flows flows buffers buffers' (Rises-sound b _ _ (counted-board flows buffers') change gates.sound) (λ f. refl)
@@ -187,7 +185,7 @@ pub low_taken : (b : BufferId) (line line' : Line) (low : Option FlowId) (flows 
     AreGates flows buffers → Tells b (option_to_list low) (board_of flows buffers) (board_of flows buffers') × AreGates flows buffers'
 low_taken b line line' low flows buffers buffers' found first left updated gates =
     let is = line_found b line buffers found in
-    let joined : BufferWrites b (Some (told 1 line)) buffers buffers' = subst (λ l. BufferWrites b (Some l) buffers buffers') left (buffer_updates buffers buffers' b (Some line') updated) in
+    let joined : BufferWrites b (Some (told 1 line)) buffers buffers' = subst (λ l. BufferWrites b (Some l) buffers buffers') left updated in
     lows_told b (Some (told 1 line)) (option_to_list low) flows buffers buffers' (sym (ap is_some is)) (sym (ap above_in is)) (sym (ap line_in is))
     (ap pending_in is ∙ first_told line.pending low first) joined gates
 
@@ -237,7 +235,7 @@ lows_taken b n flows buffers buffers' written gates =
 pub low_written : (b : BufferId) (n : ℕ) (line line' : Line) (buffers buffers' : Buffers) → BufferFound b (Some line) buffers → line' ≡ told n line →
     BufferUpdated b (Some line') buffers buffers' → LowsWritten b n buffers buffers'
 low_written b n line line' buffers buffers' found left updated c =
-    buffer_updates buffers buffers' b (Some line') updated c ∙ each (cases_Bool (same_buffer b c))
+    updated c ∙ each (cases_Bool (same_buffer b c))
   where
     each : (same_buffer b c ≡ true) ⊎ (same_buffer b c ≡ false) →
         cond (same_buffer b c) (Some line') (buffer_at buffers c) ≡ cond (same_buffer b c) (option_map (told n) (buffer_at buffers c)) (buffer_at buffers c)
@@ -253,7 +251,7 @@ pub none_written : (b : BufferId) (n : ℕ) (buffers buffers' : Buffers) → buf
 none_written b n buffers buffers' same found c = ap (λ bs. buffer_at bs c) same ∙ each (cases_Bool (same_buffer b c))
   where
     none : buffer_at buffers b ≡ None
-    none = sym (found ∙ buffer_get buffers b)
+    none = sym found
 
     each : (same_buffer b c ≡ true) ⊎ (same_buffer b c ≡ false) →
         buffer_at buffers c ≡ cond (same_buffer b c) (option_map (told n) (buffer_at buffers c)) (buffer_at buffers c)

@@ -1,7 +1,7 @@
 -- What `watch` and `forget` write makes their changes, and what holds of the gates stays.
 use Rattle.flow_gate.proofs.Calls.{books_found, line_found}
 use Rattle.flow_gate.proofs.Placed.{gates_forget, gates_same, gates_watch, line_in, watches_in}
-use Rattle.flow_gate.proofs.Reading.{BufferFound, BufferUpdated, FlowFound, FlowUpdated, buffer_cmp, buffer_updates, counted-board, flow_cmp, flow_updates, pending-board, pending_in, watched-board, watched_at, watchers-board, watchers_in}
+use Rattle.flow_gate.proofs.Reading.{BufferFound, BufferUpdated, FlowFound, FlowUpdated, counted-board, pending-board, pending_in, watched-board, watched_at, watchers-board, watchers_in}
 use Rattle.flow_gate.proofs.SoundEnds.{Forgets-sound, Watches-sound}
 use Rattle.flow_gate.proofs.Steps.{kept_buffer, kept_flow}
 use Rattle.flow_gate.proofs.StepsEnds.{ForgetWrites, forgets, watches}
@@ -17,7 +17,6 @@ use Rattle.std.proofs.Common.{ap, arith, inl, inr, refl, subst, sym, ◌∙◌}
 use Rattle.std.proofs.lemmas.Bool.{cases_Bool}
 use Rattle.std.proofs.lemmas.Map.Steps.{set_value_same}
 use Rattle.std.proofs.lemmas.Option.{same_Some}
-use Rattle.std.specs.BTreeMap.{is_at}
 use Rattle.flow_gate.specs.Ids.{is_own, same_buffer, same_flow}
 use Rattle.std.specs.List.{AllByRecursion}
 use Rattle.std.specs.Option.{option_map, option_map_or}
@@ -41,24 +40,24 @@ seen_same {K} {X} {Y} g test (e ∷ es) v w is same = elim (cases_Bool (test e.0
 -- ---- no room for a watch
 pub watch_failed : (f : FlowId) (b : BufferId) (books books' : Books) (line line' : Line) (flows flows' : Flows) (buffers buffers' : Buffers) →
     FlowFound f (Some books) flows → books'.watches ≡ books.watches →
-    flows' ≡ set_value (is_at (flow_cmp f)) flows books' → FlowUpdated f (Some books') flows flows' →
-    BufferFound b (Some line) buffers → line' ≡ line → buffers' ≡ set_value (is_at (buffer_cmp b)) buffers line' → BufferUpdated b (Some line') buffers buffers' →
+    flows' ≡ set_value (same_flow f) flows books' → FlowUpdated f (Some books') flows flows' →
+    BufferFound b (Some line) buffers → line' ≡ line → buffers' ≡ set_value (same_buffer b) buffers line' → BufferUpdated b (Some line') buffers buffers' →
     AreGates flows buffers → (board_of flows' buffers' ≡ board_of flows buffers) × AreGates flows' buffers'
 watch_failed f b books books' line line' flows flows' buffers buffers' has lists writes updated found same puts joined gates =
     let there = books_found f books flows has in
     let is = line_found b line buffers found in
     let states : (g : FlowId) → flow_state buffers g books' ≡ flow_state buffers g books =
     λ g i. record { count = held buffers g (watched_in (lists i)); watched = watched_in (lists i) } in
-    let lines : buffers' ≡ buffers = puts ∙ ap (set_value (is_at (buffer_cmp b)) buffers) same ∙ set_value_same (is_at (buffer_cmp b)) buffers line (sym found) in
+    let lines : buffers' ≡ buffers = puts ∙ ap (set_value (same_buffer b) buffers) same ∙ set_value_same (same_buffer b) buffers line (sym found) in
     let seen : board_of flows' buffers' ≡ board_of flows buffers =
     ap (board_of flows') lines ∙ (λ i. record {
-      flows = (ap (map (λ e. (e.0, flow_state buffers e.0 e.1))) writes ∙ seen_same (flow_state buffers) (is_at (flow_cmp f)) flows books books' has states) i;
+      flows = (ap (map (λ e. (e.0, flow_state buffers e.0 e.1))) writes ∙ seen_same (flow_state buffers) (same_flow f) flows books books' has states) i;
       buffers = map (λ e. (e.0, buffer_state e.1)) buffers;
     }) in (
       seen,
       gates_same flows flows' buffers buffers' (subst IsSound (sym seen) gates.sound)
-          (kept_flow watches_in f (Some books') flows flows' (flow_updates flows flows' f (Some books') updated) (lists ∙ sym (ap watches_in there)))
-          (kept_buffer line_in b (Some line') buffers buffers' (buffer_updates buffers buffers' b (Some line') joined) (ap (λ l. l.watchers) same ∙ sym (ap line_in is))) gates,
+          (kept_flow watches_in f (Some books') flows flows' updated (lists ∙ sym (ap watches_in there)))
+          (kept_buffer line_in b (Some line') buffers buffers' joined (ap (λ l. l.watchers) same ∙ sym (ap line_in is))) gates,
     )
 
 -- ---- a flow begins to watch
@@ -71,12 +70,11 @@ pub watch_begun : (f : FlowId) (b : BufferId) (place : ℕ) (books books' : Book
 watch_begun f b place books books' line line' flows flows' buffers buffers' has found fresh few lists updated longer joined apart gates =
     let there = books_found f books flows has in
     let is = line_found b line buffers found in
-    let writes = flow_updates flows flows' f (Some books') updated in
     let joins : (c : BufferId) → buffer_at buffers' c ≡ cond (same_buffer b c) (Some (record line { watchers = line.watchers ++ (place, f) ∷ [] })) (buffer_at buffers c) =
-    subst (λ l. (c : BufferId) → buffer_at buffers' c ≡ cond (same_buffer b c) (Some l) (buffer_at buffers c)) longer (buffer_updates buffers buffers' b (Some line') joined) in
-    let change = watches f b place books books' line flows flows' buffers buffers' there is apart gates.sound lists writes joins in (
+    subst (λ l. (c : BufferId) → buffer_at buffers' c ≡ cond (same_buffer b c) (Some l) (buffer_at buffers c)) longer joined in
+    let change = watches f b place books books' line flows flows' buffers buffers' there is apart gates.sound lists updated joins in (
       change,
-      gates_watch f b place books books' line flows flows' buffers buffers' there is fresh few lists writes joins
+      gates_watch f b place books books' line flows flows' buffers buffers' there is fresh few lists updated joins
           (Watches-sound f b _ _ apart (counted-board flows' buffers') change gates.sound) gates,
     )
 
@@ -110,13 +108,12 @@ are_watches f books flows buffers has gates =
 pub flow_forgotten : (f : FlowId) (flows flows' : Flows) (buffers buffers' : Buffers) → FlowUpdated f None flows flows' → ForgetWrites f buffers buffers' →
     AreGates flows buffers → Forgets f (board_of flows buffers) (board_of flows' buffers') × AreGates flows' buffers'
 flow_forgotten f flows flows' buffers buffers' updated leaves gates =
-    let writes = flow_updates flows flows' f None updated in
     let among : (g : FlowId) (c : BufferId) → times g (pending_in (buffer_at buffers c)) ≤ times g (watchers_in (buffer_at buffers c)) = λ g c.
     let seen : times g (pending_on (board_of flows buffers) c) ≡ times g (pending_in (buffer_at buffers c)) = ap (times g) (pending-board flows buffers c) in
     let whole : times g (watchers_of (board_of flows buffers) c) ≡ times g (watchers_in (buffer_at buffers c)) = ap (times g) (watchers-board flows buffers c) in
     omega (arith, seen, whole, gates.sound.pending g c) in
-    let change = forgets f flows flows' buffers buffers' among gates.sound writes leaves in
-    (change, gates_forget f flows flows' buffers buffers' writes leaves (Forgets-sound f _ _ (counted-board flows' buffers') change gates.sound) gates)
+    let change = forgets f flows flows' buffers buffers' among gates.sound updated leaves in
+    (change, gates_forget f flows flows' buffers buffers' updated leaves (Forgets-sound f _ _ (counted-board flows' buffers') change gates.sound) gates)
 
 -- its own buffers are closed in three steps
 pub own_closed : (f : FlowId) (b1 b2 b3 b4 : Buffers) → ((c : BufferId) → buffer_at b2 c ≡ (if same_buffer (buffer.Recv f) c then kept (buffer_at b1 c) else buffer_at b1 c)) →

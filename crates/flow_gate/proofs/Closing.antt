@@ -1,6 +1,6 @@
 -- Buffers that nobody watches are closed, one after another.
 use Rattle.flow_gate.proofs.Calls.{line_found}
-use Rattle.flow_gate.proofs.Reading.{BufferFound, BufferUpdated, buffer_updates}
+use Rattle.flow_gate.proofs.Reading.{BufferFound, BufferUpdated}
 use Rattle.flow_gate.proofs.SameIds.{same_buffer_exact}
 use Rattle.flow_gate.specs.Ids.{same_buffer, same_flow}
 use Rattle.flow_gate.specs.Line.{Line, Places}
@@ -38,7 +38,7 @@ at_key b o old is w same c = elim (cases_Bool (same_buffer b c)) [
 pub unwatched_closed : (b : BufferId) (line : Line) (old new : Buffers) → BufferFound b (Some line) old → line.watchers ≡ [] → BufferUpdated b None old new →
     (c : BufferId) → buffer_at new c ≡ (if same_buffer b c then kept (buffer_at old c) else buffer_at old c)
 unwatched_closed b line old new found none updated c =
-    buffer_updates old new b None updated c ∙ at_key b (Some line) old (line_found b line old found) None (sym (kept-unwatched line none)) c
+    updated c ∙ at_key b (Some line) old (line_found b line old found) None (sym (kept-unwatched line none)) c
 
 -- nothing was written
 unchanged : (b : BufferId) (o : Option Line) (old : Buffers) → buffer_at old b ≡ o → o ≡ kept o → (c : BufferId) →

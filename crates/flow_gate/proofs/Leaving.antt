@@ -3,7 +3,7 @@ use Rattle.flow_gate.proofs.Counting.{count-append, count-cons}
 use Rattle.flow_gate.proofs.Places.{others-none}
 use Rattle.flow_gate.proofs.Calls.{line_found}
 use Rattle.flow_gate.proofs.Placed.{line_in}
-use Rattle.flow_gate.proofs.Reading.{BufferFound, BufferUpdated, buffer_get, buffer_updates}
+use Rattle.flow_gate.proofs.Reading.{BufferFound, BufferUpdated}
 use Rattle.flow_gate.proofs.SameIds.{same_buffer-refl, same_buffer-comm, same_buffer_exact}
 use Rattle.flow_gate.specs.Board.{times, times_of_buffer}
 use Rattle.flow_gate.specs.Ids.{same_buffer}
@@ -117,10 +117,10 @@ left_written f w line gate gate' old new leaves found removes updated b =
     let same = line_there f w line gate old leaves found in
     let here : at_place w.place gate.watchers ≡ Some f = subst (λ l. at_place w.place l.watchers ≡ Some f) same leaves.here in
     let once : times f (values_of gate.watchers) ≤ 1 = subst (λ l. times f (values_of l.watchers) ≤ 1) same leaves.once in
-    buffer_updates old new w.buffer (Some gate') updated b ∙ ap (λ l. cond (same_buffer w.buffer b) (Some l) (buffer_at old b)) (removes here once ∙ ap (left f) (sym same))
+    updated b ∙ ap (λ l. cond (same_buffer w.buffer b) (Some l) (buffer_at old b)) (removes here once ∙ ap (left f) (sym same))
 
 pub not_there : (f : FlowId) (w : Watch) (line : Line) (old : Buffers) → StandsIn f w line old → BufferFound w.buffer None old → ⊥
-not_there f w line old leaves found = none-some line (found ∙ buffer_get old w.buffer ∙ leaves.found)
+not_there f w line old leaves found = none-some line (found ∙ leaves.found)
 
 -- a list around one of its places
 pub split_list : {X : Type 0} (xs : List X) (i : ℕ) (d : X) → i < length xs → (xs ≡ take i xs ++ (get_or xs i d ∷ drop (i + 1) xs)) × (take (i + 1) xs ≡ take i xs ++ get_or xs i d ∷ [])

@@ -1,5 +1,9 @@
 pub mod Counting
 pub mod Places
+pub mod Orders
+pub mod Naming
+pub mod ByFlow
+pub mod ByBuffer
 pub mod Reading
 pub mod SameIds
 pub mod Sound

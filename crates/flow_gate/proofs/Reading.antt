@@ -1,15 +1,13 @@
 -- What is seen of the gates, by the look-ups of their maps.
-use Rattle.flow_gate.proofs.Places.{eq_by_place}
+use Rattle.flow_gate.proofs.Orders.{buffer_cmp, is_at-buffer}
 use Rattle.flow_gate.proofs.SameIds.{same_flow_exact}
 use Rattle.flow_gate.specs.Board.{count, is_known, is_marked, is_open, lows, pending_on, times, watched_by, watchers_of}
 use Rattle.flow_gate.specs.Books.{Books}
 use Rattle.flow_gate.specs.Ids.{same_buffer, same_flow}
 use Rattle.flow_gate.specs.Line.{Line}
+use Rattle.flow_gate.specs.Named.{Updates}
 use Rattle.flow_gate.specs.Parts.{Buffers, Flows, board_of, buffer_at, buffer_state, flow_at, flow_state, held, watched_in}
-use Rattle.flow_gate.specs.contracts.ids.BufferIdOrd.TheImpl as buffer_ord
-use Rattle.flow_gate.specs.contracts.ids.FlowIdOrd.TheImpl as flow_ord
 use Rattle.flow_gate.specs.declared.ids.BufferId.{BufferId}
-use Rattle.flow_gate.specs.declared.ids.BufferId.TheVariants as buffer
 use Rattle.flow_gate.specs.declared.ids.FlowId.{FlowId}
 use Rattle.std.proofs.Common.{ap, inl, inr, refl, sym, ◌∙◌}
 use Rattle.std.proofs.lemmas.Bool.{cases_Bool}
@@ -17,69 +15,29 @@ use Rattle.std.proofs.lemmas.Map.Made.{lookup-map_values}
 use Rattle.std.specs.BTreeMap.{is_at}
 use Rattle.std.specs.Map.{lookup, values_of}
 use Rattle.std.specs.Option.{option_map, option_map_or}
-use Rattle.std.specs.Ordering.{bool_cmp, is_eq, nat_cmp, ordering_then}
-use Rattle.std.specs.Prelude.{Bool, List, None, Option, Some, [], cond, count_by, false, if◌then◌else◌, is_some, map, not, sum_by, true, ◌&&◌, ◌+◌, ◌∷◌, ◌≡◌}
-use Rattle.std.specs.declared.cmp.Ordering.{Ordering}
-use Rattle.std.specs.declared.cmp.Ordering.TheVariants.{Equal, Greater, Less}
+use Rattle.std.specs.Prelude.{Bool, List, None, Option, Some, [], cond, count_by, false, is_some, map, sum_by, ◌+◌, ◌∷◌, ◌≡◌}
 
--- ---- the orders of the maps' keys
-abbrev pub flow_cmp : FlowId → FlowId → Ordering
-flow_cmp = (flow_ord.ghosts).cmp
-
-abbrev pub buffer_cmp : BufferId → BufferId → Ordering
-buffer_cmp = (buffer_ord.ghosts).cmp
-
-is_eq-then : (o p : Ordering) → is_eq (ordering_then o p) ≡ (is_eq o && is_eq p)
-is_eq-then Less p = refl
-is_eq-then Equal p = refl
-is_eq-then Greater p = refl
-
-is_eq-bool : (a b : Bool) → is_eq (bool_cmp a b) ≡ (if a then b else not b)
-is_eq-bool true true = refl
-is_eq-bool true false = refl
-is_eq-bool false true = refl
-is_eq-bool false false = refl
-
-pub is_at-flow : (f g : FlowId) → is_at (flow_cmp f) g ≡ same_flow f g
-is_at-flow f g =
-    is_eq-then (nat_cmp f.exchange g.exchange) (bool_cmp f.back g.back)
-    ∙ (λ i. eq_by_place f.exchange g.exchange i && is_eq-bool f.back g.back i)
-
-pub is_at-buffer : (b c : BufferId) → is_at (buffer_cmp b) c ≡ same_buffer b c
-is_at-buffer (buffer.Recv f) (buffer.Recv g) = is_at-flow f g
-is_at-buffer (buffer.Stage f i) (buffer.Stage g j) =
-    is_eq-then (flow_cmp f g) (nat_cmp i j) ∙ (λ k. is_at-flow f g k && eq_by_place i j k)
-is_at-buffer (buffer.Send f) (buffer.Send g) = is_at-flow f g
-is_at-buffer (buffer.Write c) (buffer.Write d) = eq_by_place c d
-is_at-buffer _ _ = refl
-
--- what a map's `get` finds at a key, and what a write at a key leaves at each
+-- what a look-up finds, and what a write leaves at each name
 abbrev pub FlowFound : {X : Type 0} → FlowId → Option X → List (FlowId × X) → Type 0
-FlowFound f o es = o ≡ lookup (is_at (flow_cmp f)) es
+FlowFound f o es = o ≡ flow_at es f
 
 abbrev pub FlowUpdated : {X : Type 0} → FlowId → Option X → List (FlowId × X) → List (FlowId × X) → Type 0
-FlowUpdated f w old new = (g : FlowId) → lookup (is_at (flow_cmp g)) new ≡ cond (is_at (flow_cmp f) g) w (lookup (is_at (flow_cmp g)) old)
+FlowUpdated f w old new = Updates same_flow f w old new
 
-abbrev pub BufferFound : {X : Type 0} → BufferId → Option X → List (BufferId × X) → Type 0
-BufferFound b o es = o ≡ lookup (is_at (buffer_cmp b)) es
+abbrev pub BufferFound : BufferId → Option Line → Buffers → Type 0
+BufferFound b o es = o ≡ buffer_at es b
 
-abbrev pub BufferUpdated : {X : Type 0} → BufferId → Option X → List (BufferId × X) → List (BufferId × X) → Type 0
-BufferUpdated b w old new = (c : BufferId) → lookup (is_at (buffer_cmp c)) new ≡ cond (is_at (buffer_cmp b) c) w (lookup (is_at (buffer_cmp c)) old)
+abbrev pub BufferUpdated : BufferId → Option Line → Buffers → Buffers → Type 0
+BufferUpdated b w old new = Updates same_buffer b w old new
 
+-- ---- of an ordered map by buffer
 module _ {X : Type 0} where
-  pub flow_get : (es : List (FlowId × X)) (f : FlowId) → lookup (is_at (flow_cmp f)) es ≡ lookup (same_flow f) es
-  flow_get es f = λ i. lookup (λ g. is_at-flow f g i) es
-
-  pub buffer_get : (es : List (BufferId × X)) (b : BufferId) → lookup (is_at (buffer_cmp b)) es ≡ lookup (same_buffer b) es
+  buffer_get : (es : List (BufferId × X)) (b : BufferId) → lookup (is_at (buffer_cmp b)) es ≡ lookup (same_buffer b) es
   buffer_get es b = λ i. lookup (λ c. is_at-buffer b c i) es
 
-  -- what a change of a map says of its look-ups
-  pub flow_updates : (old new : List (FlowId × X)) (f : FlowId) (w : Option X) → FlowUpdated f w old new →
-      (g : FlowId) → lookup (same_flow g) new ≡ cond (same_flow f g) w (lookup (same_flow g) old)
-  flow_updates old new f w updates g = sym (flow_get new g) ∙ updates g ∙ (λ i. cond (is_at-flow f g i) w (flow_get old g i))
-
-  pub buffer_updates : (old new : List (BufferId × X)) (b : BufferId) (w : Option X) → BufferUpdated b w old new →
-      (c : BufferId) → lookup (same_buffer c) new ≡ cond (same_buffer b c) w (lookup (same_buffer c) old)
+  -- what a change of the map says of its look-ups
+  pub buffer_updates : (old new : List (BufferId × X)) (b : BufferId) (w : Option X) →
+      ((c : BufferId) → lookup (is_at (buffer_cmp c)) new ≡ cond (is_at (buffer_cmp b) c) w (lookup (is_at (buffer_cmp c)) old)) → Updates same_buffer b w old new
   buffer_updates old new b w updates c = sym (buffer_get new c) ∙ updates c ∙ (λ i. cond (is_at-buffer b c i) w (buffer_get old c i))
 
 -- ---- what is seen
@@ -160,23 +118,23 @@ module _ (flows : Flows) (buffers : Buffers) where
 
 -- ---- by what a map's `get` found
 module _ (flows : Flows) (buffers : Buffers) where
-  pub open_found : (f : FlowId) (r : Bool) → r ≡ is_some (lookup (is_at (flow_cmp f)) flows) → r ≡ is_open (board_of flows buffers) f
-  open_found f r is = is ∙ ap is_some (flow_get flows f) ∙ sym (is_open-board flows buffers f)
+  pub open_found : (f : FlowId) (r : Bool) → r ≡ is_some (flow_at flows f) → r ≡ is_open (board_of flows buffers) f
+  open_found f r is = is ∙ sym (is_open-board flows buffers f)
 
   pub count_found : (f : FlowId) (books : Option Books) → FlowFound f books flows → held buffers f (watched_at books) ≡ count (board_of flows buffers) f
-  count_found f books is = ap (λ o. held buffers f (watched_at o)) (is ∙ flow_get flows f) ∙ sym (count-board flows buffers f)
+  count_found f books is = ap (λ o. held buffers f (watched_at o)) is ∙ sym (count-board flows buffers f)
 
-  pub known_found : (b : BufferId) (r : Bool) → r ≡ is_some (lookup (is_at (buffer_cmp b)) buffers) → r ≡ is_known (board_of flows buffers) b
-  known_found b r is = is ∙ ap is_some (buffer_get buffers b) ∙ sym (is_known-board flows buffers b)
+  pub known_found : (b : BufferId) (r : Bool) → r ≡ is_some (buffer_at buffers b) → r ≡ is_known (board_of flows buffers) b
+  known_found b r is = is ∙ sym (is_known-board flows buffers b)
 
   pub marked_found : (b : BufferId) (line : Option Line) → BufferFound b line buffers → above_in line ≡ is_marked (board_of flows buffers) b
-  marked_found b line is = ap above_in (is ∙ buffer_get buffers b) ∙ sym (is_marked-board flows buffers b)
+  marked_found b line is = ap above_in is ∙ sym (is_marked-board flows buffers b)
 
   pub watchers_found : (b : BufferId) (line : Option Line) → BufferFound b line buffers → watchers_in line ≡ watchers_of (board_of flows buffers) b
-  watchers_found b line is = ap watchers_in (is ∙ buffer_get buffers b) ∙ sym (watchers-board flows buffers b)
+  watchers_found b line is = ap watchers_in is ∙ sym (watchers-board flows buffers b)
 
   pub pending_found : (b : BufferId) (line : Option Line) → BufferFound b line buffers → pending_in line ≡ pending_on (board_of flows buffers) b
-  pending_found b line is = ap pending_in (is ∙ buffer_get buffers b) ∙ sym (pending-board flows buffers b)
+  pending_found b line is = ap pending_in is ∙ sym (pending-board flows buffers b)
 
 pub values-nil : {K X : Type 0} (es : List (K × X)) → values_of es ≡ [] → es ≡ []
 values-nil [] e = refl

@@ -1,21 +1,21 @@
--- The stages of a flow stand next to each other in the order of buffers.
-use Rattle.flow_gate.proofs.Reading.{buffer_cmp, flow_cmp, is_at-flow}
+-- The stages of a flow stand next to each other in the order of stages.
+use Rattle.flow_gate.proofs.Orders.{flow_cmp, is_at-flow, stage_cmp}
 use Rattle.flow_gate.proofs.SameIds.{same_flow-comm, same_flow-refl, same_flow_exact}
 use Rattle.flow_gate.specs.Ids.{same_flow}
 use Rattle.flow_gate.specs.Parts.{bound_after, is_after, stage_of}
 use Rattle.flow_gate.specs.contracts.ids.FlowIdOrd.TheImpl.Laws as flow_laws
-use Rattle.flow_gate.specs.declared.ids.BufferId.{BufferId}
-use Rattle.flow_gate.specs.declared.ids.BufferId.TheVariants as buffer
 use Rattle.flow_gate.specs.declared.ids.FlowId.{FlowId}
+use Rattle.flow_gate.specs.declared.ids.StageId.{StageId}
 use Rattle.std.proofs.Common.{ap, arith, inl, inr, refl, subst, sym, ◌∙◌}
 use Rattle.std.proofs.lemmas.Bool.{cases_Bool, false≢true, ltb-true}
 use Rattle.std.proofs.lemmas.Bool.Decides.{nat_tests}
 use Rattle.std.proofs.lemmas.Option.{none-some}
 use Rattle.std.specs.BTreeMap.Range.{IsInRange, IsLeBy}
 use Rattle.std.specs.Cmp.{IsTotalOrder}
+use Rattle.std.specs.Map.{lookup}
 use Rattle.std.specs.Option.{IfNone, IfSome, IsSome}
 use Rattle.std.specs.Ordering.{is_eq, is_gt, nat_cmp, ordering_reverse, ordering_then}
-use Rattle.std.specs.Prelude.{Bool, None, Option, Some, false, if◌then◌else◌, nat_lt, true, ℕ, ◌<◌, ◌≡◌, ◌≤◌}
+use Rattle.std.specs.Prelude.{Bool, List, None, Option, Some, [], false, if◌then◌else◌, length, nat_lt, true, ℕ, ◌<◌, ◌∷◌, ◌≡◌, ◌≤◌}
 use Rattle.std.specs.declared.cmp.Ordering.{Ordering}
 use Rattle.std.specs.declared.cmp.Ordering.TheVariants.{Equal, Greater, Less}
 use Rattle.std.specs.declared.ops.Bound.TheVariants.{Unbounded}
@@ -46,7 +46,10 @@ both_less f g o p other up down =
     cc
 
 -- ---- the stages of a flow
-pub stage_in_range : (f : FlowId) (after : Option ℕ) (j : ℕ) → is_after after j ≡ true → IsInRange buffer_cmp (bound_after f after) Unbounded (buffer.Stage f j)
+abbrev pub stage_at : FlowId → ℕ → StageId
+stage_at f i = record { flow = f; stage = i }
+
+pub stage_in_range : (f : FlowId) (after : Option ℕ) (j : ℕ) → is_after after j ≡ true → IsInRange stage_cmp (bound_after f after) Unbounded (stage_at f j)
 stage_in_range f None j later = (ap (λ o. is_gt (ordering_then o (nat_cmp 0 j))) (flow_itself f) ∙ from_zero j, tt)
   where
     from_zero : (k : ℕ) → is_gt (nat_cmp 0 k) ≡ false
@@ -56,75 +59,66 @@ stage_in_range f (Some i) j later = (ap (λ o. ordering_then o (nat_cmp i j)) (f
     below : (m n : ℕ) → m < n → nat_cmp m n ≡ Less
     below m n less = grind (arith, nat_tests)
 
-pub stage_le : (f : FlowId) (i j : ℕ) → IsLeBy buffer_cmp (buffer.Stage f i) (buffer.Stage f j) → i ≤ j
+stage_le : (f : FlowId) (i j : ℕ) → IsLeBy stage_cmp (stage_at f i) (stage_at f j) → i ≤ j
 stage_le f i j le = upto i j (ap (λ o. is_gt (ordering_then o (nat_cmp i j))) (sym (flow_itself f)) ∙ le)
   where
     upto : (m n : ℕ) → is_gt (nat_cmp m n) ≡ false → m ≤ n
     upto m n h = grind (arith, nat_tests)
 
 -- a stage that is found comes after the other
-pub stage_later : (f : FlowId) (after : Option ℕ) (b : BufferId) → IsInRange buffer_cmp (bound_after f after) Unbounded b → IfSome (stage_of f b) (λ i. is_after after i ≡ true)
-stage_later f after (buffer.Recv g) inside = tt
-stage_later f after (buffer.Send g) inside = tt
-stage_later f after (buffer.Write c) inside = tt
-stage_later f None (buffer.Stage g i) inside = elim (same_flow f g) as (λ t. IfSome (if t then Some i else None) (λ j. is_after None j ≡ true)) [ true ↦ refl | false ↦ tt ]
-stage_later f (Some k) (buffer.Stage g i) inside =
-    let each : (t : Bool) → same_flow f g ≡ t → IfSome (if t then Some i else None) (λ j. nat_lt k j ≡ true) =
-    λ t. elim t as (λ u. same_flow f g ≡ u → IfSome (if u then Some i else None) (λ j. nat_lt k j ≡ true)) [
-      | true ↦ λ same. above k i (sym (ap (λ o. ordering_then o (nat_cmp k i)) (flow_itself f)) ∙ ap (λ h. ordering_then (flow_cmp f h) (nat_cmp k i)) (same_flow_exact f g same) ∙ inside.0)
+pub stage_later : (f : FlowId) (after : Option ℕ) (s : StageId) → IsInRange stage_cmp (bound_after f after) Unbounded s → IfSome (stage_of f s) (λ i. is_after after i ≡ true)
+stage_later f None s inside = elim (same_flow f s.flow) as (λ t. IfSome (if t then Some s.stage else None) (λ j. is_after None j ≡ true)) [ true ↦ refl | false ↦ tt ]
+stage_later f (Some k) s inside =
+    let each : (t : Bool) → same_flow f s.flow ≡ t → IfSome (if t then Some s.stage else None) (λ j. nat_lt k j ≡ true) =
+    λ t. elim t as (λ u. same_flow f s.flow ≡ u → IfSome (if u then Some s.stage else None) (λ j. nat_lt k j ≡ true)) [
+      | true ↦ λ same. above k s.stage (sym (ap (λ o. ordering_then o (nat_cmp k s.stage)) (flow_itself f)) ∙ ap (λ h. ordering_then (flow_cmp f h) (nat_cmp k s.stage)) (same_flow_exact f s.flow same) ∙ inside.0)
       | false ↦ λ other. tt
     ]
-    in each (same_flow f g) refl
+    in each (same_flow f s.flow) refl
   where
     above : (m n : ℕ) → nat_cmp m n ≡ Less → nat_lt m n ≡ true
     above m n less = grind (arith, nat_tests)
 
--- no stage lies between another buffer that is known next
-pub no_stage_beyond : (f : FlowId) (after : Option ℕ) (b : BufferId) (j : ℕ) → IsInRange buffer_cmp (bound_after f after) Unbounded b → stage_of f b ≡ None →
-    IsLeBy buffer_cmp b (buffer.Stage f j) → ⊥
-no_stage_beyond f None (buffer.Write c) j inside none le = false≢true (sym inside.0)
-no_stage_beyond f (Some k) (buffer.Write c) j inside none le = let e : Greater ≡ Less = inside.0 in cc
-no_stage_beyond f None (buffer.Recv g) j inside none le = false≢true (sym inside.0)
-no_stage_beyond f (Some k) (buffer.Recv g) j inside none le = let e : Greater ≡ Less = inside.0 in cc
-no_stage_beyond f after (buffer.Send g) j inside none le = false≢true (sym le)
-no_stage_beyond f None (buffer.Stage g i) j inside none le = elim (cases_Bool (same_flow f g)) [
-  | inl same ↦ none-some i (sym (ap (λ t. if t then Some i else None) (sym same) ∙ none))
-  | inr other ↦ both_less f g (nat_cmp 0 i) (nat_cmp i j) other inside.0 le
+-- no stage of the flow lies behind one of another flow
+no_stage_beyond : (f : FlowId) (after : Option ℕ) (s : StageId) (j : ℕ) → IsInRange stage_cmp (bound_after f after) Unbounded s → stage_of f s ≡ None →
+    IsLeBy stage_cmp s (stage_at f j) → ⊥
+no_stage_beyond f None s j inside none le = elim (cases_Bool (same_flow f s.flow)) [
+  | inl same ↦ none-some s.stage (sym (ap (λ t. if t then Some s.stage else None) (sym same) ∙ none))
+  | inr other ↦ both_less f s.flow (nat_cmp 0 s.stage) (nat_cmp s.stage j) other inside.0 le
 ]
-no_stage_beyond f (Some k) (buffer.Stage g i) j inside none le = elim (cases_Bool (same_flow f g)) [
-  | inl same ↦ none-some i (sym (ap (λ t. if t then Some i else None) (sym same) ∙ none))
-  | inr other ↦ both_less f g (nat_cmp k i) (nat_cmp i j) other (ap is_gt inside.0) le
+no_stage_beyond f (Some k) s j inside none le = elim (cases_Bool (same_flow f s.flow)) [
+  | inl same ↦ none-some s.stage (sym (ap (λ t. if t then Some s.stage else None) (sym same) ∙ none))
+  | inr other ↦ both_less f s.flow (nat_cmp k s.stage) (nat_cmp s.stage j) other (ap is_gt inside.0) le
 ]
 
 none_unless : {X : Type 0} (o : Option X) → (IsSome o → ⊥) → o ≡ None
 none_unless None some = refl
 none_unless (Some x) some = absurd (some refl)
 
--- where b is the first buffer that is known from there on
-pub stages_before : {X : Type 0} (f : FlowId) (after : Option ℕ) (b : BufferId) (known : BufferId → Option X) →
-    ((c : BufferId) → IsInRange buffer_cmp (bound_after f after) Unbounded c → IsSome (known c) → IsLeBy buffer_cmp b c) →
-    IfSome (stage_of f b) (λ i. (j : ℕ) → is_after after j ≡ true → j < i → known (buffer.Stage f j) ≡ None)
-stages_before f after (buffer.Recv g) known first = tt
-stages_before f after (buffer.Send g) known first = tt
-stages_before f after (buffer.Write c) known first = tt
-stages_before {X} f after (buffer.Stage g i) known first =
-    let each : (t : Bool) → same_flow f g ≡ t → IfSome (if t then Some i else None) (λ n. (j : ℕ) → is_after after j ≡ true → j < n → known (buffer.Stage f j) ≡ None) =
-    λ t. elim t as (λ u. same_flow f g ≡ u → IfSome (if u then Some i else None) (λ n. (j : ℕ) → is_after after j ≡ true → j < n → known (buffer.Stage f j) ≡ None)) [
-      | true ↦ λ same j later less. none_unless (known (buffer.Stage f j)) (λ some.
-          let upto : i ≤ j = stage_le f i j (subst (λ h. IsLeBy buffer_cmp (buffer.Stage h i) (buffer.Stage f j)) (sym (same_flow_exact f g same)) (first (buffer.Stage f j) (stage_in_range f after j later) some)) in
-          omega (arith, upto, less))
-      | false ↦ λ other. tt
-    ]
-    in each (same_flow f g) refl
+-- where s is the first stage that is known from there on
+module _ {X : Type 0} (f : FlowId) (after : Option ℕ) (s : StageId) (known : StageId → Option X)
+    (first : (t : StageId) → IsInRange stage_cmp (bound_after f after) Unbounded t → IsSome (known t) → IsLeBy stage_cmp s t) where
+  pub stages_before : IfSome (stage_of f s) (λ i. (j : ℕ) → is_after after j ≡ true → j < i → known (stage_at f j) ≡ None)
+  stages_before =
+      let each : (t : Bool) → same_flow f s.flow ≡ t → IfSome (if t then Some s.stage else None) (λ n. (j : ℕ) → is_after after j ≡ true → j < n → known (stage_at f j) ≡ None) =
+      λ t. elim t as (λ u. same_flow f s.flow ≡ u → IfSome (if u then Some s.stage else None) (λ n. (j : ℕ) → is_after after j ≡ true → j < n → known (stage_at f j) ≡ None)) [
+        | true ↦ λ same j later less. none_unless (known (stage_at f j)) (λ some.
+            let upto : s.stage ≤ j = stage_le f s.stage j (subst (λ h. IsLeBy stage_cmp (stage_at h s.stage) (stage_at f j)) (sym (same_flow_exact f s.flow same)) (first (stage_at f j) (stage_in_range f after j later) some)) in
+            omega (arith, upto, less))
+        | false ↦ λ other. tt
+      ]
+      in each (same_flow f s.flow) refl
 
-pub no_stages : {X : Type 0} (f : FlowId) (after : Option ℕ) (b : BufferId) (known : BufferId → Option X) →
-    IsInRange buffer_cmp (bound_after f after) Unbounded b →
-    ((c : BufferId) → IsInRange buffer_cmp (bound_after f after) Unbounded c → IsSome (known c) → IsLeBy buffer_cmp b c) →
-    IfNone (stage_of f b) ((j : ℕ) → is_after after j ≡ true → known (buffer.Stage f j) ≡ None)
-no_stages f after b known inside first =
-    let each : (o : Option ℕ) → stage_of f b ≡ o → IfNone o ((j : ℕ) → is_after after j ≡ true → known (buffer.Stage f j) ≡ None) =
-    λ o. elim o as (λ v. stage_of f b ≡ v → IfNone v ((j : ℕ) → is_after after j ≡ true → known (buffer.Stage f j) ≡ None)) [
-      | None ↦ λ none j later. none_unless (known (buffer.Stage f j)) (λ some. no_stage_beyond f after b j inside none (first (buffer.Stage f j) (stage_in_range f after j later) some))
-      | Some i ↦ λ is. tt
-    ]
-    in each (stage_of f b) refl
+  pub no_stages : IsInRange stage_cmp (bound_after f after) Unbounded s → IfNone (stage_of f s) ((j : ℕ) → is_after after j ≡ true → known (stage_at f j) ≡ None)
+  no_stages inside =
+      let each : (o : Option ℕ) → stage_of f s ≡ o → IfNone o ((j : ℕ) → is_after after j ≡ true → known (stage_at f j) ≡ None) =
+      λ o. elim o as (λ v. stage_of f s ≡ v → IfNone v ((j : ℕ) → is_after after j ≡ true → known (stage_at f j) ≡ None)) [
+        | None ↦ λ none j later. none_unless (known (stage_at f j)) (λ some. no_stage_beyond f after s j inside none (first (stage_at f j) (stage_in_range f after j later) some))
+        | Some i ↦ λ is. tt
+      ]
+      in each (stage_of f s) refl
+
+-- where there is no stage at all
+pub none_in_empty : {K X : Type 0} (test : K → Bool) (es : List (K × X)) → length es ≡ 0 → lookup test es ≡ None
+none_in_empty test [] none = refl
+none_in_empty test (e ∷ es) none = absurd (omega (arith, none))

@@ -1,7 +1,7 @@
 -- Whether a flow watches a buffer, by what the flow's books say.
 use Rattle.flow_gate.proofs.Counting.{count-cons, sum-member}
 use Rattle.flow_gate.proofs.Placed.{watches_in}
-use Rattle.flow_gate.proofs.Reading.{FlowFound, flow_get, watched-board, watched_at}
+use Rattle.flow_gate.proofs.Reading.{FlowFound, watched-board, watched_at}
 use Rattle.flow_gate.proofs.SameIds.{same_buffer-comm, same_buffer_exact}
 use Rattle.flow_gate.specs.Board.{times, times_of_buffer, watchers_of}
 use Rattle.flow_gate.specs.Books.{Books}
@@ -55,7 +55,7 @@ pub watching : (f : FlowId) (b : BufferId) (books : Option Books) (ws : List Wat
     AreGates flows buffers → nat_lt 0 (times_of_buffer b (watched_in ws)) ≡ nat_lt 0 (times f (watchers_of (board_of flows buffers) b))
 watching f b books ws flows buffers found lists gates =
     ap (λ xs. nat_lt 0 (times_of_buffer b (watched_in xs))) (sym lists) ∙ ap (λ bs. nat_lt 0 (times_of_buffer b bs)) (watched books)
-    ∙ ap (λ o. nat_lt 0 (times_of_buffer b (watched_at o))) (found ∙ flow_get flows f)
+    ∙ ap (λ o. nat_lt 0 (times_of_buffer b (watched_at o))) found
     ∙ ap (λ bs. nat_lt 0 (times_of_buffer b bs)) (sym (watched-board flows buffers f)) ∙ ap (nat_lt 0) (sym (gates.sound.paired f b))
   where
     watched : (o : Option Books) → watched_in (watches_in o) ≡ watched_at o

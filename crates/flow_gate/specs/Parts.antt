@@ -5,6 +5,7 @@ use Rattle.flow_gate.specs.Ids.{same_buffer, same_flow}
 use Rattle.flow_gate.specs.Line.{Line, Places, at_place}
 use Rattle.flow_gate.specs.declared.ids.BufferId.{BufferId}
 use Rattle.flow_gate.specs.declared.ids.FlowId.{FlowId}
+use Rattle.flow_gate.specs.declared.ids.StageId.{StageId}
 use Rattle.flow_gate.specs.declared.watcher.Watch.{Watch}
 use Rattle.std.specs.List.{AllByRecursion}
 use Rattle.std.specs.Map.{lookup, values_of}
@@ -20,8 +21,8 @@ Flows = List (FlowId × Books)
 abbrev pub Buffers : Type 0
 Buffers = List (BufferId × Line)
 
--- the books of a flow, and the line of a buffer
-abbrev pub flow_at : Flows → FlowId → Option Books
+-- what a flow has, as its books, and the line of a buffer
+abbrev pub flow_at : {X : Type 0} → List (FlowId × X) → FlowId → Option X
 flow_at flows f = lookup (same_flow f) flows
 
 abbrev pub buffer_at : Buffers → BufferId → Option Line
@@ -86,14 +87,13 @@ is_after None stage = true
 is_after (Some other) stage = nat_lt other stage
 
 -- where the stages of a flow begin, or those after one
-abbrev pub bound_after : FlowId → Option ℕ → Bound BufferId
-bound_after f None = Included (buffer.Stage f 0)
-bound_after f (Some stage) = Excluded (buffer.Stage f stage)
+abbrev pub bound_after : FlowId → Option ℕ → Bound StageId
+bound_after f None = Included (record { flow = f; stage = 0 })
+bound_after f (Some stage) = Excluded (record { flow = f; stage = stage })
 
 -- the number of a stage of the flow
-abbrev pub stage_of : FlowId → BufferId → Option ℕ
-stage_of f (buffer.Stage g stage) = if same_flow f g then Some stage else None
-stage_of f other = None
+abbrev pub stage_of : FlowId → StageId → Option ℕ
+stage_of f s = if same_flow f s.flow then Some s.stage else None
 
 -- these are the flow's watches, and no line has it elsewhere
 pub record AreWatches (f : FlowId) (watches : List Watch) (buffers : Buffers) : Type 0 where

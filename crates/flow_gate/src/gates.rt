@@ -1,23 +1,22 @@
 // The gates of a worker.
-ghost use Rattle.std.specs.Prelude.{◌≡◌, ◌==◌, ◌&&◌, ◌<◌, ◌≤◌, ◌^◌, ◌↔◌, ℕ, [], false, true, IfNone, IfOk, IfSome, None, Some, OnOk, OnErr, IsNone, count_by, length, not, option_map, option_to_list, slice_get, take, if◌then◌else◌};
+ghost use Rattle.std.specs.Prelude.{◌≡◌, ◌==◌, ◌&&◌, ◌≤◌, ◌^◌, ◌↔◌, [], false, true, IfOk, Some, OnOk, OnErr, IsNone, count_by, length, not, option_map, option_to_list, slice_get, take, if◌then◌else◌};
 ghost use Rattle.flow_gate.specs.Board.{IsSound, count, is_known, is_marked, is_open, pending_on, times, watchers_of};
 ghost use Rattle.flow_gate.specs.Changes.{Begins, Closes, Drains, Forgets, IsEmpty, Knows, Rises, Tells, Watches};
 ghost use Rattle.flow_gate.specs.Ids.{same_buffer};
 ghost use Rattle.flow_gate.specs.Line.{Line, held_in, left, told};
-ghost use Rattle.flow_gate.specs.Parts.{AreWatches, StandsIn, above_at, bound_after, buffer_at, held, is_after, is_stage, kept, watched_in};
+ghost use Rattle.flow_gate.specs.Parts.{AreWatches, StandsIn, above_at, buffer_at, held, is_stage, kept, watched_in};
 ghost use Rattle.flow_gate.specs.declared.ids.BufferId.{BufferId};
 ghost use Rattle.flow_gate.specs.declared.ids.FlowId.{FlowId};
 
-use crate::gate::Gate;
-use crate::ids::{BufferId, FlowId, stage_of};
+use crate::buffers::Buffers;
+use crate::flow_map::FlowMap;
+use crate::ids::{BufferId, FlowId};
 use crate::line::Watchers;
 use crate::spares::Spares;
 use crate::watcher::{Watch, Watcher};
 use io_ports::NoMemory;
 use std::alloc::Global;
-use std::collections::BTreeMap;
 use std::marker::Model;
-use std::ops::Bound;
 
 /// Which flows watch which buffers, and how often each flow is held back: by each buffer above that it watches, and
 /// by each drain of which it has not been told yet. No flow has a counter: its count is computed when it is asked for,
@@ -26,8 +25,8 @@ use std::ops::Bound;
 #[derive(Drop)]
 pub struct Gates {
     alloc: Global,
-    flows: BTreeMap<FlowId, Watcher>,
-    buffers: BTreeMap<BufferId, Gate>,
+    flows: FlowMap<Watcher>,
+    buffers: Buffers,
     spares: Spares,
 }
 
@@ -38,9 +37,9 @@ impl Model for Gates {
 
     ghost use Rattle.flow_gate.specs.Parts.{AreGates, board_of};
 
-    ghost view = { λ a. board_of a.flows.entries a.buffers.entries };
+    ghost view = { λ a. board_of a.flows a.buffers };
 
-    ghost invariant = { λ a. AreGates a.flows.entries a.buffers.entries };
+    ghost invariant = { λ a. AreGates a.flows a.buffers };
 }
 
 impl Gates {
@@ -51,8 +50,8 @@ impl Gates {
     {
         Gates {
             alloc,
-            flows: BTreeMap::new(alloc),
-            buffers: BTreeMap::new(alloc),
+            flows: FlowMap::new(alloc),
+            buffers: Buffers::new(alloc),
             spares: Spares::new(alloc),
         }
     }
@@ -61,14 +60,14 @@ impl Gates {
     pub fn is_open(&self, flow: FlowId) -> bool
         ensures { result ≡ is_open self.now flow }
     {
-        self.flows.contains_key(&flow)
+        self.flows.get(flow).is_some()
     }
 
     /// Whether the buffer is known.
     pub fn is_known(&self, buffer: BufferId) -> bool
         ensures { result ≡ is_known self.now buffer }
     {
-        self.buffers.contains_key(&buffer)
+        self.buffers.get(buffer).is_some()
     }
 
     /// Whether the buffer is above. It is false of a buffer that is not known.
@@ -82,7 +81,7 @@ impl Gates {
     pub fn is_watched(&self, buffer: BufferId) -> bool
         ensures { (result ≡ false) ↔ (watchers_of self.now buffer ≡ []) }
     {
-        match self.buffers.get(&buffer) {
+        match self.buffers.get(buffer) {
             Some(gate) => gate.is_watched(),
             None => false,
         }
@@ -92,7 +91,7 @@ impl Gates {
     pub fn has_pending(&self, buffer: BufferId) -> bool
         ensures { (result ≡ false) ↔ (pending_on self.now buffer ≡ []) }
     {
-        match self.buffers.get(&buffer) {
+        match self.buffers.get(buffer) {
             Some(gate) => gate.has_pending(),
             None => false,
         }
@@ -102,7 +101,7 @@ impl Gates {
     pub fn is_watching(&self, flow: FlowId, buffer: BufferId) -> bool
         ensures { (result ≡ false) ↔ (times flow (watchers_of self.now buffer) ≡ 0) }
     {
-        match self.flows.get(&flow) {
+        match self.flows.get(flow) {
             Some(watcher) => watcher.watches().iter().any(|watch| watch.buffer == buffer),
             None => false,
         }
@@ -113,7 +112,7 @@ impl Gates {
         requires { is_open self.now flow ≡ true }
         ensures { result ≡ count self.now flow }
     {
-        match self.flows.get(&flow) {
+        match self.flows.get(flow) {
             Some(watcher) => held_back(&self.buffers, watcher.watches()),
             None => 0,
         }
@@ -125,7 +124,7 @@ impl Gates {
         requires { is_open self.now flow ≡ true }
         ensures { result ≡ ((count self.now flow == 0) && (not (is_marked self.now first) && not (is_marked self.now second))) }
     {
-        let Some(watcher) = self.flows.get(&flow) else {
+        let Some(watcher) = self.flows.get(flow) else {
             unreachable!()
         };
         let watches = watcher.watches();
@@ -139,7 +138,7 @@ impl Gates {
     pub fn watchers(&self, buffer: BufferId) -> Watchers<'_>
         ensures { result ≡ watchers_of self.now buffer }
     {
-        match self.buffers.get(&buffer) {
+        match self.buffers.get(buffer) {
             Some(gate) => gate.watchers(),
             None => Watchers::none(),
         }
@@ -149,7 +148,7 @@ impl Gates {
     pub fn lows(&self, buffer: BufferId) -> Watchers<'_>
         ensures { result ≡ pending_on self.now buffer }
     {
-        match self.buffers.get(&buffer) {
+        match self.buffers.get(buffer) {
             Some(gate) => gate.lows(),
             None => Watchers::none(),
         }
@@ -193,7 +192,7 @@ impl Gates {
         ensures closes { Closes buffer self.old self.new }
         ensures sound { IsSound self.new }
     {
-        let _ = self.buffers.remove(&buffer);
+        let _ = self.buffers.remove(buffer);
     }
 
     /// Adds the flow as the last watcher of the buffer. Where the buffer is above, the flow's count grows by 1, and
@@ -207,10 +206,10 @@ impl Gates {
         ensures err { OnErr result (self.new ≡ self.old) }
         ensures sound { IsSound self.new }
     {
-        let Some(watcher) = self.flows.get_mut(&flow) else {
+        let Some(watcher) = self.flows.get_mut(flow) else {
             unreachable!()
         };
-        let Some(gate) = self.buffers.get_mut(&buffer) else {
+        let Some(gate) = self.buffers.get_mut(buffer) else {
             unreachable!()
         };
         watcher.make_room()?;
@@ -226,7 +225,7 @@ impl Gates {
         ensures rises { Rises buffer self.old self.new }
         ensures sound { IsSound self.new }
     {
-        let Some(gate) = self.buffers.get_mut(&buffer) else {
+        let Some(gate) = self.buffers.get_mut(buffer) else {
             unreachable!()
         };
         gate.rise();
@@ -240,7 +239,7 @@ impl Gates {
         ensures drains { Drains buffer self.old self.new }
         ensures sound { IsSound self.new }
     {
-        let Some(gate) = self.buffers.get_mut(&buffer) else {
+        let Some(gate) = self.buffers.get_mut(buffer) else {
             unreachable!()
         };
         gate.drain();
@@ -253,7 +252,7 @@ impl Gates {
         ensures tells { Tells buffer (option_to_list result) self.old self.new }
         ensures sound { IsSound self.new }
     {
-        self.buffers.get_mut(&buffer)?.tell()
+        self.buffers.get_mut(buffer)?.tell()
     }
 
     /// Takes the first n pending lows of the buffer, or all where there are fewer, and lowers the count of each of their
@@ -272,7 +271,7 @@ impl Gates {
         ensures forgets { Forgets flow self.old self.new }
         ensures sound { IsSound self.new }
     {
-        let Some(watcher) = self.flows.remove(&flow) else {
+        let Some(watcher) = self.flows.remove(flow) else {
             unreachable!()
         };
         leave_each(&mut self.buffers, watcher.watches());
@@ -284,9 +283,9 @@ impl Gates {
 }
 
 // How often a flow is held back by the buffers that it watches.
-fn held_back(buffers: &BTreeMap<BufferId, Gate>, watches: &[Watch]) -> u64
+fn held_back(buffers: &Buffers, watches: &[Watch]) -> u64
     requires { length watches.now ≤ 2 ^ 62 }
-    ensures { (f : FlowId) → AreWatches f watches.now buffers.now.entries → result ≡ held buffers.now.entries f (watched_in watches.now) }
+    ensures { (f : FlowId) → AreWatches f watches.now buffers.now → result ≡ held buffers.now f (watched_in watches.now) }
 {
     let mut count = 0;
     for watch in watches {
@@ -296,11 +295,11 @@ fn held_back(buffers: &BTreeMap<BufferId, Gate>, watches: &[Watch]) -> u64
 }
 
 // How often a flow is held back by a buffer that it watches.
-fn held_by(buffers: &BTreeMap<BufferId, Gate>, watch: Watch) -> u64
-    ensures held { (f : FlowId) (line : Line) → StandsIn f watch line buffers.now.entries → result ≡ held_in f line }
+fn held_by(buffers: &Buffers, watch: Watch) -> u64
+    ensures held { (f : FlowId) (line : Line) → StandsIn f watch line buffers.now → result ≡ held_in f line }
     ensures most { result ≤ 2 }
 {
-    match buffers.get(&watch.buffer) {
+    match buffers.get(watch.buffer) {
         Some(gate) => gate.held(watch.place),
         None => 0,
     }
@@ -308,33 +307,33 @@ fn held_by(buffers: &BTreeMap<BufferId, Gate>, watch: Watch) -> u64
 
 // Whether a buffer isn't above, where none of these watches is of a buffer that is: it is looked up only where it isn't
 // among them.
-fn is_low(buffers: &BTreeMap<BufferId, Gate>, watches: &[Watch], buffer: BufferId) -> bool
-    ensures { count_by (above_at buffers.now.entries) (watched_in watches.now) ≡ 0 → result ≡ not (above_at buffers.now.entries buffer) }
+fn is_low(buffers: &Buffers, watches: &[Watch], buffer: BufferId) -> bool
+    ensures { count_by (above_at buffers.now) (watched_in watches.now) ≡ 0 → result ≡ not (above_at buffers.now buffer) }
 {
     watches.iter().any(|watch| watch.buffer == buffer) || !is_above(buffers, buffer)
 }
 
-fn is_above(buffers: &BTreeMap<BufferId, Gate>, buffer: BufferId) -> bool
-    ensures { result ≡ above_at buffers.now.entries buffer }
+fn is_above(buffers: &Buffers, buffer: BufferId) -> bool
+    ensures { result ≡ above_at buffers.now buffer }
 {
-    match buffers.get(&buffer) {
+    match buffers.get(buffer) {
         Some(gate) => gate.is_above(),
         None => false,
     }
 }
 
 // The first watchers of a buffer that are to be told are told.
-fn tell_first(buffers: &mut BTreeMap<BufferId, Gate>, buffer: BufferId, n: usize)
-    ensures { (b : BufferId) → buffer_at buffers.new.entries b ≡ (if same_buffer buffer b then option_map (told n) (buffer_at buffers.old.entries b) else buffer_at buffers.old.entries b) }
+fn tell_first(buffers: &mut Buffers, buffer: BufferId, n: usize)
+    ensures { (b : BufferId) → buffer_at buffers.new b ≡ (if same_buffer buffer b then option_map (told n) (buffer_at buffers.old b) else buffer_at buffers.old b) }
 {
-    if let Some(gate) = buffers.get_mut(&buffer) {
+    if let Some(gate) = buffers.get_mut(buffer) {
         gate.tell_first(n);
     }
 }
 
 // A flow leaves the line of each buffer that it watches.
-fn leave_each(buffers: &mut BTreeMap<BufferId, Gate>, watches: &[Watch])
-    ensures { (f : FlowId) → AreWatches f watches.now buffers.old.entries → (b : BufferId) → buffer_at buffers.new.entries b ≡ option_map (left f) (buffer_at buffers.old.entries b) }
+fn leave_each(buffers: &mut Buffers, watches: &[Watch])
+    ensures { (f : FlowId) → AreWatches f watches.now buffers.old → (b : BufferId) → buffer_at buffers.new b ≡ option_map (left f) (buffer_at buffers.old b) }
 {
     for watch in watches {
         leave(buffers, *watch);
@@ -342,54 +341,32 @@ fn leave_each(buffers: &mut BTreeMap<BufferId, Gate>, watches: &[Watch])
 }
 
 // The flow at the place of a watch leaves that line.
-fn leave(buffers: &mut BTreeMap<BufferId, Gate>, watch: Watch)
-    ensures { (f : FlowId) (line : Line) → StandsIn f watch line buffers.old.entries → (b : BufferId) → buffer_at buffers.new.entries b ≡ (if same_buffer watch.buffer b then Some (left f line) else buffer_at buffers.old.entries b) }
+fn leave(buffers: &mut Buffers, watch: Watch)
+    ensures { (f : FlowId) (line : Line) → StandsIn f watch line buffers.old → (b : BufferId) → buffer_at buffers.new b ≡ (if same_buffer watch.buffer b then Some (left f line) else buffer_at buffers.old b) }
 {
-    if let Some(gate) = buffers.get_mut(&watch.buffer) {
+    if let Some(gate) = buffers.get_mut(watch.buffer) {
         gate.remove(watch.place);
     }
 }
 
 // A buffer that nobody watches is no longer known.
-fn close_unwatched(buffers: &mut BTreeMap<BufferId, Gate>, spares: &mut Spares, buffer: BufferId)
-    ensures { (b : BufferId) → buffer_at buffers.new.entries b ≡ (if same_buffer buffer b then kept (buffer_at buffers.old.entries b) else buffer_at buffers.old.entries b) }
+fn close_unwatched(buffers: &mut Buffers, spares: &mut Spares, buffer: BufferId)
+    ensures { (b : BufferId) → buffer_at buffers.new b ≡ (if same_buffer buffer b then kept (buffer_at buffers.old b) else buffer_at buffers.old b) }
 {
-    if let Some(gate) = buffers.get(&buffer) {
+    if let Some(gate) = buffers.get(buffer) {
         if !gate.is_watched() {
-            spares.keep(buffers.remove(&buffer));
+            spares.keep(buffers.remove(buffer));
         }
     }
 }
 
 // The stages of a flow that nobody watches are no longer known.
-fn close_stages(buffers: &mut BTreeMap<BufferId, Gate>, spares: &mut Spares, flow: FlowId)
-    ensures { (b : BufferId) → buffer_at buffers.new.entries b ≡ (if is_stage flow b then kept (buffer_at buffers.old.entries b) else buffer_at buffers.old.entries b) }
+fn close_stages(buffers: &mut Buffers, spares: &mut Spares, flow: FlowId)
+    ensures { (b : BufferId) → buffer_at buffers.new b ≡ (if is_stage flow b then kept (buffer_at buffers.old b) else buffer_at buffers.old b) }
 {
     let mut after = None;
-    'stages: while let Some(stage) = stage_after(buffers, flow, after) {
+    'stages: while let Some(stage) = buffers.stage_after(flow, after) {
         close_unwatched(buffers, spares, BufferId::Stage(flow, stage));
         after = Some(stage);
-    }
-}
-
-// The first stage of a flow that is known, or the first one after another.
-fn stage_after(buffers: &BTreeMap<BufferId, Gate>, flow: FlowId, after: Option<u32>) -> Option<u32>
-    ensures later { IfSome result (λ i. is_after after i ≡ true) }
-    ensures first { IfSome result (λ i. (j : ℕ) → is_after after j ≡ true → j < i → buffer_at buffers.now.entries (BufferId.Stage flow j) ≡ None) }
-    ensures none { IfNone result ((j : ℕ) → is_after after j ≡ true → buffer_at buffers.now.entries (BufferId.Stage flow j) ≡ None) }
-{
-    let (&buffer, _) = buffers
-        .range((bound_after(flow, after), Bound::Unbounded))
-        .next()?;
-    stage_of(flow, buffer)
-}
-
-// Where the stages of a flow begin, or those after one.
-fn bound_after(flow: FlowId, after: Option<u32>) -> Bound<BufferId>
-    ensures { result ≡ bound_after flow after }
-{
-    match after {
-        None => Bound::Included(BufferId::Stage(flow, 0)),
-        Some(stage) => Bound::Excluded(BufferId::Stage(flow, stage)),
     }
 }

@@ -1,6 +1,6 @@
 // What names a flow and a buffer.
-ghost use Rattle.std.specs.Prelude.{◌≡◌};
 ghost use Rattle.flow_gate.specs.Parts.{stage_of};
+ghost use Rattle.std.specs.Prelude.{◌≡◌};
 
 /// A flow: the request of an exchange, or its response, which goes back.
 #[derive(Clone, Copy, Debug, PartialEq, Eq, PartialOrd, Ord)]
@@ -43,12 +43,20 @@ pub enum BufferId {
     Send(FlowId),
 }
 
-/// The number of a stage of the flow, where the buffer is one.
-pub(crate) fn stage_of(flow: FlowId, buffer: BufferId) -> Option<u32>
-    ensures { result ≡ stage_of flow buffer }
+/// A stage of a flow.
+#[derive(Clone, Copy, Debug, PartialEq, Eq, PartialOrd, Ord)]
+pub(crate) struct StageId {
+    pub(crate) flow: FlowId,
+    pub(crate) stage: u32,
+}
+
+/// The number of a stage, where it is one of this flow.
+pub(crate) fn stage_of(flow: FlowId, stage: StageId) -> Option<u32>
+    ensures { result ≡ stage_of flow stage }
 {
-    match buffer {
-        BufferId::Stage(owner, stage) if owner == flow => Some(stage),
-        _ => None,
+    if stage.flow == flow {
+        Some(stage.stage)
+    } else {
+        None
     }
 }

@@ -1,6 +1,8 @@
 //! The flows and buffers of a worker, and who watches what: which flows are held back, and why.
 #![tactic(auto)]
 
+mod buffers;
+mod flow_map;
 mod gate;
 mod gates;
 mod ids;

@@ -1,18 +1,22 @@
 -- The front of a list, as fields are added.
-use Rattle.std.proofs.Common.{Bool, List, [], ◌∷◌, ℕ, ◌≡◌, ◌≤◌, ◌++◌, ◌∙◌, ◌||◌, None, Option, Some, ap, cond, false, length, not, refl, subst, sym, take, true}
+use Rattle.std.proofs.Common.{Bool, List, [], ◌∷◌, ℕ, ◌<◌, ◌≡◌, ◌≤◌, ◌++◌, ◌∙◌, ◌||◌, None, Option, Some, ⊎_elim, ap, arith, cond, false, get_or, length, not, refl, subst, sym, take, true}
+use Rattle.std.proofs.Math.ListN.{set}
 use Rattle.std.proofs.Math.Bool.{or-false, or-true}
-use Rattle.std.proofs.lemmas.List.{take_all}
+use Rattle.std.proofs.lemmas.Bool.{cases_eq}
+use Rattle.std.proofs.lemmas.Bool.Decides.{nat_tests}
+use Rattle.std.proofs.lemmas.Grind.{get_or-set_at}
+use Rattle.std.proofs.lemmas.List.{get_or-set_other, length-set, take_all}
 use Rattle.std.proofs.lemmas.List.Folds.{list_any-append}
 use Rattle.std.specs.List.{list_any, starts_with}
 use Rattle.std.specs.Option.{is_some, option_or}
-use Rattle.std.specs.Prelude.{codes, nat_eq}
+use Rattle.std.specs.Prelude.{codes, nat_eq, ◌==◌}
 use Rattle.std.specs.Str.{bytes_eq}
 use Rattle.hpack_codec.specs.declared.fields.Field.{Field}
-use Rattle.h2_heads.specs.Fronts.{has, marked, IsFront, Takes, Tells, TellsPseudo}
+use Rattle.h2_heads.specs.Fronts.{has, placed, IsFront, Takes, Tells, TellsPseudo}
 use Rattle.h2_heads.specs.Malformed.{lacks}
-use Rattle.h2_heads.specs.Named.{has_field, is_named, value_of}
+use Rattle.h2_heads.specs.Named.{has_field, is_named, place_of}
 use Rattle.h2_heads.specs.Passes.{lowest_of_pseudo}
-use Rattle.h2_heads.specs.Pseudos.{field_of, name_of, needed_by}
+use Rattle.h2_heads.specs.Pseudos.{field_of, index_of, name_of, needed_by}
 use Rattle.h2_heads.specs.Rules.{has_inner_colon, has_regular, is_bad_name, is_bad_pseudo, is_bad_value, is_one_of, is_pseudo, known}
 use Rattle.h2_heads.specs.declared.front.Front.{Front}
 use Rattle.h2_heads.specs.declared.malformed.Kind.{Kind}
@@ -21,105 +25,137 @@ use Rattle.h2_heads.specs.declared.malformed.Message.{Message}
 use Rattle.h2_heads.specs.declared.malformed.Message.TheVariants.{Connect, Request, Response, Trailers}
 use Rattle.h2_heads.specs.declared.pseudo.Pseudo.{Pseudo}
 use Rattle.h2_heads.specs.declared.pseudo.Pseudo.TheVariants.{Authority, Method, Path, Scheme, Status}
-use Rattle.h2_heads.proofs.FirstValues.{value_of-push}
+use Rattle.h2_heads.proofs.Found.{is_some_place, place_of-push}
 use Rattle.h2_heads.proofs.Lowest.{pseudo_field}
 use Rattle.h2_heads.proofs.Passes.{regular_unnamed}
-use Rattle.h2_heads.proofs.Pseudos.{colon_first, sound_pseudo}
-
-some_or : (o : Option (List ℕ)) (b : Bool) (v : List ℕ) → is_some (option_or o (cond b (Some v) None)) ≡ (is_some o || b)
-some_or (Some w) b v = refl
-some_or None true v = refl
-some_or None false v = refl
-
-has_field-push : (name : List ℕ) (fields : List Field) (field : Field) → has_field name (fields ++ field ∷ []) ≡ (has_field name fields || is_named name field)
-has_field-push name fields field =
-    ap is_some (value_of-push name fields field) ∙ some_or (value_of name fields) (is_named name field) field.value
+use Rattle.h2_heads.proofs.Pseudos.{colon_first, colon_text, sound_pseudo}
 
 has_regular-push : (fields : List Field) (field : Field) → has_regular (fields ++ field ∷ []) ≡ (has_regular fields || not (is_pseudo field))
 has_regular-push fields field =
     list_any-append (λ (f : Field). not (is_pseudo f)) fields (field ∷ [])
     ∙ ap (λ b. has_regular fields || b) (or-false (not (is_pseudo field)))
 
--- a flag with one more field
-with_flag : (name : List ℕ) (flag after : Bool) (before : List Field) (field : Field) → flag ≡ has_field name before → after ≡ (flag || is_named name field) → after ≡ has_field name (before ++ field ∷ [])
-with_flag name flag after before field was more =
-    more ∙ ap (λ b. b || is_named name field) was ∙ sym (has_field-push name before field)
+or_none : (o : Option ℕ) → option_or o None ≡ o
+or_none (Some k) = refl
+or_none None = refl
 
-same_flag : (flag named : Bool) → named ≡ false → flag ≡ (flag || named)
-same_flag flag named e = sym (ap (λ b. flag || b) e ∙ or-false flag)
+not_named : (pseudo : Pseudo) (field : Field) → is_pseudo field ≡ false → is_named (name_of pseudo) field ≡ false
+not_named Method field regular = regular_unnamed field.name _ regular
+not_named Scheme field regular = regular_unnamed field.name _ regular
+not_named Authority field regular = regular_unnamed field.name _ regular
+not_named Path field regular = regular_unnamed field.name _ regular
+not_named Status field regular = regular_unnamed field.name _ regular
+
+-- no pseudo-field stands where a regular field is one more
+same_place : (pseudo : Pseudo) (before : List Field) (field : Field) → is_pseudo field ≡ false → place_of (name_of pseudo) (before ++ field ∷ []) ≡ place_of (name_of pseudo) before
+same_place pseudo before field regular =
+    place_of-push (name_of pseudo) before field
+    ∙ ap (λ named. option_or (place_of (name_of pseudo) before) (cond named (Some (length before)) None)) (not_named pseudo field regular)
+    ∙ or_none (place_of (name_of pseudo) before)
 
 -- a regular field more
-pub takes_regular : (front after : Front) (field : Field) → is_pseudo field ≡ false → after.method ≡ front.method → after.scheme ≡ front.scheme → after.authority ≡ front.authority → after.path ≡ front.path → after.status ≡ front.status → after.regular ≡ true → Takes front field after
-takes_regular front after field plain m s a p t r = record {
-  each = λ before is. record {
-    method = with_flag (codes ":method") front.method after.method before field is.method (m ∙ same_flag front.method (is_named (codes ":method") field) (regular_unnamed field.name _ plain));
-    scheme = with_flag (codes ":scheme") front.scheme after.scheme before field is.scheme (s ∙ same_flag front.scheme (is_named (codes ":scheme") field) (regular_unnamed field.name _ plain));
-    authority = with_flag (codes ":authority") front.authority after.authority before field is.authority (a ∙ same_flag front.authority (is_named (codes ":authority") field) (regular_unnamed field.name _ plain));
-    path = with_flag (codes ":path") front.path after.path before field is.path (p ∙ same_flag front.path (is_named (codes ":path") field) (regular_unnamed field.name _ plain));
-    status = with_flag (codes ":status") front.status after.status before field is.status (t ∙ same_flag front.status (is_named (codes ":status") field) (regular_unnamed field.name _ plain));
-    regular = r ∙ sym (has_regular-push before field ∙ ap (λ b. has_regular before || not b) plain ∙ or-true (has_regular before));
+pub takes_regular : (front after : Front) (place : ℕ) (field : Field) → is_pseudo field ≡ false → after.places ≡ front.places → after.regular ≡ true → Takes front place field after
+takes_regular front after place field regular same marked = record {
+  each = λ before is at. record {
+    room = ap length same ∙ is.room;
+    places = λ pseudo. ap (λ (ps : List (Option ℕ)). get_or ps (index_of pseudo) None) same ∙ is.places pseudo ∙ sym (same_place pseudo before field regular);
+    regular = marked ∙ sym (has_regular-push before field ∙ ap (λ b. has_regular before || not b) regular ∙ or-true (has_regular before));
   };
 }
 
-named_as : (name known other : List ℕ) (same : Bool) → name ≡ known → bytes_eq known other ≡ same → bytes_eq name other ≡ same
-named_as name known other same at test = ap (λ text. bytes_eq text other) at ∙ test
+-- two pseudo-fields have one name where they have one place in the row
+apart : (a b : Pseudo) → bytes_eq (name_of a) (name_of b) ≡ (index_of a == index_of b)
+apart Method Method = refl
+apart Method Scheme = refl
+apart Method Authority = refl
+apart Method Path = refl
+apart Method Status = refl
+apart Scheme Method = refl
+apart Scheme Scheme = refl
+apart Scheme Authority = refl
+apart Scheme Path = refl
+apart Scheme Status = refl
+apart Authority Method = refl
+apart Authority Scheme = refl
+apart Authority Authority = refl
+apart Authority Path = refl
+apart Authority Status = refl
+apart Path Method = refl
+apart Path Scheme = refl
+apart Path Authority = refl
+apart Path Path = refl
+apart Path Status = refl
+apart Status Method = refl
+apart Status Scheme = refl
+apart Status Authority = refl
+apart Status Path = refl
+apart Status Status = refl
 
-more_flag : (name known other : List ℕ) (flag after same : Bool) → name ≡ known → bytes_eq known other ≡ same → after ≡ (flag || same) → after ≡ (flag || bytes_eq name other)
-more_flag name known other flag after same at test more = more ∙ ap (λ b. flag || b) (sym (named_as name known other same at test))
+small_index : (pseudo : Pseudo) → index_of pseudo < 5
+small_index Method = omega arith
+small_index Scheme = omega arith
+small_index Authority = omega arith
+small_index Path = omega arith
+small_index Status = omega arith
 
--- a pseudo-field more
-takes_named : (front after : Front) (field : Field) (known : List ℕ) (m s a p t : Bool) → field.name ≡ known → starts_with nat_eq known (codes ":") ≡ true
-    → bytes_eq known (codes ":method") ≡ m → bytes_eq known (codes ":scheme") ≡ s → bytes_eq known (codes ":authority") ≡ a → bytes_eq known (codes ":path") ≡ p → bytes_eq known (codes ":status") ≡ t
-    → after.method ≡ (front.method || m) → after.scheme ≡ (front.scheme || s) → after.authority ≡ (front.authority || a) → after.path ≡ (front.path || p) → after.status ≡ (front.status || t)
-    → after.regular ≡ front.regular → Takes front field after
-takes_named front after field known m s a p t at colon is_m is_s is_a is_p is_t after_m after_s after_a after_p after_t after_r = record {
-  each = λ before is. record {
-    method = with_flag (codes ":method") front.method after.method before field is.method (more_flag field.name known (codes ":method") front.method after.method m at is_m after_m);
-    scheme = with_flag (codes ":scheme") front.scheme after.scheme before field is.scheme (more_flag field.name known (codes ":scheme") front.scheme after.scheme s at is_s after_s);
-    authority = with_flag (codes ":authority") front.authority after.authority before field is.authority (more_flag field.name known (codes ":authority") front.authority after.authority a at is_a after_a);
-    path = with_flag (codes ":path") front.path after.path before field is.path (more_flag field.name known (codes ":path") front.path after.path p at is_p after_p);
-    status = with_flag (codes ":status") front.status after.status before field is.status (more_flag field.name known (codes ":status") front.status after.status t at is_t after_t);
-    regular =
-        let pseudo = ap (λ text. starts_with nat_eq text (codes ":")) at ∙ colon in
-        after_r ∙ is.regular
-        ∙ sym (has_regular-push before field ∙ ap (λ b. has_regular before || not b) pseudo ∙ or-false (has_regular before));
-  };
+none_held : (o : Option ℕ) → is_some o ≡ false → o ≡ None
+none_held (Some k) e = cc
+none_held None e = refl
+
+-- a row of places with one more, which had none
+placed_one : (places : List (Option ℕ)) (i j place : ℕ) (old : Option ℕ) → i < length places → get_or places i None ≡ None → get_or places j None ≡ old → get_or (set places i (Some place)) j None ≡ option_or old (cond (i == j) (Some place) None)
+placed_one places i j place old within none at =
+    ⊎_elim (λ same.
+    let named : (i == j) ≡ true = grind (arith, nat_tests) in
+    let empty : old ≡ None = sym at ∙ ap (λ k. get_or places k None) (sym same) ∙ none in
+    get_or-set_at places i j (Some place) None (sym same) within
+    ∙ sym (ap (λ (o : Option ℕ). option_or o (cond (i == j) (Some place) None)) empty ∙ ap (λ b. cond b (Some place) None) named)
+    ) (λ other.
+    let named : (i == j) ≡ false = grind (arith, nat_tests) in
+    get_or-set_other places i j (Some place) None (λ same. other (sym same))
+    ∙ at
+    ∙ sym (ap (λ b. option_or old (cond b (Some place) None)) named ∙ or_none old)
+    ) (cases_eq i j)
+
+-- a pseudo-field more, the first of its name
+pub takes_pseudo : (front after : Front) (place : ℕ) (field : Field) (pseudo : Pseudo) → field.name ≡ name_of pseudo → has front pseudo ≡ false → after.places ≡ set front.places (index_of pseudo) (Some place) → after.regular ≡ front.regular → Takes front place field after
+takes_pseudo front after place field pseudo name fresh set_at kept = record {
+  each = λ before is at.
+      let within : index_of pseudo < length front.places = omega (arith, small_index pseudo, is.room) in
+      let none = none_held (placed front pseudo) fresh in
+      let colon = ap (λ text. starts_with nat_eq text (codes ":")) name ∙ colon_text pseudo in record {
+        room = ap length set_at ∙ length-set front.places (index_of pseudo) (Some place) ∙ is.room;
+        places = λ other.
+            let named : is_named (name_of other) field ≡ (index_of pseudo == index_of other) = ap (λ text. bytes_eq text (name_of other)) name ∙ apart pseudo other in
+            ap (λ (ps : List (Option ℕ)). get_or ps (index_of other) None) set_at
+            ∙ placed_one front.places (index_of pseudo) (index_of other) place (place_of (name_of other) before) within none (is.places other)
+            ∙ ap (λ b. option_or (place_of (name_of other) before) (cond b (Some place) None)) (sym named)
+            ∙ ap (λ n. option_or (place_of (name_of other) before) (cond (is_named (name_of other) field) (Some n) None)) (sym at)
+            ∙ sym (place_of-push (name_of other) before field);
+        regular =
+            kept ∙ is.regular
+            ∙ sym (has_regular-push before field ∙ ap (λ b. has_regular before || not b) colon ∙ or-false (has_regular before));
+      };
 }
 
-pub takes_marked : (front : Front) (field : Field) (pseudo : Pseudo) → field.name ≡ name_of pseudo → Takes front field (marked front pseudo)
-takes_marked front field Method at =
-    takes_named front (marked front Method) field (codes ":method") true false false false false at refl refl refl refl refl refl
-    (sym (or-true front.method)) (sym (or-false front.scheme)) (sym (or-false front.authority)) (sym (or-false front.path)) (sym (or-false front.status)) refl
-takes_marked front field Scheme at =
-    takes_named front (marked front Scheme) field (codes ":scheme") false true false false false at refl refl refl refl refl refl
-    (sym (or-false front.method)) (sym (or-true front.scheme)) (sym (or-false front.authority)) (sym (or-false front.path)) (sym (or-false front.status)) refl
-takes_marked front field Authority at =
-    takes_named front (marked front Authority) field (codes ":authority") false false true false false at refl refl refl refl refl refl
-    (sym (or-false front.method)) (sym (or-false front.scheme)) (sym (or-true front.authority)) (sym (or-false front.path)) (sym (or-false front.status)) refl
-takes_marked front field Path at =
-    takes_named front (marked front Path) field (codes ":path") false false false true false at refl refl refl refl refl refl
-    (sym (or-false front.method)) (sym (or-false front.scheme)) (sym (or-false front.authority)) (sym (or-true front.path)) (sym (or-false front.status)) refl
-takes_marked front field Status at =
-    takes_named front (marked front Status) field (codes ":status") false false false false true at refl refl refl refl refl refl
-    (sym (or-false front.method)) (sym (or-false front.scheme)) (sym (or-false front.authority)) (sym (or-false front.path)) (sym (or-true front.status)) refl
-
--- a flag is whether the pseudo-field is among the fields
+-- where a front has a place for a pseudo-field, that is among the fields
 pub has_is : (front : Front) (fields : List Field) (pseudo : Pseudo) → IsFront front fields → has front pseudo ≡ has_field (name_of pseudo) fields
-has_is front fields Method is = is.method
-has_is front fields Scheme is = is.scheme
-has_is front fields Authority is = is.authority
-has_is front fields Path is = is.path
-has_is front fields Status is = is.status
+has_is front fields pseudo is = ap is_some (is.places pseudo) ∙ is_some_place (name_of pseudo) fields
 
 pub lacks_is : (message : Message) (front : Front) (fields : List Field) → IsFront front fields → list_any (λ (pseudo : Pseudo). not (has front pseudo)) (needed_by message) ≡ lacks message fields
-lacks_is Request front fields is = λ k. not (is.method k) || (not (is.scheme k) || (not (is.path k) || false))
-lacks_is Connect front fields is = λ k. not (is.method k) || (not (is.authority k) || false)
-lacks_is Response front fields is = λ k. not (is.status k) || false
+lacks_is Request front fields is =
+    λ k. not (has_is front fields Method is k) || (not (has_is front fields Scheme is k) || (not (has_is front fields Path is k) || false))
+lacks_is Connect front fields is =
+    λ k. not (has_is front fields Method is k) || (not (has_is front fields Authority is k) || false)
+lacks_is Response front fields is = λ k. not (has_is front fields Status is k) || false
 lacks_is Trailers front fields is = refl
 
 -- the front of the first fields of a list that has no more
 pub whole_front : (front : Front) (fields : List Field) (i : ℕ) → IsFront front (take i fields) → length fields ≤ i → IsFront front fields
 whole_front front fields i is past = subst (λ (list : List Field). IsFront front list) (take_all i fields past) is
+
+pub same_front : (front : Front) (fields more : List Field) → more ≡ fields → IsFront front fields → IsFront front more
+same_front front fields more same is = subst (λ (list : List Field). IsFront front list) (sym same) is
 
 -- fields of one name and one value break the same rules for pseudo-fields
 alike : (message : Message) (before : List Field) (f g : Field) → f.name ≡ g.name → f.value ≡ g.value → lowest_of_pseudo message before f ≡ lowest_of_pseudo message before g

@@ -76,7 +76,7 @@ sound_text Status = refl
 pub sound_pseudo : (name : List ℕ) (pseudo : Pseudo) → name ≡ name_of pseudo → not (is_bad_name name || has_inner_colon name) ≡ true
 sound_pseudo name pseudo same = ap (λ text. not (is_bad_name text || has_inner_colon text)) same ∙ sound_text pseudo
 
-colon_text : (pseudo : Pseudo) → starts_with nat_eq (name_of pseudo) (codes ":") ≡ true
+pub colon_text : (pseudo : Pseudo) → starts_with nat_eq (name_of pseudo) (codes ":") ≡ true
 colon_text Method = refl
 colon_text Scheme = refl
 colon_text Authority = refl

@@ -14,6 +14,14 @@ name_of Authority = codes ":authority"
 name_of Path = codes ":path"
 name_of Status = codes ":status"
 
+-- its place in a row of all
+abbrev pub index_of : Pseudo → ℕ
+index_of Method = 0
+index_of Scheme = 1
+index_of Authority = 2
+index_of Path = 3
+index_of Status = 4
+
 -- the pseudo-field with a value
 abbrev pub field_of : Pseudo → List ℕ → Field
 field_of pseudo value = record { name = name_of pseudo; value = value; never = false }

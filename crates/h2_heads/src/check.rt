@@ -1,21 +1,33 @@
 // The check of a whole list.
-ghost use Rattle.std.specs.Prelude.{◌≡◌, ◌^◌, ◌<◌, is_err, length, IfErr, IfOk, IfSome, OnOk};
+ghost use Rattle.std.specs.Prelude.{◌≡◌, ◌^◌, ◌<◌, codes, is_err, length, IfErr, IfOk, IfSome, OnOk};
 ghost use Rattle.h2_heads.specs.Heads.{length_of};
+ghost use Rattle.h2_heads.specs.Named.{place_of};
 ghost use Rattle.h2_heads.specs.Malformed.{fault_at, is_malformed, IsFirst, IsSound};
 
 use crate::front::Front;
 use crate::lengths::first_length;
 use crate::malformed::{Kind, Malformed, Message};
+use crate::pseudo::Pseudo;
 use crate::values::length_named;
 use hpack_codec::Field;
 
-/// Goes once through the list, and stops at the first field that breaks a rule. Gives the
-/// content-length that the list names.
-pub fn check(message: Message, fields: &[Field]) -> Result<Option<u64>, Malformed>
+/// What a sound list says: at which places its `:authority` and its `:path` stand, and the
+/// content-length that it names.
+#[derive(Clone, Copy)]
+pub struct Said {
+    pub authority: Option<usize>,
+    pub path: Option<usize>,
+    pub content_length: Option<u64>,
+}
+
+/// Goes once through the list, and stops at the first field that breaks a rule.
+pub fn check(message: Message, fields: &[Field]) -> Result<Said, Malformed>
     requires { length fields.now < 2 ^ 32 }
     ensures sound { OnOk result (IsSound (fault_at message fields.now)) }
-    ensures length { IfOk result (λ named. named ≡ length_of fields.now) }
-    ensures short { IfOk result (λ named. IfSome named (λ length. length < 2 ^ 63)) }
+    ensures authority { IfOk result (λ said. said.authority ≡ place_of (codes ":authority") fields.now) }
+    ensures path { IfOk result (λ said. said.path ≡ place_of (codes ":path") fields.now) }
+    ensures length { IfOk result (λ said. said.content_length ≡ length_of fields.now) }
+    ensures short { IfOk result (λ said. IfSome said.content_length (λ length. length < 2 ^ 63)) }
     ensures fault { IfErr result (IsFirst (fault_at message fields.now)) }
     ensures malformed { is_err result ≡ is_malformed message fields.now }
 {
@@ -23,14 +35,17 @@ pub fn check(message: Message, fields: &[Field]) -> Result<Option<u64>, Malforme
     let mut length = None;
     for (place, field) in fields.iter().enumerate() {
         let name = field.name.as_slice();
-        match front.with_field(message, length, name, field) {
-            Ok(next) => front = next,
-            Err(kind) => return Err(Malformed::at(place, kind)),
+        if let Some(kind) = front.take(message, length, place, name, field) {
+            return Err(Malformed::at(place, kind));
         }
         length = first_length(length, name, field);
     }
     if front.lacks(message) {
         return Err(Malformed::at(fields.len(), Kind::Missing));
     }
-    Ok(length_named(length))
+    Ok(Said {
+        authority: front.place_of(Pseudo::Authority),
+        path: front.place_of(Pseudo::Path),
+        content_length: length_named(length),
+    })
 }

@@ -2,9 +2,10 @@
 ghost use Rattle.std.specs.Prelude.{◌≡◌, List, Option, ℕ, [], false, not, None, Some, true};
 ghost use Rattle.std.specs.List.{list_any};
 ghost use Rattle.std.specs.Option.{option_copied};
-ghost use Rattle.h2_heads.specs.Fronts.{has, marked, IsFront, Judges, Tells, TellsPseudo};
+ghost use Rattle.h2_heads.specs.Fronts.{has, placed, IsFront, Judges, Tells, TellsPseudo};
 ghost use Rattle.h2_heads.specs.Pseudos.{field_of, needed_by, pseudo_of};
 ghost use Rattle.h2_heads.specs.Rules.{is_bad_value, is_pseudo};
+ghost use Rattle.h2_heads.specs.declared.front.Front.{Front};
 ghost use Rattle.h2_heads.specs.declared.malformed.Message.{Message};
 
 use crate::malformed::{Kind, Message};
@@ -14,15 +15,11 @@ use crate::rules::lowest_of_regular;
 use crate::values::is_bad_value;
 use hpack_codec::Field;
 
-/// What a list's first fields, which break no rule, say of the next one: which pseudo-fields are
-/// among them, and whether a regular field is.
+/// What a list's first fields, which break no rule, say of the next one: at which places
+/// pseudo-fields stand among them, and whether a regular field does.
 #[derive(Clone, Copy)]
 pub struct Front {
-    method: bool,
-    scheme: bool,
-    authority: bool,
-    path: bool,
-    status: bool,
+    places: [Option<usize>; 5],
     regular: bool,
 }
 
@@ -32,90 +29,85 @@ impl Front {
         ensures { IsFront result [] }
     {
         Front {
-            method: false,
-            scheme: false,
-            authority: false,
-            path: false,
-            status: false,
+            places: [None; 5],
             regular: false,
         }
     }
 
-    /// The front with one field more, or the lowest rule that the field breaks, where `length` is the
-    /// value of the first content-length before it.
-    pub fn with_field(
-        self,
+    /// Takes the field at a place, the next one, or answers the lowest rule that it breaks, where
+    /// `length` is the value of the first content-length before it.
+    pub fn take(
+        &mut self,
         message: Message,
         length: Option<&[u8]>,
+        place: usize,
         name: &[u8],
         field: &Field,
-    ) -> Result<Self, Kind>
+    ) -> Option<Kind>
         requires { name.now ≡ field.now.name }
-        ensures { Judges message self (option_copied length.entry) field.now result }
+        ensures { Judges message self.old place (option_copied length.entry) field.now self.new result }
     {
-        let bad_value = is_bad_value(field.value.as_slice());
+        let value = field.value.as_slice();
+        let bad_value = is_bad_value(value);
         if !is_pseudo(name) {
-            return self.with_regular(length, name, bad_value, field);
+            return self.take_regular(length, place, name, bad_value, field);
         }
         if let Some(pseudo) = pseudo_of(name) {
-            return self.with_pseudo(message, pseudo, bad_value, field);
+            return self.take_pseudo(message, pseudo, place, value, bad_value, field);
         }
-        Err(self.fault_of_unknown(name, bad_value, field))
+        Some(self.fault_of_unknown(name, bad_value, field))
     }
 
     // The same of a regular field.
-    fn with_regular(
-        self,
+    fn take_regular(
+        &mut self,
         length: Option<&[u8]>,
+        place: usize,
         name: &[u8],
         bad_value: bool,
         field: &Field,
-    ) -> Result<Self, Kind>
+    ) -> Option<Kind>
         requires name { name.now ≡ field.now.name }
         requires value { bad_value ≡ is_bad_value field.now.value }
         requires regular { is_pseudo field.now ≡ false }
-        ensures { (message : Message) → Judges message self (option_copied length.entry) field.now result }
+        ensures { (message : Message) → Judges message self.old place (option_copied length.entry) field.now self.new result }
     {
-        if !is_sound_regular(name) {
-            return Err(fault_of_name(name));
+        if let Some(kind) = fault_of_regular(length, name, bad_value, field) {
+            return Some(kind);
         }
-        if bad_value {
-            return Err(Kind::BadValue);
-        }
-        if let Some(kind) = lowest_of_regular(length, name, field) {
-            return Err(kind);
-        }
-        Ok(Front {
-            regular: true,
-            ..self
-        })
+        self.regular = true;
+        None
     }
 
     // The same of a pseudo-field that some message knows.
-    fn with_pseudo(
-        self,
+    fn take_pseudo(
+        &mut self,
         message: Message,
         pseudo: Pseudo,
+        place: usize,
+        value: &[u8],
         bad_value: bool,
         field: &Field,
-    ) -> Result<Self, Kind>
+    ) -> Option<Kind>
         requires name { pseudo_of field.now.name ≡ Some pseudo }
+        requires text { value.now ≡ field.now.value }
         requires value { bad_value ≡ is_bad_value field.now.value }
-        ensures { (first : Option (List ℕ)) → Judges message self first field.now result }
+        ensures { (first : Option (List ℕ)) → Judges message self.old place first field.now self.new result }
     {
         if bad_value {
-            return Err(Kind::BadValue);
+            return Some(Kind::BadValue);
         }
-        let value = field.value.as_slice();
         if let Some(kind) = self.fault_of_pseudo(message, pseudo, value) {
-            return Err(kind);
+            return Some(kind);
         }
-        Ok(self.marked(pseudo))
+        self.places[pseudo.index()] = Some(place);
+        None
     }
 
     // The lowest rule for pseudo-fields that this one breaks.
-    fn fault_of_pseudo(self, message: Message, pseudo: Pseudo, value: &[u8]) -> Option<Kind>
-        ensures { TellsPseudo message self (field_of pseudo value.now) result }
+    fn fault_of_pseudo(&self, message: Message, pseudo: Pseudo, value: &[u8]) -> Option<Kind>
+        ensures tells { TellsPseudo message self.now (field_of pseudo value.now) result }
+        ensures fresh { result ≡ None → has self.now pseudo ≡ false }
     {
         if self.regular {
             return Some(Kind::LatePseudo);
@@ -133,12 +125,12 @@ impl Front {
     }
 
     // The lowest rule that a pseudo-field breaks that no message knows.
-    fn fault_of_unknown(self, name: &[u8], bad_value: bool, field: &Field) -> Kind
+    fn fault_of_unknown(&self, name: &[u8], bad_value: bool, field: &Field) -> Kind
         requires name { name.now ≡ field.now.name }
         requires value { bad_value ≡ is_bad_value field.now.value }
         requires pseudo { is_pseudo field.now ≡ true }
         requires unknown { pseudo_of field.now.name ≡ None }
-        ensures { (message : Message) (first : Option (List ℕ)) → Tells message self first field.now (Some result) }
+        ensures { (message : Message) (first : Option (List ℕ)) → Tells message self.now first field.now (Some result) }
     {
         if !is_sound_name(name) {
             return fault_of_name(name);
@@ -152,51 +144,51 @@ impl Front {
         Kind::UnknownPseudo
     }
 
-    fn has(self, pseudo: Pseudo) -> bool
-        ensures { result ≡ has self pseudo }
+    fn has(&self, pseudo: Pseudo) -> bool
+        ensures { result ≡ has self.now pseudo }
     {
-        match pseudo {
-            Pseudo::Method => self.method,
-            Pseudo::Scheme => self.scheme,
-            Pseudo::Authority => self.authority,
-            Pseudo::Path => self.path,
-            Pseudo::Status => self.status,
-        }
+        self.place_of(pseudo).is_some()
     }
 
-    fn marked(self, pseudo: Pseudo) -> Self
-        ensures { result ≡ marked self pseudo }
+    /// Where the pseudo-field stands.
+    pub fn place_of(&self, pseudo: Pseudo) -> Option<usize>
+        ensures { result ≡ placed self.now pseudo }
     {
-        match pseudo {
-            Pseudo::Method => Front {
-                method: true,
-                ..self
-            },
-            Pseudo::Scheme => Front {
-                scheme: true,
-                ..self
-            },
-            Pseudo::Authority => Front {
-                authority: true,
-                ..self
-            },
-            Pseudo::Path => Front { path: true, ..self },
-            Pseudo::Status => Front {
-                status: true,
-                ..self
-            },
-        }
+        self.places[pseudo.index()]
     }
 
     /// Whether a pseudo-field is missing that the message must have.
-    pub fn lacks(self, message: Message) -> bool
-        ensures { result ≡ list_any (λ pseudo. not (has self pseudo)) (needed_by message) }
+    pub fn lacks(&self, message: Message) -> bool
+        ensures { result ≡ list_any (λ pseudo. not (has self.now pseudo)) (needed_by message) }
     {
         match message {
-            Message::Request => !self.method || !self.scheme || !self.path,
-            Message::Connect => !self.method || !self.authority,
-            Message::Response => !self.status,
+            Message::Request => {
+                !self.has(Pseudo::Method) || !self.has(Pseudo::Scheme) || !self.has(Pseudo::Path)
+            }
+            Message::Connect => !self.has(Pseudo::Method) || !self.has(Pseudo::Authority),
+            Message::Response => !self.has(Pseudo::Status),
             Message::Trailers => false,
         }
     }
+}
+
+// The lowest rule that a regular field breaks.
+fn fault_of_regular(
+    length: Option<&[u8]>,
+    name: &[u8],
+    bad_value: bool,
+    field: &Field,
+) -> Option<Kind>
+    requires name { name.now ≡ field.now.name }
+    requires value { bad_value ≡ is_bad_value field.now.value }
+    requires regular { is_pseudo field.now ≡ false }
+    ensures { (message : Message) (front : Front) → Tells message front (option_copied length.entry) field.now result }
+{
+    if !is_sound_regular(name) {
+        return Some(fault_of_name(name));
+    }
+    if bad_value {
+        return Some(Kind::BadValue);
+    }
+    lowest_of_regular(length, name, field)
 }

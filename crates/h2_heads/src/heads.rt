@@ -11,7 +11,7 @@ ghost use Rattle.h2_heads.specs.declared.malformed.Message.TheVariants.{Connect,
 
 use crate::check::check;
 use crate::malformed::{Malformed, Message};
-use crate::names::{place_of, value_of};
+use crate::names::{first_method, value_of};
 use crate::octets::is_text;
 use crate::values::status_in;
 use hpack_codec::{Field, FieldList};
@@ -49,15 +49,15 @@ pub fn check_request(fields: &FieldList) -> Result<RequestHead, Malformed>
     ensures malformed { is_err result ≡ is_malformed_request fields.now }
 {
     let fields = fields.as_slice();
-    let method = value_of(fields, b":method");
+    let method = first_method(fields);
     let connect = is_some(method, b"CONNECT");
-    let content_length = check(message_of_request(connect), fields)?;
+    let said = check(message_of_request(connect), fields)?;
     Ok(RequestHead {
         connect,
         head: is_some(method, b"HEAD"),
-        authority: place_of(fields, b":authority"),
-        path: place_of(fields, b":path"),
-        content_length,
+        authority: short(said.authority),
+        path: short(said.path),
+        content_length: said.content_length,
     })
 }
 
@@ -74,10 +74,10 @@ pub fn check_response(fields: &FieldList) -> Result<ResponseHead, Malformed>
     ensures malformed { is_err result ≡ is_malformed_response fields.now }
 {
     let fields = fields.as_slice();
-    let content_length = check(Message::Response, fields)?;
+    let said = check(Message::Response, fields)?;
     Ok(ResponseHead {
         status: named_status(fields).unwrap_or(0),
-        content_length,
+        content_length: said.content_length,
     })
 }
 
@@ -102,6 +102,13 @@ fn message_of_request(connect: bool) -> Message
     } else {
         Message::Request
     }
+}
+
+fn short(place: Option<usize>) -> Option<u32>
+    requires { IfSome place (λ at. at < 2 ^ 32) }
+    ensures { result ≡ place }
+{
+    place.map(|at| at as u32)
 }
 
 // Whether there is a value, and it is this one.

@@ -37,7 +37,7 @@ pub fn first_length<'a>(length: Option<&'a [u8]>, name: &[u8], field: &'a Field)
         ≡ option_or (option_copied length.entry)
         (if is_named (codes "content-length") field.now then Some field.now.value else None) }
 {
-    if length.is_none() && is_text(name, b"content-length") {
+    if is_text(name, b"content-length") && length.is_none() {
         return Some(field.value.as_slice());
     }
     length

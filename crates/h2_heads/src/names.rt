@@ -1,6 +1,6 @@
 // Names of fields, and fields by their names.
-ghost use Rattle.std.specs.Prelude.{◌≡◌, ◌<◌, ◌≤◌, ◌+◌, ◌^◌, ◌==◌, ◌||◌, codes, false, if◌then◌else◌, length, nat_eq, not, IfSome};
-ghost use Rattle.h2_heads.specs.Named.{is_named, place_of, value_of, StandsAt};
+ghost use Rattle.std.specs.Prelude.{◌≡◌, ◌≤◌, ◌+◌, ◌==◌, ◌||◌, codes, false, if◌then◌else◌, length, nat_eq, not};
+ghost use Rattle.h2_heads.specs.Named.{is_named, value_of};
 ghost use Rattle.h2_heads.specs.Passes.{is_plain, is_usual};
 ghost use Rattle.h2_heads.specs.Rules.{has_inner_colon, is_bad_in_name, is_bad_name};
 ghost use Rattle.h2_heads.specs.declared.malformed.Kind.TheVariants.{BadName, InnerColon};
@@ -8,7 +8,7 @@ ghost use Rattle.std.specs.List.{list_all, list_any, starts_with};
 ghost use Rattle.std.specs.Option.{option_copied};
 
 use crate::malformed::Kind;
-use crate::octets::ends;
+use crate::octets::{ends, is_text};
 use hpack_codec::Field;
 
 /// Whether the name is empty or has an octet that no name has.
@@ -58,6 +58,7 @@ fn may_begin(octet: u8) -> bool
 }
 
 // Whether each octet is plain. Most names have none but usual ones.
+#[inline(always)]
 fn all_plain(octets: &[u8]) -> bool
     ensures { result ≡ list_all is_plain octets.now }
 {
@@ -68,6 +69,7 @@ fn all_plain(octets: &[u8]) -> bool
 }
 
 // Names are short, and most are looked at by their two ends.
+#[inline(always)]
 fn all_usual(octets: &[u8]) -> bool
     ensures { result ≡ list_all is_usual octets.now }
 {
@@ -149,18 +151,18 @@ pub fn value_of<'a>(fields: &'a [Field], name: &[u8]) -> Option<&'a [u8]>
         .map(|field| field.value.as_slice())
 }
 
-/// The place of the first field with the name.
-pub fn place_of(fields: &[Field], name: &[u8]) -> Option<u32>
-    requires { length fields.now < 2 ^ 32 }
-    ensures place { result ≡ place_of name.now fields.now }
-    ensures stands { StandsAt name.now fields.now result }
+/// The value of the first `:method`.
+pub fn first_method(fields: &[Field]) -> Option<&[u8]>
+    ensures { option_copied result ≡ value_of (codes ":method") fields.now }
 {
-    position_of(fields, name).map(|place| place as u32)
+    fields
+        .iter()
+        .find(|field| is_method(field))
+        .map(|field| field.value.as_slice())
 }
 
-fn position_of(fields: &[Field], name: &[u8]) -> Option<usize>
-    ensures place { result ≡ place_of name.now fields.now }
-    ensures within { IfSome result (λ place. place < length fields.now) }
+fn is_method(field: &Field) -> bool
+    ensures { result ≡ is_named (codes ":method") field.now }
 {
-    fields.iter().position(|field| is_named(field, name))
+    is_text(field.name.as_slice(), b":method")
 }

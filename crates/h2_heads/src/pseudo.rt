@@ -1,8 +1,8 @@
 // Pseudo-fields by their names.
-ghost use Rattle.std.specs.Prelude.{◌≡◌};
+ghost use Rattle.std.specs.Prelude.{◌≡◌, ◌<◌};
 ghost use Rattle.std.specs.List.{list_any};
 ghost use Rattle.std.specs.Str.{bytes_eq};
-ghost use Rattle.h2_heads.specs.Pseudos.{field_of, name_of, pseudo_of};
+ghost use Rattle.h2_heads.specs.Pseudos.{field_of, index_of, name_of, pseudo_of};
 ghost use Rattle.h2_heads.specs.Rules.{is_bad_pseudo, known};
 
 use crate::malformed::Message;
@@ -17,6 +17,16 @@ pub enum Pseudo {
     Authority,
     Path,
     Status,
+}
+
+impl Pseudo {
+    /// Its place in a row of all.
+    pub fn index(self) -> usize
+        ensures place { result ≡ index_of self }
+        ensures within { result < 5 }
+    {
+        self as usize
+    }
 }
 
 /// The pseudo-field of this name, told from the others by its length first.

@@ -1,2 +1,3 @@
+pub mod Spelled
 mod Started
 mod Starting

@@ -1,6 +1,8 @@
-//! Runs live workers, and live relays, over memory, one case of standard input after another, and prints how each ends: of a worker
-//! the turns at which its gate was passed, its journal, how many dispatches and notes there were, what the connections gave, were
-//! offered and were closed, how many permits are kept, and with which status and how many notes the journal replays.
+//! Runs live workers, live relays and replays over memory, one case of standard input after another, and prints how each ends: of a
+//! worker the turns at which its gate was passed, its journal, how many dispatches and notes there were, what the connections gave,
+//! were offered and were closed, how many permits are kept, and with which status and how many notes the journal replays. Before
+//! the cases it does what `h2replay` does with this program's own words, if it has any (the gate gives it `drill 20`, and `h2replay`
+//! itself `plain`).
 //!
 //! A case begins with a line `## NAME`. Lines `| TEXT` are the configuration's. A line `$ TURNS MOST PERMITS` has how many turns
 //! there are, how many octets an offer takes at most, and how many permits; `% tokens N` meters the client connections with N
@@ -23,6 +25,14 @@
 //! line `dispatch` there are no turns: what the connections give is dispatched, one after another, and the text of each fault that a
 //! dispatch answers is printed behind it. Then come the texts of the faults in lines `fault paused N`, `fault memory` and `fault failed`.
 //!
+//! A case whose first line is `replay` is replayed as `h2replay` does it, and prints how that ends and what it writes. The next line
+//! has its words behind a dollar sign, as `$ plain`, where a dash is an empty word. Lines `| TEXT` are the configuration's. Lines
+//! `% config K`, `% read K` and `% write K` say that this read of the configuration, read of the session or write, counted from 0,
+//! fails. The other lines are the session, in which `aa*3` at a line's end stands for `aaaaaa`; a line `% cut` behind it takes its
+//! last newline away. `% long config N` makes the configuration N octets long with newlines; `% long N` adds the session's last line
+//! until it is longer than N octets, and of what such a session writes the last line alone is shown. The line `text plain`,
+//! `text wire` or `text drill` alone prints the text of a short session, and the line `codes` the code of each status.
+//!
 //! A case with a line `sample P ..` samples these pressures from a gauge that has those of a line `gauge P ..`, and whose readings
 //! `% gauge K` fail.
 #![tactic(auto)]
@@ -35,22 +45,33 @@ mod points;
 mod relay_case;
 mod relay_faults;
 mod relay_show;
+mod replay_case;
+mod replay_show;
 mod run;
 mod said;
 mod sampling;
 mod script;
 mod show;
 mod stage;
+mod texts;
 
 use crate::case::Case;
 use crate::relay_show::show_relay;
+use crate::replay_show::show_replay;
 use crate::run::run_case;
 use crate::said::Said;
+use crate::texts::{show_codes, show_texts};
+use replay_cli::replay_words;
+use std::env::{self, Env};
 use std::io::{self, Read};
 use std::sync::Wait;
 use std::thread::Threads;
 
 fn main(rt: HostRuntime) -> io::Result<()> {
+    if has_words(&rt)? {
+        println!(rt; "## h2replay with this program's words")?;
+        replay_words(&rt, io::empty(), rt.stdout());
+    }
     let mut text = Vec::new(rt.alloc());
     rt.reader().read_to_end(&mut text)?;
     let text = std::str::from_utf8(text.as_slice()).unwrap_or("");
@@ -60,15 +81,25 @@ fn main(rt: HostRuntime) -> io::Result<()> {
     Ok(())
 }
 
+// Whether the program was given words.
+fn has_words<R: Env + AllocGlobal>(rt: &R) -> io::Result<bool> {
+    let mut words = env::args(rt)?;
+    let _program = words.next();
+    Ok(words.next().is_some())
+}
+
 // Runs the case of this text, and prints how it ends.
 fn show_case<R: Print + AllocGlobal + Threads + Wait + Sync>(rt: &R, text: &str) -> io::Result<()> {
     let (name, lines) = text.split_once('\n').unwrap_or((text, ""));
-    match lines.strip_prefix("relay\n") {
-        Some(lines) => {
-            println!(rt; "## {name}")?;
-            show_relay(rt, lines)
-        }
-        None => show_worker(rt, name, lines),
+    let (first, rest) = lines.split_once('\n').unwrap_or((lines, ""));
+    match first {
+        "relay" => show_relay(rt, name, rest),
+        "replay" => show_replay(rt, name, rest),
+        "codes" => show_codes(rt, name),
+        _ => match first.strip_prefix("text ") {
+            Some(which) => show_texts(rt, name, which),
+            None => show_worker(rt, name, lines),
+        },
     }
 }
 

@@ -25,8 +25,9 @@ const JOURNAL: usize = 100_000;
 /// The greatest connection whose state is printed.
 const CONNECTIONS: u32 = 6;
 
-/// Reads the case of these lines, runs it, and prints how it ends.
-pub fn show_relay<R: Print + AllocGlobal>(rt: &R, lines: &str) -> io::Result<()> {
+/// Prints the name of a case, reads its lines, runs it, and prints how it ends.
+pub fn show_relay<R: Print + AllocGlobal>(rt: &R, name: &str, lines: &str) -> io::Result<()> {
+    println!(rt; "## {name}")?;
     let mut case = Case::new(rt.alloc());
     for line in lines.lines() {
         if case.line(rt.alloc(), line).is_err() {

@@ -1,12 +1,37 @@
-//! Serves over loopback, with a client and a server beside the proxy. A relay: the client sends 1,000,000 octets through the proxy to
-//! the server, which sends them back. Then a proxy of HTTP/2 with two workers, whose client gets what the server answers to its
-//! requests, of which one has 100,000 octets; what each worker wrote is replayed, and the notes are compared. Which worker has the
-//! client isn't told, so that the same is printed whichever has. With words the one and the other keep journals of these names.
+//! How the proxy ends, over loopback and over a site in memory.
+//!
+//! First it serves over loopback, with a client and a server beside the proxy. A relay: the client sends 1,000,000 octets through the
+//! proxy to the server, which sends them back. Then a proxy of HTTP/2 with two workers, whose client gets what the server answers to
+//! its requests, of which one has 100,000 octets; what each worker wrote is replayed, and the notes are compared. Which worker has
+//! the client isn't told, so that the same is printed whichever has. With words the one and the other keep journals of these names,
+//! and nothing else is done.
+//!
+//! Then it runs the proxy over a site in memory, one case of standard input after another, and prints how each ends: the status, what
+//! was written to the output, what `h2proxy` tells of it on standard error, where it was to listen, what came back of relays and of
+//! workers, with the journals and the connections that were closed, and how many failures the site counts.
+//!
+//! A case begins with a line `## NAME`. Its lines begin with a word:
+//!
+//! - `# TEXT` says why the case ends so, and does nothing.
+//! - `$ WORD WORD ..` has the words of the command line.
+//! - `= TEXT` is a line of the configuration, and `long N` makes it N octets long with newlines.
+//! - `gauge P` is the pressure of the next resource, in parts per million.
+//! - `worker` begins what the next worker is given. Lines before the first are of the relay.
+//! - `tick T` is the moment at which the worker's clock stands.
+//! - `accept C`, `join C N`, `read C OCTET LENGTH`, `lost C`, `idle` and `stop` are what the connections give, in this order.
+//! - `wait` says that the worker's connections, once they have brought all, wait until the worker is to stop.
+//! - `room N` is for how many octets the journal has room, and before the first `worker` the output too.
+//! - `% PART K` makes a call fail. The calls of `config`, `site` (listening, and what a relay is given), `round`, `out`, `wires` and
+//!   `journal` are counted from 0; `fit` has the number of a worker.
+//!
+//! The gauges are read once, before the workers run, since the clock of the loop beside them stands. So each case prints the same
+//! however its threads are run.
 #![tactic(auto)]
 
 mod beside;
 mod client;
 mod loop_site;
+mod rows;
 mod server;
 mod web_journal;
 mod web_origin;
@@ -18,6 +43,7 @@ mod web_user;
 
 use crate::client::LENGTH;
 use crate::loop_site::LoopSite;
+use crate::rows::run_cases;
 use crate::server::Server;
 use crate::web_journal::Kept;
 use crate::web_origin::Origin;
@@ -48,8 +74,16 @@ const PROXY_TURNS: &str = "600";
 fn main(rt: HostRuntime) -> Result<()> {
     let mut words = env::args(&rt)?;
     let _program = words.next();
-    relay(rt, words.next())?;
-    proxy(rt, words.next())
+    let journal = words.next();
+    let is_alone = journal.is_some();
+    relay(rt, journal)?;
+    proxy(rt, words.next())?;
+    if is_alone {
+        return Ok(());
+    }
+    drop(words);
+    run_cases(rt)?;
+    Ok(())
 }
 
 // A relay, and what its client and its server saw. A server and a site are dropped by a call, since the check follows a drop without

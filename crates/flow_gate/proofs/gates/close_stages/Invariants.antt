@@ -8,7 +8,7 @@ use Rattle.std.specs.Prelude.{if◌then◌else◌, ◌+◌, ◌-◌, ◌^◌, �
 -- the stages so far that nobody watches are closed
 abbrev pub invariant-stages : goal.invariant-stages
 invariant-stages l = (b : BufferId) →
-    buffer_at l.buffers.entries b ≡ (if is_done l.flow l.after b then kept (buffer_at l.initial.buffers.entries b) else buffer_at l.initial.buffers.entries b)
+    buffer_at l.buffers b ≡ (if is_done l.flow l.after b then kept (buffer_at l.initial.buffers b) else buffer_at l.initial.buffers b)
 
 abbrev pub decreases-stages : goal.decreases-stages
 decreases-stages l = option_map_or (λ stage. 2 ^ 32 - stage) l.after (2 ^ 32 + 1)

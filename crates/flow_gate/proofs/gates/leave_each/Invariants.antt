@@ -7,5 +7,5 @@ use Rattle.std.specs.Prelude.{take, ◌≡◌}
 
 -- the flow left the lines of the watches so far
 abbrev pub invariant-loop-watch : goal.invariant-loop-watch
-invariant-loop-watch l = (f : FlowId) → AreWatches f l.watches l.initial.buffers.entries → (b : BufferId) →
-    buffer_at l.buffers.entries b ≡ left_so_far f (take l.watch-index l.watches) b (buffer_at l.initial.buffers.entries b)
+invariant-loop-watch l = (f : FlowId) → AreWatches f l.watches l.initial.buffers → (b : BufferId) →
+    buffer_at l.buffers b ≡ left_so_far f (take l.watch-index l.watches) b (buffer_at l.initial.buffers b)

@@ -11,12 +11,12 @@ use Rattle.std.specs.Prelude.{None}
 
 pub unreachable-requires : goal.unreachable-requires
 unreachable-requires c = false≢true
-    (marked_found c.self.inside.flows.entries c.self.inside.buffers.entries c.args.buffer None (ap option_copied_mut (sym c.in_default.is) ∙ c.get_mut.ensures.value) ∙ (rw (← c.self.view_is) at c.requires.high))
+    (marked_found c.self.inside.flows c.self.inside.buffers c.args.buffer None (ap option_copied_mut (sym c.in_default.is) ∙ c.get_mut.ensures.value) ∙ (rw (← c.self.view_is) at c.requires.high))
 
 done : (c : After-self-2-1) →
-    Drains c.args.buffer (board_of c.self.inside.flows.entries c.self.inside.buffers.entries) (board_of c.self.inside.flows.entries (c.get_mut.follows.lender c.drain.new.self).entries) × AreGates c.self.inside.flows.entries (c.get_mut.follows.lender c.drain.new.self).entries
-done c = buffer_drained c.args.buffer c.in-Some.gate.now c.drain.new.self c.self.inside.flows.entries c.self.inside.buffers.entries _ c.in-Some.ensures.value c.drain.ensures
-    ((c.get_mut.follows.holds c.drain.new.self).3 (search rules)).0 (rw (← c.self.view_is) at c.requires.high) (rw (← c.self.view_is) at c.requires.told) c.self.invariant
+    Drains c.args.buffer (board_of c.self.inside.flows c.self.inside.buffers) (board_of c.self.inside.flows (c.get_mut.follows.lender c.drain.new.self)) × AreGates c.self.inside.flows (c.get_mut.follows.lender c.drain.new.self)
+done c = buffer_drained c.args.buffer c.in-Some.gate.now c.drain.new.self c.self.inside.flows c.self.inside.buffers _ c.in-Some.ensures.value c.drain.ensures
+    ((c.get_mut.follows.holds c.drain.new.self).1 (search rules)) (rw (← c.self.view_is) at c.requires.high) (rw (← c.self.view_is) at c.requires.told) c.self.invariant
 
 pub invariant_of-self : goal.invariant_of-self
 invariant_of-self c = (done c).1

@@ -4,8 +4,8 @@ use Rattle.flow_gate.proofs.gates.Gates.close_buffer.Goals.{Joined-remove}
 use Rattle.flow_gate.specs.Changes.{Closes}
 use Rattle.flow_gate.specs.Parts.{AreGates, board_of}
 
-done : (c : Joined-remove) → Closes c.args.buffer (board_of c.self.inside.flows.entries c.self.inside.buffers.entries) (board_of c.self.inside.flows.entries c.remove.new.self.entries) × AreGates c.self.inside.flows.entries c.remove.new.self.entries
-done c = buffer_closed c.args.buffer c.self.inside.flows.entries c.self.inside.buffers.entries _ (rw (← c.self.view_is) at c.requires.unwatched) c.remove.ensures.updates.0 c.self.invariant
+done : (c : Joined-remove) → Closes c.args.buffer (board_of c.self.inside.flows c.self.inside.buffers) (board_of c.self.inside.flows c.remove.new.self) × AreGates c.self.inside.flows c.remove.new.self
+done c = buffer_closed c.args.buffer c.self.inside.flows c.self.inside.buffers _ (rw (← c.self.view_is) at c.requires.unwatched) c.remove.ensures.updates c.self.invariant
 
 pub invariant_of-self : goal.invariant_of-self
 invariant_of-self c = (done c).1

@@ -10,14 +10,14 @@ use Rattle.std.specs.Option.{is_some, option_copied_mut}
 
 pub unreachable-requires : goal.unreachable-requires
 unreachable-requires c = false≢true
-    (known_found c.self.inside.flows.entries c.self.inside.buffers.entries c.args.buffer _ (ap is_some (ap option_copied_mut (sym c.in_default.is) ∙ c.get_mut.ensures.value))
+    (known_found c.self.inside.flows c.self.inside.buffers c.args.buffer _ (ap is_some (ap option_copied_mut (sym c.in_default.is) ∙ c.get_mut.ensures.value))
     ∙ (rw (← c.self.view_is) at c.requires.known))
 
 done : (c : After-self-2-1) →
-    Rises c.args.buffer (board_of c.self.inside.flows.entries c.self.inside.buffers.entries) (board_of c.self.inside.flows.entries (c.get_mut.follows.lender c.rise.new.self).entries)
-    × AreGates c.self.inside.flows.entries (c.get_mut.follows.lender c.rise.new.self).entries
-done c = buffer_rose c.args.buffer c.in-Some.gate.now c.rise.new.self c.self.inside.flows.entries c.self.inside.buffers.entries _ c.in-Some.ensures.value c.rise.ensures
-    ((c.get_mut.follows.holds c.rise.new.self).3 (search rules)).0 (rw (← c.self.view_is) at c.requires.low) c.self.invariant
+    Rises c.args.buffer (board_of c.self.inside.flows c.self.inside.buffers) (board_of c.self.inside.flows (c.get_mut.follows.lender c.rise.new.self))
+    × AreGates c.self.inside.flows (c.get_mut.follows.lender c.rise.new.self)
+done c = buffer_rose c.args.buffer c.in-Some.gate.now c.rise.new.self c.self.inside.flows c.self.inside.buffers _ c.in-Some.ensures.value c.rise.ensures
+    ((c.get_mut.follows.holds c.rise.new.self).1 (search rules)) (rw (← c.self.view_is) at c.requires.low) c.self.invariant
 
 pub invariant_of-self : goal.invariant_of-self
 invariant_of-self c = (done c).1

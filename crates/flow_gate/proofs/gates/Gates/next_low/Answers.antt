@@ -8,20 +8,20 @@ use Rattle.std.specs.Prelude.{None}
 -- the buffer isn't known
 pub returns-in_err-get_mut-clause-none : goal.returns-in_err-get_mut-clause-none
 returns-in_err-get_mut-clause-none c =
-    rw (← c.self.view_is) (λ h. sym (pending_found c.self.inside.flows.entries c.self.inside.buffers.entries c.args.buffer None c.in_err-get_mut.ensures.value), λ h. ap is_some c.from_residual.ensures)
+    rw (← c.self.view_is) (λ h. sym (pending_found c.self.inside.flows c.self.inside.buffers c.args.buffer None c.in_err-get_mut.ensures.value), λ h. ap is_some c.from_residual.ensures)
 
 -- what its gate answers
 pub invariant_of-self-2 : goal.invariant_of-self-2
-invariant_of-self-2 c = (low_taken c.args.buffer c.in_ok-get_mut.field-0.now c.tell.new.self c.tell.result c.self.inside.flows.entries c.self.inside.buffers.entries _ c.in_ok-get_mut.ensures.value c.tell.ensures.first c.tell.ensures.rest
-    ((c.get_mut.follows.holds c.tell.new.self).3 (search rules)).0 c.self.invariant).1
+invariant_of-self-2 c = (low_taken c.args.buffer c.in_ok-get_mut.field-0.now c.tell.new.self c.tell.result c.self.inside.flows c.self.inside.buffers _ c.in_ok-get_mut.ensures.value c.tell.ensures.first c.tell.ensures.rest
+    ((c.get_mut.follows.holds c.tell.new.self).1 (search rules)) c.self.invariant).1
 
 pub returns-clause-none : goal.returns-clause-none
-returns-clause-none c = rw (← c.self.view_is) (taken_none c.args.buffer c.in_ok-get_mut.field-0.now c.tell.result c.self.inside.flows.entries c.self.inside.buffers.entries c.in_ok-get_mut.ensures.value c.tell.ensures.first)
+returns-clause-none c = rw (← c.self.view_is) (taken_none c.args.buffer c.in_ok-get_mut.field-0.now c.tell.result c.self.inside.flows c.self.inside.buffers c.in_ok-get_mut.ensures.value c.tell.ensures.first)
 
 pub returns-clause-tells : goal.returns-clause-tells
-returns-clause-tells c = rw (← c.self.view_is) (low_taken c.args.buffer c.in_ok-get_mut.field-0.now c.tell.new.self c.tell.result c.self.inside.flows.entries c.self.inside.buffers.entries _ c.in_ok-get_mut.ensures.value c.tell.ensures.first c.tell.ensures.rest
-    ((c.get_mut.follows.holds c.tell.new.self).3 (search rules)).0 c.self.invariant).0
+returns-clause-tells c = rw (← c.self.view_is) (low_taken c.args.buffer c.in_ok-get_mut.field-0.now c.tell.new.self c.tell.result c.self.inside.flows c.self.inside.buffers _ c.in_ok-get_mut.ensures.value c.tell.ensures.first c.tell.ensures.rest
+    ((c.get_mut.follows.holds c.tell.new.self).1 (search rules)) c.self.invariant).0
 
 pub returns-clause-sound : goal.returns-clause-sound
-returns-clause-sound c = (low_taken c.args.buffer c.in_ok-get_mut.field-0.now c.tell.new.self c.tell.result c.self.inside.flows.entries c.self.inside.buffers.entries _ c.in_ok-get_mut.ensures.value c.tell.ensures.first c.tell.ensures.rest
-    ((c.get_mut.follows.holds c.tell.new.self).3 (search rules)).0 c.self.invariant).1.sound
+returns-clause-sound c = (low_taken c.args.buffer c.in_ok-get_mut.field-0.now c.tell.new.self c.tell.result c.self.inside.flows c.self.inside.buffers _ c.in_ok-get_mut.ensures.value c.tell.ensures.first c.tell.ensures.rest
+    ((c.get_mut.follows.holds c.tell.new.self).1 (search rules)) c.self.invariant).1.sound

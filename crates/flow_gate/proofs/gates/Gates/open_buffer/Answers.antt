@@ -4,9 +4,9 @@ use Rattle.flow_gate.proofs.gates.Gates.open_buffer.Goals.{Joined-branch-3}
 use Rattle.flow_gate.specs.Changes.{Knows}
 use Rattle.flow_gate.specs.Parts.{AreGates, board_of}
 
-done : (c : Joined-branch-3) → Knows c.args.buffer (board_of c.self.inside.flows.entries c.self.inside.buffers.entries) (board_of c.self.inside.flows.entries c.insert.new.self.entries) × AreGates c.self.inside.flows.entries c.insert.new.self.entries
-done c = buffer_opened c.args.buffer c.begun-gate.result c.self.inside.flows.entries c.self.inside.buffers.entries _ (rw (← c.self.view_is) at c.requires) c.begun-gate.ensures
-    c.in_ok-insert.ensures.updates.0 c.self.invariant
+done : (c : Joined-branch-3) → Knows c.args.buffer (board_of c.self.inside.flows c.self.inside.buffers) (board_of c.self.inside.flows c.insert.new.self) × AreGates c.self.inside.flows c.insert.new.self
+done c = buffer_opened c.args.buffer c.begun-gate.result c.self.inside.flows c.self.inside.buffers _ (rw (← c.self.view_is) at c.requires) c.begun-gate.ensures
+    c.in_ok-insert.ensures.updates c.self.invariant
 
 pub invariant_of-self-2 : goal.invariant_of-self-2
 invariant_of-self-2 c = (done c).1

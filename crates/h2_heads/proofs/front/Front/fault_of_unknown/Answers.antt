@@ -20,10 +20,10 @@ pub returns-then-self : goal.returns-then-self
 returns-then-self c message first =
     let sound = rw c.requires.name at (sym c.is_sound_name.ensures ∙ c.if-not-is_sound_name.false) in
     let good = sym c.requires.value ∙ c.if-bad_value.false in
-    tells_behind message c.args.self first c.args.field.now _ sound good c.requires.pseudo (late_told message c.args.self c.args.field.now c.if-self.true)
+    tells_behind message c.args.self.now first c.args.field.now _ sound good c.requires.pseudo (late_told message c.args.self.now c.args.field.now c.if-self.true)
 
 pub returns : goal.returns
 returns c message first =
     let sound = rw c.requires.name at (sym c.is_sound_name.ensures ∙ c.if-not-is_sound_name.false) in
     let good = sym c.requires.value ∙ c.if-bad_value.false in
-    tells_behind message c.args.self first c.args.field.now _ sound good c.requires.pseudo (unknown_told message c.args.self c.args.field.now c.if-self.false (unknown_to message c.args.field.now.name c.requires.unknown))
+    tells_behind message c.args.self.now first c.args.field.now _ sound good c.requires.pseudo (unknown_told message c.args.self.now c.args.field.now c.if-self.false (unknown_to message c.args.field.now.name c.requires.unknown))

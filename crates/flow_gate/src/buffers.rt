@@ -1,0 +1,138 @@
+// The gates of the buffers that are known.
+ghost use Rattle.flow_gate.specs.Ids.{same_buffer};
+ghost use Rattle.flow_gate.specs.Lends.{LendsBuffer};
+ghost use Rattle.flow_gate.specs.Named.{Updates};
+ghost use Rattle.flow_gate.specs.Parts.{bound_after, buffer_at, is_after};
+ghost use Rattle.flow_gate.specs.declared.ids.BufferId.{BufferId};
+ghost use Rattle.std.specs.Borrow.{sem};
+ghost use Rattle.std.specs.Option.{option_copied, option_copied_mut};
+ghost use Rattle.std.specs.Prelude.{◌≡◌, ◌<◌, [], ℕ, IfNone, IfOk, IfSome, None, OnErr, OnOk, Some, true};
+
+use crate::flow_map::FlowMap;
+use crate::gate::Gate;
+use crate::ids::{BufferId, FlowId, StageId, stage_of};
+use io_ports::NoMemory;
+use paged_map::PagedMap;
+use std::alloc::Global;
+use std::collections::BTreeMap;
+use std::marker::Model;
+use std::ops::Bound;
+
+/// The gates of the buffers that are known. All but stages, which few flows have, are found by number.
+#[derive(Drop)]
+pub(crate) struct Buffers {
+    writes: PagedMap<u32, Gate>,
+    recvs: FlowMap<Gate>,
+    stages: BTreeMap<StageId, Gate>,
+    sends: FlowMap<Gate>,
+}
+
+impl Model for Buffers {
+    ghost use Rattle.flow_gate.specs.Line.{Line};
+    ghost use Rattle.flow_gate.specs.declared.ids.BufferId.{BufferId};
+    ghost use Rattle.std.specs.Prelude.{List};
+
+    ghost Value = { List (BufferId × Line) };
+
+    ghost use Rattle.flow_gate.specs.Named.{all_of};
+
+    ghost view = { λ a. all_of a.writes.entries a.recvs a.stages.entries a.sends };
+}
+
+impl Buffers {
+    /// None. Takes no memory.
+    pub(crate) fn new(alloc: Global) -> Self
+        ensures { result ≡ [] }
+    {
+        Buffers {
+            writes: PagedMap::new(alloc),
+            recvs: FlowMap::new(alloc),
+            stages: BTreeMap::new(alloc),
+            sends: FlowMap::new(alloc),
+        }
+    }
+
+    /// The gate of a buffer, if it is known.
+    pub(crate) fn get(&self, buffer: BufferId) -> Option<&Gate>
+        ensures value { option_copied result ≡ buffer_at self.now buffer }
+    {
+        match buffer {
+            BufferId::Write(conn) => self.writes.get(&conn),
+            BufferId::Recv(flow) => self.recvs.get(flow),
+            BufferId::Stage(flow, stage) => self.stages.get(&StageId { flow, stage }),
+            BufferId::Send(flow) => self.sends.get(flow),
+        }
+    }
+
+    /// The gate of a buffer, if it is known, to be changed.
+    pub(crate) fn get_mut(&mut self, buffer: BufferId) -> Option<&mut Gate>
+        ensures* writes_back { sem 𝓛 (LendsBuffer self.entry buffer result) }
+        ensures value { option_copied_mut result ≡ buffer_at self.old buffer }
+    {
+        match buffer {
+            BufferId::Write(conn) => self.writes.get_mut(&conn),
+            BufferId::Recv(flow) => self.recvs.get_mut(flow),
+            BufferId::Stage(flow, stage) => self.stages.get_mut(&StageId { flow, stage }),
+            BufferId::Send(flow) => self.sends.get_mut(flow),
+        }
+    }
+
+    /// From now on the buffer has this gate. Answers what it had. After running out of memory nothing has changed.
+    pub(crate) fn insert(&mut self, buffer: BufferId, gate: Gate) -> Result<Option<Gate>, NoMemory>
+        ensures old { IfOk result (λ old. old ≡ buffer_at self.old buffer) }
+        ensures updates { OnOk result (Updates same_buffer buffer (Some gate) self.old self.new) }
+        ensures err { OnErr result (self.new ≡ self.old) }
+    {
+        match buffer {
+            BufferId::Write(conn) => self.writes.insert(conn, gate),
+            BufferId::Recv(flow) => self.recvs.insert(flow, gate),
+            BufferId::Stage(flow, stage) => match self
+                .stages
+                .insert(StageId { flow, stage }, gate)
+            {
+                Ok(old) => Ok(old),
+                Err(_) => Err(NoMemory),
+            },
+            BufferId::Send(flow) => self.sends.insert(flow, gate),
+        }
+    }
+
+    /// From now on the buffer isn't known. Answers its gate. Takes no memory.
+    pub(crate) fn remove(&mut self, buffer: BufferId) -> Option<Gate>
+        ensures value { result ≡ buffer_at self.old buffer }
+        ensures updates { Updates same_buffer buffer None self.old self.new }
+    {
+        match buffer {
+            BufferId::Write(conn) => self.writes.remove(&conn),
+            BufferId::Recv(flow) => self.recvs.remove(flow),
+            BufferId::Stage(flow, stage) => self.stages.remove(&StageId { flow, stage }),
+            BufferId::Send(flow) => self.sends.remove(flow),
+        }
+    }
+
+    /// The first stage of a flow that is known, or the first one after another.
+    pub(crate) fn stage_after(&self, flow: FlowId, after: Option<u32>) -> Option<u32>
+        ensures later { IfSome result (λ i. is_after after i ≡ true) }
+        ensures first { IfSome result (λ i. (j : ℕ) → is_after after j ≡ true → j < i → buffer_at self.now (BufferId.Stage flow j) ≡ None) }
+        ensures none { IfNone result ((j : ℕ) → is_after after j ≡ true → buffer_at self.now (BufferId.Stage flow j) ≡ None) }
+    {
+        if self.stages.is_empty() {
+            return None;
+        }
+        let (&stage, _) = self
+            .stages
+            .range((bound_after(flow, after), Bound::Unbounded))
+            .next()?;
+        stage_of(flow, stage)
+    }
+}
+
+// Where the stages of a flow begin, or those after one.
+fn bound_after(flow: FlowId, after: Option<u32>) -> Bound<StageId>
+    ensures { result ≡ bound_after flow after }
+{
+    match after {
+        None => Bound::Included(StageId { flow, stage: 0 }),
+        Some(stage) => Bound::Excluded(StageId { flow, stage }),
+    }
+}

@@ -1,4 +1,0 @@
-use Rattle.list_tests.proofs.lists.nodes_leave_and_move.Given as goal
-
-abbrev pub ghosts-after : goal.ghosts-after
-ghosts-after g a = record { name = a.blank.name; parts = a.blank.parts }
