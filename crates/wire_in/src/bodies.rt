@@ -183,9 +183,9 @@ fn arrive(
         return Ok(());
     }
     let flow = course.flow;
-    if core.flows.receive(flow, octets.as_slice()) != Received::Arrived {
+    let Received::Arrived = core.flows.receive(flow, octets.as_slice()) else {
         return Ok(());
-    }
+    };
     core.touch(flow.exchange)?;
     note(notes, Note::Arrive { flow, octets })
 }
