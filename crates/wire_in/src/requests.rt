@@ -269,12 +269,14 @@ fn note_held(
     ensures notes { Appends notes.old notes.new }
     ensures octets { Shows result notes.old notes.new }
 {
-    let (request, response) = (
-        FlowId::request(started.exchange),
-        FlowId::response(started.exchange),
-    );
-    note_hold(request, started.request_held, to, notes)?;
-    note_hold(response, started.response_held, Some(number), notes)
+    let exchange = started.exchange;
+    note_hold(FlowId::request(exchange), started.request_held, to, notes)?;
+    note_hold(
+        FlowId::response(exchange),
+        started.response_held,
+        Some(number),
+        notes,
+    )
 }
 
 // The pause of a flow, where the write buffer of the connection that it goes to holds it back.
