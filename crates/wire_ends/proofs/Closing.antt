@@ -2,7 +2,6 @@
 use Rattle.std.proofs.Common.{ap, sym, ◌∙◌}
 use Rattle.paged_map.specs.PagedMap.{PagedMap, WritesThrough, value_at}
 use Rattle.std.specs.Option.{option_map_or}
-use Rattle.std.specs.Ordering.{nat_cmp}
 use Rattle.std.specs.Prelude.{Option, Some, false, ℕ, ◌≡◌}
 use Rattle.wire_state.proofs.Held.{number_same}
 use Rattle.wire_state.proofs.Standing.{there_now}

@@ -2,7 +2,7 @@
 use Rattle.exchange_core.specs.Effects.{arrived, received, received_by}
 use Rattle.exchange_core.specs.Flow.{Flow}
 use Rattle.exchange_core.specs.declared.step.Received.{Received}
-use Rattle.exchange_core.specs.declared.step.Received.TheVariants.{Arrived, NotLive, TooMany}
+use Rattle.exchange_core.specs.declared.step.Received.TheVariants.{Arrived, TooMany}
 use Rattle.exchange_core.specs.Changes.{ChangesFlow}
 use Rattle.flow_gate.specs.declared.ids.FlowId.{FlowId}
 use Rattle.flow_notes.specs.declared.notes.Note.{Note}

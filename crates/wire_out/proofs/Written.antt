@@ -8,9 +8,8 @@ use Rattle.h2_frames.specs.Frame.{WindowUpdate}
 use Rattle.h2_frames.specs.Head.{data_head}
 use Rattle.h2_frames.specs.Spelling.{spelling}
 use Rattle.io_ports.specs.declared.octets.NoMemory.{NoMemory}
-use Rattle.std.proofs.Common.{ap, refl, subst, sym, ◌∙◌}
+use Rattle.std.proofs.Common.{ap, refl}
 use Rattle.paged_map.specs.PagedMap.{WritesThrough, value_at}
-use Rattle.std.specs.Ordering.{nat_cmp}
 use Rattle.std.specs.Prelude.{Bool, Err, IfOk, IfSome, IsSome, List, MatchOption, None, Ok, Option, Result, Some, [], take, ℕ, ◌++◌, ◌∷◌, ◌≡◌}
 use Rattle.wire_flows.specs.Flows.{IsThere, flow_in}
 use Rattle.wire_flows.specs.declared.framing.Framed.{Framed as FramedBody}

@@ -2,17 +2,15 @@
 use Rattle.exchange_core.specs.Changes.{ChangesFlow}
 use Rattle.exchange_core.specs.Effects.{arrived, body_framed, moved}
 use Rattle.exchange_core.specs.Flow.{Flow, last_place as send_place, send}
-use Rattle.exchange_core.specs.declared.exchange.Exchange.{Exchange}
 use Rattle.filter_chain.specs.Place.{Place}
 use Rattle.flow_gate.proofs.SameIds.{same_flow_exact}
 use Rattle.flow_gate.specs.declared.ids.FlowId.{FlowId}
-use Rattle.flow_notes.specs.declared.notes.Cause.{Cause}
 use Rattle.h2_frames.specs.Head.{data_head}
 use Rattle.std.proofs.Common.{ap, arith, refl, subst, sym, ◌∙◌}
 use Rattle.std.proofs.lemmas.List.{append-nil}
 use Rattle.paged_map.specs.PagedMap.{PagedMap}
-use Rattle.std.specs.Option.{option_and_then, option_map}
-use Rattle.std.specs.Prelude.{Bool, IfSome, List, None, Option, Some, [], drop, false, if◌then◌else◌, is_some, not, slice_get, take, true, ℕ, ◌&&◌, ◌++◌, ◌+◌, ◌<◌, ◌==◌, ◌∷◌, ◌≡◌}
+use Rattle.std.specs.Option.{option_map}
+use Rattle.std.specs.Prelude.{Bool, IfSome, List, Option, Some, [], drop, false, if◌then◌else◌, is_some, not, slice_get, take, true, ℕ, ◌&&◌, ◌++◌, ◌+◌, ◌<◌, ◌==◌, ◌∷◌, ◌≡◌}
 use Rattle.tape_laws.specs.Flows.{same_flow}
 use Rattle.tape_laws.specs.History.{Noted}
 use Rattle.tape_laws.specs.World.{last_place, out, place, send as sends}

@@ -17,7 +17,7 @@ use Rattle.proxy_config.specs.declared.routes.Filter.TheVariants as filter
 use Rattle.std.proofs.Common.{ap, arith, refl, subst, sym, ◌∙◌}
 use Rattle.paged_map.specs.PagedMap.{PagedMap}
 use Rattle.std.specs.Option.{option_and_then, option_map}
-use Rattle.std.specs.Prelude.{Bool, IfSome, List, None, Option, Some, [], false, if◌then◌else◌, is_some, length, not, suc, true, ℕ, ◌&&◌, ◌++◌, ◌+◌, ◌==◌, ◌∷◌, ◌≡◌}
+use Rattle.std.specs.Prelude.{Bool, IfSome, List, None, Option, Some, [], false, if◌then◌else◌, is_some, length, suc, true, ℕ, ◌&&◌, ◌++◌, ◌+◌, ◌==◌, ◌∷◌, ◌≡◌}
 use Rattle.tape_laws.specs.Flows.{request, response}
 use Rattle.tape_laws.specs.History.{Marked, Noted}
 use Rattle.tape_laws.specs.World.{last_place, place}

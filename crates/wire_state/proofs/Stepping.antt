@@ -13,7 +13,7 @@ use Rattle.flow_notes.specs.declared.notes.Note.{Note}
 use Rattle.flow_notes.specs.declared.notes.Note.TheVariants as note
 use Rattle.paged_map.specs.PagedMap.{PagedMap}
 use Rattle.std.specs.Option.{option_map_or}
-use Rattle.std.specs.Prelude.{Bool, IsSome, List, None, Option, Some, [], length, slice_get, true, ℕ, ◌++◌, ◌+◌, ◌-◌, ◌<◌, ◌∷◌, ◌≡◌, ◌≤◌}
+use Rattle.std.specs.Prelude.{IsSome, List, None, Option, Some, [], slice_get, ℕ, ◌++◌, ◌+◌, ◌-◌, ◌<◌, ◌∷◌, ◌≡◌, ◌≤◌}
 use Rattle.tape_laws.specs.History.{Noted}
 use Rattle.wire_flows.proofs.Freed.{found_at, free_is}
 use Rattle.wire_flows.proofs.Stepping.{still_stays}
@@ -23,7 +23,6 @@ use Rattle.wire_flows.specs.Moves.{outcome_of}
 use Rattle.wire_flows.specs.declared.moving.Moved.{Moved}
 use Rattle.wire_flows.specs.declared.moving.Outcome.{Outcome}
 use Rattle.wire_flows.specs.declared.moving.Outcome.TheVariants as outcome
-use Rattle.wm_buffer.specs.declared.buffer.Shifted.{Shifted}
 use Rattle.wire_links.specs.Links.{Links}
 use Rattle.wire_state.proofs.Bodies.{moves}
 use Rattle.wire_state.proofs.Goings.{bodies_told, changed_bodies, told_by}

@@ -14,7 +14,6 @@ use Rattle.std.proofs.Common.{ap, refl, subst, sym, ◌∙◌}
 use Rattle.std.proofs.lemmas.List.{append-nil, take_min}
 use Rattle.paged_map.specs.PagedMap.{WritesThrough, value_at}
 use Rattle.std.specs.Option.{option_and_then, option_map_or}
-use Rattle.std.specs.Ordering.{nat_cmp}
 use Rattle.std.specs.Prelude.{Bool, Err, IfOk, IfSome, List, MatchOption, None, Ok, Option, Result, Some, [], drop, false, if◌then◌else◌, length, min, suc, take, true, zero, ℕ, ◌++◌, ◌==◌, ◌∷◌, ◌≡◌}
 use Rattle.tape_laws.specs.Flows.{request}
 use Rattle.tape_laws.specs.History.{Noted}

@@ -3,7 +3,7 @@ use Rattle.flow_notes.specs.declared.notes.Note.TheVariants as note
 use Rattle.std.proofs.Common.{ap, refl, subst, sym}
 use Rattle.paged_map.specs.PagedMap.{PagedMap}
 use Rattle.std.specs.Option.{option_map_or}
-use Rattle.std.specs.Prelude.{Option, [], false, ℕ, ◌∷◌, ◌≡◌}
+use Rattle.std.specs.Prelude.{Option, [], false, ◌∷◌, ◌≡◌}
 use Rattle.tape_laws.specs.History.{Noted}
 use Rattle.wire_ends.proofs.closes.drop_octets.Goals as goal
 use Rattle.wire_state.proofs.Goings.{owes_by}

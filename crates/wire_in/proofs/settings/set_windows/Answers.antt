@@ -6,7 +6,6 @@ use Rattle.wire_state.proofs.Keeping.{kept_changed}
 use Rattle.wire_state.proofs.Soundness.{conns_sound}
 use Rattle.wire_state.proofs.Weights.{conn_changed}
 use Rattle.wire_state.specs.Progress.{to_go}
-use Rattle.wire_state.specs.declared.conn.Conn.{Conn}
 use Rattle.wm_buffer.specs.Buffer.{Buffer}
 
 pub returns-in-Some-clause-sound : goal.returns-in-Some-clause-sound
