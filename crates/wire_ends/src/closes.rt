@@ -1,10 +1,14 @@
 // Closes: a connection is given up, with a GOAWAY where one goes, and its exchanges are lost; and the GOAWAY before, by
 // which a connection begins to drain (RFC 9113 section 6.8).
-ghost use Rattle.std.specs.Prelude.{◌≡◌, ◌≤◌, ◌<◌, ◌+◌, ◌^◌, IfSome, OnOk, true};
+ghost use Rattle.std.specs.Prelude.{◌≡◌, ◌≤◌, ◌<◌, ◌+◌, ◌^◌, IfSome, OnOk, true, ◌∷◌, [], IfOk, MatchOption, ℕ, false};
 ghost use Rattle.wire_state.specs.Agenda.{top_go};
-ghost use Rattle.wire_state.specs.Noting.{Appends};
-ghost use Rattle.wire_state.specs.Progress.{to_go};
-ghost use Rattle.wire_state.specs.Sound.{IsSound, is_open_at};
+ghost use Rattle.wire_state.specs.Noting.{Appends, answers_of};
+ghost use Rattle.wire_state.specs.Progress.{conn_go, to_go};
+ghost use Rattle.wire_state.specs.Sound.{IsKept, IsSound, is_open_at};
+ghost use Rattle.wire_state.specs.Worlds.{Goes, Keeps, KeepsOk, Owes, Turns, left_by};
+ghost use Rattle.flow_notes.specs.declared.notes.Note.TheVariants as note;
+ghost use Rattle.flow_notes.specs.declared.events.Event.TheVariants as event;
+ghost use Rattle.proxy_config.specs.declared.config.LimitKeys.{LimitKeys as Limits};
 
 use crate::dooms::{Origin, doom};
 use crate::lists::{append, flood};
@@ -12,7 +16,7 @@ use flow_notes::{Cause, CloseCause, FireKind, Note, Notes};
 use h2_frames::codes::NO_ERROR;
 use io_ports::{NoMemory, Octets};
 use wire_outlet::{Control, Waiting};
-use wire_state::{Task, WireCore, note, note_answer};
+use wire_state::{Conn, Task, WireCore, note, note_answer};
 use wm_buffer::Crossed;
 
 /// The task Close: the connection is closed, unless it is.
@@ -28,6 +32,7 @@ pub fn close_task(
     ensures sound { OnOk result (IsSound core.new) }
     ensures go { OnOk result (to_go core.new < to_go core.old) }
     ensures notes { Appends notes.old notes.new }
+    ensures octets { Goes result core.old notes.old core.new notes.new }
 {
     core.end_task();
     close(core, conn, code, cause, notes)
@@ -46,18 +51,14 @@ pub fn close(
     ensures go { OnOk result (to_go core.new ≤ to_go core.old) }
     ensures less { is_open_at number core.old ≡ true → OnOk result (to_go core.new < to_go core.old) }
     ensures notes { Appends notes.old notes.new }
+    ensures octets { Goes result core.old notes.old core.new notes.new }
 {
     if !core.is_open(number) {
         return Ok(());
     }
-    shut(core, number);
     say_farewell(core, number, code, cause, notes)?;
-    core.stir(number)?;
-    core.disarm(FireKind::ConnectionIdle, u64::from(number));
-    core.begin(Task::Losses {
-        conn: number,
-        last: None,
-    })?;
+    shut(core, number, cause);
+    end_conn(core, number)?;
     note(
         notes,
         Note::Close {
@@ -66,6 +67,21 @@ pub fn close(
             cause,
         },
     )
+}
+
+// What a close begins: its exchanges are lost next.
+fn end_conn(core: &mut WireCore, number: u32) -> Result<(), NoMemory>
+    requires sound { IsSound core.old }
+    ensures sound { OnOk result (IsSound core.new) }
+    ensures go { OnOk result (to_go core.new ≤ to_go core.old + 2) }
+    ensures octets { KeepsOk result core.old core.new }
+{
+    core.stir(number)?;
+    core.disarm(FireKind::ConnectionIdle, u64::from(number));
+    core.begin(Task::Losses {
+        conn: number,
+        last: None,
+    })
 }
 
 // Whether the peer is told of a close by a GOAWAY.
@@ -89,6 +105,8 @@ fn say_farewell(
     ensures sound { OnOk result (IsSound core.new) }
     ensures go { OnOk result (to_go core.new ≤ to_go core.old) }
     ensures notes { Appends notes.old notes.new }
+    ensures octets { Goes result core.old notes.old core.new notes.new }
+    ensures stays { OnOk result (is_open_at number core.new ≡ is_open_at number core.old) }
 {
     if !is_told(cause) {
         return Ok(());
@@ -112,6 +130,8 @@ fn write_farewell(
     requires sound { IsSound core.old }
     ensures sound { OnOk result (IsSound core.new) }
     ensures go { to_go core.new ≤ to_go core.old }
+    ensures octets { IfOk result (λ framed. MatchOption framed (Keeps core.old core.new) (λ f. Owes (answers_of number f.0) core.old core.new)) }
+    ensures stays { is_open_at number core.new ≡ is_open_at number core.old }
 {
     match core.conns.get_mut(&number) {
         Some(conn) => conn.farewell(code),
@@ -119,17 +139,30 @@ fn write_farewell(
     }
 }
 
-// From now on the connection isn't open, and nothing waits.
-fn shut(core: &mut WireCore, number: u32)
+// From now on the connection isn't open, and nothing waits; where it is lost, its octets go nowhere.
+fn shut(core: &mut WireCore, number: u32, cause: CloseCause)
     requires sound { IsSound core.old }
     requires open { is_open_at number core.old ≡ true }
     ensures sound { IsSound core.new }
     ensures go { to_go core.new + 4 ≤ to_go core.old }
+    ensures octets { (code : ℕ) → Owes (note.Close number code cause ∷ []) core.old core.new }
 {
     core.links.close(number);
     match core.conns.get_mut(&number) {
-        Some(conn) => conn.shut(),
+        Some(conn) => shut_conn(conn, cause),
         None => {}
+    }
+}
+
+fn shut_conn(conn: &mut Conn, cause: CloseCause)
+    ensures kept { (limits : Limits) → IsKept limits conn.old.outlet → IsKept limits conn.new.outlet }
+    ensures less { conn.old.open ≡ true → conn_go conn.new + 4 ≤ conn_go conn.old }
+    ensures closed { conn.new.open ≡ false }
+    ensures octets { conn.new.outlet.write.octets ≡ left_by cause conn.old.outlet.write.octets }
+{
+    conn.shut();
+    if let CloseCause::Lost = cause {
+        let _above = conn.drop_octets();
     }
 }
 
@@ -139,31 +172,39 @@ pub fn lose(core: &mut WireCore, number: u32, notes: &mut Notes) -> Result<(), N
     requires sound { IsSound core.old }
     ensures sound { OnOk result (IsSound core.new) }
     ensures notes { Appends notes.old notes.new }
+    ensures octets { Turns result (event.Gone number) core.old notes.old core.new notes.new }
 {
-    close(core, number, 0, CloseCause::Lost, notes)?;
-    lose_octets(core, number);
+    if core.is_open(number) {
+        close(core, number, 0, CloseCause::Lost, notes)?;
+        core.flows.write_drained(number);
+        return Ok(());
+    }
+    lose_rest(core, number);
     core.stir(number)
 }
 
-// The octets of a connection go nowhere.
-fn lose_octets(core: &mut WireCore, number: u32)
+// What was left of a connection that is closed goes nowhere.
+fn lose_rest(core: &mut WireCore, number: u32)
     requires sound { IsSound core.old }
+    requires closed { is_open_at number core.old ≡ false }
     ensures sound { IsSound core.new }
+    ensures octets { (k : ℕ) → Owes (note.Turn k (event.Gone number) ∷ []) core.old core.new }
 {
-    if !drop_octets(core, number) {
-        return;
-    }
+    drop_octets(core, number);
     core.flows.write_drained(number);
 }
 
-// The answer is whether the write buffer was above.
-fn drop_octets(core: &mut WireCore, number: u32) -> bool
+fn drop_octets(core: &mut WireCore, number: u32)
     requires sound { IsSound core.old }
+    requires closed { is_open_at number core.old ≡ false }
     ensures sound { IsSound core.new }
+    ensures octets { (k : ℕ) → Owes (note.Turn k (event.Gone number) ∷ []) core.old core.new }
 {
     match core.conns.get_mut(&number) {
-        Some(conn) => conn.drop_octets(),
-        None => false,
+        Some(conn) => {
+            let _above = conn.drop_octets();
+        }
+        None => {}
     }
 }
 
@@ -179,6 +220,7 @@ pub fn losses(
     ensures sound { OnOk result (IsSound core.new) }
     ensures go { OnOk result (to_go core.new < to_go core.old) }
     ensures notes { Appends notes.old notes.new }
+    ensures octets { Goes result core.old notes.old core.new notes.new }
 {
     match next_lost(core, conn, last) {
         Some(exchange) if core.flows.is_live(exchange) => {
@@ -229,6 +271,7 @@ pub fn begin_draining(core: &mut WireCore, conn: u32) -> Result<(), NoMemory>
     requires sound { IsSound core.old }
     ensures sound { OnOk result (IsSound core.new) }
     ensures go { OnOk result (to_go core.new ≤ to_go core.old + 6) }
+    ensures octets { KeepsOk result core.old core.new }
 {
     if start_draining(core, conn)? {
         return Ok(());
@@ -241,6 +284,7 @@ pub(crate) fn start_draining(core: &mut WireCore, number: u32) -> Result<bool, N
     requires sound { IsSound core.old }
     ensures sound { OnOk result (IsSound core.new) }
     ensures go { OnOk result (to_go core.new ≤ to_go core.old + 5) }
+    ensures octets { KeepsOk result core.old core.new }
 {
     let Some(last) = drain_link(core, number) else {
         return Ok(true);
@@ -255,6 +299,7 @@ fn drain_link(core: &mut WireCore, number: u32) -> Option<u32>
     ensures sound { IsSound core.new }
     ensures go { to_go core.new ≤ to_go core.old }
     ensures last { IfSome result (λ last. last < 2 ^ 31) }
+    ensures octets { Keeps core.old core.new }
 {
     let last = begin_at(core, number)?;
     core.links.drain(number, last);
@@ -266,6 +311,7 @@ fn begin_at(core: &mut WireCore, number: u32) -> Option<u32>
     ensures sound { IsSound core.new }
     ensures go { to_go core.new ≤ to_go core.old }
     ensures last { IfSome result (λ last. last < 2 ^ 31) }
+    ensures octets { Keeps core.old core.new }
 {
     match core.conns.get_mut(&number) {
         Some(conn) => conn.begin_draining(),

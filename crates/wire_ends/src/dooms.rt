@@ -1,11 +1,12 @@
 // Dooms: an exchange is given up, its peers are told, and it is gone at the end of the dispatch.
 ghost use Rattle.flow_notes.specs.declared.notes.Note.TheVariants as note;
-ghost use Rattle.std.specs.Prelude.{◌≡◌, ◌≤◌, ◌<◌, ◌+◌, ◌++◌, ◌∷◌, [], IfSome, IsSome, OnOk, if◌then◌else◌, true};
+ghost use Rattle.std.specs.Prelude.{◌≡◌, ◌≤◌, ◌<◌, ◌+◌, ◌++◌, ◌∷◌, [], IfSome, IsSome, MatchOption, OnOk, if◌then◌else◌, true};
 ghost use Rattle.wire_flows.specs.Flows.{is_live_in};
 ghost use Rattle.wire_state.specs.Agenda.{top_go};
 ghost use Rattle.wire_state.specs.Noting.{Appends};
 ghost use Rattle.wire_state.specs.Progress.{to_go};
 ghost use Rattle.wire_state.specs.Sound.{IsSound};
+ghost use Rattle.wire_state.specs.Worlds.{Goes, Keeps, KeepsOk, Owes, Pays};
 
 use crate::closes::start_draining;
 use crate::lists::{append, append_reset, flood};
@@ -57,6 +58,7 @@ pub fn doom_task(
     ensures sound { OnOk result (IsSound core.new) }
     ensures go { OnOk result (to_go core.new < to_go core.old) }
     ensures notes { Appends notes.old notes.new }
+    ensures octets { Goes result core.old notes.old core.new notes.new }
 {
     core.end_task();
     doom(core, exchange, cause, Origin::Neither, notes)
@@ -69,6 +71,7 @@ pub fn end(core: &mut WireCore, exchange: u64, notes: &mut Notes) -> Result<(), 
     ensures sound { OnOk result (IsSound core.new) }
     ensures go { OnOk result (to_go core.new < to_go core.old) }
     ensures notes { Appends notes.old notes.new }
+    ensures octets { Goes result core.old notes.old core.new notes.new }
 {
     core.end_task();
     if !core.flows.is_live(exchange) {
@@ -101,6 +104,7 @@ pub fn doom(
     ensures less { is_live_in core.old.flows exchange ≡ true → OnOk result (to_go core.new + 8 ≤ to_go core.old) }
     ensures notes { Appends notes.old notes.new }
     ensures told { OnOk result (notes.new ≡ (if is_live_in core.old.flows exchange then notes.old ++ note.Doom exchange cause ∷ [] else notes.old)) }
+    ensures octets { Goes result core.old notes.old core.new notes.new }
 {
     let Some((ends, doomed)) = unlink(core, exchange, cause, origin) else {
         return Ok(());
@@ -126,6 +130,7 @@ pub fn doom(
 fn note_doom(notes: &mut Notes, exchange: u64, cause: Cause) -> Result<(), NoMemory>
     ensures appends { Appends notes.old notes.new }
     ensures ok { OnOk result (notes.new ≡ notes.old ++ note.Doom exchange cause ∷ []) }
+    ensures paid { Pays result (note.Doom exchange cause ∷ []) notes.old notes.new }
 {
     notes.push(Note::Doom { exchange, cause })
 }
@@ -144,6 +149,7 @@ fn unlink(
     ensures less { IfSome result (λ ends. to_go core.new + 64 ≤ to_go core.old) }
     ensures linked { is_live_in core.old.flows exchange ≡ true → IsSome result }
     ensures live { IfSome result (λ ends. is_live_in core.old.flows exchange ≡ true) }
+    ensures octets { MatchOption result (Keeps core.old core.new) (λ r. Owes (note.Doom exchange cause ∷ []) core.old core.new) }
 {
     let Some(ends) = core.links.ends_of(exchange) else {
         return None;
@@ -176,6 +182,7 @@ fn leave_client(
     requires sound { IsSound core.old }
     ensures sound { OnOk result (IsSound core.new) }
     ensures go { OnOk result (to_go core.new ≤ to_go core.old + 1) }
+    ensures octets { KeepsOk result core.old core.new }
 {
     let (client, stream) = (Some(ends.client), Some(ends.stream));
     let was_open = leave(core, client, exchange, stream, doomed.request_left, done);
@@ -188,6 +195,7 @@ fn idle(core: &mut WireCore, client: u32) -> Result<(), NoMemory>
     requires sound { IsSound core.old }
     ensures sound { OnOk result (IsSound core.new) }
     ensures go { OnOk result (to_go core.new ≤ to_go core.old + 1) }
+    ensures octets { KeepsOk result core.old core.new }
 {
     if core.links.exchanges_of(client) > 0 || !core.is_open(client) {
         return Ok(());
@@ -207,6 +215,7 @@ fn leave(
     requires sound { IsSound core.old }
     ensures sound { IsSound core.new }
     ensures go { to_go core.new ≤ to_go core.old }
+    ensures octets { Keeps core.old core.new }
 {
     match conn {
         Some(number) => leave_at(core, number, exchange, stream, left, done),
@@ -225,6 +234,7 @@ fn leave_at(
     requires sound { IsSound core.old }
     ensures sound { IsSound core.new }
     ensures go { to_go core.new ≤ to_go core.old }
+    ensures octets { Keeps core.old core.new }
 {
     match core.conns.get_mut(&number) {
         Some(conn) => conn.leave(exchange, stream, left, done),
@@ -238,6 +248,7 @@ fn tell(core: &mut WireCore, ends: Ends, doomed: Doomed, hear: Hear) -> Result<(
     requires sound { IsSound core.old }
     ensures sound { OnOk result (IsSound core.new) }
     ensures go { OnOk result (to_go core.new ≤ to_go core.old + 27) }
+    ensures octets { KeepsOk result core.old core.new }
 {
     let (client, stream) = (Some(ends.client), Some(ends.stream));
     let client_fits = append_heard(core, hear.client, client, stream, doomed.down)?;
@@ -264,6 +275,7 @@ fn append_heard(
     requires sound { IsSound core.old }
     ensures sound { OnOk result (IsSound core.new) }
     ensures go { OnOk result (to_go core.new ≤ to_go core.old + 10) }
+    ensures octets { KeepsOk result core.old core.new }
 {
     match (conn, stream) {
         (Some(conn), Some(stream)) if hears => append_reply(core, conn, stream, reply),
@@ -277,6 +289,7 @@ fn stop_keepalive(core: &mut WireCore, client: u32, fits: bool) -> Result<bool, 
     requires sound { IsSound core.old }
     ensures sound { OnOk result (IsSound core.new) }
     ensures go { OnOk result (to_go core.new ≤ to_go core.old + 5) }
+    ensures octets { KeepsOk result core.old core.new }
 {
     if !fits || !core.load.is_saturated(Action::NoKeepalive) {
         return Ok(fits);
@@ -289,6 +302,7 @@ fn flood_unless(core: &mut WireCore, conn: Option<u32>, fits: bool) -> Result<()
     requires sound { IsSound core.old }
     ensures sound { OnOk result (IsSound core.new) }
     ensures go { OnOk result (to_go core.new ≤ to_go core.old + 1) }
+    ensures octets { KeepsOk result core.old core.new }
 {
     match conn {
         Some(conn) if !fits => flood(core, conn),
@@ -301,6 +315,7 @@ fn append_reply(core: &mut WireCore, conn: u32, stream: u32, reply: Reply) -> Re
     requires sound { IsSound core.old }
     ensures sound { OnOk result (IsSound core.new) }
     ensures go { OnOk result (to_go core.new ≤ to_go core.old + 10) }
+    ensures octets { KeepsOk result core.old core.new }
 {
     match reply {
         Reply::Nothing => Ok(true),
@@ -320,6 +335,7 @@ fn append_status(core: &mut WireCore, conn: u32, stream: u32, status: u16) -> Re
     requires sound { IsSound core.old }
     ensures sound { OnOk result (IsSound core.new) }
     ensures go { OnOk result (to_go core.new ≤ to_go core.old + 5) }
+    ensures octets { KeepsOk result core.old core.new }
 {
     if !is_stream(stream) {
         return Ok(true);

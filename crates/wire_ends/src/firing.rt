@@ -4,6 +4,7 @@ ghost use Rattle.wire_state.specs.Agenda.{top_go};
 ghost use Rattle.wire_state.specs.Noting.{Appends};
 ghost use Rattle.wire_state.specs.Progress.{to_go};
 ghost use Rattle.wire_state.specs.Sound.{IsSound};
+ghost use Rattle.wire_state.specs.Worlds.{Goes, Keeps, KeepsOk};
 
 use crate::closes::{begin_draining, close};
 use crate::dooms::{Origin, doom};
@@ -19,6 +20,7 @@ pub fn fires(core: &mut WireCore) -> Result<(), NoMemory>
     requires top { top_go core.old.agenda ≡ 2 }
     ensures sound { OnOk result (IsSound core.new) }
     ensures go { OnOk result (to_go core.new < to_go core.old) }
+    ensures octets { KeepsOk result core.old core.new }
 {
     take_due(core)?;
     core.go_on(Task::Fire)
@@ -30,6 +32,7 @@ fn take_due(core: &mut WireCore) -> Result<(), NoMemory>
     ensures sound { OnOk result (IsSound core.new) }
     ensures go { OnOk result (to_go core.new ≤ to_go core.old) }
     ensures agenda { core.new.agenda ≡ core.old.agenda }
+    ensures octets { KeepsOk result core.old core.new }
 {
     let due = core.timers.take_due(core.now)?;
     core.due = due;
@@ -43,6 +46,7 @@ pub fn fire(core: &mut WireCore, notes: &mut Notes) -> Result<(), NoMemory>
     ensures sound { OnOk result (IsSound core.new) }
     ensures go { OnOk result (to_go core.new < to_go core.old) }
     ensures notes { Appends notes.old notes.new }
+    ensures octets { Goes result core.old notes.old core.new notes.new }
 {
     match first_due(core) {
         Some(due) => fire_one(core, due, notes),
@@ -59,6 +63,7 @@ fn first_due(core: &mut WireCore) -> Option<Due>
     ensures sound { IsSound core.new }
     ensures go { MatchOption result (to_go core.new ≤ to_go core.old) (λ due. to_go core.new + 1 ≤ to_go core.old) }
     ensures agenda { core.new.agenda ≡ core.old.agenda }
+    ensures octets { Keeps core.old core.new }
 {
     match core.due.take_first() {
         Some(due) => Some(due),
@@ -72,6 +77,7 @@ fn fire_one(core: &mut WireCore, due: Due, notes: &mut Notes) -> Result<(), NoMe
     ensures sound { OnOk result (IsSound core.new) }
     ensures go { OnOk result (to_go core.new ≤ to_go core.old) }
     ensures notes { Appends notes.old notes.new }
+    ensures octets { Goes result core.old notes.old core.new notes.new }
 {
     match due.kind {
         FireKind::ConnectionIdle => fire_conn(core, due, notes),
@@ -85,6 +91,7 @@ fn fire_conn(core: &mut WireCore, due: Due, notes: &mut Notes) -> Result<(), NoM
     ensures sound { OnOk result (IsSound core.new) }
     ensures go { OnOk result (to_go core.new ≤ to_go core.old) }
     ensures notes { Appends notes.old notes.new }
+    ensures octets { Goes result core.old notes.old core.new notes.new }
 {
     let Due { kind, id } = due;
     let conn = u32::try_from(id).unwrap_or(u32::MAX);
@@ -101,6 +108,7 @@ fn fire_exchange(core: &mut WireCore, due: Due, notes: &mut Notes) -> Result<(),
     ensures sound { OnOk result (IsSound core.new) }
     ensures go { OnOk result (to_go core.new ≤ to_go core.old) }
     ensures notes { Appends notes.old notes.new }
+    ensures octets { Goes result core.old notes.old core.new notes.new }
 {
     let Due { kind, id } = due;
     if !core.flows.is_live(id) {
@@ -117,6 +125,7 @@ pub fn resets(core: &mut WireCore, left: u32, notes: &mut Notes) -> Result<(), N
     ensures sound { OnOk result (IsSound core.new) }
     ensures go { OnOk result (to_go core.new < to_go core.old) }
     ensures notes { Appends notes.old notes.new }
+    ensures octets { Goes result core.old notes.old core.new notes.new }
 {
     match core.load.next_reset() {
         Some(exchange) if left > 0 => {
@@ -136,6 +145,7 @@ pub fn drains(core: &mut WireCore, after: u32) -> Result<(), NoMemory>
     requires top { top_go core.old.agenda ≡ 8 * (2 ^ 32 - after) + 1 }
     ensures sound { OnOk result (IsSound core.new) }
     ensures go { OnOk result (to_go core.new < to_go core.old) }
+    ensures octets { KeepsOk result core.old core.new }
 {
     match core.links.next_client(after) {
         Some(conn) if conn > after => {

@@ -3,6 +3,7 @@ ghost use Rattle.std.specs.Prelude.{◌≤◌, ◌+◌, OnOk};
 ghost use Rattle.wire_outlet.specs.Waiting.{IsFrameable};
 ghost use Rattle.wire_state.specs.Progress.{to_go};
 ghost use Rattle.wire_state.specs.Sound.{IsSound};
+ghost use Rattle.wire_state.specs.Worlds.{KeepsOk};
 
 use flow_notes::CloseCause;
 use h2_frames::codes::ENHANCE_YOUR_CALM;
@@ -16,6 +17,7 @@ pub fn put(core: &mut WireCore, conn: u32, control: Control) -> Result<(), NoMem
     requires sound { IsSound core.old }
     ensures sound { OnOk result (IsSound core.new) }
     ensures go { OnOk result (to_go core.new ≤ to_go core.old + 6) }
+    ensures octets { KeepsOk result core.old core.new }
 {
     if append(core, conn, Waiting::Answer(control))? {
         return Ok(());
@@ -28,6 +30,7 @@ pub fn put_reset(core: &mut WireCore, conn: u32, stream: u32, code: u32) -> Resu
     requires sound { IsSound core.old }
     ensures sound { OnOk result (IsSound core.new) }
     ensures go { OnOk result (to_go core.new ≤ to_go core.old + 6) }
+    ensures octets { KeepsOk result core.old core.new }
 {
     if append_reset(core, conn, stream, code)? {
         return Ok(());
@@ -42,6 +45,7 @@ pub(crate) fn append(core: &mut WireCore, number: u32, unit: Waiting) -> Result<
     requires unit { IsFrameable unit }
     ensures sound { OnOk result (IsSound core.new) }
     ensures go { OnOk result (to_go core.new ≤ to_go core.old + 5) }
+    ensures octets { KeepsOk result core.old core.new }
 {
     core.stir(number)?;
     append_at(core, number, unit)
@@ -52,6 +56,7 @@ fn append_at(core: &mut WireCore, number: u32, unit: Waiting) -> Result<bool, No
     requires unit { IsFrameable unit }
     ensures sound { OnOk result (IsSound core.new) }
     ensures go { to_go core.new ≤ to_go core.old + 4 }
+    ensures octets { KeepsOk result core.old core.new }
 {
     let most = core.config.limits.control_frames;
     match core.conns.get_mut(&number) {
@@ -70,6 +75,7 @@ pub(crate) fn append_reset(
     requires sound { IsSound core.old }
     ensures sound { OnOk result (IsSound core.new) }
     ensures go { OnOk result (to_go core.new ≤ to_go core.old + 5) }
+    ensures octets { KeepsOk result core.old core.new }
 {
     if !is_stream(stream) {
         return Ok(true);
@@ -83,6 +89,7 @@ pub(crate) fn flood(core: &mut WireCore, conn: u32) -> Result<(), NoMemory>
     requires sound { IsSound core.old }
     ensures sound { OnOk result (IsSound core.new) }
     ensures go { OnOk result (to_go core.new ≤ to_go core.old + 1) }
+    ensures octets { KeepsOk result core.old core.new }
 {
     core.begin(Task::Close {
         conn,

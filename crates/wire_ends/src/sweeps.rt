@@ -1,7 +1,8 @@
 // The end of a dispatch.
-ghost use Rattle.std.specs.Prelude.{◌≡◌, OnOk};
+ghost use Rattle.std.specs.Prelude.{[], ◌≡◌, OnOk};
 ghost use Rattle.wire_state.specs.Noting.{Appends};
 ghost use Rattle.wire_state.specs.Sound.{IsSound};
+ghost use Rattle.wire_state.specs.Worlds.{Goes, Keeps, KeepsOk, octets_of};
 
 use flow_notes::{FireKind, Note, Notes};
 use io_ports::NoMemory;
@@ -12,6 +13,7 @@ pub fn sweep(core: &mut WireCore, notes: &mut Notes) -> Result<(), NoMemory>
     requires sound { IsSound core.old }
     ensures sound { OnOk result (IsSound core.new) }
     ensures notes { Appends notes.old notes.new }
+    ensures octets { Goes result core.old notes.old core.new notes.new }
 {
     while let Some(exchange) = core.flows.sweep() {
         note(notes, Note::Gone { exchange })?;
@@ -24,6 +26,7 @@ pub fn sweep(core: &mut WireCore, notes: &mut Notes) -> Result<(), NoMemory>
 pub fn rest(core: &mut WireCore) -> Result<(), NoMemory>
     requires sound { IsSound core.old }
     ensures sound { OnOk result (IsSound core.new) }
+    ensures octets { KeepsOk result core.old core.new }
 {
     while let Some(exchange) = core.load.take_touched() {
         rest_exchange(core, exchange)?;
@@ -40,6 +43,7 @@ fn rest_exchange(core: &mut WireCore, exchange: u64) -> Result<(), NoMemory>
     requires sound { IsSound core.old }
     ensures sound { OnOk result (IsSound core.new) }
     ensures touched { OnOk result (core.new.load.touched ≡ core.old.load.touched) }
+    ensures octets { KeepsOk result core.old core.new }
 {
     if !core.flows.is_live(exchange) {
         return Ok(());
@@ -54,6 +58,7 @@ fn rest_conn(core: &mut WireCore, number: u32) -> Result<(), NoMemory>
     requires sound { IsSound core.old }
     ensures sound { OnOk result (IsSound core.new) }
     ensures stirred { OnOk result (core.new.stirred ≡ core.old.stirred) }
+    ensures octets { KeepsOk result core.old core.new }
 {
     let Some(conn) = core.conns.get(&number) else {
         return Ok(());
@@ -76,6 +81,7 @@ fn forget(core: &mut WireCore, number: u32)
     requires sound { IsSound core.old }
     ensures sound { IsSound core.new }
     ensures stirred { core.new.stirred ≡ core.old.stirred }
+    ensures octets { octets_of number core.old.conns ≡ [] → Keeps core.old core.new }
 {
     if core.links.exchanges_of(number) > 0 {
         return;
@@ -83,6 +89,7 @@ fn forget(core: &mut WireCore, number: u32)
     if !core.flows.close_write(number) {
         return;
     }
+    core.links.are_sound();
     drop(core.conns.remove(&number));
     core.links.forget(number);
 }

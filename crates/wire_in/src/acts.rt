@@ -3,6 +3,7 @@ ghost use Rattle.std.specs.Prelude.{◌≡◌, ◌≤◌, ◌+◌, ◌*◌, OnOk
 ghost use Rattle.wire_state.specs.Noting.{Appends};
 ghost use Rattle.wire_state.specs.Progress.{to_go};
 ghost use Rattle.wire_state.specs.Sound.{IsSound};
+ghost use Rattle.wire_state.specs.Worlds.{Goes, Keeps, KeepsOk};
 
 use crate::bodies::{Content, body, late};
 use crate::faults::{Concerns, close_with, stream_fault};
@@ -30,6 +31,7 @@ pub(crate) fn take_act(
     ensures sound { OnOk result (IsSound core.new) }
     ensures go { OnOk result (to_go core.new ≤ to_go core.old + 300 + 392 * taken.content) }
     ensures notes { Appends notes.old notes.new }
+    ensures octets { Goes result core.old notes.old core.new notes.new }
 {
     let Taken {
         act,
@@ -65,6 +67,7 @@ fn control(core: &mut WireCore, number: u32, act: Act, notes: &mut Notes) -> Res
     ensures sound { OnOk result (IsSound core.new) }
     ensures go { OnOk result (to_go core.new ≤ to_go core.old + 17) }
     ensures notes { Appends notes.old notes.new }
+    ensures octets { Goes result core.old notes.old core.new notes.new }
 {
     match act {
         Act::Settings { list } => settings(core, number, &list, notes),
@@ -88,6 +91,7 @@ fn old_block(
     ensures sound { OnOk result (IsSound core.new) }
     ensures go { OnOk result (to_go core.new ≤ to_go core.old) }
     ensures notes { Appends notes.old notes.new }
+    ensures octets { Goes result core.old notes.old core.new notes.new }
 {
     match reading {
         Reading::Refused => close_with(core, number, COMPRESSION_ERROR, notes),
@@ -100,6 +104,7 @@ fn ping(core: &mut WireCore, number: u32, octets: Octets) -> Result<(), NoMemory
     requires sound { IsSound core.old }
     ensures sound { OnOk result (IsSound core.new) }
     ensures go { OnOk result (to_go core.new ≤ to_go core.old + 6) }
+    ensures octets { KeepsOk result core.old core.new }
 {
     if octets.len() != 8 {
         return Ok(());
@@ -120,6 +125,7 @@ fn window_up(
     ensures sound { OnOk result (IsSound core.new) }
     ensures go { OnOk result (to_go core.new ≤ to_go core.old + 17) }
     ensures notes { Appends notes.old notes.new }
+    ensures octets { Goes result core.old notes.old core.new notes.new }
 {
     if stream == 0 {
         return conn_window_up(core, number, n, notes);
@@ -140,6 +146,7 @@ fn widen(core: &mut WireCore, number: u32, exchange: u64, n: u32) -> Result<(), 
     ensures sound { IsSound core.new }
     ensures go { to_go core.new ≤ to_go core.old }
     ensures rest { core.new ≡ record core.old { conns = core.new.conns } }
+    ensures octets { Keeps core.old core.new }
 {
     match core.conns.get_mut(&number) {
         Some(conn) => conn.widen(exchange, n),
@@ -158,6 +165,7 @@ fn conn_window_up(
     ensures sound { OnOk result (IsSound core.new) }
     ensures go { OnOk result (to_go core.new ≤ to_go core.old) }
     ensures notes { Appends notes.old notes.new }
+    ensures octets { Goes result core.old notes.old core.new notes.new }
 {
     if widen_conn(core, number, n).is_err() {
         return close_with(core, number, FLOW_CONTROL_ERROR, notes);
@@ -170,6 +178,7 @@ fn widen_conn(core: &mut WireCore, number: u32, n: u32) -> Result<(), Overflow>
     ensures sound { IsSound core.new }
     ensures go { to_go core.new ≤ to_go core.old }
     ensures rest { core.new ≡ record core.old { conns = core.new.conns } }
+    ensures octets { Keeps core.old core.new }
 {
     match core.conns.get_mut(&number) {
         Some(conn) => conn.widen_conn(n),
@@ -189,6 +198,7 @@ fn peer_reset(
     ensures sound { OnOk result (IsSound core.new) }
     ensures go { OnOk result (to_go core.new ≤ to_go core.old + 10) }
     ensures notes { Appends notes.old notes.new }
+    ensures octets { Goes result core.old notes.old core.new notes.new }
 {
     let Some(course) = core.flow_from(number, stream) else {
         return Ok(());
@@ -210,6 +220,7 @@ fn close_resetting(core: &mut WireCore, number: u32, back: bool) -> Result<(), N
     requires sound { IsSound core.old }
     ensures sound { OnOk result (IsSound core.new) }
     ensures go { OnOk result (to_go core.new ≤ to_go core.old + 1) }
+    ensures octets { KeepsOk result core.old core.new }
 {
     if back || !resets_too_often(core, number) {
         return Ok(());
@@ -226,6 +237,7 @@ fn resets_too_often(core: &mut WireCore, number: u32) -> bool
     requires sound { IsSound core.old }
     ensures sound { IsSound core.new }
     ensures go { to_go core.new ≤ to_go core.old }
+    ensures octets { Keeps core.old core.new }
 {
     let most = core.config.limits.peer_resets;
     match core.conns.get_mut(&number) {
@@ -239,6 +251,7 @@ fn goaway(core: &mut WireCore, number: u32, last: u32) -> Result<(), NoMemory>
     requires sound { IsSound core.old }
     ensures sound { OnOk result (IsSound core.new) }
     ensures go { OnOk result (to_go core.new ≤ to_go core.old + 1) }
+    ensures octets { KeepsOk result core.old core.new }
 {
     if !leaves(core, number, last) {
         return Ok(());
@@ -254,6 +267,7 @@ fn leaves(core: &mut WireCore, number: u32, last: u32) -> bool
     requires sound { IsSound core.old }
     ensures sound { IsSound core.new }
     ensures go { to_go core.new ≤ to_go core.old }
+    ensures octets { Keeps core.old core.new }
 {
     match core.conns.get_mut(&number) {
         Some(conn) => conn.peer_leaves(last),

@@ -6,9 +6,10 @@ ghost use Rattle.wire_flows.specs.Flows.{flow_in};
 ghost use Rattle.wire_state.specs.Noting.{Appends};
 ghost use Rattle.wire_state.specs.Progress.{to_go};
 ghost use Rattle.wire_state.specs.Sound.{IsSound};
+ghost use Rattle.wire_state.specs.Worlds.{Goes, Keeps, KeepsOk};
 
 use crate::faults::{Concerns, close_with, counts_late, owe, stream_fault};
-use crate::heads::{end_where, finish};
+use crate::heads::{end_where, finish_where};
 use exchange_core::{Awaited, Received};
 use flow_notes::{Note, Notes};
 use h2_frames::codes::{FLOW_CONTROL_ERROR, PROTOCOL_ERROR};
@@ -60,6 +61,7 @@ pub(crate) fn body(
     ensures sound { OnOk result (IsSound core.new) }
     ensures go { OnOk result (to_go core.new ≤ to_go core.old + 60 + 228 * content.counted) }
     ensures notes { Appends notes.old notes.new }
+    ensures octets { Goes result core.old notes.old core.new notes.new }
 {
     let Some(course) = core.flow_from(number, stream) else {
         return Ok(());
@@ -79,9 +81,7 @@ pub(crate) fn body(
         return fault.end(core, number, notes);
     }
     enter(core, number, course, content, stream, notes)?;
-    if last {
-        finish(core, course.flow, None)?;
-    }
+    finish_where(core, course.flow, last)?;
     end_where(core, last, course, stream)?;
     core.refresh(course)
 }
@@ -92,6 +92,7 @@ fn count(core: &mut WireCore, number: u32, course: Course, n: u32) -> Came
     ensures sound { IsSound core.new }
     ensures go { to_go core.new ≤ to_go core.old + 8 * n }
     ensures rest { core.new ≡ record core.old { conns = core.new.conns } }
+    ensures octets { Keeps core.old core.new }
 {
     match core.conns.get_mut(&number) {
         Some(conn) => conn.came(course.flow.exchange, n),
@@ -113,6 +114,7 @@ fn fault_in(
     ensures go { to_go core.new ≤ to_go core.old }
     ensures rest { core.new ≡ record core.old { lengths = core.new.lengths } }
     ensures behind { IfNone result (awaited ≡ Awaited.Body) }
+    ensures octets { Keeps core.old core.new }
 {
     if came == Came::StreamOver {
         return Some(FLOW_CONTROL_ERROR);
@@ -129,6 +131,7 @@ fn fits(core: &mut WireCore, course: Course, n: usize, last: bool) -> bool
     ensures sound { IsSound core.new }
     ensures go { to_go core.new ≤ to_go core.old }
     ensures rest { core.new ≡ record core.old { lengths = core.new.lengths } }
+    ensures octets { Keeps core.old core.new }
 {
     match core.lengths.get_mut(&course.flow.exchange) {
         Some(lengths) if course.flow.back => lengths.response.grows(n, last),
@@ -152,6 +155,7 @@ fn enter(
     ensures sound { OnOk result (IsSound core.new) }
     ensures go { OnOk result (to_go core.new ≤ to_go core.old + 220 * length content.octets) }
     ensures notes { Appends notes.old notes.new }
+    ensures octets { Goes result core.old notes.old core.new notes.new }
 {
     let Content { octets, padded, .. } = content;
     arrive(core, course, octets, notes)?;
@@ -171,14 +175,15 @@ fn arrive(
     ensures sound { OnOk result (IsSound core.new) }
     ensures go { OnOk result (to_go core.new ≤ to_go core.old + 220 * length octets) }
     ensures notes { Appends notes.old notes.new }
+    ensures octets { Goes result core.old notes.old core.new notes.new }
 {
     if octets.is_empty() {
         return Ok(());
     }
     let flow = course.flow;
-    if core.flows.receive(flow, octets.as_slice()) != Received::Arrived {
+    let Received::Arrived = core.flows.receive(flow, octets.as_slice()) else {
         return Ok(());
-    }
+    };
     core.touch(flow.exchange)?;
     note(notes, Note::Arrive { flow, octets })
 }
@@ -196,6 +201,7 @@ fn pad(
     ensures sound { OnOk result (IsSound core.new) }
     ensures go { OnOk result (to_go core.new ≤ to_go core.old) }
     ensures notes { Appends notes.old notes.new }
+    ensures octets { Goes result core.old notes.old core.new notes.new }
 {
     if padded == 0 {
         return Ok(());
@@ -215,6 +221,7 @@ fn owe_padding(core: &mut WireCore, number: u32, exchange: u64, n: u32) -> Resul
     requires sound { IsSound core.old }
     ensures sound { OnOk result (IsSound core.new) }
     ensures go { to_go core.new ≤ to_go core.old }
+    ensures octets { KeepsOk result core.old core.new }
 {
     match core.conns.get_mut(&number) {
         Some(conn) => conn.moved(exchange, n),
@@ -234,6 +241,7 @@ pub(crate) fn late(
     ensures sound { OnOk result (IsSound core.new) }
     ensures go { OnOk result (to_go core.new ≤ to_go core.old + 1 + 4 * n) }
     ensures notes { Appends notes.old notes.new }
+    ensures octets { Goes result core.old notes.old core.new notes.new }
 {
     if !counts_late(core, number, n) {
         return close_with(core, number, FLOW_CONTROL_ERROR, notes);

@@ -1,7 +1,11 @@
 // Events: what each does before anything is run.
-ghost use Rattle.std.specs.Prelude.{◌≤◌, ◌*◌, IfOk, OnOk, length};
+ghost use Rattle.flow_notes.specs.declared.events.Event.TheVariants as event;
+ghost use Rattle.std.specs.Option.{option_map_or};
+ghost use Rattle.std.specs.Prelude.{◌≡◌, ◌≤◌, ◌*◌, IfOk, OnOk, length, MatchOption, false, true};
+ghost use Rattle.wire_links.specs.Links.{is_known};
 ghost use Rattle.wire_state.specs.Noting.{Appends};
 ghost use Rattle.wire_state.specs.Sound.{IsSound};
+ghost use Rattle.wire_state.specs.Worlds.{Comes, Goes, Keeps, KeepsOk, Leaves, Pays, Turns, has_conn, outs_of};
 
 use flow_notes::{Cause, CloseCause, Event, FireKind, Job, Note, Notes};
 use io_ports::{NoMemory, Octets, PressureList};
@@ -39,6 +43,7 @@ pub fn take_event(core: &mut WireCore, event: &Event, notes: &mut Notes) -> Resu
     requires sound { IsSound core.old }
     ensures sound { OnOk result (IsSound core.new) }
     ensures notes { Appends notes.old notes.new }
+    ensures octets { Turns result event.now core.old notes.old core.new notes.new }
 {
     match event {
         Event::Accept { conn } => accept(core, *conn, notes),
@@ -62,12 +67,33 @@ fn accept(core: &mut WireCore, number: u32, notes: &mut Notes) -> Result<(), NoM
     requires sound { IsSound core.old }
     ensures sound { OnOk result (IsSound core.new) }
     ensures notes { Appends notes.old notes.new }
+    ensures octets { Turns result (event.Accept number) core.old notes.old core.new notes.new }
 {
     if core.links.is_known(number) {
         return Ok(());
     }
+    take_client(core, number)?;
+    greet_client(core, number, notes)
+}
+
+// A client's connection is linked.
+fn take_client(core: &mut WireCore, number: u32) -> Result<(), NoMemory>
+    requires sound { IsSound core.old }
+    requires unknown { is_known number core.old.links ≡ false }
+    ensures sound { OnOk result (IsSound core.new) }
+    ensures octets { Comes result number core.old core.new }
+{
     core.links.accept(number)?;
-    open(core, number, Peer::Client)?;
+    open(core, number, Peer::Client)
+}
+
+// A new client connection is told the settings, or closed where none is taken.
+fn greet_client(core: &mut WireCore, number: u32, notes: &mut Notes) -> Result<(), NoMemory>
+    requires sound { IsSound core.old }
+    ensures sound { OnOk result (IsSound core.new) }
+    ensures notes { Appends notes.old notes.new }
+    ensures octets { Goes result core.old notes.old core.new notes.new }
+{
     if core.load.is_saturated(Action::RejectIncoming) {
         return close(core, number, 0, CloseCause::Overload, notes);
     }
@@ -84,12 +110,32 @@ fn accept(core: &mut WireCore, number: u32, notes: &mut Notes) -> Result<(), NoM
 fn join(core: &mut WireCore, number: u32, cluster: u32) -> Result<(), NoMemory>
     requires sound { IsSound core.old }
     ensures sound { OnOk result (IsSound core.new) }
+    ensures octets { Comes result number core.old core.new }
 {
     if core.links.is_known(number) {
         return Ok(());
     }
+    take_cluster(core, number, cluster)?;
+    greet_cluster(core, number)
+}
+
+// A connection to a cluster is linked.
+fn take_cluster(core: &mut WireCore, number: u32, cluster: u32) -> Result<(), NoMemory>
+    requires sound { IsSound core.old }
+    requires unknown { is_known number core.old.links ≡ false }
+    ensures sound { OnOk result (IsSound core.new) }
+    ensures octets { Comes result number core.old core.new }
+{
     core.links.join(number, cluster)?;
-    open(core, number, Peer::Cluster)?;
+    open(core, number, Peer::Cluster)
+}
+
+// The peer of a new connection to a cluster is told the settings.
+fn greet_cluster(core: &mut WireCore, number: u32) -> Result<(), NoMemory>
+    requires sound { IsSound core.old }
+    ensures sound { OnOk result (IsSound core.new) }
+    ensures octets { KeepsOk result core.old core.new }
+{
     core.begin(Task::AskDrain(number))?;
     let settings = settings_of(core.alloc, (ENABLE_PUSH, 0), &core.config.limits)?;
     let control = Control::preface_settings(core.alloc, settings.as_slice())?;
@@ -118,6 +164,7 @@ fn settings_of(
 fn open(core: &mut WireCore, number: u32, peer: Peer) -> Result<(), NoMemory>
     requires sound { IsSound core.old }
     ensures sound { OnOk result (IsSound core.new) }
+    ensures octets { is_known number core.old.links ≡ true → has_conn number core.old.conns ≡ false → Comes result number core.old core.new }
 {
     core.flows.open_write(number)?;
     let conn = Conn::new(core.alloc, peer, &core.config.limits)?;
@@ -129,6 +176,7 @@ fn open(core: &mut WireCore, number: u32, peer: Peer) -> Result<(), NoMemory>
 fn read(core: &mut WireCore, number: u32, octets: &Octets) -> Result<(), NoMemory>
     requires sound { IsSound core.old }
     ensures sound { OnOk result (IsSound core.new) }
+    ensures octets { KeepsOk result core.old core.new }
 {
     if read_at(core, number, octets)? {
         return core.begin(Task::Read(number));
@@ -140,6 +188,7 @@ fn read(core: &mut WireCore, number: u32, octets: &Octets) -> Result<(), NoMemor
 fn read_at(core: &mut WireCore, number: u32, octets: &Octets) -> Result<bool, NoMemory>
     requires sound { IsSound core.old }
     ensures sound { OnOk result (IsSound core.new) }
+    ensures octets { KeepsOk result core.old core.new }
 {
     match core.conns.get_mut(&number) {
         Some(conn) => conn.read(octets),
@@ -152,6 +201,7 @@ fn room(core: &mut WireCore, number: u32, n: u32, notes: &mut Notes) -> Result<(
     requires sound { IsSound core.old }
     ensures sound { OnOk result (IsSound core.new) }
     ensures notes { Appends notes.old notes.new }
+    ensures octets { Turns result (event.Room number n) core.old notes.old core.new notes.new }
 {
     let Some((n, crossed)) = leave_at(core, number, n) else {
         return Ok(());
@@ -169,6 +219,7 @@ fn room(core: &mut WireCore, number: u32, n: u32, notes: &mut Notes) -> Result<(
 fn leave_at(core: &mut WireCore, number: u32, n: u32) -> Option<(u32, Crossed)>
     requires sound { IsSound core.old }
     ensures sound { IsSound core.new }
+    ensures octets { Leaves number n (option_map_or (λ r. r.0) result 0) core.old core.new }
 {
     match core.conns.get_mut(&number) {
         Some(conn) => Some(conn.leave_write(n)),
@@ -179,6 +230,7 @@ fn leave_at(core: &mut WireCore, number: u32, n: u32) -> Option<(u32, Crossed)>
 // The note of octets that went to the socket. Without octets there is nothing to say.
 fn note_out(notes: &mut Notes, conn: u32, n: u32) -> Result<(), NoMemory>
     ensures notes { Appends notes.old notes.new }
+    ensures octets { Pays result (outs_of conn n) notes.old notes.new }
 {
     if n == 0 {
         return Ok(());
@@ -190,6 +242,7 @@ fn note_out(notes: &mut Notes, conn: u32, n: u32) -> Result<(), NoMemory>
 fn tick(core: &mut WireCore, now: u64) -> Result<(), NoMemory>
     requires sound { IsSound core.old }
     ensures sound { OnOk result (IsSound core.new) }
+    ensures octets { KeepsOk result core.old core.new }
 {
     set_clock(core, now);
     core.begin(Task::Fires)?;
@@ -203,6 +256,7 @@ fn tick(core: &mut WireCore, now: u64) -> Result<(), NoMemory>
 fn set_clock(core: &mut WireCore, now: u64)
     requires sound { IsSound core.old }
     ensures sound { IsSound core.new }
+    ensures octets { Keeps core.old core.new }
 {
     core.now = core.now.max(now).min(LAST_MOMENT);
     core.flows.tick(core.now);
@@ -219,6 +273,7 @@ fn post(
     requires sound { IsSound core.old }
     ensures sound { OnOk result (IsSound core.new) }
     ensures notes { Appends notes.old notes.new }
+    ensures octets { Goes result core.old notes.old core.new notes.new }
 {
     match job {
         Job::Drain => core.begin(Task::Drains(0)),
@@ -239,6 +294,7 @@ fn post(
 fn obey(core: &mut WireCore, version: u64, pressures: &PressureList) -> Result<(), NoMemory>
     requires sound { IsSound core.old }
     ensures sound { OnOk result (IsSound core.new) }
+    ensures octets { KeepsOk result core.old core.new }
 {
     core.obeyed = version;
     core.load.obey(&core.config, pressures.as_slice());

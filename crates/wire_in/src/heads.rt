@@ -6,6 +6,7 @@ ghost use Rattle.wire_flows.specs.Flows.{flow_in};
 ghost use Rattle.wire_state.specs.Noting.{Appends};
 ghost use Rattle.wire_state.specs.Progress.{to_go};
 ghost use Rattle.wire_state.specs.Sound.{IsSound};
+ghost use Rattle.wire_state.specs.Worlds.{Goes, Keeps, KeepsOk};
 
 use crate::faults::{Concerns, close_with, stream_fault};
 use crate::requests::request;
@@ -32,6 +33,7 @@ pub(crate) fn head(
     ensures sound { OnOk result (IsSound core.new) }
     ensures go { OnOk result (to_go core.new ≤ to_go core.old + 300) }
     ensures notes { Appends notes.old notes.new }
+    ensures octets { Goes result core.old notes.old core.new notes.new }
 {
     if let Reading::Refused = reading {
         return close_with(core, number, COMPRESSION_ERROR, notes);
@@ -67,6 +69,7 @@ fn response(
     ensures sound { OnOk result (IsSound core.new) }
     ensures go { OnOk result (to_go core.new ≤ to_go core.old + 60) }
     ensures notes { Appends notes.old notes.new }
+    ensures octets { Goes result core.old notes.old core.new notes.new }
 {
     let Some(course) = core.flow_from(number, stream) else {
         return Ok(());
@@ -95,6 +98,7 @@ fn judged(core: &mut WireCore, exchange: u64, fields: Option<&FieldList>, last: 
     ensures sound { IsSound core.new }
     ensures go { to_go core.new ≤ to_go core.old }
     ensures rest { core.new ≡ record core.old { lengths = core.new.lengths } }
+    ensures octets { Keeps core.old core.new }
 {
     let Some(lengths) = core.lengths.get_mut(&exchange) else {
         return Response::Interim;
@@ -110,6 +114,7 @@ fn interim(core: &mut WireCore, number: u32, stream: u32)
     requires sound { IsSound core.old }
     ensures sound { IsSound core.new }
     ensures go { to_go core.new ≤ to_go core.old }
+    ensures octets { Keeps core.old core.new }
 {
     match core.conns.get_mut(&number) {
         Some(conn) => conn.interim(stream),
@@ -130,6 +135,7 @@ pub(crate) fn begin(
     requires first { option_map_or (λ f. head_came f.message) (flow_in core.old.flows course.flow) false ≡ false }
     ensures sound { OnOk result (IsSound core.new) }
     ensures go { OnOk result (to_go core.new ≤ to_go core.old + 41) }
+    ensures octets { KeepsOk result core.old core.new }
 {
     put_head(core, course.flow, fields, last)?;
     end_where(core, last, course, stream)?;
@@ -148,6 +154,7 @@ fn put_head(
     requires first { option_map_or (λ f. head_came f.message) (flow_in core.old.flows flow) false ≡ false }
     ensures sound { OnOk result (IsSound core.new) }
     ensures go { OnOk result (to_go core.new ≤ to_go core.old + 40) }
+    ensures octets { KeepsOk result core.old core.new }
 {
     match fields {
         Some(fields) => core.flows.head(flow, fields, last),
@@ -165,6 +172,7 @@ pub(crate) fn end_where(
     requires sound { IsSound core.old }
     ensures sound { OnOk result (IsSound core.new) }
     ensures go { OnOk result (to_go core.new ≤ to_go core.old + 1) }
+    ensures octets { KeepsOk result core.old core.new }
 {
     if !last {
         return Ok(());
@@ -181,11 +189,25 @@ pub(crate) fn finish(
     requires sound { IsSound core.old }
     ensures sound { OnOk result (IsSound core.new) }
     ensures go { OnOk result (to_go core.new ≤ to_go core.old + 40) }
+    ensures octets { KeepsOk result core.old core.new }
 {
     if !core.flows.goes_on(flow) {
         return Ok(());
     }
     core.flows.finish(flow, fields)
+}
+
+/// The body of the flow ended without trailers, where `last` holds.
+pub(crate) fn finish_where(core: &mut WireCore, flow: FlowId, last: bool) -> Result<(), NoMemory>
+    requires sound { IsSound core.old }
+    ensures sound { OnOk result (IsSound core.new) }
+    ensures go { OnOk result (to_go core.new ≤ to_go core.old + 40) }
+    ensures octets { KeepsOk result core.old core.new }
+{
+    if !last {
+        return Ok(());
+    }
+    finish(core, flow, None)
 }
 
 /// Trailers came.
@@ -200,6 +222,7 @@ pub(crate) fn trailers(
     ensures sound { OnOk result (IsSound core.new) }
     ensures go { OnOk result (to_go core.new ≤ to_go core.old + 60) }
     ensures notes { Appends notes.old notes.new }
+    ensures octets { Goes result core.old notes.old core.new notes.new }
 {
     if let Reading::Refused = reading {
         return close_with(core, number, COMPRESSION_ERROR, notes);

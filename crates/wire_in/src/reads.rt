@@ -5,6 +5,7 @@ ghost use Rattle.wire_state.specs.Agenda.{top_go};
 ghost use Rattle.wire_state.specs.Noting.{Appends};
 ghost use Rattle.wire_state.specs.Progress.{to_go};
 ghost use Rattle.wire_state.specs.Sound.{IsSound};
+ghost use Rattle.wire_state.specs.Worlds.{Goes, Keeps, KeepsOk};
 
 use crate::acts::take_act;
 use flow_notes::{CloseCause, Notes};
@@ -20,6 +21,7 @@ pub fn read(core: &mut WireCore, number: u32, notes: &mut Notes) -> Result<(), N
     ensures sound { OnOk result (IsSound core.new) }
     ensures go { OnOk result (to_go core.new < to_go core.old) }
     ensures notes { Appends notes.old notes.new }
+    ensures octets { Goes result core.old notes.old core.new notes.new }
 {
     match next(core, number)? {
         Intake::Need => {
@@ -45,6 +47,7 @@ fn end_read(core: &mut WireCore, number: u32)
     ensures sound { IsSound core.new }
     ensures go { to_go core.new ≤ to_go core.old }
     ensures rest { core.new ≡ record core.old { agenda = core.new.agenda } }
+    ensures octets { Keeps core.old core.new }
 {
     if is_read(core, number) {
         core.end_task();
@@ -64,6 +67,7 @@ fn next(core: &mut WireCore, number: u32) -> Result<Intake, NoMemory>
     ensures sound { OnOk result (IsSound core.new) }
     ensures go { IfOk result (λ intake. PaysFor intake (to_go core.old) (to_go core.new)) }
     ensures agenda { core.new.agenda ≡ core.old.agenda }
+    ensures octets { KeepsOk result core.old core.new }
 {
     let most = core.config.limits.frame_size;
     match core.conns.get_mut(&number) {

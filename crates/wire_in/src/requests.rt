@@ -1,14 +1,16 @@
 // Heads of requests: an exchange begins.
 ghost use Rattle.proxy_config.specs.Ranges.{IsBetween, IsInRange, most_octets};
 ghost use Rattle.std.specs.Option.{ForSome, option_copied};
-ghost use Rattle.std.specs.Prelude.{◌≡◌, ◌<◌, ◌≤◌, ◌+◌, ◌^◌, IfSome, IsSome, None, OnOk, false, length, true};
+ghost use Rattle.std.specs.Prelude.{◌≡◌, ◌<◌, ◌≤◌, ◌+◌, ◌^◌, IfSome, IsSome, None, OnOk, false, length, true, ◌∷◌, [], IfOk, ℕ};
 ghost use Rattle.wire_flows.specs.Writes.{write_at};
 ghost use Rattle.wire_links.specs.Links.{cluster_of, exchange_at, is_client};
 ghost use Rattle.wire_state.specs.Noting.{Appends};
 ghost use Rattle.wire_state.specs.Progress.{to_go};
 ghost use Rattle.wire_state.specs.Sound.{IsSound};
+ghost use Rattle.wire_state.specs.Worlds.{Goes, Keeps, KeepsOk, Owes, Shows};
+ghost use Rattle.flow_notes.specs.declared.notes.Note.TheVariants as note;
 
-use crate::heads::{self, finish};
+use crate::heads::{self, finish_where};
 use exchange_core::{Awaited, StartSpec};
 use flow_gate::{BufferId, FlowId};
 use flow_notes::{Cause, FireKind, Note, Notes};
@@ -36,6 +38,7 @@ pub(crate) fn request(
     ensures sound { OnOk result (IsSound core.new) }
     ensures go { OnOk result (to_go core.new ≤ to_go core.old + 300) }
     ensures notes { Appends notes.old notes.new }
+    ensures octets { Goes result core.old notes.old core.new notes.new }
 {
     if ignores(core, number, stream) || !is_unused(core, number, stream) {
         return Ok(());
@@ -51,9 +54,7 @@ pub(crate) fn request(
         },
         Decision::Overload => Cause::Overload,
     };
-    if last {
-        finish(core, course.flow, None)?;
-    }
+    finish_where(core, course.flow, last)?;
     doom(core, course.flow.exchange, cause, Origin::Neither, notes)
 }
 
@@ -68,6 +69,7 @@ fn go(
     requires sound { IsSound core.old }
     ensures sound { OnOk result (IsSound core.new) }
     ensures go { OnOk result (to_go core.new ≤ to_go core.old + 41) }
+    ensures octets { KeepsOk result core.old core.new }
 {
     match core.flows.awaits(course.flow) {
         Awaited::Head => heads::begin(core, course, stream, fields, last),
@@ -81,6 +83,7 @@ fn ignores(core: &mut WireCore, number: u32, stream: u32) -> bool
     ensures sound { IsSound core.new }
     ensures go { to_go core.new ≤ to_go core.old }
     ensures rest { core.new ≡ record core.old { conns = core.new.conns } }
+    ensures octets { Keeps core.old core.new }
 {
     match core.conns.get_mut(&number) {
         Some(conn) => conn.ignores(stream),
@@ -126,6 +129,7 @@ fn begin(
     ensures sound { OnOk result (IsSound core.new) }
     ensures go { OnOk result (to_go core.new ≤ to_go core.old + 225) }
     ensures notes { Appends notes.old notes.new }
+    ensures octets { Goes result core.old notes.old core.new notes.new }
 {
     let (row, to) = goal_of(core, decision);
     let started = start(core, number, stream, row, to)?;
@@ -205,6 +209,7 @@ fn start(
     requires cluster { IfSome to (λ c. IsSome (cluster_of c core.old.links)) }
     ensures sound { OnOk result (IsSound core.new) }
     ensures go { OnOk result (to_go core.new ≤ to_go core.old + 144) }
+    ensures octets { IfOk result (λ s. (d : ℕ) → Owes (note.Start s.exchange number stream d ∷ []) core.old core.new) }
 {
     let spec = spec_of(core, number, stream, row, to);
     let started = core.flows.start(&spec, &core.config)?;
@@ -216,6 +221,7 @@ fn begin_stream(core: &mut WireCore, number: u32, exchange: u64) -> Result<(), N
     requires sound { IsSound core.old }
     ensures sound { OnOk result (IsSound core.new) }
     ensures go { to_go core.new ≤ to_go core.old }
+    ensures octets { KeepsOk result core.old core.new }
 {
     match core.conns.get_mut(&number) {
         Some(conn) => conn.begin(exchange),
@@ -261,29 +267,33 @@ fn note_held(
     notes: &mut Notes,
 ) -> Result<(), NoMemory>
     ensures notes { Appends notes.old notes.new }
+    ensures octets { Shows result notes.old notes.new }
 {
     let exchange = started.exchange;
-    if started.request_held
-        && let Some(to) = to
-    {
-        note(
+    note_hold(FlowId::request(exchange), started.request_held, to, notes)?;
+    note_hold(
+        FlowId::response(exchange),
+        started.response_held,
+        Some(number),
+        notes,
+    )
+}
+
+// The pause of a flow, where the write buffer of the connection that it goes to holds it back.
+fn note_hold(flow: FlowId, held: bool, to: Option<u32>, notes: &mut Notes) -> Result<(), NoMemory>
+    ensures notes { Appends notes.old notes.new }
+    ensures octets { Shows result notes.old notes.new }
+{
+    match to {
+        Some(to) if held => note(
             notes,
             Note::Pause {
-                flow: FlowId::request(exchange),
+                flow,
                 buffer: BufferId::Write(to),
             },
-        )?;
+        ),
+        _ => Ok(()),
     }
-    if started.response_held {
-        note(
-            notes,
-            Note::Pause {
-                flow: FlowId::response(exchange),
-                buffer: BufferId::Write(number),
-            },
-        )?;
-    }
-    Ok(())
 }
 
 fn lengths_of(decision: &Decision) -> Lengths {

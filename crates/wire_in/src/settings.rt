@@ -3,6 +3,7 @@ ghost use Rattle.std.specs.Prelude.{◌≡◌, ◌≤◌, ◌+◌, OnOk};
 ghost use Rattle.wire_state.specs.Noting.{Appends};
 ghost use Rattle.wire_state.specs.Progress.{conn_go, to_go};
 ghost use Rattle.wire_state.specs.Sound.{IsSound};
+ghost use Rattle.wire_state.specs.Worlds.{Goes, Keeps, KeepsOk};
 
 use crate::faults::close_with;
 use flow_notes::Notes;
@@ -39,11 +40,10 @@ pub(crate) fn settings(
     ensures sound { OnOk result (IsSound core.new) }
     ensures go { OnOk result (to_go core.new ≤ to_go core.old + 6) }
     ensures notes { Appends notes.old notes.new }
+    ensures octets { Goes result core.old notes.old core.new notes.new }
 {
     let named = named_in(list);
-    if let Some(concurrent) = named.concurrent {
-        core.links.set_concurrent(number, concurrent);
-    }
+    set_concurrent(core, number, named.concurrent);
     let before = initial_of(core, number);
     if !set_windows(core, number, named) {
         return close_with(core, number, FLOW_CONTROL_ERROR, notes);
@@ -53,11 +53,25 @@ pub(crate) fn settings(
     put(core, number, ack)
 }
 
+// The number of concurrent streams that the peer names, if it does.
+fn set_concurrent(core: &mut WireCore, number: u32, n: Option<u32>)
+    requires sound { IsSound core.old }
+    ensures sound { IsSound core.new }
+    ensures go { to_go core.new ≤ to_go core.old }
+    ensures octets { Keeps core.old core.new }
+{
+    match n {
+        Some(n) => core.links.set_concurrent(number, n),
+        None => {}
+    }
+}
+
 // The greatest payload, and the initial window of each stream. The answer is false where a window would be too large.
 fn set_windows(core: &mut WireCore, number: u32, named: Named) -> bool
     requires sound { IsSound core.old }
     ensures sound { IsSound core.new }
     ensures go { to_go core.new ≤ to_go core.old }
+    ensures octets { Keeps core.old core.new }
 {
     match core.conns.get_mut(&number) {
         Some(conn) => set_windows_of(conn, named),
@@ -68,6 +82,7 @@ fn set_windows(core: &mut WireCore, number: u32, named: Named) -> bool
 fn set_windows_of(conn: &mut Conn, named: Named) -> bool
     ensures write { conn.new.outlet.write ≡ conn.old.outlet.write }
     ensures waiting { conn.new.outlet.waiting ≡ conn.old.outlet.waiting }
+    ensures opened { conn.new.open ≡ conn.old.open }
     ensures go { conn_go conn.new ≤ conn_go conn.old }
 {
     if named.table {
@@ -119,6 +134,7 @@ fn refresh_all(core: &mut WireCore, number: u32, before: u32) -> Result<(), NoMe
     requires sound { IsSound core.old }
     ensures sound { OnOk result (IsSound core.new) }
     ensures go { to_go core.new ≤ to_go core.old }
+    ensures octets { KeepsOk result core.old core.new }
 {
     match core.conns.get_mut(&number) {
         Some(conn) => conn.refresh_windowed(&core.flows, before),

@@ -3,6 +3,7 @@ ghost use Rattle.std.specs.Prelude.{◌≡◌, ◌≤◌, ◌<◌, ◌+◌, ◌*
 ghost use Rattle.wire_state.specs.Agenda.{top_go};
 ghost use Rattle.wire_state.specs.Progress.{task_go, to_go};
 ghost use Rattle.wire_state.specs.Sound.{IsSound};
+ghost use Rattle.wire_state.specs.Worlds.{KeepsOk};
 
 use flow_gate::FlowId;
 use io_ports::NoMemory;
@@ -15,6 +16,7 @@ pub fn ticks(core: &mut WireCore, exchange: u64, back: bool) -> Result<(), NoMem
     requires top { top_go core.old.agenda ≡ 32 * (2 ^ 64 - exchange) + (if back then 1 else 17) }
     ensures sound { OnOk result (IsSound core.new) }
     ensures go { OnOk result (to_go core.new < to_go core.old) }
+    ensures octets { KeepsOk result core.old core.new }
 {
     if !back {
         return run_next(core, FlowId::response(exchange));
@@ -34,6 +36,7 @@ fn run_next(core: &mut WireCore, flow: FlowId) -> Result<(), NoMemory>
     requires sound { IsSound core.old }
     ensures sound { OnOk result (IsSound core.new) }
     ensures go { OnOk result (to_go core.new + top_go core.old.agenda ≤ to_go core.old + (9 + task_go (Task.Ticks flow.exchange flow.back))) }
+    ensures octets { KeepsOk result core.old core.new }
 {
     core.go_on(Task::Ticks {
         exchange: flow.exchange,
@@ -52,6 +55,7 @@ fn next_exchange(core: &mut WireCore, after: u64) -> Result<Option<u64>, NoMemor
     ensures go { OnOk result (to_go core.new ≤ to_go core.old) }
     ensures agenda { core.new.agenda ≡ core.old.agenda }
     ensures above { IfOk result (λ next. IfSome next (λ x. after < x)) }
+    ensures octets { KeepsOk result core.old core.new }
 {
     while let Some(conn) = core.stirred.fresh.pop() {
         core.walk.add(&core.links, conn, after)?;

@@ -1,9 +1,11 @@
 // Units that belong to no flow: what waits, and WINDOW_UPDATE frames (RFC 9113 section 6.9).
-ghost use Rattle.std.specs.Prelude.{◌≡◌, ◌≤◌, ◌<◌, ◌+◌, ◌*◌, ◌^◌, IfOk, IfSome, MatchOption, OnOk};
+ghost use Rattle.std.specs.Prelude.{◌≡◌, ◌≤◌, ◌<◌, ◌+◌, ◌*◌, ◌^◌, IfOk, IfSome, MatchOption, OnOk, ◌∷◌, []};
 ghost use Rattle.wire_state.specs.Agenda.{stirred_at, top_go};
 ghost use Rattle.wire_state.specs.Noting.{Appends};
 ghost use Rattle.wire_state.specs.Progress.{to_go};
 ghost use Rattle.wire_state.specs.Sound.{IsSound};
+ghost use Rattle.wire_state.specs.Worlds.{Goes, Keeps, Owes, Pays, waited_of};
+ghost use Rattle.flow_notes.specs.declared.notes.Note.TheVariants as note;
 
 use crate::drains::unit_framed;
 use flow_notes::{Note, Notes};
@@ -24,6 +26,7 @@ pub(crate) fn frame_waiting(
     ensures sound { OnOk result (IsSound core.new) }
     ensures go { OnOk result (to_go core.new + (1 + stirred_at number core.old.stirred.conns.items) ≤ to_go core.old) }
     ensures notes { Appends notes.old notes.new }
+    ensures octets { Goes result core.old notes.old core.new notes.new }
 {
     let Some((framed, crossed)) = write_waiting(core, number)? else {
         core.give_up(number);
@@ -39,6 +42,7 @@ fn write_waiting(core: &mut WireCore, number: u32) -> Result<Option<(Framed, Cro
     ensures sound { OnOk result (IsSound core.new) }
     ensures go { IfOk result (λ framed. MatchOption framed (to_go core.new ≤ to_go core.old) (λ f. to_go core.new + 4 ≤ to_go core.old)) }
     ensures rest { core.new ≡ record core.old { conns = core.new.conns } }
+    ensures octets { IfOk result (λ framed. MatchOption framed (Keeps core.old core.new) (λ f. Owes (waited_of number f.0) core.old core.new)) }
 {
     match core.conns.get_mut(&number) {
         Some(conn) => conn.write_waiting(),
@@ -48,7 +52,8 @@ fn write_waiting(core: &mut WireCore, number: u32) -> Result<Option<(Framed, Cro
 
 // The note of a unit that waited.
 fn note_waiting(notes: &mut Notes, conn: u32, framed: Framed) -> Result<(), NoMemory>
-    ensures { Appends notes.old notes.new }
+    ensures notes { Appends notes.old notes.new }
+    ensures octets { Pays result (waited_of conn framed) notes.old notes.new }
 {
     match framed {
         Framed::Answer(octets) => note_answer(notes, conn, octets),
@@ -67,6 +72,7 @@ pub(crate) fn frame_first_credit(
     ensures sound { OnOk result (IsSound core.new) }
     ensures go { OnOk result (to_go core.new + (1 + stirred_at number core.old.stirred.conns.items) ≤ to_go core.old) }
     ensures notes { Appends notes.old notes.new }
+    ensures octets { Goes result core.old notes.old core.new notes.new }
 {
     let n = grant_first(core, number);
     frame_update(core, number, 0, n, notes)
@@ -78,6 +84,7 @@ fn grant_first(core: &mut WireCore, number: u32) -> u32
     ensures go { to_go core.new + 4 * result ≤ to_go core.old }
     ensures fits { result < 2 ^ 31 }
     ensures rest { core.new ≡ record core.old { conns = core.new.conns } }
+    ensures octets { Keeps core.old core.new }
 {
     match core.conns.get_mut(&number) {
         Some(conn) => conn.grant_first(),
@@ -96,6 +103,7 @@ pub(crate) fn frame_credit(
     ensures sound { OnOk result (IsSound core.new) }
     ensures go { OnOk result (to_go core.new + (1 + stirred_at number core.old.stirred.conns.items) ≤ to_go core.old) }
     ensures notes { Appends notes.old notes.new }
+    ensures octets { Goes result core.old notes.old core.new notes.new }
 {
     let n = grant_conn(core, number);
     frame_update(core, number, 0, n, notes)
@@ -107,6 +115,7 @@ fn grant_conn(core: &mut WireCore, number: u32) -> u32
     ensures go { to_go core.new + 4 * result ≤ to_go core.old }
     ensures fits { result < 2 ^ 31 }
     ensures rest { core.new ≡ record core.old { conns = core.new.conns } }
+    ensures octets { Keeps core.old core.new }
 {
     match core.conns.get_mut(&number) {
         Some(conn) => conn.grant_conn(),
@@ -126,6 +135,7 @@ pub(crate) fn frame_stream_credit(
     ensures sound { OnOk result (IsSound core.new) }
     ensures go { OnOk result (to_go core.new + (1 + stirred_at number core.old.stirred.conns.items) ≤ to_go core.old) }
     ensures notes { Appends notes.old notes.new }
+    ensures octets { Goes result core.old notes.old core.new notes.new }
 {
     let n = grant(core, number, exchange);
     match core.links.ends_of(exchange) {
@@ -143,6 +153,7 @@ fn grant(core: &mut WireCore, number: u32, exchange: u64) -> u32
     ensures go { to_go core.new + 4 * result ≤ to_go core.old }
     ensures fits { result < 2 ^ 31 }
     ensures rest { core.new ≡ record core.old { conns = core.new.conns } }
+    ensures octets { Keeps core.old core.new }
 {
     match core.conns.get_mut(&number) {
         Some(conn) => conn.grant(exchange),
@@ -172,6 +183,7 @@ fn frame_update(
     ensures sound { OnOk result (IsSound core.new) }
     ensures go { OnOk result (to_go core.new + (1 + stirred_at number core.old.stirred.conns.items) ≤ to_go core.old + 4 * n) }
     ensures notes { Appends notes.old notes.new }
+    ensures octets { Goes result core.old notes.old core.new notes.new }
 {
     let Some(crossed) = write_update(core, number, stream, n)? else {
         core.give_up(number);
@@ -202,6 +214,7 @@ fn write_update(
     ensures go { OnOk result (to_go core.new ≤ to_go core.old) }
     ensures some { IfOk result (λ crossed. IfSome crossed (λ c. 0 < n)) }
     ensures rest { core.new ≡ record core.old { conns = core.new.conns } }
+    ensures octets { IfOk result (λ crossed. MatchOption crossed (Keeps core.old core.new) (λ c. Owes (note.Credit number stream n ∷ []) core.old core.new)) }
 {
     match core.conns.get_mut(&number) {
         Some(conn) => conn.write_update(stream, n),

@@ -4,6 +4,7 @@ ghost use Rattle.wire_state.specs.Agenda.{stirred_at, top_go};
 ghost use Rattle.wire_state.specs.Noting.{Appends};
 ghost use Rattle.wire_state.specs.Progress.{to_go, conn_go};
 ghost use Rattle.wire_state.specs.Sound.{IsSound};
+ghost use Rattle.wire_state.specs.Worlds.{Goes, Keeps};
 
 use crate::controls::{frame_credit, frame_first_credit, frame_stream_credit, frame_waiting};
 use crate::units::frame_flow;
@@ -20,6 +21,7 @@ pub fn ask_drain(core: &mut WireCore, number: u32, notes: &mut Notes) -> Result<
     ensures sound { OnOk result (IsSound core.new) }
     ensures go { OnOk result (to_go core.new < to_go core.old) }
     ensures notes { Appends notes.old notes.new }
+    ensures octets { Goes result core.old notes.old core.new notes.new }
 {
     core.end_task();
     if core.agenda.is_draining(number) {
@@ -42,6 +44,7 @@ pub(crate) fn drain_by(
     ensures sound { OnOk result (IsSound core.new) }
     ensures go { OnOk result (to_go core.new ≤ to_go core.old) }
     ensures notes { Appends notes.old notes.new }
+    ensures octets { Goes result core.old notes.old core.new notes.new }
 {
     if core.agenda.is_draining(number) {
         return Ok(());
@@ -60,6 +63,7 @@ pub fn begin_drain(
     ensures sound { OnOk result (IsSound core.new) }
     ensures go { OnOk result (to_go core.new + stirred_at number core.old.stirred.conns.items ≤ to_go core.old) }
     ensures notes { Appends notes.old notes.new }
+    ensures octets { Goes result core.old notes.old core.new notes.new }
 {
     core.begin(Task::Drain(number))?;
     frame_next(core, number, unit, notes)
@@ -72,6 +76,7 @@ pub fn drain(core: &mut WireCore, number: u32, notes: &mut Notes) -> Result<(), 
     ensures sound { OnOk result (IsSound core.new) }
     ensures go { OnOk result (to_go core.new < to_go core.old) }
     ensures notes { Appends notes.old notes.new }
+    ensures octets { Goes result core.old notes.old core.new notes.new }
 {
     match next_unit(core, number) {
         Some(unit) => frame_next(core, number, unit, notes),
@@ -94,6 +99,7 @@ fn frame_next(
     ensures sound { OnOk result (IsSound core.new) }
     ensures go { OnOk result (to_go core.new + (1 + stirred_at number core.old.stirred.conns.items) ≤ to_go core.old) }
     ensures notes { Appends notes.old notes.new }
+    ensures octets { Goes result core.old notes.old core.new notes.new }
 {
     match unit {
         NextUnit::Waiting => frame_waiting(core, number, notes),
@@ -110,6 +116,7 @@ pub(crate) fn next_unit(core: &mut WireCore, number: u32) -> Option<NextUnit>
     ensures sound { IsSound core.new }
     ensures go { to_go core.new ≤ to_go core.old }
     ensures rest { core.new ≡ record core.old { conns = core.new.conns } }
+    ensures octets { Keeps core.old core.new }
 {
     match core.conns.get_mut(&number) {
         Some(conn) => unit_at(conn, &core.flows),
@@ -139,6 +146,7 @@ pub(crate) fn unit_framed(
     ensures sound { OnOk result (IsSound core.new) }
     ensures go { OnOk result (to_go core.new ≤ to_go core.old + 1) }
     ensures notes { Appends notes.old notes.new }
+    ensures octets { Goes result core.old notes.old core.new notes.new }
 {
     core.stir(conn)?;
     if crossed == Crossed::High {

@@ -6,9 +6,10 @@ ghost use Rattle.wire_flows.specs.Flows.{IsThere, flow_in, is_live_in};
 ghost use Rattle.wire_links.specs.Links.{exchange_at};
 ghost use Rattle.wire_out.specs.Opening.{IsUnframed};
 ghost use Rattle.wire_state.specs.Agenda.{stirred_at, top_go};
-ghost use Rattle.wire_state.specs.Noting.{Appends};
+ghost use Rattle.wire_state.specs.Noting.{Appends, heads_of};
 ghost use Rattle.wire_state.specs.Progress.{conn_go, to_go};
 ghost use Rattle.wire_state.specs.Sound.{IsSound};
+ghost use Rattle.wire_state.specs.Worlds.{Goes, Keeps, KeepsOk, Owes};
 
 use crate::drains::unit_framed;
 use crate::units::{Going, end_where, unready};
@@ -35,6 +36,7 @@ pub(crate) fn frame_list(
     ensures sound { OnOk result (IsSound core.new) }
     ensures go { OnOk result (to_go core.new + (1 + stirred_at going.conn core.old.stirred.conns.items) ≤ to_go core.old) }
     ensures notes { Appends notes.old notes.new }
+    ensures octets { Goes result core.old notes.old core.new notes.new }
 {
     let exchange = going.course.flow.exchange;
     if let Some(stream) = going.stream {
@@ -56,6 +58,7 @@ fn open_stream(core: &mut WireCore, going: Going) -> Result<Option<u32>, NoMemor
     ensures sound { OnOk result (IsSound core.new) }
     ensures go { OnOk result (to_go core.new ≤ to_go core.old) }
     ensures rest { core.new ≡ record core.old { conns = core.new.conns; links = core.new.links } }
+    ensures octets { KeepsOk result core.old core.new }
 {
     let Some(stream) = next_stream(core, going.conn)? else {
         return Ok(None);
@@ -75,6 +78,7 @@ fn place(core: &mut WireCore, going: Going, stream: u32) -> Result<Option<u32>, 
     ensures sound { OnOk result (IsSound core.new) }
     ensures go { OnOk result (to_go core.new ≤ to_go core.old) }
     ensures rest { core.new ≡ record core.old { conns = core.new.conns; links = core.new.links } }
+    ensures octets { KeepsOk result core.old core.new }
 {
     let exchange = going.course.flow.exchange;
     begin_stream(core, going.conn, exchange)?;
@@ -88,6 +92,7 @@ fn next_stream(core: &mut WireCore, number: u32) -> Result<Option<u32>, NoMemory
     ensures sound { OnOk result (IsSound core.new) }
     ensures go { OnOk result (to_go core.new ≤ to_go core.old) }
     ensures rest { core.new ≡ record core.old { conns = core.new.conns } }
+    ensures octets { KeepsOk result core.old core.new }
 {
     match core.conns.get_mut(&number) {
         Some(conn) => next_number(conn),
@@ -108,6 +113,7 @@ fn begin_stream(core: &mut WireCore, number: u32, exchange: u64) -> Result<(), N
     ensures sound { OnOk result (IsSound core.new) }
     ensures go { OnOk result (to_go core.new ≤ to_go core.old) }
     ensures rest { core.new ≡ record core.old { conns = core.new.conns } }
+    ensures octets { KeepsOk result core.old core.new }
 {
     match core.conns.get_mut(&number) {
         Some(conn) => conn.begin(exchange),
@@ -130,6 +136,7 @@ fn frame_fields(
     ensures sound { OnOk result (IsSound core.new) }
     ensures go { OnOk result (to_go core.new + (1 + stirred_at going.conn core.old.stirred.conns.items) ≤ to_go core.old) }
     ensures notes { Appends notes.old notes.new }
+    ensures octets { Goes result core.old notes.old core.new notes.new }
 {
     let exchange = going.course.flow.exchange;
     let Some((octets, crossed)) = write_list(core, going, stream, last)? else {
@@ -156,6 +163,7 @@ fn write_list(
     ensures sound { OnOk result (IsSound core.new) }
     ensures go { IfOk result (λ framed. MatchOption framed (to_go core.new ≤ to_go core.old) (λ f. to_go core.new + 40 ≤ to_go core.old)) }
     ensures rest { core.new ≡ record core.old { conns = core.new.conns; flows = core.new.flows } }
+    ensures octets { IfOk result (λ framed. MatchOption framed (Keeps core.old core.new) (λ f. Owes (heads_of going.conn stream f.0) core.old core.new)) }
 {
     match core.conns.get_mut(&going.conn) {
         Some(conn) => conn.write_list(&mut core.flows, going.course.flow, stream, last),

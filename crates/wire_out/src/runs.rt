@@ -1,5 +1,5 @@
 // Runs: the octets of a flow go on.
-ghost use Rattle.std.specs.Prelude.{◌≡◌, ◌≤◌, ◌<◌, ◌+◌, IfSome, OnOk, if◌then◌else◌, true};
+ghost use Rattle.std.specs.Prelude.{◌≡◌, ◌≤◌, ◌<◌, ◌+◌, IfSome, OnOk, if◌then◌else◌, true, ◌∷◌, [], ◌++◌};
 ghost use Rattle.wire_flows.specs.Flows.{is_live_in};
 ghost use Rattle.wire_flows.specs.Moves.{IsMove};
 ghost use Rattle.wire_state.specs.Agenda.{top_go};
@@ -7,6 +7,8 @@ ghost use Rattle.wire_state.specs.Noting.{Appends};
 ghost use Rattle.wire_state.specs.Progress.{to_go};
 ghost use Rattle.wire_state.specs.Sound.{IsSound};
 ghost use Rattle.flow_notes.specs.Buffer.{CanPause};
+ghost use Rattle.wire_state.specs.Worlds.{Goes, Keeps, KeepsOk, Shows};
+ghost use Rattle.flow_notes.specs.declared.notes.Note.TheVariants as note;
 
 use crate::drains::{drain_by, next_unit};
 use flow_gate::{BufferId, FlowId};
@@ -23,6 +25,7 @@ pub fn ask_run(core: &mut WireCore, course: Course, notes: &mut Notes) -> Result
     ensures sound { OnOk result (IsSound core.new) }
     ensures go { OnOk result (to_go core.new < to_go core.old) }
     ensures notes { Appends notes.old notes.new }
+    ensures octets { Goes result core.old notes.old core.new notes.new }
 {
     core.end_task();
     if core.agenda.is_running(course.flow) {
@@ -47,6 +50,7 @@ pub fn run(
     ensures sound { OnOk result (IsSound core.new) }
     ensures go { OnOk result (to_go core.new < to_go core.old) }
     ensures notes { Appends notes.old notes.new }
+    ensures octets { Goes result core.old notes.old core.new notes.new }
 {
     if !core.flows.holds(course.flow) {
         return run_empty(core, course, tried, notes);
@@ -71,6 +75,7 @@ fn run_empty(
     ensures sound { OnOk result (IsSound core.new) }
     ensures go { OnOk result (to_go core.new < to_go core.old) }
     ensures notes { Appends notes.old notes.new }
+    ensures octets { Goes result core.old notes.old core.new notes.new }
 {
     core.end_task();
     if tried {
@@ -90,6 +95,7 @@ fn ask_drain_next(core: &mut WireCore, conn: Option<u32>) -> Result<(), NoMemory
     ensures sound { OnOk result (IsSound core.new) }
     ensures go { OnOk result (to_go core.new ≤ to_go core.old + 2) }
     ensures rest { core.new ≡ record core.old { agenda = core.new.agenda } }
+    ensures octets { KeepsOk result core.old core.new }
 {
     match (core.agenda.top(), conn) {
         (Some(Task::AskDrain(next)), Some(conn)) if next == conn => Ok(()),
@@ -109,6 +115,7 @@ fn overfull(
     ensures sound { OnOk result (IsSound core.new) }
     ensures go { OnOk result (to_go core.new < to_go core.old) }
     ensures notes { Appends notes.old notes.new }
+    ensures octets { Goes result core.old notes.old core.new notes.new }
 {
     if core.flows.is_live(course.flow.exchange) {
         return too_large(core, course, notes);
@@ -123,6 +130,7 @@ fn stop(core: &mut WireCore, course: Course, tried: bool, notes: &mut Notes) -> 
     ensures sound { OnOk result (IsSound core.new) }
     ensures go { OnOk result (to_go core.new < to_go core.old) }
     ensures notes { Appends notes.old notes.new }
+    ensures octets { Goes result core.old notes.old core.new notes.new }
 {
     if tried {
         core.end_task();
@@ -139,6 +147,7 @@ fn stand_still(core: &mut WireCore, course: Course, notes: &mut Notes) -> Result
     ensures sound { OnOk result (IsSound core.new) }
     ensures go { OnOk result (to_go core.new < to_go core.old) }
     ensures notes { Appends notes.old notes.new }
+    ensures octets { Goes result core.old notes.old core.new notes.new }
 {
     if let Some((to, unit)) = unit_to(core, course.to) {
         look_again(core, course)?;
@@ -157,6 +166,7 @@ fn look_again(core: &mut WireCore, course: Course) -> Result<(), NoMemory>
     requires top { top_go core.old.agenda ≡ 6 }
     ensures sound { OnOk result (IsSound core.new) }
     ensures go { OnOk result (to_go core.new < to_go core.old) }
+    ensures octets { KeepsOk result core.old core.new }
 {
     core.go_on(Task::Run {
         course,
@@ -171,6 +181,7 @@ fn unit_to(core: &mut WireCore, conn: Option<u32>) -> Option<(u32, NextUnit)>
     ensures sound { IsSound core.new }
     ensures go { to_go core.new ≤ to_go core.old }
     ensures rest { core.new ≡ record core.old { conns = core.new.conns } }
+    ensures octets { Keeps core.old core.new }
 {
     let number = conn?;
     let unit = next_unit(core, number)?;
@@ -183,6 +194,7 @@ fn may_frame(core: &mut WireCore, conn: Option<u32>) -> bool
     ensures sound { IsSound core.new }
     ensures go { to_go core.new ≤ to_go core.old }
     ensures rest { core.new ≡ record core.old { conns = core.new.conns } }
+    ensures octets { Keeps core.old core.new }
 {
     match conn {
         Some(conn) => core.may_frame(conn),
@@ -196,6 +208,7 @@ fn ask_drain(core: &mut WireCore, conn: Option<u32>) -> Result<(), NoMemory>
     ensures sound { OnOk result (IsSound core.new) }
     ensures go { OnOk result (to_go core.new ≤ to_go core.old + 2) }
     ensures rest { core.new ≡ record core.old { agenda = core.new.agenda } }
+    ensures octets { KeepsOk result core.old core.new }
 {
     match conn {
         Some(conn) => core.begin(Task::AskDrain(conn)),
@@ -211,6 +224,7 @@ fn too_large(core: &mut WireCore, course: Course, notes: &mut Notes) -> Result<(
     ensures sound { OnOk result (IsSound core.new) }
     ensures go { OnOk result (to_go core.new < to_go core.old) }
     ensures notes { Appends notes.old notes.new }
+    ensures octets { Goes result core.old notes.old core.new notes.new }
 {
     core.go_on(Task::Run {
         course,
@@ -239,6 +253,7 @@ fn go_on(
     ensures sound { OnOk result (IsSound core.new) }
     ensures go { OnOk result (to_go core.new ≤ to_go core.old + 11) }
     ensures notes { Appends notes.old notes.new }
+    ensures octets { Goes result core.old (notes.old ++ note.Move course.flow moved.place moved.n ∷ []) core.new notes.new }
 {
     core.go_on(Task::Run {
         course,
@@ -265,6 +280,7 @@ fn owe_moved(core: &mut WireCore, course: Course, moved: Moved) -> Result<(), No
     requires sound { IsSound core.old }
     ensures sound { OnOk result (IsSound core.new) }
     ensures go { OnOk result (to_go core.new ≤ to_go core.old + 1) }
+    ensures octets { KeepsOk result core.old core.new }
 {
     match course.from {
         Some(from) if moved.place == 0 => owe_from(core, from, course.flow.exchange, moved.n),
@@ -276,6 +292,7 @@ fn owe_from(core: &mut WireCore, from: u32, exchange: u64, n: u32) -> Result<(),
     requires sound { IsSound core.old }
     ensures sound { OnOk result (IsSound core.new) }
     ensures go { OnOk result (to_go core.new ≤ to_go core.old + 1) }
+    ensures octets { KeepsOk result core.old core.new }
 {
     core.stir(from)?;
     moved_at(core, from, exchange, n)
@@ -286,6 +303,7 @@ fn moved_at(core: &mut WireCore, number: u32, exchange: u64, n: u32) -> Result<(
     ensures sound { OnOk result (IsSound core.new) }
     ensures go { OnOk result (to_go core.new ≤ to_go core.old) }
     ensures rest { core.new ≡ record core.old { conns = core.new.conns } }
+    ensures octets { KeepsOk result core.old core.new }
 {
     match core.conns.get_mut(&number) {
         Some(conn) => conn.moved(exchange, n),
@@ -305,6 +323,7 @@ fn cross(
     ensures sound { OnOk result (IsSound core.new) }
     ensures go { OnOk result (to_go core.new ≤ to_go core.old + 1) }
     ensures notes { Appends notes.old notes.new }
+    ensures octets { Goes result core.old notes.old core.new notes.new }
 {
     note_pause(course.flow, moved.rose, notes)?;
     if moved.overflow {
@@ -322,7 +341,8 @@ fn cross(
 // The buffer of a flow that its octets went to became above.
 fn note_pause(flow: FlowId, rose: Option<BufferId>, notes: &mut Notes) -> Result<(), NoMemory>
     requires { IfSome rose (CanPause flow) }
-    ensures { Appends notes.old notes.new }
+    ensures notes { Appends notes.old notes.new }
+    ensures octets { Shows result notes.old notes.new }
 {
     match rose {
         Some(buffer) => note(notes, Note::Pause { flow, buffer }),
@@ -342,6 +362,7 @@ fn resume(
     ensures sound { OnOk result (IsSound core.new) }
     ensures go { OnOk result (to_go core.new ≤ to_go core.old) }
     ensures notes { Appends notes.old notes.new }
+    ensures octets { Goes result core.old notes.old core.new notes.new }
 {
     let flow = course.flow;
     core.look_due(course)?;

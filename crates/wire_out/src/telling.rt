@@ -4,6 +4,7 @@ ghost use Rattle.wire_state.specs.Agenda.{top_go};
 ghost use Rattle.wire_state.specs.Noting.{Appends};
 ghost use Rattle.wire_state.specs.Progress.{to_go};
 ghost use Rattle.wire_state.specs.Sound.{IsSound};
+ghost use Rattle.wire_state.specs.Worlds.{Goes, KeepsOk};
 
 use flow_gate::{BufferId, FlowId};
 use flow_notes::{Note, Notes};
@@ -17,6 +18,7 @@ pub fn tell(core: &mut WireCore, conn: u32, notes: &mut Notes) -> Result<(), NoM
     ensures sound { OnOk result (IsSound core.new) }
     ensures go { OnOk result (to_go core.new < to_go core.old) }
     ensures notes { Appends notes.old notes.new }
+    ensures octets { Goes result core.old notes.old core.new notes.new }
 {
     let Some(flow) = core.flows.next_told(conn) else {
         core.end_task();
@@ -37,6 +39,7 @@ fn run_told(core: &mut WireCore, flow: FlowId) -> Result<(), NoMemory>
     requires sound { IsSound core.old }
     ensures sound { OnOk result (IsSound core.new) }
     ensures go { OnOk result (to_go core.new ≤ to_go core.old + 9) }
+    ensures octets { KeepsOk result core.old core.new }
 {
     let Some(course) = core.course(flow) else {
         return Ok(());

@@ -1,12 +1,14 @@
 // Units of flows: heads, bodies and trailers.
 ghost use Rattle.exchange_core.specs.Units.{IsFrameable};
-ghost use Rattle.std.specs.Prelude.{◌≡◌, ◌≤◌, ◌+◌, IfNone, IfOk, IfSome, IsSome, MatchOption, OnOk, true};
+ghost use Rattle.std.specs.Prelude.{◌≡◌, ◌≤◌, ◌+◌, IfNone, IfOk, IfSome, IsSome, MatchOption, OnOk, true, ◌∷◌, [], Some};
 ghost use Rattle.wire_flows.specs.Flows.{IsThere, flow_in, is_live_in};
 ghost use Rattle.wire_out.specs.Opening.{IsUnframed};
 ghost use Rattle.wire_state.specs.Agenda.{stirred_at, top_go};
 ghost use Rattle.wire_state.specs.Noting.{Appends};
 ghost use Rattle.wire_state.specs.Progress.{conn_go, to_go};
 ghost use Rattle.wire_state.specs.Sound.{IsSound};
+ghost use Rattle.wire_state.specs.Worlds.{Goes, Keeps, KeepsOk, Owes, Shows, stream_in};
+ghost use Rattle.flow_notes.specs.declared.notes.Note.TheVariants as note;
 
 use crate::lists::frame_list;
 use exchange_core::Unit;
@@ -38,6 +40,7 @@ pub(crate) fn frame_flow(
     ensures sound { OnOk result (IsSound core.new) }
     ensures go { OnOk result (to_go core.new + (1 + stirred_at conn core.old.stirred.conns.items) ≤ to_go core.old) }
     ensures notes { Appends notes.old notes.new }
+    ensures octets { Goes result core.old notes.old core.new notes.new }
 {
     let Some(going) = going_to(core, conn, exchange) else {
         unready(core, conn, exchange);
@@ -59,6 +62,7 @@ fn going_to(core: &WireCore, conn: u32, exchange: u64) -> Option<Going>
     ensures conn { IfSome result (λ going. going.conn ≡ conn) }
     ensures exchange { IfSome result (λ going. going.course.flow.exchange ≡ exchange) }
     ensures unframed { IfSome result (λ going. IfNone going.stream (IsUnframed conn exchange core.entry.now.links)) }
+    ensures stream { IfSome result (λ going. going.stream ≡ stream_in core.entry.now.links going.course.flow) }
 {
     let ends = core.links.ends_of(exchange)?;
     if ends.client == conn {
@@ -112,6 +116,7 @@ pub(crate) fn unready(core: &mut WireCore, number: u32, exchange: u64)
     requires top { top_go core.old.agenda ≡ 1 }
     ensures sound { IsSound core.new }
     ensures go { to_go core.new + (1 + stirred_at number core.old.stirred.conns.items) ≤ to_go core.old }
+    ensures octets { Keeps core.old core.new }
 {
     forget_hint(core, number, exchange);
     core.give_up(number);
@@ -122,6 +127,7 @@ fn forget_hint(core: &mut WireCore, number: u32, exchange: u64)
     ensures sound { IsSound core.new }
     ensures go { to_go core.new ≤ to_go core.old }
     ensures rest { core.new ≡ record core.old { conns = core.new.conns } }
+    ensures octets { Keeps core.old core.new }
 {
     match core.conns.get_mut(&number) {
         Some(conn) => drop_hint(conn, exchange),
@@ -142,9 +148,11 @@ fn frame_body(core: &mut WireCore, going: Going, notes: &mut Notes) -> Result<()
     requires sound { IsSound core.old }
     requires top { top_go core.old.agenda ≡ 1 }
     requires there { IsThere core.old.flows going.course.flow }
+    requires stream { going.stream ≡ stream_in core.old.links going.course.flow }
     ensures sound { OnOk result (IsSound core.new) }
     ensures go { OnOk result (to_go core.new + (1 + stirred_at going.conn core.old.stirred.conns.items) ≤ to_go core.old) }
     ensures notes { Appends notes.old notes.new }
+    ensures octets { Goes result core.old notes.old core.new notes.new }
 {
     let flow = going.course.flow;
     let Some(framed) = write_body(core, going)? else {
@@ -172,9 +180,11 @@ fn frame_body(core: &mut WireCore, going: Going, notes: &mut Notes) -> Result<()
 fn write_body(core: &mut WireCore, going: Going) -> Result<Option<Framed>, NoMemory>
     requires sound { IsSound core.old }
     requires there { IsThere core.old.flows going.course.flow }
+    requires stream { going.stream ≡ stream_in core.old.links going.course.flow }
     ensures sound { OnOk result (IsSound core.new) }
     ensures go { IfOk result (λ framed. MatchOption framed (to_go core.new ≤ to_go core.old) (λ f. to_go core.new + 40 ≤ to_go core.old)) }
     ensures rest { core.new ≡ record core.old { conns = core.new.conns; flows = core.new.flows } }
+    ensures octets { IfOk result (λ framed. MatchOption framed (Keeps core.old core.new) (λ f. Owes (note.Frame going.conn going.course.flow f.n f.last ∷ []) core.old core.new)) }
 {
     match going.stream {
         Some(stream) => write_body_on(core, going.conn, going.course.flow, stream),
@@ -190,9 +200,11 @@ fn write_body_on(
 ) -> Result<Option<Framed>, NoMemory>
     requires sound { IsSound core.old }
     requires there { IsThere core.old.flows flow }
+    requires stream { stream_in core.old.links flow ≡ Some stream }
     ensures sound { OnOk result (IsSound core.new) }
     ensures go { IfOk result (λ framed. MatchOption framed (to_go core.new ≤ to_go core.old) (λ f. to_go core.new + 40 ≤ to_go core.old)) }
     ensures rest { core.new ≡ record core.old { conns = core.new.conns; flows = core.new.flows } }
+    ensures octets { IfOk result (λ framed. MatchOption framed (Keeps core.old core.new) (λ f. Owes (note.Frame number flow f.n f.last ∷ []) core.old core.new)) }
 {
     let quantum = core.config.limits.quantum;
     match core.conns.get_mut(&number) {
@@ -207,6 +219,7 @@ pub(crate) fn end_where(core: &mut WireCore, exchange: u64, last: bool) -> Resul
     ensures sound { OnOk result (IsSound core.new) }
     ensures go { OnOk result (to_go core.new ≤ to_go core.old + 1) }
     ensures rest { core.new ≡ record core.old { agenda = core.new.agenda } }
+    ensures octets { KeepsOk result core.old core.new }
 {
     if last {
         return core.begin(Task::End(exchange));
@@ -216,7 +229,8 @@ pub(crate) fn end_where(core: &mut WireCore, exchange: u64, last: bool) -> Resul
 
 // Where the write buffer rose, the flows that go to the connection are held back.
 fn note_risen(core: &WireCore, conn: u32, rose: bool, notes: &mut Notes) -> Result<(), NoMemory>
-    ensures { Appends notes.old notes.new }
+    ensures notes { Appends notes.old notes.new }
+    ensures octets { Shows result notes.old notes.new }
 {
     if rose {
         return note_pauses(&core.flows, conn, notes);
@@ -235,6 +249,7 @@ fn resume_where(
     ensures sound { OnOk result (IsSound core.new) }
     ensures go { OnOk result (to_go core.new ≤ to_go core.old + 9) }
     ensures notes { Appends notes.old notes.new }
+    ensures octets { Goes result core.old notes.old core.new notes.new }
 {
     if !drained {
         return Ok(());

@@ -4,3 +4,5 @@ pub mod Intakes
 pub mod Noting
 pub mod Progress
 pub mod Sound
+pub mod Ways
+pub mod Worlds

@@ -1,6 +1,6 @@
 // One connection.
 ghost use Rattle.proxy_config.specs.Ranges.{AreLimits};
-ghost use Rattle.std.specs.Prelude.{◌≡◌, ◌&&◌, ◌<◌, ◌≤◌, ◌≤ℤ◌, ◌+◌, ◌*◌, ◌^◌, ℕ, IfOk, min, not, pos, true};
+ghost use Rattle.std.specs.Prelude.{◌≡◌, ◌&&◌, ◌<◌, ◌≤◌, ◌≤ℤ◌, ◌+◌, ◌*◌, ◌^◌, [], ℕ, IfOk, min, not, pos, true};
 ghost use Rattle.wire_inlet.specs.Incoming.{is_cluster};
 ghost use Rattle.wire_state.specs.Progress.{conn_go};
 ghost use Rattle.wire_state.specs.Sound.{IsKept};
@@ -53,7 +53,9 @@ impl Conn {
     /// A new connection of a client, or to a cluster.
     pub fn new(alloc: Global, peer: Peer, limits: &LimitKeys) -> Result<Self, NoMemory>
         requires { AreLimits limits.now }
-        ensures { IfOk result (λ conn. IsKept limits.now conn.outlet) }
+        ensures kept { IfOk result (λ conn. IsKept limits.now conn.outlet) }
+        ensures opened { IfOk result (λ conn. conn.open ≡ true) }
+        ensures empty { IfOk result (λ conn. conn.outlet.write.octets ≡ []) }
     {
         let unit = LEAST_UNIT.max(limits.quantum + FRAME_HEAD);
         Ok(Conn {

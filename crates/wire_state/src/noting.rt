@@ -1,5 +1,8 @@
 // The notes of small steps. Each appends notes that have a spelling and begin no dispatch, also where memory is refused.
-ghost use Rattle.wire_state.specs.Noting.{Appends, IsStep};
+ghost use Rattle.std.specs.Prelude.{◌≡◌, ◌++◌, ◌∷◌, [], OnOk};
+ghost use Rattle.wire_flows.specs.Writes.{watchers_on};
+ghost use Rattle.wire_state.specs.Noting.{Appends, IsStep, answers_of, heads_of, pauses_of};
+ghost use Rattle.wire_state.specs.Worlds.{IsIdle, Pays, Shows};
 
 use flow_gate::BufferId;
 use flow_notes::{Note, Notes};
@@ -10,14 +13,19 @@ use wire_flows::WireFlows;
 #[inline(always)]
 pub fn note(notes: &mut Notes, note: Note) -> Result<(), NoMemory>
     requires { IsStep note }
-    ensures { Appends notes.old notes.new }
+    ensures notes { Appends notes.old notes.new }
+    ensures told { OnOk result (notes.new ≡ notes.old ++ note ∷ []) }
+    ensures paid { Pays result (note ∷ []) notes.old notes.new }
+    ensures idle { IsIdle note → Shows result notes.old notes.new }
 {
     notes.push(note)
 }
 
 /// Writes that control octets went out on a connection. Without octets there is nothing to say.
 pub fn note_answer(notes: &mut Notes, conn: u32, octets: Octets) -> Result<(), NoMemory>
-    ensures { Appends notes.old notes.new }
+    ensures notes { Appends notes.old notes.new }
+    ensures told { OnOk result (notes.new ≡ notes.old ++ answers_of conn octets) }
+    ensures paid { Pays result (answers_of conn octets) notes.old notes.new }
 {
     if octets.is_empty() {
         return Ok(());
@@ -27,7 +35,9 @@ pub fn note_answer(notes: &mut Notes, conn: u32, octets: Octets) -> Result<(), N
 
 /// Writes that a field block went out on a stream of a connection. Without octets there is nothing to say.
 pub fn note_head(notes: &mut Notes, conn: u32, stream: u32, octets: Octets) -> Result<(), NoMemory>
-    ensures { Appends notes.old notes.new }
+    ensures notes { Appends notes.old notes.new }
+    ensures told { OnOk result (notes.new ≡ notes.old ++ heads_of conn stream octets) }
+    ensures paid { Pays result (heads_of conn stream octets) notes.old notes.new }
 {
     if octets.is_empty() {
         return Ok(());
@@ -44,7 +54,9 @@ pub fn note_head(notes: &mut Notes, conn: u32, stream: u32, octets: Octets) -> R
 
 /// Writes a pause for each flow that the write buffer of a connection holds back, in the order in which they began to watch it.
 pub fn note_pauses(flows: &WireFlows, conn: u32, notes: &mut Notes) -> Result<(), NoMemory>
-    ensures { Appends notes.old notes.new }
+    ensures notes { Appends notes.old notes.new }
+    ensures told { OnOk result (notes.new ≡ notes.old ++ pauses_of conn (watchers_on conn flows.now)) }
+    ensures idle { Shows result notes.old notes.new }
 {
     let buffer = BufferId::Write(conn);
     notes.push_pauses(flows.watchers(buffer), buffer)

@@ -1,12 +1,18 @@
 // What goes out on a connection.
+ghost use Rattle.exchange_core.specs.Changes.{ChangesFlow};
+ghost use Rattle.exchange_core.specs.Effects.{body_framed, list_framed};
+ghost use Rattle.exchange_core.specs.Flow.{send};
 ghost use Rattle.exchange_core.specs.Units.{IsFrameable as IsFrameableUnit};
 ghost use Rattle.flow_rules.specs.declared.unit.Unit.TheVariants.{Head};
+ghost use Rattle.h2_frames.specs.Frame.{WindowUpdate};
+ghost use Rattle.h2_frames.specs.Head.{data_head};
+ghost use Rattle.h2_frames.specs.Spelling.{spelling};
 ghost use Rattle.h2_windows.specs.SendWindow.{Spend, changed};
 ghost use Rattle.proxy_config.specs.declared.config.LimitKeys.{LimitKeys as Limits};
-ghost use Rattle.std.specs.Prelude.{◌≡◌, ◌<◌, ◌≤◌, ◌+◌, ◌^◌, IfOk, IfSome, MatchOption, OnOk, false, true};
+ghost use Rattle.std.specs.Prelude.{◌≡◌, ◌<◌, ◌≤◌, ◌+◌, ◌++◌, ◌^◌, [], IfOk, IfSome, MatchOption, OnOk, drop, false, length, min, take, true};
 ghost use Rattle.wire_flows.specs.Flows.{IsThere, KeepsLive, flow_in, time_of};
 ghost use Rattle.wire_flows.specs.Measure.{to_go};
-ghost use Rattle.wire_outlet.specs.Waiting.{IsFrameable};
+ghost use Rattle.wire_outlet.specs.Waiting.{IsFrameable, octets_of};
 ghost use Rattle.wire_state.specs.Progress.{conn_go};
 ghost use Rattle.wire_state.specs.Sound.{IsKept};
 
@@ -28,6 +34,7 @@ impl Conn {
         ensures kept { (limits : Limits) → most ≡ limits.control_frames → IsKept limits self.old.outlet → IsKept limits self.new.outlet }
         ensures rest { self.new ≡ record self.old { outlet = self.new.outlet } }
         ensures go { conn_go self.new ≤ conn_go self.old + 4 }
+        ensures write { self.new.outlet.write ≡ self.old.outlet.write }
     {
         if !self.open {
             return Ok(true);
@@ -41,6 +48,7 @@ impl Conn {
         ensures kept { (limits : Limits) → IsKept limits self.old.outlet → IsKept limits self.new.outlet }
         ensures rest { self.new ≡ record self.old { outlet = self.new.outlet } }
         ensures go { conn_go self.new ≤ conn_go self.old }
+        ensures octets { IfOk result (λ framed. MatchOption framed (self.new ≡ self.old) (λ f. self.new.outlet.write.octets ≡ self.old.outlet.write.octets ++ f.0)) }
     {
         if self.outlet.is_above() {
             return Ok(None);
@@ -53,6 +61,8 @@ impl Conn {
     pub fn shut(&mut self)
         ensures kept { (limits : Limits) → IsKept limits self.old.outlet → IsKept limits self.new.outlet }
         ensures less { self.old.open ≡ true → conn_go self.new + 4 ≤ conn_go self.old }
+        ensures rest { self.new ≡ record self.old { «open» = false; outlet = self.new.outlet } }
+        ensures write { self.new.outlet.write ≡ self.old.outlet.write }
     {
         self.open = false;
         self.outlet.drop_waiting();
@@ -61,6 +71,9 @@ impl Conn {
     /// The octets for the socket and the units that wait go nowhere. The answer is whether the write buffer was above.
     pub fn drop_octets(&mut self) -> bool
         ensures kept { (limits : Limits) → IsKept limits self.old.outlet → IsKept limits self.new.outlet }
+        ensures rest { self.new ≡ record self.old { outlet = self.new.outlet } }
+        ensures empty { self.new.outlet.write.octets ≡ [] }
+        ensures go { conn_go self.new ≤ conn_go self.old }
     {
         let was_above = self.outlet.is_above();
         self.outlet.drop_all();
@@ -87,6 +100,7 @@ impl Conn {
         ensures kept { (limits : Limits) → IsKept limits self.old.outlet → IsKept limits self.new.outlet }
         ensures rest { self.new ≡ record self.old { outlet = self.new.outlet } }
         ensures go { IfOk result (λ framed. MatchOption framed (conn_go self.new ≤ conn_go self.old) (λ f. conn_go self.new + 4 ≤ conn_go self.old)) }
+        ensures octets { IfOk result (λ framed. MatchOption framed (self.new ≡ self.old) (λ f. self.new.outlet.write.octets ≡ self.old.outlet.write.octets ++ octets_of f.0)) }
     {
         if !self.may_write() {
             return Ok(None);
@@ -102,6 +116,7 @@ impl Conn {
         ensures rest { self.new ≡ record self.old { outlet = self.new.outlet } }
         ensures go { conn_go self.new ≤ conn_go self.old }
         ensures some { IfOk result (λ crossed. IfSome crossed (λ c. 0 < n)) }
+        ensures octets { IfOk result (λ crossed. MatchOption crossed (self.new ≡ self.old) (λ c. self.new.outlet.write.octets ≡ self.old.outlet.write.octets ++ spelling (WindowUpdate stream n))) }
     {
         if n == 0 || stream != 0 && !is_stream(stream) || !self.may_write() {
             return Ok(None);
@@ -125,6 +140,8 @@ impl Conn {
         ensures keeps { OnOk result (KeepsLive flows.old flows.new) }
         ensures time { OnOk result (time_of flows.new ≡ time_of flows.old) }
         ensures go { IfOk result (λ framed. MatchOption framed (conn_go self.new + to_go flows.new ≤ conn_go self.old + to_go flows.old) (λ f. conn_go self.new + (to_go flows.new + 40) ≤ conn_go self.old + to_go flows.old)) }
+        ensures octets { IfOk result (λ framed. MatchOption framed (self.new ≡ self.old) (λ f. self.new.outlet.write.octets ≡ self.old.outlet.write.octets ++ f.0)) }
+        ensures flows { IfOk result (λ framed. MatchOption framed (flows.new ≡ flows.old) (λ f. ChangesFlow flow (list_framed last) flows.old.exchanges flows.new.exchanges)) }
     {
         let Some(fields) = flows.fields(flow) else {
             return Ok(None);
@@ -158,6 +175,8 @@ impl Conn {
         ensures time { OnOk result (time_of flows.new ≡ time_of flows.old) }
         ensures spent { IfOk result (λ framed. IfSome framed (λ f. self.new.windows.send.conn ≡ changed (Spend f.n) self.old.windows.send.conn)) }
         ensures go { IfOk result (λ framed. MatchOption framed (conn_go self.new + to_go flows.new ≤ conn_go self.old + to_go flows.old) (λ f. conn_go self.new + (to_go flows.new + 40) ≤ conn_go self.old + to_go flows.old)) }
+        ensures octets { IfOk result (λ framed. MatchOption framed (self.new ≡ self.old) (λ f. IfSome (flow_in flows.old flow) (λ g. self.new.outlet.write.octets ≡ self.old.outlet.write.octets ++ (data_head stream f.n f.last ++ take f.n (send g))))) }
+        ensures flows { IfOk result (λ framed. MatchOption framed (flows.new ≡ flows.old) (λ f. ChangesFlow flow (body_framed f.n f.last) flows.old.exchanges flows.new.exchanges)) }
     {
         if !is_stream(stream) || !self.may_write() {
             return Ok(None);
@@ -180,6 +199,8 @@ impl Conn {
     pub fn leave_write(&mut self, n: u32) -> (u32, Crossed)
         ensures kept { (limits : Limits) → IsKept limits self.old.outlet → IsKept limits self.new.outlet }
         ensures rest { self.new ≡ record self.old { outlet = self.new.outlet } }
+        ensures count { result.0 ≡ min n (length self.old.outlet.write.octets) }
+        ensures octets { self.new.outlet.write.octets ≡ drop result.0 self.old.outlet.write.octets }
     {
         let n = n.min(self.outlet.len());
         (n, self.outlet.leave(n))

@@ -1,11 +1,14 @@
 // The state of a worker's wire sessions.
 ghost use Rattle.proxy_config.specs.Ranges.{IsInRange};
-ghost use Rattle.std.specs.Prelude.{◌≡◌, ◌≤◌, ◌+◌, ◌∷◌, [], IfOk, OnOk};
+ghost use Rattle.std.specs.Prelude.{◌≡◌, ◌≤◌, ◌+◌, ◌++◌, ◌∷◌, [], IfOk, OnOk};
+ghost use Rattle.wire_flows.specs.Writes.{watchers_on};
+ghost use Rattle.wire_links.specs.Links.{no_links};
 ghost use Rattle.wire_state.specs.Agenda.{stirred_at, top_go};
 ghost use Rattle.wire_state.specs.Courses.{comes_from, course_at, course_in, goes_to, row_of};
-ghost use Rattle.wire_state.specs.Noting.{Appends};
+ghost use Rattle.wire_state.specs.Noting.{Appends, pauses_of};
 ghost use Rattle.wire_state.specs.Progress.{task_go, to_go};
 ghost use Rattle.wire_state.specs.Sound.{IsSound, is_open_at};
+ghost use Rattle.wire_state.specs.Worlds.{Goes, Keeps, Stands};
 
 use crate::agenda::{Agenda, Task};
 use crate::conn::Conn;
@@ -72,6 +75,8 @@ impl WireCore {
         ensures sound { IfOk result (λ core. IsSound core) }
         ensures idle { IfOk result (λ core. core.agenda ≡ []) }
         ensures new { IfOk result (λ core. (core.config ≡ config) × (core.conns.entries ≡ [])) }
+        ensures none { IfOk result (λ core. (core.links ≡ no_links) × (core.flows.exchanges.live ≡ [])) }
+        ensures octets { IfOk result (λ core. Stands core.conns core.flows core.links []) }
     {
         let load = Load::new(alloc, config.overload.class_start)?;
         let timers = WireTimers::new(alloc, &config)?;
@@ -115,6 +120,7 @@ impl WireCore {
         ensures go { OnOk result (to_go self.new ≡ to_go self.old + task_go task) }
         ensures agenda { OnOk result (self.new.agenda ≡ task ∷ self.old.agenda) }
         ensures rest { self.new ≡ record self.old { agenda = self.new.agenda } }
+        ensures octets { Keeps self.old self.new }
     {
         self.agenda.push(task)
     }
@@ -126,6 +132,7 @@ impl WireCore {
         ensures sound { IsSound self.new }
         ensures go { to_go self.new + top_go self.old.agenda ≡ to_go self.old }
         ensures rest { self.new ≡ record self.old { agenda = self.new.agenda } }
+        ensures octets { Keeps self.old self.new }
     {
         self.agenda.pop();
     }
@@ -136,6 +143,7 @@ impl WireCore {
         ensures sound { OnOk result (IsSound self.new) }
         ensures go { OnOk result (to_go self.new + top_go self.old.agenda ≡ to_go self.old + task_go task) }
         ensures rest { self.new ≡ record self.old { agenda = self.new.agenda } }
+        ensures octets { Keeps self.old self.new }
     {
         self.end_task();
         self.begin(task)
@@ -148,6 +156,7 @@ impl WireCore {
         ensures sound { OnOk result (IsSound self.new) }
         ensures go { OnOk result (to_go self.new ≤ to_go self.old + 1) }
         ensures rest { self.new ≡ record self.old { stirred = self.new.stirred } }
+        ensures octets { Keeps self.old self.new }
     {
         self.stirred.add(conn)
     }
@@ -158,6 +167,8 @@ impl WireCore {
         requires sound { IsSound self.old }
         ensures sound { IsSound self.new }
         ensures go { to_go self.new + (top_go self.old.agenda + stirred_at conn self.old.stirred.conns.items) ≡ to_go self.old }
+        ensures rest { self.new ≡ record self.old { agenda = self.new.agenda; stirred = self.new.stirred } }
+        ensures octets { Keeps self.old self.new }
     {
         self.end_task();
         self.stirred.remove(conn);
@@ -169,6 +180,7 @@ impl WireCore {
         ensures sound { OnOk result (IsSound self.new) }
         ensures go { OnOk result (to_go self.new ≤ to_go self.old + 2) }
         ensures rest { self.new ≡ record self.old { stirred = self.new.stirred } }
+        ensures octets { Keeps self.old self.new }
     {
         self.stir_some(course.from)?;
         self.stir_some(course.to)
@@ -181,6 +193,7 @@ impl WireCore {
         ensures sound { OnOk result (IsSound self.new) }
         ensures go { OnOk result (to_go self.new ≤ to_go self.old + 1) }
         ensures rest { self.new ≡ record self.old { stirred = self.new.stirred } }
+        ensures octets { Keeps self.old self.new }
     {
         match conn {
             Some(conn) => self.stir(conn),
@@ -194,6 +207,7 @@ impl WireCore {
         ensures sound { OnOk result (IsSound self.new) }
         ensures go { OnOk result (to_go self.new ≤ to_go self.old + 9) }
         ensures rest { self.new ≡ record self.old { stirred = self.new.stirred; agenda = self.new.agenda } }
+        ensures octets { Keeps self.old self.new }
     {
         self.stir_course(course)?;
         self.begin(Task::AskRun(course))
@@ -205,6 +219,7 @@ impl WireCore {
         ensures sound { OnOk result (IsSound self.new) }
         ensures go { OnOk result (to_go self.new ≡ to_go self.old) }
         ensures rest { self.new ≡ record self.old { load = self.new.load } }
+        ensures octets { Keeps self.old self.new }
     {
         self.load.touch(exchange)
     }
@@ -215,6 +230,7 @@ impl WireCore {
         ensures sound { OnOk result (IsSound self.new) }
         ensures go { OnOk result (to_go self.new ≤ to_go self.old + 1) }
         ensures rest { self.new ≡ record self.old { timers = self.new.timers } }
+        ensures octets { Keeps self.old self.new }
     {
         self.timers.arm(kind, id, self.now)
     }
@@ -225,6 +241,7 @@ impl WireCore {
         ensures sound { IsSound self.new }
         ensures go { to_go self.new ≤ to_go self.old }
         ensures rest { self.new ≡ record self.old { timers = self.new.timers } }
+        ensures octets { Keeps self.old self.new }
     {
         self.timers.disarm(kind, id);
     }
@@ -236,6 +253,9 @@ impl WireCore {
         ensures go { OnOk result (to_go self.new ≤ to_go self.old) }
         ensures notes { Appends notes.old notes.new }
         ensures rest { self.new ≡ record self.old { flows = self.new.flows } }
+        ensures exchanges { self.new.flows.exchanges ≡ self.old.flows.exchanges }
+        ensures told { OnOk result (notes.new ≡ notes.old ++ pauses_of conn (watchers_on conn self.new.flows)) }
+        ensures octets { Goes result self.old notes.old self.new notes.new }
     {
         self.flows.write_rose(conn);
         note_pauses(&self.flows, conn, notes)
@@ -275,6 +295,7 @@ impl WireCore {
         ensures sound { IsSound self.new }
         ensures go { to_go self.new ≡ to_go self.old }
         ensures rest { self.new ≡ record self.old { conns = self.new.conns } }
+        ensures octets { Keeps self.old self.new }
     {
         match self.conns.get_mut(&conn) {
             Some(conn) => conn.may_frame(&self.flows),
@@ -288,6 +309,7 @@ impl WireCore {
         ensures sound { OnOk result (IsSound self.new) }
         ensures go { to_go self.new ≤ to_go self.old }
         ensures rest { self.new ≡ record self.old { conns = self.new.conns } }
+        ensures octets { Keeps self.old self.new }
     {
         match course.from {
             Some(from) => self.look_due_at(from, course.flow.exchange),
@@ -300,6 +322,7 @@ impl WireCore {
         ensures sound { OnOk result (IsSound self.new) }
         ensures go { to_go self.new ≤ to_go self.old }
         ensures rest { self.new ≡ record self.old { conns = self.new.conns } }
+        ensures octets { Keeps self.old self.new }
     {
         match self.conns.get_mut(&number) {
             Some(conn) => conn.look_due(exchange),
@@ -313,6 +336,7 @@ impl WireCore {
         ensures sound { OnOk result (IsSound self.new) }
         ensures go { to_go self.new ≤ to_go self.old }
         ensures rest { self.new ≡ record self.old { conns = self.new.conns } }
+        ensures octets { Keeps self.old self.new }
     {
         match course.to {
             Some(to) => self.refresh_at(to, course.flow),
@@ -325,6 +349,7 @@ impl WireCore {
         ensures sound { OnOk result (IsSound self.new) }
         ensures go { to_go self.new ≤ to_go self.old }
         ensures rest { self.new ≡ record self.old { conns = self.new.conns } }
+        ensures octets { Keeps self.old self.new }
     {
         match self.conns.get_mut(&number) {
             Some(conn) => conn.refresh(&self.flows, flow),
@@ -338,6 +363,7 @@ impl WireCore {
         ensures sound { OnOk result (IsSound self.new) }
         ensures go { OnOk result (to_go self.new ≤ to_go self.old + 1) }
         ensures rest { self.new ≡ record self.old { conns = self.new.conns; timers = self.new.timers } }
+        ensures octets { Keeps self.old self.new }
     {
         let exchange = course.flow.exchange;
         self.peer_ended(course.from, exchange, stream);
@@ -353,6 +379,7 @@ impl WireCore {
         ensures sound { IsSound self.new }
         ensures go { to_go self.new ≤ to_go self.old }
         ensures rest { self.new ≡ record self.old { conns = self.new.conns } }
+        ensures octets { Keeps self.old self.new }
     {
         match from {
             Some(from) => self.peer_ended_at(from, exchange, stream),
@@ -365,6 +392,7 @@ impl WireCore {
         ensures sound { IsSound self.new }
         ensures go { to_go self.new ≤ to_go self.old }
         ensures rest { self.new ≡ record self.old { conns = self.new.conns } }
+        ensures octets { Keeps self.old self.new }
     {
         match self.conns.get_mut(&number) {
             Some(conn) => conn.peer_ended(exchange, stream),

@@ -7,6 +7,7 @@ use Rattle.std.specs.List.{AllByRecursion}
 use Rattle.std.specs.Prelude.{List, false, ℕ, ◌++◌, ◌+◌, ◌∷◌, ◌≡◌, ◌⊎◌}
 use Rattle.wire_state.specs.Noting.{IsStep}
 use Rattle.wire_state.specs.Sound.{IsSound}
+use Rattle.wire_state.specs.Worlds.{Follows}
 use Rattle.worker_core.specs.declared.wire.WireSession.{WireSession}
 
 -- The notes before stay in front. The first that was appended is the turn note of this event with this number, and each other
@@ -28,6 +29,8 @@ pub record Dispatches (old : WireSession) (before : List Note) (e : Event) (new 
   pub sound : IsSound new.core
   pub obeyed : new.obeyed ≡ obeyed_after e old.obeyed
   pub well : new.failed ≡ false
+  -- the core stood for the tape so far, and stands for it with these notes
+  pub octets : Follows old.core before e new.core after
 
 -- memory was refused in it: nothing was told, or the notes so far
 abbrev pub Breaks : WireSession → List Note → Event → List Note → Type 0

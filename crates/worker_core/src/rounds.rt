@@ -3,6 +3,7 @@ ghost use Rattle.std.specs.Prelude.{◌≡◌, ◌≤◌, ◌<◌, IfOk, OnOk, t
 ghost use Rattle.wire_state.specs.Noting.{Appends};
 ghost use Rattle.wire_state.specs.Progress.{conn_go, to_go};
 ghost use Rattle.wire_state.specs.Sound.{IsSound};
+ghost use Rattle.wire_state.specs.Worlds.{Goes, Keeps};
 
 use flow_notes::{CloseCause, Notes};
 use h2_frames::codes::NO_ERROR;
@@ -29,6 +30,7 @@ pub(crate) fn next_round(core: &mut WireCore, notes: &mut Notes) -> Result<bool,
     ensures sound { OnOk result (IsSound core.new) }
     ensures go { IfOk result (λ more. more ≡ true → to_go core.new < to_go core.old) }
     ensures notes { Appends notes.old notes.new }
+    ensures octets { Goes result core.old notes.old core.new notes.new }
 {
     let Some((conn, work)) = next_work(core) else {
         return Ok(false);
@@ -51,6 +53,7 @@ fn frame_at(
     ensures sound { OnOk result (IsSound core.new) }
     ensures go { IfOk result (λ more. more ≡ true → to_go core.new < to_go core.old) }
     ensures notes { Appends notes.old notes.new }
+    ensures octets { Goes result core.old notes.old core.new notes.new }
 {
     if !core.stirred.has(conn) {
         return Ok(false);
@@ -65,6 +68,7 @@ fn close_at(core: &mut WireCore, conn: u32, notes: &mut Notes) -> Result<bool, N
     ensures sound { OnOk result (IsSound core.new) }
     ensures go { IfOk result (λ more. more ≡ true → to_go core.new < to_go core.old) }
     ensures notes { Appends notes.old notes.new }
+    ensures octets { Goes result core.old notes.old core.new notes.new }
 {
     if !core.is_open(conn) {
         return Ok(false);
@@ -80,6 +84,7 @@ fn next_work(core: &mut WireCore) -> Option<(u32, Work)>
     ensures sound { IsSound core.new }
     ensures go { to_go core.new ≤ to_go core.old }
     ensures rest { core.new ≡ record core.old { conns = core.new.conns } }
+    ensures octets { Keeps core.old core.new }
 {
     let cursor = core.cursor;
     if let Some(found) = first_in(core, cursor, u32::MAX) {
@@ -97,6 +102,7 @@ fn first_in(core: &mut WireCore, from: u32, last: u32) -> Option<(u32, Work)>
     ensures sound { IsSound core.new }
     ensures go { to_go core.new ≤ to_go core.old }
     ensures rest { core.new ≡ record core.old { conns = core.new.conns } }
+    ensures octets { Keeps core.old core.new }
 {
     let mut from = from;
     while let Some(conn) = core.stirred.first_from(from) {
@@ -120,6 +126,7 @@ fn work_at(core: &mut WireCore, number: u32) -> Option<Work>
     ensures sound { IsSound core.new }
     ensures go { to_go core.new ≤ to_go core.old }
     ensures rest { core.new ≡ record core.old { conns = core.new.conns } }
+    ensures octets { Keeps core.old core.new }
 {
     match core.conns.get_mut(&number) {
         Some(conn) => work_of(conn, &core.flows, &core.links, number),

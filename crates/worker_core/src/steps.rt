@@ -4,6 +4,7 @@ ghost use Rattle.wire_state.specs.Agenda.{top_go};
 ghost use Rattle.wire_state.specs.Noting.{Appends};
 ghost use Rattle.wire_state.specs.Progress.{task_go, to_go};
 ghost use Rattle.wire_state.specs.Sound.{IsSound};
+ghost use Rattle.wire_state.specs.Worlds.{Goes};
 
 use crate::rounds::next_round;
 use flow_notes::Notes;
@@ -18,6 +19,7 @@ pub(crate) fn settle(core: &mut WireCore, notes: &mut Notes) -> Result<(), NoMem
     requires sound { IsSound core.old }
     ensures sound { OnOk result (IsSound core.new) }
     ensures notes { Appends notes.old notes.new }
+    ensures octets { Goes result core.old notes.old core.new notes.new }
 {
     while go_on(core, notes)? {}
     Ok(())
@@ -30,6 +32,7 @@ fn go_on(core: &mut WireCore, notes: &mut Notes) -> Result<bool, NoMemory>
     ensures sound { OnOk result (IsSound core.new) }
     ensures go { IfOk result (λ more. more ≡ true → to_go core.new < to_go core.old) }
     ensures notes { Appends notes.old notes.new }
+    ensures octets { Goes result core.old notes.old core.new notes.new }
 {
     match core.agenda.top() {
         Some(task) => {
@@ -47,6 +50,7 @@ fn step(core: &mut WireCore, task: Task, notes: &mut Notes) -> Result<(), NoMemo
     ensures sound { OnOk result (IsSound core.new) }
     ensures go { OnOk result (to_go core.new < to_go core.old) }
     ensures notes { Appends notes.old notes.new }
+    ensures octets { Goes result core.old notes.old core.new notes.new }
 {
     match task {
         Task::AskDrain(conn) => ask_drain(core, conn, notes),

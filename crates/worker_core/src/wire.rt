@@ -1,12 +1,13 @@
 // A wire session and its dispatch.
 ghost use Rattle.proxy_config.specs.Ranges.{IsInRange};
-ghost use Rattle.std.specs.Prelude.{◌≡◌, ◌≢◌, ◌++◌, ◌+◌, ◌<◌, ◌∷◌, [], Err, IfOk, OnErr, OnOk, false, not, true};
+ghost use Rattle.std.specs.Prelude.{◌≡◌, ◌≢◌, ◌++◌, ◌+◌, ◌<◌, ◌∷◌, [], Err, IfOk, OnErr, OnOk, false, not, true, ℕ};
 ghost use Rattle.flow_notes.specs.declared.notes.Note.TheVariants as note;
 ghost use Rattle.wire_state.specs.Noting.{Appends};
 ghost use Rattle.wire_state.specs.Sound.{IsSound, is_open_at};
 ghost use Rattle.overload_core.specs.ActionStates.{is_saturated};
 ghost use Rattle.worker_core.specs.Dispatching.{Breaks, Dispatches, Tells, obeyed_after};
 ghost use Rattle.worker_core.specs.Fronts.{IsFront, IsLeastAbove, has_octets, is_there, octets_at};
+ghost use Rattle.wire_state.specs.Worlds.{Follows, Stands, Turns};
 
 use crate::steps::settle;
 use flow_notes::{Event, Note, Notes};
@@ -44,6 +45,7 @@ impl WireSession {
         ensures turn { IfOk result (λ session. session.turn ≡ 0) }
         ensures obeyed { IfOk result (λ session. session.obeyed ≡ 0) }
         ensures new { IfOk result (λ session. (session.core.config ≡ config) × (session.core.conns.entries ≡ [])) }
+        ensures octets { IfOk result (λ session. Stands session.core.conns session.core.flows session.core.links []) }
     {
         Ok(WireSession {
             core: WireCore::new(alloc, config)?,
@@ -92,6 +94,7 @@ impl WireSession {
         ensures obeyed { OnOk result (self.new.obeyed ≡ obeyed_after event.now self.old.obeyed) }
         ensures cut { Breaks self.old notes.old event.now notes.new }
         ensures well { self.new.failed ≡ self.old.failed }
+        ensures octets { OnOk result (Follows self.old.core notes.old event.now self.new.core notes.new) }
     {
         if self.turn >= LAST_TURN {
             return Err(NoMemory);
@@ -179,6 +182,7 @@ fn work(core: &mut WireCore, event: &Event, notes: &mut Notes) -> Result<(), NoM
     requires sound { IsSound core.old }
     ensures sound { OnOk result (IsSound core.new) }
     ensures notes { Appends notes.old notes.new }
+    ensures octets { Turns result event.now core.old notes.old core.new notes.new }
 {
     begin_rows(core);
     take_event(core, event, notes)?;
@@ -191,6 +195,7 @@ fn work(core: &mut WireCore, event: &Event, notes: &mut Notes) -> Result<(), NoM
 fn begin_rows(core: &mut WireCore)
     requires sound { IsSound core.old }
     ensures sound { IsSound core.new }
+    ensures rest { core.new ≡ record core.old { before = core.new.before; rows = core.new.rows } }
 {
     core.before = core.flows.last();
     core.rows.clear();

@@ -1,9 +1,14 @@
-use Rattle.std.proofs.Common.{ap, arith, subst, sym, ◌∙◌}
-use Rattle.std.specs.Prelude.{is_some, length, ℕ, ◌≤◌}
+use Rattle.flow_notes.specs.declared.notes.Note.TheVariants as note
+use Rattle.std.proofs.Common.{ap, arith, refl, subst, sym, ◌∙◌}
+use Rattle.std.specs.Prelude.{[], is_some, length, ℕ, ◌∷◌, ◌≤◌}
+use Rattle.tape_laws.specs.History.{Noted}
 use Rattle.wire_ends.proofs.Unlinking.{live_doomed}
 use Rattle.wire_ends.proofs.dooms.unlink.Goals as goal
 use Rattle.wire_flows.specs.Flows.{is_live_in}
 use Rattle.wire_links.specs.Links.{Links, ends_of}
+use Rattle.wire_state.proofs.Goings.{owes_by}
+use Rattle.wire_state.proofs.Linked.{unlinks}
+use Rattle.wire_state.proofs.Lives.{dooms}
 use Rattle.wire_state.proofs.Timing.{gone_fewer}
 use Rattle.wire_state.specs.Progress.{to_go}
 use Rattle.wire_timers.specs.Armed.{Timeouts}
@@ -38,3 +43,9 @@ returns-clause-less c =
 
 pub returns-clause-live : goal.returns-clause-live
 returns-clause-live c = sym (c.requires.sound.live c.args.exchange) ∙ ap is_some (sym c.in-Some.ensures)
+
+pub returns-clause-octets : goal.returns-clause-octets
+returns-clause-octets c =
+    let k = c.args.core.now in
+    owes_by (Noted (note.Doom c.args.exchange c.args.cause) ∷ []) (λ h d. refl) k _ (λ h s. dooms c.args.exchange c.args.cause h k.flows c.doom-doomed.new.self c.doom-doomed.ensures.dooms k.conns k.links c.doom.new.self
+    (unlinks c.args.exchange k.links c.doom.new.self c.are_sound.ensures c.doom.ensures.gone) s)

@@ -1,10 +1,17 @@
-use Rattle.std.proofs.Common.{ap, arith, ◌∙◌}
-use Rattle.std.specs.Prelude.{is_some}
+use Rattle.exchange_core.specs.Exchange.{filters_of, side_filters}
+use Rattle.flow_notes.specs.declared.notes.Note.TheVariants as note
+use Rattle.std.proofs.Common.{ap, arith, refl, ◌∙◌}
+use Rattle.std.specs.Prelude.{[], false, is_some, true, ◌∷◌}
+use Rattle.tape_laws.specs.History.{Marked, Noted}
 use Rattle.wire_flows.specs.Flows.{is_live_in}
 use Rattle.wire_in.proofs.Starting.{live_started}
 use Rattle.wire_in.proofs.requests.start.Goals as goal
 use Rattle.wire_links.specs.Links.{Links, ends_of}
+use Rattle.wire_state.proofs.Goings.{owes_by}
+use Rattle.wire_state.proofs.Linked.{links_one}
+use Rattle.wire_state.proofs.Lives.{starts}
 use Rattle.wire_state.specs.Progress.{to_go}
+use Rattle.wire_state.specs.Ways.{Passes, stages_of}
 
 pub returns-clause-sound : goal.returns-clause-sound
 returns-clause-sound c =
@@ -23,3 +30,12 @@ returns-clause-sound c =
 pub returns-clause-go : goal.returns-clause-go
 unfolding to_go
 returns-clause-go c = omega (arith, c.in_ok-started.ensures.go)
+
+pub returns-clause-octets : goal.returns-clause-octets
+returns-clause-octets c = λ d.
+    let k = c.args.core.now in
+    let x = c.in_ok-started.started.exchange in
+    let spec = c.spec_of-spec.result in
+    owes_by (Marked (Passes x (stages_of (filters_of (side_filters false) spec.row k.config)) (stages_of (filters_of (side_filters true) spec.row k.config))) ∷ Noted (note.Start x c.args.number c.args.stream d) ∷ []) (λ h e. refl) k _
+    (λ h s. starts x c.args.number c.args.stream d c.args.to spec k.config h k.flows c.start.new.self c.in_ok-started.ensures.starts c.spec_of-spec.ensures.wire c.in_ok-started.ensures.fresh k.conns k.links c.start-2.new.self
+    (links_one x c.args.number c.args.stream c.args.to k.links c.start-2.new.self c.in_ok-start.ensures.ok) s)

@@ -1,10 +1,12 @@
-use Rattle.std.proofs.Common.{arith, sym}
+use Rattle.std.proofs.Common.{ap, arith, refl, sym}
 use Rattle.wire_in.proofs.Settled.{same_kept}
 use Rattle.wire_in.proofs.settings.set_windows.Goals as goal
+use Rattle.wire_state.proofs.Goings.{conn_keeps}
 use Rattle.wire_state.proofs.Keeping.{kept_changed}
 use Rattle.wire_state.proofs.Soundness.{conns_sound}
 use Rattle.wire_state.proofs.Weights.{conn_changed}
 use Rattle.wire_state.specs.Progress.{to_go}
+use Rattle.wm_buffer.specs.Buffer.{Buffer}
 
 pub returns-in-Some-clause-sound : goal.returns-in-Some-clause-sound
 returns-in-Some-clause-sound c =
@@ -18,3 +20,7 @@ pub returns-in-Some-clause-go : goal.returns-in-Some-clause-go
 unfolding to_go
 returns-in-Some-clause-go c =
     omega (arith, conn_changed c.args.number c.args.core.now.conns.entries (c.get_mut.follows.lender c.set_windows_of.new.conn).entries c.in-Some.conn.now c.set_windows_of.new.conn c.in-Some.ensures.value (c.get_mut.follows.holds c.set_windows_of.new.conn).0, c.set_windows_of.ensures.go)
+
+pub returns-in-Some-clause-octets : goal.returns-in-Some-clause-octets
+returns-in-Some-clause-octets c =
+    conn_keeps c.args.number c.args.core.now _ c.in-Some.conn.now c.set_windows_of.new.conn (sym c.in-Some.ensures.value) (c.get_mut.follows.holds c.set_windows_of.new.conn) (ap (λ (b : Buffer). b.octets) c.set_windows_of.ensures.write) c.set_windows_of.ensures.opened refl refl

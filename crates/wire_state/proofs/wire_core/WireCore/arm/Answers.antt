@@ -2,8 +2,8 @@ use Rattle.std.proofs.Common.{ap, arith}
 use Rattle.std.specs.Prelude.{length, ◌≡◌}
 use Rattle.wire_state.proofs.Results.{ok_map}
 use Rattle.wire_state.proofs.Timing.{armed_more, armed_until}
-use Rattle.wire_state.specs.Progress.{to_go}
 use Rattle.wire_state.proofs.wire_core.WireCore.arm.Goals as goal
+use Rattle.wire_state.specs.Progress.{to_go}
 use Rattle.wire_timers.specs.Armed.{Timeouts, armed_anew}
 
 pub returns-clause-sound : goal.returns-clause-sound

@@ -1,8 +1,8 @@
 use Rattle.std.proofs.Common.{ap, arith}
 use Rattle.std.specs.Prelude.{length}
 use Rattle.wire_state.proofs.Timing.{disarmed_fewer}
-use Rattle.wire_state.specs.Progress.{to_go}
 use Rattle.wire_state.proofs.wire_core.WireCore.disarm.Goals as goal
+use Rattle.wire_state.specs.Progress.{to_go}
 use Rattle.wire_timers.specs.Armed.{Timeouts}
 
 pub returns-clause-sound : goal.returns-clause-sound

@@ -1,9 +1,15 @@
-use Rattle.std.proofs.Common.{arith}
+use Rattle.std.proofs.Common.{ap, arith, refl, sym}
+use Rattle.wire_state.proofs.Goings.{conn_keeps}
 use Rattle.wire_state.proofs.Weights.{conn_changed}
-use Rattle.wire_state.specs.Progress.{to_go}
 use Rattle.wire_state.proofs.wire_core.WireCore.look_due_at.Goals as goal
+use Rattle.wire_state.specs.Progress.{to_go}
+use Rattle.wire_state.specs.declared.conn.Conn.{Conn}
 
 pub returns-in-Some-clause-go : goal.returns-in-Some-clause-go
 unfolding to_go
 returns-in-Some-clause-go c =
     omega (arith, conn_changed c.args.number c.args.self.now.conns.entries (c.get_mut.follows.lender c.look_due.new.self).entries c.in-Some.conn.now c.look_due.new.self c.in-Some.ensures.value (c.get_mut.follows.holds c.look_due.new.self).0, c.look_due.ensures.go)
+
+pub returns-in-Some-clause-octets : goal.returns-in-Some-clause-octets
+returns-in-Some-clause-octets c =
+    conn_keeps c.args.number c.args.self.now _ c.in-Some.conn.now c.look_due.new.self (sym c.in-Some.ensures.value) (c.get_mut.follows.holds c.look_due.new.self) (ap (λ (k : Conn). k.outlet.write.octets) c.look_due.ensures.rest) (ap (λ (k : Conn). k.open) c.look_due.ensures.rest) refl refl

@@ -1,4 +1,5 @@
 use Rattle.std.proofs.Common.{ap, arith}
+use Rattle.wire_state.proofs.Goings.{first_stands}
 use Rattle.wire_state.proofs.Soundness.{empty_kept, empty_live}
 use Rattle.wire_state.proofs.wire_core.WireCore.new.Goals as goal
 use Rattle.wire_timers.specs.Armed.{Timeouts}
@@ -14,3 +15,6 @@ returns-clause-sound c =
       live = empty_live c.new-3.result c.new-6.result c.new-3.ensures c.new-6.ensures.empty.live;
       kept = empty_kept c.args.config.limits c.new-4.result c.new-4.ensures.empty;
     }
+
+pub returns-clause-octets : goal.returns-clause-octets
+returns-clause-octets c = first_stands c.new-4.result c.new-6.result c.new-3.result c.new-4.ensures.empty c.new-6.ensures.empty.live c.new-3.ensures

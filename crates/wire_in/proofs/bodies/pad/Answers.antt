@@ -1,0 +1,7 @@
+use Rattle.wire_in.proofs.bodies.pad.Goals as goal
+
+pub returns-clause-octets : goal.returns-clause-octets
+returns-clause-octets c = record {
+  goes = λ h g start t.
+      (c.note.ensures.idle tt).goes h g start _ _ _ (c.in_ok-owe_padding.ensures.octets.goes h g start c.args.notes.now t);
+}

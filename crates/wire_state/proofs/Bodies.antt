@@ -1,0 +1,217 @@
+-- A core goes on to stand for its tape where octets of a flow come, go on, are framed or dropped.
+use Rattle.exchange_core.specs.Changes.{ChangesFlow}
+use Rattle.exchange_core.specs.Effects.{arrived, body_framed, moved}
+use Rattle.exchange_core.specs.Flow.{Flow, last_place as send_place, send}
+use Rattle.filter_chain.specs.Place.{Place}
+use Rattle.flow_gate.proofs.SameIds.{same_flow_exact}
+use Rattle.flow_gate.specs.declared.ids.FlowId.{FlowId}
+use Rattle.h2_frames.specs.Head.{data_head}
+use Rattle.std.proofs.Common.{ap, arith, refl, subst, sym, ◌∙◌}
+use Rattle.std.proofs.lemmas.List.{append-nil}
+use Rattle.paged_map.specs.PagedMap.{PagedMap}
+use Rattle.std.specs.Option.{option_map}
+use Rattle.std.specs.Prelude.{Bool, IfSome, List, Option, Some, [], drop, false, if◌then◌else◌, is_some, not, slice_get, take, true, ℕ, ◌&&◌, ◌++◌, ◌+◌, ◌<◌, ◌==◌, ◌∷◌, ◌≡◌}
+use Rattle.tape_laws.specs.Flows.{same_flow}
+use Rattle.tape_laws.specs.History.{Noted}
+use Rattle.tape_laws.specs.World.{last_place, out, place, send as sends}
+use Rattle.wire_flows.proofs.Cases.{by_case, if_mapped, some_mapped}
+use Rattle.wire_flows.proofs.Found.{flow_after, there_after}
+use Rattle.wire_flows.specs.Flows.{Flows, IsThere, flow_in, is_there}
+use Rattle.wire_links.specs.Links.{Links, ends_of}
+use Rattle.wire_state.proofs.Held.{KeepsOctets, arrived_held, framed_held, framed_last, moved_held, moved_last, number_same}
+use Rattle.wire_state.proofs.Standing.{ConnsAre, at_one, ends_are_still, if_some, more_is}
+use Rattle.wire_state.specs.Ways.{WayHistory, WayStep, stream_to, world_setup}
+use Rattle.wire_state.specs.Worlds.{FlowIs, Stands}
+use Rattle.wire_state.specs.declared.conn.Conn.{Conn}
+use Rattle.flow_notes.specs.declared.notes.Note.TheVariants as note
+
+-- one flow is what the change makes of it, and the others are as they were
+module _ (f : FlowId) (change : Flow → Flow) (old new : Flows) (c : ChangesFlow f change old.exchanges new.exchanges) (h k : WayHistory)
+    (own : (flow : Flow) → flow_in old f ≡ Some flow → FlowIs f h flow → FlowIs f k (change flow))
+    (others : (g : FlowId) → same_flow f g ≡ false → (flow : Flow) → FlowIs g h flow → FlowIs g k flow) where
+  found_now : (g : FlowId) → flow_in new g ≡ (if same_flow f g then option_map change (flow_in old g) else flow_in old g)
+  found_now g = flow_after f change old.exchanges new.exchanges c g
+
+  mine : (g : FlowId) → f ≡ g → IfSome (flow_in old g) (FlowIs g h) → IfSome (option_map change (flow_in old g)) (FlowIs g k)
+  mine g e is = subst (λ (v : FlowId). IfSome (flow_in old v) (FlowIs v h) → IfSome (option_map change (flow_in old v)) (FlowIs v k)) e
+      (λ here. if_mapped (FlowIs f h) (FlowIs f k) change (flow_in old f) own here) is
+
+  pub flows_changed : ((g : FlowId) → IfSome (flow_in old g) (FlowIs g h)) → (g : FlowId) → IfSome (flow_in new g) (FlowIs g k)
+  flows_changed are g = by_case (same_flow f g)
+      (λ same. subst (λ (o : Option Flow). IfSome o (FlowIs g k)) (sym (found_now g ∙ ap (λ b. if b then option_map change (flow_in old g) else flow_in old g) same)) (mine g (same_flow_exact f g same) (are g)))
+      (λ other. subst (λ (o : Option Flow). IfSome o (FlowIs g k)) (sym (found_now g ∙ ap (λ b. if b then option_map change (flow_in old g) else flow_in old g) other)) (if_some (flow_in old g) (others g other) (are g)))
+
+same_flow_refl : (f : FlowId) → same_flow f f ≡ true
+same_flow_refl f = at (f.exchange == f.exchange) f.back (number_same f.exchange)
+  where
+    at : (b back : Bool) → b ≡ true → (b && (if back then back else not back)) ≡ true
+    at true true e = refl
+    at true false e = refl
+    at false back e = cc
+
+-- a flow that is there isn't one that isn't
+apart_of : (f : FlowId) (flows : Flows) (g : FlowId) → IsThere flows f → is_there flows g ≡ false → same_flow f g ≡ false
+apart_of f flows g there none = at (same_flow f g) refl
+  where
+    at : (b : Bool) → same_flow f g ≡ b → b ≡ false
+    at true e = let same = same_flow_exact f g e in absurd (cc (ap (is_there flows) same, there, none))
+    at false e = refl
+
+-- ---- octets arrive
+module _ (f : FlowId) (octets : List ℕ) (h : WayHistory) where
+  abbrev arrival : WayStep
+  arrival = Noted (note.Arrive f octets)
+
+  arrived_place : (g : FlowId) → same_flow f g ≡ false → (p : ℕ) → place world_setup g p (arrival ∷ h) ≡ place world_setup g p h
+  arrived_place g other p = ap (λ b. place world_setup g p h ++ (if b && (p == 0) then octets else [])) other ∙ append-nil (place world_setup g p h)
+
+  arrived_own : (flow : Flow) → FlowIs f h flow → FlowIs f (arrival ∷ h) (arrived octets flow)
+  arrived_own flow is = record {
+    last = is.last;
+    holds = λ p. arrived_held octets flow p ∙ (ap (λ xs. xs ++ (if p == 0 then octets else [])) (is.holds p)
+        ∙ sym (ap (λ b. place world_setup f p h ++ (if b && (p == 0) then octets else [])) (same_flow_refl f)));
+  }
+
+  pub arrives : (old new : Flows) (conns : PagedMap Conn) (links : Links) (change : Flow → Flow) → ChangesFlow f change old.exchanges new.exchanges → IsThere old f
+      → ((flow : Flow) → flow_in old f ≡ Some flow → change flow ≡ arrived octets flow) → Stands conns old links h → Stands conns new links (arrival ∷ h)
+  arrives old new conns links change c there is s = record {
+    writes = s.writes;
+    flows_are = flows_changed f change old new c h (arrival ∷ h)
+        (λ flow e was. subst (FlowIs f (arrival ∷ h)) (sym (is flow e)) (arrived_own flow was))
+        (λ g other flow was. record { last = was.last; holds = λ p. was.holds p ∙ sym (arrived_place g other p) })
+        s.flows_are;
+    empty = λ g p none. let gone = sym (there_after f change old.exchanges new.exchanges c g) ∙ none in
+        arrived_place g (apart_of f old g there gone) p ∙ s.empty g p gone;
+    ends = λ x. if_some (ends_of x links) (ends_are_still arrival h (λ g. refl) x) (s.ends x);
+    known = s.known;
+    closed = s.closed;
+    come = s.come;
+  }
+
+-- ---- octets go on to the next place
+module _ (f : FlowId) (q n : ℕ) (h : WayHistory) where
+  abbrev move : WayStep
+  move = Noted (note.Move f q n)
+
+  gone_on : FlowId → ℕ → List ℕ
+  gone_on g p = if p == q then drop n (place world_setup g p h) else (if p == q + 1 then place world_setup g p h ++ take n (place world_setup g q h) else place world_setup g p h)
+
+  moved_place : (g : FlowId) → same_flow f g ≡ false → (p : ℕ) → place world_setup g p (move ∷ h) ≡ place world_setup g p h
+  moved_place g other p =
+      ap (λ b. if b then (if p == q then drop n (place world_setup g p h) else (if p == q + 1 then place world_setup g p h ++ take n (place world_setup g q h) else place world_setup g p h)) else place world_setup g p h) other
+
+  moved_own : (flow : Flow) (y : Place) → slice_get flow.chain.places q ≡ Some y → FlowIs f h flow → FlowIs f (move ∷ h) (moved q n flow)
+  moved_own flow y next is = record {
+    last = moved_last q n flow ∙ is.last;
+    holds = λ p. moved_held flow q n y next p
+        ∙ ((λ i. if p == q then drop n (is.holds p i) else (if p == q + 1 then is.holds p i ++ take n (is.holds q i) else is.holds p i))
+        ∙ sym (ap (λ b. if b then (if p == q then drop n (place world_setup f p h) else (if p == q + 1 then place world_setup f p h ++ take n (place world_setup f q h) else place world_setup f p h)) else place world_setup f p h) (same_flow_refl f)));
+  }
+
+  -- the place that they left, and the next, are there
+  pub record IsMoved (change : Flow → Flow) (flow : Flow) : Type 0 where
+    pub next : Place
+    pub there : slice_get flow.chain.places q ≡ Some next
+    pub moves_so : change flow ≡ moved q n flow
+
+  pub moves : (old new : Flows) (conns : PagedMap Conn) (links : Links) (change : Flow → Flow) → ChangesFlow f change old.exchanges new.exchanges → IsThere old f
+      → ((flow : Flow) → flow_in old f ≡ Some flow → FlowIs f h flow → IsMoved change flow) → Stands conns old links h → Stands conns new links (move ∷ h)
+  moves old new conns links change c there is s = record {
+    writes = s.writes;
+    flows_are = flows_changed f change old new c h (move ∷ h)
+        (λ flow e was. let m = is flow e was in subst (FlowIs f (move ∷ h)) (sym m.moves_so) (moved_own flow m.next m.there was))
+        (λ g other flow was. record { last = was.last; holds = λ p. was.holds p ∙ sym (moved_place g other p) })
+        s.flows_are;
+    empty = λ g p none. let gone = sym (there_after f change old.exchanges new.exchanges c g) ∙ none in
+        moved_place g (apart_of f old g there gone) p ∙ s.empty g p gone;
+    ends = λ x. if_some (ends_of x links) (ends_are_still move h (λ g. refl) x) (s.ends x);
+    known = s.known;
+    closed = s.closed;
+    come = s.come;
+  }
+
+-- ---- octets are framed
+module _ (c : ℕ) (f : FlowId) (n : ℕ) (last : Bool) (h : WayHistory) where
+  abbrev frame : WayStep
+  frame = Noted (note.Frame c f n last)
+
+  framed_place : (g : FlowId) → same_flow f g ≡ false → (p : ℕ) → place world_setup g p (frame ∷ h) ≡ place world_setup g p h
+  framed_place g other p = ap (λ b. drop (if b && (p == last_place world_setup g h) then n else 0) (place world_setup g p h)) other
+
+  some_place : (a b : ℕ) → a ≡ b + 1 → 0 < a
+  some_place a b e = omega (arith, e)
+
+  framed_own : (flow : Flow) → FlowIs f h flow → FlowIs f (frame ∷ h) (body_framed n last flow)
+  framed_own flow is = record {
+    last = framed_last n last flow ∙ is.last;
+    holds = λ p. framed_held n last flow (some_place _ _ is.last) p
+        ∙ ((λ i. drop (if p == is.last i then n else 0) (is.holds p i))
+        ∙ sym (ap (λ b. drop (if b && (p == last_place world_setup f h) then n else 0) (place world_setup f p h)) (same_flow_refl f)));
+  }
+
+  -- what is carried is the front of the send buffer
+  carried : (flow : Flow) → FlowIs f h flow → send flow ≡ sends world_setup f h
+  carried flow is = is.holds (send_place flow) ∙ ap (λ (p : ℕ). place world_setup f p h) is.last
+
+  pub frames : (old new : PagedMap Conn) (before after : Flows) (links : Links) (s : ℕ) (flow : Flow) → s ≡ stream_to f h → flow_in before f ≡ Some flow
+      → ChangesFlow f (body_framed n last) before.exchanges after.exchanges
+      → ConnsAre (at_one c (λ xs. xs ++ (data_head s n last ++ take n (send flow)))) old new → Stands old before links h → Stands new after links (frame ∷ h)
+  frames old new before after links s flow on found change wrote_so stands = record {
+    writes = λ d. wrote_so.octets d ∙ (ap (λ xs. at_one c (λ ys. ys ++ (data_head s n last ++ take n (send flow))) d xs) (stands.writes d)
+        ∙ (sym (more_is (c == d) (out world_setup d h) (data_head s n last ++ take n (send flow)))
+        ∙ (λ i. out world_setup d h ++ (if c == d then data_head (on i) n last ++ take n (carried flow here i) else []))));
+    flows_are = flows_changed f (body_framed n last) before after change h (frame ∷ h)
+        (λ g e was. framed_own g was)
+        (λ g other g_flow was. record { last = was.last; holds = λ p. was.holds p ∙ sym (framed_place g other p) })
+        stands.flows_are;
+    empty = λ g p none. let gone = sym (there_after f (body_framed n last) before.exchanges after.exchanges change g) ∙ none in
+        framed_place g (apart_of f before g (ap is_some found) gone) p ∙ stands.empty g p gone;
+    ends = λ x. if_some (ends_of x links) (ends_are_still frame h (λ g. refl) x) (stands.ends x);
+    known = λ d e. wrote_so.there d ∙ stands.known d e;
+    closed = λ d e. stands.closed d (sym (wrote_so.there d) ∙ e) ∙ sym (wrote_so.shut d);
+    come = λ d e. let never = stands.come d e in (wrote_so.there d ∙ never.0, never.1);
+  }
+    where
+      here : FlowIs f h flow
+      here = subst (λ (o : Option Flow). IfSome o (FlowIs f h)) found (stands.flows_are f)
+
+-- ---- flows whose octets stay
+pub keeps_flow : (f : FlowId) (h : WayHistory) (old new : Flow) → KeepsOctets old new → FlowIs f h old → FlowIs f h new
+keeps_flow f h old new k is = record { last = k.last ∙ is.last; holds = λ p. k.holds p ∙ is.holds p }
+
+pub flow_goes : (f : FlowId) (change : Flow → Flow) (old new : Flows) → ((flow : Flow) → flow_in old f ≡ Some flow → KeepsOctets flow (change flow)) → ChangesFlow f change old.exchanges new.exchanges
+    → (conns : PagedMap Conn) (links : Links) (h : WayHistory) → Stands conns old links h → Stands conns new links h
+flow_goes f change old new keeps c conns links h s = record {
+  writes = s.writes;
+  flows_are = flows_changed f change old new c h h (λ flow e was. keeps_flow f h flow (change flow) (keeps flow e) was) (λ g other flow was. was) s.flows_are;
+  empty = λ g p none. s.empty g p (sym (there_after f change old.exchanges new.exchanges c g) ∙ none);
+  ends = s.ends;
+  known = s.known;
+  closed = s.closed;
+  come = s.come;
+}
+
+-- other flows, of which each is found as before
+pub flows_go : (old new : Flows) → ((f : FlowId) → flow_in new f ≡ flow_in old f) → (conns : PagedMap Conn) (links : Links) (h : WayHistory) → Stands conns old links h → Stands conns new links h
+flows_go old new same conns links h s = record {
+  writes = s.writes;
+  flows_are = λ f. subst (λ (o : Option Flow). IfSome o (FlowIs f h)) (sym (same f)) (s.flows_are f);
+  empty = λ f p none. s.empty f p (sym (ap is_some (same f)) ∙ none);
+  ends = s.ends;
+  known = s.known;
+  closed = s.closed;
+  come = s.come;
+}
+
+-- each flow is found as a change makes it that keeps its octets
+pub flows_mapped : (change : Flow → Flow) → ((flow : Flow) → KeepsOctets flow (change flow)) → (old new : Flows) → ((f : FlowId) → flow_in new f ≡ option_map change (flow_in old f))
+    → (conns : PagedMap Conn) (links : Links) (h : WayHistory) → Stands conns old links h → Stands conns new links h
+flows_mapped change keeps old new same conns links h s = record {
+  writes = s.writes;
+  flows_are = λ f. subst (λ (o : Option Flow). IfSome o (FlowIs f h)) (sym (same f)) (if_mapped (FlowIs f h) (FlowIs f h) change (flow_in old f) (λ flow e was. keeps_flow f h flow (change flow) (keeps flow) was) (s.flows_are f));
+  empty = λ f p none. s.empty f p (sym (ap is_some (same f) ∙ some_mapped change (flow_in old f)) ∙ none);
+  ends = s.ends;
+  known = s.known;
+  closed = s.closed;
+  come = s.come;
+}

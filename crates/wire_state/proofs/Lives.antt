@@ -1,0 +1,210 @@
+-- A core goes on to stand for its tape where an exchange starts, gets its stream at the cluster, or is doomed.
+use Rattle.exchange_core.proofs.Untouched.{flow_seen}
+use Rattle.exchange_core.specs.Changes.{Dooms, Starts, Sweeps, Ticks}
+use Rattle.exchange_core.specs.Exchange.{at_moment, begun, begun_flow, filters_of, flow_id, flow_in as side_of, multiple_of, seen_at, side_filters}
+use Rattle.exchange_core.specs.Exchanges.{exchange_at, is_live}
+use Rattle.exchange_core.specs.Flow.{Flow}
+use Rattle.exchange_core.specs.declared.exchange.Exchange.{Exchange}
+use Rattle.exchange_core.specs.declared.start.StartSpec.{StartSpec}
+use Rattle.filter_chain.specs.Chain.{stages}
+use Rattle.filter_chain.specs.Place.{Place, empty_place}
+use Rattle.filter_chain.specs.declared.stage.StageKind.TheVariants.{Send}
+use Rattle.flow_gate.specs.declared.ids.FlowId.{FlowId}
+use Rattle.flow_notes.specs.declared.notes.Cause.{Cause}
+use Rattle.proxy_config.specs.declared.config.Config.{Config}
+use Rattle.proxy_config.specs.declared.routes.Filter.{Filter}
+use Rattle.proxy_config.specs.declared.routes.Filter.TheVariants as filter
+use Rattle.std.proofs.Common.{ap, arith, refl, subst, sym, ◌∙◌}
+use Rattle.paged_map.specs.PagedMap.{PagedMap}
+use Rattle.std.specs.Option.{option_and_then, option_map}
+use Rattle.std.specs.Prelude.{Bool, IfSome, List, None, Option, Some, [], false, if◌then◌else◌, is_some, length, suc, true, ℕ, ◌&&◌, ◌++◌, ◌+◌, ◌==◌, ◌∷◌, ◌≡◌}
+use Rattle.tape_laws.specs.Flows.{request, response}
+use Rattle.tape_laws.specs.History.{Marked, Noted}
+use Rattle.tape_laws.specs.World.{last_place, place}
+use Rattle.wire_flows.proofs.Cases.{by_case}
+use Rattle.wire_flows.proofs.Starts.{response_new}
+use Rattle.wire_flows.specs.Flows.{Flows, flow_in, is_there}
+use Rattle.wire_links.specs.Links.{Links, ends_of, is_known, with_stream}
+use Rattle.wire_links.specs.declared.links.exchanges.Ends.{Ends}
+use Rattle.wire_state.proofs.Held.{begun_held, is_number, seen_keeps, turned}
+use Rattle.wire_state.proofs.Standing.{ends_are_still, if_some}
+use Rattle.wire_state.proofs.Bodies.{flows_go, flows_mapped}
+use Rattle.wire_state.specs.Ways.{Opens, Passes, WayHistory, WayStep, stages_of, stages_passed, stream_to, world_setup}
+use Rattle.wire_state.specs.Worlds.{EndsAre, FlowIs, Stands}
+use Rattle.wire_state.specs.declared.conn.Conn.{Conn}
+use Rattle.flow_notes.specs.declared.notes.Note.TheVariants as note
+
+-- ---- doom
+-- the exchange has no ends any more, and the others those that they had
+pub record UnlinksOne (x : ℕ) (old new : Links) : Type 0 where
+  pub ends : (y : ℕ) → ends_of y new ≡ (if x == y then None else ends_of y old)
+  pub known : (c : ℕ) → is_known c new ≡ is_known c old
+
+module _ (x : ℕ) (why : Cause) (h : WayHistory) (old new : Flows) (d : Dooms x old.exchanges new.exchanges) where
+  abbrev ending : WayStep
+  ending = Noted (note.Doom x why)
+
+  gone : (f : FlowId) → (x == f.exchange) ≡ true → flow_in new f ≡ None
+  gone f e = ap (option_and_then (side_of f.back)) (d.gone.live f.exchange ∙ ap (λ b. if b then None else exchange_at old.exchanges f.exchange) e)
+
+  stays : (f : FlowId) → (x == f.exchange) ≡ false → flow_in new f ≡ flow_in old f
+  stays f e = ap (option_and_then (side_of f.back)) (d.gone.live f.exchange ∙ ap (λ b. if b then None else exchange_at old.exchanges f.exchange) e)
+
+  place_stays : (f : FlowId) → (x == f.exchange) ≡ false → (p : ℕ) → place world_setup f p (ending ∷ h) ≡ place world_setup f p h
+  place_stays f e p = ap (λ b. if b then [] else place world_setup f p h) (turned x f.exchange false e)
+
+  pub dooms : (conns : PagedMap Conn) (links links' : Links) → UnlinksOne x links links' → Stands conns old links h → Stands conns new links' (ending ∷ h)
+  dooms conns links links' u s = record {
+    writes = s.writes;
+    flows_are = λ f. by_case (x == f.exchange)
+        (λ e. subst (λ (o : Option Flow). IfSome o (FlowIs f (ending ∷ h))) (sym (gone f e)) tt)
+        (λ e. subst (λ (o : Option Flow). IfSome o (FlowIs f (ending ∷ h))) (sym (stays f e))
+        (if_some (flow_in old f) (λ flow was. record { last = was.last; holds = λ p. was.holds p ∙ sym (place_stays f e p) }) (s.flows_are f)));
+    empty = λ f p none. by_case (x == f.exchange)
+        (λ e. ap (λ b. if b then [] else place world_setup f p h) (turned x f.exchange true e))
+        (λ e. place_stays f e p ∙ s.empty f p (sym (ap is_some (stays f e)) ∙ none));
+    ends = λ y. by_case (x == y)
+        (λ e. subst (λ (o : Option Ends). IfSome o (EndsAre y (ending ∷ h))) (sym (u.ends y ∙ ap (λ b. if b then None else ends_of y links) e)) tt)
+        (λ e. subst (λ (o : Option Ends). IfSome o (EndsAre y (ending ∷ h))) (sym (u.ends y ∙ ap (λ b. if b then None else ends_of y links) e))
+        (if_some (ends_of y links) (ends_are_still ending h (λ g. refl) y) (s.ends y)));
+    known = λ c e. s.known c (sym (u.known c) ∙ e);
+    closed = s.closed;
+    come = s.come;
+  }
+
+-- ---- start
+one_more : (a b : ℕ) → a ≡ b + 1 → suc a ≡ suc b + 1
+one_more a b e = omega (arith, e)
+
+stages_long : (fs : List Filter) (last : Place) → length (stages fs ++ last ∷ []) ≡ length (stages_of fs) + 1
+stages_long [] last = refl
+stages_long (filter.Pass ∷ fs) last = stages_long fs last
+stages_long (filter.Hold limit ∷ fs) last = one_more _ _ (stages_long fs last)
+stages_long (filter.Meter limit rate ∷ fs) last = one_more _ _ (stages_long fs last)
+
+-- a linked exchange more
+pub record LinksOne (x c s : ℕ) (to : Option ℕ) (old new : Links) : Type 0 where
+  pub ends : (y : ℕ) → ends_of y new ≡ (if x == y then Some (record { client = c; stream = s; cluster = to; cluster_stream = None }) else ends_of y old)
+  pub known : (c : ℕ) → is_known c new ≡ is_known c old
+
+module _ (x c s d : ℕ) (to : Option ℕ) (spec : StartSpec) (config : Config) (h : WayHistory) where
+  abbrev there : List Filter
+  there = filters_of (side_filters false) spec.row config
+
+  abbrev back : List Filter
+  back = filters_of (side_filters true) spec.row config
+
+  abbrev passing : WayStep
+  passing = Marked (Passes x (stages_of there) (stages_of back))
+
+  abbrev start : WayStep
+  start = Noted (note.Start x c s d)
+
+  abbrev then_ : WayHistory
+  then_ = start ∷ passing ∷ h
+
+  module _ (old new : Flows) (b : Starts x spec config old.exchanges new.exchanges) (wire : spec.plain ≡ false) (fresh : is_live old.exchanges x ≡ false) where
+    mine : (f : FlowId) → (x == f.exchange) ≡ true → flow_in new f ≡ side_of f.back (begun x spec config)
+    mine f e = ap (option_and_then (side_of f.back)) (b.live f.exchange ∙ ap (λ v. if v then Some (begun x spec config) else exchange_at old.exchanges f.exchange) e)
+
+    other : (f : FlowId) → (x == f.exchange) ≡ false → flow_in new f ≡ flow_in old f
+    other f e = ap (option_and_then (side_of f.back)) (b.live f.exchange ∙ ap (λ v. if v then Some (begun x spec config) else exchange_at old.exchanges f.exchange) e)
+
+    none_of : (o : Option Exchange) (side : Bool) → is_some o ≡ false → is_some (option_and_then (side_of side) o) ≡ false
+    none_of None side e = refl
+    none_of (Some v) side e = cc
+
+    -- none of its flows was there
+    none_there : (f : FlowId) → (x == f.exchange) ≡ true → is_there old f ≡ false
+    none_there f e = none_of (exchange_at old.exchanges f.exchange) f.back (subst (λ (v : ℕ). is_some (exchange_at old.exchanges v) ≡ false) (is_number x f.exchange e) fresh)
+
+    abbrev multiple : Bool → ℕ
+    multiple side = if side then config.limits.overflow_multiple else multiple_of spec config
+
+    abbrev filters : Bool → List Filter
+    filters side = if side then back else there
+
+    -- both begin
+    new_flow : (side : Bool) → side_of side (begun x spec config) ≡ Some (begun_flow (flow_id x side) (filters side) spec (multiple side))
+    new_flow false = refl
+    new_flow true = response_new x spec config wire
+
+    new_last : (side : Bool) → length (stages (filters side) ++ empty_place Send spec.send ∷ []) ≡ length (if side then stages_of back else stages_of there) + 1
+    new_last false = stages_long there (empty_place Send spec.send)
+    new_last true = stages_long back (empty_place Send spec.send)
+
+    passed : (f : FlowId) (b : Bool) → (x == f.exchange) ≡ b → last_place world_setup f then_ ≡ (if b then length (if f.back then stages_of back else stages_of there) + 1 else last_place world_setup f h)
+    passed f true e = ap (λ b. length (if b then (if f.back then stages_of back else stages_of there) else stages_passed f h) + 1) e
+    passed f false e = ap (λ b. length (if b then (if f.back then stages_of back else stages_of there) else stages_passed f h) + 1) e
+
+    mine_is : ((f : FlowId) (p : ℕ) → is_there old f ≡ false → place world_setup f p h ≡ []) → (f : FlowId) → (x == f.exchange) ≡ true
+        → FlowIs f then_ (begun_flow (flow_id x f.back) (filters f.back) spec (multiple f.back))
+    mine_is empty f e = record {
+      last = new_last f.back ∙ sym (passed f true e);
+      holds = λ p. begun_held (flow_id x f.back) (filters f.back) spec (multiple f.back) p ∙ sym (empty f p (none_there f e));
+    }
+
+    abbrev linked : Ends
+    linked = record { client = c; stream = s; cluster = to; cluster_stream = None }
+
+    pub starts : (conns : PagedMap Conn) (links links' : Links) → LinksOne x c s to links links' → Stands conns old links h → Stands conns new links' then_
+    starts conns links links' l stands = record {
+      writes = stands.writes;
+      flows_are = λ f. by_case (x == f.exchange)
+          (λ e. subst (λ (o : Option Flow). IfSome o (FlowIs f then_)) (sym (mine f e ∙ new_flow f.back)) (mine_is stands.empty f e))
+          (λ e. subst (λ (o : Option Flow). IfSome o (FlowIs f then_)) (sym (other f e))
+          (if_some (flow_in old f) (λ flow was. record { last = was.last ∙ sym (passed f false e); holds = was.holds }) (stands.flows_are f)));
+      empty = λ f p none. by_case (x == f.exchange)
+          (λ e. absurd (cc (ap is_some (mine f e ∙ new_flow f.back), none)))
+          (λ e. stands.empty f p (sym (ap is_some (other f e)) ∙ none));
+      ends = λ y. by_case (x == y)
+          (λ e. subst (λ (o : Option Ends). IfSome o (EndsAre y then_)) (sym (l.ends y ∙ ap (λ b. if b then Some (linked) else ends_of y links) e))
+          (record { client = sym (ap (λ b. if true && b then s else stream_to (response y) h) e); cluster = tt }))
+          (λ e. subst (λ (o : Option Ends). IfSome o (EndsAre y then_)) (sym (l.ends y ∙ ap (λ b. if b then Some (linked) else ends_of y links) e))
+          (if_some (ends_of y links) (λ v was. record { client = was.client ∙ sym (ap (λ b. if true && b then s else stream_to (response y) h) e); cluster = was.cluster }) (stands.ends y)));
+      known = λ n e. stands.known n (sym (l.known n) ∙ e);
+      closed = stands.closed;
+      come = stands.come;
+    }
+
+-- ---- the stream of a request at its cluster
+pub record OpensStream (x s : ℕ) (old new : Links) : Type 0 where
+  pub ends : (y : ℕ) → ends_of y new ≡ (if x == y then option_map (with_stream s) (ends_of x old) else ends_of y old)
+  pub known : (c : ℕ) → is_known c new ≡ is_known c old
+
+module _ (x s : ℕ) (h : WayHistory) where
+  abbrev opening : WayStep
+  opening = Marked (Opens x s)
+
+  placed_ends : (y : ℕ) → (x == y) ≡ true → (o : Option Ends) → IfSome o (EndsAre y h) → IfSome (option_map (with_stream s) o) (EndsAre y (opening ∷ h))
+  placed_ends y e None is = tt
+  placed_ends y e (Some v) is = record { client = is.client; cluster = sym (ap (λ b. if true && b then s else stream_to (request y) h) e) }
+
+  other_ends : (y : ℕ) → (x == y) ≡ false → (v : Ends) → EndsAre y h v → EndsAre y (opening ∷ h) v
+  other_ends y e v is = record { client = is.client; cluster = if_some v.cluster_stream (λ k at. at ∙ sym (ap (λ b. if true && b then s else stream_to (request y) h) e)) is.cluster }
+
+  pub places : (conns : PagedMap Conn) (flows : Flows) (links links' : Links) → OpensStream x s links links' → Stands conns flows links h → Stands conns flows links' (opening ∷ h)
+  places conns flows links links' l stands = record {
+    writes = stands.writes;
+    flows_are = λ f. if_some (flow_in flows f) (λ flow was. record { last = was.last; holds = was.holds }) (stands.flows_are f);
+    empty = stands.empty;
+    ends = λ y. by_case (x == y)
+        (λ e. subst (λ (o : Option Ends). IfSome o (EndsAre y (opening ∷ h))) (sym (l.ends y ∙ (ap (λ b. if b then option_map (with_stream s) (ends_of x links) else ends_of y links) e ∙ ap (λ v. option_map (with_stream s) (ends_of v links)) (is_number x y e)))) (placed_ends y e (ends_of y links) (stands.ends y)))
+        (λ e. subst (λ (o : Option Ends). IfSome o (EndsAre y (opening ∷ h))) (sym (l.ends y ∙ ap (λ b. if b then option_map (with_stream s) (ends_of x links) else ends_of y links) e)) (if_some (ends_of y links) (other_ends y e) (stands.ends y)));
+    known = λ c e. stands.known c (sym (l.known c) ∙ e);
+    closed = stands.closed;
+    come = stands.come;
+  }
+
+-- ---- the clock
+seen_found : (now : ℕ) (side : Bool) (o : Option Exchange) → option_and_then (side_of side) (option_map (seen_at now) o) ≡ option_map (at_moment now) (option_and_then (side_of side) o)
+seen_found now side None = refl
+seen_found now side (Some v) = flow_seen now side v
+
+pub ticks : (now : ℕ) (old new : Flows) → Ticks now old.exchanges new.exchanges → (conns : PagedMap Conn) (links : Links) (h : WayHistory) → Stands conns old links h → Stands conns new links h
+ticks now old new t conns links h s = flows_mapped (at_moment now) (seen_keeps now) old new
+    (λ f. ap (option_and_then (side_of f.back)) (t.live f.exchange) ∙ seen_found now f.back (exchange_at old.exchanges f.exchange)) conns links h s
+
+-- ---- the deferred list
+pub sweeps : (swept : Option ℕ) (old new : Flows) → Sweeps swept old.exchanges new.exchanges → (conns : PagedMap Conn) (links : Links) (h : WayHistory) → Stands conns old links h → Stands conns new links h
+sweeps swept old new w conns links h s = flows_go old new (λ f. ap (option_and_then (side_of f.back)) (w.live f.exchange)) conns links h s
