@@ -113,8 +113,8 @@ impl Session {
         if self.client_side { 0 } else { self.greatest }
     }
 
-    /// Opens the next stream of this side: 1, 3, 5 and so on, and none where 2^31 - 1 was given. On
-    /// a connection from a client this side has no streams: the numbers are given, and nothing is opened.
+    /// Opens the next stream of this side: 1, 3, 5 and so on, and none where 2^31 - 1 was given. On a connection from a client
+    /// this side has no streams: the numbers are given, and nothing is opened. After running out of memory nothing has changed.
     pub fn open_stream(&mut self) -> Result<Option<u32>, NoMemory>
         ensures given { (past : List Happening) → StandsFor past self.old → IfOk result (λ given. given ≡ next_stream past) }
         ensures stands { (past : List Happening) → StandsFor past self.old → IfOk result (λ given.
