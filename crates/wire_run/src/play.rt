@@ -36,7 +36,7 @@ impl WirePlay {
     ghost use Rattle.wire_run.specs.Played.{PlaysEvent, wire_kind};
     ghost use Rattle.wire_state.specs.Sound.{IsSound};
 
-    /// Before the first line of a session under this configuration. Refused only for lack of memory.
+    /// Before the first line of a session under this configuration.
     pub fn new(alloc: Global, config: Config) -> Result<Self, NoMemory>
         requires { IsInRange config }
         ensures { IfOk result (λ play. (text : List ℕ) → config_of text ≡ Ok config → Begins wire_kind play text) }
