@@ -110,8 +110,8 @@ impl Exchanges {
         Ok(number)
     }
 
-    /// The head of a flow whose end hasn't come, and with it the flow's end where `last` holds: then nothing of a body
-    /// came before it. It waits to be framed.
+    /// The head of a flow whose end hasn't come, and with it the flow's end where `last` holds: then nothing of a body came
+    /// before it. It waits to be framed. It takes no memory, and is never refused.
     pub fn head(&mut self, flow: FlowId, fields: FieldList, last: bool) -> Result<(), NoMemory>
         requires live { IsLiveFlow self.old flow }
         requires goes_on { IfSome (flow_at self.old flow) (λ f. f.message.ended ≡ false) }
@@ -168,7 +168,7 @@ impl Exchanges {
         flow.receive(octets)
     }
 
-    /// The end of a flow came, with trailers or none. They wait to be framed.
+    /// The end of a flow came, with trailers or none. They wait to be framed. It takes no memory, and is never refused.
     pub fn finish(&mut self, flow: FlowId, trailers: Option<FieldList>) -> Result<(), NoMemory>
         requires live { IsLiveFlow self.old flow }
         requires goes_on { IfSome (flow_at self.old flow) (λ f. f.message.ended ≡ false) }

@@ -47,10 +47,10 @@ impl Model for Chain {
 impl Chain {
     /// The stages of a flow's filters and its send buffer, empty.
     ///
-    /// There are at most 8 filters, and a Pass makes no stage. `send_limit` is 0 to 16,777,216 octets,
-    /// 0 for none. The Meters start at `now`, in ms, with as many tokens as their rates. One move
-    /// carries at most `quantum` octets, 16,384 to 1,048,576. Each buffer with a limit gets its room
-    /// here: a Hold for its limit, a Meter and the send buffer for `quantum` more.
+    /// There are at most 8 filters, and a Pass makes no stage. `send_limit` is 0 to 16,777,216 octets, 0 for none. The Meters
+    /// start at `now`, in ms, with as many tokens as their rates. One move carries at most `quantum` octets, 16,384 to
+    /// 1,048,576. Each buffer with a limit gets its room here: a Hold for its limit, a Meter and the send buffer for `quantum`
+    /// more. Refused only for lack of memory.
     pub fn new(
         alloc: Global,
         flow: FlowId,

@@ -161,7 +161,7 @@ impl Gates {
         self.watchers(buffer).nth(i)
     }
 
-    /// Begins a flow, which watches nothing and has the count 0.
+    /// Begins a flow, which watches nothing and has the count 0. After running out of memory nothing has changed.
     pub fn open_flow(&mut self, flow: FlowId) -> Result<(), NoMemory>
         requires { is_open self.old flow ≡ false }
         ensures ok { OnOk result (Begins flow self.old self.new) }
@@ -172,7 +172,7 @@ impl Gates {
         Ok(())
     }
 
-    /// From now on the buffer is known, unmarked and without watchers.
+    /// From now on the buffer is known, unmarked and without watchers. After running out of memory nothing has changed.
     pub fn open_buffer(&mut self, buffer: BufferId) -> Result<(), NoMemory>
         requires { is_known self.old buffer ≡ false }
         ensures ok { OnOk result (Knows buffer self.old self.new) }
@@ -195,8 +195,8 @@ impl Gates {
         let _ = self.buffers.remove(buffer);
     }
 
-    /// Adds the flow as the last watcher of the buffer. Where the buffer is above, the flow's count grows by 1, and
-    /// the answer is true. Takes the room of a pending low too.
+    /// Adds the flow as the last watcher of the buffer. Where the buffer is above, the flow's count grows by 1, and the answer
+    /// is true. Takes the room of a pending low too. After running out of memory nothing has changed.
     pub fn watch(&mut self, flow: FlowId, buffer: BufferId) -> Result<bool, NoMemory>
         requires known { is_known self.old buffer ≡ true }
         requires open { is_open self.old flow ≡ true }

@@ -69,6 +69,7 @@ impl<'a> Watchers<'a> {
         self.row.len() + count(self.stands)
     }
 
+    /// Whether no watcher is to come.
     pub fn is_empty(&self) -> bool
         ensures { result ≡ (length self.now == 0) }
     {

@@ -23,7 +23,7 @@ pub enum PlainEvent {
 }
 
 impl PlainEvent {
-    /// The same event once more. Octets are copied as a slice.
+    /// The same event once more. Octets are copied as a slice. Refused only for lack of memory.
     pub fn copied(&self, alloc: Global) -> Result<PlainEvent, NoMemory>
         ensures { IfOk result (λ made. made ≡ self.now) }
     {
@@ -110,8 +110,8 @@ impl Event {
         matches!(self, Event::Plain(_))
     }
 
-    /// The same event once more. Octets and pressures are copied as slices, but for octets that came and share a block: the copy
-    /// shares it too.
+    /// The same event once more. Octets and pressures are copied as slices, but for octets that came and share a block: the
+    /// copy shares it too. Refused only for lack of memory.
     pub fn copied(&self, alloc: Global) -> Result<Event, NoMemory>
         ensures { IfOk result (λ made. made ≡ self.now) }
     {
@@ -180,18 +180,21 @@ impl EventList {
         Ok(())
     }
 
+    /// The events, in their order.
     pub fn as_slice(&self) -> &[Event]
         ensures { result.now ≡ self.now }
     {
         self.events.as_slice()
     }
 
+    /// How many events there are.
     pub fn len(&self) -> usize
         ensures { result ≡ length self.now }
     {
         self.events.len()
     }
 
+    /// Whether there are no events.
     pub fn is_empty(&self) -> bool
         ensures { result ≡ (length self.now == 0) }
     {

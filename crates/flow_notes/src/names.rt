@@ -136,6 +136,7 @@ impl Names {
         let _ = &self.names;
     }
 
+    /// How many names there are.
     pub fn len(&self) -> usize
         ensures len { result ≡ length self.now }
         ensures names { AreNames self.now }
@@ -143,6 +144,7 @@ impl Names {
         self.names.len()
     }
 
+    /// Whether there are no names.
     pub fn is_empty(&self) -> bool
         ensures { result ≡ (length self.now == 0) }
     {

@@ -236,12 +236,14 @@ impl Notes {
         Passages::of(self.items.as_slice(), self.flows.as_slice())
     }
 
+    /// How many notes there are, each of a row of pauses or resumes counted.
     pub fn len(&self) -> usize
         ensures { result ≡ length self.now }
     {
         self.alone + self.flows.len()
     }
 
+    /// Whether there are no notes.
     pub fn is_empty(&self) -> bool
         ensures { result ≡ (length self.now == 0) }
     {

@@ -35,7 +35,9 @@ pub struct ResponseHead {
     pub content_length: Option<u64>,
 }
 
-/// Checks the fields of a request's head (RFC 9113 section 8.3.1).
+/// Checks the fields of a request's head (RFC 9113 section 8.3.1). The list has fewer than 2^32 fields. Refused exactly where a
+/// field breaks a rule or a pseudo-field is missing: at the first such place, the list's end for a missing one, with the lowest
+/// rule that is broken there. Takes no memory.
 pub fn check_request(fields: &FieldList) -> Result<RequestHead, Malformed>
     requires { length fields.now < 2 ^ 32 }
     ensures sound { OnOk result (IsSound (fault_at (message_of_request fields.now) fields.now)) }
@@ -61,8 +63,8 @@ pub fn check_request(fields: &FieldList) -> Result<RequestHead, Malformed>
     })
 }
 
-/// Checks the fields of a response's head (RFC 9113 section 8.3.2). A head with status 101 or
-/// another interim one is checked as any other.
+/// Checks the fields of a response's head (RFC 9113 section 8.3.2). A head with status 101 or another interim one is checked as
+/// any other. Refused as by `check_request`. Takes no memory.
 pub fn check_response(fields: &FieldList) -> Result<ResponseHead, Malformed>
     requires { length fields.now < 2 ^ 32 }
     ensures sound { OnOk result (IsSound (fault_at Response fields.now)) }
@@ -81,7 +83,7 @@ pub fn check_response(fields: &FieldList) -> Result<ResponseHead, Malformed>
     })
 }
 
-/// Checks the fields of trailers (RFC 9113 section 8.1).
+/// Checks the fields of trailers (RFC 9113 section 8.1). Refused as by `check_request`. Takes no memory.
 pub fn check_trailers(fields: &FieldList) -> Result<(), Malformed>
     requires { length fields.now < 2 ^ 32 }
     ensures sound { OnOk result (IsSound (fault_at Trailers fields.now)) }

@@ -11,7 +11,9 @@ use crate::rules::is_bad_length;
 use crate::values::length_in;
 use hpack_codec::{Field, FieldList};
 
-/// The content-length that a list names (RFC 9110 section 8.6). Looks at no other rule.
+/// The content-length that a list names, below 2^63 (RFC 9110 section 8.6), and None where it names none. Looks at no other
+/// rule. The list has fewer than 2^32 fields. Refused at the first content-length that is no such number, or differs from the
+/// first one. Takes no memory.
 pub fn content_length(fields: &FieldList) -> Result<Option<u64>, Malformed>
     requires { length fields.now < 2 ^ 32 }
     ensures sound { OnOk result (IsSound (length_fault_at fields.now)) }

@@ -7,8 +7,8 @@ use hpack_codec::{Field, FieldList};
 use io_ports::{NoMemory, Octets};
 use std::alloc::Global;
 
-/// The list of a reply without a body: `:status` alone, with the last three digits of the number
-/// (RFC 9113 section 8.3.2), which from 100 to 999 are all.
+/// The list of a reply without a body: `:status` alone, with the last three digits of the number (RFC 9113 section 8.3.2),
+/// which from 100 to 999 are all. Refused only for lack of memory.
 pub fn status_fields(alloc: Global, status: u16) -> Result<FieldList, NoMemory>
     ensures list { IfOk result (λ list. list ≡ status_list status) }
     ensures says { 100 ≤ status → status ≤ 999 → IfOk result (λ list. status_of list ≡ status) }

@@ -52,12 +52,14 @@ impl SettingList {
         SettingIter::new(self.octets.as_slice())
     }
 
+    /// How many settings there are.
     pub fn len(&self) -> usize
         ensures { result ≡ length self.now }
     {
         self.octets.len() / SETTING_SIZE
     }
 
+    /// Whether there are no settings.
     pub fn is_empty(&self) -> bool
         ensures { result ≡ (length self.now == 0) }
     {

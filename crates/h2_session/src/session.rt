@@ -113,8 +113,8 @@ impl Session {
         if self.client_side { 0 } else { self.greatest }
     }
 
-    /// Opens the next stream of this side: 1, 3, 5 and so on, and none where 2^31 - 1 was given. On
-    /// a connection from a client this side has no streams: the numbers are given, and nothing is opened.
+    /// Opens the next stream of this side: 1, 3, 5 and so on, and none where 2^31 - 1 was given. On a connection from a client
+    /// this side has no streams: the numbers are given, and nothing is opened. After running out of memory nothing has changed.
     pub fn open_stream(&mut self) -> Result<Option<u32>, NoMemory>
         ensures given { (past : List Happening) → StandsFor past self.old → IfOk result (λ given. given ≡ next_stream past) }
         ensures stands { (past : List Happening) → StandsFor past self.old → IfOk result (λ given.
@@ -138,7 +138,8 @@ impl Session {
         Ok(Some(stream))
     }
 
-    /// This side has ended an open stream.
+    /// This side has sent END_STREAM on an open stream: it is half-closed (local) then, or closed where the peer had ended it
+    /// (RFC 9113 section 5.1). Where it isn't open nothing changes.
     pub fn end_local(&mut self, stream: u32)
         ensures stands { (past : List Happening) → StandsFor past self.old → StandsFor (noted self.old.side stream (Ended stream) past) self.new }
         ensures side { self.new.side ≡ self.old.side }
@@ -147,7 +148,8 @@ impl Session {
         self.streams.end(stream);
     }
 
-    /// An open stream is closed.
+    /// An open stream is closed, as by a RST_STREAM frame of this side (RFC 9113 section 5.1). Where it isn't open nothing
+    /// changes.
     pub fn close_stream(&mut self, stream: u32)
         ensures stands { (past : List Happening) → StandsFor past self.old → StandsFor (noted self.old.side stream (Closed stream) past) self.new }
         ensures side { self.new.side ≡ self.old.side }

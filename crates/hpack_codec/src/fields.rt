@@ -96,6 +96,7 @@ impl FieldList {
         Ok(())
     }
 
+    /// The fields, in their order.
     pub fn as_slice(&self) -> &[Field]
         ensures { result.now ≡ self.now }
     {
@@ -119,12 +120,14 @@ impl FieldList {
         true
     }
 
+    /// How many fields there are.
     pub fn len(&self) -> usize
         ensures { result ≡ length self.now }
     {
         self.fields.len()
     }
 
+    /// Whether there are no fields.
     pub fn is_empty(&self) -> bool
         ensures { result ≡ (length self.now == 0) }
     {

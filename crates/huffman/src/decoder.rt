@@ -69,7 +69,8 @@ fn greatest_len(octets: usize) -> usize {
         .saturating_add(octets / 8 + 1)
 }
 
-/// Decodes a Huffman string. The octets are the whole string, without its length.
+/// Decodes a Huffman string (RFC 7541 section 5.2). The octets are the whole string, without its length. `BadHuffman` comes only
+/// where they are the string of no text; the other refusal is running out of memory.
 #[inline(never)]
 pub fn decode(alloc: Global, octets: &[u8]) -> Result<Octets, HuffmanFault>
     ensures found { IfOk result (λ text. IsHuffman octets.now text) }

@@ -49,7 +49,7 @@ impl<T> Model for Lists<T> {
 }
 
 impl<T: Drop> Lists<T> {
-    /// `k` empty lists.
+    /// `k` empty lists. Refused only for lack of memory.
     pub fn new(alloc: Global, k: u32) -> Result<Lists<T>, NoMemory>
         ensures { IfOk result (λ made. made ≡ record { lists = replicate k []; retired = [] }) }
     {

@@ -45,7 +45,7 @@ impl Model for Classes {
 }
 
 impl Classes {
-    /// No exchanges. Class 1 starts at 2^start octets.
+    /// No exchanges. Class 1 starts at 2^start octets. Refused only for lack of memory.
     pub fn new(alloc: Global, start: u32) -> Result<Classes, NoMemory>
         requires { start ≤ 40 }
         ensures { IfOk result (λ made. made ≡ record { start = start; classes = replicate 8 [] }) }
@@ -116,6 +116,7 @@ impl Classes {
     }
 
     /// The exchange holds so many octets. Where its class changes it comes last in the new one, and else it keeps its place.
+    /// After running out of memory nothing has changed.
     pub fn set<L: Ledger>(
         &mut self,
         exchange: u64,

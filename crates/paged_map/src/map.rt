@@ -46,7 +46,7 @@ impl<K: Key, V> Model for PagedMap<K, V> {
 }
 
 impl<K: Key, V> PagedMap<K, V> {
-    /// None. Takes no memory.
+    /// An empty map. Takes no memory.
     pub fn new(alloc: Global) -> Self
         ensures empty { result.entries ≡ [] }
         ensures ordered { IsSorted result.entries }
@@ -59,7 +59,7 @@ impl<K: Key, V> PagedMap<K, V> {
         }
     }
 
-    /// How many there are.
+    /// The number of entries, below 2^63.
     #[inline(always)]
     pub fn len(&self) -> usize
         ensures len { result ≡ length self.now.entries }
@@ -69,7 +69,7 @@ impl<K: Key, V> PagedMap<K, V> {
         self.len
     }
 
-    /// Whether a number has a value.
+    /// Whether the map has a value for the key.
     #[inline(always)]
     pub fn contains_key(&self, key: &K) -> bool
         ensures { result ≡ is_some (value_at (K.number key.now) self.now) }
@@ -77,7 +77,7 @@ impl<K: Key, V> PagedMap<K, V> {
         self.get(key).is_some()
     }
 
-    /// What a number has.
+    /// The value of the key, if there is one.
     #[inline(always)]
     pub fn get(&self, key: &K) -> Option<&V>
         ensures value { option_copied result ≡ value_at (K.number key.now) self.now }
@@ -89,7 +89,7 @@ impl<K: Key, V> PagedMap<K, V> {
         }
     }
 
-    /// The least number above another that has a value. None only where there is none.
+    /// The least key above `after` that has a value, and None only where there is none.
     pub fn next_above(&self, after: K) -> Option<K>
         ensures next { option_map K.number result ≡ first_above (K.number after) (keys_of self.now.entries) }
         ensures found { IfSome result (λ k. (K.number after < K.number k) × (is_some (value_at (K.number k) self.now) ≡ true)) }
@@ -101,7 +101,8 @@ impl<K: Key, V> PagedMap<K, V> {
         }
     }
 
-    /// What a number has, to be changed.
+    /// The value of the key, if there is one, to be changed in place: what is written there is its value from then on, and no
+    /// other key's changes.
     #[inline(always)]
     pub fn get_mut(&mut self, key: &K) -> Option<&mut V>
         ensures* writes_back { sem 𝓛 (LendsValue K.row V.row K.Key self.entry (K.number key.now) result) }
@@ -122,8 +123,8 @@ impl<K: Key, V> PagedMap<K, V> {
         }
     }
 
-    /// From now on the number has this value. Answers what it had. After running out of memory, or at 2^63 - 1 values, nothing has
-    /// changed.
+    /// Gives the key this value, and answers the one before, if there was one. After running out of memory, or at 2^63 - 1
+    /// entries, nothing has changed.
     pub fn insert(&mut self, key: K, value: V) -> Result<Option<V>, NoMemory>
     where
         V: Drop,
@@ -147,7 +148,7 @@ impl<K: Key, V> PagedMap<K, V> {
         Ok(old)
     }
 
-    /// From now on the number has no value. Answers what it had. Takes no memory.
+    /// Takes out the value of the key, and answers it, if there was one. Takes no memory.
     pub fn remove(&mut self, key: &K) -> Option<V>
     where
         V: Drop,

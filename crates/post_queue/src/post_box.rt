@@ -74,8 +74,8 @@ fn enrol_all(
 }
 
 impl PostBox {
-    /// A box with so many posters, numbered from 0. Their passes lie in the order of their numbers. Nothing is posted
-    /// yet, and nothing run.
+    /// A box with so many posters, numbered from 0. Their passes lie in the order of their numbers. Nothing is posted yet, and
+    /// nothing run. Refused only for lack of memory.
     pub fn new(alloc: Global, posters: u32) -> Result<(PostBox, PosterPasses, RunnerPass), NoMemory>
         requires { 1 ≤ posters }
         ensures posters { IfOk result (λ b. (b.0.posters ≡ posters) × (length (passes_in b.1) ≡ posters) × (posters ≤ room_in b.1)) }

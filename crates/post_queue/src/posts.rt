@@ -46,18 +46,21 @@ impl Model for PostList {
 }
 
 impl PostList {
+    /// The posts, in the order in which they were taken.
     pub fn as_slice(&self) -> &[Post]
         ensures { result.now ≡ self.now }
     {
         self.posts.as_slice()
     }
 
+    /// How many posts there are.
     pub fn len(&self) -> usize
         ensures { result ≡ length self.now }
     {
         self.posts.len()
     }
 
+    /// Whether there are no posts.
     pub fn is_empty(&self) -> bool
         ensures { result ≡ (length self.now == 0) }
     {

@@ -14,6 +14,7 @@ pub struct Input<R: Read> {
 }
 
 impl<R: Read> Input<R> {
+    /// Reads from this reader, of which nothing failed yet.
     pub fn new(reader: R) -> Self
         ensures reader { reader_of result ≡ reader }
         ensures faults { read_faults result ≡ 0 }
@@ -64,6 +65,7 @@ pub struct Output<W: Write> {
 }
 
 impl<W: Write> Output<W> {
+    /// Writes to this writer, of which nothing failed yet.
     pub fn new(writer: W) -> Self
         ensures writer { writer_of result ≡ writer }
         ensures faults { write_faults result ≡ 0 }

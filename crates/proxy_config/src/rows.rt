@@ -53,6 +53,7 @@ impl<T> Rows<T> {
         Ok(())
     }
 
+    /// The rows, in their order.
     pub fn as_slice(&self) -> &[T]
         ensures rows { result.now ≡ self.now }
         ensures bound { length self.now < 2 ^ 32 }
@@ -67,6 +68,7 @@ impl<T> Rows<T> {
         self.rows
     }
 
+    /// How many rows there are.
     pub fn len(&self) -> u32
         ensures len { result ≡ length self.now }
         ensures bound { length self.now < 2 ^ 32 }
@@ -74,6 +76,7 @@ impl<T> Rows<T> {
         self.rows.len() as u32
     }
 
+    /// Whether there are no rows.
     pub fn is_empty(&self) -> bool
         ensures { result ≡ (length self.now == 0) }
     {

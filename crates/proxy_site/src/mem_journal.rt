@@ -13,6 +13,7 @@ pub struct MemJournal {
 }
 
 impl MemJournal {
+    /// Writes into this sink, and has failed at no write. Takes no memory.
     pub fn new(sink: MemSink) -> Self
         ensures sink { result.sink ≡ sink }
         ensures faults { result.faults ≡ 0 }

@@ -45,7 +45,8 @@ pub trait Site {
     /// Where it listens, what it gave to relays and what came back, where this is told.
     ghost told: { Self → Option (Told Self.T Self.J) };
 
-    /// Listens at an address with a port, and answers the one that is in use.
+    /// Listens at an address with a port, and answers the one that is in use. After a refusal the site tells no more than
+    /// before.
     fn listen(&mut self, at: &Octets) -> Result<Octets, SiteRefusal>
         ensures told { IfOk result (λ used. TellsListening (told self.old) (at.now, used) (told self.new)) }
         ensures err { OnErr result (told self.new ≡ told self.old) }

@@ -1,6 +1,6 @@
 pub mod Asked
-pub mod Crewing
 pub mod Ending
+pub mod Pooling
 pub mod Posting
 pub mod Returning
 pub mod Running

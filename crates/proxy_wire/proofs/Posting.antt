@@ -5,8 +5,8 @@ use Rattle.post_queue.specs.Clauses.{IsPosterOf}
 use Rattle.post_queue.specs.declared.passes.PosterPass.{PosterPass}
 use Rattle.post_queue.specs.declared.post_box.PostBox.{PostBox}
 use Rattle.proxy_config.specs.declared.config.Config.{Config}
-use Rattle.proxy_wire.proofs.Crewing.{each_more}
-use Rattle.proxy_wire.specs.Crews.{EachTwo}
+use Rattle.proxy_wire.proofs.Pooling.{each_more}
+use Rattle.proxy_wire.specs.Pools.{EachTwo}
 use Rattle.proxy_wire.specs.Leading.{Accepts, ArePosters, Leads, Looks}
 use Rattle.proxy_wire.specs.declared.leading.Leader.{Leader}
 use Rattle.shared_state.specs.Entries.{padded}

@@ -1,7 +1,7 @@
 -- Workers go back, the last one first.
 use Rattle.io_ports.specs.Faults.{Rose}
 use Rattle.proxy_wire.proofs.Telling.{returned_none, returns_more}
-use Rattle.proxy_wire.specs.Crews.{IsBackOf, IsPaid, OneFailed, back_of}
+use Rattle.proxy_wire.specs.Pools.{IsBackOf, IsPaid, OneFailed, back_of}
 use Rattle.proxy_wire.specs.Sites.{TellsReturned, WireTold, numbered}
 use Rattle.proxy_wire.specs.declared.giving_back.Back.{Back}
 use Rattle.shared_state.specs.PermitSeats.{IsSeatOf}

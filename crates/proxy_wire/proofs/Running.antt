@@ -1,15 +1,15 @@
 -- The workers ran, or none did.
 use Rattle.io_ports.specs.Faults.{Rose}
 use Rattle.proxy_config.specs.declared.config.Config.{Config}
-use Rattle.proxy_wire.proofs.Crewing.{all_some, crew_ready, front_of, idle_paid, some_of}
+use Rattle.proxy_wire.proofs.Pooling.{all_some, pool_ready, front_of, idle_paid, some_of}
 use Rattle.proxy_site.proofs.Relayed.{front_none}
 use Rattle.proxy_site.specs.Relaying.{IsCutShort, SiteOrOut, listening_line}
 use Rattle.proxy_wire.proofs.Returning.{rose_before, rose_on}
 use Rattle.proxy_wire.specs.Hires.{HiresAll, HiresSome}
-use Rattle.proxy_wire.specs.declared.crew.Crew.{Crew}
+use Rattle.proxy_wire.specs.declared.pool.Pool.{Pool}
 use Rattle.proxy_wire.proofs.Telling.{fitted_none, returned_none, workers_tell}
-use Rattle.proxy_wire.specs.Crews.{EachTwo, IsHired, IsIdle, IsPaid, OneFailed, back_of}
-use Rattle.proxy_wire.specs.Runs.{CrewIdle, CrewRan, CrewWorks, WorksAll}
+use Rattle.proxy_wire.specs.Pools.{EachTwo, IsHired, IsIdle, IsPaid, OneFailed, back_of}
+use Rattle.proxy_wire.specs.Runs.{PoolIdle, PoolRan, PoolWorks, WorksAll}
 use Rattle.proxy_wire.specs.Serving.{AllRan, NoneRan, Unused, wire_status}
 use Rattle.proxy_wire.specs.Sites.{TellsFitted, TellsReturned, WireTold, numbered}
 use Rattle.proxy_wire.specs.Working.{EndsSo, WorkerRan, ends_status, is_fault, is_memory}
@@ -115,16 +115,16 @@ module _ {W M C L : Type 0} (bare : M → W) (o : Outside M C L) where
       subst (λ (v : W × L). Unused seen o.text (slice_index_or given i g) v) (sym (back_at workers i b w there)) u
 
   pub none_ran : (seen : W → Seen) (config : Config) (address : List ℕ) (shared : Shared) (a b c : Option (WireTold W C L)) (workers : List (Worker M C OpenGate L)) (out_old out_new : Option (List ℕ)) (end : WireEnd)
-      → CrewIdle bare o config address shared a b workers out_old out_new end → TellsReturned b (reverse (numbered 1 (map (back_of bare) workers))) c → NoneRan seen o.text config address a c out_old out_new (wire_status end)
-  none_ran seen config address shared a b c workers out_old out_new end crew returned = record {
-    given = crew.some.given;
+      → PoolIdle bare o config address shared a b workers out_old out_new end → TellsReturned b (reverse (numbered 1 (map (back_of bare) workers))) c → NoneRan seen o.text config address a c out_old out_new (wire_status end)
+  none_ran seen config address shared a b c workers out_old out_new end pool returned = record {
+    given = pool.some.given;
     back = map (back_of bare) workers;
-    wired = workers_tell a b c crew.some.given (map (back_of bare) workers) crew.some.tells returned;
-    most = crew.some.most;
-    each_back = length-map workers (back_of bare) ∙ crew.some.idle.same;
-    each = idle_unused seen shared.permits crew.some.given workers crew.some.idle;
-    line = crew.line;
-    cut = crew.cut;
+    wired = workers_tell a b c pool.some.given (map (back_of bare) workers) pool.some.tells returned;
+    most = pool.some.most;
+    each_back = length-map workers (back_of bare) ∙ pool.some.idle.same;
+    each = idle_unused seen shared.permits pool.some.given workers pool.some.idle;
+    line = pool.line;
+    cut = pool.cut;
   }
 
   all_each : (config : Config) (shared : Shared) (n : ℕ) (given : List (W × (C × L))) (first last : List (Worker M C OpenGate L)) (ends : List Ended) → EachTwo (IsHired bare o config shared) given first → WorkedEach o shared n first ends last
@@ -148,30 +148,30 @@ module _ {W M C L : Type 0} (bare : M → W) (o : Outside M C L) where
       }
 
   pub all_ran : (config : Config) (n : ℕ) (address : List ℕ) (shared : Shared) (a b c : Option (WireTold W C L)) (workers : List (Worker M C OpenGate L)) (out_old out_new : Option (List ℕ)) (end : WireEnd)
-      → CrewRan bare o config n address shared a b workers out_old out_new end → TellsReturned b (reverse (numbered 1 (map (back_of bare) workers))) c → AllRan bare o config n address a c out_old out_new (wire_status end)
-  all_ran config n address shared a b c workers out_old out_new end crew returned = record {
-    given = crew.given;
-    ends = crew.works.ends;
+      → PoolRan bare o config n address shared a b workers out_old out_new end → TellsReturned b (reverse (numbered 1 (map (back_of bare) workers))) c → AllRan bare o config n address a c out_old out_new (wire_status end)
+  all_ran config n address shared a b c workers out_old out_new end pool returned = record {
+    given = pool.given;
+    ends = pool.works.ends;
     back = map (back_of bare) workers;
-    wired = workers_tell a b c crew.given (map (back_of bare) workers) crew.tells returned;
-    line = crew.works.line;
+    wired = workers_tell a b c pool.given (map (back_of bare) workers) pool.tells returned;
+    line = pool.works.line;
     ran = record {
       shared = shared;
-      names = crew.shares.names;
-      permits = crew.shares.permits;
-      workers = crew.count;
-      each_end = crew.works.worked.each_end ∙ crew.hired.same;
-      each_back = length-map workers (back_of bare) ∙ crew.works.worked.same ∙ crew.hired.same;
-      each = all_each config shared n crew.given crew.first workers crew.works.ends crew.hired crew.works.worked;
+      names = pool.shares.names;
+      permits = pool.shares.permits;
+      workers = pool.count;
+      each_end = pool.works.worked.each_end ∙ pool.hired.same;
+      each_back = length-map workers (back_of bare) ∙ pool.works.worked.same ∙ pool.hired.same;
+      each = all_each config shared n pool.given pool.first workers pool.works.ends pool.hired pool.works.worked;
     };
-    status = crew.works.status;
+    status = pool.works.status;
   }
 
-  pub crew_back : (seen : W → Seen) (config : Config) (n : ℕ) (address : List ℕ) (shared : Shared) (a b c : Option (WireTold W C L)) (workers : List (Worker M C OpenGate L)) (out_old out_new : Option (List ℕ)) (end : WireEnd)
-      → CrewWorks bare o config n address shared a b workers out_old out_new end → TellsReturned b (reverse (numbered 1 (map (back_of bare) workers))) c
+  pub pool_back : (seen : W → Seen) (config : Config) (n : ℕ) (address : List ℕ) (shared : Shared) (a b c : Option (WireTold W C L)) (workers : List (Worker M C OpenGate L)) (out_old out_new : Option (List ℕ)) (end : WireEnd)
+      → PoolWorks bare o config n address shared a b workers out_old out_new end → TellsReturned b (reverse (numbered 1 (map (back_of bare) workers))) c
       → NoneRan seen o.text config address a c out_old out_new (wire_status end) ⊎ AllRan bare o config n address a c out_old out_new (wire_status end)
-  crew_back seen config n address shared a b c workers out_old out_new end (inl idle) returned = inl (none_ran seen config address shared a b c workers out_old out_new end idle returned)
-  crew_back seen config n address shared a b c workers out_old out_new end (inr ran) returned = inr (all_ran config n address shared a b c workers out_old out_new end ran returned)
+  pool_back seen config n address shared a b c workers out_old out_new end (inl idle) returned = inl (none_ran seen config address shared a b c workers out_old out_new end idle returned)
+  pool_back seen config n address shared a b c workers out_old out_new end (inr ran) returned = inr (all_ran config n address shared a b c workers out_old out_new end ran returned)
 
 -- ---- nobody was fitted
 module _ {W C L : Type 0} (seen : W → Seen) (text : L → Option (List ℕ)) where
@@ -190,32 +190,32 @@ module _ {W C L : Type 0} (seen : W → Seen) (text : L → Option (List ℕ)) w
 -- ---- after the workers were hired
 module _ {W M C L : Type 0} (bare : M → W) (o : Outside M C L) where
   pub none_hired : (config : Config) (n : ℕ) (address : List ℕ) (shared : Shared) (a b : Option (WireTold W C L)) (workers : List (Worker M C OpenGate L)) (out out' : Option (List ℕ)) (end : WireEnd) → HiresSome bare o config shared.permits a b workers → out' ≡ out → IsCutShort (wire_status end)
-      → CrewWorks bare o config n address shared a b workers out out' end
+      → PoolWorks bare o config n address shared a b workers out out' end
   none_hired config n address shared a b workers out out' end some same cut =
       inl (record { some = some; line = subst (λ (t : Option (List ℕ)). AppendsFront out t (listening_line address)) (sym same) (front_none out (listening_line address)); cut = cut })
 
-  pub crew_idle_or_ran : (config : Config) (n : ℕ) (address : List ℕ) (crew : Crew M C L) (a b c : Option (WireTold W C L)) (last : List (Worker M C OpenGate L)) (out out' : Option (List ℕ)) (end : WireEnd) → HiresAll bare o config a b crew → c ≡ b
-      → WorksAll o crew.shared n address crew.workers.items last out out' end → CrewWorks bare o config n address crew.shared a c last out out' end
-  crew_idle_or_ran config n address crew a b c last out out' end all same (inl none) =
-      let some : HiresSome bare o config crew.shared.permits a b crew.workers.items = all_some bare o config crew a b all in
-      let there : HiresSome bare o config crew.shared.permits a b last = subst (λ (ws : List (Worker M C OpenGate L)). HiresSome bare o config crew.shared.permits a b ws) (sym none.same) some in
-      inl (record { some = subst (λ (t : Option (WireTold W C L)). HiresSome bare o config crew.shared.permits a t last) (sym same) there; line = none.line; cut = none.cut })
-  crew_idle_or_ran config n address crew a b c last out out' end all same (inr each) =
+  pub pool_idle_or_ran : (config : Config) (n : ℕ) (address : List ℕ) (pool : Pool M C L) (a b c : Option (WireTold W C L)) (last : List (Worker M C OpenGate L)) (out out' : Option (List ℕ)) (end : WireEnd) → HiresAll bare o config a b pool → c ≡ b
+      → WorksAll o pool.shared n address pool.workers.items last out out' end → PoolWorks bare o config n address pool.shared a c last out out' end
+  pool_idle_or_ran config n address pool a b c last out out' end all same (inl none) =
+      let some : HiresSome bare o config pool.shared.permits a b pool.workers.items = all_some bare o config pool a b all in
+      let there : HiresSome bare o config pool.shared.permits a b last = subst (λ (ws : List (Worker M C OpenGate L)). HiresSome bare o config pool.shared.permits a b ws) (sym none.same) some in
+      inl (record { some = subst (λ (t : Option (WireTold W C L)). HiresSome bare o config pool.shared.permits a t last) (sym same) there; line = none.line; cut = none.cut })
+  pool_idle_or_ran config n address pool a b c last out out' end all same (inr each) =
       inr (record {
         given = all.given;
-        first = crew.workers.items;
+        first = pool.workers.items;
         count = all.count;
-        shares = all.crew_is.shares;
-        hired = all.crew_is.workers;
+        shares = all.pool_is.shares;
+        hired = all.pool_is.workers;
         tells = subst (λ (t : Option (WireTold W C L)). TellsFitted a (numbered 1 all.given) t) (sym same) all.tells;
         works = each;
       })
 
-  pub works_paid : (config : Config) (n : ℕ) (address : List ℕ) (shared : Shared) (a b : Option (WireTold W C L)) (workers : List (Worker M C OpenGate L)) (out out' : Option (List ℕ)) (end : WireEnd) → CrewWorks bare o config n address shared a b workers out out' end → All (IsPaid shared.permits) workers
+  pub works_paid : (config : Config) (n : ℕ) (address : List ℕ) (shared : Shared) (a b : Option (WireTold W C L)) (workers : List (Worker M C OpenGate L)) (out out' : Option (List ℕ)) (end : WireEnd) → PoolWorks bare o config n address shared a b workers out out' end → All (IsPaid shared.permits) workers
   works_paid config n address shared a b workers out out' end (inl idle) = idle_paid bare o shared.permits idle.some.given workers idle.some.idle
   works_paid config n address shared a b workers out out' end (inr ran) = ran_paid o shared n ran.first workers ran.works.ends ran.works.worked
 
-  pub works_few : (config : Config) (n : ℕ) (address : List ℕ) (shared : Shared) (a b : Option (WireTold W C L)) (workers : List (Worker M C OpenGate L)) (out out' : Option (List ℕ)) (end : WireEnd) → CrewWorks bare o config n address shared a b workers out out' end → length workers ≤ config.proxy.workers
+  pub works_few : (config : Config) (n : ℕ) (address : List ℕ) (shared : Shared) (a b : Option (WireTold W C L)) (workers : List (Worker M C OpenGate L)) (out out' : Option (List ℕ)) (end : WireEnd) → PoolWorks bare o config n address shared a b workers out out' end → length workers ≤ config.proxy.workers
   works_few config n address shared a b workers out out' end (inl idle) = let most = idle.some.most in let same = idle.some.idle.same in omega (arith, most, same)
   works_few config n address shared a b workers out out' end (inr ran) = let count = ran.count in let same = ran.hired.same in let last = ran.works.worked.same in omega (arith, count, same, last)
 
@@ -249,7 +249,7 @@ module _ {X Z : Type 0} where
   pub len_none : (v : Vec X Z) → v.items ≡ [] → v.len ≡ 0
   len_none v none = let l = v.ok.0 in let k : length v.items ≡ 0 = ap (λ (xs : List X). length xs) none in omega (arith, l, k)
 
--- ---- workers that were lent out of the crew
+-- ---- workers that were lent out of the pool
 module _ {M C L : Type 0} (o : Outside M C L) where
   works_same : (shared : Shared) (n : ℕ) (address : List ℕ) (old new : List (Worker M C OpenGate L)) (out out' : Option (List ℕ)) (end : WireEnd) → WorksAll o shared n address old new out out' end → length new ≡ length old
   works_same shared n address old new out out' end (inl none) = ap (λ (ws : List (Worker M C OpenGate L)). length ws) none.same
@@ -269,15 +269,15 @@ module _ {M C L : Type 0} (o : Outside M C L) where
       by (inr one) = inr (subst (λ (ws : List (Worker M C OpenGate L)). OneFailed o ws) (sym e) one)
 
 module _ {W M C L : Type 0} (bare : M → W) (o : Outside M C L) where
-  pub lent_ready : (config : Config) (crew : Crew M C L) (a b : Option (WireTold W C L)) (first : List (Worker M C OpenGate L)) → HiresAll bare o config a b crew → first ≡ crew.workers.items → (i : ℕ) (w : Worker M C OpenGate L) → i < length first → IsReady o crew.shared i (slice_index_or first i w)
-  lent_ready config crew a b first all is =
-      subst (λ (ws : List (Worker M C OpenGate L)). (i : ℕ) (w : Worker M C OpenGate L) → i < length ws → IsReady o crew.shared i (slice_index_or ws i w)) (sym is) (crew_ready bare o config crew all.given all.crew_is)
+  pub lent_ready : (config : Config) (pool : Pool M C L) (a b : Option (WireTold W C L)) (first : List (Worker M C OpenGate L)) → HiresAll bare o config a b pool → first ≡ pool.workers.items → (i : ℕ) (w : Worker M C OpenGate L) → i < length first → IsReady o pool.shared i (slice_index_or first i w)
+  lent_ready config pool a b first all is =
+      subst (λ (ws : List (Worker M C OpenGate L)). (i : ℕ) (w : Worker M C OpenGate L) → i < length ws → IsReady o pool.shared i (slice_index_or ws i w)) (sym is) (pool_ready bare o config pool all.given all.pool_is)
 
-  pub lent_works : (config : Config) (n : ℕ) (address : List ℕ) (crew : Crew M C L) (a b c : Option (WireTold W C L)) (first mid last : List (Worker M C OpenGate L)) (out out' : Option (List ℕ)) (end : WireEnd) → HiresAll bare o config a b crew → c ≡ b → first ≡ crew.workers.items → last ≡ mid
-      → WorksAll o crew.shared n address first mid out out' end → CrewWorks bare o config n address crew.shared a c last out out' end
-  lent_works config n address crew a b c first mid last out out' end all same is back works =
-      let there : WorksAll o crew.shared n address crew.workers.items mid out out' end = subst (λ (ws : List (Worker M C OpenGate L)). WorksAll o crew.shared n address ws mid out out' end) is works in
-      subst (λ (ws : List (Worker M C OpenGate L)). CrewWorks bare o config n address crew.shared a c ws out out' end) (sym back) (crew_idle_or_ran bare o config n address crew a b c mid out out' end all same there)
+  pub lent_works : (config : Config) (n : ℕ) (address : List ℕ) (pool : Pool M C L) (a b c : Option (WireTold W C L)) (first mid last : List (Worker M C OpenGate L)) (out out' : Option (List ℕ)) (end : WireEnd) → HiresAll bare o config a b pool → c ≡ b → first ≡ pool.workers.items → last ≡ mid
+      → WorksAll o pool.shared n address first mid out out' end → PoolWorks bare o config n address pool.shared a c last out out' end
+  lent_works config n address pool a b c first mid last out out' end all same is back works =
+      let there : WorksAll o pool.shared n address pool.workers.items mid out out' end = subst (λ (ws : List (Worker M C OpenGate L)). WorksAll o pool.shared n address ws mid out out' end) is works in
+      subst (λ (ws : List (Worker M C OpenGate L)). PoolWorks bare o config n address pool.shared a c ws out out' end) (sym back) (pool_idle_or_ran bare o config n address pool a b c mid out out' end all same there)
 
   -- those that were fitted in vain go back
   pub cause_hired : (how : Status) (a b x y : ℕ) (workers : List (Worker M C OpenGate L)) → (how ≡ status.WriteFault → Rose a b ⊎ OneFailed o workers) → how ≡ status.WriteFault → (Rose a b ⊎ Rose x y) ⊎ OneFailed o workers

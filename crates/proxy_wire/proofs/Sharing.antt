@@ -4,11 +4,11 @@ use Rattle.proxy_config.specs.Reading.{config_of}
 use Rattle.proxy_config.specs.declared.config.Config.{Config}
 use Rattle.proxy_config.specs.declared.fault.ConfigFault.{ConfigFault}
 use Rattle.proxy_site.specs.Sites.{IsUnused}
-use Rattle.proxy_wire.specs.Crews.{IsStaff, SharesOf}
+use Rattle.proxy_wire.specs.Pools.{IsStaff, SharesOf}
 use Rattle.proxy_wire.specs.Leading.{Leads}
 use Rattle.proxy_wire.specs.Tasks.{IsTask}
-use Rattle.proxy_wire.specs.declared.crew.Staff.{Staff}
-use Rattle.proxy_wire.specs.declared.crew.Task.{Task}
+use Rattle.proxy_wire.specs.declared.pool.Staff.{Staff}
+use Rattle.proxy_wire.specs.declared.pool.Task.{Task}
 use Rattle.proxy_wire.specs.declared.leading.Leader.{Leader}
 use Rattle.shared_state.specs.PermitSeats as permit
 use Rattle.shared_state.specs.declared.permit_rule.PermitView.{PermitView}

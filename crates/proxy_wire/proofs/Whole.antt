@@ -10,7 +10,7 @@ use Rattle.proxy_site.specs.Serving.{TellsEnd, end_status}
 use Rattle.proxy_wire.specs.Serving.{ServesConfig, wire_status}
 use Rattle.proxy_wire.specs.Tasks.{IsTask}
 use Rattle.proxy_wire.specs.Working.{is_fault, is_memory, is_stopped}
-use Rattle.proxy_wire.specs.declared.crew.Task.{Task}
+use Rattle.proxy_wire.specs.declared.pool.Task.{Task}
 use Rattle.proxy_wire.specs.declared.end.WireEnd.{WireEnd}
 use Rattle.session_config.specs.Loading.{CausesFault, IsWhole, ReadsAs, ReadsWhole, StopsAs}
 use Rattle.session_config.specs.declared.load.ConfigEnd.{ConfigEnd}

@@ -1,12 +1,12 @@
--- What fitting workers does to their crew, and to what the site tells.
+-- What fitting workers does to their pool, and to what the site tells.
 use Rattle.post_queue.specs.declared.passes.RunnerPass.{RunnerPass}
 use Rattle.post_queue.specs.declared.post_box.PostBox.{PostBox}
 use Rattle.proxy_config.specs.declared.config.Config.{Config}
-use Rattle.proxy_wire.specs.Crews.{EachTwo, IsCrew, IsHired, IsIdle}
+use Rattle.proxy_wire.specs.Pools.{EachTwo, IsPool, IsHired, IsIdle}
 use Rattle.proxy_wire.specs.Sites.{TellsFitted, WireTold, numbered}
 use Rattle.proxy_wire.specs.Working.{Begins}
-use Rattle.proxy_wire.specs.declared.crew.Crew.{Crew}
-use Rattle.proxy_wire.specs.declared.crew.Parts.{Parts}
+use Rattle.proxy_wire.specs.declared.pool.Pool.{Pool}
+use Rattle.proxy_wire.specs.declared.pool.Parts.{Parts}
 use Rattle.shared_state.specs.PermitSeats.{IsSeatOf}
 use Rattle.shared_state.specs.declared.permits.Permits.{Permits}
 use Rattle.std.specs.Prelude.{List, Option, Some, [], length, suc, ℕ, ◌++◌, ◌∷◌, ◌≡◌, ◌≤◌, ◌⊎◌}
@@ -63,7 +63,7 @@ module _ {W M C L : Type 0} (bare : M → W) (o : Outside M C L) where
     pub told : told_new ≡ told_old
 
   -- the next worker may run
-  pub record HiresOne (config : Config) (told_old told_new : Option (WireTold W C L)) (old new : Crew M C L) : Type 0 where
+  pub record HiresOne (config : Config) (told_old told_new : Option (WireTold W C L)) (old new : Pool M C L) : Type 0 where
     pub given : W × (C × L)
     pub worker : Worker M C OpenGate L
     pub adds : new.workers.items ≡ old.workers.items ++ worker ∷ []
@@ -84,10 +84,10 @@ module _ {W M C L : Type 0} (bare : M → W) (o : Outside M C L) where
   HiresNone permits told_old told_new old new = Stays told_old told_new old new ⊎ IdlesOne permits told_old told_new old new
 
   -- so many were fitted, and all may run
-  pub record HiresAll (config : Config) (told_old told_new : Option (WireTold W C L)) (crew : Crew M C L) : Type 0 where
+  pub record HiresAll (config : Config) (told_old told_new : Option (WireTold W C L)) (pool : Pool M C L) : Type 0 where
     pub given : List (W × (C × L))
     pub count : length given ≡ config.proxy.workers
-    pub crew_is : IsCrew bare o config crew given
+    pub pool_is : IsPool bare o config pool given
     pub tells : TellsFitted told_old (numbered 1 given) told_new
 
   -- some were fitted, and are to be given back

@@ -1,9 +1,9 @@
-pub mod Crews
 pub mod Forms
 pub mod Hires
 pub mod Leading
 pub mod Lent
 pub mod LoopEnds
+pub mod Pools
 pub mod Reasons
 pub mod Runs
 pub mod Serving

@@ -1,7 +1,7 @@
 -- What the workers did, before they are given back.
 use Rattle.proxy_config.specs.declared.config.Config.{Config}
 use Rattle.proxy_site.specs.Relaying.{IsCutShort, listening_line}
-use Rattle.proxy_wire.specs.Crews.{EachTwo, IsHired, SharesOf}
+use Rattle.proxy_wire.specs.Pools.{EachTwo, IsHired, SharesOf}
 use Rattle.proxy_wire.specs.Hires.{HiresSome}
 use Rattle.proxy_wire.specs.Serving.{wire_status}
 use Rattle.proxy_wire.specs.Sites.{TellsFitted, WireTold, numbered}
@@ -36,13 +36,13 @@ module _ {M C L : Type 0} (o : Outside M C L) where
 
 module _ {W M C L : Type 0} (bare : M → W) (o : Outside M C L) where
   -- some were fitted, and none ran
-  pub record CrewIdle (config : Config) (address : List ℕ) (shared : Shared) (told_old told_new : Option (WireTold W C L)) (workers : List (Worker M C OpenGate L)) (out_old out_new : Option (List ℕ)) (end : WireEnd) : Type 0 where
+  pub record PoolIdle (config : Config) (address : List ℕ) (shared : Shared) (told_old told_new : Option (WireTold W C L)) (workers : List (Worker M C OpenGate L)) (out_old out_new : Option (List ℕ)) (end : WireEnd) : Type 0 where
     pub some : HiresSome bare o config shared.permits told_old told_new workers
     pub line : AppendsFront out_old out_new (listening_line address)
     pub cut : IsCutShort (wire_status end)
 
   -- all were fitted, and ran
-  pub record CrewRan (config : Config) (n : ℕ) (address : List ℕ) (shared : Shared) (told_old told_new : Option (WireTold W C L)) (workers : List (Worker M C OpenGate L)) (out_old out_new : Option (List ℕ)) (end : WireEnd) : Type 0 where
+  pub record PoolRan (config : Config) (n : ℕ) (address : List ℕ) (shared : Shared) (told_old told_new : Option (WireTold W C L)) (workers : List (Worker M C OpenGate L)) (out_old out_new : Option (List ℕ)) (end : WireEnd) : Type 0 where
     pub given : List (W × (C × L))
     pub first : List (Worker M C OpenGate L)
     pub count : length given ≡ config.proxy.workers
@@ -51,6 +51,6 @@ module _ {W M C L : Type 0} (bare : M → W) (o : Outside M C L) where
     pub tells : TellsFitted told_old (numbered 1 given) told_new
     pub works : WorksEach o shared n address first workers out_old out_new end
 
-  abbrev pub CrewWorks : (config : Config) (n : ℕ) (address : List ℕ) (shared : Shared) (told_old told_new : Option (WireTold W C L)) (workers : List (Worker M C OpenGate L)) (out_old out_new : Option (List ℕ)) (end : WireEnd) → Type 0
-  CrewWorks config n address shared told_old told_new workers out_old out_new end =
-      CrewIdle config address shared told_old told_new workers out_old out_new end ⊎ CrewRan config n address shared told_old told_new workers out_old out_new end
+  abbrev pub PoolWorks : (config : Config) (n : ℕ) (address : List ℕ) (shared : Shared) (told_old told_new : Option (WireTold W C L)) (workers : List (Worker M C OpenGate L)) (out_old out_new : Option (List ℕ)) (end : WireEnd) → Type 0
+  PoolWorks config n address shared told_old told_new workers out_old out_new end =
+      PoolIdle config address shared told_old told_new workers out_old out_new end ⊎ PoolRan config n address shared told_old told_new workers out_old out_new end

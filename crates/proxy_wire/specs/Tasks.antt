@@ -1,7 +1,7 @@
 -- What workers are to do.
 use Rattle.proxy_config.specs.Ranges.{IsInRange}
 use Rattle.proxy_config.specs.Reading.{config_of}
-use Rattle.proxy_wire.specs.declared.crew.Task.{Task}
+use Rattle.proxy_wire.specs.declared.pool.Task.{Task}
 use Rattle.std.specs.Prelude.{Ok, length, ◌<◌, ◌^◌, ◌≡◌}
 
 -- the configuration is in its ranges and is that of the text, which is short enough for a core

@@ -5,10 +5,10 @@ ghost use Rattle.proxy_wire.specs.Leading.{Leads};
 ghost use Rattle.proxy_wire.specs.LoopEnds.{EndsByFault};
 ghost use Rattle.worker_threads.specs.Starting.{IsReady, WorkedEach, outside_of};
 
-use crate::crew::Task;
 use crate::end::LoopEnd;
 use crate::leading::{Leader, lead};
 use crate::meter::Tokens;
+use crate::pool::Task;
 use crate::site::WireSite;
 use io_ports::NoMemory;
 use std::alloc::Global;

@@ -1,7 +1,7 @@
 // What workers worked over goes back to the site.
 ghost use Rattle.std.specs.Prelude.{All, [], map, reverse, vec_len, ◌<◌, ◌∷◌, ◌^◌, ◌≡◌, ◌≤◌, ◌⊎◌};
 ghost use Rattle.io_ports.specs.Faults.{Rose};
-ghost use Rattle.proxy_wire.specs.Crews.{IsBackOf, IsPaid, OneFailed, back_of};
+ghost use Rattle.proxy_wire.specs.Pools.{IsBackOf, IsPaid, OneFailed, back_of};
 ghost use Rattle.proxy_wire.specs.Sites.{TellsReturned, numbered};
 ghost use Rattle.shared_state.specs.PermitSeats.{IsSeatOf};
 ghost use Rattle.worker_threads.specs.Starting.{outside_of};

@@ -3,7 +3,7 @@ ghost use Rattle.std.specs.Prelude.{All, IfErr, OnErr, OnOk, Some, length, vec_c
 ghost use Rattle.std.specs.Io.KnownBytes.{Appends};
 ghost use Rattle.io_ports.specs.Faults.{Rose};
 ghost use Rattle.proxy_site.specs.Relaying.{IsCutShort};
-ghost use Rattle.proxy_wire.specs.Crews.{OneFailed, SharesOf};
+ghost use Rattle.proxy_wire.specs.Pools.{OneFailed, SharesOf};
 ghost use Rattle.proxy_wire.specs.Hires.{Fits, HasParts, HiresAll, HiresNone, HiresOne, HiresSome, Joins, SharesMore, Stays};
 ghost use Rattle.proxy_wire.specs.Leading.{Leads};
 ghost use Rattle.proxy_wire.specs.Serving.{wire_status};
@@ -13,10 +13,10 @@ ghost use Rattle.session_run.specs.declared.status.Status.TheVariants as status;
 ghost use Rattle.shared_state.specs.PermitSeats.{IsSeatOf, seats_in};
 ghost use Rattle.worker_threads.specs.Starting.{outside_of};
 
-use crate::crew::{Crew, Parts, Supply, Task, take_next};
 use crate::end::{WireEnd, unfitted};
 use crate::leading::Leader;
 use crate::meter::Meter;
+use crate::pool::{Parts, Pool, Supply, Task, take_next};
 use crate::site::WireSite;
 use io_ports::Failed;
 use proxy_config::Config;
@@ -26,32 +26,32 @@ use worker_parts::{Journal, begin_journal};
 use worker_ports::{Clock, OpenGate, Wires};
 use worker_threads::Worker;
 
-/// Fits the configuration's workers in their order, each behind the head of its journal, into a crew that has room for them. Those
-/// that were fitted before a refusal stay in the crew.
+/// Fits the configuration's workers in their order, each behind the head of its journal, into a pool that has room for them. Those
+/// that were fitted before a refusal stay in the pool.
 pub(crate) fn hire_all<T: WireSite, M: Meter<T::W>>(
     alloc: Global,
     task: &Task<'_>,
     supply: &mut Supply<M>,
     leader: &mut Leader,
     site: &mut T,
-    crew: &mut Crew<M::Metered, T::C, T::L>,
+    pool: &mut Pool<M::Metered, T::C, T::L>,
 ) -> Result<(), WireEnd>
     requires task { IsTask task.now }
-    requires shares { SharesOf task.now.config.now crew.old.shared }
-    requires none { (vec_len crew.old.workers ≡ 0) × (vec_len crew.old.shared.posts ≡ 0) }
-    requires room { task.now.config.now.proxy.workers ≤ vec_capacity crew.old.workers }
-    requires seats { All (IsSeatOf crew.old.shared.permits) (seats_in supply.old.seats) }
-    requires leads { Leads crew.old.shared.posts.items leader.old }
-    ensures all { OnOk result (HiresAll M.bare (outside_of M.Metered.Wires T.C.moments T.L.contents T.L.told T.L.faults) task.now.config.now (T.wired site.old) (T.wired site.new) crew.new) }
-    ensures leads { OnOk result (Leads crew.new.shared.posts.items leader.new) }
-    ensures some { HiresSome M.bare (outside_of M.Metered.Wires T.C.moments T.L.contents T.L.told T.L.faults) task.now.config.now crew.new.shared.permits (T.wired site.old) (T.wired site.new) crew.new.workers.items }
+    requires shares { SharesOf task.now.config.now pool.old.shared }
+    requires none { (vec_len pool.old.workers ≡ 0) × (vec_len pool.old.shared.posts ≡ 0) }
+    requires room { task.now.config.now.proxy.workers ≤ vec_capacity pool.old.workers }
+    requires seats { All (IsSeatOf pool.old.shared.permits) (seats_in supply.old.seats) }
+    requires leads { Leads pool.old.shared.posts.items leader.old }
+    ensures all { OnOk result (HiresAll M.bare (outside_of M.Metered.Wires T.C.moments T.L.contents T.L.told T.L.faults) task.now.config.now (T.wired site.old) (T.wired site.new) pool.new) }
+    ensures leads { OnOk result (Leads pool.new.shared.posts.items leader.new) }
+    ensures some { HiresSome M.bare (outside_of M.Metered.Wires T.C.moments T.L.contents T.L.told T.L.faults) task.now.config.now pool.new.shared.permits (T.wired site.old) (T.wired site.new) pool.new.workers.items }
     ensures cut { IfErr result (λ end. IsCutShort (wire_status end)) }
-    ensures cause { IfErr result (λ end. wire_status end ≡ status.WriteFault → Rose (T.faults site.old) (T.faults site.new) ⊎ OneFailed (outside_of M.Metered.Wires T.C.moments T.L.contents T.L.told T.L.faults) crew.new.workers.items) }
+    ensures cause { IfErr result (λ end. wire_status end ≡ status.WriteFault → Rose (T.faults site.old) (T.faults site.new) ⊎ OneFailed (outside_of M.Metered.Wires T.C.moments T.L.contents T.L.told T.L.faults) pool.new.workers.items) }
     ensures told { T.told site.new ≡ T.told site.old }
     ensures no_fall { T.faults site.old ≤ T.faults site.new }
 {
     for place in 0..task.config.proxy.workers {
-        hire_next(alloc, place, task, supply, leader, site, crew)?;
+        hire_next(alloc, place, task, supply, leader, site, pool)?;
     }
     Ok(())
 }
@@ -64,32 +64,32 @@ fn hire_next<T: WireSite, M: Meter<T::W>>(
     supply: &mut Supply<M>,
     leader: &mut Leader,
     site: &mut T,
-    crew: &mut Crew<M::Metered, T::C, T::L>,
+    pool: &mut Pool<M::Metered, T::C, T::L>,
 ) -> Result<(), WireEnd>
     requires task { IsTask task.now }
-    requires place { (place ≡ vec_len crew.old.workers) × (place ≡ vec_len crew.old.shared.posts) }
-    requires room { (place + 1 < 2 ^ 32) × (place < vec_capacity crew.old.workers) }
-    requires shares { SharesOf task.now.config.now crew.old.shared }
-    requires seats { All (IsSeatOf crew.old.shared.permits) (seats_in supply.old.seats) }
-    requires leads { Leads crew.old.shared.posts.items leader.old }
-    ensures one { OnOk result (HiresOne M.bare (outside_of M.Metered.Wires T.C.moments T.L.contents T.L.told T.L.faults) task.now.config.now (T.wired site.old) (T.wired site.new) crew.old crew.new) }
-    ensures leads { OnOk result (Leads crew.new.shared.posts.items leader.new) }
-    ensures none { OnErr result (HiresNone M.bare (outside_of M.Metered.Wires T.C.moments T.L.contents T.L.told T.L.faults) crew.old.shared.permits (T.wired site.old) (T.wired site.new) crew.old.workers.items crew.new.workers.items) }
-    ensures shares { OnOk result (SharesMore crew.old.shared crew.new.shared) }
-    ensures permits { crew.new.shared.permits ≡ crew.old.shared.permits }
-    ensures room { vec_capacity crew.new.workers ≡ vec_capacity crew.old.workers }
-    ensures seats { All (IsSeatOf crew.old.shared.permits) (seats_in supply.new.seats) }
+    requires place { (place ≡ vec_len pool.old.workers) × (place ≡ vec_len pool.old.shared.posts) }
+    requires room { (place + 1 < 2 ^ 32) × (place < vec_capacity pool.old.workers) }
+    requires shares { SharesOf task.now.config.now pool.old.shared }
+    requires seats { All (IsSeatOf pool.old.shared.permits) (seats_in supply.old.seats) }
+    requires leads { Leads pool.old.shared.posts.items leader.old }
+    ensures one { OnOk result (HiresOne M.bare (outside_of M.Metered.Wires T.C.moments T.L.contents T.L.told T.L.faults) task.now.config.now (T.wired site.old) (T.wired site.new) pool.old pool.new) }
+    ensures leads { OnOk result (Leads pool.new.shared.posts.items leader.new) }
+    ensures none { OnErr result (HiresNone M.bare (outside_of M.Metered.Wires T.C.moments T.L.contents T.L.told T.L.faults) pool.old.shared.permits (T.wired site.old) (T.wired site.new) pool.old.workers.items pool.new.workers.items) }
+    ensures shares { OnOk result (SharesMore pool.old.shared pool.new.shared) }
+    ensures permits { pool.new.shared.permits ≡ pool.old.shared.permits }
+    ensures room { vec_capacity pool.new.workers ≡ vec_capacity pool.old.workers }
+    ensures seats { All (IsSeatOf pool.old.shared.permits) (seats_in supply.new.seats) }
     ensures cut { IfErr result (λ end. IsCutShort (wire_status end)) }
-    ensures cause { IfErr result (λ end. wire_status end ≡ status.WriteFault → Rose (T.faults site.old) (T.faults site.new) ⊎ OneFailed (outside_of M.Metered.Wires T.C.moments T.L.contents T.L.told T.L.faults) crew.new.workers.items) }
+    ensures cause { IfErr result (λ end. wire_status end ≡ status.WriteFault → Rose (T.faults site.old) (T.faults site.new) ⊎ OneFailed (outside_of M.Metered.Wires T.C.moments T.L.contents T.L.told T.L.faults) pool.new.workers.items) }
     ensures told { T.told site.new ≡ T.told site.old }
     ensures no_fall { T.faults site.old ≤ T.faults site.new }
 {
     let Some(ticket) = supply.meter.take() else {
         return Err(WireEnd::Memory);
     };
-    let pass = leader.add_box(alloc, &mut crew.shared.posts)?;
-    supply.prepare(alloc, task, &crew.shared.permits, pass)?;
-    hire::<T, M>(alloc, place, task.config, supply, ticket, site, crew)
+    let pass = leader.add_box(alloc, &mut pool.shared.posts)?;
+    supply.prepare(alloc, task, &pool.shared.permits, pass)?;
+    hire::<T, M>(alloc, place, task.config, supply, ticket, site, pool)
 }
 
 // Fits the worker at this place, which is made of the next parts.
@@ -100,18 +100,18 @@ fn hire<T: WireSite, M: Meter<T::W>>(
     supply: &mut Supply<M>,
     ticket: M::Ticket,
     site: &mut T,
-    crew: &mut Crew<M::Metered, T::C, T::L>,
+    pool: &mut Pool<M::Metered, T::C, T::L>,
 ) -> Result<(), WireEnd>
-    requires place { place ≡ vec_len crew.old.workers }
-    requires room { (place + 1 < 2 ^ 32) × (place < vec_capacity crew.old.workers) }
+    requires place { place ≡ vec_len pool.old.workers }
+    requires room { (place + 1 < 2 ^ 32) × (place < vec_capacity pool.old.workers) }
     requires next { HasParts supply.old.next }
-    ensures fits { (parts : Parts) → supply.old.next ≡ Some parts → OnOk result (Fits M.bare (outside_of M.Metered.Wires T.C.moments T.L.contents T.L.told T.L.faults) Appends (length config.now.clusters) parts parts.pass (T.wired site.old) (T.wired site.new) crew.old.workers.items crew.new.workers.items) }
-    ensures some { (parts : Parts) → supply.old.next ≡ Some parts → OnErr result (Stays M.bare (outside_of M.Metered.Wires T.C.moments T.L.contents T.L.told T.L.faults) (T.wired site.old) (T.wired site.new) crew.old.workers.items crew.new.workers.items ⊎ Fits M.bare (outside_of M.Metered.Wires T.C.moments T.L.contents T.L.told T.L.faults) AppendsFront (length config.now.clusters) parts parts.pass (T.wired site.old) (T.wired site.new) crew.old.workers.items crew.new.workers.items) }
+    ensures fits { (parts : Parts) → supply.old.next ≡ Some parts → OnOk result (Fits M.bare (outside_of M.Metered.Wires T.C.moments T.L.contents T.L.told T.L.faults) Appends (length config.now.clusters) parts parts.pass (T.wired site.old) (T.wired site.new) pool.old.workers.items pool.new.workers.items) }
+    ensures some { (parts : Parts) → supply.old.next ≡ Some parts → OnErr result (Stays M.bare (outside_of M.Metered.Wires T.C.moments T.L.contents T.L.told T.L.faults) (T.wired site.old) (T.wired site.new) pool.old.workers.items pool.new.workers.items ⊎ Fits M.bare (outside_of M.Metered.Wires T.C.moments T.L.contents T.L.told T.L.faults) AppendsFront (length config.now.clusters) parts parts.pass (T.wired site.old) (T.wired site.new) pool.old.workers.items pool.new.workers.items) }
     ensures seats { supply.new.seats ≡ supply.old.seats }
-    ensures shared { crew.new.shared ≡ crew.old.shared }
-    ensures room { vec_capacity crew.new.workers ≡ vec_capacity crew.old.workers }
+    ensures shared { pool.new.shared ≡ pool.old.shared }
+    ensures room { vec_capacity pool.new.workers ≡ vec_capacity pool.old.workers }
     ensures cut { IfErr result (λ end. IsCutShort (wire_status end)) }
-    ensures cause { IfErr result (λ end. wire_status end ≡ status.WriteFault → Rose (T.faults site.old) (T.faults site.new) ⊎ OneFailed (outside_of M.Metered.Wires T.C.moments T.L.contents T.L.told T.L.faults) crew.new.workers.items) }
+    ensures cause { IfErr result (λ end. wire_status end ≡ status.WriteFault → Rose (T.faults site.old) (T.faults site.new) ⊎ OneFailed (outside_of M.Metered.Wires T.C.moments T.L.contents T.L.told T.L.faults) pool.new.workers.items) }
     ensures told { T.told site.new ≡ T.told site.old }
     ensures no_fall { T.faults site.old ≤ T.faults site.new }
 {
@@ -123,29 +123,29 @@ fn hire<T: WireSite, M: Meter<T::W>>(
                 M::wrap(ticket, wires),
                 clock,
                 journal,
-                crew,
+                pool,
             )
         }
         Err(refusal) => Err(unfitted(refusal)),
     }
 }
 
-// A worker of the next parts joins the crew, behind the head of its journal, or a front of it.
+// A worker of the next parts joins the pool, behind the head of its journal, or a front of it.
 fn enlist<W: Wires, C: Clock, L: Journal>(
     alloc: Global,
     next: &mut Option<Parts>,
     wires: W,
     clock: C,
     mut journal: L,
-    crew: &mut Crew<W, C, L>,
+    pool: &mut Pool<W, C, L>,
 ) -> Result<(), WireEnd>
-    requires room { vec_len crew.old.workers < vec_capacity crew.old.workers }
+    requires room { vec_len pool.old.workers < vec_capacity pool.old.workers }
     requires next { HasParts next.old }
-    ensures joins { (parts : Parts) → next.old ≡ Some parts → OnOk result (Joins (λ w. w) (outside_of W.Wires C.moments L.contents L.told L.faults) Appends parts parts.pass (wires, (clock, journal)) crew.old.workers.items crew.new.workers.items) }
-    ensures front { (parts : Parts) → next.old ≡ Some parts → Joins (λ w. w) (outside_of W.Wires C.moments L.contents L.told L.faults) AppendsFront parts parts.pass (wires, (clock, journal)) crew.old.workers.items crew.new.workers.items }
-    ensures failed { IfErr result (λ end. (end ≡ WireEnd.JournalHead) × OneFailed (outside_of W.Wires C.moments L.contents L.told L.faults) crew.new.workers.items) }
-    ensures shared { crew.new.shared ≡ crew.old.shared }
-    ensures room { vec_capacity crew.new.workers ≡ vec_capacity crew.old.workers }
+    ensures joins { (parts : Parts) → next.old ≡ Some parts → OnOk result (Joins (λ w. w) (outside_of W.Wires C.moments L.contents L.told L.faults) Appends parts parts.pass (wires, (clock, journal)) pool.old.workers.items pool.new.workers.items) }
+    ensures front { (parts : Parts) → next.old ≡ Some parts → Joins (λ w. w) (outside_of W.Wires C.moments L.contents L.told L.faults) AppendsFront parts parts.pass (wires, (clock, journal)) pool.old.workers.items pool.new.workers.items }
+    ensures failed { IfErr result (λ end. (end ≡ WireEnd.JournalHead) × OneFailed (outside_of W.Wires C.moments L.contents L.told L.faults) pool.new.workers.items) }
+    ensures shared { pool.new.shared ≡ pool.old.shared }
+    ensures room { vec_capacity pool.new.workers ≡ vec_capacity pool.old.workers }
 {
     let head = begin_journal(&mut journal);
     let parts = take_next(next);
@@ -155,7 +155,7 @@ fn enlist<W: Wires, C: Clock, L: Journal>(
         seat,
         pass,
     } = parts;
-    crew.workers.push_reserved(Worker {
+    pool.workers.push_reserved(Worker {
         core,
         pass,
         follower,

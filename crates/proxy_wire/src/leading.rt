@@ -5,9 +5,9 @@ ghost use Rattle.post_queue.specs.Clauses.{IsPosterOf, IsRunnerOf};
 ghost use Rattle.proxy_wire.specs.Leading.{Accepts, ArePosters, Leads, Looks};
 ghost use Rattle.proxy_wire.specs.LoopEnds.{EndsByFault};
 
-use crate::crew::Task;
 use crate::end::LoopEnd;
 use crate::meter::Tokens;
+use crate::pool::Task;
 use crate::site::WireSite;
 use flow_notes::Job;
 use io_ports::{Failed, NoMemory, PressureList};

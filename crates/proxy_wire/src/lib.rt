@@ -2,7 +2,6 @@
 #![tactic(auto)]
 
 mod beside;
-mod crew;
 mod end;
 mod form;
 mod giving_back;
@@ -10,6 +9,7 @@ mod hiring;
 mod leading;
 mod meter;
 mod metering;
+mod pool;
 mod serve;
 mod serving;
 mod site;

@@ -10,9 +10,9 @@ ghost use Rattle.proxy_wire.specs.Serving.{ServesConfig, ServesWire};
 ghost use Rattle.proxy_wire.specs.Tasks.{IsTask};
 ghost use Rattle.worker_threads.specs.Starting.{outside_of};
 
-use crate::crew::Task;
 use crate::end::WireEnd;
 use crate::form::{ProxyForm, read_proxy_form};
+use crate::pool::Task;
 use crate::serving::serve_wire;
 use crate::site::WireSite;
 use io_ports::{Sink, Source};

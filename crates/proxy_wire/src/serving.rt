@@ -1,18 +1,18 @@
 // The proxy of HTTP/2 under a configuration.
 ghost use Rattle.std.specs.Prelude.{IfOk, length, replicate, ◌≡◌, ◌≤◌, ◌⊎◌};
 ghost use Rattle.proxy_site.specs.Relaying.{SiteOrOut};
-ghost use Rattle.proxy_wire.specs.Crews.{IsStaff};
+ghost use Rattle.proxy_wire.specs.Pools.{IsStaff};
 ghost use Rattle.proxy_wire.specs.Leading.{Leads};
 ghost use Rattle.proxy_wire.specs.Serving.{AllRan, NoneRan, ServesWire, metered_outside, wire_status};
 ghost use Rattle.proxy_wire.specs.Tasks.{IsTask};
 ghost use Rattle.metered_wires.specs.declared.metering.MeteredWires.{MeteredWires};
 ghost use Rattle.worker_threads.specs.Starting.{outside_of};
 
-use crate::crew::{Staff, Supply, Task, metered, share};
 use crate::end::WireEnd;
 use crate::leading::Leader;
 use crate::meter::Unmetered;
 use crate::metering::Metering;
+use crate::pool::{Staff, Supply, Task, metered, share};
 use crate::site::WireSite;
 use crate::working::run;
 use io_ports::{NoMemory, Octets, PressureList, Sink};

@@ -24,7 +24,8 @@ pub trait WireSite: Site {
     /// What it gave to workers and what came back, where this is told.
     ghost wired: { Self → Option (WireTold Self.W Self.C Self.L) };
 
-    /// Listens at an address with a port, as `listen` does, and answers the one that is in use. Nothing is given to a worker by it.
+    /// Listens at an address with a port, as `listen` does, and answers the one that is in use. Nothing is given to a worker by
+    /// it. After a refusal the site tells no more than before.
     fn listen_for_workers(&mut self, at: &Octets) -> Result<Octets, SiteRefusal>
         ensures told { IfOk result (λ used. TellsListening (Self.told self.old) (at.now, used) (Self.told self.new)) }
         ensures err { OnErr result (Self.told self.new ≡ Self.told self.old) }

@@ -3,9 +3,9 @@ ghost use Rattle.std.specs.Prelude.{All, IfErr, OnOk, length, slice_index_or, ve
 ghost use Rattle.std.specs.Io.KnownBytes.{Appends};
 ghost use Rattle.io_ports.specs.Faults.{Rose};
 ghost use Rattle.proxy_site.specs.Relaying.{IsCutShort, SiteOrOut, listening_line};
-ghost use Rattle.proxy_wire.specs.Crews.{IsPaid, IsStaff, OneFailed, SharesOf};
+ghost use Rattle.proxy_wire.specs.Pools.{IsPaid, IsStaff, OneFailed, SharesOf};
 ghost use Rattle.proxy_wire.specs.Leading.{Leads};
-ghost use Rattle.proxy_wire.specs.Runs.{CrewWorks, WorksAll};
+ghost use Rattle.proxy_wire.specs.Runs.{PoolWorks, WorksAll};
 ghost use Rattle.proxy_wire.specs.Serving.{AllRan, NoneRan, wire_status};
 ghost use Rattle.proxy_wire.specs.Tasks.{IsTask};
 ghost use Rattle.session_run.specs.Ends.{AppendsFront};
@@ -14,12 +14,12 @@ ghost use Rattle.shared_state.specs.PermitSeats.{IsSeatOf, seats_in};
 ghost use Rattle.worker_threads.specs.Starting.{IsReady, outside_of};
 
 use crate::beside::run_beside;
-use crate::crew::{Crew, Staff, Supply, Task};
 use crate::end::{WireEnd, end_of};
 use crate::giving_back::give_back_all;
 use crate::hiring::hire_all;
 use crate::leading::Leader;
 use crate::meter::Meter;
+use crate::pool::{Pool, Staff, Supply, Task};
 use crate::site::WireSite;
 use io_ports::{Failed, Octets, Sink};
 use proxy_site::put_listening;
@@ -32,7 +32,7 @@ use worker_ports::{Gauge, OpenGate};
 use worker_threads::{Shared, Worker};
 
 /// Fits the configuration's workers, runs so many turns of each, and gives back what they worked over.
-#[tactic(auto, using(crate::proofs::Running::crew_back, crate::proofs::Running::none_begun, crate::proofs::Running::fault_of_one))]
+#[tactic(auto, using(crate::proofs::Running::pool_back, crate::proofs::Running::none_begun, crate::proofs::Running::fault_of_one))]
 pub(crate) fn run<R, T, M, G, K>(
     rt: &R,
     alloc: Global,
@@ -67,8 +67,8 @@ where
         return WireEnd::Memory;
     };
     let Staff { shared, mut supply } = staff;
-    let mut crew = Crew { workers, shared };
-    let end = work_crew(
+    let mut pool = Pool { workers, shared };
+    let end = work_pool(
         rt,
         alloc,
         task,
@@ -78,10 +78,10 @@ where
         site,
         gauge,
         out,
-        &mut crew,
+        &mut pool,
     );
     drop(supply);
-    let Crew { workers, shared } = crew;
+    let Pool { workers, shared } = pool;
     give_back_all::<T, M>(site, &shared.permits, workers);
     drop(shared);
     end
@@ -89,7 +89,7 @@ where
 
 // Fits the workers, and runs them.
 #[tactic(auto, using(crate::proofs::Running::idle_paid_of, crate::proofs::Running::cause_hired))]
-fn work_crew<R, T, M, G, K>(
+fn work_pool<R, T, M, G, K>(
     rt: &R,
     alloc: Global,
     task: &Task<'_>,
@@ -99,7 +99,7 @@ fn work_crew<R, T, M, G, K>(
     site: &mut T,
     gauge: &mut G,
     out: &mut K,
-    crew: &mut Crew<M::Metered, T::C, T::L>,
+    pool: &mut Pool<M::Metered, T::C, T::L>,
 ) -> WireEnd
 where
     R: Threads + Wait + Clock + Sync,
@@ -111,31 +111,31 @@ where
     G: Gauge,
     K: Sink,
     requires task { IsTask task.now }
-    requires shares { SharesOf task.now.config.now crew.old.shared }
-    requires none { (vec_len crew.old.workers ≡ 0) × (vec_len crew.old.shared.posts ≡ 0) }
-    requires room { task.now.config.now.proxy.workers ≤ vec_capacity crew.old.workers }
-    requires seats { All (IsSeatOf crew.old.shared.permits) (seats_in supply.old.seats) }
-    requires leads { Leads crew.old.shared.posts.items leader.old }
-    ensures works { CrewWorks M.bare (outside_of M.Metered.Wires T.C.moments T.L.contents T.L.told T.L.faults) task.now.config.now task.now.turns address.now crew.new.shared (T.wired site.old) (T.wired site.new) crew.new.workers.items (K.contents out.old) (K.contents out.new) result }
-    ensures paid { All (IsPaid crew.new.shared.permits) crew.new.workers.items }
-    ensures few { vec_len crew.new.workers ≤ task.now.config.now.proxy.workers }
-    ensures cause { wire_status result ≡ status.WriteFault → (Rose (T.faults site.old) (T.faults site.new) ⊎ Rose (K.faults out.old) (K.faults out.new)) ⊎ OneFailed (outside_of M.Metered.Wires T.C.moments T.L.contents T.L.told T.L.faults) crew.new.workers.items }
+    requires shares { SharesOf task.now.config.now pool.old.shared }
+    requires none { (vec_len pool.old.workers ≡ 0) × (vec_len pool.old.shared.posts ≡ 0) }
+    requires room { task.now.config.now.proxy.workers ≤ vec_capacity pool.old.workers }
+    requires seats { All (IsSeatOf pool.old.shared.permits) (seats_in supply.old.seats) }
+    requires leads { Leads pool.old.shared.posts.items leader.old }
+    ensures works { PoolWorks M.bare (outside_of M.Metered.Wires T.C.moments T.L.contents T.L.told T.L.faults) task.now.config.now task.now.turns address.now pool.new.shared (T.wired site.old) (T.wired site.new) pool.new.workers.items (K.contents out.old) (K.contents out.new) result }
+    ensures paid { All (IsPaid pool.new.shared.permits) pool.new.workers.items }
+    ensures few { vec_len pool.new.workers ≤ task.now.config.now.proxy.workers }
+    ensures cause { wire_status result ≡ status.WriteFault → (Rose (T.faults site.old) (T.faults site.new) ⊎ Rose (K.faults out.old) (K.faults out.new)) ⊎ OneFailed (outside_of M.Metered.Wires T.C.moments T.L.contents T.L.told T.L.faults) pool.new.workers.items }
     ensures told { T.told site.new ≡ T.told site.old }
     ensures no_fall { (T.faults site.old ≤ T.faults site.new) × (K.faults out.old ≤ K.faults out.new) }
 {
-    match hire_all(alloc, task, supply, leader, site, crew) {
+    match hire_all(alloc, task, supply, leader, site, pool) {
         Ok(()) => work_all(
             rt,
             alloc,
             task,
             address,
-            &crew.shared,
+            &pool.shared,
             &mut supply.meter,
             leader,
             site,
             gauge,
             out,
-            crew.workers.as_mut_slice(),
+            pool.workers.as_mut_slice(),
         ),
         Err(end) => end,
     }

@@ -27,7 +27,7 @@ impl RelayPlay {
     ghost use Rattle.relay_run.specs.Played.{CanTake, PlaysEvent, relay_kind};
     ghost use Rattle.session_run.specs.Runs.{Begins};
 
-    /// Before the first line of a session under this configuration.
+    /// Before the first line of a session under this configuration. Refused only for lack of memory.
     pub fn new(alloc: Global, config: &Config) -> Result<Self, NoMemory>
         ensures { IfOk result (λ play. (text : List ℕ) → config_of text ≡ Ok config.now → Begins relay_kind play text) }
     {

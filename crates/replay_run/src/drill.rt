@@ -200,7 +200,8 @@ fn octets_of(alloc: Global, stream: u32, n: u32) -> Result<Octets, NoMemory>
     Ok(Octets::from_vec(octets))
 }
 
-/// All events of the drill of n streams, 1 to 1,000, in their order: 69 n. Each has a spelling.
+/// All events of the drill of n streams, 1 to 1,000, in their order: 69 n. Each has a spelling. Refused only for lack of
+/// memory.
 pub fn drill_events(alloc: Global, n: u32) -> Result<EventList, NoMemory>
     requires some { 0 < n }
     requires few { n ≤ 1000 }

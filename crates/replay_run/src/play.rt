@@ -34,7 +34,7 @@ impl Play {
     ghost use Rattle.replay_run.specs.Played.{IsBegun, PlaysEvent, plain_kind};
     ghost use Rattle.session_run.specs.Runs.{Begins};
 
-    /// Before the first line.
+    /// Before the first line. Refused only for lack of memory.
     pub fn new(alloc: Global) -> Result<Self, NoMemory>
         ensures { IfOk result (λ play. Begins plain_kind play []) }
     {

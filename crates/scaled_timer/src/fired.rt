@@ -33,18 +33,21 @@ impl FiredList {
         FiredList { fired }
     }
 
+    /// The timers, in the order in which they fired.
     pub fn as_slice(&self) -> &[Fired]
         ensures { result.now ≡ self.now }
     {
         self.fired.as_slice()
     }
 
+    /// How many timers fired.
     pub fn len(&self) -> usize
         ensures { result ≡ length self.now }
     {
         self.fired.len()
     }
 
+    /// Whether no timer fired.
     pub fn is_empty(&self) -> bool
         ensures { result ≡ (length self.now == 0) }
     {

@@ -95,7 +95,7 @@ impl Timers {
     ghost use Rattle.scaled_timer.specs.Due.{due_timers, waiting_timers};
     ghost use Rattle.scaled_timer.specs.Timing.{Timing, has_timer, without_timer, IsHeld, firing, names_of};
 
-    /// No armed timer, under the state 0.
+    /// No armed timer, under the state 0. Refused only for lack of memory.
     pub fn new(alloc: Global, kinds: &[TimerKind]) -> Result<Timers, NoMemory>
         requires { length kinds.now < 2 ^ 32 }
         ensures { IfOk result (λ made. made ≡ record { kinds = kinds.now; state = 0; latest = 0; armed = []; fired = [] }) }
@@ -149,6 +149,7 @@ impl Timers {
     }
 
     /// Arms a timer of the kind, which has the number `id`. Out of memory is also answered once 2^63 − 1 timers were armed.
+    /// After running out of memory nothing has changed.
     pub fn arm(&mut self, kind: u32, id: u64, now: u64) -> Result<Timer, NoMemory>
         requires kind { kind < length self.old.kinds }
         requires later { self.old.latest ≤ now }

@@ -41,7 +41,8 @@ impl fmt::Display for ConfigEnd {
 
 impl Error for ConfigEnd {}
 
-/// Reads a source to its end, and the configuration that its octets spell.
+/// Reads a source to its end, and the configuration that its octets spell. Refused with the first fault of the text
+/// (`Refused`), beyond 1,048,576 octets (`TooLong`), where the source failed (`ReadFault`), and for lack of memory.
 pub fn load_config<C: Source>(alloc: Global, source: &mut C) -> Result<Config, ConfigEnd>
     ensures loads { Loads (C.left source.old) (C.left source.new) result }
     ensures in_range { IfOk result IsInRange }
@@ -56,7 +57,8 @@ pub fn load_config<C: Source>(alloc: Global, source: &mut C) -> Result<Config, C
     }
 }
 
-/// Reads a source to its end, or until there are too many octets for a configuration.
+/// Reads a source to its end, or until there are too many octets for a configuration. Those are more than 1,048,576
+/// (`TooLong`); the other refusals are a source that failed (`ReadFault`) and lack of memory.
 pub fn load_text<C: Source>(alloc: Global, source: &mut C) -> Result<Octets, ConfigEnd>
     ensures reads { ReadsWhole (C.left source.old) (C.left source.new) result }
     ensures cause { CausesFault (C.faults source.old) (C.faults source.new) result }

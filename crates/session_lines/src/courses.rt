@@ -42,7 +42,8 @@ impl Courses {
         self.greatest
     }
 
-    /// Whether an event may follow; where it may, it has.
+    /// Whether an event may follow; where it may, it has. An event that may not, and running out of memory, leave all as it
+    /// was.
     pub fn follow(&mut self, event: &PlainEvent) -> Result<bool, NoMemory>
         requires { IsNumbered event.now }
         ensures { Follows self.old event.now self.new result }

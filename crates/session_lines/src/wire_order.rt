@@ -39,7 +39,8 @@ impl WireOrder {
         }
     }
 
-    /// Whether an event may follow; where it may, it has.
+    /// Whether an event may follow; where it may, it has. An event that may not, and running out of memory, leave all as it
+    /// was.
     pub fn follow(&mut self, event: &Event) -> Result<bool, NoMemory>
         ensures { FollowsWire self.old event.now self.new result }
     {

@@ -64,7 +64,7 @@ impl Lines {
         self.start += n;
     }
 
-    /// Reads more, behind what is held. 0 is the end of the source.
+    /// Reads more, behind what is held. 0 is the end of the source. After a failure the octets that are held are as they were.
     pub fn fill<S: Source>(&mut self, source: &mut S) -> Result<usize, Failed>
         requires { length (held_of self.old) < 131072 }
         ensures fills { Fills (S.left source.old) (S.left source.new) (held_of self.old) (held_of self.new) }

@@ -29,8 +29,8 @@ pub trait Player {
     /// The text is the summary of what came of the lines so far.
     ghost sums: { Self → List ℕ → Type 0 };
 
-    /// Plays the next line, given without its newline, and appends the lines of its notes. Where it doesn't go on, the text
-    /// is as it was.
+    /// Plays the next line, given without its newline, and appends the lines of its notes. Where it doesn't go on, the text is
+    /// as it was. Running out of memory leaves the text as it was too.
     fn line(&mut self, line: &[u8], text: &mut Octets) -> Result<Went, NoMemory>
         requires { IsPlaying (kind_of stands refuses can_end sums) self.old }
         ensures { PlaysLine (kind_of stands refuses can_end sums) self.old line.now text.old self.new text.new result };

@@ -10,8 +10,8 @@ use io_ports::NoMemory;
 use std::alloc::{AllocError, Global};
 
 impl Permits {
-    /// Permits for so many seats, from 1 to 2^20. At most `max` of them, which is at most 2^20, are held at once over
-    /// all threads. No seat holds one yet.
+    /// Permits for so many seats, from 1 to 2^20. At most `max` of them, which is at most 2^20, are held at once over all
+    /// threads. No seat holds one yet. Refused only for lack of memory.
     pub fn new(alloc: Global, max: u64, seats: u32) -> Result<(Permits, PermitSeats), NoMemory>
         requires max { max ≤ most }
         requires seats { (1 ≤ seats) × (seats ≤ most) }

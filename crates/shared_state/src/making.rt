@@ -83,8 +83,8 @@ fn follow_all(
     Ok(list)
 }
 
-/// A publisher, and so many followers, of the resources of the configuration, which are at most 16. The publisher has
-/// shown version 0, of which all pressures are 0, and no follower has looked yet.
+/// A publisher, and so many followers, of the resources of the configuration, which are at most 16. The publisher has shown
+/// version 0, of which all pressures are 0, and no follower has looked yet. Refused only for lack of memory.
 pub fn make_shared<R: Wait>(
     rt: &R,
     alloc: Global,

@@ -36,8 +36,8 @@ const PUT: usize = 1;
 const MAX_PUT: u64 = 1 << 62;
 
 impl Bucket {
-    /// A bucket without tokens, `seats` seats that take them, from 1 to 2^20, and the one that puts them. `burst` is
-    /// from 1 to 2^40.
+    /// A bucket without tokens, `seats` seats that take them, from 1 to 2^20, and the one that puts them. `burst` is from 1 to
+    /// 2^40. Refused only for lack of memory.
     pub fn new(
         alloc: Global,
         burst: u64,

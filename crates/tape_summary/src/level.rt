@@ -57,7 +57,8 @@ impl Level {
     }
 }
 
-/// What a note leaves of a plain session's write buffer, into which bodies alone are framed.
+/// What a note leaves of a plain session's write buffer, into which bodies alone are framed. A length past 2^64 - 1 counts as
+/// out of memory.
 pub fn write_after(write: Level, note: &Note) -> Result<Level, NoMemory>
     ensures { IfOk result (WriteGoes write note.now) }
 {

@@ -44,6 +44,7 @@ impl LineEnd {
         line
     }
 
+    /// The octets so far.
     pub fn as_slice(&self) -> &[u8]
         ensures { result.now ≡ text_of self.now }
     {

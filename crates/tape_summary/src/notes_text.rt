@@ -13,7 +13,7 @@ use flow_gate::{BufferId, FlowId};
 use flow_notes::{Names, Note, Notes, Passage, note_text};
 use io_ports::{NoMemory, Octets};
 
-/// Appends the lines of all notes, or nothing.
+/// Appends the lines of all notes, or nothing. After running out of memory the text is as it was.
 pub fn append_notes(notes: &Notes, names: &Names, text: &mut Octets) -> Result<(), NoMemory>
     requires { AllByRecursion (IsNote names.now) notes.now }
     ensures ok { OnOk result (text.new ≡ text.old ++ notes_text names.now notes.now) }

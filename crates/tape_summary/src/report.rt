@@ -27,8 +27,8 @@ pub fn put_paused(into: &mut Octets, pause: Pause) -> Result<(), NoMemory>
     into.push_all(line.as_slice())
 }
 
-/// Appends the line of a flow's buffer: its name, its limit and its peak; nothing where it never held
-/// an octet.
+/// Appends the line of a flow's buffer: its name, its limit and its peak in octets; nothing where it never held an octet.
+/// Running out of memory may leave some of the line.
 pub fn put_flow_peak(
     into: &mut Octets,
     name: &[u8],
@@ -48,7 +48,7 @@ pub fn put_flow_peak(
     put_numbers(into, limit, peak)
 }
 
-/// The same of a stage of a flow, by its place from 1.
+/// The same of a stage of a flow, by its place from 1. Running out of memory may leave some of the line.
 pub fn put_stage_peak(
     into: &mut Octets,
     flow: FlowId,
@@ -67,7 +67,7 @@ pub fn put_stage_peak(
     put_numbers(into, limit, peak)
 }
 
-/// The same of a connection's write buffer.
+/// The same of a connection's write buffer. Running out of memory may leave some of the line.
 pub fn put_write_peak(into: &mut Octets, conn: u32, limit: u32, peak: u64) -> Result<(), NoMemory>
     ensures { OnOk result (into.new ≡ into.old ++ peak_line (codes "write" ∷ decimal conn ∷ []) limit peak) }
 {
@@ -87,7 +87,7 @@ fn put_numbers(into: &mut Octets, limit: u32, peak: u64) -> Result<(), NoMemory>
     into.push_all(b"\n")
 }
 
-/// Appends the last line: how many dispatches there were.
+/// Appends the last line: how many dispatches there were. Running out of memory may leave some of the line.
 pub fn put_done(into: &mut Octets, turns: u64) -> Result<(), NoMemory>
     ensures { OnOk result (into.new ≡ into.old ++ report_line (codes "done" ∷ decimal turns ∷ [])) }
 {

@@ -56,7 +56,7 @@ fn put_stream(into: &mut Octets, log: &PeakLog, x: u64) -> Result<(), NoMemory>
     put_flow_peak(into, b"send", flow, limits.send, levels.send.most)
 }
 
-/// Appends a line for each pause.
+/// Appends a line for each pause. Running out of memory may leave some of them.
 pub fn put_pauses(into: &mut Octets, log: &PauseLog) -> Result<(), NoMemory>
     ensures { OnOk result (into.new ≡ into.old ++ pause_lines log.now.pauses.items) }
 {

@@ -7,7 +7,7 @@ use flow_gate::FlowId;
 use io_ports::{NoMemory, Octets};
 use itoa::Buffer;
 
-/// Appends a number in decimal.
+/// Appends a number in decimal. Running out of memory may leave some of it.
 pub fn put_number(into: &mut Octets, n: u64) -> Result<(), NoMemory>
     ensures ok { OnOk result (into.new ≡ into.old ++ decimal n) }
     ensures err { OnErr result (Extends into.old into.new) }
@@ -16,7 +16,7 @@ pub fn put_number(into: &mut Octets, n: u64) -> Result<(), NoMemory>
     into.push_all(digits.format(n).as_bytes())
 }
 
-/// Appends a text and a number.
+/// Appends a text and a number. Running out of memory may leave some of them.
 pub fn put_behind(into: &mut Octets, text: &[u8], n: u64) -> Result<(), NoMemory>
     ensures ok { OnOk result (into.new ≡ into.old ++ (text.now ++ decimal n)) }
     ensures err { OnErr result (Extends into.old into.new) }
@@ -25,7 +25,7 @@ pub fn put_behind(into: &mut Octets, text: &[u8], n: u64) -> Result<(), NoMemory
     put_number(into, n)
 }
 
-/// Appends a flow: its exchange, and q for the request or r for the response.
+/// Appends a flow: its exchange, and q for the request or r for the response. Running out of memory may leave some of it.
 pub fn put_flow(into: &mut Octets, flow: FlowId) -> Result<(), NoMemory>
     ensures { OnOk result (into.new ≡ into.old ++ flow_word flow) }
 {

@@ -1,5 +1,6 @@
 //! How exchanges and connections of wire sessions end: dooms with what they leave to be told, closes, waiting lists, timers
 //! that fire, and resets under overload.
+//! The clauses are those of `wire_state`.
 #![tactic(auto, unfolding(wire_state::specs::Progress::to_go))]
 
 mod closes;

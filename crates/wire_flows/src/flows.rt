@@ -136,7 +136,8 @@ impl WireFlows {
         self.gates.next_low(BufferId::Write(conn))
     }
 
-    /// The head of a flow came, whose head and whose end hadn't come, and with it the flow's end where `last` holds.
+    /// The head of a flow came, whose head and whose end hadn't come, and with it the flow's end where `last` holds. It takes
+    /// no memory, and is never refused.
     pub fn head(&mut self, flow: FlowId, fields: FieldList, last: bool) -> Result<(), NoMemory>
         requires live { IsThere self.old flow }
         requires goes_on { IfSome (flow_in self.old flow) (λ f. f.message.ended ≡ false) }
@@ -170,7 +171,7 @@ impl WireFlows {
         self.exchanges.receive(flow, octets)
     }
 
-    /// The end of a flow came, which hadn't come, with trailers or none.
+    /// The end of a flow came, which hadn't come, with trailers or none. It takes no memory, and is never refused.
     pub fn finish(&mut self, flow: FlowId, trailers: Option<FieldList>) -> Result<(), NoMemory>
         requires live { IsThere self.old flow }
         requires goes_on { IfSome (flow_in self.old flow) (λ f. f.message.ended ≡ false) }

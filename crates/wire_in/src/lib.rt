@@ -1,4 +1,5 @@
 //! What comes in to wire sessions: events, and the frames of the octets that were read.
+//! The clauses are those of `wire_state`.
 #![tactic(auto, unfolding(wire_state::specs::Progress::to_go))]
 
 mod acts;

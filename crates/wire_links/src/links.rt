@@ -129,7 +129,8 @@ impl Links {
             .copied()
     }
 
-    /// A client's connection comes. It is open, and its peer has named no number of concurrent streams.
+    /// A client's connection comes. It is open, and its peer has named no number of concurrent streams. After running out of
+    /// memory nothing has changed.
     pub fn accept(&mut self, conn: u32) -> Result<(), NoMemory>
         requires { is_known conn self.old ≡ false }
         ensures ok { OnOk result (self.new ≡ accepted conn self.old) }
@@ -145,6 +146,7 @@ impl Links {
     }
 
     /// A connection to a cluster comes. It is open, its peer has named no number of concurrent streams, and it can be chosen.
+    /// After running out of memory nothing has changed.
     pub fn join(&mut self, conn: u32, cluster: u32) -> Result<(), NoMemory>
         requires { is_known conn self.old ≡ false }
         ensures ok { OnOk result (self.new ≡ joined conn cluster self.old) }

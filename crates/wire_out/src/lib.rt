@@ -1,4 +1,5 @@
 //! How the octets of wire sessions go out: runs, units in rotation, and what is told when buffers drain.
+//! The clauses are those of `wire_state`.
 #![tactic(auto)]
 
 mod controls;

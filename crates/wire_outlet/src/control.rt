@@ -30,8 +30,8 @@ impl Model for Control {
 }
 
 impl Control {
-    /// SETTINGS with these numbers and values, in their order (RFC 9113 section 6.5). The payload is
-    /// at most 16,384 octets, which every peer takes.
+    /// SETTINGS with these numbers and values, in their order (RFC 9113 section 6.5). The payload is at most 16,384 octets,
+    /// which every peer takes. Refused only for lack of memory.
     pub fn settings(alloc: Global, settings: &[(u16, u32)]) -> Result<Self, NoMemory>
         requires { 6 * length settings.now ≤ 16384 }
         ensures { IfOk result (λ control. control ≡ settings_octets settings.now) }
@@ -41,7 +41,7 @@ impl Control {
         Ok(Control { octets })
     }
 
-    /// The client preface, and SETTINGS behind it (RFC 9113 section 3.4).
+    /// The client preface, and SETTINGS behind it (RFC 9113 section 3.4). Refused only for lack of memory.
     pub fn preface_settings(alloc: Global, settings: &[(u16, u32)]) -> Result<Self, NoMemory>
         requires { 6 * length settings.now ≤ 16384 }
         ensures { IfOk result (λ control. control ≡ preface ++ settings_octets settings.now) }
@@ -51,7 +51,7 @@ impl Control {
         Ok(Control { octets })
     }
 
-    /// SETTINGS that acknowledges the peer's (RFC 9113 section 6.5.3).
+    /// SETTINGS that acknowledges the peer's (RFC 9113 section 6.5.3). Refused only for lack of memory.
     pub fn settings_ack(alloc: Global) -> Result<Self, NoMemory>
         ensures { IfOk result (λ control. control ≡ settings_ack_octets) }
     {
@@ -64,7 +64,7 @@ impl Control {
         })
     }
 
-    /// PING that answers one with these eight octets (RFC 9113 section 6.7).
+    /// PING that answers one with these eight octets (RFC 9113 section 6.7). Refused only for lack of memory.
     pub fn ping_ack(alloc: Global, octets: &[u8]) -> Result<Self, NoMemory>
         requires { length octets.now ≡ 8 }
         ensures { IfOk result (λ control. control ≡ ping_ack_octets octets.now) }
@@ -105,6 +105,7 @@ impl Control {
         })
     }
 
+    /// The octets, at most 16,417.
     pub fn as_slice(&self) -> &[u8]
         ensures octets { result.now ≡ self.now }
         ensures fits { length result.now ≤ 16417 }

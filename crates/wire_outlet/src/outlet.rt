@@ -216,8 +216,8 @@ impl Outlet {
         self.write.add(&update_octets(stream, increment))
     }
 
-    /// Frames the GOAWAY before a close, ahead of all that waits (RFC 9113 section 6.8). The frame is
-    /// given too.
+    /// Frames the GOAWAY before a close, ahead of all that waits (RFC 9113 section 6.8). The frame is given too. After running
+    /// out of memory nothing has changed.
     pub fn farewell(&mut self, last: u32, code: u32) -> Result<(Octets, Crossed), NoMemory>
         requires open { self.old.write.above ≡ false }
         requires last { last < 2 ^ 31 }

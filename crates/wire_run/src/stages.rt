@@ -26,7 +26,7 @@ impl StageTable {
     ghost use Rattle.std.specs.Prelude.{IfOk, Some, false, true};
     ghost use Rattle.wire_run.specs.Stages.{AreStages, Gives};
 
-    /// Those of these routes.
+    /// Those of these routes. Refused only for lack of memory.
     pub fn new(alloc: Global, routes: &[Route]) -> Result<Self, NoMemory>
         ensures { IfOk result (λ table. AreStages table.rows.items routes.now) }
     {
@@ -39,14 +39,14 @@ impl StageTable {
         Ok(StageTable { alloc, rows })
     }
 
-    /// The limits of the stages that a row's requests pass; none where there is no such row.
+    /// The limits of the stages that a row's requests pass; none where there is no such row. Refused only for lack of memory.
     pub fn request_limits(&self, row: Option<u32>) -> Result<Vec<u32>, NoMemory>
         ensures { IfOk result (λ limits. Gives self.now.rows.items row false limits.items) }
     {
         self.limits(row, false)
     }
 
-    /// The limits of the stages that a row's responses pass; none where there is no such row.
+    /// The limits of the stages that a row's responses pass; none where there is no such row. Refused only for lack of memory.
     pub fn response_limits(&self, row: Option<u32>) -> Result<Vec<u32>, NoMemory>
         ensures { IfOk result (λ limits. Gives self.now.rows.items row true limits.items) }
     {

@@ -1,4 +1,9 @@
 //! The state of a worker's wire sessions: its connections, its exchanges, and what is under way in a dispatch.
+//!
+//! Three clauses stand at the calls that change it, here and in the crates above, up to `worker_core`. `sound`: what holds of a core
+//! between any two calls (`specs/Sound.antt`) still holds. `go`: what is still to do (`specs/Progress.antt`) has become less, or has
+//! grown by so much at most, so that each dispatch comes to its end. `notes`: notes are appended, and none is changed. Where a call
+//! answers out of memory nothing is said of what it leaves: the core has failed then, and answers `Failed` from then on.
 #![tactic(auto, unfolding(crate::specs::Progress::to_go, crate::specs::Progress::conn_go))]
 
 mod agenda;

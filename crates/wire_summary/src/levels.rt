@@ -34,7 +34,7 @@ impl ExchangePlaces {
     ghost use Rattle.std.specs.Prelude.{◌≡◌, IfOk};
     ghost use Rattle.wire_summary.specs.Places.{bare as bare_sides, changed_at, emptied_sides, framed, side_at, sides_of};
 
-    /// Those of an exchange that passes no stages.
+    /// Those of an exchange that passes no stages. Refused only for lack of memory.
     pub fn bare(alloc: Global) -> Result<Self, NoMemory>
         ensures { IfOk result (λ made. sides_of made ≡ bare_sides) }
     {
@@ -99,7 +99,7 @@ impl WriteLevel {
         }
     }
 
-    /// What a change leaves.
+    /// What a change leaves. A length past 2^64 - 1 counts as out of memory.
     pub fn after(self, change: WriteChange) -> Result<Self, NoMemory>
         ensures { IfOk result (λ left. left ≡ written change self) }
     {
@@ -171,7 +171,8 @@ impl Levels {
         }
     }
 
-    /// An exchange passes stages with these limits, which has to be said before its first note; later it changes nothing.
+    /// An exchange passes stages with these limits, which has to be said before its first note; later it changes nothing. After
+    /// running out of memory the levels are to be let go.
     #[tactic(auto, using(crate::proofs::Beginning::passed_known))]
     pub fn pass(
         &mut self,
@@ -215,6 +216,7 @@ impl Levels {
         Ok(())
     }
 
+    /// The limits that hold of every buffer of a kind, in octets.
     pub fn limits(&self) -> BufferLimits
         ensures { result ≡ self.now.limits }
     {

@@ -28,7 +28,8 @@ impl WireLog {
         }
     }
 
-    /// An exchange passes stages with these limits, which has to be said before its first note; later it changes nothing.
+    /// An exchange passes stages with these limits, which has to be said before its first note; later it changes nothing. After
+    /// running out of memory the log is to be let go.
     #[tactic(auto, using(crate::proofs::Logging::one_passes))]
     pub fn pass(
         &mut self,

@@ -30,7 +30,8 @@ impl FlowPlaces {
     ghost use Rattle.tape_summary.specs.Levels.{emptied, no_level};
     ghost use Rattle.wire_summary.specs.Places.{changed, fallen_at, framed, most_at, risen_at, taken};
 
-    /// The places of a flow that passes stages with these limits: none of them ever held an octet.
+    /// The places of a flow that passes stages with these limits: none of them ever held an octet. Refused only for lack of
+    /// memory.
     pub fn new(alloc: Global, limits: Vec<u32>) -> Result<Self, NoMemory>
         ensures limits { IfOk result (λ made. made.limits.items ≡ limits.items) }
         ensures levels { IfOk result (λ made. made.levels.items ≡ replicate (length limits.items + 2) no_level) }
@@ -63,7 +64,8 @@ impl FlowPlaces {
         }
     }
 
-    /// Changes the levels. Answers how many octets left the send buffer.
+    /// Changes the levels. Answers how many octets left the send buffer. A length past 2^64 - 1 counts as out of memory, after
+    /// which the levels are to be let go.
     pub fn change(&mut self, change: Change) -> Result<u64, NoMemory>
         ensures levels { IfOk result (λ n. self.new.levels.items ≡ changed change self.old.levels.items) }
         ensures framed { IfOk result (λ n. n ≡ framed change self.old.levels.items) }

@@ -56,6 +56,7 @@ impl DueList {
         self.fired.len() - self.taken
     }
 
+    /// Whether none is left.
     pub fn is_empty(&self) -> bool
         ensures { result ≡ (length self.now == 0) }
     {

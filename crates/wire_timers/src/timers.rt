@@ -46,7 +46,8 @@ impl Model for WireTimers {
 }
 
 impl WireTimers {
-    /// No armed timer, under the state 0, with the lengths of the configuration's table `timeouts`.
+    /// No armed timer, under the state 0, with the lengths of the configuration's table `timeouts`. Refused only for lack of
+    /// memory.
     pub fn new(alloc: Global, config: &Config) -> Result<WireTimers, NoMemory>
         requires { AreTimeouts config.now.timeouts }
         ensures none { IfOk result (λ made. made ≡ none_armed made.kinds) }
@@ -61,7 +62,7 @@ impl WireTimers {
     }
 
     /// Arms the timer of this kind for the exchange or the connection. One that is armed already is armed anew, and so last in
-    /// the order of arming. Where the kind's length is 0 nothing changes.
+    /// the order of arming. Where the kind's length is 0 nothing changes. After running out of memory nothing has changed.
     pub fn arm(&mut self, kind: FireKind, id: u64, now: u64) -> Result<(), NoMemory>
         requires later { self.old.latest ≤ now }
         requires now { now < 2 ^ 60 }
@@ -114,7 +115,7 @@ impl WireTimers {
         self.timers.set_state(ppm);
     }
 
-    /// Takes out the timers that are due, by due moment and then by arming.
+    /// Takes out the timers that are due, by due moment and then by arming. After running out of memory nothing has changed.
     pub fn take_due(&mut self, now: u64) -> Result<DueList, NoMemory>
         requires later { self.old.latest ≤ now }
         requires now { now < 2 ^ 60 }

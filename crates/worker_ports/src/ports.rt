@@ -21,7 +21,7 @@ pub trait Gauge {
     /// How often a reading failed. The count ends at 2^64 - 1.
     ghost faults: { Self → ℕ };
 
-    /// The pressure of a resource, in parts per million.
+    /// The pressure of a resource, in parts per million. At most 1,000,000. A reading that fails counts as a fault.
     fn read(&mut self, resource: u32) -> Result<u32, Failed>
         ensures most { IfOk result (λ pressure. pressure ≤ 1000000) }
         ensures cause { FailsByFault (faults self.old) (faults self.new) result };
@@ -29,6 +29,7 @@ pub trait Gauge {
 
 /// A gate that a worker passes at the beginning of each turn. A test's gate may hold it there.
 pub trait Gate {
+    /// Passes the gate at a point, a turn's number from 1 on. It may wait.
     fn pass(&mut self, point: u32);
 }
 

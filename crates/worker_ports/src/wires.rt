@@ -94,7 +94,7 @@ pub trait Wires {
 }
 
 impl Wired {
-    /// The same once more. Octets are copied as a slice.
+    /// The same once more. Octets are copied as a slice. Refused only for lack of memory.
     pub fn copied(&self, alloc: Global) -> Result<Wired, NoMemory>
         ensures { IfOk result (λ made. made ≡ self.now) }
     {

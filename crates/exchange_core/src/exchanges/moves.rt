@@ -47,7 +47,7 @@ impl Exchanges {
     }
 
     /// One move of a flow, as `step`, and then what goes next into the write buffer, as `next_unit`, with one look-up of the
-    /// exchange. None exactly where the flow isn't live: then nothing changes.
+    /// exchange. None exactly where the flow isn't live: then nothing changes. After running out of memory nothing has changed.
     pub fn advance(
         &mut self,
         flow: FlowId,
@@ -157,7 +157,8 @@ impl Exchanges {
         flow.frame_body(out, head, n, last)
     }
 
-    /// As `frame_body` with this piece, and then what goes next, as `next_unit`, with one look-up of the exchange.
+    /// As `frame_body` with this piece, and then what goes next, as `next_unit`, with one look-up of the exchange. After
+    /// running out of memory nothing has changed.
     pub fn frame_unit(
         &mut self,
         flow: FlowId,

@@ -33,8 +33,8 @@ fn session_line(
     }
 }
 
-/// Reads the line of an event of a plain session or of a wire session, without its newline. None
-/// where the line is the spelling of no such event.
+/// Reads the line of an event of a plain session or of a wire session, without its newline. None where the line is the spelling
+/// of no such event. Running out of memory says nothing of the line.
 pub fn read_event(
     alloc: Global,
     line: &[u8],

@@ -134,7 +134,8 @@ fn tape_line(alloc: Global, line: &[u8], names: &Names) -> Result<Option<Note>, 
     Ok(life_note(keyword, words))
 }
 
-/// Reads the line of a note, without its newline. None where the line is the spelling of no note.
+/// Reads the line of a note, without its newline. None where the line is the spelling of no note. Running out of memory says
+/// nothing of the line.
 pub fn read_note(alloc: Global, line: &[u8], names: &Names) -> Result<Option<Note>, NoMemory>
     ensures some { IfOk result (λ read. IfSome read (λ n. (line.now ≡ note_spelling names.now n) × IsNote names.now n × FitsNote n)) }
     ensures only { IfOk result (λ read. IfSome read (λ n. (m : Note) → FitsNote m → IsNote names.now m → note_spelling names.now m ≡ line.now → m ≡ n)) }

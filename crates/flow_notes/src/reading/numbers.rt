@@ -31,8 +31,8 @@ pub fn number_words(alloc: Global, words: Option<&[u8]>) -> Result<Option<Vec<u3
     Ok(Some(numbers))
 }
 
-/// Reads a keyword and numbers of 32 bits behind it, any number of them, each behind one space.
-/// None where the line isn't that.
+/// Reads a keyword and numbers of 32 bits behind it, any number of them, each behind one space. None where the line isn't that.
+/// Running out of memory says nothing of the line.
 pub fn read_numbers(
     alloc: Global,
     keyword: &[u8],

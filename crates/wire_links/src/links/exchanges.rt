@@ -92,7 +92,7 @@ impl Links {
     }
 
     /// The head of the exchange's request is framed: it is on this stream of the cluster's connection from now on. Where the
-    /// exchange isn't live, nothing changes.
+    /// exchange isn't live, nothing changes. After running out of memory nothing has changed.
     pub fn framed_to(&mut self, exchange: u64, stream: u32) -> Result<(), NoMemory>
         requires { IfSome (ends_of exchange self.old) (IsToFrame stream self.old) }
         ensures ok { OnOk result (self.new ≡ framed exchange stream self.old) }

@@ -1,5 +1,5 @@
 use Rattle.io_ports.specs.Faults.{Rose}
-use Rattle.proxy_wire.specs.Crews.{IsPaid, OneFailed, back_of}
+use Rattle.proxy_wire.specs.Pools.{IsPaid, OneFailed, back_of}
 use Rattle.proxy_wire.specs.Sites.{TellsReturned, numbered}
 use Rattle.std.proofs.Common.{All, map, reverse, vec_len, ◌<◌, ◌^◌, ◌≡◌, ◌≤◌, ◌⊎◌}
 use Rattle.worker_threads.specs.Starting.{outside_of}

@@ -1,7 +1,7 @@
 // The workers of the proxy, and what they are made of.
 ghost use Rattle.std.specs.Prelude.{[], All, IfOk, OnOk, vec_len, ◌≡◌};
 ghost use Rattle.proxy_config.specs.Ranges.{IsInRange};
-ghost use Rattle.proxy_wire.specs.Crews.{SharesOf};
+ghost use Rattle.proxy_wire.specs.Pools.{SharesOf};
 ghost use Rattle.proxy_wire.specs.Hires.{HasParts, IsNext, IsTaken};
 ghost use Rattle.proxy_wire.specs.Tasks.{IsTask};
 ghost use Rattle.shared_state.specs.PermitSeats.{IsSeatOf, seats_in};
@@ -28,7 +28,7 @@ pub(crate) struct Task<'a> {
 }
 
 /// The workers that were fitted, and what they share. It can't be dropped: `give_back_all` ends it.
-pub(crate) struct Crew<M, C, L> {
+pub(crate) struct Pool<M, C, L> {
     pub workers: Vec<Worker<M, C, OpenGate, L>>,
     pub shared: Shared,
 }

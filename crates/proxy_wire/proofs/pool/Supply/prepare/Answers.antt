@@ -1,8 +1,8 @@
 -- The seat that is taken is one of these permits', and so are those that are left.
-use Rattle.proxy_wire.proofs.Crewing.{next_made}
+use Rattle.proxy_wire.proofs.Pooling.{next_made}
 use Rattle.proxy_wire.proofs.Sharing.{seat_taken, seats_left}
 use Rattle.std.proofs.Common.{refl}
-use Rattle.proxy_wire.proofs.crew.Supply.prepare.Goals as goal
+use Rattle.proxy_wire.proofs.pool.Supply.prepare.Goals as goal
 
 pub returns-in_err-core-clause-seats : goal.returns-in_err-core-clause-seats
 returns-in_err-core-clause-seats g c = seats_left c.args.permits.now _ _ c.in-Some-take_one.seat c.in-Some-take_one.ensures c.requires.seats

@@ -5,12 +5,12 @@ use Rattle.post_queue.specs.declared.post_box.PostBox.{PostBox}
 use Rattle.proxy_config.specs.declared.config.Cluster.{Cluster}
 use Rattle.proxy_config.specs.declared.config.Config.{Config}
 use Rattle.proxy_wire.proofs.Telling.{fits_more, fitted_none}
-use Rattle.proxy_wire.specs.Crews.{EachTwo, IsCrew, IsHired, IsIdle, IsPaid, OneFailed, SharesOf}
+use Rattle.proxy_wire.specs.Pools.{EachTwo, IsPool, IsHired, IsIdle, IsPaid, OneFailed, SharesOf}
 use Rattle.proxy_wire.specs.Hires.{Fits, HasParts, HiresAll, HiresNone, HiresOne, HiresSome, IsNext, IsTaken, Joins, SharesMore, Stays}
 use Rattle.proxy_wire.specs.Sites.{TellsFitted, WireTold, numbered}
 use Rattle.proxy_wire.specs.Working.{Begins}
-use Rattle.proxy_wire.specs.declared.crew.Crew.{Crew}
-use Rattle.proxy_wire.specs.declared.crew.Parts.{Parts}
+use Rattle.proxy_wire.specs.declared.pool.Pool.{Pool}
+use Rattle.proxy_wire.specs.declared.pool.Parts.{Parts}
 use Rattle.session_run.specs.Ends.{AppendsFront}
 use Rattle.shared_state.specs.PermitSeats.{IsSeatOf}
 use Rattle.shared_state.specs.declared.permits.PermitSeat.{PermitSeat}
@@ -106,61 +106,61 @@ module _ {W M C L : Type 0} (bare : M → W) (o : Outside M C L) where
   hired_idle : (config : Config) (shared : Shared) (permits : Permits) (i : ℕ) (g : W × (C × L)) (w : Worker M C OpenGate L) → permits ≡ shared.permits → IsHired bare o config shared i g w → IsIdle bare o permits i g w
   hired_idle config shared permits i g w e h = record { begins = begins_front g w h.begins; seat = subst (λ (p : Permits). IsSeatOf p w.seat) (sym e) h.seat }
 
-  pub crew_none : (config : Config) (crew : Crew M C L) → SharesOf config crew.shared → length crew.workers.items ≡ 0 → length crew.shared.posts.items ≡ 0 → IsCrew bare o config crew []
-  crew_none config crew shares no_worker no_box = record { shares = shares; boxes = no_box; workers = record { same = no_worker; each = λ i a b less. absurd (omega (arith, less)) } }
+  pub pool_none : (config : Config) (pool : Pool M C L) → SharesOf config pool.shared → length pool.workers.items ≡ 0 → length pool.shared.posts.items ≡ 0 → IsPool bare o config pool []
+  pool_none config pool shares no_worker no_box = record { shares = shares; boxes = no_box; workers = record { same = no_worker; each = λ i a b less. absurd (omega (arith, less)) } }
 
-  pub crew_more : (config : Config) (old new : Crew M C L) (given : List (W × (C × L))) (told_a told_b : Option (WireTold W C L)) (one : HiresOne bare o config told_a told_b old new) → SharesMore old.shared new.shared → IsCrew bare o config old given
-      → IsCrew bare o config new (given ++ one.given ∷ [])
-  crew_more config old new given told_a told_b one more crew = record {
-    shares = record { permits = ap (λ (p : Permits). p.max) more.permits ∙ crew.shares.permits; names = more.names ∙ crew.shares.names };
+  pub pool_more : (config : Config) (old new : Pool M C L) (given : List (W × (C × L))) (told_a told_b : Option (WireTold W C L)) (one : HiresOne bare o config told_a told_b old new) → SharesMore old.shared new.shared → IsPool bare o config old given
+      → IsPool bare o config new (given ++ one.given ∷ [])
+  pool_more config old new given told_a told_b one more pool = record {
+    shares = record { permits = ap (λ (p : Permits). p.max) more.permits ∙ pool.shares.permits; names = more.names ∙ pool.shares.names };
     boxes =
         let l = length-append old.shared.posts.items (one.box ∷ []) in
         let k = length-append given (one.given ∷ []) in
-        let b = crew.boxes in
+        let b = pool.boxes in
         let is = ap length one.boxes in
         omega (arith, l, k, b, is);
     workers =
-        let kept : EachTwo (IsHired bare o config new.shared) given old.workers.items = each_mapped (IsHired bare o config old.shared) (IsHired bare o config new.shared) given old.workers.items (λ i g w less h. hired_kept config old.shared new.shared i g w more (let b = crew.boxes in omega (arith, less, b)) h) crew.workers in
-        let at : IsHired bare o config new.shared (length given) one.given one.worker = subst (λ (k : ℕ). IsHired bare o config new.shared k one.given one.worker) crew.workers.same one.hired in
+        let kept : EachTwo (IsHired bare o config new.shared) given old.workers.items = each_mapped (IsHired bare o config old.shared) (IsHired bare o config new.shared) given old.workers.items (λ i g w less h. hired_kept config old.shared new.shared i g w more (let b = pool.boxes in omega (arith, less, b)) h) pool.workers in
+        let at : IsHired bare o config new.shared (length given) one.given one.worker = subst (λ (k : ℕ). IsHired bare o config new.shared k one.given one.worker) pool.workers.same one.hired in
         subst (λ (ws : List (Worker M C OpenGate L)). EachTwo (IsHired bare o config new.shared) (given ++ one.given ∷ []) ws) (sym one.adds) (each_more (IsHired bare o config new.shared) given old.workers.items one.given one.worker kept at);
   }
 
-  pub crew_idle : (config : Config) (crew : Crew M C L) (permits : Permits) (given : List (W × (C × L))) → permits ≡ crew.shared.permits → IsCrew bare o config crew given → EachTwo (IsIdle bare o permits) given crew.workers.items
-  crew_idle config crew permits given e c = each_mapped (IsHired bare o config crew.shared) (IsIdle bare o permits) given crew.workers.items (λ i g w less h. hired_idle config crew.shared permits i g w e h) c.workers
+  pub pool_idle : (config : Config) (pool : Pool M C L) (permits : Permits) (given : List (W × (C × L))) → permits ≡ pool.shared.permits → IsPool bare o config pool given → EachTwo (IsIdle bare o permits) given pool.workers.items
+  pool_idle config pool permits given e c = each_mapped (IsHired bare o config pool.shared) (IsIdle bare o permits) given pool.workers.items (λ i g w less h. hired_idle config pool.shared permits i g w e h) c.workers
 
   -- all that were fitted go back where the next one can't run
-  pub hires_some : (config : Config) (old : Crew M C L) (permits : Permits) (new : List (Worker M C OpenGate L)) (given : List (W × (C × L))) (a b c : Option (WireTold W C L)) → permits ≡ old.shared.permits → IsCrew bare o config old given → suc (length given) ≤ config.proxy.workers
+  pub hires_some : (config : Config) (old : Pool M C L) (permits : Permits) (new : List (Worker M C OpenGate L)) (given : List (W × (C × L))) (a b c : Option (WireTold W C L)) → permits ≡ old.shared.permits → IsPool bare o config old given → suc (length given) ≤ config.proxy.workers
       → TellsFitted a (numbered 1 given) b → HiresNone bare o old.shared.permits b c old.workers.items new → HiresSome bare o config permits a c new
-  hires_some config old permits new given a b c e crew room tells (inl stays) = record {
+  hires_some config old permits new given a b c e pool room tells (inl stays) = record {
     given = given;
     most = omega (arith, room);
-    idle = subst (λ (ws : List (Worker M C OpenGate L)). EachTwo (IsIdle bare o permits) given ws) (sym stays.same) (crew_idle config old permits given e crew);
+    idle = subst (λ (ws : List (Worker M C OpenGate L)). EachTwo (IsIdle bare o permits) given ws) (sym stays.same) (pool_idle config old permits given e pool);
     tells = subst (λ (t : Option (WireTold W C L)). TellsFitted a (numbered 1 given) t) (sym stays.told) tells;
   }
-  hires_some config old permits new given a b c e crew room tells (inr one) = record {
+  hires_some config old permits new given a b c e pool room tells (inr one) = record {
     given = given ++ one.given ∷ [];
     most = let l = length-append given (one.given ∷ []) in omega (arith, room, l);
     idle =
         let at : IsIdle bare o permits (length given) one.given one.worker = record { begins = one.idle.begins; seat = subst (λ (p : Permits). IsSeatOf p one.worker.seat) (sym e) one.idle.seat } in
         subst (λ (ws : List (Worker M C OpenGate L)). EachTwo (IsIdle bare o permits) (given ++ one.given ∷ []) ws) (sym one.adds)
-        (each_more (IsIdle bare o permits) given old.workers.items one.given one.worker (crew_idle config old permits given e crew) at);
-    tells = fits_more a b c given one.given (length old.workers.items) crew.workers.same tells one.tells;
+        (each_more (IsIdle bare o permits) given old.workers.items one.given one.worker (pool_idle config old permits given e pool) at);
+    tells = fits_more a b c given one.given (length old.workers.items) pool.workers.same tells one.tells;
   }
 
   -- all were fitted
-  pub all_some : (config : Config) (crew : Crew M C L) (a b : Option (WireTold W C L)) → HiresAll bare o config a b crew → HiresSome bare o config crew.shared.permits a b crew.workers.items
-  all_some config crew a b h = record { given = h.given; most = let c = h.count in omega (arith, c); idle = crew_idle config crew crew.shared.permits h.given refl h.crew_is; tells = h.tells }
+  pub all_some : (config : Config) (pool : Pool M C L) (a b : Option (WireTold W C L)) → HiresAll bare o config a b pool → HiresSome bare o config pool.shared.permits a b pool.workers.items
+  all_some config pool a b h = record { given = h.given; most = let c = h.count in omega (arith, c); idle = pool_idle config pool pool.shared.permits h.given refl h.pool_is; tells = h.tells }
 
   -- ---- what each needs
-  pub crew_ready : (config : Config) (crew : Crew M C L) (given : List (W × (C × L))) → IsCrew bare o config crew given → (i : ℕ) (w : Worker M C OpenGate L) → i < length crew.workers.items → IsReady o crew.shared i (slice_index_or crew.workers.items i w)
-  crew_ready config crew given c i w less =
+  pub pool_ready : (config : Config) (pool : Pool M C L) (given : List (W × (C × L))) → IsPool bare o config pool given → (i : ℕ) (w : Worker M C OpenGate L) → i < length pool.workers.items → IsReady o pool.shared i (slice_index_or pool.workers.items i w)
+  pool_ready config pool given c i w less =
       let same = c.workers.same in
       let there : i < length given = omega (arith, less, same) in
-      let h : IsHired bare o config crew.shared i (slice_index_or given i (some_of given i there)) (slice_index_or crew.workers.items i w) = c.workers.each i (some_of given i there) w there in
-      let boxed : i < length crew.shared.posts.items = let b = c.boxes in omega (arith, there, b) in
-      let box : PostBox = slice_index_or crew.shared.posts.items i (some_of crew.shared.posts.items i boxed) in
-      let at : slice_get crew.shared.posts.items i ≡ Some box = slice_get-get_or crew.shared.posts.items i (some_of crew.shared.posts.items i boxed) boxed in
-      new_ready o crew.shared i box (slice_index_or crew.workers.items i w) at (record { core = h.begins.core; seat = h.seat; held = h.begins.none; pass = h.pass box at; names_are = h.clusters })
+      let h : IsHired bare o config pool.shared i (slice_index_or given i (some_of given i there)) (slice_index_or pool.workers.items i w) = c.workers.each i (some_of given i there) w there in
+      let boxed : i < length pool.shared.posts.items = let b = c.boxes in omega (arith, there, b) in
+      let box : PostBox = slice_index_or pool.shared.posts.items i (some_of pool.shared.posts.items i boxed) in
+      let at : slice_get pool.shared.posts.items i ≡ Some box = slice_get-get_or pool.shared.posts.items i (some_of pool.shared.posts.items i boxed) boxed in
+      new_ready o pool.shared i box (slice_index_or pool.workers.items i w) at (record { core = h.begins.core; seat = h.seat; held = h.begins.none; pass = h.pass box at; names_are = h.clusters })
 
   pub idle_paid : (permits : Permits) (given : List (W × (C × L))) (workers : List (Worker M C OpenGate L)) → EachTwo (IsIdle bare o permits) given workers → All (IsPaid permits) workers
   idle_paid permits given workers e i w less =
@@ -171,29 +171,29 @@ module _ {W M C L : Type 0} (bare : M → W) (o : Outside M C L) where
 
 -- ---- as far as the loop has come
 module _ {W M C L : Type 0} (bare : M → W) (o : Outside M C L) where
-  pub record HiredSoFar (config : Config) (n : ℕ) (a b : Option (WireTold W C L)) (crew : Crew M C L) : Type 0 where
+  pub record HiredSoFar (config : Config) (n : ℕ) (a b : Option (WireTold W C L)) (pool : Pool M C L) : Type 0 where
     pub given : List (W × (C × L))
     pub count : length given ≡ n
-    pub crew_is : IsCrew bare o config crew given
+    pub pool_is : IsPool bare o config pool given
     pub tells : TellsFitted a (numbered 1 given) b
 
-  pub so_none : (config : Config) (a : Option (WireTold W C L)) (crew : Crew M C L) → SharesOf config crew.shared → length crew.workers.items ≡ 0 → length crew.shared.posts.items ≡ 0 → HiredSoFar config 0 a a crew
-  so_none config a crew shares no_worker no_box = record { given = []; count = refl; crew_is = crew_none bare o config crew shares no_worker no_box; tells = fitted_none a a refl }
+  pub so_none : (config : Config) (a : Option (WireTold W C L)) (pool : Pool M C L) → SharesOf config pool.shared → length pool.workers.items ≡ 0 → length pool.shared.posts.items ≡ 0 → HiredSoFar config 0 a a pool
+  so_none config a pool shares no_worker no_box = record { given = []; count = refl; pool_is = pool_none bare o config pool shares no_worker no_box; tells = fitted_none a a refl }
 
-  pub so_more : (config : Config) (n : ℕ) (a b c : Option (WireTold W C L)) (old new : Crew M C L) → HiredSoFar config n a b old → HiresOne bare o config b c old new → SharesMore old.shared new.shared → HiredSoFar config (n + 1) a c new
+  pub so_more : (config : Config) (n : ℕ) (a b c : Option (WireTold W C L)) (old new : Pool M C L) → HiredSoFar config n a b old → HiresOne bare o config b c old new → SharesMore old.shared new.shared → HiredSoFar config (n + 1) a c new
   so_more config n a b c old new so one more = record {
     given = so.given ++ one.given ∷ [];
     count = let l = length-append so.given (one.given ∷ []) in let k = so.count in omega (arith, l, k);
-    crew_is = crew_more bare o config old new so.given b c one more so.crew_is;
-    tells = fits_more a b c so.given one.given (length old.workers.items) so.crew_is.workers.same so.tells one.tells;
+    pool_is = pool_more bare o config old new so.given b c one more so.pool_is;
+    tells = fits_more a b c so.given one.given (length old.workers.items) so.pool_is.workers.same so.tells one.tells;
   }
 
-  pub so_all : (config : Config) (n : ℕ) (a b : Option (WireTold W C L)) (crew : Crew M C L) → n ≡ config.proxy.workers → HiredSoFar config n a b crew → HiresAll bare o config a b crew
-  so_all config n a b crew e so = record { given = so.given; count = so.count ∙ e; crew_is = so.crew_is; tells = so.tells }
+  pub so_all : (config : Config) (n : ℕ) (a b : Option (WireTold W C L)) (pool : Pool M C L) → n ≡ config.proxy.workers → HiredSoFar config n a b pool → HiresAll bare o config a b pool
+  so_all config n a b pool e so = record { given = so.given; count = so.count ∙ e; pool_is = so.pool_is; tells = so.tells }
 
-  pub so_some : (config : Config) (n : ℕ) (permits : Permits) (a b c : Option (WireTold W C L)) (old : Crew M C L) (new : List (Worker M C OpenGate L)) → n < config.proxy.workers → permits ≡ old.shared.permits → HiredSoFar config n a b old → HiresNone bare o old.shared.permits b c old.workers.items new
+  pub so_some : (config : Config) (n : ℕ) (permits : Permits) (a b c : Option (WireTold W C L)) (old : Pool M C L) (new : List (Worker M C OpenGate L)) → n < config.proxy.workers → permits ≡ old.shared.permits → HiredSoFar config n a b old → HiresNone bare o old.shared.permits b c old.workers.items new
       → HiresSome bare o config permits a c new
-  so_some config n permits a b c old new less e so none = hires_some bare o config old permits new so.given a b c e so.crew_is (let k = so.count in omega (arith, less, k)) so.tells none
+  so_some config n permits a b c old new less e so none = hires_some bare o config old permits new so.given a b c e so.pool_is (let k = so.count in omega (arith, less, k)) so.tells none
 
 -- ---- a worker that has failed
 module _ {M C L : Type 0} (o : Outside M C L) where
@@ -223,7 +223,7 @@ module _ {W M C L : Type 0} (bare : M → W) (o : Outside M C L) where
   }
 
   -- one that was fitted behind its box may run
-  pub fits_one : (config : Config) (old new : Crew M C L) (mid : List (Worker M C OpenGate L)) (shared : Shared) (parts : Parts) (pass : RunnerPass) (box : PostBox) (a b : Option (WireTold W C L)) → SharesOf config old.shared → length old.workers.items ≡ length old.shared.posts.items → IsSeatOf old.shared.permits parts.seat
+  pub fits_one : (config : Config) (old new : Pool M C L) (mid : List (Worker M C OpenGate L)) (shared : Shared) (parts : Parts) (pass : RunnerPass) (box : PostBox) (a b : Option (WireTold W C L)) → SharesOf config old.shared → length old.workers.items ≡ length old.shared.posts.items → IsSeatOf old.shared.permits parts.seat
       → IsNew config parts.core.kind → mid ≡ old.workers.items → shared.permits ≡ old.shared.permits → shared.names ≡ old.shared.names → shared.posts.items ≡ old.shared.posts.items ++ box ∷ [] → IsRunnerOf box pass → new.shared ≡ shared
       → Fits bare o Appends (length config.clusters) parts pass a b mid new.workers.items → HiresOne bare o config a b old new
   fits_one config old new mid shared parts pass box a b shares len seat fresh same permits names boxes runs kept f = record {
@@ -253,7 +253,7 @@ module _ {W M C L : Type 0} (bare : M → W) (o : Outside M C L) where
           subst (λ (v : PostBox). IsRunnerOf v f.joins.worker.pass) is (subst (λ (p : RunnerPass). IsRunnerOf box p) (sym f.joins.pass_is) runs)
 
   -- and one that can't goes back
-  pub fits_idle : (old : Crew M C L) (new : List (Worker M C OpenGate L)) (parts : Parts) (pass : RunnerPass) (clusters : ℕ) (a b : Option (WireTold W C L)) → IsSeatOf old.shared.permits parts.seat
+  pub fits_idle : (old : Pool M C L) (new : List (Worker M C OpenGate L)) (parts : Parts) (pass : RunnerPass) (clusters : ℕ) (a b : Option (WireTold W C L)) → IsSeatOf old.shared.permits parts.seat
       → Stays bare o a b old.workers.items new ⊎ Fits bare o AppendsFront clusters parts pass a b old.workers.items new → HiresNone bare o old.shared.permits a b old.workers.items new
   fits_idle old new parts pass clusters a b seat (inl stays) = inl stays
   fits_idle old new parts pass clusters a b seat (inr f) = inr (record {
@@ -309,11 +309,11 @@ on_err A B (Err e) f a = f a
 
 -- ---- where the loop stands
 module _ {W M C L : Type 0} (bare : M → W) (o : Outside M C L) where
-  pub so_place : (config : Config) (n : ℕ) (a b : Option (WireTold W C L)) (crew : Crew M C L) → HiredSoFar bare o config n a b crew → (n ≡ length crew.workers.items) × (n ≡ length crew.shared.posts.items)
-  so_place config n a b crew so = (sym so.count ∙ sym so.crew_is.workers.same, sym so.count ∙ sym so.crew_is.boxes)
+  pub so_place : (config : Config) (n : ℕ) (a b : Option (WireTold W C L)) (pool : Pool M C L) → HiredSoFar bare o config n a b pool → (n ≡ length pool.workers.items) × (n ≡ length pool.shared.posts.items)
+  so_place config n a b pool so = (sym so.count ∙ sym so.pool_is.workers.same, sym so.count ∙ sym so.pool_is.boxes)
 
-  pub so_shares : (config : Config) (n : ℕ) (a b : Option (WireTold W C L)) (crew : Crew M C L) → HiredSoFar bare o config n a b crew → SharesOf config crew.shared
-  so_shares config n a b crew so = so.crew_is.shares
+  pub so_shares : (config : Config) (n : ℕ) (a b : Option (WireTold W C L)) (pool : Pool M C L) → HiredSoFar bare o config n a b pool → SharesOf config pool.shared
+  so_shares config n a b pool so = so.pool_is.shares
 
 pub err_always : {T E : Type 0} (B : Type 0) (r : Result T E) → B → OnErr r B
 err_always B (Ok x) b = tt

@@ -1,8 +1,8 @@
 -- Workers that were fitted.
 use Rattle.proxy_config.specs.declared.config.Config.{Config}
 use Rattle.proxy_wire.specs.Working.{Begins}
-use Rattle.proxy_wire.specs.declared.crew.Crew.{Crew}
-use Rattle.proxy_wire.specs.declared.crew.Staff.{Staff}
+use Rattle.proxy_wire.specs.declared.pool.Pool.{Pool}
+use Rattle.proxy_wire.specs.declared.pool.Staff.{Staff}
 use Rattle.proxy_wire.specs.declared.giving_back.Back.{Back}
 use Rattle.session_config.specs.ClusterNames.{names_in}
 use Rattle.session_run.specs.Ends.{AppendsFront}
@@ -47,10 +47,10 @@ module _ {W M C L : Type 0} (bare : M → W) (o : Outside M C L) where
     pub seat : IsSeatOf permits w.seat
 
   -- all that were fitted may run, and there is a box for each
-  pub record IsCrew (config : Config) (crew : Crew M C L) (given : List (W × (C × L))) : Type 0 where
-    pub shares : SharesOf config crew.shared
-    pub boxes : length crew.shared.posts.items ≡ length given
-    pub workers : EachTwo (IsHired config crew.shared) given crew.workers.items
+  pub record IsPool (config : Config) (pool : Pool M C L) (given : List (W × (C × L))) : Type 0 where
+    pub shares : SharesOf config pool.shared
+    pub boxes : length pool.shared.posts.items ≡ length given
+    pub workers : EachTwo (IsHired config pool.shared) given pool.workers.items
 
 module _ {M C L : Type 0} (o : Outside M C L) where
   -- the connections or the journal of one of them have failed
