@@ -30,6 +30,7 @@ pub none_left : HasWorld []
 none_left = record { marked = []; notes = refl; left = tt; last = λ c. refl }
 
 pub stands_first : (session : WireSession) → Stands session.core.conns session.core.flows session.core.links [] → StandsFor session []
+unfolding none_left
 stands_first session s = record { world = none_left; stands = s }
 
 -- ---- a connection that comes is new
