@@ -4,3 +4,4 @@ pub mod Playing
 pub mod Retelling
 pub mod Spelling
 pub mod Staging
+pub mod Standing

@@ -8,6 +8,7 @@ use Rattle.flow_notes.specs.declared.notes.Note.{Note}
 use Rattle.io_ports.specs.declared.octets.NoMemory.{NoMemory}
 use Rattle.proxy_config.specs.Reading.{config_of}
 use Rattle.proxy_config.specs.declared.config.Config.{Config}
+use Rattle.proxy_config.specs.declared.routes.Route.{Route}
 use Rattle.session_config.specs.ClusterNames.{names_in, resources_in}
 use Rattle.session_lines.specs.WireLines.{Behind, IsWireSeen, NoLine, ReadsWireLine, SpellsWire, WireEvent, WireHeader, WireItem, WireLinesAre, WireSeen, wire_event_lines, wire_events, wire_header, wire_lines, wire_more, wire_read, wire_text}
 use Rattle.session_lines.specs.declared.order.LineRead.{LineRead}
@@ -19,21 +20,26 @@ use Rattle.std.proofs.Common.{ap, append_assoc, arith, inl, inr, refl, subst, sy
 use Rattle.std.proofs.lemmas.List.{append-nil}
 use Rattle.std.specs.List.{AllByRecursion}
 use Rattle.std.specs.Prelude.{Err, IfSome, List, None, Ok, OnOk, Option, Result, [], false, suc, ℕ, ◌++◌, ◌+◌, ◌∷◌, ◌≡◌, ◌⊎◌}
+use Rattle.tape_laws.specs.Dispatches.{events_back}
 use Rattle.tape_laws.specs.History.{History, NoMark, onto}
 use Rattle.tape_laws.specs.declared.PlainLimits.{PlainLimits}
 use Rattle.tape_summary.specs.NotesText.{notes_text}
 use Rattle.wire_run.proofs.Noting.{dispatch_adds, onto_text, renamed}
 use Rattle.wire_run.proofs.Staging.{no_row, rows_agree, rows_grow, rows_of}
+use Rattle.wire_run.proofs.Standing.{new_to, none_left, stands_first, stands_on}
 use Rattle.wire_run.specs.Passing.{CarriesOn, PassesAll}
 use Rattle.wire_run.specs.Played.{DispatchedAs, PlayRests, Played, PlaysEvent, wire_kind}
 use Rattle.wire_run.specs.Rows.{limits_of, passes}
 use Rattle.wire_run.specs.Stages.{AreStages, IsRow}
 use Rattle.wire_run.specs.Tapes.{WireTape}
+use Rattle.wire_run.specs.Worlds.{IsNewTo}
 use Rattle.wire_run.specs.declared.play.WirePlay.{WirePlay}
 use Rattle.wire_run.specs.declared.stages.StageTable.{StageTable}
 use Rattle.wire_state.specs.Sound.{IsSound}
+use Rattle.wire_state.specs.Worlds.{Stands}
 use Rattle.wire_summary.specs.Levels.{StageLimits, known_limits}
 use Rattle.wire_summary.specs.Logging.{WireLogIs, WireLogs}
+use Rattle.wire_summary.specs.declared.levels.BufferLimits.{BufferLimits}
 use Rattle.wire_summary.specs.declared.log.WireLog.{WireLog}
 use Rattle.worker_core.specs.Dispatching.{Dispatches}
 use Rattle.wire_summary.specs.Summarizes.{Summarizes}
@@ -44,8 +50,8 @@ use Rattle.session_run.specs.declared.player.Went.TheVariants as went
 -- ---- one event
 
 -- what a dispatch that was carried out leaves
-carried_rests : (old new : WirePlay) (e : Event) (config : Config) (h : History NoMark) → CarriesOn old e new → PlayRests old config h → PlayRests new config (onto new.notes h)
-carried_rests old new e config h c k =
+carried_rests : (old new : WirePlay) (e : Event) (config : Config) (h : History NoMark) → CarriesOn old e new → IsNewTo e h → PlayRests old config h → PlayRests new config (onto new.notes h)
+carried_rests old new e config h c new_one k =
     let adds = dispatch_adds (old.session.turn + 1) e new.notes h c.dispatches.notes in
     let table : AreStages new.stages.rows.items config.routes = (let P : StageTable → Type 0 = λ v. AreStages v.rows.items config.routes in subst P (sym c.stages) k.stages) in
     record {
@@ -55,17 +61,19 @@ carried_rests old new e config h c k =
       logs = c.logs.goes (limits_of config) h (c.passes.goes (limits_of config) h k.logs);
       rows = rows_grow config.routes c.before.levels new.log.levels no_limits (c.passes.keeps config.routes k.stages k.rows) c.logs.grow (no_row config.routes);
       stages = table;
+      octets = stands_on old.session new.session e new.notes h c.dispatches new_one k.octets;
     }
 
-carried_tape : (old new : WirePlay) (e : Event) (config : Config) (h : History NoMark) (seen after : WireSeen) → CarriesOn old e new → PlayRests old config h → IsEvent (names_in config) e
+carried_tape : (old new : WirePlay) (e : Event) (config : Config) (h : History NoMark) (seen after : WireSeen) → CarriesOn old e new → IsNewTo e h → PlayRests old config h → IsEvent (names_in config) e
     → WireTape config seen h → wire_events after ≡ e ∷ wire_events seen → IsWireSeen (names_in config) (resources_in config) after → WireTape config after (onto new.notes h)
-carried_tape old new e config h seen after c k is t next may =
+carried_tape old new e config h seen after c new_one k is t next may =
     let adds = dispatch_adds (old.session.turn + 1) e new.notes h c.dispatches.notes in
     record {
       may = may;
       shown = adds.shown ∙ ap (λ es. e ∷ es) t.shown ∙ sym next;
       in_order = adds.ordered (ap (λ n. n + 1) k.turn) t.in_order;
       spelled = adds.told (names_in config) (omega arith) is t.spelled;
+      octets = (stands_on old.session new.session e new.notes h c.dispatches new_one k.octets).world;
     }
 
 -- the notes have a spelling with the names of the lines
@@ -78,11 +86,11 @@ notes_spelled old new e names c is same =
 pub event_played : (old new : WirePlay) (e : Event) (names : List (List ℕ)) (text_old text_new : List ℕ) → CarriesOn old e new → IsEvent old.lines.names e → names ≡ new.lines.names → text_new ≡ text_old ++ notes_text names new.notes
     → PlaysEvent old e text_old new text_new (Ok went.On)
 event_played old new e names text_old text_new c is same told = record {
-  goes = λ config h named k. record {
+  goes = λ config h named new_one k. record {
     history = onto new.notes h;
     added = notes_text (names_in config) new.notes;
-    rests = carried_rests old new e config h c k;
-    tape = λ seen after t next may. carried_tape old new e config h seen after c k (renamed old.lines.names (names_in config) e named is) t next may;
+    rests = carried_rests old new e config h c new_one k;
+    tape = λ seen after t next may. carried_tape old new e config h seen after c new_one k (renamed old.lines.names (names_in config) e named is) t next may;
     told = onto_text (names_in config) new.notes h;
     text = told ∙ ap (λ (v : List (List ℕ)). text_old ++ notes_text v new.notes) (same ∙ ap (λ v. v.names) c.lines ∙ named);
     lines = c.lines;
@@ -112,7 +120,7 @@ lines_more names resources (Behind es) line (WireEvent e) s = refl
 
 -- the header, behind which nothing has happened yet
 header_tape : (config : Config) (seen : WireSeen) (line : List ℕ) (item : WireItem) (h : History NoMark) → SpellsWire (names_in config) (resources_in config) seen line item → read.Header ≡ wire_read item → WireTape config seen h → WireTape config (wire_more seen item) h
-header_tape config NoLine line WireHeader h s e t = record { may = tt; shown = t.shown; in_order = t.in_order; spelled = t.spelled }
+header_tape config NoLine line WireHeader h s e t = record { may = tt; shown = t.shown; in_order = t.in_order; spelled = t.spelled; octets = t.octets }
 header_tape config (Behind es) line WireHeader h s e t = absurd s.may
 header_tape config seen line (WireEvent f) h s e t = cc
 
@@ -121,6 +129,7 @@ record NextEvent (config : Config) (seen : WireSeen) (item : WireItem) (e : Even
   range : IsEvent (names_in config) e
   events : wire_events (wire_more seen item) ≡ e ∷ wire_events seen
   may : IsWireSeen (names_in config) (resources_in config) seen → IsWireSeen (names_in config) (resources_in config) (wire_more seen item)
+  fresh : (h : History NoMark) → events_back h ≡ wire_events seen → IsNewTo e h
 
 next_event : (config : Config) (seen : WireSeen) (line : List ℕ) (item : WireItem) (e : Event) → SpellsWire (names_in config) (resources_in config) seen line item → read.Event e ≡ wire_read item → NextEvent config seen item e
 next_event config seen line WireHeader e s q = cc
@@ -131,6 +140,7 @@ next_event config (Behind es) line (WireEvent f) e s q =
       range = (let P : Event → Type 0 = λ v. IsEvent (names_in config) v in subst P same s.may.0);
       events = ap (λ v. v ∷ es) same;
       may = λ m. (s.may, m);
+      fresh = λ h shown. (let P : Event → Type 0 = λ v. IsNewTo v h in subst P same (new_to (resources_in config) f es h s.may.2 shown));
     }
 
 pub header_played : (old new : WirePlay) (line text_old text_new : List ℕ) → ReadsWireLine old.lines line new.lines (Ok read.Header) → new.session ≡ old.session → new.stages ≡ old.stages → new.log ≡ old.log → text_new ≡ text_old
@@ -165,6 +175,7 @@ header_played old new line text_old text_new r es et el tt_is = record {
       logs = rw el k.logs;
       rows = rw el k.rows;
       stages = rw et k.stages;
+      octets = rw es k.octets;
     }
 
 pub line_refused : (old : WirePlay) (line : List ℕ) (new : WirePlay) (lines : WireLines) (text_old text_new : List ℕ) → ReadsWireLine old.lines line lines (Ok read.Refused) → text_new ≡ text_old
@@ -201,7 +212,8 @@ pub event_line_played : (old mid : WirePlay) (line : List ℕ) (e : Event) (text
 event_line_played old mid line e text_old new text_new result r es et el p = record {
   goes = λ config lines count told k.
       let a = r.goes (names_in k.config) (resources_in k.config) k.seen k.read in
-      by config lines count told k result (p.goes k.config k.history a.lines.names_are (rests k.config k.history k.rests));
+      let n = next_event k.config k.seen line a.item e a.spells a.read in
+      by config lines count told k result (p.goes k.config k.history a.lines.names_are (n.fresh k.history k.tape.shown) (rests k.config k.history k.rests));
 }
   where
     rests : (config : Config) (h : History NoMark) → PlayRests old config h → PlayRests mid config h
@@ -212,6 +224,7 @@ event_line_played old mid line e text_old new text_new result r es et el p = rec
       logs = rw el k.logs;
       rows = rw el k.rows;
       stages = rw et k.stages;
+      octets = rw es k.octets;
     }
 
     by : (config lines : List ℕ) (count : ℕ) (told : List ℕ) (k : Played old config lines count told) (result : Result Went NoMemory) → DispatchedAs mid e new k.config k.history text_old text_new result → PlayedAs wire_kind old new line config lines count told text_old text_new result
@@ -239,6 +252,37 @@ event_line_played old mid line e text_old new text_new result r es et el p = rec
     by config lines count told k (Err x) d = d
 
 -- ---- before the first line
+
+pub play_begins : (play : WirePlay) (config : Config) (text : List ℕ) (names : List (List ℕ)) (resources : ℕ) (limits : BufferLimits) (routes : List Route) → config_of text ≡ Ok config
+    → names ≡ names_in config → AreNames names → resources ≡ resources_in config → WireLinesAre play.lines names resources NoLine → play.session.failed ≡ false → IsSound play.session.core → play.session.turn ≡ 0
+    → Stands play.session.core.conns play.session.core.flows play.session.core.links [] → limits ≡ limits_of config → WireLogIs limits play.log [] → ((x : ℕ) → known_limits play.log.levels x ≡ None)
+    → routes ≡ config.routes → AreStages play.stages.rows.items routes → Begins wire_kind play text
+play_begins play config text names resources limits routes configured names_are known resources_are lines well sound turn octets limits_are logs unsaid routes_are stages = record {
+  stands = record {
+    config = config;
+    configured = configured;
+    named = (let P : List (List ℕ) → Type 0 = λ v. AreNames v in subst P names_are known);
+    seen = NoLine;
+    history = [];
+    read =
+        let P : ℕ → Type 0 = λ n. WireLinesAre play.lines names n NoLine in
+        let Q : List (List ℕ) → Type 0 = λ v. WireLinesAre play.lines v (resources_in config) NoLine in
+        subst Q names_are (subst P resources_are lines);
+    rests = record {
+      well = well;
+      sound = sound;
+      turn = turn;
+      logs = (let P : BufferLimits → Type 0 = λ v. WireLogIs v play.log [] in subst P limits_are logs);
+      rows = record { each = λ x. (let P : Option StageLimits → Type 0 = λ v. IfSome v (IsRow config.routes) in subst P (sym (unsaid x)) tt) };
+      stages = (let P : List Route → Type 0 = λ v. AreStages play.stages.rows.items v in subst P routes_are stages);
+      octets = stands_first play.session octets;
+    };
+    tape = record { may = tt; shown = refl; in_order = tt; spelled = tt; octets = none_left };
+    lines_are = refl;
+    count_is = refl;
+    told_is = refl;
+  };
+}
 
 -- ---- the summary
 

@@ -16,6 +16,7 @@ use Rattle.std.specs.Io.KnownBytes.{Appends, Consumes}
 use Rattle.std.specs.Prelude.{Bool, Err, List, None, Ok, Option, Some, [], codes, suc, ℕ, ◌++◌, ◌∷◌, ◌≡◌, ◌⊎◌}
 use Rattle.tape_laws.specs.History.{History, NoMark}
 use Rattle.tape_laws.specs.Text.{tape_text}
+use Rattle.wire_run.proofs.Standing.{none_left}
 use Rattle.wire_run.specs.Played.{Played, RefusesLine, can_end, wire_kind}
 use Rattle.wire_run.specs.Tapes.{RunsWire, TellsWire, TellsWireAs, TellsWireFront, last_wire_text}
 use Rattle.wire_run.specs.declared.play.WirePlay.{WirePlay}
@@ -116,7 +117,7 @@ runs_none config config_text left out how e c =
       text = [];
       consumes = held_kept left;
       appends = known_kept out;
-      tells = record { config = config; configured = c; seen = NoLine; rows = no_rows; history = []; rest = []; reads = refl; tape = record { may = tt; shown = refl; in_order = tt; spelled = tt }; ends = tt; is = refl };
+      tells = record { config = config; configured = c; seen = NoLine; rows = no_rows; history = []; rest = []; reads = refl; tape = record { may = tt; shown = refl; in_order = tt; spelled = tt; octets = none_left }; ends = tt; is = refl };
     })
 
 -- a session's status is never that of a configuration that is refused

@@ -4,3 +4,4 @@ pub mod Played
 pub mod Rows
 pub mod Stages
 pub mod Tapes
+pub mod Worlds

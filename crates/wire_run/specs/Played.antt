@@ -16,6 +16,7 @@ use Rattle.tape_laws.specs.Text.{tape_text}
 use Rattle.wire_run.specs.Rows.{limits_of, passes}
 use Rattle.wire_run.specs.Stages.{AreStages, HaveRows}
 use Rattle.wire_run.specs.Tapes.{WireTape}
+use Rattle.wire_run.specs.Worlds.{IsNewTo, StandsFor}
 use Rattle.wire_run.specs.declared.play.WirePlay.{WirePlay}
 use Rattle.wire_state.specs.Sound.{IsSound}
 use Rattle.wire_summary.specs.Levels.{shaped}
@@ -30,6 +31,8 @@ pub record PlayRests (play : WirePlay) (config : Config) (history : History NoMa
   pub logs : WireLogIs (limits_of config) play.log history
   pub rows : HaveRows config.routes play.log.levels
   pub stages : AreStages play.stages.rows.items config.routes
+  -- what waits for the sockets and lies in the places of the bodies is that of the tape's world
+  pub octets : StandsFor play.session history
 
 -- the lines were read under the configuration that its octets spell, their events were dispatched, and this is the text of
 -- the tape
@@ -77,4 +80,4 @@ DispatchedAs old e new config h text_old text_new (Ok went.Refused) = ⊥
 DispatchedAs old e new config h text_old text_new (Err x) = text_new ≡ text_old
 
 pub record PlaysEvent (old : WirePlay) (e : Event) (text_old : List ℕ) (new : WirePlay) (text_new : List ℕ) (result : Result Went NoMemory) : Type 0 where
-  pub goes : (config : Config) (h : History NoMark) → old.lines.names ≡ names_in config → PlayRests old config h → DispatchedAs old e new config h text_old text_new result
+  pub goes : (config : Config) (h : History NoMark) → old.lines.names ≡ names_in config → IsNewTo e h → PlayRests old config h → DispatchedAs old e new config h text_old text_new result

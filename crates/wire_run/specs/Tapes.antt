@@ -16,6 +16,7 @@ use Rattle.tape_laws.specs.History.{History, NoMark, Noted, notes_of}
 use Rattle.tape_laws.specs.Report.{summary_text}
 use Rattle.tape_laws.specs.Text.{tape_text}
 use Rattle.wire_run.specs.Rows.{limits_of, passes}
+use Rattle.wire_run.specs.Worlds.{HasWorld}
 use Rattle.wire_summary.specs.Levels.{shaped}
 use Rattle.flow_notes.specs.declared.notes.Note.TheVariants as note
 use Rattle.session_run.specs.declared.status.Status.TheVariants as status
@@ -33,6 +34,8 @@ pub record WireTape (config : Config) (seen : WireSeen) (history : History NoMar
   pub shown : events_back history ≡ wire_events seen
   pub in_order : AreTurnsInOrder history
   pub spelled : AllByRecursion (IsNote (names_in config)) (notes_of history)
+  -- octets leave the connections as the events of room say, and by nothing else
+  pub octets : HasWorld history
 
 -- the last line or lines, by the status; the stages are those of the exchanges' route rows
 abbrev pub last_wire_text : Status → Config → (ℕ → Option ℕ) → WireSeen → History NoMark → List ℕ

@@ -164,13 +164,13 @@ ends_rest names ended.Memory k k' v w rests isnt e = absurd (isnt refl)
 
 -- ---- the parts
 module _ (names : List (List ℕ)) (end : End) (old new : Sides) (k0 k' : Kind) (v0 w : Place) (e : Ends names end old k0 v0 new k' w) (rests : RestsWire k0) where
-  handed : (notes : List Note) → Hands v0.told w.told notes → notes ≡ notes_of e.did
+  pub handed : (notes : List Note) → Hands v0.told w.told notes → notes ≡ notes_of e.did
   handed notes hands = handed_are v0.told w.told notes (notes_of e.did) hands (ends_told names end e.kind k' e.mid w e.ends ∙ told_done names e.did v0 e.mid e.becomes)
 
   shows : Shows k0 e.did e.kind
   shows = runs_show rests e.runs
 
-  turn_is : (notes : List Note) → Hands v0.told w.told notes → turn_events notes ≡ events_of e.did
+  pub turn_is : (notes : List Note) → Hands v0.told w.told notes → turn_events notes ≡ events_of e.did
   turn_is notes hands = ap turn_events (handed notes hands) ∙ shows.shown
 
   pub part_lines : Lines names end v0.text w.text v0.told w.told
@@ -228,10 +228,10 @@ short_closes names ds v w (inr cut) b =
     (ended_closes names cut.1 [] r.0 w (λ u q. same_closes names [] u w refl q) (subst (λ (xs : List Did). Becomes names r.0 xs w) (sym (append-nil (map Ended cut.1))) r.2))
 
 -- what may be missing from the notes
-record LacksOf (end : End) (old new : Seen) : Type 0 where
-  lost : List WireStep
-  grows : Grows old lost new
-  may : MayLack end lost
+pub record LacksOf (end : End) (old new : Seen) : Type 0 where
+  pub lost : List WireStep
+  pub grows : Grows old lost new
+  pub may : MayLack end lost
 
 lacks_none : (old new : Seen) (end : End) → MayLack end [] → new ≡ old → LacksOf end old new
 lacks_none old new end may e = record { lost = []; grows = ap (λ (s : Seen). s.steps) e ∙ grows_none old; may = may }
@@ -253,14 +253,14 @@ cuts_lack : {end : End} {k' : Kind} {w : Place} (names : List (List ℕ)) (k : K
 cuts_lack names k v AtWires = lacks_none v.seen v.seen ended.WiresFault refl refl
 cuts_lack names k v (Midway end head mid new w begun b cut) = one_lacks names end k new v mid w (begun_last names v mid begun b) cut
 
-ends_lack : (names : List (List ℕ)) (end : End) (k k' : Kind) (v w : Place) → EndsAt names end k v k' w → LacksOf end v.seen w.seen
+pub ends_lack : (names : List (List ℕ)) (end : End) (k k' : Kind) (v w : Place) → EndsAt names end k v k' w → LacksOf end v.seen w.seen
 ends_lack names ended.Turns k k' v w e = lacks_none v.seen w.seen ended.Turns refl (ap (λ (p : Place). p.seen) e.1)
 ends_lack names ended.Stopped k k' v w e = lacks_none v.seen w.seen ended.Stopped refl (ap (λ (p : Place). p.seen) e.1)
 ends_lack names ended.WiresFault k k' v w e = cuts_lack names k v e
 ends_lack names ended.JournalFault k k' v w e = cuts_lack names k v e
 ends_lack names ended.Memory k k' v w e = cuts_lack names k v e
 
-steps_same : (xs ys : List WireStep) → ◌≡◌ {A = Option (List WireStep)} (Some xs) (Some ys) → xs ≡ ys
+pub steps_same : (xs ys : List WireStep) → ◌≡◌ {A = Option (List WireStep)} (Some xs) (Some ys) → xs ≡ ys
 steps_same xs ys e = cc
 
 -- so many whole turns

@@ -1,14 +1,17 @@
 mod Becoming
 mod Carrying
 mod Closing
+mod Coming
 mod Dispatching
 mod Ending
 mod Keeping
+mod Leaving
 mod Matching
 mod Obeying
 mod Offering
 mod Parted
 mod Receiving
 mod Running
+mod Sending
 mod Turning
 mod Working

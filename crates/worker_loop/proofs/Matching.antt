@@ -56,7 +56,7 @@ close_by : (b : Bool) (c : ℕ) (s : Seen) → Closes s (closed_if b c s)
 close_by true c s = record { steps = step.Closed c ∷ []; over = tt; grows = refl }
 close_by false c s = record { steps = []; over = tt; grows = grows_none s }
 
-close_one : (c : ℕ) (old new : Seen) → new ≡ closed c old → Closes old new
+pub close_one : (c : ℕ) (old new : Seen) → new ≡ closed c old → Closes old new
 close_one c old new e = subst (λ (s : Seen). Closes old s) (sym e) (close_by (is_live c old) c old)
 
 closes_append : (xs ys : List WireStep) → AreCloses xs → AreCloses ys → AreCloses (xs ++ ys)
@@ -174,7 +174,7 @@ closed_steps c old new g =
     let live : is_live c new ≡ true = ap (λ (s : Seen). list_any (nat_eq c) s.live) g.is ∙ any_last old.live c in
     closed_yes (is_live c new) c new live
 
-gave_steps : (old new : Seen) (w : Wired) → Gives old w new → new.steps ≡ with_last (step.Gave w) old.steps
+pub gave_steps : (old new : Seen) (w : Wired) → Gives old w new → new.steps ≡ with_last (step.Gave w) old.steps
 gave_steps old new w g = ap (λ (s : Seen). s.steps) g.is
 
 module _ (names : List (List ℕ)) (old mid last end : Seen) (es : List Event) (rest : MatchesTo last end es) where
@@ -258,7 +258,7 @@ runs_match names v w (TakenRun given k mid new ds rest taken others) b =
     let r = becomes_split names ds rest b.0 w b.2 in
     match_as v.seen v.seen w.seen (events_of ds ++ events_of rest) (events_of (ds ++ rest)) refl (events_append ds rest)
     (match_taken names v b.0 r.0 w.seen (events_of rest) b.1.1 taken r.1 (runs_match names r.0 w others r.2))
-runs_match names v w (OfferRun c n piece k mid new ds rest most all others) b =
+runs_match names v w (OfferRun c n piece k mid new ds rest front most all others) b =
     let r = becomes_split names ds rest b.0 w b.2 in
     match_as v.seen v.seen w.seen (events_of ds ++ events_of rest) (events_of (ds ++ rest)) refl (events_append ds rest)
     (match_offered names c n piece v b.0 r.0 w.seen (events_of rest) (ap (λ (p : Place). p.seen.steps) b.1) most all r.1 (runs_match names r.0 w others r.2))

@@ -150,7 +150,7 @@ runs_versions rests (InnerRun es k mid new ds rest inner rising all others) =
 runs_versions rests (TakenRun given k mid new ds rest taken others) =
     let s = taken_stays rests taken in
     versions_more k mid new (events_of ds) (events_of rest) (events_of (ds ++ rest)) (events_append ds rest) (stays_versions k mid ds s) (runs_versions s.rests others)
-runs_versions rests (OfferRun c n piece k mid new ds rest most all others) =
+runs_versions rests (OfferRun c n piece k mid new ds rest front most all others) =
     let s = all_stay rests (room_versions c n) all in
     versions_more k mid new (events_of ds) (events_of rest) (events_of (ds ++ rest)) (events_append ds rest) (stays_versions k mid ds s) (runs_versions s.rests others)
 

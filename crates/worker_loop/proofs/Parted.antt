@@ -122,7 +122,7 @@ no_turns (note.Gone x ∷ ns) steps = no_turns ns steps.1
 no_turns (note.Close c code cause ∷ ns) steps = no_turns ns steps.1
 no_turns (note.Fire k i ∷ ns) steps = no_turns ns steps.1
 
-told_turn : (n : ℕ) (e : Event) (notes : List Note) → Tells n e [] notes → turn_events notes ≡ e ∷ []
+pub told_turn : (n : ℕ) (e : Event) (notes : List Note) → Tells n e [] notes → turn_events notes ≡ e ∷ []
 told_turn n e notes t = ap turn_events t.is ∙ ap (λ (es : List Event). e ∷ es) (no_turns t.added t.steps)
 
 carried_turn : (k : Kind) (e : Event) (new : Kind) (notes : List Note) → RestsWire k → CarriesOut k [] e new notes → turn_events notes ≡ e ∷ []
@@ -178,4 +178,4 @@ pub runs_show : {k : Kind} {ds : List Did} {new : Kind} → RestsWire k → Runs
 runs_show rests (NoneRun k) = shows_none k rests
 runs_show rests (InnerRun es k mid new ds rest inner rising all others) = shows_all all rest new rests (λ r. runs_show r others)
 runs_show rests (TakenRun given k mid new ds rest taken others) = shows_front k (ds ++ rest) (Gave given ∷ (ds ++ rest)) new refl refl (shows_taken taken rest new rests (λ r. runs_show r others))
-runs_show rests (OfferRun c n piece k mid new ds rest most all others) = shows_front k (ds ++ rest) (Offered c piece n ∷ (ds ++ rest)) new refl refl (shows_all all rest new rests (λ r. runs_show r others))
+runs_show rests (OfferRun c n piece k mid new ds rest front most all others) = shows_front k (ds ++ rest) (Offered c piece n ∷ (ds ++ rest)) new refl refl (shows_all all rest new rests (λ r. runs_show r others))

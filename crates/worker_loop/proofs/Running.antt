@@ -166,12 +166,12 @@ runs_append (InnerRun evs k m mid ds rest inner rising all others) es new more =
     subst (λ (xs : List Did). Runs k xs new) (sym (append_assoc ds rest es)) (InnerRun evs k m new ds (rest ++ es) inner rising all (runs_append others es new more))
 runs_append (TakenRun given k m mid ds rest taken others) es new more =
     subst (λ (xs : List Did). Runs k (Gave given ∷ xs) new) (sym (append_assoc ds rest es)) (TakenRun given k m new ds (rest ++ es) taken (runs_append others es new more))
-runs_append (OfferRun c n piece k m mid ds rest most all others) es new more =
-    subst (λ (xs : List Did). Runs k (Offered c piece n ∷ xs) new) (sym (append_assoc ds rest es)) (OfferRun c n piece k m new ds (rest ++ es) most all (runs_append others es new more))
+runs_append (OfferRun c n piece k m mid ds rest front most all others) es new more =
+    subst (λ (xs : List Did). Runs k (Offered c piece n ∷ xs) new) (sym (append_assoc ds rest es)) (OfferRun c n piece k m new ds (rest ++ es) front most all (runs_append others es new more))
 
 pub offers_run : {k0 : Kind} {ds : List Did} {last : ℕ} {k : Kind} → Offers k0 ds last k → Runs k0 ds k
 offers_run {k0} NoneOffered = NoneRun k0
 offers_run (Empty ds last c k so next none) = offers_run so
 offers_run {k0} (OneOffered ds es last c n piece k new so next front most all) =
     subst (λ (xs : List Did). Runs k0 (ds ++ Offered c piece n ∷ xs) new) (append-nil es)
-    (runs_append (offers_run so) (Offered c piece n ∷ (es ++ [])) new (OfferRun c n piece k new new es [] most all (NoneRun new)))
+    (runs_append (offers_run so) (Offered c piece n ∷ (es ++ [])) new (OfferRun c n piece k new new es [] front most all (NoneRun new)))

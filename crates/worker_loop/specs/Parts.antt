@@ -7,8 +7,12 @@ use Rattle.post_queue.specs.declared.posts.Post.{Post}
 use Rattle.session_run.specs.Ends.{AppendsFront}
 use Rattle.shared_state.specs.declared.permit_rule.PermitView.{PermitView}
 use Rattle.std.specs.Io.KnownBytes.{Appends, append_known}
-use Rattle.std.specs.Prelude.{Bool, List, Option, Some, [], false, length, map, suc, true, ℕ, ◌++◌, ◌+◌, ◌<◌, ◌∷◌, ◌≡◌, ◌≤◌, ◌⊎◌}
-use Rattle.worker_core.specs.Sessions.{CarriesOut, version_of}
+use Rattle.std.specs.Prelude.{Bool, List, Option, Some, [], false, if◌then◌else◌, length, map, suc, take, true, ℕ, ◌++◌, ◌+◌, ◌<◌, ◌==◌, ◌∷◌, ◌≡◌, ◌≤◌, ◌⊎◌}
+use Rattle.tape_laws.specs.Connections.{connections}
+use Rattle.tape_laws.specs.Dispatches.{has}
+use Rattle.tape_laws.specs.World.{gone}
+use Rattle.wire_state.specs.Ways.{WayHistory, WayStep, after, shown, world_setup}
+use Rattle.worker_core.specs.Sessions.{CarriesOut, StandsAt, version_of}
 use Rattle.worker_core.specs.declared.worker.Kind.{Kind}
 use Rattle.worker_loop.specs.Carrying.{post_event}
 use Rattle.worker_loop.specs.Places.{event_line}
@@ -104,6 +108,44 @@ MayLack end lost = lost ≡ []
 pub record AtWires (end : Ended) (old new : Seen) (old_told new_told : Option (List Note)) : Type 0 where
   pub goes : (notes : List Note) (before steps : List WireStep) → Hands old_told new_told notes → old.steps ≡ Some before → new.steps ≡ Some (before ++ steps)
       → (kept : List WireStep) × (lost : List WireStep) × (steps ≡ kept ++ lost) × MayLack end lost × Matches kept (outside_events (turn_events notes))
+
+-- ---- (b) and (c): the octets
+-- the connections of the history have numbers up to n
+abbrev pub CameUpTo : ℕ → WayHistory → Type 0
+CameUpTo n h = (c : ℕ) → has (connections world_setup h) c ≡ true → c ≤ n
+
+-- what a connection took of the pieces that were offered to it
+abbrev pub taken_of : ℕ → List WireStep → List ℕ
+taken_of c [] = []
+taken_of c (step.Offered d piece n ∷ ss) = (if d == c then take n piece else []) ++ taken_of c ss
+taken_of c (s ∷ ss) = taken_of c ss
+
+-- the core stands for the history; without memory nothing is said of it, and one stood for the whole dispatches
+abbrev pub EndsStanding : Ended → Kind → WayHistory → Type 0
+EndsStanding ended.Memory new h = (mid : Kind) × StandsAt mid h
+EndsStanding end new h = StandsAt new h
+
+-- of the steps that are told at the connections, what was taken is what left them between these two histories
+pub record TakesWhatLeft (end : Ended) (notes : List Note) (h now : WayHistory) (steps : List WireStep) : Type 0 where
+  pub kept : List WireStep
+  pub lost : List WireStep
+  pub are : steps ≡ kept ++ lost
+  pub lacks : MayLack end lost
+  pub matches : Matches kept (outside_events (turn_events notes))
+  pub left : (c : ℕ) → gone world_setup c now ≡ gone world_setup c h ++ taken_of c kept
+
+-- the notes go on with a history for which the core stood
+pub record GoesOnIn (end : Ended) (new : Kind) (old_seen new_seen : Seen) (notes : List Note) (h : WayHistory) : Type 0 where
+  pub steps : List WayStep
+  pub is : notes ≡ shown steps
+  pub stands : EndsStanding end new (after steps h)
+  pub came : CameUpTo new_seen.greatest (after steps h)
+  pub takes : (before told : List WireStep) → old_seen.steps ≡ Some before → new_seen.steps ≡ Some (before ++ told) → TakesWhatLeft end notes h (after steps h) told
+
+-- For each history for which the core stood, and of which each connection had come to these connections, it stands for that
+-- history with the notes behind it. What they took of each is what the notes added to what left it.
+pub record InWorld (end : Ended) (k new : Kind) (old_seen new_seen : Seen) (old_told new_told : Option (List Note)) : Type 0 where
+  pub goes : (notes : List Note) (h : WayHistory) → Hands old_told new_told notes → StandsAt k h → CameUpTo old_seen.greatest h → GoesOnIn end new old_seen new_seen notes h
 
 -- ---- (d) the turns
 -- So many turns were run whole: each has one tick, one drain of the box and one look of the follower, and leaves the core at the

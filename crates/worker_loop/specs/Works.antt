@@ -10,7 +10,7 @@ use Rattle.worker_loop.specs.Carrying.{CarriedAll, events_in, post_event, room_e
 use Rattle.worker_loop.specs.Cutting.{Cuts}
 use Rattle.worker_loop.specs.Did.{Did, Gave, Offered, events_of}
 use Rattle.worker_loop.specs.Places.{Becomes, Place}
-use Rattle.worker_loop.specs.Turns.{AreTurns, IsTurn, Sides, TakesUp}
+use Rattle.worker_loop.specs.Turns.{AreTurns, IsPiece, IsTurn, Sides, TakesUp}
 use Rattle.worker_loop.specs.declared.turns.Ended.{Ended}
 use Rattle.worker_loop.specs.declared.turns.Ended.TheVariants as ended
 use Rattle.worker_ports.specs.Told.{TellsLast}
@@ -37,14 +37,14 @@ abbrev pub AreRising : ℕ → List ℕ → Type 0
 AreRising n [] = Unit
 AreRising n (m ∷ ms) = (n < m) × AreRising m ms
 
--- Whole parts of turns, in any order: inner events; something that came and was taken up; a piece that was offered, with the event
--- of what was taken.
+-- Whole parts of turns, in any order: inner events; something that came and was taken up; a front of what waited that was offered,
+-- with the event of what was taken.
 pub data Runs : Kind → List Did → Kind → Type 0 where
   NoneRun : (k : Kind) → Runs k [] k
   InnerRun : (es : List Event) (k mid new : Kind) (ds rest : List Did) → AreInner es → AreRising (version_of k) (versions_in es) → CarriedAll es k ds mid → Runs mid rest new
       → Runs k (ds ++ rest) new
   TakenRun : (given : Wired) (k mid new : Kind) (ds rest : List Did) → TakesUp k given ds mid → Runs mid rest new → Runs k (Gave given ∷ (ds ++ rest)) new
-  OfferRun : (c n : ℕ) (piece : List ℕ) (k mid new : Kind) (ds rest : List Did) → n ≤ length piece → CarriedAll (events_in (room_event c n)) k ds mid → Runs mid rest new
+  OfferRun : (c n : ℕ) (piece : List ℕ) (k mid new : Kind) (ds rest : List Did) → IsPiece k c piece → n ≤ length piece → CarriedAll (events_in (room_event c n)) k ds mid → Runs mid rest new
       → Runs k (Offered c piece n ∷ (ds ++ rest)) new
 
 -- the moments of the ticks among these events, and the posts

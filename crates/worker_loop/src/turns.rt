@@ -10,7 +10,7 @@ ghost use Rattle.worker_core.specs.Sessions.{RestsWire};
 ghost use Rattle.worker_loop.specs.Carrying.{events_in, obeyed_event, post_event};
 ghost use Rattle.worker_loop.specs.Clauses.{CarriesAs, RunsAs, TurnsAs};
 ghost use Rattle.worker_loop.specs.Keeping.{AreUpTo, Holds, Keeps, Rises};
-ghost use Rattle.worker_loop.specs.Parts.{AtWires, InTurns, Lines, Tape};
+ghost use Rattle.worker_loop.specs.Parts.{AtWires, InTurns, InWorld, Lines, Tape};
 ghost use Rattle.worker_loop.specs.Places.{place_of};
 ghost use Rattle.worker_loop.specs.Turns.{sides_of};
 ghost use Rattle.worker_loop.specs.Works.{Works};
@@ -92,6 +92,7 @@ pub fn work<R: Wait, W: Wires, C: Clock, G: Gate, J: Journal>(
     ensures lines { Lines names.now result (J.contents journal.old) (J.contents journal.new) (J.told journal.old) (J.told journal.new) }
     ensures tape { Tape result core.old.kind core.new.kind (J.told journal.old) (J.told journal.new) }
     ensures wires { AtWires result (W.seen wires.old) (W.seen wires.new) (J.told journal.old) (J.told journal.new) }
+    ensures octets { InWorld result core.old.kind core.new.kind (W.seen wires.old) (W.seen wires.new) (J.told journal.old) (J.told journal.new) }
     ensures turns { InTurns turns result (sides_of (C.moments clock.old) (hands.view pass.old.pass) (looks follower.old) follower.old.kept) (sides_of (C.moments clock.new) (hands.view pass.new.pass) (looks follower.new) follower.new.kept) core.old.kind core.new.kind (J.told journal.old) (J.told journal.new) }
     ensures wires_fault { result ≡ ended.WiresFault → Rose (W.faults wires.old) (W.faults wires.new) }
     ensures journal_fault { result ≡ ended.JournalFault → Rose (J.faults journal.old) (J.faults journal.new) }

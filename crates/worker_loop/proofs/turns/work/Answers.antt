@@ -6,6 +6,7 @@ use Rattle.std.proofs.Common.{ap, arith, refl, ◌∙◌}
 use Rattle.std.specs.Prelude.{Err, false, true}
 use Rattle.worker_loop.proofs.Ending.{more_turns, part_core, part_lines, part_tape, part_turns, part_wires, turns_as, turns_at, works_cut, works_stopped, works_whole}
 use Rattle.worker_loop.proofs.Keeping.{keeps_more, keeps_same, rose_later}
+use Rattle.worker_loop.proofs.Leaving.{part_octets}
 use Rattle.worker_loop.proofs.Working.{works_end}
 use Rattle.worker_loop.specs.Places.{place_of}
 use Rattle.worker_loop.specs.Turns.{NoTurns, sides_of}
@@ -63,6 +64,9 @@ returns-then-stops-clause-tape g c = part_tape c.args.names.now ended.Stopped (s
 pub returns-then-stops-clause-wires : goal.returns-then-stops-clause-wires
 returns-then-stops-clause-wires g c = part_wires c.args.names.now ended.Stopped (sides_of (g.C.Clock.moments c.args.clock.now) (hands.view c.args.pass.now.pass) (looks c.args.follower.now) c.args.follower.now.kept) (sides_of (g.C.Clock.moments c.take_turn.new.clock) (hands.view c.take_turn.new.pass.pass) (looks c.take_turn.new.follower) c.take_turn.new.follower.kept) c.args.core.now.kind c.take_turn.new.core.kind (place_of (g.J.Sink.contents c.args.journal.now) (g.J.Journal.told c.args.journal.now) (g.W.Wires.seen c.args.wires.now) c.args.held.now (view c.args.seat.now)) (place_of (g.J.Sink.contents c.take_turn.new.journal) (g.J.Journal.told c.take_turn.new.journal) (g.W.Wires.seen c.take_turn.new.wires) c.take_turn.new.held (view c.take_turn.new.seat)) (works_end c.args.names.now (sides_of (g.C.Clock.moments c.args.clock.now) (hands.view c.args.pass.now.pass) (looks c.args.follower.now) c.args.follower.now.kept) (sides_of (g.C.Clock.moments c.take_turn.new.clock) (hands.view c.take_turn.new.pass.pass) (looks c.take_turn.new.follower) c.take_turn.new.follower.kept) c.args.core.now.kind c.take_turn.new.core.kind (place_of (g.J.Sink.contents c.args.journal.now) (g.J.Journal.told c.args.journal.now) (g.W.Wires.seen c.args.wires.now) c.args.held.now (view c.args.seat.now)) (place_of (g.J.Sink.contents c.take_turn.new.journal) (g.J.Journal.told c.take_turn.new.journal) (g.W.Wires.seen c.take_turn.new.wires) c.take_turn.new.held (view c.take_turn.new.seat)) c.args.turns ended.Stopped (works_stopped c.args.names.now c.turns.turn c.args.turns (sides_of (g.C.Clock.moments c.args.clock.now) (hands.view c.args.pass.now.pass) (looks c.args.follower.now) c.args.follower.now.kept) (sides_of (g.C.Clock.moments c.turns.clock) (hands.view c.turns.pass.pass) (looks c.turns.follower) c.turns.follower.kept) (sides_of (g.C.Clock.moments c.take_turn.new.clock) (hands.view c.take_turn.new.pass.pass) (looks c.take_turn.new.follower) c.take_turn.new.follower.kept) c.args.core.now.kind c.turns.core.kind c.take_turn.new.core.kind (place_of (g.J.Sink.contents c.args.journal.now) (g.J.Journal.told c.args.journal.now) (g.W.Wires.seen c.args.wires.now) c.args.held.now (view c.args.seat.now)) (place_of (g.J.Sink.contents c.turns.journal) (g.J.Journal.told c.turns.journal) (g.W.Wires.seen c.turns.wires) c.turns.held (view c.turns.seat)) (place_of (g.J.Sink.contents c.take_turn.new.journal) (g.J.Journal.told c.take_turn.new.journal) (g.W.Wires.seen c.take_turn.new.wires) c.take_turn.new.held (view c.take_turn.new.seat)) (omega arith) c.turns.invariant.turns (turns_as c.args.names.now (sides_of (g.C.Clock.moments c.turns.clock) (hands.view c.turns.pass.pass) (looks c.turns.follower) c.turns.follower.kept) (sides_of (g.C.Clock.moments c.take_turn.new.clock) (hands.view c.take_turn.new.pass.pass) (looks c.take_turn.new.follower) c.take_turn.new.follower.kept) c.turns.core.kind c.take_turn.new.core.kind (place_of (g.J.Sink.contents c.turns.journal) (g.J.Journal.told c.turns.journal) (g.W.Wires.seen c.turns.wires) c.turns.held (view c.turns.seat)) (place_of (g.J.Sink.contents c.take_turn.new.journal) (g.J.Journal.told c.take_turn.new.journal) (g.W.Wires.seen c.take_turn.new.wires) c.take_turn.new.held (view c.take_turn.new.seat)) c.in-Ok.stops true c.if-stops.true c.in-Ok.ensures.turns.0))) c.requires.core
 
+pub returns-then-stops-clause-octets : goal.returns-then-stops-clause-octets
+returns-then-stops-clause-octets g c = part_octets c.args.names.now ended.Stopped (sides_of (g.C.Clock.moments c.args.clock.now) (hands.view c.args.pass.now.pass) (looks c.args.follower.now) c.args.follower.now.kept) (sides_of (g.C.Clock.moments c.take_turn.new.clock) (hands.view c.take_turn.new.pass.pass) (looks c.take_turn.new.follower) c.take_turn.new.follower.kept) c.args.core.now.kind c.take_turn.new.core.kind (place_of (g.J.Sink.contents c.args.journal.now) (g.J.Journal.told c.args.journal.now) (g.W.Wires.seen c.args.wires.now) c.args.held.now (view c.args.seat.now)) (place_of (g.J.Sink.contents c.take_turn.new.journal) (g.J.Journal.told c.take_turn.new.journal) (g.W.Wires.seen c.take_turn.new.wires) c.take_turn.new.held (view c.take_turn.new.seat)) (works_end c.args.names.now (sides_of (g.C.Clock.moments c.args.clock.now) (hands.view c.args.pass.now.pass) (looks c.args.follower.now) c.args.follower.now.kept) (sides_of (g.C.Clock.moments c.take_turn.new.clock) (hands.view c.take_turn.new.pass.pass) (looks c.take_turn.new.follower) c.take_turn.new.follower.kept) c.args.core.now.kind c.take_turn.new.core.kind (place_of (g.J.Sink.contents c.args.journal.now) (g.J.Journal.told c.args.journal.now) (g.W.Wires.seen c.args.wires.now) c.args.held.now (view c.args.seat.now)) (place_of (g.J.Sink.contents c.take_turn.new.journal) (g.J.Journal.told c.take_turn.new.journal) (g.W.Wires.seen c.take_turn.new.wires) c.take_turn.new.held (view c.take_turn.new.seat)) c.args.turns ended.Stopped (works_stopped c.args.names.now c.turns.turn c.args.turns (sides_of (g.C.Clock.moments c.args.clock.now) (hands.view c.args.pass.now.pass) (looks c.args.follower.now) c.args.follower.now.kept) (sides_of (g.C.Clock.moments c.turns.clock) (hands.view c.turns.pass.pass) (looks c.turns.follower) c.turns.follower.kept) (sides_of (g.C.Clock.moments c.take_turn.new.clock) (hands.view c.take_turn.new.pass.pass) (looks c.take_turn.new.follower) c.take_turn.new.follower.kept) c.args.core.now.kind c.turns.core.kind c.take_turn.new.core.kind (place_of (g.J.Sink.contents c.args.journal.now) (g.J.Journal.told c.args.journal.now) (g.W.Wires.seen c.args.wires.now) c.args.held.now (view c.args.seat.now)) (place_of (g.J.Sink.contents c.turns.journal) (g.J.Journal.told c.turns.journal) (g.W.Wires.seen c.turns.wires) c.turns.held (view c.turns.seat)) (place_of (g.J.Sink.contents c.take_turn.new.journal) (g.J.Journal.told c.take_turn.new.journal) (g.W.Wires.seen c.take_turn.new.wires) c.take_turn.new.held (view c.take_turn.new.seat)) (omega arith) c.turns.invariant.turns (turns_as c.args.names.now (sides_of (g.C.Clock.moments c.turns.clock) (hands.view c.turns.pass.pass) (looks c.turns.follower) c.turns.follower.kept) (sides_of (g.C.Clock.moments c.take_turn.new.clock) (hands.view c.take_turn.new.pass.pass) (looks c.take_turn.new.follower) c.take_turn.new.follower.kept) c.turns.core.kind c.take_turn.new.core.kind (place_of (g.J.Sink.contents c.turns.journal) (g.J.Journal.told c.turns.journal) (g.W.Wires.seen c.turns.wires) c.turns.held (view c.turns.seat)) (place_of (g.J.Sink.contents c.take_turn.new.journal) (g.J.Journal.told c.take_turn.new.journal) (g.W.Wires.seen c.take_turn.new.wires) c.take_turn.new.held (view c.take_turn.new.seat)) c.in-Ok.stops true c.if-stops.true c.in-Ok.ensures.turns.0))) c.requires.core
+
 pub returns-then-stops-clause-turns : goal.returns-then-stops-clause-turns
 returns-then-stops-clause-turns g c = part_turns c.args.names.now ended.Stopped (sides_of (g.C.Clock.moments c.args.clock.now) (hands.view c.args.pass.now.pass) (looks c.args.follower.now) c.args.follower.now.kept) (sides_of (g.C.Clock.moments c.take_turn.new.clock) (hands.view c.take_turn.new.pass.pass) (looks c.take_turn.new.follower) c.take_turn.new.follower.kept) c.args.core.now.kind c.take_turn.new.core.kind (place_of (g.J.Sink.contents c.args.journal.now) (g.J.Journal.told c.args.journal.now) (g.W.Wires.seen c.args.wires.now) c.args.held.now (view c.args.seat.now)) (place_of (g.J.Sink.contents c.take_turn.new.journal) (g.J.Journal.told c.take_turn.new.journal) (g.W.Wires.seen c.take_turn.new.wires) c.take_turn.new.held (view c.take_turn.new.seat)) (works_end c.args.names.now (sides_of (g.C.Clock.moments c.args.clock.now) (hands.view c.args.pass.now.pass) (looks c.args.follower.now) c.args.follower.now.kept) (sides_of (g.C.Clock.moments c.take_turn.new.clock) (hands.view c.take_turn.new.pass.pass) (looks c.take_turn.new.follower) c.take_turn.new.follower.kept) c.args.core.now.kind c.take_turn.new.core.kind (place_of (g.J.Sink.contents c.args.journal.now) (g.J.Journal.told c.args.journal.now) (g.W.Wires.seen c.args.wires.now) c.args.held.now (view c.args.seat.now)) (place_of (g.J.Sink.contents c.take_turn.new.journal) (g.J.Journal.told c.take_turn.new.journal) (g.W.Wires.seen c.take_turn.new.wires) c.take_turn.new.held (view c.take_turn.new.seat)) c.args.turns ended.Stopped (works_stopped c.args.names.now c.turns.turn c.args.turns (sides_of (g.C.Clock.moments c.args.clock.now) (hands.view c.args.pass.now.pass) (looks c.args.follower.now) c.args.follower.now.kept) (sides_of (g.C.Clock.moments c.turns.clock) (hands.view c.turns.pass.pass) (looks c.turns.follower) c.turns.follower.kept) (sides_of (g.C.Clock.moments c.take_turn.new.clock) (hands.view c.take_turn.new.pass.pass) (looks c.take_turn.new.follower) c.take_turn.new.follower.kept) c.args.core.now.kind c.turns.core.kind c.take_turn.new.core.kind (place_of (g.J.Sink.contents c.args.journal.now) (g.J.Journal.told c.args.journal.now) (g.W.Wires.seen c.args.wires.now) c.args.held.now (view c.args.seat.now)) (place_of (g.J.Sink.contents c.turns.journal) (g.J.Journal.told c.turns.journal) (g.W.Wires.seen c.turns.wires) c.turns.held (view c.turns.seat)) (place_of (g.J.Sink.contents c.take_turn.new.journal) (g.J.Journal.told c.take_turn.new.journal) (g.W.Wires.seen c.take_turn.new.wires) c.take_turn.new.held (view c.take_turn.new.seat)) (omega arith) c.turns.invariant.turns (turns_as c.args.names.now (sides_of (g.C.Clock.moments c.turns.clock) (hands.view c.turns.pass.pass) (looks c.turns.follower) c.turns.follower.kept) (sides_of (g.C.Clock.moments c.take_turn.new.clock) (hands.view c.take_turn.new.pass.pass) (looks c.take_turn.new.follower) c.take_turn.new.follower.kept) c.turns.core.kind c.take_turn.new.core.kind (place_of (g.J.Sink.contents c.turns.journal) (g.J.Journal.told c.turns.journal) (g.W.Wires.seen c.turns.wires) c.turns.held (view c.turns.seat)) (place_of (g.J.Sink.contents c.take_turn.new.journal) (g.J.Journal.told c.take_turn.new.journal) (g.W.Wires.seen c.take_turn.new.wires) c.take_turn.new.held (view c.take_turn.new.seat)) c.in-Ok.stops true c.if-stops.true c.in-Ok.ensures.turns.0))) c.requires.core c.args.turns (works_whole c.args.names.now c.args.turns (sides_of (g.C.Clock.moments c.args.clock.now) (hands.view c.args.pass.now.pass) (looks c.args.follower.now) c.args.follower.now.kept) (sides_of (g.C.Clock.moments c.take_turn.new.clock) (hands.view c.take_turn.new.pass.pass) (looks c.take_turn.new.follower) c.take_turn.new.follower.kept) c.args.core.now.kind c.take_turn.new.core.kind (place_of (g.J.Sink.contents c.args.journal.now) (g.J.Journal.told c.args.journal.now) (g.W.Wires.seen c.args.wires.now) c.args.held.now (view c.args.seat.now)) (place_of (g.J.Sink.contents c.take_turn.new.journal) (g.J.Journal.told c.take_turn.new.journal) (g.W.Wires.seen c.take_turn.new.wires) c.take_turn.new.held (view c.take_turn.new.seat)) ended.Stopped (works_stopped c.args.names.now c.turns.turn c.args.turns (sides_of (g.C.Clock.moments c.args.clock.now) (hands.view c.args.pass.now.pass) (looks c.args.follower.now) c.args.follower.now.kept) (sides_of (g.C.Clock.moments c.turns.clock) (hands.view c.turns.pass.pass) (looks c.turns.follower) c.turns.follower.kept) (sides_of (g.C.Clock.moments c.take_turn.new.clock) (hands.view c.take_turn.new.pass.pass) (looks c.take_turn.new.follower) c.take_turn.new.follower.kept) c.args.core.now.kind c.turns.core.kind c.take_turn.new.core.kind (place_of (g.J.Sink.contents c.args.journal.now) (g.J.Journal.told c.args.journal.now) (g.W.Wires.seen c.args.wires.now) c.args.held.now (view c.args.seat.now)) (place_of (g.J.Sink.contents c.turns.journal) (g.J.Journal.told c.turns.journal) (g.W.Wires.seen c.turns.wires) c.turns.held (view c.turns.seat)) (place_of (g.J.Sink.contents c.take_turn.new.journal) (g.J.Journal.told c.take_turn.new.journal) (g.W.Wires.seen c.take_turn.new.wires) c.take_turn.new.held (view c.take_turn.new.seat)) (omega arith) c.turns.invariant.turns (turns_as c.args.names.now (sides_of (g.C.Clock.moments c.turns.clock) (hands.view c.turns.pass.pass) (looks c.turns.follower) c.turns.follower.kept) (sides_of (g.C.Clock.moments c.take_turn.new.clock) (hands.view c.take_turn.new.pass.pass) (looks c.take_turn.new.follower) c.take_turn.new.follower.kept) c.turns.core.kind c.take_turn.new.core.kind (place_of (g.J.Sink.contents c.turns.journal) (g.J.Journal.told c.turns.journal) (g.W.Wires.seen c.turns.wires) c.turns.held (view c.turns.seat)) (place_of (g.J.Sink.contents c.take_turn.new.journal) (g.J.Journal.told c.take_turn.new.journal) (g.W.Wires.seen c.take_turn.new.wires) c.take_turn.new.held (view c.take_turn.new.seat)) c.in-Ok.stops true c.if-stops.true c.in-Ok.ensures.turns.0)))
 
@@ -93,6 +97,9 @@ returns-in-Err-clause-tape g c = part_tape c.args.names.now c.in-Err.end (sides_
 pub returns-in-Err-clause-wires : goal.returns-in-Err-clause-wires
 returns-in-Err-clause-wires g c = part_wires c.args.names.now c.in-Err.end (sides_of (g.C.Clock.moments c.args.clock.now) (hands.view c.args.pass.now.pass) (looks c.args.follower.now) c.args.follower.now.kept) (sides_of (g.C.Clock.moments c.take_turn.new.clock) (hands.view c.take_turn.new.pass.pass) (looks c.take_turn.new.follower) c.take_turn.new.follower.kept) c.args.core.now.kind c.take_turn.new.core.kind (place_of (g.J.Sink.contents c.args.journal.now) (g.J.Journal.told c.args.journal.now) (g.W.Wires.seen c.args.wires.now) c.args.held.now (view c.args.seat.now)) (place_of (g.J.Sink.contents c.take_turn.new.journal) (g.J.Journal.told c.take_turn.new.journal) (g.W.Wires.seen c.take_turn.new.wires) c.take_turn.new.held (view c.take_turn.new.seat)) (works_end c.args.names.now (sides_of (g.C.Clock.moments c.args.clock.now) (hands.view c.args.pass.now.pass) (looks c.args.follower.now) c.args.follower.now.kept) (sides_of (g.C.Clock.moments c.take_turn.new.clock) (hands.view c.take_turn.new.pass.pass) (looks c.take_turn.new.follower) c.take_turn.new.follower.kept) c.args.core.now.kind c.take_turn.new.core.kind (place_of (g.J.Sink.contents c.args.journal.now) (g.J.Journal.told c.args.journal.now) (g.W.Wires.seen c.args.wires.now) c.args.held.now (view c.args.seat.now)) (place_of (g.J.Sink.contents c.take_turn.new.journal) (g.J.Journal.told c.take_turn.new.journal) (g.W.Wires.seen c.take_turn.new.wires) c.take_turn.new.held (view c.take_turn.new.seat)) c.args.turns c.in-Err.end (works_cut c.args.names.now c.turns.turn c.args.turns (sides_of (g.C.Clock.moments c.args.clock.now) (hands.view c.args.pass.now.pass) (looks c.args.follower.now) c.args.follower.now.kept) (sides_of (g.C.Clock.moments c.turns.clock) (hands.view c.turns.pass.pass) (looks c.turns.follower) c.turns.follower.kept) (sides_of (g.C.Clock.moments c.take_turn.new.clock) (hands.view c.take_turn.new.pass.pass) (looks c.take_turn.new.follower) c.take_turn.new.follower.kept) c.args.core.now.kind c.turns.core.kind c.take_turn.new.core.kind (place_of (g.J.Sink.contents c.args.journal.now) (g.J.Journal.told c.args.journal.now) (g.W.Wires.seen c.args.wires.now) c.args.held.now (view c.args.seat.now)) (place_of (g.J.Sink.contents c.turns.journal) (g.J.Journal.told c.turns.journal) (g.W.Wires.seen c.turns.wires) c.turns.held (view c.turns.seat)) (place_of (g.J.Sink.contents c.take_turn.new.journal) (g.J.Journal.told c.take_turn.new.journal) (g.W.Wires.seen c.take_turn.new.wires) c.take_turn.new.held (view c.take_turn.new.seat)) c.in-Err.end (omega arith) c.turns.invariant.turns c.in-Err.ensures.turns)) c.requires.core
 
+pub returns-in-Err-clause-octets : goal.returns-in-Err-clause-octets
+returns-in-Err-clause-octets g c = part_octets c.args.names.now c.in-Err.end (sides_of (g.C.Clock.moments c.args.clock.now) (hands.view c.args.pass.now.pass) (looks c.args.follower.now) c.args.follower.now.kept) (sides_of (g.C.Clock.moments c.take_turn.new.clock) (hands.view c.take_turn.new.pass.pass) (looks c.take_turn.new.follower) c.take_turn.new.follower.kept) c.args.core.now.kind c.take_turn.new.core.kind (place_of (g.J.Sink.contents c.args.journal.now) (g.J.Journal.told c.args.journal.now) (g.W.Wires.seen c.args.wires.now) c.args.held.now (view c.args.seat.now)) (place_of (g.J.Sink.contents c.take_turn.new.journal) (g.J.Journal.told c.take_turn.new.journal) (g.W.Wires.seen c.take_turn.new.wires) c.take_turn.new.held (view c.take_turn.new.seat)) (works_end c.args.names.now (sides_of (g.C.Clock.moments c.args.clock.now) (hands.view c.args.pass.now.pass) (looks c.args.follower.now) c.args.follower.now.kept) (sides_of (g.C.Clock.moments c.take_turn.new.clock) (hands.view c.take_turn.new.pass.pass) (looks c.take_turn.new.follower) c.take_turn.new.follower.kept) c.args.core.now.kind c.take_turn.new.core.kind (place_of (g.J.Sink.contents c.args.journal.now) (g.J.Journal.told c.args.journal.now) (g.W.Wires.seen c.args.wires.now) c.args.held.now (view c.args.seat.now)) (place_of (g.J.Sink.contents c.take_turn.new.journal) (g.J.Journal.told c.take_turn.new.journal) (g.W.Wires.seen c.take_turn.new.wires) c.take_turn.new.held (view c.take_turn.new.seat)) c.args.turns c.in-Err.end (works_cut c.args.names.now c.turns.turn c.args.turns (sides_of (g.C.Clock.moments c.args.clock.now) (hands.view c.args.pass.now.pass) (looks c.args.follower.now) c.args.follower.now.kept) (sides_of (g.C.Clock.moments c.turns.clock) (hands.view c.turns.pass.pass) (looks c.turns.follower) c.turns.follower.kept) (sides_of (g.C.Clock.moments c.take_turn.new.clock) (hands.view c.take_turn.new.pass.pass) (looks c.take_turn.new.follower) c.take_turn.new.follower.kept) c.args.core.now.kind c.turns.core.kind c.take_turn.new.core.kind (place_of (g.J.Sink.contents c.args.journal.now) (g.J.Journal.told c.args.journal.now) (g.W.Wires.seen c.args.wires.now) c.args.held.now (view c.args.seat.now)) (place_of (g.J.Sink.contents c.turns.journal) (g.J.Journal.told c.turns.journal) (g.W.Wires.seen c.turns.wires) c.turns.held (view c.turns.seat)) (place_of (g.J.Sink.contents c.take_turn.new.journal) (g.J.Journal.told c.take_turn.new.journal) (g.W.Wires.seen c.take_turn.new.wires) c.take_turn.new.held (view c.take_turn.new.seat)) c.in-Err.end (omega arith) c.turns.invariant.turns c.in-Err.ensures.turns)) c.requires.core
+
 pub returns-in-Err-clause-turns : goal.returns-in-Err-clause-turns
 returns-in-Err-clause-turns g c = part_turns c.args.names.now c.in-Err.end (sides_of (g.C.Clock.moments c.args.clock.now) (hands.view c.args.pass.now.pass) (looks c.args.follower.now) c.args.follower.now.kept) (sides_of (g.C.Clock.moments c.take_turn.new.clock) (hands.view c.take_turn.new.pass.pass) (looks c.take_turn.new.follower) c.take_turn.new.follower.kept) c.args.core.now.kind c.take_turn.new.core.kind (place_of (g.J.Sink.contents c.args.journal.now) (g.J.Journal.told c.args.journal.now) (g.W.Wires.seen c.args.wires.now) c.args.held.now (view c.args.seat.now)) (place_of (g.J.Sink.contents c.take_turn.new.journal) (g.J.Journal.told c.take_turn.new.journal) (g.W.Wires.seen c.take_turn.new.wires) c.take_turn.new.held (view c.take_turn.new.seat)) (works_end c.args.names.now (sides_of (g.C.Clock.moments c.args.clock.now) (hands.view c.args.pass.now.pass) (looks c.args.follower.now) c.args.follower.now.kept) (sides_of (g.C.Clock.moments c.take_turn.new.clock) (hands.view c.take_turn.new.pass.pass) (looks c.take_turn.new.follower) c.take_turn.new.follower.kept) c.args.core.now.kind c.take_turn.new.core.kind (place_of (g.J.Sink.contents c.args.journal.now) (g.J.Journal.told c.args.journal.now) (g.W.Wires.seen c.args.wires.now) c.args.held.now (view c.args.seat.now)) (place_of (g.J.Sink.contents c.take_turn.new.journal) (g.J.Journal.told c.take_turn.new.journal) (g.W.Wires.seen c.take_turn.new.wires) c.take_turn.new.held (view c.take_turn.new.seat)) c.args.turns c.in-Err.end (works_cut c.args.names.now c.turns.turn c.args.turns (sides_of (g.C.Clock.moments c.args.clock.now) (hands.view c.args.pass.now.pass) (looks c.args.follower.now) c.args.follower.now.kept) (sides_of (g.C.Clock.moments c.turns.clock) (hands.view c.turns.pass.pass) (looks c.turns.follower) c.turns.follower.kept) (sides_of (g.C.Clock.moments c.take_turn.new.clock) (hands.view c.take_turn.new.pass.pass) (looks c.take_turn.new.follower) c.take_turn.new.follower.kept) c.args.core.now.kind c.turns.core.kind c.take_turn.new.core.kind (place_of (g.J.Sink.contents c.args.journal.now) (g.J.Journal.told c.args.journal.now) (g.W.Wires.seen c.args.wires.now) c.args.held.now (view c.args.seat.now)) (place_of (g.J.Sink.contents c.turns.journal) (g.J.Journal.told c.turns.journal) (g.W.Wires.seen c.turns.wires) c.turns.held (view c.turns.seat)) (place_of (g.J.Sink.contents c.take_turn.new.journal) (g.J.Journal.told c.take_turn.new.journal) (g.W.Wires.seen c.take_turn.new.wires) c.take_turn.new.held (view c.take_turn.new.seat)) c.in-Err.end (omega arith) c.turns.invariant.turns c.in-Err.ensures.turns)) c.requires.core c.args.turns (works_whole c.args.names.now c.args.turns (sides_of (g.C.Clock.moments c.args.clock.now) (hands.view c.args.pass.now.pass) (looks c.args.follower.now) c.args.follower.now.kept) (sides_of (g.C.Clock.moments c.take_turn.new.clock) (hands.view c.take_turn.new.pass.pass) (looks c.take_turn.new.follower) c.take_turn.new.follower.kept) c.args.core.now.kind c.take_turn.new.core.kind (place_of (g.J.Sink.contents c.args.journal.now) (g.J.Journal.told c.args.journal.now) (g.W.Wires.seen c.args.wires.now) c.args.held.now (view c.args.seat.now)) (place_of (g.J.Sink.contents c.take_turn.new.journal) (g.J.Journal.told c.take_turn.new.journal) (g.W.Wires.seen c.take_turn.new.wires) c.take_turn.new.held (view c.take_turn.new.seat)) c.in-Err.end (works_cut c.args.names.now c.turns.turn c.args.turns (sides_of (g.C.Clock.moments c.args.clock.now) (hands.view c.args.pass.now.pass) (looks c.args.follower.now) c.args.follower.now.kept) (sides_of (g.C.Clock.moments c.turns.clock) (hands.view c.turns.pass.pass) (looks c.turns.follower) c.turns.follower.kept) (sides_of (g.C.Clock.moments c.take_turn.new.clock) (hands.view c.take_turn.new.pass.pass) (looks c.take_turn.new.follower) c.take_turn.new.follower.kept) c.args.core.now.kind c.turns.core.kind c.take_turn.new.core.kind (place_of (g.J.Sink.contents c.args.journal.now) (g.J.Journal.told c.args.journal.now) (g.W.Wires.seen c.args.wires.now) c.args.held.now (view c.args.seat.now)) (place_of (g.J.Sink.contents c.turns.journal) (g.J.Journal.told c.turns.journal) (g.W.Wires.seen c.turns.wires) c.turns.held (view c.turns.seat)) (place_of (g.J.Sink.contents c.take_turn.new.journal) (g.J.Journal.told c.take_turn.new.journal) (g.W.Wires.seen c.take_turn.new.wires) c.take_turn.new.held (view c.take_turn.new.seat)) c.in-Err.end (omega arith) c.turns.invariant.turns c.in-Err.ensures.turns))
 
@@ -122,6 +129,9 @@ returns-clause-tape g c = part_tape c.args.names.now ended.Turns (sides_of (g.C.
 
 pub returns-clause-wires : goal.returns-clause-wires
 returns-clause-wires g c = part_wires c.args.names.now ended.Turns (sides_of (g.C.Clock.moments c.args.clock.now) (hands.view c.args.pass.now.pass) (looks c.args.follower.now) c.args.follower.now.kept) (sides_of (g.C.Clock.moments c.turns.clock) (hands.view c.turns.pass.pass) (looks c.turns.follower) c.turns.follower.kept) c.args.core.now.kind c.turns.core.kind (place_of (g.J.Sink.contents c.args.journal.now) (g.J.Journal.told c.args.journal.now) (g.W.Wires.seen c.args.wires.now) c.args.held.now (view c.args.seat.now)) (place_of (g.J.Sink.contents c.turns.journal) (g.J.Journal.told c.turns.journal) (g.W.Wires.seen c.turns.wires) c.turns.held (view c.turns.seat)) (works_end c.args.names.now (sides_of (g.C.Clock.moments c.args.clock.now) (hands.view c.args.pass.now.pass) (looks c.args.follower.now) c.args.follower.now.kept) (sides_of (g.C.Clock.moments c.turns.clock) (hands.view c.turns.pass.pass) (looks c.turns.follower) c.turns.follower.kept) c.args.core.now.kind c.turns.core.kind (place_of (g.J.Sink.contents c.args.journal.now) (g.J.Journal.told c.args.journal.now) (g.W.Wires.seen c.args.wires.now) c.args.held.now (view c.args.seat.now)) (place_of (g.J.Sink.contents c.turns.journal) (g.J.Journal.told c.turns.journal) (g.W.Wires.seen c.turns.wires) c.turns.held (view c.turns.seat)) c.args.turns ended.Turns (turns_at c.turns.turn c.args.turns (omega arith) c.turns.invariant.turns)) c.requires.core
+
+pub returns-clause-octets : goal.returns-clause-octets
+returns-clause-octets g c = part_octets c.args.names.now ended.Turns (sides_of (g.C.Clock.moments c.args.clock.now) (hands.view c.args.pass.now.pass) (looks c.args.follower.now) c.args.follower.now.kept) (sides_of (g.C.Clock.moments c.turns.clock) (hands.view c.turns.pass.pass) (looks c.turns.follower) c.turns.follower.kept) c.args.core.now.kind c.turns.core.kind (place_of (g.J.Sink.contents c.args.journal.now) (g.J.Journal.told c.args.journal.now) (g.W.Wires.seen c.args.wires.now) c.args.held.now (view c.args.seat.now)) (place_of (g.J.Sink.contents c.turns.journal) (g.J.Journal.told c.turns.journal) (g.W.Wires.seen c.turns.wires) c.turns.held (view c.turns.seat)) (works_end c.args.names.now (sides_of (g.C.Clock.moments c.args.clock.now) (hands.view c.args.pass.now.pass) (looks c.args.follower.now) c.args.follower.now.kept) (sides_of (g.C.Clock.moments c.turns.clock) (hands.view c.turns.pass.pass) (looks c.turns.follower) c.turns.follower.kept) c.args.core.now.kind c.turns.core.kind (place_of (g.J.Sink.contents c.args.journal.now) (g.J.Journal.told c.args.journal.now) (g.W.Wires.seen c.args.wires.now) c.args.held.now (view c.args.seat.now)) (place_of (g.J.Sink.contents c.turns.journal) (g.J.Journal.told c.turns.journal) (g.W.Wires.seen c.turns.wires) c.turns.held (view c.turns.seat)) c.args.turns ended.Turns (turns_at c.turns.turn c.args.turns (omega arith) c.turns.invariant.turns)) c.requires.core
 
 pub returns-clause-turns : goal.returns-clause-turns
 returns-clause-turns g c = part_turns c.args.names.now ended.Turns (sides_of (g.C.Clock.moments c.args.clock.now) (hands.view c.args.pass.now.pass) (looks c.args.follower.now) c.args.follower.now.kept) (sides_of (g.C.Clock.moments c.turns.clock) (hands.view c.turns.pass.pass) (looks c.turns.follower) c.turns.follower.kept) c.args.core.now.kind c.turns.core.kind (place_of (g.J.Sink.contents c.args.journal.now) (g.J.Journal.told c.args.journal.now) (g.W.Wires.seen c.args.wires.now) c.args.held.now (view c.args.seat.now)) (place_of (g.J.Sink.contents c.turns.journal) (g.J.Journal.told c.turns.journal) (g.W.Wires.seen c.turns.wires) c.turns.held (view c.turns.seat)) (works_end c.args.names.now (sides_of (g.C.Clock.moments c.args.clock.now) (hands.view c.args.pass.now.pass) (looks c.args.follower.now) c.args.follower.now.kept) (sides_of (g.C.Clock.moments c.turns.clock) (hands.view c.turns.pass.pass) (looks c.turns.follower) c.turns.follower.kept) c.args.core.now.kind c.turns.core.kind (place_of (g.J.Sink.contents c.args.journal.now) (g.J.Journal.told c.args.journal.now) (g.W.Wires.seen c.args.wires.now) c.args.held.now (view c.args.seat.now)) (place_of (g.J.Sink.contents c.turns.journal) (g.J.Journal.told c.turns.journal) (g.W.Wires.seen c.turns.wires) c.turns.held (view c.turns.seat)) c.args.turns ended.Turns (turns_at c.turns.turn c.args.turns (omega arith) c.turns.invariant.turns)) c.requires.core c.args.turns (works_whole c.args.names.now c.args.turns (sides_of (g.C.Clock.moments c.args.clock.now) (hands.view c.args.pass.now.pass) (looks c.args.follower.now) c.args.follower.now.kept) (sides_of (g.C.Clock.moments c.turns.clock) (hands.view c.turns.pass.pass) (looks c.turns.follower) c.turns.follower.kept) c.args.core.now.kind c.turns.core.kind (place_of (g.J.Sink.contents c.args.journal.now) (g.J.Journal.told c.args.journal.now) (g.W.Wires.seen c.args.wires.now) c.args.held.now (view c.args.seat.now)) (place_of (g.J.Sink.contents c.turns.journal) (g.J.Journal.told c.turns.journal) (g.W.Wires.seen c.turns.wires) c.turns.held (view c.turns.seat)) ended.Turns (turns_at c.turns.turn c.args.turns (omega arith) c.turns.invariant.turns))
