@@ -10,18 +10,20 @@ use Rattle.flow_notes.specs.declared.notes.Cause.{Cause}
 use Rattle.h2_frames.specs.Head.{data_head}
 use Rattle.std.proofs.Common.{ap, arith, refl, subst, sym, ◌∙◌}
 use Rattle.std.proofs.lemmas.List.{append-nil}
+use Rattle.std.proofs.lemmas.Option.{slice_get_within}
 use Rattle.paged_map.specs.PagedMap.{PagedMap}
 use Rattle.std.specs.Option.{option_and_then, option_map}
 use Rattle.std.specs.Prelude.{Bool, IfSome, List, None, Option, Some, [], drop, false, if◌then◌else◌, is_some, not, slice_get, take, true, ℕ, ◌&&◌, ◌++◌, ◌+◌, ◌<◌, ◌==◌, ◌∷◌, ◌≡◌}
 use Rattle.tape_laws.specs.Flows.{same_flow}
 use Rattle.tape_laws.specs.History.{Noted}
-use Rattle.tape_laws.specs.World.{last_place, out, place, send as sends}
+use Rattle.tape_laws.specs.World.{last_place, out, place, received, send as sends}
 use Rattle.wire_flows.proofs.Cases.{by_case, if_mapped, some_mapped}
 use Rattle.wire_flows.proofs.Found.{flow_after, there_after}
 use Rattle.wire_flows.specs.Flows.{Flows, IsThere, flow_in, is_there}
 use Rattle.wire_links.specs.Links.{Links, ends_of}
 use Rattle.wire_state.proofs.Held.{KeepsOctets, arrived_held, framed_held, framed_last, moved_held, moved_last, number_same}
-use Rattle.wire_state.proofs.Standing.{ConnsAre, at_one, ends_are_still, if_some, more_is}
+use Rattle.wire_state.proofs.Sending.{arrived_fronts, arrived_loses, framed_fronts, framed_loses, framed_sent, fronts_still, moved_loses, same_flow_refl, unborn_still}
+use Rattle.wire_state.proofs.Standing.{ConnsAre, at_one, ends_are_still, flow_still, if_some, more_is}
 use Rattle.wire_state.specs.Ways.{WayHistory, WayStep, stream_to, world_setup}
 use Rattle.wire_state.specs.Worlds.{FlowIs, Stands}
 use Rattle.wire_state.specs.declared.conn.Conn.{Conn}
@@ -43,14 +45,6 @@ module _ (f : FlowId) (change : Flow → Flow) (old new : Flows) (c : ChangesFlo
       (λ same. subst (λ (o : Option Flow). IfSome o (FlowIs g k)) (sym (found_now g ∙ ap (λ b. if b then option_map change (flow_in old g) else flow_in old g) same)) (mine g (same_flow_exact f g same) (are g)))
       (λ other. subst (λ (o : Option Flow). IfSome o (FlowIs g k)) (sym (found_now g ∙ ap (λ b. if b then option_map change (flow_in old g) else flow_in old g) other)) (if_some (flow_in old g) (others g other) (are g)))
 
-same_flow_refl : (f : FlowId) → same_flow f f ≡ true
-same_flow_refl f = at (f.exchange == f.exchange) f.back (number_same f.exchange)
-  where
-    at : (b back : Bool) → b ≡ true → (b && (if back then back else not back)) ≡ true
-    at true true e = refl
-    at true false e = refl
-    at false back e = cc
-
 -- a flow that is there isn't one that isn't
 apart_of : (f : FlowId) (flows : Flows) (g : FlowId) → IsThere flows f → is_there flows g ≡ false → same_flow f g ≡ false
 apart_of f flows g there none = at (same_flow f g) refl
@@ -58,6 +52,10 @@ apart_of f flows g there none = at (same_flow f g) refl
     at : (b : Bool) → same_flow f g ≡ b → b ≡ false
     at true e = let same = same_flow_exact f g e in absurd (cc (ap (is_there flows) same, there, none))
     at false e = refl
+
+-- none comes by the change of one
+none_after : (f : FlowId) (change : Flow → Flow) (old new : Flows) → ChangesFlow f change old.exchanges new.exchanges → (g : FlowId) → is_there old g ≡ false → is_there new g ≡ false
+none_after f change old new c g none = there_after f change old.exchanges new.exchanges c g ∙ none
 
 -- ---- octets arrive
 module _ (f : FlowId) (octets : List ℕ) (h : WayHistory) where
@@ -72,7 +70,11 @@ module _ (f : FlowId) (octets : List ℕ) (h : WayHistory) where
     last = is.last;
     holds = λ p. arrived_held octets flow p ∙ (ap (λ xs. xs ++ (if p == 0 then octets else [])) (is.holds p)
         ∙ sym (ap (λ b. place world_setup f p h ++ (if b && (p == 0) then octets else [])) (same_flow_refl f)));
+    loses = arrived_loses f h is.loses octets;
   }
+
+  arrived_came : (g : FlowId) → same_flow f g ≡ false → received g (arrival ∷ h) ≡ received g h
+  arrived_came g other = ap (λ b. received g h ++ (if b then octets else [])) other ∙ append-nil (received g h)
 
   pub arrives : (old new : Flows) (conns : PagedMap Conn) (links : Links) (change : Flow → Flow) → ChangesFlow f change old.exchanges new.exchanges → IsThere old f
       → ((flow : Flow) → flow_in old f ≡ Some flow → change flow ≡ arrived octets flow) → Stands conns old links h → Stands conns new links (arrival ∷ h)
@@ -80,7 +82,7 @@ module _ (f : FlowId) (octets : List ℕ) (h : WayHistory) where
     writes = s.writes;
     flows_are = flows_changed f change old new c h (arrival ∷ h)
         (λ flow e was. subst (FlowIs f (arrival ∷ h)) (sym (is flow e)) (arrived_own flow was))
-        (λ g other flow was. record { last = was.last; holds = λ p. was.holds p ∙ sym (arrived_place g other p) })
+        (λ g other. flow_still g h (arrival ∷ h) (record { places = arrived_place g other; last = refl; came = arrived_came g other; went = refl }))
         s.flows_are;
     empty = λ g p none. let gone = sym (there_after f change old.exchanges new.exchanges c g) ∙ none in
         arrived_place g (apart_of f old g there gone) p ∙ s.empty g p gone;
@@ -88,6 +90,8 @@ module _ (f : FlowId) (octets : List ℕ) (h : WayHistory) where
     known = s.known;
     closed = s.closed;
     come = s.come;
+    unborn = unborn_still old new h (arrival ∷ h) c.flow.last (none_after f change old new c) (λ g none. (arrived_came g (apart_of f old g there none), refl)) s.unborn;
+    fronts = arrived_fronts f octets h s.fronts;
   }
 
 -- ---- octets go on to the next place
@@ -108,6 +112,7 @@ module _ (f : FlowId) (q n : ℕ) (h : WayHistory) where
     holds = λ p. moved_held flow q n y next p
         ∙ ((λ i. if p == q then drop n (is.holds p i) else (if p == q + 1 then is.holds p i ++ take n (is.holds q i) else is.holds p i))
         ∙ sym (ap (λ b. if b then (if p == q then drop n (place world_setup f p h) else (if p == q + 1 then place world_setup f p h ++ take n (place world_setup f q h) else place world_setup f p h)) else place world_setup f p h) (same_flow_refl f)));
+    loses = moved_loses f h is.loses q n (subst (λ l. q < l) is.last (slice_get_within flow.chain.places q y next));
   }
 
   -- the place that they left, and the next, are there
@@ -122,7 +127,7 @@ module _ (f : FlowId) (q n : ℕ) (h : WayHistory) where
     writes = s.writes;
     flows_are = flows_changed f change old new c h (move ∷ h)
         (λ flow e was. let m = is flow e was in subst (FlowIs f (move ∷ h)) (sym m.moves_so) (moved_own flow m.next m.there was))
-        (λ g other flow was. record { last = was.last; holds = λ p. was.holds p ∙ sym (moved_place g other p) })
+        (λ g other. flow_still g h (move ∷ h) (record { places = moved_place g other; last = refl; came = refl; went = refl }))
         s.flows_are;
     empty = λ g p none. let gone = sym (there_after f change old.exchanges new.exchanges c g) ∙ none in
         moved_place g (apart_of f old g there gone) p ∙ s.empty g p gone;
@@ -130,6 +135,8 @@ module _ (f : FlowId) (q n : ℕ) (h : WayHistory) where
     known = s.known;
     closed = s.closed;
     come = s.come;
+    unborn = unborn_still old new h (move ∷ h) c.flow.last (none_after f change old new c) (λ g none. (refl, refl)) s.unborn;
+    fronts = fronts_still move h (λ g. refl) (λ g. refl) s.fronts;
   }
 
 -- ---- octets are framed
@@ -149,6 +156,7 @@ module _ (c : ℕ) (f : FlowId) (n : ℕ) (last : Bool) (h : WayHistory) where
     holds = λ p. framed_held n last flow (some_place _ _ is.last) p
         ∙ ((λ i. drop (if p == is.last i then n else 0) (is.holds p i))
         ∙ sym (ap (λ b. drop (if b && (p == last_place world_setup f h) then n else 0) (place world_setup f p h)) (same_flow_refl f)));
+    loses = framed_loses f h is.loses c n last;
   }
 
   -- what is carried is the front of the send buffer
@@ -164,7 +172,7 @@ module _ (c : ℕ) (f : FlowId) (n : ℕ) (last : Bool) (h : WayHistory) where
         ∙ (λ i. out world_setup d h ++ (if c == d then data_head (on i) n last ++ take n (carried flow here i) else []))));
     flows_are = flows_changed f (body_framed n last) before after change h (frame ∷ h)
         (λ g e was. framed_own g was)
-        (λ g other g_flow was. record { last = was.last; holds = λ p. was.holds p ∙ sym (framed_place g other p) })
+        (λ g other. flow_still g h (frame ∷ h) (record { places = framed_place g other; last = refl; came = refl; went = framed_sent c f n last h g other }))
         stands.flows_are;
     empty = λ g p none. let gone = sym (there_after f (body_framed n last) before.exchanges after.exchanges change g) ∙ none in
         framed_place g (apart_of f before g (ap is_some found) gone) p ∙ stands.empty g p gone;
@@ -172,6 +180,8 @@ module _ (c : ℕ) (f : FlowId) (n : ℕ) (last : Bool) (h : WayHistory) where
     known = λ d e. wrote_so.there d ∙ stands.known d e;
     closed = λ d e. stands.closed d (sym (wrote_so.there d) ∙ e) ∙ sym (wrote_so.shut d);
     come = λ d e. let never = stands.come d e in (wrote_so.there d ∙ never.0, never.1);
+    unborn = unborn_still before after h (frame ∷ h) change.flow.last (none_after f (body_framed n last) before after change) (λ g none. (refl, framed_sent c f n last h g (apart_of f before g (ap is_some found) none))) stands.unborn;
+    fronts = framed_fronts c f n last h (framed_own flow here).loses stands.fronts;
   }
     where
       here : FlowIs f h flow
@@ -179,7 +189,7 @@ module _ (c : ℕ) (f : FlowId) (n : ℕ) (last : Bool) (h : WayHistory) where
 
 -- ---- flows whose octets stay
 pub keeps_flow : (f : FlowId) (h : WayHistory) (old new : Flow) → KeepsOctets old new → FlowIs f h old → FlowIs f h new
-keeps_flow f h old new k is = record { last = k.last ∙ is.last; holds = λ p. k.holds p ∙ is.holds p }
+keeps_flow f h old new k is = record { last = k.last ∙ is.last; holds = λ p. k.holds p ∙ is.holds p; loses = is.loses }
 
 pub flow_goes : (f : FlowId) (change : Flow → Flow) (old new : Flows) → ((flow : Flow) → flow_in old f ≡ Some flow → KeepsOctets flow (change flow)) → ChangesFlow f change old.exchanges new.exchanges
     → (conns : PagedMap Conn) (links : Links) (h : WayHistory) → Stands conns old links h → Stands conns new links h
@@ -191,11 +201,13 @@ flow_goes f change old new keeps c conns links h s = record {
   known = s.known;
   closed = s.closed;
   come = s.come;
+  unborn = unborn_still old new h h c.flow.last (none_after f change old new c) (λ g none. (refl, refl)) s.unborn;
+  fronts = s.fronts;
 }
 
 -- other flows, of which each is found as before
-pub flows_go : (old new : Flows) → ((f : FlowId) → flow_in new f ≡ flow_in old f) → (conns : PagedMap Conn) (links : Links) (h : WayHistory) → Stands conns old links h → Stands conns new links h
-flows_go old new same conns links h s = record {
+pub flows_go : (old new : Flows) → new.exchanges.last ≡ old.exchanges.last → ((f : FlowId) → flow_in new f ≡ flow_in old f) → (conns : PagedMap Conn) (links : Links) (h : WayHistory) → Stands conns old links h → Stands conns new links h
+flows_go old new last same conns links h s = record {
   writes = s.writes;
   flows_are = λ f. subst (λ (o : Option Flow). IfSome o (FlowIs f h)) (sym (same f)) (s.flows_are f);
   empty = λ f p none. s.empty f p (sym (ap is_some (same f)) ∙ none);
@@ -203,12 +215,14 @@ flows_go old new same conns links h s = record {
   known = s.known;
   closed = s.closed;
   come = s.come;
+  unborn = unborn_still old new h h last (λ f none. ap is_some (same f) ∙ none) (λ f none. (refl, refl)) s.unborn;
+  fronts = s.fronts;
 }
 
 -- each flow is found as a change makes it that keeps its octets
-pub flows_mapped : (change : Flow → Flow) → ((flow : Flow) → KeepsOctets flow (change flow)) → (old new : Flows) → ((f : FlowId) → flow_in new f ≡ option_map change (flow_in old f))
+pub flows_mapped : (change : Flow → Flow) → ((flow : Flow) → KeepsOctets flow (change flow)) → (old new : Flows) → new.exchanges.last ≡ old.exchanges.last → ((f : FlowId) → flow_in new f ≡ option_map change (flow_in old f))
     → (conns : PagedMap Conn) (links : Links) (h : WayHistory) → Stands conns old links h → Stands conns new links h
-flows_mapped change keeps old new same conns links h s = record {
+flows_mapped change keeps old new last same conns links h s = record {
   writes = s.writes;
   flows_are = λ f. subst (λ (o : Option Flow). IfSome o (FlowIs f h)) (sym (same f)) (if_mapped (FlowIs f h) (FlowIs f h) change (flow_in old f) (λ flow e was. keeps_flow f h flow (change flow) (keeps flow) was) (s.flows_are f));
   empty = λ f p none. s.empty f p (sym (ap is_some (same f) ∙ some_mapped change (flow_in old f)) ∙ none);
@@ -216,4 +230,6 @@ flows_mapped change keeps old new same conns links h s = record {
   known = s.known;
   closed = s.closed;
   come = s.come;
+  unborn = unborn_still old new h h last (λ f none. ap is_some (same f) ∙ (some_mapped change (flow_in old f) ∙ none)) (λ f none. (refl, refl)) s.unborn;
+  fronts = s.fronts;
 }

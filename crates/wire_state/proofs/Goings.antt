@@ -99,7 +99,7 @@ pub same_bodies : (old new : Flows) → new ≡ old → KeepBodies old new
 same_bodies old new e = record { goes = λ conns links h s. subst (λ (f : Flows). Stands conns f links h) (sym e) s }
 
 pub gate_bodies : (old new : Flows) → new.exchanges ≡ old.exchanges → KeepBodies old new
-gate_bodies old new e = record { goes = flows_go old new (λ f. ap (λ (ex : Exchanges). flow_at ex f) e) }
+gate_bodies old new e = record { goes = flows_go old new (ap (λ (ex : Exchanges). ex.last) e) (λ f. ap (λ (ex : Exchanges). flow_at ex f) e) }
 
 pub changed_bodies : (f : FlowId) (change : Flow → Flow) (old new : Flows) → ((flow : Flow) → flow_in old f ≡ Some flow → KeepsOctets flow (change flow)) → ChangesFlow f change old.exchanges new.exchanges → KeepBodies old new
 changed_bodies f change old new keeps c = record { goes = flow_goes f change old new keeps c }
@@ -124,6 +124,12 @@ first_stands conns flows links c f l = record {
   known = λ d e. ap (λ (es : List (ℕ × Conn)). is_some (lookup (is_at (nat_cmp d)) es)) c;
   closed = λ d e. sym (ap (λ (es : List (ℕ × Conn)). option_map_or (λ conn. not conn.open) (lookup (is_at (nat_cmp d)) es) false) c);
   come = λ d e. (ap (λ (es : List (ℕ × Conn)). is_some (lookup (is_at (nat_cmp d)) es)) c, refl);
+  unborn = λ g above. record {
+    there = ap (λ (es : List (ℕ × Exchange)). is_some (option_and_then (side_of g.back) (lookup (nat_eq g.exchange) es))) f;
+    unread = refl;
+    unsent = refl;
+  };
+  fronts = λ g. refl;
 }
 
 -- ---- a mark

@@ -28,11 +28,11 @@ record IsNothing (n : Note) : Type 0 where
   left : KeepsLeft (Noted n ∷ [])
 
 nothing_of : (n : Note) → IsIdle n → IsNothing n
-nothing_of (note.Pause f b) i = record { writes = λ h. record { outs = λ d. refl }; flows = λ h. record { places = λ g p. refl; last = λ g. refl; stream = λ g. refl }; shut = λ h. record { closed = λ d. refl; come = λ d e. e }; left = λ h d. refl }
-nothing_of (note.Resume f b) i = record { writes = λ h. record { outs = λ d. refl }; flows = λ h. record { places = λ g p. refl; last = λ g. refl; stream = λ g. refl }; shut = λ h. record { closed = λ d. refl; come = λ d e. e }; left = λ h d. refl }
-nothing_of (note.Waste c s n) i = record { writes = λ h. record { outs = λ d. refl }; flows = λ h. record { places = λ g p. refl; last = λ g. refl; stream = λ g. refl }; shut = λ h. record { closed = λ d. refl; come = λ d e. e }; left = λ h d. refl }
-nothing_of (note.Fire k x) i = record { writes = λ h. record { outs = λ d. refl }; flows = λ h. record { places = λ g p. refl; last = λ g. refl; stream = λ g. refl }; shut = λ h. record { closed = λ d. refl; come = λ d e. e }; left = λ h d. refl }
-nothing_of (note.Gone x) i = record { writes = λ h. record { outs = λ d. refl }; flows = λ h. record { places = λ g p. refl; last = λ g. refl; stream = λ g. refl }; shut = λ h. record { closed = λ d. refl; come = λ d e. e }; left = λ h d. refl }
+nothing_of (note.Pause f b) i = record { writes = λ h. record { outs = λ d. refl }; flows = λ h. record { places = λ g p. refl; last = λ g. refl; stream = λ g. refl; came = λ g. refl; went = λ g. refl }; shut = λ h. record { closed = λ d. refl; come = λ d e. e }; left = λ h d. refl }
+nothing_of (note.Resume f b) i = record { writes = λ h. record { outs = λ d. refl }; flows = λ h. record { places = λ g p. refl; last = λ g. refl; stream = λ g. refl; came = λ g. refl; went = λ g. refl }; shut = λ h. record { closed = λ d. refl; come = λ d e. e }; left = λ h d. refl }
+nothing_of (note.Waste c s n) i = record { writes = λ h. record { outs = λ d. refl }; flows = λ h. record { places = λ g p. refl; last = λ g. refl; stream = λ g. refl; came = λ g. refl; went = λ g. refl }; shut = λ h. record { closed = λ d. refl; come = λ d e. e }; left = λ h d. refl }
+nothing_of (note.Fire k x) i = record { writes = λ h. record { outs = λ d. refl }; flows = λ h. record { places = λ g p. refl; last = λ g. refl; stream = λ g. refl; came = λ g. refl; went = λ g. refl }; shut = λ h. record { closed = λ d. refl; come = λ d e. e }; left = λ h d. refl }
+nothing_of (note.Gone x) i = record { writes = λ h. record { outs = λ d. refl }; flows = λ h. record { places = λ g p. refl; last = λ g. refl; stream = λ g. refl; came = λ g. refl; went = λ g. refl }; shut = λ h. record { closed = λ d. refl; come = λ d e. e }; left = λ h d. refl }
 nothing_of (note.Turn k e) i = absurd i
 nothing_of (note.Start x c s d) i = absurd i
 nothing_of (note.Arrive f octets) i = absurd i

@@ -9,6 +9,7 @@ pub mod Lives
 pub mod Notings
 pub mod Results
 pub mod Rooms
+pub mod Sending
 pub mod Soundness
 pub mod Standing
 pub mod Stepping

@@ -20,7 +20,8 @@ use Rattle.wire_links.specs.Numbers.{under}
 use Rattle.wire_links.specs.declared.conn.Conn.{Conn as Link}
 use Rattle.wire_links.specs.declared.links.exchanges.Ends.{Ends}
 use Rattle.wire_state.proofs.Held.{is_number}
-use Rattle.wire_state.proofs.Standing.{as_if, conns_written, if_some}
+use Rattle.wire_state.proofs.Sending.{fronts_still, unborn_still}
+use Rattle.wire_state.proofs.Standing.{as_if, conns_written, flow_still, if_some}
 use Rattle.wire_state.proofs.Lives.{LinksOne, OpensStream, UnlinksOne}
 use Rattle.wire_state.specs.Ways.{WayHistory, after, world_setup}
 use Rattle.wire_state.specs.Worlds.{EndsAre, Stands, ToldBy, has_conn, is_shut, octets_of}
@@ -60,6 +61,8 @@ links_go old new k conns flows h s = record {
   known = λ c e. s.known c (k.known c e);
   closed = s.closed;
   come = s.come;
+  unborn = s.unborn;
+  fronts = s.fronts;
 }
 
 pub links_told : (old new : Links) → KeepsEnds old new → (conns : PagedMap Conn) (flows : Flows) (h : WayHistory) (g : ℕ → List ℕ) (start notes : List Note) → ToldBy h g start conns flows old notes → ToldBy h g start conns flows new notes
@@ -149,6 +152,8 @@ comes n old new c flows links h known came fresh s = record {
   come = λ d e. let never = s.come d e in by_case (n == d)
       (λ same. absurd (cc (ap (λ v. has (connections world_setup h) v) (is_number n d same), came, e)))
       (λ other. (ap is_some (c.others d other) ∙ never.0, never.1));
+  unborn = s.unborn;
+  fronts = s.fronts;
 }
 
 pub come_told : (n : ℕ) (old new : PagedMap Conn) → ComesNew n old new → (flows : Flows) (links : Links) → is_known n links ≡ true
@@ -185,6 +190,8 @@ forgets n old new f flows links links' h same known s = record {
       (λ e. s.closed d (sym (ap is_some (f.others d e)) ∙ there) ∙ sym (ap (λ (o : Option Conn). option_map_or (λ conn. not conn.open) o false) (f.others d e)));
   come = λ d e. let never = s.come d e in
       (by_case (n == d) (λ same. ap (λ v. has_conn v new) (sym (is_number n d same)) ∙ ap is_some f.gone) (λ other. ap is_some (f.others d other) ∙ never.0), never.1);
+  unborn = s.unborn;
+  fronts = s.fronts;
 }
 
 -- ---- a connection that is closed is lost
@@ -221,12 +228,14 @@ pub drops_rest : (n k : ℕ) (old new : PagedMap Conn) → DropsRest n old new �
     → Stands old flows links h → Stands new flows links (Noted (note.Turn k (event.Gone n)) ∷ h)
 drops_rest n k old new d flows links h s = record {
   writes = at;
-  flows_are = λ f. if_some (flow_in flows f) (λ flow is. record { last = is.last; holds = is.holds }) (s.flows_are f);
+  flows_are = λ f. if_some (flow_in flows f) (flow_still f h (Noted (note.Turn k (event.Gone n)) ∷ h) (record { places = λ p. refl; last = refl; came = refl; went = refl })) (s.flows_are f);
   empty = s.empty;
   ends = λ x. if_some (ends_of x links) (λ e is. record { client = is.client; cluster = is.cluster }) (s.ends x);
   known = λ c e. d.there c ∙ s.known c e;
   closed = λ c e. s.closed c (sym (d.there c) ∙ e) ∙ sym (d.shut c);
   come = λ c e. let never = s.come c e in (d.there c ∙ never.0, never.1);
+  unborn = unborn_still flows flows h (Noted (note.Turn k (event.Gone n)) ∷ h) refl (λ f none. none) (λ f none. (refl, refl)) s.unborn;
+  fronts = fronts_still (Noted (note.Turn k (event.Gone n))) h (λ f. refl) (λ f. refl) s.fronts;
 }
   where
     -- where it isn't there nothing waited for it

@@ -16,12 +16,13 @@ use Rattle.tape_laws.specs.Connections.{connections, was_closed}
 use Rattle.tape_laws.specs.Dispatches.{has}
 use Rattle.tape_laws.specs.Flows.{request, response}
 use Rattle.tape_laws.specs.History.{Noted}
-use Rattle.tape_laws.specs.World.{last_place, out, place, window_update}
+use Rattle.tape_laws.specs.World.{last_place, out, place, received, sent, window_update}
 use Rattle.wire_flows.proofs.Cases.{by_case}
 use Rattle.wire_flows.specs.Flows.{Flows, flow_in}
 use Rattle.wire_links.specs.Links.{Links, ends_of, is_known}
 use Rattle.wire_links.specs.declared.links.exchanges.Ends.{Ends}
 use Rattle.wire_state.proofs.Held.{by_test, is_number}
+use Rattle.wire_state.proofs.Sending.{IsStill, fronts_still, still_loses, unborn_still}
 use Rattle.wire_state.specs.Ways.{WayHistory, WayStep, stream_to, world_setup}
 use Rattle.wire_state.specs.Worlds.{EndsAre, FlowIs, Stands, has_conn, is_shut, left_by, octets_of}
 use Rattle.wire_state.specs.declared.conn.Conn.{Conn}
@@ -97,6 +98,8 @@ pub record KeepsFlows (step : WayStep) (h : WayHistory) : Type 0 where
   pub places : (f : FlowId) (p : ℕ) → place world_setup f p (step ∷ h) ≡ place world_setup f p h
   pub last : (f : FlowId) → last_place world_setup f (step ∷ h) ≡ last_place world_setup f h
   pub stream : (f : FlowId) → stream_to f (step ∷ h) ≡ stream_to f h
+  pub came : (f : FlowId) → received f (step ∷ h) ≡ received f h
+  pub went : (f : FlowId) → sent world_setup f (step ∷ h) ≡ sent world_setup f h
 
 pub record KeepsShut (step : WayStep) (h : WayHistory) : Type 0 where
   pub closed : (c : ℕ) → was_closed c (step ∷ h) ≡ was_closed c h
@@ -106,8 +109,12 @@ pub record KeepsShut (step : WayStep) (h : WayHistory) : Type 0 where
 pub record Writes (change : ℕ → List ℕ → List ℕ) (step : WayStep) (h : WayHistory) : Type 0 where
   pub outs : (c : ℕ) → out world_setup c (step ∷ h) ≡ change c (out world_setup c h)
 
+-- a flow of which nothing moves
+pub flow_still : (f : FlowId) (h k : WayHistory) → IsStill f h k → (flow : Flow) → FlowIs f h flow → FlowIs f k flow
+flow_still f h k s flow is = record { last = is.last ∙ sym s.last; holds = λ p. is.holds p ∙ sym (s.places p); loses = still_loses f h k s is.loses }
+
 flow_is_still : (step : WayStep) (h : WayHistory) → KeepsFlows step h → (f : FlowId) (flow : Flow) → FlowIs f h flow → FlowIs f (step ∷ h) flow
-flow_is_still step h k f flow is = record { last = is.last ∙ sym (k.last f); holds = λ p. is.holds p ∙ sym (k.places f p) }
+flow_is_still step h k f flow is = flow_still f h (step ∷ h) (record { places = k.places f; last = k.last f; came = k.came f; went = k.went f }) flow is
 
 pub ends_are_still : (step : WayStep) (h : WayHistory) → ((f : FlowId) → stream_to f (step ∷ h) ≡ stream_to f h) → (x : ℕ) (e : Ends) → EndsAre x h e → EndsAre x (step ∷ h) e
 ends_are_still step h s x e is = record { client = is.client ∙ sym (s (response x)); cluster = if_some e.cluster_stream (λ k at. at ∙ sym (s (request x))) is.cluster }
@@ -123,6 +130,8 @@ wrote change step h old new flows links w k m c s = record {
   known = λ d e. c.there d ∙ s.known d e;
   closed = λ d e. m.closed d ∙ (s.closed d (sym (c.there d) ∙ e) ∙ sym (c.shut d));
   come = λ d e. let never = s.come d (m.come d e) in (c.there d ∙ never.0, m.closed d ∙ never.1);
+  unborn = unborn_still flows flows h (step ∷ h) refl (λ f none. none) (λ f none. (k.came f, k.went f)) s.unborn;
+  fronts = fronts_still step h k.came k.went s.fronts;
 }
 
 -- no step
@@ -135,6 +144,8 @@ conns_go old new flows links h c s = record {
   known = λ d e. c.there d ∙ s.known d e;
   closed = λ d e. s.closed d (sym (c.there d) ∙ e) ∙ sym (c.shut d);
   come = λ d e. let never = s.come d e in (c.there d ∙ never.0, never.1);
+  unborn = s.unborn;
+  fronts = s.fronts;
 }
 
 -- ---- the kinds of steps
@@ -153,7 +164,7 @@ module _ (h : WayHistory) where
     head_writes s = record { outs = λ d. more_is (c == d) (out world_setup d h) octets }
 
     pub head_flows : (s : ℕ) → KeepsFlows (Noted (note.Head c s octets)) h
-    head_flows s = record { places = λ f p. refl; last = λ f. refl; stream = λ f. refl }
+    head_flows s = record { places = λ f p. refl; last = λ f. refl; stream = λ f. refl; came = λ f. refl; went = λ f. refl }
 
     pub head_shut : (s : ℕ) → KeepsShut (Noted (note.Head c s octets)) h
     head_shut s = record { closed = λ d. refl; come = λ d e. e }
@@ -162,7 +173,7 @@ module _ (h : WayHistory) where
     answer_writes = record { outs = λ d. more_is (c == d) (out world_setup d h) octets }
 
     pub answer_flows : KeepsFlows (Noted (note.Answer c octets)) h
-    answer_flows = record { places = λ f p. refl; last = λ f. refl; stream = λ f. refl }
+    answer_flows = record { places = λ f p. refl; last = λ f. refl; stream = λ f. refl; came = λ f. refl; went = λ f. refl }
 
     pub answer_shut : KeepsShut (Noted (note.Answer c octets)) h
     answer_shut = record { closed = λ d. refl; come = λ d e. e }
@@ -172,7 +183,7 @@ module _ (h : WayHistory) where
     credit_writes = record { outs = λ d. more_is (c == d) (out world_setup d h) (window_update s n) }
 
     pub credit_flows : KeepsFlows (Noted (note.Credit c s n)) h
-    credit_flows = record { places = λ f p. refl; last = λ f. refl; stream = λ f. refl }
+    credit_flows = record { places = λ f p. refl; last = λ f. refl; stream = λ f. refl; came = λ f. refl; went = λ f. refl }
 
     pub credit_shut : KeepsShut (Noted (note.Credit c s n)) h
     credit_shut = record { closed = λ d. refl; come = λ d e. e }
@@ -183,7 +194,7 @@ module _ (h : WayHistory) where
     out_writes = record { outs = λ d. less_is (c == d) n (out world_setup d h) }
 
     pub out_flows : KeepsFlows (Noted (note.Out c n)) h
-    out_flows = record { places = λ f p. refl; last = λ f. refl; stream = λ f. refl }
+    out_flows = record { places = λ f p. refl; last = λ f. refl; stream = λ f. refl; came = λ f. refl; went = λ f. refl }
 
     pub out_shut : KeepsShut (Noted (note.Out c n)) h
     out_shut = record { closed = λ d. refl; come = λ d e. e }
@@ -194,7 +205,7 @@ module _ (h : WayHistory) where
     pause_writes = record { outs = λ d. refl }
 
     pub pause_flows : KeepsFlows (Noted (note.Pause f b)) h
-    pause_flows = record { places = λ f p. refl; last = λ f. refl; stream = λ f. refl }
+    pause_flows = record { places = λ f p. refl; last = λ f. refl; stream = λ f. refl; came = λ f. refl; went = λ f. refl }
 
     pub pause_shut : KeepsShut (Noted (note.Pause f b)) h
     pause_shut = record { closed = λ d. refl; come = λ d e. e }
@@ -203,7 +214,7 @@ module _ (h : WayHistory) where
     resume_writes = record { outs = λ d. refl }
 
     pub resume_flows : KeepsFlows (Noted (note.Resume f b)) h
-    resume_flows = record { places = λ f p. refl; last = λ f. refl; stream = λ f. refl }
+    resume_flows = record { places = λ f p. refl; last = λ f. refl; stream = λ f. refl; came = λ f. refl; went = λ f. refl }
 
     pub resume_shut : KeepsShut (Noted (note.Resume f b)) h
     resume_shut = record { closed = λ d. refl; come = λ d e. e }
@@ -233,7 +244,7 @@ pub closes : (c code : ℕ) (why : CloseCause) (h : WayHistory) (old new : Paged
     → Stands old flows links h → Stands new flows links' (Noted (note.Close c code why) ∷ h)
 closes c code why h old new flows links links' w same known s = record {
   writes = λ d. w.octets d ∙ (ap (at_one c (left_by why) d) (s.writes d) ∙ sym (close_outs c code why h d));
-  flows_are = λ f. if_some (flow_in flows f) (λ flow is. record { last = is.last; holds = is.holds }) (s.flows_are f);
+  flows_are = λ f. if_some (flow_in flows f) (flow_still f h (Noted (note.Close c code why) ∷ h) (record { places = λ p. refl; last = refl; came = refl; went = refl })) (s.flows_are f);
   empty = s.empty;
   ends = λ x. subst (λ (o : Option Ends). IfSome o (EndsAre x (Noted (note.Close c code why) ∷ h))) (sym (same x))
       (if_some (ends_of x links) (λ e is. record { client = is.client; cluster = is.cluster }) (s.ends x));
@@ -245,6 +256,8 @@ closes c code why h old new flows links links' w same known s = record {
         (λ same. absurd (cc (ap (λ v. has_conn v old) (is_number c d same), w.was, never.0)))
         (λ other. ap (λ b. b || was_closed d h) other ∙ never.1),
   );
+  unborn = unborn_still flows flows h (Noted (note.Close c code why) ∷ h) refl (λ f none. none) (λ f none. (refl, refl)) s.unborn;
+  fronts = fronts_still (Noted (note.Close c code why)) h (λ f. refl) (λ f. refl) s.fronts;
 }
 
 -- one connection was written through, and isn't open any more

@@ -45,7 +45,7 @@ left_same (event.Obey version pressures) t conns g = refl
 left_same (event.Plain e) t conns g = refl
 
 turn_flows : (k : ℕ) (e : Event) (h : WayHistory) → KeepsFlows (Noted (note.Turn k e)) h
-turn_flows k e h = record { places = λ f p. refl; last = λ f. refl; stream = λ f. refl }
+turn_flows k e h = record { places = λ f p. refl; last = λ f. refl; stream = λ f. refl; came = λ f. refl; went = λ f. refl }
 
 first_false : (a b : Bool) → (a || b) ≡ false → a ≡ false
 first_false true b e = cc

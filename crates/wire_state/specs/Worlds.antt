@@ -1,6 +1,7 @@
 -- A core's octets are those of the world of its tape.
 use Rattle.exchange_core.specs.Flow.{Flow, last_place as send_place, octets_in}
 use Rattle.flow_gate.specs.declared.ids.FlowId.{FlowId}
+use Rattle.flow_laws.specs.Octets.{LosesNothing}
 use Rattle.flow_notes.specs.declared.events.Event.{Event}
 use Rattle.flow_notes.specs.declared.events.Event.TheVariants as event
 use Rattle.flow_notes.specs.declared.notes.CloseCause.{CloseCause}
@@ -10,11 +11,13 @@ use Rattle.flow_notes.specs.declared.notes.Note.TheVariants as note
 use Rattle.paged_map.specs.PagedMap.{PagedMap, value_at}
 use Rattle.std.specs.Option.{option_and_then, option_map_or}
 use Rattle.std.specs.Ordering.{nat_cmp}
-use Rattle.std.specs.Prelude.{Bool, IfSome, List, OnOk, Option, Result, Some, [], false, if◌then◌else◌, is_some, not, take, true, ℕ, ◌++◌, ◌==◌, ◌∷◌, ◌≡◌}
+use Rattle.std.specs.Prelude.{Bool, IfSome, List, OnOk, Option, Result, Some, [], false, if◌then◌else◌, is_some, not, take, true, ℕ, ◌++◌, ◌<◌, ◌==◌, ◌∷◌, ◌≡◌}
 use Rattle.tape_laws.specs.Connections.{connections, was_closed}
 use Rattle.tape_laws.specs.Dispatches.{has}
 use Rattle.tape_laws.specs.Flows.{request, response}
-use Rattle.tape_laws.specs.World.{gone, last_place, out, place}
+use Rattle.tape_laws.specs.Headline.{SendsItsBody}
+use Rattle.tape_laws.specs.History.{AtEachMoment}
+use Rattle.tape_laws.specs.World.{gone, last_place, out, place, received, sent}
 use Rattle.wire_flows.specs.Flows.{Flows, flow_in, is_there}
 use Rattle.wire_links.specs.Links.{Links, ends_of, is_known}
 use Rattle.wire_links.specs.declared.links.exchanges.Ends.{Ends}
@@ -36,10 +39,21 @@ has_conn c conns = is_some (value_at c conns)
 abbrev pub is_shut : ℕ → PagedMap Conn → Bool
 is_shut c conns = option_map_or (λ conn. not conn.open) (value_at c conns) false
 
--- a flow's places hold what those of the world do
+-- a flow's places hold what those of the world do, and nothing that came for it is lost
 pub record FlowIs (f : FlowId) (h : WayHistory) (flow : Flow) : Type 0 where
   pub last : send_place flow ≡ last_place world_setup f h
   pub holds : (p : ℕ) → octets_in flow p ≡ place world_setup f p h
+  pub loses : LosesNothing world_setup f h
+
+-- a flow that isn't there yet: nothing came for it, and nothing was sent on
+pub record IsUnborn (f : FlowId) (flows : Flows) (h : WayHistory) : Type 0 where
+  pub there : is_there flows f ≡ false
+  pub unread : received f h ≡ []
+  pub unsent : sent world_setup f h ≡ []
+
+-- at each moment what each flow sent on is a front of the body that was read for it
+abbrev pub SendsOn : WayHistory → Type 0
+SendsOn h = AtEachMoment (SendsItsBody world_setup) h
 
 -- its streams are those that it has there
 pub record EndsAre (x : ℕ) (h : WayHistory) (ends : Ends) : Type 0 where
@@ -57,6 +71,9 @@ pub record Stands (conns : PagedMap Conn) (flows : Flows) (links : Links) (h : W
   pub closed : (c : ℕ) → has_conn c conns ≡ true → was_closed c h ≡ is_shut c conns
   -- one that never came has none, and wasn't closed
   pub come : (c : ℕ) → has (connections world_setup h) c ≡ false → (has_conn c conns ≡ false) × (was_closed c h ≡ false)
+  -- no exchange has a number above the last that was given
+  pub unborn : (f : FlowId) → flows.exchanges.last < f.exchange → IsUnborn f flows h
+  pub fronts : SendsOn h
 
 -- The notes were made by these steps behind that history, and the core stands for what they lead to. What left each connection's
 -- write buffer up to there is told beside it.
