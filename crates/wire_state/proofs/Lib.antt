@@ -1,5 +1,6 @@
 pub mod Bodies
 pub mod Credits
+pub mod Fitting
 pub mod Goings
 pub mod Held
 pub mod Idle
@@ -10,6 +11,7 @@ pub mod Notings
 pub mod Results
 pub mod Rooms
 pub mod Sending
+pub mod Shapes
 pub mod Soundness
 pub mod Standing
 pub mod Stepping

@@ -12,6 +12,7 @@ use Rattle.tape_laws.specs.Flows.{same_flow}
 use Rattle.tape_laws.specs.Headline.{SendsItsBody}
 use Rattle.tape_laws.specs.History.{AtEachMoment, Noted}
 use Rattle.tape_laws.specs.Tied.{IsFront}
+use Rattle.tape_laws.specs.Units.{StageKind}
 use Rattle.tape_laws.specs.World.{last_place, place, received, send, sent}
 use Rattle.wire_flows.proofs.Cases.{by_case}
 use Rattle.wire_flows.specs.Flows.{Flows, is_there}
@@ -35,13 +36,13 @@ lying_still f h k e (suc p) = ap (λ xs. xs ++ lying world_setup f p k) (e (suc 
 -- from one history to the other it received and sent nothing, and its places are as they were
 pub record IsStill (f : FlowId) (h k : WayHistory) : Type 0 where
   pub places : (p : ℕ) → place world_setup f p k ≡ place world_setup f p h
-  pub last : last_place world_setup f k ≡ last_place world_setup f h
+  pub stages : stages_passed f k ≡ stages_passed f h
   pub came : received f k ≡ received f h
   pub went : sent world_setup f k ≡ sent world_setup f h
 
 pub still_loses : (f : FlowId) (h k : WayHistory) → IsStill f h k → LosesNothing world_setup f h → LosesNothing world_setup f k
 still_loses f h k s l =
-    let lies = ap (λ v. lying world_setup f v k) s.last ∙ lying_still f h k s.places (last_place world_setup f h) in
+    let lies = ap (λ (ss : List StageKind). lying world_setup f (length ss + 1) k) s.stages ∙ lying_still f h k s.places (last_place world_setup f h) in
     s.came ∙ (l ∙ (ap (λ xs. xs ++ lying world_setup f (last_place world_setup f h) h) (sym s.went) ∙ ap (λ xs. sent world_setup f k ++ xs) (sym lies)))
 
 -- ---- a flow that begins

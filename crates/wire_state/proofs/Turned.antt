@@ -3,6 +3,7 @@ use Rattle.flow_notes.specs.declared.events.Event.{Event}
 use Rattle.flow_notes.specs.declared.events.Event.TheVariants as event
 use Rattle.flow_notes.specs.declared.notes.Note.{Note}
 use Rattle.flow_notes.specs.declared.notes.Note.TheVariants as note
+use Rattle.proxy_config.specs.declared.config.LimitKeys.{LimitKeys}
 use Rattle.std.proofs.Common.{ap, refl, subst, sym, ◌∙◌}
 use Rattle.std.proofs.lemmas.List.{append-nil}
 use Rattle.std.proofs.lemmas.List.Folds.{list_any-append}
@@ -45,7 +46,7 @@ left_same (event.Obey version pressures) t conns g = refl
 left_same (event.Plain e) t conns g = refl
 
 turn_flows : (k : ℕ) (e : Event) (h : WayHistory) → KeepsFlows (Noted (note.Turn k e)) h
-turn_flows k e h = record { places = λ f p. refl; last = λ f. refl; stream = λ f. refl; came = λ f. refl; went = λ f. refl }
+turn_flows k e h = record { places = λ f p. refl; stages = λ f. refl; stream = λ f. refl; came = λ f. refl; went = λ f. refl }
 
 first_false : (a b : Bool) → (a || b) ≡ false → a ≡ false
 first_false true b e = cc
@@ -100,21 +101,21 @@ lost_writes k c h e = record {
 
 module _ (conns : PagedMap Conn) (flows : Flows) (links : Links) (h : WayHistory) (g : ℕ → List ℕ) (left : (c : ℕ) → gone world_setup c h ≡ g c) where
   -- nothing is noted behind the notes before
-  pub told_none : (before : List Note) → Stands conns flows links h → ToldBy h g before conns flows links before
+  pub told_none : {l : LimitKeys} → (before : List Note) → Stands l conns flows links h → ToldBy l h g before conns flows links before
   told_none before s = record { steps = []; is = sym (append-nil before); stands = s; left = left }
 
-  turned : (k : ℕ) (e : Event) → Writes same_octets (Noted (note.Turn k e)) h → Stands conns flows links h → Stands conns flows links (Noted (note.Turn k e) ∷ h)
-  turned k e w s = wrote same_octets (Noted (note.Turn k e)) h conns conns flows links w (turn_flows k e h) (turn_shut k e h) (conns_same conns) s
+  turned : {l : LimitKeys} → (k : ℕ) (e : Event) → Writes same_octets (Noted (note.Turn k e)) h → Stands l conns flows links h → Stands l conns flows links (Noted (note.Turn k e) ∷ h)
+  turned k e w s = wrote same_octets (Noted (note.Turn k e)) h conns conns flows links w (turn_flows k e h) (turn_shut k e h) (conns_same conns) (λ c fit. fit) s
 
-  turn_stands : (k : ℕ) (e : Event) → LosesNone e → Stands conns flows links h → Stands conns flows links (Noted (note.Turn k e) ∷ h)
+  turn_stands : {l : LimitKeys} → (k : ℕ) (e : Event) → LosesNone e → Stands l conns flows links h → Stands l conns flows links (Noted (note.Turn k e) ∷ h)
   turn_stands k e l s = turned k e (turn_writes k e l h) s
 
-  pub turn_told : (k : ℕ) (e : Event) → LosesNone e → (before noted : List Note) → noted ≡ before ++ note.Turn k e ∷ [] → Stands conns flows links h
-      → ToldBy h g before conns flows links noted
+  pub turn_told : {l : LimitKeys} → (k : ℕ) (e : Event) → LosesNone e → (before noted : List Note) → noted ≡ before ++ note.Turn k e ∷ [] → Stands l conns flows links h
+      → ToldBy l h g before conns flows links noted
   turn_told k e l before noted is s = record { steps = Noted (note.Turn k e) ∷ []; is = is; stands = turn_stands k e l s; left = left }
 
-  pub lost_told : (k c : ℕ) → option_map_or (λ conn. conn.open) (value_at c conns) false ≡ true → (before noted : List Note) → noted ≡ before ++ note.Turn k (event.Gone c) ∷ []
-      → Stands conns flows links h → ToldBy h g before conns flows links noted
+  pub lost_told : {l : LimitKeys} → (k c : ℕ) → option_map_or (λ conn. conn.open) (value_at c conns) false ≡ true → (before noted : List Note) → noted ≡ before ++ note.Turn k (event.Gone c) ∷ []
+      → Stands l conns flows links h → ToldBy l h g before conns flows links noted
   lost_told k c opened before noted is s = record {
     steps = Noted (note.Turn k (event.Gone c)) ∷ [];
     is = is;

@@ -1,6 +1,7 @@
 pub mod Agenda
 pub mod Courses
 pub mod Intakes
+pub mod Limits
 pub mod Noting
 pub mod Progress
 pub mod Sound

@@ -9,6 +9,7 @@ use Rattle.flow_notes.specs.declared.notes.CloseCause.TheVariants as cause
 use Rattle.flow_notes.specs.declared.notes.Note.{Note}
 use Rattle.flow_notes.specs.declared.notes.Note.TheVariants as note
 use Rattle.paged_map.specs.PagedMap.{PagedMap, value_at}
+use Rattle.proxy_config.specs.declared.config.LimitKeys.{LimitKeys}
 use Rattle.std.specs.Option.{option_and_then, option_map_or}
 use Rattle.std.specs.Ordering.{nat_cmp}
 use Rattle.std.specs.Prelude.{Bool, IfSome, List, OnOk, Option, Result, Some, [], false, if◌then◌else◌, is_some, not, take, true, ℕ, ◌++◌, ◌<◌, ◌==◌, ◌∷◌, ◌≡◌}
@@ -23,8 +24,9 @@ use Rattle.wire_links.specs.Links.{Links, ends_of, is_known}
 use Rattle.wire_links.specs.declared.links.exchanges.Ends.{Ends}
 use Rattle.wire_outlet.specs.declared.outlet.Framed.{Framed}
 use Rattle.wire_outlet.specs.declared.outlet.Framed.TheVariants as framed
+use Rattle.wire_state.specs.Limits.{Fits, HasShape}
 use Rattle.wire_state.specs.Noting.{answers_of, heads_of}
-use Rattle.wire_state.specs.Ways.{WayHistory, WayStep, after, shown, stream_to, world_setup}
+use Rattle.wire_state.specs.Ways.{WayHistory, WayStep, after, shown, stages_passed, stream_to, world_setup}
 use Rattle.wire_state.specs.declared.conn.Conn.{Conn}
 use Rattle.wire_state.specs.declared.wire_core.WireCore.{WireCore}
 
@@ -39,11 +41,12 @@ has_conn c conns = is_some (value_at c conns)
 abbrev pub is_shut : ℕ → PagedMap Conn → Bool
 is_shut c conns = option_map_or (λ conn. not conn.open) (value_at c conns) false
 
--- a flow's places hold what those of the world do, and nothing that came for it is lost
-pub record FlowIs (f : FlowId) (h : WayHistory) (flow : Flow) : Type 0 where
+-- a flow's places are those of the world and hold what they do, and nothing that came for it is lost
+pub record FlowIs (l : LimitKeys) (f : FlowId) (h : WayHistory) (flow : Flow) : Type 0 where
   pub last : send_place flow ≡ last_place world_setup f h
   pub holds : (p : ℕ) → octets_in flow p ≡ place world_setup f p h
   pub loses : LosesNothing world_setup f h
+  pub shape : HasShape l (stages_passed f h) flow
 
 -- a flow that isn't there yet: nothing came for it, and nothing was sent on
 pub record IsUnborn (f : FlowId) (flows : Flows) (h : WayHistory) : Type 0 where
@@ -60,9 +63,9 @@ pub record EndsAre (x : ℕ) (h : WayHistory) (ends : Ends) : Type 0 where
   pub client : ends.stream ≡ stream_to (response x) h
   pub cluster : IfSome ends.cluster_stream (λ s. s ≡ stream_to (request x) h)
 
-pub record Stands (conns : PagedMap Conn) (flows : Flows) (links : Links) (h : WayHistory) : Type 0 where
+pub record Stands (l : LimitKeys) (conns : PagedMap Conn) (flows : Flows) (links : Links) (h : WayHistory) : Type 0 where
   pub writes : (c : ℕ) → octets_of c conns ≡ out world_setup c h
-  pub flows_are : (f : FlowId) → IfSome (flow_in flows f) (FlowIs f h)
+  pub flows_are : (f : FlowId) → IfSome (flow_in flows f) (FlowIs l f h)
   -- a flow that isn't there holds nothing
   pub empty : (f : FlowId) (p : ℕ) → is_there flows f ≡ false → place world_setup f p h ≡ []
   pub ends : (x : ℕ) → IfSome (ends_of x links) (EndsAre x h)
@@ -74,17 +77,18 @@ pub record Stands (conns : PagedMap Conn) (flows : Flows) (links : Links) (h : W
   -- no exchange has a number above the last that was given
   pub unborn : (f : FlowId) → flows.exchanges.last < f.exchange → IsUnborn f flows h
   pub fronts : SendsOn h
+  pub fits : AtEachMoment (Fits l) h
 
 -- The notes were made by these steps behind that history, and the core stands for what they lead to. What left each connection's
 -- write buffer up to there is told beside it.
-pub record ToldBy (h : WayHistory) (g : ℕ → List ℕ) (start : List Note) (conns : PagedMap Conn) (flows : Flows) (links : Links) (notes : List Note) : Type 0 where
+pub record ToldBy (l : LimitKeys) (h : WayHistory) (g : ℕ → List ℕ) (start : List Note) (conns : PagedMap Conn) (flows : Flows) (links : Links) (notes : List Note) : Type 0 where
   pub steps : List WayStep
   pub is : notes ≡ start ++ shown steps
-  pub stands : Stands conns flows links (after steps h)
+  pub stands : Stands l conns flows links (after steps h)
   pub left : (c : ℕ) → gone world_setup c (after steps h) ≡ g c
 
 abbrev pub Told : WayHistory → (ℕ → List ℕ) → List Note → WireCore → List Note → Type 0
-Told h g start core notes = ToldBy h g start core.conns core.flows core.links notes
+Told h g start core notes = ToldBy core.config.limits h g start core.conns core.flows core.links notes
 
 -- Words between a core and its notes before a call and after it. Where memory was refused nothing is said.
 -- it goes on to
@@ -105,11 +109,11 @@ pub record Owes (owed : List Note) (old new : WireCore) : Type 0 where
 -- ---- notes
 -- what was still to be noted is
 pub record Pays {A E : Type 0} (r : Result A E) (owed before now : List Note) : Type 0 where
-  pub goes : (h : WayHistory) (g : ℕ → List ℕ) (start : List Note) (conns : PagedMap Conn) (flows : Flows) (links : Links) → ToldBy h g start conns flows links (before ++ owed) → OnOk r (ToldBy h g start conns flows links now)
+  pub goes : {l : LimitKeys} → (h : WayHistory) (g : ℕ → List ℕ) (start : List Note) (conns : PagedMap Conn) (flows : Flows) (links : Links) → ToldBy l h g start conns flows links (before ++ owed) → OnOk r (ToldBy l h g start conns flows links now)
 
 -- what was noted moves no octets
 pub record Shows {A E : Type 0} (r : Result A E) (before now : List Note) : Type 0 where
-  pub goes : (h : WayHistory) (g : ℕ → List ℕ) (start : List Note) (conns : PagedMap Conn) (flows : Flows) (links : Links) → ToldBy h g start conns flows links before → OnOk r (ToldBy h g start conns flows links now)
+  pub goes : {l : LimitKeys} → (h : WayHistory) (g : ℕ → List ℕ) (start : List Note) (conns : PagedMap Conn) (flows : Flows) (links : Links) → ToldBy l h g start conns flows links before → OnOk r (ToldBy l h g start conns flows links now)
 
 -- the note moves no octets, wherever it stands
 abbrev pub IsIdle : Note → Type 0
@@ -151,12 +155,12 @@ left_after e conns g = g
 
 -- From before the turn note of an event on: the core stood for a history, and stands for it with the dispatch's steps.
 pub record Turns {A E : Type 0} (r : Result A E) (e : Event) (old : WireCore) (noted : List Note) (new : WireCore) (now : List Note) : Type 0 where
-  pub goes : (h : WayHistory) (g : ℕ → List ℕ) (before : List Note) (k : ℕ) → noted ≡ before ++ note.Turn k e ∷ [] → Stands old.conns old.flows old.links h → ((c : ℕ) → gone world_setup c h ≡ g c)
+  pub goes : (h : WayHistory) (g : ℕ → List ℕ) (before : List Note) (k : ℕ) → noted ≡ before ++ note.Turn k e ∷ [] → Stands old.config.limits old.conns old.flows old.links h → ((c : ℕ) → gone world_setup c h ≡ g c)
       → IsFresh e h → OnOk r (Told h (left_after e old.conns g) before new now)
 
 -- The whole dispatch: from the notes before it on.
 pub record Follows (old : WireCore) (before : List Note) (e : Event) (new : WireCore) (now : List Note) : Type 0 where
-  pub goes : (h : WayHistory) (g : ℕ → List ℕ) → Stands old.conns old.flows old.links h → ((c : ℕ) → gone world_setup c h ≡ g c) → IsFresh e h → Told h (left_after e old.conns g) before new now
+  pub goes : (h : WayHistory) (g : ℕ → List ℕ) → Stands old.config.limits old.conns old.flows old.links h → ((c : ℕ) → gone world_setup c h ≡ g c) → IsFresh e h → Told h (left_after e old.conns g) before new now
 
 -- A connection comes: it is among those that came, and wasn't closed.
 pub record Comes {A E : Type 0} (r : Result A E) (c : ℕ) (old new : WireCore) : Type 0 where
