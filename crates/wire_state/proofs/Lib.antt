@@ -8,6 +8,7 @@ pub mod Keeping
 pub mod Linked
 pub mod Lives
 pub mod Notings
+pub mod Promised
 pub mod Results
 pub mod Rooms
 pub mod Sending

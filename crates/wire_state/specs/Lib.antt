@@ -5,5 +5,6 @@ pub mod Limits
 pub mod Noting
 pub mod Progress
 pub mod Sound
+pub mod Tapes
 pub mod Ways
 pub mod Worlds
