@@ -1,4 +1,5 @@
 pub mod Bodies
+pub mod Counted
 pub mod Credits
 pub mod Fitting
 pub mod Goings

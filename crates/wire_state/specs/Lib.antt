@@ -1,4 +1,5 @@
 pub mod Agenda
+pub mod Counts
 pub mod Courses
 pub mod Intakes
 pub mod Limits
