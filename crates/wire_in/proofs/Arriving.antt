@@ -32,8 +32,8 @@ by_fit false octets flow e = cc
 pub arrived_is : (octets : List ℕ) (flow : Flow) → received_by (length octets) (Some flow) ≡ Arrived → received octets flow ≡ arrived octets flow
 arrived_is octets flow e = by_fit (nat_le (length flow.recv + length octets) flow.window) octets flow e
 
-pub arrival_told : {l : LimitKeys} → (f : FlowId) (octets : List ℕ) (old new : Flows) (r : Received) → r ≡ received_by (length octets) (flow_in old f) → r ≡ Arrived → (IsThere old f → ChangesFlow f (received octets) old.exchanges new.exchanges) → IsSound new
-    → (conns : PagedMap Conn) (links : Links) (h : WayHistory) (g : ℕ → List ℕ) (start notes : List Note) → ToldBy l h g start conns old links notes → ToldBy l h g start conns new links (notes ++ note.Arrive f octets ∷ [])
+pub arrival_told : {k l : LimitKeys} → (f : FlowId) (octets : List ℕ) (old new : Flows) (r : Received) → r ≡ received_by (length octets) (flow_in old f) → r ≡ Arrived → (IsThere old f → ChangesFlow f (received octets) old.exchanges new.exchanges) → IsSound new
+    → (conns : PagedMap Conn) (links : Links) (h : WayHistory) (g : ℕ → List ℕ) (start notes : List Note) → ToldBy k l h g start conns old links notes → ToldBy k l h g start conns new links (notes ++ note.Arrive f octets ∷ [])
 arrival_told f octets old new r is arrives_so changes sound conns links =
     let here : received_by (length octets) (flow_in old f) ≡ Arrived = sym is ∙ arrives_so in
     let there = arrived_there (length octets) (flow_in old f) here in

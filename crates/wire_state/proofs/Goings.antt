@@ -43,28 +43,37 @@ abbrev pub KeepsLeft : List WayStep → Type 0
 KeepsLeft steps = (h : WayHistory) (c : ℕ) → gone world_setup c (after steps h) ≡ gone world_setup c h
 
 -- the steps that a call makes are still to be noted, where the core stands for them
-pub told_as : {l m : LimitKeys} → (steps : List WayStep) (more : (ℕ → List ℕ) → ℕ → List ℕ) (conns conns' : PagedMap Conn) (flows flows' : Flows) (links links' : Links)
+pub told_as : {k l : LimitKeys} → (steps : List WayStep) (more : (ℕ → List ℕ) → ℕ → List ℕ) (conns conns' : PagedMap Conn) (flows flows' : Flows) (links links' : Links)
     → ((h : WayHistory) (g : ℕ → List ℕ) → Stands l conns flows links h → ((c : ℕ) → gone world_setup c h ≡ g c) → (c : ℕ) → gone world_setup c (after steps h) ≡ more g c)
-    → ((h : WayHistory) → Stands l conns flows links h → Stands m conns' flows' links' (after steps h))
-    → (h : WayHistory) (g : ℕ → List ℕ) (start notes : List Note) → ToldBy l h g start conns flows links notes → ToldBy m h (more g) start conns' flows' links' (notes ++ shown steps)
+    → ((h : WayHistory) → Stands l conns flows links h → Stands l conns' flows' links' (after steps h))
+    → (h : WayHistory) (g : ℕ → List ℕ) (start notes : List Note) → ToldBy k l h g start conns flows links notes → ToldBy k l h (more g) start conns' flows' links' (notes ++ shown steps)
 told_as steps more conns conns' flows flows' links links' leaves goes h g start notes t = record {
   steps = t.steps ++ steps;
   is = ap (λ (ns : List Note). ns ++ shown steps) t.is ∙ (append_assoc start (shown t.steps) (shown steps) ∙ ap (λ (ns : List Note). start ++ ns) (sym (shown_append t.steps steps)));
   stands = subst (λ (k : WayHistory). Stands _ conns' flows' links' k) (sym (after_append t.steps steps h)) (goes (after t.steps h) t.stands);
   left = λ c. ap (gone world_setup c) (after_append t.steps steps h) ∙ leaves (after t.steps h) g t.stands t.left c;
+  under = t.under;
 }
 
-pub told_by : {l m : LimitKeys} → (steps : List WayStep) → KeepsLeft steps → (conns conns' : PagedMap Conn) (flows flows' : Flows) (links links' : Links)
-    → ((h : WayHistory) → Stands l conns flows links h → Stands m conns' flows' links' (after steps h))
-    → (h : WayHistory) (g : ℕ → List ℕ) (start notes : List Note) → ToldBy l h g start conns flows links notes → ToldBy m h g start conns' flows' links' (notes ++ shown steps)
+pub told_by : {k l : LimitKeys} → (steps : List WayStep) → KeepsLeft steps → (conns conns' : PagedMap Conn) (flows flows' : Flows) (links links' : Links)
+    → ((h : WayHistory) → Stands l conns flows links h → Stands l conns' flows' links' (after steps h))
+    → (h : WayHistory) (g : ℕ → List ℕ) (start notes : List Note) → ToldBy k l h g start conns flows links notes → ToldBy k l h g start conns' flows' links' (notes ++ shown steps)
 told_by steps keeps conns conns' flows flows' links links' goes = told_as steps (λ g. g) conns conns' flows flows' links links' (λ h g s is c. keeps h c ∙ is c) goes
 
-pub owes_by : (steps : List WayStep) → KeepsLeft steps → (old new : WireCore)
-    → ((h : WayHistory) → Stands old.config.limits old.conns old.flows old.links h → Stands new.config.limits new.conns new.flows new.links (after steps h)) → Owes (shown steps) old new
-owes_by steps keeps old new goes = record { goes = told_by steps keeps old.conns new.conns old.flows new.flows old.links new.links goes }
+pub owes_by : (steps : List WayStep) → KeepsLeft steps → (old new : WireCore) → new.config ≡ old.config
+    → ((h : WayHistory) → Stands old.config.limits old.conns old.flows old.links h → Stands old.config.limits new.conns new.flows new.links (after steps h)) → Owes (shown steps) old new
+owes_by steps keeps old new same goes = record {
+  goes = λ h g start notes t.
+      subst (λ (c : Config). ToldBy _ c.limits h g start new.conns new.flows new.links (notes ++ shown steps)) (sym same)
+      (told_by steps keeps old.conns new.conns old.flows new.flows old.links new.links goes h g start notes t);
+}
 
-pub keeps_by : (old new : WireCore) → ((h : WayHistory) → Stands old.config.limits old.conns old.flows old.links h → Stands new.config.limits new.conns new.flows new.links h) → Keeps old new
-keeps_by old new goes = record { goes = λ h g start notes t. record { steps = t.steps; is = t.is; stands = goes (after t.steps h) t.stands; left = t.left } }
+pub keeps_by : (old new : WireCore) → new.config ≡ old.config → ((h : WayHistory) → Stands old.config.limits old.conns old.flows old.links h → Stands old.config.limits new.conns new.flows new.links h) → Keeps old new
+keeps_by old new same goes = record {
+  goes = λ h g start notes t.
+      subst (λ (c : Config). ToldBy _ c.limits h g start new.conns new.flows new.links notes) (sym same)
+      (record { steps = t.steps; is = t.is; stands = goes (after t.steps h) t.stands; left = t.left; under = t.under });
+}
 
 -- the same of a call that may fail
 pub keeps_on : {A E : Type 0} (r : Result A E) (old new : WireCore) → Keeps old new → KeepsOk r old new
@@ -75,13 +84,16 @@ keeps_on (Err x) old new k = record { goes = λ h g start notes t. tt }
 abbrev pub rest_of : WireCore → Links × Config
 rest_of core = (core.links, core.config)
 
-pub rest_kept : (old new : WireCore) → rest_of new ≡ rest_of old → (h : WayHistory) → Stands old.config.limits new.conns new.flows old.links h → Stands new.config.limits new.conns new.flows new.links h
-rest_kept old new r h s = subst (λ (v : Links × Config). Stands v.1.limits new.conns new.flows v.0 h) (sym r) s
+pub config_kept : (old new : WireCore) → rest_of new ≡ rest_of old → new.config ≡ old.config
+config_kept old new r = ap (λ (v : Links × Config). v.1) r
+
+pub links_kept : {l : LimitKeys} → (old new : WireCore) → rest_of new ≡ rest_of old → (h : WayHistory) → Stands l new.conns new.flows old.links h → Stands l new.conns new.flows new.links h
+links_kept {l} old new r h s = subst (λ (v : Links × Config). Stands l new.conns new.flows v.0 h) (sym r) s
 
 -- where these parts are as they were
 pub keeps_same : (old new : WireCore) → new.conns ≡ old.conns → new.flows ≡ old.flows → rest_of new ≡ rest_of old → Keeps old new
-keeps_same old new c f r = keeps_by old new (λ h s.
-    rest_kept old new r h
+keeps_same old new c f r = keeps_by old new (config_kept old new r) (λ h s.
+    links_kept old new r h
     (subst (λ (v : PagedMap Conn). Stands old.config.limits v new.flows old.links h) (sym c)
     (subst (λ (v : Flows). Stands old.config.limits old.conns v old.links h) (sym f) s)))
 
@@ -89,8 +101,8 @@ keeps_same old new c f r = keeps_by old new (λ h s.
 -- it was written through, and its octets are as they were
 pub conn_keeps : (n : ℕ) (old new : WireCore) (v w : Conn) → value_at n old.conns ≡ Some v → WritesThrough n old.conns w new.conns
     → w.outlet.write.octets ≡ v.outlet.write.octets → w.open ≡ v.open → new.flows ≡ old.flows → rest_of new ≡ rest_of old → Keeps old new
-conn_keeps n old new v w found written octets opened f r = keeps_by old new (λ h s.
-    rest_kept old new r h
+conn_keeps n old new v w found written octets opened f r = keeps_by old new (config_kept old new r) (λ h s.
+    links_kept old new r h
     (subst (λ (fs : Flows). Stands old.config.limits new.conns fs old.links h) (sym f)
     (conns_go old.conns new.conns old.flows old.links h (same_conns (conns_written n old.conns new.conns v w found written (λ xs. xs) octets opened)) s)))
   where
@@ -114,12 +126,12 @@ gate_bodies old new e = record { goes = flows_go old new (ap (λ (ex : Exchanges
 pub changed_bodies : (f : FlowId) (change : Flow → Flow) (old new : Flows) → ((flow : Flow) → flow_in old f ≡ Some flow → KeepsOctets flow (change flow)) → ChangesFlow f change old.exchanges new.exchanges → KeepBodies old new
 changed_bodies f change old new keeps c = record { goes = flow_goes f change old new keeps c }
 
-pub bodies_told : {l : LimitKeys} → (old new : Flows) → KeepBodies old new → (conns : PagedMap Conn) (links : Links) (h : WayHistory) (g : ℕ → List ℕ) (start notes : List Note) → ToldBy l h g start conns old links notes → ToldBy l h g start conns new links notes
-bodies_told old new k conns links h g start notes t = record { steps = t.steps; is = t.is; stands = k.goes conns links (after t.steps h) t.stands; left = t.left }
+pub bodies_told : {k l : LimitKeys} → (old new : Flows) → KeepBodies old new → (conns : PagedMap Conn) (links : Links) (h : WayHistory) (g : ℕ → List ℕ) (start notes : List Note) → ToldBy k l h g start conns old links notes → ToldBy k l h g start conns new links notes
+bodies_told old new k conns links h g start notes t = record { steps = t.steps; is = t.is; stands = k.goes conns links (after t.steps h) t.stands; left = t.left; under = t.under }
 
 -- the same of a call that may fail
-pub changed_told : {l : LimitKeys} {A E : Type 0} (r : Result A E) (f : FlowId) (change : Flow → Flow) (old new : Flows) → ((flow : Flow) → KeepsOctets flow (change flow)) → OnOk r (ChangesFlow f change old.exchanges new.exchanges)
-    → (conns : PagedMap Conn) (links : Links) (h : WayHistory) (g : ℕ → List ℕ) (start notes : List Note) → ToldBy l h g start conns old links notes → OnOk r (ToldBy l h g start conns new links notes)
+pub changed_told : {k l : LimitKeys} {A E : Type 0} (r : Result A E) (f : FlowId) (change : Flow → Flow) (old new : Flows) → ((flow : Flow) → KeepsOctets flow (change flow)) → OnOk r (ChangesFlow f change old.exchanges new.exchanges)
+    → (conns : PagedMap Conn) (links : Links) (h : WayHistory) (g : ℕ → List ℕ) (start notes : List Note) → ToldBy k l h g start conns old links notes → OnOk r (ToldBy k l h g start conns new links notes)
 changed_told (Ok u) f change old new keeps c conns links h g start notes t = bodies_told old new (changed_bodies f change old new (λ flow e. keeps flow) c) conns links h g start notes t
 changed_told (Err x) f change old new keeps c conns links h g start notes t = tt
 
@@ -148,8 +160,8 @@ first_stands conns flows links c f l = record {
 
 -- ---- a mark
 -- nothing is noted, but the history has a mark more
-pub marked_told : {l : LimitKeys} → (m : Way) (conns conns' : PagedMap Conn) (flows flows' : Flows) (links links' : Links)
+pub marked_told : {k l : LimitKeys} → (m : Way) (conns conns' : PagedMap Conn) (flows flows' : Flows) (links links' : Links)
     → ((h : WayHistory) → Stands l conns flows links h → Stands l conns' flows' links' (Marked m ∷ h))
-    → (h : WayHistory) (g : ℕ → List ℕ) (start notes : List Note) → ToldBy l h g start conns flows links notes → ToldBy l h g start conns' flows' links' notes
+    → (h : WayHistory) (g : ℕ → List ℕ) (start notes : List Note) → ToldBy k l h g start conns flows links notes → ToldBy k l h g start conns' flows' links' notes
 marked_told m conns conns' flows flows' links links' goes h g start notes t =
-    subst (λ (ns : List Note). ToldBy _ h g start conns' flows' links' ns) (append-nil notes) (told_by (Marked m ∷ []) (λ k c. refl) conns conns' flows flows' links links' goes h g start notes t)
+    subst (λ (ns : List Note). ToldBy _ _ h g start conns' flows' links' ns) (append-nil notes) (told_by (Marked m ∷ []) (λ k c. refl) conns conns' flows flows' links links' goes h g start notes t)

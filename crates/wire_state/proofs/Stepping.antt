@@ -68,8 +68,8 @@ module _ (f : FlowId) (old new : Flows) (o : Outcome) (is : o ≡ option_map_or 
   outcome_at flow found = is ∙ ap (λ (v : Option Flow). option_map_or (λ g. outcome_of f g (next_step old.gates (goes_to old f) g)) v outcome.Still) found
 
   -- octets moved
-  pub moved_told : {l : LimitKeys} → (m : Moved) → o ≡ outcome.Moved m → IsSound new → (conns : PagedMap Conn) (links : Links) (h : WayHistory) (g : ℕ → List ℕ) (start notes : List Note)
-      → ToldBy l h g start conns old links notes → ToldBy l h g start conns new links (notes ++ note.Move f m.place m.n ∷ [])
+  pub moved_told : {k l : LimitKeys} → (m : Moved) → o ≡ outcome.Moved m → IsSound new → (conns : PagedMap Conn) (links : Links) (h : WayHistory) (g : ℕ → List ℕ) (start notes : List Note)
+      → ToldBy k l h g start conns old links notes → ToldBy k l h g start conns new links (notes ++ note.Move f m.place m.n ∷ [])
   moved_told m e sound conns links = told_by (Noted (note.Move f m.place m.n) ∷ []) (λ h c. refl) conns conns old new links links (λ h s.
       moves f m.place m.n h old new conns links (stepped old.gates (goes_to old f)) changes (there (flow_in old f) refl)
       (λ flow found was. let made = step_of old.gates (goes_to old f) f flow m (some_place _ _ was.last) (sym e ∙ outcome_at flow found) in
@@ -83,8 +83,8 @@ module _ (f : FlowId) (old new : Flows) (o : Outcome) (is : o ≡ option_map_or 
       there (Some flow) some = subst IsSome (sym some) refl
 
   -- nothing did
-  pub still_told : {l : LimitKeys} → ((m : Moved) → o ≡ outcome.Moved m → ⊥) → (conns : PagedMap Conn) (links : Links) (h : WayHistory) (g : ℕ → List ℕ) (start notes : List Note)
-      → ToldBy l h g start conns old links notes → ToldBy l h g start conns new links notes
+  pub still_told : {k l : LimitKeys} → ((m : Moved) → o ≡ outcome.Moved m → ⊥) → (conns : PagedMap Conn) (links : Links) (h : WayHistory) (g : ℕ → List ℕ) (start notes : List Note)
+      → ToldBy k l h g start conns old links notes → ToldBy k l h g start conns new links notes
   still_told none = bodies_told old new (changed_bodies f (stepped old.gates (goes_to old f)) old new
       (λ flow found. let stays = still_stays old.gates (goes_to old f) flow (λ p n shifted overflow e. none _ (outcome_at flow found ∙ ap (outcome_of f flow) e)) in
       kept_if flow (stepped old.gates (goes_to old f) flow) (ap (λ (g : Flow). g.window) stays) (ap (λ (g : Flow). g.chain.quantum) stays) (ap (λ (g : Flow). g.recv) stays) (ap (λ (g : Flow). g.chain.places) stays))

@@ -101,8 +101,8 @@ lost_writes k c h e = record {
 
 module _ (conns : PagedMap Conn) (flows : Flows) (links : Links) (h : WayHistory) (g : ℕ → List ℕ) (left : (c : ℕ) → gone world_setup c h ≡ g c) where
   -- nothing is noted behind the notes before
-  pub told_none : {l : LimitKeys} → (before : List Note) → Stands l conns flows links h → ToldBy l h g before conns flows links before
-  told_none before s = record { steps = []; is = sym (append-nil before); stands = s; left = left }
+  pub told_none : {l : LimitKeys} → (before : List Note) → Stands l conns flows links h → ToldBy l l h g before conns flows links before
+  told_none before s = record { steps = []; is = sym (append-nil before); stands = s; left = left; under = refl }
 
   turned : {l : LimitKeys} → (k : ℕ) (e : Event) → Writes same_octets (Noted (note.Turn k e)) h → Stands l conns flows links h → Stands l conns flows links (Noted (note.Turn k e) ∷ h)
   turned k e w s = wrote same_octets (Noted (note.Turn k e)) h conns conns flows links w (turn_flows k e h) (turn_shut k e h) (conns_same conns) (λ c fit. fit) s
@@ -111,16 +111,17 @@ module _ (conns : PagedMap Conn) (flows : Flows) (links : Links) (h : WayHistory
   turn_stands k e l s = turned k e (turn_writes k e l h) s
 
   pub turn_told : {l : LimitKeys} → (k : ℕ) (e : Event) → LosesNone e → (before noted : List Note) → noted ≡ before ++ note.Turn k e ∷ [] → Stands l conns flows links h
-      → ToldBy l h g before conns flows links noted
-  turn_told k e l before noted is s = record { steps = Noted (note.Turn k e) ∷ []; is = is; stands = turn_stands k e l s; left = left }
+      → ToldBy l l h g before conns flows links noted
+  turn_told k e l before noted is s = record { steps = Noted (note.Turn k e) ∷ []; is = is; stands = turn_stands k e l s; left = left; under = refl }
 
   pub lost_told : {l : LimitKeys} → (k c : ℕ) → option_map_or (λ conn. conn.open) (value_at c conns) false ≡ true → (before noted : List Note) → noted ≡ before ++ note.Turn k (event.Gone c) ∷ []
-      → Stands l conns flows links h → ToldBy l h g before conns flows links noted
+      → Stands l conns flows links h → ToldBy l l h g before conns flows links noted
   lost_told k c opened before noted is s = record {
     steps = Noted (note.Turn k (event.Gone c)) ∷ [];
     is = is;
     stands = turned k (event.Gone c) (lost_writes k c h (s.closed c (there (value_at c conns) opened) ∙ not_shut (value_at c conns) opened)) s;
     left = left;
+    under = refl;
   }
     where
       there : (o : Option Conn) → option_map_or (λ conn. conn.open) o false ≡ true → is_some o ≡ true
@@ -133,8 +134,8 @@ module _ (conns : PagedMap Conn) (flows : Flows) (links : Links) (h : WayHistory
 
 -- ---- what a call does from before the turn note on
 module _ {A E : Type 0} (r : Result A E) (e : Event) (l : LosesNone e) (m : TakesNone e) (old new : WireCore) where
-  as_after : (h : WayHistory) (g : ℕ → List ℕ) (before now : List Note) → OnOk r (Told h g before new now) → OnOk r (Told h (left_after e old.conns g) before new now)
-  as_after h g before now t = subst (λ (f : ℕ → List ℕ). OnOk r (Told h f before new now)) (sym (left_same e m old.conns g)) t
+  as_after : (h : WayHistory) (g : ℕ → List ℕ) (before now : List Note) → OnOk r (Told old.config.limits h g before new now) → OnOk r (Told old.config.limits h (left_after e old.conns g) before new now)
+  as_after h g before now t = subst (λ (f : ℕ → List ℕ). OnOk r (Told old.config.limits h f before new now)) (sym (left_same e m old.conns g)) t
 
   pub turns_of : (noted now : List Note) → Goes r old noted new now → Turns r e old noted new now
   turns_of noted now goes = record {
@@ -155,7 +156,7 @@ turns_same {A = A} {E = E} a e l m core noted = turns_kept {A = A} {E = E} (Ok a
 pub turns_joined : {A E : Type 0} (r : Result A E) (c cluster : ℕ) (old new : WireCore) (noted : List Note) → Comes r c old new → Turns r (event.Join c cluster) old noted new noted
 turns_joined r c cluster old new noted comes = record {
   goes = λ h g before k is s left fresh.
-      comes.goes h g before noted (record { steps = Noted (note.Turn k (event.Join c cluster)) ∷ []; is = is; stands = turn_stands old.conns old.flows old.links h g left k (event.Join c cluster) tt s; left = left })
+      comes.goes h g before noted (record { steps = Noted (note.Turn k (event.Join c cluster)) ∷ []; is = is; stands = turn_stands old.conns old.flows old.links h g left k (event.Join c cluster) tt s; left = left; under = refl })
       (came_last (connections world_setup h) c) (s.come c fresh).1;
 }
 
@@ -163,6 +164,6 @@ pub turns_accepted : {A B E : Type 0} (a : A) (r : Result B E) (c : ℕ) (old mi
     → Turns r (event.Accept c) old noted new now
 turns_accepted a r c old mid new noted now comes goes = record {
   goes = λ h g before k is s left fresh. goes.goes h g before
-      (comes.goes h g before noted (record { steps = Noted (note.Turn k (event.Accept c)) ∷ []; is = is; stands = turn_stands old.conns old.flows old.links h g left k (event.Accept c) tt s; left = left })
+      (comes.goes h g before noted (record { steps = Noted (note.Turn k (event.Accept c)) ∷ []; is = is; stands = turn_stands old.conns old.flows old.links h g left k (event.Accept c) tt s; left = left; under = refl })
       (came_last (connections world_setup h) c) (s.come c fresh).1);
 }

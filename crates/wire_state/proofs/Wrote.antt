@@ -10,6 +10,7 @@ use Rattle.h2_frames.specs.Frame.{WindowUpdate}
 use Rattle.h2_frames.specs.Head.{data_head}
 use Rattle.h2_frames.specs.Spelling.{spelling}
 use Rattle.io_ports.specs.declared.octets.NoMemory.{NoMemory}
+use Rattle.proxy_config.specs.declared.config.Config.{Config}
 use Rattle.proxy_config.specs.declared.config.LimitKeys.{LimitKeys}
 use Rattle.std.proofs.Common.{ap, arith, refl, subst, sym, ◌∙◌}
 use Rattle.std.proofs.lemmas.List.{append-nil, length-drop, take_min}
@@ -25,7 +26,7 @@ use Rattle.wire_links.specs.Links.{Links, ends_of}
 use Rattle.wire_links.specs.declared.links.exchanges.Ends.{Ends}
 use Rattle.wire_state.proofs.Bodies.{frames}
 use Rattle.wire_state.proofs.Fitting.{less_out}
-use Rattle.wire_state.proofs.Goings.{KeepBodies, KeepsLeft, changed_bodies, keeps_by, owes_by, rest_kept, rest_of, same_bodies, told_as}
+use Rattle.wire_state.proofs.Goings.{KeepBodies, KeepsLeft, changed_bodies, config_kept, keeps_by, links_kept, owes_by, rest_of, same_bodies, told_as}
 use Rattle.wire_state.proofs.Held.{is_number, listed_keeps}
 use Rattle.wire_state.proofs.Standing.{ConnsAre, KeepsFlows, KeepsShut, Writes, answer_flows, answer_shut, answer_writes, at_one, conns_go, conns_written, credit_flows, credit_shut, credit_writes, head_flows, head_shut, head_writes, out_flows, out_shut, one_room, out_writes, same_octets, wrote}
 use Rattle.wire_state.specs.Limits.{OutFits}
@@ -41,7 +42,7 @@ pub listed_bodies : (f : FlowId) (last : Bool) (old new : Flows) → ChangesFlow
 listed_bodies f last old new c = changed_bodies f (list_framed last) old new (λ flow e. listed_keeps last flow) c
 
 pub owes_none : (old new : WireCore) → Keeps old new → Owes [] old new
-owes_none old new k = record { goes = λ h g start notes t. subst (λ (ns : List Note). ToldBy _ h g start new.conns new.flows new.links ns) (sym (append-nil notes)) (k.goes h g start notes t) }
+owes_none old new k = record { goes = λ h g start notes t. subst (λ (ns : List Note). ToldBy _ _ h g start new.conns new.flows new.links ns) (sym (append-nil notes)) (k.goes h g start notes t) }
 
 module _ (n : ℕ) (old new : WireCore) (v w : Conn) (found : value_at n old.conns ≡ Some v) (written : WritesThrough n old.conns w new.conns)
     (opened : w.open ≡ v.open) (bodies : KeepBodies old.flows new.flows) (rest : rest_of new ≡ rest_of old) where
@@ -60,18 +61,18 @@ module _ (n : ℕ) (old new : WireCore) (v w : Conn) (found : value_at n old.con
 
   -- nothing went in
   pub nothing_written : w.outlet.write.octets ≡ v.outlet.write.octets → Keeps old new
-  nothing_written e = keeps_by old new (λ h s. rest_kept old new rest h (bodies.goes new.conns old.links h (conns_go old.conns new.conns old.flows old.links h (stays e) s)))
+  nothing_written e = keeps_by old new (config_kept old new rest) (λ h s. links_kept old new rest h (bodies.goes new.conns old.links h (conns_go old.conns new.conns old.flows old.links h (stays e) s)))
 
   -- a step writes these
   step_stands : (g : List ℕ → List ℕ) (step : WayStep) → w.outlet.write.octets ≡ g v.outlet.write.octets → Room
       → ((h : WayHistory) → Writes (at_one n g) step h) → ((h : WayHistory) → KeepsFlows step h) → ((h : WayHistory) → KeepsShut step h)
-      → (h : WayHistory) → Stands old.config.limits old.conns old.flows old.links h → Stands new.config.limits new.conns new.flows new.links (step ∷ h)
-  step_stands g step e room outs flows shut h s = rest_kept old new rest (step ∷ h)
+      → (h : WayHistory) → Stands old.config.limits old.conns old.flows old.links h → Stands old.config.limits new.conns new.flows new.links (step ∷ h)
+  step_stands g step e room outs flows shut h s = links_kept old new rest (step ∷ h)
       (bodies.goes new.conns old.links (step ∷ h) (wrote (at_one n g) step h old.conns new.conns old.flows old.links (outs h) (flows h) (shut h) (conns_written n old.conns new.conns v w found written g e opened) (one_room n old.conns new.conns v w found written room) s))
 
   step_written : (g : List ℕ → List ℕ) (step : WayStep) → KeepsLeft (step ∷ []) → w.outlet.write.octets ≡ g v.outlet.write.octets → Room
       → ((h : WayHistory) → Writes (at_one n g) step h) → ((h : WayHistory) → KeepsFlows step h) → ((h : WayHistory) → KeepsShut step h) → Owes (shown (step ∷ [])) old new
-  step_written g step left e room outs flows shut = owes_by (step ∷ []) left old new (step_stands g step e room outs flows shut)
+  step_written g step left e room outs flows shut = owes_by (step ∷ []) left old new (config_kept old new rest) (step_stands g step e room outs flows shut)
 
   pub answer_written : (octets : List ℕ) → Room → w.outlet.write.octets ≡ v.outlet.write.octets ++ octets → Owes (answers_of n octets) old new
   answer_written [] room e = owes_none old new (nothing_written (e ∙ append-nil v.outlet.write.octets))
@@ -117,8 +118,8 @@ module _ (n : ℕ) (old new : WireCore) (v w : Conn) (found : value_at n old.con
       none true (x ∷ xs) = refl
       none false xs = refl
 
-      at : (b : Bool) → (k == 0) ≡ b → (h : WayHistory) (g : ℕ → List ℕ) (start notes : List Note) → ToldBy old.config.limits h g start old.conns old.flows old.links notes
-          → ToldBy new.config.limits h (left_after (event.Room n most) old.conns g) start new.conns new.flows new.links (notes ++ (if b then [] else note.Out n k ∷ []))
+      at : {m : LimitKeys} → (b : Bool) → (k == 0) ≡ b → (h : WayHistory) (g : ℕ → List ℕ) (start notes : List Note) → ToldBy m old.config.limits h g start old.conns old.flows old.links notes
+          → ToldBy m new.config.limits h (left_after (event.Room n most) old.conns g) start new.conns new.flows new.links (notes ++ (if b then [] else note.Out n k ∷ []))
       at true z h g start notes t =
           let zero_is = is_number k 0 z in
           let stays = (nothing_written (e ∙ ap (λ j. drop j v.outlet.write.octets) zero_is)).goes h g start notes t in
@@ -126,12 +127,13 @@ module _ (n : ℕ) (old new : WireCore) (v w : Conn) (found : value_at n old.con
             steps = stays.steps;
             is = append-nil notes ∙ stays.is;
             stands = stays.stands;
+            under = stays.under;
             left = λ c. stays.left c ∙ (sym (append-nil (g c)) ∙ ap (λ xs. g c ++ xs)
                 (sym (ap (λ j. if n == c then take j (octets_of c old.conns) else []) zero_is ∙ none (n == c) (octets_of c old.conns)) ∙ took c));
           }
-      at false z h g start notes t = told_as (Noted (note.Out n k) ∷ []) (left_after (event.Room n most) old.conns) old.conns new.conns old.flows new.flows old.links new.links
+      at false z h g start notes t = subst (λ (c : Config). ToldBy _ c.limits h (left_after (event.Room n most) old.conns g) start new.conns new.flows new.links (notes ++ note.Out n k ∷ [])) (sym (config_kept old new rest)) (told_as (Noted (note.Out n k) ∷ []) (left_after (event.Room n most) old.conns) old.conns new.conns old.flows new.flows old.links new.links
           (λ j f s is c. (λ i. is c i ++ (if n == c then take k (sym (s.writes c) i) else [])) ∙ ap (λ xs. f c ++ xs) (took c))
-          (step_stands (drop k) (Noted (note.Out n k)) e shorter (λ j. out_writes j n k) (λ j. out_flows j n k) (λ j. out_shut j n k)) h g start notes t
+          (step_stands (drop k) (Noted (note.Out n k)) e shorter (λ j. out_writes j n k) (λ j. out_flows j n k) (λ j. out_shut j n k)) h g start notes t)
 
 -- no connection is there, and none left
 pub none_left : (n most : ℕ) (core : WireCore) → value_at n core.conns ≡ None → Leaves n most 0 core core
@@ -140,6 +142,7 @@ none_left n most core gone_ = record {
     steps = t.steps;
     is = append-nil notes ∙ t.is;
     stands = t.stands;
+    under = t.under;
     left = λ c. t.left c ∙ (sym (append-nil (g c)) ∙ ap (λ xs. g c ++ xs) (sym (nothing c (n == c) refl)));
   };
 }
@@ -193,7 +196,7 @@ pub body_written : (n : ℕ) (old new : WireCore) (v w : Conn) → value_at n ol
     → (f : FlowId) (s k : ℕ) (last : Bool) (flow : Flow) → stream_in old.links f ≡ Some s → flow_in old.flows f ≡ Some flow
     → w.outlet.write.octets ≡ v.outlet.write.octets ++ (data_head s k last ++ take k (send flow)) → ChangesFlow f (body_framed k last) old.flows.exchanges new.flows.exchanges
     → Owes (note.Frame n f k last ∷ []) old new
-body_written n old new v w found written opened rest room f s k last flow on there octets change = owes_by (Noted (note.Frame n f k last) ∷ []) (λ h c. refl) old new (λ h stands.
-    rest_kept old new rest (Noted (note.Frame n f k last) ∷ h)
+body_written n old new v w found written opened rest room f s k last flow on there octets change = owes_by (Noted (note.Frame n f k last) ∷ []) (λ h c. refl) old new (config_kept old new rest) (λ h stands.
+    links_kept old new rest (Noted (note.Frame n f k last) ∷ h)
     (frames n f k last h old.conns new.conns old.flows new.flows old.links s flow (stream_known f old.links h s stands.ends on) there change
     (conns_written n old.conns new.conns v w found written (λ xs. xs ++ (data_head s k last ++ take k (send flow))) octets opened) (one_room n old.conns new.conns v w found written room) stands))

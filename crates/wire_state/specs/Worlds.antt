@@ -79,41 +79,42 @@ pub record Stands (l : LimitKeys) (conns : PagedMap Conn) (flows : Flows) (links
   pub fronts : SendsOn h
   pub fits : AtEachMoment (Fits l) h
 
--- The notes were made by these steps behind that history, and the core stands for what they lead to. What left each connection's
--- write buffer up to there is told beside it.
-pub record ToldBy (l : LimitKeys) (h : WayHistory) (g : ℕ → List ℕ) (start : List Note) (conns : PagedMap Conn) (flows : Flows) (links : Links) (notes : List Note) : Type 0 where
+-- The notes were made by these steps behind that history, and the core, which has these limits, stands for what they lead to. What
+-- left each connection's write buffer up to there is told beside it, and that the limits are those of the session.
+pub record ToldBy (k l : LimitKeys) (h : WayHistory) (g : ℕ → List ℕ) (start : List Note) (conns : PagedMap Conn) (flows : Flows) (links : Links) (notes : List Note) : Type 0 where
   pub steps : List WayStep
   pub is : notes ≡ start ++ shown steps
   pub stands : Stands l conns flows links (after steps h)
   pub left : (c : ℕ) → gone world_setup c (after steps h) ≡ g c
+  pub under : l ≡ k
 
-abbrev pub Told : WayHistory → (ℕ → List ℕ) → List Note → WireCore → List Note → Type 0
-Told h g start core notes = ToldBy core.config.limits h g start core.conns core.flows core.links notes
+abbrev pub Told : LimitKeys → WayHistory → (ℕ → List ℕ) → List Note → WireCore → List Note → Type 0
+Told k h g start core notes = ToldBy k core.config.limits h g start core.conns core.flows core.links notes
 
 -- Words between a core and its notes before a call and after it. Where memory was refused nothing is said.
 -- it goes on to
 pub record Goes {A E : Type 0} (r : Result A E) (old : WireCore) (before : List Note) (new : WireCore) (now : List Note) : Type 0 where
-  pub goes : (h : WayHistory) (g : ℕ → List ℕ) (start : List Note) → Told h g start old before → OnOk r (Told h g start new now)
+  pub goes : {k : LimitKeys} → (h : WayHistory) (g : ℕ → List ℕ) (start : List Note) → Told k h g start old before → OnOk r (Told k h g start new now)
 
 -- whatever was noted, also what is still to be noted
 pub record Keeps (old new : WireCore) : Type 0 where
-  pub goes : (h : WayHistory) (g : ℕ → List ℕ) (start notes : List Note) → Told h g start old notes → Told h g start new notes
+  pub goes : {k : LimitKeys} → (h : WayHistory) (g : ℕ → List ℕ) (start notes : List Note) → Told k h g start old notes → Told k h g start new notes
 
 pub record KeepsOk {A E : Type 0} (r : Result A E) (old new : WireCore) : Type 0 where
-  pub goes : (h : WayHistory) (g : ℕ → List ℕ) (start notes : List Note) → Told h g start old notes → OnOk r (Told h g start new notes)
+  pub goes : {k : LimitKeys} → (h : WayHistory) (g : ℕ → List ℕ) (start notes : List Note) → Told k h g start old notes → OnOk r (Told k h g start new notes)
 
 -- this is still to be noted
 pub record Owes (owed : List Note) (old new : WireCore) : Type 0 where
-  pub goes : (h : WayHistory) (g : ℕ → List ℕ) (start notes : List Note) → Told h g start old notes → Told h g start new (notes ++ owed)
+  pub goes : {k : LimitKeys} → (h : WayHistory) (g : ℕ → List ℕ) (start notes : List Note) → Told k h g start old notes → Told k h g start new (notes ++ owed)
 
 -- ---- notes
 -- what was still to be noted is
 pub record Pays {A E : Type 0} (r : Result A E) (owed before now : List Note) : Type 0 where
-  pub goes : {l : LimitKeys} → (h : WayHistory) (g : ℕ → List ℕ) (start : List Note) (conns : PagedMap Conn) (flows : Flows) (links : Links) → ToldBy l h g start conns flows links (before ++ owed) → OnOk r (ToldBy l h g start conns flows links now)
+  pub goes : {k l : LimitKeys} → (h : WayHistory) (g : ℕ → List ℕ) (start : List Note) (conns : PagedMap Conn) (flows : Flows) (links : Links) → ToldBy k l h g start conns flows links (before ++ owed) → OnOk r (ToldBy k l h g start conns flows links now)
 
 -- what was noted moves no octets
 pub record Shows {A E : Type 0} (r : Result A E) (before now : List Note) : Type 0 where
-  pub goes : {l : LimitKeys} → (h : WayHistory) (g : ℕ → List ℕ) (start : List Note) (conns : PagedMap Conn) (flows : Flows) (links : Links) → ToldBy l h g start conns flows links before → OnOk r (ToldBy l h g start conns flows links now)
+  pub goes : {k l : LimitKeys} → (h : WayHistory) (g : ℕ → List ℕ) (start : List Note) (conns : PagedMap Conn) (flows : Flows) (links : Links) → ToldBy k l h g start conns flows links before → OnOk r (ToldBy k l h g start conns flows links now)
 
 -- the note moves no octets, wherever it stands
 abbrev pub IsIdle : Note → Type 0
@@ -156,16 +157,16 @@ left_after e conns g = g
 -- From before the turn note of an event on: the core stood for a history, and stands for it with the dispatch's steps.
 pub record Turns {A E : Type 0} (r : Result A E) (e : Event) (old : WireCore) (noted : List Note) (new : WireCore) (now : List Note) : Type 0 where
   pub goes : (h : WayHistory) (g : ℕ → List ℕ) (before : List Note) (k : ℕ) → noted ≡ before ++ note.Turn k e ∷ [] → Stands old.config.limits old.conns old.flows old.links h → ((c : ℕ) → gone world_setup c h ≡ g c)
-      → IsFresh e h → OnOk r (Told h (left_after e old.conns g) before new now)
+      → IsFresh e h → OnOk r (Told old.config.limits h (left_after e old.conns g) before new now)
 
 -- The whole dispatch: from the notes before it on.
 pub record Follows (old : WireCore) (before : List Note) (e : Event) (new : WireCore) (now : List Note) : Type 0 where
-  pub goes : (h : WayHistory) (g : ℕ → List ℕ) → Stands old.config.limits old.conns old.flows old.links h → ((c : ℕ) → gone world_setup c h ≡ g c) → IsFresh e h → Told h (left_after e old.conns g) before new now
+  pub goes : (h : WayHistory) (g : ℕ → List ℕ) → Stands old.config.limits old.conns old.flows old.links h → ((c : ℕ) → gone world_setup c h ≡ g c) → IsFresh e h → Told old.config.limits h (left_after e old.conns g) before new now
 
 -- A connection comes: it is among those that came, and wasn't closed.
 pub record Comes {A E : Type 0} (r : Result A E) (c : ℕ) (old new : WireCore) : Type 0 where
-  pub goes : (h : WayHistory) (g : ℕ → List ℕ) (start notes : List Note) (t : Told h g start old notes) → has (connections world_setup (after t.steps h)) c ≡ true → was_closed c (after t.steps h) ≡ false → OnOk r (Told h g start new notes)
+  pub goes : {k : LimitKeys} → (h : WayHistory) (g : ℕ → List ℕ) (start notes : List Note) (t : Told k h g start old notes) → has (connections world_setup (after t.steps h)) c ≡ true → was_closed c (after t.steps h) ≡ false → OnOk r (Told k h g start new notes)
 
 -- Up to n octets left a connection's write buffer, k of them there were.
 pub record Leaves (c n k : ℕ) (old new : WireCore) : Type 0 where
-  pub goes : (h : WayHistory) (g : ℕ → List ℕ) (start notes : List Note) → Told h g start old notes → Told h (left_after (event.Room c n) old.conns g) start new (notes ++ outs_of c k)
+  pub goes : {m : LimitKeys} → (h : WayHistory) (g : ℕ → List ℕ) (start notes : List Note) → Told m h g start old notes → Told m h (left_after (event.Room c n) old.conns g) start new (notes ++ outs_of c k)
