@@ -10,7 +10,7 @@ use Rattle.paged_map.specs.PagedMap.{PagedMap}
 use Rattle.proxy_config.specs.declared.config.LimitKeys.{LimitKeys}
 use Rattle.std.proofs.Common.{ap, arith, refl, subst, sym, ◌∙◌}
 use Rattle.std.proofs.lemmas.List.{length-drop}
-use Rattle.std.specs.Prelude.{Bool, IfSome, List, None, Option, Some, [], drop, false, if◌then◌else◌, is_some, length, map, slice_get, suc, true, zero, ℕ, ◌&&◌, ◌++◌, ◌+◌, ◌-◌, ◌<◌, ◌==◌, ◌∷◌, ◌≡◌, ◌≤◌}
+use Rattle.std.specs.Prelude.{Bool, IfSome, List, None, Option, Some, [], drop, false, if◌then◌else◌, is_some, length, map, slice_get, suc, true, ℕ, ◌&&◌, ◌++◌, ◌+◌, ◌-◌, ◌<◌, ◌==◌, ◌∷◌, ◌≡◌, ◌≤◌}
 use Rattle.tape_laws.specs.Bounds.{stage_bound}
 use Rattle.tape_laws.specs.Flows.{same_flow}
 use Rattle.tape_laws.specs.History.{AtEachMoment, Noted}
@@ -24,8 +24,8 @@ use Rattle.wire_flows.specs.Flows.{Flows, flow_in, is_there}
 use Rattle.wire_flows.specs.Sound.{IsBounded, IsSound, IsWithin}
 use Rattle.wire_state.proofs.Held.{held}
 use Rattle.wire_state.proofs.Sending.{IsStill}
-use Rattle.wire_state.specs.Limits.{Fits, FlowFits, HasShape, OutFits, StagesFit, shape_of, stage_shape}
-use Rattle.wire_state.specs.Ways.{WayHistory, WayStep, stages_passed, world_setup}
+use Rattle.wire_state.specs.Limits.{Fits, FlowFits, OutFits, StagesFit, shape_of, stage_shape}
+use Rattle.wire_state.specs.Ways.{WayHistory, stages_passed, world_setup}
 use Rattle.wire_state.specs.Worlds.{FlowIs, octets_of}
 use Rattle.wire_state.specs.declared.conn.Conn.{Conn}
 
