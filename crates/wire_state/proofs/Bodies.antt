@@ -200,7 +200,7 @@ module _ (c : ℕ) (f : FlowId) (n : ℕ) (last : Bool) (h : WayHistory) where
     come = λ d e. let never = stands.come d e in (wrote_so.there d ∙ never.0, never.1);
     unborn = unborn_still before after h (frame ∷ h) change.flow.last (none_after f (body_framed n last) before after change) (λ g none. (refl, framed_sent c f n last h g (apart_of f before g (ap is_some found) none))) stands.unborn;
     fronts = framed_fronts c f n last h (framed_own flow here).loses stands.fronts;
-    fits = let fit = fits_now h stands.fits in (record { flows = λ g. framed_fits c f n last h g (fit.flows g); outs = outs_fit old new h (frame ∷ h) stands.writes now room fit.outs }, stands.fits);
+    fits = let fit = fits_now h stands.fits in (record { flows = λ g. framed_fits c f n last h g (fit.flows g); outs = outs_fit l old new h (frame ∷ h) stands.writes now room fit.outs }, stands.fits);
   }
     where
       here : FlowIs l f h flow

@@ -39,14 +39,14 @@ none_longer : (xs : List ℕ) (n : ℕ) → xs ≡ [] → length xs ≤ n
 none_longer xs n e = let k = ap (λ (zs : List ℕ). length zs) e in omega (arith, k)
 
 -- ---- a flow that holds no more than it did
-stages_less : {l : LimitKeys} → (f : FlowId) (h k : WayHistory) → ((p : ℕ) → length (place world_setup f p k) ≤ length (place world_setup f p h)) → (p : ℕ) (ss : List StageKind) → StagesFit l f p ss h → StagesFit l f p ss k
-stages_less f h k less p [] fit = tt
-stages_less f h k less p (s ∷ ss) fit = (within _ _ _ (less p) fit.0, stages_less f h k less (p + 1) ss fit.1)
+stages_less : (l : LimitKeys) (f : FlowId) (h k : WayHistory) → ((p : ℕ) → length (place world_setup f p k) ≤ length (place world_setup f p h)) → (p : ℕ) (ss : List StageKind) → StagesFit l f p ss h → StagesFit l f p ss k
+stages_less l f h k less p [] fit = tt
+stages_less l f h k less p (s ∷ ss) fit = (within _ _ _ (less p) fit.0, stages_less l f h k less (p + 1) ss fit.1)
 
 pub less_fits : {l : LimitKeys} → (f : FlowId) (h k : WayHistory) → ((p : ℕ) → length (place world_setup f p k) ≤ length (place world_setup f p h)) → stages_passed f k ≡ stages_passed f h → FlowFits l f h → FlowFits l f k
 less_fits {l} f h k less same fit = record {
   window = within _ _ _ (less 0) fit.window;
-  stages = subst (λ (ss : List StageKind). StagesFit l f 1 ss k) (sym same) (stages_less f h k less 1 (stages_passed f h) fit.stages);
+  stages = subst (λ (ss : List StageKind). StagesFit l f 1 ss k) (sym same) (stages_less l f h k less 1 (stages_passed f h) fit.stages);
   send = λ some. subst (λ (ss : List StageKind). length (place world_setup f (length ss + 1) k) ≤ l.send_buffer + l.quantum) (sym same) (within _ _ _ (less (last_place world_setup f h)) (fit.send some));
 }
 
@@ -54,14 +54,14 @@ pub still_fits : {l : LimitKeys} → (f : FlowId) (h k : WayHistory) → IsStill
 still_fits f h k s fit = less_fits f h k (λ p. no_longer _ _ (s.places p)) s.stages fit
 
 -- one that holds nothing
-stages_empty : {l : LimitKeys} → (f : FlowId) (k : WayHistory) → ((p : ℕ) → place world_setup f p k ≡ []) → (p : ℕ) (ss : List StageKind) → StagesFit l f p ss k
-stages_empty f k e p [] = tt
-stages_empty f k e p (s ∷ ss) = (none_longer _ _ (e p), stages_empty f k e (p + 1) ss)
+stages_empty : (l : LimitKeys) (f : FlowId) (k : WayHistory) → ((p : ℕ) → place world_setup f p k ≡ []) → (p : ℕ) (ss : List StageKind) → StagesFit l f p ss k
+stages_empty l f k e p [] = tt
+stages_empty l f k e p (s ∷ ss) = (none_longer _ _ (e p), stages_empty l f k e (p + 1) ss)
 
 pub empty_fits : {l : LimitKeys} → (f : FlowId) (k : WayHistory) → ((p : ℕ) → place world_setup f p k ≡ []) → FlowFits l f k
-empty_fits f k e = record {
+empty_fits {l} f k e = record {
   window = none_longer _ _ (e 0);
-  stages = stages_empty f k e 1 (stages_passed f k);
+  stages = stages_empty l f k e 1 (stages_passed f k);
   send = λ some. none_longer _ _ (e (last_place world_setup f k));
 }
 
@@ -172,12 +172,9 @@ doomed_fits x why h g fit = less_fits g h (Noted (note.Doom x why) ∷ h) (λ p.
     emptied false xs = omega arith
 
 -- ---- write buffers
-pub outs_fit : {l : LimitKeys} → (old new : PagedMap Conn) (h k : WayHistory) → ((c : ℕ) → octets_of c old ≡ out world_setup c h) → ((c : ℕ) → octets_of c new ≡ out world_setup c k)
+pub outs_fit : (l : LimitKeys) (old new : PagedMap Conn) (h k : WayHistory) → ((c : ℕ) → octets_of c old ≡ out world_setup c h) → ((c : ℕ) → octets_of c new ≡ out world_setup c k)
     → ((c : ℕ) → OutFits l (octets_of c old) → OutFits l (octets_of c new)) → ((c : ℕ) → OutFits l (out world_setup c h)) → (c : ℕ) → OutFits l (out world_setup c k)
-outs_fit {l} old new h k was now room fit c = subst (OutFits l) (now c) (room c (subst (OutFits l) (sym (was c)) (fit c)))
-
-pub same_outs : {l : LimitKeys} → (h k : WayHistory) → ((c : ℕ) → out world_setup c k ≡ out world_setup c h) → ((c : ℕ) → OutFits l (out world_setup c h)) → (c : ℕ) → OutFits l (out world_setup c k)
-same_outs {l} h k same fit c = subst (OutFits l) (sym (same c)) (fit c)
+outs_fit l old new h k was now room fit c = subst (OutFits l) (now c) (room c (subst (OutFits l) (sym (was c)) (fit c)))
 
 pub less_out : (l : LimitKeys) (xs ys : List ℕ) → length ys ≤ length xs → OutFits l xs → OutFits l ys
 less_out l xs ys less fit = λ some. within _ _ _ less (fit some)

@@ -231,7 +231,7 @@ none_drops n conns none = record {
 
 pub drops_rest : {l : LimitKeys} → (n k : ℕ) (old new : PagedMap Conn) → DropsRest n old new → (flows : Flows) (links : Links) (h : WayHistory)
     → Stands l old flows links h → Stands l new flows links (Noted (note.Turn k (event.Gone n)) ∷ h)
-drops_rest n k old new d flows links h s = record {
+drops_rest {l} n k old new d flows links h s = record {
   writes = at;
   flows_are = λ f. if_some (flow_in flows f) (flow_still f h (Noted (note.Turn k (event.Gone n)) ∷ h) (record { places = λ p. refl; stages = refl; came = refl; went = refl })) (s.flows_are f);
   empty = s.empty;
@@ -244,7 +244,7 @@ drops_rest n k old new d flows links h s = record {
   fits = let fit = fits_now h s.fits in (
     record {
       flows = λ f. still_fits f h (Noted (note.Turn k (event.Gone n)) ∷ h) (record { places = λ p. refl; stages = refl; came = refl; went = refl }) (fit.flows f);
-      outs = outs_fit old new h (Noted (note.Turn k (event.Gone n)) ∷ h) s.writes at (λ c fits. less_out _ (octets_of c old) (octets_of c new) (shorter c) fits) fit.outs;
+      outs = outs_fit l old new h (Noted (note.Turn k (event.Gone n)) ∷ h) s.writes at (λ c fits. less_out l (octets_of c old) (octets_of c new) (shorter c) fits) fit.outs;
     },
     s.fits,
   );

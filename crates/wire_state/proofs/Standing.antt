@@ -97,9 +97,9 @@ module _ (n : ℕ) (old new : PagedMap Conn) (v w : Conn) (found : value_at n ol
   }
 
 -- where its octets fit, those of each do
-pub one_room : {l : LimitKeys} → (n : ℕ) (old new : PagedMap Conn) (v w : Conn) (found : value_at n old ≡ Some v) (written : WritesThrough n old w new) → (OutFits l v.outlet.write.octets → OutFits l w.outlet.write.octets)
+pub one_room : (l : LimitKeys) (n : ℕ) (old new : PagedMap Conn) (v w : Conn) (found : value_at n old ≡ Some v) (written : WritesThrough n old w new) → (OutFits l v.outlet.write.octets → OutFits l w.outlet.write.octets)
     → (c : ℕ) → OutFits l (octets_of c old) → OutFits l (octets_of c new)
-one_room {l} n old new v w found written room c fit = by_case (n == c)
+one_room l n old new v w found written room c fit = by_case (n == c)
     (λ e. subst (λ (o : Option Conn). OutFits l (option_map_or (λ conn. conn.outlet.write.octets) o [])) (sym (there_now n old new v w found written c e))
     (room (subst (λ (o : Option Conn). OutFits l (option_map_or (λ conn. conn.outlet.write.octets) o [])) (here n old new v w found written c e) fit)))
     (λ e. subst (λ (o : Option Conn). OutFits l (option_map_or (λ conn. conn.outlet.write.octets) o [])) (sym (other_now n old new v w found written c e)) fit)
@@ -143,7 +143,7 @@ ends_are_still step h s x e is = record { client = is.client ∙ sym (s (respons
 -- a step of the connections
 pub wrote : {l : LimitKeys} → (change : ℕ → List ℕ → List ℕ) (step : WayStep) (h : WayHistory) (old new : PagedMap Conn) (flows : Flows) (links : Links)
     → Writes change step h → KeepsFlows step h → KeepsShut step h → ConnsAre change old new → ((c : ℕ) → OutFits l (octets_of c old) → OutFits l (octets_of c new)) → Stands l old flows links h → Stands l new flows links (step ∷ h)
-wrote change step h old new flows links w k m c room s = record {
+wrote {l} change step h old new flows links w k m c room s = record {
   writes = now;
   flows_are = λ f. if_some (flow_in flows f) (flow_is_still step h k f) (s.flows_are f);
   empty = λ f p none. k.places f p ∙ s.empty f p none;
@@ -154,7 +154,7 @@ wrote change step h old new flows links w k m c room s = record {
   unborn = unborn_still flows flows h (step ∷ h) refl (λ f none. none) (λ f none. (k.came f, k.went f)) s.unborn;
   fronts = fronts_still step h k.came k.went s.fronts;
   fits = let fit = fits_now h s.fits in
-      (record { flows = λ f. still_fits f h (step ∷ h) (step_still step h k f) (fit.flows f); outs = outs_fit old new h (step ∷ h) s.writes now room fit.outs }, s.fits);
+      (record { flows = λ f. still_fits f h (step ∷ h) (step_still step h k f) (fit.flows f); outs = outs_fit l old new h (step ∷ h) s.writes now room fit.outs }, s.fits);
 }
   where
     now : (d : ℕ) → octets_of d new ≡ out world_setup d (step ∷ h)
@@ -269,7 +269,7 @@ close_outs c code cause.Flood h d = same_one (c == d) (out world_setup d h)
 pub closes : {l : LimitKeys} → (c code : ℕ) (why : CloseCause) (h : WayHistory) (old new : PagedMap Conn) (flows : Flows) (links links' : Links)
     → Shuts c (left_by why) old new → ((x : ℕ) → ends_of x links' ≡ ends_of x links) → ((d : ℕ) → is_known d links' ≡ is_known d links)
     → Stands l old flows links h → Stands l new flows links' (Noted (note.Close c code why) ∷ h)
-closes c code why h old new flows links links' w same known s = record {
+closes {l} c code why h old new flows links links' w same known s = record {
   writes = now;
   flows_are = λ f. if_some (flow_in flows f) (flow_still f h (Noted (note.Close c code why) ∷ h) (record { places = λ p. refl; stages = refl; came = refl; went = refl })) (s.flows_are f);
   empty = s.empty;
@@ -288,7 +288,7 @@ closes c code why h old new flows links links' w same known s = record {
   fits = let fit = fits_now h s.fits in (
     record {
       flows = λ f. still_fits f h (Noted (note.Close c code why) ∷ h) (record { places = λ p. refl; stages = refl; came = refl; went = refl }) (fit.flows f);
-      outs = outs_fit old new h (Noted (note.Close c code why) ∷ h) s.writes now (λ d fits. less_out _ (octets_of d old) (octets_of d new) (shorter d) fits) fit.outs;
+      outs = outs_fit l old new h (Noted (note.Close c code why) ∷ h) s.writes now (λ d fits. less_out l (octets_of d old) (octets_of d new) (shorter d) fits) fit.outs;
     },
     s.fits,
   );

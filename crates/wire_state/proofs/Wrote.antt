@@ -68,7 +68,7 @@ module _ (n : ℕ) (old new : WireCore) (v w : Conn) (found : value_at n old.con
       → ((h : WayHistory) → Writes (at_one n g) step h) → ((h : WayHistory) → KeepsFlows step h) → ((h : WayHistory) → KeepsShut step h)
       → (h : WayHistory) → Stands old.config.limits old.conns old.flows old.links h → Stands old.config.limits new.conns new.flows new.links (step ∷ h)
   step_stands g step e room outs flows shut h s = links_kept old new rest (step ∷ h)
-      (bodies.goes new.conns old.links (step ∷ h) (wrote (at_one n g) step h old.conns new.conns old.flows old.links (outs h) (flows h) (shut h) (conns_written n old.conns new.conns v w found written g e opened) (one_room n old.conns new.conns v w found written room) s))
+      (bodies.goes new.conns old.links (step ∷ h) (wrote (at_one n g) step h old.conns new.conns old.flows old.links (outs h) (flows h) (shut h) (conns_written n old.conns new.conns v w found written g e opened) (one_room old.config.limits n old.conns new.conns v w found written room) s))
 
   step_written : (g : List ℕ → List ℕ) (step : WayStep) → KeepsLeft (step ∷ []) → w.outlet.write.octets ≡ g v.outlet.write.octets → Room
       → ((h : WayHistory) → Writes (at_one n g) step h) → ((h : WayHistory) → KeepsFlows step h) → ((h : WayHistory) → KeepsShut step h) → Owes (shown (step ∷ [])) old new
@@ -199,4 +199,4 @@ pub body_written : (n : ℕ) (old new : WireCore) (v w : Conn) → value_at n ol
 body_written n old new v w found written opened rest room f s k last flow on there octets change = owes_by (Noted (note.Frame n f k last) ∷ []) (λ h c. refl) old new (config_kept old new rest) (λ h stands.
     links_kept old new rest (Noted (note.Frame n f k last) ∷ h)
     (frames n f k last h old.conns new.conns old.flows new.flows old.links s flow (stream_known f old.links h s stands.ends on) there change
-    (conns_written n old.conns new.conns v w found written (λ xs. xs ++ (data_head s k last ++ take k (send flow))) octets opened) (one_room n old.conns new.conns v w found written room) stands))
+    (conns_written n old.conns new.conns v w found written (λ xs. xs ++ (data_head s k last ++ take k (send flow))) octets opened) (one_room old.config.limits n old.conns new.conns v w found written room) stands))
