@@ -9,6 +9,7 @@ pub mod Keeping
 pub mod Linked
 pub mod Lives
 pub mod Notings
+pub mod Overs
 pub mod Promised
 pub mod Results
 pub mod Rooms

@@ -30,7 +30,7 @@ use Rattle.wire_state.specs.declared.conn.Conn.{Conn}
 
 -- ---- limits move no octets
 module _ (l : LimitKeys) where
-  same_place : (f : FlowId) (p : ℕ) (h : WayHistory) → place (tape_setup l) f p h ≡ place world_setup f p h
+  pub same_place : (f : FlowId) (p : ℕ) (h : WayHistory) → place (tape_setup l) f p h ≡ place world_setup f p h
   same_place f p [] = refl
   same_place f p (Noted (note.Arrive g octets) ∷ h) = ap (λ xs. xs ++ (if same_flow g f && (p == 0) then octets else [])) (same_place f p h)
   same_place f p (Noted (note.Move g q n) ∷ h) = λ i.
