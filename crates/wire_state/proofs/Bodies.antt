@@ -13,7 +13,7 @@ use Rattle.std.proofs.lemmas.List.{append-nil}
 use Rattle.std.proofs.lemmas.Option.{slice_get_within}
 use Rattle.paged_map.specs.PagedMap.{PagedMap}
 use Rattle.std.specs.Option.{option_and_then, option_map}
-use Rattle.std.specs.Prelude.{Bool, IfSome, List, None, Option, Some, [], drop, false, if◌then◌else◌, is_some, not, slice_get, take, true, ℕ, ◌&&◌, ◌++◌, ◌+◌, ◌<◌, ◌==◌, ◌∷◌, ◌≡◌}
+use Rattle.std.specs.Prelude.{Bool, IfSome, List, None, Option, Some, [], drop, false, if◌then◌else◌, is_some, slice_get, take, true, ℕ, ◌&&◌, ◌++◌, ◌+◌, ◌<◌, ◌==◌, ◌∷◌, ◌≡◌}
 use Rattle.tape_laws.specs.Flows.{same_flow}
 use Rattle.tape_laws.specs.History.{Noted}
 use Rattle.tape_laws.specs.World.{last_place, out, place, received, send as sends}
@@ -21,7 +21,7 @@ use Rattle.wire_flows.proofs.Cases.{by_case, if_mapped, some_mapped}
 use Rattle.wire_flows.proofs.Found.{flow_after, there_after}
 use Rattle.wire_flows.specs.Flows.{Flows, IsThere, flow_in, is_there}
 use Rattle.wire_links.specs.Links.{Links, ends_of}
-use Rattle.wire_state.proofs.Held.{KeepsOctets, arrived_held, framed_held, framed_last, moved_held, moved_last, number_same}
+use Rattle.wire_state.proofs.Held.{KeepsOctets, arrived_held, framed_held, framed_last, moved_held, moved_last}
 use Rattle.wire_state.proofs.Sending.{arrived_fronts, arrived_loses, framed_fronts, framed_loses, framed_sent, fronts_still, moved_loses, same_flow_refl, unborn_still}
 use Rattle.wire_state.proofs.Standing.{ConnsAre, at_one, ends_are_still, flow_still, if_some, more_is}
 use Rattle.wire_state.specs.Ways.{WayHistory, WayStep, stream_to, world_setup}

@@ -10,7 +10,7 @@ use Rattle.std.proofs.lemmas.List.{append-nil}
 use Rattle.std.specs.Prelude.{Bool, List, [], false, if◌then◌else◌, length, not, suc, take, true, zero, ℕ, ◌&&◌, ◌++◌, ◌+◌, ◌<◌, ◌==◌, ◌∷◌, ◌≡◌}
 use Rattle.tape_laws.specs.Flows.{same_flow}
 use Rattle.tape_laws.specs.Headline.{SendsItsBody}
-use Rattle.tape_laws.specs.History.{AtEachMoment, Noted}
+use Rattle.tape_laws.specs.History.{Noted}
 use Rattle.tape_laws.specs.Tied.{IsFront}
 use Rattle.tape_laws.specs.World.{last_place, place, received, send, sent}
 use Rattle.wire_flows.proofs.Cases.{by_case}
