@@ -9,7 +9,7 @@ ghost use Rattle.wire_state.specs.Sound.{IsSound};
 ghost use Rattle.wire_state.specs.Worlds.{Goes, Keeps, KeepsOk};
 
 use crate::faults::{Concerns, close_with, counts_late, owe, stream_fault};
-use crate::heads::{end_where, finish};
+use crate::heads::{end_where, finish_where};
 use exchange_core::{Awaited, Received};
 use flow_notes::{Note, Notes};
 use h2_frames::codes::{FLOW_CONTROL_ERROR, PROTOCOL_ERROR};
@@ -81,9 +81,7 @@ pub(crate) fn body(
         return fault.end(core, number, notes);
     }
     enter(core, number, course, content, stream, notes)?;
-    if last {
-        finish(core, course.flow, None)?;
-    }
+    finish_where(core, course.flow, last)?;
     end_where(core, last, course, stream)?;
     core.refresh(course)
 }
@@ -183,9 +181,9 @@ fn arrive(
         return Ok(());
     }
     let flow = course.flow;
-    if core.flows.receive(flow, octets.as_slice()) != Received::Arrived {
+    let Received::Arrived = core.flows.receive(flow, octets.as_slice()) else {
         return Ok(());
-    }
+    };
     core.touch(flow.exchange)?;
     note(notes, Note::Arrive { flow, octets })
 }

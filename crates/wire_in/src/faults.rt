@@ -4,7 +4,7 @@ ghost use Rattle.wire_state.specs.Agenda.{top_go};
 ghost use Rattle.wire_state.specs.Noting.{Appends};
 ghost use Rattle.wire_state.specs.Progress.{to_go};
 ghost use Rattle.wire_state.specs.Sound.{IsSound};
-ghost use Rattle.wire_state.specs.Worlds.{Goes, Keeps};
+ghost use Rattle.wire_state.specs.Worlds.{Goes, Keeps, KeepsOk};
 
 use flow_notes::{Cause, CloseCause, Note, Notes};
 use h2_frames::codes::{COMPRESSION_ERROR, FLOW_CONTROL_ERROR};
@@ -92,10 +92,21 @@ impl StreamFault {
         if let Reading::Refused = reading {
             return close_with(core, number, COMPRESSION_ERROR, notes);
         }
-        if let Some(course) = self.concerned(core, number) {
-            core.ask_run(course)?;
-        }
+        self.run_concerned(core, number)?;
         self.end(core, number, notes)
+    }
+
+    // The flow that the frame concerns is run, if there is one.
+    fn run_concerned(self, core: &mut WireCore, number: u32) -> Result<(), NoMemory>
+        requires sound { IsSound core.old }
+        ensures sound { OnOk result (IsSound core.new) }
+        ensures go { OnOk result (to_go core.new ≤ to_go core.old + 9) }
+        ensures octets { KeepsOk result core.old core.new }
+    {
+        match self.concerned(core, number) {
+            Some(course) => core.ask_run(course),
+            None => Ok(()),
+        }
     }
 
     fn concerned(&self, core: &WireCore, number: u32) -> Option<Course> {
@@ -119,13 +130,7 @@ impl StreamFault {
         ensures notes { Appends notes.old notes.new }
         ensures octets { Goes result core.old notes.old core.new notes.new }
     {
-        if self.content > 0 {
-            core.begin(Task::Waste {
-                conn: number,
-                stream: self.stream,
-                n: self.content,
-            })?;
-        }
+        self.waste_later(core, number)?;
         if let Some(course) = core.flow_from(number, self.stream) {
             let cause = Cause::StreamError { code: self.code };
             return doom(
@@ -140,6 +145,23 @@ impl StreamFault {
             return Ok(());
         }
         put_reset(core, number, self.stream, self.code)
+    }
+
+    // The content that was counted is owed next.
+    fn waste_later(self, core: &mut WireCore, number: u32) -> Result<(), NoMemory>
+        requires sound { IsSound core.old }
+        ensures sound { OnOk result (IsSound core.new) }
+        ensures go { OnOk result (to_go core.new ≤ to_go core.old + 2) }
+        ensures octets { KeepsOk result core.old core.new }
+    {
+        if self.content == 0 {
+            return Ok(());
+        }
+        core.begin(Task::Waste {
+            conn: number,
+            stream: self.stream,
+            n: self.content,
+        })
     }
 }
 

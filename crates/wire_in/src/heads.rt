@@ -197,6 +197,19 @@ pub(crate) fn finish(
     core.flows.finish(flow, fields)
 }
 
+/// The body of the flow ended without trailers, where `last` holds.
+pub(crate) fn finish_where(core: &mut WireCore, flow: FlowId, last: bool) -> Result<(), NoMemory>
+    requires sound { IsSound core.old }
+    ensures sound { OnOk result (IsSound core.new) }
+    ensures go { OnOk result (to_go core.new ≤ to_go core.old + 40) }
+    ensures octets { KeepsOk result core.old core.new }
+{
+    if !last {
+        return Ok(());
+    }
+    finish(core, flow, None)
+}
+
 /// Trailers came.
 pub(crate) fn trailers(
     core: &mut WireCore,

@@ -10,7 +10,7 @@ ghost use Rattle.wire_state.specs.Sound.{IsSound};
 ghost use Rattle.wire_state.specs.Worlds.{Goes, Keeps, KeepsOk, Owes, Shows};
 ghost use Rattle.flow_notes.specs.declared.notes.Note.TheVariants as note;
 
-use crate::heads::{self, finish};
+use crate::heads::{self, finish_where};
 use exchange_core::{Awaited, StartSpec};
 use flow_gate::{BufferId, FlowId};
 use flow_notes::{Cause, FireKind, Note, Notes};
@@ -54,9 +54,7 @@ pub(crate) fn request(
         },
         Decision::Overload => Cause::Overload,
     };
-    if last {
-        finish(core, course.flow, None)?;
-    }
+    finish_where(core, course.flow, last)?;
     doom(core, course.flow.exchange, cause, Origin::Neither, notes)
 }
 
@@ -273,27 +271,30 @@ fn note_held(
     ensures octets { Shows result notes.old notes.new }
 {
     let exchange = started.exchange;
-    if started.request_held
-        && let Some(to) = to
-    {
-        note(
+    note_hold(FlowId::request(exchange), started.request_held, to, notes)?;
+    note_hold(
+        FlowId::response(exchange),
+        started.response_held,
+        Some(number),
+        notes,
+    )
+}
+
+// The pause of a flow, where the write buffer of the connection that it goes to holds it back.
+fn note_hold(flow: FlowId, held: bool, to: Option<u32>, notes: &mut Notes) -> Result<(), NoMemory>
+    ensures notes { Appends notes.old notes.new }
+    ensures octets { Shows result notes.old notes.new }
+{
+    match to {
+        Some(to) if held => note(
             notes,
             Note::Pause {
-                flow: FlowId::request(exchange),
+                flow,
                 buffer: BufferId::Write(to),
             },
-        )?;
+        ),
+        _ => Ok(()),
     }
-    if started.response_held {
-        note(
-            notes,
-            Note::Pause {
-                flow: FlowId::response(exchange),
-                buffer: BufferId::Write(number),
-            },
-        )?;
-    }
-    Ok(())
 }
 
 fn lengths_of(decision: &Decision) -> Lengths {

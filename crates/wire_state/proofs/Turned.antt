@@ -3,6 +3,7 @@ use Rattle.flow_notes.specs.declared.events.Event.{Event}
 use Rattle.flow_notes.specs.declared.events.Event.TheVariants as event
 use Rattle.flow_notes.specs.declared.notes.Note.{Note}
 use Rattle.flow_notes.specs.declared.notes.Note.TheVariants as note
+use Rattle.proxy_config.specs.declared.config.Config.{Config}
 use Rattle.proxy_config.specs.declared.config.LimitKeys.{LimitKeys}
 use Rattle.std.proofs.Common.{ap, refl, subst, sym, ◌∙◌}
 use Rattle.std.proofs.lemmas.List.{append-nil}
@@ -133,24 +134,41 @@ module _ (conns : PagedMap Conn) (flows : Flows) (links : Links) (h : WayHistory
       not_shut (Some v) e = ap not e
 
 -- ---- what a call does from before the turn note on
-module _ {A E : Type 0} (r : Result A E) (e : Event) (l : LosesNone e) (m : TakesNone e) (old new : WireCore) where
+-- what left each connection's write buffer is as before
+left_is : (e f : Event) → e ≡ f → TakesNone f → (conns : PagedMap Conn) (g : ℕ → List ℕ) → left_after e conns g ≡ g
+left_is e f is m conns g = ap (λ (v : Event). left_after v conns g) is ∙ left_same f m conns g
+
+after_turn : (e f : Event) → e ≡ f → LosesNone f → (old : WireCore) (h : WayHistory) (g : ℕ → List ℕ) (before noted : List Note) (k : ℕ) → noted ≡ before ++ note.Turn k e ∷ []
+    → Stands old.config.limits old.conns old.flows old.links h → ((c : ℕ) → gone world_setup c h ≡ g c) → Told old.config.limits h g before old noted
+after_turn e f is l old h g before noted k n s left = turn_told old.conns old.flows old.links h g left k f l before noted (n ∙ ap (λ (v : Event). before ++ note.Turn k v ∷ []) is) s
+
+module _ {A E : Type 0} (r : Result A E) (e f : Event) (is : e ≡ f) (l : LosesNone f) (m : TakesNone f) (old new : WireCore) where
   as_after : (h : WayHistory) (g : ℕ → List ℕ) (before now : List Note) → OnOk r (Told old.config.limits h g before new now) → OnOk r (Told old.config.limits h (left_after e old.conns g) before new now)
-  as_after h g before now t = subst (λ (f : ℕ → List ℕ). OnOk r (Told old.config.limits h f before new now)) (sym (left_same e m old.conns g)) t
+  as_after h g before now t = subst (λ (left : ℕ → List ℕ). OnOk r (Told old.config.limits h left before new now)) (sym (left_is e f is m old.conns g)) t
 
   pub turns_of : (noted now : List Note) → Goes r old noted new now → Turns r e old noted new now
-  turns_of noted now goes = record {
-    goes = λ h g before k is s left fresh. as_after h g before now (goes.goes h g before (turn_told old.conns old.flows old.links h g left k e l before noted is s));
-  }
+  turns_of noted now goes = record { goes = λ h g before k n s left fresh. as_after h g before now (goes.goes h g before (after_turn e f is l old h g before noted k n s left)) }
 
   -- it writes no note
   pub turns_kept : (noted : List Note) → KeepsOk r old new → Turns r e old noted new noted
-  turns_kept noted keeps = record {
-    goes = λ h g before k is s left fresh. as_after h g before noted (keeps.goes h g before noted (turn_told old.conns old.flows old.links h g left k e l before noted is s));
-  }
+  turns_kept noted keeps = record { goes = λ h g before k n s left fresh. as_after h g before noted (keeps.goes h g before noted (after_turn e f is l old h g before noted k n s left)) }
 
 -- it does nothing
-pub turns_same : {A E : Type 0} (a : A) (e : Event) → LosesNone e → TakesNone e → (core : WireCore) (noted : List Note) → Turns {A = A} {E = E} (Ok a) e core noted core noted
-turns_same {A = A} {E = E} a e l m core noted = turns_kept {A = A} {E = E} (Ok a) e l m core core noted (record { goes = λ h g start notes t. t })
+pub turns_same : {A E : Type 0} (a : A) (e f : Event) → e ≡ f → LosesNone f → TakesNone f → (core : WireCore) (noted : List Note) → Turns {A = A} {E = E} (Ok a) e core noted core noted
+turns_same {A = A} {E = E} a e f is l m core noted = turns_kept {A = A} {E = E} (Ok a) e f is l m core core noted (record { goes = λ h g start notes t. t })
+
+-- from a core that has the same configuration, connections, flows and links
+pub turns_from : {A E : Type 0} (r : Result A E) (e : Event) (old mid new : WireCore) (noted now : List Note) → mid.config ≡ old.config → mid.conns ≡ old.conns → mid.flows ≡ old.flows → mid.links ≡ old.links → Turns r e mid noted new now → Turns r e old noted new now
+turns_from r e old mid new noted now same c f l turns = record {
+  goes = λ h g before k n s left fresh.
+      subst (λ (v : Config). OnOk r (Told v.limits h (left_after e old.conns g) before new now)) same
+      (subst (λ (v : PagedMap Conn). OnOk r (Told mid.config.limits h (left_after e v g) before new now)) c
+      (turns.goes h g before k n
+      (subst (λ (v : Config). Stands v.limits mid.conns mid.flows mid.links h) (sym same)
+      (subst (λ (v : PagedMap Conn). Stands old.config.limits v mid.flows mid.links h) (sym c)
+      (subst (λ (v : Flows). Stands old.config.limits old.conns v mid.links h) (sym f)
+      (subst (λ (v : Links). Stands old.config.limits old.conns old.flows v h) (sym l) s)))) left fresh));
+}
 
 -- a connection comes
 pub turns_joined : {A E : Type 0} (r : Result A E) (c cluster : ℕ) (old new : WireCore) (noted : List Note) → Comes r c old new → Turns r (event.Join c cluster) old noted new noted

@@ -16,5 +16,5 @@ returns-then-n-eq0-clause-octets c = record {
 
 pub returns-clause-octets : goal.returns-clause-octets
 returns-clause-octets c =
-    let some : (c.args.n == 0) ≡ false = grind (arith, nat_tests) in
+    let some : (c.args.n == 0) ≡ false = grind (arith, nat_tests, c.if-n-eq0.false) in
     subst (λ (owed : List Note). Pays c.note.result owed c.args.notes.now c.note.new.notes) (sym (ap (λ (b : Bool). if b then [] else note.Out c.args.conn c.args.n ∷ []) some)) c.note.ensures.paid

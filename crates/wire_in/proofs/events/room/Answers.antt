@@ -26,7 +26,7 @@ returns-then-eq-clause-octets c = record {
       let mid = c.begin.new.self in
       let out = c.in-Some.ensures.octets.goes h g before c.args.notes.now (turn_told old.conns old.flows old.links h g left k (event.Room c.args.number c.args.n) tt before c.args.notes.now is s) in
       let noted = c.in_ok-note_out.ensures.octets.goes h f before _ _ _ (c.in_ok-begin.ensures.octets.goes h f before _ (c.in_ok-stir.ensures.octets.goes h f before _ out)) in
-      on_ok c.begin-2.result (c.begin-2.ensures.octets.goes h f before _ (bodies_told mid.flows c.write_drained.new.self (gate_bodies mid.flows c.write_drained.new.self c.write_drained.ensures.rest) mid.conns mid.links h f before _ noted));
+      on_ok c.begin-then-eq.result (c.begin-then-eq.ensures.octets.goes h f before _ (bodies_told mid.flows c.write_drained.new.self (gate_bodies mid.flows c.write_drained.new.self c.write_drained.ensures.rest) mid.conns mid.links h f before _ noted));
 }
 
 pub returns-clause-octets : goal.returns-clause-octets

@@ -8,7 +8,7 @@ pub returns-in-Join-clause-octets : goal.returns-in-Join-clause-octets
 returns-in-Join-clause-octets c = rw c.in-Join.is (turns_joined c.join.result _ _ c.args.core.now _ c.args.notes.now c.join.ensures.octets)
 
 pub returns-in-Read-clause-octets : goal.returns-in-Read-clause-octets
-returns-in-Read-clause-octets c = rw c.in-Read.is (turns_kept c.read.result _ tt tt c.args.core.now _ c.args.notes.now c.read.ensures.octets)
+returns-in-Read-clause-octets c = turns_kept c.read.result c.args.event.now _ c.in-Read.is tt tt c.args.core.now _ c.args.notes.now c.read.ensures.octets
 
 pub returns-in-Gone-clause-octets : goal.returns-in-Gone-clause-octets
 returns-in-Gone-clause-octets c = rw c.in-Gone.is c.lose.ensures.octets
@@ -17,13 +17,13 @@ pub returns-in-Room-clause-octets : goal.returns-in-Room-clause-octets
 returns-in-Room-clause-octets c = rw c.in-Room.is c.room.ensures.octets
 
 pub returns-in-Tick-clause-octets : goal.returns-in-Tick-clause-octets
-returns-in-Tick-clause-octets c = rw c.in-Tick.is (turns_kept c.tick.result _ tt tt c.args.core.now _ c.args.notes.now c.tick.ensures.octets)
+returns-in-Tick-clause-octets c = turns_kept c.tick.result c.args.event.now _ c.in-Tick.is tt tt c.args.core.now _ c.args.notes.now c.tick.ensures.octets
 
 pub returns-in-Post-clause-octets : goal.returns-in-Post-clause-octets
-returns-in-Post-clause-octets c = rw c.in-Post.is (turns_of c.post.result _ tt tt c.args.core.now _ c.args.notes.now _ c.post.ensures.octets)
+returns-in-Post-clause-octets c = turns_of c.post.result c.args.event.now _ c.in-Post.is tt tt c.args.core.now _ c.args.notes.now _ c.post.ensures.octets
 
 pub returns-in-Obey-clause-octets : goal.returns-in-Obey-clause-octets
-returns-in-Obey-clause-octets c = rw c.in-Obey.is (turns_kept c.obey.result _ tt tt c.args.core.now _ c.args.notes.now c.obey.ensures.octets)
+returns-in-Obey-clause-octets c = turns_kept c.obey.result c.args.event.now _ c.in-Obey.is tt tt c.args.core.now _ c.args.notes.now c.obey.ensures.octets
 
 pub returns-in-Plain-clause-octets : goal.returns-in-Plain-clause-octets
-returns-in-Plain-clause-octets c = rw c.in-Plain.is (turns_same tt _ tt tt c.args.core.now c.args.notes.now)
+returns-in-Plain-clause-octets c = turns_same _ c.args.event.now _ c.in-Plain.is tt tt c.args.core.now c.args.notes.now
