@@ -16,6 +16,7 @@ use Rattle.flow_rules.specs.Sources.{SourceAt, source_of, sources_from, write_so
 use Rattle.paged_map.specs.PagedMap.{PagedMap}
 use Rattle.proxy_config.specs.declared.config.LimitKeys.{LimitKeys}
 use Rattle.std.proofs.Common.{ap, arith, refl, subst, sym, ◌∙◌}
+use Rattle.std.proofs.lemmas.List.Sums.{sum_by-cons}
 use Rattle.std.specs.List.{AllByRecursion}
 use Rattle.std.specs.Option.{option_and_then, option_map_or}
 use Rattle.std.specs.Prelude.{Bool, IfSome, List, None, Option, Some, [], count_by, drop, false, flat_map, is_some, map, slice_get, suc, sum_by, true, zero, ℕ, ◌++◌, ◌+◌, ◌-◌, ◌==◌, ◌||◌, ◌∷◌, ◌≡◌}
@@ -44,7 +45,7 @@ count_same m a (b ∷ bs) e = count_cons m b bs ∙ ((λ i. one_if (e.0 i) + cou
 
 none_pending : (f : FlowId) (told : BufferId → List FlowId) → ((b : BufferId) → told b ≡ []) → (bs : List BufferId) → sum_by (λ b. times f (told b)) bs ≡ 0
 none_pending f told e [] = refl
-none_pending f told e (b ∷ bs) = let now : times f (told b) ≡ 0 = ap (times f) (e b) in let rest = none_pending f told e bs in omega (arith, now, rest)
+none_pending f told e (b ∷ bs) = let now : times f (told b) ≡ 0 = ap (times f) (e b) in let rest = none_pending f told e bs in omega (arith, sum_by-cons (λ c. times f (told c)) b bs, now, rest)
 
 -- ---- the kinds of a flow's places are those of its stages, and a send buffer behind them
 abbrev Shape : Type 0
