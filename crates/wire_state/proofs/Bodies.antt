@@ -42,13 +42,13 @@ module _ {l : LimitKeys} (f : FlowId) (change : Flow → Flow) (old new : Flows)
   found_now g = flow_after f change old.exchanges new.exchanges c g
 
   mine : (g : FlowId) → f ≡ g → IfSome (flow_in old g) (FlowIs l g h) → IfSome (option_map change (flow_in old g)) (FlowIs l g k)
-  mine g e is = subst (λ (v : FlowId). IfSome (flow_in old v) (FlowIs _ v h) → IfSome (option_map change (flow_in old v)) (FlowIs _ v k)) e
-      (λ here. if_mapped (FlowIs _ f h) (FlowIs _ f k) change (flow_in old f) own here) is
+  mine g e is = subst (λ (v : FlowId). IfSome (flow_in old v) (FlowIs l v h) → IfSome (option_map change (flow_in old v)) (FlowIs l v k)) e
+      (λ here. if_mapped (FlowIs l f h) (FlowIs l f k) change (flow_in old f) own here) is
 
   pub flows_changed : ((g : FlowId) → IfSome (flow_in old g) (FlowIs l g h)) → (g : FlowId) → IfSome (flow_in new g) (FlowIs l g k)
   flows_changed are g = by_case (same_flow f g)
-      (λ same. subst (λ (o : Option Flow). IfSome o (FlowIs _ g k)) (sym (found_now g ∙ ap (λ b. if b then option_map change (flow_in old g) else flow_in old g) same)) (mine g (same_flow_exact f g same) (are g)))
-      (λ other. subst (λ (o : Option Flow). IfSome o (FlowIs _ g k)) (sym (found_now g ∙ ap (λ b. if b then option_map change (flow_in old g) else flow_in old g) other)) (if_some (flow_in old g) (others g other) (are g)))
+      (λ same. subst (λ (o : Option Flow). IfSome o (FlowIs l g k)) (sym (found_now g ∙ ap (λ b. if b then option_map change (flow_in old g) else flow_in old g) same)) (mine g (same_flow_exact f g same) (are g)))
+      (λ other. subst (λ (o : Option Flow). IfSome o (FlowIs l g k)) (sym (found_now g ∙ ap (λ b. if b then option_map change (flow_in old g) else flow_in old g) other)) (if_some (flow_in old g) (others g other) (are g)))
 
 -- a flow that is there isn't one that isn't
 apart_of : (f : FlowId) (flows : Flows) (g : FlowId) → IsThere flows f → is_there flows g ≡ false → same_flow f g ≡ false
@@ -232,9 +232,9 @@ flow_goes f change old new keeps c conns links h s = record {
 
 -- other flows, of which each is found as before
 pub flows_go : {l : LimitKeys} → (old new : Flows) → new.exchanges.last ≡ old.exchanges.last → ((f : FlowId) → flow_in new f ≡ flow_in old f) → (conns : PagedMap Conn) (links : Links) (h : WayHistory) → Stands l conns old links h → Stands l conns new links h
-flows_go old new last same conns links h s = record {
+flows_go {l} old new last same conns links h s = record {
   writes = s.writes;
-  flows_are = λ f. subst (λ (o : Option Flow). IfSome o (FlowIs _ f h)) (sym (same f)) (s.flows_are f);
+  flows_are = λ f. subst (λ (o : Option Flow). IfSome o (FlowIs l f h)) (sym (same f)) (s.flows_are f);
   empty = λ f p none. s.empty f p (sym (ap is_some (same f)) ∙ none);
   ends = s.ends;
   known = s.known;
@@ -248,9 +248,9 @@ flows_go old new last same conns links h s = record {
 -- each flow is found as a change makes it that keeps its octets
 pub flows_mapped : {l : LimitKeys} → (change : Flow → Flow) → ((flow : Flow) → KeepsOctets flow (change flow)) → (old new : Flows) → new.exchanges.last ≡ old.exchanges.last → ((f : FlowId) → flow_in new f ≡ option_map change (flow_in old f))
     → (conns : PagedMap Conn) (links : Links) (h : WayHistory) → Stands l conns old links h → Stands l conns new links h
-flows_mapped change keeps old new last same conns links h s = record {
+flows_mapped {l} change keeps old new last same conns links h s = record {
   writes = s.writes;
-  flows_are = λ f. subst (λ (o : Option Flow). IfSome o (FlowIs _ f h)) (sym (same f)) (if_mapped (FlowIs _ f h) (FlowIs _ f h) change (flow_in old f) (λ flow e was. keeps_flow f h flow (change flow) (keeps flow) was) (s.flows_are f));
+  flows_are = λ f. subst (λ (o : Option Flow). IfSome o (FlowIs l f h)) (sym (same f)) (if_mapped (FlowIs l f h) (FlowIs l f h) change (flow_in old f) (λ flow e was. keeps_flow f h flow (change flow) (keeps flow) was) (s.flows_are f));
   empty = λ f p none. s.empty f p (sym (ap is_some (same f) ∙ some_mapped change (flow_in old f)) ∙ none);
   ends = s.ends;
   known = s.known;

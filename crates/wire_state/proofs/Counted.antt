@@ -78,22 +78,26 @@ module _ (f : FlowId) (P : BufferId → Type 0) (q : ℕ) (to : Option ℕ) wher
   later : (p i : ℕ) → p + suc i ≡ (p + 1) + i
   later p i = omega arith
 
-  members : (p : ℕ) (xs : List Place) → ((i : ℕ) (x : Place) → slice_get xs i ≡ Some x → is_source x.kind ≡ true → P (buffer_of f (p + i) (kind_of x.kind))) → AllByRecursion P (buffers (write_source q to))
-      → AllByRecursion P (buffers (sources_from f p (map (λ x. kind_of x.kind) xs) ++ write_source q to))
-  members p [] own rest = rest
-  members p (x ∷ xs) own rest = at x.kind refl
-    where
-      behind : AllByRecursion P (buffers (sources_from f (p + 1) (map (λ y. kind_of y.kind) xs) ++ write_source q to))
-      behind = members (p + 1) xs (λ i y found source. subst (λ (n : ℕ). P (buffer_of f n (kind_of y.kind))) (later p i) (own (suc i) y found source)) rest
+  abbrev behind : ℕ → List Place → List BufferId
+  behind p xs = buffers (sources_from f p (map (λ x. kind_of x.kind) xs) ++ write_source q to)
 
+  first_then : (p : ℕ) (x : Place) (xs : List Place) → (is_source x.kind ≡ true → P (buffer_of f (p + 0) (kind_of x.kind))) → AllByRecursion P (behind (p + 1) xs) → AllByRecursion P (behind p (x ∷ xs))
+  first_then p x xs own rest = at x.kind refl
+    where
       here : (k : PlaceKind) → x.kind ≡ k → is_source k ≡ true → P (buffer_of f p (kind_of k))
       here k e source =
-          subst (λ (n : ℕ). P (buffer_of f n (kind_of k))) (nothing p) (subst (λ (kd : PlaceKind). P (buffer_of f (p + 0) (kind_of kd))) e (own zero x refl (ap is_source e ∙ source)))
+          subst (λ (n : ℕ). P (buffer_of f n (kind_of k))) (nothing p) (subst (λ (kd : PlaceKind). P (buffer_of f (p + 0) (kind_of kd))) e (own (ap is_source e ∙ source)))
 
       at : (k : PlaceKind) → x.kind ≡ k → AllByRecursion P (buffers ((source_of f p (kind_of k) ++ sources_from f (p + 1) (map (λ y. kind_of y.kind) xs)) ++ write_source q to))
-      at kind.Hold e = behind
-      at (kind.Meter rate) e = (here (kind.Meter rate) e refl, behind)
-      at kind.Send e = (here kind.Send e refl, behind)
+      at kind.Hold e = rest
+      at (kind.Meter rate) e = (here (kind.Meter rate) e refl, rest)
+      at kind.Send e = (here kind.Send e refl, rest)
+
+  members : (p : ℕ) (xs : List Place) → ((i : ℕ) (x : Place) → slice_get xs i ≡ Some x → is_source x.kind ≡ true → P (buffer_of f (p + i) (kind_of x.kind))) → AllByRecursion P (buffers (write_source q to))
+      → AllByRecursion P (behind p xs)
+  members p [] own rest = rest
+  members p (x ∷ xs) own rest = first_then p x xs (own zero x refl)
+      (members (p + 1) xs (λ i y found source. subst (λ (n : ℕ). P (buffer_of f n (kind_of y.kind))) (later p i) (own (suc i) y found source)) rest)
 
 -- ---- one flow
 module _ (l : LimitKeys) (conns : PagedMap Conn) (flows : Flows) (h : WayHistory) (sound : IsSound flows) (counts : Counts l conns flows h) (told : AllTold flows) where
@@ -133,10 +137,10 @@ module _ (l : LimitKeys) (conns : PagedMap Conn) (flows : Flows) (h : WayHistory
         let watched = sound.watched f ∙ ap (λ (o : Option Flow). option_map_or (watches_of (goes_to flows f)) o []) found in
         let marked = ap (λ (bs : List BufferId). count_by (is_marked flows.gates) bs) watched ∙ count_same (is_marked flows.gates) is_over (watches_of (goes_to flows f) flow) all_over in
         let over = ap (λ (bs : List BufferId). count_by is_over bs) (sym watched ∙ watches) in
-        sums _ _ _ _ (sound.gates.counted f) none ∙ (marked ∙ over)
+        sums (count flows.gates f) (count_by (is_marked flows.gates) (watched_by flows.gates f)) (lows flows.gates f) (sound.gates.counted f) none ∙ (marked ∙ over)
       where
-        sums : (a b c d : ℕ) → a ≡ b + c → c ≡ 0 → a ≡ b
-        sums a b c d e z = omega (arith, e, z)
+        sums : (a b c : ℕ) → a ≡ b + c → c ≡ 0 → a ≡ b
+        sums a b c e z = omega (arith, e, z)
 
     flow_counted : count_at f h ≡ disabled (tape_setup l) f h
     flow_counted = left (pauses f h) (resumes f h) (count flows.gates f) counted.paused ∙ held

@@ -25,7 +25,7 @@ use Rattle.wire_state.proofs.Fitting.{empty_fits}
 use Rattle.wire_state.proofs.Held.{KeepsOctets}
 use Rattle.wire_state.proofs.Standing.{ConnsAre, at_one, conns_go, conns_written, same_octets}
 use Rattle.wire_state.specs.Ways.{Way, WayHistory, WayStep, after, shown, world_setup}
-use Rattle.wire_state.specs.Worlds.{EndsAre, FlowIs, Keeps, KeepsOk, Owes, Stands, ToldBy, octets_of}
+use Rattle.wire_state.specs.Worlds.{EndsAre, FlowIs, Keeps, KeepsOk, Owes, Stands, Told, ToldBy, octets_of}
 use Rattle.wire_state.specs.declared.conn.Conn.{Conn}
 use Rattle.wire_state.specs.declared.wire_core.WireCore.{WireCore}
 
@@ -47,10 +47,10 @@ pub told_as : {k l : LimitKeys} → (steps : List WayStep) (more : (ℕ → List
     → ((h : WayHistory) (g : ℕ → List ℕ) → Stands l conns flows links h → ((c : ℕ) → gone world_setup c h ≡ g c) → (c : ℕ) → gone world_setup c (after steps h) ≡ more g c)
     → ((h : WayHistory) → Stands l conns flows links h → Stands l conns' flows' links' (after steps h))
     → (h : WayHistory) (g : ℕ → List ℕ) (start notes : List Note) → ToldBy k l h g start conns flows links notes → ToldBy k l h (more g) start conns' flows' links' (notes ++ shown steps)
-told_as steps more conns conns' flows flows' links links' leaves goes h g start notes t = record {
+told_as {l} steps more conns conns' flows flows' links links' leaves goes h g start notes t = record {
   steps = t.steps ++ steps;
   is = ap (λ (ns : List Note). ns ++ shown steps) t.is ∙ (append_assoc start (shown t.steps) (shown steps) ∙ ap (λ (ns : List Note). start ++ ns) (sym (shown_append t.steps steps)));
-  stands = subst (λ (k : WayHistory). Stands _ conns' flows' links' k) (sym (after_append t.steps steps h)) (goes (after t.steps h) t.stands);
+  stands = subst (λ (past : WayHistory). Stands l conns' flows' links' past) (sym (after_append t.steps steps h)) (goes (after t.steps h) t.stands);
   left = λ c. ap (gone world_setup c) (after_append t.steps steps h) ∙ leaves (after t.steps h) g t.stands t.left c;
   under = t.under;
 }
@@ -60,18 +60,27 @@ pub told_by : {k l : LimitKeys} → (steps : List WayStep) → KeepsLeft steps �
     → (h : WayHistory) (g : ℕ → List ℕ) (start notes : List Note) → ToldBy k l h g start conns flows links notes → ToldBy k l h g start conns' flows' links' (notes ++ shown steps)
 told_by steps keeps conns conns' flows flows' links links' goes = told_as steps (λ g. g) conns conns' flows flows' links links' (λ h g s is c. keeps h c ∙ is c) goes
 
+-- the configuration stays
+pub config_told : {k : LimitKeys} → (old new : WireCore) → new.config ≡ old.config → (h : WayHistory) (g : ℕ → List ℕ) (start notes : List Note) → ToldBy k old.config.limits h g start new.conns new.flows new.links notes → Told k h g start new notes
+config_told {k} old new same h g start notes t = subst (λ (c : Config). ToldBy k c.limits h g start new.conns new.flows new.links notes) (sym same) t
+
+-- the same with connections and notes that are these
+pub told_at : {k l : LimitKeys} → (h : WayHistory) (g : ℕ → List ℕ) (start : List Note) (conns conns' : PagedMap Conn) (flows : Flows) (links : Links) (notes notes' : List Note) → conns ≡ conns' → notes ≡ notes'
+    → ToldBy k l h g start conns flows links notes → ToldBy k l h g start conns' flows links notes'
+told_at {k} {l} h g start conns conns' flows links notes notes' c n t = subst (λ (v : PagedMap Conn). ToldBy k l h g start v flows links notes') c (subst (λ (ns : List Note). ToldBy k l h g start conns flows links ns) n t)
+
 pub owes_by : (steps : List WayStep) → KeepsLeft steps → (old new : WireCore) → new.config ≡ old.config
     → ((h : WayHistory) → Stands old.config.limits old.conns old.flows old.links h → Stands old.config.limits new.conns new.flows new.links (after steps h)) → Owes (shown steps) old new
 owes_by steps keeps old new same goes = record {
   goes = λ h g start notes t.
-      subst (λ (c : Config). ToldBy _ c.limits h g start new.conns new.flows new.links (notes ++ shown steps)) (sym same)
+      config_told old new same h g start (notes ++ shown steps)
       (told_by steps keeps old.conns new.conns old.flows new.flows old.links new.links goes h g start notes t);
 }
 
 pub keeps_by : (old new : WireCore) → new.config ≡ old.config → ((h : WayHistory) → Stands old.config.limits old.conns old.flows old.links h → Stands old.config.limits new.conns new.flows new.links h) → Keeps old new
 keeps_by old new same goes = record {
   goes = λ h g start notes t.
-      subst (λ (c : Config). ToldBy _ c.limits h g start new.conns new.flows new.links notes) (sym same)
+      config_told old new same h g start notes
       (record { steps = t.steps; is = t.is; stands = goes (after t.steps h) t.stands; left = t.left; under = t.under });
 }
 
@@ -117,8 +126,11 @@ conn_keeps n old new v w found written octets opened f r = keeps_by old new (con
 pub record KeepBodies (old new : Flows) : Type 0 where
   pub goes : {l : LimitKeys} → (conns : PagedMap Conn) (links : Links) (h : WayHistory) → Stands l conns old links h → Stands l conns new links h
 
+flows_same : {l : LimitKeys} → (old new : Flows) → new ≡ old → (conns : PagedMap Conn) (links : Links) (h : WayHistory) → Stands l conns old links h → Stands l conns new links h
+flows_same {l} old new e conns links h s = subst (λ (f : Flows). Stands l conns f links h) (sym e) s
+
 pub same_bodies : (old new : Flows) → new ≡ old → KeepBodies old new
-same_bodies old new e = record { goes = λ conns links h s. subst (λ (f : Flows). Stands _ conns f links h) (sym e) s }
+same_bodies old new e = record { goes = λ conns links h s. flows_same old new e conns links h s }
 
 pub gate_bodies : (old new : Flows) → new.exchanges ≡ old.exchanges → KeepBodies old new
 gate_bodies old new e = record { goes = flows_go old new (ap (λ (ex : Exchanges). ex.last) e) (λ f. ap (λ (ex : Exchanges). flow_at ex f) e) }
@@ -138,11 +150,11 @@ changed_told (Err x) f change old new keeps c conns links h g start notes t = tt
 -- ---- at first
 pub first_stands : {l : LimitKeys} → (conns : PagedMap Conn) (flows : Flows) (links : Links) → conns.entries ≡ [] → flows.exchanges.live ≡ [] → links ≡ no_links → Stands l conns flows links []
 unfolding exchange_at
-first_stands conns flows links c f l = record {
+first_stands {l} conns flows links c f none = record {
   writes = λ d. ap (λ (es : List (ℕ × Conn)). option_map_or (λ conn. conn.outlet.write.octets) (lookup (is_at (nat_cmp d)) es) []) c;
-  flows_are = λ g. subst (λ (es : List (ℕ × Exchange)). IfSome (option_and_then (side_of g.back) (lookup (nat_eq g.exchange) es)) (FlowIs _ g [])) (sym f) tt;
+  flows_are = λ g. subst (λ (es : List (ℕ × Exchange)). IfSome (option_and_then (side_of g.back) (lookup (nat_eq g.exchange) es)) (FlowIs l g [])) (sym f) tt;
   empty = λ g p none. refl;
-  ends = λ x. subst (λ (v : Links). IfSome (ends_of x v) (EndsAre x [])) (sym l) tt;
+  ends = λ x. subst (λ (v : Links). IfSome (ends_of x v) (EndsAre x [])) (sym none) tt;
   known = λ d e. ap (λ (es : List (ℕ × Conn)). is_some (lookup (is_at (nat_cmp d)) es)) c;
   closed = λ d e. sym (ap (λ (es : List (ℕ × Conn)). option_map_or (λ conn. not conn.open) (lookup (is_at (nat_cmp d)) es) false) c);
   come = λ d e. (ap (λ (es : List (ℕ × Conn)). is_some (lookup (is_at (nat_cmp d)) es)) c, refl);
@@ -164,4 +176,4 @@ pub marked_told : {k l : LimitKeys} → (m : Way) (conns conns' : PagedMap Conn)
     → ((h : WayHistory) → Stands l conns flows links h → Stands l conns' flows' links' (Marked m ∷ h))
     → (h : WayHistory) (g : ℕ → List ℕ) (start notes : List Note) → ToldBy k l h g start conns flows links notes → ToldBy k l h g start conns' flows' links' notes
 marked_told m conns conns' flows flows' links links' goes h g start notes t =
-    subst (λ (ns : List Note). ToldBy _ _ h g start conns' flows' links' ns) (append-nil notes) (told_by (Marked m ∷ []) (λ k c. refl) conns conns' flows flows' links links' goes h g start notes t)
+    told_at h g start conns' conns' flows' links' (notes ++ []) notes refl (append-nil notes) (told_by (Marked m ∷ []) (λ k c. refl) conns conns' flows flows' links links' goes h g start notes t)

@@ -11,14 +11,14 @@ use Rattle.std.specs.Prelude.{Err, List, Ok, OnOk, Result, [], map, ℕ, ◌++�
 use Rattle.tape_laws.specs.History.{Noted}
 use Rattle.wire_flows.specs.Flows.{Flows}
 use Rattle.wire_links.specs.Links.{Links}
-use Rattle.wire_state.proofs.Goings.{KeepsLeft, told_by}
+use Rattle.wire_state.proofs.Goings.{KeepsLeft, told_at, told_by}
 use Rattle.wire_state.proofs.Standing.{KeepsFlows, KeepsShut, Writes, conns_same, same_octets, wrote}
 use Rattle.wire_state.specs.Ways.{WayHistory}
 use Rattle.wire_state.specs.Worlds.{IsIdle, Pays, Shows, ToldBy}
 use Rattle.wire_state.specs.declared.conn.Conn.{Conn}
 
 pub paid : {A E : Type 0} (r : Result A E) (owed before now : List Note) → OnOk r (now ≡ before ++ owed) → Pays r owed before now
-paid (Ok u) owed before now e = record { goes = λ h g start conns flows links t. subst (λ (ns : List Note). ToldBy _ _ h g start conns flows links ns) (sym e) t }
+paid (Ok u) owed before now e = record { goes = λ h g start conns flows links t. told_at h g start conns conns flows links (before ++ owed) now refl (sym e) t }
 paid (Err x) owed before now e = record { goes = λ h g start conns flows links t. tt }
 
 -- a step that changes nothing
@@ -53,15 +53,16 @@ module _ (conns : PagedMap Conn) (flows : Flows) (links : Links) where
 
   pauses_told : {k l : LimitKeys} → (c : ℕ) (fs : List FlowId) (h : WayHistory) (g : ℕ → List ℕ) (start before : List Note) → ToldBy k l h g start conns flows links before
       → ToldBy k l h g start conns flows links (before ++ map (λ f. note.Pause f (buffer.Write c)) fs)
-  pauses_told c [] h g start before t = subst (λ (ns : List Note). ToldBy _ _ h g start conns flows links ns) (sym (append-nil before)) t
+  pauses_told c [] h g start before t = told_at h g start conns conns flows links before (before ++ []) refl (sym (append-nil before)) t
   pauses_told c (f ∷ fs) h g start before t =
-      subst (λ (ns : List Note). ToldBy _ _ h g start conns flows links ns) (append_assoc before (note.Pause f (buffer.Write c) ∷ []) (map (λ g. note.Pause g (buffer.Write c)) fs))
+      told_at h g start conns conns flows links ((before ++ note.Pause f (buffer.Write c) ∷ []) ++ map (λ g. note.Pause g (buffer.Write c)) fs) (before ++ note.Pause f (buffer.Write c) ∷ map (λ g. note.Pause g (buffer.Write c)) fs) refl
+      (append_assoc before (note.Pause f (buffer.Write c) ∷ []) (map (λ g. note.Pause g (buffer.Write c)) fs))
       (pauses_told c fs h g start (before ++ note.Pause f (buffer.Write c) ∷ []) (one_told (note.Pause f (buffer.Write c)) tt h g start before t))
 
 pub idle : {A E : Type 0} (r : Result A E) (n : Note) (before now : List Note) → OnOk r (now ≡ before ++ n ∷ []) → IsIdle n → Shows r before now
-idle (Ok u) n before now e i = record { goes = λ h g start conns flows links t. subst (λ (ns : List Note). ToldBy _ _ h g start conns flows links ns) (sym e) (one_told conns flows links n i h g start before t) }
+idle (Ok u) n before now e i = record { goes = λ h g start conns flows links t. told_at h g start conns conns flows links (before ++ n ∷ []) now refl (sym e) (one_told conns flows links n i h g start before t) }
 idle (Err x) n before now e i = record { goes = λ h g start conns flows links t. tt }
 
 pub pauses : {A E : Type 0} (r : Result A E) (c : ℕ) (fs : List FlowId) (before now : List Note) → OnOk r (now ≡ before ++ map (λ f. note.Pause f (buffer.Write c)) fs) → Shows r before now
-pauses (Ok u) c fs before now e = record { goes = λ h g start conns flows links t. subst (λ (ns : List Note). ToldBy _ _ h g start conns flows links ns) (sym e) (pauses_told conns flows links c fs h g start before t) }
+pauses (Ok u) c fs before now e = record { goes = λ h g start conns flows links t. told_at h g start conns conns flows links (before ++ map (λ f. note.Pause f (buffer.Write c)) fs) now refl (sym e) (pauses_told conns flows links c fs h g start before t) }
 pauses (Err x) c fs before now e = record { goes = λ h g start conns flows links t. tt }

@@ -64,11 +64,11 @@ module _ (x : ℕ) (why : Cause) (h : WayHistory) (old new : Flows) (d : Dooms x
   none_after f none = by_case (x == f.exchange) (λ e. ap is_some (gone f e)) (λ e. ap is_some (stays f e) ∙ none)
 
   pub dooms : {l : LimitKeys} → (conns : PagedMap Conn) (links links' : Links) → UnlinksOne x links links' → Stands l conns old links h → Stands l conns new links' (ending ∷ h)
-  dooms conns links links' u s = record {
+  dooms {l} conns links links' u s = record {
     writes = s.writes;
     flows_are = λ f. by_case (x == f.exchange)
-        (λ e. subst (λ (o : Option Flow). IfSome o (FlowIs _ f (ending ∷ h))) (sym (gone f e)) tt)
-        (λ e. subst (λ (o : Option Flow). IfSome o (FlowIs _ f (ending ∷ h))) (sym (stays f e))
+        (λ e. subst (λ (o : Option Flow). IfSome o (FlowIs l f (ending ∷ h))) (sym (gone f e)) tt)
+        (λ e. subst (λ (o : Option Flow). IfSome o (FlowIs l f (ending ∷ h))) (sym (stays f e))
         (if_some (flow_in old f) (flow_still f h (ending ∷ h) (record { places = place_stays f e; stages = refl; came = refl; went = refl })) (s.flows_are f)));
     empty = λ f p none. by_case (x == f.exchange)
         (λ e. ap (λ b. if b then [] else place world_setup f p h) (turned x f.exchange true e))
@@ -171,11 +171,11 @@ module _ (x c s d : ℕ) (to : Option ℕ) (spec : StartSpec) (config : Config) 
 
     mine_is : {l : LimitKeys} → Under l → ((f : FlowId) (p : ℕ) → is_there old f ≡ false → place world_setup f p h ≡ []) → (f : FlowId) → (x == f.exchange) ≡ true → IsUnborn f old h
         → FlowIs l f then_ (begun_flow (flow_id x f.back) (filters f.back) spec (multiple f.back))
-    mine_is under empty f e u = record {
+    mine_is {l} under empty f e u = record {
       last = new_last f.back ∙ sym (passed f true e);
       holds = λ p. begun_held (flow_id x f.back) (filters f.back) spec (multiple f.back) p ∙ sym (empty f p u.there);
       loses = begun_loses f then_ u.unread u.unsent (λ p. empty f p u.there);
-      shape = subst (λ (ss : List StageKind). HasShape _ ss (begun_flow (flow_id x f.back) (filters f.back) spec (multiple f.back))) (sym (passed_stages f true e)) (side_shape under f.back);
+      shape = subst (λ (ss : List StageKind). HasShape l ss (begun_flow (flow_id x f.back) (filters f.back) spec (multiple f.back))) (sym (passed_stages f true e)) (side_shape {l = l} under f.back);
     }
 
     -- the flows of later numbers
@@ -197,11 +197,11 @@ module _ (x c s d : ℕ) (to : Option ℕ) (spec : StartSpec) (config : Config) 
     linked = record { client = c; stream = s; cluster = to; cluster_stream = None }
 
     pub starts : {l : LimitKeys} → Under l → (conns : PagedMap Conn) (links links' : Links) → LinksOne x c s to links links' → Stands l conns old links h → Stands l conns new links' then_
-    starts under conns links links' linked_so stands = record {
+    starts {l} under conns links links' linked_so stands = record {
       writes = stands.writes;
       flows_are = λ f. by_case (x == f.exchange)
-          (λ e. subst (λ (o : Option Flow). IfSome o (FlowIs _ f then_)) (sym (mine f e ∙ new_flow f.back)) (mine_is under stands.empty f e (stands.unborn f (above_last f e))))
-          (λ e. subst (λ (o : Option Flow). IfSome o (FlowIs _ f then_)) (sym (other f e))
+          (λ e. subst (λ (o : Option Flow). IfSome o (FlowIs l f then_)) (sym (mine f e ∙ new_flow f.back)) (mine_is under stands.empty f e (stands.unborn f (above_last f e))))
+          (λ e. subst (λ (o : Option Flow). IfSome o (FlowIs l f then_)) (sym (other f e))
           (if_some (flow_in old f) (flow_still f h then_ (record { places = λ p. refl; stages = passed_stages f false e; came = refl; went = refl })) (stands.flows_are f)));
       empty = λ f p none. by_case (x == f.exchange)
           (λ e. absurd (cc (ap is_some (mine f e ∙ new_flow f.back), none)))

@@ -123,11 +123,11 @@ pub record Writes (change : ℕ → List ℕ → List ℕ) (step : WayStep) (h :
 
 -- a flow of which nothing moves
 pub flow_still : {l : LimitKeys} → (f : FlowId) (h k : WayHistory) → IsStill f h k → (flow : Flow) → FlowIs l f h flow → FlowIs l f k flow
-flow_still f h k s flow is = record {
+flow_still {l} f h k s flow is = record {
   last = is.last ∙ sym (ap (λ (ss : List StageKind). length ss + 1) s.stages);
   holds = λ p. is.holds p ∙ sym (s.places p);
   loses = still_loses f h k s is.loses;
-  shape = subst (λ (ss : List StageKind). HasShape _ ss flow) (sym s.stages) is.shape;
+  shape = subst (λ (ss : List StageKind). HasShape l ss flow) (sym s.stages) is.shape;
 }
 
 -- of each flow

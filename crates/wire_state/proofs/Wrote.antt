@@ -10,7 +10,6 @@ use Rattle.h2_frames.specs.Frame.{WindowUpdate}
 use Rattle.h2_frames.specs.Head.{data_head}
 use Rattle.h2_frames.specs.Spelling.{spelling}
 use Rattle.io_ports.specs.declared.octets.NoMemory.{NoMemory}
-use Rattle.proxy_config.specs.declared.config.Config.{Config}
 use Rattle.proxy_config.specs.declared.config.LimitKeys.{LimitKeys}
 use Rattle.std.proofs.Common.{ap, arith, refl, subst, sym, ◌∙◌}
 use Rattle.std.proofs.lemmas.List.{append-nil, length-drop, take_min}
@@ -26,7 +25,7 @@ use Rattle.wire_links.specs.Links.{Links, ends_of}
 use Rattle.wire_links.specs.declared.links.exchanges.Ends.{Ends}
 use Rattle.wire_state.proofs.Bodies.{frames}
 use Rattle.wire_state.proofs.Fitting.{less_out}
-use Rattle.wire_state.proofs.Goings.{KeepBodies, KeepsLeft, changed_bodies, config_kept, keeps_by, links_kept, owes_by, rest_of, same_bodies, told_as}
+use Rattle.wire_state.proofs.Goings.{KeepBodies, KeepsLeft, changed_bodies, config_kept, config_told, keeps_by, links_kept, owes_by, rest_of, same_bodies, told_as, told_at}
 use Rattle.wire_state.proofs.Held.{is_number, listed_keeps}
 use Rattle.wire_state.proofs.Standing.{ConnsAre, KeepsFlows, KeepsShut, Writes, answer_flows, answer_shut, answer_writes, at_one, conns_go, conns_written, credit_flows, credit_shut, credit_writes, head_flows, head_shut, head_writes, out_flows, out_shut, one_room, out_writes, same_octets, wrote}
 use Rattle.wire_state.specs.Limits.{OutFits}
@@ -42,7 +41,7 @@ pub listed_bodies : (f : FlowId) (last : Bool) (old new : Flows) → ChangesFlow
 listed_bodies f last old new c = changed_bodies f (list_framed last) old new (λ flow e. listed_keeps last flow) c
 
 pub owes_none : (old new : WireCore) → Keeps old new → Owes [] old new
-owes_none old new k = record { goes = λ h g start notes t. subst (λ (ns : List Note). ToldBy _ _ h g start new.conns new.flows new.links ns) (sym (append-nil notes)) (k.goes h g start notes t) }
+owes_none old new k = record { goes = λ h g start notes t. told_at h g start new.conns new.conns new.flows new.links notes (notes ++ []) refl (sym (append-nil notes)) (k.goes h g start notes t) }
 
 module _ (n : ℕ) (old new : WireCore) (v w : Conn) (found : value_at n old.conns ≡ Some v) (written : WritesThrough n old.conns w new.conns)
     (opened : w.open ≡ v.open) (bodies : KeepBodies old.flows new.flows) (rest : rest_of new ≡ rest_of old) where
@@ -131,7 +130,8 @@ module _ (n : ℕ) (old new : WireCore) (v w : Conn) (found : value_at n old.con
             left = λ c. stays.left c ∙ (sym (append-nil (g c)) ∙ ap (λ xs. g c ++ xs)
                 (sym (ap (λ j. if n == c then take j (octets_of c old.conns) else []) zero_is ∙ none (n == c) (octets_of c old.conns)) ∙ took c));
           }
-      at false z h g start notes t = subst (λ (c : Config). ToldBy _ c.limits h (left_after (event.Room n most) old.conns g) start new.conns new.flows new.links (notes ++ note.Out n k ∷ [])) (sym (config_kept old new rest)) (told_as (Noted (note.Out n k) ∷ []) (left_after (event.Room n most) old.conns) old.conns new.conns old.flows new.flows old.links new.links
+      at false z h g start notes t = config_told old new (config_kept old new rest) h (left_after (event.Room n most) old.conns g) start (notes ++ note.Out n k ∷ [])
+          (told_as (Noted (note.Out n k) ∷ []) (left_after (event.Room n most) old.conns) old.conns new.conns old.flows new.flows old.links new.links
           (λ j f s is c. (λ i. is c i ++ (if n == c then take k (sym (s.writes c) i) else [])) ∙ ap (λ xs. f c ++ xs) (took c))
           (step_stands (drop k) (Noted (note.Out n k)) e shorter (λ j. out_writes j n k) (λ j. out_flows j n k) (λ j. out_shut j n k)) h g start notes t)
 
