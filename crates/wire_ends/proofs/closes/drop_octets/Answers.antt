@@ -24,5 +24,5 @@ pub returns-in-None-clause-octets : goal.returns-in-None-clause-octets
 returns-in-None-clause-octets c = λ k.
     let old = c.args.core.now in
     owes_by (Noted (note.Turn k (event.Gone c.args.number)) ∷ []) (λ h d. refl) old _ refl (λ h s.
-    subst (λ (m : PagedMap Conn). Stands _ m old.flows old.links (Noted (note.Turn k (event.Gone c.args.number)) ∷ h)) (sym c.get_mut.follows.holds-at-none)
+    subst (λ (m : PagedMap Conn). Stands old.config.limits m old.flows old.links (Noted (note.Turn k (event.Gone c.args.number)) ∷ h)) (sym c.get_mut.follows.holds-at-none)
     (drops_rest c.args.number k old.conns old.conns (none_drops c.args.number old.conns (sym c.in-None.ensures.value)) old.flows old.links h s))
