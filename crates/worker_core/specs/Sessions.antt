@@ -6,8 +6,11 @@ use Rattle.plain_core.specs.Stands.{CanTake, Rests, WaitsInFront}
 use Rattle.overload_core.specs.ActionStates.{is_saturated}
 use Rattle.proxy_config.specs.declared.config.Config.{Config}
 use Rattle.std.specs.Prelude.{Bool, List, None, Option, [], false, not, true, ℕ, ◌<◌, ◌≡◌}
+use Rattle.tape_laws.specs.World.{gone}
 use Rattle.tape_laws.specs.declared.PlainLimits.{PlainLimits}
 use Rattle.wire_state.specs.Sound.{IsSound, is_open_at}
+use Rattle.wire_state.specs.Ways.{WayHistory, WayStep, after, shown, world_setup}
+use Rattle.wire_state.specs.Worlds.{Stands, left_after}
 use Rattle.worker_core.specs.Dispatching.{Breaks, Dispatches}
 use Rattle.worker_core.specs.Fronts.{IsFront, IsLeastAbove, has_octets, is_there, octets_at}
 use Rattle.worker_core.specs.declared.worker.Kind.{Kind}
@@ -78,3 +81,23 @@ IsNextConn (kind.Wire session) after next = IsLeastAbove after (is_there session
 abbrev pub IsNextOut : Kind → ℕ → Option ℕ → Type 0
 IsNextOut (kind.Plain core) after next = next ≡ None
 IsNextOut (kind.Wire session) after next = IsLeastAbove after (has_octets session.core) next
+
+-- ---- the octets of a tape's world
+-- The core stands for the history: what waits for each socket and lies in each place of a body, each stream, and which
+-- connections are open, are those of its world.
+abbrev pub StandsAt : Kind → WayHistory → Type 0
+StandsAt (kind.Plain core) h = ⊥
+StandsAt (kind.Wire session) h = Stands session.core.conns session.core.flows session.core.links h
+
+-- what has left each connection once an event was carried out, where g had left it before
+abbrev pub left_at : Event → Kind → (ℕ → List ℕ) → ℕ → List ℕ
+left_at e (kind.Plain core) g = g
+left_at e (kind.Wire session) g = left_after e session.core.conns g
+
+-- The notes are those of some steps, and the core stands for the history with these behind it. What has left each connection
+-- then is told beside it.
+pub record GoesOn (h : WayHistory) (g : ℕ → List ℕ) (new : Kind) (notes : List Note) : Type 0 where
+  pub steps : List WayStep
+  pub is : notes ≡ shown steps
+  pub stands : StandsAt new (after steps h)
+  pub left : (c : ℕ) → gone world_setup c (after steps h) ≡ g c

@@ -2,7 +2,7 @@
 ghost use Rattle.plain_core.specs.Flows.{AreLimits};
 ghost use Rattle.proxy_config.specs.Ranges.{IsInRange};
 ghost use Rattle.std.specs.Prelude.{◌≡◌, ◌≢◌, [], Err, IfOk, OnErr, OnOk, false, true};
-ghost use Rattle.worker_core.specs.Sessions.{BreaksOff, CarriesOut, IsNew, IsNextConn, IsNextOut, LendsFront, MayTake, RestsPlain, RestsWire, has_failed, is_closing, takes_clients, version_of};
+ghost use Rattle.worker_core.specs.Sessions.{BreaksOff, CarriesOut, IsNew, IsNextConn, IsNextOut, LendsFront, MayTake, RestsPlain, RestsWire, StandsAt, has_failed, is_closing, takes_clients, version_of};
 
 use crate::wire::WireSession;
 use flow_notes::{Event, Notes};
@@ -32,6 +32,7 @@ impl Core {
         requires { IsInRange config }
         ensures rests { IfOk result (λ core. RestsWire core.kind) }
         ensures new { IfOk result (λ core. IsNew config core.kind) }
+        ensures octets { IfOk result (λ core. StandsAt core.kind []) }
     {
         Ok(Core {
             kind: Kind::Wire(WireSession::new(alloc, config)?),
