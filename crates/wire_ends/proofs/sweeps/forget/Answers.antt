@@ -1,4 +1,4 @@
-use Rattle.std.proofs.Common.{ap, ◌∙◌}
+use Rattle.std.proofs.Common.{ap, refl, ◌∙◌}
 use Rattle.wire_ends.proofs.sweeps.forget.Goals as goal
 use Rattle.wire_links.specs.Links.{Links, ends_of}
 use Rattle.wire_state.proofs.Goings.{gate_bodies, keeps_by}

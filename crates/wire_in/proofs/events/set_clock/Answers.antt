@@ -1,3 +1,4 @@
+use Rattle.std.proofs.Common.{refl}
 use Rattle.wire_in.proofs.events.set_clock.Goals as goal
 use Rattle.wire_state.proofs.Goings.{keeps_by}
 use Rattle.wire_state.proofs.Lives.{ticks}
