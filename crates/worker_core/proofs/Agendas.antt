@@ -1,5 +1,4 @@
 -- What the task on top weighs.
-use Rattle.std.proofs.Common.{refl}
 use Rattle.std.specs.Prelude.{List, Some, [], slice_get, ◌∷◌, ◌≡◌}
 use Rattle.wire_state.specs.Agenda.{top_go}
 use Rattle.wire_state.specs.Progress.{task_go}

@@ -1,12 +1,11 @@
 use Rattle.flow_notes.specs.declared.notes.Note.TheVariants as note
-use Rattle.std.proofs.Common.{ap, arith, subst}
+use Rattle.std.proofs.Common.{ap, arith, refl}
 use Rattle.std.specs.Prelude.{List, [], length, ℕ, ◌++◌, ◌∷◌}
 use Rattle.wire_in.proofs.Arriving.{arrival_told}
 use Rattle.wire_in.proofs.bodies.arrive.Goals as goal
-use Rattle.wire_state.proofs.Goings.{bodies_told, same_bodies}
+use Rattle.wire_state.proofs.Goings.{bodies_told, same_bodies, told_at}
 use Rattle.wire_state.proofs.Results.{on_ok}
 use Rattle.wire_state.specs.Progress.{to_go}
-use Rattle.wire_state.specs.Worlds.{ToldBy}
 
 pub returns-clause-go : goal.returns-clause-go
 unfolding to_go
@@ -19,8 +18,8 @@ returns-clause-octets c = record {
   goes = λ h g start t.
       let k = c.args.core.now in
       let f = c.args.course.flow in
-      let came = arrival_told f c.as_slice.result.now k.flows c.receive.new.self c.receive.result c.receive.ensures.answer c.in-Arrived.is c.receive.ensures.flow k.conns k.links h g start c.args.notes.now t in
-      c.note.ensures.paid.goes h g start _ _ _ (c.in_ok-touch.ensures.octets.goes h g start _ (subst (λ (octets : List ℕ). ToldBy h g start k.conns c.receive.new.self k.links (c.args.notes.now ++ note.Arrive f octets ∷ [])) c.as_slice.ensures came));
+      let came = arrival_told f c.as_slice.result.now k.flows c.receive.new.self c.receive.result c.receive.ensures.answer c.in-Arrived.is c.receive.ensures.flow c.receive.ensures.sound k.conns k.links h g start c.args.notes.now t in
+      c.note.ensures.paid.goes h g start _ _ _ (c.in_ok-touch.ensures.octets.goes h g start _ (told_at h g start k.conns k.conns c.receive.new.self k.links _ _ refl (ap (λ (octets : List ℕ). c.args.notes.now ++ note.Arrive f octets ∷ []) c.as_slice.ensures) came));
 }
 
 pub returns-in_default-clause-octets : goal.returns-in_default-clause-octets

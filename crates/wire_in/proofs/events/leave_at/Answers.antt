@@ -1,11 +1,10 @@
 use Rattle.flow_notes.specs.declared.events.Event.TheVariants as event
-use Rattle.paged_map.specs.PagedMap.{PagedMap}
-use Rattle.std.proofs.Common.{ap, refl, subst, sym}
+use Rattle.std.proofs.Common.{ap, refl, sym}
 use Rattle.std.specs.Prelude.{◌++◌}
 use Rattle.wire_in.proofs.events.leave_at.Goals as goal
-use Rattle.wire_state.proofs.Goings.{same_bodies}
+use Rattle.wire_state.proofs.Goings.{same_bodies, told_at}
 use Rattle.wire_state.proofs.Wrote.{none_left, out_left}
-use Rattle.wire_state.specs.Worlds.{ToldBy, left_after, outs_of}
+use Rattle.wire_state.specs.Worlds.{left_after, outs_of}
 use Rattle.wire_state.specs.declared.conn.Conn.{Conn}
 
 pub returns-in-Some-clause-octets : goal.returns-in-Some-clause-octets
@@ -17,6 +16,6 @@ pub returns-in-None-clause-octets : goal.returns-in-None-clause-octets
 returns-in-None-clause-octets c = record {
   goes = λ h g start notes t.
       let k = c.args.core.now in
-      subst (λ (m : PagedMap Conn). ToldBy h (left_after (event.Room c.args.number c.args.n) k.conns g) start m k.flows k.links (notes ++ outs_of c.args.number 0)) (sym c.get_mut.follows.holds-at-none)
+      told_at h (left_after (event.Room c.args.number c.args.n) k.conns g) start k.conns c.get_mut.follows.lender-at-none k.flows k.links (notes ++ outs_of c.args.number 0) (notes ++ outs_of c.args.number 0) (sym c.get_mut.follows.holds-at-none) refl
       ((none_left c.args.number c.args.n k (sym c.in-None.ensures.value)).goes h g start notes t);
 }

@@ -1,17 +1,17 @@
 use Rattle.flow_notes.specs.declared.notes.Note.{Note}
 use Rattle.flow_notes.specs.declared.notes.Note.TheVariants as note
-use Rattle.std.proofs.Common.{ap, arith, subst, sym}
+use Rattle.std.proofs.Common.{ap, arith, refl, subst, sym, ◌∙◌}
 use Rattle.std.proofs.lemmas.Bool.Decides.{nat_tests}
 use Rattle.std.proofs.lemmas.List.{append-nil}
 use Rattle.std.specs.Prelude.{Bool, List, [], false, if◌then◌else◌, ℕ, ◌++◌, ◌==◌, ◌∷◌, ◌≡◌}
 use Rattle.wire_in.proofs.events.note_out.Goals as goal
-use Rattle.wire_state.specs.Worlds.{Pays, ToldBy, outs_of}
+use Rattle.wire_state.proofs.Goings.{told_at}
+use Rattle.wire_state.specs.Worlds.{Pays, outs_of}
 
 pub returns-then-n-eq0-clause-octets : goal.returns-then-n-eq0-clause-octets
 returns-then-n-eq0-clause-octets c = record {
   goes = λ h g start conns flows links t.
-      subst (λ (ns : List Note). ToldBy h g start conns flows links ns) (append-nil c.args.notes.now)
-      (subst (λ (j : ℕ). ToldBy h g start conns flows links (c.args.notes.now ++ outs_of c.args.conn j)) c.if-n-eq0.true t);
+      told_at h g start conns conns flows links (c.args.notes.now ++ outs_of c.args.conn c.args.n) c.args.notes.now refl (ap (λ (j : ℕ). c.args.notes.now ++ outs_of c.args.conn j) c.if-n-eq0.true ∙ append-nil c.args.notes.now) t;
 }
 
 pub returns-clause-octets : goal.returns-clause-octets
