@@ -244,6 +244,7 @@ fn spec_of(
     ensures recv { result.recv ≤ most_octets }
     ensures send { result.send ≤ most_octets }
     ensures quantum { IsBetween 16384 1048576 result.quantum }
+    ensures limits { (result.recv ≡ core.entry.now.config.limits.stream_window) × (result.send ≡ core.entry.now.config.limits.send_buffer) × (result.quantum ≡ core.entry.now.config.limits.quantum) }
     ensures ends { (result.from_conn ≡ number) × (result.to_conn ≡ to) }
     ensures rest { (result.row ≡ row) × (result.now ≡ core.entry.now.now) }
 {

@@ -17,6 +17,8 @@ use Rattle.std.proofs.lemmas.Bool.Decides.{nat_tests}
 use Rattle.std.proofs.lemmas.List.{append-nil, length-set}
 use Rattle.std.specs.Option.{option_map, option_map_or}
 use Rattle.std.specs.Prelude.{Bool, List, None, Option, Some, [], drop, false, if◌then◌else◌, length, map, nat_lt, slice_get, slice_set, suc, take, true, zero, ℕ, ◌++◌, ◌+◌, ◌-◌, ◌<◌, ◌==◌, ◌∷◌, ◌≡◌}
+use Rattle.wire_state.proofs.Shapes.{SameShape, seen_shape}
+use Rattle.wire_state.specs.Limits.{shape_of}
 
 -- ---- tests of numbers
 pub by_test : {X : Type 0} (b : Bool) {x a c : X} → (b ≡ true → x ≡ a) → (b ≡ false → x ≡ c) → x ≡ (if b then a else c)
@@ -158,23 +160,24 @@ arrived_held octets flow (suc r) = by_more (suc r == 0) octets (λ e. absurd (gr
 pub record KeepsOctets (old new : Flow) : Type 0 where
   pub last : last_place new ≡ last_place old
   pub holds : (p : ℕ) → octets_in new p ≡ octets_in old p
+  pub shape : SameShape old new
 
-pub kept_if : (old new : Flow) → new.recv ≡ old.recv → new.chain.places ≡ old.chain.places → KeepsOctets old new
-kept_if old new r e = record { last = ap length e; holds = at }
+pub kept_if : (old new : Flow) → new.window ≡ old.window → new.chain.quantum ≡ old.chain.quantum → new.recv ≡ old.recv → new.chain.places ≡ old.chain.places → KeepsOctets old new
+kept_if old new w q r e = record { last = ap length e; holds = at; shape = record { window = w; quantum = q; places = ap (λ (ps : List Place). map shape_of ps) e } }
   where
     at : (p : ℕ) → octets_in new p ≡ octets_in old p
     at zero = r
     at (suc p) = ap (λ ps. held (place_at ps (suc p))) e
 
 pub headed_keeps : (fields : List Field) (last : Bool) (flow : Flow) → KeepsOctets flow (headed fields last flow)
-headed_keeps fields true flow = kept_if flow (headed fields true flow) refl refl
-headed_keeps fields false flow = kept_if flow (headed fields false flow) refl refl
+headed_keeps fields true flow = kept_if flow (headed fields true flow) refl refl refl refl
+headed_keeps fields false flow = kept_if flow (headed fields false flow) refl refl refl refl
 
 pub finished_keeps : (trailers : Option (List Field)) (flow : Flow) → KeepsOctets flow (finished trailers flow)
-finished_keeps trailers flow = kept_if flow (finished trailers flow) refl refl
+finished_keeps trailers flow = kept_if flow (finished trailers flow) refl refl refl refl
 
 pub listed_keeps : (last : Bool) (flow : Flow) → KeepsOctets flow (list_framed last flow)
-listed_keeps last flow = kept_if flow (list_framed last flow) refl refl
+listed_keeps last flow = kept_if flow (list_framed last flow) refl refl refl refl
 
 map_held : (f : Place → Place) → ((x : Place) → (f x).octets ≡ x.octets) → (places : List Place) (i : ℕ) → held (slice_get (map f places) i) ≡ held (slice_get places i)
 map_held f same [] i = refl
@@ -186,15 +189,15 @@ map_length f [] = refl
 map_length f (x ∷ xs) = ap suc (map_length f xs)
 
 pub seen_keeps : (now : ℕ) (flow : Flow) → KeepsOctets flow (at_moment now flow)
-seen_keeps now flow = at (nat_lt flow.chain.time now)
+seen_keeps now flow = at (nat_lt flow.chain.time now) (seen_shape now flow)
   where
-    at : (b : Bool) → KeepsOctets flow (record flow { chain = if b then ticked flow.chain now else flow.chain })
-    at true = record { last = map_length (refilled (whole_steps flow.chain.started now - whole_steps flow.chain.started flow.chain.time)) flow.chain.places; holds = here }
+    at : (b : Bool) → SameShape flow (record flow { chain = if b then ticked flow.chain now else flow.chain }) → KeepsOctets flow (record flow { chain = if b then ticked flow.chain now else flow.chain })
+    at true shape = record { last = map_length (refilled (whole_steps flow.chain.started now - whole_steps flow.chain.started flow.chain.time)) flow.chain.places; holds = here; shape = shape }
       where
         here : (p : ℕ) → octets_in (record flow { chain = ticked flow.chain now }) p ≡ octets_in flow p
         here zero = refl
         here (suc p) = map_held (refilled (whole_steps flow.chain.started now - whole_steps flow.chain.started flow.chain.time)) (λ x. refl) flow.chain.places p
-    at false = record { last = refl; holds = λ p. refl }
+    at false shape = record { last = refl; holds = λ p. refl; shape = shape }
 
 -- ---- a flow that begins
 stages_empty : (filters : List Filter) (rest : List Place) → ((i : ℕ) → held (slice_get rest i) ≡ []) → (i : ℕ) → held (slice_get (stages filters ++ rest) i) ≡ []

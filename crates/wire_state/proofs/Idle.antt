@@ -3,6 +3,7 @@ use Rattle.flow_gate.specs.declared.ids.BufferId.TheVariants as buffer
 use Rattle.flow_gate.specs.declared.ids.FlowId.{FlowId}
 use Rattle.flow_notes.specs.declared.notes.Note.{Note}
 use Rattle.flow_notes.specs.declared.notes.Note.TheVariants as note
+use Rattle.proxy_config.specs.declared.config.LimitKeys.{LimitKeys}
 use Rattle.std.proofs.Common.{ap, append_assoc, refl, subst, sym, ◌∙◌}
 use Rattle.std.proofs.lemmas.List.{append-nil}
 use Rattle.paged_map.specs.PagedMap.{PagedMap}
@@ -17,7 +18,7 @@ use Rattle.wire_state.specs.Worlds.{IsIdle, Pays, Shows, ToldBy}
 use Rattle.wire_state.specs.declared.conn.Conn.{Conn}
 
 pub paid : {A E : Type 0} (r : Result A E) (owed before now : List Note) → OnOk r (now ≡ before ++ owed) → Pays r owed before now
-paid (Ok u) owed before now e = record { goes = λ h g start conns flows links t. subst (λ (ns : List Note). ToldBy h g start conns flows links ns) (sym e) t }
+paid (Ok u) owed before now e = record { goes = λ h g start conns flows links t. subst (λ (ns : List Note). ToldBy _ _ h g start conns flows links ns) (sym e) t }
 paid (Err x) owed before now e = record { goes = λ h g start conns flows links t. tt }
 
 -- a step that changes nothing
@@ -28,11 +29,11 @@ record IsNothing (n : Note) : Type 0 where
   left : KeepsLeft (Noted n ∷ [])
 
 nothing_of : (n : Note) → IsIdle n → IsNothing n
-nothing_of (note.Pause f b) i = record { writes = λ h. record { outs = λ d. refl }; flows = λ h. record { places = λ g p. refl; last = λ g. refl; stream = λ g. refl }; shut = λ h. record { closed = λ d. refl; come = λ d e. e }; left = λ h d. refl }
-nothing_of (note.Resume f b) i = record { writes = λ h. record { outs = λ d. refl }; flows = λ h. record { places = λ g p. refl; last = λ g. refl; stream = λ g. refl }; shut = λ h. record { closed = λ d. refl; come = λ d e. e }; left = λ h d. refl }
-nothing_of (note.Waste c s n) i = record { writes = λ h. record { outs = λ d. refl }; flows = λ h. record { places = λ g p. refl; last = λ g. refl; stream = λ g. refl }; shut = λ h. record { closed = λ d. refl; come = λ d e. e }; left = λ h d. refl }
-nothing_of (note.Fire k x) i = record { writes = λ h. record { outs = λ d. refl }; flows = λ h. record { places = λ g p. refl; last = λ g. refl; stream = λ g. refl }; shut = λ h. record { closed = λ d. refl; come = λ d e. e }; left = λ h d. refl }
-nothing_of (note.Gone x) i = record { writes = λ h. record { outs = λ d. refl }; flows = λ h. record { places = λ g p. refl; last = λ g. refl; stream = λ g. refl }; shut = λ h. record { closed = λ d. refl; come = λ d e. e }; left = λ h d. refl }
+nothing_of (note.Pause f b) i = record { writes = λ h. record { outs = λ d. refl }; flows = λ h. record { places = λ g p. refl; stages = λ g. refl; stream = λ g. refl; came = λ g. refl; went = λ g. refl }; shut = λ h. record { closed = λ d. refl; come = λ d e. e }; left = λ h d. refl }
+nothing_of (note.Resume f b) i = record { writes = λ h. record { outs = λ d. refl }; flows = λ h. record { places = λ g p. refl; stages = λ g. refl; stream = λ g. refl; came = λ g. refl; went = λ g. refl }; shut = λ h. record { closed = λ d. refl; come = λ d e. e }; left = λ h d. refl }
+nothing_of (note.Waste c s n) i = record { writes = λ h. record { outs = λ d. refl }; flows = λ h. record { places = λ g p. refl; stages = λ g. refl; stream = λ g. refl; came = λ g. refl; went = λ g. refl }; shut = λ h. record { closed = λ d. refl; come = λ d e. e }; left = λ h d. refl }
+nothing_of (note.Fire k x) i = record { writes = λ h. record { outs = λ d. refl }; flows = λ h. record { places = λ g p. refl; stages = λ g. refl; stream = λ g. refl; came = λ g. refl; went = λ g. refl }; shut = λ h. record { closed = λ d. refl; come = λ d e. e }; left = λ h d. refl }
+nothing_of (note.Gone x) i = record { writes = λ h. record { outs = λ d. refl }; flows = λ h. record { places = λ g p. refl; stages = λ g. refl; stream = λ g. refl; came = λ g. refl; went = λ g. refl }; shut = λ h. record { closed = λ d. refl; come = λ d e. e }; left = λ h d. refl }
 nothing_of (note.Turn k e) i = absurd i
 nothing_of (note.Start x c s d) i = absurd i
 nothing_of (note.Arrive f octets) i = absurd i
@@ -46,21 +47,21 @@ nothing_of (note.Doom x why) i = absurd i
 nothing_of (note.Close c code why) i = absurd i
 
 module _ (conns : PagedMap Conn) (flows : Flows) (links : Links) where
-  one_told : (n : Note) → IsIdle n → (h : WayHistory) (g : ℕ → List ℕ) (start before : List Note) → ToldBy h g start conns flows links before → ToldBy h g start conns flows links (before ++ n ∷ [])
+  one_told : {k l : LimitKeys} → (n : Note) → IsIdle n → (h : WayHistory) (g : ℕ → List ℕ) (start before : List Note) → ToldBy k l h g start conns flows links before → ToldBy k l h g start conns flows links (before ++ n ∷ [])
   one_told n i = let e = nothing_of n i in
-      told_by (Noted n ∷ []) (e.left) conns conns flows flows links links (λ h s. wrote same_octets (Noted n) h conns conns flows links (e.writes h) (e.flows h) (e.shut h) (conns_same conns) s)
+      told_by (Noted n ∷ []) (e.left) conns conns flows flows links links (λ h s. wrote same_octets (Noted n) h conns conns flows links (e.writes h) (e.flows h) (e.shut h) (conns_same conns) (λ c fit. fit) s)
 
-  pauses_told : (c : ℕ) (fs : List FlowId) (h : WayHistory) (g : ℕ → List ℕ) (start before : List Note) → ToldBy h g start conns flows links before
-      → ToldBy h g start conns flows links (before ++ map (λ f. note.Pause f (buffer.Write c)) fs)
-  pauses_told c [] h g start before t = subst (λ (ns : List Note). ToldBy h g start conns flows links ns) (sym (append-nil before)) t
+  pauses_told : {k l : LimitKeys} → (c : ℕ) (fs : List FlowId) (h : WayHistory) (g : ℕ → List ℕ) (start before : List Note) → ToldBy k l h g start conns flows links before
+      → ToldBy k l h g start conns flows links (before ++ map (λ f. note.Pause f (buffer.Write c)) fs)
+  pauses_told c [] h g start before t = subst (λ (ns : List Note). ToldBy _ _ h g start conns flows links ns) (sym (append-nil before)) t
   pauses_told c (f ∷ fs) h g start before t =
-      subst (λ (ns : List Note). ToldBy h g start conns flows links ns) (append_assoc before (note.Pause f (buffer.Write c) ∷ []) (map (λ g. note.Pause g (buffer.Write c)) fs))
+      subst (λ (ns : List Note). ToldBy _ _ h g start conns flows links ns) (append_assoc before (note.Pause f (buffer.Write c) ∷ []) (map (λ g. note.Pause g (buffer.Write c)) fs))
       (pauses_told c fs h g start (before ++ note.Pause f (buffer.Write c) ∷ []) (one_told (note.Pause f (buffer.Write c)) tt h g start before t))
 
 pub idle : {A E : Type 0} (r : Result A E) (n : Note) (before now : List Note) → OnOk r (now ≡ before ++ n ∷ []) → IsIdle n → Shows r before now
-idle (Ok u) n before now e i = record { goes = λ h g start conns flows links t. subst (λ (ns : List Note). ToldBy h g start conns flows links ns) (sym e) (one_told conns flows links n i h g start before t) }
+idle (Ok u) n before now e i = record { goes = λ h g start conns flows links t. subst (λ (ns : List Note). ToldBy _ _ h g start conns flows links ns) (sym e) (one_told conns flows links n i h g start before t) }
 idle (Err x) n before now e i = record { goes = λ h g start conns flows links t. tt }
 
 pub pauses : {A E : Type 0} (r : Result A E) (c : ℕ) (fs : List FlowId) (before now : List Note) → OnOk r (now ≡ before ++ map (λ f. note.Pause f (buffer.Write c)) fs) → Shows r before now
-pauses (Ok u) c fs before now e = record { goes = λ h g start conns flows links t. subst (λ (ns : List Note). ToldBy h g start conns flows links ns) (sym e) (pauses_told conns flows links c fs h g start before t) }
+pauses (Ok u) c fs before now e = record { goes = λ h g start conns flows links t. subst (λ (ns : List Note). ToldBy _ _ h g start conns flows links ns) (sym e) (pauses_told conns flows links c fs h g start before t) }
 pauses (Err x) c fs before now e = record { goes = λ h g start conns flows links t. tt }

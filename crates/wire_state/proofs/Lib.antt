@@ -1,5 +1,7 @@
 pub mod Bodies
+pub mod Counted
 pub mod Credits
+pub mod Fitting
 pub mod Goings
 pub mod Held
 pub mod Idle
@@ -7,8 +9,11 @@ pub mod Keeping
 pub mod Linked
 pub mod Lives
 pub mod Notings
+pub mod Promised
 pub mod Results
 pub mod Rooms
+pub mod Sending
+pub mod Shapes
 pub mod Soundness
 pub mod Standing
 pub mod Stepping

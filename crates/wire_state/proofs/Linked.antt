@@ -2,12 +2,13 @@
 use Rattle.flow_notes.specs.declared.events.Event.TheVariants as event
 use Rattle.flow_notes.specs.declared.notes.Note.{Note}
 use Rattle.flow_notes.specs.declared.notes.Note.TheVariants as note
-use Rattle.std.proofs.Common.{ap, refl, subst, sym, ◌∙◌}
+use Rattle.proxy_config.specs.declared.config.LimitKeys.{LimitKeys}
+use Rattle.std.proofs.Common.{ap, arith, refl, subst, sym, ◌∙◌}
 use Rattle.exchange_core.proofs.Maps.{eq_by_number}
 use Rattle.paged_map.specs.PagedMap.{PagedMap, Updates, WritesThrough, value_at}
 use Rattle.std.specs.Option.{option_map, option_map_or}
 use Rattle.std.specs.Ordering.{nat_cmp}
-use Rattle.std.specs.Prelude.{Bool, IfSome, List, None, Option, Some, [], cond, false, if◌then◌else◌, is_some, nat_eq, not, true, ℕ, ◌&&◌, ◌==◌, ◌∷◌, ◌≡◌}
+use Rattle.std.specs.Prelude.{Bool, IfSome, List, None, Option, Some, [], cond, false, if◌then◌else◌, is_some, length, nat_eq, not, true, ℕ, ◌&&◌, ◌==◌, ◌∷◌, ◌≡◌, ◌≤◌}
 use Rattle.tape_laws.specs.Connections.{connections, was_closed}
 use Rattle.tape_laws.specs.Dispatches.{has}
 use Rattle.tape_laws.specs.History.{Noted}
@@ -19,8 +20,10 @@ use Rattle.wire_links.specs.Links.{IsSound, Links, accepted, doomed, ends_of, fo
 use Rattle.wire_links.specs.Numbers.{under}
 use Rattle.wire_links.specs.declared.conn.Conn.{Conn as Link}
 use Rattle.wire_links.specs.declared.links.exchanges.Ends.{Ends}
+use Rattle.wire_state.proofs.Fitting.{fits_now, less_out, outs_fit, still_fits}
 use Rattle.wire_state.proofs.Held.{is_number}
-use Rattle.wire_state.proofs.Standing.{as_if, conns_written, if_some}
+use Rattle.wire_state.proofs.Sending.{fronts_still, unborn_still}
+use Rattle.wire_state.proofs.Standing.{as_if, conns_written, flow_still, if_some}
 use Rattle.wire_state.proofs.Lives.{LinksOne, OpensStream, UnlinksOne}
 use Rattle.wire_state.specs.Ways.{WayHistory, after, world_setup}
 use Rattle.wire_state.specs.Worlds.{EndsAre, Stands, ToldBy, has_conn, is_shut, octets_of}
@@ -51,7 +54,7 @@ pub record KeepsEnds (old new : Links) : Type 0 where
   pub ends : (x : ℕ) → ends_of x new ≡ ends_of x old
   pub known : (c : ℕ) → is_known c new ≡ false → is_known c old ≡ false
 
-pub links_go : (old new : Links) → KeepsEnds old new → (conns : PagedMap Conn) (flows : Flows) (h : WayHistory) → Stands conns flows old h → Stands conns flows new h
+pub links_go : {l : LimitKeys} → (old new : Links) → KeepsEnds old new → (conns : PagedMap Conn) (flows : Flows) (h : WayHistory) → Stands l conns flows old h → Stands l conns flows new h
 links_go old new k conns flows h s = record {
   writes = s.writes;
   flows_are = s.flows_are;
@@ -60,10 +63,13 @@ links_go old new k conns flows h s = record {
   known = λ c e. s.known c (k.known c e);
   closed = s.closed;
   come = s.come;
+  unborn = s.unborn;
+  fronts = s.fronts;
+  fits = s.fits;
 }
 
-pub links_told : (old new : Links) → KeepsEnds old new → (conns : PagedMap Conn) (flows : Flows) (h : WayHistory) (g : ℕ → List ℕ) (start notes : List Note) → ToldBy h g start conns flows old notes → ToldBy h g start conns flows new notes
-links_told old new k conns flows h g start notes t = record { steps = t.steps; is = t.is; stands = links_go old new k conns flows (after t.steps h) t.stands; left = t.left }
+pub links_told : {k l : LimitKeys} → (old new : Links) → KeepsEnds old new → (conns : PagedMap Conn) (flows : Flows) (h : WayHistory) (g : ℕ → List ℕ) (start notes : List Note) → ToldBy k l h g start conns flows old notes → ToldBy k l h g start conns flows new notes
+links_told old new k conns flows h g start notes t = record { steps = t.steps; is = t.is; stands = links_go old new k conns flows (after t.steps h) t.stands; left = t.left; under = t.under }
 
 still_there : (c d : ℕ) (f : Link → Link) (es : List (ℕ × Link)) → is_some (if nat_eq c d then option_map f (under c es) else under d es) ≡ is_some (under d es)
 still_there c d f es = by_case (nat_eq c d)
@@ -130,8 +136,8 @@ none_octets n conns e = at (value_at n conns) e
     at None e = refl
     at (Some v) e = cc
 
-pub comes : (n : ℕ) (old new : PagedMap Conn) → ComesNew n old new → (flows : Flows) (links : Links) (h : WayHistory) → is_known n links ≡ true → has (connections world_setup h) n ≡ true → was_closed n h ≡ false
-    → Stands old flows links h → Stands new flows links h
+pub comes : {l : LimitKeys} → (n : ℕ) (old new : PagedMap Conn) → ComesNew n old new → (flows : Flows) (links : Links) (h : WayHistory) → is_known n links ≡ true → has (connections world_setup h) n ≡ true → was_closed n h ≡ false
+    → Stands l old flows links h → Stands l new flows links h
 comes n old new c flows links h known came fresh s = record {
   writes = λ d. by_case (n == d)
       (λ e. let is = is_number n d e in
@@ -149,11 +155,14 @@ comes n old new c flows links h known came fresh s = record {
   come = λ d e. let never = s.come d e in by_case (n == d)
       (λ same. absurd (cc (ap (λ v. has (connections world_setup h) v) (is_number n d same), came, e)))
       (λ other. (ap is_some (c.others d other) ∙ never.0, never.1));
+  unborn = s.unborn;
+  fronts = s.fronts;
+  fits = s.fits;
 }
 
-pub come_told : (n : ℕ) (old new : PagedMap Conn) → ComesNew n old new → (flows : Flows) (links : Links) → is_known n links ≡ true
-    → (h : WayHistory) (g : ℕ → List ℕ) (start notes : List Note) (t : ToldBy h g start old flows links notes) → has (connections world_setup (after t.steps h)) n ≡ true → was_closed n (after t.steps h) ≡ false → ToldBy h g start new flows links notes
-come_told n old new c flows links known h g start notes t came fresh = record { steps = t.steps; is = t.is; stands = comes n old new c flows links (after t.steps h) known came fresh t.stands; left = t.left }
+pub come_told : {k l : LimitKeys} → (n : ℕ) (old new : PagedMap Conn) → ComesNew n old new → (flows : Flows) (links : Links) → is_known n links ≡ true
+    → (h : WayHistory) (g : ℕ → List ℕ) (start notes : List Note) (t : ToldBy k l h g start old flows links notes) → has (connections world_setup (after t.steps h)) n ≡ true → was_closed n (after t.steps h) ≡ false → ToldBy k l h g start new flows links notes
+come_told n old new c flows links known h g start notes t came fresh = record { steps = t.steps; is = t.is; stands = comes n old new c flows links (after t.steps h) known came fresh t.stands; left = t.left; under = t.under }
 
 -- ---- a connection is forgotten
 pub record ForgetsConn (n : ℕ) (old new : PagedMap Conn) : Type 0 where
@@ -167,8 +176,8 @@ forgotten_known c links new s e d apart = ap (λ (l : Links). is_known d l) e �
 pub forgets_conn : (n : ℕ) (old new : PagedMap Conn) → octets_of n old ≡ [] → Updates n old new None → ForgetsConn n old new
 forgets_conn n old new empty u = record { empty = empty; gone = u.1; others = other_there n old new None u }
 
-pub forgets : (n : ℕ) (old new : PagedMap Conn) → ForgetsConn n old new → (flows : Flows) (links links' : Links) (h : WayHistory) → ((x : ℕ) → ends_of x links' ≡ ends_of x links)
-    → ((c : ℕ) → (n == c) ≡ false → is_known c links' ≡ is_known c links) → Stands old flows links h → Stands new flows links' h
+pub forgets : {l : LimitKeys} → (n : ℕ) (old new : PagedMap Conn) → ForgetsConn n old new → (flows : Flows) (links links' : Links) (h : WayHistory) → ((x : ℕ) → ends_of x links' ≡ ends_of x links)
+    → ((c : ℕ) → (n == c) ≡ false → is_known c links' ≡ is_known c links) → Stands l old flows links h → Stands l new flows links' h
 forgets n old new f flows links links' h same known s = record {
   writes = λ d. by_case (n == d)
       (λ e. let is = is_number n d e in
@@ -185,6 +194,9 @@ forgets n old new f flows links links' h same known s = record {
       (λ e. s.closed d (sym (ap is_some (f.others d e)) ∙ there) ∙ sym (ap (λ (o : Option Conn). option_map_or (λ conn. not conn.open) o false) (f.others d e)));
   come = λ d e. let never = s.come d e in
       (by_case (n == d) (λ same. ap (λ v. has_conn v new) (sym (is_number n d same)) ∙ ap is_some f.gone) (λ other. ap is_some (f.others d other) ∙ never.0), never.1);
+  unborn = s.unborn;
+  fronts = s.fronts;
+  fits = s.fits;
 }
 
 -- ---- a connection that is closed is lost
@@ -217,16 +229,25 @@ none_drops n conns none = record {
   there = λ c. refl;
 }
 
-pub drops_rest : (n k : ℕ) (old new : PagedMap Conn) → DropsRest n old new → (flows : Flows) (links : Links) (h : WayHistory)
-    → Stands old flows links h → Stands new flows links (Noted (note.Turn k (event.Gone n)) ∷ h)
+pub drops_rest : {l : LimitKeys} → (n k : ℕ) (old new : PagedMap Conn) → DropsRest n old new → (flows : Flows) (links : Links) (h : WayHistory)
+    → Stands l old flows links h → Stands l new flows links (Noted (note.Turn k (event.Gone n)) ∷ h)
 drops_rest n k old new d flows links h s = record {
   writes = at;
-  flows_are = λ f. if_some (flow_in flows f) (λ flow is. record { last = is.last; holds = is.holds }) (s.flows_are f);
+  flows_are = λ f. if_some (flow_in flows f) (flow_still f h (Noted (note.Turn k (event.Gone n)) ∷ h) (record { places = λ p. refl; stages = refl; came = refl; went = refl })) (s.flows_are f);
   empty = s.empty;
   ends = λ x. if_some (ends_of x links) (λ e is. record { client = is.client; cluster = is.cluster }) (s.ends x);
   known = λ c e. d.there c ∙ s.known c e;
   closed = λ c e. s.closed c (sym (d.there c) ∙ e) ∙ sym (d.shut c);
   come = λ c e. let never = s.come c e in (d.there c ∙ never.0, never.1);
+  unborn = unborn_still flows flows h (Noted (note.Turn k (event.Gone n)) ∷ h) refl (λ f none. none) (λ f none. (refl, refl)) s.unborn;
+  fronts = fronts_still (Noted (note.Turn k (event.Gone n))) h (λ f. refl) (λ f. refl) s.fronts;
+  fits = let fit = fits_now h s.fits in (
+    record {
+      flows = λ f. still_fits f h (Noted (note.Turn k (event.Gone n)) ∷ h) (record { places = λ p. refl; stages = refl; came = refl; went = refl }) (fit.flows f);
+      outs = outs_fit old new h (Noted (note.Turn k (event.Gone n)) ∷ h) s.writes at (λ c fits. less_out _ (octets_of c old) (octets_of c new) (shorter c) fits) fit.outs;
+    },
+    s.fits,
+  );
 }
   where
     -- where it isn't there nothing waited for it
@@ -244,3 +265,10 @@ drops_rest n k old new d flows links h s = record {
         d.octets c ∙ (ap (λ b. if b then [] else octets_of c old) e
         ∙ (sym (dropped (has_conn n old) refl) ∙ (ap (λ v. if was_closed v h then [] else out world_setup v h) is ∙ sym (ap (λ b. if b && was_closed c h then [] else out world_setup c h) e)))))
         (λ e. d.octets c ∙ (ap (λ b. if b then [] else octets_of c old) e ∙ (s.writes c ∙ sym (ap (λ b. if b && was_closed c h then [] else out world_setup c h) e))))
+
+    left : (b : Bool) (xs : List ℕ) → length (if b then [] else xs) ≤ length xs
+    left true xs = omega arith
+    left false xs = omega arith
+
+    shorter : (c : ℕ) → length (octets_of c new) ≤ length (octets_of c old)
+    shorter c = subst (λ (xs : List ℕ). length xs ≤ length (octets_of c old)) (sym (d.octets c)) (left (n == c) (octets_of c old))

@@ -5,24 +5,29 @@ use Rattle.flow_gate.specs.declared.ids.BufferId.{BufferId}
 use Rattle.flow_gate.specs.declared.ids.FlowId.{FlowId}
 use Rattle.flow_notes.specs.declared.notes.CloseCause.{CloseCause}
 use Rattle.flow_notes.specs.declared.notes.FireKind.{FireKind}
+use Rattle.proxy_config.specs.declared.config.LimitKeys.{LimitKeys}
 use Rattle.std.proofs.Common.{ap, arith, refl, subst, sym, ◌∙◌}
 use Rattle.std.proofs.lemmas.List.{append-nil}
 use Rattle.std.specs.BTreeMap.{is_at}
 use Rattle.paged_map.specs.PagedMap.{PagedMap, WritesThrough, value_at}
 use Rattle.std.specs.Option.{option_map, option_map_or}
 use Rattle.std.specs.Ordering.{nat_cmp}
-use Rattle.std.specs.Prelude.{Bool, IfSome, IsSome, List, None, Option, Some, [], cond, drop, false, if◌then◌else◌, is_some, not, take, true, ℕ, ◌&&◌, ◌++◌, ◌+◌, ◌<◌, ◌==◌, ◌||◌, ◌∷◌, ◌≡◌}
+use Rattle.std.specs.Prelude.{Bool, IfSome, IsSome, List, None, Option, Some, [], cond, drop, false, if◌then◌else◌, is_some, length, not, take, true, ℕ, ◌&&◌, ◌++◌, ◌+◌, ◌<◌, ◌==◌, ◌||◌, ◌∷◌, ◌≡◌, ◌≤◌}
 use Rattle.tape_laws.specs.Connections.{connections, was_closed}
 use Rattle.tape_laws.specs.Dispatches.{has}
 use Rattle.tape_laws.specs.Flows.{request, response}
 use Rattle.tape_laws.specs.History.{Noted}
-use Rattle.tape_laws.specs.World.{last_place, out, place, window_update}
+use Rattle.tape_laws.specs.Units.{StageKind}
+use Rattle.tape_laws.specs.World.{out, place, received, sent, window_update}
 use Rattle.wire_flows.proofs.Cases.{by_case}
 use Rattle.wire_flows.specs.Flows.{Flows, flow_in}
 use Rattle.wire_links.specs.Links.{Links, ends_of, is_known}
 use Rattle.wire_links.specs.declared.links.exchanges.Ends.{Ends}
+use Rattle.wire_state.proofs.Fitting.{fits_now, less_out, outs_fit, still_fits}
 use Rattle.wire_state.proofs.Held.{by_test, is_number}
-use Rattle.wire_state.specs.Ways.{WayHistory, WayStep, stream_to, world_setup}
+use Rattle.wire_state.proofs.Sending.{IsStill, fronts_still, still_loses, unborn_still}
+use Rattle.wire_state.specs.Limits.{HasShape, OutFits}
+use Rattle.wire_state.specs.Ways.{WayHistory, WayStep, stages_passed, stream_to, world_setup}
 use Rattle.wire_state.specs.Worlds.{EndsAre, FlowIs, Stands, has_conn, is_shut, left_by, octets_of}
 use Rattle.wire_state.specs.declared.conn.Conn.{Conn}
 use Rattle.flow_notes.specs.declared.notes.CloseCause.TheVariants as cause
@@ -91,12 +96,22 @@ module _ (n : ℕ) (old new : PagedMap Conn) (v w : Conn) (found : value_at n ol
     there = there_written;
   }
 
+-- where its octets fit, those of each do
+pub one_room : {l : LimitKeys} → (n : ℕ) (old new : PagedMap Conn) (v w : Conn) (found : value_at n old ≡ Some v) (written : WritesThrough n old w new) → (OutFits l v.outlet.write.octets → OutFits l w.outlet.write.octets)
+    → (c : ℕ) → OutFits l (octets_of c old) → OutFits l (octets_of c new)
+one_room {l} n old new v w found written room c fit = by_case (n == c)
+    (λ e. subst (λ (o : Option Conn). OutFits l (option_map_or (λ conn. conn.outlet.write.octets) o [])) (sym (there_now n old new v w found written c e))
+    (room (subst (λ (o : Option Conn). OutFits l (option_map_or (λ conn. conn.outlet.write.octets) o [])) (here n old new v w found written c e) fit)))
+    (λ e. subst (λ (o : Option Conn). OutFits l (option_map_or (λ conn. conn.outlet.write.octets) o [])) (sym (other_now n old new v w found written c e)) fit)
+
 -- ---- steps that move no octets
 -- what a step leaves of all but the write buffers
 pub record KeepsFlows (step : WayStep) (h : WayHistory) : Type 0 where
   pub places : (f : FlowId) (p : ℕ) → place world_setup f p (step ∷ h) ≡ place world_setup f p h
-  pub last : (f : FlowId) → last_place world_setup f (step ∷ h) ≡ last_place world_setup f h
+  pub stages : (f : FlowId) → stages_passed f (step ∷ h) ≡ stages_passed f h
   pub stream : (f : FlowId) → stream_to f (step ∷ h) ≡ stream_to f h
+  pub came : (f : FlowId) → received f (step ∷ h) ≡ received f h
+  pub went : (f : FlowId) → sent world_setup f (step ∷ h) ≡ sent world_setup f h
 
 pub record KeepsShut (step : WayStep) (h : WayHistory) : Type 0 where
   pub closed : (c : ℕ) → was_closed c (step ∷ h) ≡ was_closed c h
@@ -106,27 +121,47 @@ pub record KeepsShut (step : WayStep) (h : WayHistory) : Type 0 where
 pub record Writes (change : ℕ → List ℕ → List ℕ) (step : WayStep) (h : WayHistory) : Type 0 where
   pub outs : (c : ℕ) → out world_setup c (step ∷ h) ≡ change c (out world_setup c h)
 
-flow_is_still : (step : WayStep) (h : WayHistory) → KeepsFlows step h → (f : FlowId) (flow : Flow) → FlowIs f h flow → FlowIs f (step ∷ h) flow
-flow_is_still step h k f flow is = record { last = is.last ∙ sym (k.last f); holds = λ p. is.holds p ∙ sym (k.places f p) }
+-- a flow of which nothing moves
+pub flow_still : {l : LimitKeys} → (f : FlowId) (h k : WayHistory) → IsStill f h k → (flow : Flow) → FlowIs l f h flow → FlowIs l f k flow
+flow_still f h k s flow is = record {
+  last = is.last ∙ sym (ap (λ (ss : List StageKind). length ss + 1) s.stages);
+  holds = λ p. is.holds p ∙ sym (s.places p);
+  loses = still_loses f h k s is.loses;
+  shape = subst (λ (ss : List StageKind). HasShape _ ss flow) (sym s.stages) is.shape;
+}
+
+-- of each flow
+step_still : (step : WayStep) (h : WayHistory) → KeepsFlows step h → (f : FlowId) → IsStill f h (step ∷ h)
+step_still step h k f = record { places = k.places f; stages = k.stages f; came = k.came f; went = k.went f }
+
+flow_is_still : {l : LimitKeys} → (step : WayStep) (h : WayHistory) → KeepsFlows step h → (f : FlowId) (flow : Flow) → FlowIs l f h flow → FlowIs l f (step ∷ h) flow
+flow_is_still step h k f flow is = flow_still f h (step ∷ h) (step_still step h k f) flow is
 
 pub ends_are_still : (step : WayStep) (h : WayHistory) → ((f : FlowId) → stream_to f (step ∷ h) ≡ stream_to f h) → (x : ℕ) (e : Ends) → EndsAre x h e → EndsAre x (step ∷ h) e
 ends_are_still step h s x e is = record { client = is.client ∙ sym (s (response x)); cluster = if_some e.cluster_stream (λ k at. at ∙ sym (s (request x))) is.cluster }
 
 -- a step of the connections
-pub wrote : (change : ℕ → List ℕ → List ℕ) (step : WayStep) (h : WayHistory) (old new : PagedMap Conn) (flows : Flows) (links : Links)
-    → Writes change step h → KeepsFlows step h → KeepsShut step h → ConnsAre change old new → Stands old flows links h → Stands new flows links (step ∷ h)
-wrote change step h old new flows links w k m c s = record {
-  writes = λ d. c.octets d ∙ (ap (change d) (s.writes d) ∙ sym (w.outs d));
+pub wrote : {l : LimitKeys} → (change : ℕ → List ℕ → List ℕ) (step : WayStep) (h : WayHistory) (old new : PagedMap Conn) (flows : Flows) (links : Links)
+    → Writes change step h → KeepsFlows step h → KeepsShut step h → ConnsAre change old new → ((c : ℕ) → OutFits l (octets_of c old) → OutFits l (octets_of c new)) → Stands l old flows links h → Stands l new flows links (step ∷ h)
+wrote change step h old new flows links w k m c room s = record {
+  writes = now;
   flows_are = λ f. if_some (flow_in flows f) (flow_is_still step h k f) (s.flows_are f);
   empty = λ f p none. k.places f p ∙ s.empty f p none;
   ends = λ x. if_some (ends_of x links) (ends_are_still step h k.stream x) (s.ends x);
   known = λ d e. c.there d ∙ s.known d e;
   closed = λ d e. m.closed d ∙ (s.closed d (sym (c.there d) ∙ e) ∙ sym (c.shut d));
   come = λ d e. let never = s.come d (m.come d e) in (c.there d ∙ never.0, m.closed d ∙ never.1);
+  unborn = unborn_still flows flows h (step ∷ h) refl (λ f none. none) (λ f none. (k.came f, k.went f)) s.unborn;
+  fronts = fronts_still step h k.came k.went s.fronts;
+  fits = let fit = fits_now h s.fits in
+      (record { flows = λ f. still_fits f h (step ∷ h) (step_still step h k f) (fit.flows f); outs = outs_fit old new h (step ∷ h) s.writes now room fit.outs }, s.fits);
 }
+  where
+    now : (d : ℕ) → octets_of d new ≡ out world_setup d (step ∷ h)
+    now d = c.octets d ∙ (ap (change d) (s.writes d) ∙ sym (w.outs d))
 
 -- no step
-pub conns_go : (old new : PagedMap Conn) (flows : Flows) (links : Links) (h : WayHistory) → ConnsAre same_octets old new → Stands old flows links h → Stands new flows links h
+pub conns_go : {l : LimitKeys} → (old new : PagedMap Conn) (flows : Flows) (links : Links) (h : WayHistory) → ConnsAre same_octets old new → Stands l old flows links h → Stands l new flows links h
 conns_go old new flows links h c s = record {
   writes = λ d. c.octets d ∙ s.writes d;
   flows_are = s.flows_are;
@@ -135,6 +170,9 @@ conns_go old new flows links h c s = record {
   known = λ d e. c.there d ∙ s.known d e;
   closed = λ d e. s.closed d (sym (c.there d) ∙ e) ∙ sym (c.shut d);
   come = λ d e. let never = s.come d e in (c.there d ∙ never.0, never.1);
+  unborn = s.unborn;
+  fronts = s.fronts;
+  fits = s.fits;
 }
 
 -- ---- the kinds of steps
@@ -153,7 +191,7 @@ module _ (h : WayHistory) where
     head_writes s = record { outs = λ d. more_is (c == d) (out world_setup d h) octets }
 
     pub head_flows : (s : ℕ) → KeepsFlows (Noted (note.Head c s octets)) h
-    head_flows s = record { places = λ f p. refl; last = λ f. refl; stream = λ f. refl }
+    head_flows s = record { places = λ f p. refl; stages = λ f. refl; stream = λ f. refl; came = λ f. refl; went = λ f. refl }
 
     pub head_shut : (s : ℕ) → KeepsShut (Noted (note.Head c s octets)) h
     head_shut s = record { closed = λ d. refl; come = λ d e. e }
@@ -162,7 +200,7 @@ module _ (h : WayHistory) where
     answer_writes = record { outs = λ d. more_is (c == d) (out world_setup d h) octets }
 
     pub answer_flows : KeepsFlows (Noted (note.Answer c octets)) h
-    answer_flows = record { places = λ f p. refl; last = λ f. refl; stream = λ f. refl }
+    answer_flows = record { places = λ f p. refl; stages = λ f. refl; stream = λ f. refl; came = λ f. refl; went = λ f. refl }
 
     pub answer_shut : KeepsShut (Noted (note.Answer c octets)) h
     answer_shut = record { closed = λ d. refl; come = λ d e. e }
@@ -172,7 +210,7 @@ module _ (h : WayHistory) where
     credit_writes = record { outs = λ d. more_is (c == d) (out world_setup d h) (window_update s n) }
 
     pub credit_flows : KeepsFlows (Noted (note.Credit c s n)) h
-    credit_flows = record { places = λ f p. refl; last = λ f. refl; stream = λ f. refl }
+    credit_flows = record { places = λ f p. refl; stages = λ f. refl; stream = λ f. refl; came = λ f. refl; went = λ f. refl }
 
     pub credit_shut : KeepsShut (Noted (note.Credit c s n)) h
     credit_shut = record { closed = λ d. refl; come = λ d e. e }
@@ -183,7 +221,7 @@ module _ (h : WayHistory) where
     out_writes = record { outs = λ d. less_is (c == d) n (out world_setup d h) }
 
     pub out_flows : KeepsFlows (Noted (note.Out c n)) h
-    out_flows = record { places = λ f p. refl; last = λ f. refl; stream = λ f. refl }
+    out_flows = record { places = λ f p. refl; stages = λ f. refl; stream = λ f. refl; came = λ f. refl; went = λ f. refl }
 
     pub out_shut : KeepsShut (Noted (note.Out c n)) h
     out_shut = record { closed = λ d. refl; come = λ d e. e }
@@ -194,7 +232,7 @@ module _ (h : WayHistory) where
     pause_writes = record { outs = λ d. refl }
 
     pub pause_flows : KeepsFlows (Noted (note.Pause f b)) h
-    pause_flows = record { places = λ f p. refl; last = λ f. refl; stream = λ f. refl }
+    pause_flows = record { places = λ f p. refl; stages = λ f. refl; stream = λ f. refl; came = λ f. refl; went = λ f. refl }
 
     pub pause_shut : KeepsShut (Noted (note.Pause f b)) h
     pause_shut = record { closed = λ d. refl; come = λ d e. e }
@@ -203,7 +241,7 @@ module _ (h : WayHistory) where
     resume_writes = record { outs = λ d. refl }
 
     pub resume_flows : KeepsFlows (Noted (note.Resume f b)) h
-    resume_flows = record { places = λ f p. refl; last = λ f. refl; stream = λ f. refl }
+    resume_flows = record { places = λ f p. refl; stages = λ f. refl; stream = λ f. refl; came = λ f. refl; went = λ f. refl }
 
     pub resume_shut : KeepsShut (Noted (note.Resume f b)) h
     resume_shut = record { closed = λ d. refl; come = λ d e. e }
@@ -228,12 +266,12 @@ close_outs c code cause.Drained h d = same_one (c == d) (out world_setup d h)
 close_outs c code cause.Overload h d = same_one (c == d) (out world_setup d h)
 close_outs c code cause.Flood h d = same_one (c == d) (out world_setup d h)
 
-pub closes : (c code : ℕ) (why : CloseCause) (h : WayHistory) (old new : PagedMap Conn) (flows : Flows) (links links' : Links)
+pub closes : {l : LimitKeys} → (c code : ℕ) (why : CloseCause) (h : WayHistory) (old new : PagedMap Conn) (flows : Flows) (links links' : Links)
     → Shuts c (left_by why) old new → ((x : ℕ) → ends_of x links' ≡ ends_of x links) → ((d : ℕ) → is_known d links' ≡ is_known d links)
-    → Stands old flows links h → Stands new flows links' (Noted (note.Close c code why) ∷ h)
+    → Stands l old flows links h → Stands l new flows links' (Noted (note.Close c code why) ∷ h)
 closes c code why h old new flows links links' w same known s = record {
-  writes = λ d. w.octets d ∙ (ap (at_one c (left_by why) d) (s.writes d) ∙ sym (close_outs c code why h d));
-  flows_are = λ f. if_some (flow_in flows f) (λ flow is. record { last = is.last; holds = is.holds }) (s.flows_are f);
+  writes = now;
+  flows_are = λ f. if_some (flow_in flows f) (flow_still f h (Noted (note.Close c code why) ∷ h) (record { places = λ p. refl; stages = refl; came = refl; went = refl })) (s.flows_are f);
   empty = s.empty;
   ends = λ x. subst (λ (o : Option Ends). IfSome o (EndsAre x (Noted (note.Close c code why) ∷ h))) (sym (same x))
       (if_some (ends_of x links) (λ e is. record { client = is.client; cluster = is.cluster }) (s.ends x));
@@ -245,7 +283,27 @@ closes c code why h old new flows links links' w same known s = record {
         (λ same. absurd (cc (ap (λ v. has_conn v old) (is_number c d same), w.was, never.0)))
         (λ other. ap (λ b. b || was_closed d h) other ∙ never.1),
   );
+  unborn = unborn_still flows flows h (Noted (note.Close c code why) ∷ h) refl (λ f none. none) (λ f none. (refl, refl)) s.unborn;
+  fronts = fronts_still (Noted (note.Close c code why)) h (λ f. refl) (λ f. refl) s.fronts;
+  fits = let fit = fits_now h s.fits in (
+    record {
+      flows = λ f. still_fits f h (Noted (note.Close c code why) ∷ h) (record { places = λ p. refl; stages = refl; came = refl; went = refl }) (fit.flows f);
+      outs = outs_fit old new h (Noted (note.Close c code why) ∷ h) s.writes now (λ d fits. less_out _ (octets_of d old) (octets_of d new) (shorter d) fits) fit.outs;
+    },
+    s.fits,
+  );
 }
+  where
+    now : (d : ℕ) → octets_of d new ≡ out world_setup d (Noted (note.Close c code why) ∷ h)
+    now d = w.octets d ∙ (ap (at_one c (left_by why) d) (s.writes d) ∙ sym (close_outs c code why h d))
+
+    left : (why : CloseCause) (b : Bool) (xs : List ℕ) → length (if b then left_by why xs else xs) ≤ length xs
+    left cause.Lost true xs = omega arith
+    left why true xs = omega arith
+    left why false xs = omega arith
+
+    shorter : (d : ℕ) → length (octets_of d new) ≤ length (octets_of d old)
+    shorter d = subst (λ (xs : List ℕ). length xs ≤ length (octets_of d old)) (sym (w.octets d)) (left why (c == d) (octets_of d old))
 
 -- one connection was written through, and isn't open any more
 pub conn_shut : (n : ℕ) (old new : PagedMap Conn) (v w : Conn) → value_at n old ≡ Some v → WritesThrough n old w new

@@ -7,6 +7,7 @@ use Rattle.exchange_core.specs.declared.step.Step.TheVariants as step
 use Rattle.filter_chain.specs.Place.{Place}
 use Rattle.flow_gate.specs.Board.{Board}
 use Rattle.flow_gate.specs.declared.ids.FlowId.{FlowId}
+use Rattle.proxy_config.specs.declared.config.LimitKeys.{LimitKeys}
 use Rattle.std.proofs.Common.{ap, arith, refl, subst, sym, ◌∙◌}
 use Rattle.exchange_core.specs.Changes.{ChangesFlow}
 use Rattle.flow_notes.specs.declared.notes.Note.{Note}
@@ -20,6 +21,7 @@ use Rattle.wire_flows.proofs.Stepping.{still_stays}
 use Rattle.wire_flows.proofs.Steps.{goes_of}
 use Rattle.wire_flows.specs.Flows.{Flows, IsThere, flow_in, goes_to}
 use Rattle.wire_flows.specs.Moves.{outcome_of}
+use Rattle.wire_flows.specs.Sound.{IsSound}
 use Rattle.wire_flows.specs.declared.moving.Moved.{Moved}
 use Rattle.wire_flows.specs.declared.moving.Outcome.{Outcome}
 use Rattle.wire_flows.specs.declared.moving.Outcome.TheVariants as outcome
@@ -66,12 +68,12 @@ module _ (f : FlowId) (old new : Flows) (o : Outcome) (is : o ≡ option_map_or 
   outcome_at flow found = is ∙ ap (λ (v : Option Flow). option_map_or (λ g. outcome_of f g (next_step old.gates (goes_to old f) g)) v outcome.Still) found
 
   -- octets moved
-  pub moved_told : (m : Moved) → o ≡ outcome.Moved m → (conns : PagedMap Conn) (links : Links) (h : WayHistory) (g : ℕ → List ℕ) (start notes : List Note)
-      → ToldBy h g start conns old links notes → ToldBy h g start conns new links (notes ++ note.Move f m.place m.n ∷ [])
-  moved_told m e conns links = told_by (Noted (note.Move f m.place m.n) ∷ []) (λ h c. refl) conns conns old new links links (λ h s.
+  pub moved_told : {k l : LimitKeys} → (m : Moved) → o ≡ outcome.Moved m → IsSound new → (conns : PagedMap Conn) (links : Links) (h : WayHistory) (g : ℕ → List ℕ) (start notes : List Note)
+      → ToldBy k l h g start conns old links notes → ToldBy k l h g start conns new links (notes ++ note.Move f m.place m.n ∷ [])
+  moved_told m e sound conns links = told_by (Noted (note.Move f m.place m.n) ∷ []) (λ h c. refl) conns conns old new links links (λ h s.
       moves f m.place m.n h old new conns links (stepped old.gates (goes_to old f)) changes (there (flow_in old f) refl)
       (λ flow found was. let made = step_of old.gates (goes_to old f) f flow m (some_place _ _ was.last) (sym e ∙ outcome_at flow found) in
-      record { next = made.next; there = made.at_next; moves_so = made.after_it }) s)
+      record { next = made.next; there = made.at_next; moves_so = made.after_it }) sound s)
     where
       some_place : (a b : ℕ) → a ≡ b + 1 → 0 < a
       some_place a b e = omega (arith, e)
@@ -81,9 +83,9 @@ module _ (f : FlowId) (old new : Flows) (o : Outcome) (is : o ≡ option_map_or 
       there (Some flow) some = subst IsSome (sym some) refl
 
   -- nothing did
-  pub still_told : ((m : Moved) → o ≡ outcome.Moved m → ⊥) → (conns : PagedMap Conn) (links : Links) (h : WayHistory) (g : ℕ → List ℕ) (start notes : List Note)
-      → ToldBy h g start conns old links notes → ToldBy h g start conns new links notes
+  pub still_told : {k l : LimitKeys} → ((m : Moved) → o ≡ outcome.Moved m → ⊥) → (conns : PagedMap Conn) (links : Links) (h : WayHistory) (g : ℕ → List ℕ) (start notes : List Note)
+      → ToldBy k l h g start conns old links notes → ToldBy k l h g start conns new links notes
   still_told none = bodies_told old new (changed_bodies f (stepped old.gates (goes_to old f)) old new
       (λ flow found. let stays = still_stays old.gates (goes_to old f) flow (λ p n shifted overflow e. none _ (outcome_at flow found ∙ ap (outcome_of f flow) e)) in
-      kept_if flow (stepped old.gates (goes_to old f) flow) (ap (λ (g : Flow). g.recv) stays) (ap (λ (g : Flow). g.chain.places) stays))
+      kept_if flow (stepped old.gates (goes_to old f) flow) (ap (λ (g : Flow). g.window) stays) (ap (λ (g : Flow). g.chain.quantum) stays) (ap (λ (g : Flow). g.recv) stays) (ap (λ (g : Flow). g.chain.places) stays))
       changes)

@@ -3,6 +3,7 @@ use Rattle.flow_notes.specs.declared.events.Event.{Event}
 use Rattle.flow_notes.specs.declared.events.Event.TheVariants as event
 use Rattle.flow_notes.specs.declared.notes.Note.{Note}
 use Rattle.flow_notes.specs.declared.notes.Note.TheVariants as note
+use Rattle.proxy_config.specs.declared.config.LimitKeys.{LimitKeys}
 use Rattle.std.proofs.Common.{ap, refl, subst, sym, ◌∙◌}
 use Rattle.std.proofs.lemmas.List.{append-nil}
 use Rattle.std.proofs.lemmas.List.Folds.{list_any-append}
@@ -45,7 +46,7 @@ left_same (event.Obey version pressures) t conns g = refl
 left_same (event.Plain e) t conns g = refl
 
 turn_flows : (k : ℕ) (e : Event) (h : WayHistory) → KeepsFlows (Noted (note.Turn k e)) h
-turn_flows k e h = record { places = λ f p. refl; last = λ f. refl; stream = λ f. refl }
+turn_flows k e h = record { places = λ f p. refl; stages = λ f. refl; stream = λ f. refl; came = λ f. refl; went = λ f. refl }
 
 first_false : (a b : Bool) → (a || b) ≡ false → a ≡ false
 first_false true b e = cc
@@ -100,26 +101,27 @@ lost_writes k c h e = record {
 
 module _ (conns : PagedMap Conn) (flows : Flows) (links : Links) (h : WayHistory) (g : ℕ → List ℕ) (left : (c : ℕ) → gone world_setup c h ≡ g c) where
   -- nothing is noted behind the notes before
-  pub told_none : (before : List Note) → Stands conns flows links h → ToldBy h g before conns flows links before
-  told_none before s = record { steps = []; is = sym (append-nil before); stands = s; left = left }
+  pub told_none : {l : LimitKeys} → (before : List Note) → Stands l conns flows links h → ToldBy l l h g before conns flows links before
+  told_none before s = record { steps = []; is = sym (append-nil before); stands = s; left = left; under = refl }
 
-  turned : (k : ℕ) (e : Event) → Writes same_octets (Noted (note.Turn k e)) h → Stands conns flows links h → Stands conns flows links (Noted (note.Turn k e) ∷ h)
-  turned k e w s = wrote same_octets (Noted (note.Turn k e)) h conns conns flows links w (turn_flows k e h) (turn_shut k e h) (conns_same conns) s
+  turned : {l : LimitKeys} → (k : ℕ) (e : Event) → Writes same_octets (Noted (note.Turn k e)) h → Stands l conns flows links h → Stands l conns flows links (Noted (note.Turn k e) ∷ h)
+  turned k e w s = wrote same_octets (Noted (note.Turn k e)) h conns conns flows links w (turn_flows k e h) (turn_shut k e h) (conns_same conns) (λ c fit. fit) s
 
-  turn_stands : (k : ℕ) (e : Event) → LosesNone e → Stands conns flows links h → Stands conns flows links (Noted (note.Turn k e) ∷ h)
+  turn_stands : {l : LimitKeys} → (k : ℕ) (e : Event) → LosesNone e → Stands l conns flows links h → Stands l conns flows links (Noted (note.Turn k e) ∷ h)
   turn_stands k e l s = turned k e (turn_writes k e l h) s
 
-  pub turn_told : (k : ℕ) (e : Event) → LosesNone e → (before noted : List Note) → noted ≡ before ++ note.Turn k e ∷ [] → Stands conns flows links h
-      → ToldBy h g before conns flows links noted
-  turn_told k e l before noted is s = record { steps = Noted (note.Turn k e) ∷ []; is = is; stands = turn_stands k e l s; left = left }
+  pub turn_told : {l : LimitKeys} → (k : ℕ) (e : Event) → LosesNone e → (before noted : List Note) → noted ≡ before ++ note.Turn k e ∷ [] → Stands l conns flows links h
+      → ToldBy l l h g before conns flows links noted
+  turn_told k e l before noted is s = record { steps = Noted (note.Turn k e) ∷ []; is = is; stands = turn_stands k e l s; left = left; under = refl }
 
-  pub lost_told : (k c : ℕ) → option_map_or (λ conn. conn.open) (value_at c conns) false ≡ true → (before noted : List Note) → noted ≡ before ++ note.Turn k (event.Gone c) ∷ []
-      → Stands conns flows links h → ToldBy h g before conns flows links noted
+  pub lost_told : {l : LimitKeys} → (k c : ℕ) → option_map_or (λ conn. conn.open) (value_at c conns) false ≡ true → (before noted : List Note) → noted ≡ before ++ note.Turn k (event.Gone c) ∷ []
+      → Stands l conns flows links h → ToldBy l l h g before conns flows links noted
   lost_told k c opened before noted is s = record {
     steps = Noted (note.Turn k (event.Gone c)) ∷ [];
     is = is;
     stands = turned k (event.Gone c) (lost_writes k c h (s.closed c (there (value_at c conns) opened) ∙ not_shut (value_at c conns) opened)) s;
     left = left;
+    under = refl;
   }
     where
       there : (o : Option Conn) → option_map_or (λ conn. conn.open) o false ≡ true → is_some o ≡ true
@@ -132,8 +134,8 @@ module _ (conns : PagedMap Conn) (flows : Flows) (links : Links) (h : WayHistory
 
 -- ---- what a call does from before the turn note on
 module _ {A E : Type 0} (r : Result A E) (e : Event) (l : LosesNone e) (m : TakesNone e) (old new : WireCore) where
-  as_after : (h : WayHistory) (g : ℕ → List ℕ) (before now : List Note) → OnOk r (Told h g before new now) → OnOk r (Told h (left_after e old.conns g) before new now)
-  as_after h g before now t = subst (λ (f : ℕ → List ℕ). OnOk r (Told h f before new now)) (sym (left_same e m old.conns g)) t
+  as_after : (h : WayHistory) (g : ℕ → List ℕ) (before now : List Note) → OnOk r (Told old.config.limits h g before new now) → OnOk r (Told old.config.limits h (left_after e old.conns g) before new now)
+  as_after h g before now t = subst (λ (f : ℕ → List ℕ). OnOk r (Told old.config.limits h f before new now)) (sym (left_same e m old.conns g)) t
 
   pub turns_of : (noted now : List Note) → Goes r old noted new now → Turns r e old noted new now
   turns_of noted now goes = record {
@@ -154,7 +156,7 @@ turns_same {A = A} {E = E} a e l m core noted = turns_kept {A = A} {E = E} (Ok a
 pub turns_joined : {A E : Type 0} (r : Result A E) (c cluster : ℕ) (old new : WireCore) (noted : List Note) → Comes r c old new → Turns r (event.Join c cluster) old noted new noted
 turns_joined r c cluster old new noted comes = record {
   goes = λ h g before k is s left fresh.
-      comes.goes h g before noted (record { steps = Noted (note.Turn k (event.Join c cluster)) ∷ []; is = is; stands = turn_stands old.conns old.flows old.links h g left k (event.Join c cluster) tt s; left = left })
+      comes.goes h g before noted (record { steps = Noted (note.Turn k (event.Join c cluster)) ∷ []; is = is; stands = turn_stands old.conns old.flows old.links h g left k (event.Join c cluster) tt s; left = left; under = refl })
       (came_last (connections world_setup h) c) (s.come c fresh).1;
 }
 
@@ -162,6 +164,6 @@ pub turns_accepted : {A B E : Type 0} (a : A) (r : Result B E) (c : ℕ) (old mi
     → Turns r (event.Accept c) old noted new now
 turns_accepted a r c old mid new noted now comes goes = record {
   goes = λ h g before k is s left fresh. goes.goes h g before
-      (comes.goes h g before noted (record { steps = Noted (note.Turn k (event.Accept c)) ∷ []; is = is; stands = turn_stands old.conns old.flows old.links h g left k (event.Accept c) tt s; left = left })
+      (comes.goes h g before noted (record { steps = Noted (note.Turn k (event.Accept c)) ∷ []; is = is; stands = turn_stands old.conns old.flows old.links h g left k (event.Accept c) tt s; left = left; under = refl })
       (came_last (connections world_setup h) c) (s.come c fresh).1);
 }

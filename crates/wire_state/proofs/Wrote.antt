@@ -10,12 +10,14 @@ use Rattle.h2_frames.specs.Frame.{WindowUpdate}
 use Rattle.h2_frames.specs.Head.{data_head}
 use Rattle.h2_frames.specs.Spelling.{spelling}
 use Rattle.io_ports.specs.declared.octets.NoMemory.{NoMemory}
-use Rattle.std.proofs.Common.{ap, refl, subst, sym, ◌∙◌}
-use Rattle.std.proofs.lemmas.List.{append-nil, take_min}
-use Rattle.paged_map.specs.PagedMap.{WritesThrough, value_at}
+use Rattle.proxy_config.specs.declared.config.Config.{Config}
+use Rattle.proxy_config.specs.declared.config.LimitKeys.{LimitKeys}
+use Rattle.std.proofs.Common.{ap, arith, refl, subst, sym, ◌∙◌}
+use Rattle.std.proofs.lemmas.List.{append-nil, length-drop, take_min}
+use Rattle.paged_map.specs.PagedMap.{PagedMap, WritesThrough, value_at}
 use Rattle.std.specs.Option.{option_and_then, option_map_or}
 use Rattle.std.specs.Ordering.{nat_cmp}
-use Rattle.std.specs.Prelude.{Bool, Err, IfOk, IfSome, List, MatchOption, None, Ok, Option, Result, Some, [], drop, false, if◌then◌else◌, length, min, suc, take, true, zero, ℕ, ◌++◌, ◌==◌, ◌∷◌, ◌≡◌}
+use Rattle.std.specs.Prelude.{Bool, Err, IfOk, IfSome, List, MatchOption, None, Ok, Option, Result, Some, [], drop, false, if◌then◌else◌, length, min, suc, take, true, zero, ℕ, ◌++◌, ◌+◌, ◌<◌, ◌==◌, ◌∷◌, ◌≡◌, ◌≤◌}
 use Rattle.tape_laws.specs.Flows.{request}
 use Rattle.tape_laws.specs.History.{Noted}
 use Rattle.tape_laws.specs.World.{window_update}
@@ -23,9 +25,12 @@ use Rattle.wire_flows.specs.Flows.{Flows, flow_in}
 use Rattle.wire_links.specs.Links.{Links, ends_of}
 use Rattle.wire_links.specs.declared.links.exchanges.Ends.{Ends}
 use Rattle.wire_state.proofs.Bodies.{frames}
-use Rattle.wire_state.proofs.Goings.{KeepBodies, KeepsLeft, changed_bodies, keeps_by, owes_by, same_bodies, told_as}
+use Rattle.wire_state.proofs.Fitting.{less_out}
+use Rattle.wire_state.proofs.Goings.{KeepBodies, KeepsLeft, changed_bodies, config_kept, keeps_by, links_kept, owes_by, rest_of, same_bodies, told_as}
 use Rattle.wire_state.proofs.Held.{is_number, listed_keeps}
-use Rattle.wire_state.proofs.Standing.{ConnsAre, KeepsFlows, KeepsShut, Writes, answer_flows, answer_shut, answer_writes, at_one, conns_go, conns_written, credit_flows, credit_shut, credit_writes, head_flows, head_shut, head_writes, out_flows, out_shut, out_writes, same_octets, wrote}
+use Rattle.wire_state.proofs.Standing.{ConnsAre, KeepsFlows, KeepsShut, Writes, answer_flows, answer_shut, answer_writes, at_one, conns_go, conns_written, credit_flows, credit_shut, credit_writes, head_flows, head_shut, head_writes, out_flows, out_shut, one_room, out_writes, same_octets, wrote}
+use Rattle.wire_state.specs.Limits.{OutFits}
+use Rattle.wire_state.specs.Sound.{AreKept, IsKept, unit_of}
 use Rattle.wire_state.specs.Ways.{WayHistory, WayStep, shown, stream_to}
 use Rattle.wire_state.specs.Worlds.{EndsAre, Keeps, Leaves, Owes, Stands, ToldBy, left_after, octets_of, stream_in}
 use Rattle.wire_state.specs.Noting.{answers_of, heads_of}
@@ -37,12 +42,13 @@ pub listed_bodies : (f : FlowId) (last : Bool) (old new : Flows) → ChangesFlow
 listed_bodies f last old new c = changed_bodies f (list_framed last) old new (λ flow e. listed_keeps last flow) c
 
 pub owes_none : (old new : WireCore) → Keeps old new → Owes [] old new
-owes_none old new k = record { goes = λ h g start notes t. subst (λ (ns : List Note). ToldBy h g start new.conns new.flows new.links ns) (sym (append-nil notes)) (k.goes h g start notes t) }
+owes_none old new k = record { goes = λ h g start notes t. subst (λ (ns : List Note). ToldBy _ _ h g start new.conns new.flows new.links ns) (sym (append-nil notes)) (k.goes h g start notes t) }
 
 module _ (n : ℕ) (old new : WireCore) (v w : Conn) (found : value_at n old.conns ≡ Some v) (written : WritesThrough n old.conns w new.conns)
-    (opened : w.open ≡ v.open) (bodies : KeepBodies old.flows new.flows) (linked : new.links ≡ old.links) where
-  with_links : (h : WayHistory) → Stands new.conns new.flows old.links h → Stands new.conns new.flows new.links h
-  with_links h s = subst (λ (l : Links). Stands new.conns new.flows l h) (sym linked) s
+    (opened : w.open ≡ v.open) (bodies : KeepBodies old.flows new.flows) (rest : rest_of new ≡ rest_of old) where
+  -- what is in the write buffer fits again
+  abbrev pub Room : Type 0
+  Room = OutFits old.config.limits v.outlet.write.octets → OutFits old.config.limits w.outlet.write.octets
 
   same_one : (b : Bool) (xs : List ℕ) → (if b then xs else xs) ≡ xs
   same_one true xs = refl
@@ -55,39 +61,45 @@ module _ (n : ℕ) (old new : WireCore) (v w : Conn) (found : value_at n old.con
 
   -- nothing went in
   pub nothing_written : w.outlet.write.octets ≡ v.outlet.write.octets → Keeps old new
-  nothing_written e = keeps_by old new (λ h s. with_links h (bodies.goes new.conns old.links h (conns_go old.conns new.conns old.flows old.links h (stays e) s)))
+  nothing_written e = keeps_by old new (config_kept old new rest) (λ h s. links_kept old new rest h (bodies.goes new.conns old.links h (conns_go old.conns new.conns old.flows old.links h (stays e) s)))
 
   -- a step writes these
-  step_stands : (g : List ℕ → List ℕ) (step : WayStep) → w.outlet.write.octets ≡ g v.outlet.write.octets
+  step_stands : (g : List ℕ → List ℕ) (step : WayStep) → w.outlet.write.octets ≡ g v.outlet.write.octets → Room
       → ((h : WayHistory) → Writes (at_one n g) step h) → ((h : WayHistory) → KeepsFlows step h) → ((h : WayHistory) → KeepsShut step h)
-      → (h : WayHistory) → Stands old.conns old.flows old.links h → Stands new.conns new.flows new.links (step ∷ h)
-  step_stands g step e outs flows shut h s = with_links (step ∷ h)
-      (bodies.goes new.conns old.links (step ∷ h) (wrote (at_one n g) step h old.conns new.conns old.flows old.links (outs h) (flows h) (shut h) (conns_written n old.conns new.conns v w found written g e opened) s))
+      → (h : WayHistory) → Stands old.config.limits old.conns old.flows old.links h → Stands old.config.limits new.conns new.flows new.links (step ∷ h)
+  step_stands g step e room outs flows shut h s = links_kept old new rest (step ∷ h)
+      (bodies.goes new.conns old.links (step ∷ h) (wrote (at_one n g) step h old.conns new.conns old.flows old.links (outs h) (flows h) (shut h) (conns_written n old.conns new.conns v w found written g e opened) (one_room n old.conns new.conns v w found written room) s))
 
-  step_written : (g : List ℕ → List ℕ) (step : WayStep) → KeepsLeft (step ∷ []) → w.outlet.write.octets ≡ g v.outlet.write.octets
+  step_written : (g : List ℕ → List ℕ) (step : WayStep) → KeepsLeft (step ∷ []) → w.outlet.write.octets ≡ g v.outlet.write.octets → Room
       → ((h : WayHistory) → Writes (at_one n g) step h) → ((h : WayHistory) → KeepsFlows step h) → ((h : WayHistory) → KeepsShut step h) → Owes (shown (step ∷ [])) old new
-  step_written g step left e outs flows shut = owes_by (step ∷ []) left old new (step_stands g step e outs flows shut)
+  step_written g step left e room outs flows shut = owes_by (step ∷ []) left old new (config_kept old new rest) (step_stands g step e room outs flows shut)
 
-  pub answer_written : (octets : List ℕ) → w.outlet.write.octets ≡ v.outlet.write.octets ++ octets → Owes (answers_of n octets) old new
-  answer_written [] e = owes_none old new (nothing_written (e ∙ append-nil v.outlet.write.octets))
-  answer_written (o ∷ os) e = step_written (λ xs. xs ++ o ∷ os) (Noted (note.Answer n (o ∷ os))) (λ h c. refl) e (λ h. answer_writes h n (o ∷ os)) (λ h. answer_flows h n (o ∷ os)) (λ h. answer_shut h n (o ∷ os))
+  pub answer_written : (octets : List ℕ) → Room → w.outlet.write.octets ≡ v.outlet.write.octets ++ octets → Owes (answers_of n octets) old new
+  answer_written [] room e = owes_none old new (nothing_written (e ∙ append-nil v.outlet.write.octets))
+  answer_written (o ∷ os) room e = step_written (λ xs. xs ++ o ∷ os) (Noted (note.Answer n (o ∷ os))) (λ h c. refl) e room (λ h. answer_writes h n (o ∷ os)) (λ h. answer_flows h n (o ∷ os)) (λ h. answer_shut h n (o ∷ os))
 
-  pub head_written : (s : ℕ) (octets : List ℕ) → w.outlet.write.octets ≡ v.outlet.write.octets ++ octets → Owes (heads_of n s octets) old new
-  head_written s [] e = owes_none old new (nothing_written (e ∙ append-nil v.outlet.write.octets))
-  head_written s (o ∷ os) e = step_written (λ xs. xs ++ o ∷ os) (Noted (note.Head n s (o ∷ os))) (λ h c. refl) e (λ h. head_writes h n (o ∷ os) s) (λ h. head_flows h n (o ∷ os) s) (λ h. head_shut h n (o ∷ os) s)
+  pub head_written : (s : ℕ) (octets : List ℕ) → Room → w.outlet.write.octets ≡ v.outlet.write.octets ++ octets → Owes (heads_of n s octets) old new
+  head_written s [] room e = owes_none old new (nothing_written (e ∙ append-nil v.outlet.write.octets))
+  head_written s (o ∷ os) room e = step_written (λ xs. xs ++ o ∷ os) (Noted (note.Head n s (o ∷ os))) (λ h c. refl) e room (λ h. head_writes h n (o ∷ os) s) (λ h. head_flows h n (o ∷ os) s) (λ h. head_shut h n (o ∷ os) s)
 
   -- a WINDOW_UPDATE frame is spelled as the definitions have it
   update_is : (s k : ℕ) → spelling (WindowUpdate s k) ≡ window_update s k
   update_is s k = refl
 
-  pub credit_written : (s k : ℕ) → w.outlet.write.octets ≡ v.outlet.write.octets ++ spelling (WindowUpdate s k) → Owes (note.Credit n s k ∷ []) old new
-  credit_written s k e = step_written (λ xs. xs ++ window_update s k) (Noted (note.Credit n s k)) (λ h c. refl) (e ∙ ap (λ xs. v.outlet.write.octets ++ xs) (update_is s k))
+  pub credit_written : (s k : ℕ) → Room → w.outlet.write.octets ≡ v.outlet.write.octets ++ spelling (WindowUpdate s k) → Owes (note.Credit n s k ∷ []) old new
+  credit_written s k room e = step_written (λ xs. xs ++ window_update s k) (Noted (note.Credit n s k)) (λ h c. refl) (e ∙ ap (λ xs. v.outlet.write.octets ++ xs) (update_is s k)) room
       (λ h. credit_writes h n s k) (λ h. credit_flows h n s k) (λ h. credit_shut h n s k)
 
   -- up to this many octets left, as many as there were
   pub out_left : (most k : ℕ) → k ≡ min most (length v.outlet.write.octets) → w.outlet.write.octets ≡ drop k v.outlet.write.octets → Leaves n most k old new
   out_left most k many e = record { goes = at (k == 0) refl }
     where
+      shorter : Room
+      shorter fits = less_out old.config.limits v.outlet.write.octets w.outlet.write.octets (subst (λ (xs : List ℕ). length xs ≤ length v.outlet.write.octets) (sym e) (fewer v.outlet.write.octets)) fits
+        where
+          fewer : (xs : List ℕ) → length (drop k xs) ≤ length xs
+          fewer xs = omega (arith, length-drop k xs)
+
       here : (c : ℕ) → (n == c) ≡ true → octets_of c old.conns ≡ v.outlet.write.octets
       here c same = ap (λ d. octets_of d old.conns) (sym (is_number n c same)) ∙ ap (λ (o : Option Conn). option_map_or (λ conn. conn.outlet.write.octets) o []) found
 
@@ -106,8 +118,8 @@ module _ (n : ℕ) (old new : WireCore) (v w : Conn) (found : value_at n old.con
       none true (x ∷ xs) = refl
       none false xs = refl
 
-      at : (b : Bool) → (k == 0) ≡ b → (h : WayHistory) (g : ℕ → List ℕ) (start notes : List Note) → ToldBy h g start old.conns old.flows old.links notes
-          → ToldBy h (left_after (event.Room n most) old.conns g) start new.conns new.flows new.links (notes ++ (if b then [] else note.Out n k ∷ []))
+      at : {m : LimitKeys} → (b : Bool) → (k == 0) ≡ b → (h : WayHistory) (g : ℕ → List ℕ) (start notes : List Note) → ToldBy m old.config.limits h g start old.conns old.flows old.links notes
+          → ToldBy m new.config.limits h (left_after (event.Room n most) old.conns g) start new.conns new.flows new.links (notes ++ (if b then [] else note.Out n k ∷ []))
       at true z h g start notes t =
           let zero_is = is_number k 0 z in
           let stays = (nothing_written (e ∙ ap (λ j. drop j v.outlet.write.octets) zero_is)).goes h g start notes t in
@@ -115,12 +127,13 @@ module _ (n : ℕ) (old new : WireCore) (v w : Conn) (found : value_at n old.con
             steps = stays.steps;
             is = append-nil notes ∙ stays.is;
             stands = stays.stands;
+            under = stays.under;
             left = λ c. stays.left c ∙ (sym (append-nil (g c)) ∙ ap (λ xs. g c ++ xs)
                 (sym (ap (λ j. if n == c then take j (octets_of c old.conns) else []) zero_is ∙ none (n == c) (octets_of c old.conns)) ∙ took c));
           }
-      at false z h g start notes t = told_as (Noted (note.Out n k) ∷ []) (left_after (event.Room n most) old.conns) old.conns new.conns old.flows new.flows old.links new.links
+      at false z h g start notes t = subst (λ (c : Config). ToldBy _ c.limits h (left_after (event.Room n most) old.conns g) start new.conns new.flows new.links (notes ++ note.Out n k ∷ [])) (sym (config_kept old new rest)) (told_as (Noted (note.Out n k) ∷ []) (left_after (event.Room n most) old.conns) old.conns new.conns old.flows new.flows old.links new.links
           (λ j f s is c. (λ i. is c i ++ (if n == c then take k (sym (s.writes c) i) else [])) ∙ ap (λ xs. f c ++ xs) (took c))
-          (step_stands (drop k) (Noted (note.Out n k)) e (λ j. out_writes j n k) (λ j. out_flows j n k) (λ j. out_shut j n k)) h g start notes t
+          (step_stands (drop k) (Noted (note.Out n k)) e shorter (λ j. out_writes j n k) (λ j. out_flows j n k) (λ j. out_shut j n k)) h g start notes t)
 
 -- no connection is there, and none left
 pub none_left : (n most : ℕ) (core : WireCore) → value_at n core.conns ≡ None → Leaves n most 0 core core
@@ -129,6 +142,7 @@ none_left n most core gone_ = record {
     steps = t.steps;
     is = append-nil notes ∙ t.is;
     stands = t.stands;
+    under = t.under;
     left = λ c. t.left c ∙ (sym (append-nil (g c)) ∙ ap (λ xs. g c ++ xs) (sym (nothing c (n == c) refl)));
   };
 }
@@ -144,14 +158,20 @@ none_left n most core gone_ = record {
     nothing c true same = no_front (octets_of c core.conns) (ap (λ d. octets_of d core.conns) (sym (is_number n c same)) ∙ ap (λ (o : Option Conn). option_map_or (λ conn. conn.outlet.write.octets) o []) gone_)
     nothing c false other = refl
 
+-- a write buffer that is kept within its bounds has room
+pub room_of : (n : ℕ) (l : LimitKeys) (conns : PagedMap Conn) (v w : Conn) → value_at n conns ≡ Some v → AreKept l conns → (IsKept l v.outlet → IsKept l w.outlet) → OutFits l v.outlet.write.octets → OutFits l w.outlet.write.octets
+room_of n l conns v w found kept keeps fits = λ some.
+    let is = keeps (subst (λ (o : Option Conn). IfSome o (λ conn. IsKept l conn.outlet)) found (kept n)) in
+    subst (λ (limit : ℕ). length w.outlet.write.octets ≤ limit + unit_of l) is.limit (is.write.bound (subst (λ (limit : ℕ). 0 < limit) (sym is.limit) some))
+
 -- a GOAWAY went in, or nothing did
 pub farewell_written : (n : ℕ) (old new : WireCore) (v w : Conn) → value_at n old.conns ≡ Some v → WritesThrough n old.conns w new.conns → w.open ≡ v.open
-    → new.flows ≡ old.flows → new.links ≡ old.links → (r : Result (Option (List ℕ × Crossed)) NoMemory)
+    → new.flows ≡ old.flows → rest_of new ≡ rest_of old → AreKept old.config.limits old.conns → (IsKept old.config.limits v.outlet → IsKept old.config.limits w.outlet) → (r : Result (Option (List ℕ × Crossed)) NoMemory)
     → IfOk r (λ o. MatchOption o (w ≡ v) (λ f. w.outlet.write.octets ≡ v.outlet.write.octets ++ f.0))
     → IfOk r (λ o. MatchOption o (Keeps old new) (λ f. Owes (answers_of n f.0) old new))
-farewell_written n old new v w found written opened f l (Err e) p = tt
-farewell_written n old new v w found written opened f l (Ok None) p = nothing_written n old new v w found written opened (same_bodies old.flows new.flows f) l (ap (λ (k : Conn). k.outlet.write.octets) p)
-farewell_written n old new v w found written opened f l (Ok (Some u)) p = answer_written n old new v w found written opened (same_bodies old.flows new.flows f) l u.0 p
+farewell_written n old new v w found written opened f l kept keeps (Err e) p = tt
+farewell_written n old new v w found written opened f l kept keeps (Ok None) p = nothing_written n old new v w found written opened (same_bodies old.flows new.flows f) l (ap (λ (k : Conn). k.outlet.write.octets) p)
+farewell_written n old new v w found written opened f l kept keeps (Ok (Some u)) p = answer_written n old new v w found written opened (same_bodies old.flows new.flows f) l u.0 (room_of n old.config.limits old.conns v w found kept keeps) p
 
 -- ---- DATA frames
 -- the stream of a flow where it goes is that of the world
@@ -172,11 +192,11 @@ stream_known f links h k ends is = at f.back (ends_of f.exchange links) (ends f.
     at false (Some v) is e = some_of v.cluster_stream e is.cluster
 
 -- the octets of a DATA frame went from a flow's send buffer into the write buffer
-pub body_written : (n : ℕ) (old new : WireCore) (v w : Conn) → value_at n old.conns ≡ Some v → WritesThrough n old.conns w new.conns → w.open ≡ v.open → new.links ≡ old.links
+pub body_written : (n : ℕ) (old new : WireCore) (v w : Conn) → value_at n old.conns ≡ Some v → WritesThrough n old.conns w new.conns → w.open ≡ v.open → rest_of new ≡ rest_of old → (OutFits old.config.limits v.outlet.write.octets → OutFits old.config.limits w.outlet.write.octets)
     → (f : FlowId) (s k : ℕ) (last : Bool) (flow : Flow) → stream_in old.links f ≡ Some s → flow_in old.flows f ≡ Some flow
     → w.outlet.write.octets ≡ v.outlet.write.octets ++ (data_head s k last ++ take k (send flow)) → ChangesFlow f (body_framed k last) old.flows.exchanges new.flows.exchanges
     → Owes (note.Frame n f k last ∷ []) old new
-body_written n old new v w found written opened linked f s k last flow on there octets change = owes_by (Noted (note.Frame n f k last) ∷ []) (λ h c. refl) old new (λ h stands.
-    subst (λ (l : Links). Stands new.conns new.flows l (Noted (note.Frame n f k last) ∷ h)) (sym linked)
+body_written n old new v w found written opened rest room f s k last flow on there octets change = owes_by (Noted (note.Frame n f k last) ∷ []) (λ h c. refl) old new (config_kept old new rest) (λ h stands.
+    links_kept old new rest (Noted (note.Frame n f k last) ∷ h)
     (frames n f k last h old.conns new.conns old.flows new.flows old.links s flow (stream_known f old.links h s stands.ends on) there change
-    (conns_written n old.conns new.conns v w found written (λ xs. xs ++ (data_head s k last ++ take k (send flow))) octets opened) stands))
+    (conns_written n old.conns new.conns v w found written (λ xs. xs ++ (data_head s k last ++ take k (send flow))) octets opened) (one_room n old.conns new.conns v w found written room) stands))

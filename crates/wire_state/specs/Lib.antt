@@ -1,8 +1,11 @@
 pub mod Agenda
+pub mod Counts
 pub mod Courses
 pub mod Intakes
+pub mod Limits
 pub mod Noting
 pub mod Progress
 pub mod Sound
+pub mod Tapes
 pub mod Ways
 pub mod Worlds

@@ -10,6 +10,7 @@ use Rattle.tape_laws.specs.Flows.{request, response}
 use Rattle.tape_laws.specs.History.{History, Marked, Noted, Step}
 use Rattle.tape_laws.specs.Setup.{Setup}
 use Rattle.tape_laws.specs.Units.{Hold, Meter, StageKind}
+use Rattle.tape_laws.specs.World.{received}
 
 -- with the start of an exchange: the stages of its request and of its response; and when its request gets its stream
 pub data Way : Type 0 where
@@ -35,7 +36,7 @@ stream_to f (Noted (note.Start x c s d) ∷ past) = if f.back && (x == f.exchang
 stream_to f (Marked (Opens x s) ∷ past) = if not f.back && (x == f.exchange) then s else stream_to f past
 stream_to f (step ∷ past) = stream_to f past
 
--- All that a world asks of a session. What decides what may move and be framed is left empty.
+-- All that a world asks of a session: the body of a flow is what was read for it. What decides what may move and be framed is left empty.
 abbrev pub world_setup : Setup Way
 world_setup = record {
   recv = 0;
@@ -50,7 +51,7 @@ world_setup = record {
   comes_from = λ f past. None;
   goes_to = λ f past. None;
   stream = λ f past. stream_to f past;
-  body = λ f past. [];
+  body = λ f past. received f past;
   ended = λ f past. false;
   carries = λ f past. 0;
   head_waits = λ f past. false;

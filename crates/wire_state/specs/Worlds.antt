@@ -1,6 +1,7 @@
 -- A core's octets are those of the world of its tape.
 use Rattle.exchange_core.specs.Flow.{Flow, last_place as send_place, octets_in}
 use Rattle.flow_gate.specs.declared.ids.FlowId.{FlowId}
+use Rattle.flow_laws.specs.Octets.{LosesNothing}
 use Rattle.flow_notes.specs.declared.events.Event.{Event}
 use Rattle.flow_notes.specs.declared.events.Event.TheVariants as event
 use Rattle.flow_notes.specs.declared.notes.CloseCause.{CloseCause}
@@ -8,20 +9,24 @@ use Rattle.flow_notes.specs.declared.notes.CloseCause.TheVariants as cause
 use Rattle.flow_notes.specs.declared.notes.Note.{Note}
 use Rattle.flow_notes.specs.declared.notes.Note.TheVariants as note
 use Rattle.paged_map.specs.PagedMap.{PagedMap, value_at}
+use Rattle.proxy_config.specs.declared.config.LimitKeys.{LimitKeys}
 use Rattle.std.specs.Option.{option_and_then, option_map_or}
 use Rattle.std.specs.Ordering.{nat_cmp}
-use Rattle.std.specs.Prelude.{Bool, IfSome, List, OnOk, Option, Result, Some, [], false, if◌then◌else◌, is_some, not, take, true, ℕ, ◌++◌, ◌==◌, ◌∷◌, ◌≡◌}
+use Rattle.std.specs.Prelude.{Bool, IfSome, List, OnOk, Option, Result, Some, [], false, if◌then◌else◌, is_some, not, take, true, ℕ, ◌++◌, ◌<◌, ◌==◌, ◌∷◌, ◌≡◌}
 use Rattle.tape_laws.specs.Connections.{connections, was_closed}
 use Rattle.tape_laws.specs.Dispatches.{has}
 use Rattle.tape_laws.specs.Flows.{request, response}
-use Rattle.tape_laws.specs.World.{gone, last_place, out, place}
+use Rattle.tape_laws.specs.Headline.{SendsItsBody}
+use Rattle.tape_laws.specs.History.{AtEachMoment}
+use Rattle.tape_laws.specs.World.{gone, last_place, out, place, received, sent}
 use Rattle.wire_flows.specs.Flows.{Flows, flow_in, is_there}
 use Rattle.wire_links.specs.Links.{Links, ends_of, is_known}
 use Rattle.wire_links.specs.declared.links.exchanges.Ends.{Ends}
 use Rattle.wire_outlet.specs.declared.outlet.Framed.{Framed}
 use Rattle.wire_outlet.specs.declared.outlet.Framed.TheVariants as framed
+use Rattle.wire_state.specs.Limits.{Fits, HasShape}
 use Rattle.wire_state.specs.Noting.{answers_of, heads_of}
-use Rattle.wire_state.specs.Ways.{WayHistory, WayStep, after, shown, stream_to, world_setup}
+use Rattle.wire_state.specs.Ways.{WayHistory, WayStep, after, shown, stages_passed, stream_to, world_setup}
 use Rattle.wire_state.specs.declared.conn.Conn.{Conn}
 use Rattle.wire_state.specs.declared.wire_core.WireCore.{WireCore}
 
@@ -36,19 +41,31 @@ has_conn c conns = is_some (value_at c conns)
 abbrev pub is_shut : ℕ → PagedMap Conn → Bool
 is_shut c conns = option_map_or (λ conn. not conn.open) (value_at c conns) false
 
--- a flow's places hold what those of the world do
-pub record FlowIs (f : FlowId) (h : WayHistory) (flow : Flow) : Type 0 where
+-- a flow's places are those of the world and hold what they do, and nothing that came for it is lost
+pub record FlowIs (l : LimitKeys) (f : FlowId) (h : WayHistory) (flow : Flow) : Type 0 where
   pub last : send_place flow ≡ last_place world_setup f h
   pub holds : (p : ℕ) → octets_in flow p ≡ place world_setup f p h
+  pub loses : LosesNothing world_setup f h
+  pub shape : HasShape l (stages_passed f h) flow
+
+-- a flow that isn't there yet: nothing came for it, and nothing was sent on
+pub record IsUnborn (f : FlowId) (flows : Flows) (h : WayHistory) : Type 0 where
+  pub there : is_there flows f ≡ false
+  pub unread : received f h ≡ []
+  pub unsent : sent world_setup f h ≡ []
+
+-- at each moment what each flow sent on is a front of the body that was read for it
+abbrev pub SendsOn : WayHistory → Type 0
+SendsOn h = AtEachMoment (SendsItsBody world_setup) h
 
 -- its streams are those that it has there
 pub record EndsAre (x : ℕ) (h : WayHistory) (ends : Ends) : Type 0 where
   pub client : ends.stream ≡ stream_to (response x) h
   pub cluster : IfSome ends.cluster_stream (λ s. s ≡ stream_to (request x) h)
 
-pub record Stands (conns : PagedMap Conn) (flows : Flows) (links : Links) (h : WayHistory) : Type 0 where
+pub record Stands (l : LimitKeys) (conns : PagedMap Conn) (flows : Flows) (links : Links) (h : WayHistory) : Type 0 where
   pub writes : (c : ℕ) → octets_of c conns ≡ out world_setup c h
-  pub flows_are : (f : FlowId) → IfSome (flow_in flows f) (FlowIs f h)
+  pub flows_are : (f : FlowId) → IfSome (flow_in flows f) (FlowIs l f h)
   -- a flow that isn't there holds nothing
   pub empty : (f : FlowId) (p : ℕ) → is_there flows f ≡ false → place world_setup f p h ≡ []
   pub ends : (x : ℕ) → IfSome (ends_of x links) (EndsAre x h)
@@ -57,42 +74,47 @@ pub record Stands (conns : PagedMap Conn) (flows : Flows) (links : Links) (h : W
   pub closed : (c : ℕ) → has_conn c conns ≡ true → was_closed c h ≡ is_shut c conns
   -- one that never came has none, and wasn't closed
   pub come : (c : ℕ) → has (connections world_setup h) c ≡ false → (has_conn c conns ≡ false) × (was_closed c h ≡ false)
+  -- no exchange has a number above the last that was given
+  pub unborn : (f : FlowId) → flows.exchanges.last < f.exchange → IsUnborn f flows h
+  pub fronts : SendsOn h
+  pub fits : AtEachMoment (Fits l) h
 
--- The notes were made by these steps behind that history, and the core stands for what they lead to. What left each connection's
--- write buffer up to there is told beside it.
-pub record ToldBy (h : WayHistory) (g : ℕ → List ℕ) (start : List Note) (conns : PagedMap Conn) (flows : Flows) (links : Links) (notes : List Note) : Type 0 where
+-- The notes were made by these steps behind that history, and the core, which has these limits, stands for what they lead to. What
+-- left each connection's write buffer up to there is told beside it, and that the limits are those of the session.
+pub record ToldBy (k l : LimitKeys) (h : WayHistory) (g : ℕ → List ℕ) (start : List Note) (conns : PagedMap Conn) (flows : Flows) (links : Links) (notes : List Note) : Type 0 where
   pub steps : List WayStep
   pub is : notes ≡ start ++ shown steps
-  pub stands : Stands conns flows links (after steps h)
+  pub stands : Stands l conns flows links (after steps h)
   pub left : (c : ℕ) → gone world_setup c (after steps h) ≡ g c
+  pub under : l ≡ k
 
-abbrev pub Told : WayHistory → (ℕ → List ℕ) → List Note → WireCore → List Note → Type 0
-Told h g start core notes = ToldBy h g start core.conns core.flows core.links notes
+abbrev pub Told : LimitKeys → WayHistory → (ℕ → List ℕ) → List Note → WireCore → List Note → Type 0
+Told k h g start core notes = ToldBy k core.config.limits h g start core.conns core.flows core.links notes
 
 -- Words between a core and its notes before a call and after it. Where memory was refused nothing is said.
 -- it goes on to
 pub record Goes {A E : Type 0} (r : Result A E) (old : WireCore) (before : List Note) (new : WireCore) (now : List Note) : Type 0 where
-  pub goes : (h : WayHistory) (g : ℕ → List ℕ) (start : List Note) → Told h g start old before → OnOk r (Told h g start new now)
+  pub goes : {k : LimitKeys} → (h : WayHistory) (g : ℕ → List ℕ) (start : List Note) → Told k h g start old before → OnOk r (Told k h g start new now)
 
 -- whatever was noted, also what is still to be noted
 pub record Keeps (old new : WireCore) : Type 0 where
-  pub goes : (h : WayHistory) (g : ℕ → List ℕ) (start notes : List Note) → Told h g start old notes → Told h g start new notes
+  pub goes : {k : LimitKeys} → (h : WayHistory) (g : ℕ → List ℕ) (start notes : List Note) → Told k h g start old notes → Told k h g start new notes
 
 pub record KeepsOk {A E : Type 0} (r : Result A E) (old new : WireCore) : Type 0 where
-  pub goes : (h : WayHistory) (g : ℕ → List ℕ) (start notes : List Note) → Told h g start old notes → OnOk r (Told h g start new notes)
+  pub goes : {k : LimitKeys} → (h : WayHistory) (g : ℕ → List ℕ) (start notes : List Note) → Told k h g start old notes → OnOk r (Told k h g start new notes)
 
 -- this is still to be noted
 pub record Owes (owed : List Note) (old new : WireCore) : Type 0 where
-  pub goes : (h : WayHistory) (g : ℕ → List ℕ) (start notes : List Note) → Told h g start old notes → Told h g start new (notes ++ owed)
+  pub goes : {k : LimitKeys} → (h : WayHistory) (g : ℕ → List ℕ) (start notes : List Note) → Told k h g start old notes → Told k h g start new (notes ++ owed)
 
 -- ---- notes
 -- what was still to be noted is
 pub record Pays {A E : Type 0} (r : Result A E) (owed before now : List Note) : Type 0 where
-  pub goes : (h : WayHistory) (g : ℕ → List ℕ) (start : List Note) (conns : PagedMap Conn) (flows : Flows) (links : Links) → ToldBy h g start conns flows links (before ++ owed) → OnOk r (ToldBy h g start conns flows links now)
+  pub goes : {k l : LimitKeys} → (h : WayHistory) (g : ℕ → List ℕ) (start : List Note) (conns : PagedMap Conn) (flows : Flows) (links : Links) → ToldBy k l h g start conns flows links (before ++ owed) → OnOk r (ToldBy k l h g start conns flows links now)
 
 -- what was noted moves no octets
 pub record Shows {A E : Type 0} (r : Result A E) (before now : List Note) : Type 0 where
-  pub goes : (h : WayHistory) (g : ℕ → List ℕ) (start : List Note) (conns : PagedMap Conn) (flows : Flows) (links : Links) → ToldBy h g start conns flows links before → OnOk r (ToldBy h g start conns flows links now)
+  pub goes : {k l : LimitKeys} → (h : WayHistory) (g : ℕ → List ℕ) (start : List Note) (conns : PagedMap Conn) (flows : Flows) (links : Links) → ToldBy k l h g start conns flows links before → OnOk r (ToldBy k l h g start conns flows links now)
 
 -- the note moves no octets, wherever it stands
 abbrev pub IsIdle : Note → Type 0
@@ -134,17 +156,17 @@ left_after e conns g = g
 
 -- From before the turn note of an event on: the core stood for a history, and stands for it with the dispatch's steps.
 pub record Turns {A E : Type 0} (r : Result A E) (e : Event) (old : WireCore) (noted : List Note) (new : WireCore) (now : List Note) : Type 0 where
-  pub goes : (h : WayHistory) (g : ℕ → List ℕ) (before : List Note) (k : ℕ) → noted ≡ before ++ note.Turn k e ∷ [] → Stands old.conns old.flows old.links h → ((c : ℕ) → gone world_setup c h ≡ g c)
-      → IsFresh e h → OnOk r (Told h (left_after e old.conns g) before new now)
+  pub goes : (h : WayHistory) (g : ℕ → List ℕ) (before : List Note) (k : ℕ) → noted ≡ before ++ note.Turn k e ∷ [] → Stands old.config.limits old.conns old.flows old.links h → ((c : ℕ) → gone world_setup c h ≡ g c)
+      → IsFresh e h → OnOk r (Told old.config.limits h (left_after e old.conns g) before new now)
 
 -- The whole dispatch: from the notes before it on.
 pub record Follows (old : WireCore) (before : List Note) (e : Event) (new : WireCore) (now : List Note) : Type 0 where
-  pub goes : (h : WayHistory) (g : ℕ → List ℕ) → Stands old.conns old.flows old.links h → ((c : ℕ) → gone world_setup c h ≡ g c) → IsFresh e h → Told h (left_after e old.conns g) before new now
+  pub goes : (h : WayHistory) (g : ℕ → List ℕ) → Stands old.config.limits old.conns old.flows old.links h → ((c : ℕ) → gone world_setup c h ≡ g c) → IsFresh e h → Told old.config.limits h (left_after e old.conns g) before new now
 
 -- A connection comes: it is among those that came, and wasn't closed.
 pub record Comes {A E : Type 0} (r : Result A E) (c : ℕ) (old new : WireCore) : Type 0 where
-  pub goes : (h : WayHistory) (g : ℕ → List ℕ) (start notes : List Note) (t : Told h g start old notes) → has (connections world_setup (after t.steps h)) c ≡ true → was_closed c (after t.steps h) ≡ false → OnOk r (Told h g start new notes)
+  pub goes : {k : LimitKeys} → (h : WayHistory) (g : ℕ → List ℕ) (start notes : List Note) (t : Told k h g start old notes) → has (connections world_setup (after t.steps h)) c ≡ true → was_closed c (after t.steps h) ≡ false → OnOk r (Told k h g start new notes)
 
 -- Up to n octets left a connection's write buffer, k of them there were.
 pub record Leaves (c n k : ℕ) (old new : WireCore) : Type 0 where
-  pub goes : (h : WayHistory) (g : ℕ → List ℕ) (start notes : List Note) → Told h g start old notes → Told h (left_after (event.Room c n) old.conns g) start new (notes ++ outs_of c k)
+  pub goes : {m : LimitKeys} → (h : WayHistory) (g : ℕ → List ℕ) (start notes : List Note) → Told m h g start old notes → Told m h (left_after (event.Room c n) old.conns g) start new (notes ++ outs_of c k)

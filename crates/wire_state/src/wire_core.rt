@@ -76,7 +76,7 @@ impl WireCore {
         ensures idle { IfOk result (λ core. core.agenda ≡ []) }
         ensures new { IfOk result (λ core. (core.config ≡ config) × (core.conns.entries ≡ [])) }
         ensures none { IfOk result (λ core. (core.links ≡ no_links) × (core.flows.exchanges.live ≡ [])) }
-        ensures octets { IfOk result (λ core. Stands core.conns core.flows core.links []) }
+        ensures octets { IfOk result (λ core. Stands core.config.limits core.conns core.flows core.links []) }
     {
         let load = Load::new(alloc, config.overload.class_start)?;
         let timers = WireTimers::new(alloc, &config)?;

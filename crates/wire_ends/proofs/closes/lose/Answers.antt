@@ -21,5 +21,5 @@ returns-clause-octets c = record {
   goes = λ h g before k is s left fresh.
       let old = c.args.core.now in
       on_ok c.stir.result (c.stir.ensures.octets.goes h g before c.args.notes.now
-      (subst (λ (ns : List Note). Told h g before c.lose_rest.new.core ns) (sym is) ((c.lose_rest.ensures.octets k).goes h g before before (told_none old.conns old.flows old.links h g left before s))));
+      (subst (λ (ns : List Note). Told _ h g before c.lose_rest.new.core ns) (sym is) ((c.lose_rest.ensures.octets k).goes h g before before (told_none old.conns old.flows old.links h g left before s))));
 }

@@ -13,7 +13,7 @@ returns-in-Some-clause-go c =
 
 pub returns-in-Some-clause-octets : goal.returns-in-Some-clause-octets
 returns-in-Some-clause-octets c =
-    farewell_written c.args.number c.args.core.now _ c.in-Some.conn.now c.farewell.new.self (sym c.in-Some.ensures.value) (c.get_mut.follows.holds c.farewell.new.self) (ap (λ (k : Conn). k.open) c.farewell.ensures.rest) refl refl c.farewell.result c.farewell.ensures.octets
+    farewell_written c.args.number c.args.core.now _ c.in-Some.conn.now c.farewell.new.self (sym c.in-Some.ensures.value) (c.get_mut.follows.holds c.farewell.new.self) (ap (λ (k : Conn). k.open) c.farewell.ensures.rest) refl refl c.requires.sound.kept (c.farewell.ensures.kept c.args.core.now.config.limits) c.farewell.result c.farewell.ensures.octets
 
 pub returns-in-Some-clause-stays : goal.returns-in-Some-clause-stays
 returns-in-Some-clause-stays c =

@@ -18,6 +18,6 @@ returns-clause-octets c = record {
   goes = λ h g start t.
       let k = c.args.core.now in
       let f = c.args.course.flow in
-      let came = arrival_told f c.as_slice.result k.flows c.receive.new.self c.receive.result c.receive.ensures.answer ? c.receive.ensures.flow k.conns k.links h g start c.args.notes.now t in
-      c.note.ensures.paid.goes h g start _ _ _ (c.in_ok-touch.ensures.octets.goes h g start _ (subst (λ (octets : List ℕ). ToldBy h g start k.conns c.receive.new.self k.links (c.args.notes.now ++ note.Arrive f octets ∷ [])) c.as_slice.ensures came));
+      let came = arrival_told f c.as_slice.result k.flows c.receive.new.self c.receive.result c.receive.ensures.answer ? c.receive.ensures.flow c.receive.ensures.sound k.conns k.links h g start c.args.notes.now t in
+      c.note.ensures.paid.goes h g start _ _ _ (c.in_ok-touch.ensures.octets.goes h g start _ (subst (λ (octets : List ℕ). ToldBy _ _ h g start k.conns c.receive.new.self k.links (c.args.notes.now ++ note.Arrive f octets ∷ [])) c.as_slice.ensures came));
 }

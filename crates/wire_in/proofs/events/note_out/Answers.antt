@@ -10,8 +10,8 @@ use Rattle.wire_state.specs.Worlds.{Pays, ToldBy, outs_of}
 pub returns-then-n-eq0-clause-octets : goal.returns-then-n-eq0-clause-octets
 returns-then-n-eq0-clause-octets c = record {
   goes = λ h g start conns flows links t.
-      subst (λ (ns : List Note). ToldBy h g start conns flows links ns) (append-nil c.args.notes.now)
-      (subst (λ (j : ℕ). ToldBy h g start conns flows links (c.args.notes.now ++ outs_of c.args.conn j)) c.if-n-eq0.true t);
+      subst (λ (ns : List Note). ToldBy _ _ h g start conns flows links ns) (append-nil c.args.notes.now)
+      (subst (λ (j : ℕ). ToldBy _ _ h g start conns flows links (c.args.notes.now ++ outs_of c.args.conn j)) c.if-n-eq0.true t);
 }
 
 pub returns-clause-octets : goal.returns-clause-octets

@@ -14,7 +14,7 @@ returns-in_default-clause-octets c = record {
   goes = λ h g before k is s left fresh.
       let old = c.args.core.now in
       let f = left_after (event.Room c.args.number c.args.n) old.conns g in
-      subst (λ (ns : List Note). Told h f before c.leave_at.new.core ns) (append-nil c.args.notes.now)
+      subst (λ (ns : List Note). Told _ h f before c.leave_at.new.core ns) (append-nil c.args.notes.now)
       (c.in_default.ensures.octets.goes h g before c.args.notes.now (turn_told old.conns old.flows old.links h g left k (event.Room c.args.number c.args.n) tt before c.args.notes.now is s));
 }
 

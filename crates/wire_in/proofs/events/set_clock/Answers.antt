@@ -5,4 +5,4 @@ use Rattle.wire_state.proofs.Lives.{ticks}
 pub returns-clause-octets : goal.returns-clause-octets
 returns-clause-octets c =
     let k = c.args.core.now in
-    keeps_by k _ (λ h s. ticks _ k.flows c.tick.new.self c.tick.ensures.ticks k.conns k.links h s)
+    keeps_by k _ refl (λ h s. ticks _ k.flows c.tick.new.self c.tick.ensures.ticks k.conns k.links h s)

@@ -36,6 +36,6 @@ returns-clause-octets c = λ d.
     let k = c.args.core.now in
     let x = c.in_ok-started.started.exchange in
     let spec = c.spec_of-spec.result in
-    owes_by (Marked (Passes x (stages_of (filters_of (side_filters false) spec.row k.config)) (stages_of (filters_of (side_filters true) spec.row k.config))) ∷ Noted (note.Start x c.args.number c.args.stream d) ∷ []) (λ h e. refl) k _
-    (λ h s. starts x c.args.number c.args.stream d c.args.to spec k.config h k.flows c.start.new.self c.in_ok-started.ensures.starts c.spec_of-spec.ensures.wire c.in_ok-started.ensures.fresh k.conns k.links c.start-2.new.self
+    owes_by (Marked (Passes x (stages_of (filters_of (side_filters false) spec.row k.config)) (stages_of (filters_of (side_filters true) spec.row k.config))) ∷ Noted (note.Start x c.args.number c.args.stream d) ∷ []) (λ h e. refl) k _ refl
+    (λ h s. starts x c.args.number c.args.stream d c.args.to spec k.config h k.flows c.start.new.self c.in_ok-started.ensures.starts c.spec_of-spec.ensures.wire c.in_ok-started.ensures.number c.spec_of-spec.ensures.limits k.conns k.links c.start-2.new.self
     (links_one x c.args.number c.args.stream c.args.to k.links c.start-2.new.self c.in_ok-start.ensures.ok) s)

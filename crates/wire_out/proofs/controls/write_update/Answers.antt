@@ -12,4 +12,4 @@ returns-in-Some-clause-go c =
     on_ok c.write_update.result (omega (arith, conn_changed c.args.number c.args.core.now.conns.entries (c.get_mut.follows.lender c.write_update.new.self).entries c.in-Some.conn.now c.write_update.new.self c.in-Some.ensures.value (c.get_mut.follows.holds c.write_update.new.self).0, c.write_update.ensures.go))
 
 pub returns-in-Some-clause-octets : goal.returns-in-Some-clause-octets
-returns-in-Some-clause-octets c = update_written c.write_update.result c.args.number c.args.stream c.args.n c.args.core.now _ c.in-Some.conn.now c.write_update.new.self (sym c.in-Some.ensures.value) (c.get_mut.follows.holds c.write_update.new.self) (ap (λ (k : Conn). k.open) c.write_update.ensures.rest) refl refl c.write_update.ensures.octets
+returns-in-Some-clause-octets c = update_written c.write_update.result c.args.number c.args.stream c.args.n c.args.core.now _ c.in-Some.conn.now c.write_update.new.self (sym c.in-Some.ensures.value) (c.get_mut.follows.holds c.write_update.new.self) (ap (λ (k : Conn). k.open) c.write_update.ensures.rest) c.requires.sound.kept (c.write_update.ensures.kept c.args.core.now.config.limits) refl refl c.write_update.ensures.octets
