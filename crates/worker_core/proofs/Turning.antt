@@ -8,8 +8,9 @@ use Rattle.tape_laws.specs.World.{gone}
 use Rattle.wire_state.specs.Noting.{Appends}
 use Rattle.wire_state.specs.Ways.{WayHistory, world_setup}
 use Rattle.wire_state.specs.Worlds.{IsFresh}
-use Rattle.worker_core.specs.Dispatching.{Tells}
+use Rattle.worker_core.specs.Dispatching.{Dispatches, Tells}
 use Rattle.worker_core.specs.Sessions.{CarriesOut, GoesOn, StandsAt, left_at}
+use Rattle.worker_core.specs.declared.wire.WireSession.{WireSession}
 use Rattle.worker_core.specs.declared.worker.Kind.{Kind}
 use Rattle.worker_core.specs.declared.worker.Kind.TheVariants as kind
 
@@ -25,3 +26,7 @@ goes_on (kind.Wire old) e (kind.Wire new) notes carries h stands fresh =
     record { steps = told.steps; is = told.is; stands = told.stands; left = told.left }
 goes_on (kind.Wire old) e (kind.Plain new) notes carries h stands fresh = absurd carries
 goes_on (kind.Plain old) e new notes carries h stands fresh = absurd stands
+
+-- its limits are as they were
+pub same_limits : (old : WireSession) (e : Event) (new : WireSession) (notes : List Note) → Dispatches old [] e new notes → (h : WayHistory) → StandsAt (kind.Wire old) h → IsFresh e h → new.core.config.limits ≡ old.core.config.limits
+same_limits old e new notes carries h stands fresh = (carries.octets.goes h (λ c. gone world_setup c h) stands (λ c. refl) fresh).under

@@ -84,10 +84,11 @@ IsNextOut (kind.Wire session) after next = IsLeastAbove after (has_octets sessio
 
 -- ---- the octets of a tape's world
 -- The core stands for the history: what waits for each socket and lies in each place of a body, each stream, and which
--- connections are open, are those of its world.
+-- connections are open, are those of its world, and at each moment so far what each flow had sent on was a front of what had been
+-- read for it, and no buffer had held more than its bound.
 abbrev pub StandsAt : Kind → WayHistory → Type 0
 StandsAt (kind.Plain core) h = ⊥
-StandsAt (kind.Wire session) h = Stands session.core.conns session.core.flows session.core.links h
+StandsAt (kind.Wire session) h = Stands session.core.config.limits session.core.conns session.core.flows session.core.links h
 
 -- what has left each connection once an event was carried out, where g had left it before
 abbrev pub left_at : Event → Kind → (ℕ → List ℕ) → ℕ → List ℕ

@@ -45,7 +45,7 @@ impl WireSession {
         ensures turn { IfOk result (λ session. session.turn ≡ 0) }
         ensures obeyed { IfOk result (λ session. session.obeyed ≡ 0) }
         ensures new { IfOk result (λ session. (session.core.config ≡ config) × (session.core.conns.entries ≡ [])) }
-        ensures octets { IfOk result (λ session. Stands session.core.conns session.core.flows session.core.links []) }
+        ensures octets { IfOk result (λ session. Stands session.core.config.limits session.core.conns session.core.flows session.core.links []) }
     {
         Ok(WireSession {
             core: WireCore::new(alloc, config)?,
