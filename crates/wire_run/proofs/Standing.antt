@@ -24,7 +24,7 @@ use Rattle.wire_state.specs.Tapes.{Promises, tape_setup}
 use Rattle.wire_state.specs.Ways.{WayHistory, WayStep, after, shown, world_setup}
 use Rattle.wire_state.specs.Worlds.{IsFresh, Stands, left_after, octets_of}
 use Rattle.wire_state.specs.declared.conn.Conn.{Conn}
-use Rattle.worker_core.proofs.Turning.{goes_on, same_limits}
+use Rattle.worker_core.proofs.Turning.{goes_on}
 use Rattle.worker_core.specs.Dispatching.{Dispatches}
 use Rattle.worker_core.specs.declared.wire.WireSession.{WireSession}
 use Rattle.flow_notes.specs.declared.events.Event.TheVariants as event
@@ -251,7 +251,7 @@ stands_on old new l e notes h d new_one s =
     let k = s.world.marked in
     let fresh = fresh_of k h s.world.notes e new_one in
     let t = goes_on (kind.Wire old) e (kind.Wire new) notes d k s.stands fresh in
-    let same : new.core.config.limits ≡ l = same_limits old e new notes d k s.stands fresh ∙ s.under in
+    let same : new.core.config.limits ≡ l = t.under ∙ s.under in
     let turn = turned t.steps k (old.turn + 1) e d.notes.added (sym t.is ∙ d.notes.is) d.notes.steps in
     record {
       under = same;

@@ -9,6 +9,7 @@ use Rattle.std.specs.Prelude.{Bool, List, None, Option, [], false, not, true, �
 use Rattle.tape_laws.specs.World.{gone}
 use Rattle.tape_laws.specs.declared.PlainLimits.{PlainLimits}
 use Rattle.wire_state.specs.Sound.{IsSound, is_open_at}
+use Rattle.wire_state.specs.Tapes.{Promises}
 use Rattle.wire_state.specs.Ways.{WayHistory, WayStep, after, shown, world_setup}
 use Rattle.wire_state.specs.Worlds.{Stands, left_after}
 use Rattle.worker_core.specs.Dispatching.{Breaks, Dispatches}
@@ -90,15 +91,26 @@ abbrev pub StandsAt : Kind → WayHistory → Type 0
 StandsAt (kind.Plain core) h = ⊥
 StandsAt (kind.Wire session) h = Stands session.core.config.limits session.core.conns session.core.flows session.core.links h
 
+-- the history keeps the promise, by the limits of the core
+abbrev pub PromisesAt : Kind → WayHistory → Type 0
+PromisesAt (kind.Plain core) h = ⊥
+PromisesAt (kind.Wire session) h = Promises session.core.config.limits h
+
+-- the limits are as they were
+abbrev pub SameLimits : Kind → Kind → Type 0
+SameLimits (kind.Wire old) (kind.Wire new) = new.core.config.limits ≡ old.core.config.limits
+SameLimits old new = ⊥
+
 -- what has left each connection once an event was carried out, where g had left it before
 abbrev pub left_at : Event → Kind → (ℕ → List ℕ) → ℕ → List ℕ
 left_at e (kind.Plain core) g = g
 left_at e (kind.Wire session) g = left_after e session.core.conns g
 
--- The notes are those of some steps, and the core stands for the history with these behind it. What has left each connection
--- then is told beside it.
-pub record GoesOn (h : WayHistory) (g : ℕ → List ℕ) (new : Kind) (notes : List Note) : Type 0 where
+-- The notes are those of some steps, and the core, with the limits that it had, stands for the history with these behind it. What
+-- has left each connection then is told beside it.
+pub record GoesOn (old : Kind) (h : WayHistory) (g : ℕ → List ℕ) (new : Kind) (notes : List Note) : Type 0 where
   pub steps : List WayStep
   pub is : notes ≡ shown steps
   pub stands : StandsAt new (after steps h)
   pub left : (c : ℕ) → gone world_setup c (after steps h) ≡ g c
+  pub under : SameLimits old new
