@@ -43,6 +43,7 @@ pub none_left : (l : LimitKeys) → HasWorld l []
 none_left l = record { marked = []; notes = refl; promises = record { sent = λ f. refl; bounded = none_fits l }; left = tt; last = λ c. refl }
 
 pub stands_first : (session : WireSession) (config : Config) → session.core.config ≡ config → Stands session.core.config.limits session.core.conns session.core.flows session.core.links [] → StandsFor session config.limits []
+unfolding none_left
 stands_first session config e s = record { under = ap (λ (v : Config). v.limits) e; world = none_left config.limits; stands = s }
 
 -- ---- a connection that comes is new
