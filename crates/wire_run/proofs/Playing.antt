@@ -8,6 +8,7 @@ use Rattle.flow_notes.specs.declared.notes.Note.{Note}
 use Rattle.io_ports.specs.declared.octets.NoMemory.{NoMemory}
 use Rattle.proxy_config.specs.Reading.{config_of}
 use Rattle.proxy_config.specs.declared.config.Config.{Config}
+use Rattle.proxy_config.specs.declared.routes.Route.{Route}
 use Rattle.session_config.specs.ClusterNames.{names_in, resources_in}
 use Rattle.session_lines.specs.WireLines.{Behind, IsWireSeen, NoLine, ReadsWireLine, SpellsWire, WireEvent, WireHeader, WireItem, WireLinesAre, WireSeen, wire_event_lines, wire_events, wire_header, wire_lines, wire_more, wire_read, wire_text}
 use Rattle.session_lines.specs.declared.order.LineRead.{LineRead}
@@ -25,7 +26,7 @@ use Rattle.tape_laws.specs.declared.PlainLimits.{PlainLimits}
 use Rattle.tape_summary.specs.NotesText.{notes_text}
 use Rattle.wire_run.proofs.Noting.{dispatch_adds, onto_text, renamed}
 use Rattle.wire_run.proofs.Staging.{no_row, rows_agree, rows_grow, rows_of}
-use Rattle.wire_run.proofs.Standing.{new_to, stands_on}
+use Rattle.wire_run.proofs.Standing.{new_to, none_left, stands_first, stands_on}
 use Rattle.wire_run.specs.Passing.{CarriesOn, PassesAll}
 use Rattle.wire_run.specs.Played.{DispatchedAs, PlayRests, Played, PlaysEvent, wire_kind}
 use Rattle.wire_run.specs.Rows.{limits_of, passes}
@@ -35,8 +36,10 @@ use Rattle.wire_run.specs.Worlds.{IsNewTo}
 use Rattle.wire_run.specs.declared.play.WirePlay.{WirePlay}
 use Rattle.wire_run.specs.declared.stages.StageTable.{StageTable}
 use Rattle.wire_state.specs.Sound.{IsSound}
+use Rattle.wire_state.specs.Worlds.{Stands}
 use Rattle.wire_summary.specs.Levels.{StageLimits, known_limits}
 use Rattle.wire_summary.specs.Logging.{WireLogIs, WireLogs}
+use Rattle.wire_summary.specs.declared.levels.BufferLimits.{BufferLimits}
 use Rattle.wire_summary.specs.declared.log.WireLog.{WireLog}
 use Rattle.worker_core.specs.Dispatching.{Dispatches}
 use Rattle.wire_summary.specs.Summarizes.{Summarizes}
@@ -249,6 +252,37 @@ event_line_played old mid line e text_old new text_new result r es et el p = rec
     by config lines count told k (Err x) d = d
 
 -- ---- before the first line
+
+pub play_begins : (play : WirePlay) (config : Config) (text : List ℕ) (names : List (List ℕ)) (resources : ℕ) (limits : BufferLimits) (routes : List Route) → config_of text ≡ Ok config
+    → names ≡ names_in config → AreNames names → resources ≡ resources_in config → WireLinesAre play.lines names resources NoLine → play.session.failed ≡ false → IsSound play.session.core → play.session.turn ≡ 0
+    → play.session.core.config ≡ config → Stands play.session.core.config.limits play.session.core.conns play.session.core.flows play.session.core.links [] → limits ≡ limits_of config → WireLogIs limits play.log [] → ((x : ℕ) → known_limits play.log.levels x ≡ None)
+    → routes ≡ config.routes → AreStages play.stages.rows.items routes → Begins wire_kind play text
+play_begins play config text names resources limits routes configured names_are known resources_are lines well sound turn same octets limits_are logs unsaid routes_are stages = record {
+  stands = record {
+    config = config;
+    configured = configured;
+    named = (let P : List (List ℕ) → Type 0 = λ v. AreNames v in subst P names_are known);
+    seen = NoLine;
+    history = [];
+    read =
+        let P : ℕ → Type 0 = λ n. WireLinesAre play.lines names n NoLine in
+        let Q : List (List ℕ) → Type 0 = λ v. WireLinesAre play.lines v (resources_in config) NoLine in
+        subst Q names_are (subst P resources_are lines);
+    rests = record {
+      well = well;
+      sound = sound;
+      turn = turn;
+      logs = (let P : BufferLimits → Type 0 = λ v. WireLogIs v play.log [] in subst P limits_are logs);
+      rows = record { each = λ x. (let P : Option StageLimits → Type 0 = λ v. IfSome v (IsRow config.routes) in subst P (sym (unsaid x)) tt) };
+      stages = (let P : List Route → Type 0 = λ v. AreStages play.stages.rows.items v in subst P routes_are stages);
+      octets = stands_first play.session config same octets;
+    };
+    tape = record { may = tt; shown = refl; in_order = tt; spelled = tt; octets = none_left config.limits };
+    lines_are = refl;
+    count_is = refl;
+    told_is = refl;
+  };
+}
 
 -- ---- the summary
 

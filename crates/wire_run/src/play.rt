@@ -37,7 +37,6 @@ impl WirePlay {
     ghost use Rattle.wire_state.specs.Sound.{IsSound};
 
     /// Before the first line of a session under this configuration.
-    #[tactic(auto, using(crate::proofs::Standing::none_left, crate::proofs::Standing::stands_first))]
     pub fn new(alloc: Global, config: Config) -> Result<Self, NoMemory>
         requires { IsInRange config }
         ensures { IfOk result (λ play. (text : List ℕ) → config_of text ≡ Ok config → Begins wire_kind play text) }
