@@ -61,7 +61,7 @@ carried_rests old new e config h c new_one k =
       logs = c.logs.goes (limits_of config) h (c.passes.goes (limits_of config) h k.logs);
       rows = rows_grow config.routes c.before.levels new.log.levels no_limits (c.passes.keeps config.routes k.stages k.rows) c.logs.grow (no_row config.routes);
       stages = table;
-      octets = stands_on old.session new.session e new.notes h c.dispatches new_one k.octets;
+      octets = stands_on old.session new.session config.limits e new.notes h c.dispatches new_one k.octets;
     }
 
 carried_tape : (old new : WirePlay) (e : Event) (config : Config) (h : History NoMark) (seen after : WireSeen) → CarriesOn old e new → IsNewTo e h → PlayRests old config h → IsEvent (names_in config) e
@@ -73,7 +73,7 @@ carried_tape old new e config h seen after c new_one k is t next may =
       shown = adds.shown ∙ ap (λ es. e ∷ es) t.shown ∙ sym next;
       in_order = adds.ordered (ap (λ n. n + 1) k.turn) t.in_order;
       spelled = adds.told (names_in config) (omega arith) is t.spelled;
-      octets = (stands_on old.session new.session e new.notes h c.dispatches new_one k.octets).world;
+      octets = (stands_on old.session new.session config.limits e new.notes h c.dispatches new_one k.octets).world;
     }
 
 -- the notes have a spelling with the names of the lines
@@ -255,9 +255,9 @@ event_line_played old mid line e text_old new text_new result r es et el p = rec
 
 pub play_begins : (play : WirePlay) (config : Config) (text : List ℕ) (names : List (List ℕ)) (resources : ℕ) (limits : BufferLimits) (routes : List Route) → config_of text ≡ Ok config
     → names ≡ names_in config → AreNames names → resources ≡ resources_in config → WireLinesAre play.lines names resources NoLine → play.session.failed ≡ false → IsSound play.session.core → play.session.turn ≡ 0
-    → Stands play.session.core.conns play.session.core.flows play.session.core.links [] → limits ≡ limits_of config → WireLogIs limits play.log [] → ((x : ℕ) → known_limits play.log.levels x ≡ None)
+    → play.session.core.config ≡ config → Stands play.session.core.config.limits play.session.core.conns play.session.core.flows play.session.core.links [] → limits ≡ limits_of config → WireLogIs limits play.log [] → ((x : ℕ) → known_limits play.log.levels x ≡ None)
     → routes ≡ config.routes → AreStages play.stages.rows.items routes → Begins wire_kind play text
-play_begins play config text names resources limits routes configured names_are known resources_are lines well sound turn octets limits_are logs unsaid routes_are stages = record {
+play_begins play config text names resources limits routes configured names_are known resources_are lines well sound turn same octets limits_are logs unsaid routes_are stages = record {
   stands = record {
     config = config;
     configured = configured;
@@ -275,9 +275,9 @@ play_begins play config text names resources limits routes configured names_are 
       logs = (let P : BufferLimits → Type 0 = λ v. WireLogIs v play.log [] in subst P limits_are logs);
       rows = record { each = λ x. (let P : Option StageLimits → Type 0 = λ v. IfSome v (IsRow config.routes) in subst P (sym (unsaid x)) tt) };
       stages = (let P : List Route → Type 0 = λ v. AreStages play.stages.rows.items v in subst P routes_are stages);
-      octets = stands_first play.session octets;
+      octets = stands_first play.session config same octets;
     };
-    tape = record { may = tt; shown = refl; in_order = tt; spelled = tt; octets = none_left };
+    tape = record { may = tt; shown = refl; in_order = tt; spelled = tt; octets = none_left config.limits };
     lines_are = refl;
     count_is = refl;
     told_is = refl;

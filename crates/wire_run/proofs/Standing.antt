@@ -2,19 +2,25 @@
 use Rattle.flow_notes.specs.declared.events.Event.{Event}
 use Rattle.flow_notes.specs.declared.notes.Note.{Note}
 use Rattle.paged_map.specs.PagedMap.{PagedMap}
+use Rattle.proxy_config.specs.declared.config.Config.{Config}
+use Rattle.proxy_config.specs.declared.config.LimitKeys.{LimitKeys}
 use Rattle.session_lines.specs.WireOrder.{may_follow_wire, named}
 use Rattle.std.proofs.Common.{ap, arith, refl, subst, sym, ◌∙◌}
 use Rattle.std.proofs.lemmas.Bool.Decides.{nat_tests}
 use Rattle.std.proofs.lemmas.List.{append-nil}
 use Rattle.std.proofs.lemmas.List.Folds.{list_any-append}
+use Rattle.std.specs.Bool.{OnTrue}
 use Rattle.std.specs.List.{AllByRecursion, list_all}
 use Rattle.std.specs.Prelude.{Bool, IsTrue, List, Option, Some, [], false, nat_lt, true, ℕ, ◌&&◌, ◌++◌, ◌+◌, ◌==◌, ◌||◌, ◌∷◌, ◌≡◌}
+use Rattle.tape_laws.specs.Bounds.{IsBounded}
 use Rattle.tape_laws.specs.Connections.{connections}
 use Rattle.tape_laws.specs.Dispatches.{before_dispatch, events_back, has, this_event}
 use Rattle.tape_laws.specs.History.{BeforeTurn, EachFollows, History, Marked, NoMark, Noted, notes_of, onto}
 use Rattle.tape_laws.specs.World.{gone, out}
 use Rattle.wire_run.specs.Worlds.{HasWorld, IsNewTo, LeavesByRoom, StandsFor, leaves_by}
+use Rattle.wire_state.proofs.Promised.{promised}
 use Rattle.wire_state.specs.Noting.{IsStep}
+use Rattle.wire_state.specs.Tapes.{Promises, tape_setup}
 use Rattle.wire_state.specs.Ways.{WayHistory, WayStep, after, shown, world_setup}
 use Rattle.wire_state.specs.Worlds.{IsFresh, Stands, left_after, octets_of}
 use Rattle.wire_state.specs.declared.conn.Conn.{Conn}
@@ -26,12 +32,19 @@ use Rattle.flow_notes.specs.declared.notes.Note.TheVariants as note
 use Rattle.worker_core.specs.declared.worker.Kind.TheVariants as kind
 
 -- ---- before the first line
-pub none_left : HasWorld []
-none_left = record { marked = []; notes = refl; left = tt; last = λ c. refl }
+none_fits : (l : LimitKeys) → IsBounded (tape_setup l) []
+none_fits l = record { recv = tt; stages = tt; send = on_true (nat_lt 0 l.send_buffer); write = on_true (nat_lt 0 l.write_buffer); together = tt }
+  where
+    on_true : (b : Bool) → OnTrue b (Unit {0})
+    on_true true = tt
+    on_true false = tt
 
-pub stands_first : (session : WireSession) → Stands session.core.conns session.core.flows session.core.links [] → StandsFor session []
+pub none_left : (l : LimitKeys) → HasWorld l []
+none_left l = record { marked = []; notes = refl; promises = record { sent = λ f. refl; bounded = none_fits l }; left = tt; last = λ c. refl }
+
+pub stands_first : (session : WireSession) (config : Config) → session.core.config ≡ config → Stands session.core.config.limits session.core.conns session.core.flows session.core.links [] → StandsFor session config.limits []
 unfolding none_left
-stands_first session s = record { world = none_left; stands = s }
+stands_first session config e s = record { under = ap (λ (v : Config). v.limits) e; world = none_left config.limits; stands = s }
 
 -- ---- a connection that comes is new
 -- the events of these notes, the last note first
@@ -234,15 +247,19 @@ leaves_as : (c : ℕ) (xs ys waits waited : List ℕ) (o p : Option Event) → y
 leaves_as c xs ys waits waited o p e f g =
     ap (λ (v : List ℕ). v ++ leaves_by o c waits) (sym e) ∙ ap (λ (v : List ℕ). ys ++ leaves_by o c v) (sym f) ∙ ap (λ (v : Option Event). ys ++ leaves_by v c waited) (sym g)
 
-pub stands_on : (old new : WireSession) (e : Event) (notes : List Note) (h : History NoMark) → Dispatches old [] e new notes → IsNewTo e h → StandsFor old h → StandsFor new (onto notes h)
-stands_on old new e notes h d new_one s =
+pub stands_on : (old new : WireSession) (l : LimitKeys) (e : Event) (notes : List Note) (h : History NoMark) → Dispatches old [] e new notes → IsNewTo e h → StandsFor old l h → StandsFor new l (onto notes h)
+stands_on old new l e notes h d new_one s =
     let k = s.world.marked in
-    let t = goes_on (kind.Wire old) e (kind.Wire new) notes d k s.stands (fresh_of k h s.world.notes e new_one) in
+    let fresh = fresh_of k h s.world.notes e new_one in
+    let t = goes_on (kind.Wire old) e (kind.Wire new) notes d k s.stands fresh in
+    let same : new.core.config.limits ≡ l = t.under ∙ s.under in
     let turn = turned t.steps k (old.turn + 1) e d.notes.added (sym t.is ∙ d.notes.is) d.notes.steps in
     record {
+      under = same;
       world = record {
         marked = after t.steps k;
         notes = same_notes t.steps k notes h t.is s.world.notes;
+        promises = subst (λ (v : LimitKeys). Promises v (after t.steps k)) same (promised new.core.conns new.core.flows new.core.links (after t.steps k) t.stands);
         left = turn.each s.world.left s.world.last;
         last = λ c. t.left c ∙ left_by e old.core.conns (λ x. gone world_setup x k) c
             ∙ leaves_as c (gone world_setup c k) (gone world_setup c (before_dispatch (after t.steps k))) (octets_of c old.core.conns) (out world_setup c (before_dispatch (after t.steps k)))

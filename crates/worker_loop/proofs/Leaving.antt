@@ -7,6 +7,7 @@ use Rattle.std.specs.Option.{option_map}
 use Rattle.std.specs.Prelude.{List, Some, [], if◌then◌else◌, take, ℕ, ◌++◌, ◌==◌, ◌∷◌, ◌≡◌, ◌≤◌}
 use Rattle.tape_laws.specs.World.{gone}
 use Rattle.wire_state.specs.Ways.{WayHistory, after, world_setup}
+use Rattle.worker_core.proofs.Turning.{stands_promise}
 use Rattle.worker_core.specs.Sessions.{RestsWire, StandsAt}
 use Rattle.worker_core.specs.declared.worker.Kind.{Kind}
 use Rattle.worker_loop.proofs.Coming.{up_more}
@@ -141,11 +142,12 @@ module _ (names : List (List ℕ)) (end : End) (old new : Sides) (k0 k' : Kind) 
   pub part_octets : InWorld end k0 k' v0.seen w.seen v0.told w.told
   part_octets = record {
     goes = λ notes h hands stands up.
-        let s : Stood h e.did e.kind e.mid.seen.greatest = runs_stand names v0 e.mid e.runs e.becomes h stands up in
+        let s : Stood k0 h e.did e.kind e.mid.seen.greatest = runs_stand names v0 e.mid e.runs e.becomes h stands up in
         record {
           steps = s.steps;
           is = handed names end old new k0 k' v0 w e rests notes hands ∙ s.is;
           stands = ends_stand names (after s.steps h) end e.kind k' e.mid w s.stands e.ends;
+          promises = stands_promise k0 e.kind (after s.steps h) s.under s.stands;
           came = up_more e.mid.seen.greatest w.seen.greatest (after s.steps h) (ends_rise names end e.kind k' e.mid w e.ends) s.up;
           takes = λ before told at_old at_new. takes_left notes h (after s.steps h) before told hands s.left at_old at_new;
         };

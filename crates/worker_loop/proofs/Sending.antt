@@ -13,8 +13,8 @@ use Rattle.tape_laws.specs.World.{gone}
 use Rattle.wire_state.specs.Ways.{WayHistory, WayStep, after, shown, world_setup}
 use Rattle.wire_state.specs.Worlds.{left_after, octets_of}
 use Rattle.wire_state.specs.declared.conn.Conn.{Conn}
-use Rattle.worker_core.proofs.Turning.{goes_on}
-use Rattle.worker_core.specs.Sessions.{CarriesOut, GoesOn, StandsAt, left_at}
+use Rattle.worker_core.proofs.Turning.{goes_on, same_under, under_more}
+use Rattle.worker_core.specs.Sessions.{CarriesOut, GoesOn, SameLimits, StandsAt, left_at}
 use Rattle.worker_core.specs.declared.worker.Kind.TheVariants as kind
 use Rattle.worker_core.specs.declared.worker.Kind.{Kind}
 use Rattle.worker_loop.proofs.Becoming.{becomes_split}
@@ -62,31 +62,33 @@ carried_taken c e k ds new d = ap (taken_in c) d.is ∙ ended_taken c (filter (i
 -- ---- what so much that was done makes of a history
 -- The notes that were handed over are those of some steps, and the core stands for the history with these behind it. What was taken
 -- left the connections.
-pub record Stood (h : WayHistory) (ds : List Did) (new : Kind) (n : ℕ) : Type 0 where
+pub record Stood (k : Kind) (h : WayHistory) (ds : List Did) (new : Kind) (n : ℕ) : Type 0 where
   pub steps : List WayStep
   pub is : notes_of ds ≡ shown steps
   pub stands : StandsAt new (after steps h)
   pub up : CameUpTo n (after steps h)
   pub left : (c : ℕ) → gone world_setup c (after steps h) ≡ gone world_setup c h ++ taken_in c ds
+  pub under : SameLimits k new
 
-stood_none : (h : WayHistory) (k : Kind) (n : ℕ) → StandsAt k h → CameUpTo n h → Stood h [] k n
-stood_none h k n stands up = record { steps = []; is = refl; stands = stands; up = up; left = λ c. sym (append-nil (gone world_setup c h)) }
+stood_none : (h : WayHistory) (k : Kind) (n : ℕ) → StandsAt k h → CameUpTo n h → Stood k h [] k n
+stood_none h k n stands up = record { steps = []; is = refl; stands = stands; up = up; left = λ c. sym (append-nil (gone world_setup c h)); under = same_under k h stands }
 
 -- the same of what hands over the same notes and takes the same
-stood_front : (h : WayHistory) (ds es : List Did) (new : Kind) (n : ℕ) → notes_of es ≡ notes_of ds → ((c : ℕ) → taken_in c es ≡ taken_in c ds) → Stood h ds new n → Stood h es new n
+stood_front : {k : Kind} (h : WayHistory) (ds es : List Did) (new : Kind) (n : ℕ) → notes_of es ≡ notes_of ds → ((c : ℕ) → taken_in c es ≡ taken_in c ds) → Stood k h ds new n → Stood k h es new n
 stood_front h ds es new n notes taken s = record {
   steps = s.steps;
   is = notes ∙ s.is;
   stands = s.stands;
   up = s.up;
   left = λ c. s.left c ∙ ap (λ (xs : List ℕ). gone world_setup c h ++ xs) (sym (taken c));
+  under = s.under;
 }
 
-stood_up : (h : WayHistory) (ds : List Did) (new : Kind) (n m : ℕ) → n ≤ m → Stood h ds new n → Stood h ds new m
-stood_up h ds new n m less s = record { steps = s.steps; is = s.is; stands = s.stands; up = up_more n m (after s.steps h) less s.up; left = s.left }
+stood_up : {k : Kind} (h : WayHistory) (ds : List Did) (new : Kind) (n m : ℕ) → n ≤ m → Stood k h ds new n → Stood k h ds new m
+stood_up h ds new n m less s = record { steps = s.steps; is = s.is; stands = s.stands; up = up_more n m (after s.steps h) less s.up; left = s.left; under = s.under }
 
-stood_more : (h : WayHistory) (ds es : List Did) (mid new : Kind) (n m : ℕ) → Stood h ds mid n → ((j : WayHistory) → StandsAt mid j → CameUpTo n j → Stood j es new m) → Stood h (ds ++ es) new m
-stood_more h ds es mid new n m one more =
+stood_more : {k : Kind} (h : WayHistory) (ds es : List Did) (mid new : Kind) (n m : ℕ) → Stood k h ds mid n → ((j : WayHistory) → StandsAt mid j → CameUpTo n j → Stood mid j es new m) → Stood k h (ds ++ es) new m
+stood_more {k} h ds es mid new n m one more =
     let two = more (after one.steps h) one.stands one.up in
     let behind = sym (after_append one.steps two.steps h) in
     record {
@@ -96,6 +98,7 @@ stood_more h ds es mid new n m one more =
       up = subst (λ (j : WayHistory). CameUpTo m j) behind two.up;
       left = λ c. ap (gone world_setup c) (after_append one.steps two.steps h) ∙ two.left c ∙ ap (λ (xs : List ℕ). xs ++ taken_in c es) (one.left c)
           ∙ append_assoc (gone world_setup c h) (taken_in c ds) (taken_in c es) ∙ ap (λ (xs : List ℕ). gone world_setup c h ++ xs) (sym (taken_append c ds es));
+      under = under_more k mid new one.under two.under;
     }
 
 -- ---- one event
@@ -105,7 +108,7 @@ turn_shown (kind.Wire old) e (kind.Plain new) notes h stands carries = absurd ca
 turn_shown (kind.Plain old) e new notes h stands carries = absurd stands
 
 module _ (e : Event) (k new : Kind) (ds : List Did) (n : ℕ) (h : WayHistory) (carried : Carried e k ds new) (stands : StandsAt k h) (up : CameUpTo n h) (may : MayBe e n h) where
-  goes : GoesOn h (left_at e k (λ c. gone world_setup c h)) new carried.notes
+  goes : GoesOn k h (left_at e k (λ c. gone world_setup c h)) new carried.notes
   goes = goes_on k e new carried.notes carried.carries h stands may.fresh
 
   came : (steps : List WayStep) → carried.notes ≡ shown steps → (c : ℕ) → has (came_in (turn_events (shown steps))) c ≡ true → c ≤ n
@@ -114,17 +117,18 @@ module _ (e : Event) (k new : Kind) (ds : List Did) (n : ℕ) (h : WayHistory) (
       may.up c (ap (λ (es : List Event). has (came_in es) c) (sym one) ∙ there)
 
   -- and what was done with it, which hands over the same notes
-  stood_event : (es : List Did) → notes_of es ≡ notes_of ds → ((c : ℕ) → left_at e k (λ d. gone world_setup d h) c ≡ gone world_setup c h ++ taken_in c es) → Stood h es new n
+  stood_event : (es : List Did) → notes_of es ≡ notes_of ds → ((c : ℕ) → left_at e k (λ d. gone world_setup d h) c ≡ gone world_setup c h ++ taken_in c es) → Stood k h es new n
   stood_event es same taken = record {
     steps = goes.steps;
     is = same ∙ carried_notes e k ds new carried ∙ goes.is;
     stands = goes.stands;
     up = up_after n goes.steps h up (came goes.steps goes.is);
     left = λ c. goes.left c ∙ taken c;
+    under = goes.under;
   }
 
   -- no octets leave by it
-  stood_quiet : ((g : ℕ → List ℕ) → left_at e k g ≡ g) → Stood h ds new n
+  stood_quiet : ((g : ℕ → List ℕ) → left_at e k g ≡ g) → Stood k h ds new n
   stood_quiet none = stood_event ds refl (λ c.
       ap (λ (g : ℕ → List ℕ). g c) (none (λ d. gone world_setup d h)) ∙ sym (append-nil (gone world_setup c h)) ∙ ap (λ (xs : List ℕ). gone world_setup c h ++ xs) (sym (carried_taken c e k ds new carried)))
 
@@ -159,7 +163,7 @@ inner_leaves (event.Gone c) i = tt
 inner_leaves (event.Room c n) i = cc
 inner_leaves (event.Plain e) i = tt
 
-all_inner : {es : List Event} {k : Kind} {ds : List Did} {new : Kind} → CarriedAll es k ds new → AreInner es → (n : ℕ) (h : WayHistory) → StandsAt k h → CameUpTo n h → Stood h ds new n
+all_inner : {es : List Event} {k : Kind} {ds : List Did} {new : Kind} → CarriedAll es k ds new → AreInner es → (n : ℕ) (h : WayHistory) → StandsAt k h → CameUpTo n h → Stood k h ds new n
 all_inner (Nothing k) inner n h stands up = stood_none h k n stands up
 all_inner (One e es k mid new ds rest first others) inner n h stands up =
     stood_more h ds rest mid new n n (stood_quiet e k mid ds n h first stands up (inner_may e n h inner.0) (λ g. none_leaves e (inner_leaves e inner.0) k g)) (λ j s u. all_inner others inner.1 n j s u)
@@ -178,7 +182,7 @@ one_carried (One f es k mid new ds rest first others) e is =
     (subst (λ (j : Kind). Carried f k (ds ++ rest) j) (sym over.1)
     (subst (λ (xs : List Did). Carried f k xs mid) (sym (ap (λ (xs : List Did). ds ++ xs) over.0 ∙ append-nil ds)) first))
 
-stood_one : {k : Kind} {ds : List Did} {new : Kind} (e : Event) → LeavesNone e → CarriedAll (e ∷ []) k ds new → (n : ℕ) (h : WayHistory) → StandsAt k h → CameUpTo n h → MayBe e n h → Stood h ds new n
+stood_one : {k : Kind} {ds : List Did} {new : Kind} (e : Event) → LeavesNone e → CarriedAll (e ∷ []) k ds new → (n : ℕ) (h : WayHistory) → StandsAt k h → CameUpTo n h → MayBe e n h → Stood k h ds new n
 stood_one {k} {ds} {new} e l all n h stands up may = stood_quiet e k new ds n h (one_carried all e refl) stands up may (λ g. none_leaves e l k g)
 
 -- ---- what was taken up
@@ -197,7 +201,7 @@ module _ (old new : Seen) (h : WayHistory) (up : CameUpTo old.greatest h) where
   join_may : (c cluster : ℕ) → Gives old (wired.Join c cluster) new → MayBe (event.Join c cluster) new.greatest h
   join_may c cluster g = record { fresh = not_yet old.greatest c h up g.may.0; up = λ d there. one_came c d new.greatest (ap (λ (s : Seen). s.greatest) g.is) there }
 
-  taken_stands : {k : Kind} {w : Wired} {ds : List Did} {k' : Kind} → TakesUp k w ds k' → Gives old w new → StandsAt k h → CameUpTo new.greatest h → Stood h ds k' new.greatest
+  taken_stands : {k : Kind} {w : Wired} {ds : List Did} {k' : Kind} → TakesUp k w ds k' → Gives old w new → StandsAt k h → CameUpTo new.greatest h → Stood k h ds k' new.greatest
   taken_stands {k} (Shut c isnt) g stands more = stood_front h [] (TurnedAway c ∷ []) k new.greatest refl (λ d. refl) (stood_none h k new.greatest stands more)
   taken_stands {k} (Full c holds_so) g stands more = stood_front h [] (Refused c ∷ TurnedAway c ∷ []) k new.greatest refl (λ d. refl) (stood_none h k new.greatest stands more)
   taken_stands (Accepted c ds mid holds_so all) g stands more =
@@ -230,25 +234,25 @@ some_there : (n : ℕ) → nat_lt 0 (suc n) ≡ true
 some_there n = grind (arith, nat_tests)
 
 module _ (c : ℕ) (piece : List ℕ) (k : Kind) (m : ℕ) (h : WayHistory) (front : IsPiece k c piece) (stands : StandsAt k h) (up : CameUpTo m h) where
-  nothing_taken : (ds : List Did) (new : Kind) → (ds ≡ []) × (new ≡ k) → Stood h (Offered c piece zero ∷ ds) new m
+  nothing_taken : (ds : List Did) (new : Kind) → (ds ≡ []) × (new ≡ k) → Stood k h (Offered c piece zero ∷ ds) new m
   nothing_taken ds new over =
-      subst (λ (xs : List Did). Stood h (Offered c piece zero ∷ xs) new m) (sym over.0)
-      (subst (λ (j : Kind). Stood h (Offered c piece zero ∷ []) j m) (sym over.1)
+      subst (λ (xs : List Did). Stood k h (Offered c piece zero ∷ xs) new m) (sym over.0)
+      (subst (λ (j : Kind). Stood k h (Offered c piece zero ∷ []) j m) (sym over.1)
       (stood_front h [] (Offered c piece zero ∷ []) k m refl (λ d. append-nil (if c == d then [] else []) ∙ same_branch (c == d) []) (stood_none h k m stands up)))
 
-  some_taken : (n : ℕ) (ds : List Did) (new : Kind) → n ≤ length piece → Carried (event.Room c n) k ds new → Stood h (Offered c piece n ∷ ds) new m
+  some_taken : (n : ℕ) (ds : List Did) (new : Kind) → n ≤ length piece → Carried (event.Room c n) k ds new → Stood k h (Offered c piece n ∷ ds) new m
   some_taken n ds new most one =
       stood_event (event.Room c n) k new ds m h one stands up (record { fresh = tt; up = λ d there. cc }) (Offered c piece n ∷ ds) refl (λ d.
       room_left k h c n piece stands front most (λ e. gone world_setup e h) d
       ∙ ap (λ (xs : List ℕ). gone world_setup d h ++ xs)
       (sym (append-nil (if c == d then take n piece else [])) ∙ ap (λ (xs : List ℕ). (if c == d then take n piece else []) ++ xs) (sym (carried_taken d (event.Room c n) k ds new one))))
 
-  by_room : (b : Bool) (n : ℕ) (ds : List Did) (new : Kind) → nat_lt 0 n ≡ b → n ≤ length piece → CarriedAll (events_in (if b then Some (event.Room c n) else None)) k ds new → Stood h (Offered c piece n ∷ ds) new m
+  by_room : (b : Bool) (n : ℕ) (ds : List Did) (new : Kind) → nat_lt 0 n ≡ b → n ≤ length piece → CarriedAll (events_in (if b then Some (event.Room c n) else None)) k ds new → Stood k h (Offered c piece n ∷ ds) new m
   by_room true n ds new is most all = some_taken n ds new most (one_carried all (event.Room c n) refl)
   by_room false zero ds new is most all = nothing_taken ds new (none_more all refl)
   by_room false (suc n) ds new is most all = absurd (false≢true (sym is ∙ some_there n))
 
-  offered_stands : (n : ℕ) (ds : List Did) (new : Kind) → n ≤ length piece → CarriedAll (events_in (room_event c n)) k ds new → Stood h (Offered c piece n ∷ ds) new m
+  offered_stands : (n : ℕ) (ds : List Did) (new : Kind) → n ≤ length piece → CarriedAll (events_in (room_event c n)) k ds new → Stood k h (Offered c piece n ∷ ds) new m
   offered_stands n ds new most all = by_room (nat_lt 0 n) n ds new refl most all
 
 -- ---- the greatest number that came
@@ -281,7 +285,7 @@ rises names (d ∷ ds) v w b = then_rises v.seen.greatest b.0.seen.greatest w.se
     one (Offered n piece m) c = same_greatest v b.0 (ap (λ (p : Place). p.seen.greatest) c)
 
 -- ---- whole parts of turns
-pub runs_stand : {k : Kind} {ds : List Did} {new : Kind} (names : List (List ℕ)) (v w : Place) → Runs k ds new → Becomes names v ds w → (h : WayHistory) → StandsAt k h → CameUpTo v.seen.greatest h → Stood h ds new w.seen.greatest
+pub runs_stand : {k : Kind} {ds : List Did} {new : Kind} (names : List (List ℕ)) (v w : Place) → Runs k ds new → Becomes names v ds w → (h : WayHistory) → StandsAt k h → CameUpTo v.seen.greatest h → Stood k h ds new w.seen.greatest
 runs_stand names v w (NoneRun k) b h stands up = stood_up h [] k v.seen.greatest w.seen.greatest (same_greatest v w (ap (λ (p : Place). p.seen.greatest) b)) (stood_none h k v.seen.greatest stands up)
 runs_stand names v w (InnerRun es k mid new ds rest inner rising all others) b h stands up =
     let r = becomes_split names ds rest v w b in

@@ -12,7 +12,7 @@ use Rattle.tape_laws.specs.Connections.{connections}
 use Rattle.tape_laws.specs.Dispatches.{has}
 use Rattle.tape_laws.specs.World.{gone}
 use Rattle.wire_state.specs.Ways.{WayHistory, WayStep, after, shown, world_setup}
-use Rattle.worker_core.specs.Sessions.{CarriesOut, StandsAt, version_of}
+use Rattle.worker_core.specs.Sessions.{CarriesOut, PromisesAt, StandsAt, version_of}
 use Rattle.worker_core.specs.declared.worker.Kind.{Kind}
 use Rattle.worker_loop.specs.Carrying.{post_event}
 use Rattle.worker_loop.specs.Places.{event_line}
@@ -134,18 +134,19 @@ pub record TakesWhatLeft (end : Ended) (notes : List Note) (h now : WayHistory) 
   pub matches : Matches kept (outside_events (turn_events notes))
   pub left : (c : ℕ) → gone world_setup c now ≡ gone world_setup c h ++ taken_of c kept
 
--- the notes go on with a history for which the core stood
-pub record GoesOnIn (end : Ended) (new : Kind) (old_seen new_seen : Seen) (notes : List Note) (h : WayHistory) : Type 0 where
+-- the notes go on with a history for which the core stood, and it keeps the promise at each moment
+pub record GoesOnIn (end : Ended) (k new : Kind) (old_seen new_seen : Seen) (notes : List Note) (h : WayHistory) : Type 0 where
   pub steps : List WayStep
   pub is : notes ≡ shown steps
   pub stands : EndsStanding end new (after steps h)
+  pub promises : PromisesAt k (after steps h)
   pub came : CameUpTo new_seen.greatest (after steps h)
   pub takes : (before told : List WireStep) → old_seen.steps ≡ Some before → new_seen.steps ≡ Some (before ++ told) → TakesWhatLeft end notes h (after steps h) told
 
 -- For each history for which the core stood, and of which each connection had come to these connections, it stands for that
 -- history with the notes behind it. What they took of each is what the notes added to what left it.
 pub record InWorld (end : Ended) (k new : Kind) (old_seen new_seen : Seen) (old_told new_told : Option (List Note)) : Type 0 where
-  pub goes : (notes : List Note) (h : WayHistory) → Hands old_told new_told notes → StandsAt k h → CameUpTo old_seen.greatest h → GoesOnIn end new old_seen new_seen notes h
+  pub goes : (notes : List Note) (h : WayHistory) → Hands old_told new_told notes → StandsAt k h → CameUpTo old_seen.greatest h → GoesOnIn end k new old_seen new_seen notes h
 
 -- ---- (d) the turns
 -- So many turns were run whole: each has one tick, one drain of the box and one look of the follower, and leaves the core at the
