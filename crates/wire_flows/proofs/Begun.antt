@@ -70,6 +70,9 @@ grows_more f old mid new a b = record {
   pending = λ c. b.pending c ∙ a.pending c;
 }
 
+pub grows_none : (f : FlowId) (board : Board) → Grows f board board
+grows_none f board = record { flows = λ g. refl; watched = λ g apart. refl; buffers = λ c other. refl; marks = λ c. refl; watchers = λ c. refl; pending = λ c. refl }
+
 pub watches_none : (f : FlowId) (board : Board) → WatchesOwn f [] board board
 watches_none f board = record { watched = sym (append-nil (watched_by board f)); known = λ b own. sym (or_false (is_known board b)); writes = λ c. refl }
 
@@ -228,16 +231,21 @@ module _ (f : FlowId) (filters : List Filter) (old mid sent : Board) (w : Watche
   own_all : WatchesOwn f (meters f 1 filters ++ buffer.Send f ∷ []) old sent
   own_all = watches_more f (meters f 1 filters) (buffer.Send f ∷ []) old mid sent w s
 
-  pub all_none : WatchesAll f (watches_from f filters None) None old sent
-  all_none = record { watched = own_all.watched; writes = λ c. own_all.writes c ∙ sym (append-nil (watchers_of old (buffer.Write c))) }
-
-  pub all_some : (c : ℕ) (new : Board) → Watches f (buffer.Write c) sent new → WatchesAll f (watches_from f filters (Some c)) (Some c) old new
-  all_some c new t = record {
-    watched = t.watched f ∙ (ap (λ b. watched_by sent f ++ (if b then buffer.Write c ∷ [] else [])) (same_flow-refl f)
-        ∙ (ap (λ xs. xs ++ buffer.Write c ∷ []) own_all.watched
-        ∙ (append_assoc (watched_by old f) (meters f 1 filters ++ buffer.Send f ∷ []) (buffer.Write c ∷ []) ∙ ap (λ xs. watched_by old f ++ xs) (append_assoc (meters f 1 filters) (buffer.Send f ∷ []) (buffer.Write c ∷ [])))));
-    writes = λ d. t.watchers (buffer.Write d) ∙ ap (λ xs. xs ++ (if c == d then f ∷ [] else [])) (own_all.writes d);
+  pub all_watched : (to : Option ℕ) (new : Board) → WatchesAll f (write_of to) to sent new → WatchesAll f (watches_from f filters to) to old new
+  all_watched to new t = record {
+    watched = t.watched ∙ (ap (λ xs. xs ++ write_of to) own_all.watched
+        ∙ (append_assoc (watched_by old f) (meters f 1 filters ++ buffer.Send f ∷ []) (write_of to) ∙ ap (λ xs. watched_by old f ++ xs) (append_assoc (meters f 1 filters) (buffer.Send f ∷ []) (write_of to))));
+    writes = λ d. t.writes d ∙ ap (λ xs. xs ++ (if is_target d to then f ∷ [] else [])) (own_all.writes d);
   }
+
+pub write_watched : (f : FlowId) (c : ℕ) (mid new : Board) → Watches f (buffer.Write c) mid new → WatchesAll f (write_of (Some c)) (Some c) mid new
+write_watched f c mid new w = record {
+  watched = w.watched f ∙ ap (λ b. watched_by mid f ++ (if b then buffer.Write c ∷ [] else [])) (same_flow-refl f);
+  writes = λ d. w.watchers (buffer.Write d);
+}
+
+pub no_write_watched : (f : FlowId) (board : Board) → WatchesAll f (write_of None) None board board
+no_write_watched f board = record { watched = sym (append-nil (watched_by board f)); writes = λ c. sym (append-nil (watchers_of board (buffer.Write c))) }
 
 pub watch_write_grows : (f : FlowId) (c : ℕ) (mid new : Board) → Watches f (buffer.Write c) mid new → Grows f mid new
 watch_write_grows f c mid new w = record {

@@ -11,11 +11,11 @@ use Rattle.io_ports.specs.declared.octets.NoMemory.{NoMemory}
 use Rattle.std.proofs.Common.{ap, refl, subst, sym, ◌∙◌}
 use Rattle.std.specs.Option.{option_map_or}
 use Rattle.std.specs.Prelude.{Bool, Err, IfOk, IfSome, List, None, Ok, OnErr, OnOk, Option, Result, Some, [], false, if◌then◌else◌, true, ℕ, ◌&&◌, ◌++◌, ◌==◌, ◌||◌, ◌∷◌, ◌≡◌}
-use Rattle.wire_flows.proofs.Begun.{all_none, all_some, begins_flow, grows_more, watch_write_grows}
+use Rattle.wire_flows.proofs.Begun.{begins_flow, grows_more, grows_none, watch_write_grows}
 use Rattle.wire_flows.proofs.Cases.{by_case, not_both}
 use Rattle.wire_flows.proofs.Owners.{own_exact}
 use Rattle.wire_flows.proofs.Restored.{Partial, closed_none, closed_watches, partly_begun, restored, same_board, wholly_begun}
-use Rattle.wire_flows.specs.Begins.{BeginsBoth, BeginsFlow, Grows, IsFresh, IsSame, WatchesAll, WatchesOwn, is_held_by, meters, watches_from}
+use Rattle.wire_flows.specs.Begins.{BeginsBoth, BeginsFlow, Grows, IsFresh, IsSame, WatchesAll, WatchesOwn, is_held_by, meters}
 use Rattle.flow_gate.specs.declared.ids.BufferId.TheVariants as buffer
 
 -- ---- what a flow that grows keeps
@@ -24,31 +24,25 @@ grown_open f old new g there = g.flows f ∙ there
 
 -- ---- the write buffer, after its Meters and its send buffer
 module _ (f : FlowId) (filters : List Filter) (old mid sent : Board) (g : Grows f old mid) (w : WatchesOwn f (meters f 1 filters) old mid) (h : Grows f mid sent) (v : WatchesOwn f (buffer.Send f ∷ []) mid sent) where
-  pub both_grow : Grows f old sent
-  both_grow = grows_more f old mid sent g h
+  pub write_known : (to : Option ℕ) → IfSome to (λ c. is_known old (buffer.Write c) ≡ true) → IfSome to (λ c. is_known sent (buffer.Write c) ≡ true)
+  write_known None known = tt
+  write_known (Some c) known = h.buffers (buffer.Write c) refl ∙ (g.buffers (buffer.Write c) refl ∙ known)
 
-  pub write_known : (c : ℕ) → is_known old (buffer.Write c) ≡ true → is_known sent (buffer.Write c) ≡ true
-  write_known c known = h.buffers (buffer.Write c) refl ∙ (g.buffers (buffer.Write c) refl ∙ known)
+  pub write_apart : (to : Option ℕ) → IfSome to (λ c. times f (watchers_of old (buffer.Write c)) ≡ 0) → IfSome to (λ c. times f (watchers_of sent (buffer.Write c)) ≡ 0)
+  write_apart None none = tt
+  write_apart (Some c) none = ap (times f) (v.writes c ∙ w.writes c) ∙ none
 
-  pub write_apart : (c : ℕ) → times f (watchers_of old (buffer.Write c)) ≡ 0 → times f (watchers_of sent (buffer.Write c)) ≡ 0
-  write_apart c none = ap (times f) (v.writes c ∙ w.writes c) ∙ none
+  pub write_held : (to : Option ℕ) → is_held_by to sent ≡ is_held_by to old
+  write_held None = refl
+  write_held (Some c) = h.marks (buffer.Write c) ∙ g.marks (buffer.Write c)
 
-  pub write_above : (c : ℕ) → is_marked sent (buffer.Write c) ≡ is_marked old (buffer.Write c)
-  write_above c = h.marks (buffer.Write c) ∙ g.marks (buffer.Write c)
-
-  pub some_watched : (c : ℕ) (new : Board) → Watches f (buffer.Write c) sent new → WatchesAll f (watches_from f filters (Some c)) (Some c) old new
-  some_watched c new t = all_some f filters old mid sent w v c new t
-
-  pub some_grow : (c : ℕ) (new : Board) → Watches f (buffer.Write c) sent new → Grows f old new
-  some_grow c new t = grows_more f old sent new both_grow (watch_write_grows f c sent new t)
-
-  pub none_watched : WatchesAll f (watches_from f filters None) None old sent
-  none_watched = all_none f filters old mid sent w v
+  pub all_grow : (new : Board) → Grows f sent new → Grows f old new
+  all_grow new k = grows_more f old sent new (grows_more f old mid sent g h) k
 
 -- what a watch of the write buffer leaves, or refuses
-pub either_grow : (f : FlowId) (c : ℕ) (old sent new : Board) (r : Result Bool NoMemory) → Grows f old sent → OnOk r (Watches f (buffer.Write c) sent new) → OnErr r (new ≡ sent) → Grows f old new
-either_grow f c old sent new (Ok b) g w e = grows_more f old sent new g (watch_write_grows f c sent new w)
-either_grow f c old sent new (Err x) g w e = subst (λ b. Grows f old b) (sym e) g
+pub either_grow : (f : FlowId) (c : ℕ) (old new : Board) (r : Result Bool NoMemory) → OnOk r (Watches f (buffer.Write c) old new) → OnErr r (new ≡ old) → Grows f old new
+either_grow f c old new (Ok b) w e = watch_write_grows f c old new w
+either_grow f c old new (Err x) w e = subst (λ b. Grows f old b) (sym e) (grows_none f old)
 
 pub either_watched : (r : Result Bool NoMemory) (P Q : Type 0) → (P → Q) → OnOk r P → OnOk r Q
 either_watched (Ok b) P Q k p = k p

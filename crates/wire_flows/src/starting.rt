@@ -6,7 +6,7 @@ ghost use Rattle.proxy_config.specs.Ranges.{IsBetween, IsRoute, most_octets};
 ghost use Rattle.exchange_core.specs.Exchange.{filters_of as route_filters, flow_id as flow_number, side_filters};
 ghost use Rattle.flow_gate.specs.Board.{IsSound as AreSoundGates, is_known, is_marked, is_open, times, watchers_of};
 ghost use Rattle.flow_gate.specs.Ids.{is_own};
-ghost use Rattle.wire_flows.specs.Begins.{BeginsBoth, BeginsFlow, Grows, IsFresh, IsSame, WatchesAll, WatchesOwn, is_held_by, meters, watches_from};
+ghost use Rattle.wire_flows.specs.Begins.{BeginsBoth, BeginsFlow, Grows, IsFresh, IsSame, WatchesAll, WatchesOwn, is_held_by, meters, watches_from, write_of};
 ghost use Rattle.wire_flows.specs.Flows.{KeepsLeft, goes_to, is_live_in, time_of};
 ghost use Rattle.wire_flows.specs.Measure.{to_go};
 ghost use Rattle.wire_flows.specs.Sound.{IsSound};
@@ -155,10 +155,8 @@ fn watch_all(
 {
     watch_meters(gates, flow, filters)?;
     watch_own(gates, flow, BufferId::Send(flow))?;
-    match to {
-        Some(conn) => gates.watch(flow, BufferId::Write(conn)),
-        None => Ok(false),
-    }
+    let held = watch_write(gates, flow, to)?;
+    Ok(held)
 }
 
 // The Meters among the stages of a flow.
@@ -198,6 +196,23 @@ fn watch_own(gates: &mut Gates, flow: FlowId, buffer: BufferId) -> Result<(), No
     gates.open_buffer(buffer)?;
     let _above = gates.watch(flow, buffer)?;
     Ok(())
+}
+
+// The write buffer that it goes to, if any. The answer is whether that holds it back at once.
+fn watch_write(gates: &mut Gates, flow: FlowId, to: Option<u32>) -> Result<bool, NoMemory>
+    requires sound { AreSoundGates gates.old }
+    requires open { is_open gates.old flow ≡ true }
+    requires to { IfSome to (λ c. is_known gates.old (BufferId.Write c) ≡ true) }
+    requires apart { IfSome to (λ c. times flow (watchers_of gates.old (BufferId.Write c)) ≡ 0) }
+    ensures answer { IfOk result (λ held. held ≡ is_held_by to gates.old) }
+    ensures grows { Grows flow gates.old gates.new }
+    ensures ok { OnOk result (WatchesAll flow (write_of to) to gates.old gates.new) }
+    ensures sound { AreSoundGates gates.new }
+{
+    match to {
+        Some(conn) => gates.watch(flow, BufferId::Write(conn)),
+        None => Ok(false),
+    }
 }
 
 // The filters that a route row has for the flow, none where there is no row.
