@@ -8,6 +8,7 @@ pub mod Idle
 pub mod Keeping
 pub mod Linked
 pub mod Lives
+pub mod Marked
 pub mod Notings
 pub mod Overs
 pub mod Promised

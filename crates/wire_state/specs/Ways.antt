@@ -5,7 +5,7 @@ use Rattle.flow_notes.specs.declared.notes.Note.{Note}
 use Rattle.flow_notes.specs.declared.notes.Note.TheVariants as note
 use Rattle.proxy_config.specs.declared.routes.Filter.{Filter}
 use Rattle.proxy_config.specs.declared.routes.Filter.TheVariants as filter
-use Rattle.std.specs.Prelude.{List, None, [], false, if◌then◌else◌, not, ℕ, ◌&&◌, ◌==◌, ◌∷◌}
+use Rattle.std.specs.Prelude.{List, None, Option, [], false, if◌then◌else◌, not, ℕ, ◌&&◌, ◌==◌, ◌∷◌}
 use Rattle.tape_laws.specs.Flows.{request, response}
 use Rattle.tape_laws.specs.History.{History, Marked, Noted, Step}
 use Rattle.tape_laws.specs.Setup.{Setup}
@@ -26,7 +26,7 @@ WayHistory = History Way
 -- the stages that a flow passes
 abbrev pub stages_passed : FlowId → WayHistory → List StageKind
 stages_passed f [] = []
-stages_passed f (Marked (Passes x there back) ∷ past) = if x == f.exchange then (if f.back then back else there) else stages_passed f past
+stages_passed f (Marked (Passes x row there back) ∷ past) = if x == f.exchange then (if f.back then back else there) else stages_passed f past
 stages_passed f (step ∷ past) = stages_passed f past
 
 -- the stream that it has where it goes: a response's is named by its start
