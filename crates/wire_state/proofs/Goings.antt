@@ -77,9 +77,12 @@ pub told_by : {k : Config} {l : Footing} → (steps : List WayStep) → KeepsLef
     → (h : WayHistory) (g : ℕ → List ℕ) (start notes : List Note) → ToldBy k l h g start conns flows links notes → ToldBy k l h g start conns' flows' links' (notes ++ shown steps)
 told_by steps keeps ways conns conns' flows flows' links links' goes = told_as steps (λ g. g) conns conns' flows flows' links links' (λ h g s is c. keeps h c ∙ is c) ways goes
 
--- the footing stays
+-- the core has this footing
+told_on : {k : Config} → (l : Footing) (new : WireCore) → footing_of new ≡ l → (h : WayHistory) (g : ℕ → List ℕ) (start notes : List Note) → ToldBy k l h g start new.conns new.flows new.links notes → Told k h g start new notes
+told_on {k} l new same h g start notes t = subst (λ (v : Footing). ToldBy k v h g start new.conns new.flows new.links notes) (sym same) t
+
 pub config_told : {k : Config} → (old new : WireCore) → footing_of new ≡ footing_of old → (h : WayHistory) (g : ℕ → List ℕ) (start notes : List Note) → ToldBy k (footing_of old) h g start new.conns new.flows new.links notes → Told k h g start new notes
-config_told {k} old new same h g start notes t = subst (λ (v : Footing). ToldBy k v h g start new.conns new.flows new.links notes) (sym same) t
+config_told old new same h g start notes t = told_on (footing_of old) new same h g start notes t
 
 -- the same with connections and notes that are these
 pub told_at : {k : Config} {l : Footing} → (h : WayHistory) (g : ℕ → List ℕ) (start : List Note) (conns conns' : PagedMap Conn) (flows : Flows) (links : Links) (notes notes' : List Note) → conns ≡ conns' → notes ≡ notes'
@@ -210,7 +213,7 @@ pub begun_owed : (x : ℕ) (row : Option ℕ) (there back : List StageKind) (n :
     → ((h : WayHistory) → Stands old.config.limits old.conns old.flows old.links h → AreWays old.config h → AreWays old.config (Noted n ∷ Marked (Passes x row there back) ∷ h))
     → ((h : WayHistory) → Stands old.config.limits old.conns old.flows old.links h → Stands old.config.limits new.conns new.flows new.links (Noted n ∷ Marked (Passes x row there back) ∷ h)) → Owes (n ∷ []) old new
 begun_owed x row there back n old new same keeps ways goes = record {
-  goes = λ {k} h g start notes t. subst (λ (v : Footing). ToldBy k v h g start new.conns new.flows new.links (notes ++ n ∷ [])) (sym same) (begun h g start notes t);
+  goes = λ h g start notes t. told_on (with_rows (footing_of old) (old.rows.items ++ row ∷ [])) new same h g start (notes ++ n ∷ []) (begun h g start notes t);
 }
   where
     begun : {k : Config} → (h : WayHistory) (g : ℕ → List ℕ) (start notes : List Note) → Told k h g start old notes

@@ -17,6 +17,7 @@ pub mod Rooms
 pub mod Sending
 pub mod Shapes
 pub mod Soundness
+pub mod Staged
 pub mod Standing
 pub mod Stepping
 pub mod Tasks

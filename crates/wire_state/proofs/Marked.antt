@@ -1,5 +1,4 @@
 -- What each kind of step leaves of what ties the marks.
-use Rattle.exchange_core.specs.Exchange.{filters_of, side_filters}
 use Rattle.flow_notes.specs.declared.notes.Cause.{Cause}
 use Rattle.flow_notes.specs.declared.notes.Note.TheVariants as note
 use Rattle.proxy_config.specs.declared.config.Config.{Config}
@@ -10,13 +9,12 @@ use Rattle.std.specs.Option.{option_map}
 use Rattle.std.specs.Prelude.{Bool, IfSome, List, None, Option, Some, [], false, if◌then◌else◌, is_some, length, true, ℕ, ◌+◌, ◌<◌, ◌==◌, ◌||◌, ◌∷◌, ◌≡◌, ◌≤◌}
 use Rattle.tape_laws.specs.Dispatches.{started}
 use Rattle.tape_laws.specs.History.{Marked, Noted}
-use Rattle.tape_laws.specs.Units.{StageKind}
 use Rattle.wire_flows.specs.Flows.{Flows}
 use Rattle.wire_links.specs.Links.{Links, ends_of, no_links, with_stream}
 use Rattle.wire_links.specs.declared.links.exchanges.Ends.{Ends}
 use Rattle.wire_state.proofs.Held.{is_number, number_same}
-use Rattle.wire_state.specs.Marks.{AreWays, HasMarks, MarksAre, MayOpen, is_opened}
-use Rattle.wire_state.specs.Ways.{Opens, Passes, WayHistory, WayStep, stages_of}
+use Rattle.wire_state.specs.Marks.{AreWays, HasMarks, MarksAre, MayOpen, is_opened, side_stages}
+use Rattle.wire_state.specs.Ways.{Opens, Passes, WayHistory, WayStep}
 
 each : {P Q : Ends → Type 0} (o : Option Ends) → ((e : Ends) → P e → Q e) → IfSome o P → IfSome o Q
 each None f p = tt
@@ -58,11 +56,8 @@ marks_doomed x why old new links links' h last ends m = record {
 
 -- ---- an exchange starts
 module _ (config : Config) (x c s d : ℕ) (row : Option ℕ) (h : WayHistory) where
-  abbrev side : Bool → List StageKind
-  side back = stages_of (filters_of (side_filters back) row config)
-
   abbrev then_ : WayHistory
-  then_ = Noted (note.Start x c s d) ∷ Marked (Passes x row (side false) (side true)) ∷ h
+  then_ = Noted (note.Start x c s d) ∷ Marked (Passes x row (side_stages config row false) (side_stages config row true)) ∷ h
 
   more : length (started then_) ≡ length (started h) + 1
   more = length-append (started h) (x ∷ [])

@@ -31,13 +31,17 @@ rows_in [] = []
 rows_in (Marked (Passes x row there back) ∷ steps) = row ∷ rows_in steps
 rows_in (step ∷ steps) = rows_in steps
 
+-- the stages of one side of a row of the routes, none where there is no row
+abbrev pub side_stages : Config → Option ℕ → Bool → List StageKind
+side_stages config row back = stages_of (filters_of (side_filters back) row config)
+
 -- The exchange x has the number that comes next, which its mark has too, and passes the stages of both sides of one row of the
 -- routes, or none.
 pub record IsBegun (config : Config) (x y : ℕ) (row : Option ℕ) (there back : List StageKind) (past : WayHistory) : Type 0 where
   pub number : x ≡ length (started past) + 1
   pub same : y ≡ x
-  pub request : there ≡ stages_of (filters_of (side_filters false) row config)
-  pub response : back ≡ stages_of (filters_of (side_filters true) row config)
+  pub request : there ≡ side_stages config row false
+  pub response : back ≡ side_stages config row true
 
 -- the number of the exchange was given, and its request has no stream yet
 pub record MayOpen (x : ℕ) (past : WayHistory) : Type 0 where
