@@ -36,12 +36,22 @@ get_front [] ys i less = absurd (omega (arith, less))
 get_front (x ∷ xs) ys zero less = refl
 get_front (x ∷ xs) ys (suc i) less = get_front xs ys i (omega (arith, less))
 
-get_behind : {A : Type 0} (xs ys : List A) (i : ℕ) → slice_get (xs ++ ys) (length xs + i) ≡ slice_get ys i
-get_behind [] ys i = refl
-get_behind (x ∷ xs) ys i = get_behind xs ys i
+get_behind : {A : Type 0} (xs ys : List A) (i j : ℕ) → j ≡ length xs + i → slice_get (xs ++ ys) j ≡ slice_get ys i
+get_behind [] ys i j is = ap (slice_get ys) (none_more i j is)
+  where
+    none_more : (i j : ℕ) → j ≡ 0 + i → j ≡ i
+    none_more i j is = omega (arith, is)
+get_behind (x ∷ xs) ys i zero is = absurd (some_more (length xs) i is)
+  where
+    some_more : (n i : ℕ) → zero ≡ suc n + i → ⊥
+    some_more n i is = omega (arith, is)
+get_behind (x ∷ xs) ys i (suc j) is = get_behind xs ys i j (one_less (length xs) i j is)
+  where
+    one_less : (n i j : ℕ) → suc j ≡ suc n + i → j ≡ n + i
+    one_less n i j is = omega (arith, is)
 
 get_last : {A : Type 0} (xs : List A) (x : A) (i : ℕ) → i ≡ length xs → slice_get (xs ++ x ∷ []) i ≡ Some x
-get_last xs x i is = ap (slice_get (xs ++ x ∷ [])) (is ∙ none_more (length xs)) ∙ get_behind xs (x ∷ []) 0
+get_last xs x i is = get_behind xs (x ∷ []) 0 i (is ∙ none_more (length xs))
   where
     none_more : (n : ℕ) → n ≡ n + 0
     none_more n = omega arith
@@ -150,11 +160,10 @@ row_kept config steps h before now x above most =
     some : (x n : ℕ) → n < x → 0 < x
     some x n over = omega (arith, over)
 
-    place : (x n l : ℕ) → l ≡ n → n < x → l + (x - n - 1) ≡ x - 1
+    place : (x n l : ℕ) → l ≡ n → n < x → x - 1 ≡ l + (x - n - 1)
     place x n l is over = omega (arith, is, over)
 
     at_it : slice_get (rows_in steps) (x - length (started h) - 1) ≡ slice_get (rows_of (after steps h)) (x - 1)
     at_it =
-        sym (get_behind (rows_of h) (rows_in steps) (x - length (started h) - 1))
-        ∙ (ap (slice_get (rows_of h ++ rows_in steps)) (place x (length (started h)) (length (rows_of h)) (staged config h before).count above)
-        ∙ ap (λ (rows : List (Option ℕ)). slice_get rows (x - 1)) (sym (rows_after steps h)))
+        sym (get_behind (rows_of h) (rows_in steps) (x - length (started h) - 1) (x - 1) (place x (length (started h)) (length (rows_of h)) (staged config h before).count above))
+        ∙ ap (λ (rows : List (Option ℕ)). slice_get rows (x - 1)) (sym (rows_after steps h))

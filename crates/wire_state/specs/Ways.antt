@@ -12,9 +12,10 @@ use Rattle.tape_laws.specs.Setup.{Setup}
 use Rattle.tape_laws.specs.Units.{Hold, Meter, StageKind}
 use Rattle.tape_laws.specs.World.{received}
 
--- with the start of an exchange: the stages of its request and of its response; and when its request gets its stream
+-- with the start of an exchange: the row of its route, if it has one, and the stages of its request and of its response; and when its
+-- request gets its stream
 pub data Way : Type 0 where
-  Passes : (exchange : ℕ) → (request response : List StageKind) → Way
+  Passes : (exchange : ℕ) → (row : Option ℕ) → (request response : List StageKind) → Way
   Opens : (exchange stream : ℕ) → Way
 
 abbrev pub WayStep : Type 0
