@@ -7,7 +7,7 @@ use Rattle.exchange_core.specs.Changes.{ChangesFlow}
 use Rattle.flow_gate.specs.declared.ids.FlowId.{FlowId}
 use Rattle.flow_notes.specs.declared.notes.Note.{Note}
 use Rattle.flow_notes.specs.declared.notes.Note.TheVariants as note
-use Rattle.proxy_config.specs.declared.config.LimitKeys.{LimitKeys}
+use Rattle.proxy_config.specs.declared.config.Config.{Config}
 use Rattle.std.proofs.Common.{ap, refl, sym, ◌∙◌}
 use Rattle.paged_map.specs.PagedMap.{PagedMap}
 use Rattle.std.specs.Prelude.{Bool, IsSome, List, None, Option, Some, [], false, if◌then◌else◌, length, nat_le, true, ℕ, ◌++◌, ◌+◌, ◌∷◌, ◌≡◌}
@@ -17,6 +17,7 @@ use Rattle.wire_flows.specs.Sound.{IsSound}
 use Rattle.wire_links.specs.Links.{Links}
 use Rattle.wire_state.proofs.Bodies.{arrives}
 use Rattle.wire_state.proofs.Goings.{told_by}
+use Rattle.wire_state.specs.Marks.{Footing}
 use Rattle.wire_state.specs.Ways.{WayHistory}
 use Rattle.wire_state.specs.Worlds.{ToldBy}
 use Rattle.wire_state.specs.declared.conn.Conn.{Conn}
@@ -32,10 +33,10 @@ by_fit false octets flow e = cc
 pub arrived_is : (octets : List ℕ) (flow : Flow) → received_by (length octets) (Some flow) ≡ Arrived → received octets flow ≡ arrived octets flow
 arrived_is octets flow e = by_fit (nat_le (length flow.recv + length octets) flow.window) octets flow e
 
-pub arrival_told : {k l : LimitKeys} → (f : FlowId) (octets : List ℕ) (old new : Flows) (r : Received) → r ≡ received_by (length octets) (flow_in old f) → r ≡ Arrived → (IsThere old f → ChangesFlow f (received octets) old.exchanges new.exchanges) → IsSound new
+pub arrival_told : {k : Config} {l : Footing} → (f : FlowId) (octets : List ℕ) (old new : Flows) (r : Received) → r ≡ received_by (length octets) (flow_in old f) → r ≡ Arrived → (IsThere old f → ChangesFlow f (received octets) old.exchanges new.exchanges) → IsSound new
     → (conns : PagedMap Conn) (links : Links) (h : WayHistory) (g : ℕ → List ℕ) (start notes : List Note) → ToldBy k l h g start conns old links notes → ToldBy k l h g start conns new links (notes ++ note.Arrive f octets ∷ [])
 arrival_told f octets old new r is arrives_so changes sound conns links =
     let here : received_by (length octets) (flow_in old f) ≡ Arrived = sym is ∙ arrives_so in
     let there = arrived_there (length octets) (flow_in old f) here in
-    told_by (Noted (note.Arrive f octets) ∷ []) (λ h c. refl) conns conns old new links links (λ h s.
+    told_by (Noted (note.Arrive f octets) ∷ []) (λ h c. refl) (record { ways = λ j i w. w; rows = refl }) conns conns old new links links (λ h s.
     arrives f octets h old new conns links (received octets) (changes there) there (λ flow found. arrived_is octets flow (ap (received_by (length octets)) (sym found) ∙ here)) sound s)

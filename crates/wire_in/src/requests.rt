@@ -134,7 +134,6 @@ fn begin(
     let (row, to) = goal_of(core, decision);
     let started = start(core, number, stream, row, to)?;
     let exchange = started.exchange;
-    core.rows.push(row)?;
     let _ = core.lengths.insert(exchange, lengths_of(decision))?;
     core.disarm(FireKind::ConnectionIdle, u64::from(number));
     core.arm(FireKind::StreamIdle, exchange)?;
@@ -214,6 +213,7 @@ fn start(
     let spec = spec_of(core, number, stream, row, to);
     let started = core.flows.start(&spec, &core.config)?;
     core.links.start(started.exchange, number, stream, to)?;
+    core.rows.push(row)?;
     Ok(started)
 }
 

@@ -54,6 +54,7 @@ pub(crate) fn frame_list(
 // A request gets its stream at the connection to its cluster.
 fn open_stream(core: &mut WireCore, going: Going) -> Result<Option<u32>, NoMemory>
     requires sound { IsSound core.old }
+    requires live { is_live_in core.old.flows going.course.flow.exchange ≡ true }
     requires unframed { IsUnframed going.conn going.course.flow.exchange core.old.links }
     ensures sound { OnOk result (IsSound core.new) }
     ensures go { OnOk result (to_go core.new ≤ to_go core.old) }
@@ -73,6 +74,7 @@ fn open_stream(core: &mut WireCore, going: Going) -> Result<Option<u32>, NoMemor
 #[tactic(auto, using(crate::proofs::Opened::to_frame, crate::proofs::Opened::still_linked))]
 fn place(core: &mut WireCore, going: Going, stream: u32) -> Result<Option<u32>, NoMemory>
     requires sound { IsSound core.old }
+    requires live { is_live_in core.old.flows going.course.flow.exchange ≡ true }
     requires unframed { IsUnframed going.conn going.course.flow.exchange core.old.links }
     requires unused { exchange_at going.conn stream core.old.links ≡ None }
     ensures sound { OnOk result (IsSound core.new) }

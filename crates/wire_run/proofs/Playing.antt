@@ -61,7 +61,7 @@ carried_rests old new e config h c new_one k =
       logs = c.logs.goes (limits_of config) h (c.passes.goes (limits_of config) h k.logs);
       rows = rows_grow config.routes c.before.levels new.log.levels no_limits (c.passes.keeps config.routes k.stages k.rows) c.logs.grow (no_row config.routes);
       stages = table;
-      octets = stands_on old.session new.session config.limits e new.notes h c.dispatches new_one k.octets;
+      octets = stands_on old.session new.session config e new.notes h c.dispatches new_one k.octets;
     }
 
 carried_tape : (old new : WirePlay) (e : Event) (config : Config) (h : History NoMark) (seen after : WireSeen) → CarriesOn old e new → IsNewTo e h → PlayRests old config h → IsEvent (names_in config) e
@@ -73,7 +73,7 @@ carried_tape old new e config h seen after c new_one k is t next may =
       shown = adds.shown ∙ ap (λ es. e ∷ es) t.shown ∙ sym next;
       in_order = adds.ordered (ap (λ n. n + 1) k.turn) t.in_order;
       spelled = adds.told (names_in config) (omega arith) is t.spelled;
-      octets = (stands_on old.session new.session config.limits e new.notes h c.dispatches new_one k.octets).world;
+      octets = (stands_on old.session new.session config e new.notes h c.dispatches new_one k.octets).world;
     }
 
 -- the notes have a spelling with the names of the lines
@@ -277,7 +277,7 @@ play_begins play config text names resources limits routes configured names_are 
       stages = (let P : List Route → Type 0 = λ v. AreStages play.stages.rows.items v in subst P routes_are stages);
       octets = stands_first play.session config same octets;
     };
-    tape = record { may = tt; shown = refl; in_order = tt; spelled = tt; octets = none_left config.limits };
+    tape = record { may = tt; shown = refl; in_order = tt; spelled = tt; octets = none_left config };
     lines_are = refl;
     count_is = refl;
     told_is = refl;

@@ -117,7 +117,7 @@ runs_none config config_text left out how e c =
       text = [];
       consumes = held_kept left;
       appends = known_kept out;
-      tells = record { config = config; configured = c; seen = NoLine; rows = no_rows; history = []; rest = []; reads = refl; tape = record { may = tt; shown = refl; in_order = tt; spelled = tt; octets = none_left config.limits }; ends = tt; is = refl };
+      tells = record { config = config; configured = c; seen = NoLine; rows = no_rows; history = []; rest = []; reads = refl; tape = record { may = tt; shown = refl; in_order = tt; spelled = tt; octets = none_left config }; ends = tt; is = refl };
     })
 
 -- a session's status is never that of a configuration that is refused

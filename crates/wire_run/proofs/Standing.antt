@@ -19,6 +19,7 @@ use Rattle.tape_laws.specs.History.{BeforeTurn, EachFollows, History, Marked, No
 use Rattle.tape_laws.specs.World.{gone, out}
 use Rattle.wire_run.specs.Worlds.{HasWorld, IsNewTo, LeavesByRoom, StandsFor, leaves_by}
 use Rattle.wire_state.proofs.Promised.{promised}
+use Rattle.wire_state.specs.Marks.{AreWays}
 use Rattle.wire_state.specs.Noting.{IsStep}
 use Rattle.wire_state.specs.Tapes.{Promises, tape_setup}
 use Rattle.wire_state.specs.Ways.{WayHistory, WayStep, after, shown, world_setup}
@@ -39,12 +40,12 @@ none_fits l = record { recv = tt; stages = tt; send = on_true (nat_lt 0 l.send_b
     on_true true = tt
     on_true false = tt
 
-pub none_left : (l : LimitKeys) → HasWorld l []
-none_left l = record { marked = []; notes = refl; promises = record { sent = λ f. refl; bounded = none_fits l }; left = tt; last = λ c. refl }
+pub none_left : (config : Config) → HasWorld config []
+none_left config = record { marked = []; notes = refl; ways = tt; promises = record { sent = λ f. refl; bounded = none_fits config.limits }; left = tt; last = λ c. refl }
 
-pub stands_first : (session : WireSession) (config : Config) → session.core.config ≡ config → Stands session.core.config.limits session.core.conns session.core.flows session.core.links [] → StandsFor session config.limits []
+pub stands_first : (session : WireSession) (config : Config) → session.core.config ≡ config → Stands session.core.config.limits session.core.conns session.core.flows session.core.links [] → StandsFor session config []
 unfolding none_left
-stands_first session config e s = record { under = ap (λ (v : Config). v.limits) e; world = none_left config.limits; stands = s }
+stands_first session config e s = record { under = e; world = none_left config; stands = s }
 
 -- ---- a connection that comes is new
 -- the events of these notes, the last note first
@@ -247,19 +248,20 @@ leaves_as : (c : ℕ) (xs ys waits waited : List ℕ) (o p : Option Event) → y
 leaves_as c xs ys waits waited o p e f g =
     ap (λ (v : List ℕ). v ++ leaves_by o c waits) (sym e) ∙ ap (λ (v : List ℕ). ys ++ leaves_by o c v) (sym f) ∙ ap (λ (v : Option Event). ys ++ leaves_by v c waited) (sym g)
 
-pub stands_on : (old new : WireSession) (l : LimitKeys) (e : Event) (notes : List Note) (h : History NoMark) → Dispatches old [] e new notes → IsNewTo e h → StandsFor old l h → StandsFor new l (onto notes h)
+pub stands_on : (old new : WireSession) (l : Config) (e : Event) (notes : List Note) (h : History NoMark) → Dispatches old [] e new notes → IsNewTo e h → StandsFor old l h → StandsFor new l (onto notes h)
 stands_on old new l e notes h d new_one s =
     let k = s.world.marked in
     let fresh = fresh_of k h s.world.notes e new_one in
     let t = goes_on (kind.Wire old) e (kind.Wire new) notes d k s.stands fresh in
-    let same : new.core.config.limits ≡ l = t.under ∙ s.under in
+    let same : new.core.config ≡ l = t.under ∙ s.under in
     let turn = turned t.steps k (old.turn + 1) e d.notes.added (sym t.is ∙ d.notes.is) d.notes.steps in
     record {
       under = same;
       world = record {
         marked = after t.steps k;
         notes = same_notes t.steps k notes h t.is s.world.notes;
-        promises = subst (λ (v : LimitKeys). Promises v (after t.steps k)) same (promised new.core.conns new.core.flows new.core.links (after t.steps k) t.stands);
+        ways = subst (λ (v : Config). AreWays v (after t.steps k)) s.under (t.ways (subst (λ (v : Config). AreWays v k) (sym s.under) s.world.ways));
+        promises = subst (λ (v : Config). Promises v.limits (after t.steps k)) same (promised new.core.conns new.core.flows new.core.links (after t.steps k) t.stands);
         left = turn.each s.world.left s.world.last;
         last = λ c. t.left c ∙ left_by e old.core.conns (λ x. gone world_setup x k) c
             ∙ leaves_as c (gone world_setup c k) (gone world_setup c (before_dispatch (after t.steps k))) (octets_of c old.core.conns) (out world_setup c (before_dispatch (after t.steps k)))

@@ -32,7 +32,7 @@ pub record PlayRests (play : WirePlay) (config : Config) (history : History NoMa
   pub rows : HaveRows config.routes play.log.levels
   pub stages : AreStages play.stages.rows.items config.routes
   -- what waits for the sockets and lies in the places of the bodies is that of the tape's world
-  pub octets : StandsFor play.session config.limits history
+  pub octets : StandsFor play.session config history
 
 -- the lines were read under the configuration that its octets spell, their events were dispatched, and this is the text of
 -- the tape

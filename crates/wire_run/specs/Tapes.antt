@@ -35,7 +35,7 @@ pub record WireTape (config : Config) (seen : WireSeen) (history : History NoMar
   pub in_order : AreTurnsInOrder history
   pub spelled : AllByRecursion (IsNote (names_in config)) (notes_of history)
   -- what is sent on is what was read, no buffer holds more than its bound, and octets leave the connections by events of room alone
-  pub octets : HasWorld config.limits history
+  pub octets : HasWorld config history
 
 -- the last line or lines, by the status; the stages are those of the exchanges' route rows
 abbrev pub last_wire_text : Status → Config → (ℕ → Option ℕ) → WireSeen → History NoMark → List ℕ

@@ -1,11 +1,12 @@
 -- What the tape of a wire session promises, and what left the connections, in its world.
 use Rattle.flow_notes.specs.declared.events.Event.{Event}
-use Rattle.proxy_config.specs.declared.config.LimitKeys.{LimitKeys}
+use Rattle.proxy_config.specs.declared.config.Config.{Config}
 use Rattle.session_lines.specs.WireOrder.{named}
 use Rattle.std.specs.Prelude.{List, Option, Some, [], false, if◌then◌else◌, take, ℕ, ◌++◌, ◌==◌, ◌∷◌, ◌≡◌}
 use Rattle.tape_laws.specs.Dispatches.{before_dispatch, events_back, has, this_event}
 use Rattle.tape_laws.specs.History.{BeforeTurn, EachFollows, History, NoMark, notes_of}
 use Rattle.tape_laws.specs.World.{gone, out}
+use Rattle.wire_state.specs.Marks.{AreWays}
 use Rattle.wire_state.specs.Tapes.{Promises}
 use Rattle.wire_state.specs.Ways.{WayHistory, world_setup}
 use Rattle.worker_core.specs.Sessions.{StandsAt}
@@ -23,19 +24,21 @@ leaves_by e c waiting = []
 abbrev pub LeavesByRoom : WayHistory → Type 0
 LeavesByRoom past = (c : ℕ) → gone world_setup c past ≡ gone world_setup c (before_dispatch past) ++ leaves_by (this_event past) c (out world_setup c (before_dispatch past))
 
--- The tape with marks: the stages that each exchange passes, and the stream that its request gets, which no note tells. At each
--- moment it keeps the promise, and at the end of each dispatch octets had left each connection as its event says.
-pub record HasWorld (limits : LimitKeys) (history : History NoMark) : Type 0 where
+-- The tape with marks: the stages that each exchange passes, which are those of one row of the routes or none, and the stream that its
+-- request gets, which no note tells. At each moment it keeps the promise, and at the end of each dispatch octets had left each
+-- connection as its event says.
+pub record HasWorld (config : Config) (history : History NoMark) : Type 0 where
   pub marked : WayHistory
   pub notes : notes_of marked ≡ notes_of history
-  pub promises : Promises limits marked
+  pub ways : AreWays config marked
+  pub promises : Promises config.limits marked
   pub left : EachFollows (BeforeTurn LeavesByRoom) marked
   pub last : LeavesByRoom marked
 
--- the session has these limits, and stands for that tape
-pub record StandsFor (session : WireSession) (limits : LimitKeys) (history : History NoMark) : Type 0 where
-  pub under : session.core.config.limits ≡ limits
-  pub world : HasWorld limits history
+-- the session has this configuration, and stands for that tape
+pub record StandsFor (session : WireSession) (config : Config) (history : History NoMark) : Type 0 where
+  pub under : session.core.config ≡ config
+  pub world : HasWorld config history
   pub stands : StandsAt (kind.Wire session) world.marked
 
 -- a connection that comes is none of those that came before

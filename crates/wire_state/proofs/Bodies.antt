@@ -23,6 +23,7 @@ use Rattle.wire_flows.specs.Sound.{IsSound}
 use Rattle.wire_links.specs.Links.{Links, ends_of}
 use Rattle.wire_state.proofs.Fitting.{fits_now, flows_fit, framed_fits, outs_fit}
 use Rattle.wire_state.proofs.Held.{KeepsOctets, arrived_held, framed_held, framed_last, moved_held, moved_last}
+use Rattle.wire_state.proofs.Marked.{marks_go}
 use Rattle.wire_state.proofs.Sending.{arrived_fronts, arrived_loses, framed_fronts, framed_loses, framed_sent, fronts_still, moved_loses, same_flow_refl, unborn_still}
 use Rattle.wire_state.proofs.Shapes.{arrived_shape, framed_shape, moved_shape, shape_kept}
 use Rattle.wire_state.proofs.Standing.{ConnsAre, at_one, ends_are_still, flow_still, if_some, more_is}
@@ -93,6 +94,7 @@ module _ (f : FlowId) (octets : List ℕ) (h : WayHistory) where
     unborn = unborn_still old new h (arrival ∷ h) c.flow.last (none_after f change old new c) (λ g none. (arrived_came g (apart_of f old g there none), refl)) s.unborn;
     fronts = arrived_fronts f octets h s.fronts;
     fits = (record { flows = flows_fit new sound (arrival ∷ h) now none_now; outs = (fits_now h s.fits).outs }, s.fits);
+    marks = marks_go old new links links h (arrival ∷ h) c.flow.last (λ x. refl) refl (λ x. refl) s.marks;
   }
     where
       now : (g : FlowId) → IfSome (flow_in new g) (FlowIs l g (arrival ∷ h))
@@ -145,6 +147,7 @@ module _ (f : FlowId) (q n : ℕ) (h : WayHistory) where
     unborn = unborn_still old new h (move ∷ h) c.flow.last (none_after f change old new c) (λ g none. (refl, refl)) s.unborn;
     fronts = fronts_still move h (λ g. refl) (λ g. refl) s.fronts;
     fits = (record { flows = flows_fit new sound (move ∷ h) now none_now; outs = (fits_now h s.fits).outs }, s.fits);
+    marks = marks_go old new links links h (move ∷ h) c.flow.last (λ x. refl) refl (λ x. refl) s.marks;
   }
     where
       now : (g : FlowId) → IfSome (flow_in new g) (FlowIs l g (move ∷ h))
@@ -199,6 +202,7 @@ module _ (c : ℕ) (f : FlowId) (n : ℕ) (last : Bool) (h : WayHistory) where
     unborn = unborn_still before after h (frame ∷ h) change.flow.last (none_after f (body_framed n last) before after change) (λ g none. (refl, framed_sent c f n last h g (apart_of f before g (ap is_some found) none))) stands.unborn;
     fronts = framed_fronts c f n last h (framed_own flow here).loses stands.fronts;
     fits = let fit = fits_now h stands.fits in (record { flows = λ g. framed_fits c f n last h g (fit.flows g); outs = outs_fit l old new h (frame ∷ h) stands.writes now room fit.outs }, stands.fits);
+    marks = marks_go before after links links h (frame ∷ h) change.flow.last (λ x. refl) refl (λ x. refl) stands.marks;
   }
     where
       here : FlowIs l f h flow
@@ -226,6 +230,7 @@ flow_goes f change old new keeps c conns links h s = record {
   unborn = unborn_still old new h h c.flow.last (none_after f change old new c) (λ g none. (refl, refl)) s.unborn;
   fronts = s.fronts;
   fits = s.fits;
+  marks = marks_go old new links links h h c.flow.last (λ x. refl) refl (λ x. refl) s.marks;
 }
 
 -- other flows, of which each is found as before
@@ -241,6 +246,7 @@ flows_go {l} old new last same conns links h s = record {
   unborn = unborn_still old new h h last (λ f none. ap is_some (same f) ∙ none) (λ f none. (refl, refl)) s.unborn;
   fronts = s.fronts;
   fits = s.fits;
+  marks = marks_go old new links links h h last (λ x. refl) refl (λ x. refl) s.marks;
 }
 
 -- each flow is found as a change makes it that keeps its octets
@@ -257,4 +263,5 @@ flows_mapped {l} change keeps old new last same conns links h s = record {
   unborn = unborn_still old new h h last (λ f none. ap is_some (same f) ∙ (some_mapped change (flow_in old f) ∙ none)) (λ f none. (refl, refl)) s.unborn;
   fronts = s.fronts;
   fits = s.fits;
+  marks = marks_go old new links links h h last (λ x. refl) refl (λ x. refl) s.marks;
 }

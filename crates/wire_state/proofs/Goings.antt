@@ -15,16 +15,19 @@ use Rattle.paged_map.specs.PagedMap.{PagedMap, WritesThrough, value_at}
 use Rattle.std.specs.Map.{lookup}
 use Rattle.std.specs.Option.{option_and_then, option_map_or}
 use Rattle.std.specs.Ordering.{nat_cmp}
-use Rattle.std.specs.Prelude.{Bool, Err, IfSome, List, Ok, OnOk, Result, Some, [], false, if◌then◌else◌, is_some, nat_eq, not, true, ℕ, ◌++◌, ◌==◌, ◌∷◌, ◌≡◌, ◌≤◌}
+use Rattle.std.specs.Prelude.{Bool, Err, IfSome, List, Ok, OnOk, Option, Result, Some, [], false, if◌then◌else◌, is_some, nat_eq, not, true, ℕ, ◌++◌, ◌==◌, ◌∷◌, ◌≡◌, ◌≤◌}
 use Rattle.tape_laws.specs.History.{Marked, Noted}
+use Rattle.tape_laws.specs.Units.{StageKind}
 use Rattle.tape_laws.specs.World.{gone}
 use Rattle.wire_flows.specs.Flows.{Flows, flow_in}
 use Rattle.wire_links.specs.Links.{Links, ends_of, no_links}
 use Rattle.wire_state.proofs.Bodies.{flow_goes, flows_go}
 use Rattle.wire_state.proofs.Fitting.{empty_fits}
 use Rattle.wire_state.proofs.Held.{KeepsOctets}
+use Rattle.wire_state.proofs.Marked.{marks_first, ways_opened}
 use Rattle.wire_state.proofs.Standing.{ConnsAre, at_one, conns_go, conns_written, same_octets}
-use Rattle.wire_state.specs.Ways.{Way, WayHistory, WayStep, after, shown, world_setup}
+use Rattle.wire_state.specs.Marks.{AreWays, Footing, MayOpen, footing_of, rows_in, with_rows}
+use Rattle.wire_state.specs.Ways.{Opens, Passes, WayHistory, WayStep, after, shown, world_setup}
 use Rattle.wire_state.specs.Worlds.{EndsAre, FlowIs, Keeps, KeepsOk, Owes, Stands, Told, ToldBy, octets_of}
 use Rattle.wire_state.specs.declared.conn.Conn.{Conn}
 use Rattle.wire_state.specs.declared.wire_core.WireCore.{WireCore}
@@ -42,46 +45,63 @@ shown_append (Marked m ∷ a) b = shown_append a b
 abbrev pub KeepsLeft : List WayStep → Type 0
 KeepsLeft steps = (h : WayHistory) (c : ℕ) → gone world_setup c (after steps h) ≡ gone world_setup c h
 
+rows_append : (a b : List WayStep) → rows_in (a ++ b) ≡ rows_in a ++ rows_in b
+rows_append [] b = refl
+rows_append (Noted n ∷ a) b = rows_append a b
+rows_append (Marked (Passes x row there back) ∷ a) b = ap (λ (rows : List (Option ℕ)). row ∷ rows) (rows_append a b)
+rows_append (Marked (Opens x s) ∷ a) b = rows_append a b
+
+-- nothing of the marks comes by these steps
+pub record KeepsWays (steps : List WayStep) : Type 0 where
+  pub ways : (config : Config) (h : WayHistory) → AreWays config h → AreWays config (after steps h)
+  pub rows : rows_in steps ≡ []
+
 -- the steps that a call makes are still to be noted, where the core stands for them
-pub told_as : {k l : LimitKeys} → (steps : List WayStep) (more : (ℕ → List ℕ) → ℕ → List ℕ) (conns conns' : PagedMap Conn) (flows flows' : Flows) (links links' : Links)
-    → ((h : WayHistory) (g : ℕ → List ℕ) → Stands l conns flows links h → ((c : ℕ) → gone world_setup c h ≡ g c) → (c : ℕ) → gone world_setup c (after steps h) ≡ more g c)
-    → ((h : WayHistory) → Stands l conns flows links h → Stands l conns' flows' links' (after steps h))
+pub told_as : {k : Config} {l : Footing} → (steps : List WayStep) (more : (ℕ → List ℕ) → ℕ → List ℕ) (conns conns' : PagedMap Conn) (flows flows' : Flows) (links links' : Links)
+    → ((h : WayHistory) (g : ℕ → List ℕ) → Stands l.config.limits conns flows links h → ((c : ℕ) → gone world_setup c h ≡ g c) → (c : ℕ) → gone world_setup c (after steps h) ≡ more g c)
+    → KeepsWays steps → ((h : WayHistory) → Stands l.config.limits conns flows links h → Stands l.config.limits conns' flows' links' (after steps h))
     → (h : WayHistory) (g : ℕ → List ℕ) (start notes : List Note) → ToldBy k l h g start conns flows links notes → ToldBy k l h (more g) start conns' flows' links' (notes ++ shown steps)
-told_as {l} steps more conns conns' flows flows' links links' leaves goes h g start notes t = record {
+told_as {l} steps more conns conns' flows flows' links links' leaves ways goes h g start notes t = record {
   steps = t.steps ++ steps;
   is = ap (λ (ns : List Note). ns ++ shown steps) t.is ∙ (append_assoc start (shown t.steps) (shown steps) ∙ ap (λ (ns : List Note). start ++ ns) (sym (shown_append t.steps steps)));
-  stands = subst (λ (past : WayHistory). Stands l conns' flows' links' past) (sym (after_append t.steps steps h)) (goes (after t.steps h) t.stands);
+  stands = subst (λ (past : WayHistory). Stands l.config.limits conns' flows' links' past) (sym (after_append t.steps steps h)) (goes (after t.steps h) t.stands);
   left = λ c. ap (gone world_setup c) (after_append t.steps steps h) ∙ leaves (after t.steps h) g t.stands t.left c;
   under = t.under;
+  ways = λ was. subst (λ (past : WayHistory). AreWays l.config past) (sym (after_append t.steps steps h)) (ways.ways l.config (after t.steps h) (t.ways was));
+  rows = t.rows ∙ (sym (append-nil (rows_in t.steps)) ∙ (ap (λ (rows : List (Option ℕ)). rows_in t.steps ++ rows) (sym ways.rows) ∙ sym (rows_append t.steps steps)));
+  since = t.since;
 }
 
-pub told_by : {k l : LimitKeys} → (steps : List WayStep) → KeepsLeft steps → (conns conns' : PagedMap Conn) (flows flows' : Flows) (links links' : Links)
-    → ((h : WayHistory) → Stands l conns flows links h → Stands l conns' flows' links' (after steps h))
+pub told_by : {k : Config} {l : Footing} → (steps : List WayStep) → KeepsLeft steps → KeepsWays steps → (conns conns' : PagedMap Conn) (flows flows' : Flows) (links links' : Links)
+    → ((h : WayHistory) → Stands l.config.limits conns flows links h → Stands l.config.limits conns' flows' links' (after steps h))
     → (h : WayHistory) (g : ℕ → List ℕ) (start notes : List Note) → ToldBy k l h g start conns flows links notes → ToldBy k l h g start conns' flows' links' (notes ++ shown steps)
-told_by steps keeps conns conns' flows flows' links links' goes = told_as steps (λ g. g) conns conns' flows flows' links links' (λ h g s is c. keeps h c ∙ is c) goes
+told_by steps keeps ways conns conns' flows flows' links links' goes = told_as steps (λ g. g) conns conns' flows flows' links links' (λ h g s is c. keeps h c ∙ is c) ways goes
 
--- the configuration stays
-pub config_told : {k : LimitKeys} → (old new : WireCore) → new.config ≡ old.config → (h : WayHistory) (g : ℕ → List ℕ) (start notes : List Note) → ToldBy k old.config.limits h g start new.conns new.flows new.links notes → Told k h g start new notes
-config_told {k} old new same h g start notes t = subst (λ (c : Config). ToldBy k c.limits h g start new.conns new.flows new.links notes) (sym same) t
+-- the core has this footing
+told_on : {k : Config} → (l : Footing) (new : WireCore) → footing_of new ≡ l → (h : WayHistory) (g : ℕ → List ℕ) (start notes : List Note) → ToldBy k l h g start new.conns new.flows new.links notes → Told k h g start new notes
+told_on {k} l new same h g start notes t = subst (λ (v : Footing). ToldBy k v h g start new.conns new.flows new.links notes) (sym same) t
+
+pub config_told : {k : Config} → (old new : WireCore) → footing_of new ≡ footing_of old → (h : WayHistory) (g : ℕ → List ℕ) (start notes : List Note) → ToldBy k (footing_of old) h g start new.conns new.flows new.links notes → Told k h g start new notes
+config_told old new same h g start notes t = told_on (footing_of old) new same h g start notes t
 
 -- the same with connections and notes that are these
-pub told_at : {k l : LimitKeys} → (h : WayHistory) (g : ℕ → List ℕ) (start : List Note) (conns conns' : PagedMap Conn) (flows : Flows) (links : Links) (notes notes' : List Note) → conns ≡ conns' → notes ≡ notes'
+pub told_at : {k : Config} {l : Footing} → (h : WayHistory) (g : ℕ → List ℕ) (start : List Note) (conns conns' : PagedMap Conn) (flows : Flows) (links : Links) (notes notes' : List Note) → conns ≡ conns' → notes ≡ notes'
     → ToldBy k l h g start conns flows links notes → ToldBy k l h g start conns' flows links notes'
 told_at {k} {l} h g start conns conns' flows links notes notes' c n t = subst (λ (v : PagedMap Conn). ToldBy k l h g start v flows links notes') c (subst (λ (ns : List Note). ToldBy k l h g start conns flows links ns) n t)
 
-pub owes_by : (steps : List WayStep) → KeepsLeft steps → (old new : WireCore) → new.config ≡ old.config
+pub owes_by : (steps : List WayStep) → KeepsLeft steps → KeepsWays steps → (old new : WireCore) → footing_of new ≡ footing_of old
     → ((h : WayHistory) → Stands old.config.limits old.conns old.flows old.links h → Stands old.config.limits new.conns new.flows new.links (after steps h)) → Owes (shown steps) old new
-owes_by steps keeps old new same goes = record {
+owes_by steps keeps ways old new same goes = record {
   goes = λ h g start notes t.
       config_told old new same h g start (notes ++ shown steps)
-      (told_by steps keeps old.conns new.conns old.flows new.flows old.links new.links goes h g start notes t);
+      (told_by {l = footing_of old} steps keeps ways old.conns new.conns old.flows new.flows old.links new.links goes h g start notes t);
 }
 
-pub keeps_by : (old new : WireCore) → new.config ≡ old.config → ((h : WayHistory) → Stands old.config.limits old.conns old.flows old.links h → Stands old.config.limits new.conns new.flows new.links h) → Keeps old new
+pub keeps_by : (old new : WireCore) → footing_of new ≡ footing_of old → ((h : WayHistory) → Stands old.config.limits old.conns old.flows old.links h → Stands old.config.limits new.conns new.flows new.links h) → Keeps old new
 keeps_by old new same goes = record {
   goes = λ h g start notes t.
       config_told old new same h g start notes
-      (record { steps = t.steps; is = t.is; stands = goes (after t.steps h) t.stands; left = t.left; under = t.under });
+      (record { steps = t.steps; is = t.is; stands = goes (after t.steps h) t.stands; left = t.left; under = t.under; ways = t.ways; rows = t.rows; since = t.since });
 }
 
 -- the same of a call that may fail
@@ -90,18 +110,18 @@ keeps_on (Ok u) old new k = record { goes = k.goes }
 keeps_on (Err x) old new k = record { goes = λ h g start notes t. tt }
 
 -- what a call of one connection leaves alone
-abbrev pub rest_of : WireCore → Links × Config
-rest_of core = (core.links, core.config)
+abbrev pub rest_of : WireCore → Links × Footing
+rest_of core = (core.links, footing_of core)
 
-pub config_kept : (old new : WireCore) → rest_of new ≡ rest_of old → new.config ≡ old.config
-config_kept old new r = ap (λ (v : Links × Config). v.1) r
+pub footing_kept : (old new : WireCore) → rest_of new ≡ rest_of old → footing_of new ≡ footing_of old
+footing_kept old new r = ap (λ (v : Links × Footing). v.1) r
 
 pub links_kept : {l : LimitKeys} → (old new : WireCore) → rest_of new ≡ rest_of old → (h : WayHistory) → Stands l new.conns new.flows old.links h → Stands l new.conns new.flows new.links h
-links_kept {l} old new r h s = subst (λ (v : Links × Config). Stands l new.conns new.flows v.0 h) (sym r) s
+links_kept {l} old new r h s = subst (λ (v : Links × Footing). Stands l new.conns new.flows v.0 h) (sym r) s
 
 -- where these parts are as they were
 pub keeps_same : (old new : WireCore) → new.conns ≡ old.conns → new.flows ≡ old.flows → rest_of new ≡ rest_of old → Keeps old new
-keeps_same old new c f r = keeps_by old new (config_kept old new r) (λ h s.
+keeps_same old new c f r = keeps_by old new (footing_kept old new r) (λ h s.
     links_kept old new r h
     (subst (λ (v : PagedMap Conn). Stands old.config.limits v new.flows old.links h) (sym c)
     (subst (λ (v : Flows). Stands old.config.limits old.conns v old.links h) (sym f) s)))
@@ -110,7 +130,7 @@ keeps_same old new c f r = keeps_by old new (config_kept old new r) (λ h s.
 -- it was written through, and its octets are as they were
 pub conn_keeps : (n : ℕ) (old new : WireCore) (v w : Conn) → value_at n old.conns ≡ Some v → WritesThrough n old.conns w new.conns
     → w.outlet.write.octets ≡ v.outlet.write.octets → w.open ≡ v.open → new.flows ≡ old.flows → rest_of new ≡ rest_of old → Keeps old new
-conn_keeps n old new v w found written octets opened f r = keeps_by old new (config_kept old new r) (λ h s.
+conn_keeps n old new v w found written octets opened f r = keeps_by old new (footing_kept old new r) (λ h s.
     links_kept old new r h
     (subst (λ (fs : Flows). Stands old.config.limits new.conns fs old.links h) (sym f)
     (conns_go old.conns new.conns old.flows old.links h (same_conns (conns_written n old.conns new.conns v w found written (λ xs. xs) octets opened)) s)))
@@ -138,19 +158,19 @@ gate_bodies old new e = record { goes = flows_go old new (ap (λ (ex : Exchanges
 pub changed_bodies : (f : FlowId) (change : Flow → Flow) (old new : Flows) → ((flow : Flow) → flow_in old f ≡ Some flow → KeepsOctets flow (change flow)) → ChangesFlow f change old.exchanges new.exchanges → KeepBodies old new
 changed_bodies f change old new keeps c = record { goes = flow_goes f change old new keeps c }
 
-pub bodies_told : {k l : LimitKeys} → (old new : Flows) → KeepBodies old new → (conns : PagedMap Conn) (links : Links) (h : WayHistory) (g : ℕ → List ℕ) (start notes : List Note) → ToldBy k l h g start conns old links notes → ToldBy k l h g start conns new links notes
-bodies_told old new k conns links h g start notes t = record { steps = t.steps; is = t.is; stands = k.goes conns links (after t.steps h) t.stands; left = t.left; under = t.under }
+pub bodies_told : {k : Config} {l : Footing} → (old new : Flows) → KeepBodies old new → (conns : PagedMap Conn) (links : Links) (h : WayHistory) (g : ℕ → List ℕ) (start notes : List Note) → ToldBy k l h g start conns old links notes → ToldBy k l h g start conns new links notes
+bodies_told old new k conns links h g start notes t = record { steps = t.steps; is = t.is; stands = k.goes conns links (after t.steps h) t.stands; left = t.left; under = t.under; ways = t.ways; rows = t.rows; since = t.since }
 
 -- the same of a call that may fail
-pub changed_told : {k l : LimitKeys} {A E : Type 0} (r : Result A E) (f : FlowId) (change : Flow → Flow) (old new : Flows) → ((flow : Flow) → KeepsOctets flow (change flow)) → OnOk r (ChangesFlow f change old.exchanges new.exchanges)
+pub changed_told : {k : Config} {l : Footing} {A E : Type 0} (r : Result A E) (f : FlowId) (change : Flow → Flow) (old new : Flows) → ((flow : Flow) → KeepsOctets flow (change flow)) → OnOk r (ChangesFlow f change old.exchanges new.exchanges)
     → (conns : PagedMap Conn) (links : Links) (h : WayHistory) (g : ℕ → List ℕ) (start notes : List Note) → ToldBy k l h g start conns old links notes → OnOk r (ToldBy k l h g start conns new links notes)
 changed_told (Ok u) f change old new keeps c conns links h g start notes t = bodies_told old new (changed_bodies f change old new (λ flow e. keeps flow) c) conns links h g start notes t
 changed_told (Err x) f change old new keeps c conns links h g start notes t = tt
 
 -- ---- at first
-pub first_stands : {l : LimitKeys} → (conns : PagedMap Conn) (flows : Flows) (links : Links) → conns.entries ≡ [] → flows.exchanges.live ≡ [] → links ≡ no_links → Stands l conns flows links []
+pub first_stands : {l : LimitKeys} → (conns : PagedMap Conn) (flows : Flows) (links : Links) → conns.entries ≡ [] → flows.exchanges.live ≡ [] → flows.exchanges.last ≡ 0 → links ≡ no_links → Stands l conns flows links []
 unfolding exchange_at
-first_stands {l} conns flows links c f none = record {
+first_stands {l} conns flows links c f last none = record {
   writes = λ d. ap (λ (es : List (ℕ × Conn)). option_map_or (λ conn. conn.outlet.write.octets) (lookup (is_at (nat_cmp d)) es) []) c;
   flows_are = λ g. subst (λ (es : List (ℕ × Exchange)). IfSome (option_and_then (side_of g.back) (lookup (nat_eq g.exchange) es)) (FlowIs l g [])) (sym f) tt;
   empty = λ g p none. refl;
@@ -165,15 +185,46 @@ first_stands {l} conns flows links c f none = record {
   };
   fronts = λ g. refl;
   fits = record { flows = λ g. empty_fits g [] (λ p. refl); outs = λ d some. least _ };
+  marks = marks_first flows links last none;
 }
   where
     least : (n : ℕ) → 0 ≤ n
     least n = omega arith
 
 -- ---- a mark
--- nothing is noted, but the history has a mark more
-pub marked_told : {k l : LimitKeys} → (m : Way) (conns conns' : PagedMap Conn) (flows flows' : Flows) (links links' : Links)
-    → ((h : WayHistory) → Stands l conns flows links h → Stands l conns' flows' links' (Marked m ∷ h))
+-- nothing is noted, but the history has one more mark: a request gets its stream
+pub marked_told : {k : Config} {l : Footing} → (x s : ℕ) (conns conns' : PagedMap Conn) (flows flows' : Flows) (links links' : Links)
+    → ((h : WayHistory) → Stands l.config.limits conns flows links h → MayOpen x h) → ((h : WayHistory) → Stands l.config.limits conns flows links h → Stands l.config.limits conns' flows' links' (Marked (Opens x s) ∷ h))
     → (h : WayHistory) (g : ℕ → List ℕ) (start notes : List Note) → ToldBy k l h g start conns flows links notes → ToldBy k l h g start conns' flows' links' notes
-marked_told m conns conns' flows flows' links links' goes h g start notes t =
-    told_at h g start conns' conns' flows' links' (notes ++ []) notes refl (append-nil notes) (told_by (Marked m ∷ []) (λ k c. refl) conns conns' flows flows' links links' goes h g start notes t)
+marked_told {l} x s conns conns' flows flows' links links' may goes h g start notes t = record {
+  steps = t.steps ++ Marked (Opens x s) ∷ [];
+  is = t.is ∙ ap (λ (ns : List Note). start ++ ns) (sym (shown_append t.steps (Marked (Opens x s) ∷ []) ∙ append-nil (shown t.steps)));
+  stands = subst (λ (past : WayHistory). Stands l.config.limits conns' flows' links' past) (sym (after_append t.steps (Marked (Opens x s) ∷ []) h)) (goes (after t.steps h) t.stands);
+  left = λ c. ap (gone world_setup c) (after_append t.steps (Marked (Opens x s) ∷ []) h) ∙ t.left c;
+  under = t.under;
+  ways = λ was. subst (λ (past : WayHistory). AreWays l.config past) (sym (after_append t.steps (Marked (Opens x s) ∷ []) h)) (ways_opened x s (after t.steps h) l.config (may (after t.steps h) t.stands) (t.ways was));
+  rows = t.rows ∙ sym (rows_append t.steps (Marked (Opens x s) ∷ []) ∙ append-nil (rows_in t.steps));
+  since = t.since;
+}
+
+-- an exchange starts: its note is still to be noted
+pub begun_owed : (x : ℕ) (row : Option ℕ) (there back : List StageKind) (n : Note) (old new : WireCore) → footing_of new ≡ with_rows (footing_of old) (old.rows.items ++ row ∷ [])
+    → KeepsLeft (Marked (Passes x row there back) ∷ Noted n ∷ [])
+    → ((h : WayHistory) → Stands old.config.limits old.conns old.flows old.links h → AreWays old.config h → AreWays old.config (Noted n ∷ Marked (Passes x row there back) ∷ h))
+    → ((h : WayHistory) → Stands old.config.limits old.conns old.flows old.links h → Stands old.config.limits new.conns new.flows new.links (Noted n ∷ Marked (Passes x row there back) ∷ h)) → Owes (n ∷ []) old new
+begun_owed x row there back n old new same keeps ways goes = record {
+  goes = λ h g start notes t. told_on (with_rows (footing_of old) (old.rows.items ++ row ∷ [])) new same h g start (notes ++ n ∷ []) (begun h g start notes t);
+}
+  where
+    begun : {k : Config} → (h : WayHistory) (g : ℕ → List ℕ) (start notes : List Note) → Told k h g start old notes
+        → ToldBy k (with_rows (footing_of old) (old.rows.items ++ row ∷ [])) h g start new.conns new.flows new.links (notes ++ n ∷ [])
+    begun h g start notes t = record {
+      steps = t.steps ++ Marked (Passes x row there back) ∷ Noted n ∷ [];
+      is = ap (λ (ns : List Note). ns ++ n ∷ []) t.is ∙ (append_assoc start (shown t.steps) (n ∷ []) ∙ ap (λ (ns : List Note). start ++ ns) (sym (shown_append t.steps (Marked (Passes x row there back) ∷ Noted n ∷ []))));
+      stands = subst (λ (past : WayHistory). Stands old.config.limits new.conns new.flows new.links past) (sym (after_append t.steps (Marked (Passes x row there back) ∷ Noted n ∷ []) h)) (goes (after t.steps h) t.stands);
+      left = λ c. ap (gone world_setup c) (after_append t.steps (Marked (Passes x row there back) ∷ Noted n ∷ []) h) ∙ (keeps (after t.steps h) c ∙ t.left c);
+      under = t.under;
+      ways = λ was. subst (λ (past : WayHistory). AreWays old.config past) (sym (after_append t.steps (Marked (Passes x row there back) ∷ Noted n ∷ []) h)) (ways (after t.steps h) t.stands (t.ways was));
+      rows = ap (λ (rows : List (Option ℕ)). rows ++ row ∷ []) t.rows ∙ sym (rows_append t.steps (Marked (Passes x row there back) ∷ Noted n ∷ []));
+      since = t.since;
+    }

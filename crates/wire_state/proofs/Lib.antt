@@ -8,6 +8,7 @@ pub mod Idle
 pub mod Keeping
 pub mod Linked
 pub mod Lives
+pub mod Marked
 pub mod Notings
 pub mod Overs
 pub mod Promised
@@ -16,6 +17,7 @@ pub mod Rooms
 pub mod Sending
 pub mod Shapes
 pub mod Soundness
+pub mod Staged
 pub mod Standing
 pub mod Stepping
 pub mod Tasks

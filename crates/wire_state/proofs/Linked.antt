@@ -2,6 +2,7 @@
 use Rattle.flow_notes.specs.declared.events.Event.TheVariants as event
 use Rattle.flow_notes.specs.declared.notes.Note.{Note}
 use Rattle.flow_notes.specs.declared.notes.Note.TheVariants as note
+use Rattle.proxy_config.specs.declared.config.Config.{Config}
 use Rattle.proxy_config.specs.declared.config.LimitKeys.{LimitKeys}
 use Rattle.std.proofs.Common.{ap, arith, refl, subst, sym, ◌∙◌}
 use Rattle.exchange_core.proofs.Maps.{eq_by_number}
@@ -21,9 +22,11 @@ use Rattle.wire_links.specs.declared.conn.Conn.{Conn as Link}
 use Rattle.wire_links.specs.declared.links.exchanges.Ends.{Ends}
 use Rattle.wire_state.proofs.Fitting.{fits_now, less_out, outs_fit, still_fits}
 use Rattle.wire_state.proofs.Held.{is_number}
+use Rattle.wire_state.proofs.Marked.{marks_go}
 use Rattle.wire_state.proofs.Sending.{fronts_still, unborn_still}
 use Rattle.wire_state.proofs.Standing.{as_if, conns_written, flow_still, if_some}
 use Rattle.wire_state.proofs.Lives.{LinksOne, OpensStream, UnlinksOne}
+use Rattle.wire_state.specs.Marks.{Footing}
 use Rattle.wire_state.specs.Ways.{WayHistory, after, world_setup}
 use Rattle.wire_state.specs.Worlds.{EndsAre, Stands, ToldBy, has_conn, is_shut, octets_of}
 use Rattle.wire_state.specs.declared.conn.Conn.{Conn}
@@ -65,10 +68,11 @@ links_go old new k conns flows h s = record {
   unborn = s.unborn;
   fronts = s.fronts;
   fits = s.fits;
+  marks = marks_go flows flows old new h h refl k.ends refl (λ x. refl) s.marks;
 }
 
-pub links_told : {k l : LimitKeys} → (old new : Links) → KeepsEnds old new → (conns : PagedMap Conn) (flows : Flows) (h : WayHistory) (g : ℕ → List ℕ) (start notes : List Note) → ToldBy k l h g start conns flows old notes → ToldBy k l h g start conns flows new notes
-links_told old new k conns flows h g start notes t = record { steps = t.steps; is = t.is; stands = links_go old new k conns flows (after t.steps h) t.stands; left = t.left; under = t.under }
+pub links_told : {k : Config} {l : Footing} → (old new : Links) → KeepsEnds old new → (conns : PagedMap Conn) (flows : Flows) (h : WayHistory) (g : ℕ → List ℕ) (start notes : List Note) → ToldBy k l h g start conns flows old notes → ToldBy k l h g start conns flows new notes
+links_told old new k conns flows h g start notes t = record { steps = t.steps; is = t.is; stands = links_go old new k conns flows (after t.steps h) t.stands; left = t.left; under = t.under; ways = t.ways; rows = t.rows; since = t.since }
 
 still_there : (c d : ℕ) (f : Link → Link) (es : List (ℕ × Link)) → is_some (if nat_eq c d then option_map f (under c es) else under d es) ≡ is_some (under d es)
 still_there c d f es = by_case (nat_eq c d)
@@ -157,11 +161,12 @@ comes n old new c flows links h known came fresh s = record {
   unborn = s.unborn;
   fronts = s.fronts;
   fits = s.fits;
+  marks = s.marks;
 }
 
-pub come_told : {k l : LimitKeys} → (n : ℕ) (old new : PagedMap Conn) → ComesNew n old new → (flows : Flows) (links : Links) → is_known n links ≡ true
+pub come_told : {k : Config} {l : Footing} → (n : ℕ) (old new : PagedMap Conn) → ComesNew n old new → (flows : Flows) (links : Links) → is_known n links ≡ true
     → (h : WayHistory) (g : ℕ → List ℕ) (start notes : List Note) (t : ToldBy k l h g start old flows links notes) → has (connections world_setup (after t.steps h)) n ≡ true → was_closed n (after t.steps h) ≡ false → ToldBy k l h g start new flows links notes
-come_told n old new c flows links known h g start notes t came fresh = record { steps = t.steps; is = t.is; stands = comes n old new c flows links (after t.steps h) known came fresh t.stands; left = t.left; under = t.under }
+come_told n old new c flows links known h g start notes t came fresh = record { steps = t.steps; is = t.is; stands = comes n old new c flows links (after t.steps h) known came fresh t.stands; left = t.left; under = t.under; ways = t.ways; rows = t.rows; since = t.since }
 
 -- ---- a connection is forgotten
 pub record ForgetsConn (n : ℕ) (old new : PagedMap Conn) : Type 0 where
@@ -196,6 +201,7 @@ forgets n old new f flows links links' h same known s = record {
   unborn = s.unborn;
   fronts = s.fronts;
   fits = s.fits;
+  marks = marks_go flows flows links links' h h refl same refl (λ x. refl) s.marks;
 }
 
 -- ---- a connection that is closed is lost
@@ -247,6 +253,7 @@ drops_rest {l} n k old new d flows links h s = record {
     },
     s.fits,
   );
+  marks = marks_go flows flows links links h (Noted (note.Turn k (event.Gone n)) ∷ h) refl (λ x. refl) refl (λ x. refl) s.marks;
 }
   where
     -- where it isn't there nothing waited for it

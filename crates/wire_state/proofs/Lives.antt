@@ -31,11 +31,13 @@ use Rattle.wire_links.specs.Links.{Links, ends_of, is_known, with_stream}
 use Rattle.wire_links.specs.declared.links.exchanges.Ends.{Ends}
 use Rattle.wire_state.proofs.Fitting.{doomed_fits, empty_fits, fits_now, still_fits}
 use Rattle.wire_state.proofs.Held.{begun_held, is_number, seen_keeps, turned}
+use Rattle.wire_state.proofs.Marked.{marks_begun, marks_doomed, marks_opened}
 use Rattle.wire_state.proofs.Sending.{begun_loses, fronts_still, unborn_still}
 use Rattle.wire_state.proofs.Shapes.{begun_shape}
 use Rattle.wire_state.proofs.Standing.{ends_are_still, flow_still, if_some}
 use Rattle.wire_state.proofs.Bodies.{flows_go, flows_mapped}
 use Rattle.wire_state.specs.Limits.{FlowFits, HasShape}
+use Rattle.wire_state.specs.Marks.{MayOpen}
 use Rattle.wire_state.specs.Ways.{Opens, Passes, WayHistory, WayStep, stages_of, stages_passed, stream_to, world_setup}
 use Rattle.wire_state.specs.Worlds.{EndsAre, FlowIs, IsUnborn, Stands}
 use Rattle.wire_state.specs.declared.conn.Conn.{Conn}
@@ -83,6 +85,7 @@ module _ (x : ℕ) (why : Cause) (h : WayHistory) (old new : Flows) (d : Dooms x
     unborn = unborn_still old new h (ending ∷ h) d.gone.last none_after (λ f none. (refl, refl)) s.unborn;
     fronts = fronts_still ending h (λ f. refl) (λ f. refl) s.fronts;
     fits = let fit = fits_now h s.fits in (record { flows = λ f. doomed_fits x why h f (fit.flows f); outs = fit.outs }, s.fits);
+    marks = marks_doomed x why old new links links' h d.gone.last u.ends s.marks;
   }
 
 -- ---- start
@@ -108,7 +111,7 @@ module _ (x c s d : ℕ) (to : Option ℕ) (spec : StartSpec) (config : Config) 
   back = filters_of (side_filters true) spec.row config
 
   abbrev passing : WayStep
-  passing = Marked (Passes x (stages_of there) (stages_of back))
+  passing = Marked (Passes x spec.row (stages_of there) (stages_of back))
 
   abbrev start : WayStep
   start = Noted (note.Start x c s d)
@@ -220,6 +223,7 @@ module _ (x c s d : ℕ) (to : Option ℕ) (spec : StartSpec) (config : Config) 
         (record { flows = begun_fits (passing ∷ h) (λ f e. passed_stages f false e) (λ f p. refl) (λ f. refl) (λ f. refl) stands.empty stands.unborn fit.flows; outs = fit.outs }, stands.fits),
       );
       fronts = fronts_still start (passing ∷ h) (λ f. refl) (λ f. refl) (fronts_still passing h (λ f. refl) (λ f. refl) stands.fronts);
+      marks = marks_begun config x c s d spec.row h old new links links' linked refl number b.last linked_so.ends stands.marks;
     }
 
 -- ---- the stream of a request at its cluster
@@ -238,8 +242,8 @@ module _ (x s : ℕ) (h : WayHistory) where
   other_ends : (y : ℕ) → (x == y) ≡ false → (v : Ends) → EndsAre y h v → EndsAre y (opening ∷ h) v
   other_ends y e v is = record { client = is.client; cluster = if_some v.cluster_stream (λ k at. at ∙ sym (ap (λ b. if true && b then s else stream_to (request y) h) e)) is.cluster }
 
-  pub places : {l : LimitKeys} → (conns : PagedMap Conn) (flows : Flows) (links links' : Links) → OpensStream x s links links' → Stands l conns flows links h → Stands l conns flows links' (opening ∷ h)
-  places conns flows links links' opened stands = record {
+  pub places : {l : LimitKeys} → (conns : PagedMap Conn) (flows : Flows) (links links' : Links) → MayOpen x h → OpensStream x s links links' → Stands l conns flows links h → Stands l conns flows links' (opening ∷ h)
+  places conns flows links links' may opened stands = record {
     writes = stands.writes;
     flows_are = λ f. if_some (flow_in flows f) (flow_still f h (opening ∷ h) (record { places = λ p. refl; stages = refl; came = refl; went = refl })) (stands.flows_are f);
     empty = stands.empty;
@@ -253,6 +257,7 @@ module _ (x s : ℕ) (h : WayHistory) where
     fronts = fronts_still opening h (λ f. refl) (λ f. refl) stands.fronts;
     fits = let fit = fits_now h stands.fits in
         (record { flows = λ f. still_fits f h (opening ∷ h) (record { places = λ p. refl; stages = refl; came = refl; went = refl }) (fit.flows f); outs = fit.outs }, stands.fits);
+    marks = marks_opened x s h flows links links' may opened.ends stands.marks;
   }
 
 -- ---- the clock

@@ -11,7 +11,7 @@ use Rattle.paged_map.specs.PagedMap.{PagedMap, WritesThrough, value_at}
 use Rattle.std.specs.Option.{option_map_or}
 use Rattle.std.specs.Prelude.{Bool, IfSome, IsSome, List, None, Option, Some, [], cond, drop, false, if◌then◌else◌, is_some, length, not, true, ℕ, ◌++◌, ◌+◌, ◌==◌, ◌||◌, ◌∷◌, ◌≡◌, ◌≤◌}
 use Rattle.tape_laws.specs.Connections.{connections, was_closed}
-use Rattle.tape_laws.specs.Dispatches.{has}
+use Rattle.tape_laws.specs.Dispatches.{has, started}
 use Rattle.tape_laws.specs.Flows.{request, response}
 use Rattle.tape_laws.specs.History.{Noted}
 use Rattle.tape_laws.specs.Units.{StageKind}
@@ -22,8 +22,10 @@ use Rattle.wire_links.specs.Links.{Links, ends_of, is_known}
 use Rattle.wire_links.specs.declared.links.exchanges.Ends.{Ends}
 use Rattle.wire_state.proofs.Fitting.{fits_now, less_out, outs_fit, still_fits}
 use Rattle.wire_state.proofs.Held.{by_test, is_number}
+use Rattle.wire_state.proofs.Marked.{marks_go}
 use Rattle.wire_state.proofs.Sending.{IsStill, fronts_still, still_loses, unborn_still}
 use Rattle.wire_state.specs.Limits.{HasShape, OutFits}
+use Rattle.wire_state.specs.Marks.{is_opened}
 use Rattle.wire_state.specs.Ways.{WayHistory, WayStep, stages_passed, stream_to, world_setup}
 use Rattle.wire_state.specs.Worlds.{EndsAre, FlowIs, Stands, has_conn, is_shut, left_by, octets_of}
 use Rattle.wire_state.specs.declared.conn.Conn.{Conn}
@@ -109,6 +111,8 @@ pub record KeepsFlows (step : WayStep) (h : WayHistory) : Type 0 where
   pub stream : (f : FlowId) → stream_to f (step ∷ h) ≡ stream_to f h
   pub came : (f : FlowId) → received f (step ∷ h) ≡ received f h
   pub went : (f : FlowId) → sent world_setup f (step ∷ h) ≡ sent world_setup f h
+  pub began : started (step ∷ h) ≡ started h
+  pub opened : (x : ℕ) → is_opened x (step ∷ h) ≡ is_opened x h
 
 pub record KeepsShut (step : WayStep) (h : WayHistory) : Type 0 where
   pub closed : (c : ℕ) → was_closed c (step ∷ h) ≡ was_closed c h
@@ -152,6 +156,7 @@ wrote {l} change step h old new flows links w k m c room s = record {
   fronts = fronts_still step h k.came k.went s.fronts;
   fits = let fit = fits_now h s.fits in
       (record { flows = λ f. still_fits f h (step ∷ h) (step_still step h k f) (fit.flows f); outs = outs_fit l old new h (step ∷ h) s.writes now room fit.outs }, s.fits);
+  marks = marks_go flows flows links links h (step ∷ h) refl (λ x. refl) k.began k.opened s.marks;
 }
   where
     now : (d : ℕ) → octets_of d new ≡ out world_setup d (step ∷ h)
@@ -170,6 +175,7 @@ conns_go old new flows links h c s = record {
   unborn = s.unborn;
   fronts = s.fronts;
   fits = s.fits;
+  marks = s.marks;
 }
 
 -- ---- the kinds of steps
@@ -188,7 +194,7 @@ module _ (h : WayHistory) where
     head_writes s = record { outs = λ d. more_is (c == d) (out world_setup d h) octets }
 
     pub head_flows : (s : ℕ) → KeepsFlows (Noted (note.Head c s octets)) h
-    head_flows s = record { places = λ f p. refl; stages = λ f. refl; stream = λ f. refl; came = λ f. refl; went = λ f. refl }
+    head_flows s = record { places = λ f p. refl; stages = λ f. refl; stream = λ f. refl; came = λ f. refl; went = λ f. refl; began = refl; opened = λ x. refl }
 
     pub head_shut : (s : ℕ) → KeepsShut (Noted (note.Head c s octets)) h
     head_shut s = record { closed = λ d. refl; come = λ d e. e }
@@ -197,7 +203,7 @@ module _ (h : WayHistory) where
     answer_writes = record { outs = λ d. more_is (c == d) (out world_setup d h) octets }
 
     pub answer_flows : KeepsFlows (Noted (note.Answer c octets)) h
-    answer_flows = record { places = λ f p. refl; stages = λ f. refl; stream = λ f. refl; came = λ f. refl; went = λ f. refl }
+    answer_flows = record { places = λ f p. refl; stages = λ f. refl; stream = λ f. refl; came = λ f. refl; went = λ f. refl; began = refl; opened = λ x. refl }
 
     pub answer_shut : KeepsShut (Noted (note.Answer c octets)) h
     answer_shut = record { closed = λ d. refl; come = λ d e. e }
@@ -207,7 +213,7 @@ module _ (h : WayHistory) where
     credit_writes = record { outs = λ d. more_is (c == d) (out world_setup d h) (window_update s n) }
 
     pub credit_flows : KeepsFlows (Noted (note.Credit c s n)) h
-    credit_flows = record { places = λ f p. refl; stages = λ f. refl; stream = λ f. refl; came = λ f. refl; went = λ f. refl }
+    credit_flows = record { places = λ f p. refl; stages = λ f. refl; stream = λ f. refl; came = λ f. refl; went = λ f. refl; began = refl; opened = λ x. refl }
 
     pub credit_shut : KeepsShut (Noted (note.Credit c s n)) h
     credit_shut = record { closed = λ d. refl; come = λ d e. e }
@@ -218,7 +224,7 @@ module _ (h : WayHistory) where
     out_writes = record { outs = λ d. less_is (c == d) n (out world_setup d h) }
 
     pub out_flows : KeepsFlows (Noted (note.Out c n)) h
-    out_flows = record { places = λ f p. refl; stages = λ f. refl; stream = λ f. refl; came = λ f. refl; went = λ f. refl }
+    out_flows = record { places = λ f p. refl; stages = λ f. refl; stream = λ f. refl; came = λ f. refl; went = λ f. refl; began = refl; opened = λ x. refl }
 
     pub out_shut : KeepsShut (Noted (note.Out c n)) h
     out_shut = record { closed = λ d. refl; come = λ d e. e }
@@ -229,7 +235,7 @@ module _ (h : WayHistory) where
     pause_writes = record { outs = λ d. refl }
 
     pub pause_flows : KeepsFlows (Noted (note.Pause f b)) h
-    pause_flows = record { places = λ f p. refl; stages = λ f. refl; stream = λ f. refl; came = λ f. refl; went = λ f. refl }
+    pause_flows = record { places = λ f p. refl; stages = λ f. refl; stream = λ f. refl; came = λ f. refl; went = λ f. refl; began = refl; opened = λ x. refl }
 
     pub pause_shut : KeepsShut (Noted (note.Pause f b)) h
     pause_shut = record { closed = λ d. refl; come = λ d e. e }
@@ -238,7 +244,7 @@ module _ (h : WayHistory) where
     resume_writes = record { outs = λ d. refl }
 
     pub resume_flows : KeepsFlows (Noted (note.Resume f b)) h
-    resume_flows = record { places = λ f p. refl; stages = λ f. refl; stream = λ f. refl; came = λ f. refl; went = λ f. refl }
+    resume_flows = record { places = λ f p. refl; stages = λ f. refl; stream = λ f. refl; came = λ f. refl; went = λ f. refl; began = refl; opened = λ x. refl }
 
     pub resume_shut : KeepsShut (Noted (note.Resume f b)) h
     resume_shut = record { closed = λ d. refl; come = λ d e. e }
@@ -289,6 +295,7 @@ closes {l} c code why h old new flows links links' w same known s = record {
     },
     s.fits,
   );
+  marks = marks_go flows flows links links' h (Noted (note.Close c code why) ∷ h) refl same refl (λ x. refl) s.marks;
 }
   where
     now : (d : ℕ) → octets_of d new ≡ out world_setup d (Noted (note.Close c code why) ∷ h)

@@ -7,7 +7,7 @@ use Rattle.exchange_core.specs.declared.step.Step.TheVariants as step
 use Rattle.filter_chain.specs.Place.{Place}
 use Rattle.flow_gate.specs.Board.{Board}
 use Rattle.flow_gate.specs.declared.ids.FlowId.{FlowId}
-use Rattle.proxy_config.specs.declared.config.LimitKeys.{LimitKeys}
+use Rattle.proxy_config.specs.declared.config.Config.{Config}
 use Rattle.std.proofs.Common.{ap, arith, refl, subst, sym, ◌∙◌}
 use Rattle.exchange_core.specs.Changes.{ChangesFlow}
 use Rattle.flow_notes.specs.declared.notes.Note.{Note}
@@ -29,6 +29,7 @@ use Rattle.wire_links.specs.Links.{Links}
 use Rattle.wire_state.proofs.Bodies.{moves}
 use Rattle.wire_state.proofs.Goings.{bodies_told, changed_bodies, told_by}
 use Rattle.wire_state.proofs.Held.{kept_if}
+use Rattle.wire_state.specs.Marks.{Footing}
 use Rattle.wire_state.specs.Ways.{WayHistory}
 use Rattle.wire_state.specs.Worlds.{ToldBy}
 use Rattle.wire_state.specs.declared.conn.Conn.{Conn}
@@ -67,9 +68,9 @@ module _ (f : FlowId) (old new : Flows) (o : Outcome) (is : o ≡ option_map_or 
   outcome_at flow found = is ∙ ap (λ (v : Option Flow). option_map_or (λ g. outcome_of f g (next_step old.gates (goes_to old f) g)) v outcome.Still) found
 
   -- octets moved
-  pub moved_told : {k l : LimitKeys} → (m : Moved) → o ≡ outcome.Moved m → IsSound new → (conns : PagedMap Conn) (links : Links) (h : WayHistory) (g : ℕ → List ℕ) (start notes : List Note)
+  pub moved_told : {k : Config} {l : Footing} → (m : Moved) → o ≡ outcome.Moved m → IsSound new → (conns : PagedMap Conn) (links : Links) (h : WayHistory) (g : ℕ → List ℕ) (start notes : List Note)
       → ToldBy k l h g start conns old links notes → ToldBy k l h g start conns new links (notes ++ note.Move f m.place m.n ∷ [])
-  moved_told m e sound conns links = told_by (Noted (note.Move f m.place m.n) ∷ []) (λ h c. refl) conns conns old new links links (λ h s.
+  moved_told m e sound conns links = told_by (Noted (note.Move f m.place m.n) ∷ []) (λ h c. refl) (record { ways = λ k h w. w; rows = refl }) conns conns old new links links (λ h s.
       moves f m.place m.n h old new conns links (stepped old.gates (goes_to old f)) changes (there (flow_in old f) refl)
       (λ flow found was. let made = step_of old.gates (goes_to old f) f flow m (some_place _ _ was.last) (sym e ∙ outcome_at flow found) in
       record { next = made.next; there = made.at_next; moves_so = made.after_it }) sound s)
@@ -82,7 +83,7 @@ module _ (f : FlowId) (old new : Flows) (o : Outcome) (is : o ≡ option_map_or 
       there (Some flow) some = subst IsSome (sym some) refl
 
   -- nothing did
-  pub still_told : {k l : LimitKeys} → ((m : Moved) → o ≡ outcome.Moved m → ⊥) → (conns : PagedMap Conn) (links : Links) (h : WayHistory) (g : ℕ → List ℕ) (start notes : List Note)
+  pub still_told : {k : Config} {l : Footing} → ((m : Moved) → o ≡ outcome.Moved m → ⊥) → (conns : PagedMap Conn) (links : Links) (h : WayHistory) (g : ℕ → List ℕ) (start notes : List Note)
       → ToldBy k l h g start conns old links notes → ToldBy k l h g start conns new links notes
   still_told none = bodies_told old new (changed_bodies f (stepped old.gates (goes_to old f)) old new
       (λ flow found. let stays = still_stays old.gates (goes_to old f) flow (λ p n shifted overflow e. none _ (outcome_at flow found ∙ ap (outcome_of f flow) e)) in

@@ -20,8 +20,9 @@ use Rattle.wire_flows.specs.Flows.{Flows}
 use Rattle.wire_links.specs.Links.{Links}
 use Rattle.wire_state.proofs.Held.{is_number, number_same}
 use Rattle.wire_state.proofs.Standing.{KeepsFlows, KeepsShut, Writes, conns_same, same_octets, wrote}
+use Rattle.wire_state.specs.Marks.{Footing, NoneBegan, NoneYet, footing_of}
 use Rattle.wire_state.specs.Ways.{WayHistory, world_setup}
-use Rattle.wire_state.specs.Worlds.{Comes, Goes, KeepsOk, Stands, Told, ToldBy, Turns, left_after}
+use Rattle.wire_state.specs.Worlds.{Comes, Goes, KeepsOk, Stands, Told, ToldBy, Turns, TurnsAnew, left_after}
 use Rattle.wire_state.specs.declared.conn.Conn.{Conn}
 use Rattle.wire_state.specs.declared.wire_core.WireCore.{WireCore}
 
@@ -46,7 +47,7 @@ left_same (event.Obey version pressures) t conns g = refl
 left_same (event.Plain e) t conns g = refl
 
 turn_flows : (k : ℕ) (e : Event) (h : WayHistory) → KeepsFlows (Noted (note.Turn k e)) h
-turn_flows k e h = record { places = λ f p. refl; stages = λ f. refl; stream = λ f. refl; came = λ f. refl; went = λ f. refl }
+turn_flows k e h = record { places = λ f p. refl; stages = λ f. refl; stream = λ f. refl; came = λ f. refl; went = λ f. refl; began = refl; opened = λ x. refl }
 
 first_false : (a b : Bool) → (a || b) ≡ false → a ≡ false
 first_false true b e = cc
@@ -101,8 +102,8 @@ lost_writes k c h e = record {
 
 module _ (conns : PagedMap Conn) (flows : Flows) (links : Links) (h : WayHistory) (g : ℕ → List ℕ) (left : (c : ℕ) → gone world_setup c h ≡ g c) where
   -- nothing is noted behind the notes before
-  pub told_none : {l : LimitKeys} → (before : List Note) → Stands l conns flows links h → ToldBy l l h g before conns flows links before
-  told_none before s = record { steps = []; is = sym (append-nil before); stands = s; left = left; under = refl }
+  pub told_none : {l : Footing} → NoneYet l flows → (before : List Note) → Stands l.config.limits conns flows links h → ToldBy l.config l h g before conns flows links before
+  told_none none before s = record { steps = []; is = sym (append-nil before); stands = s; left = left; under = refl; ways = λ w. w; rows = none.0; since = none.1 ∙ s.marks.numbers }
 
   turned : {l : LimitKeys} → (k : ℕ) (e : Event) → Writes same_octets (Noted (note.Turn k e)) h → Stands l conns flows links h → Stands l conns flows links (Noted (note.Turn k e) ∷ h)
   turned k e w s = wrote same_octets (Noted (note.Turn k e)) h conns conns flows links w (turn_flows k e h) (turn_shut k e h) (conns_same conns) (λ c fit. fit) s
@@ -110,18 +111,22 @@ module _ (conns : PagedMap Conn) (flows : Flows) (links : Links) (h : WayHistory
   turn_stands : {l : LimitKeys} → (k : ℕ) (e : Event) → LosesNone e → Stands l conns flows links h → Stands l conns flows links (Noted (note.Turn k e) ∷ h)
   turn_stands k e l s = turned k e (turn_writes k e l h) s
 
-  pub turn_told : {l : LimitKeys} → (k : ℕ) (e : Event) → LosesNone e → (before noted : List Note) → noted ≡ before ++ note.Turn k e ∷ [] → Stands l conns flows links h
-      → ToldBy l l h g before conns flows links noted
-  turn_told k e l before noted is s = record { steps = Noted (note.Turn k e) ∷ []; is = is; stands = turn_stands k e l s; left = left; under = refl }
+  pub turn_told : {l : Footing} → NoneYet l flows → (k : ℕ) (e : Event) → LosesNone e → (before noted : List Note) → noted ≡ before ++ note.Turn k e ∷ [] → Stands l.config.limits conns flows links h
+      → ToldBy l.config l h g before conns flows links noted
+  turn_told none k e l before noted is s =
+      record { steps = Noted (note.Turn k e) ∷ []; is = is; stands = turn_stands k e l s; left = left; under = refl; ways = λ w. w; rows = none.0; since = none.1 ∙ s.marks.numbers }
 
-  pub lost_told : {l : LimitKeys} → (k c : ℕ) → option_map_or (λ conn. conn.open) (value_at c conns) false ≡ true → (before noted : List Note) → noted ≡ before ++ note.Turn k (event.Gone c) ∷ []
-      → Stands l conns flows links h → ToldBy l l h g before conns flows links noted
-  lost_told k c opened before noted is s = record {
+  pub lost_told : {l : Footing} → NoneYet l flows → (k c : ℕ) → option_map_or (λ conn. conn.open) (value_at c conns) false ≡ true → (before noted : List Note) → noted ≡ before ++ note.Turn k (event.Gone c) ∷ []
+      → Stands l.config.limits conns flows links h → ToldBy l.config l h g before conns flows links noted
+  lost_told none k c opened before noted is s = record {
     steps = Noted (note.Turn k (event.Gone c)) ∷ [];
     is = is;
     stands = turned k (event.Gone c) (lost_writes k c h (s.closed c (there (value_at c conns) opened) ∙ not_shut (value_at c conns) opened)) s;
     left = left;
     under = refl;
+    ways = λ w. w;
+    rows = none.0;
+    since = none.1 ∙ s.marks.numbers;
   }
     where
       there : (o : Option Conn) → option_map_or (λ conn. conn.open) o false ≡ true → is_some o ≡ true
@@ -138,49 +143,49 @@ left_is : (e f : Event) → e ≡ f → TakesNone f → (conns : PagedMap Conn) 
 left_is e f is m conns g = ap (λ (v : Event). left_after v conns g) is ∙ left_same f m conns g
 
 after_turn : (e f : Event) → e ≡ f → LosesNone f → (old : WireCore) (h : WayHistory) (g : ℕ → List ℕ) (before noted : List Note) (k : ℕ) → noted ≡ before ++ note.Turn k e ∷ []
-    → Stands old.config.limits old.conns old.flows old.links h → ((c : ℕ) → gone world_setup c h ≡ g c) → Told old.config.limits h g before old noted
-after_turn e f is l old h g before noted k n s left = turn_told old.conns old.flows old.links h g left k f l before noted (n ∙ ap (λ (v : Event). before ++ note.Turn k v ∷ []) is) s
+    → Stands old.config.limits old.conns old.flows old.links h → ((c : ℕ) → gone world_setup c h ≡ g c) → NoneBegan old → Told old.config h g before old noted
+after_turn e f is l old h g before noted k n s left none = turn_told old.conns old.flows old.links h g left {l = footing_of old} none k f l before noted (n ∙ ap (λ (v : Event). before ++ note.Turn k v ∷ []) is) s
 
 module _ {A E : Type 0} (r : Result A E) (e f : Event) (is : e ≡ f) (l : LosesNone f) (m : TakesNone f) (old new : WireCore) where
-  as_after : (h : WayHistory) (g : ℕ → List ℕ) (before now : List Note) → OnOk r (Told old.config.limits h g before new now) → OnOk r (Told old.config.limits h (left_after e old.conns g) before new now)
-  as_after h g before now t = subst (λ (left : ℕ → List ℕ). OnOk r (Told old.config.limits h left before new now)) (sym (left_is e f is m old.conns g)) t
+  as_after : (h : WayHistory) (g : ℕ → List ℕ) (before now : List Note) → OnOk r (Told old.config h g before new now) → OnOk r (Told old.config h (left_after e old.conns g) before new now)
+  as_after h g before now t = subst (λ (left : ℕ → List ℕ). OnOk r (Told old.config h left before new now)) (sym (left_is e f is m old.conns g)) t
 
   pub turns_of : (noted now : List Note) → Goes r old noted new now → Turns r e old noted new now
-  turns_of noted now goes = record { goes = λ h g before k n s left fresh. as_after h g before now (goes.goes h g before (after_turn e f is l old h g before noted k n s left)) }
+  turns_of noted now goes = record { goes = λ h g before k n s left fresh none. as_after h g before now (goes.goes h g before (after_turn e f is l old h g before noted k n s left none)) }
 
   -- it writes no note
   pub turns_kept : (noted : List Note) → KeepsOk r old new → Turns r e old noted new noted
-  turns_kept noted keeps = record { goes = λ h g before k n s left fresh. as_after h g before noted (keeps.goes h g before noted (after_turn e f is l old h g before noted k n s left)) }
+  turns_kept noted keeps = record { goes = λ h g before k n s left fresh none. as_after h g before noted (keeps.goes h g before noted (after_turn e f is l old h g before noted k n s left none)) }
 
 -- it does nothing
 pub turns_same : {A E : Type 0} (a : A) (e f : Event) → e ≡ f → LosesNone f → TakesNone f → (core : WireCore) (noted : List Note) → Turns {A = A} {E = E} (Ok a) e core noted core noted
 turns_same {A = A} {E = E} a e f is l m core noted = turns_kept {A = A} {E = E} (Ok a) e f is l m core core noted (record { goes = λ h g start notes t. t })
 
 -- from a core that has the same configuration, connections, flows and links
-pub turns_from : {A E : Type 0} (r : Result A E) (e : Event) (old mid new : WireCore) (noted now : List Note) → mid.config ≡ old.config → mid.conns ≡ old.conns → mid.flows ≡ old.flows → mid.links ≡ old.links → Turns r e mid noted new now → Turns r e old noted new now
-turns_from r e old mid new noted now same c f l turns = record {
+pub turns_from : {A E : Type 0} (r : Result A E) (e : Event) (old mid new : WireCore) (noted now : List Note) → mid.config ≡ old.config → mid.conns ≡ old.conns → mid.flows ≡ old.flows → mid.links ≡ old.links → NoneBegan mid → Turns r e mid noted new now → TurnsAnew r e old noted new now
+turns_from r e old mid new noted now same c f l none turns = record {
   goes = λ h g before k n s left fresh.
-      subst (λ (v : Config). OnOk r (Told v.limits h (left_after e old.conns g) before new now)) same
-      (subst (λ (v : PagedMap Conn). OnOk r (Told mid.config.limits h (left_after e v g) before new now)) c
+      subst (λ (v : Config). OnOk r (Told v h (left_after e old.conns g) before new now)) same
+      (subst (λ (v : PagedMap Conn). OnOk r (Told mid.config h (left_after e v g) before new now)) c
       (turns.goes h g before k n
       (subst (λ (v : Config). Stands v.limits mid.conns mid.flows mid.links h) (sym same)
       (subst (λ (v : PagedMap Conn). Stands old.config.limits v mid.flows mid.links h) (sym c)
       (subst (λ (v : Flows). Stands old.config.limits old.conns v mid.links h) (sym f)
-      (subst (λ (v : Links). Stands old.config.limits old.conns old.flows v h) (sym l) s)))) left fresh));
+      (subst (λ (v : Links). Stands old.config.limits old.conns old.flows v h) (sym l) s)))) left fresh none));
 }
 
 -- a connection comes
 pub turns_joined : {A E : Type 0} (r : Result A E) (c cluster : ℕ) (old new : WireCore) (noted : List Note) → Comes r c old new → Turns r (event.Join c cluster) old noted new noted
 turns_joined r c cluster old new noted comes = record {
-  goes = λ h g before k is s left fresh.
-      comes.goes h g before noted (record { steps = Noted (note.Turn k (event.Join c cluster)) ∷ []; is = is; stands = turn_stands old.conns old.flows old.links h g left k (event.Join c cluster) tt s; left = left; under = refl })
+  goes = λ h g before k is s left fresh none.
+      comes.goes h g before noted (record { steps = Noted (note.Turn k (event.Join c cluster)) ∷ []; is = is; stands = turn_stands old.conns old.flows old.links h g left k (event.Join c cluster) tt s; left = left; under = refl; ways = λ w. w; rows = none.0; since = none.1 ∙ s.marks.numbers })
       (came_last (connections world_setup h) c) (s.come c fresh).1;
 }
 
 pub turns_accepted : {A B E : Type 0} (a : A) (r : Result B E) (c : ℕ) (old mid new : WireCore) (noted now : List Note) → Comes {A = A} {E = E} (Ok a) c old mid → Goes r mid noted new now
     → Turns r (event.Accept c) old noted new now
 turns_accepted a r c old mid new noted now comes goes = record {
-  goes = λ h g before k is s left fresh. goes.goes h g before
-      (comes.goes h g before noted (record { steps = Noted (note.Turn k (event.Accept c)) ∷ []; is = is; stands = turn_stands old.conns old.flows old.links h g left k (event.Accept c) tt s; left = left; under = refl })
+  goes = λ h g before k is s left fresh none. goes.goes h g before
+      (comes.goes h g before noted (record { steps = Noted (note.Turn k (event.Accept c)) ∷ []; is = is; stands = turn_stands old.conns old.flows old.links h g left k (event.Accept c) tt s; left = left; under = refl; ways = λ w. w; rows = none.0; since = none.1 ∙ s.marks.numbers })
       (came_last (connections world_setup h) c) (s.come c fresh).1);
 }

@@ -10,6 +10,7 @@ use Rattle.h2_frames.specs.Frame.{WindowUpdate}
 use Rattle.h2_frames.specs.Head.{data_head}
 use Rattle.h2_frames.specs.Spelling.{spelling}
 use Rattle.io_ports.specs.declared.octets.NoMemory.{NoMemory}
+use Rattle.proxy_config.specs.declared.config.Config.{Config}
 use Rattle.proxy_config.specs.declared.config.LimitKeys.{LimitKeys}
 use Rattle.std.proofs.Common.{ap, arith, refl, subst, sym, ◌∙◌}
 use Rattle.std.proofs.lemmas.List.{append-nil, length-drop, take_min}
@@ -24,10 +25,11 @@ use Rattle.wire_links.specs.Links.{Links, ends_of}
 use Rattle.wire_links.specs.declared.links.exchanges.Ends.{Ends}
 use Rattle.wire_state.proofs.Bodies.{frames}
 use Rattle.wire_state.proofs.Fitting.{less_out}
-use Rattle.wire_state.proofs.Goings.{KeepBodies, KeepsLeft, changed_bodies, config_kept, config_told, keeps_by, links_kept, owes_by, rest_of, same_bodies, told_as, told_at}
+use Rattle.wire_state.proofs.Goings.{KeepBodies, KeepsLeft, KeepsWays, changed_bodies, config_told, footing_kept, keeps_by, links_kept, owes_by, rest_of, same_bodies, told_as, told_at}
 use Rattle.wire_state.proofs.Held.{is_number, listed_keeps}
 use Rattle.wire_state.proofs.Standing.{ConnsAre, KeepsFlows, KeepsShut, Writes, answer_flows, answer_shut, answer_writes, at_one, conns_go, conns_written, credit_flows, credit_shut, credit_writes, head_flows, head_shut, head_writes, out_flows, out_shut, one_room, out_writes, same_octets, wrote}
 use Rattle.wire_state.specs.Limits.{OutFits}
+use Rattle.wire_state.specs.Marks.{footing_of}
 use Rattle.wire_state.specs.Sound.{AreKept, IsKept, unit_of}
 use Rattle.wire_state.specs.Ways.{WayHistory, WayStep, shown, stream_to}
 use Rattle.wire_state.specs.Worlds.{EndsAre, Keeps, Leaves, Owes, Stands, ToldBy, left_after, octets_of, stream_in}
@@ -59,7 +61,7 @@ module _ (n : ℕ) (old new : WireCore) (v w : Conn) (found : value_at n old.con
 
   -- nothing went in
   pub nothing_written : w.outlet.write.octets ≡ v.outlet.write.octets → Keeps old new
-  nothing_written e = keeps_by old new (config_kept old new rest) (λ h s. links_kept old new rest h (bodies.goes new.conns old.links h (conns_go old.conns new.conns old.flows old.links h (stays e) s)))
+  nothing_written e = keeps_by old new (footing_kept old new rest) (λ h s. links_kept old new rest h (bodies.goes new.conns old.links h (conns_go old.conns new.conns old.flows old.links h (stays e) s)))
 
   -- a step writes these
   step_stands : (g : List ℕ → List ℕ) (step : WayStep) → w.outlet.write.octets ≡ g v.outlet.write.octets → Room
@@ -68,24 +70,24 @@ module _ (n : ℕ) (old new : WireCore) (v w : Conn) (found : value_at n old.con
   step_stands g step e room outs flows shut h s = links_kept old new rest (step ∷ h)
       (bodies.goes new.conns old.links (step ∷ h) (wrote (at_one n g) step h old.conns new.conns old.flows old.links (outs h) (flows h) (shut h) (conns_written n old.conns new.conns v w found written g e opened) (one_room old.config.limits n old.conns new.conns v w found written room) s))
 
-  step_written : (g : List ℕ → List ℕ) (step : WayStep) → KeepsLeft (step ∷ []) → w.outlet.write.octets ≡ g v.outlet.write.octets → Room
+  step_written : (g : List ℕ → List ℕ) (step : WayStep) → KeepsLeft (step ∷ []) → KeepsWays (step ∷ []) → w.outlet.write.octets ≡ g v.outlet.write.octets → Room
       → ((h : WayHistory) → Writes (at_one n g) step h) → ((h : WayHistory) → KeepsFlows step h) → ((h : WayHistory) → KeepsShut step h) → Owes (shown (step ∷ [])) old new
-  step_written g step left e room outs flows shut = owes_by (step ∷ []) left old new (config_kept old new rest) (step_stands g step e room outs flows shut)
+  step_written g step left ways e room outs flows shut = owes_by (step ∷ []) left ways old new (footing_kept old new rest) (step_stands g step e room outs flows shut)
 
   pub answer_written : (octets : List ℕ) → Room → w.outlet.write.octets ≡ v.outlet.write.octets ++ octets → Owes (answers_of n octets) old new
   answer_written [] room e = owes_none old new (nothing_written (e ∙ append-nil v.outlet.write.octets))
-  answer_written (o ∷ os) room e = step_written (λ xs. xs ++ o ∷ os) (Noted (note.Answer n (o ∷ os))) (λ h c. refl) e room (λ h. answer_writes h n (o ∷ os)) (λ h. answer_flows h n (o ∷ os)) (λ h. answer_shut h n (o ∷ os))
+  answer_written (o ∷ os) room e = step_written (λ xs. xs ++ o ∷ os) (Noted (note.Answer n (o ∷ os))) (λ h c. refl) (record { ways = λ k h w. w; rows = refl }) e room (λ h. answer_writes h n (o ∷ os)) (λ h. answer_flows h n (o ∷ os)) (λ h. answer_shut h n (o ∷ os))
 
   pub head_written : (s : ℕ) (octets : List ℕ) → Room → w.outlet.write.octets ≡ v.outlet.write.octets ++ octets → Owes (heads_of n s octets) old new
   head_written s [] room e = owes_none old new (nothing_written (e ∙ append-nil v.outlet.write.octets))
-  head_written s (o ∷ os) room e = step_written (λ xs. xs ++ o ∷ os) (Noted (note.Head n s (o ∷ os))) (λ h c. refl) e room (λ h. head_writes h n (o ∷ os) s) (λ h. head_flows h n (o ∷ os) s) (λ h. head_shut h n (o ∷ os) s)
+  head_written s (o ∷ os) room e = step_written (λ xs. xs ++ o ∷ os) (Noted (note.Head n s (o ∷ os))) (λ h c. refl) (record { ways = λ k h w. w; rows = refl }) e room (λ h. head_writes h n (o ∷ os) s) (λ h. head_flows h n (o ∷ os) s) (λ h. head_shut h n (o ∷ os) s)
 
   -- a WINDOW_UPDATE frame is spelled as the definitions have it
   update_is : (s k : ℕ) → spelling (WindowUpdate s k) ≡ window_update s k
   update_is s k = refl
 
   pub credit_written : (s k : ℕ) → Room → w.outlet.write.octets ≡ v.outlet.write.octets ++ spelling (WindowUpdate s k) → Owes (note.Credit n s k ∷ []) old new
-  credit_written s k room e = step_written (λ xs. xs ++ window_update s k) (Noted (note.Credit n s k)) (λ h c. refl) (e ∙ ap (λ xs. v.outlet.write.octets ++ xs) (update_is s k)) room
+  credit_written s k room e = step_written (λ xs. xs ++ window_update s k) (Noted (note.Credit n s k)) (λ h c. refl) (record { ways = λ k h w. w; rows = refl }) (e ∙ ap (λ xs. v.outlet.write.octets ++ xs) (update_is s k)) room
       (λ h. credit_writes h n s k) (λ h. credit_flows h n s k) (λ h. credit_shut h n s k)
 
   -- up to this many octets left, as many as there were
@@ -116,8 +118,8 @@ module _ (n : ℕ) (old new : WireCore) (v w : Conn) (found : value_at n old.con
       none true (x ∷ xs) = refl
       none false xs = refl
 
-      at : {m : LimitKeys} → (b : Bool) → (k == 0) ≡ b → (h : WayHistory) (g : ℕ → List ℕ) (start notes : List Note) → ToldBy m old.config.limits h g start old.conns old.flows old.links notes
-          → ToldBy m new.config.limits h (left_after (event.Room n most) old.conns g) start new.conns new.flows new.links (notes ++ (if b then [] else note.Out n k ∷ []))
+      at : {m : Config} → (b : Bool) → (k == 0) ≡ b → (h : WayHistory) (g : ℕ → List ℕ) (start notes : List Note) → ToldBy m (footing_of old) h g start old.conns old.flows old.links notes
+          → ToldBy m (footing_of new) h (left_after (event.Room n most) old.conns g) start new.conns new.flows new.links (notes ++ (if b then [] else note.Out n k ∷ []))
       at true z h g start notes t =
           let zero_is = is_number k 0 z in
           let stays = (nothing_written (e ∙ ap (λ j. drop j v.outlet.write.octets) zero_is)).goes h g start notes t in
@@ -126,13 +128,16 @@ module _ (n : ℕ) (old new : WireCore) (v w : Conn) (found : value_at n old.con
             is = append-nil notes ∙ stays.is;
             stands = stays.stands;
             under = stays.under;
+            ways = stays.ways;
+            rows = stays.rows;
+            since = stays.since;
             left = λ c. stays.left c ∙ (sym (append-nil (g c)) ∙ ap (λ xs. g c ++ xs)
                 (sym (ap (λ j. if n == c then take j (octets_of c old.conns) else []) zero_is ∙ none (n == c) (octets_of c old.conns)) ∙ took c));
           }
-      at false z h g start notes t = config_told old new (config_kept old new rest) h (left_after (event.Room n most) old.conns g) start (notes ++ note.Out n k ∷ [])
-          (told_as (Noted (note.Out n k) ∷ []) (left_after (event.Room n most) old.conns) old.conns new.conns old.flows new.flows old.links new.links
+      at false z h g start notes t = config_told old new (footing_kept old new rest) h (left_after (event.Room n most) old.conns g) start (notes ++ note.Out n k ∷ [])
+          (told_as {l = footing_of old} (Noted (note.Out n k) ∷ []) (left_after (event.Room n most) old.conns) old.conns new.conns old.flows new.flows old.links new.links
           (λ j f s is c. (λ i. is c i ++ (if n == c then take k (sym (s.writes c) i) else [])) ∙ ap (λ xs. f c ++ xs) (took c))
-          (step_stands (drop k) (Noted (note.Out n k)) e shorter (λ j. out_writes j n k) (λ j. out_flows j n k) (λ j. out_shut j n k)) h g start notes t)
+          (record { ways = λ j i w. w; rows = refl }) (step_stands (drop k) (Noted (note.Out n k)) e shorter (λ j. out_writes j n k) (λ j. out_flows j n k) (λ j. out_shut j n k)) h g start notes t)
 
 -- no connection is there, and none left
 pub none_left : (n most : ℕ) (core : WireCore) → value_at n core.conns ≡ None → Leaves n most 0 core core
@@ -142,6 +147,9 @@ none_left n most core gone_ = record {
     is = append-nil notes ∙ t.is;
     stands = t.stands;
     under = t.under;
+    ways = t.ways;
+    rows = t.rows;
+    since = t.since;
     left = λ c. t.left c ∙ (sym (append-nil (g c)) ∙ ap (λ xs. g c ++ xs) (sym (nothing c (n == c) refl)));
   };
 }
@@ -195,7 +203,7 @@ pub body_written : (n : ℕ) (old new : WireCore) (v w : Conn) → value_at n ol
     → (f : FlowId) (s k : ℕ) (last : Bool) (flow : Flow) → stream_in old.links f ≡ Some s → flow_in old.flows f ≡ Some flow
     → w.outlet.write.octets ≡ v.outlet.write.octets ++ (data_head s k last ++ take k (send flow)) → ChangesFlow f (body_framed k last) old.flows.exchanges new.flows.exchanges
     → Owes (note.Frame n f k last ∷ []) old new
-body_written n old new v w found written opened rest room f s k last flow on there octets change = owes_by (Noted (note.Frame n f k last) ∷ []) (λ h c. refl) old new (config_kept old new rest) (λ h stands.
+body_written n old new v w found written opened rest room f s k last flow on there octets change = owes_by (Noted (note.Frame n f k last) ∷ []) (λ h c. refl) (record { ways = λ k h w. w; rows = refl }) old new (footing_kept old new rest) (λ h stands.
     links_kept old new rest (Noted (note.Frame n f k last) ∷ h)
     (frames n f k last h old.conns new.conns old.flows new.flows old.links s flow (stream_known f old.links h s stands.ends on) there change
     (conns_written n old.conns new.conns v w found written (λ xs. xs ++ (data_head s k last ++ take k (send flow))) octets opened) (one_room old.config.limits n old.conns new.conns v w found written room) stands))

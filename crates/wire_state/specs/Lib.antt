@@ -3,6 +3,7 @@ pub mod Counts
 pub mod Courses
 pub mod Intakes
 pub mod Limits
+pub mod Marks
 pub mod Noting
 pub mod Progress
 pub mod Sound

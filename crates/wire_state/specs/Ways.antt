@@ -5,16 +5,17 @@ use Rattle.flow_notes.specs.declared.notes.Note.{Note}
 use Rattle.flow_notes.specs.declared.notes.Note.TheVariants as note
 use Rattle.proxy_config.specs.declared.routes.Filter.{Filter}
 use Rattle.proxy_config.specs.declared.routes.Filter.TheVariants as filter
-use Rattle.std.specs.Prelude.{List, None, [], false, if◌then◌else◌, not, ℕ, ◌&&◌, ◌==◌, ◌∷◌}
+use Rattle.std.specs.Prelude.{List, None, Option, [], false, if◌then◌else◌, not, ℕ, ◌&&◌, ◌==◌, ◌∷◌}
 use Rattle.tape_laws.specs.Flows.{request, response}
 use Rattle.tape_laws.specs.History.{History, Marked, Noted, Step}
 use Rattle.tape_laws.specs.Setup.{Setup}
 use Rattle.tape_laws.specs.Units.{Hold, Meter, StageKind}
 use Rattle.tape_laws.specs.World.{received}
 
--- with the start of an exchange: the stages of its request and of its response; and when its request gets its stream
+-- with the start of an exchange: the row of its route, if it has one, and the stages of its request and of its response; and when its
+-- request gets its stream
 pub data Way : Type 0 where
-  Passes : (exchange : ℕ) → (request response : List StageKind) → Way
+  Passes : (exchange : ℕ) → (row : Option ℕ) → (request response : List StageKind) → Way
   Opens : (exchange stream : ℕ) → Way
 
 abbrev pub WayStep : Type 0
@@ -26,7 +27,7 @@ WayHistory = History Way
 -- the stages that a flow passes
 abbrev pub stages_passed : FlowId → WayHistory → List StageKind
 stages_passed f [] = []
-stages_passed f (Marked (Passes x there back) ∷ past) = if x == f.exchange then (if f.back then back else there) else stages_passed f past
+stages_passed f (Marked (Passes x row there back) ∷ past) = if x == f.exchange then (if f.back then back else there) else stages_passed f past
 stages_passed f (step ∷ past) = stages_passed f past
 
 -- the stream that it has where it goes: a response's is named by its start

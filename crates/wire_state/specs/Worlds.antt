@@ -9,11 +9,12 @@ use Rattle.flow_notes.specs.declared.notes.CloseCause.TheVariants as cause
 use Rattle.flow_notes.specs.declared.notes.Note.{Note}
 use Rattle.flow_notes.specs.declared.notes.Note.TheVariants as note
 use Rattle.paged_map.specs.PagedMap.{PagedMap, value_at}
+use Rattle.proxy_config.specs.declared.config.Config.{Config}
 use Rattle.proxy_config.specs.declared.config.LimitKeys.{LimitKeys}
 use Rattle.std.specs.Option.{option_and_then, option_map_or}
-use Rattle.std.specs.Prelude.{Bool, IfSome, List, OnOk, Option, Result, Some, [], false, if◌then◌else◌, is_some, not, take, true, ℕ, ◌++◌, ◌<◌, ◌==◌, ◌∷◌, ◌≡◌}
+use Rattle.std.specs.Prelude.{Bool, IfSome, List, OnOk, Option, Result, Some, [], false, if◌then◌else◌, is_some, length, not, take, true, ℕ, ◌++◌, ◌<◌, ◌==◌, ◌∷◌, ◌≡◌}
 use Rattle.tape_laws.specs.Connections.{connections, was_closed}
-use Rattle.tape_laws.specs.Dispatches.{has}
+use Rattle.tape_laws.specs.Dispatches.{has, started}
 use Rattle.tape_laws.specs.Flows.{request, response}
 use Rattle.tape_laws.specs.Headline.{SendsItsBody}
 use Rattle.tape_laws.specs.History.{AtEachMoment}
@@ -24,6 +25,7 @@ use Rattle.wire_links.specs.declared.links.exchanges.Ends.{Ends}
 use Rattle.wire_outlet.specs.declared.outlet.Framed.{Framed}
 use Rattle.wire_outlet.specs.declared.outlet.Framed.TheVariants as framed
 use Rattle.wire_state.specs.Limits.{Fits, HasShape}
+use Rattle.wire_state.specs.Marks.{AreWays, Footing, MarksAre, NoneBegan, footing_of, rows_in}
 use Rattle.wire_state.specs.Noting.{answers_of, heads_of}
 use Rattle.wire_state.specs.Ways.{WayHistory, WayStep, after, shown, stages_passed, stream_to, world_setup}
 use Rattle.wire_state.specs.declared.conn.Conn.{Conn}
@@ -77,43 +79,48 @@ pub record Stands (l : LimitKeys) (conns : PagedMap Conn) (flows : Flows) (links
   pub unborn : (f : FlowId) → flows.exchanges.last < f.exchange → IsUnborn f flows h
   pub fronts : SendsOn h
   pub fits : AtEachMoment (Fits l) h
+  pub marks : MarksAre flows links h
 
--- The notes were made by these steps behind that history, and the core, which has these limits, stands for what they lead to. What
--- left each connection's write buffer up to there is told beside it, and that the limits are those of the session.
-pub record ToldBy (k l : LimitKeys) (h : WayHistory) (g : ℕ → List ℕ) (start : List Note) (conns : PagedMap Conn) (flows : Flows) (links : Links) (notes : List Note) : Type 0 where
+-- The notes were made by these steps behind that history, and the core, on this footing, stands for what they lead to. What left each
+-- connection's write buffer up to there is told beside it, that the configuration is that of the session, that the marks are tied,
+-- and that the rows are those of the exchanges that began in these steps.
+pub record ToldBy (k : Config) (l : Footing) (h : WayHistory) (g : ℕ → List ℕ) (start : List Note) (conns : PagedMap Conn) (flows : Flows) (links : Links) (notes : List Note) : Type 0 where
   pub steps : List WayStep
   pub is : notes ≡ start ++ shown steps
-  pub stands : Stands l conns flows links (after steps h)
+  pub stands : Stands l.config.limits conns flows links (after steps h)
   pub left : (c : ℕ) → gone world_setup c (after steps h) ≡ g c
-  pub under : l ≡ k
+  pub under : l.config ≡ k
+  pub ways : AreWays l.config h → AreWays l.config (after steps h)
+  pub rows : l.rows ≡ rows_in steps
+  pub since : l.before ≡ length (started h)
 
-abbrev pub Told : LimitKeys → WayHistory → (ℕ → List ℕ) → List Note → WireCore → List Note → Type 0
-Told k h g start core notes = ToldBy k core.config.limits h g start core.conns core.flows core.links notes
+abbrev pub Told : Config → WayHistory → (ℕ → List ℕ) → List Note → WireCore → List Note → Type 0
+Told k h g start core notes = ToldBy k (footing_of core) h g start core.conns core.flows core.links notes
 
 -- Words between a core and its notes before a call and after it. Where memory was refused nothing is said.
 -- it goes on to
 pub record Goes {A E : Type 0} (r : Result A E) (old : WireCore) (before : List Note) (new : WireCore) (now : List Note) : Type 0 where
-  pub goes : {k : LimitKeys} → (h : WayHistory) (g : ℕ → List ℕ) (start : List Note) → Told k h g start old before → OnOk r (Told k h g start new now)
+  pub goes : {k : Config} → (h : WayHistory) (g : ℕ → List ℕ) (start : List Note) → Told k h g start old before → OnOk r (Told k h g start new now)
 
 -- whatever was noted, also what is still to be noted
 pub record Keeps (old new : WireCore) : Type 0 where
-  pub goes : {k : LimitKeys} → (h : WayHistory) (g : ℕ → List ℕ) (start notes : List Note) → Told k h g start old notes → Told k h g start new notes
+  pub goes : {k : Config} → (h : WayHistory) (g : ℕ → List ℕ) (start notes : List Note) → Told k h g start old notes → Told k h g start new notes
 
 pub record KeepsOk {A E : Type 0} (r : Result A E) (old new : WireCore) : Type 0 where
-  pub goes : {k : LimitKeys} → (h : WayHistory) (g : ℕ → List ℕ) (start notes : List Note) → Told k h g start old notes → OnOk r (Told k h g start new notes)
+  pub goes : {k : Config} → (h : WayHistory) (g : ℕ → List ℕ) (start notes : List Note) → Told k h g start old notes → OnOk r (Told k h g start new notes)
 
 -- this is still to be noted
 pub record Owes (owed : List Note) (old new : WireCore) : Type 0 where
-  pub goes : {k : LimitKeys} → (h : WayHistory) (g : ℕ → List ℕ) (start notes : List Note) → Told k h g start old notes → Told k h g start new (notes ++ owed)
+  pub goes : {k : Config} → (h : WayHistory) (g : ℕ → List ℕ) (start notes : List Note) → Told k h g start old notes → Told k h g start new (notes ++ owed)
 
 -- ---- notes
 -- what was still to be noted is
 pub record Pays {A E : Type 0} (r : Result A E) (owed before now : List Note) : Type 0 where
-  pub goes : {k l : LimitKeys} → (h : WayHistory) (g : ℕ → List ℕ) (start : List Note) (conns : PagedMap Conn) (flows : Flows) (links : Links) → ToldBy k l h g start conns flows links (before ++ owed) → OnOk r (ToldBy k l h g start conns flows links now)
+  pub goes : {k : Config} {l : Footing} → (h : WayHistory) (g : ℕ → List ℕ) (start : List Note) (conns : PagedMap Conn) (flows : Flows) (links : Links) → ToldBy k l h g start conns flows links (before ++ owed) → OnOk r (ToldBy k l h g start conns flows links now)
 
 -- what was noted moves no octets
 pub record Shows {A E : Type 0} (r : Result A E) (before now : List Note) : Type 0 where
-  pub goes : {k l : LimitKeys} → (h : WayHistory) (g : ℕ → List ℕ) (start : List Note) (conns : PagedMap Conn) (flows : Flows) (links : Links) → ToldBy k l h g start conns flows links before → OnOk r (ToldBy k l h g start conns flows links now)
+  pub goes : {k : Config} {l : Footing} → (h : WayHistory) (g : ℕ → List ℕ) (start : List Note) (conns : PagedMap Conn) (flows : Flows) (links : Links) → ToldBy k l h g start conns flows links before → OnOk r (ToldBy k l h g start conns flows links now)
 
 -- the note moves no octets, wherever it stands
 abbrev pub IsIdle : Note → Type 0
@@ -153,19 +160,25 @@ abbrev pub left_after : Event → PagedMap Conn → (ℕ → List ℕ) → ℕ �
 left_after (event.Room d n) conns g = λ c. g c ++ (if d == c then take n (octets_of c conns) else [])
 left_after e conns g = g
 
--- From before the turn note of an event on: the core stood for a history, and stands for it with the dispatch's steps.
+-- From before the turn note of an event on, where no exchange began yet: the core stood for a history, and stands for it with the
+-- dispatch's steps.
 pub record Turns {A E : Type 0} (r : Result A E) (e : Event) (old : WireCore) (noted : List Note) (new : WireCore) (now : List Note) : Type 0 where
   pub goes : (h : WayHistory) (g : ℕ → List ℕ) (before : List Note) (k : ℕ) → noted ≡ before ++ note.Turn k e ∷ [] → Stands old.config.limits old.conns old.flows old.links h → ((c : ℕ) → gone world_setup c h ≡ g c)
-      → IsFresh e h → OnOk r (Told old.config.limits h (left_after e old.conns g) before new now)
+      → IsFresh e h → NoneBegan old → OnOk r (Told old.config h (left_after e old.conns g) before new now)
+
+-- the same of a core that may have the rows of the dispatch before
+pub record TurnsAnew {A E : Type 0} (r : Result A E) (e : Event) (old : WireCore) (noted : List Note) (new : WireCore) (now : List Note) : Type 0 where
+  pub goes : (h : WayHistory) (g : ℕ → List ℕ) (before : List Note) (k : ℕ) → noted ≡ before ++ note.Turn k e ∷ [] → Stands old.config.limits old.conns old.flows old.links h → ((c : ℕ) → gone world_setup c h ≡ g c)
+      → IsFresh e h → OnOk r (Told old.config h (left_after e old.conns g) before new now)
 
 -- The whole dispatch: from the notes before it on.
 pub record Follows (old : WireCore) (before : List Note) (e : Event) (new : WireCore) (now : List Note) : Type 0 where
-  pub goes : (h : WayHistory) (g : ℕ → List ℕ) → Stands old.config.limits old.conns old.flows old.links h → ((c : ℕ) → gone world_setup c h ≡ g c) → IsFresh e h → Told old.config.limits h (left_after e old.conns g) before new now
+  pub goes : (h : WayHistory) (g : ℕ → List ℕ) → Stands old.config.limits old.conns old.flows old.links h → ((c : ℕ) → gone world_setup c h ≡ g c) → IsFresh e h → Told old.config h (left_after e old.conns g) before new now
 
 -- A connection comes: it is among those that came, and wasn't closed.
 pub record Comes {A E : Type 0} (r : Result A E) (c : ℕ) (old new : WireCore) : Type 0 where
-  pub goes : {k : LimitKeys} → (h : WayHistory) (g : ℕ → List ℕ) (start notes : List Note) (t : Told k h g start old notes) → has (connections world_setup (after t.steps h)) c ≡ true → was_closed c (after t.steps h) ≡ false → OnOk r (Told k h g start new notes)
+  pub goes : {k : Config} → (h : WayHistory) (g : ℕ → List ℕ) (start notes : List Note) (t : Told k h g start old notes) → has (connections world_setup (after t.steps h)) c ≡ true → was_closed c (after t.steps h) ≡ false → OnOk r (Told k h g start new notes)
 
 -- Up to n octets left a connection's write buffer, k of them there were.
 pub record Leaves (c n k : ℕ) (old new : WireCore) : Type 0 where
-  pub goes : {m : LimitKeys} → (h : WayHistory) (g : ℕ → List ℕ) (start notes : List Note) → Told m h g start old notes → Told m h (left_after (event.Room c n) old.conns g) start new (notes ++ outs_of c k)
+  pub goes : {m : Config} → (h : WayHistory) (g : ℕ → List ℕ) (start notes : List Note) → Told m h g start old notes → Told m h (left_after (event.Room c n) old.conns g) start new (notes ++ outs_of c k)

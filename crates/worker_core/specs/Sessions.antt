@@ -8,6 +8,7 @@ use Rattle.proxy_config.specs.declared.config.Config.{Config}
 use Rattle.std.specs.Prelude.{Bool, List, None, Option, [], false, not, true, ℕ, ◌<◌, ◌≡◌}
 use Rattle.tape_laws.specs.World.{gone}
 use Rattle.tape_laws.specs.declared.PlainLimits.{PlainLimits}
+use Rattle.wire_state.specs.Marks.{AreWays}
 use Rattle.wire_state.specs.Sound.{IsSound, is_open_at}
 use Rattle.wire_state.specs.Tapes.{Promises}
 use Rattle.wire_state.specs.Ways.{WayHistory, WayStep, after, shown, world_setup}
@@ -96,21 +97,27 @@ abbrev pub PromisesAt : Kind → WayHistory → Type 0
 PromisesAt (kind.Plain core) h = ⊥
 PromisesAt (kind.Wire session) h = Promises session.core.config.limits h
 
--- the limits are as they were
-abbrev pub SameLimits : Kind → Kind → Type 0
-SameLimits (kind.Wire old) (kind.Wire new) = new.core.config.limits ≡ old.core.config.limits
-SameLimits old new = ⊥
+-- the configuration is as it was
+abbrev pub SameConfig : Kind → Kind → Type 0
+SameConfig (kind.Wire old) (kind.Wire new) = new.core.config ≡ old.core.config
+SameConfig old new = ⊥
+
+-- the marks of the history are those of its start notes, by the routes of the core
+abbrev pub WaysAt : Kind → WayHistory → Type 0
+WaysAt (kind.Plain core) h = ⊥
+WaysAt (kind.Wire session) h = AreWays session.core.config h
 
 -- what has left each connection once an event was carried out, where g had left it before
 abbrev pub left_at : Event → Kind → (ℕ → List ℕ) → ℕ → List ℕ
 left_at e (kind.Plain core) g = g
 left_at e (kind.Wire session) g = left_after e session.core.conns g
 
--- The notes are those of some steps, and the core, with the limits that it had, stands for the history with these behind it. What
--- has left each connection then is told beside it.
+-- The notes are those of some steps, and the core, with the configuration that it had, stands for the history with these behind it.
+-- What has left each connection then is told beside it, and that the marks are tied.
 pub record GoesOn (old : Kind) (h : WayHistory) (g : ℕ → List ℕ) (new : Kind) (notes : List Note) : Type 0 where
   pub steps : List WayStep
   pub is : notes ≡ shown steps
   pub stands : StandsAt new (after steps h)
   pub left : (c : ℕ) → gone world_setup c (after steps h) ≡ g c
-  pub under : SameLimits old new
+  pub under : SameConfig old new
+  pub ways : WaysAt old h → WaysAt old (after steps h)

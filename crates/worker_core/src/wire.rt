@@ -2,12 +2,13 @@
 ghost use Rattle.proxy_config.specs.Ranges.{IsInRange};
 ghost use Rattle.std.specs.Prelude.{◌≡◌, ◌≢◌, ◌++◌, ◌+◌, ◌<◌, ◌∷◌, [], Err, IfOk, OnErr, OnOk, false, not, true, ℕ};
 ghost use Rattle.flow_notes.specs.declared.notes.Note.TheVariants as note;
+ghost use Rattle.wire_state.specs.Courses.{row_of};
 ghost use Rattle.wire_state.specs.Noting.{Appends};
 ghost use Rattle.wire_state.specs.Sound.{IsSound, is_open_at};
 ghost use Rattle.overload_core.specs.ActionStates.{is_saturated};
 ghost use Rattle.worker_core.specs.Dispatching.{Breaks, Dispatches, Tells, obeyed_after};
 ghost use Rattle.worker_core.specs.Fronts.{IsFront, IsLeastAbove, has_octets, is_there, octets_at};
-ghost use Rattle.wire_state.specs.Worlds.{Follows, Stands, Turns};
+ghost use Rattle.wire_state.specs.Worlds.{Follows, Stands, TurnsAnew};
 
 use crate::steps::settle;
 use flow_notes::{Event, Note, Notes};
@@ -152,8 +153,11 @@ impl WireSession {
         self.obeyed
     }
 
-    /// The route row of an exchange that began in the last dispatch. No clause says so.
-    pub fn row(&self, exchange: u64) -> Option<u32> {
+    /// The route row of an exchange that began in the last dispatch: none where it didn't, or its request was refused before one
+    /// was found. The rows of these exchanges, in the order of their numbers, are those of their marks (`octets` of `dispatch`).
+    pub fn row(&self, exchange: u64) -> Option<u32>
+        ensures { result ≡ row_of exchange self.now.core.before self.now.core.rows.items }
+    {
         self.core.row(exchange)
     }
 }
@@ -182,7 +186,7 @@ fn work(core: &mut WireCore, event: &Event, notes: &mut Notes) -> Result<(), NoM
     requires sound { IsSound core.old }
     ensures sound { OnOk result (IsSound core.new) }
     ensures notes { Appends notes.old notes.new }
-    ensures octets { Turns result event.now core.old notes.old core.new notes.new }
+    ensures octets { TurnsAnew result event.now core.old notes.old core.new notes.new }
 {
     begin_rows(core);
     take_event(core, event, notes)?;
@@ -196,6 +200,8 @@ fn begin_rows(core: &mut WireCore)
     requires sound { IsSound core.old }
     ensures sound { IsSound core.new }
     ensures rest { core.new ≡ record core.old { before = core.new.before; rows = core.new.rows } }
+    ensures before { core.new.before ≡ core.old.flows.exchanges.last }
+    ensures none { core.new.rows.items ≡ [] }
 {
     core.before = core.flows.last();
     core.rows.clear();

@@ -147,6 +147,7 @@ module _ (names : List (List ℕ)) (end : End) (old new : Sides) (k0 k' : Kind) 
           steps = s.steps;
           is = handed names end old new k0 k' v0 w e rests notes hands ∙ s.is;
           stands = ends_stand names (after s.steps h) end e.kind k' e.mid w s.stands e.ends;
+          ways = s.ways;
           promises = stands_promise k0 e.kind (after s.steps h) s.under s.stands;
           came = up_more e.mid.seen.greatest w.seen.greatest (after s.steps h) (ends_rise names end e.kind k' e.mid w e.ends) s.up;
           takes = λ before told at_old at_new. takes_left notes h (after s.steps h) before told hands s.left at_old at_new;

@@ -13,8 +13,8 @@ use Rattle.tape_laws.specs.World.{gone}
 use Rattle.wire_state.specs.Ways.{WayHistory, WayStep, after, shown, world_setup}
 use Rattle.wire_state.specs.Worlds.{left_after, octets_of}
 use Rattle.wire_state.specs.declared.conn.Conn.{Conn}
-use Rattle.worker_core.proofs.Turning.{goes_on, same_under, under_more}
-use Rattle.worker_core.specs.Sessions.{CarriesOut, GoesOn, SameLimits, StandsAt, left_at}
+use Rattle.worker_core.proofs.Turning.{goes_on, same_under, under_more, ways_back, ways_under}
+use Rattle.worker_core.specs.Sessions.{CarriesOut, GoesOn, SameConfig, StandsAt, WaysAt, left_at}
 use Rattle.worker_core.specs.declared.worker.Kind.TheVariants as kind
 use Rattle.worker_core.specs.declared.worker.Kind.{Kind}
 use Rattle.worker_loop.proofs.Becoming.{becomes_split}
@@ -68,10 +68,11 @@ pub record Stood (k : Kind) (h : WayHistory) (ds : List Did) (new : Kind) (n : �
   pub stands : StandsAt new (after steps h)
   pub up : CameUpTo n (after steps h)
   pub left : (c : ℕ) → gone world_setup c (after steps h) ≡ gone world_setup c h ++ taken_in c ds
-  pub under : SameLimits k new
+  pub under : SameConfig k new
+  pub ways : WaysAt k h → WaysAt k (after steps h)
 
 stood_none : (h : WayHistory) (k : Kind) (n : ℕ) → StandsAt k h → CameUpTo n h → Stood k h [] k n
-stood_none h k n stands up = record { steps = []; is = refl; stands = stands; up = up; left = λ c. sym (append-nil (gone world_setup c h)); under = same_under k h stands }
+stood_none h k n stands up = record { steps = []; is = refl; stands = stands; up = up; left = λ c. sym (append-nil (gone world_setup c h)); under = same_under k h stands; ways = λ was. was }
 
 -- the same of what hands over the same notes and takes the same
 stood_front : {k : Kind} (h : WayHistory) (ds es : List Did) (new : Kind) (n : ℕ) → notes_of es ≡ notes_of ds → ((c : ℕ) → taken_in c es ≡ taken_in c ds) → Stood k h ds new n → Stood k h es new n
@@ -82,10 +83,11 @@ stood_front h ds es new n notes taken s = record {
   up = s.up;
   left = λ c. s.left c ∙ ap (λ (xs : List ℕ). gone world_setup c h ++ xs) (sym (taken c));
   under = s.under;
+  ways = s.ways;
 }
 
 stood_up : {k : Kind} (h : WayHistory) (ds : List Did) (new : Kind) (n m : ℕ) → n ≤ m → Stood k h ds new n → Stood k h ds new m
-stood_up h ds new n m less s = record { steps = s.steps; is = s.is; stands = s.stands; up = up_more n m (after s.steps h) less s.up; left = s.left; under = s.under }
+stood_up h ds new n m less s = record { steps = s.steps; is = s.is; stands = s.stands; up = up_more n m (after s.steps h) less s.up; left = s.left; under = s.under; ways = s.ways }
 
 stood_more : {k : Kind} (h : WayHistory) (ds es : List Did) (mid new : Kind) (n m : ℕ) → Stood k h ds mid n → ((j : WayHistory) → StandsAt mid j → CameUpTo n j → Stood mid j es new m) → Stood k h (ds ++ es) new m
 stood_more {k} h ds es mid new n m one more =
@@ -99,6 +101,8 @@ stood_more {k} h ds es mid new n m one more =
       left = λ c. ap (gone world_setup c) (after_append one.steps two.steps h) ∙ two.left c ∙ ap (λ (xs : List ℕ). xs ++ taken_in c es) (one.left c)
           ∙ append_assoc (gone world_setup c h) (taken_in c ds) (taken_in c es) ∙ ap (λ (xs : List ℕ). gone world_setup c h ++ xs) (sym (taken_append c ds es));
       under = under_more k mid new one.under two.under;
+      ways = λ was. subst (λ (j : WayHistory). WaysAt k j) behind
+          (ways_back k mid (after two.steps (after one.steps h)) one.under (two.ways (ways_under k mid (after one.steps h) one.under (one.ways was))));
     }
 
 -- ---- one event
@@ -125,6 +129,7 @@ module _ (e : Event) (k new : Kind) (ds : List Did) (n : ℕ) (h : WayHistory) (
     up = up_after n goes.steps h up (came goes.steps goes.is);
     left = λ c. goes.left c ∙ taken c;
     under = goes.under;
+    ways = goes.ways;
   }
 
   -- no octets leave by it

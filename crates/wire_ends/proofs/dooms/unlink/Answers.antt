@@ -47,5 +47,5 @@ returns-clause-live c = sym (c.requires.sound.live c.args.exchange) ∙ ap is_so
 pub returns-clause-octets : goal.returns-clause-octets
 returns-clause-octets c =
     let k = c.args.core.now in
-    owes_by (Noted (note.Doom c.args.exchange c.args.cause) ∷ []) (λ h d. refl) k _ refl (λ h s. dooms c.args.exchange c.args.cause h k.flows c.doom-doomed.new.self c.doom-doomed.ensures.dooms k.conns k.links c.doom.new.self
+    owes_by (Noted (note.Doom c.args.exchange c.args.cause) ∷ []) (λ h d. refl) (record { ways = λ j i w. w; rows = refl }) k _ refl (λ h s. dooms c.args.exchange c.args.cause h k.flows c.doom-doomed.new.self c.doom-doomed.ensures.dooms k.conns k.links c.doom.new.self
     (unlinks c.args.exchange k.links c.doom.new.self c.are_sound.ensures c.doom.ensures.gone) s)

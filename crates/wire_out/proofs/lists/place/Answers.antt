@@ -1,10 +1,15 @@
-use Rattle.std.proofs.Common.{arith}
+use Rattle.std.proofs.Common.{ap, arith, subst, sym, ◌∙◌}
+use Rattle.std.specs.Prelude.{IfSome, None, is_some, true, ◌≡◌}
+use Rattle.wire_flows.specs.Flows.{is_live_in}
+use Rattle.wire_links.specs.Links.{ends_of}
 use Rattle.wire_out.proofs.lists.place.Goals as goal
 use Rattle.wire_state.proofs.Goings.{marked_told}
 use Rattle.wire_state.proofs.Linked.{links_placed}
 use Rattle.wire_state.proofs.Lives.{places}
+use Rattle.wire_state.proofs.Marked.{may_open}
+use Rattle.wire_state.specs.Marks.{footing_of}
 use Rattle.wire_state.specs.Progress.{to_go}
-use Rattle.wire_state.specs.Ways.{Opens}
+use Rattle.wire_state.specs.declared.wire_core.WireCore.{WireCore}
 
 pub returns-clause-go : goal.returns-clause-go
 unfolding to_go
@@ -15,7 +20,11 @@ returns-clause-octets c = record {
   goes = λ h g start notes t.
       let mid = c.begin_stream.new.core in
       let x = c.args.going.course.flow.exchange in
-      marked_told (Opens x c.args.stream) mid.conns mid.conns mid.flows mid.flows mid.links c.framed_to.new.self
-      (λ k s. places x c.args.stream k mid.conns mid.flows mid.links c.framed_to.new.self (links_placed x c.args.stream mid.links c.framed_to.new.self c.in_ok-framed_to.ensures.ok) s)
+      let kept = c.begin_stream.ensures.rest in
+      let linked : is_some (ends_of x mid.links) ≡ true = c.in_ok-begin_stream.ensures.sound.live x ∙ (ap (λ (v : WireCore). is_live_in v.flows x) kept ∙ c.requires.live) in
+      let unframed : IfSome (ends_of x mid.links) (λ e. e.cluster_stream ≡ None) = subst (λ (v : WireCore). IfSome (ends_of x v.links) (λ e. e.cluster_stream ≡ None)) (sym kept) c.requires.unframed.stream in
+      marked_told {l = footing_of mid} x c.args.stream mid.conns mid.conns mid.flows mid.flows mid.links c.framed_to.new.self (λ k s. may_open x mid.flows mid.links k linked unframed s.marks)
+      (λ k s. places x c.args.stream k mid.conns mid.flows mid.links c.framed_to.new.self (may_open x mid.flows mid.links k linked unframed s.marks)
+      (links_placed x c.args.stream mid.links c.framed_to.new.self c.in_ok-framed_to.ensures.ok) s)
       h g start notes (c.in_ok-begin_stream.ensures.octets.goes h g start notes t);
 }

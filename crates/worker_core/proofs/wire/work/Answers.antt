@@ -1,4 +1,4 @@
-use Rattle.std.proofs.Common.{ap}
+use Rattle.std.proofs.Common.{ap, sym, ◌∙◌}
 use Rattle.wire_state.proofs.Turned.{turns_from}
 use Rattle.wire_state.specs.Worlds.{left_after}
 use Rattle.wire_state.specs.declared.wire_core.WireCore.{WireCore}
@@ -7,7 +7,7 @@ use Rattle.worker_core.proofs.wire.work.Goals as goal
 pub returns-clause-octets : goal.returns-clause-octets
 returns-clause-octets c =
     let began = c.begin_rows.ensures.rest in
-    let turned = turns_from _ c.args.event.now c.args.core.now c.begin_rows.new.core c.take_event.new.core c.args.notes.now c.take_event.new.notes (ap (λ (k : WireCore). k.config) began) (ap (λ (k : WireCore). k.conns) began) (ap (λ (k : WireCore). k.flows) began) (ap (λ (k : WireCore). k.links) began) c.in_ok-take_event.ensures.octets in
+    let turned = turns_from _ c.args.event.now c.args.core.now c.begin_rows.new.core c.take_event.new.core c.args.notes.now c.take_event.new.notes (ap (λ (k : WireCore). k.config) began) (ap (λ (k : WireCore). k.conns) began) (ap (λ (k : WireCore). k.flows) began) (ap (λ (k : WireCore). k.links) began) (c.begin_rows.ensures.none, c.begin_rows.ensures.before ∙ sym (ap (λ (k : WireCore). k.flows.exchanges.last) began)) c.in_ok-take_event.ensures.octets in
     record {
       goes = λ h g before k is s left fresh.
           let f = left_after c.args.event.now c.args.core.now.conns g in

@@ -17,4 +17,4 @@ returns-clause-sound c =
     }
 
 pub returns-clause-octets : goal.returns-clause-octets
-returns-clause-octets c = first_stands c.new-4.result c.new-6.result c.new-3.result c.new-4.ensures.empty c.new-6.ensures.empty.live c.new-3.ensures
+returns-clause-octets c = first_stands c.new-4.result c.new-6.result c.new-3.result c.new-4.ensures.empty c.new-6.ensures.empty.live c.new-6.ensures.empty.last c.new-3.ensures
