@@ -14,6 +14,7 @@ use mio::net::TcpStream;
 use mio::{Events, Interest, Poll, Token};
 use std::alloc::Global;
 use std::io::Eprint;
+use std::mem;
 use std::net::Net;
 use std::time::{Clock, Duration};
 use worker_ports::{WireRefusal, Wired};
@@ -31,6 +32,9 @@ const LONGEST_WAIT: u64 = 100;
 const MOST_ACCEPTS: u64 = 16;
 
 const MOST_LOOKS: u32 = 64;
+
+/// So many octets are sent at once, without a wait for what may come behind them.
+const MANY: usize = 65_536;
 
 /// The token of the way in for clients. Connections have their numbers, which are above.
 pub const DOOR: Token = Token(0);
@@ -61,6 +65,10 @@ pub(crate) struct Sockets<R: Clock + Net + Drop, I: Inlet + Drop> {
     looks_left: u32,
     /// Whether this round gives nothing more, so that connections take what they are offered.
     is_end: bool,
+    /// Whether one left what it was offered for the end of the round.
+    has_left: bool,
+    /// The connection whose end was found then. It is given as lost once all were offered again what they left.
+    ended: Option<u32>,
     /// Whether a connection took all that it was offered, so that it may be offered more at once.
     took_all: bool,
 }
@@ -79,13 +87,15 @@ impl<R: Clock + Net + Eprint + Drop, I: Inlet + Drop> Sockets<R, I> {
             sharing: plan.sharing,
             dialing: Dialing::new(alloc, plan)?,
             links: Links::new(alloc, plan.patience()),
-            partings: Partings::new(alloc),
+            partings: Partings::new(alloc)?,
             block: vec![in alloc; 0; PIECE]?,
             unread: None,
             now: 0,
             accepts_left: 0,
             looks_left: 0,
             is_end: true,
+            has_left: false,
+            ended: None,
             took_all: true,
         })
     }
@@ -107,7 +117,7 @@ impl<R: Clock + Net + Eprint + Drop, I: Inlet + Drop> Sockets<R, I> {
             Ok(None) => {}
             Err(NoMemory) => return Err(WireRefusal::NoMemory),
         }
-        if self.links.end_wait() {
+        if mem::replace(&mut self.has_left, false) {
             return Ok(Wired::Idle);
         }
         if self.begin_round().is_err() {
@@ -123,12 +133,19 @@ impl<R: Clock + Net + Eprint + Drop, I: Inlet + Drop> Sockets<R, I> {
         }
     }
 
-    /// A connection takes a front of a piece, and sends it. Answers how many octets it took. While this round gives more it takes
-    /// only large pieces: what it leaves is offered again, with what comes behind it.
+    /// Whether a piece stays where it is, to be offered again with what comes behind it: this round gives more, and the piece isn't
+    /// large.
+    pub fn leaves(&mut self, piece: &[u8]) -> bool {
+        let leaves = !self.is_end && piece.len() < MANY;
+        self.has_left = self.has_left || leaves;
+        leaves
+    }
+
+    /// A connection takes a front of a piece, and sends it. Answers how many octets it took.
     pub fn take(&mut self, conn: u32, piece: &[u8]) -> usize
         ensures { result ≤ length piece.now }
     {
-        let n = self.links.take(conn, piece, self.now, self.is_end);
+        let n = self.links.take(conn, piece, self.now);
         if n > 0 && n == piece.len() {
             self.took_all = true;
         }
@@ -142,7 +159,7 @@ impl<R: Clock + Net + Eprint + Drop, I: Inlet + Drop> Sockets<R, I> {
         };
         self.dialing.part(link.origin, self.now);
         if let Some(stream) = link.into_parting() {
-            self.partings.begin(conn, stream, self.now, &mut self.block);
+            self.partings.begin(conn, stream, self.now);
         }
     }
 
@@ -157,7 +174,7 @@ impl<R: Clock + Net + Eprint + Drop, I: Inlet + Drop> Sockets<R, I> {
     fn given(&mut self, wired: Wired) -> Wired {
         self.is_end = !self.has_more();
         if self.is_end {
-            self.links.end_wait();
+            self.has_left = false;
         }
         wired
     }
@@ -171,6 +188,9 @@ impl<R: Clock + Net + Eprint + Drop, I: Inlet + Drop> Sockets<R, I> {
 
     // What comes next of what this round has left.
     fn give(&mut self, number: u32) -> Result<Option<Wired>, NoMemory> {
+        if let Some(conn) = self.ended.take() {
+            return Ok(Some(self.lose(conn)));
+        }
         if let Some(wired) = self.give_join(number) {
             return Ok(Some(wired));
         }
@@ -265,16 +285,23 @@ impl<R: Clock + Net + Eprint + Drop, I: Inlet + Drop> Sockets<R, I> {
         Ok(Some(Wired::Read(conn, octets)))
     }
 
-    // A connection has ended. Where it left octets the round is over, so that it is offered them again before it is given as lost.
+    // The end of a connection was found. Where some left octets the round is over, so that they are offered these again before it is
+    // given as lost.
     fn end(&mut self, conn: u32) -> Option<Wired> {
-        if self.links.has_left(conn) {
+        if self.has_left {
             self.looks_left = 0;
+            self.ended = Some(conn);
             return None;
         }
+        Some(self.lose(conn))
+    }
+
+    // A connection is given as lost.
+    fn lose(&mut self, conn: u32) -> Wired {
         if let Some(link) = self.links.leave(conn) {
             self.dialing.lose(link.origin, self.now);
         }
-        Some(Wired::Lost(conn))
+        Wired::Lost(conn)
     }
 
     // Waits until something comes, and takes in what does.
@@ -328,11 +355,12 @@ impl<R: Clock + Net + Eprint + Drop, I: Inlet + Drop> Sockets<R, I> {
             match u32::try_from(token.0) {
                 Ok(conn) => {
                     if !self.links.on_event(conn, event) {
-                        self.partings.on_event(conn, event, &mut self.block);
+                        self.partings.on_event(conn, event);
                     }
                 }
                 Err(_) => self.dialing.on_event(&self.rt, token.0, event, self.now),
             }
         }
+        self.links.end_events();
     }
 }
