@@ -8,8 +8,9 @@ use crate::inlet::Inlet;
 use crate::link::{Link, Origin, ReadOutcome};
 use crate::links::Links;
 use crate::parting::Partings;
+use crate::pieces::{PIECE, Pieces};
 use crate::plan::{Plan, Sharing};
-use io_ports::{Failed, NoMemory, Octets};
+use io_ports::{Failed, NoMemory};
 use mio::net::TcpStream;
 use mio::{Events, Interest, Poll, Token};
 use std::alloc::Global;
@@ -19,8 +20,8 @@ use std::net::Net;
 use std::time::{Clock, Duration};
 use worker_ports::{WireRefusal, Wired};
 
-/// How many octets are read at once at most.
-const PIECE: usize = 16_384;
+/// How many octets a worker reads at once at most. A relay, which may hold a connection after each piece, reads one.
+const BLOCK: usize = 65_536;
 
 /// How many events one wait tells at most.
 const MOST_EVENTS: usize = 1_024;
@@ -28,7 +29,7 @@ const MOST_EVENTS: usize = 1_024;
 /// How long a wait takes at most, in milliseconds.
 const LONGEST_WAIT: u64 = 100;
 
-/// How many clients are accepted in one round at most, and how many connections are looked at.
+/// How many clients are accepted in one round at most, and how many pieces are given or connections looked at in vain.
 const MOST_ACCEPTS: u64 = 16;
 
 const MOST_LOOKS: u32 = 64;
@@ -54,10 +55,9 @@ pub(crate) struct Sockets<R: Clock + Net + Drop, I: Inlet + Drop> {
     dialing: Dialing,
     links: Links,
     partings: Partings,
-    /// Where octets are read to. It is never cleared.
-    block: Vec<u8>,
-    /// The connection whose octets stand in front of the block and aren't given yet, and how many they are.
-    unread: Option<(u32, usize)>,
+    /// What was read and isn't given yet, and of which connection.
+    pieces: Pieces,
+    read_last: u32,
     /// When this round began, in milliseconds.
     now: u64,
     /// How many clients may come in still, all of which waited when this round began.
@@ -77,6 +77,10 @@ impl<R: Clock + Net + Eprint + Drop, I: Inlet + Drop> Sockets<R, I> {
     /// The sockets of a plan, without connections. Clients come at the inlet, which doesn't block, and of which the poll tells
     /// under the token `DOOR`.
     pub fn new(rt: R, alloc: Global, poll: Poll, inlet: I, plan: &Plan) -> Result<Self, EdgeFault> {
+        let most = match plan.sharing {
+            Sharing::OneEach => PIECE,
+            Sharing::All => BLOCK,
+        };
         Ok(Sockets {
             rt,
             alloc,
@@ -88,8 +92,8 @@ impl<R: Clock + Net + Eprint + Drop, I: Inlet + Drop> Sockets<R, I> {
             dialing: Dialing::new(alloc, plan)?,
             links: Links::new(alloc, plan.patience()),
             partings: Partings::new(alloc)?,
-            block: vec![in alloc; 0; PIECE]?,
-            unread: None,
+            pieces: Pieces::new(alloc, most)?,
+            read_last: 0,
             now: 0,
             accepts_left: 0,
             looks_left: 0,
@@ -158,6 +162,9 @@ impl<R: Clock + Net + Eprint + Drop, I: Inlet + Drop> Sockets<R, I> {
             return;
         };
         self.dialing.part(link.origin, self.now);
+        if conn == self.read_last {
+            self.pieces.clear();
+        }
         if let Some(stream) = link.into_parting() {
             self.partings.begin(conn, stream, self.now);
         }
@@ -181,7 +188,8 @@ impl<R: Clock + Net + Eprint + Drop, I: Inlet + Drop> Sockets<R, I> {
 
     // Whether this round has more to give, as far as is known.
     fn has_more(&self) -> bool {
-        self.dialing.is_due()
+        !self.pieces.is_empty()
+            || self.dialing.is_due()
             || (self.looks_left > 0 && self.links.is_due())
             || (self.accepts_left > 0 && self.may_accept())
     }
@@ -259,16 +267,20 @@ impl<R: Clock + Net + Eprint + Drop, I: Inlet + Drop> Sockets<R, I> {
 
     // Octets or a loss of a connection that is due. After running out of memory the octets are still to be given.
     fn give_octets(&mut self) -> Result<Option<Wired>, NoMemory> {
-        if let Some((conn, n)) = self.unread {
-            return self.give_read(conn, n);
+        if !self.pieces.is_empty() {
+            self.looks_left = self.looks_left.saturating_sub(1);
+            return self.give_piece();
         }
         for _ in 0..self.looks_left {
             let Some(conn) = self.links.next_due() else {
                 return Ok(None);
             };
             self.looks_left = self.looks_left.saturating_sub(1);
-            match self.links.read(conn, &mut self.block) {
-                ReadOutcome::Octets(n) => return self.give_read(conn, n),
+            match self.pieces.read(&mut self.links, conn) {
+                ReadOutcome::Octets(_) => {
+                    self.read_last = conn;
+                    return self.give_piece();
+                }
                 ReadOutcome::End => return Ok(self.end(conn)),
                 ReadOutcome::Nothing => {}
             }
@@ -276,13 +288,10 @@ impl<R: Clock + Net + Eprint + Drop, I: Inlet + Drop> Sockets<R, I> {
         Ok(None)
     }
 
-    // The first octets of the block came for a connection. They are given in a block of their own, which whoever keeps some shares.
-    fn give_read(&mut self, conn: u32, n: usize) -> Result<Option<Wired>, NoMemory> {
-        self.unread = Some((conn, n));
-        let front = self.block.get(..n).unwrap_or_default();
-        let octets = Octets::from_slice(self.alloc, front)?.shared()?;
-        self.unread = None;
-        Ok(Some(Wired::Read(conn, octets)))
+    // A piece of what was read last.
+    fn give_piece(&mut self) -> Result<Option<Wired>, NoMemory> {
+        let octets = self.pieces.give(self.alloc)?;
+        Ok(Some(Wired::Read(self.read_last, octets)))
     }
 
     // The end of a connection was found. Where some left octets the round is over, so that they are offered these again before it is
