@@ -4,13 +4,14 @@ ghost use Rattle.std.specs.Prelude.{◌≤◌, length};
 use crate::link::{Link, Origin, ReadOutcome};
 use io_ports::NoMemory;
 use mio::event::Event;
+use paged_map::PagedMap;
 use std::alloc::Global;
-use std::collections::{BTreeMap, VecDeque};
+use std::collections::VecDeque;
 
 /// The sockets of the live connections.
 #[derive(Drop)]
 pub(crate) struct Links {
-    live: BTreeMap<u32, Link>,
+    live: PagedMap<u32, Link>,
     /// The numbers of those that are to be looked at, each once, and of some that are live no more.
     due: VecDeque<u32>,
     /// Those to clusters of which the system told just now.
@@ -25,7 +26,7 @@ impl Links {
     /// No connections, of which each is lost once it takes nothing of what waits for it for so many milliseconds.
     pub fn new(alloc: Global, patience: Option<u64>) -> Self {
         Links {
-            live: BTreeMap::new(alloc),
+            live: PagedMap::new(alloc),
             due: VecDeque::new(alloc),
             told: VecDeque::new(alloc),
             clients: 0,
