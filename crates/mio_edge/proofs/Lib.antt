@@ -1,2 +1,3 @@
 pub mod Admitting
+pub mod Pieces
 pub mod Steps

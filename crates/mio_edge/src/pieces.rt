@@ -19,11 +19,11 @@ pub struct Pieces {
 }
 
 impl Model for Pieces {
-    ghost use Rattle.std.specs.Prelude.{◌≤◌, drop, length, List, take, ℕ};
+    ghost use Rattle.std.specs.Prelude.{◌-◌, ◌≤◌, drop, length, List, take, ℕ};
 
     ghost Value = { List ℕ };
 
-    ghost view = { λ p. drop p.from (take p.to p.block.items) };
+    ghost view = { λ p. take (p.to - p.from) (drop p.from p.block.items) };
 
     ghost invariant = { λ p. (p.from ≤ p.to) × (p.to ≤ length p.block.items) };
 }
@@ -66,6 +66,7 @@ impl Pieces {
     }
 
     /// Gives the next piece, in a block of its own, which whoever keeps some shares. Out of memory nothing is given.
+    #[tactic(auto, using(crate::proofs::Pieces::next_piece))]
     pub(crate) fn give(&mut self, alloc: Global) -> Result<Octets, NoMemory>
         ensures gives { IfOk result (λ piece. self.old ≡ piece ++ self.new) }
         ensures most { IfOk result (λ piece. length piece ≤ 16384) }
