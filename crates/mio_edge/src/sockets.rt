@@ -45,7 +45,6 @@ pub const DOOR: Token = Token(0);
 #[derive(Drop)]
 pub(crate) struct Sockets<R: Clock + Net + Drop, I: Inlet + Drop> {
     rt: R,
-    alloc: Global,
     poll: Poll,
     events: Events,
     door: Door<I>,
@@ -83,7 +82,6 @@ impl<R: Clock + Net + Eprint + Drop, I: Inlet + Drop> Sockets<R, I> {
         };
         Ok(Sockets {
             rt,
-            alloc,
             poll,
             events: Events::with_capacity(alloc, MOST_EVENTS)?,
             door: Door::new(inlet),
@@ -290,7 +288,7 @@ impl<R: Clock + Net + Eprint + Drop, I: Inlet + Drop> Sockets<R, I> {
 
     // A piece of what was read last.
     fn give_piece(&mut self) -> Result<Option<Wired>, NoMemory> {
-        let octets = self.pieces.give(self.alloc)?;
+        let octets = self.pieces.give()?;
         Ok(Some(Wired::Read(self.read_last, octets)))
     }
 
