@@ -120,6 +120,7 @@ impl Octets {
 
     /// The octets from a place on up to another. Of octets in a block that is shared they share it too, where they are an eighth of it
     /// or more.
+    #[tactic(auto, using(crate::proofs::Parts::part_of_part))]
     pub fn part(&self, from: usize, to: usize) -> Result<Self, NoMemory>
         requires order { from ≤ to }
         requires reach { to ≤ length self.now }
@@ -138,6 +139,7 @@ impl Octets {
 
     /// Takes in the octets that stand before these in their block, where they are the same as those that are named. Nothing is copied.
     /// Answers whether they are.
+    #[tactic(auto, using(crate::proofs::Parts::grown))]
     pub fn take_in_front(&mut self, before: &[u8]) -> bool
         ensures taken { result ≡ true → self.new ≡ before.now ++ self.old }
         ensures same { result ≡ false → self.new ≡ self.old }

@@ -81,6 +81,7 @@ impl Unread {
     }
 
     /// The octets from a place on up to another, where they stand in the block in which they came.
+    #[tactic(auto, using(crate::proofs::Joined::part_behind))]
     pub fn part(&self, from: usize, to: usize) -> Result<Option<Octets>, NoMemory>
         requires order { from ≤ to }
         requires reach { to ≤ length self.now }
@@ -108,6 +109,7 @@ impl Unread {
     }
 
     /// The first n octets were read.
+    #[tactic(auto, using(crate::proofs::Joined::left_of_last))]
     pub fn take(&mut self, n: usize)
         requires { n ≤ length self.old }
         ensures { self.new ≡ drop n self.old }
@@ -125,6 +127,7 @@ impl Unread {
     }
 
     // Appends octets behind some that aren't read.
+    #[tactic(auto, using(crate::proofs::Joined::ends_with, crate::proofs::Joined::still_last))]
     fn join(&mut self, more: Octets) -> Result<(), NoMemory>
         ensures ok { OnOk result (self.new ≡ self.old ++ more) }
         ensures err { OnErr result (self.new ≡ self.old) }
