@@ -93,7 +93,7 @@ impl Pieces {
                 && let Some(octets) = Arc::get_mut(block)
             {
                 self.place = Some(place);
-                return Some(links.read(conn, octets));
+                return Some(links.read(conn, octets.as_mut_slice()));
             }
         }
         None

@@ -119,8 +119,9 @@ impl Unread {
         if let Block::Joined { last, .. } = &mut self.block
             && left <= last.len()
         {
+            let last = mem::replace(last, Octets::new(self.alloc));
             self.at = last.len() - left;
-            self.block = Block::Came(mem::replace(last, Octets::new(self.alloc)));
+            self.block = Block::Came(last);
             return;
         }
         self.at = len - left;
