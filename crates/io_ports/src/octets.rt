@@ -137,6 +137,11 @@ impl Octets {
         Octets::from_slice(self.alloc, part_of(self.as_slice(), from, to - from))
     }
 
+    /// Whether the octets stand in a block that copies share. No clause says so.
+    pub fn is_shared(&self) -> bool {
+        matches!(self.store, Store::Shared { .. })
+    }
+
     /// Takes in the octets that stand before these in their block, where they are the same as those that are named. Nothing is copied.
     /// Answers whether they are.
     #[tactic(auto, using(crate::proofs::Parts::grown))]

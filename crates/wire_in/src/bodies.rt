@@ -176,7 +176,7 @@ fn arrive(
         return Ok(());
     }
     let flow = course.flow;
-    if core.flows.receive(flow, octets.as_slice()) != Received::Arrived {
+    if core.flows.receive(flow, &octets) != Received::Arrived {
         return Ok(());
     }
     core.touch(flow.exchange)?;
