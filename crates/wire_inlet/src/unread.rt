@@ -36,7 +36,8 @@ impl Block {
 /// The octets from a place on. Those before it were read. Octets that come where all are read stay in the block that they came
 /// in, and so do those that stand right behind the ones that aren't read in the same block. Others go to a block that has room for
 /// more, in which what isn't read is moved to the front where that room is used up and at least as many octets were read: so an octet
-/// is moved at the cost of one that was read. Once none of them is left but some that came last, these are where they came.
+/// is moved at the cost of one that was read. Once none of them is left but some that came last, these are where they came; once
+/// none is left at all no block is kept.
 #[derive(Debug, Drop)]
 pub struct Unread {
     alloc: Global,
@@ -116,6 +117,11 @@ impl Unread {
     {
         let len = self.block.as_slice().len();
         let left = len - self.at - n;
+        if left == 0 {
+            self.block = Block::Came(Octets::new(self.alloc));
+            self.at = 0;
+            return;
+        }
         if let Block::Joined { last, .. } = &mut self.block
             && left <= last.len()
         {
