@@ -89,6 +89,7 @@ impl Store {
     }
 
     /// The first n octets in three slices.
+    #[tactic(auto, using(crate::proofs::Parts::first_of_three))]
     pub fn first_pieces(&self, n: usize) -> (&[u8], &[u8], &[u8])
         requires { n ≤ length self.now.octets }
         ensures { result.0.now ++ (result.1.now ++ result.2.now) ≡ take n self.now.octets }
@@ -148,6 +149,7 @@ impl Store {
     }
 
     /// As `append`, where octets that share a block stay there, if there are none before them.
+    #[tactic(auto, using(crate::proofs::Parts::all_that_came))]
     pub fn take_in(&mut self, piece: &Octets)
         requires { length piece.now ≤ self.old.spare }
         ensures octets { self.new.octets ≡ self.old.octets ++ piece.now }
@@ -166,6 +168,7 @@ impl Store {
 
     /// Drops the first n octets. A ring that is emptied goes on at the place of its first octet, so that a buffer that is
     /// filled and emptied in turn keeps to a few places.
+    #[tactic(auto, using(crate::proofs::Parts::gone_in_first, crate::proofs::Parts::gone_past_first))]
     pub fn drop_front(&mut self, n: usize)
         requires { n ≤ length self.old.octets }
         ensures octets { self.new.octets ≡ drop n self.old.octets }
