@@ -48,7 +48,7 @@ fn behind_preface<'a>(
     }
 }
 
-// The octets of a DATA frame without padding that ends at a place, where they can be shared.
+// The octets of a DATA frame without padding that ends at a place.
 fn content_before(unread: &Unread, end: usize, frame: &Frame) -> Result<Option<Octets>, NoMemory>
     requires { EndsAt end unread.now (view frame.now) }
     ensures { IfOk result (λ content. IfSome content (IsContentOf (view frame.now))) }
@@ -58,7 +58,7 @@ fn content_before(unread: &Unread, end: usize, frame: &Frame) -> Result<Option<O
             padded: 0,
             octets,
             ..
-        } => unread.part(end - octets.len(), end),
+        } => Ok(Some(unread.part(end - octets.len(), end)?)),
         _ => Ok(None),
     }
 }

@@ -1,5 +1,5 @@
 // Octets that came and aren't read yet.
-ghost use Rattle.std.specs.Prelude.{◌≡◌, ◌==◌, ◌≤◌, ◌++◌, ◌-◌, [], drop, false, length, take, true, IfOk, IfSome, OnErr, OnOk};
+ghost use Rattle.std.specs.Prelude.{◌≡◌, ◌==◌, ◌≤◌, ◌++◌, ◌-◌, [], drop, false, length, take, true, IfOk, OnErr, OnOk};
 ghost use Rattle.wire_inlet.specs.Unreads.{octets_in};
 
 use io_ports::{NoMemory, Octets};
@@ -81,16 +81,19 @@ impl Unread {
         self.block.as_slice().len() == self.at
     }
 
-    /// The octets from a place on up to another, where they stand in the block in which they came.
+    /// The octets from a place on up to another. Of octets in the block in which they came they share it, where they are many.
     #[tactic(auto, using(crate::proofs::Joined::part_behind))]
-    pub fn part(&self, from: usize, to: usize) -> Result<Option<Octets>, NoMemory>
+    pub fn part(&self, from: usize, to: usize) -> Result<Octets, NoMemory>
         requires order { from ≤ to }
         requires reach { to ≤ length self.now }
-        ensures { IfOk result (λ part. IfSome part (λ octets. octets ≡ take (to - from) (drop from self.now))) }
+        ensures { IfOk result (λ part. part ≡ take (to - from) (drop from self.now)) }
     {
         match &self.block {
-            Block::Came(octets) => Ok(Some(octets.part(self.at + from, self.at + to)?)),
-            Block::Joined { .. } => Ok(None),
+            Block::Came(octets) => octets.part(self.at + from, self.at + to),
+            Block::Joined { octets, .. } => {
+                let part = &octets[self.at + from..self.at + to];
+                Octets::from_slice(self.alloc, part)?.shared()
+            }
         }
     }
 
