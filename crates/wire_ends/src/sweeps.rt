@@ -59,11 +59,10 @@ fn rest_conn(core: &mut WireCore, number: u32) -> Result<(), NoMemory>
         return Ok(());
     };
     if !conn.outlet.is_empty() {
-        core.outs.insert(number)?;
-        return Ok(());
+        return core.outs.insert(number);
     }
     let is_open = conn.open;
-    let _ = core.outs.remove(&number);
+    core.outs.remove(number);
     if is_open {
         return Ok(());
     }

@@ -1,4 +1,5 @@
 pub mod Credits
+pub mod FewNumbers
 pub mod Keeping
 pub mod Notings
 pub mod Results
