@@ -11,6 +11,7 @@ mod inlet;
 mod link;
 mod links;
 mod parting;
+mod pieces;
 mod plan;
 mod roll;
 mod sockets;

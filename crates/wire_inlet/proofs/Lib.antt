@@ -1,3 +1,4 @@
+pub mod Ended
 pub mod Joined
 pub mod Nexts
 pub mod Spelled

@@ -1,10 +1,11 @@
 // Octets that came and aren't read yet.
-ghost use Rattle.std.specs.Prelude.{◌≡◌, ◌==◌, ◌≤◌, ◌++◌, [], drop, false, length, true, IfOk, OnErr, OnOk};
+ghost use Rattle.std.specs.Prelude.{◌≡◌, ◌==◌, ◌≤◌, ◌++◌, ◌-◌, [], drop, false, length, take, true, IfOk, OnErr, OnOk};
 ghost use Rattle.wire_inlet.specs.Unreads.{octets_in};
 
 use io_ports::{NoMemory, Octets};
 use std::alloc::Global;
 use std::marker::Model;
+use std::mem;
 
 /// From so many octets on a block in which octets are joined has room for more than twice as many.
 const MANY: usize = 4_096;
@@ -17,8 +18,8 @@ const ROOM: usize = 65_536;
 pub(crate) enum Block {
     /// In the block in which they came, which others may share.
     Came(Octets),
-    /// In a block of their own, behind octets that came before.
-    Joined(Vec<u8>),
+    /// In a block of their own, behind octets that came before. The last of them came so.
+    Joined { octets: Vec<u8>, last: Octets },
 }
 
 impl Block {
@@ -27,14 +28,16 @@ impl Block {
     {
         match self {
             Block::Came(octets) => octets.as_slice(),
-            Block::Joined(octets) => octets.as_slice(),
+            Block::Joined { octets, .. } => octets.as_slice(),
         }
     }
 }
 
 /// The octets from a place on. Those before it were read. Octets that come where all are read stay in the block that they came
-/// in; behind some that aren't read they go to a block that has room for more, in which what isn't read is moved to the front where
-/// that room is used up and at least as many octets were read: so an octet is moved at the cost of one that was read.
+/// in, and so do those that stand right behind the ones that aren't read in the same block. Others go to a block that has room for
+/// more, in which what isn't read is moved to the front where that room is used up and at least as many octets were read: so an octet
+/// is moved at the cost of one that was read. Once none of them is left but some that came last, these are where they came; once
+/// none is left at all no block is kept.
 #[derive(Debug, Drop)]
 pub struct Unread {
     alloc: Global,
@@ -43,14 +46,14 @@ pub struct Unread {
 }
 
 impl Model for Unread {
-    ghost use Rattle.std.specs.Prelude.{◌≤◌, drop, length, List, ℕ};
-    ghost use Rattle.wire_inlet.specs.Unreads.{octets_in};
+    ghost use Rattle.std.specs.Prelude.{drop, List, ℕ};
+    ghost use Rattle.wire_inlet.specs.Unreads.{StandsAt, octets_in};
 
     ghost Value = { List ℕ };
 
     ghost view = { λ u. drop u.at (octets_in u.block) };
 
-    ghost invariant = { λ u. u.at ≤ length (octets_in u.block) };
+    ghost invariant = { λ u. StandsAt u.at u.block };
 }
 
 impl Unread {
@@ -78,44 +81,77 @@ impl Unread {
         self.block.as_slice().len() == self.at
     }
 
+    /// The octets from a place on up to another. Of octets in the block in which they came they share it, where they are many.
+    #[tactic(auto, using(crate::proofs::Joined::part_behind))]
+    pub fn part(&self, from: usize, to: usize) -> Result<Octets, NoMemory>
+        requires order { from ≤ to }
+        requires reach { to ≤ length self.now }
+        ensures { IfOk result (λ part. part ≡ take (to - from) (drop from self.now)) }
+    {
+        match &self.block {
+            Block::Came(octets) => octets.part(self.at + from, self.at + to),
+            Block::Joined { octets, .. } => {
+                let part = &octets[self.at + from..self.at + to];
+                Octets::from_slice(self.alloc, part)?.shared()
+            }
+        }
+    }
+
     /// Appends octets. After running out of memory the octets are as they were.
     #[tactic(auto, using(crate::proofs::Joined::none_before))]
     pub fn push_all(&mut self, more: &Octets) -> Result<(), NoMemory>
         ensures ok { OnOk result (self.new ≡ self.old ++ more.now) }
         ensures err { OnErr result (self.new ≡ self.old) }
     {
-        if self.is_empty() {
-            self.block = Block::Came(more.copied()?);
+        let mut came = more.copied()?;
+        if self.is_empty() || came.take_in_front(self.as_slice()) {
+            self.block = Block::Came(came);
             self.at = 0;
             return Ok(());
         }
-        self.join(more.as_slice())
+        self.join(came)
     }
 
     /// The first n octets were read.
+    #[tactic(auto, using(crate::proofs::Joined::left_of_last))]
     pub fn take(&mut self, n: usize)
         requires { n ≤ length self.old }
         ensures { self.new ≡ drop n self.old }
     {
         let len = self.block.as_slice().len();
-        let left = len - self.at;
-        self.at = len - (left - n);
+        let left = len - self.at - n;
+        if left == 0 {
+            self.block = Block::Came(Octets::new(self.alloc));
+            self.at = 0;
+            return;
+        }
+        if let Block::Joined { last, .. } = &mut self.block
+            && left <= last.len()
+        {
+            let last = mem::replace(last, Octets::new(self.alloc));
+            self.at = last.len() - left;
+            self.block = Block::Came(last);
+            return;
+        }
+        self.at = len - left;
     }
 
     // Appends octets behind some that aren't read.
-    fn join(&mut self, more: &[u8]) -> Result<(), NoMemory>
-        ensures ok { OnOk result (self.new ≡ self.old ++ more.now) }
+    #[tactic(auto, using(crate::proofs::Joined::ends_with, crate::proofs::Joined::still_last))]
+    fn join(&mut self, more: Octets) -> Result<(), NoMemory>
+        ensures ok { OnOk result (self.new ≡ self.old ++ more) }
         ensures err { OnErr result (self.new ≡ self.old) }
     {
-        if let Block::Joined(block) = &mut self.block {
-            if block.capacity() - block.len() < more.len() && cut(block, self.at) {
+        if let Block::Joined { octets, last } = &mut self.block {
+            if octets.capacity() - octets.len() < more.len() && cut(octets, self.at) {
                 self.at = 0;
             }
-            block.extend_from_slice(more)?;
+            octets.extend_from_slice(more.as_slice())?;
+            *last = more;
             return Ok(());
         }
-        let block = joined(self.alloc, self.as_slice(), more)?;
-        self.block = Block::Joined(block);
+        let octets = joined(self.alloc, self.as_slice(), more.as_slice())?;
+        self.block = Block::Joined { octets, last: more };
         self.at = 0;
         Ok(())
     }

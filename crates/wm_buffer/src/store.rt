@@ -1,9 +1,9 @@
-// Octets in a ring, which move by slices.
+// Octets in a ring, or in a block of others, which move by slices.
 ghost use Rattle.std.specs.Prelude.{◌≡◌, ◌<◌, ◌≤◌, ◌+◌, ◌-◌, ◌^◌, ◌++◌, [], length, take, drop, IsOk, OnOk, OnErr};
-ghost use Rattle.wm_buffer.specs.Stored.{IsDoubled};
+ghost use Rattle.wm_buffer.specs.Stored.{IsDoubled, items_in};
 
 use circular_buffer::HeapCircularBuffer;
-use io_ports::NoMemory;
+use io_ports::{NoMemory, Octets};
 use std::alloc::Global;
 use std::marker::Model;
 use std::mem;
@@ -11,10 +11,14 @@ use std::mem;
 /// The octets that a store has places for.
 const PLACES: usize = 2_147_483_647;
 
-/// A queue of octets. Until it needs room it takes no memory.
+/// A queue of octets. Until it needs room it takes no memory. Octets that come where there are none may stay in the block that they
+/// share with others, and then stand before those in the ring.
 #[derive(Debug, Drop)]
 pub struct Store {
     alloc: Global,
+    lent: Octets,
+    /// How many of these are gone.
+    gone: usize,
     ring: Option<HeapCircularBuffer<u8>>,
 }
 
@@ -23,9 +27,9 @@ impl Model for Store {
 
     ghost Value = { Stored };
 
-    ghost view = { λ s. stored_in s.ring };
+    ghost view = { λ s. stored_in s.lent s.gone s.ring };
 
-    ghost invariant = { λ s. IsInPlaces s.ring };
+    ghost invariant = { λ s. IsInPlaces s.lent s.gone s.ring };
 }
 
 impl Store {
@@ -34,17 +38,19 @@ impl Store {
         ensures octets { result.octets ≡ [] }
         ensures spare { result.spare ≡ 0 }
     {
-        Store { alloc, ring: None }
+        Store {
+            alloc,
+            lent: Octets::new(alloc),
+            gone: 0,
+            ring: None,
+        }
     }
 
     pub fn len(&self) -> usize
         ensures len { result ≡ length self.now.octets }
         ensures within { result + self.now.spare < 2 ^ 31 }
     {
-        match &self.ring {
-            None => 0,
-            Some(ring) => ring.len(),
-        }
+        self.lent.len() - self.gone + len_of(&self.ring)
     }
 
     /// For how many more octets there is room.
@@ -52,10 +58,7 @@ impl Store {
         ensures spare { result ≡ self.now.spare }
         ensures within { length self.now.octets + result < 2 ^ 31 }
     {
-        match &self.ring {
-            None => 0,
-            Some(ring) => ring.capacity() - ring.len(),
-        }
+        self.places() - self.len()
     }
 
     /// How many octets there is room for in all.
@@ -73,31 +76,33 @@ impl Store {
         ensures here { self.new ≡ other.old }
         ensures there { other.new ≡ self.old }
     {
-        mem::swap(&mut self.ring, &mut other.ring);
+        mem::swap(self, other);
     }
 
-    /// The octets in two slices.
-    pub fn pieces(&self) -> (&[u8], &[u8])
-        ensures { result.0.now ++ result.1.now ≡ self.now.octets }
+    /// The octets in three slices.
+    pub fn pieces(&self) -> (&[u8], &[u8], &[u8])
+        ensures { result.0.now ++ (result.1.now ++ result.2.now) ≡ self.now.octets }
     {
-        match &self.ring {
-            None => (&[], &[]),
-            Some(ring) => ring.as_slices(),
-        }
+        let (_, lent) = self.lent.as_slice().split_at(self.gone);
+        let (front, back) = pieces_of(&self.ring);
+        (lent, front, back)
     }
 
-    /// The first n octets in two slices.
-    pub fn first_pieces(&self, n: usize) -> (&[u8], &[u8])
+    /// The first n octets in three slices.
+    #[tactic(auto, using(crate::proofs::Parts::first_of_three))]
+    pub fn first_pieces(&self, n: usize) -> (&[u8], &[u8], &[u8])
         requires { n ≤ length self.now.octets }
-        ensures { result.0.now ++ result.1.now ≡ take n self.now.octets }
+        ensures { result.0.now ++ (result.1.now ++ result.2.now) ≡ take n self.now.octets }
     {
-        let (front, back) = self.pieces();
-        let from_front = n.min(front.len());
-        (&front[..from_front], &back[..n - from_front])
+        let (lent, front, back) = self.pieces();
+        let of_lent = n.min(lent.len());
+        let of_front = (n - of_lent).min(front.len());
+        let of_back = n - of_lent - of_front;
+        (&lent[..of_lent], &front[..of_front], &back[..of_back])
     }
 
-    /// Makes room for `more` octets. Where there is room for them, nothing changes. Else the octets
-    /// move to a ring of at least twice the places, so that growing takes constant time an octet.
+    /// Makes room for `more` octets. Where there is room for them, nothing changes. Else the octets of the ring
+    /// move to one of at least twice the places, so that growing takes constant time an octet.
     pub fn reserve(&mut self, more: usize) -> Result<(), NoMemory>
         ensures octets { self.new.octets ≡ self.old.octets }
         ensures grown { self.old.spare ≤ self.new.spare }
@@ -125,7 +130,7 @@ impl Store {
         ensures err { OnErr result (self.new ≡ self.old) }
     {
         let mut grown = HeapCircularBuffer::with_capacity(self.alloc, places)?;
-        let (front, back) = self.pieces();
+        let (front, back) = pieces_of(&self.ring);
         grown.fill_from_slice(front);
         grown.fill_from_slice(back);
         self.ring = Some(grown);
@@ -143,19 +148,74 @@ impl Store {
         }
     }
 
+    /// As `append`, where octets that share a block stay there, if there are none before them.
+    #[tactic(auto, using(crate::proofs::Parts::all_that_came))]
+    pub fn take_in(&mut self, piece: &Octets)
+        requires { length piece.now ≤ self.old.spare }
+        ensures octets { self.new.octets ≡ self.old.octets ++ piece.now }
+        ensures spare { self.new.spare + length piece.now ≡ self.old.spare }
+    {
+        if piece.is_shared()
+            && self.len() == 0
+            && let Ok(lent) = piece.copied()
+        {
+            self.lent = lent;
+            self.gone = 0;
+            return;
+        }
+        self.append(piece.as_slice());
+    }
+
     /// Drops the first n octets. A ring that is emptied goes on at the place of its first octet, so that a buffer that is
     /// filled and emptied in turn keeps to a few places.
+    #[tactic(auto, using(crate::proofs::Parts::gone_in_first, crate::proofs::Parts::gone_past_first))]
     pub fn drop_front(&mut self, n: usize)
         requires { n ≤ length self.old.octets }
         ensures octets { self.new.octets ≡ drop n self.old.octets }
         ensures spare { self.new.spare ≡ self.old.spare + n }
     {
-        if let Some(ring) = &mut self.ring {
-            if n == ring.len() {
-                ring.clear();
-            } else {
-                ring.truncate_front(ring.len() - n);
-            }
+        let lent = self.lent.len() - self.gone;
+        if n < lent {
+            self.gone += n;
+            return;
         }
+        if lent > 0 {
+            self.lent = Octets::new(self.alloc);
+            self.gone = 0;
+        }
+        if let Some(ring) = &mut self.ring {
+            drop_in(ring, n - lent);
+        }
+    }
+}
+
+fn len_of(ring: &Option<HeapCircularBuffer<u8>>) -> usize
+    ensures { result ≡ length (items_in ring.now) }
+{
+    match ring {
+        None => 0,
+        Some(ring) => ring.len(),
+    }
+}
+
+fn pieces_of(ring: &Option<HeapCircularBuffer<u8>>) -> (&[u8], &[u8])
+    ensures { result.0.now ++ result.1.now ≡ items_in ring.now }
+{
+    match ring {
+        None => (&[], &[]),
+        Some(ring) => ring.as_slices(),
+    }
+}
+
+// Drops the first n octets of a ring.
+fn drop_in(ring: &mut HeapCircularBuffer<u8>, n: usize)
+    requires { n ≤ length ring.old.items }
+    ensures items { ring.new.items ≡ drop n ring.old.items }
+    ensures capacity { ring.new.capacity ≡ ring.old.capacity }
+{
+    if n == ring.len() {
+        ring.clear();
+    } else {
+        ring.truncate_front(ring.len() - n);
     }
 }
