@@ -1,6 +1,6 @@
 // Lists of octets and of pressures, and out of memory.
 ghost use Rattle.std.specs.Arc.{arc_value};
-ghost use Rattle.std.specs.Prelude.{◌≡◌, ◌==◌, ◌+◌, ◌-◌, ◌∷◌, ◌≤◌, List, ℕ, [], ◌++◌, drop, false, length, take, true, IfOk, OnOk, OnErr};
+ghost use Rattle.std.specs.Prelude.{◌≡◌, ◌==◌, ◌+◌, ◌-◌, ◌∷◌, ◌≤◌, List, ℕ, [], ◌++◌, drop, false, length, take, true, IfOk, IfSome, OnOk, OnErr};
 
 use crate::store::{Store, front, is_before, part_of};
 use std::alloc::{AllocError, AllocFailed, Global};
@@ -118,13 +118,12 @@ impl Octets {
         })
     }
 
-    /// The octets from a place on up to another. Of octets in a block that is shared they share it too, where they are an eighth of it
+    /// So many of the octets from a place on. Of octets in a block that is shared they share it too, where they are an eighth of it
     /// or more.
     #[tactic(auto, using(crate::proofs::Parts::part_of_part))]
-    pub fn part(&self, from: usize, to: usize) -> Result<Self, NoMemory>
-        requires order { from ≤ to }
-        requires reach { to ≤ length self.now }
-        ensures { IfOk result (λ part. part ≡ take (to - from) (drop from self.now)) }
+    pub fn part(&self, from: usize, n: usize) -> Result<Self, NoMemory>
+        requires { from + n ≤ length self.now }
+        ensures { IfOk result (λ part. part ≡ take n (drop from self.now)) }
     {
         if let Store::Shared {
             block,
@@ -132,14 +131,34 @@ impl Octets {
             ..
         } = &self.store
         {
-            return Octets::within(self.alloc, block, *first + from, to - from);
+            return Octets::within(self.alloc, block, *first + from, n);
         }
-        Octets::from_slice(self.alloc, part_of(self.as_slice(), from, to - from))
+        Octets::from_slice(self.alloc, part_of(self.as_slice(), from, n))
     }
 
-    /// Whether the octets stand in a block that copies share. No clause says so.
-    pub fn is_shared(&self) -> bool {
-        matches!(self.store, Store::Shared { .. })
+    /// The same octets in the block that these share, if they share one. Takes no memory.
+    pub fn lent(&self) -> Option<Self>
+        ensures { IfSome result (λ lent. lent ≡ self.now) }
+    {
+        let Store::Shared {
+            block,
+            from,
+            len: n,
+        } = &self.store
+        else {
+            return None;
+        };
+        let Ok(block) = Arc::try_clone(block) else {
+            return None;
+        };
+        Some(Octets {
+            alloc: self.alloc,
+            store: Store::Shared {
+                block,
+                from: *from,
+                len: *n,
+            },
+        })
     }
 
     /// Takes in the octets that stand before these in their block, where they are the same as those that are named. Nothing is copied.

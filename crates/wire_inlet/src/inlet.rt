@@ -58,7 +58,10 @@ fn content_before(unread: &Unread, end: usize, frame: &Frame) -> Result<Option<O
             padded: 0,
             octets,
             ..
-        } => Ok(Some(unread.part(end - octets.len(), end)?)),
+        } => {
+            let n = octets.len();
+            Ok(Some(unread.part(end - n, n)?))
+        }
         _ => Ok(None),
     }
 }

@@ -1,5 +1,5 @@
 // Octets that came and aren't read yet.
-ghost use Rattle.std.specs.Prelude.{◌≡◌, ◌==◌, ◌≤◌, ◌++◌, ◌-◌, [], drop, false, length, take, true, IfOk, OnErr, OnOk};
+ghost use Rattle.std.specs.Prelude.{◌≡◌, ◌==◌, ◌≤◌, ◌+◌, ◌++◌, [], drop, false, length, take, true, IfOk, OnErr, OnOk};
 ghost use Rattle.wire_inlet.specs.Unreads.{octets_in};
 
 use io_ports::{NoMemory, Octets};
@@ -81,17 +81,19 @@ impl Unread {
         self.block.as_slice().len() == self.at
     }
 
-    /// The octets from a place on up to another. Of octets in the block in which they came they share it, where they are many.
+    /// So many octets from a place on. Of octets in the block in which they came they share it, where they are many.
     #[tactic(auto, using(crate::proofs::Joined::part_behind))]
-    pub fn part(&self, from: usize, to: usize) -> Result<Octets, NoMemory>
-        requires order { from ≤ to }
-        requires reach { to ≤ length self.now }
-        ensures { IfOk result (λ part. part ≡ take (to - from) (drop from self.now)) }
+    pub fn part(&self, from: usize, n: usize) -> Result<Octets, NoMemory>
+        requires { from + n ≤ length self.now }
+        ensures { IfOk result (λ part. part ≡ take n (drop from self.now)) }
     {
+        let len = self.block.as_slice().len();
+        let first = len - (len - self.at - from);
         match &self.block {
-            Block::Came(octets) => octets.part(self.at + from, self.at + to),
+            Block::Came(octets) => octets.part(first, n),
             Block::Joined { octets, .. } => {
-                let part = &octets[self.at + from..self.at + to];
+                let (_, behind) = octets.as_slice().split_at(first);
+                let (part, _) = behind.split_at(n);
                 Octets::from_slice(self.alloc, part)?.shared()
             }
         }
@@ -104,45 +106,63 @@ impl Unread {
         ensures err { OnErr result (self.new ≡ self.old) }
     {
         let mut came = more.copied()?;
-        if self.is_empty() || came.take_in_front(self.as_slice()) {
-            self.block = Block::Came(came);
-            self.at = 0;
+        if self.is_empty() {
+            self.put(came);
+            return Ok(());
+        }
+        if came.take_in_front(self.as_slice()) {
+            self.put(came);
             return Ok(());
         }
         self.join(came)
     }
 
     /// The first n octets were read.
-    #[tactic(auto, using(crate::proofs::Joined::left_of_last))]
     pub fn take(&mut self, n: usize)
         requires { n ≤ length self.old }
         ensures { self.new ≡ drop n self.old }
     {
         let len = self.block.as_slice().len();
-        let left = len - self.at - n;
+        let left = len - self.at;
+        self.at = len - (left - n);
+        self.settle();
+    }
+
+    // The octets are these, where they came.
+    fn put(&mut self, came: Octets)
+        ensures { self.new ≡ came }
+    {
+        self.block = Block::Came(came);
+        self.at = 0;
+    }
+
+    // Once no octets are left but some of those that came last, they are where these came, and once none is left no block is kept.
+    fn settle(&mut self)
+        ensures { self.new ≡ self.old }
+    {
+        let left = self.as_slice().len();
         if left == 0 {
-            self.block = Block::Came(Octets::new(self.alloc));
-            self.at = 0;
+            self.put(Octets::new(self.alloc));
             return;
         }
-        if let Block::Joined { last, .. } = &mut self.block
-            && left <= last.len()
-        {
-            let last = mem::replace(last, Octets::new(self.alloc));
-            self.at = last.len() - left;
-            self.block = Block::Came(last);
+        let Block::Joined { last, .. } = &mut self.block else {
+            return;
+        };
+        if left > last.len() {
             return;
         }
-        self.at = len - left;
+        let last = mem::replace(last, Octets::new(self.alloc));
+        self.at = last.len() - left;
+        self.block = Block::Came(last);
     }
 
     // Appends octets behind some that aren't read.
-    #[tactic(auto, using(crate::proofs::Joined::ends_with, crate::proofs::Joined::still_last))]
     fn join(&mut self, more: Octets) -> Result<(), NoMemory>
         ensures ok { OnOk result (self.new ≡ self.old ++ more) }
         ensures err { OnErr result (self.new ≡ self.old) }
     {
         if let Block::Joined { octets, last } = &mut self.block {
+            *last = Octets::new(self.alloc);
             if octets.capacity() - octets.len() < more.len() && cut(octets, self.at) {
                 self.at = 0;
             }

@@ -1,12 +1,13 @@
--- Octets that stand in parts, one behind the other.
-use Rattle.std.proofs.Common.{ap, arith, inl, inr, sym, ◌∙◌}
+-- Octets in two parts, one behind the other.
+use Rattle.std.proofs.Common.{ap, arith, inl, inr, refl, sym, ◌∙◌}
 use Rattle.std.proofs.Math.Seq.{drop-append-add, take-append-add}
+use Rattle.std.proofs.lemmas.Bool.Decides.{nat_tests}
 use Rattle.std.proofs.lemmas.Bool.{cases_lt}
-use Rattle.std.proofs.lemmas.List.{append-nil, drop-append-le, drop-drop, length-drop, nil_from_length, length-append, take-append-le, take_all, take_min}
-use Rattle.std.specs.Prelude.{List, [], drop, length, min, take, ℕ, ◌++◌, ◌+◌, ◌-◌, ◌<◌, ◌≡◌, ◌≤◌, ◌⊎◌}
+use Rattle.std.proofs.lemmas.List.{append-nil, drop-append-le, drop_all, length-append, nil_from_length, take-append-le, take_all, take_min}
+use Rattle.std.specs.Prelude.{List, [], drop, length, min, suc, take, true, ℕ, ◌++◌, ◌+◌, ◌-◌, ◌<◌, ◌==◌, ◌∷◌, ◌≡◌, ◌≤◌, ◌⊎◌}
 
 -- the first of two parts
-take_both : (n : ℕ) (xs ys : List ℕ) → take n (xs ++ ys) ≡ take (min n (length xs)) xs ++ take (n - min n (length xs)) ys
+pub take_both : (n : ℕ) (xs ys : List ℕ) → take n (xs ++ ys) ≡ take (min n (length xs)) xs ++ take (n - min n (length xs)) ys
 take_both n xs ys = by_order (cases_lt n (length xs))
   where
     by_order : (n < length xs) ⊎ (length xs ≤ n) → take n (xs ++ ys) ≡ take (min n (length xs)) xs ++ take (n - min n (length xs)) ys
@@ -18,25 +19,30 @@ take_both n xs ys = by_order (cases_lt n (length xs))
         let all : take (min n (length xs)) xs ≡ xs = take_min n xs ∙ take_all n xs many in
         ap (λ (k : ℕ). take k (xs ++ ys)) rest ∙ take-append-add xs ys (n - min n (length xs)) ∙ (λ i. sym all i ++ take (n - min n (length xs)) ys)
 
--- and of three
-pub first_of_three : (n : ℕ) (xs ys zs : List ℕ)
-    → take (min n (length xs)) xs ++ (take (min (n - min n (length xs)) (length ys)) ys ++ take (n - min n (length xs) - min (n - min n (length xs)) (length ys)) zs) ≡ take n (xs ++ (ys ++ zs))
-first_of_three n xs ys zs =
-    sym (take_both n xs (ys ++ zs) ∙ ap (λ (l : List ℕ). take (min n (length xs)) xs ++ l) (take_both (n - min n (length xs)) ys zs))
-
--- octets go from the front: some of the first part, or all of it and some of the second
-pub gone_in_first : (gone n : ℕ) (xs ys : List ℕ) → n ≤ length xs - gone → drop (gone + n) xs ++ ys ≡ drop n (drop gone xs ++ ys)
-gone_in_first gone n xs ys few =
-    sym (drop-append-le n (drop gone xs) ys (omega (arith, length-drop gone xs)) ∙ ap (λ (l : List ℕ). l ++ ys) (drop-drop n gone xs))
-
-pub gone_past_first : (gone n : ℕ) (xs ys : List ℕ) → length xs - gone ≤ n → drop (n - (length xs - gone)) ys ≡ drop n (drop gone xs ++ ys)
-gone_past_first gone n xs ys many =
-    let rest : n ≡ length (drop gone xs) + (n - (length xs - gone)) = omega (arith, length-drop gone xs) in
-    sym (ap (λ (k : ℕ). drop k (drop gone xs ++ ys)) rest ∙ drop-append-add (drop gone xs) ys (n - (length xs - gone)))
+-- some are dropped of the first part, or all of it and some of the second
+pub drop_both : (n : ℕ) (xs ys : List ℕ) → drop n (xs ++ ys) ≡ drop (min n (length xs)) xs ++ drop (n - min n (length xs)) ys
+drop_both n xs ys = by_order (cases_lt n (length xs))
+  where
+    by_order : (n < length xs) ⊎ (length xs ≤ n) → drop n (xs ++ ys) ≡ drop (min n (length xs)) xs ++ drop (n - min n (length xs)) ys
+    by_order (inl few) =
+        let none : 0 ≡ n - min n (length xs) = omega arith in
+        let some : n ≡ min n (length xs) = omega arith in
+        drop-append-le n xs ys (omega arith) ∙ (λ i. drop (some i) xs ++ drop (none i) ys)
+    by_order (inr many) =
+        let rest : n ≡ length xs + (n - min n (length xs)) = omega arith in
+        let gone : drop (min n (length xs)) xs ≡ [] = drop_all (min n (length xs)) xs (omega arith) in
+        ap (λ (k : ℕ). drop k (xs ++ ys)) rest ∙ drop-append-add xs ys (n - min n (length xs)) ∙ (λ i. sym gone i ++ drop (n - min n (length xs)) ys)
 
 -- where there are no octets, those that come are all
-pub all_that_came : (gone : ℕ) (xs ys came : List ℕ) → length (drop gone xs ++ ys) ≡ 0 → came ++ ys ≡ (drop gone xs ++ ys) ++ came
-all_that_came gone xs ys came none =
-    let empty : drop gone xs ++ ys ≡ [] = nil_from_length (drop gone xs ++ ys) none in
-    let second : ys ≡ [] = nil_from_length ys (omega (arith, none, length-append (drop gone xs) ys)) in
-    (λ i. came ++ second i) ∙ append-nil came ∙ (λ i. sym empty i ++ came)
+pub all_that_came : (xs ys came : List ℕ) → length (xs ++ ys) ≡ 0 → (xs ++ ys) ++ came ≡ came ++ ys
+all_that_came xs ys came none =
+    let empty : xs ++ ys ≡ [] = nil_from_length (xs ++ ys) none in
+    let second : ys ≡ [] = nil_from_length ys (omega (arith, none, length-append xs ys)) in
+    (λ i. empty i ++ came) ∙ sym (append-nil came) ∙ (λ i. came ++ sym second i)
+
+some_left : (n : ℕ) → (suc n == 0) ≡ true → ⊥
+some_left n e = grind (arith, nat_tests)
+
+pub none_before : (xs ys : List ℕ) → (length xs == 0) ≡ true → xs ++ ys ≡ ys
+none_before [] ys e = refl
+none_before (x ∷ xs) ys e = absurd (some_left (length xs) e)

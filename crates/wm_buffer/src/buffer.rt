@@ -120,11 +120,8 @@ impl WatermarkBuffer {
             return Ok(self.swap_with(to));
         }
         to.store.reserve(head.len().saturating_add(n as usize))?;
-        let (lent, front, back) = self.store.first_pieces(n as usize);
         to.store.append(head);
-        to.store.append(lent);
-        to.store.append(front);
-        to.store.append(back);
+        to.store.append_first(&self.store, n as usize);
         let raised = to.watermark.follow(to.store.len());
         let drained = self.take(n);
         Ok(Shifted {
@@ -159,17 +156,13 @@ impl WatermarkBuffer {
         }
     }
 
-    /// A prefix of the octets, nonempty where they are. They stand in three parts, and this is the first
-    /// that isn't empty.
+    /// A prefix of the octets, nonempty where they are. They stand in up to three parts, and this is the
+    /// first that isn't empty.
     pub fn front(&self) -> &[u8]
         ensures prefix { result.now ≡ take (length result.now) self.now.octets }
         ensures nonempty { 0 < length self.now.octets → 0 < length result.now }
     {
-        let (lent, front, back) = self.store.pieces();
-        if !lent.is_empty() {
-            return lent;
-        }
-        if front.is_empty() { back } else { front }
+        self.store.front()
     }
 
     /// The number of octets. With the room it is below 2^31.

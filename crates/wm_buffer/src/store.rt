@@ -1,35 +1,32 @@
-// Octets in a ring, or in a block of others, which move by slices.
-ghost use Rattle.std.specs.Prelude.{◌≡◌, ◌<◌, ◌≤◌, ◌+◌, ◌-◌, ◌^◌, ◌++◌, [], length, take, drop, IsOk, OnOk, OnErr};
-ghost use Rattle.wm_buffer.specs.Stored.{IsDoubled, items_in};
+// Octets in a ring, behind some in a block of others, which move by slices.
+ghost use Rattle.std.specs.Prelude.{◌≡◌, ◌<◌, ◌≤◌, ◌+◌, ◌^◌, ◌++◌, [], length, take, drop, IsOk, OnOk, OnErr};
+ghost use Rattle.wm_buffer.specs.Stored.{IsDoubled};
 
-use circular_buffer::HeapCircularBuffer;
+use crate::lent::Lent;
+use crate::ring::{PLACES, Ring};
 use io_ports::{NoMemory, Octets};
 use std::alloc::Global;
 use std::marker::Model;
 use std::mem;
 
-/// The octets that a store has places for.
-const PLACES: usize = 2_147_483_647;
-
-/// A queue of octets. Until it needs room it takes no memory. Octets that come where there are none may stay in the block that they
-/// share with others, and then stand before those in the ring.
+/// A queue of octets. Until it needs room it takes no memory. Octets that share a block may stay there where none are before them;
+/// they stand before those in the ring, and take places of it.
 #[derive(Debug, Drop)]
 pub struct Store {
     alloc: Global,
-    lent: Octets,
-    /// How many of these are gone.
-    gone: usize,
-    ring: Option<HeapCircularBuffer<u8>>,
+    lent: Lent,
+    ring: Ring,
 }
 
 impl Model for Store {
-    ghost use Rattle.wm_buffer.specs.Stored.{Stored, stored_in, IsInPlaces};
+    ghost use Rattle.std.specs.Prelude.{◌≤◌, length};
+    ghost use Rattle.wm_buffer.specs.Stored.{Stored, with_lent};
 
     ghost Value = { Stored };
 
-    ghost view = { λ s. stored_in s.lent s.gone s.ring };
+    ghost view = { λ s. with_lent s.lent s.ring };
 
-    ghost invariant = { λ s. IsInPlaces s.lent s.gone s.ring };
+    ghost invariant = { λ s. length s.lent ≤ s.ring.spare };
 }
 
 impl Store {
@@ -40,9 +37,8 @@ impl Store {
     {
         Store {
             alloc,
-            lent: Octets::new(alloc),
-            gone: 0,
-            ring: None,
+            lent: Lent::none(alloc),
+            ring: Ring::new(alloc),
         }
     }
 
@@ -50,7 +46,7 @@ impl Store {
         ensures len { result ≡ length self.now.octets }
         ensures within { result + self.now.spare < 2 ^ 31 }
     {
-        self.lent.len() - self.gone + len_of(&self.ring)
+        self.lent.len() + self.ring.len()
     }
 
     /// For how many more octets there is room.
@@ -58,17 +54,14 @@ impl Store {
         ensures spare { result ≡ self.now.spare }
         ensures within { length self.now.octets + result < 2 ^ 31 }
     {
-        self.places() - self.len()
+        self.ring.spare() - self.lent.len()
     }
 
     /// How many octets there is room for in all.
     pub fn places(&self) -> usize
         ensures { result ≡ length self.now.octets + self.now.spare }
     {
-        match &self.ring {
-            None => 0,
-            Some(ring) => ring.capacity(),
-        }
+        self.ring.places()
     }
 
     /// The octets of two stores change places, and their room with them.
@@ -76,29 +69,35 @@ impl Store {
         ensures here { self.new ≡ other.old }
         ensures there { other.new ≡ self.old }
     {
-        mem::swap(self, other);
+        mem::swap(&mut self.lent, &mut other.lent);
+        mem::swap(&mut self.ring, &mut other.ring);
     }
 
-    /// The octets in three slices.
-    pub fn pieces(&self) -> (&[u8], &[u8], &[u8])
-        ensures { result.0.now ++ (result.1.now ++ result.2.now) ≡ self.now.octets }
+    /// A prefix of the octets, nonempty where they are.
+    #[tactic(auto, using(crate::proofs::Parts::none_before))]
+    pub fn front(&self) -> &[u8]
+        ensures prefix { result.now ≡ take (length result.now) self.now.octets }
+        ensures nonempty { 0 < length self.now.octets → 0 < length result.now }
     {
-        let (_, lent) = self.lent.as_slice().split_at(self.gone);
-        let (front, back) = pieces_of(&self.ring);
-        (lent, front, back)
+        let lent = self.lent.as_slice();
+        if lent.is_empty() {
+            self.ring.front()
+        } else {
+            lent
+        }
     }
 
-    /// The first n octets in three slices.
-    #[tactic(auto, using(crate::proofs::Parts::first_of_three))]
-    pub fn first_pieces(&self, n: usize) -> (&[u8], &[u8], &[u8])
+    // The first n octets in three slices.
+    #[tactic(auto, using(crate::proofs::Parts::take_both))]
+    fn first_pieces(&self, n: usize) -> (&[u8], &[u8], &[u8])
         requires { n ≤ length self.now.octets }
-        ensures { result.0.now ++ (result.1.now ++ result.2.now) ≡ take n self.now.octets }
+        ensures octets { result.0.now ++ (result.1.now ++ result.2.now) ≡ take n self.now.octets }
+        ensures count { length result.0.now + (length result.1.now + length result.2.now) ≡ n }
     {
-        let (lent, front, back) = self.pieces();
+        let lent = self.lent.as_slice();
         let of_lent = n.min(lent.len());
-        let of_front = (n - of_lent).min(front.len());
-        let of_back = n - of_lent - of_front;
-        (&lent[..of_lent], &front[..of_front], &back[..of_back])
+        let (front, back) = self.ring.first_pieces(n - of_lent);
+        (&lent[..of_lent], front, back)
     }
 
     /// Makes room for `more` octets. Where there is room for them, nothing changes. Else the octets of the ring
@@ -111,30 +110,13 @@ impl Store {
         ensures doubled { OnOk result (self.old.spare < more → IsDoubled self.old self.new) }
         ensures err { OnErr result (self.new ≡ self.old) }
     {
-        let (len, spare) = (self.len(), self.spare());
-        if more <= spare {
+        if more <= self.spare() {
             return Ok(());
         }
-        if more > PLACES - len {
+        if more > PLACES - self.len() {
             return Err(NoMemory);
         }
-        let places = (len + more).max(2 * (len + spare)).min(PLACES);
-        self.grow(places)
-    }
-
-    fn grow(&mut self, places: usize) -> Result<(), NoMemory>
-        requires more { length self.old.octets + self.old.spare ≤ places }
-        requires places { places < 2 ^ 31 }
-        ensures octets { self.new.octets ≡ self.old.octets }
-        ensures room { OnOk result (length self.new.octets + self.new.spare ≡ places) }
-        ensures err { OnErr result (self.new ≡ self.old) }
-    {
-        let mut grown = HeapCircularBuffer::with_capacity(self.alloc, places)?;
-        let (front, back) = pieces_of(&self.ring);
-        grown.fill_from_slice(front);
-        grown.fill_from_slice(back);
-        self.ring = Some(grown);
-        Ok(())
+        self.ring.reserve(self.lent.len() + more)
     }
 
     /// Appends a piece for which there is room.
@@ -143,9 +125,20 @@ impl Store {
         ensures octets { self.new.octets ≡ self.old.octets ++ piece.now }
         ensures spare { self.new.spare + length piece.now ≡ self.old.spare }
     {
-        if let Some(ring) = &mut self.ring {
-            ring.fill_from_slice(piece);
-        }
+        self.ring.append(piece);
+    }
+
+    /// Appends the first n octets of another store, for which there is room.
+    pub fn append_first(&mut self, from: &Store, n: usize)
+        requires held { n ≤ length from.now.octets }
+        requires room { n ≤ self.old.spare }
+        ensures octets { self.new.octets ≡ self.old.octets ++ take n from.now.octets }
+        ensures spare { self.new.spare + n ≡ self.old.spare }
+    {
+        let (lent, front, back) = from.first_pieces(n);
+        self.append(lent);
+        self.append(front);
+        self.append(back);
     }
 
     /// As `append`, where octets that share a block stay there, if there are none before them.
@@ -155,67 +148,24 @@ impl Store {
         ensures octets { self.new.octets ≡ self.old.octets ++ piece.now }
         ensures spare { self.new.spare + length piece.now ≡ self.old.spare }
     {
-        if piece.is_shared()
-            && self.len() == 0
-            && let Ok(lent) = piece.copied()
+        if self.len() == 0
+            && let Some(lent) = Lent::of(piece)
         {
             self.lent = lent;
-            self.gone = 0;
             return;
         }
         self.append(piece.as_slice());
     }
 
-    /// Drops the first n octets. A ring that is emptied goes on at the place of its first octet, so that a buffer that is
-    /// filled and emptied in turn keeps to a few places.
-    #[tactic(auto, using(crate::proofs::Parts::gone_in_first, crate::proofs::Parts::gone_past_first))]
+    /// Drops the first n octets, and keeps their room.
+    #[tactic(auto, using(crate::proofs::Parts::drop_both))]
     pub fn drop_front(&mut self, n: usize)
         requires { n ≤ length self.old.octets }
         ensures octets { self.new.octets ≡ drop n self.old.octets }
         ensures spare { self.new.spare ≡ self.old.spare + n }
     {
-        let lent = self.lent.len() - self.gone;
-        if n < lent {
-            self.gone += n;
-            return;
-        }
-        if lent > 0 {
-            self.lent = Octets::new(self.alloc);
-            self.gone = 0;
-        }
-        if let Some(ring) = &mut self.ring {
-            drop_in(ring, n - lent);
-        }
-    }
-}
-
-fn len_of(ring: &Option<HeapCircularBuffer<u8>>) -> usize
-    ensures { result ≡ length (items_in ring.now) }
-{
-    match ring {
-        None => 0,
-        Some(ring) => ring.len(),
-    }
-}
-
-fn pieces_of(ring: &Option<HeapCircularBuffer<u8>>) -> (&[u8], &[u8])
-    ensures { result.0.now ++ result.1.now ≡ items_in ring.now }
-{
-    match ring {
-        None => (&[], &[]),
-        Some(ring) => ring.as_slices(),
-    }
-}
-
-// Drops the first n octets of a ring.
-fn drop_in(ring: &mut HeapCircularBuffer<u8>, n: usize)
-    requires { n ≤ length ring.old.items }
-    ensures items { ring.new.items ≡ drop n ring.old.items }
-    ensures capacity { ring.new.capacity ≡ ring.old.capacity }
-{
-    if n == ring.len() {
-        ring.clear();
-    } else {
-        ring.truncate_front(ring.len() - n);
+        let of_lent = n.min(self.lent.len());
+        self.lent.drop_front(of_lent, self.alloc);
+        self.ring.drop_front(n - of_lent);
     }
 }
