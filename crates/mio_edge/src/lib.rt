@@ -1,6 +1,7 @@
 //! Sockets over mio as the connections of a relay or a worker, with a clock, addresses and the limit of open files.
 #![tactic(auto)]
 
+mod blocks;
 mod clock;
 mod dialer;
 mod dialing;
