@@ -19,5 +19,6 @@ pub grown : (from len : ℕ) (before block : List ℕ) → length before ≤ fro
     → take (len + length before) (drop (from - length before) block) ≡ before ++ take len (drop from block)
 grown from len before block fits is =
     let more : len + length before ≡ length before + len = omega arith in
-    let behind : drop (length before) (drop (from - length before) block) ≡ drop from block = drop-drop (length before) (from - length before) block ∙ ap (λ (k : ℕ). drop k block) (omega arith) in
+    let place : from - length before + length before ≡ from = omega arith in
+    let behind : drop (length before) (drop (from - length before) block) ≡ drop from block = drop-drop (length before) (from - length before) block ∙ ap (λ (k : ℕ). drop k block) place in
     ap (λ (k : ℕ). take k (drop (from - length before) block)) more ∙ take-add (length before) len (drop (from - length before) block) ∙ (λ i. is i ++ take len (behind i))

@@ -1,4 +1,4 @@
 pub mod Ended
-pub mod Joined
+pub mod Joining
 pub mod Nexts
 pub mod Spelled

@@ -1,25 +1,19 @@
 // Octets that came and aren't read yet.
-ghost use Rattle.std.specs.Prelude.{◌≡◌, ◌==◌, ◌≤◌, ◌+◌, ◌++◌, [], drop, false, length, take, true, IfOk, OnErr, OnOk};
+ghost use Rattle.std.specs.Prelude.{◌≡◌, ◌==◌, ◌≤◌, ◌+◌, ◌++◌, [], drop, length, take, IfOk, OnErr, OnOk};
 ghost use Rattle.wire_inlet.specs.Unreads.{octets_in};
 
+use crate::joined::Joined;
 use io_ports::{NoMemory, Octets};
 use std::alloc::Global;
 use std::marker::Model;
-use std::mem;
-
-/// From so many octets on a block in which octets are joined has room for more than twice as many.
-const MANY: usize = 4_096;
-
-/// The room of such a block, where that is more than twice what it is for.
-const ROOM: usize = 65_536;
 
 /// Where octets are.
 #[derive(Debug, Drop)]
 pub(crate) enum Block {
     /// In the block in which they came, which others may share.
     Came(Octets),
-    /// In a block of their own, behind octets that came before. The last of them came so.
-    Joined { octets: Vec<u8>, last: Octets },
+    /// In a block of their own, behind octets that came before.
+    Joined(Joined),
 }
 
 impl Block {
@@ -28,7 +22,7 @@ impl Block {
     {
         match self {
             Block::Came(octets) => octets.as_slice(),
-            Block::Joined { octets, .. } => octets.as_slice(),
+            Block::Joined(joined) => joined.as_slice(),
         }
     }
 }
@@ -46,14 +40,14 @@ pub struct Unread {
 }
 
 impl Model for Unread {
-    ghost use Rattle.std.specs.Prelude.{drop, List, ℕ};
-    ghost use Rattle.wire_inlet.specs.Unreads.{StandsAt, octets_in};
+    ghost use Rattle.std.specs.Prelude.{◌≤◌, drop, length, List, ℕ};
+    ghost use Rattle.wire_inlet.specs.Unreads.{octets_in};
 
     ghost Value = { List ℕ };
 
     ghost view = { λ u. drop u.at (octets_in u.block) };
 
-    ghost invariant = { λ u. StandsAt u.at u.block };
+    ghost invariant = { λ u. u.at ≤ length (octets_in u.block) };
 }
 
 impl Unread {
@@ -82,7 +76,7 @@ impl Unread {
     }
 
     /// So many octets from a place on. Of octets in the block in which they came they share it, where they are many.
-    #[tactic(auto, using(crate::proofs::Joined::part_behind))]
+    #[tactic(auto, using(crate::proofs::Joining::part_behind))]
     pub fn part(&self, from: usize, n: usize) -> Result<Octets, NoMemory>
         requires { from + n ≤ length self.now }
         ensures { IfOk result (λ part. part ≡ take n (drop from self.now)) }
@@ -91,8 +85,8 @@ impl Unread {
         let first = len - (len - self.at - from);
         match &self.block {
             Block::Came(octets) => octets.part(first, n),
-            Block::Joined { octets, .. } => {
-                let (_, behind) = octets.as_slice().split_at(first);
+            Block::Joined(joined) => {
+                let (_, behind) = joined.as_slice().split_at(first);
                 let (part, _) = behind.split_at(n);
                 Octets::from_slice(self.alloc, part)?.shared()
             }
@@ -100,7 +94,7 @@ impl Unread {
     }
 
     /// Appends octets. After running out of memory the octets are as they were.
-    #[tactic(auto, using(crate::proofs::Joined::none_before))]
+    #[tactic(auto, using(crate::proofs::Joining::none_before))]
     pub fn push_all(&mut self, more: &Octets) -> Result<(), NoMemory>
         ensures ok { OnOk result (self.new ≡ self.old ++ more.now) }
         ensures err { OnErr result (self.new ≡ self.old) }
@@ -137,6 +131,7 @@ impl Unread {
     }
 
     // Once no octets are left but some of those that came last, they are where these came, and once none is left no block is kept.
+    #[tactic(auto, using(crate::proofs::Joining::left_of_last))]
     fn settle(&mut self)
         ensures { self.new ≡ self.old }
     {
@@ -145,15 +140,12 @@ impl Unread {
             self.put(Octets::new(self.alloc));
             return;
         }
-        let Block::Joined { last, .. } = &mut self.block else {
-            return;
-        };
-        if left > last.len() {
-            return;
+        if let Block::Joined(joined) = &mut self.block
+            && let Some(last) = joined.last(left)
+        {
+            self.at = last.len() - left;
+            self.block = Block::Came(last);
         }
-        let last = mem::replace(last, Octets::new(self.alloc));
-        self.at = last.len() - left;
-        self.block = Block::Came(last);
     }
 
     // Appends octets behind some that aren't read.
@@ -161,47 +153,15 @@ impl Unread {
         ensures ok { OnOk result (self.new ≡ self.old ++ more) }
         ensures err { OnErr result (self.new ≡ self.old) }
     {
-        if let Block::Joined { octets, last } = &mut self.block {
-            *last = Octets::new(self.alloc);
-            if octets.capacity() - octets.len() < more.len() && cut(octets, self.at) {
+        if let Block::Joined(joined) = &mut self.block {
+            if joined.room() < more.len() && joined.cut(self.at) {
                 self.at = 0;
             }
-            octets.extend_from_slice(more.as_slice())?;
-            *last = more;
+            joined.push_all(more)?;
             return Ok(());
         }
-        let octets = joined(self.alloc, self.as_slice(), more.as_slice())?;
-        self.block = Block::Joined { octets, last: more };
+        self.block = Block::Joined(Joined::new(self.alloc, self.as_slice(), more)?);
         self.at = 0;
         Ok(())
     }
-}
-
-// Some octets and others behind them, in a block with room for more.
-fn joined(alloc: Global, octets: &[u8], more: &[u8]) -> Result<Vec<u8>, NoMemory>
-    ensures { IfOk result (λ block. block.items ≡ octets.now ++ more.now) }
-{
-    let len = octets.len().saturating_add(more.len());
-    let twice = len.saturating_mul(2);
-    let room = if len < MANY { twice } else { twice.max(ROOM) };
-    let mut block = Vec::with_capacity(alloc, room)?;
-    block.extend_from_slice(octets)?;
-    block.extend_from_slice(more)?;
-    Ok(block)
-}
-
-// Drops the octets before a place by moving the others to the front, where these are no more. Answers whether they are.
-fn cut(block: &mut Vec<u8>, at: usize) -> bool
-    requires { at ≤ length block.old.items }
-    ensures cut { result ≡ true → block.new.items ≡ drop at block.old.items }
-    ensures kept { result ≡ false → block.new.items ≡ block.old.items }
-{
-    let left = block.len() - at;
-    if at < left {
-        return false;
-    }
-    let (read, unread) = block.as_mut_slice().split_at_mut(at);
-    read[..left].copy_from_slice(unread);
-    block.truncate(left);
-    true
 }

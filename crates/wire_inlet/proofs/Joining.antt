@@ -13,17 +13,19 @@ none_before [] more e = refl
 none_before (x ∷ xs) more e = absurd (some_left (length xs) e)
 
 -- octets that are joined to others end them
-pub ends_with : (octets more all : List ℕ) → all ≡ octets ++ more → (length more ≤ length all) × (drop (length all - length more) all ≡ more)
-ends_with octets more all is =
-    let place : length all - length more ≡ length octets = omega (arith, ap length is, length-append octets more) in
-    (omega (arith, ap length is, length-append octets more), (λ i. drop (place i) (is i)) ∙ drop-append_seam octets more)
+pub ends_with : (octets more : List ℕ) → drop (length (octets ++ more) - length more) (octets ++ more) ≡ more
+ends_with octets more =
+    let place : length (octets ++ more) - length more ≡ length octets = omega (arith, length-append octets more) in
+    ap (λ (k : ℕ). drop k (octets ++ more)) place ∙ drop-append_seam octets more
 
--- what is left of octets is left of those that end them
-pub left_of_last : (at left : ℕ) (octets last : List ℕ) → length last ≤ length octets → drop (length octets - length last) octets ≡ last
-    → left ≡ length (drop at octets) → left ≤ length last → 0 < left → drop (length last - left) last ≡ drop at octets
-left_of_last at left octets last reach is all few some =
-    let place : length octets - length last + (length last - left) ≡ at = omega (arith, length-drop at octets, reach, all, few, some) in
-    ap (drop (length last - left)) (sym is) ∙ drop-drop (length last - left) (length octets - length last) octets ∙ ap (λ (k : ℕ). drop k octets) place
+-- what is left of octets is left of those that end them, once there are no more
+pub left_of_last : (at : ℕ) (octets last : List ℕ) → drop (length octets - length last) octets ≡ last
+    → length (drop at octets) ≤ length last → 0 < length (drop at octets) → drop (length last - length (drop at octets)) last ≡ drop at octets
+left_of_last at octets last is few some =
+    let left = length-drop at octets in
+    let reach : length octets - (length octets - length last) ≡ length last = sym (length-drop (length octets - length last) octets) ∙ ap length is in
+    let place : length octets - length last + (length last - length (drop at octets)) ≡ at = omega (arith, left, reach, few, some) in
+    ap (drop (length last - length (drop at octets))) (sym is) ∙ drop-drop (length last - length (drop at octets)) (length octets - length last) octets ∙ ap (λ (k : ℕ). drop k octets) place
 
 -- some of what is left, from a place that is counted from the end
 pub part_behind : (at from n : ℕ) (octets : List ℕ) → at ≤ length octets → from + n ≤ length (drop at octets)
