@@ -7,7 +7,7 @@ use anyhow::{anyhow, bail, ensure};
 use exchange_core::{Exchanges, StartSpec, Step};
 use flow_gate::{FlowId, Gates};
 use flow_notes::Cause;
-use io_ports::NoMemory;
+use io_ports::{NoMemory, Octets};
 use proxy_config::Config;
 use std::alloc::Global;
 use std::time::CpuClock;
@@ -59,11 +59,16 @@ fn start(
 }
 
 /// Ten octets arrive and move. Answers how many moved.
-fn feed(exchanges: &mut Exchanges, gates: &Gates, flow: FlowId) -> Result<u32, NoMemory> {
+fn feed(
+    exchanges: &mut Exchanges,
+    gates: &Gates,
+    flow: FlowId,
+    octets: &Octets,
+) -> Result<u32, NoMemory> {
     if !exchanges.has_flow(flow) || exchanges.has_ended(flow) || !gates.is_open(flow) {
         return Ok(0);
     }
-    exchanges.arrive(flow, &[7; 10])?;
+    exchanges.arrive(flow, octets)?;
     if !exchanges.has_flow(flow) {
         return Ok(0);
     }
@@ -95,6 +100,7 @@ fn end(exchanges: &mut Exchanges, gates: &mut Gates, exchange: u64) -> bool {
 struct Side {
     exchanges: Exchanges,
     gates: Gates,
+    octets: Octets,
     /// Nanoseconds of processor time that the uses took.
     nanos: u64,
 }
@@ -111,6 +117,7 @@ impl Side {
         Ok(Side {
             exchanges,
             gates,
+            octets: Octets::from_slice(alloc, &[7; 10])?,
             nanos: 0,
         })
     }
@@ -126,7 +133,7 @@ impl Side {
             exchange,
             back: false,
         };
-        let moved = feed(&mut self.exchanges, &self.gates, request)?;
+        let moved = feed(&mut self.exchanges, &self.gates, request, &self.octets)?;
         Ok(end(&mut self.exchanges, &mut self.gates, exchange) && moved == 10)
     }
 

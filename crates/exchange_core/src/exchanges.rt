@@ -23,7 +23,7 @@ use filter_chain::ticks_add_up;
 use flow_gate::{FlowId, Gates};
 use flow_notes::Cause;
 use hpack_codec::FieldList;
-use io_ports::NoMemory;
+use io_ports::{NoMemory, Octets};
 use number_set::NumberSet;
 use paged_map::PagedMap;
 use proxy_config::Config;
@@ -132,7 +132,7 @@ impl Exchanges {
 
     /// Octets came into the receive buffer of a flow, whose end hasn't come. Within its window they aren't refused. After
     /// running out of memory nothing has changed.
-    pub fn arrive(&mut self, flow: FlowId, octets: &[u8]) -> Result<(), NoMemory>
+    pub fn arrive(&mut self, flow: FlowId, octets: &Octets) -> Result<(), NoMemory>
         requires live { IsLiveFlow self.old flow }
         requires goes_on { IfSome (flow_at self.old flow) (λ f. f.message.ended ≡ false) }
         ensures ok { OnOk result (ChangesFlow flow (arrived octets.now) self.old self.new) }
@@ -152,7 +152,7 @@ impl Exchanges {
     /// Octets came for a flow, whose end hasn't come where it is live. Where it is, and they fit into its receive buffer
     /// within its window, they are there, as by `arrive`; else nothing has changed. The exchange is looked up once. Takes no
     /// memory.
-    pub fn receive(&mut self, flow: FlowId, octets: &[u8]) -> Received
+    pub fn receive(&mut self, flow: FlowId, octets: &Octets) -> Received
         requires goes_on { IfSome (flow_at self.old flow) (λ f. f.message.ended ≡ false) }
         ensures answer { result ≡ received_by (length octets.now) (flow_at self.old flow) }
         ensures flow { IsLiveFlow self.old flow → ChangesFlow flow (received octets.now) self.old self.new }

@@ -20,7 +20,7 @@ use crate::step::{Advance, Received, Step};
 use filter_chain::{Chain, OfferFault};
 use flow_gate::{BufferId, FlowId, Gates};
 use hpack_codec::FieldList;
-use io_ports::NoMemory;
+use io_ports::{NoMemory, Octets};
 use proxy_config::FilterList;
 use std::alloc::Global;
 use std::marker::Model;
@@ -131,19 +131,19 @@ impl Flow {
         self.message.begin(fields, last);
     }
 
-    pub(crate) fn arrive(&mut self, octets: &[u8]) -> Result<(), NoMemory>
+    pub(crate) fn arrive(&mut self, octets: &Octets) -> Result<(), NoMemory>
         requires { self.old.message.ended ≡ false }
         ensures ok { OnOk result (self.new ≡ arrived octets.now self.old) }
         ensures sound { IsSound self.new }
         ensures covered { length self.old.recv + length octets.now ≤ self.old.window → IsOk result }
         ensures err { OnErr result (self.new ≡ self.old) }
     {
-        self.recv.add(octets)?;
+        self.recv.add_octets(octets)?;
         Ok(())
     }
 
     /// As `arrive`, where the octets fit within the window.
-    pub(crate) fn receive(&mut self, octets: &[u8]) -> Received
+    pub(crate) fn receive(&mut self, octets: &Octets) -> Received
         requires { self.old.message.ended ≡ false }
         ensures answer { result ≡ received_by (length octets.now) (Some self.old) }
         ensures flow { self.new ≡ received octets.now self.old }

@@ -90,7 +90,8 @@ impl Spares {
         Ok(None)
     }
 
-    /// The flows of an exchange that is gone are kept, if there is room for them. Takes no memory.
+    /// The flows of an exchange that is gone are kept, if there is room for them and they hold no octets: octets may lie in a block
+    /// that others wait for. Takes no memory.
     pub(crate) fn keep(&mut self, exchange: Exchange) {
         let Exchange {
             request,
@@ -104,7 +105,8 @@ impl Spares {
     }
 
     fn keep_flow(&mut self, flow: FlowBox) {
-        if self.flows.len() < self.flows.capacity() && self.flows.len() < MOST {
+        let has_room = self.flows.len() < self.flows.capacity() && self.flows.len() < MOST;
+        if has_room && flow.flow().held() == 0 {
             let _ = self.flows.push(flow);
         }
     }

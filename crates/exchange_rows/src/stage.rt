@@ -91,8 +91,8 @@ impl Stage {
         if !self.may_come(flow) {
             return Ok(Answer::Refused);
         }
-        let octets = octets(self.alloc, 1, n)?;
-        self.exchanges.arrive(flow, octets.as_slice())?;
+        let octets = Octets::from_vec(octets(self.alloc, 1, n)?);
+        self.exchanges.arrive(flow, &octets)?;
         Ok(Answer::Done)
     }
 
@@ -100,8 +100,8 @@ impl Stage {
         if self.exchanges.has_flow(flow) && self.exchanges.has_ended(flow) {
             return Ok(Answer::Refused);
         }
-        let octets = octets(self.alloc, 1, n)?;
-        let received = self.exchanges.receive(flow, octets.as_slice());
+        let octets = Octets::from_vec(octets(self.alloc, 1, n)?);
+        let received = self.exchanges.receive(flow, &octets);
         Ok(Answer::Received(received))
     }
 

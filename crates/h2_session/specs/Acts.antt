@@ -10,7 +10,7 @@ use Rattle.h2_session.specs.declared.act.Act.TheVariants as act
 use Rattle.h2_session.specs.declared.block.HeaderBlock.{HeaderBlock}
 use Rattle.h2_session.specs.declared.streams.Stream.{Stream}
 use Rattle.std.specs.Option.{option_map_or}
-use Rattle.std.specs.Prelude.{Bool, List, None, Option, Some, [], if◌then◌else◌, length, not, ℕ, ◌+◌, ◌==◌}
+use Rattle.std.specs.Prelude.{Bool, List, None, Option, Some, [], if◌then◌else◌, length, not, ℕ, ◌+◌, ◌==◌, ◌≡◌}
 
 -- a header block on a stream that is open, in this state, or isn't (sections 5.1 and 8.1)
 abbrev pub block_act : HeaderBlock → Option Stream → Act
@@ -70,3 +70,8 @@ stream_of (act.PeerReset s code) = s
 stream_of (act.GoAway last code) = last
 stream_of (act.StreamError s code block) = s
 stream_of given = 0
+
+-- what is handed in beside a DATA frame are its octets; beside another frame nothing is asked of it
+abbrev pub IsContentOf : Frame → List ℕ → Type 0
+IsContentOf (DataFrame s last padded octets) content = content ≡ octets
+IsContentOf frame content = Unit {0}

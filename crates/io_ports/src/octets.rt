@@ -1,6 +1,8 @@
 // Lists of octets and of pressures, and out of memory.
-ghost use Rattle.std.specs.Prelude.{◌≡◌, ◌==◌, ◌∷◌, ◌≤◌, List, ℕ, [], ◌++◌, length, take, IfOk, OnOk, OnErr};
+ghost use Rattle.std.specs.Arc.{arc_value};
+ghost use Rattle.std.specs.Prelude.{◌≡◌, ◌==◌, ◌+◌, ◌-◌, ◌∷◌, ◌≤◌, List, ℕ, [], ◌++◌, drop, false, length, take, true, IfOk, IfSome, OnOk, OnErr};
 
+use crate::store::{Store, front, is_before, part_of};
 use std::alloc::{AllocError, AllocFailed, Global};
 use std::error::Error;
 use std::fmt;
@@ -31,74 +33,8 @@ impl<T: Drop> From<AllocFailed<T>> for NoMemory {
     }
 }
 
-/// So many octets need no block of memory.
-const FEW: usize = 16;
-
-/// Where octets are kept.
-pub(crate) enum Store {
-    /// Here: the first so many of these. The length stands first and there are sixteen, so that both lie as the words of the
-    /// other variants do: a processor stalls where it reads a word that was written in other pieces.
-    Few { len: u32, octets: [u8; FEW] },
-    /// In a block of memory of their own.
-    Own(Vec<u8>),
-    /// In a block of memory that others may have too. They are the first so many of it.
-    Shared { block: Arc<Vec<u8>>, len: usize },
-}
-
-// By hand, so that the drop of octets is one call wherever they are.
-impl Drop for Store {
-    #[inline]
-    fn drop(self) {
-        match self {
-            Store::Own(bytes) => drop(bytes),
-            Store::Shared { block, len: _ } => drop(block),
-            Store::Few { len: _, octets: _ } => {}
-        }
-    }
-}
-
-impl Store {
-    ghost use Rattle.io_ports.specs.Stores.{stored, Reaches};
-
-    /// A copy of a slice. Of few octets it takes no memory.
-    fn copy_of(alloc: Global, octets: &[u8]) -> Result<Self, NoMemory>
-        ensures { IfOk result (λ store. (stored store ≡ octets.now) × Reaches store) }
-    {
-        if octets.len() > FEW {
-            return Ok(Store::Own(Vec::from_slice(alloc, octets)?));
-        }
-        Ok(Store::few(octets))
-    }
-
-    /// A copy of few octets.
-    fn few(octets: &[u8]) -> Self
-        requires { length octets.now ≤ 16 }
-        ensures { (stored result ≡ octets.now) × Reaches result }
-    {
-        let mut few = [0; FEW];
-        few[..octets.len()].copy_from_slice(octets);
-        Store::Few {
-            len: octets.len() as u32,
-            octets: few,
-        }
-    }
-
-    /// The same octets in a block that copies share, unless they are few.
-    fn shared(self, alloc: Global) -> Result<Self, NoMemory>
-        requires { Reaches self }
-        ensures { IfOk result (λ shared. (stored shared ≡ stored self) × Reaches shared) }
-    {
-        match self {
-            Store::Own(bytes) => {
-                let len = bytes.len();
-                let block = Arc::new(alloc, bytes)?;
-                Ok(Store::Shared { block, len })
-            }
-            Store::Few { len, octets } => Ok(Store::Few { len, octets }),
-            Store::Shared { block, len } => Ok(Store::Shared { block, len }),
-        }
-    }
-}
+/// Octets share a block of at most so many times as many.
+const SHARE: usize = 8;
 
 /// A list of octets.
 #[derive(Drop)]
@@ -162,6 +98,87 @@ impl Octets {
         Ok(Octets { alloc, store })
     }
 
+    /// So many octets of a block from a place on. Where they are an eighth of it or more they share it, so that a block is never
+    /// kept for few of its octets, and else they are copied.
+    pub fn within(
+        alloc: Global,
+        block: &Arc<Vec<u8>>,
+        from: usize,
+        len: usize,
+    ) -> Result<Self, NoMemory>
+        requires { from + len ≤ length (arc_value block.now).items }
+        ensures { IfOk result (λ made. made ≡ take len (drop from (arc_value block.now).items)) }
+    {
+        if len < block.len() / SHARE {
+            return Octets::from_slice(alloc, part_of(block.as_slice(), from, len));
+        }
+        Ok(Octets {
+            alloc,
+            store: Store::within(block, from, len)?,
+        })
+    }
+
+    /// So many of the octets from a place on. Of octets in a block that is shared they share it too, where they are an eighth of it
+    /// or more.
+    #[tactic(auto, using(crate::proofs::Parts::part_of_part))]
+    pub fn part(&self, from: usize, n: usize) -> Result<Self, NoMemory>
+        requires { from + n ≤ length self.now }
+        ensures { IfOk result (λ part. part ≡ take n (drop from self.now)) }
+    {
+        if let Store::Shared {
+            block,
+            from: first,
+            ..
+        } = &self.store
+        {
+            return Octets::within(self.alloc, block, *first + from, n);
+        }
+        Octets::from_slice(self.alloc, part_of(self.as_slice(), from, n))
+    }
+
+    /// The same octets in the block that these share, if they share one. Takes no memory.
+    pub fn lent(&self) -> Option<Self>
+        ensures { IfSome result (λ lent. lent ≡ self.now) }
+    {
+        let Store::Shared {
+            block,
+            from,
+            len: n,
+        } = &self.store
+        else {
+            return None;
+        };
+        let Ok(block) = Arc::try_clone(block) else {
+            return None;
+        };
+        Some(Octets {
+            alloc: self.alloc,
+            store: Store::Shared {
+                block,
+                from: *from,
+                len: *n,
+            },
+        })
+    }
+
+    /// Takes in the octets that stand before these in their block, where they are the same as those that are named. Nothing is copied.
+    /// Answers whether they are.
+    #[tactic(auto, using(crate::proofs::Parts::grown))]
+    pub fn take_in_front(&mut self, before: &[u8]) -> bool
+        ensures taken { result ≡ true → self.new ≡ before.now ++ self.old }
+        ensures same { result ≡ false → self.new ≡ self.old }
+    {
+        let Store::Shared { block, from, len } = &mut self.store else {
+            return false;
+        };
+        if !is_before(block.as_slice(), *from, before) {
+            return false;
+        }
+        *from -= before.len();
+        *len += before.len();
+        true
+    }
+
     /// A copy. Of octets that are few or shared it takes no memory.
     #[inline(always)]
     pub fn copied(&self) -> Result<Self, NoMemory>
@@ -173,8 +190,9 @@ impl Octets {
                 len: *few,
                 octets: *octets,
             },
-            Store::Shared { block, len } => Store::Shared {
+            Store::Shared { block, from, len } => Store::Shared {
                 block: Arc::try_clone(block)?,
+                from: *from,
                 len: *len,
             },
         };
@@ -223,7 +241,7 @@ impl Octets {
         match &self.store {
             Store::Own(bytes) => bytes.as_slice(),
             Store::Few { len, octets } => front(octets, *len as usize),
-            Store::Shared { block, len } => front(block.as_slice(), *len),
+            Store::Shared { block, from, len } => part_of(block.as_slice(), *from, *len),
         }
     }
 
@@ -242,14 +260,6 @@ impl Octets {
     {
         self.len() == 0
     }
-}
-
-/// The first octets, at most so many.
-fn front(octets: &[u8], len: usize) -> &[u8]
-    ensures { result.now ≡ take len octets.now }
-{
-    let (front, _) = octets.split_at(len.min(octets.len()));
-    front
 }
 
 /// A list of pressures, in parts per million.

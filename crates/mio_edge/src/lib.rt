@@ -1,6 +1,7 @@
 //! Sockets over mio as the connections of a relay or a worker, with a clock, addresses and the limit of open files.
 #![tactic(auto)]
 
+mod blocks;
 mod clock;
 mod dialer;
 mod dialing;
@@ -11,6 +12,7 @@ mod inlet;
 mod link;
 mod links;
 mod parting;
+mod pieces;
 mod plan;
 mod roll;
 mod sockets;

@@ -51,8 +51,6 @@ pub(crate) struct Link {
     pub held: bool,
     /// Whether it stands among those that are to be looked at.
     pub queued: bool,
-    /// Whether it left what it was offered, to be offered it again at the end of the round.
-    pub left: bool,
     /// Whether a read may find something.
     readable: bool,
     /// Whether the system may take something.
@@ -77,7 +75,6 @@ impl Link {
             origin,
             held: false,
             queued: false,
-            left: false,
             readable: false,
             writable: true,
             ending: false,
@@ -141,16 +138,11 @@ impl Link {
         }
     }
 
-    /// Whether a write may take something.
-    pub fn may_send(&self) -> bool {
-        self.writable && !self.broken
-    }
-
     /// Writes once, and answers how many octets of the piece went. While the peer doesn't read this costs no call.
     pub fn write(&mut self, piece: &[u8]) -> usize
         ensures { result ≤ length piece.now }
     {
-        if !self.may_send() {
+        if !self.writable || self.broken {
             return 0;
         }
         match self.stream.write(piece) {

@@ -4,21 +4,18 @@ ghost use Rattle.std.specs.Prelude.{◌≤◌, length};
 use crate::link::{Link, Origin, ReadOutcome};
 use io_ports::NoMemory;
 use mio::event::Event;
+use paged_map::PagedMap;
 use std::alloc::Global;
-use std::collections::{BTreeMap, VecDeque};
-use std::mem;
-
-/// So many octets are sent at once, without a wait for what may come behind them.
-const MANY: usize = 65_536;
+use std::collections::VecDeque;
 
 /// The sockets of the live connections.
 #[derive(Drop)]
 pub(crate) struct Links {
-    live: BTreeMap<u32, Link>,
+    live: PagedMap<u32, Link>,
     /// The numbers of those that are to be looked at, each once, and of some that are live no more.
     due: VecDeque<u32>,
-    /// Whether one left what it was offered for the end of the round.
-    waiting: bool,
+    /// Those to clusters of which the system told just now.
+    told: VecDeque<u32>,
     /// How many were made by clients.
     clients: u32,
     /// For how long it is borne that one takes nothing of what waits for it, in milliseconds.
@@ -29,9 +26,9 @@ impl Links {
     /// No connections, of which each is lost once it takes nothing of what waits for it for so many milliseconds.
     pub fn new(alloc: Global, patience: Option<u64>) -> Self {
         Links {
-            live: BTreeMap::new(alloc),
+            live: PagedMap::new(alloc),
             due: VecDeque::new(alloc),
-            waiting: false,
+            told: VecDeque::new(alloc),
             clients: 0,
             patience,
         }
@@ -53,6 +50,7 @@ impl Links {
         let is_client = link.origin == Origin::Client;
         let most = self.live.len().saturating_add(1);
         self.due.reserve(most)?;
+        self.told.reserve(most)?;
         self.live.insert(conn, link)?;
         if is_client {
             self.clients = self.clients.saturating_add(1);
@@ -75,8 +73,23 @@ impl Links {
             return false;
         };
         link.on_event(event);
-        queue(&mut self.due, conn, link);
+        if link.origin == Origin::Client {
+            queue(&mut self.due, conn, link);
+        } else {
+            queue(&mut self.told, conn, link);
+        }
         true
+    }
+
+    /// The system has told all. Connections to clusters are looked at behind those of clients: what comes from clusters makes octets
+    /// wait for many clients, each of which is offered them in each turn until the round is over.
+    pub fn end_events(&mut self) {
+        for _ in 0..self.told.len() {
+            if let Some(conn) = self.told.pop_front() {
+                // Its room was taken when it came.
+                let _ = self.due.push_back(conn);
+            }
+        }
     }
 
     /// From now on a connection is held, or isn't. Answers the cluster of one that a client has now for the first time.
@@ -88,41 +101,18 @@ impl Links {
         cluster
     }
 
-    /// A connection takes a front of a piece, at a moment in milliseconds, and sends it in one call. Answers how many octets. Where it
-    /// isn't the end of the round it leaves a piece that isn't large, since more may come behind it until then. Only connections for
-    /// which octets wait are offered some, each once a turn, so only those are looked at for a stall.
-    pub fn take(&mut self, conn: u32, piece: &[u8], now: u64, is_end: bool) -> usize
+    /// A connection takes a front of a piece, at a moment in milliseconds, and sends it in one call. Answers how many octets. Only
+    /// connections for which octets wait are offered some, so only those are looked at for a stall.
+    pub fn take(&mut self, conn: u32, piece: &[u8], now: u64) -> usize
         ensures { result ≤ length piece.now }
     {
         let Some(link) = self.live.get_mut(&conn) else {
             return 0;
         };
-        link.left = !is_end && piece.len() < MANY && link.may_send();
-        if link.left {
-            self.waiting = true;
-            return 0;
-        }
         let n = link.write(piece);
         link.track_stall(n, now, self.patience);
         queue(&mut self.due, conn, link);
         n
-    }
-
-    /// Whether a connection left what it was offered for the end of the round, which is now. This is told once.
-    pub fn end_wait(&mut self) -> bool {
-        mem::replace(&mut self.waiting, false)
-    }
-
-    /// Whether this connection did. This is told once, and the connection is to be looked at again then.
-    pub fn has_left(&mut self, conn: u32) -> bool {
-        let Some(link) = self.live.get_mut(&conn) else {
-            return false;
-        };
-        let left = mem::replace(&mut link.left, false);
-        if left {
-            queue(&mut self.due, conn, link);
-        }
-        left
     }
 
     /// The connection that is to be looked at next.

@@ -3,7 +3,7 @@
 use crate::link::ReadOutcome;
 use mio::event::Event;
 use mio::net::TcpStream;
-use std::alloc::Global;
+use std::alloc::{AllocError, Global};
 use std::collections::VecDeque;
 use std::io::{ErrorKind, Read};
 use std::net::Shutdown;
@@ -14,8 +14,10 @@ pub(crate) const MOST_PARTINGS: usize = 256;
 /// How long a parting takes at most, in milliseconds.
 const LONGEST: u64 = 5_000;
 
-/// How often a parting socket is read at one event. A peer that sends more than that is cut off.
+/// How often a parting socket is read at one event, and how many octets at once. A peer that sends more than that is cut off.
 const MOST_READS: u32 = 64;
+
+const MOST_READ: usize = 16_384;
 
 /// The socket of a closed connection. Were it closed while octets wait there that nobody reads, the system would reset the
 /// connection, and the peer might lose the last octets that were sent to it.
@@ -30,20 +32,23 @@ struct Parting {
 #[derive(Drop)]
 pub(crate) struct Partings {
     all: VecDeque<Parting>,
+    /// Where octets are read to that nobody gets.
+    block: Vec<u8>,
 }
 
 impl Partings {
-    pub fn new(alloc: Global) -> Self {
-        Partings {
+    pub fn new(alloc: Global) -> Result<Self, AllocError> {
+        Ok(Partings {
             all: VecDeque::new(alloc),
-        }
+            block: vec![in alloc; 0; MOST_READ]?,
+        })
     }
 
     /// Sends no more to a peer, and drops what it sends, until it ends or the time is up.
-    pub fn begin(&mut self, conn: u32, mut stream: TcpStream, now: u64, block: &mut [u8]) {
+    pub fn begin(&mut self, conn: u32, mut stream: TcpStream, now: u64) {
         if self.all.len() >= MOST_PARTINGS
             || stream.shutdown(Shutdown::Write).is_err()
-            || is_over(&mut stream, block)
+            || is_over(&mut stream, &mut self.block)
         {
             return;
         }
@@ -56,14 +61,14 @@ impl Partings {
     }
 
     /// The system tells something of a closed connection.
-    pub fn on_event(&mut self, conn: u32, event: &Event, block: &mut [u8]) {
+    pub fn on_event(&mut self, conn: u32, event: &Event) {
         let Some(place) = self.all.iter().position(|parting| parting.conn == conn) else {
             return;
         };
         let Some(parting) = self.all.get_mut(place) else {
             return;
         };
-        if event.is_error() || is_over(&mut parting.stream, block) {
+        if event.is_error() || is_over(&mut parting.stream, &mut self.block) {
             let _ = self.all.remove(place);
         }
     }

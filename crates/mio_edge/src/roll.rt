@@ -6,15 +6,15 @@ ghost use Rattle.worker_ports.specs.Wires.{closed, given, is_held, is_live};
 ghost use Rattle.worker_ports.specs.declared.wires.Wired.TheVariants as wired;
 
 use io_ports::NoMemory;
+use paged_map::PagedMap;
 use std::alloc::Global;
-use std::collections::BTreeMap;
 use std::marker::Model;
 
 /// The numbers of the live connections, each with whether it is held, and the greatest number so far.
 #[derive(Drop)]
 pub struct Roll {
     clusters: u32,
-    live: BTreeMap<u32, bool>,
+    live: PagedMap<u32, bool>,
     greatest: u32,
 }
 
@@ -35,7 +35,7 @@ impl Roll {
     {
         Roll {
             clusters,
-            live: BTreeMap::new(alloc),
+            live: PagedMap::new(alloc),
             greatest: 0,
         }
     }

@@ -8,18 +8,20 @@ use crate::inlet::Inlet;
 use crate::link::{Link, Origin, ReadOutcome};
 use crate::links::Links;
 use crate::parting::Partings;
+use crate::pieces::{PIECE, Pieces};
 use crate::plan::{Plan, Sharing};
-use io_ports::{Failed, NoMemory, Octets};
+use io_ports::{Failed, NoMemory};
 use mio::net::TcpStream;
 use mio::{Events, Interest, Poll, Token};
 use std::alloc::Global;
 use std::io::Eprint;
+use std::mem;
 use std::net::Net;
 use std::time::{Clock, Duration};
 use worker_ports::{WireRefusal, Wired};
 
-/// How many octets are read at once at most.
-const PIECE: usize = 16_384;
+/// How many octets a worker reads at once at most. A relay, which may hold a connection after each piece, reads one.
+const BLOCK: usize = 65_536;
 
 /// How many events one wait tells at most.
 const MOST_EVENTS: usize = 1_024;
@@ -27,10 +29,13 @@ const MOST_EVENTS: usize = 1_024;
 /// How long a wait takes at most, in milliseconds.
 const LONGEST_WAIT: u64 = 100;
 
-/// How many clients are accepted in one round at most, and how many connections are looked at.
+/// How many clients are accepted in one round at most, and how many pieces are given or connections looked at in vain.
 const MOST_ACCEPTS: u64 = 16;
 
 const MOST_LOOKS: u32 = 64;
+
+/// So many octets are sent at once, without a wait for what may come behind them.
+const MANY: usize = 65_536;
 
 /// The token of the way in for clients. Connections have their numbers, which are above.
 pub const DOOR: Token = Token(0);
@@ -40,7 +45,6 @@ pub const DOOR: Token = Token(0);
 #[derive(Drop)]
 pub(crate) struct Sockets<R: Clock + Net + Drop, I: Inlet + Drop> {
     rt: R,
-    alloc: Global,
     poll: Poll,
     events: Events,
     door: Door<I>,
@@ -50,10 +54,9 @@ pub(crate) struct Sockets<R: Clock + Net + Drop, I: Inlet + Drop> {
     dialing: Dialing,
     links: Links,
     partings: Partings,
-    /// Where octets are read to. It is never cleared.
-    block: Vec<u8>,
-    /// The connection whose octets stand in front of the block and aren't given yet, and how many they are.
-    unread: Option<(u32, usize)>,
+    /// What was read and isn't given yet, and of which connection.
+    pieces: Pieces,
+    read_last: u32,
     /// When this round began, in milliseconds.
     now: u64,
     /// How many clients may come in still, all of which waited when this round began.
@@ -61,6 +64,10 @@ pub(crate) struct Sockets<R: Clock + Net + Drop, I: Inlet + Drop> {
     looks_left: u32,
     /// Whether this round gives nothing more, so that connections take what they are offered.
     is_end: bool,
+    /// Whether one left what it was offered for the end of the round.
+    has_left: bool,
+    /// The connection whose end was found then. It is given as lost once all were offered again what they left.
+    ended: Option<u32>,
     /// Whether a connection took all that it was offered, so that it may be offered more at once.
     took_all: bool,
 }
@@ -69,9 +76,12 @@ impl<R: Clock + Net + Eprint + Drop, I: Inlet + Drop> Sockets<R, I> {
     /// The sockets of a plan, without connections. Clients come at the inlet, which doesn't block, and of which the poll tells
     /// under the token `DOOR`.
     pub fn new(rt: R, alloc: Global, poll: Poll, inlet: I, plan: &Plan) -> Result<Self, EdgeFault> {
+        let most = match plan.sharing {
+            Sharing::OneEach => PIECE,
+            Sharing::All => BLOCK,
+        };
         Ok(Sockets {
             rt,
-            alloc,
             poll,
             events: Events::with_capacity(alloc, MOST_EVENTS)?,
             door: Door::new(inlet),
@@ -79,13 +89,15 @@ impl<R: Clock + Net + Eprint + Drop, I: Inlet + Drop> Sockets<R, I> {
             sharing: plan.sharing,
             dialing: Dialing::new(alloc, plan)?,
             links: Links::new(alloc, plan.patience()),
-            partings: Partings::new(alloc),
-            block: vec![in alloc; 0; PIECE]?,
-            unread: None,
+            partings: Partings::new(alloc)?,
+            pieces: Pieces::new(alloc, most)?,
+            read_last: 0,
             now: 0,
             accepts_left: 0,
             looks_left: 0,
             is_end: true,
+            has_left: false,
+            ended: None,
             took_all: true,
         })
     }
@@ -107,7 +119,7 @@ impl<R: Clock + Net + Eprint + Drop, I: Inlet + Drop> Sockets<R, I> {
             Ok(None) => {}
             Err(NoMemory) => return Err(WireRefusal::NoMemory),
         }
-        if self.links.end_wait() {
+        if mem::replace(&mut self.has_left, false) {
             return Ok(Wired::Idle);
         }
         if self.begin_round().is_err() {
@@ -123,12 +135,19 @@ impl<R: Clock + Net + Eprint + Drop, I: Inlet + Drop> Sockets<R, I> {
         }
     }
 
-    /// A connection takes a front of a piece, and sends it. Answers how many octets it took. While this round gives more it takes
-    /// only large pieces: what it leaves is offered again, with what comes behind it.
+    /// Whether a piece stays where it is, to be offered again with what comes behind it: this round gives more, and the piece isn't
+    /// large.
+    pub fn leaves(&mut self, piece: &[u8]) -> bool {
+        let leaves = !self.is_end && piece.len() < MANY;
+        self.has_left = self.has_left || leaves;
+        leaves
+    }
+
+    /// A connection takes a front of a piece, and sends it. Answers how many octets it took.
     pub fn take(&mut self, conn: u32, piece: &[u8]) -> usize
         ensures { result ≤ length piece.now }
     {
-        let n = self.links.take(conn, piece, self.now, self.is_end);
+        let n = self.links.take(conn, piece, self.now);
         if n > 0 && n == piece.len() {
             self.took_all = true;
         }
@@ -141,8 +160,11 @@ impl<R: Clock + Net + Eprint + Drop, I: Inlet + Drop> Sockets<R, I> {
             return;
         };
         self.dialing.part(link.origin, self.now);
+        if conn == self.read_last {
+            self.pieces.clear();
+        }
         if let Some(stream) = link.into_parting() {
-            self.partings.begin(conn, stream, self.now, &mut self.block);
+            self.partings.begin(conn, stream, self.now);
         }
     }
 
@@ -157,20 +179,24 @@ impl<R: Clock + Net + Eprint + Drop, I: Inlet + Drop> Sockets<R, I> {
     fn given(&mut self, wired: Wired) -> Wired {
         self.is_end = !self.has_more();
         if self.is_end {
-            self.links.end_wait();
+            self.has_left = false;
         }
         wired
     }
 
     // Whether this round has more to give, as far as is known.
     fn has_more(&self) -> bool {
-        self.dialing.is_due()
+        !self.pieces.is_empty()
+            || self.dialing.is_due()
             || (self.looks_left > 0 && self.links.is_due())
             || (self.accepts_left > 0 && self.may_accept())
     }
 
     // What comes next of what this round has left.
     fn give(&mut self, number: u32) -> Result<Option<Wired>, NoMemory> {
+        if let Some(conn) = self.ended.take() {
+            return Ok(Some(self.lose(conn)));
+        }
         if let Some(wired) = self.give_join(number) {
             return Ok(Some(wired));
         }
@@ -239,16 +265,20 @@ impl<R: Clock + Net + Eprint + Drop, I: Inlet + Drop> Sockets<R, I> {
 
     // Octets or a loss of a connection that is due. After running out of memory the octets are still to be given.
     fn give_octets(&mut self) -> Result<Option<Wired>, NoMemory> {
-        if let Some((conn, n)) = self.unread {
-            return self.give_read(conn, n);
+        if !self.pieces.is_empty() {
+            self.looks_left = self.looks_left.saturating_sub(1);
+            return self.give_piece();
         }
         for _ in 0..self.looks_left {
             let Some(conn) = self.links.next_due() else {
                 return Ok(None);
             };
             self.looks_left = self.looks_left.saturating_sub(1);
-            match self.links.read(conn, &mut self.block) {
-                ReadOutcome::Octets(n) => return self.give_read(conn, n),
+            match self.pieces.read(&mut self.links, conn) {
+                ReadOutcome::Octets(_) => {
+                    self.read_last = conn;
+                    return self.give_piece();
+                }
                 ReadOutcome::End => return Ok(self.end(conn)),
                 ReadOutcome::Nothing => {}
             }
@@ -256,25 +286,29 @@ impl<R: Clock + Net + Eprint + Drop, I: Inlet + Drop> Sockets<R, I> {
         Ok(None)
     }
 
-    // The first octets of the block came for a connection. They are given in a block of their own, which whoever keeps some shares.
-    fn give_read(&mut self, conn: u32, n: usize) -> Result<Option<Wired>, NoMemory> {
-        self.unread = Some((conn, n));
-        let front = self.block.get(..n).unwrap_or_default();
-        let octets = Octets::from_slice(self.alloc, front)?.shared()?;
-        self.unread = None;
-        Ok(Some(Wired::Read(conn, octets)))
+    // A piece of what was read last.
+    fn give_piece(&mut self) -> Result<Option<Wired>, NoMemory> {
+        let octets = self.pieces.give()?;
+        Ok(Some(Wired::Read(self.read_last, octets)))
     }
 
-    // A connection has ended. Where it left octets the round is over, so that it is offered them again before it is given as lost.
+    // The end of a connection was found. Where some left octets the round is over, so that they are offered these again before it is
+    // given as lost.
     fn end(&mut self, conn: u32) -> Option<Wired> {
-        if self.links.has_left(conn) {
+        if self.has_left {
             self.looks_left = 0;
+            self.ended = Some(conn);
             return None;
         }
+        Some(self.lose(conn))
+    }
+
+    // A connection is given as lost.
+    fn lose(&mut self, conn: u32) -> Wired {
         if let Some(link) = self.links.leave(conn) {
             self.dialing.lose(link.origin, self.now);
         }
-        Some(Wired::Lost(conn))
+        Wired::Lost(conn)
     }
 
     // Waits until something comes, and takes in what does.
@@ -328,11 +362,12 @@ impl<R: Clock + Net + Eprint + Drop, I: Inlet + Drop> Sockets<R, I> {
             match u32::try_from(token.0) {
                 Ok(conn) => {
                     if !self.links.on_event(conn, event) {
-                        self.partings.on_event(conn, event, &mut self.block);
+                        self.partings.on_event(conn, event);
                     }
                 }
                 Err(_) => self.dialing.on_event(&self.rt, token.0, event, self.now),
             }
         }
+        self.links.end_events();
     }
 }

@@ -154,7 +154,7 @@ impl<R: Clock + Net + Eprint + Drop, I: Inlet + Drop> Wires for SocketTaps<R, I>
     }
 
     fn offer(&mut self, conn: u32, piece: &[u8]) -> Result<usize, Failed> {
-        if !self.roll.is_live(conn) {
+        if self.sockets.leaves(piece) || !self.roll.is_live(conn) {
             return Ok(0);
         }
         Ok(self.sockets.take(conn, piece))

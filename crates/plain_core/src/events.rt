@@ -76,7 +76,7 @@ impl PlainCore {
             octets: Octets::from_slice(self.alloc, octets.as_slice())?,
         };
         let exchange = u64::from(stream);
-        match self.flows.receive(exchange, octets.as_slice())? {
+        match self.flows.receive(exchange, octets)? {
             Received::Arrived => {
                 let flow = request(exchange);
                 let octets = Octets::from_slice(self.alloc, octets.as_slice())?;

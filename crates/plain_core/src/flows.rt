@@ -20,7 +20,7 @@ use exchange_core::{Advance, Exchanges, Piece, Received, StartSpec, Step, Unit};
 use flow_gate::{BufferId, FlowId, Gates, Watchers};
 use flow_notes::Cause;
 use h2_frames::data_head;
-use io_ports::NoMemory;
+use io_ports::{NoMemory, Octets};
 use proxy_config::Config;
 use std::alloc::Global;
 use std::collections::BTreeSet;
@@ -138,7 +138,7 @@ impl Flows {
     }
 
     /// Octets come for an exchange, and are in its receive buffer where it is live and has room for them.
-    pub(crate) fn receive(&mut self, exchange: u64, octets: &[u8]) -> Result<Received, NoMemory>
+    pub(crate) fn receive(&mut self, exchange: u64, octets: &Octets) -> Result<Received, NoMemory>
         requires settled { IsSettled self.old }
         requires goes_on { GoesOn self.old exchange }
         ensures { IfOk result (λ received. Receives exchange octets.now received self.old self.new) }

@@ -18,7 +18,7 @@ use exchange_core::{Doomed, Exchanges, Received};
 use flow_gate::{BufferId, FlowId, Gates};
 use flow_notes::Cause;
 use hpack_codec::FieldList;
-use io_ports::NoMemory;
+use io_ports::{NoMemory, Octets};
 use std::alloc::Global;
 use std::marker::Model;
 
@@ -154,7 +154,7 @@ impl WireFlows {
 
     /// Octets came for a flow, whose head came and whose end hasn't come where it is live. Where it is, and they fit into its
     /// receive buffer within its window, they are there; else nothing has changed. Takes no memory.
-    pub fn receive(&mut self, flow: FlowId, octets: &[u8]) -> Received
+    pub fn receive(&mut self, flow: FlowId, octets: &Octets) -> Received
         requires goes_on { IfSome (flow_in self.old flow) (λ f. f.message.ended ≡ false) }
         requires headed { IfSome (flow_in self.old flow) (λ f. head_came f.message ≡ true) }
         ensures answer { result ≡ received_by (length octets.now) (flow_in self.old flow) }

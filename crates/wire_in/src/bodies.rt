@@ -181,7 +181,7 @@ fn arrive(
         return Ok(());
     }
     let flow = course.flow;
-    let Received::Arrived = core.flows.receive(flow, octets.as_slice()) else {
+    let Received::Arrived = core.flows.receive(flow, &octets) else {
         return Ok(());
     };
     core.touch(flow.exchange)?;

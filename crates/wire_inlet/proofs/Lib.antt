@@ -1,3 +1,4 @@
-pub mod Joined
+pub mod Ended
+pub mod Joining
 pub mod Nexts
 pub mod Spelled

@@ -1,3 +1,4 @@
+pub mod Ends
 pub mod Incoming
 pub mod Meaning
 pub mod Next

@@ -5,4 +5,4 @@ use Rattle.wire_inlet.specs.declared.unread.Block.TheVariants as block
 
 abbrev pub octets_in : Block → List ℕ
 octets_in (block.Came octets) = octets
-octets_in (block.Joined octets) = octets.items
+octets_in (block.Joined joined) = joined

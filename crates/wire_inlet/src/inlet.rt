@@ -1,11 +1,14 @@
 // One connection's octets in.
-ghost use Rattle.std.specs.Prelude.{◌≡◌, ◌==◌, ◌++◌, ◌∷◌, ◌⊎◌, [], List, false, true, is_some, if◌then◌else◌, length, IfErr, IfOk, IsErr, IsNone, MatchOption, OnErr, OnOk};
+ghost use Rattle.std.specs.Prelude.{◌≡◌, ◌==◌, ◌++◌, ◌∷◌, ◌⊎◌, [], List, false, true, is_some, if◌then◌else◌, length, IfErr, IfOk, IfSome, IsErr, IsNone, MatchOption, OnErr, OnOk};
+ghost use Rattle.h2_frames.specs.View.{view};
+ghost use Rattle.h2_session.specs.Acts.{IsContentOf};
 ghost use Rattle.h2_session.specs.Happened.{Happening, Opened, Ended, Closed, Interim, next_stream};
 ghost use Rattle.h2_session.specs.Streams.{greatest_of_peer, is_open};
 ghost use Rattle.h2_session.specs.Summary.{StandsFor, noted};
 ghost use Rattle.h2_session.specs.Table.{stream_at};
 ghost use Rattle.hpack_codec.specs.Decoding.{decoder_with};
 ghost use Rattle.hpack_codec.specs.Table.{empty_table};
+ghost use Rattle.wire_inlet.specs.Ends.{EndsAt};
 ghost use Rattle.wire_inlet.specs.Incoming.{HasSessionOf, is_cluster, preface_left};
 ghost use Rattle.wire_inlet.specs.Next.{IsInside, IsShort, LacksPreface, NextOf};
 
@@ -13,7 +16,7 @@ use crate::intake::{Intake, Peer};
 use crate::reader::Reader;
 use crate::unread::Unread;
 use h2_frames::codes::PROTOCOL_ERROR;
-use h2_frames::{ReadFrame, read_frame};
+use h2_frames::{Frame, ReadFrame, read_frame};
 use h2_session::Prefaced;
 use io_ports::{NoMemory, Octets};
 use std::alloc::Global;
@@ -42,6 +45,24 @@ fn behind_preface<'a>(
             let (_, frames) = unread.split_at(PREFACE_LEN);
             Ok(frames)
         }
+    }
+}
+
+// The octets of a DATA frame without padding that ends at a place.
+fn content_before(unread: &Unread, end: usize, frame: &Frame) -> Result<Option<Octets>, NoMemory>
+    requires { EndsAt end unread.now (view frame.now) }
+    ensures { IfOk result (λ content. IfSome content (IsContentOf (view frame.now))) }
+{
+    match *frame {
+        Frame::DataFrame {
+            padded: 0,
+            octets,
+            ..
+        } => {
+            let n = octets.len();
+            Ok(Some(unread.part(end - n, n)?))
+        }
+        _ => Ok(None),
     }
 }
 
@@ -128,8 +149,9 @@ impl Inlet {
             ReadFrame::Need => Ok(Intake::Need),
             ReadFrame::Bad(fault) => Ok(Intake::Fault(fault.code())),
             ReadFrame::Whole(frame, used) => {
-                let taken = self.reader.take(&frame)?;
                 let read = unread.len() - frames.len() + used as usize;
+                let content = content_before(&self.unread, read, &frame)?;
+                let taken = self.reader.take(&frame, content)?;
                 self.unread.take(read);
                 self.prefaced = true;
                 Ok(Intake::Taken(taken))

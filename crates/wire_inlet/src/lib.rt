@@ -3,6 +3,7 @@
 
 mod inlet;
 mod intake;
+mod joined;
 mod reader;
 mod unread;
 

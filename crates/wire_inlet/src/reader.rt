@@ -1,9 +1,9 @@
 // What the frames of a connection mean, and what their header blocks give.
-ghost use Rattle.std.specs.Prelude.{◌≡◌, ◌≤◌, ◌<◌, ◌^◌, ◌⊎◌, [], None, Some, false, true, IfOk, MatchOption, OnErr};
+ghost use Rattle.std.specs.Prelude.{◌≡◌, ◌≤◌, ◌<◌, ◌^◌, ◌⊎◌, [], None, Some, false, true, IfOk, IfSome, MatchOption, OnErr};
 ghost use Rattle.h2_frames.specs.Frame.{padding_of};
 ghost use Rattle.h2_frames.specs.Spelling.{IsWritable};
 ghost use Rattle.h2_frames.specs.View.{view};
-ghost use Rattle.h2_session.specs.Acts.{stream_of};
+ghost use Rattle.h2_session.specs.Acts.{IsContentOf, stream_of};
 ghost use Rattle.h2_session.specs.Preface.{Begins};
 ghost use Rattle.h2_session.specs.Summary.{StandsFor};
 ghost use Rattle.hpack_codec.specs.Decoding.{decoder_with};
@@ -14,7 +14,7 @@ use crate::intake::{Reading, Taken};
 use h2_frames::Frame;
 use h2_session::{Act, Prefaced, Session};
 use hpack_codec::{Decoder, HpackFault};
-use io_ports::NoMemory;
+use io_ports::{NoMemory, Octets};
 use std::alloc::Global;
 use std::marker::Model;
 
@@ -101,23 +101,25 @@ impl Reader {
         self.session.take_preface(octets)
     }
 
-    /// What a frame means. After running out of memory nothing changed, or the reader is lost.
-    pub fn take(&mut self, frame: &Frame) -> Result<Taken, NoMemory>
+    /// What a frame means. The octets of a DATA frame may be handed in as octets that share a block. After running out of memory
+    /// nothing changed, or the reader is lost.
+    pub fn take(&mut self, frame: &Frame, content: Option<Octets>) -> Result<Taken, NoMemory>
         requires writable { IsWritable (view frame.now) }
         requires padding { padding_of (view frame.now) ≤ 256 }
+        requires content { IfSome content (IsContentOf (view frame.now)) }
         requires kept { self.old.lost ≡ false }
         ensures means { IfOk result (λ taken. Means (view frame.now) self.old taken self.new) }
         ensures numbered { IfOk result (λ taken. stream_of taken.act < 2 ^ 31) }
         ensures few { IfOk result (λ taken. IsKnown taken.reading) }
         ensures err { OnErr result ((self.new ≡ self.old) ⊎ (self.new.lost ≡ true)) }
     {
-        let content = frame.content();
+        let counted = frame.content();
         let is_update = matches!(*frame, Frame::WindowUpdate { .. });
-        let act = self.session.accept(frame)?;
+        let act = self.session.accept_with(frame, content)?;
         let reading = self.read(&act)?;
         Ok(Taken {
             act,
-            content,
+            content: counted,
             reading,
             is_update,
         })

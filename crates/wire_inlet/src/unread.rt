@@ -1,16 +1,11 @@
 // Octets that came and aren't read yet.
-ghost use Rattle.std.specs.Prelude.{◌≡◌, ◌==◌, ◌≤◌, ◌++◌, [], drop, false, length, true, IfOk, OnErr, OnOk};
+ghost use Rattle.std.specs.Prelude.{◌≡◌, ◌==◌, ◌≤◌, ◌+◌, ◌++◌, [], drop, length, take, IfOk, OnErr, OnOk};
 ghost use Rattle.wire_inlet.specs.Unreads.{octets_in};
 
+use crate::joined::Joined;
 use io_ports::{NoMemory, Octets};
 use std::alloc::Global;
 use std::marker::Model;
-
-/// From so many octets on a block in which octets are joined has room for more than twice as many.
-const MANY: usize = 4_096;
-
-/// The room of such a block, where that is more than twice what it is for.
-const ROOM: usize = 65_536;
 
 /// Where octets are.
 #[derive(Debug, Drop)]
@@ -18,7 +13,7 @@ pub(crate) enum Block {
     /// In the block in which they came, which others may share.
     Came(Octets),
     /// In a block of their own, behind octets that came before.
-    Joined(Vec<u8>),
+    Joined(Joined),
 }
 
 impl Block {
@@ -27,14 +22,16 @@ impl Block {
     {
         match self {
             Block::Came(octets) => octets.as_slice(),
-            Block::Joined(octets) => octets.as_slice(),
+            Block::Joined(joined) => joined.as_slice(),
         }
     }
 }
 
 /// The octets from a place on. Those before it were read. Octets that come where all are read stay in the block that they came
-/// in; behind some that aren't read they go to a block that has room for more, in which what isn't read is moved to the front where
-/// that room is used up and at least as many octets were read: so an octet is moved at the cost of one that was read.
+/// in, and so do those that stand right behind the ones that aren't read in the same block. Others go to a block that has room for
+/// more, in which what isn't read is moved to the front where that room is used up and at least as many octets were read: so an octet
+/// is moved at the cost of one that was read. Once none of them is left but some that came last, these are where they came; once
+/// none is left at all no block is kept.
 #[derive(Debug, Drop)]
 pub struct Unread {
     alloc: Global,
@@ -78,18 +75,40 @@ impl Unread {
         self.block.as_slice().len() == self.at
     }
 
+    /// So many octets from a place on. Of octets in the block in which they came they share it, where they are many.
+    #[tactic(auto, using(crate::proofs::Joining::part_behind))]
+    pub fn part(&self, from: usize, n: usize) -> Result<Octets, NoMemory>
+        requires { from + n ≤ length self.now }
+        ensures { IfOk result (λ part. part ≡ take n (drop from self.now)) }
+    {
+        let len = self.block.as_slice().len();
+        let first = len - (len - self.at - from);
+        match &self.block {
+            Block::Came(octets) => octets.part(first, n),
+            Block::Joined(joined) => {
+                let (_, behind) = joined.as_slice().split_at(first);
+                let (part, _) = behind.split_at(n);
+                Octets::from_slice(self.alloc, part)?.shared()
+            }
+        }
+    }
+
     /// Appends octets. After running out of memory the octets are as they were.
-    #[tactic(auto, using(crate::proofs::Joined::none_before))]
+    #[tactic(auto, using(crate::proofs::Joining::none_before))]
     pub fn push_all(&mut self, more: &Octets) -> Result<(), NoMemory>
         ensures ok { OnOk result (self.new ≡ self.old ++ more.now) }
         ensures err { OnErr result (self.new ≡ self.old) }
     {
+        let mut came = more.copied()?;
         if self.is_empty() {
-            self.block = Block::Came(more.copied()?);
-            self.at = 0;
+            self.put(came);
             return Ok(());
         }
-        self.join(more.as_slice())
+        if came.take_in_front(self.as_slice()) {
+            self.put(came);
+            return Ok(());
+        }
+        self.join(came)
     }
 
     /// The first n octets were read.
@@ -100,52 +119,49 @@ impl Unread {
         let len = self.block.as_slice().len();
         let left = len - self.at;
         self.at = len - (left - n);
+        self.settle();
+    }
+
+    // The octets are these, where they came.
+    fn put(&mut self, came: Octets)
+        ensures { self.new ≡ came }
+    {
+        self.block = Block::Came(came);
+        self.at = 0;
+    }
+
+    // Once no octets are left but some of those that came last, they are where these came, and once none is left no block is kept.
+    #[tactic(auto, using(crate::proofs::Joining::left_of_last))]
+    fn settle(&mut self)
+        ensures { self.new ≡ self.old }
+    {
+        let left = self.as_slice().len();
+        if left == 0 {
+            self.put(Octets::new(self.alloc));
+            return;
+        }
+        if let Block::Joined(joined) = &mut self.block
+            && let Some(last) = joined.last(left)
+        {
+            self.at = last.len() - left;
+            self.block = Block::Came(last);
+        }
     }
 
     // Appends octets behind some that aren't read.
-    fn join(&mut self, more: &[u8]) -> Result<(), NoMemory>
-        ensures ok { OnOk result (self.new ≡ self.old ++ more.now) }
+    fn join(&mut self, more: Octets) -> Result<(), NoMemory>
+        ensures ok { OnOk result (self.new ≡ self.old ++ more) }
         ensures err { OnErr result (self.new ≡ self.old) }
     {
-        if let Block::Joined(block) = &mut self.block {
-            if block.capacity() - block.len() < more.len() && cut(block, self.at) {
+        if let Block::Joined(joined) = &mut self.block {
+            if joined.room() < more.len() && joined.cut(self.at) {
                 self.at = 0;
             }
-            block.extend_from_slice(more)?;
+            joined.push_all(more)?;
             return Ok(());
         }
-        let block = joined(self.alloc, self.as_slice(), more)?;
-        self.block = Block::Joined(block);
+        self.block = Block::Joined(Joined::new(self.alloc, self.as_slice(), more)?);
         self.at = 0;
         Ok(())
     }
-}
-
-// Some octets and others behind them, in a block with room for more.
-fn joined(alloc: Global, octets: &[u8], more: &[u8]) -> Result<Vec<u8>, NoMemory>
-    ensures { IfOk result (λ block. block.items ≡ octets.now ++ more.now) }
-{
-    let len = octets.len().saturating_add(more.len());
-    let twice = len.saturating_mul(2);
-    let room = if len < MANY { twice } else { twice.max(ROOM) };
-    let mut block = Vec::with_capacity(alloc, room)?;
-    block.extend_from_slice(octets)?;
-    block.extend_from_slice(more)?;
-    Ok(block)
-}
-
-// Drops the octets before a place by moving the others to the front, where these are no more. Answers whether they are.
-fn cut(block: &mut Vec<u8>, at: usize) -> bool
-    requires { at ≤ length block.old.items }
-    ensures cut { result ≡ true → block.new.items ≡ drop at block.old.items }
-    ensures kept { result ≡ false → block.new.items ≡ block.old.items }
-{
-    let left = block.len() - at;
-    if at < left {
-        return false;
-    }
-    let (read, unread) = block.as_mut_slice().split_at_mut(at);
-    read[..left].copy_from_slice(unread);
-    block.truncate(left);
-    true
 }

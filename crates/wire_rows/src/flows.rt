@@ -30,6 +30,7 @@ use crate::words::{Answers, next, number, small_number};
 use anyhow::{Result, bail};
 use exchange_core::{Received, StartSpec};
 use flow_gate::FlowId;
+use io_ports::Octets;
 use proxy_config::{Config, read_config};
 use std::alloc::{AllocError, Global};
 use std::collections::BTreeMap;
@@ -281,17 +282,17 @@ fn body(alloc: Global, flows: &mut WireFlows, flow: FlowId, n: u32) -> &'static 
     let Ok(octets) = body_octets(alloc, n) else {
         return "no memory";
     };
-    match flows.receive(flow, octets.as_slice()) {
+    match flows.receive(flow, &octets) {
         Received::NotLive => "not live",
         Received::TooMany => "too many",
         Received::Arrived => "arrived",
     }
 }
 
-fn body_octets(alloc: Global, n: u32) -> std::result::Result<Vec<u8>, AllocError> {
+fn body_octets(alloc: Global, n: u32) -> std::result::Result<Octets, AllocError> {
     let mut octets = Vec::new(alloc);
     octets.resize(n as usize, b'x')?;
-    Ok(octets)
+    Ok(Octets::from_vec(octets))
 }
 
 // Dooms, what follows them, and time.

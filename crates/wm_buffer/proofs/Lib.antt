@@ -1,2 +1,3 @@
 pub mod Crossings
 pub mod Flag
+pub mod Parts

@@ -5,7 +5,7 @@ ghost use Rattle.wm_buffer.specs.Buffer.{empty_buffer, AppendsOctets, DropsOctet
 
 use crate::store::Store;
 use crate::watermark::{Crossed, Watermark};
-use io_ports::NoMemory;
+use io_ports::{NoMemory, Octets};
 use std::alloc::Global;
 use std::marker::Model;
 
@@ -77,6 +77,18 @@ impl WatermarkBuffer {
         Ok(self.watermark.follow(self.store.len()))
     }
 
+    /// As `add`, where octets that share a block may stay there: where none are before them none is copied.
+    pub fn add_octets(&mut self, piece: &Octets) -> Result<Crossed, NoMemory>
+        ensures appends { OnOk result (AppendsOctets self.old self.new piece.now) }
+        ensures crossed { IfOk result (λ crossed. crossed ≡ crossing self.old.above self.new.above) }
+        ensures covered { length piece.now ≤ self.old.spare → IsOk result }
+        ensures err { OnErr result (self.new ≡ self.old) }
+    {
+        self.store.reserve(piece.len())?;
+        self.store.take_in(piece);
+        Ok(self.watermark.follow(self.store.len()))
+    }
+
     /// Drops the first n octets, keeps their room, and answers low where the buffer was above and has
     /// drained.
     pub fn take(&mut self, n: u32) -> Crossed
@@ -108,10 +120,8 @@ impl WatermarkBuffer {
             return Ok(self.swap_with(to));
         }
         to.store.reserve(head.len().saturating_add(n as usize))?;
-        let (front, back) = self.store.first_pieces(n as usize);
         to.store.append(head);
-        to.store.append(front);
-        to.store.append(back);
+        to.store.append_first(&self.store, n as usize);
         let raised = to.watermark.follow(to.store.len());
         let drained = self.take(n);
         Ok(Shifted {
@@ -146,14 +156,13 @@ impl WatermarkBuffer {
         }
     }
 
-    /// A prefix of the octets, nonempty where they are. The ring has two parts, and this is the first
-    /// that isn't empty.
+    /// A prefix of the octets, nonempty where they are. They stand in up to three parts, and this is the
+    /// first that isn't empty.
     pub fn front(&self) -> &[u8]
         ensures prefix { result.now ≡ take (length result.now) self.now.octets }
         ensures nonempty { 0 < length self.now.octets → 0 < length result.now }
     {
-        let (front, back) = self.store.pieces();
-        if front.is_empty() { back } else { front }
+        self.store.front()
     }
 
     /// The number of octets. With the room it is below 2^31.

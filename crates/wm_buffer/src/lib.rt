@@ -3,6 +3,8 @@
 #![tactic(auto)]
 
 mod buffer;
+mod lent;
+mod ring;
 mod store;
 mod watermark;
 

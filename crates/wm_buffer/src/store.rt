@@ -1,31 +1,32 @@
-// Octets in a ring, which move by slices.
-ghost use Rattle.std.specs.Prelude.{◌≡◌, ◌<◌, ◌≤◌, ◌+◌, ◌-◌, ◌^◌, ◌++◌, [], length, take, drop, IsOk, OnOk, OnErr};
+// Octets in a ring, behind some in a block of others, which move by slices.
+ghost use Rattle.std.specs.Prelude.{◌≡◌, ◌<◌, ◌≤◌, ◌+◌, ◌^◌, ◌++◌, [], length, take, drop, IsOk, OnOk, OnErr};
 ghost use Rattle.wm_buffer.specs.Stored.{IsDoubled};
 
-use circular_buffer::HeapCircularBuffer;
-use io_ports::NoMemory;
+use crate::lent::Lent;
+use crate::ring::{PLACES, Ring};
+use io_ports::{NoMemory, Octets};
 use std::alloc::Global;
 use std::marker::Model;
 use std::mem;
 
-/// The octets that a store has places for.
-const PLACES: usize = 2_147_483_647;
-
-/// A queue of octets. Until it needs room it takes no memory.
+/// A queue of octets. Until it needs room it takes no memory. Octets that share a block may stay there where none are before them;
+/// they stand before those in the ring, and take places of it.
 #[derive(Debug, Drop)]
 pub struct Store {
     alloc: Global,
-    ring: Option<HeapCircularBuffer<u8>>,
+    lent: Lent,
+    ring: Ring,
 }
 
 impl Model for Store {
-    ghost use Rattle.wm_buffer.specs.Stored.{Stored, stored_in, IsInPlaces};
+    ghost use Rattle.std.specs.Prelude.{◌≤◌, length};
+    ghost use Rattle.wm_buffer.specs.Stored.{Stored, with_lent};
 
     ghost Value = { Stored };
 
-    ghost view = { λ s. stored_in s.ring };
+    ghost view = { λ s. with_lent s.lent s.ring };
 
-    ghost invariant = { λ s. IsInPlaces s.ring };
+    ghost invariant = { λ s. length s.lent ≤ s.ring.spare };
 }
 
 impl Store {
@@ -34,17 +35,18 @@ impl Store {
         ensures octets { result.octets ≡ [] }
         ensures spare { result.spare ≡ 0 }
     {
-        Store { alloc, ring: None }
+        Store {
+            alloc,
+            lent: Lent::none(alloc),
+            ring: Ring::new(alloc),
+        }
     }
 
     pub fn len(&self) -> usize
         ensures len { result ≡ length self.now.octets }
         ensures within { result + self.now.spare < 2 ^ 31 }
     {
-        match &self.ring {
-            None => 0,
-            Some(ring) => ring.len(),
-        }
+        self.lent.len() + self.ring.len()
     }
 
     /// For how many more octets there is room.
@@ -52,20 +54,14 @@ impl Store {
         ensures spare { result ≡ self.now.spare }
         ensures within { length self.now.octets + result < 2 ^ 31 }
     {
-        match &self.ring {
-            None => 0,
-            Some(ring) => ring.capacity() - ring.len(),
-        }
+        self.ring.spare() - self.lent.len()
     }
 
     /// How many octets there is room for in all.
     pub fn places(&self) -> usize
         ensures { result ≡ length self.now.octets + self.now.spare }
     {
-        match &self.ring {
-            None => 0,
-            Some(ring) => ring.capacity(),
-        }
+        self.ring.places()
     }
 
     /// The octets of two stores change places, and their room with them.
@@ -73,31 +69,39 @@ impl Store {
         ensures here { self.new ≡ other.old }
         ensures there { other.new ≡ self.old }
     {
+        mem::swap(&mut self.lent, &mut other.lent);
         mem::swap(&mut self.ring, &mut other.ring);
     }
 
-    /// The octets in two slices.
-    pub fn pieces(&self) -> (&[u8], &[u8])
-        ensures { result.0.now ++ result.1.now ≡ self.now.octets }
+    /// A prefix of the octets, nonempty where they are.
+    #[tactic(auto, using(crate::proofs::Parts::none_before))]
+    pub fn front(&self) -> &[u8]
+        ensures prefix { result.now ≡ take (length result.now) self.now.octets }
+        ensures nonempty { 0 < length self.now.octets → 0 < length result.now }
     {
-        match &self.ring {
-            None => (&[], &[]),
-            Some(ring) => ring.as_slices(),
+        let lent = self.lent.as_slice();
+        if lent.is_empty() {
+            self.ring.front()
+        } else {
+            lent
         }
     }
 
-    /// The first n octets in two slices.
-    pub fn first_pieces(&self, n: usize) -> (&[u8], &[u8])
+    // The first n octets in three slices.
+    #[tactic(auto, using(crate::proofs::Parts::take_both))]
+    fn first_pieces(&self, n: usize) -> (&[u8], &[u8], &[u8])
         requires { n ≤ length self.now.octets }
-        ensures { result.0.now ++ result.1.now ≡ take n self.now.octets }
+        ensures octets { result.0.now ++ (result.1.now ++ result.2.now) ≡ take n self.now.octets }
+        ensures count { length result.0.now + (length result.1.now + length result.2.now) ≡ n }
     {
-        let (front, back) = self.pieces();
-        let from_front = n.min(front.len());
-        (&front[..from_front], &back[..n - from_front])
+        let lent = self.lent.as_slice();
+        let of_lent = n.min(lent.len());
+        let (front, back) = self.ring.first_pieces(n - of_lent);
+        (&lent[..of_lent], front, back)
     }
 
-    /// Makes room for `more` octets. Where there is room for them, nothing changes. Else the octets
-    /// move to a ring of at least twice the places, so that growing takes constant time an octet.
+    /// Makes room for `more` octets. Where there is room for them, nothing changes. Else the octets of the ring
+    /// move to one of at least twice the places, so that growing takes constant time an octet.
     pub fn reserve(&mut self, more: usize) -> Result<(), NoMemory>
         ensures octets { self.new.octets ≡ self.old.octets }
         ensures grown { self.old.spare ≤ self.new.spare }
@@ -106,30 +110,13 @@ impl Store {
         ensures doubled { OnOk result (self.old.spare < more → IsDoubled self.old self.new) }
         ensures err { OnErr result (self.new ≡ self.old) }
     {
-        let (len, spare) = (self.len(), self.spare());
-        if more <= spare {
+        if more <= self.spare() {
             return Ok(());
         }
-        if more > PLACES - len {
+        if more > PLACES - self.len() {
             return Err(NoMemory);
         }
-        let places = (len + more).max(2 * (len + spare)).min(PLACES);
-        self.grow(places)
-    }
-
-    fn grow(&mut self, places: usize) -> Result<(), NoMemory>
-        requires more { length self.old.octets + self.old.spare ≤ places }
-        requires places { places < 2 ^ 31 }
-        ensures octets { self.new.octets ≡ self.old.octets }
-        ensures room { OnOk result (length self.new.octets + self.new.spare ≡ places) }
-        ensures err { OnErr result (self.new ≡ self.old) }
-    {
-        let mut grown = HeapCircularBuffer::with_capacity(self.alloc, places)?;
-        let (front, back) = self.pieces();
-        grown.fill_from_slice(front);
-        grown.fill_from_slice(back);
-        self.ring = Some(grown);
-        Ok(())
+        self.ring.reserve(self.lent.len() + more)
     }
 
     /// Appends a piece for which there is room.
@@ -138,24 +125,47 @@ impl Store {
         ensures octets { self.new.octets ≡ self.old.octets ++ piece.now }
         ensures spare { self.new.spare + length piece.now ≡ self.old.spare }
     {
-        if let Some(ring) = &mut self.ring {
-            ring.fill_from_slice(piece);
-        }
+        self.ring.append(piece);
     }
 
-    /// Drops the first n octets. A ring that is emptied goes on at the place of its first octet, so that a buffer that is
-    /// filled and emptied in turn keeps to a few places.
+    /// Appends the first n octets of another store, for which there is room.
+    pub fn append_first(&mut self, from: &Store, n: usize)
+        requires held { n ≤ length from.now.octets }
+        requires room { n ≤ self.old.spare }
+        ensures octets { self.new.octets ≡ self.old.octets ++ take n from.now.octets }
+        ensures spare { self.new.spare + n ≡ self.old.spare }
+    {
+        let (lent, front, back) = from.first_pieces(n);
+        self.append(lent);
+        self.append(front);
+        self.append(back);
+    }
+
+    /// As `append`, where octets that share a block stay there, if there are none before them.
+    #[tactic(auto, using(crate::proofs::Parts::all_that_came))]
+    pub fn take_in(&mut self, piece: &Octets)
+        requires { length piece.now ≤ self.old.spare }
+        ensures octets { self.new.octets ≡ self.old.octets ++ piece.now }
+        ensures spare { self.new.spare + length piece.now ≡ self.old.spare }
+    {
+        if self.len() == 0
+            && let Some(lent) = Lent::of(piece)
+        {
+            self.lent = lent;
+            return;
+        }
+        self.append(piece.as_slice());
+    }
+
+    /// Drops the first n octets, and keeps their room.
+    #[tactic(auto, using(crate::proofs::Parts::drop_both))]
     pub fn drop_front(&mut self, n: usize)
         requires { n ≤ length self.old.octets }
         ensures octets { self.new.octets ≡ drop n self.old.octets }
         ensures spare { self.new.spare ≡ self.old.spare + n }
     {
-        if let Some(ring) = &mut self.ring {
-            if n == ring.len() {
-                ring.clear();
-            } else {
-                ring.truncate_front(ring.len() - n);
-            }
-        }
+        let of_lent = n.min(self.lent.len());
+        self.lent.drop_front(of_lent, self.alloc);
+        self.ring.drop_front(n - of_lent);
     }
 }

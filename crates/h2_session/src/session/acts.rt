@@ -1,9 +1,9 @@
 // The one act of each frame.
-ghost use Rattle.std.specs.Prelude.{◌≡◌, ◌==◌, ◌<◌, ◌≤◌, ◌+◌, ◌-◌, ◌^◌, ◌&&◌, false, not, min, List, if◌then◌else◌, length, None, IfOk, OnOk, OnErr};
+ghost use Rattle.std.specs.Prelude.{◌≡◌, ◌==◌, ◌<◌, ◌≤◌, ◌+◌, ◌-◌, ◌^◌, ◌&&◌, false, not, min, List, if◌then◌else◌, length, None, IfOk, IfSome, OnOk, OnErr};
 ghost use Rattle.h2_frames.specs.Frame.{padding_of, DataFrame, Reset};
 ghost use Rattle.h2_frames.specs.Spelling.{IsWritable};
 ghost use Rattle.h2_frames.specs.View.{view};
-ghost use Rattle.h2_session.specs.Acts.{act_of, data_act, reset_act, stream_of, update_act};
+ghost use Rattle.h2_session.specs.Acts.{IsContentOf, act_of, data_act, reset_act, stream_of, update_act};
 ghost use Rattle.h2_session.specs.Errors.{after, breaks_block, error_of};
 ghost use Rattle.h2_session.specs.Happened.{Happening};
 ghost use Rattle.h2_session.specs.Table.{stream_at};
@@ -34,19 +34,36 @@ impl Session {
         ensures numbered { IfOk result (λ act. stream_of act < 2 ^ 31) }
         ensures err { OnErr result (self.new ≡ self.old) }
     {
+        self.accept_with(frame, None)
+    }
+
+    /// As `accept`, where the octets of a DATA frame may be handed in as octets that share a block, so that none is copied.
+    pub fn accept_with(&mut self, frame: &Frame, content: Option<Octets>) -> Result<Act, NoMemory>
+        requires writable { IsWritable (view frame.now) }
+        requires padding { padding_of (view frame.now) ≤ 256 }
+        requires content { IfSome content (IsContentOf (view frame.now)) }
+        ensures act { (past : List Happening) → StandsFor past self.old
+            → IfOk result (λ act. act ≡ act_of self.old.side (view frame.now) past) }
+        ensures stands { (past : List Happening) → StandsFor past self.old
+            → OnOk result (StandsFor (after self.old.side (view frame.now) past) self.new) }
+        ensures side { self.new.side ≡ self.old.side }
+        ensures numbered { IfOk result (λ act. stream_of act < 2 ^ 31) }
+        ensures err { OnErr result (self.new ≡ self.old) }
+    {
         if let Some(code) = self.error(frame) {
             self.failed = Some(code);
             return Ok(Act::ConnError { code });
         }
-        let act = self.take(frame)?;
+        let act = self.take(frame, content)?;
         self.started = true;
         Ok(act)
     }
 
     // What a frame that is no connection error means.
-    fn take(&mut self, frame: &Frame) -> Result<Act, NoMemory>
+    fn take(&mut self, frame: &Frame, content: Option<Octets>) -> Result<Act, NoMemory>
         requires writable { IsWritable (view frame.now) }
         requires padding { padding_of (view frame.now) ≤ 256 }
+        requires content { IfSome content (IsContentOf (view frame.now)) }
         ensures takes { (past : List Happening) → StandsFor past self.old → error_of self.old.side (view frame.now) past ≡ None
             → IfOk result (λ act. Takes (view frame.now) self.old self.new act past) }
         ensures side { self.new.side ≡ self.old.side }
@@ -59,7 +76,7 @@ impl Session {
                 last,
                 padded,
                 octets,
-            } => self.take_data(stream, last, padded, octets),
+            } => self.take_data(stream, last, padded, octets, content),
             Frame::Headers {
                 stream,
                 last,
@@ -123,8 +140,10 @@ fn data_act(
     last: bool,
     padded: u32,
     octets: &[u8],
+    content: Option<Octets>,
 ) -> Result<Act, NoMemory>
-    requires { length octets.now + padded < 2 ^ 32 }
+    requires len { length octets.now + padded < 2 ^ 32 }
+    requires content { IfSome content (λ shared. shared ≡ octets.now) }
     ensures { IfOk result (λ act. act ≡ data_act stream last padded octets.now state) }
 {
     let Some(state) = state else {
@@ -140,10 +159,25 @@ fn data_act(
     }
     Ok(Act::Body {
         stream,
-        octets: Octets::from_slice(alloc, octets)?,
+        octets: content_or_copy(alloc, octets, content)?,
         padded,
         last,
     })
+}
+
+// The octets that are handed in, or else a copy.
+fn content_or_copy(
+    alloc: Global,
+    octets: &[u8],
+    content: Option<Octets>,
+) -> Result<Octets, NoMemory>
+    requires { IfSome content (λ shared. shared ≡ octets.now) }
+    ensures { IfOk result (λ made. made ≡ octets.now) }
+{
+    match content {
+        Some(shared) => Ok(shared),
+        None => Octets::from_slice(alloc, octets),
+    }
 }
 
 impl Session {
@@ -153,8 +187,10 @@ impl Session {
         last: bool,
         padded: u32,
         octets: &[u8],
+        content: Option<Octets>,
     ) -> Result<Act, NoMemory>
-        requires { length octets.now + padded < 2 ^ 32 }
+        requires len { length octets.now + padded < 2 ^ 32 }
+        requires content { IfSome content (λ shared. shared ≡ octets.now) }
         ensures takes { (past : List Happening) → StandsFor past self.old
             → error_of self.old.side (DataFrame stream last padded octets.now) past ≡ None
             → IfOk result (λ act. Takes (DataFrame stream last padded octets.now) self.old self.new act past) }
@@ -169,6 +205,7 @@ impl Session {
             last,
             padded,
             octets,
+            content,
         )?;
         self.streams.data_came(stream, last);
         self.empties = run_after(self.empties, self.empty_frames, octets, padded, last);

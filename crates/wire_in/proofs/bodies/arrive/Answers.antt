@@ -1,6 +1,4 @@
-use Rattle.flow_notes.specs.declared.notes.Note.TheVariants as note
-use Rattle.std.proofs.Common.{ap, arith, refl}
-use Rattle.std.specs.Prelude.{List, [], length, ℕ, ◌++◌, ◌∷◌}
+use Rattle.std.proofs.Common.{arith, refl}
 use Rattle.wire_in.proofs.Arriving.{arrival_told}
 use Rattle.wire_in.proofs.bodies.arrive.Goals as goal
 use Rattle.wire_state.proofs.Goings.{bodies_told, same_bodies, told_at}
@@ -9,17 +7,15 @@ use Rattle.wire_state.specs.Progress.{to_go}
 
 pub returns-clause-go : goal.returns-clause-go
 unfolding to_go
-returns-clause-go c =
-    let n = ap (λ (os : List ℕ). length os) c.as_slice.ensures in
-    on_ok c.note.result (omega (arith, n, c.in_ok-touch.ensures.go, c.receive.ensures.go))
+returns-clause-go c = on_ok c.note.result (omega (arith, c.in_ok-touch.ensures.go, c.receive.ensures.go))
 
 pub returns-clause-octets : goal.returns-clause-octets
 returns-clause-octets c = record {
   goes = λ h g start t.
       let k = c.args.core.now in
       let f = c.args.course.flow in
-      let came = arrival_told f c.as_slice.result.now k.flows c.receive.new.self c.receive.result c.receive.ensures.answer c.in-Arrived.is c.receive.ensures.flow c.receive.ensures.sound k.conns k.links h g start c.args.notes.now t in
-      c.note.ensures.paid.goes h g start _ _ _ (c.in_ok-touch.ensures.octets.goes h g start _ (told_at h g start k.conns k.conns c.receive.new.self k.links _ _ refl (ap (λ (octets : List ℕ). c.args.notes.now ++ note.Arrive f octets ∷ []) c.as_slice.ensures) came));
+      let came = arrival_told f c.args.octets k.flows c.receive.new.self c.receive.result c.receive.ensures.answer c.in-Arrived.is c.receive.ensures.flow c.receive.ensures.sound k.conns k.links h g start c.args.notes.now t in
+      c.note.ensures.paid.goes h g start _ _ _ (c.in_ok-touch.ensures.octets.goes h g start _ (told_at h g start k.conns k.conns c.receive.new.self k.links _ _ refl refl came));
 }
 
 pub returns-in_default-clause-octets : goal.returns-in_default-clause-octets

@@ -19,12 +19,12 @@ receive-requires-clause-goes_on c = body_goes c.args.self.now c.args.notes.now c
 -- ---- they are in the receive buffer
 opened : (c : After-note_turn) → Opened c.args.self.now c.in_ok-number-in-Arrived.number (plain.Body c.args.stream c.in_ok-from_slice.field-0) (note.Arrive c.request-flow.result c.in_ok-octets-in-Arrived.octets ∷ []) c.begin_run.new.self
 opened c =
-    arrive_named c.args.self.now c.begin_run.new.self c.from-exchange.result c.in_ok-number-in-Arrived.number (plain.Body c.args.stream c.in_ok-from_slice.field-0) c.args.octets.now c.in_ok-octets-in-Arrived.octets c.as_slice-2.result.now c.request-flow.result c.receive.new.self
-    (c.in_ok-octets-in-Arrived.ensures ∙ c.as_slice-in-Arrived.ensures) c.as_slice-2.ensures c.request-flow.ensures (body_same c.args.stream c.from-exchange.result c.in_ok-from_slice.field-0 c.args.octets.now c.from-exchange.ensures (c.in_ok-from_slice.ensures ∙ c.as_slice.ensures))
+    arrive_named c.args.self.now c.begin_run.new.self c.from-exchange.result c.in_ok-number-in-Arrived.number (plain.Body c.args.stream c.in_ok-from_slice.field-0) c.args.octets.now c.in_ok-octets-in-Arrived.octets c.args.octets.now c.request-flow.result c.receive.new.self
+    (c.in_ok-octets-in-Arrived.ensures ∙ c.as_slice-in-Arrived.ensures) refl c.request-flow.ensures (body_same c.args.stream c.from-exchange.result c.in_ok-from_slice.field-0 c.args.octets.now c.from-exchange.ensures (c.in_ok-from_slice.ensures ∙ c.as_slice.ensures))
     (opened_run c.args.self.now c.open_turn.new.self c.begin_run.new.self _ _ _ c.request-flow.result
     (opened_given c.args.self.now (record c.args.self.now { flows = c.receive.new.self }) c.open_turn.new.self refl c.in_ok-number-in-Arrived.ensures.turn c.in_ok-number-in-Arrived.ensures.agenda c.open_turn.ensures.rest)
     c.in_ok-begin_run-in-Arrived.ensures.agenda c.begin_run.ensures.rest)
-    (received_as c.from-exchange.result c.as_slice-2.result.now c.in_ok-receive.field-0 received.Arrived c.args.self.now.flows c.receive.new.self c.in-Arrived.is c.in_ok-receive.ensures) c.in_ok-number-in-Arrived.ensures.number
+    (received_as c.from-exchange.result c.args.octets.now c.in_ok-receive.field-0 received.Arrived c.args.self.now.flows c.receive.new.self c.in-Arrived.is c.in_ok-receive.ensures) c.in_ok-number-in-Arrived.ensures.number
 
 pub returns-in_err-note_turn-in-Arrived-clause-cut : goal.returns-in_err-note_turn-in-Arrived-clause-cut
 returns-in_err-note_turn-in-Arrived-clause-cut c =
@@ -44,8 +44,8 @@ returns-in_ok-note_turn-in-Arrived c =
     }
 
 -- ---- they are too many
-too_many : (c : In-TooMany) → ReceivesAs c.from-exchange.result c.as_slice-2.result.now received.TooMany c.args.self.now.flows c.receive.new.self
-too_many c = received_as c.from-exchange.result c.as_slice-2.result.now c.in_ok-receive.field-0 received.TooMany c.args.self.now.flows c.receive.new.self c.in-TooMany.is c.in_ok-receive.ensures
+too_many : (c : In-TooMany) → ReceivesAs c.from-exchange.result c.args.octets.now received.TooMany c.args.self.now.flows c.receive.new.self
+too_many c = received_as c.from-exchange.result c.args.octets.now c.in_ok-receive.field-0 received.TooMany c.args.self.now.flows c.receive.new.self c.in-TooMany.is c.in_ok-receive.ensures
 
 pub overrun-requires-clause-take : goal.overrun-requires-clause-take
 overrun-requires-clause-take c =
@@ -54,13 +54,13 @@ overrun-requires-clause-take c =
 
 pub overrun-requires-clause-lives : goal.overrun-requires-clause-lives
 overrun-requires-clause-lives c =
-    over_lives c.args.self.now.flows c.receive.new.self c.from-exchange.result c.as_slice-2.result.now
+    over_lives c.args.self.now.flows c.receive.new.self c.from-exchange.result c.args.octets.now
     (too_many (goal.at.overrun-requires-clause-lives c).In-TooMany)
 
 pub overrun-requires-clause-over : goal.overrun-requires-clause-over
 overrun-requires-clause-over c =
-    over_named c.args.self.now.flows c.receive.new.self c.args.stream c.from-exchange.result c.in_ok-from_slice.field-0 c.as_slice-2.result.now c.args.octets.now c.from-exchange.ensures
-    (c.in_ok-from_slice.ensures ∙ c.as_slice.ensures) c.as_slice-2.ensures (too_many (goal.at.overrun-requires-clause-over c).In-TooMany)
+    over_named c.args.self.now.flows c.receive.new.self c.args.stream c.from-exchange.result c.in_ok-from_slice.field-0 c.args.octets.now c.args.octets.now c.from-exchange.ensures
+    (c.in_ok-from_slice.ensures ∙ c.as_slice.ensures) refl (too_many (goal.at.overrun-requires-clause-over c).In-TooMany)
 
 pub returns-in-TooMany : goal.returns-in-TooMany
 returns-in-TooMany c =
@@ -76,7 +76,7 @@ returns-in-TooMany c =
 -- ---- they come too late
 pub returns-in_ok-number-in-NotLive : goal.returns-in_ok-number-in-NotLive
 returns-in_ok-number-in-NotLive c =
-    let r = late_result c.args.self.now c.open_turn-in-NotLive.new.self c.receive.new.self _ _ c.args.stream c.from-exchange.result c.in_ok-number-in-NotLive.number c.in_ok-from_slice.field-0 c.args.octets.now c.note_turn-in-NotLive.result c.from-exchange.ensures (c.in_ok-from_slice.ensures ∙ c.as_slice.ensures) c.note_turn-in-NotLive.ensures (opened_given c.args.self.now (record c.args.self.now { flows = c.receive.new.self }) c.open_turn-in-NotLive.new.self refl c.in_ok-number-in-NotLive.ensures.turn c.in_ok-number-in-NotLive.ensures.agenda c.open_turn-in-NotLive.ensures.rest) (received_as c.from-exchange.result c.as_slice-2.result.now c.in_ok-receive.field-0 received.NotLive c.args.self.now.flows c.receive.new.self c.in-NotLive.is c.in_ok-receive.ensures) c.in_ok-number-in-NotLive.ensures.number in
+    let r = late_result c.args.self.now c.open_turn-in-NotLive.new.self c.receive.new.self _ _ c.args.stream c.from-exchange.result c.in_ok-number-in-NotLive.number c.in_ok-from_slice.field-0 c.args.octets.now c.note_turn-in-NotLive.result c.from-exchange.ensures (c.in_ok-from_slice.ensures ∙ c.as_slice.ensures) c.note_turn-in-NotLive.ensures (opened_given c.args.self.now (record c.args.self.now { flows = c.receive.new.self }) c.open_turn-in-NotLive.new.self refl c.in_ok-number-in-NotLive.ensures.turn c.in_ok-number-in-NotLive.ensures.agenda c.open_turn-in-NotLive.ensures.rest) (received_as c.from-exchange.result c.args.octets.now c.in_ok-receive.field-0 received.NotLive c.args.self.now.flows c.receive.new.self c.in-NotLive.is c.in_ok-receive.ensures) c.in_ok-number-in-NotLive.ensures.number in
     record {
       ok = r.0;
       cut = r.1;

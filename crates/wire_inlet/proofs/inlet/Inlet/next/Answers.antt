@@ -4,6 +4,7 @@ use Rattle.wire_inlet.specs.Incoming.{Incoming, preface_left}
 use Rattle.wire_inlet.specs.Meaning.{Meaning, Means}
 use Rattle.wire_inlet.specs.Next.{IsWithin, TakesFrame}
 use Rattle.wire_inlet.specs.contracts.inlet.Inlet.{the_view}
+use Rattle.wire_inlet.proofs.Ended.{ends_at}
 use Rattle.wire_inlet.proofs.Nexts.{left_behind, takes, within}
 use Rattle.wire_inlet.proofs.inlet.Inlet.next.Goals as goal
 
@@ -27,3 +28,9 @@ returns-in_ok-taken-in-Whole-clause-inside c =
     let w : Incoming = the_view (record { unread = c.take-in-Whole.new.self; prefaced = true; reader = c.take.new.self }) in
     subst (λ (x : Incoming). IsWithin c.args.max x c.in_ok-taken-in-Whole.taken w) c.self.view_is
     (within c.args.max (the_view c.self.inside) w c.in_ok-taken-in-Whole.taken (taken_at c) c.in_ok-taken-in-Whole.ensures.numbered c.in_ok-taken-in-Whole.ensures.few)
+
+pub content_before-in-Whole-requires : goal.content_before-in-Whole-requires
+content_before-in-Whole-requires c =
+    let v : Incoming = the_view c.self.inside in
+    ends_at c.args.max (preface_left v.prefaced) c.in-Ok.frames.now v.unread c.as_slice-unread.result.now c.in-Whole.used (view c.in-Whole.frame)
+    c.as_slice-unread.ensures c.in-Ok.ensures.frames c.in-Whole.ensures.reads.0 c.in-Whole.ensures.reads.1
