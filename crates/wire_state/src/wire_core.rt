@@ -19,7 +19,6 @@ use io_ports::NoMemory;
 use paged_map::PagedMap;
 use proxy_config::Config;
 use std::alloc::Global;
-use std::collections::BTreeSet;
 use wire_flows::WireFlows;
 use wire_heads::Expected;
 use wire_links::Links;
@@ -46,7 +45,7 @@ pub struct WireCore {
     /// The open connections, and closed ones with octets in their write buffer.
     pub conns: PagedMap<u32, Conn>,
     /// Of these, at rest, the ones with octets in their write buffer.
-    pub outs: BTreeSet<u32>,
+    pub outs: PagedMap<u32, ()>,
     pub flows: WireFlows,
     /// By live exchange.
     pub lengths: PagedMap<u64, Lengths>,
@@ -82,7 +81,7 @@ impl WireCore {
             obeyed: 0,
             links: Links::new(alloc),
             conns: PagedMap::new(alloc),
-            outs: BTreeSet::new(alloc),
+            outs: PagedMap::new(alloc),
             flows: WireFlows::new(alloc),
             lengths: PagedMap::new(alloc),
             timers,
