@@ -3,7 +3,7 @@ ghost use Rattle.std.specs.BTreeMap.{insert_entry, is_at};
 ghost use Rattle.std.specs.List.{remove};
 ghost use Rattle.std.specs.Map.{remove_entry, set_value};
 ghost use Rattle.std.specs.Ordering.{nat_cmp};
-ghost use Rattle.std.specs.Prelude.{◌≡◌, ◌<◌, [], IsNone, IsSome, MatchResult, None, OnErr, OnOk, Some, length};
+ghost use Rattle.std.specs.Prelude.{◌≡◌, ◌<◌, ◌∷◌, [], IsNone, IsSome, MatchOption, MatchResult, None, OnErr, OnOk, Some, drop, length};
 
 use io_ports::NoMemory;
 use std::alloc::Global;
@@ -90,6 +90,15 @@ impl<T: Copy> NumberMap<T> {
         if let Ok(place) = self.place_of(number) {
             take_out(&mut self.items, place);
         }
+    }
+
+    /// Takes out the least number with its value. None only where there is none.
+    #[inline(always)]
+    pub fn pop_first(&mut self) -> Option<(u64, T)>
+        ensures first { MatchOption result (self.old ≡ []) (λ e. self.old ≡ e ∷ drop 1 self.old) }
+        ensures rest { self.new ≡ drop 1 self.old }
+    {
+        self.items.pop_front()
     }
 
     // Where a number stands, or else where it would come. Most that are asked for stand last.
