@@ -173,6 +173,9 @@ fn unit_to(core: &mut WireCore, conn: Option<u32>) -> Option<(u32, NextUnit)>
     ensures rest { core.new ≡ record core.old { conns = core.new.conns } }
 {
     let number = conn?;
+    if core.stirred.is_calm(number) {
+        return None;
+    }
     let unit = next_unit(core, number)?;
     Some((number, unit))
 }
@@ -185,7 +188,7 @@ fn may_frame(core: &mut WireCore, conn: Option<u32>) -> bool
     ensures rest { core.new ≡ record core.old { conns = core.new.conns } }
 {
     match conn {
-        Some(conn) => core.may_frame(conn),
+        Some(conn) => !core.stirred.is_calm(conn) && core.may_frame(conn),
         None => false,
     }
 }
@@ -345,5 +348,6 @@ fn resume(
 {
     let flow = course.flow;
     core.look_due(course)?;
+    core.rouse_some(course.from);
     note(notes, Note::Resume { flow, buffer })
 }

@@ -8,6 +8,7 @@ mod incoming;
 mod noting;
 mod outgoing;
 mod ready;
+mod recent;
 mod stirred;
 mod units;
 mod walk;

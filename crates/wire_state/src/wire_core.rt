@@ -187,6 +187,19 @@ impl WireCore {
         }
     }
 
+    /// A connection, if there is one, may have something to frame that it hadn't.
+    pub fn rouse_some(&mut self, conn: Option<u32>)
+        requires sound { IsSound self.old }
+        ensures sound { IsSound self.new }
+        ensures go { to_go self.new ≡ to_go self.old }
+        ensures rest { self.new ≡ record self.old { stirred = self.new.stirred } }
+    {
+        match conn {
+            Some(conn) => self.stirred.rouse(conn),
+            None => {}
+        }
+    }
+
     /// The flow is to be run.
     pub fn ask_run(&mut self, course: Course) -> Result<(), NoMemory>
         requires sound { IsSound self.old }
