@@ -22,6 +22,20 @@ pub fn ask_drain(core: &mut WireCore, number: u32, notes: &mut Notes) -> Result<
     ensures notes { Appends notes.old notes.new }
 {
     core.end_task();
+    drain_now(core, number, notes)
+}
+
+/// A connection is drained from now on, unless it is being drained. Its first unit is framed at once.
+pub(crate) fn drain_now(
+    core: &mut WireCore,
+    number: u32,
+    notes: &mut Notes,
+) -> Result<(), NoMemory>
+    requires sound { IsSound core.old }
+    ensures sound { OnOk result (IsSound core.new) }
+    ensures go { OnOk result (to_go core.new ≤ to_go core.old) }
+    ensures notes { Appends notes.old notes.new }
+{
     if core.stirred.is_calm(number) || core.agenda.is_draining(number) {
         return Ok(());
     }
