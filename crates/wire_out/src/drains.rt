@@ -26,11 +26,7 @@ pub fn ask_drain(core: &mut WireCore, number: u32, notes: &mut Notes) -> Result<
 }
 
 /// A connection is drained from now on, unless it is being drained. Its first unit is framed at once.
-pub(crate) fn drain_now(
-    core: &mut WireCore,
-    number: u32,
-    notes: &mut Notes,
-) -> Result<(), NoMemory>
+pub(crate) fn drain_now(core: &mut WireCore, number: u32, notes: &mut Notes) -> Result<(), NoMemory>
     requires sound { IsSound core.old }
     ensures sound { OnOk result (IsSound core.new) }
     ensures go { OnOk result (to_go core.new ≤ to_go core.old) }
