@@ -1,5 +1,5 @@
 // Drains: the units of a connection are framed.
-ghost use Rattle.std.specs.Prelude.{◌≡◌, ◌≤◌, ◌<◌, ◌+◌, OnOk, length};
+ghost use Rattle.std.specs.Prelude.{◌≡◌, ◌≤◌, ◌<◌, ◌+◌, IfOk, OnOk, length, true};
 ghost use Rattle.wire_state.specs.Agenda.{stirred_at, top_go};
 ghost use Rattle.wire_state.specs.Noting.{Appends};
 ghost use Rattle.wire_state.specs.Progress.{to_go, conn_go};
@@ -73,7 +73,8 @@ pub fn begin_drain(
     frame_next(core, number, unit, notes)
 }
 
-/// The task Drain: the next unit of the connection is framed, unless its write buffer is above or it is closed.
+/// The task Drain: units of the connection are framed, unless its write buffer is above or it is closed, until one begins what
+/// goes before the next.
 pub fn drain(core: &mut WireCore, number: u32, notes: &mut Notes) -> Result<(), NoMemory>
     requires sound { IsSound core.old }
     requires top { top_go core.old.agenda ≡ 1 }
@@ -81,12 +82,39 @@ pub fn drain(core: &mut WireCore, number: u32, notes: &mut Notes) -> Result<(), 
     ensures go { OnOk result (to_go core.new < to_go core.old) }
     ensures notes { Appends notes.old notes.new }
 {
+    while drain_one(core, number, notes)? {}
+    Ok(())
+}
+
+// The next unit of the connection is framed. The answer is whether the next one goes on at once.
+fn drain_one(core: &mut WireCore, number: u32, notes: &mut Notes) -> Result<bool, NoMemory>
+    requires sound { IsSound core.old }
+    requires top { top_go core.old.agenda ≡ 1 }
+    ensures sound { OnOk result (IsSound core.new) }
+    ensures go { OnOk result (to_go core.new < to_go core.old) }
+    ensures top { IfOk result (λ more. more ≡ true → top_go core.new.agenda ≡ 1) }
+    ensures notes { Appends notes.old notes.new }
+{
     match look_at(core, number) {
-        Some(unit) => frame_next(core, number, unit, notes),
+        Some(unit) => {
+            frame_next(core, number, unit, notes)?;
+            Ok(goes_on(core, number))
+        }
         None => {
             core.end_task();
-            Ok(())
+            Ok(false)
         }
+    }
+}
+
+// Whether the drain of the connection goes on next.
+#[tactic(auto, using(crate::proofs::Framing::top_weight))]
+fn goes_on(core: &WireCore, number: u32) -> bool
+    ensures { result ≡ true → top_go core.entry.now.agenda ≡ 1 }
+{
+    match core.agenda.top() {
+        Some(Task::Drain(next)) => next == number,
+        _ => false,
     }
 }
 

@@ -82,7 +82,7 @@ fn run_empty(
             ask_drain(core, from)?;
             drain_by(core, to, unit, notes)
         }
-        None => drain_one(core, from, notes),
+        None => drain_at(core, from, notes),
     }
 }
 
@@ -95,7 +95,7 @@ fn next_from(core: &WireCore, conn: Option<u32>) -> Option<u32> {
 }
 
 // A connection, if there is one, is drained.
-fn drain_one(core: &mut WireCore, conn: Option<u32>, notes: &mut Notes) -> Result<(), NoMemory>
+fn drain_at(core: &mut WireCore, conn: Option<u32>, notes: &mut Notes) -> Result<(), NoMemory>
     requires sound { IsSound core.old }
     ensures sound { OnOk result (IsSound core.new) }
     ensures go { OnOk result (to_go core.new ≤ to_go core.old) }
@@ -328,7 +328,7 @@ fn cross(
         });
     }
     resume_where(core, course, moved.drained, notes)?;
-    drain_one(core, course.to, notes)
+    drain_at(core, course.to, notes)
 }
 
 // Where a Meter of a flow has drained, the flow is told.
