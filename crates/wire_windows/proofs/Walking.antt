@@ -25,9 +25,6 @@ apart m n h = grind (arith, nat_tests)
 apart_above : (m n : ℕ) → n < m → nat_eq m n ≡ false
 apart_above m n h = grind (arith, nat_tests)
 
-here : (m n : ℕ) → m ≡ n → nat_eq m n ≡ true
-here m n h = grind (arith, nat_tests)
-
 less : (m n : ℕ) → m ≤ n → nat_eq m n ≡ false → m < n
 less m n h e = grind (arith, nat_tests)
 
@@ -68,10 +65,10 @@ module _ {X : Type 0} where
     pass_first m first n le = subst (λ k. Passes k m) (omega (arith, le)) first
 
     pub pass_next : (m : PagedMap X) (after x : ℕ) → Pass after m → IsNext after (Some x) m → Passes x m → Pass x m
-    pass_next m after x before next this n le = elim (cases_Bool (nat_le n after)) [
+    pass_next m after x before next at n le = elim (cases_Bool (nat_le n after)) [
       | inl early ↦ before n (upto n after early)
       | inr late ↦ elim (cases_Bool (nat_eq n x)) [
-        | inl same ↦ subst (λ k. Passes k m) (sym (same_is n x same)) this
+        | inl same ↦ subst (λ k. Passes k m) (sym (same_is n x same)) at
         | inr other ↦ passes_none m n (between m after x n next (beyond n after late) (less n x le other))
       ]
     ]
@@ -126,16 +123,19 @@ module _ {X : Type 0} where
           ∙ sym (ap (λ b. if b then option_map f (value_at n old) else value_at n old) late)
     ]
       where
+        before_it : n < x → value_at n mid ≡ option_map f (value_at n old)
+        before_it below = elim (cases_Bool (nat_le n after)) [
+          | inl early ↦ early_is old mid after n before (upto n after early)
+          | inr late ↦
+              let gone : value_at n mid ≡ None = between mid after x n next (beyond n after late) below in
+              let none : value_at n old ≡ None = sym (late_is old mid after n before (beyond n after late)) ∙ gone in
+              gone ∙ sym (ap (option_map f) none)
+        ]
+
         at : nat_le n x ≡ true → value_at n new ≡ option_map f (value_at n old)
         at upto_x = elim (cases_Bool (nat_eq n x)) [
           | inl same ↦ this_at mid new x n changed same ∙ ap (option_map f) (late_is old mid after n before (omega (arith, more, same_is n x same)))
-          | inr other ↦ same_at mid new x n changed other ∙ elim (cases_Bool (nat_le n after)) [
-            | inl early ↦ early_is old mid after n before (upto n after early)
-            | inr late ↦
-                let gone : value_at n mid ≡ None = between mid after x n next (beyond n after late) (less n x (upto n x upto_x) other) in
-                let none : value_at n old ≡ None = sym (late_is old mid after n before (beyond n after late)) ∙ gone in
-                gone ∙ sym (ap (option_map f) none)
-          ]
+          | inr other ↦ same_at mid new x n changed other ∙ before_it (less n x (upto n x upto_x) other)
         ]
 
     pub changed_all : (old new : PagedMap X) (after : ℕ) → Changed after old new → IsNext after None new → (n : ℕ) → value_at n new ≡ option_map f (value_at n old)

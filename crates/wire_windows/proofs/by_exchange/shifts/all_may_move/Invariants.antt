@@ -5,7 +5,7 @@ use Rattle.wire_windows.specs.Shifts.{may_move}
 
 -- those up to the last one may
 abbrev pub invariant-loop-x : goal.invariant-loop-x
-invariant-loop-x l = Pass (may_move l.to) l.after l.map.now
+invariant-loop-x l = Pass (may_move l.to) l.after l.map
 
 abbrev pub decreases-loop-x : goal.decreases-loop-x
 decreases-loop-x l = 2 ^ 64 - l.after
