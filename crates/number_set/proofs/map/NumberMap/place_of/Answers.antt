@@ -17,9 +17,9 @@ returns-then-last-number g c =
 pub returns-then-number-last : goal.returns-then-number-last
 returns-then-number-last g c =
     let item = c.in-Some.ensures.item in
-    let long : length c.self.inside.items.items ≡ c.len.result = omega (arith, c.len.ensures, c.self.inside.items.ok.0) in
+    let long : length c.self.inside.items.items ≡ c.len-then-number-last.result = omega (arith, c.len-then-number-last.ensures, c.self.inside.items.ok.0) in
     let last = subst (λ n. c.in-Some.last.now ≡ get_or c.self.inside.items.items (n - 1) c.in-Some.last.now) c.self.inside.items.ok.0 item.1 in
-    subst (λ es. IsGap c.args.number c.len.result es) c.self.view_is
+    subst (λ es. IsGap c.args.number c.len-then-number-last.result es) c.self.view_is
     (subst (λ n. IsGap c.args.number n c.self.inside.items.items) long
     (is_end c.args.number (length c.self.inside.items.items) c.self.inside.items.items
     (below_all c.args.number c.in-Some.last.now c.self.inside.items.items c.self.invariant (omega (arith, item.3.0, c.self.inside.items.ok.0)) last c.if-number-last.true) (omega arith)))
