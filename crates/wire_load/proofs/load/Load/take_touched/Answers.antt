@@ -9,5 +9,8 @@ use Rattle.wire_load.specs.Load.{Loading}
 pub invariant_of-self : goal.invariant_of-self
 invariant_of-self c = record { states = c.self.invariant.states; order = sorted_rest c.self.inside.touched c.pop_first.new.self c.self.invariant.order c.pop_first.ensures.rest }
 
+pub invariant_of-self-2 : goal.invariant_of-self-2
+invariant_of-self-2 c = record { states = c.self.invariant.states; order = sorted_rest c.self.inside.touched c.pop_first.new.self c.self.invariant.order c.pop_first.ensures.rest }
+
 pub returns-clause-rising : goal.returns-clause-rising
 returns-clause-rising c = rising (keys_of c.pop_first.new.self) (sorted_rest c.self.inside.touched c.pop_first.new.self c.self.invariant.order c.pop_first.ensures.rest)

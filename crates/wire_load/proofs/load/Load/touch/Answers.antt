@@ -8,7 +8,10 @@ use Rattle.wire_load.proofs.load.Load.touch.Goals as goal
 use Rattle.wire_load.specs.Load.{Loading, with_touched}
 
 pub invariant_of-self : goal.invariant_of-self
-invariant_of-self c = record { states = c.self.invariant.states; order = sorted_inserted c.args.exchange _ c.self.inside.touched c.insert.new.self c.self.invariant.order c.in_ok-insert.ensures.ok }
+invariant_of-self c = record { states = c.self.invariant.states; order = subst IsSorted (sym c.in_err-insert.ensures.err) c.self.invariant.order }
+
+pub invariant_of-self-2 : goal.invariant_of-self-2
+invariant_of-self-2 c = record { states = c.self.invariant.states; order = sorted_inserted c.args.exchange _ c.self.inside.touched c.insert.new.self c.self.invariant.order c.in_ok-insert.ensures.ok }
 
 pub returns-clause-ok : goal.returns-clause-ok
 returns-clause-ok c =
