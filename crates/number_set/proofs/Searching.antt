@@ -30,7 +30,7 @@ pub record IsGapAt (xs : List ℕ) (x i : ℕ) : Type 0 where
   pub above : (k : ℕ) → i ≤ k → k < length xs → x < get_or xs k 0
 
 -- ---- what comes or goes at the end
-pub put_last : (xs : List ℕ) (x i : ℕ) → i ≡ length xs → xs ++ x ∷ [] ≡ insert xs i x
+pub put_last : {X : Type 0} (xs : List X) (x : X) (i : ℕ) → i ≡ length xs → xs ++ x ∷ [] ≡ insert xs i x
 put_last [] x zero is = refl
 put_last [] x (suc i) is = absurd (omega (arith, is))
 put_last (y ∷ xs) x zero is = absurd (omega (arith, is))

@@ -10,7 +10,7 @@ ghost use Rattle.flow_notes.specs.Buffer.{CanPause};
 ghost use Rattle.wire_state.specs.Worlds.{Goes, Keeps, KeepsOk, Shows};
 ghost use Rattle.flow_notes.specs.declared.notes.Note.TheVariants as note;
 
-use crate::drains::{drain_by, next_unit};
+use crate::drains::{drain_by, drain_now, next_unit};
 use flow_gate::{BufferId, FlowId};
 use flow_notes::{Cause, Note, Notes};
 use io_ports::NoMemory;
@@ -81,25 +81,35 @@ fn run_empty(
     if tried {
         return Ok(());
     }
-    let unit = unit_to(core, course.to);
-    ask_drain_next(core, course.from)?;
-    match unit {
-        Some((to, unit)) => drain_by(core, to, unit, notes),
-        None => Ok(()),
+    let from = next_from(core, course.from);
+    match unit_to(core, course.to) {
+        Some((to, unit)) => {
+            ask_drain(core, from)?;
+            drain_by(core, to, unit, notes)
+        }
+        None => drain_at(core, from, notes),
     }
 }
 
-// A connection, if there is one, is to be drained next, unless that is what goes on next.
-fn ask_drain_next(core: &mut WireCore, conn: Option<u32>) -> Result<(), NoMemory>
+// The connection that is to be drained next, if there is one: none where that is what goes on next.
+fn next_from(core: &WireCore, conn: Option<u32>) -> Option<u32> {
+    match (core.agenda.top(), conn) {
+        (Some(Task::AskDrain(next)), Some(conn)) if next == conn => None,
+        _ => conn,
+    }
+}
+
+// A connection, if there is one, is drained.
+fn drain_at(core: &mut WireCore, conn: Option<u32>, notes: &mut Notes) -> Result<(), NoMemory>
     requires sound { IsSound core.old }
     ensures sound { OnOk result (IsSound core.new) }
-    ensures go { OnOk result (to_go core.new ≤ to_go core.old + 2) }
-    ensures rest { core.new ≡ record core.old { agenda = core.new.agenda } }
-    ensures octets { KeepsOk result core.old core.new }
+    ensures go { OnOk result (to_go core.new ≤ to_go core.old) }
+    ensures notes { Appends notes.old notes.new }
+    ensures octets { Goes result core.old notes.old core.new notes.new }
 {
-    match (core.agenda.top(), conn) {
-        (Some(Task::AskDrain(next)), Some(conn)) if next == conn => Ok(()),
-        _ => ask_drain(core, conn),
+    match conn {
+        Some(conn) => drain_now(core, conn, notes),
+        None => Ok(()),
     }
 }
 
@@ -184,6 +194,9 @@ fn unit_to(core: &mut WireCore, conn: Option<u32>) -> Option<(u32, NextUnit)>
     ensures octets { Keeps core.old core.new }
 {
     let number = conn?;
+    if core.stirred.is_calm(number) {
+        return None;
+    }
     let unit = next_unit(core, number)?;
     Some((number, unit))
 }
@@ -197,7 +210,7 @@ fn may_frame(core: &mut WireCore, conn: Option<u32>) -> bool
     ensures octets { Keeps core.old core.new }
 {
     match conn {
-        Some(conn) => core.may_frame(conn),
+        Some(conn) => !core.stirred.is_calm(conn) && core.may_frame(conn),
         None => false,
     }
 }
@@ -259,7 +272,6 @@ fn go_on(
         course,
         tried: false,
     })?;
-    ask_drain(core, course.to)?;
     core.touch(course.flow.exchange)?;
     owe_moved(core, course, moved)?;
     core.stir_some(course.to)?;
@@ -311,7 +323,8 @@ fn moved_at(core: &mut WireCore, number: u32, exchange: u64, n: u32) -> Result<(
     }
 }
 
-// What a move crossed: the pauses, and then the doom of an overflow, or the telling of a Meter that drained.
+// What a move crossed: the pauses, and then the doom of an overflow, or the telling of a Meter that drained. The connection that
+// the flow goes to is drained, behind a doom.
 fn cross(
     core: &mut WireCore,
     course: Course,
@@ -321,18 +334,37 @@ fn cross(
     requires sound { IsSound core.old }
     requires moved { IsMove course.flow (Outcome.Moved moved) }
     ensures sound { OnOk result (IsSound core.new) }
-    ensures go { OnOk result (to_go core.new ≤ to_go core.old + 1) }
+    ensures go { OnOk result (to_go core.new ≤ to_go core.old + 3) }
     ensures notes { Appends notes.old notes.new }
     ensures octets { Goes result core.old notes.old core.new notes.new }
 {
     note_pause(course.flow, moved.rose, notes)?;
     if moved.overflow {
+        ask_drain(core, course.to)?;
         return core.begin(Task::Doom {
             exchange: course.flow.exchange,
             cause: Cause::Overflow,
         });
     }
-    match moved.drained {
+    resume_where(core, course, moved.drained, notes)?;
+    drain_at(core, course.to, notes)
+}
+
+// Where a Meter of a flow has drained, the flow is told.
+fn resume_where(
+    core: &mut WireCore,
+    course: Course,
+    drained: Option<BufferId>,
+    notes: &mut Notes,
+) -> Result<(), NoMemory>
+    requires sound { IsSound core.old }
+    requires own { IfSome drained (CanPause course.flow) }
+    ensures sound { OnOk result (IsSound core.new) }
+    ensures go { OnOk result (to_go core.new ≤ to_go core.old) }
+    ensures notes { Appends notes.old notes.new }
+    ensures octets { Goes result core.old notes.old core.new notes.new }
+{
+    match drained {
         Some(buffer) => resume(core, course, buffer, notes),
         None => Ok(()),
     }
@@ -366,5 +398,6 @@ fn resume(
 {
     let flow = course.flow;
     core.look_due(course)?;
+    core.rouse_some(course.from);
     note(notes, Note::Resume { flow, buffer })
 }

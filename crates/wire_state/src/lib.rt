@@ -13,6 +13,7 @@ mod incoming;
 mod noting;
 mod outgoing;
 mod ready;
+mod recent;
 mod stirred;
 mod units;
 mod walk;

@@ -22,7 +22,6 @@ use io_ports::NoMemory;
 use paged_map::PagedMap;
 use proxy_config::Config;
 use std::alloc::Global;
-use std::collections::BTreeSet;
 use wire_flows::WireFlows;
 use wire_heads::Expected;
 use wire_links::Links;
@@ -49,7 +48,7 @@ pub struct WireCore {
     /// The open connections, and closed ones with octets in their write buffer.
     pub conns: PagedMap<u32, Conn>,
     /// Of these, at rest, the ones with octets in their write buffer.
-    pub outs: BTreeSet<u32>,
+    pub outs: PagedMap<u32, ()>,
     pub flows: WireFlows,
     /// By live exchange.
     pub lengths: PagedMap<u64, Lengths>,
@@ -87,7 +86,7 @@ impl WireCore {
             obeyed: 0,
             links: Links::new(alloc),
             conns: PagedMap::new(alloc),
-            outs: BTreeSet::new(alloc),
+            outs: PagedMap::new(alloc),
             flows: WireFlows::new(alloc),
             lengths: PagedMap::new(alloc),
             timers,
@@ -198,6 +197,20 @@ impl WireCore {
         match conn {
             Some(conn) => self.stir(conn),
             None => Ok(()),
+        }
+    }
+
+    /// A connection, if there is one, may have something to frame that it hadn't.
+    pub fn rouse_some(&mut self, conn: Option<u32>)
+        requires sound { IsSound self.old }
+        ensures sound { IsSound self.new }
+        ensures go { to_go self.new ≡ to_go self.old }
+        ensures rest { self.new ≡ record self.old { stirred = self.new.stirred } }
+        ensures octets { Keeps self.old self.new }
+    {
+        match conn {
+            Some(conn) => self.stirred.rouse(conn),
+            None => {}
         }
     }
 

@@ -128,6 +128,9 @@ fn work_at(core: &mut WireCore, number: u32) -> Option<Work>
     ensures rest { core.new ≡ record core.old { conns = core.new.conns } }
     ensures octets { Keeps core.old core.new }
 {
+    if core.stirred.is_calm(number) {
+        return None;
+    }
     match core.conns.get_mut(&number) {
         Some(conn) => work_of(conn, &core.flows, &core.links, number),
         None => None,
