@@ -42,6 +42,24 @@ pub(crate) fn drain_now(core: &mut WireCore, number: u32, notes: &mut Notes) -> 
     drain(core, number, notes)
 }
 
+/// A connection, if there is one, is drained from now on, unless it is being drained.
+pub(crate) fn drain_at(
+    core: &mut WireCore,
+    conn: Option<u32>,
+    notes: &mut Notes,
+) -> Result<(), NoMemory>
+    requires sound { IsSound core.old }
+    ensures sound { OnOk result (IsSound core.new) }
+    ensures go { OnOk result (to_go core.new ≤ to_go core.old) }
+    ensures notes { Appends notes.old notes.new }
+    ensures octets { Goes result core.old notes.old core.new notes.new }
+{
+    match conn {
+        Some(conn) => drain_now(core, conn, notes),
+        None => Ok(()),
+    }
+}
+
 /// A connection, of which this unit goes next, is drained from now on, unless it is being drained.
 pub(crate) fn drain_by(
     core: &mut WireCore,
@@ -75,7 +93,22 @@ pub fn begin_drain(
     ensures octets { Goes result core.old notes.old core.new notes.new }
 {
     core.begin(Task::Drain(number))?;
-    frame_next(core, number, unit, notes)
+    frame_next(core, number, unit, notes)?;
+    drain_on(core, number, notes)
+}
+
+// A drain, of which a unit was framed, goes on at once, unless that began what goes before the next unit.
+fn drain_on(core: &mut WireCore, number: u32, notes: &mut Notes) -> Result<(), NoMemory>
+    requires sound { IsSound core.old }
+    ensures sound { OnOk result (IsSound core.new) }
+    ensures go { OnOk result (to_go core.new ≤ to_go core.old) }
+    ensures notes { Appends notes.old notes.new }
+    ensures octets { Goes result core.old notes.old core.new notes.new }
+{
+    if goes_on(core, number) {
+        return drain(core, number, notes);
+    }
+    Ok(())
 }
 
 /// The task Drain: units of the connection are framed, unless its write buffer is above or it is closed, until one begins what

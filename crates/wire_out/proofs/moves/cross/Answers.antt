@@ -1,4 +1,4 @@
-use Rattle.wire_out.proofs.runs.cross.Goals as goal
+use Rattle.wire_out.proofs.moves.cross.Goals as goal
 use Rattle.wire_state.proofs.Results.{on_ok}
 
 pub returns-then-moved-clause-octets : goal.returns-then-moved-clause-octets

@@ -1,6 +1,6 @@
 use Rattle.std.proofs.Common.{ap, arith}
 use Rattle.wire_flows.specs.Measure.{taken_by}
-use Rattle.wire_out.proofs.runs.run.Goals as goal
+use Rattle.wire_out.proofs.runs.move_on.Goals as goal
 use Rattle.wire_state.proofs.Results.{ok_map}
 use Rattle.wire_state.proofs.Stepping.{moved_told, still_told}
 use Rattle.wire_state.specs.Progress.{to_go}

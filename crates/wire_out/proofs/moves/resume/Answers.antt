@@ -1,4 +1,4 @@
-use Rattle.wire_out.proofs.runs.resume.Goals as goal
+use Rattle.wire_out.proofs.moves.resume.Goals as goal
 
 pub returns-clause-octets : goal.returns-clause-octets
 returns-clause-octets c = record {

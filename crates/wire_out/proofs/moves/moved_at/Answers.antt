@@ -1,5 +1,5 @@
 use Rattle.std.proofs.Common.{ap, arith, refl, sym}
-use Rattle.wire_out.proofs.runs.moved_at.Goals as goal
+use Rattle.wire_out.proofs.moves.moved_at.Goals as goal
 use Rattle.wire_state.proofs.Goings.{conn_keeps, keeps_on}
 use Rattle.wire_state.proofs.Results.{on_ok}
 use Rattle.wire_state.proofs.Weights.{conn_changed}
