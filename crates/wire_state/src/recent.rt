@@ -1,42 +1,45 @@
 // Two connections that are remembered.
 
-/// The last two connections of which something was found, so that it need not be found again.
+/// What stands where none is remembered: the number of no connection.
+const NONE: u64 = u64::MAX;
+
+/// The last two connections of which something was found, by their numbers, so that it need not be found again.
 #[derive(Clone, Copy)]
 pub(crate) struct Recent {
-    last: Option<u32>,
-    before: Option<u32>,
+    last: u64,
+    before: u64,
 }
 
 impl Recent {
     /// None.
     pub(crate) fn none() -> Self {
         Recent {
-            last: None,
-            before: None,
+            last: NONE,
+            before: NONE,
         }
     }
 
     /// Whether the connection is one of them.
     #[inline(always)]
-    pub(crate) fn has(&self, conn: u32) -> bool {
-        self.last == Some(conn) || self.before == Some(conn)
+    pub(crate) fn has(&self, conn: u64) -> bool {
+        self.last == conn || self.before == conn
     }
 
     /// It was found of this connection too.
     #[inline(always)]
     pub(crate) fn add(&mut self, conn: u32) {
         self.before = self.last;
-        self.last = Some(conn);
+        self.last = u64::from(conn);
     }
 
     /// It isn't so of the connection any more.
     #[inline(always)]
     pub(crate) fn remove(&mut self, conn: u32) {
-        if self.last == Some(conn) {
-            self.last = None;
+        if self.last == u64::from(conn) {
+            self.last = NONE;
         }
-        if self.before == Some(conn) {
-            self.before = None;
+        if self.before == u64::from(conn) {
+            self.before = NONE;
         }
     }
 }

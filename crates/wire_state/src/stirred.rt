@@ -36,7 +36,7 @@ impl Stirred {
     pub fn add(&mut self, conn: u32) -> Result<(), NoMemory>
         ensures { length self.new.conns.items ≤ length self.old.conns.items + 1 }
     {
-        if self.busy.has(conn) {
+        if self.busy.has(u64::from(conn)) {
             return Ok(());
         }
         self.put(conn)?;
@@ -62,7 +62,19 @@ impl Stirred {
     /// Whether nothing is to be done at a connection: it was looked at, and nothing has changed there since.
     #[inline(always)]
     pub fn is_calm(&self, conn: u32) -> bool {
-        self.calm.has(conn)
+        self.calm.has(u64::from(conn))
+    }
+
+    /// Whether nothing is to be done at any of them: they are at most two, and calm. Where it is false there may be nothing
+    /// either.
+    #[inline(always)]
+    pub fn are_calm(&self) -> bool {
+        match (self.conns.first(), self.conns.last()) {
+            (Some(first), Some(last)) => {
+                self.conns.len() <= 2 && self.calm.has(first) && self.calm.has(last)
+            }
+            _ => true,
+        }
     }
 
     /// A connection was looked at that isn't draining, and at which nothing can be framed.

@@ -32,6 +32,9 @@ pub(crate) fn next_round(core: &mut WireCore, notes: &mut Notes) -> Result<bool,
     ensures notes { Appends notes.old notes.new }
     ensures octets { Goes result core.old notes.old core.new notes.new }
 {
+    if core.stirred.are_calm() {
+        return Ok(false);
+    }
     let Some((conn, work)) = next_work(core) else {
         return Ok(false);
     };
