@@ -11,7 +11,7 @@ use Rattle.std.specs.List.{find, insert, remove}
 use Rattle.std.specs.List.Sorted.{IsBinarySearchResult, IsStrictlySortedBy}
 use Rattle.std.specs.Option.{option_copied}
 use Rattle.std.specs.Ordering.{match_ordering, nat_cmp}
-use Rattle.std.specs.Prelude.{Bool, Err, IfSome, List, None, Ok, Option, Result, Some, [], false, if◌then◌else◌, is_ok, length, nat_eq, nat_lt, slice_get, suc, take, true, zero, ℕ, ◌+◌, ◌++◌, ◌<◌, ◌||◌, ◌∷◌, ◌≡◌, ◌≤◌}
+use Rattle.std.specs.Prelude.{Bool, Err, IfSome, IsSome, List, None, Ok, Option, Result, Some, [], false, if◌then◌else◌, is_ok, length, nat_eq, nat_lt, slice_get, suc, take, true, zero, ℕ, ◌+◌, ◌++◌, ◌-◌, ◌<◌, ◌||◌, ◌↔◌, ◌∷◌, ◌≡◌, ◌≤◌}
 use Rattle.std.specs.Set.{remove_key}
 use Rattle.std.specs.declared.cmp.Ordering.TheVariants.{Greater, Less}
 use Rattle.std.specs.Slice.{IsItemAt}
@@ -41,6 +41,14 @@ last_gone [] i is = absurd (omega (arith, is))
 last_gone (x ∷ []) zero is = refl
 last_gone (x ∷ y ∷ xs) zero is = absurd (omega (arith, is))
 last_gone (x ∷ xs) (suc i) is = ap (λ l. x ∷ l) (last_gone xs i (omega (arith, is)))
+
+-- what a list's last place gives once it is gone
+pub popped : (xs : List ℕ) (r : Option ℕ) (n : ℕ) → n ≡ length xs → (IsSome r ↔ (0 < n)) → ((d : ℕ) → 0 < n → r ≡ Some (get_or xs (n - 1) d)) → r ≡ slice_get xs (length xs - 1)
+popped [] None n is some at = refl
+popped [] (Some x) n is some at = absurd (omega (arith, is, some.0 refl))
+popped (x ∷ xs) r n is some at =
+    let place : n - 1 ≡ length (x ∷ xs) - 1 = omega (arith, is) in
+    at 0 (omega (arith, is)) ∙ ap (λ k. Some (get_or (x ∷ xs) k 0)) place ∙ sym (slice_get-get_or (x ∷ xs) (length (x ∷ xs) - 1) 0 (omega arith))
 
 -- ---- what a search finds
 far : (xs : List ℕ) → Rises xs → (i j : ℕ) → i ≤ j → j < length xs → get_or xs i 0 ≤ get_or xs j 0

@@ -1,7 +1,7 @@
 // A set of numbers in order.
 ghost use Rattle.number_set.specs.NumberSet.{first, first_above, has, marked};
 ghost use Rattle.std.specs.List.{insert, remove};
-ghost use Rattle.std.specs.Prelude.{◌≡◌, ◌+◌, ◌-◌, ◌<◌, ◌≤◌, ◌==◌, ℕ, [], IsSomeAnd, IfSome, OnOk, false, if◌then◌else◌, length, slice_get, slice_index, true, vec_capacity};
+ghost use Rattle.std.specs.Prelude.{◌≡◌, ◌+◌, ◌-◌, ◌<◌, ◌≤◌, ◌==◌, ℕ, [], IsSomeAnd, IfSome, OnOk, false, if◌then◌else◌, length, slice_get, slice_index, take, true, vec_capacity};
 
 use io_ports::NoMemory;
 use std::alloc::Global;
@@ -123,6 +123,17 @@ impl NumberSet {
         ensures found { IfSome result (λ x. has self.now.items x ≡ true) }
     {
         self.items.last().copied()
+    }
+
+    /// Takes out the greatest. None only where there is none.
+    #[inline(always)]
+    pub fn pop_last(&mut self) -> Option<u64>
+        ensures last { result ≡ slice_get self.old.items (length self.old.items - 1) }
+        ensures items { self.new.items ≡ take (length self.old.items - 1) self.old.items }
+        ensures fewer { IfSome result (λ x. length self.new.items + 1 ≡ length self.old.items) }
+        ensures room { self.new.room ≡ self.old.room }
+    {
+        self.items.pop()
     }
 
     /// The least.

@@ -131,8 +131,7 @@ impl Stirred {
         self.fresh.clear();
         self.calm = Recent::none();
         self.busy = Recent::none();
-        let last = self.conns.last()?;
-        self.conns.remove(last);
+        let last = self.conns.pop_last()?;
         u32::try_from(last).ok()
     }
 }
