@@ -135,7 +135,7 @@ fn begin(
     let started = start(core, number, stream, row, to)?;
     let exchange = started.exchange;
     core.rows.push(row)?;
-    let _ = core.lengths.insert(exchange, lengths_of(decision))?;
+    core.lengths.put(exchange, lengths_of(decision))?;
     core.disarm(FireKind::ConnectionIdle, u64::from(number));
     core.arm(FireKind::StreamIdle, exchange)?;
     begin_stream(core, number, exchange)?;

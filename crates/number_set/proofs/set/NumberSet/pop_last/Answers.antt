@@ -3,7 +3,8 @@ use Rattle.number_set.proofs.Sorted.{rises_front}
 use Rattle.number_set.proofs.set.NumberSet.pop_last.Goals as goal
 use Rattle.number_set.specs.NumberSet.{NumberSet, Rises}
 use Rattle.std.proofs.Common.{ap, arith, subst, sym, ◌∙◌}
-use Rattle.std.specs.Prelude.{IfSome, MatchOption, None, Option, Some, length, slice_get, take, ℕ, ◌+◌, ◌-◌, ◌≡◌}
+use Rattle.std.specs.Option.{option_to_list}
+use Rattle.std.specs.Prelude.{IfSome, None, Option, Some, length, slice_get, take, ℕ, ◌+◌, ◌-◌, ◌≡◌}
 use Rattle.std.specs.Vec.{vec_len}
 
 rest : (c : goal.After-pop) → c.pop.new.self.items ≡ take (length c.self.inside.items.items - 1) c.self.inside.items.items
@@ -11,9 +12,9 @@ rest c =
     let long : vec_len c.self.inside.items - 1 ≡ length c.self.inside.items.items - 1 = omega (arith, c.self.inside.items.ok.0) in
     c.pop.ensures.rest ∙ ap (λ n. take n c.self.inside.items.items) long
 
-if_some : {P Q R : Type 0} (r : Option ℕ) → (Q → R) → MatchOption r P (λ x. Q) → IfSome r (λ x. R)
-if_some None f h = tt
-if_some (Some x) f h = f h
+fewer_by : (r : Option ℕ) (m n : ℕ) → m + length (option_to_list r) ≡ n → IfSome r (λ x. m + 1 ≡ n)
+fewer_by None m n e = tt
+fewer_by (Some x) m n e = omega (arith, e)
 
 pub invariant_of-self : goal.invariant_of-self
 invariant_of-self c = record {
@@ -31,4 +32,5 @@ returns-clause-items c = rest c ∙ ap (λ (n : NumberSet). take (length n.items
 
 pub returns-clause-fewer : goal.returns-clause-fewer
 returns-clause-fewer c =
-    if_some c.pop.result (λ less. omega (arith, less, c.pop.new.self.ok.0, c.self.inside.items.ok.0, ap (λ (n : NumberSet). length n.items) c.self.view_is)) c.pop.ensures.cases
+    fewer_by c.pop.result (length c.pop.new.self.items) (length c.args.self.now.items)
+    (omega (arith, c.pop.ensures.len, c.pop.new.self.ok.0, c.self.inside.items.ok.0, ap (λ (n : NumberSet). length n.items) c.self.view_is))
