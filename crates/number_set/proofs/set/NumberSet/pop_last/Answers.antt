@@ -3,8 +3,7 @@ use Rattle.number_set.proofs.Sorted.{rises_front}
 use Rattle.number_set.proofs.set.NumberSet.pop_last.Goals as goal
 use Rattle.number_set.specs.NumberSet.{NumberSet, Rises}
 use Rattle.std.proofs.Common.{ap, arith, subst, sym, ◌∙◌}
-use Rattle.std.specs.Option.{option_to_list}
-use Rattle.std.specs.Prelude.{IfSome, None, Option, Some, length, slice_get, take, ℕ, ◌+◌, ◌-◌, ◌≡◌}
+use Rattle.std.specs.Prelude.{IfSome, None, Option, Some, length, option_to_list, slice_get, take, ℕ, ◌+◌, ◌-◌, ◌≡◌}
 use Rattle.std.specs.Vec.{vec_len}
 
 rest : (c : goal.After-pop) → c.pop.new.self.items ≡ take (length c.self.inside.items.items - 1) c.self.inside.items.items
