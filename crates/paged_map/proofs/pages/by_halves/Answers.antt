@@ -1,6 +1,6 @@
 use Rattle.number_set.proofs.Entries.{below_point, is_end, is_gap, is_there, parted}
 use Rattle.number_set.specs.NumberMap.{IsBelow}
-use Rattle.paged_map.proofs.pages.search.Goals as goal
+use Rattle.paged_map.proofs.pages.by_halves.Goals as goal
 use Rattle.std.proofs.Common.{rules, sym, ◌∙◌}
 use Rattle.std.proofs.lemmas.List.Sorted.{IsPartitionPoint-from_clause}
 use Rattle.std.specs.Prelude.{nat_lt}
