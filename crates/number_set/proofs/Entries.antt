@@ -227,8 +227,8 @@ module _ {X : Type 0} where
     is = key_at es (length es - 1) e (omega (arith, some)) is ∙ same;
   }
 
-  pub below_none : (number : ℕ) (es : List (ℕ × X)) → length es ≡ 0 → IsBelow number 0 es
-  below_none number es none = record { within = omega arith; before = λ k less. absurd (omega (arith, less)); after = λ k from last. absurd (omega (arith, none, last)) }
+  pub is_front : (number : ℕ) (e : ℕ × X) (es : List (ℕ × X)) → 0 < length es → e ≡ get_or es 0 e → e.0 ≡ number → IsAt number 0 es
+  is_front number e es some is same = record { within = some; before = λ k less. absurd (omega (arith, less)); is = key_at es 0 e some is ∙ same }
 
   -- ---- where it is looked for
   pub is_there : (number i : ℕ) (e : ℕ × X) (es : List (ℕ × X)) → IsBelow number i es → i < length es → e ≡ get_or es i e → e.0 ≡ number → IsAt number i es

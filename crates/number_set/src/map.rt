@@ -3,7 +3,7 @@ ghost use Rattle.std.specs.BTreeMap.{insert_entry, is_at};
 ghost use Rattle.std.specs.List.{insert, remove};
 ghost use Rattle.std.specs.Map.{remove_entry, set_value};
 ghost use Rattle.std.specs.Ordering.{nat_cmp};
-ghost use Rattle.std.specs.Prelude.{◌≡◌, ◌<◌, ◌≤◌, ◌∷◌, [], IsNone, IsSome, MatchOption, MatchResult, None, OnErr, OnOk, Some, drop, length};
+ghost use Rattle.std.specs.Prelude.{◌≡◌, ◌<◌, ◌≤◌, ◌∷◌, [], IsNone, IsSome, MatchOption, MatchResult, None, OnErr, OnOk, Some, drop, length, true};
 
 use io_ports::NoMemory;
 use std::alloc::Global;
@@ -118,10 +118,13 @@ impl<T: Copy> NumberMap<T> {
         self.search(number)
     }
 
-    // The same without a look at the last.
+    // The same without a look at the last: most others that are asked for stand first.
     fn search(&self, number: u64) -> Result<usize, usize>
         ensures { MatchResult result (λ i. IsAt number i self.now) (λ i. IsGap number i self.now) }
     {
+        if self.is_first(number) {
+            return Ok(0);
+        }
         let place = self.count_below(number);
         match self.items.get(place) {
             Some(item) => {
@@ -135,16 +138,21 @@ impl<T: Copy> NumberMap<T> {
         }
     }
 
-    // How many are below a number: all of them, where it is above the last.
+    // Whether a number stands first.
+    #[inline(always)]
+    fn is_first(&self, number: u64) -> bool
+        ensures { result ≡ true → IsAt number 0 self.now }
+    {
+        match self.items.front() {
+            Some(first) => first.0 == number,
+            None => false,
+        }
+    }
+
+    // How many are below a number.
     fn count_below(&self, number: u64) -> usize
         ensures { IsBelow number result self.now }
     {
-        let Some(last) = self.items.back() else {
-            return 0;
-        };
-        if last.0 < number {
-            return self.items.len();
-        }
         self.items.partition_point(|item| item.0 < number)
     }
 }
