@@ -203,7 +203,7 @@ fn may_frame(core: &mut WireCore, conn: Option<u32>) -> bool
     requires sound { IsSound core.old }
     ensures sound { IsSound core.new }
     ensures go { to_go core.new ≤ to_go core.old }
-    ensures rest { core.new ≡ record core.old { conns = core.new.conns } }
+    ensures rest { core.new ≡ record core.old { conns = core.new.conns; stirred = core.new.stirred } }
     ensures octets { Keeps core.old core.new }
 {
     match conn {

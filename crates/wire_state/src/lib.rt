@@ -10,6 +10,7 @@ mod agenda;
 mod conn;
 mod course;
 mod incoming;
+mod looks;
 mod noting;
 mod outgoing;
 mod ready;
