@@ -186,7 +186,7 @@ fn blank_slots<V: Drop>(alloc: Global) -> Result<Vec<Option<V>>, NoMemory>
     ensures blank { IfOk result (λ slots. count_by is_some slots.items ≡ 0) }
     ensures long { IfOk result (λ slots. length slots.items ≡ width) }
 {
-    let mut slots = Vec::new(alloc);
+    let mut slots = Vec::with_capacity(alloc, WIDTH as usize)?;
     while slots.len() < WIDTH as usize {
         slots.push(None)?;
     }
