@@ -5,7 +5,7 @@ ghost use Rattle.paged_map.specs.Pages.{IsIndex, entries_from, width};
 ghost use Rattle.std.specs.Borrow.{sem};
 ghost use Rattle.std.specs.Map.{keys_of};
 ghost use Rattle.std.specs.Option.{option_copied};
-ghost use Rattle.std.specs.Prelude.{◌≡◌, ◌==◌, ◌<◌, ◌≤◌, ◌+◌, ◌*◌, IfOk, None, Some, count_by, drop, is_some, length, slice_index_or, slice_set, true};
+ghost use Rattle.std.specs.Prelude.{◌≡◌, ◌==◌, ◌<◌, ◌≤◌, ◌+◌, ◌*◌, IfOk, None, Some, count_by, drop, false, is_some, length, slice_index_or, slice_set, true};
 
 use io_ports::NoMemory;
 use std::alloc::Global;
