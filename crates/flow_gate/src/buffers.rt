@@ -6,7 +6,7 @@ ghost use Rattle.flow_gate.specs.Parts.{bound_after, buffer_at, is_after};
 ghost use Rattle.flow_gate.specs.declared.ids.BufferId.{BufferId};
 ghost use Rattle.std.specs.Borrow.{sem};
 ghost use Rattle.std.specs.Option.{option_copied, option_copied_mut};
-ghost use Rattle.std.specs.Prelude.{◌≡◌, ◌<◌, [], ℕ, IfNone, IfOk, IfSome, None, OnErr, OnOk, Some, true};
+ghost use Rattle.std.specs.Prelude.{◌≡◌, ◌<◌, [], ℕ, IfNone, IfSome, None, OnErr, OnOk, Some, true};
 
 use crate::flow_map::FlowMap;
 use crate::gate::Gate;
@@ -77,23 +77,22 @@ impl Buffers {
         }
     }
 
-    /// From now on the buffer has this gate. Answers what it had. After running out of memory nothing has changed.
-    pub(crate) fn insert(&mut self, buffer: BufferId, gate: Gate) -> Result<Option<Gate>, NoMemory>
-        ensures old { IfOk result (λ old. old ≡ buffer_at self.old buffer) }
+    /// From now on the buffer has this gate. After running out of memory nothing has changed.
+    pub(crate) fn put(&mut self, buffer: BufferId, gate: Gate) -> Result<(), NoMemory>
         ensures updates { OnOk result (Updates same_buffer buffer (Some gate) self.old self.new) }
         ensures err { OnErr result (self.new ≡ self.old) }
     {
         match buffer {
-            BufferId::Write(conn) => self.writes.insert(conn, gate),
-            BufferId::Recv(flow) => self.recvs.insert(flow, gate),
+            BufferId::Write(conn) => self.writes.put(conn, gate),
+            BufferId::Recv(flow) => self.recvs.put(flow, gate),
             BufferId::Stage(flow, stage) => match self
                 .stages
                 .insert(StageId { flow, stage }, gate)
             {
-                Ok(old) => Ok(old),
+                Ok(_) => Ok(()),
                 Err(_) => Err(NoMemory),
             },
-            BufferId::Send(flow) => self.sends.insert(flow, gate),
+            BufferId::Send(flow) => self.sends.put(flow, gate),
         }
     }
 

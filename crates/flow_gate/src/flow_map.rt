@@ -5,7 +5,7 @@ ghost use Rattle.flow_gate.specs.Named.{Updates};
 ghost use Rattle.flow_gate.specs.Parts.{flow_at};
 ghost use Rattle.std.specs.Borrow.{sem};
 ghost use Rattle.std.specs.Option.{option_copied, option_copied_mut};
-ghost use Rattle.std.specs.Prelude.{◌≡◌, [], IfOk, None, OnErr, OnOk, Some};
+ghost use Rattle.std.specs.Prelude.{◌≡◌, [], None, OnErr, OnOk, Some};
 
 use crate::ids::FlowId;
 use io_ports::NoMemory;
@@ -67,18 +67,17 @@ impl<V> FlowMap<V> {
         }
     }
 
-    /// From now on the flow has this value. Answers what it had. After running out of memory nothing has changed.
-    pub(crate) fn insert(&mut self, flow: FlowId, value: V) -> Result<Option<V>, NoMemory>
+    /// From now on the flow has this value. After running out of memory nothing has changed.
+    pub(crate) fn put(&mut self, flow: FlowId, value: V) -> Result<(), NoMemory>
     where
         V: Drop,
-        ensures old { IfOk result (λ old. old ≡ flow_at self.old flow) }
         ensures updates { OnOk result (Updates same_flow flow (Some value) self.old self.new) }
         ensures err { OnErr result (self.new ≡ self.old) }
     {
         if flow.back {
-            self.responses.insert(flow.exchange, value)
+            self.responses.put(flow.exchange, value)
         } else {
-            self.requests.insert(flow.exchange, value)
+            self.requests.put(flow.exchange, value)
         }
     }
 

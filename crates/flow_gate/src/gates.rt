@@ -168,7 +168,7 @@ impl Gates {
         ensures err { OnErr result (self.new ≡ self.old) }
         ensures sound { IsSound self.new }
     {
-        self.flows.insert(flow, Watcher::new(self.alloc))?;
+        self.flows.put(flow, Watcher::new(self.alloc))?;
         Ok(())
     }
 
@@ -181,7 +181,7 @@ impl Gates {
     {
         self.spares.ready()?;
         let gate = self.spares.begun(self.alloc);
-        self.buffers.insert(buffer, gate)?;
+        self.buffers.put(buffer, gate)?;
         Ok(())
     }
 

@@ -5,7 +5,7 @@ use Rattle.std.proofs.lemmas.Bool.{false≢true}
 use Rattle.std.proofs.lemmas.List.{length-set}
 use Rattle.std.proofs.lemmas.List.Edits.{length-insert}
 use Rattle.std.proofs.lemmas.List.Sorted.{IsPartitionedBy-ltb}
-use Rattle.std.proofs.lemmas.Map.Keys.{below_from_sorted}
+use Rattle.std.proofs.lemmas.Map.Keys.{below_from_sorted, sorted_tail}
 use Rattle.std.specs.BTreeMap.{insert_entry, is_at}
 use Rattle.std.specs.BTreeSet.{insert_key}
 use Rattle.std.specs.List.{insert, remove}
@@ -133,7 +133,7 @@ module _ {X : Type 0} where
       ∙ sym (ap (λ o. match_ordering o ((number, v) ∷ x ∷ es) ((x.0, v) ∷ es) (x ∷ insert_entry nat_cmp es number v)) (is_greater number x.0 (gap.before zero (omega arith))))
 
   -- ---- they stay in order
-  keys_inserted : (number : ℕ) (v : X) (es : List (ℕ × X)) → keys_of (insert_entry nat_cmp es number v) ≡ insert_key nat_cmp (keys_of es) number
+  pub keys_inserted : (number : ℕ) (v : X) (es : List (ℕ × X)) → keys_of (insert_entry nat_cmp es number v) ≡ insert_key nat_cmp (keys_of es) number
   keys_inserted number v [] = refl
   keys_inserted number v (x ∷ es) = by_order (nat_cmp number x.0) (keys_inserted number v es)
     where
@@ -142,7 +142,7 @@ module _ {X : Type 0} where
       by_order Equal is = refl
       by_order Greater is = ap (λ l. x.0 ∷ l) is
 
-  keys_removed : (test : ℕ → Bool) (es : List (ℕ × X)) → keys_of (remove_entry test es) ≡ remove_key test (keys_of es)
+  pub keys_removed : (test : ℕ → Bool) (es : List (ℕ × X)) → keys_of (remove_entry test es) ≡ remove_key test (keys_of es)
   keys_removed test [] = refl
   keys_removed test (x ∷ es) = by_test (test x.0) (keys_removed test es)
     where
@@ -163,6 +163,10 @@ module _ {X : Type 0} where
 
   pub sorted_removed : (number : ℕ) (es new : List (ℕ × X)) → IsSorted es → new ≡ remove_entry (is_at (nat_cmp number)) es → IsSorted new
   sorted_removed number es new sorted is = subst Rises (sym (ap keys_of is ∙ keys_removed (is_at (nat_cmp number)) es)) (rises_marked (keys_of es) number false sorted)
+
+  pub sorted_rest : (es new : List (ℕ × X)) → IsSorted es → new ≡ drop 1 es → IsSorted new
+  sorted_rest [] new sorted is = subst IsSorted (sym is) (sorted_none X)
+  sorted_rest (x ∷ es) new sorted is = subst IsSorted (sym is) (sorted_tail nat_cmp x.0 (keys_of es) sorted)
 
   pub sorted_set : (number : ℕ) (v : X) (es new : List (ℕ × X)) → IsSorted es → new ≡ set_value (is_at (nat_cmp number)) es v → IsSorted new
   sorted_set number v es new sorted is = subst Rises (sym (ap keys_of is ∙ keys_set (is_at (nat_cmp number)) v es)) sorted
@@ -223,8 +227,8 @@ module _ {X : Type 0} where
     is = key_at es (length es - 1) e (omega (arith, some)) is ∙ same;
   }
 
-  pub below_none : (number : ℕ) (es : List (ℕ × X)) → length es ≡ 0 → IsBelow number 0 es
-  below_none number es none = record { within = omega arith; before = λ k less. absurd (omega (arith, less)); after = λ k from last. absurd (omega (arith, none, last)) }
+  pub is_front : (number : ℕ) (e : ℕ × X) (es : List (ℕ × X)) → 0 < length es → e ≡ get_or es 0 e → e.0 ≡ number → IsAt number 0 es
+  is_front number e es some is same = record { within = some; before = λ k less. absurd (omega (arith, less)); is = key_at es 0 e some is ∙ same }
 
   -- ---- where it is looked for
   pub is_there : (number i : ℕ) (e : ℕ × X) (es : List (ℕ × X)) → IsBelow number i es → i < length es → e ≡ get_or es i e → e.0 ≡ number → IsAt number i es

@@ -11,26 +11,17 @@ use Rattle.std.specs.List.{find, insert, remove}
 use Rattle.std.specs.List.Sorted.{IsBinarySearchResult, IsStrictlySortedBy}
 use Rattle.std.specs.Option.{option_copied}
 use Rattle.std.specs.Ordering.{match_ordering, nat_cmp}
-use Rattle.std.specs.Prelude.{Bool, Err, IfSome, List, None, Ok, Option, Result, Some, [], false, if◌then◌else◌, is_ok, length, nat_eq, nat_lt, slice_get, suc, take, true, zero, ℕ, ◌+◌, ◌++◌, ◌<◌, ◌||◌, ◌∷◌, ◌≡◌, ◌≤◌}
+use Rattle.std.specs.Prelude.{Bool, Err, IfSome, IsSome, List, MatchResult, None, Ok, Option, Result, Some, [], false, if◌then◌else◌, is_ok, length, nat_eq, nat_lt, slice_get, suc, take, true, zero, ℕ, ◌+◌, ◌++◌, ◌-◌, ◌<◌, ◌||◌, ◌↔◌, ◌∷◌, ◌≡◌, ◌≤◌}
 use Rattle.std.specs.Set.{remove_key}
 use Rattle.std.specs.declared.cmp.Ordering.TheVariants.{Greater, Less}
 use Rattle.std.specs.Slice.{IsItemAt}
 use Rattle.std.proofs.lemmas.Bool.Decides.{nat_tests}
 use Rattle.number_set.proofs.Sorted.{has_other, marked_same}
 use Rattle.number_set.proofs.Tests.{above_apart, at_apart, at_here, here, same_or_apart}
-use Rattle.number_set.specs.NumberSet.{Rises, first_above, has, marked}
-
-pub record IsFoundAt (xs : List ℕ) (x i : ℕ) : Type 0 where
-  pub within : i < length xs
-  pub is : get_or xs i 0 ≡ x
-
-pub record IsGapAt (xs : List ℕ) (x i : ℕ) : Type 0 where
-  pub within : i ≤ length xs
-  pub below : (k : ℕ) → k < i → get_or xs k 0 < x
-  pub above : (k : ℕ) → i ≤ k → k < length xs → x < get_or xs k 0
+use Rattle.number_set.specs.NumberSet.{IsFoundAt, IsGapAt, Rises, first_above, has, marked}
 
 -- ---- what comes or goes at the end
-pub put_last : (xs : List ℕ) (x i : ℕ) → i ≡ length xs → xs ++ x ∷ [] ≡ insert xs i x
+pub put_last : {X : Type 0} (xs : List X) (x : X) (i : ℕ) → i ≡ length xs → xs ++ x ∷ [] ≡ insert xs i x
 put_last [] x zero is = refl
 put_last [] x (suc i) is = absurd (omega (arith, is))
 put_last (y ∷ xs) x zero is = absurd (omega (arith, is))
@@ -41,6 +32,14 @@ last_gone [] i is = absurd (omega (arith, is))
 last_gone (x ∷ []) zero is = refl
 last_gone (x ∷ y ∷ xs) zero is = absurd (omega (arith, is))
 last_gone (x ∷ xs) (suc i) is = ap (λ l. x ∷ l) (last_gone xs i (omega (arith, is)))
+
+-- what a list's last place gives once it is gone
+pub popped : (xs : List ℕ) (r : Option ℕ) (n : ℕ) → n ≡ length xs → (IsSome r ↔ (0 < n)) → ((d : ℕ) → 0 < n → r ≡ Some (get_or xs (n - 1) d)) → r ≡ slice_get xs (length xs - 1)
+popped [] None n is some at = refl
+popped [] (Some x) n is some at = absurd (omega (arith, is, some.0 refl))
+popped (x ∷ xs) r n is some at =
+    let place : n - 1 ≡ length (x ∷ xs) - 1 = omega (arith, is) in
+    at 0 (omega (arith, is)) ∙ ap (λ k. Some (get_or (x ∷ xs) k 0)) place ∙ sym (slice_get-get_or (x ∷ xs) (length (x ∷ xs) - 1) 0 (omega arith))
 
 -- ---- what a search finds
 far : (xs : List ℕ) → Rises xs → (i j : ℕ) → i ≤ j → j < length xs → get_or xs i 0 ≤ get_or xs j 0
@@ -61,6 +60,26 @@ pub gap_at : (xs : List ℕ) (x i : ℕ) → IsBinarySearchResult (λ y. nat_cmp
 gap_at xs x i is rises =
     let at : (i ≤ length xs) × ((k : ℕ) → k < i → get_or xs k 0 < x) × ((k : ℕ) → i ≤ k → k < length xs → x < get_or xs k 0) = searched xs x (Err i) is (far xs rises) in
     record { within = at.0; below = at.1; above = at.2 }
+
+pub searched_place : (xs : List ℕ) (x : ℕ) (r : Result ℕ ℕ) → IsBinarySearchResult (λ y. nat_cmp y x) xs r → Rises xs → MatchResult r (IsFoundAt xs x) (IsGapAt xs x)
+searched_place xs x (Ok i) is rises = found_at xs x i is rises
+searched_place xs x (Err i) is rises = gap_at xs x i is rises
+
+-- what a look at the last finds
+pub none_gap : (xs : List ℕ) (x : ℕ) → length xs ≡ 0 → IsGapAt xs x 0
+none_gap xs x none = record { within = omega arith; below = λ k less. absurd (omega (arith, less)); above = λ k from last. absurd (omega (arith, none, last)) }
+
+pub last_found : (xs : List ℕ) (x n : ℕ) → n ≡ length xs → 0 < length xs → get_or xs (length xs - 1) 0 ≡ x → IsFoundAt xs x (n - 1)
+last_found xs x n long some is =
+    let place : n - 1 ≡ length xs - 1 = omega (arith, long) in
+    record { within = omega (arith, long, some); is = ap (λ k. get_or xs k 0) place ∙ is }
+
+pub end_gap : (xs : List ℕ) (x n : ℕ) → Rises xs → n ≡ length xs → 0 < length xs → get_or xs (length xs - 1) 0 < x → IsGapAt xs x n
+end_gap xs x n rises long some less = record {
+  within = omega (arith, long);
+  below = λ k before. omega (arith, far xs rises k (length xs - 1) (omega (arith, before, long)) (omega (arith, some)), less);
+  above = λ k from last. absurd (omega (arith, long, from, last));
+}
 
 -- the places up to one that is found, and from it on
 pub upto_found : (xs : List ℕ) (x i : ℕ) → IsFoundAt xs x i → Rises xs → (k : ℕ) → k < i + 1 → get_or xs k 0 ≤ x

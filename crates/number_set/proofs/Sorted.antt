@@ -6,7 +6,7 @@ use Rattle.std.specs.BTreeSet.{insert_key}
 use Rattle.std.specs.List.{AllByRecursion}
 use Rattle.std.specs.List.Sorted.{IsStrictlySortedBy}
 use Rattle.std.specs.Ordering.{match_ordering, nat_cmp}
-use Rattle.std.specs.Prelude.{Bool, List, [], false, if◌then◌else◌, nat_eq, true, ℕ, ◌<◌, ◌||◌, ◌∷◌, ◌≡◌, ◌≤◌}
+use Rattle.std.specs.Prelude.{Bool, List, [], false, if◌then◌else◌, nat_eq, suc, take, true, zero, ℕ, ◌<◌, ◌||◌, ◌∷◌, ◌≡◌, ◌≤◌}
 use Rattle.std.specs.Set.{remove_key}
 use Rattle.std.specs.declared.cmp.Ordering.TheVariants.{Less}
 use Rattle.number_set.proofs.Tests.{at_apart, at_here, below_apart, compared, here, is_less, less_is, same_is, same_or_apart, turned}
@@ -162,6 +162,20 @@ rises_remove (x ∷ xs) n r = elim (cases_Bool (is_at (nat_cmp n) x)) [
   | inl so ↦ subst (λ t. Rises (if t then xs else x ∷ remove_key (is_at (nat_cmp n)) xs)) (sym so) r.1
   | inr not_so ↦ subst (λ t. Rises (if t then xs else x ∷ remove_key (is_at (nat_cmp n)) xs)) (sym not_so) (all_remove x n xs r.0, rises_remove xs n r.1)
 ]
+
+-- ---- the last go
+all_front : (x n : ℕ) (xs : List ℕ) → Above x xs → Above x (take n xs)
+all_front x zero [] above = tt
+all_front x zero (y ∷ ys) above = tt
+all_front x (suc n) [] above = tt
+all_front x (suc n) (y ∷ ys) above = (above.0, all_front x n ys above.1)
+
+pub rises_front : (n : ℕ) (xs : List ℕ) → Rises xs → Rises (take n xs)
+unfolding IsStrictlySortedBy
+rises_front zero [] r = tt
+rises_front zero (y ∷ ys) r = tt
+rises_front (suc n) [] r = tt
+rises_front (suc n) (y ∷ ys) r = (all_front y n ys r.0, rises_front n ys r.1)
 
 -- ---- it comes or goes
 pub has_marked : (xs : List ℕ) (n m : ℕ) (b : Bool) → Rises xs → has (marked n b xs) m ≡ (if nat_eq n m then b else has xs m)

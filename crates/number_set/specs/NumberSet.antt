@@ -5,7 +5,7 @@ use Rattle.std.specs.BTreeSet.{insert_key}
 use Rattle.std.specs.List.{find, list_any}
 use Rattle.std.specs.List.Sorted.{IsStrictlySortedBy}
 use Rattle.std.specs.Ordering.{nat_cmp}
-use Rattle.std.specs.Prelude.{Bool, List, Option, if◌then◌else◌, length, nat_eq, nat_lt, slice_get, ℕ, ◌≤◌}
+use Rattle.std.specs.Prelude.{Bool, List, Option, if◌then◌else◌, length, nat_eq, nat_lt, slice_get, slice_index, ℕ, ◌<◌, ◌≡◌, ◌≤◌}
 use Rattle.std.specs.Set.{remove_key}
 use Rattle.std.specs.Vec.{vec_capacity}
 
@@ -28,6 +28,17 @@ first_above n numbers = find (nat_lt n) numbers
 -- from now on the number is there, or isn't
 abbrev pub marked : ℕ → Bool → List ℕ → List ℕ
 marked n is_there numbers = if is_there then insert_key nat_cmp numbers n else remove_key (is_at (nat_cmp n)) numbers
+
+-- a number stands at a place
+pub record IsFoundAt (numbers : List ℕ) (n i : ℕ) : Type 0 where
+  pub within : i < length numbers
+  pub is : slice_index numbers i ≡ n
+
+-- a number isn't there, and would come to a place
+pub record IsGapAt (numbers : List ℕ) (n i : ℕ) : Type 0 where
+  pub within : i ≤ length numbers
+  pub below : (k : ℕ) → k < i → slice_index numbers k < n
+  pub above : (k : ℕ) → i ≤ k → k < length numbers → n < slice_index numbers k
 
 -- ---- a set of them
 pub record NumberSet : Type 0 where

@@ -1,9 +1,9 @@
 // Values by number.
 ghost use Rattle.std.specs.BTreeMap.{insert_entry, is_at};
-ghost use Rattle.std.specs.List.{remove};
+ghost use Rattle.std.specs.List.{insert, remove};
 ghost use Rattle.std.specs.Map.{remove_entry, set_value};
 ghost use Rattle.std.specs.Ordering.{nat_cmp};
-ghost use Rattle.std.specs.Prelude.{◌≡◌, ◌<◌, [], IsNone, IsSome, MatchResult, None, OnErr, OnOk, Some, length};
+ghost use Rattle.std.specs.Prelude.{◌≡◌, ◌<◌, ◌≤◌, ◌∷◌, [], IsNone, IsSome, MatchOption, MatchResult, None, OnErr, OnOk, Some, drop, length, true};
 
 use io_ports::NoMemory;
 use std::alloc::Global;
@@ -66,7 +66,7 @@ impl<T: Copy> NumberMap<T> {
     {
         match self.place_of(number) {
             Ok(place) => self.items[place] = (number, value),
-            Err(place) => self.items.insert(place, (number, value))?,
+            Err(place) => put_in(&mut self.items, place, (number, value))?,
         }
         Ok(())
     }
@@ -92,7 +92,16 @@ impl<T: Copy> NumberMap<T> {
         }
     }
 
-    // Where a number stands, or else where it would come. Most that are asked for stand last.
+    /// Takes out the least number with its value. None only where there is none.
+    #[inline(always)]
+    pub fn pop_first(&mut self) -> Option<(u64, T)>
+        ensures first { MatchOption result (self.old ≡ []) (λ e. self.old ≡ e ∷ drop 1 self.old) }
+        ensures rest { self.new ≡ drop 1 self.old }
+    {
+        self.items.pop_front()
+    }
+
+    // Where a number stands, or else where it would come. Most that are asked for stand last, and most that come are greater.
     #[inline(always)]
     fn place_of(&self, number: u64) -> Result<usize, usize>
         ensures { MatchResult result (λ i. IsAt number i self.now) (λ i. IsGap number i self.now) }
@@ -103,13 +112,19 @@ impl<T: Copy> NumberMap<T> {
         if last.0 == number {
             return Ok(self.items.len() - 1);
         }
+        if number > last.0 {
+            return Err(self.items.len());
+        }
         self.search(number)
     }
 
-    // The same without a look at the last.
+    // The same without a look at the last: most others that are asked for stand first.
     fn search(&self, number: u64) -> Result<usize, usize>
         ensures { MatchResult result (λ i. IsAt number i self.now) (λ i. IsGap number i self.now) }
     {
+        if self.is_first(number) {
+            return Ok(0);
+        }
         let place = self.count_below(number);
         match self.items.get(place) {
             Some(item) => {
@@ -123,18 +138,42 @@ impl<T: Copy> NumberMap<T> {
         }
     }
 
-    // How many are below a number: all of them, where it is above the last.
+    // Whether a number stands first.
+    #[inline(always)]
+    fn is_first(&self, number: u64) -> bool
+        ensures { result ≡ true → IsAt number 0 self.now }
+    {
+        match self.items.front() {
+            Some(first) => first.0 == number,
+            None => false,
+        }
+    }
+
+    // How many are below a number.
     fn count_below(&self, number: u64) -> usize
         ensures { IsBelow number result self.now }
     {
-        let Some(last) = self.items.back() else {
-            return 0;
-        };
-        if last.0 < number {
-            return self.items.len();
-        }
         self.items.partition_point(|item| item.0 < number)
     }
+}
+
+// An item comes to a place. Most come last. After running out of memory nothing has changed.
+#[inline(always)]
+fn put_in<T: Copy>(
+    items: &mut VecDeque<(u64, T)>,
+    place: usize,
+    item: (u64, T),
+) -> Result<(), NoMemory>
+    requires { place ≤ length items.old.items }
+    ensures ok { OnOk result (items.new.items ≡ insert items.old.items place item) }
+    ensures err { OnErr result (items.new.items ≡ items.old.items) }
+{
+    if place == items.len() {
+        items.push_back(item)?;
+        return Ok(());
+    }
+    items.insert(place, item)?;
+    Ok(())
 }
 
 // An item goes. Most that go stand first.

@@ -1,7 +1,7 @@
 // A set of numbers in order.
-ghost use Rattle.number_set.specs.NumberSet.{first, first_above, has, marked};
+ghost use Rattle.number_set.specs.NumberSet.{IsFoundAt, IsGapAt, Rises, first, first_above, has, marked};
 ghost use Rattle.std.specs.List.{insert, remove};
-ghost use Rattle.std.specs.Prelude.{◌≡◌, ◌+◌, ◌-◌, ◌<◌, ◌≤◌, ◌==◌, ℕ, [], IsSomeAnd, IfSome, OnOk, false, if◌then◌else◌, length, slice_get, slice_index, true, vec_capacity};
+ghost use Rattle.std.specs.Prelude.{◌≡◌, ◌+◌, ◌-◌, ◌<◌, ◌≤◌, ◌==◌, ℕ, [], IsSomeAnd, IfSome, MatchResult, OnOk, false, if◌then◌else◌, length, slice_get, slice_index, take, true, vec_capacity};
 
 use io_ports::NoMemory;
 use std::alloc::Global;
@@ -73,7 +73,7 @@ impl NumberSet {
         ensures len { length self.new.items + (if has self.old.items number then 1 else 0) ≡ length self.old.items + (if is_there then 1 else 0) }
         ensures room { self.new.room ≡ self.old.room }
     {
-        match self.items.binary_search(&number) {
+        match place_in(self.items.as_slice(), number) {
             Ok(index) if !is_there => take_out(&mut self.items, index),
             Err(index) if is_there => put_in(&mut self.items, index, number),
             _ => {}
@@ -125,6 +125,17 @@ impl NumberSet {
         self.items.last().copied()
     }
 
+    /// Takes out the greatest. None only where there is none.
+    #[inline(always)]
+    pub fn pop_last(&mut self) -> Option<u64>
+        ensures last { result ≡ slice_get self.old.items (length self.old.items - 1) }
+        ensures items { self.new.items ≡ take (length self.old.items - 1) self.old.items }
+        ensures fewer { IfSome result (λ x. length self.new.items + 1 ≡ length self.old.items) }
+        ensures room { self.new.room ≡ self.old.room }
+    {
+        self.items.pop()
+    }
+
     /// The least.
     #[inline(always)]
     pub fn first(&self) -> Option<u64>
@@ -155,6 +166,35 @@ impl NumberSet {
             Err(index) => index,
         }
     }
+}
+
+// Where a number stands, or else where it would come. Most stand last, or come there.
+#[inline(always)]
+fn place_in(items: &[u64], number: u64) -> Result<usize, usize>
+    requires { Rises items.now }
+    ensures { MatchResult result (IsFoundAt items.now number) (IsGapAt items.now number) }
+{
+    match items.last() {
+        Some(last) => place_by(items, *last, number),
+        None => Err(0),
+    }
+}
+
+// The same by the last of them.
+#[inline(always)]
+fn place_by(items: &[u64], last: u64, number: u64) -> Result<usize, usize>
+    requires rises { Rises items.now }
+    requires some { 0 < length items.now }
+    requires last { slice_index items.now (length items.now - 1) ≡ last }
+    ensures { MatchResult result (IsFoundAt items.now number) (IsGapAt items.now number) }
+{
+    if last == number {
+        return Ok(items.len() - 1);
+    }
+    if number > last {
+        return Err(items.len());
+    }
+    items.binary_search(&number)
 }
 
 // A number comes to a place, for which there is room. Most come last.

@@ -85,14 +85,18 @@ module _ {X : Type 0} where
   index_at : (q place : ℕ) (page : ℕ × List (Option X)) (pages : List (ℕ × List (Option X))) → IsAt q place pages → page ≡ get_or pages place page → page.0 ≡ q
   index_at q place page pages at is = sym (index_read place page pages at.within is) ∙ at.is
 
-  -- the last page has the greatest index
+  -- a page has a greater index than those before it
+  pub page_at : (q i : ℕ) (page : ℕ × List (Option X)) (pages : List (ℕ × List (Option X))) → IsSorted pages → i < length pages → page ≡ get_or pages i page → page.0 ≡ q → IsAt q i pages
+  page_at q i page pages sorted within is same = record {
+    within = within;
+    before = λ k less. omega (arith, index_read i page pages within is, same, indexes_rise pages sorted k i less within);
+    is = index_read i page pages within is ∙ same;
+  }
+
+  -- so has the last one
   pub last_at : (q : ℕ) (page : ℕ × List (Option X)) (pages : List (ℕ × List (Option X))) → IsSorted pages → 0 < length pages → page ≡ get_or pages (length pages - 1) page → page.0 ≡ q
       → IsAt q (length pages - 1) pages
-  last_at q page pages sorted some is same = record {
-    within = omega (arith, some);
-    before = λ k less. omega (arith, index_read (length pages - 1) page pages (omega (arith, some)) is, same, indexes_rise pages sorted k (length pages - 1) less (omega (arith, some)));
-    is = index_read (length pages - 1) page pages (omega (arith, some)) is ∙ same;
-  }
+  last_at q page pages sorted some is same = page_at q (length pages - 1) page pages sorted (omega (arith, some)) is same
 
   -- ---- what a number has
   lookup_none : (q i : ℕ) (pages : List (ℕ × List (Option X))) → IsGap q zero pages → i < 16 → lookup (is_at (nat_cmp (q * 16 + i))) (entries_on pages) ≡ None

@@ -148,6 +148,29 @@ impl<K: Key, V> PagedMap<K, V> {
         Ok(old)
     }
 
+    /// Gives the key this value, as `insert`; one that it had is dropped. After running out of memory, or at 2^63 - 1 entries,
+    /// nothing has changed.
+    #[inline(always)]
+    pub fn put(&mut self, key: K, value: V) -> Result<(), NoMemory>
+    where
+        V: Drop,
+        ensures updates { OnOk result (Updates (K.number key) self.old self.new (Some value)) }
+        ensures entries { OnOk result (self.new.entries ≡ insert_entry nat_cmp self.old.entries (K.number key) value) }
+        ensures ordered { IsSorted self.new.entries }
+        ensures err { OnErr result (self.new ≡ self.old) }
+    {
+        let number = key.number();
+        if self.len == MOST {
+            return Err(NoMemory);
+        }
+        let place = page_for(&mut self.pages, self.alloc, number / WIDTH)?;
+        if self.pages[place].set((number % WIDTH) as usize, value) {
+            return Ok(());
+        }
+        self.len += 1;
+        Ok(())
+    }
+
     /// Takes out the value of the key, and answers it, if there was one. Takes no memory.
     pub fn remove(&mut self, key: &K) -> Option<V>
     where

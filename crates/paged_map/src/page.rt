@@ -5,7 +5,7 @@ ghost use Rattle.paged_map.specs.Pages.{IsIndex, entries_from, width};
 ghost use Rattle.std.specs.Borrow.{sem};
 ghost use Rattle.std.specs.Map.{keys_of};
 ghost use Rattle.std.specs.Option.{option_copied};
-ghost use Rattle.std.specs.Prelude.{◌≡◌, ◌==◌, ◌<◌, ◌≤◌, ◌+◌, ◌*◌, IfOk, None, Some, count_by, drop, is_some, length, slice_index_or, slice_set, true};
+ghost use Rattle.std.specs.Prelude.{◌≡◌, ◌==◌, ◌<◌, ◌≤◌, ◌+◌, ◌*◌, IfOk, None, Some, count_by, drop, false, is_some, length, slice_index_or, slice_set, true};
 
 use io_ports::NoMemory;
 use std::alloc::Global;
@@ -138,6 +138,36 @@ impl<V> Page<V> {
         old
     }
 
+    /// The slot has this value from now on; one that it had is dropped. Answers whether it had one.
+    #[inline(always)]
+    pub(crate) fn set(&mut self, slot: usize, value: V) -> bool
+    where
+        V: Drop,
+        requires { slot < width }
+        ensures had { result ≡ is_some (slice_index_or self.old.1 slot None) }
+        ensures new { self.new ≡ (self.old.0, slice_set self.old.1 slot (Some value)) }
+    {
+        if self.has(slot) {
+            drop(self.put(slot, value));
+            return true;
+        }
+        self.fill(slot, value);
+        false
+    }
+
+    // A slot without a value has this one from now on.
+    #[inline(always)]
+    fn fill(&mut self, slot: usize, value: V)
+    where
+        V: Drop,
+        requires slot { slot < width }
+        requires none { is_some (slice_index_or self.old.1 slot None) ≡ false }
+        ensures { self.new ≡ (self.old.0, slice_set self.old.1 slot (Some value)) }
+    {
+        self.slots[slot] = Some(value);
+        self.used += 1;
+    }
+
     /// The slot has no value from now on. Answers what it had.
     pub(crate) fn take(&mut self, slot: usize) -> Option<V>
         requires { slot < width }
@@ -156,7 +186,7 @@ fn blank_slots<V: Drop>(alloc: Global) -> Result<Vec<Option<V>>, NoMemory>
     ensures blank { IfOk result (λ slots. count_by is_some slots.items ≡ 0) }
     ensures long { IfOk result (λ slots. length slots.items ≡ width) }
 {
-    let mut slots = Vec::new(alloc);
+    let mut slots = Vec::with_capacity(alloc, WIDTH as usize)?;
     while slots.len() < WIDTH as usize {
         slots.push(None)?;
     }

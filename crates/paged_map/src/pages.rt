@@ -3,7 +3,7 @@ ghost use Rattle.number_set.specs.NumberMap.{IsAt, IsGap, IsSorted};
 ghost use Rattle.number_set.specs.NumberSet.{first, first_above};
 ghost use Rattle.paged_map.specs.Pages.{AreOrdered, IsIndex, entries_on, width};
 ghost use Rattle.std.specs.Map.{keys_of};
-ghost use Rattle.std.specs.Prelude.{◌≡◌, ◌<◌, IfOk, MatchResult, OnErr, count_by, is_some, length};
+ghost use Rattle.std.specs.Prelude.{◌≡◌, ◌<◌, IfOk, IfSome, MatchResult, OnErr, count_by, is_some, length};
 
 use crate::page::{Page, WIDTH};
 use io_ports::NoMemory;
@@ -27,8 +27,46 @@ pub(crate) fn find<V>(pages: &[Page<V>], index: u64) -> Result<usize, usize>
     }
 }
 
-// The same by halves.
+// The same without a look at the last: as far from the first page as the index is, or else by halves.
 fn search<V>(pages: &[Page<V>], index: u64) -> Result<usize, usize>
+    requires { IsSorted pages.now }
+    ensures { MatchResult result (λ i. IsAt index i pages.now) (λ i. IsGap index i pages.now) }
+{
+    match guess(pages, index) {
+        Some(place) => Ok(place),
+        None => by_halves(pages, index),
+    }
+}
+
+// The place as far from the first page as the index is, if the page stands there: it does where no page between them has gone.
+#[inline(always)]
+fn guess<V>(pages: &[Page<V>], index: u64) -> Option<usize>
+    requires { IsSorted pages.now }
+    ensures { IfSome result (λ i. IsAt index i pages.now) }
+{
+    let first = pages.first()?;
+    let ahead = index.checked_sub(first.index())?;
+    let place = usize::try_from(ahead).ok()?;
+    at_place(pages, place, index)
+}
+
+// The place, if the page with an index stands there.
+#[inline(always)]
+fn at_place<V>(pages: &[Page<V>], place: usize, index: u64) -> Option<usize>
+    requires { IsSorted pages.now }
+    ensures { IfSome result (λ i. IsAt index i pages.now) }
+{
+    let Some(page) = pages.get(place) else {
+        return None;
+    };
+    if page.index() == index {
+        return Some(place);
+    }
+    None
+}
+
+// The same by halves.
+fn by_halves<V>(pages: &[Page<V>], index: u64) -> Result<usize, usize>
     requires { IsSorted pages.now }
     ensures { MatchResult result (λ i. IsAt index i pages.now) (λ i. IsGap index i pages.now) }
 {

@@ -74,6 +74,17 @@ pub fn end(core: &mut WireCore, exchange: u64, notes: &mut Notes) -> Result<(), 
     ensures octets { Goes result core.old notes.old core.new notes.new }
 {
     core.end_task();
+    end_framed(core, exchange, notes)
+}
+
+/// An end of the exchange was framed, and nothing comes before it is looked at: as the task End.
+pub fn end_framed(core: &mut WireCore, exchange: u64, notes: &mut Notes) -> Result<(), NoMemory>
+    requires sound { IsSound core.old }
+    ensures sound { OnOk result (IsSound core.new) }
+    ensures go { OnOk result (to_go core.new ≤ to_go core.old) }
+    ensures notes { Appends notes.old notes.new }
+    ensures octets { Goes result core.old notes.old core.new notes.new }
+{
     if !core.flows.is_live(exchange) {
         return Ok(());
     }

@@ -10,7 +10,7 @@ mod lists;
 mod sweeps;
 
 pub use crate::closes::{begin_draining, close, close_task, lose, losses};
-pub use crate::dooms::{Origin, doom, doom_task, end};
+pub use crate::dooms::{Origin, doom, doom_task, end, end_framed};
 pub use crate::firing::{drains, fire, fires, resets};
 pub use crate::lists::{put, put_reset};
 pub use crate::sweeps::{rest, sweep};

@@ -64,7 +64,7 @@ fn rest_conn(core: &mut WireCore, number: u32) -> Result<(), NoMemory>
         return Ok(());
     };
     if !conn.outlet.is_empty() {
-        core.outs.insert(number)?;
+        core.outs.put(number, ())?;
         return Ok(());
     }
     let is_open = conn.open;

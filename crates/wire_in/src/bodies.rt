@@ -80,10 +80,25 @@ pub(crate) fn body(
         let fault = stream_fault(stream, code, content.counted, Concerns::Incoming);
         return fault.end(core, number, notes);
     }
+    let is_empty = content.octets.is_empty();
     enter(core, number, course, content, stream, notes)?;
     finish_where(core, course.flow, last)?;
     end_where(core, last, course, stream)?;
-    core.refresh(course)
+    refresh_where(core, is_empty, course)
+}
+
+// What goes next of a flow is looked up where its end came without octets: those that come enter the receive buffer, from which
+// nothing is framed, and what goes next is looked up once they move.
+fn refresh_where(core: &mut WireCore, is_empty: bool, course: Course) -> Result<(), NoMemory>
+    requires sound { IsSound core.old }
+    ensures sound { OnOk result (IsSound core.new) }
+    ensures go { OnOk result (to_go core.new ≤ to_go core.old) }
+    ensures octets { KeepsOk result core.old core.new }
+{
+    if is_empty {
+        return core.refresh(course);
+    }
+    Ok(())
 }
 
 // The windows count content.

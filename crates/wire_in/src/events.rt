@@ -207,11 +207,32 @@ fn room(core: &mut WireCore, number: u32, n: u32, notes: &mut Notes) -> Result<(
         return Ok(());
     };
     core.stir(number)?;
-    core.begin(Task::AskDrain(number))?;
     note_out(notes, number, n)?;
     if crossed == Crossed::Low {
-        core.flows.write_drained(number);
-        return core.begin(Task::Tell(number));
+        return tell_drained(core, number);
+    }
+    ask_drain(core, number)
+}
+
+// The write buffer of a connection has drained: its watchers are told, and then units are framed there.
+fn tell_drained(core: &mut WireCore, number: u32) -> Result<(), NoMemory>
+    requires sound { IsSound core.old }
+    ensures sound { OnOk result (IsSound core.new) }
+    ensures octets { KeepsOk result core.old core.new }
+{
+    core.begin(Task::AskDrain(number))?;
+    core.flows.write_drained(number);
+    core.begin(Task::Tell(number))
+}
+
+// Units are framed at a connection, if there are any.
+fn ask_drain(core: &mut WireCore, number: u32) -> Result<(), NoMemory>
+    requires sound { IsSound core.old }
+    ensures sound { OnOk result (IsSound core.new) }
+    ensures octets { KeepsOk result core.old core.new }
+{
+    if core.may_frame(number) {
+        return core.begin(Task::AskDrain(number));
     }
     Ok(())
 }

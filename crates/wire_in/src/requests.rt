@@ -134,7 +134,7 @@ fn begin(
     let (row, to) = goal_of(core, decision);
     let started = start(core, number, stream, row, to)?;
     let exchange = started.exchange;
-    let _ = core.lengths.insert(exchange, lengths_of(decision))?;
+    core.lengths.put(exchange, lengths_of(decision))?;
     core.disarm(FireKind::ConnectionIdle, u64::from(number));
     core.arm(FireKind::StreamIdle, exchange)?;
     begin_stream(core, number, exchange)?;

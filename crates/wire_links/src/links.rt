@@ -14,7 +14,7 @@ use io_ports::NoMemory;
 use number_set::NumberSet;
 use paged_map::PagedMap;
 use std::alloc::Global;
-use std::collections::{BTreeMap, BTreeSet};
+use std::collections::BTreeSet;
 use std::marker::Model;
 use std::ops::Bound;
 
@@ -29,7 +29,7 @@ pub struct Links {
     seats: PagedMap<u32, Seat>,
     exchanges: PagedMap<u64, Ends>,
     // By cluster, the connections that can take one more exchange, and room for all of its connections.
-    offers: BTreeMap<u32, NumberSet>,
+    offers: PagedMap<u32, NumberSet>,
     // The client connections that are open.
     clients: BTreeSet<u32>,
 }
@@ -55,7 +55,7 @@ impl Links {
             alloc,
             seats: PagedMap::new(alloc),
             exchanges: PagedMap::new(alloc),
-            offers: BTreeMap::new(alloc),
+            offers: PagedMap::new(alloc),
             clients: BTreeSet::new(alloc),
         }
     }

@@ -5,15 +5,22 @@ use Rattle.std.specs.BTreeSet.{insert_key}
 use Rattle.std.specs.Ordering.{nat_cmp}
 use Rattle.std.specs.Set.{remove_key}
 use Rattle.overload_core.specs.declared.actions.Actions.{Actions}
-use Rattle.overload_core.specs.ActionStates.{all_off}
+use Rattle.number_set.specs.NumberMap.{IsSorted}
+use Rattle.overload_core.specs.ActionStates.{AreStates, all_off}
 use Rattle.overload_core.specs.Accounts.{Accounts, in_class, without, next_reset}
 use Rattle.overload_core.specs.Course.{class_number}
+use Rattle.wire_load.specs.declared.load.Load.TheInside.{Inside}
 
 -- the states of the six actions, the classes, and the numbers of the touched exchanges, which rise
 pub record Loading : Type 0 where
   pub actions : Actions
   pub accounts : Accounts
   pub touched : List ℕ
+
+-- the numbers of the touched exchanges stand in order
+pub record IsKept (l : Inside) : Type 0 where
+  pub states : AreStates l.actions
+  pub order : IsSorted l.touched
 
 -- before the first obeyed pressures: every action is off, and no exchange has a class
 abbrev pub unloaded : ℕ → Loading

@@ -9,12 +9,12 @@ ghost use Rattle.wire_load.specs.Following.{ended, Follows, NextIsDue};
 
 use io_ports::NoMemory;
 use link_lists::Steps;
+use number_set::NumberMap;
 use overload_core::{
     Actions, Classes, action_states, class_has_number, classes_follow, is_saturated, next_is_due,
 };
 use proxy_config::Config;
 use std::alloc::Global;
-use std::collections::BTreeSet;
 use std::marker::{Brand, Model};
 use std::sync::ledger::{Blank, Ledger};
 
@@ -43,18 +43,18 @@ pub enum Action {
 pub struct Load {
     actions: Actions,
     classes: Classes,
-    touched: BTreeSet<u64>,
+    touched: NumberMap<()>,
 }
 
 impl Model for Load {
-    ghost use Rattle.wire_load.specs.Load.{Loading};
-    ghost use Rattle.overload_core.specs.ActionStates.{AreStates};
+    ghost use Rattle.std.specs.Map.{keys_of};
+    ghost use Rattle.wire_load.specs.Load.{IsKept, Loading};
 
     ghost Value = { Loading };
 
-    ghost view = { λ l. record { actions = l.actions; accounts = l.classes; touched = l.touched.keys } };
+    ghost view = { λ l. record { actions = l.actions; accounts = l.classes; touched = keys_of l.touched } };
 
-    ghost invariant = { λ l. AreStates l.actions };
+    ghost invariant = { IsKept };
 }
 
 impl Load {
@@ -66,7 +66,7 @@ impl Load {
         Ok(Load {
             actions: Actions::off(),
             classes: Classes::new(alloc, class_start)?,
-            touched: BTreeSet::new(alloc),
+            touched: NumberMap::new(alloc),
         })
     }
 
@@ -122,7 +122,7 @@ impl Load {
         ensures err { OnErr result (self.new ≡ self.old) }
         ensures rising { AllPairs (λ x y. x < y) self.new.touched }
     {
-        self.touched.insert(exchange)?;
+        self.touched.insert(exchange, ())?;
         Ok(())
     }
 
@@ -132,7 +132,8 @@ impl Load {
         ensures some { MatchOption result ⊤ (λ x. self.old ≡ record self.new { touched = x ∷ self.new.touched }) }
         ensures rising { AllPairs (λ x y. x < y) self.new.touched }
     {
-        self.touched.pop_first()
+        let (exchange, _) = self.touched.pop_first()?;
+        Some(exchange)
     }
 
     fn settle_as<L: Ledger>(
@@ -165,7 +166,7 @@ impl Load {
         ensures rising { AllPairs (λ x y. x < y) self.new.touched }
     {
         self.classes.drop_one(exchange);
-        let _ = self.touched.remove(&exchange);
+        self.touched.remove(exchange);
     }
 
     /// The exchange that is reset next under the state of `ResetStreams`: of the greatest class that the state clears and

@@ -5,6 +5,7 @@
 mod controls;
 mod drains;
 mod lists;
+mod moves;
 mod runs;
 mod telling;
 mod units;

@@ -147,9 +147,9 @@ fn frame_fields(
     };
     core.stir_some(going.course.from)?;
     core.touch(exchange)?;
-    end_where(core, exchange, last)?;
     note_head(notes, going.conn, stream, octets)?;
-    unit_framed(core, going.conn, crossed, notes)
+    unit_framed(core, going.conn, crossed, notes)?;
+    end_where(core, exchange, last, notes)
 }
 
 // The frames of the list go into the write buffer. None where no list waits, or it can't be framed.

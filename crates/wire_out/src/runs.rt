@@ -1,22 +1,19 @@
 // Runs: the octets of a flow go on.
-ghost use Rattle.std.specs.Prelude.{◌≡◌, ◌≤◌, ◌<◌, ◌+◌, IfSome, OnOk, if◌then◌else◌, true, ◌∷◌, [], ◌++◌};
+ghost use Rattle.std.specs.Prelude.{◌≡◌, ◌≤◌, ◌<◌, ◌+◌, OnOk, if◌then◌else◌, true};
 ghost use Rattle.wire_flows.specs.Flows.{is_live_in};
-ghost use Rattle.wire_flows.specs.Moves.{IsMove};
 ghost use Rattle.wire_state.specs.Agenda.{top_go};
 ghost use Rattle.wire_state.specs.Noting.{Appends};
 ghost use Rattle.wire_state.specs.Progress.{to_go};
 ghost use Rattle.wire_state.specs.Sound.{IsSound};
-ghost use Rattle.flow_notes.specs.Buffer.{CanPause};
-ghost use Rattle.wire_state.specs.Worlds.{Goes, Keeps, KeepsOk, Shows};
-ghost use Rattle.flow_notes.specs.declared.notes.Note.TheVariants as note;
+ghost use Rattle.wire_state.specs.Worlds.{Goes, Keeps, KeepsOk};
 
-use crate::drains::{drain_by, next_unit};
-use flow_gate::{BufferId, FlowId};
-use flow_notes::{Cause, Note, Notes};
+use crate::drains::{drain_at, drain_by, next_unit};
+use crate::moves::go_on;
+use flow_notes::{Cause, Notes};
 use io_ports::NoMemory;
 use wire_ends::{Origin, doom};
-use wire_flows::{Moved, Outcome};
-use wire_state::{Course, NextUnit, Task, WireCore, note};
+use wire_flows::Outcome;
+use wire_state::{Course, NextUnit, Task, WireCore};
 
 /// The task AskRun: the flow is run, unless it is being run. Its first move is made at once.
 pub fn ask_run(core: &mut WireCore, course: Course, notes: &mut Notes) -> Result<(), NoMemory>
@@ -31,11 +28,14 @@ pub fn ask_run(core: &mut WireCore, course: Course, notes: &mut Notes) -> Result
     if core.agenda.is_running(course.flow) {
         return Ok(());
     }
+    if !core.flows.holds(course.flow) {
+        return drain_both(core, course, notes);
+    }
     core.begin(Task::Run {
         course,
         tried: false,
     })?;
-    run(core, course, false, notes)
+    move_on(core, course, false, notes)
 }
 
 /// The task Run: a move; where none may go, its connections are drained, and it is looked at once more.
@@ -52,19 +52,18 @@ pub fn run(
     ensures notes { Appends notes.old notes.new }
     ensures octets { Goes result core.old notes.old core.new notes.new }
 {
-    if !core.flows.holds(course.flow) {
-        return run_empty(core, course, tried, notes);
+    if core.flows.holds(course.flow) {
+        return move_on(core, course, tried, notes);
     }
-    match core.flows.step(course.flow)? {
-        Outcome::Moved(moved) => go_on(core, course, moved, notes),
-        Outcome::TooLarge => overfull(core, course, tried, notes),
-        Outcome::Still => stop(core, course, tried, notes),
+    core.end_task();
+    if tried {
+        return Ok(());
     }
+    drain_both(core, course, notes)
 }
 
-// A flow without octets has nothing to move, and a drain brings it none: it isn't looked at once more. Its connections are
-// drained, the one that it goes to first and at once.
-fn run_empty(
+// A move of a flow with octets, which is being run.
+fn move_on(
     core: &mut WireCore,
     course: Course,
     tried: bool,
@@ -77,29 +76,37 @@ fn run_empty(
     ensures notes { Appends notes.old notes.new }
     ensures octets { Goes result core.old notes.old core.new notes.new }
 {
-    core.end_task();
-    if tried {
-        return Ok(());
-    }
-    let unit = unit_to(core, course.to);
-    ask_drain_next(core, course.from)?;
-    match unit {
-        Some((to, unit)) => drain_by(core, to, unit, notes),
-        None => Ok(()),
+    match core.flows.step(course.flow)? {
+        Outcome::Moved(moved) => go_on(core, course, moved, notes),
+        Outcome::TooLarge => overfull(core, course, tried, notes),
+        Outcome::Still => stop(core, course, tried, notes),
     }
 }
 
-// A connection, if there is one, is to be drained next, unless that is what goes on next.
-fn ask_drain_next(core: &mut WireCore, conn: Option<u32>) -> Result<(), NoMemory>
+// A flow without octets has nothing to move, and a drain brings it none: it isn't looked at once more. Its connections are
+// drained, the one that it goes to first and at once.
+fn drain_both(core: &mut WireCore, course: Course, notes: &mut Notes) -> Result<(), NoMemory>
     requires sound { IsSound core.old }
     ensures sound { OnOk result (IsSound core.new) }
     ensures go { OnOk result (to_go core.new ≤ to_go core.old + 2) }
-    ensures rest { core.new ≡ record core.old { agenda = core.new.agenda } }
-    ensures octets { KeepsOk result core.old core.new }
+    ensures notes { Appends notes.old notes.new }
+    ensures octets { Goes result core.old notes.old core.new notes.new }
 {
+    let from = next_from(core, course.from);
+    match unit_to(core, course.to) {
+        Some((to, unit)) => {
+            ask_drain(core, from)?;
+            drain_by(core, to, unit, notes)
+        }
+        None => drain_at(core, from, notes),
+    }
+}
+
+// The connection that is to be drained next, if there is one: none where that is what goes on next.
+fn next_from(core: &WireCore, conn: Option<u32>) -> Option<u32> {
     match (core.agenda.top(), conn) {
-        (Some(Task::AskDrain(next)), Some(conn)) if next == conn => Ok(()),
-        _ => ask_drain(core, conn),
+        (Some(Task::AskDrain(next)), Some(conn)) if next == conn => None,
+        _ => conn,
     }
 }
 
@@ -184,6 +191,9 @@ fn unit_to(core: &mut WireCore, conn: Option<u32>) -> Option<(u32, NextUnit)>
     ensures octets { Keeps core.old core.new }
 {
     let number = conn?;
+    if core.stirred.is_calm(number) {
+        return None;
+    }
     let unit = next_unit(core, number)?;
     Some((number, unit))
 }
@@ -193,17 +203,17 @@ fn may_frame(core: &mut WireCore, conn: Option<u32>) -> bool
     requires sound { IsSound core.old }
     ensures sound { IsSound core.new }
     ensures go { to_go core.new ≤ to_go core.old }
-    ensures rest { core.new ≡ record core.old { conns = core.new.conns } }
+    ensures rest { core.new ≡ record core.old { conns = core.new.conns; stirred = core.new.stirred } }
     ensures octets { Keeps core.old core.new }
 {
     match conn {
-        Some(conn) => core.may_frame(conn),
+        Some(conn) => !core.stirred.is_calm(conn) && core.may_frame(conn),
         None => false,
     }
 }
 
-// A connection, if there is one, is to be drained.
-fn ask_drain(core: &mut WireCore, conn: Option<u32>) -> Result<(), NoMemory>
+/// A connection, if there is one, is to be drained.
+pub(crate) fn ask_drain(core: &mut WireCore, conn: Option<u32>) -> Result<(), NoMemory>
     requires sound { IsSound core.old }
     ensures sound { OnOk result (IsSound core.new) }
     ensures go { OnOk result (to_go core.new ≤ to_go core.old + 2) }
@@ -238,133 +248,4 @@ fn too_large(core: &mut WireCore, course: Course, notes: &mut Notes) -> Result<(
         Origin::of(course.flow),
         notes,
     )
-}
-
-// What a move begins, and its notes.
-fn go_on(
-    core: &mut WireCore,
-    course: Course,
-    moved: Moved,
-    notes: &mut Notes,
-) -> Result<(), NoMemory>
-    requires sound { IsSound core.old }
-    requires top { 1 ≤ top_go core.old.agenda }
-    requires moved { IsMove course.flow (Outcome.Moved moved) }
-    ensures sound { OnOk result (IsSound core.new) }
-    ensures go { OnOk result (to_go core.new ≤ to_go core.old + 11) }
-    ensures notes { Appends notes.old notes.new }
-    ensures octets { Goes result core.old (notes.old ++ note.Move course.flow moved.place moved.n ∷ []) core.new notes.new }
-{
-    core.go_on(Task::Run {
-        course,
-        tried: false,
-    })?;
-    ask_drain(core, course.to)?;
-    core.touch(course.flow.exchange)?;
-    owe_moved(core, course, moved)?;
-    core.stir_some(course.to)?;
-    core.refresh(course)?;
-    note(
-        notes,
-        Note::Move {
-            flow: course.flow,
-            place: moved.place,
-            n: moved.n,
-        },
-    )?;
-    cross(core, course, moved, notes)
-}
-
-// Octets that left the receive buffer are owed to the stream and the connection that they came from.
-fn owe_moved(core: &mut WireCore, course: Course, moved: Moved) -> Result<(), NoMemory>
-    requires sound { IsSound core.old }
-    ensures sound { OnOk result (IsSound core.new) }
-    ensures go { OnOk result (to_go core.new ≤ to_go core.old + 1) }
-    ensures octets { KeepsOk result core.old core.new }
-{
-    match course.from {
-        Some(from) if moved.place == 0 => owe_from(core, from, course.flow.exchange, moved.n),
-        _ => Ok(()),
-    }
-}
-
-fn owe_from(core: &mut WireCore, from: u32, exchange: u64, n: u32) -> Result<(), NoMemory>
-    requires sound { IsSound core.old }
-    ensures sound { OnOk result (IsSound core.new) }
-    ensures go { OnOk result (to_go core.new ≤ to_go core.old + 1) }
-    ensures octets { KeepsOk result core.old core.new }
-{
-    core.stir(from)?;
-    moved_at(core, from, exchange, n)
-}
-
-fn moved_at(core: &mut WireCore, number: u32, exchange: u64, n: u32) -> Result<(), NoMemory>
-    requires sound { IsSound core.old }
-    ensures sound { OnOk result (IsSound core.new) }
-    ensures go { OnOk result (to_go core.new ≤ to_go core.old) }
-    ensures rest { core.new ≡ record core.old { conns = core.new.conns } }
-    ensures octets { KeepsOk result core.old core.new }
-{
-    match core.conns.get_mut(&number) {
-        Some(conn) => conn.moved(exchange, n),
-        None => Ok(()),
-    }
-}
-
-// What a move crossed: the pauses, and then the doom of an overflow, or the telling of a Meter that drained.
-fn cross(
-    core: &mut WireCore,
-    course: Course,
-    moved: Moved,
-    notes: &mut Notes,
-) -> Result<(), NoMemory>
-    requires sound { IsSound core.old }
-    requires moved { IsMove course.flow (Outcome.Moved moved) }
-    ensures sound { OnOk result (IsSound core.new) }
-    ensures go { OnOk result (to_go core.new ≤ to_go core.old + 1) }
-    ensures notes { Appends notes.old notes.new }
-    ensures octets { Goes result core.old notes.old core.new notes.new }
-{
-    note_pause(course.flow, moved.rose, notes)?;
-    if moved.overflow {
-        return core.begin(Task::Doom {
-            exchange: course.flow.exchange,
-            cause: Cause::Overflow,
-        });
-    }
-    match moved.drained {
-        Some(buffer) => resume(core, course, buffer, notes),
-        None => Ok(()),
-    }
-}
-
-// The buffer of a flow that its octets went to became above.
-fn note_pause(flow: FlowId, rose: Option<BufferId>, notes: &mut Notes) -> Result<(), NoMemory>
-    requires { IfSome rose (CanPause flow) }
-    ensures notes { Appends notes.old notes.new }
-    ensures octets { Shows result notes.old notes.new }
-{
-    match rose {
-        Some(buffer) => note(notes, Note::Pause { flow, buffer }),
-        None => Ok(()),
-    }
-}
-
-// The Meter of a flow has drained, and the flow was told.
-fn resume(
-    core: &mut WireCore,
-    course: Course,
-    buffer: BufferId,
-    notes: &mut Notes,
-) -> Result<(), NoMemory>
-    requires sound { IsSound core.old }
-    requires own { CanPause course.flow buffer }
-    ensures sound { OnOk result (IsSound core.new) }
-    ensures go { OnOk result (to_go core.new ≤ to_go core.old) }
-    ensures notes { Appends notes.old notes.new }
-    ensures octets { Goes result core.old notes.old core.new notes.new }
-{
-    let flow = course.flow;
-    core.look_due(course)?;
-    note(notes, Note::Resume { flow, buffer })
 }

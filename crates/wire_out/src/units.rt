@@ -15,6 +15,7 @@ use exchange_core::Unit;
 use flow_gate::{BufferId, FlowId};
 use flow_notes::{Note, Notes};
 use io_ports::NoMemory;
+use wire_ends::end_framed;
 use wire_flows::Framed;
 use wire_state::{Conn, Course, Task, WireCore, note, note_pauses};
 
@@ -161,7 +162,6 @@ fn frame_body(core: &mut WireCore, going: Going, notes: &mut Notes) -> Result<()
     };
     core.stir_course(going.course)?;
     core.touch(flow.exchange)?;
-    end_where(core, flow.exchange, framed.last)?;
     note(
         notes,
         Note::Frame {
@@ -172,7 +172,29 @@ fn frame_body(core: &mut WireCore, going: Going, notes: &mut Notes) -> Result<()
         },
     )?;
     note_risen(core, going.conn, framed.rose, notes)?;
-    resume_where(core, going.course, framed.drained, notes)
+    end_or_resume(core, going.course, framed, notes)
+}
+
+// What a DATA frame begins. Where the send buffer of its flow has drained, the flow runs before it is looked at whether its
+// exchange is done.
+fn end_or_resume(
+    core: &mut WireCore,
+    course: Course,
+    framed: Framed,
+    notes: &mut Notes,
+) -> Result<(), NoMemory>
+    requires sound { IsSound core.old }
+    ensures sound { OnOk result (IsSound core.new) }
+    ensures go { OnOk result (to_go core.new ≤ to_go core.old + 10) }
+    ensures notes { Appends notes.old notes.new }
+    ensures octets { Goes result core.old notes.old core.new notes.new }
+{
+    let exchange = course.flow.exchange;
+    if !framed.drained {
+        return end_where(core, exchange, framed.last, notes);
+    }
+    ask_end(core, exchange, framed.last)?;
+    resume(core, course, notes)
 }
 
 // The octets of a DATA frame go from the send buffer into the write buffer, under both windows. None where there is no such
@@ -213,8 +235,8 @@ fn write_body_on(
     }
 }
 
-/// Where the end of a flow of the exchange was framed, it is looked at whether it is done.
-pub(crate) fn end_where(core: &mut WireCore, exchange: u64, last: bool) -> Result<(), NoMemory>
+// Where the end of a flow of the exchange was framed, it is looked at whether it is done, behind what goes on before.
+fn ask_end(core: &mut WireCore, exchange: u64, last: bool) -> Result<(), NoMemory>
     requires sound { IsSound core.old }
     ensures sound { OnOk result (IsSound core.new) }
     ensures go { OnOk result (to_go core.new ≤ to_go core.old + 1) }
@@ -223,6 +245,25 @@ pub(crate) fn end_where(core: &mut WireCore, exchange: u64, last: bool) -> Resul
 {
     if last {
         return core.begin(Task::End(exchange));
+    }
+    Ok(())
+}
+
+/// Where the end of a flow of the exchange was framed, it is looked at whether it is done.
+pub(crate) fn end_where(
+    core: &mut WireCore,
+    exchange: u64,
+    last: bool,
+    notes: &mut Notes,
+) -> Result<(), NoMemory>
+    requires sound { IsSound core.old }
+    ensures sound { OnOk result (IsSound core.new) }
+    ensures go { OnOk result (to_go core.new ≤ to_go core.old) }
+    ensures notes { Appends notes.old notes.new }
+    ensures octets { Goes result core.old notes.old core.new notes.new }
+{
+    if last {
+        return end_framed(core, exchange, notes);
     }
     Ok(())
 }
@@ -238,22 +279,14 @@ fn note_risen(core: &WireCore, conn: u32, rose: bool, notes: &mut Notes) -> Resu
     Ok(())
 }
 
-// Where the send buffer of a flow has drained, the flow is told, and runs.
-fn resume_where(
-    core: &mut WireCore,
-    course: Course,
-    drained: bool,
-    notes: &mut Notes,
-) -> Result<(), NoMemory>
+// The send buffer of a flow has drained: the flow is told, and runs.
+fn resume(core: &mut WireCore, course: Course, notes: &mut Notes) -> Result<(), NoMemory>
     requires sound { IsSound core.old }
     ensures sound { OnOk result (IsSound core.new) }
     ensures go { OnOk result (to_go core.new ≤ to_go core.old + 9) }
     ensures notes { Appends notes.old notes.new }
     ensures octets { Goes result core.old notes.old core.new notes.new }
 {
-    if !drained {
-        return Ok(());
-    }
     let flow = course.flow;
     core.look_due(course)?;
     core.ask_run(course)?;

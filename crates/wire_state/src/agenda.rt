@@ -105,7 +105,8 @@ impl Agenda {
         ensures ok { OnOk result (self.new ≡ task ∷ self.old) }
         ensures err { OnErr result (self.new ≡ self.old) }
     {
-        self.tasks.push(task)?;
+        self.tasks.reserve(1)?;
+        self.tasks.push_reserved(task);
         Ok(())
     }
 

@@ -11,9 +11,9 @@ use crate::ready::Ready;
 use exchange_core::Unit;
 use h2_windows::Overrun;
 use io_ports::NoMemory;
+use number_set::NumberSet;
 use proxy_config::LimitKeys;
 use std::alloc::Global;
-use std::collections::BTreeSet;
 use wire_inlet::{Inlet, Peer};
 use wire_outlet::Outlet;
 use wire_windows::{Came, ConnWindows};
@@ -41,7 +41,7 @@ pub struct Conn {
     pub windows: ConnWindows,
     pub ready: Ready,
     /// Exchanges whose stream may be due a WINDOW_UPDATE, and whose flow from here nothing may hold back.
-    pub credits: BTreeSet<u64>,
+    pub credits: NumberSet,
     /// The exchange of which a unit was framed last, 0 before the first.
     pub framed_last: u64,
     /// How many streams the client reset, and how many of its exchanges were done.
@@ -72,7 +72,7 @@ impl Conn {
             outlet: Outlet::new(alloc, limits.write_buffer, unit)?,
             windows: ConnWindows::new(alloc, limits.connection_window, limits.stream_window),
             ready: Ready::new(alloc),
-            credits: BTreeSet::new(alloc),
+            credits: NumberSet::new(alloc),
             framed_last: 0,
             peer_resets: 0,
             done: 0,
@@ -204,7 +204,8 @@ impl Conn {
         ensures go { conn_go self.new ≡ conn_go self.old }
     {
         if self.is_due(exchange) {
-            self.credits.insert(exchange)?;
+            self.credits.reserve_one()?;
+            self.credits.insert(exchange);
         }
         Ok(())
     }
@@ -240,7 +241,7 @@ impl Conn {
         ensures rest { self.new ≡ record self.old { windows = self.new.windows; credits = self.new.credits } }
         ensures go { conn_go self.new ≤ conn_go self.old }
     {
-        let _ = self.credits.remove(&exchange);
+        self.credits.remove(exchange);
         self.windows.recv.ended(exchange);
         self.stream_ended(exchange, stream);
     }
@@ -269,7 +270,7 @@ impl Conn {
         ensures go { conn_go self.new + 4 * result ≤ conn_go self.old }
         ensures fits { result < 2 ^ 31 }
     {
-        let _ = self.credits.remove(&exchange);
+        self.credits.remove(exchange);
         self.windows.recv.grant(exchange).min(LAST_STREAM)
     }
 
@@ -332,7 +333,7 @@ impl Conn {
         self.windows.recv.dropped(exchange, left);
         self.windows.send.close(exchange);
         self.ready.remove(exchange);
-        let _ = self.credits.remove(&exchange);
+        self.credits.remove(exchange);
         if !done {
             return was_open;
         }

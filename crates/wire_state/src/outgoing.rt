@@ -17,6 +17,7 @@ ghost use Rattle.wire_state.specs.Progress.{conn_go};
 ghost use Rattle.wire_state.specs.Sound.{IsKept};
 
 use crate::conn::{Conn, is_stream};
+use exchange_core::Unit;
 use flow_gate::FlowId;
 use io_ports::{NoMemory, Octets};
 use wire_flows::{Framed as FramedBody, WireFlows};
@@ -152,9 +153,19 @@ impl Conn {
         let framed = self.outlet.frame_block(stream, last, fields)?;
         flows.list_framed(flow, last);
         let room = self.windows.send.room(flow.exchange).unwrap_or(0);
-        let next = flows.next_unit(flow, room, self.windows.send.payload());
+        let next = self.next_behind(flows, flow, last, room);
         self.framed(flow.exchange, stream, last, next, room)?;
         Ok(Some(framed))
+    }
+
+    // What goes next of a flow of which a list was framed: nothing behind its end.
+    fn next_behind(&self, flows: &WireFlows, flow: FlowId, last: bool, room: i64) -> Unit
+        requires { IsThere flows.now flow }
+    {
+        if last {
+            return Unit::Nothing;
+        }
+        flows.next_unit(flow, room, self.windows.send.payload())
     }
 
     /// The next octets of a flow go from its send buffer into the write buffer of this connection, as a DATA frame on its stream,

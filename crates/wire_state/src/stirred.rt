@@ -3,6 +3,7 @@ ghost use Rattle.number_set.specs.NumberSet.{has};
 ghost use Rattle.std.specs.Prelude.{◌≡◌, ◌≤◌, ◌<◌, ◌+◌, IfSome, length};
 ghost use Rattle.wire_state.specs.Agenda.{stirred_at};
 
+use crate::recent::Recent;
 use io_ports::NoMemory;
 use number_set::NumberSet;
 use std::alloc::Global;
@@ -13,6 +14,10 @@ pub struct Stirred {
     pub conns: NumberSet,
     /// Those of them that a tick hasn't looked at, and perhaps others.
     pub fresh: Vec<u32>,
+    /// Some that were looked at: nothing could be framed there, they weren't draining, and nothing has changed there since.
+    calm: Recent,
+    /// Some of the set that aren't calm.
+    busy: Recent,
 }
 
 impl Stirred {
@@ -21,12 +26,28 @@ impl Stirred {
         Stirred {
             conns: NumberSet::new(alloc),
             fresh: Vec::new(alloc),
+            calm: Recent::none(),
+            busy: Recent::none(),
         }
     }
 
     /// Something changed at a connection.
     #[inline(always)]
     pub fn add(&mut self, conn: u32) -> Result<(), NoMemory>
+        ensures { length self.new.conns.items ≤ length self.old.conns.items + 1 }
+    {
+        if self.busy.has(u64::from(conn)) {
+            return Ok(());
+        }
+        self.put(conn)?;
+        self.calm.remove(conn);
+        self.busy.add(conn);
+        Ok(())
+    }
+
+    // The connection is in the set from now on.
+    #[inline(never)]
+    fn put(&mut self, conn: u32) -> Result<(), NoMemory>
         ensures { length self.new.conns.items ≤ length self.old.conns.items + 1 }
     {
         if self.has(conn) {
@@ -36,6 +57,41 @@ impl Stirred {
         self.conns.insert(u64::from(conn));
         self.fresh.push(conn)?;
         Ok(())
+    }
+
+    /// Whether nothing is to be done at a connection: it was looked at, and nothing has changed there since.
+    #[inline(always)]
+    pub fn is_calm(&self, conn: u32) -> bool {
+        self.calm.has(u64::from(conn))
+    }
+
+    /// Whether nothing is to be done at any of them: they are at most two, and calm. Where it is false there may be nothing
+    /// either.
+    #[inline(always)]
+    pub fn are_calm(&self) -> bool {
+        match (self.conns.first(), self.conns.last()) {
+            (Some(first), Some(last)) => {
+                self.conns.len() <= 2 && self.calm.has(first) && self.calm.has(last)
+            }
+            _ => true,
+        }
+    }
+
+    /// A connection was looked at that isn't draining, and at which nothing can be framed.
+    #[inline(always)]
+    pub fn calm_down(&mut self, conn: u32)
+        ensures { length self.new.conns.items ≡ length self.old.conns.items }
+    {
+        self.calm.add(conn);
+        self.busy.remove(conn);
+    }
+
+    /// A connection may have something to frame from now on.
+    #[inline(always)]
+    pub fn rouse(&mut self, conn: u32)
+        ensures { length self.new.conns.items ≡ length self.old.conns.items }
+    {
+        self.calm.remove(conn);
     }
 
     /// Whether the dispatch changed anything at a connection.
@@ -65,6 +121,7 @@ impl Stirred {
         ensures { length self.new.conns.items + stirred_at conn self.old.conns.items ≡ length self.old.conns.items }
     {
         self.conns.remove(u64::from(conn));
+        self.busy.remove(conn);
     }
 
     /// Takes out the last.
@@ -72,8 +129,9 @@ impl Stirred {
         ensures { IfSome result (λ c. length self.new.conns.items < length self.old.conns.items) }
     {
         self.fresh.clear();
-        let last = self.conns.last()?;
-        self.conns.remove(last);
+        self.calm = Recent::none();
+        self.busy = Recent::none();
+        let last = self.conns.pop_last()?;
         u32::try_from(last).ok()
     }
 }

@@ -59,11 +59,11 @@ impl Conn {
         ensures go { conn_go self.new ≡ conn_go self.old }
     {
         let back = !self.is_client();
-        while let Some(exchange) = self.credits.first().copied() {
+        while let Some(exchange) = self.credits.first() {
             if self.is_due(exchange) && flows.is_readable(FlowId { exchange, back }) {
                 return Some(exchange);
             }
-            let _ = self.credits.pop_first();
+            self.credits.remove(exchange);
         }
         None
     }

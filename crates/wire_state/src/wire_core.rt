@@ -22,7 +22,6 @@ use io_ports::NoMemory;
 use paged_map::PagedMap;
 use proxy_config::Config;
 use std::alloc::Global;
-use std::collections::BTreeSet;
 use wire_flows::WireFlows;
 use wire_heads::Expected;
 use wire_links::Links;
@@ -49,7 +48,7 @@ pub struct WireCore {
     /// The open connections, and closed ones with octets in their write buffer.
     pub conns: PagedMap<u32, Conn>,
     /// Of these, at rest, the ones with octets in their write buffer.
-    pub outs: BTreeSet<u32>,
+    pub outs: PagedMap<u32, ()>,
     pub flows: WireFlows,
     /// By live exchange.
     pub lengths: PagedMap<u64, Lengths>,
@@ -87,7 +86,7 @@ impl WireCore {
             obeyed: 0,
             links: Links::new(alloc),
             conns: PagedMap::new(alloc),
-            outs: BTreeSet::new(alloc),
+            outs: PagedMap::new(alloc),
             flows: WireFlows::new(alloc),
             lengths: PagedMap::new(alloc),
             timers,
@@ -201,6 +200,20 @@ impl WireCore {
         }
     }
 
+    /// A connection, if there is one, may have something to frame that it hadn't.
+    pub fn rouse_some(&mut self, conn: Option<u32>)
+        requires sound { IsSound self.old }
+        ensures sound { IsSound self.new }
+        ensures go { to_go self.new ≡ to_go self.old }
+        ensures rest { self.new ≡ record self.old { stirred = self.new.stirred } }
+        ensures octets { Keeps self.old self.new }
+    {
+        match conn {
+            Some(conn) => self.stirred.rouse(conn),
+            None => {}
+        }
+    }
+
     /// The flow is to be run.
     pub fn ask_run(&mut self, course: Course) -> Result<(), NoMemory>
         requires sound { IsSound self.old }
@@ -287,74 +300,6 @@ impl WireCore {
         let exchange = self.links.exchange_at(conn, stream)?;
         let ends = self.links.ends_of(exchange)?;
         Some(Course::of(exchange, ends.client == conn, ends))
-    }
-
-    /// Whether something may be framed at a connection.
-    pub fn may_frame(&mut self, conn: u32) -> bool
-        requires sound { IsSound self.old }
-        ensures sound { IsSound self.new }
-        ensures go { to_go self.new ≡ to_go self.old }
-        ensures rest { self.new ≡ record self.old { conns = self.new.conns } }
-        ensures octets { Keeps self.old self.new }
-    {
-        match self.conns.get_mut(&conn) {
-            Some(conn) => conn.may_frame(&self.flows),
-            None => false,
-        }
-    }
-
-    /// Nothing holds the flow back any more: where its stream is due a WINDOW_UPDATE, that may be framed.
-    pub fn look_due(&mut self, course: Course) -> Result<(), NoMemory>
-        requires sound { IsSound self.old }
-        ensures sound { OnOk result (IsSound self.new) }
-        ensures go { to_go self.new ≤ to_go self.old }
-        ensures rest { self.new ≡ record self.old { conns = self.new.conns } }
-        ensures octets { Keeps self.old self.new }
-    {
-        match course.from {
-            Some(from) => self.look_due_at(from, course.flow.exchange),
-            None => Ok(()),
-        }
-    }
-
-    fn look_due_at(&mut self, number: u32, exchange: u64) -> Result<(), NoMemory>
-        requires sound { IsSound self.old }
-        ensures sound { OnOk result (IsSound self.new) }
-        ensures go { to_go self.new ≤ to_go self.old }
-        ensures rest { self.new ≡ record self.old { conns = self.new.conns } }
-        ensures octets { Keeps self.old self.new }
-    {
-        match self.conns.get_mut(&number) {
-            Some(conn) => conn.look_due(exchange),
-            None => Ok(()),
-        }
-    }
-
-    /// Looks up what goes next of a flow of a live exchange, for the connection that it goes to.
-    pub fn refresh(&mut self, course: Course) -> Result<(), NoMemory>
-        requires sound { IsSound self.old }
-        ensures sound { OnOk result (IsSound self.new) }
-        ensures go { to_go self.new ≤ to_go self.old }
-        ensures rest { self.new ≡ record self.old { conns = self.new.conns } }
-        ensures octets { Keeps self.old self.new }
-    {
-        match course.to {
-            Some(to) => self.refresh_at(to, course.flow),
-            None => Ok(()),
-        }
-    }
-
-    fn refresh_at(&mut self, number: u32, flow: FlowId) -> Result<(), NoMemory>
-        requires sound { IsSound self.old }
-        ensures sound { OnOk result (IsSound self.new) }
-        ensures go { to_go self.new ≤ to_go self.old }
-        ensures rest { self.new ≡ record self.old { conns = self.new.conns } }
-        ensures octets { Keeps self.old self.new }
-    {
-        match self.conns.get_mut(&number) {
-            Some(conn) => conn.refresh(&self.flows, flow),
-            None => Ok(()),
-        }
     }
 
     /// The message of the flow ended: no more is owed to its stream, and a request's response is awaited from now on.

@@ -4,3 +4,4 @@ pub mod Keeping
 pub mod Maps
 pub mod Sending
 pub mod Sums
+pub mod Walking

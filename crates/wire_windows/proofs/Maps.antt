@@ -1,14 +1,17 @@
 -- Finite maps by number: what is found in them, and the entries that make them.
+use Rattle.number_set.proofs.Tests.{at_eq}
+use Rattle.number_set.specs.NumberMap.{IsSorted}
 use Rattle.std.proofs.Common.{ap, arith, refl, sym, ◌∙◌}
-use Rattle.std.proofs.lemmas.Bool.{false≢true}
 use Rattle.std.proofs.lemmas.Bool.Decides.{nat_tests}
+use Rattle.std.proofs.lemmas.Map.Keys.{IsDistinct-from_sorted}
+use Rattle.std.specs.BTreeMap.{is_at}
 use Rattle.std.specs.Cmp.{nat_cmp_total}
 use Rattle.std.specs.FinMap.{FinMap, contains_key, from_entries, get, get-from_entries, get-insert, get-remove, insert, len, len-empty, len-insert, nat_cmp-IsAntisymmetric, remove, same_map}
 use Rattle.std.specs.FinMap.Entries.{find}
-use Rattle.std.specs.List.{AllByRecursion, IsDistinct, list_all}
+use Rattle.std.specs.List.{AllByRecursion, IsDistinct}
 use Rattle.std.specs.Map.{keys_of, lookup}
 use Rattle.std.specs.Ordering.{eq_by_cmp, nat_cmp}
-use Rattle.std.specs.Prelude.{Bool, IfSome, List, None, Some, [], cond, false, is_some, length, nat_eq, true, ℕ, ◌&&◌, ◌+◌, ◌∷◌, ◌≡◌}
+use Rattle.std.specs.Prelude.{Bool, List, None, Some, [], cond, false, is_some, length, nat_eq, true, ℕ, ◌+◌, ◌∷◌, ◌≡◌}
 
 pub eq_by_number : (x y : ℕ) → eq_by_cmp nat_cmp x y ≡ nat_eq x y
 eq_by_number x y = grind (arith, nat_tests)
@@ -67,66 +70,38 @@ module _ {X : Type 0} where
       at q false e = refl
 
   -- ---- the entries
-  find_number : (es : List (ℕ × X)) (q : ℕ) → find nat_cmp q es ≡ lookup (nat_eq q) es
+  find_number : (es : List (ℕ × X)) (q : ℕ) → find nat_cmp q es ≡ lookup (is_at (nat_cmp q)) es
   find_number [] q = refl
-  find_number (e ∷ es) q = (λ i. cond (eq_by_number q e.0 i) (Some e.1) (find_number es q i))
+  find_number (e ∷ es) q = (λ i. cond ((eq_by_number q e.0 ∙ sym (at_eq q e.0)) i) (Some e.1) (find_number es q i))
 
-  pub found : (es : List (ℕ × X)) (q : ℕ) → get (from_entries {R = nat_cmp} es) q ≡ lookup (nat_eq q) es
+  pub found : (es : List (ℕ × X)) (q : ℕ) → get (from_entries {R = nat_cmp} es) q ≡ lookup (is_at (nat_cmp q)) es
   found es q = get-from_entries nat_cmp_total es q ∙ find_number es q
 
   -- entries that differ at one number
-  pub one_put : (es fs : List (ℕ × X)) (k : ℕ) (v : X) → ((q : ℕ) → lookup (nat_eq q) fs ≡ cond (nat_eq k q) (Some v) (lookup (nat_eq q) es)) →
+  pub one_put : (es fs : List (ℕ × X)) (k : ℕ) (v : X) → ((q : ℕ) → lookup (is_at (nat_cmp q)) fs ≡ cond (is_at (nat_cmp k) q) (Some v) (lookup (is_at (nat_cmp q)) es)) →
       from_entries {R = nat_cmp} fs ≡ insert (from_entries es) k v
-  one_put es fs k v at = same (from_entries fs) (insert (from_entries es) k v) (λ q. found fs q ∙ at q ∙ ap (cond (nat_eq k q) (Some v)) (sym (found es q)) ∙ sym (get_insert (from_entries es) k v q))
+  one_put es fs k v at = same (from_entries fs) (insert (from_entries es) k v) (λ q. found fs q ∙ at q ∙ ap (λ b. cond b (Some v) (lookup (is_at (nat_cmp q)) es)) (at_eq k q)
+      ∙ ap (cond (nat_eq k q) (Some v)) (sym (found es q)) ∙ sym (get_insert (from_entries es) k v q))
 
-  pub one_gone : (es fs : List (ℕ × X)) (k : ℕ) → ((q : ℕ) → lookup (nat_eq q) fs ≡ cond (nat_eq k q) None (lookup (nat_eq q) es)) →
+  pub one_gone : (es fs : List (ℕ × X)) (k : ℕ) → ((q : ℕ) → lookup (is_at (nat_cmp q)) fs ≡ cond (is_at (nat_cmp k) q) None (lookup (is_at (nat_cmp q)) es)) →
       from_entries {R = nat_cmp} fs ≡ remove (from_entries es) k
-  one_gone es fs k at = same (from_entries fs) (remove (from_entries es) k) (λ q. found fs q ∙ at q ∙ ap (cond (nat_eq k q) None) (sym (found es q)) ∙ sym (get_remove (from_entries es) k q))
+  one_gone es fs k at = same (from_entries fs) (remove (from_entries es) k) (λ q. found fs q ∙ at q ∙ ap (λ b. cond b None (lookup (is_at (nat_cmp q)) es)) (at_eq k q)
+      ∙ ap (cond (nat_eq k q) None) (sym (found es q)) ∙ sym (get_remove (from_entries es) k q))
 
-  not_among : (k : ℕ) (es : List (ℕ × X)) → AllByRecursion (λ y. nat_eq k y ≡ false) (keys_of es) → is_some (lookup (nat_eq k) es) ≡ false
+  not_among : (k : ℕ) (es : List (ℕ × X)) → AllByRecursion (λ y. eq_by_cmp nat_cmp k y ≡ false) (keys_of es) → is_some (lookup (is_at (nat_cmp k)) es) ≡ false
   not_among k [] none = refl
-  not_among k (e ∷ es) none = ap (λ b. is_some (cond b (Some e.1) (lookup (nat_eq k) es))) none.0 ∙ not_among k es none.1
+  not_among k (e ∷ es) none = ap (λ b. is_some (cond b (Some e.1) (lookup (is_at (nat_cmp k)) es))) (at_eq k e.0 ∙ sym (eq_by_number k e.0) ∙ none.0) ∙ not_among k es none.1
 
-  -- how many there are, where no number stands twice
-  pub count_of : (es : List (ℕ × X)) → IsDistinct nat_eq (keys_of es) → len (from_entries {R = nat_cmp} es) ≡ length es
+  distinct_count : (es : List (ℕ × X)) → IsDistinct (eq_by_cmp nat_cmp) (keys_of es) → len (from_entries {R = nat_cmp} es) ≡ length es
   unfolding IsDistinct
-  count_of [] distinct = len-empty nat_cmp X
-  count_of (e ∷ es) distinct =
+  distinct_count [] distinct = len-empty nat_cmp X
+  distinct_count (e ∷ es) distinct =
       let absent : contains_key (from_entries {R = nat_cmp} es) e.0 ≡ false = ap is_some (found es e.0) ∙ not_among e.0 es distinct.0 in
-      let before : len (from_entries {R = nat_cmp} es) ≡ length es = count_of es distinct.1 in
+      let before : len (from_entries {R = nat_cmp} es) ≡ length es = distinct_count es distinct.1 in
       len-insert nat_cmp_total (from_entries es) e.0 e.1
       ∙ ap (λ b. cond b (len (from_entries {R = nat_cmp} es)) (len (from_entries {R = nat_cmp} es) + 1)) absent
       ∙ omega (arith, before)
 
-  -- an entry that fails a test is found at its number, where no number stands twice
-  pub one_refused : (p : X → Bool) (es : List (ℕ × X)) → IsDistinct nat_eq (keys_of es) → list_all (λ e. p e.1) es ≡ false → (k : ℕ) × (v : X) × (lookup (nat_eq k) es ≡ Some v) × (p v ≡ false)
-  unfolding IsDistinct
-  one_refused p [] distinct refused = absurd (false≢true (sym refused))
-  one_refused p (e ∷ es) distinct refused = at (p e.1) refl refused (one_refused p es distinct.1)
-    where
-      -- one behind the first has another number
-      other : (k : ℕ) (v : X) → lookup (nat_eq k) es ≡ Some v → (b : Bool) → nat_eq k e.0 ≡ b → nat_eq k e.0 ≡ false
-      other k v there false is = is
-      other k v there true is =
-          let same : e.0 ≡ k = grind (arith, nat_tests) in
-          let none : is_some (lookup (nat_eq k) es) ≡ false = ap (λ q. is_some (lookup (nat_eq q) es)) (sym same) ∙ not_among e.0 es distinct.0 in
-          absurd (false≢true (sym none ∙ ap is_some there))
-
-      at : (b : Bool) → p e.1 ≡ b → (b && list_all (λ e. p e.1) es) ≡ false
-          → (list_all (λ e. p e.1) es ≡ false → (k : ℕ) × (v : X) × (lookup (nat_eq k) es ≡ Some v) × (p v ≡ false))
-          → (k : ℕ) × (v : X) × (lookup (nat_eq k) (e ∷ es) ≡ Some v) × (p v ≡ false)
-      at false not more rest = (e.0, e.1, ap (λ b. cond b (Some e.1) (lookup (nat_eq e.0) es)) (here e.0), not)
-      at true passes more rest =
-          let found : (k : ℕ) × (v : X) × (lookup (nat_eq k) es ≡ Some v) × (p v ≡ false) = rest more in
-          (found.0, found.1, ap (λ b. cond b (Some e.1) (lookup (nat_eq found.0) es)) (other found.0 found.1 found.2 (nat_eq found.0 e.0) refl) ∙ found.2, found.3)
-
-  -- all entries pass, so what is found does
-  pub all_pass : (p : X → Bool) (es : List (ℕ × X)) → list_all (λ e. p e.1) es ≡ true → (k : ℕ) → IfSome (lookup (nat_eq k) es) (λ v. p v ≡ true)
-  all_pass p [] all k = tt
-  all_pass p (e ∷ es) all k = at (nat_eq k e.0) (p e.1) refl all (λ rest. all_pass p es rest k)
-    where
-      at : (b c : Bool) → p e.1 ≡ c → (c && list_all (λ e. p e.1) es) ≡ true → (list_all (λ e. p e.1) es ≡ true → IfSome (lookup (nat_eq k) es) (λ v. p v ≡ true))
-          → IfSome (cond b (Some e.1) (lookup (nat_eq k) es)) (λ v. p v ≡ true)
-      at true true is rest more = is
-      at false true is rest more = more rest
-      at b false is rest more = absurd (false≢true rest)
+  -- how many there are
+  pub count_of : (es : List (ℕ × X)) → IsSorted es → len (from_entries {R = nat_cmp} es) ≡ length es
+  count_of es sorted = distinct_count es (IsDistinct-from_sorted nat_cmp (keys_of es) sorted)

@@ -5,14 +5,14 @@ ghost use Rattle.std.specs.Prelude.{◌≡◌, ◌^◌, ◌<◌, IsSome, OnErr, 
 mod shifts;
 
 use io_ports::NoMemory;
+use paged_map::PagedMap;
 use std::alloc::Global;
-use std::collections::HashMap;
 use std::marker::Model;
 
 /// A value for each of some exchanges, found by the exchange's number.
 #[derive(Drop)]
 pub(crate) struct ByExchange<T> {
-    map: HashMap<u64, T>,
+    map: PagedMap<u64, T>,
 }
 
 impl<T> Model for ByExchange<T> {
@@ -33,7 +33,7 @@ impl<T: Copy> ByExchange<T> {
         ensures { result ≡ empty }
     {
         ByExchange {
-            map: HashMap::new(alloc),
+            map: PagedMap::new(alloc),
         }
     }
 
@@ -56,7 +56,7 @@ impl<T: Copy> ByExchange<T> {
         ensures ok { OnOk result (self.new ≡ insert self.old x value) }
         ensures err { OnErr result (self.new ≡ self.old) }
     {
-        self.map.insert(x, value)?;
+        let _ = self.map.insert(x, value)?;
         Ok(())
     }
 

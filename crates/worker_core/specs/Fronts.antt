@@ -1,9 +1,6 @@
 -- What waits for the sockets.
 use Rattle.paged_map.specs.PagedMap.{value_at}
-use Rattle.std.specs.BTreeMap.{is_at}
-use Rattle.std.specs.List.{list_any}
 use Rattle.std.specs.Option.{option_map_or}
-use Rattle.std.specs.Ordering.{nat_cmp}
 use Rattle.std.specs.Prelude.{Bool, IfSome, IsSomeAnd, List, Option, [], is_some, length, take, true, ℕ, ◌<◌, ◌≡◌, ◌≤◌}
 use Rattle.wire_state.specs.declared.wire_core.WireCore.{WireCore}
 
@@ -27,4 +24,4 @@ is_there core c = is_some (value_at c core.conns)
 
 -- it has octets that wait for its socket, as seen at the end of the last dispatch that changed anything there
 abbrev pub has_octets : WireCore → ℕ → Bool
-has_octets core c = list_any (is_at (nat_cmp c)) core.outs.keys
+has_octets core c = is_some (value_at c core.outs)

@@ -32,6 +32,9 @@ pub(crate) fn next_round(core: &mut WireCore, notes: &mut Notes) -> Result<bool,
     ensures notes { Appends notes.old notes.new }
     ensures octets { Goes result core.old notes.old core.new notes.new }
 {
+    if core.stirred.are_calm() {
+        return Ok(false);
+    }
     let Some((conn, work)) = next_work(core) else {
         return Ok(false);
     };
@@ -128,6 +131,9 @@ fn work_at(core: &mut WireCore, number: u32) -> Option<Work>
     ensures rest { core.new ≡ record core.old { conns = core.new.conns } }
     ensures octets { Keeps core.old core.new }
 {
+    if core.stirred.is_calm(number) {
+        return None;
+    }
     match core.conns.get_mut(&number) {
         Some(conn) => work_of(conn, &core.flows, &core.links, number),
         None => None,

@@ -16,7 +16,6 @@ use io_ports::NoMemory;
 use plain_core::CoreFault;
 use proxy_config::Config;
 use std::alloc::Global;
-use std::ops::Bound;
 use wire_ends::{rest, sweep};
 use wire_in::take_event;
 use wire_load::Action;
@@ -121,8 +120,7 @@ impl WireSession {
     pub fn out_after(&self, after: u32) -> Option<u32>
         ensures { IsLeastAbove after (has_octets self.now.core) result }
     {
-        let above = (Bound::Excluded(after), Bound::Unbounded);
-        self.core.outs.range(above).next().copied()
+        self.core.outs.next_above(after)
     }
 
     /// The least number above `after` of a connection that is there.

@@ -10,12 +10,11 @@ use io_ports::NoMemory;
 use number_set::NumberSet;
 use paged_map::PagedMap;
 use std::alloc::Global;
-use std::collections::BTreeMap;
 
 pub(super) type Seats = PagedMap<u32, Seat>;
 
 // By cluster, the connections that can take one more exchange.
-pub(super) type Offers = BTreeMap<u32, NumberSet>;
+pub(super) type Offers = PagedMap<u32, NumberSet>;
 
 /// The state of a connection is another one.
 pub(super) fn set_conn(seats: &mut Seats, conn: u32, state: Conn)
@@ -162,7 +161,7 @@ pub(super) fn make_room(
     ensures room { OnOk result (most ≤ room_at cluster offers.new.entries) }
 {
     if !offers.contains_key(&cluster) {
-        offers.insert(cluster, NumberSet::new(alloc))?;
+        let _ = offers.insert(cluster, NumberSet::new(alloc))?;
     }
     match offers.get_mut(&cluster) {
         Some(numbers) => numbers.reserve(most),

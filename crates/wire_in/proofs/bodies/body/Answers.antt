@@ -6,7 +6,6 @@ use Rattle.std.specs.Prelude.{false, not}
 use Rattle.wire_flows.specs.Flows.{flow_in}
 use Rattle.wire_state.specs.declared.wire_core.WireCore.{WireCore}
 use Rattle.wire_in.proofs.bodies.body.Goals as goal
-use Rattle.wire_state.proofs.Results.{on_ok}
 
 pub enter-requires-clause-goes_on : goal.enter-requires-clause-goes_on
 enter-requires-clause-goes_on c =
@@ -31,5 +30,5 @@ returns-clause-octets c = record {
       let asked = c.in_ok-ask_run.ensures.octets.goes h g start _ (c.count-came.ensures.octets.goes h g start c.args.notes.now t) in
       let entered = c.in_ok-enter.ensures.octets.goes h g start (c.fault_in.ensures.octets.goes h g start _ asked) in
       let ended = c.in_ok-end_where.ensures.octets.goes h g start _ (c.in_ok-finish_where.ensures.octets.goes h g start _ entered) in
-      on_ok c.refresh.result (c.refresh.ensures.octets.goes h g start _ ended);
+      c.refresh_where.ensures.octets.goes h g start _ ended;
 }

@@ -4,8 +4,6 @@ use Rattle.std.proofs.Common.{subst}
 use Rattle.std.proofs.lemmas.List.{append-nil}
 use Rattle.std.specs.Prelude.{List}
 use Rattle.wire_in.proofs.events.room.Goals as goal
-use Rattle.wire_state.proofs.Goings.{bodies_told, gate_bodies}
-use Rattle.wire_state.proofs.Results.{on_ok}
 use Rattle.wire_state.proofs.Turned.{turn_told}
 use Rattle.wire_state.specs.Marks.{footing_of}
 use Rattle.wire_state.specs.Worlds.{Told, left_after}
@@ -24,10 +22,8 @@ returns-then-eq-clause-octets c = record {
   goes = λ h g before k is s left fresh none.
       let old = c.args.core.now in
       let f = left_after (event.Room c.args.number c.args.n) old.conns g in
-      let mid = c.begin.new.self in
       let out = c.in-Some.ensures.octets.goes h g before c.args.notes.now (turn_told old.conns old.flows old.links h g left {l = footing_of old} none k (event.Room c.args.number c.args.n) tt before c.args.notes.now is s) in
-      let noted = c.in_ok-note_out.ensures.octets.goes h f before _ _ _ (c.in_ok-begin.ensures.octets.goes h f before _ (c.in_ok-stir.ensures.octets.goes h f before _ out)) in
-      on_ok c.begin-then-eq.result (c.begin-then-eq.ensures.octets.goes h f before _ (bodies_told mid.flows c.write_drained.new.self (gate_bodies mid.flows c.write_drained.new.self c.write_drained.ensures.rest) mid.conns mid.links h f before _ noted));
+      c.tell_drained.ensures.octets.goes h f before _ (c.in_ok-note_out.ensures.octets.goes h f before _ _ _ (c.in_ok-stir.ensures.octets.goes h f before _ out));
 }
 
 pub returns-clause-octets : goal.returns-clause-octets
@@ -36,5 +32,5 @@ returns-clause-octets c = record {
       let old = c.args.core.now in
       let f = left_after (event.Room c.args.number c.args.n) old.conns g in
       let out = c.in-Some.ensures.octets.goes h g before c.args.notes.now (turn_told old.conns old.flows old.links h g left {l = footing_of old} none k (event.Room c.args.number c.args.n) tt before c.args.notes.now is s) in
-      c.in_ok-note_out.ensures.octets.goes h f before _ _ _ (c.in_ok-begin.ensures.octets.goes h f before _ (c.in_ok-stir.ensures.octets.goes h f before _ out));
+      c.ask_drain.ensures.octets.goes h f before _ (c.in_ok-note_out.ensures.octets.goes h f before _ _ _ (c.in_ok-stir.ensures.octets.goes h f before _ out));
 }

@@ -2,9 +2,9 @@ use Rattle.std.proofs.Common.{arith, subst}
 use Rattle.std.specs.List.Sorted.{IsBinarySearchResult}
 use Rattle.std.specs.Ordering.{nat_cmp}
 use Rattle.std.specs.Prelude.{Err, Ok, length, slice_index, ℕ, ◌+◌, ◌<◌, ◌≤◌}
-use Rattle.number_set.proofs.Searching.{IsFoundAt, IsGapAt, found_at, from_found, gap_at, upto_found}
+use Rattle.number_set.proofs.Searching.{found_at, from_found, gap_at, upto_found}
 use Rattle.number_set.proofs.set.NumberSet.count_upto.Goals as goal
-use Rattle.number_set.specs.NumberSet.{NumberSet}
+use Rattle.number_set.specs.NumberSet.{IsFoundAt, IsGapAt, NumberSet}
 
 pub returns-in-Ok-clause-below : goal.returns-in-Ok-clause-below
 returns-in-Ok-clause-below c =

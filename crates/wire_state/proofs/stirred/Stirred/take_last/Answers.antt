@@ -1,5 +1,5 @@
-use Rattle.std.proofs.Common.{ap, arith}
-use Rattle.std.specs.Prelude.{Bool, IfSome, None, Option, Some, if◌then◌else◌, length, ℕ, ◌<◌}
+use Rattle.std.proofs.Common.{arith}
+use Rattle.std.specs.Prelude.{IfSome, None, Option, Some, length, ◌<◌}
 use Rattle.wire_state.proofs.stirred.Stirred.take_last.Goals as goal
 
 -- what holds anyway holds of any value
@@ -9,6 +9,5 @@ any_some P (Some x) p = p
 
 pub returns : goal.returns
 returns c =
-    let gone = ap {B = ℕ} (λ (b : Bool). if b then 1 else 0) c.in_ok-last.ensures.found in
-    let fewer : length c.remove.new.self.items < length c.args.self.now.conns.items = omega (arith, gone, c.remove.ensures.len) in
-    any_some (length c.remove.new.self.items < length c.args.self.now.conns.items) c.ok.result fewer
+    let fewer : length c.pop_last.new.self.items < length c.args.self.now.conns.items = omega (arith, c.in_ok-last.ensures.fewer) in
+    any_some (length c.pop_last.new.self.items < length c.args.self.now.conns.items) c.ok.result fewer

@@ -8,8 +8,8 @@ use Rattle.wire_state.specs.declared.conn.Conn.{Conn}
 pub returns-in-Some-clause-go : goal.returns-in-Some-clause-go
 unfolding to_go
 returns-in-Some-clause-go c =
-    omega (arith, conn_changed c.args.conn c.args.self.now.conns.entries (c.get_mut.follows.lender c.may_frame.new.self).entries c.in-Some.conn.now c.may_frame.new.self c.in-Some.ensures.value (c.get_mut.follows.holds c.may_frame.new.self).0, c.may_frame.ensures.go)
+    omega (arith, c.has_unit.ensures.stirred, conn_changed c.args.number c.args.self.now.conns.entries (c.get_mut.follows.lender c.has_unit.new.conn).entries c.in-Some.conn.now c.has_unit.new.conn c.in-Some.ensures.value (c.get_mut.follows.holds c.has_unit.new.conn).0, c.has_unit.ensures.go)
 
 pub returns-in-Some-clause-octets : goal.returns-in-Some-clause-octets
 returns-in-Some-clause-octets c =
-    conn_keeps c.args.conn c.args.self.now _ c.in-Some.conn.now c.may_frame.new.self (sym c.in-Some.ensures.value) (c.get_mut.follows.holds c.may_frame.new.self) (ap (λ (k : Conn). k.outlet.write.octets) c.may_frame.ensures.rest) (ap (λ (k : Conn). k.open) c.may_frame.ensures.rest) refl refl
+    conn_keeps c.args.number c.args.self.now _ c.in-Some.conn.now c.has_unit.new.conn (sym c.in-Some.ensures.value) (c.get_mut.follows.holds c.has_unit.new.conn) (ap (λ (k : Conn). k.outlet.write.octets) c.has_unit.ensures.rest) (ap (λ (k : Conn). k.open) c.has_unit.ensures.rest) refl refl

@@ -1,0 +1,16 @@
+use Rattle.std.proofs.Common.{ap, arith, refl, sym}
+use Rattle.wire_out.proofs.moves.moved_at.Goals as goal
+use Rattle.wire_state.proofs.Goings.{conn_keeps, keeps_on}
+use Rattle.wire_state.proofs.Results.{on_ok}
+use Rattle.wire_state.proofs.Weights.{conn_changed}
+use Rattle.wire_state.specs.Progress.{to_go}
+use Rattle.wire_state.specs.declared.conn.Conn.{Conn}
+
+pub returns-in-Some-clause-go : goal.returns-in-Some-clause-go
+unfolding to_go
+returns-in-Some-clause-go c =
+    on_ok c.moved.result (omega (arith, conn_changed c.args.number c.args.core.now.conns.entries (c.get_mut.follows.lender c.moved.new.self).entries c.in-Some.conn.now c.moved.new.self c.in-Some.ensures.value (c.get_mut.follows.holds c.moved.new.self).0, c.moved.ensures.go))
+
+pub returns-in-Some-clause-octets : goal.returns-in-Some-clause-octets
+returns-in-Some-clause-octets c =
+    keeps_on c.moved.result _ _ (conn_keeps c.args.number c.args.core.now _ c.in-Some.conn.now c.moved.new.self (sym c.in-Some.ensures.value) (c.get_mut.follows.holds c.moved.new.self) (ap (λ (k : Conn). k.outlet.write.octets) c.moved.ensures.rest) (ap (λ (k : Conn). k.open) c.moved.ensures.rest) refl refl)
