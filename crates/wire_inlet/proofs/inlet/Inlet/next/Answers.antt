@@ -29,8 +29,8 @@ returns-in_ok-taken-in-Whole-clause-inside c =
     subst (λ (x : Incoming). IsWithin c.args.max x c.in_ok-taken-in-Whole.taken w) c.self.view_is
     (within c.args.max (the_view c.self.inside) w c.in_ok-taken-in-Whole.taken (taken_at c) c.in_ok-taken-in-Whole.ensures.numbered c.in_ok-taken-in-Whole.ensures.few)
 
-pub content_before-in-Whole-requires : goal.content_before-in-Whole-requires
-content_before-in-Whole-requires c =
+pub content_before-requires : goal.content_before-requires
+content_before-requires c =
     let v : Incoming = the_view c.self.inside in
     ends_at c.args.max (preface_left v.prefaced) c.in-Ok.frames.now v.unread c.as_slice-unread.result.now c.in-Whole.used (view c.in-Whole.frame)
     c.as_slice-unread.ensures c.in-Ok.ensures.frames c.in-Whole.ensures.reads.0 c.in-Whole.ensures.reads.1
