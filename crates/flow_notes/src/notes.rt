@@ -196,9 +196,7 @@ impl Notes {
         ensures ok { OnOk result (self.new ≡ self.old ++ note ∷ []) }
         ensures err { OnErr result (self.new ≡ self.old) }
     {
-        // Room is made first, so that the note is written where it is to stand.
-        self.items.reserve(1)?;
-        self.items.push_reserved(Item::One(note));
+        self.items.push(Item::One(note))?;
         self.alone += 1;
         Ok(())
     }

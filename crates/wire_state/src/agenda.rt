@@ -105,8 +105,7 @@ impl Agenda {
         ensures ok { OnOk result (self.new ≡ task ∷ self.old) }
         ensures err { OnErr result (self.new ≡ self.old) }
     {
-        self.tasks.reserve(1)?;
-        self.tasks.push_reserved(task);
+        self.tasks.push(task)?;
         Ok(())
     }
 
