@@ -24,7 +24,7 @@ use Rattle.worker_threads.proofs.Readying.{new_ready}
 use Rattle.std.specs.Io.KnownBytes.{Appends}
 use Rattle.std.specs.List.{All}
 use Rattle.std.specs.Prelude.{Err, List, Ok, OnErr, OnOk, Option, Result, Some, [], length, slice_get, slice_index_or, suc, ℕ, ◌+◌, ◌++◌, ◌<◌, ◌∷◌, ◌≡◌, ◌≤◌, ◌⊎◌}
-use Rattle.worker_core.specs.Sessions.{IsNew, RestsWire}
+use Rattle.worker_core.specs.Sessions.{IsNew, RestsWire, StandsAt}
 use Rattle.worker_core.specs.declared.worker.Core.{Core}
 use Rattle.worker_parts.specs.Journals.{header}
 use Rattle.worker_ports.specs.declared.ports.OpenGate.{OpenGate}
@@ -101,6 +101,7 @@ module _ {W M C L : Type 0} (bare : M → W) (o : Outside M C L) where
     pass = runner_kept old new i w.pass more less h.pass;
     clusters = h.clusters ∙ ap length (sym more.names);
     new = h.new;
+    stands = h.stands;
   }
 
   hired_idle : (config : Config) (shared : Shared) (permits : Permits) (i : ℕ) (g : W × (C × L)) (w : Worker M C OpenGate L) → permits ≡ shared.permits → IsHired bare o config shared i g w → IsIdle bare o permits i g w
@@ -224,9 +225,9 @@ module _ {W M C L : Type 0} (bare : M → W) (o : Outside M C L) where
 
   -- one that was fitted behind its box may run
   pub fits_one : (config : Config) (old new : Pool M C L) (mid : List (Worker M C OpenGate L)) (shared : Shared) (parts : Parts) (pass : RunnerPass) (box : PostBox) (a b : Option (WireTold W C L)) → SharesOf config old.shared → length old.workers.items ≡ length old.shared.posts.items → IsSeatOf old.shared.permits parts.seat
-      → IsNew config parts.core.kind → mid ≡ old.workers.items → shared.permits ≡ old.shared.permits → shared.names ≡ old.shared.names → shared.posts.items ≡ old.shared.posts.items ++ box ∷ [] → IsRunnerOf box pass → new.shared ≡ shared
+      → IsNew config parts.core.kind → StandsAt parts.core.kind [] → mid ≡ old.workers.items → shared.permits ≡ old.shared.permits → shared.names ≡ old.shared.names → shared.posts.items ≡ old.shared.posts.items ++ box ∷ [] → IsRunnerOf box pass → new.shared ≡ shared
       → Fits bare o Appends (length config.clusters) parts pass a b mid new.workers.items → HiresOne bare o config a b old new
-  fits_one config old new mid shared parts pass box a b shares len seat fresh same permits names boxes runs kept f = record {
+  fits_one config old new mid shared parts pass box a b shares len seat fresh stands same permits names boxes runs kept f = record {
     given = f.given;
     worker = f.joins.worker;
     adds = f.joins.adds ∙ ap (λ (ws : List (Worker M C OpenGate L)). ws ++ f.joins.worker ∷ []) same;
@@ -235,6 +236,7 @@ module _ {W M C L : Type 0} (bare : M → W) (o : Outside M C L) where
       seat = subst (λ (p : Permits). IsSeatOf p f.joins.worker.seat) (sym (ap (λ (s : Shared). s.permits) kept ∙ permits)) (subst (λ (s : PermitSeat). IsSeatOf old.shared.permits s) (sym f.joins.seat) seat);
       pass = pass_at (new.shared.posts.items) (ap (λ (s : Shared). s.posts.items) kept ∙ boxes);
       new = subst (λ (k : Core). IsNew config k.kind) (sym f.joins.core) fresh;
+      stands = subst (λ (k : Core). StandsAt k.kind []) (sym f.joins.core) stands;
       clusters = f.clusters_are ∙ sym (length-map config.clusters (λ (c : Cluster). c.name)) ∙ ap length (sym (ap (λ (s : Shared). s.names) kept ∙ names ∙ shares.names));
     };
     box = box;
@@ -268,8 +270,8 @@ module _ {W M C L : Type 0} (bare : M → W) (o : Outside M C L) where
 some_same : (a b : Parts) → ◌≡◌ {A = Option Parts} (Some a) (Some b) → a ≡ b
 some_same a b e = cc
 
-pub next_made : (config : Config) (permits : Permits) (pass : RunnerPass) (next : Option Parts) (parts : Parts) → next ≡ Some parts → IsSeatOf permits parts.seat → RestsWire parts.core.kind → IsNew config parts.core.kind → parts.pass ≡ pass → IsNext config permits pass next
-next_made config permits pass next parts is seat core new pass_is = record { has = record { parts = parts; is = is; core = core }; new = new; seat = seat; pass_is = pass_is }
+pub next_made : (config : Config) (permits : Permits) (pass : RunnerPass) (next : Option Parts) (parts : Parts) → next ≡ Some parts → IsSeatOf permits parts.seat → RestsWire parts.core.kind → IsNew config parts.core.kind → StandsAt parts.core.kind [] → parts.pass ≡ pass → IsNext config permits pass next
+next_made config permits pass next parts is seat core new stands pass_is = record { has = record { parts = parts; is = is; core = core }; new = new; stands = stands; seat = seat; pass_is = pass_is }
 
 -- ---- the worker that is pushed
 module _ {M C L : Type 0} (o : Outside M C L) where

@@ -25,6 +25,7 @@ use Rattle.std.specs.Io.KnownBytes.{Appends}
 use Rattle.std.specs.List.{All, list_any}
 use Rattle.std.specs.Vec.{with_items}
 use Rattle.std.specs.Prelude.{Bool, Err, IfOk, List, MatchResult, Ok, OnErr, Option, Result, [], false, if◌then◌else◌, length, map, reverse, slice_index_or, suc, true, ℕ, ◌<◌, ◌||◌, ◌∷◌, ◌≡◌, ◌≤◌, ◌⊎◌}
+use Rattle.worker_loop.specs.Parts.{CameUpTo, Hands}
 use Rattle.worker_loop.specs.declared.turns.Ended.{Ended}
 use Rattle.worker_ports.specs.Wires.{Seen}
 use Rattle.worker_ports.specs.declared.ports.OpenGate.{OpenGate}
@@ -100,6 +101,10 @@ module _ {M C L : Type 0} (o : Outside M C L) where
       record { seat = k.is_seat; none = k.none }
 
 -- ---- and what came back
+-- no connection came before the first event
+none_came : (n : ℕ) → CameUpTo n []
+none_came n c there = absurd (false≢true there)
+
 module _ {W M C L : Type 0} (bare : M → W) (o : Outside M C L) where
   back_at : (workers : List (Worker M C OpenGate L)) (i : ℕ) (b : W × L) (w : Worker M C OpenGate L) → i < length workers → slice_index_or (map (back_of bare) workers) i b ≡ back_of bare (slice_index_or workers i w)
   back_at workers i b w less = get_or-map (back_of bare) workers i w b less
@@ -137,12 +142,16 @@ module _ {W M C L : Type 0} (bare : M → W) (o : Outside M C L) where
       let w : Worker M C OpenGate L = some_of first i there in
       let h : IsHired bare o config shared i (slice_index_or given i g) (slice_index_or first i w) = hired.each i g w less in
       let back = back_at last i b w there_last in
+      let worked : Worked o shared i n (slice_index_or first i w) (slice_index_or ends i e) (slice_index_or last i w) = each.each i w e there in
       record {
         first = slice_index_or first i w;
         last = slice_index_or last i w;
         begins = h.begins;
         new = h.new;
-        worked = each.each i w e there;
+        worked = worked;
+        tape = λ notes hands.
+            let told : Hands (o.told (slice_index_or first i w).journal) (o.told (slice_index_or last i w).journal) notes = (hands.0, h.begins.told ∙ hands.1, ap (λ (v : W × L). o.told v.1) (sym back) ∙ hands.2) in
+            worked.octets.goes notes [] told h.stands (none_came (o.seen (slice_index_or first i w).wires).greatest);
         wires = ap (λ (v : W × L). v.0) back;
         journal = ap (λ (v : W × L). v.1) back;
       }

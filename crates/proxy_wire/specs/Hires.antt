@@ -10,7 +10,7 @@ use Rattle.proxy_wire.specs.declared.pool.Parts.{Parts}
 use Rattle.shared_state.specs.PermitSeats.{IsSeatOf}
 use Rattle.shared_state.specs.declared.permits.Permits.{Permits}
 use Rattle.std.specs.Prelude.{List, Option, Some, [], length, suc, ℕ, ◌++◌, ◌∷◌, ◌≡◌, ◌≤◌, ◌⊎◌}
-use Rattle.worker_core.specs.Sessions.{IsNew, RestsWire}
+use Rattle.worker_core.specs.Sessions.{IsNew, RestsWire, StandsAt}
 use Rattle.worker_ports.specs.declared.ports.OpenGate.{OpenGate}
 use Rattle.worker_threads.specs.Starting.{Outside}
 use Rattle.worker_threads.specs.declared.worker.Shared.{Shared}
@@ -29,10 +29,11 @@ pub record HasParts (next : Option Parts) : Type 0 where
   pub is : next ≡ Some parts
   pub core : RestsWire parts.core.kind
 
--- and its core is a new one of the configuration, its seat of the permits, and its pass this one
+-- and its core is a new one of the configuration, which stands for the empty history, its seat of the permits, and its pass this one
 pub record IsNext (config : Config) (permits : Permits) (pass : RunnerPass) (next : Option Parts) : Type 0 where
   pub has : HasParts next
   pub new : IsNew config has.parts.core.kind
+  pub stands : StandsAt has.parts.core.kind []
   pub seat : IsSeatOf permits has.parts.seat
   pub pass_is : has.parts.pass ≡ pass
 

@@ -10,7 +10,7 @@ use Rattle.shared_state.specs.PermitSeats.{IsSeatOf, seats_in}
 use Rattle.shared_state.specs.declared.permits.Permits.{Permits}
 use Rattle.std.specs.Io.KnownBytes.{Appends}
 use Rattle.std.specs.Prelude.{All, List, [], length, slice_index_or, vec_len, ℕ, ◌<◌, ◌≡◌, ◌⊎◌}
-use Rattle.worker_core.specs.Sessions.{IsNew}
+use Rattle.worker_core.specs.Sessions.{IsNew, StandsAt}
 use Rattle.worker_ports.specs.declared.ports.OpenGate.{OpenGate}
 use Rattle.worker_threads.specs.Starting.{IsRunnerAt, Outside}
 use Rattle.worker_threads.specs.declared.worker.Shared.{Shared}
@@ -40,6 +40,7 @@ module _ {W M C L : Type 0} (bare : M → W) (o : Outside M C L) where
     pub pass : IsRunnerAt shared place w.pass
     pub clusters : (o.seen w.wires).clusters ≡ length shared.names
     pub new : IsNew config w.core.kind
+    pub stands : StandsAt w.core.kind []
 
   -- the worker is to be given back
   pub record IsIdle (permits : Permits) (place : ℕ) (given : W × (C × L)) (w : Worker M C OpenGate L) : Type 0 where

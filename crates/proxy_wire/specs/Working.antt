@@ -1,4 +1,5 @@
 -- What the workers of the proxy did.
+use Rattle.flow_notes.specs.declared.notes.Note.{Note}
 use Rattle.proxy_config.specs.declared.config.Config.{Config}
 use Rattle.session_config.specs.ClusterNames.{names_in}
 use Rattle.session_run.specs.declared.status.Status.{Status}
@@ -6,6 +7,7 @@ use Rattle.std.specs.Io.KnownBytes.{Appends}
 use Rattle.std.specs.List.{list_any}
 use Rattle.std.specs.Prelude.{Bool, List, Option, [], false, if◌then◌else◌, length, slice_index_or, true, ℕ, ◌<◌, ◌≡◌, ◌⊎◌}
 use Rattle.worker_core.specs.Sessions.{IsNew, RestsWire}
+use Rattle.worker_loop.specs.Parts.{GoesOnIn, Hands}
 use Rattle.worker_loop.specs.declared.turns.Ended.{Ended}
 use Rattle.worker_parts.specs.Journals.{header}
 use Rattle.worker_ports.specs.declared.ports.OpenGate.{OpenGate}
@@ -51,13 +53,15 @@ module _ {W M C L : Type 0} (bare : M → W) (o : Outside M C L) where
     pub core : RestsWire w.core.kind
     pub none : w.held ≡ []
 
-  -- it did one work with a new core of the configuration, and what it worked over came back
+  -- It did one work with a new core of the configuration, and what it worked over came back. The notes that its journal was handed
+  -- are a tape from the beginning on: it keeps the promise at each moment, and what its connections took is what left them in it.
   pub record WorkerRan (config : Config) (shared : Shared) (place n : ℕ) (given : W × (C × L)) (end : Ended) (back : W × L) : Type 0 where
     pub first : Worker M C OpenGate L
     pub last : Worker M C OpenGate L
     pub begins : Begins Appends given first
     pub new : IsNew config first.core.kind
     pub worked : Worked o shared place n first end last
+    pub tape : (notes : List Note) → Hands (o.told given.1.1) (o.told back.1) notes → GoesOnIn end first.core.kind last.core.kind (o.seen first.wires) (o.seen last.wires) notes []
     pub wires : back.0 ≡ bare last.wires
     pub journal : back.1 ≡ last.journal
 

@@ -5,7 +5,7 @@ ghost use Rattle.proxy_wire.specs.Pools.{SharesOf};
 ghost use Rattle.proxy_wire.specs.Hires.{HasParts, IsNext, IsTaken};
 ghost use Rattle.proxy_wire.specs.Tasks.{IsTask};
 ghost use Rattle.shared_state.specs.PermitSeats.{IsSeatOf, seats_in};
-ghost use Rattle.worker_core.specs.Sessions.{IsNew, RestsWire};
+ghost use Rattle.worker_core.specs.Sessions.{IsNew, RestsWire, StandsAt};
 
 use crate::meter::Unmetered;
 use io_ports::NoMemory;
@@ -152,6 +152,7 @@ fn make_core(alloc: Global, task: &Task<'_>) -> Result<Core, NoMemory>
     requires { IsTask task.now }
     ensures rests { IfOk result (λ core. RestsWire core.kind) }
     ensures new { IfOk result (λ core. IsNew task.now.config.now core.kind) }
+    ensures octets { IfOk result (λ core. StandsAt core.kind []) }
 {
     match read_config(alloc, task.text) {
         Ok(config) => Core::new(alloc, config),

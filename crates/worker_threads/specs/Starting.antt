@@ -12,6 +12,7 @@ use Rattle.shared_state.specs.declared.permits.Permits.{Permits}
 use Rattle.std.specs.Prelude.{IsSomeAnd, List, Option, Some, [], length, slice_get, slice_index_or, unwrap_or, ℕ, ◌<◌, ◌≡◌, ◌≢◌}
 use Rattle.worker_core.specs.Sessions.{RestsWire}
 use Rattle.worker_loop.specs.Keeping.{AreUpTo, Holds, Keeps}
+use Rattle.worker_loop.specs.Parts.{InWorld}
 use Rattle.worker_loop.specs.Places.{Place, place_of}
 use Rattle.worker_loop.specs.Turns.{Sides, sides_of}
 use Rattle.worker_loop.specs.Works.{Works}
@@ -78,6 +79,7 @@ module _ {W C G J : Type 0} (o : Outside W C J) where
     pub seat : PermitSeat
     pub works : Works shared.names turns (sides_at old) old.core.kind (place_at old) end (sides_at new) new.core.kind (place_with held seat new)
     pub keeps : Keeps shared.permits (o.seen old.wires) old.held (view old.seat) (o.seen new.wires) held seat
+    pub octets : InWorld end old.core.kind new.core.kind (o.seen old.wires) (o.seen new.wires) (o.told old.journal) (o.told new.journal)
     pub core : end ≢ ended.Memory → RestsWire new.core.kind
     pub pass : IsRunnerAt shared place new.pass
     pub none : new.held ≡ []

@@ -12,7 +12,7 @@ returns-clause-one g c =
     let adds = c.in_ok-pass.ensures.adds in
     let next = c.in_ok-prepare.ensures.next in
     let runs = subst (λ (p : RunnerPass). IsRunnerOf adds.0 p) (sym next.pass_is) adds.2 in
-    on_ok _ _ c.hire.result (λ f. fits_one g.M.Meter.bare _ c.args.task.now.config.now c.args.pool.now _ _ _ next.has.parts next.has.parts.pass adds.0 _ _ c.requires.shares (sym c.args.pool.now.workers.ok.0 ∙ sym c.requires.place.0 ∙ c.requires.place.1 ∙ c.args.pool.now.shared.posts.ok.0) next.seat next.new refl refl refl adds.1 runs c.hire.ensures.shared f)
+    on_ok _ _ c.hire.result (λ f. fits_one g.M.Meter.bare _ c.args.task.now.config.now c.args.pool.now _ _ _ next.has.parts next.has.parts.pass adds.0 _ _ c.requires.shares (sym c.args.pool.now.workers.ok.0 ∙ sym c.requires.place.0 ∙ c.requires.place.1 ∙ c.args.pool.now.shared.posts.ok.0) next.seat next.new next.stands refl refl refl adds.1 runs c.hire.ensures.shared f)
     (c.hire.ensures.fits next.has.parts next.has.is)
 
 pub returns-clause-none : goal.returns-clause-none
