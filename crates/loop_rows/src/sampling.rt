@@ -38,8 +38,8 @@ fn gauge_of(alloc: Global, case: &mut Case) -> MemGauge {
     let failing = mem::replace(&mut case.readings, Vec::new(alloc));
     let pressures = mem::replace(&mut case.gauge, Vec::new(alloc));
     if pressures.iter().all(|pressure| *pressure <= MOST_PRESSURE) {
-        MemGauge::new(pressures, failing)
+        MemGauge::new(alloc, pressures, failing)
     } else {
-        MemGauge::new(Vec::new(alloc), failing)
+        MemGauge::new(alloc, Vec::new(alloc), failing)
     }
 }

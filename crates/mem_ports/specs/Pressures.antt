@@ -1,9 +1,12 @@
 -- A gauge in memory.
-use Rattle.std.specs.Prelude.{List, ℕ}
+use Rattle.std.specs.Prelude.{List, Option, ℕ}
+use Rattle.worker_ports.specs.declared.ports.Reading.{Reading}
 
--- the pressure of each resource, the readings and the faults so far, and the numbers of the readings that are to fail
+-- the pressure of each resource, the readings and the faults so far, the numbers of the readings that are to fail, and what is told of
+-- the readings
 pub record GaugeMemory : Type 0 where
   pub pressures : List ℕ
   pub calls : ℕ
   pub failing : List ℕ
   pub faults : ℕ
+  pub told : Option (List Reading)

@@ -62,6 +62,10 @@ impl ClientGauge {
 }
 
 impl Gauge for ClientGauge {
+    ghost use Rattle.std.specs.Prelude.{None};
+
+    ghost told = { λ _. None };
+
     ghost faults = { λ _. 0 };
 
     fn read(&mut self, resource: u32) -> Result<u32, Failed> {

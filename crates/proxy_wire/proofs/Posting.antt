@@ -1,4 +1,5 @@
 -- Who posts to which box.
+use Rattle.io_ports.specs.declared.ports.Failed.{Failed}
 use Rattle.overload_core.specs.ActionStates.{actions_at, is_saturated}
 use Rattle.overload_core.specs.declared.actions.Actions.{Actions}
 use Rattle.post_queue.specs.Clauses.{IsPosterOf}
@@ -17,7 +18,8 @@ use Rattle.std.proofs.lemmas.Bool.{cases_order}
 use Rattle.std.proofs.lemmas.Grind.{get_or-set_at}
 use Rattle.std.proofs.lemmas.List.{get_or_default, get_or-set_other, length-replicate, length-set}
 use Rattle.worker_parts.specs.Samples.{AreSampled, replaced}
-use Rattle.std.specs.Prelude.{Bool, List, None, Option, Some, [], length, not, replicate, slice_index_or, suc, ℕ, ◌++◌, ◌<◌, ◌∷◌, ◌≡◌, ◌≢◌, ◌≤◌, ◌⊎◌}
+use Rattle.worker_ports.specs.declared.ports.Reading.{Reading}
+use Rattle.std.specs.Prelude.{Bool, Err, List, Ok, Option, Result, [], length, not, replicate, slice_index_or, suc, ℕ, ◌++◌, ◌<◌, ◌∷◌, ◌≡◌, ◌≢◌, ◌≤◌, ◌⊎◌}
 
 -- nobody posts yet
 pub leads_none : (boxes : List PostBox) (leader : Leader) (publisher : Publisher) (pressures : List ℕ) (n : ℕ) → boxes ≡ [] → leader.posters.items ≡ [] → leader.publisher ≡ publisher → leader.pressures ≡ pressures → pressures ≡ replicate n 0 → resources_of publisher ≡ n → n ≤ 16 → Leads boxes leader
@@ -51,19 +53,19 @@ posters_set boxes posters i box p there at is a = record { same = length-set pos
     by j b q less (inr (inr above)) = elsewhere j b q less (λ e. omega (arith, above, e))
 
 -- ---- the gauges were read, and a version was published
-sampled_length : (readings : List (Option ℕ)) (old : List ℕ) → length readings ≡ length old → length (replaced readings old) ≡ length old
+sampled_length : (answers : List (Result ℕ Failed)) (old : List ℕ) → length answers ≡ length old → length (replaced answers old) ≡ length old
 sampled_length [] old e = refl
 sampled_length (r ∷ rs) [] e = absurd (omega (arith, e))
-sampled_length (None ∷ rs) (p ∷ ps) e = ap (λ (n : ℕ). suc n) (sampled_length rs ps (omega (arith, e)))
-sampled_length (Some r ∷ rs) (p ∷ ps) e = ap (λ (n : ℕ). suc n) (sampled_length rs ps (omega (arith, e)))
+sampled_length (Err f ∷ rs) (p ∷ ps) e = ap (λ (n : ℕ). suc n) (sampled_length rs ps (omega (arith, e)))
+sampled_length (Ok r ∷ rs) (p ∷ ps) e = ap (λ (n : ℕ). suc n) (sampled_length rs ps (omega (arith, e)))
 
-pub sampled_same : (old new : List ℕ) (failed : ℕ) → AreSampled old new failed → length new ≡ length old
-sampled_same old new failed s = ap (λ (v : List ℕ). length v) s.replaces ∙ sampled_length s.readings old s.each
+pub sampled_same : {told told' : Option (List Reading)} (old new : List ℕ) (failed : ℕ) → AreSampled told told' old new failed → length new ≡ length old
+sampled_same old new failed s = ap (λ (v : List ℕ). length v) s.replaces ∙ sampled_length s.answers old s.each
 
 same_resources : (p q : Publisher) → IsSame p q → resources_of q ≡ resources_of p
 same_resources p q same = let e = same.0 in cc
 
-pub looked : (boxes : List PostBox) (old new : Leader) (failed : ℕ) → Leads boxes old → AreSampled old.pressures new.pressures failed → IsSame old.publisher new.publisher → ArePosters boxes new.posters.items → Leads boxes new
+pub looked : {told told' : Option (List Reading)} (boxes : List PostBox) (old new : Leader) (failed : ℕ) → Leads boxes old → AreSampled told told' old.pressures new.pressures failed → IsSame old.publisher new.publisher → ArePosters boxes new.posters.items → Leads boxes new
 looked boxes old new failed leads sampled same posters =
     let l : length new.pressures ≡ length old.pressures = sampled_same old.pressures new.pressures failed sampled in
     let few = leads.publishes.few in
@@ -72,9 +74,9 @@ looked boxes old new failed leads sampled same posters =
       posters = posters;
     }
 
-pub looked_on : (boxes : List PostBox) (old new : Leader) (publisher : Publisher) (pressures : List ℕ) (failed : ℕ) → Leads boxes old → AreSampled old.pressures pressures failed → IsSame old.publisher publisher → new.publisher ≡ publisher → new.pressures ≡ pressures → ArePosters boxes new.posters.items → Leads boxes new
-looked_on boxes old new publisher pressures failed leads sampled same is pressed posters =
-    looked boxes old new failed leads (subst (λ (v : List ℕ). AreSampled old.pressures v failed) (sym pressed) sampled) (subst (λ (v : Publisher). IsSame old.publisher v) (sym is) same) posters
+pub looked_on : {told told' : Option (List Reading)} (boxes : List PostBox) (old new : Leader) (publisher : Publisher) (pressures : List ℕ) (failed : ℕ) → Leads boxes old → AreSampled told told' old.pressures pressures failed → IsSame old.publisher publisher → new.publisher ≡ publisher → new.pressures ≡ pressures → ArePosters boxes new.posters.items → Leads boxes new
+looked_on {told} {told'} boxes old new publisher pressures failed leads sampled same is pressed posters =
+    looked boxes old new failed leads (subst (λ (v : List ℕ). AreSampled told told' old.pressures v failed) (sym pressed) sampled) (subst (λ (v : Publisher). IsSame old.publisher v) (sym is) same) posters
 
 -- ---- by the states that follow from what is published
 pub accepts_so : (config : Config) (pressures pressures' : List ℕ) (states : Actions) (full : Bool) → full ≡ is_saturated states.stop_accepting → states ≡ actions_at config.overload.triggers pressures → pressures ≡ pressures' → not full ≡ not (is_saturated (actions_at config.overload.triggers pressures').stop_accepting)

@@ -7,11 +7,11 @@ use std::alloc::Global;
 use std::mem;
 use worker_ports::Gauge;
 
-/// Reads the pressure of each resource of the list, from 0 on. One whose reading fails keeps the pressure that it had. The answer
-/// is how many readings failed. Takes no memory.
+/// Reads the pressure of each resource of the list once, from 0 on. One whose reading fails keeps the pressure that it had. The
+/// answer is how many readings failed. Takes no memory.
 pub fn sample<G: Gauge>(alloc: Global, gauge: &mut G, pressures: &mut PressureList) -> u32
     requires { length pressures.old < 2 ^ 32 }
-    ensures sampled { AreSampled pressures.old pressures.new result }
+    ensures sampled { AreSampled (G.told gauge.old) (G.told gauge.new) pressures.old pressures.new result }
     ensures cause { FailedByFaults (G.faults gauge.old) (G.faults gauge.new) result }
 {
     let mut list = mem::replace(pressures, PressureList::new(alloc)).into_vec();
@@ -22,7 +22,7 @@ pub fn sample<G: Gauge>(alloc: Global, gauge: &mut G, pressures: &mut PressureLi
 
 fn read_into<G: Gauge>(gauge: &mut G, pressures: &mut [u32]) -> u32
     requires { length pressures.old < 2 ^ 32 }
-    ensures sampled { AreSampled pressures.old pressures.new result }
+    ensures sampled { AreSampled (G.told gauge.old) (G.told gauge.new) pressures.old pressures.new result }
     ensures cause { FailedByFaults (G.faults gauge.old) (G.faults gauge.new) result }
 {
     let mut failed = 0;

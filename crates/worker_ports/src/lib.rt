@@ -4,5 +4,5 @@
 mod ports;
 mod wires;
 
-pub use ports::{Clock, Gate, Gauge, OpenGate};
+pub use ports::{Clock, Gate, Gauge, OpenGate, Reading};
 pub use wires::{WireRefusal, WireStep, Wired, Wires};

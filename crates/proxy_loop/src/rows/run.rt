@@ -63,8 +63,8 @@ pub fn run_case<R: AllocGlobal + Threads + Wait + Sync + Drop>(
 fn gauge_of(alloc: Global, case: &mut Case) -> MemGauge {
     let pressures = mem::replace(&mut case.pressures, Vec::new(alloc));
     if pressures.iter().all(|pressure| *pressure <= MOST_PRESSURE) {
-        MemGauge::new(pressures, Vec::new(alloc))
+        MemGauge::new(alloc, pressures, Vec::new(alloc))
     } else {
-        MemGauge::new(Vec::new(alloc), Vec::new(alloc))
+        MemGauge::new(alloc, Vec::new(alloc), Vec::new(alloc))
     }
 }
