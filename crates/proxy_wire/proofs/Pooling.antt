@@ -101,6 +101,7 @@ module _ {W M C L : Type 0} (bare : M → W) (o : Outside M C L) where
     pass = runner_kept old new i w.pass more less h.pass;
     clusters = h.clusters ∙ ap length (sym more.names);
     new = h.new;
+    stands = h.stands;
   }
 
   hired_idle : (config : Config) (shared : Shared) (permits : Permits) (i : ℕ) (g : W × (C × L)) (w : Worker M C OpenGate L) → permits ≡ shared.permits → IsHired bare o config shared i g w → IsIdle bare o permits i g w
