@@ -125,9 +125,9 @@ staged config (Noted (note.Start x c s d) ∷ []) w = absurd w
 staged config (Marked (Passes y row there back) ∷ past) w = absurd w
 staged config (Marked (Opens x s) ∷ past) w = let was = staged config past w.1 in record { each = was.each; none = was.none; count = was.count; known = was.known }
 staged config (Noted (note.Turn k e) ∷ past) w = let was = staged config past w in record { each = was.each; none = was.none; count = was.count; known = was.known }
-staged config (Noted (note.Arrive g octets) ∷ past) w = let was = staged config past w in record { each = was.each; none = was.none; count = was.count; known = was.known }
-staged config (Noted (note.Move g p n) ∷ past) w = let was = staged config past w in record { each = was.each; none = was.none; count = was.count; known = was.known }
-staged config (Noted (note.Frame c g n last) ∷ past) w = let was = staged config past w in record { each = was.each; none = was.none; count = was.count; known = was.known }
+staged config (Noted (note.Arrive g octets) ∷ past) w = let was = staged config past w.1 in record { each = was.each; none = was.none; count = was.count; known = was.known }
+staged config (Noted (note.Move g p n) ∷ past) w = let was = staged config past w.1 in record { each = was.each; none = was.none; count = was.count; known = was.known }
+staged config (Noted (note.Frame c g n last) ∷ past) w = let was = staged config past w.1 in record { each = was.each; none = was.none; count = was.count; known = was.known }
 staged config (Noted (note.Out c n) ∷ past) w = let was = staged config past w in record { each = was.each; none = was.none; count = was.count; known = was.known }
 staged config (Noted (note.Pause g b) ∷ past) w = let was = staged config past w in record { each = was.each; none = was.none; count = was.count; known = was.known }
 staged config (Noted (note.Resume g b) ∷ past) w = let was = staged config past w in record { each = was.each; none = was.none; count = was.count; known = was.known }
@@ -135,7 +135,7 @@ staged config (Noted (note.Credit c s n) ∷ past) w = let was = staged config p
 staged config (Noted (note.Head c s octets) ∷ past) w = let was = staged config past w in record { each = was.each; none = was.none; count = was.count; known = was.known }
 staged config (Noted (note.Answer c octets) ∷ past) w = let was = staged config past w in record { each = was.each; none = was.none; count = was.count; known = was.known }
 staged config (Noted (note.Waste c s n) ∷ past) w = let was = staged config past w in record { each = was.each; none = was.none; count = was.count; known = was.known }
-staged config (Noted (note.Doom x why) ∷ past) w = let was = staged config past w in record { each = was.each; none = was.none; count = was.count; known = was.known }
+staged config (Noted (note.Doom x why) ∷ past) w = let was = staged config past w.1 in record { each = was.each; none = was.none; count = was.count; known = was.known }
 staged config (Noted (note.Gone x) ∷ past) w = let was = staged config past w in record { each = was.each; none = was.none; count = was.count; known = was.known }
 staged config (Noted (note.Close c code why) ∷ past) w = let was = staged config past w in record { each = was.each; none = was.none; count = was.count; known = was.known }
 staged config (Noted (note.Fire kind id) ∷ past) w = let was = staged config past w in record { each = was.each; none = was.none; count = was.count; known = was.known }
