@@ -114,17 +114,17 @@ no_row routes = record { row = None; request_is = refl; response_is = refl }
 pub passes_more : (rows : List RouteStages) (a b c : WireLog) → PassesAll rows a b → PassesAll rows b c → PassesAll rows a c
 passes_more rows a b c p q = record { goes = λ limits h k. q.goes limits h (p.goes limits h k); keeps = λ routes t k. q.keeps routes t (p.keeps routes t k) }
 
-pub passes_one : (rows : List RouteStages) (row : Option ℕ) (request response : List ℕ) (old new : WireLog) → Gives rows row false request → Gives rows row true response
-    → WireLogPasses old (record { request = request; response = response }) new → PassesAll rows old new
-passes_one rows row request response old new q r p = record {
+pub passes_one : (x : ℕ) (rows : List RouteStages) (row : Option ℕ) (request response : List ℕ) (old new : WireLog) → Gives rows row false request → Gives rows row true response
+    → WireLogPasses x old (record { request = request; response = response }) new → PassesAll rows old new
+passes_one x rows row request response old new q r p = record {
   goes = p.goes;
   keeps = λ routes a k. rows_grow routes old.levels new.levels (record { request = request; response = response }) k p.grow (record { row = row; request_is = q.goes routes a; response_is = r.goes routes a });
 }
 
-pub pass_told : (r : Result (Unit {0}) NoMemory) (rows : List RouteStages) (row : Option ℕ) (request response : List ℕ) (old new : WireLog) → Gives rows row false request → Gives rows row true response
-    → OnOk r (WireLogPasses old (record { request = request; response = response }) new) → OnOk r (PassesAll rows old new)
-pass_told (Ok x) rows row request response old new q s p = passes_one rows row request response old new q s p
-pass_told (Err x) rows row request response old new q s p = tt
+pub pass_told : (x : ℕ) (r : Result (Unit {0}) NoMemory) (rows : List RouteStages) (row : Option ℕ) (request response : List ℕ) (old new : WireLog) → Gives rows row false request → Gives rows row true response
+    → OnOk r (WireLogPasses x old (record { request = request; response = response }) new) → OnOk r (PassesAll rows old new)
+pass_told x (Ok u) rows row request response old new q s p = passes_one x rows row request response old new q s p
+pass_told x (Err y) rows row request response old new q s p = tt
 
 -- the rows of all exchanges of which stages are known
 abbrev row_of : (routes : List Route) (known : Option StageLimits) → IfSome known (IsRow routes) → Option ℕ
