@@ -146,7 +146,7 @@ module _ (config : Config) (steps : List WayStep) (k : WayHistory) (before : Are
       let found = has_at (begun_in (shown steps)) x e in
       let less = slice_get_within (begun_in (shown steps)) found.0 x found.1 in
       let here : slice_get (started then_) (length (started k) + found.0) ≡ Some x =
-          ap (λ (xs : List ℕ). slice_get xs (length (started k) + found.0)) (started_after steps k) ∙ get_behind (started k) (begun_in (shown steps)) found.0 (length (started k) + found.0) refl ∙ found.1 in
+      ap (λ (xs : List ℕ). slice_get xs (length (started k) + found.0)) (started_after steps k) ∙ get_behind (started k) (begun_in (shown steps)) found.0 (length (started k) + found.0) refl ∙ found.1 in
       let number = same_Some (suc (length (started k) + found.0)) x (sym ((staged config then_ now).numbered (length (started k) + found.0) (inside (length (started k)) found.0 (length (begun_in (shown steps))) (length (started then_)) less long)) ∙ here) in
       record { above = over (length (started k)) found.0 x number; within = most (length (started k)) found.0 x (length (begun_in (shown steps))) (length (started then_)) number less long }
     where

@@ -271,17 +271,17 @@ stands_on old new l e notes h d new_one s =
           (λ x. ap (λ (n : ℕ). row_of x n new.core.rows.items) t.since ∙ ap (row_of x (length (started k))) t.rows)
           (subst (λ (ns : List Note). PassesAll table (row_told new) ns a b) t.is p) (subst (λ (ns : List Note). WireLogs b ns c) t.is logs) was;
       stands = record {
-      under = same;
-      world = record {
-        marked = after t.steps k;
-        notes = same_notes t.steps k notes h t.is s.world.notes;
-        ways = tied;
-        promises = subst (λ (v : Config). Promises v.limits (after t.steps k)) same (promised new.core.conns new.core.flows new.core.links (after t.steps k) t.stands);
-        left = turn.each s.world.left s.world.last;
-        last = λ c. t.left c ∙ left_by e old.core.conns (λ x. gone world_setup x k) c
-            ∙ leaves_as c (gone world_setup c k) (gone world_setup c (before_dispatch (after t.steps k))) (octets_of c old.core.conns) (out world_setup c (before_dispatch (after t.steps k)))
-            (Some e) (this_event (after t.steps k)) (turn.left_is c) (turn.waits_is c ∙ sym (s.stands.writes c)) turn.event_is;
-      };
-      stands = t.stands;
+        under = same;
+        world = record {
+          marked = after t.steps k;
+          notes = same_notes t.steps k notes h t.is s.world.notes;
+          ways = tied;
+          promises = subst (λ (v : Config). Promises v.limits (after t.steps k)) same (promised new.core.conns new.core.flows new.core.links (after t.steps k) t.stands);
+          left = turn.each s.world.left s.world.last;
+          last = λ c. t.left c ∙ left_by e old.core.conns (λ x. gone world_setup x k) c
+              ∙ leaves_as c (gone world_setup c k) (gone world_setup c (before_dispatch (after t.steps k))) (octets_of c old.core.conns) (out world_setup c (before_dispatch (after t.steps k)))
+              (Some e) (this_event (after t.steps k)) (turn.left_is c) (turn.waits_is c ∙ sym (s.stands.writes c)) turn.event_is;
+        };
+        stands = t.stands;
       };
     }
