@@ -14,7 +14,6 @@ use Rattle.std.proofs.Common.{ap, inl, inr, refl, subst, sym, ◌∙◌}
 use Rattle.std.proofs.lemmas.List.{append-nil}
 use Rattle.std.specs.Io.KnownBytes.{Appends, Consumes}
 use Rattle.std.specs.Prelude.{Bool, Err, List, None, Ok, Option, Some, [], codes, suc, ℕ, ◌++◌, ◌∷◌, ◌≡◌, ◌⊎◌}
-use Rattle.tape_laws.specs.History.{History, NoMark}
 use Rattle.tape_laws.specs.Text.{tape_text}
 use Rattle.wire_run.proofs.Standing.{none_left}
 use Rattle.wire_state.specs.Marks.{row_in}

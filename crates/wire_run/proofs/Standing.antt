@@ -36,7 +36,6 @@ use Rattle.worker_core.specs.Dispatching.{Dispatches}
 use Rattle.worker_core.specs.declared.wire.WireSession.{WireSession}
 use Rattle.flow_notes.specs.declared.events.Event.TheVariants as event
 use Rattle.flow_notes.specs.declared.notes.Note.TheVariants as note
-use Rattle.worker_core.specs.declared.worker.Kind.TheVariants as kind
 
 -- ---- before the first line
 none_fits : (l : LimitKeys) → IsBounded (tape_setup l) []

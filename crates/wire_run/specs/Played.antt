@@ -8,7 +8,7 @@ use Rattle.session_config.specs.ClusterNames.{names_in, resources_in}
 use Rattle.session_lines.specs.WireLines.{IsWireSeen, SpellsNoWire, WireLinesAre, WireSeen, wire_events, wire_lines, wire_text}
 use Rattle.session_run.specs.Kinds.{Kind, kind_of}
 use Rattle.session_run.specs.declared.player.Went.{Went}
-use Rattle.std.specs.Prelude.{Bool, Err, List, Ok, Option, Result, false, ℕ, ◌++◌, ◌∷◌, ◌≡◌}
+use Rattle.std.specs.Prelude.{Bool, Err, List, Ok, Result, false, ℕ, ◌++◌, ◌∷◌, ◌≡◌}
 use Rattle.tape_laws.specs.Dispatches.{turns}
 use Rattle.tape_laws.specs.History.{History, NoMark}
 use Rattle.tape_laws.specs.Report.{summary_text}

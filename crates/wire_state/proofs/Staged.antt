@@ -1,9 +1,8 @@
 -- What tied marks say of a history: which stages each flow passes, and on which row each exchange began.
 use Rattle.flow_gate.specs.declared.ids.FlowId.{FlowId}
-use Rattle.flow_notes.specs.declared.notes.Note.{Note}
 use Rattle.flow_notes.specs.declared.notes.Note.TheVariants as note
 use Rattle.proxy_config.specs.declared.config.Config.{Config}
-use Rattle.std.proofs.Common.{ap, append_assoc, arith, refl, subst, sym, ◌∙◌}
+use Rattle.std.proofs.Common.{ap, append_assoc, arith, refl, sym, ◌∙◌}
 use Rattle.std.proofs.lemmas.Bool.Decides.{nat_tests}
 use Rattle.std.proofs.lemmas.List.{append-nil, length-append}
 use Rattle.std.specs.Option.{option_and_then}
@@ -152,7 +151,7 @@ staged config (Noted (note.Arrive g octets) ∷ past) w = let was = staged confi
 staged config (Noted (note.Move g p n) ∷ past) w = let was = staged config past w.1 in record { each = was.each; none = was.none; count = was.count; known = was.known; zero_ = was.zero_; numbered = was.numbered }
 staged config (Noted (note.Frame c g n last) ∷ past) w = let was = staged config past w.1 in record { each = was.each; none = was.none; count = was.count; known = was.known; zero_ = was.zero_; numbered = was.numbered }
 staged config (Noted (note.Out c n) ∷ past) w = let was = staged config past w in record { each = was.each; none = was.none; count = was.count; known = was.known; zero_ = was.zero_; numbered = was.numbered }
-staged config (Noted (note.Pause g b) ∷ past) w = let was = staged config past w in record { each = was.each; none = was.none; count = was.count; known = was.known; zero_ = was.zero_; numbered = was.numbered }
+staged config (Noted (note.Pause g b) ∷ past) w = let was = staged config past w in record {each = was.each; none = was.none; count = was.count; known = was.known; zero_ = was.zero_; numbered = was.numbered}
 staged config (Noted (note.Resume g b) ∷ past) w = let was = staged config past w in record { each = was.each; none = was.none; count = was.count; known = was.known; zero_ = was.zero_; numbered = was.numbered }
 staged config (Noted (note.Credit c s n) ∷ past) w = let was = staged config past w in record { each = was.each; none = was.none; count = was.count; known = was.known; zero_ = was.zero_; numbered = was.numbered }
 staged config (Noted (note.Head c s octets) ∷ past) w = let was = staged config past w in record { each = was.each; none = was.none; count = was.count; known = was.known; zero_ = was.zero_; numbered = was.numbered }
