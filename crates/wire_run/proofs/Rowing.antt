@@ -57,11 +57,11 @@ named_stays x (Marked m ∷ ss) h e = named_stays x ss (Marked m ∷ h) e
 
 named_after : (x : ℕ) (ss : List WayStep) (h : WayHistory) → named (shown ss) x ≡ true → names_in x (after ss h) ≡ true
 named_after x [] h e = cc
-named_after x (Noted n ∷ ss) h e = at (names n x) refl e
+named_after x (Noted n ∷ ss) h e = at (names n x) refl e (named_after x ss (Noted n ∷ h))
   where
-    at : (b : Bool) → names n x ≡ b → (b || named (shown ss) x) ≡ true → names_in x (after ss (Noted n ∷ h)) ≡ true
-    at true is e = named_stays x ss (Noted n ∷ h) (ap (λ (v : Bool). v || names_in x h) is)
-    at false is e = named_after x ss (Noted n ∷ h) e
+    at : (b : Bool) → names n x ≡ b → (b || named (shown ss) x) ≡ true → (named (shown ss) x ≡ true → names_in x (after ss (Noted n ∷ h)) ≡ true) → names_in x (after ss (Noted n ∷ h)) ≡ true
+    at true is e more = named_stays x ss (Noted n ∷ h) (ap (λ (v : Bool). v || names_in x h) is)
+    at false is e more = more e
 named_after x (Marked m ∷ ss) h e = named_after x ss (Marked m ∷ h) e
 
 -- by number
@@ -89,7 +89,7 @@ module _ (x : ℕ) where
   named_given config (Noted (note.Move f p n) ∷ past) w e = either (f.exchange == x) (names_in x past) (length (started past)) (λ is. same_number f.exchange (length (started past)) is w.0) (λ is. named_given config past w.1 is) e
   named_given config (Noted (note.Frame c f n last) ∷ past) w e = either (f.exchange == x) (names_in x past) (length (started past)) (λ is. same_number f.exchange (length (started past)) is w.0) (λ is. named_given config past w.1 is) e
   named_given config (Noted (note.Doom y why) ∷ past) w e = either (y == x) (names_in x past) (length (started past)) (λ is. same_number y (length (started past)) is w.0) (λ is. named_given config past w.1 is) e
-  named_given config (Noted (note.Turn k e) ∷ past) w e = named_given config past w e
+  named_given config (Noted (note.Turn k t) ∷ past) w e = named_given config past w e
   named_given config (Noted (note.Out c n) ∷ past) w e = named_given config past w e
   named_given config (Noted (note.Pause f b) ∷ past) w e = named_given config past w e
   named_given config (Noted (note.Resume f b) ∷ past) w e = named_given config past w e
@@ -104,14 +104,14 @@ module _ (x : ℕ) where
 -- ---- places in a list
 has_at : (xs : List ℕ) (x : ℕ) → has xs x ≡ true → (i : ℕ) × (slice_get xs i ≡ Some x)
 has_at [] x e = cc
-has_at (y ∷ xs) x e = at (y == x) refl e
+has_at (y ∷ xs) x e = at (y == x) refl e (has_at xs x)
   where
     same : (y x : ℕ) → (y == x) ≡ true → y ≡ x
     same y x e = grind (arith, nat_tests)
 
-    at : (b : Bool) → (y == x) ≡ b → (b || has xs x) ≡ true → (i : ℕ) × (slice_get (y ∷ xs) i ≡ Some x)
-    at true is e = (zero, ap Some (same y x is))
-    at false is e = let more = has_at xs x e in (suc more.0, more.1)
+    at : (b : Bool) → (y == x) ≡ b → (b || has xs x) ≡ true → (has xs x ≡ true → (i : ℕ) × (slice_get xs i ≡ Some x)) → (i : ℕ) × (slice_get (y ∷ xs) i ≡ Some x)
+    at true is e behind = (zero, ap Some (same y x is))
+    at false is e behind = let more = behind e in (suc more.0, more.1)
 
 at_has : (xs : List ℕ) (i x : ℕ) → slice_get xs i ≡ Some x → has xs x ≡ true
 at_has [] i x e = cc
@@ -175,13 +175,6 @@ module _ (config : Config) (steps : List WayStep) (k : WayHistory) (before : Are
   row_stays : (x : ℕ) → x ≤ length (started k) → row_in x then_ ≡ row_in x k
   row_stays x most = at x refl
     where
-      at : (y : ℕ) → x ≡ y → row_in x then_ ≡ row_in x k
-      at zero is = ap (λ (v : ℕ). row_in v then_) is ∙ ((staged config then_ now).zero_ ∙ sym (ap (λ (v : ℕ). row_in v k) is ∙ (staged config k before).zero_))
-      at (suc y) is = same_Some (row_in x then_) (row_in x k)
-          (sym ((staged config then_ now).known x (some x y is) (further x (length (started k)) (length (begun_in (shown steps))) (length (started then_)) most long))
-          ∙ (ap (λ (rows : List (Option ℕ)). slice_get rows (x - 1)) (rows_after steps k)
-          ∙ (get_front (rows_of k) (rows_in steps) (x - 1) (inside x y (length (started k)) (length (rows_of k)) is most (staged config k before).count) ∙ (staged config k before).known x (some x y is) most)))
-
       some : (x y : ℕ) → x ≡ suc y → 0 < x
       some x y is = omega (arith, is)
 
@@ -190,6 +183,13 @@ module _ (config : Config) (steps : List WayStep) (k : WayHistory) (before : Are
 
       inside : (x y n l : ℕ) → x ≡ suc y → x ≤ n → l ≡ n → x - 1 < l
       inside x y n l is most count = omega (arith, is, most, count)
+
+      at : (y : ℕ) → x ≡ y → row_in x then_ ≡ row_in x k
+      at zero is = ap (λ (v : ℕ). row_in v then_) is ∙ ((staged config then_ now).zero_ ∙ sym (ap (λ (v : ℕ). row_in v k) is ∙ (staged config k before).zero_))
+      at (suc y) is = same_Some (row_in x then_) (row_in x k)
+          (sym ((staged config then_ now).known x (some x y is) (further x (length (started k)) (length (begun_in (shown steps))) (length (started then_)) most long))
+          ∙ (ap (λ (rows : List (Option ℕ)). slice_get rows (x - 1)) (rows_after steps k)
+          ∙ (get_front (rows_of k) (rows_in steps) (x - 1) (inside x y (length (started k)) (length (rows_of k)) is most (staged config k before).count) ∙ (staged config k before).known x (some x y is) most)))
 
   -- ---- the log
   abbrev Rowed : ℕ → Option StageLimits → Type 0

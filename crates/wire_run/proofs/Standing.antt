@@ -38,7 +38,7 @@ use Rattle.flow_notes.specs.declared.events.Event.TheVariants as event
 use Rattle.flow_notes.specs.declared.notes.Note.TheVariants as note
 
 -- ---- before the first line
-none_fits : (l : LimitKeys) → IsBounded (tape_setup l) []
+pub none_fits : (l : LimitKeys) → IsBounded (tape_setup l) []
 none_fits l = record { recv = tt; stages = tt; send = on_true (nat_lt 0 l.send_buffer); write = on_true (nat_lt 0 l.write_buffer); together = tt }
   where
     on_true : (b : Bool) → OnTrue b (Unit {0})
