@@ -16,6 +16,7 @@ use Rattle.wire_flows.specs.Flows.{Flows, IsThere, flow_in}
 use Rattle.wire_flows.specs.Sound.{IsSound}
 use Rattle.wire_links.specs.Links.{Links}
 use Rattle.wire_state.proofs.Bodies.{arrives}
+use Rattle.wire_state.proofs.Givens.{there_given}
 use Rattle.wire_state.proofs.Goings.{told_by}
 use Rattle.wire_state.specs.Marks.{Footing}
 use Rattle.wire_state.specs.Ways.{WayHistory}
@@ -35,8 +36,8 @@ arrived_is octets flow e = by_fit (nat_le (length flow.recv + length octets) flo
 
 pub arrival_told : {k : Config} {l : Footing} → (f : FlowId) (octets : List ℕ) (old new : Flows) (r : Received) → r ≡ received_by (length octets) (flow_in old f) → r ≡ Arrived → (IsThere old f → ChangesFlow f (received octets) old.exchanges new.exchanges) → IsSound new
     → (conns : PagedMap Conn) (links : Links) (h : WayHistory) (g : ℕ → List ℕ) (start notes : List Note) → ToldBy k l h g start conns old links notes → ToldBy k l h g start conns new links (notes ++ note.Arrive f octets ∷ [])
-arrival_told f octets old new r is arrives_so changes sound conns links =
+arrival_told {l} f octets old new r is arrives_so changes sound conns links =
     let here : received_by (length octets) (flow_in old f) ≡ Arrived = sym is ∙ arrives_so in
     let there = arrived_there (length octets) (flow_in old f) here in
-    told_by (Noted (note.Arrive f octets) ∷ []) (λ h c. refl) (record { ways = λ j i w. w; rows = refl }) conns conns old new links links (λ h s.
+    told_by {l = l} (Noted (note.Arrive f octets) ∷ []) (λ h c. refl) conns conns old new links links (record { ways = λ h s w. (there_given conns old links h f there s, w); rows = refl }) (λ h s.
     arrives f octets h old new conns links (received octets) (changes there) there (λ flow found. arrived_is octets flow (ap (received_by (length octets)) (sym found) ∙ here)) sound s)

@@ -19,15 +19,15 @@ use Rattle.session_run.specs.declared.player.Went.{Went}
 use Rattle.std.proofs.Common.{ap, append_assoc, arith, inl, inr, refl, subst, sym, ◌∙◌}
 use Rattle.std.proofs.lemmas.List.{append-nil}
 use Rattle.std.specs.List.{AllByRecursion}
-use Rattle.std.specs.Prelude.{Err, IfSome, List, None, Ok, OnOk, Option, Result, [], false, suc, ℕ, ◌++◌, ◌+◌, ◌∷◌, ◌≡◌, ◌⊎◌}
+use Rattle.std.specs.Prelude.{Err, IfSome, List, None, Ok, OnOk, Option, Result, [], false, suc, ℕ, ◌++◌, ◌+◌, ◌<◌, ◌∷◌, ◌≡◌, ◌≤◌, ◌⊎◌}
 use Rattle.tape_laws.specs.Dispatches.{events_back}
 use Rattle.tape_laws.specs.History.{History, NoMark, onto}
 use Rattle.tape_laws.specs.declared.PlainLimits.{PlainLimits}
 use Rattle.tape_summary.specs.NotesText.{notes_text}
 use Rattle.wire_run.proofs.Noting.{dispatch_adds, onto_text, renamed}
-use Rattle.wire_run.proofs.Staging.{no_row, rows_agree, rows_grow, rows_of}
+use Rattle.wire_run.proofs.Staging.{rows_agree}
 use Rattle.wire_run.proofs.Standing.{new_to, none_left, stands_first, stands_on}
-use Rattle.wire_run.specs.Passing.{CarriesOn, PassesAll}
+use Rattle.wire_run.specs.Passing.{CarriesOn, PassesAll, row_told}
 use Rattle.wire_run.specs.Played.{DispatchedAs, PlayRests, Played, PlaysEvent, wire_kind}
 use Rattle.wire_run.specs.Rows.{limits_of, passes}
 use Rattle.wire_run.specs.Stages.{AreStages, IsRow}
@@ -35,6 +35,7 @@ use Rattle.wire_run.specs.Tapes.{WireTape}
 use Rattle.wire_run.specs.Worlds.{IsNewTo}
 use Rattle.wire_run.specs.declared.play.WirePlay.{WirePlay}
 use Rattle.wire_run.specs.declared.stages.StageTable.{StageTable}
+use Rattle.wire_state.specs.Marks.{row_in}
 use Rattle.wire_state.specs.Sound.{IsSound}
 use Rattle.wire_state.specs.Worlds.{Stands}
 use Rattle.wire_summary.specs.Levels.{StageLimits, known_limits}
@@ -43,7 +44,6 @@ use Rattle.wire_summary.specs.declared.levels.BufferLimits.{BufferLimits}
 use Rattle.wire_summary.specs.declared.log.WireLog.{WireLog}
 use Rattle.worker_core.specs.Dispatching.{Dispatches}
 use Rattle.wire_summary.specs.Summarizes.{Summarizes}
-use Rattle.wire_summary.specs.Levels.{no_limits}
 use Rattle.session_lines.specs.declared.order.LineRead.TheVariants as read
 use Rattle.session_run.specs.declared.player.Went.TheVariants as went
 
@@ -54,14 +54,15 @@ carried_rests : (old new : WirePlay) (e : Event) (config : Config) (h : History 
 carried_rests old new e config h c new_one k =
     let adds = dispatch_adds (old.session.turn + 1) e new.notes h c.dispatches.notes in
     let table : AreStages new.stages.rows.items config.routes = (let P : StageTable → Type 0 = λ v. AreStages v.rows.items config.routes in subst P (sym c.stages) k.stages) in
+    let on = stands_on old.session new.session config e new.notes h c.dispatches new_one k.octets in
     record {
       well = c.dispatches.well;
       sound = c.dispatches.sound;
       turn = c.dispatches.turn ∙ ap (λ n. n + 1) k.turn ∙ sym adds.turned;
       logs = c.logs.goes (limits_of config) h (c.passes.goes (limits_of config) h k.logs);
-      rows = rows_grow config.routes c.before.levels new.log.levels no_limits (c.passes.keeps config.routes k.stages k.rows) c.logs.grow (no_row config.routes);
       stages = table;
-      octets = stands_on old.session new.session config e new.notes h c.dispatches new_one k.octets;
+      octets = on.stands;
+      rows = on.rows old.stages.rows.items old.log c.before new.log k.stages c.passes c.logs k.rows;
     }
 
 carried_tape : (old new : WirePlay) (e : Event) (config : Config) (h : History NoMark) (seen after : WireSeen) → CarriesOn old e new → IsNewTo e h → PlayRests old config h → IsEvent (names_in config) e
@@ -73,7 +74,7 @@ carried_tape old new e config h seen after c new_one k is t next may =
       shown = adds.shown ∙ ap (λ es. e ∷ es) t.shown ∙ sym next;
       in_order = adds.ordered (ap (λ n. n + 1) k.turn) t.in_order;
       spelled = adds.told (names_in config) (omega arith) is t.spelled;
-      octets = (stands_on old.session new.session config e new.notes h c.dispatches new_one k.octets).world;
+      octets = (stands_on old.session new.session config e new.notes h c.dispatches new_one k.octets).stands.world;
     }
 
 -- the notes have a spelling with the names of the lines
@@ -173,9 +174,9 @@ header_played old new line text_old text_new r es et el tt_is = record {
       sound = rw es k.sound;
       turn = ap (λ v. v.turn) es ∙ k.turn;
       logs = rw el k.logs;
-      rows = rw el k.rows;
       stages = rw et k.stages;
-      octets = rw es k.octets;
+      octets = record { under = ap (λ v. v.core.config) es ∙ k.octets.under; world = k.octets.world; stands = rw es k.octets.stands };
+      rows = rw el k.rows;
     }
 
 pub line_refused : (old : WirePlay) (line : List ℕ) (new : WirePlay) (lines : WireLines) (text_old text_new : List ℕ) → ReadsWireLine old.lines line lines (Ok read.Refused) → text_new ≡ text_old
@@ -222,9 +223,9 @@ event_line_played old mid line e text_old new text_new result r es et el p = rec
       sound = rw es k.sound;
       turn = ap (λ v. v.turn) es ∙ k.turn;
       logs = rw el k.logs;
-      rows = rw el k.rows;
       stages = rw et k.stages;
-      octets = rw es k.octets;
+      octets = record { under = ap (λ v. v.core.config) es ∙ k.octets.under; world = k.octets.world; stands = rw es k.octets.stands };
+      rows = rw el k.rows;
     }
 
     by : (config lines : List ℕ) (count : ℕ) (told : List ℕ) (k : Played old config lines count told) (result : Result Went NoMemory) → DispatchedAs mid e new k.config k.history text_old text_new result → PlayedAs wire_kind old new line config lines count told text_old text_new result
@@ -273,9 +274,13 @@ play_begins play config text names resources limits routes configured names_are 
       sound = sound;
       turn = turn;
       logs = (let P : BufferLimits → Type 0 = λ v. WireLogIs v play.log [] in subst P limits_are logs);
-      rows = record { each = λ x. (let P : Option StageLimits → Type 0 = λ v. IfSome v (IsRow config.routes) in subst P (sym (unsaid x)) tt) };
       stages = (let P : List Route → Type 0 = λ v. AreStages play.stages.rows.items v in subst P routes_are stages);
       octets = stands_first play.session config same octets;
+      rows = record {
+        each = λ x. (let P : Option StageLimits → Type 0 = λ v. IfSome v (IsRow config.routes None) in subst P (sym (unsaid x)) tt);
+        all = λ x some most. absurd (none_given x some most);
+        none = λ x over. unsaid x;
+      };
     };
     tape = record { may = tt; shown = refl; in_order = tt; spelled = tt; octets = none_left config };
     lines_are = refl;
@@ -283,6 +288,9 @@ play_begins play config text names resources limits routes configured names_are 
     told_is = refl;
   };
 }
+  where
+    none_given : (x : ℕ) → 0 < x → x ≤ 0 → ⊥
+    none_given x some most = omega (arith, some, most)
 
 -- ---- the summary
 
@@ -291,16 +299,14 @@ play_summed play old new (Ok x) s = record {
   added = s.added;
   text = s.is;
   sums = record {
-    goes = λ config h k.
-        let rows = rows_of config.routes play.log.levels k.rows in
-        (rows, s.goes (limits_of config) (passes config.routes rows) h k.logs (rows_agree config.routes play.log.levels k.rows));
+    goes = λ config h k. s.goes (limits_of config) (passes config.routes (λ x. row_in x k.octets.world.marked)) h k.logs (rows_agree config.routes play.log.levels k.octets.world.marked k.rows);
   };
 }
 play_summed play old new (Err x) s = tt
 
 -- ---- a dispatch that was carried out
 
-pub carried : (old new : WirePlay) (e : Event) (cleared : List Note) (before : WireLog) (r : Result (Unit {0}) NoMemory) → cleared ≡ [] → Dispatches old.session cleared e new.session new.notes → PassesAll old.stages.rows.items old.log before
+pub carried : (old new : WirePlay) (e : Event) (cleared : List Note) (before : WireLog) (r : Result (Unit {0}) NoMemory) → cleared ≡ [] → Dispatches old.session cleared e new.session new.notes → PassesAll old.stages.rows.items (row_told new.session) new.notes old.log before
     → OnOk r (WireLogs before new.notes new.log) → new.stages ≡ old.stages → new.lines ≡ old.lines → OnOk r (CarriesOn old e new)
 carried old new e cleared before (Ok u) none d p l es el =
     let P : List Note → Type 0 = λ v. Dispatches old.session v e new.session new.notes in

@@ -14,9 +14,9 @@ use Rattle.std.proofs.Common.{ap, inl, inr, refl, subst, sym, ◌∙◌}
 use Rattle.std.proofs.lemmas.List.{append-nil}
 use Rattle.std.specs.Io.KnownBytes.{Appends, Consumes}
 use Rattle.std.specs.Prelude.{Bool, Err, List, None, Ok, Option, Some, [], codes, suc, ℕ, ◌++◌, ◌∷◌, ◌≡◌, ◌⊎◌}
-use Rattle.tape_laws.specs.History.{History, NoMark}
 use Rattle.tape_laws.specs.Text.{tape_text}
 use Rattle.wire_run.proofs.Standing.{none_left}
+use Rattle.wire_state.specs.Marks.{row_in}
 use Rattle.wire_run.specs.Played.{Played, RefusesLine, can_end, wire_kind}
 use Rattle.wire_run.specs.Tapes.{RunsWire, TellsWire, TellsWireAs, TellsWireFront, last_wire_text}
 use Rattle.wire_run.specs.declared.play.WirePlay.{WirePlay}
@@ -48,22 +48,19 @@ wire_ends_of how play names resources seen lines rest left w e k =
 
 -- ---- its last line or lines, where each exchange passes the stages of some row
 
-record LastIs (how : Status) (config : Config) (seen : WireSeen) (h : History NoMark) (last : List ℕ) : Type 0 where
-  rows : ℕ → Option ℕ
-  is : last ≡ last_wire_text how config rows seen h
+-- the rows that the marks of its world name
+abbrev marked_rows : (play : WirePlay) (config_text lines : List ℕ) (count : ℕ) (told : List ℕ) → Played play config_text lines count told → ℕ → Option ℕ
+marked_rows play config_text lines count told k x = row_in x k.rests.octets.world.marked
 
-no_rows : ℕ → Option ℕ
-no_rows x = None
-
-last_of : (how : Status) (play : WirePlay) (config_text lines : List ℕ) (count : ℕ) (told last : List ℕ) (k : Played play config_text lines count told) → IsLast wire_kind how play count last → LastIs how k.config k.seen k.history last
-last_of status.Done play config_text lines count told last k i = let s = i.goes k.config k.history k.rests in record { rows = s.0; is = s.1 }
-last_of status.Session play config_text lines count told last k i = record { rows = no_rows; is = i ∙ ap (λ n. numbered_line (codes "refused" ∷ codes "line" ∷ []) (suc n)) k.count_is }
-last_of status.TooLong play config_text lines count told last k i = record { rows = no_rows; is = i }
-last_of status.Usage play config_text lines count told last k i = record { rows = no_rows; is = i }
-last_of status.Config play config_text lines count told last k i = record { rows = no_rows; is = i }
-last_of status.ReadFault play config_text lines count told last k i = record { rows = no_rows; is = i }
-last_of status.WriteFault play config_text lines count told last k i = record { rows = no_rows; is = i }
-last_of status.Memory play config_text lines count told last k i = record { rows = no_rows; is = i }
+last_of : (how : Status) (play : WirePlay) (config_text lines : List ℕ) (count : ℕ) (told last : List ℕ) (k : Played play config_text lines count told) → IsLast wire_kind how play count last → last ≡ last_wire_text how k.config (marked_rows play config_text lines count told k) k.seen k.history
+last_of status.Done play config_text lines count told last k i = i.goes k.config k.history k.rests
+last_of status.Session play config_text lines count told last k i = i ∙ ap (λ n. numbered_line (codes "refused" ∷ codes "line" ∷ []) (suc n)) k.count_is
+last_of status.TooLong play config_text lines count told last k i = i
+last_of status.Usage play config_text lines count told last k i = i
+last_of status.Config play config_text lines count told last k i = i
+last_of status.ReadFault play config_text lines count told last k i = i
+last_of status.WriteFault play config_text lines count told last k i = i
+last_of status.Memory play config_text lines count told last k i = i
 
 -- ---- the whole
 
@@ -75,13 +72,14 @@ told_of how config_text read told left t =
       config = k.config;
       configured = k.configured;
       seen = k.seen;
-      rows = l.rows;
+      rows = marked_rows t.player config_text t.lines t.count t.text k;
       history = k.history;
       rest = t.rest;
       reads = t.reads ∙ ap (λ (v : List ℕ). v ++ t.rest) k.lines_are;
-      tape = k.tape;
+      tape = record { may = k.tape.may; shown = k.tape.shown; in_order = k.tape.in_order; spelled = k.tape.spelled; octets = k.rests.octets.world };
+      marks = λ x. refl;
       ends = wire_ends_of how t.player (names_in k.config) (resources_in k.config) k.seen t.lines t.rest left k.read k.lines_are t.ends;
-      is = t.is ∙ ap (λ (v : List ℕ). v ++ t.last) k.told_is ∙ ap (λ (v : List ℕ). tape_text (names_in k.config) k.history ++ v) l.is;
+      is = t.is ∙ ap (λ (v : List ℕ). v ++ t.last) k.told_is ∙ ap (λ (v : List ℕ). tape_text (names_in k.config) k.history ++ v) l;
     }
 
 front_of : (config_text read text : List ℕ) (left : Option (List ℕ)) → run.TellsFront wire_kind config_text read text left → TellsWireFront config_text read text left
@@ -117,7 +115,7 @@ runs_none config config_text left out how e c =
       text = [];
       consumes = held_kept left;
       appends = known_kept out;
-      tells = record { config = config; configured = c; seen = NoLine; rows = no_rows; history = []; rest = []; reads = refl; tape = record { may = tt; shown = refl; in_order = tt; spelled = tt; octets = none_left config }; ends = tt; is = refl };
+      tells = record { config = config; configured = c; seen = NoLine; rows = λ x. None; history = []; rest = []; reads = refl; tape = record { may = tt; shown = refl; in_order = tt; spelled = tt; octets = none_left config }; ends = tt; marks = λ x. refl; is = refl };
     })
 
 -- a session's status is never that of a configuration that is refused

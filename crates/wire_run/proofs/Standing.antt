@@ -11,40 +11,44 @@ use Rattle.std.proofs.lemmas.List.{append-nil}
 use Rattle.std.proofs.lemmas.List.Folds.{list_any-append}
 use Rattle.std.specs.Bool.{OnTrue}
 use Rattle.std.specs.List.{AllByRecursion, list_all}
-use Rattle.std.specs.Prelude.{Bool, IsTrue, List, Option, Some, [], false, nat_lt, true, ℕ, ◌&&◌, ◌++◌, ◌+◌, ◌==◌, ◌||◌, ◌∷◌, ◌≡◌}
+use Rattle.std.specs.Prelude.{Bool, IsTrue, List, Option, Some, [], false, length, nat_lt, true, ℕ, ◌&&◌, ◌++◌, ◌+◌, ◌==◌, ◌||◌, ◌∷◌, ◌≡◌}
 use Rattle.tape_laws.specs.Bounds.{IsBounded}
 use Rattle.tape_laws.specs.Connections.{connections}
-use Rattle.tape_laws.specs.Dispatches.{before_dispatch, events_back, has, this_event}
+use Rattle.tape_laws.specs.Dispatches.{before_dispatch, events_back, has, started, this_event}
 use Rattle.tape_laws.specs.History.{BeforeTurn, EachFollows, History, Marked, NoMark, Noted, notes_of, onto}
 use Rattle.tape_laws.specs.World.{gone, out}
+use Rattle.wire_run.proofs.Rowing.{rows_on}
+use Rattle.wire_run.specs.Passing.{PassesAll, row_told}
+use Rattle.wire_run.specs.Stages.{AreStages, HaveRows}
+use Rattle.wire_run.specs.declared.stages.RouteStages.{RouteStages}
 use Rattle.wire_run.specs.Worlds.{HasWorld, IsNewTo, LeavesByRoom, StandsFor, leaves_by}
 use Rattle.wire_state.proofs.Promised.{promised}
+use Rattle.wire_state.specs.Courses.{row_of}
 use Rattle.wire_state.specs.Marks.{AreWays}
 use Rattle.wire_state.specs.Noting.{IsStep}
 use Rattle.wire_state.specs.Tapes.{Promises, tape_setup}
 use Rattle.wire_state.specs.Ways.{WayHistory, WayStep, after, shown, world_setup}
 use Rattle.wire_state.specs.Worlds.{IsFresh, Stands, left_after, octets_of}
 use Rattle.wire_state.specs.declared.conn.Conn.{Conn}
-use Rattle.worker_core.proofs.Turning.{goes_on}
+use Rattle.wire_summary.specs.Logging.{WireLogs}
+use Rattle.wire_summary.specs.declared.log.WireLog.{WireLog}
 use Rattle.worker_core.specs.Dispatching.{Dispatches}
 use Rattle.worker_core.specs.declared.wire.WireSession.{WireSession}
 use Rattle.flow_notes.specs.declared.events.Event.TheVariants as event
 use Rattle.flow_notes.specs.declared.notes.Note.TheVariants as note
-use Rattle.worker_core.specs.declared.worker.Kind.TheVariants as kind
 
 -- ---- before the first line
-none_fits : (l : LimitKeys) → IsBounded (tape_setup l) []
+pub none_fits : (l : LimitKeys) → IsBounded (tape_setup l) []
 none_fits l = record { recv = tt; stages = tt; send = on_true (nat_lt 0 l.send_buffer); write = on_true (nat_lt 0 l.write_buffer); together = tt }
   where
     on_true : (b : Bool) → OnTrue b (Unit {0})
     on_true true = tt
     on_true false = tt
 
-pub none_left : (config : Config) → HasWorld config []
+abbrev pub none_left : (config : Config) → HasWorld config []
 none_left config = record { marked = []; notes = refl; ways = tt; promises = record { sent = λ f. refl; bounded = none_fits config.limits }; left = tt; last = λ c. refl }
 
-pub stands_first : (session : WireSession) (config : Config) → session.core.config ≡ config → Stands session.core.config.limits session.core.conns session.core.flows session.core.links [] → StandsFor session config []
-unfolding none_left
+abbrev pub stands_first : (session : WireSession) (config : Config) → session.core.config ≡ config → Stands session.core.config.limits session.core.conns session.core.flows session.core.links [] → StandsFor session config []
 stands_first session config e s = record { under = e; world = none_left config; stands = s }
 
 -- ---- a connection that comes is new
@@ -248,24 +252,35 @@ leaves_as : (c : ℕ) (xs ys waits waited : List ℕ) (o p : Option Event) → y
 leaves_as c xs ys waits waited o p e f g =
     ap (λ (v : List ℕ). v ++ leaves_by o c waits) (sym e) ∙ ap (λ (v : List ℕ). ys ++ leaves_by o c v) (sym f) ∙ ap (λ (v : Option Event). ys ++ leaves_by v c waited) (sym g)
 
-pub stands_on : (old new : WireSession) (l : Config) (e : Event) (notes : List Note) (h : History NoMark) → Dispatches old [] e new notes → IsNewTo e h → StandsFor old l h → StandsFor new l (onto notes h)
+-- it stands for that tape, and what the log knows of exchanges stays tied to the marks
+pub record StandsWith (old new : WireSession) (l : Config) (notes : List Note) (h : History NoMark) (s : StandsFor old l h) : Type 0 where
+  pub stands : StandsFor new l (onto notes h)
+  pub rows : (table : List RouteStages) (a b c : WireLog) → AreStages table l.routes → PassesAll table (row_told new) notes a b → WireLogs b notes c → HaveRows l.routes a.levels s.world.marked → HaveRows l.routes c.levels stands.world.marked
+
+pub stands_on : (old new : WireSession) (l : Config) (e : Event) (notes : List Note) (h : History NoMark) → Dispatches old [] e new notes → IsNewTo e h → (s : StandsFor old l h) → StandsWith old new l notes h s
 stands_on old new l e notes h d new_one s =
     let k = s.world.marked in
     let fresh = fresh_of k h s.world.notes e new_one in
-    let t = goes_on (kind.Wire old) e (kind.Wire new) notes d k s.stands fresh in
+    let t = d.octets.goes k (λ c. gone world_setup c k) s.stands (λ c. refl) fresh in
     let same : new.core.config ≡ l = t.under ∙ s.under in
     let turn = turned t.steps k (old.turn + 1) e d.notes.added (sym t.is ∙ d.notes.is) d.notes.steps in
+    let tied : AreWays l (after t.steps k) = subst (λ (v : Config). AreWays v k → AreWays v (after t.steps k)) same t.ways s.world.ways in
     record {
-      under = same;
-      world = record {
-        marked = after t.steps k;
-        notes = same_notes t.steps k notes h t.is s.world.notes;
-        ways = subst (λ (v : Config). AreWays v (after t.steps k)) s.under (t.ways (subst (λ (v : Config). AreWays v k) (sym s.under) s.world.ways));
-        promises = subst (λ (v : Config). Promises v.limits (after t.steps k)) same (promised new.core.conns new.core.flows new.core.links (after t.steps k) t.stands);
-        left = turn.each s.world.left s.world.last;
-        last = λ c. t.left c ∙ left_by e old.core.conns (λ x. gone world_setup x k) c
-            ∙ leaves_as c (gone world_setup c k) (gone world_setup c (before_dispatch (after t.steps k))) (octets_of c old.core.conns) (out world_setup c (before_dispatch (after t.steps k)))
-            (Some e) (this_event (after t.steps k)) (turn.left_is c) (turn.waits_is c ∙ sym (s.stands.writes c)) turn.event_is;
+      rows = λ table a b c stages p logs was. rows_on l t.steps k s.world.ways tied table (row_told new) a b c stages
+          (λ x. ap (λ (n : ℕ). row_of x n new.core.rows.items) t.since ∙ ap (row_of x (length (started k))) t.rows)
+          (subst (λ (ns : List Note). PassesAll table (row_told new) ns a b) t.is p) (subst (λ (ns : List Note). WireLogs b ns c) t.is logs) was;
+      stands = record {
+        under = same;
+        world = record {
+          marked = after t.steps k;
+          notes = same_notes t.steps k notes h t.is s.world.notes;
+          ways = tied;
+          promises = subst (λ (v : Config). Promises v.limits (after t.steps k)) same (promised new.core.conns new.core.flows new.core.links (after t.steps k) t.stands);
+          left = turn.each s.world.left s.world.last;
+          last = λ c. t.left c ∙ left_by e old.core.conns (λ x. gone world_setup x k) c
+              ∙ leaves_as c (gone world_setup c k) (gone world_setup c (before_dispatch (after t.steps k))) (octets_of c old.core.conns) (out world_setup c (before_dispatch (after t.steps k)))
+              (Some e) (this_event (after t.steps k)) (turn.left_is c) (turn.waits_is c ∙ sym (s.stands.writes c)) turn.event_is;
+        };
+        stands = t.stands;
       };
-      stands = t.stands;
     }

@@ -8,7 +8,7 @@ use Rattle.session_config.specs.ClusterNames.{names_in, resources_in}
 use Rattle.session_lines.specs.WireLines.{IsWireSeen, SpellsNoWire, WireLinesAre, WireSeen, wire_events, wire_lines, wire_text}
 use Rattle.session_run.specs.Kinds.{Kind, kind_of}
 use Rattle.session_run.specs.declared.player.Went.{Went}
-use Rattle.std.specs.Prelude.{Bool, Err, List, Ok, Option, Result, false, ℕ, ◌++◌, ◌∷◌, ◌≡◌}
+use Rattle.std.specs.Prelude.{Bool, Err, List, Ok, Result, false, ℕ, ◌++◌, ◌∷◌, ◌≡◌}
 use Rattle.tape_laws.specs.Dispatches.{turns}
 use Rattle.tape_laws.specs.History.{History, NoMark}
 use Rattle.tape_laws.specs.Report.{summary_text}
@@ -18,6 +18,7 @@ use Rattle.wire_run.specs.Stages.{AreStages, HaveRows}
 use Rattle.wire_run.specs.Tapes.{WireTape}
 use Rattle.wire_run.specs.Worlds.{IsNewTo, StandsFor}
 use Rattle.wire_run.specs.declared.play.WirePlay.{WirePlay}
+use Rattle.wire_state.specs.Marks.{row_in}
 use Rattle.wire_state.specs.Sound.{IsSound}
 use Rattle.wire_summary.specs.Levels.{shaped}
 use Rattle.wire_summary.specs.Logging.{WireLogIs}
@@ -29,10 +30,10 @@ pub record PlayRests (play : WirePlay) (config : Config) (history : History NoMa
   pub sound : IsSound play.session.core
   pub turn : play.session.turn ≡ turns history
   pub logs : WireLogIs (limits_of config) play.log history
-  pub rows : HaveRows config.routes play.log.levels
   pub stages : AreStages play.stages.rows.items config.routes
   -- what waits for the sockets and lies in the places of the bodies is that of the tape's world
   pub octets : StandsFor play.session config history
+  pub rows : HaveRows config.routes play.log.levels octets.world.marked
 
 -- the lines were read under the configuration that its octets spell, their events were dispatched, and this is the text of
 -- the tape
@@ -56,10 +57,9 @@ pub record RefusesLine (play : WirePlay) (line : List ℕ) : Type 0 where
 abbrev pub can_end : WirePlay → Bool
 can_end play = play.lines.headed
 
--- the text is the summary of the tape, where each exchange passes the stages of its route row
+-- the text is the summary of the tape, where each exchange passes the stages of the route row that its mark names
 pub record SumsPlay (play : WirePlay) (text : List ℕ) : Type 0 where
-  pub goes : (config : Config) (h : History NoMark) → PlayRests play config h
-      → (rows : ℕ → Option ℕ) × (text ≡ summary_text (shaped (limits_of config) (passes config.routes rows)) h)
+  pub goes : (config : Config) (h : History NoMark) (rests : PlayRests play config h) → text ≡ summary_text (shaped (limits_of config) (passes config.routes (λ x. row_in x rests.octets.world.marked))) h
 
 abbrev pub wire_kind : Kind WirePlay
 wire_kind = kind_of Played RefusesLine can_end SumsPlay

@@ -15,6 +15,7 @@ use Rattle.tape_laws.specs.Dispatches.{events_back, turns}
 use Rattle.tape_laws.specs.History.{History, NoMark, Noted, notes_of}
 use Rattle.tape_laws.specs.Report.{summary_text}
 use Rattle.tape_laws.specs.Text.{tape_text}
+use Rattle.wire_state.specs.Marks.{row_in}
 use Rattle.wire_run.specs.Rows.{limits_of, passes}
 use Rattle.wire_run.specs.Worlds.{HasWorld}
 use Rattle.wire_summary.specs.Levels.{shaped}
@@ -56,6 +57,8 @@ pub record TellsWire (status : Status) (config_text read told : List ℕ) (left 
   pub reads : read ≡ wire_text (names_in config) seen ++ rest
   pub tape : WireTape config seen history
   pub ends : EndsAs (SpellsNoWire (names_in config) (resources_in config) seen) (is_headed seen) status (wire_text (names_in config) seen) rest left
+  -- the rows are those that the marks of the tape's world name
+  pub marks : (x : ℕ) → rows x ≡ row_in x tape.octets.marked
   pub is : told ≡ tape_text (names_in config) history ++ last_wire_text status config rows seen history
 
 -- where the sink failed, what was written is a front of such a text

@@ -1,6 +1,7 @@
 // The lines of a wire session, each of which is dispatched.
-ghost use Rattle.std.specs.Prelude.{◌≡◌, OnOk};
-ghost use Rattle.wire_run.specs.Passing.{PassesAll};
+ghost use Rattle.flow_notes.specs.Passages.{notes_of_passage};
+ghost use Rattle.std.specs.Prelude.{◌≡◌, ◌∷◌, [], OnOk};
+ghost use Rattle.wire_run.specs.Passing.{PassesAll, row_told};
 ghost use Rattle.wire_run.specs.Rows as rows;
 
 use crate::stages::StageTable;
@@ -144,14 +145,27 @@ fn pass_all(
     stages: &StageTable,
     log: &mut WireLog,
 ) -> Result<(), NoMemory>
-    ensures { OnOk result (PassesAll stages.now.rows.items log.old log.new) }
+    ensures { OnOk result (PassesAll stages.now.rows.items (row_told session.now) notes.now log.old log.new) }
 {
     for passage in notes.passages() {
-        if let Passage::One(note) = passage {
-            pass(note, session, stages, log)?;
-        }
+        pass_row(passage, session, stages, log)?;
     }
     Ok(())
+}
+
+// No exchange begins in a row of pauses or resumes.
+fn pass_row(
+    passage: Passage<'_>,
+    session: &WireSession,
+    stages: &StageTable,
+    log: &mut WireLog,
+) -> Result<(), NoMemory>
+    ensures { OnOk result (PassesAll stages.now.rows.items (row_told session.now) (notes_of_passage passage.entry) log.old log.new) }
+{
+    match passage {
+        Passage::One(note) => pass(note, session, stages, log),
+        _ => Ok(()),
+    }
 }
 
 fn pass(
@@ -160,7 +174,7 @@ fn pass(
     stages: &StageTable,
     log: &mut WireLog,
 ) -> Result<(), NoMemory>
-    ensures { OnOk result (PassesAll stages.now.rows.items log.old log.new) }
+    ensures { OnOk result (PassesAll stages.now.rows.items (row_told session.now) (note.now ∷ []) log.old log.new) }
 {
     let Note::Start { exchange, .. } = note else {
         return Ok(());

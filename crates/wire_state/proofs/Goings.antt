@@ -51,15 +51,15 @@ rows_append (Noted n ∷ a) b = rows_append a b
 rows_append (Marked (Passes x row there back) ∷ a) b = ap (λ (rows : List (Option ℕ)). row ∷ rows) (rows_append a b)
 rows_append (Marked (Opens x s) ∷ a) b = rows_append a b
 
--- nothing of the marks comes by these steps
-pub record KeepsWays (steps : List WayStep) : Type 0 where
-  pub ways : (config : Config) (h : WayHistory) → AreWays config h → AreWays config (after steps h)
+-- no mark comes by these steps, and the marks stay tied
+pub record KeepsWays (l : Footing) (conns : PagedMap Conn) (flows : Flows) (links : Links) (steps : List WayStep) : Type 0 where
+  pub ways : (h : WayHistory) → Stands l.config.limits conns flows links h → AreWays l.config h → AreWays l.config (after steps h)
   pub rows : rows_in steps ≡ []
 
 -- the steps that a call makes are still to be noted, where the core stands for them
 pub told_as : {k : Config} {l : Footing} → (steps : List WayStep) (more : (ℕ → List ℕ) → ℕ → List ℕ) (conns conns' : PagedMap Conn) (flows flows' : Flows) (links links' : Links)
     → ((h : WayHistory) (g : ℕ → List ℕ) → Stands l.config.limits conns flows links h → ((c : ℕ) → gone world_setup c h ≡ g c) → (c : ℕ) → gone world_setup c (after steps h) ≡ more g c)
-    → KeepsWays steps → ((h : WayHistory) → Stands l.config.limits conns flows links h → Stands l.config.limits conns' flows' links' (after steps h))
+    → KeepsWays l conns flows links steps → ((h : WayHistory) → Stands l.config.limits conns flows links h → Stands l.config.limits conns' flows' links' (after steps h))
     → (h : WayHistory) (g : ℕ → List ℕ) (start notes : List Note) → ToldBy k l h g start conns flows links notes → ToldBy k l h (more g) start conns' flows' links' (notes ++ shown steps)
 told_as {l} steps more conns conns' flows flows' links links' leaves ways goes h g start notes t = record {
   steps = t.steps ++ steps;
@@ -67,15 +67,15 @@ told_as {l} steps more conns conns' flows flows' links links' leaves ways goes h
   stands = subst (λ (past : WayHistory). Stands l.config.limits conns' flows' links' past) (sym (after_append t.steps steps h)) (goes (after t.steps h) t.stands);
   left = λ c. ap (gone world_setup c) (after_append t.steps steps h) ∙ leaves (after t.steps h) g t.stands t.left c;
   under = t.under;
-  ways = λ was. subst (λ (past : WayHistory). AreWays l.config past) (sym (after_append t.steps steps h)) (ways.ways l.config (after t.steps h) (t.ways was));
+  ways = λ was. subst (λ (past : WayHistory). AreWays l.config past) (sym (after_append t.steps steps h)) (ways.ways (after t.steps h) t.stands (t.ways was));
   rows = t.rows ∙ (sym (append-nil (rows_in t.steps)) ∙ (ap (λ (rows : List (Option ℕ)). rows_in t.steps ++ rows) (sym ways.rows) ∙ sym (rows_append t.steps steps)));
   since = t.since;
 }
 
-pub told_by : {k : Config} {l : Footing} → (steps : List WayStep) → KeepsLeft steps → KeepsWays steps → (conns conns' : PagedMap Conn) (flows flows' : Flows) (links links' : Links)
+pub told_by : {k : Config} {l : Footing} → (steps : List WayStep) → KeepsLeft steps → (conns conns' : PagedMap Conn) (flows flows' : Flows) (links links' : Links) → KeepsWays l conns flows links steps
     → ((h : WayHistory) → Stands l.config.limits conns flows links h → Stands l.config.limits conns' flows' links' (after steps h))
     → (h : WayHistory) (g : ℕ → List ℕ) (start notes : List Note) → ToldBy k l h g start conns flows links notes → ToldBy k l h g start conns' flows' links' (notes ++ shown steps)
-told_by steps keeps ways conns conns' flows flows' links links' goes = told_as steps (λ g. g) conns conns' flows flows' links links' (λ h g s is c. keeps h c ∙ is c) ways goes
+told_by steps keeps conns conns' flows flows' links links' ways goes = told_as steps (λ g. g) conns conns' flows flows' links links' (λ h g s is c. keeps h c ∙ is c) ways goes
 
 -- the core has this footing
 told_on : {k : Config} → (l : Footing) (new : WireCore) → footing_of new ≡ l → (h : WayHistory) (g : ℕ → List ℕ) (start notes : List Note) → ToldBy k l h g start new.conns new.flows new.links notes → Told k h g start new notes
@@ -89,12 +89,12 @@ pub told_at : {k : Config} {l : Footing} → (h : WayHistory) (g : ℕ → List 
     → ToldBy k l h g start conns flows links notes → ToldBy k l h g start conns' flows links notes'
 told_at {k} {l} h g start conns conns' flows links notes notes' c n t = subst (λ (v : PagedMap Conn). ToldBy k l h g start v flows links notes') c (subst (λ (ns : List Note). ToldBy k l h g start conns flows links ns) n t)
 
-pub owes_by : (steps : List WayStep) → KeepsLeft steps → KeepsWays steps → (old new : WireCore) → footing_of new ≡ footing_of old
+pub owes_by : (steps : List WayStep) → KeepsLeft steps → (old new : WireCore) → KeepsWays (footing_of old) old.conns old.flows old.links steps → footing_of new ≡ footing_of old
     → ((h : WayHistory) → Stands old.config.limits old.conns old.flows old.links h → Stands old.config.limits new.conns new.flows new.links (after steps h)) → Owes (shown steps) old new
-owes_by steps keeps ways old new same goes = record {
+owes_by steps keeps old new ways same goes = record {
   goes = λ h g start notes t.
       config_told old new same h g start (notes ++ shown steps)
-      (told_by {l = footing_of old} steps keeps ways old.conns new.conns old.flows new.flows old.links new.links goes h g start notes t);
+      (told_by {l = footing_of old} steps keeps old.conns new.conns old.flows new.flows old.links new.links ways goes h g start notes t);
 }
 
 pub keeps_by : (old new : WireCore) → footing_of new ≡ footing_of old → ((h : WayHistory) → Stands old.config.limits old.conns old.flows old.links h → Stands old.config.limits new.conns new.flows new.links h) → Keeps old new

@@ -11,9 +11,9 @@ use Rattle.std.specs.Prelude.{Err, List, Ok, OnOk, Result, [], map, ℕ, ◌++�
 use Rattle.tape_laws.specs.History.{Noted}
 use Rattle.wire_flows.specs.Flows.{Flows}
 use Rattle.wire_links.specs.Links.{Links}
-use Rattle.wire_state.proofs.Goings.{KeepsLeft, KeepsWays, told_at, told_by}
+use Rattle.wire_state.proofs.Goings.{KeepsLeft, told_at, told_by}
 use Rattle.wire_state.proofs.Standing.{KeepsFlows, KeepsShut, Writes, conns_same, same_octets, wrote}
-use Rattle.wire_state.specs.Marks.{Footing}
+use Rattle.wire_state.specs.Marks.{AreWays, Footing}
 use Rattle.wire_state.specs.Ways.{WayHistory}
 use Rattle.wire_state.specs.Worlds.{IsIdle, Pays, Shows, ToldBy}
 use Rattle.wire_state.specs.declared.conn.Conn.{Conn}
@@ -28,14 +28,14 @@ record IsNothing (n : Note) : Type 0 where
   flows : (h : WayHistory) → KeepsFlows (Noted n) h
   shut : (h : WayHistory) → KeepsShut (Noted n) h
   left : KeepsLeft (Noted n ∷ [])
-  ways : KeepsWays (Noted n ∷ [])
+  ways : (config : Config) (h : WayHistory) → AreWays config h → AreWays config (Noted n ∷ h)
 
 nothing_of : (n : Note) → IsIdle n → IsNothing n
-nothing_of (note.Pause f b) i = record { writes = λ h. record { outs = λ d. refl }; flows = λ h. record { places = λ g p. refl; stages = λ g. refl; stream = λ g. refl; came = λ g. refl; went = λ g. refl; began = refl; opened = λ x. refl }; shut = λ h. record { closed = λ d. refl; come = λ d e. e }; left = λ h d. refl; ways = record { ways = λ k h w. w; rows = refl } }
-nothing_of (note.Resume f b) i = record { writes = λ h. record { outs = λ d. refl }; flows = λ h. record { places = λ g p. refl; stages = λ g. refl; stream = λ g. refl; came = λ g. refl; went = λ g. refl; began = refl; opened = λ x. refl }; shut = λ h. record { closed = λ d. refl; come = λ d e. e }; left = λ h d. refl; ways = record { ways = λ k h w. w; rows = refl } }
-nothing_of (note.Waste c s n) i = record { writes = λ h. record { outs = λ d. refl }; flows = λ h. record { places = λ g p. refl; stages = λ g. refl; stream = λ g. refl; came = λ g. refl; went = λ g. refl; began = refl; opened = λ x. refl }; shut = λ h. record { closed = λ d. refl; come = λ d e. e }; left = λ h d. refl; ways = record { ways = λ k h w. w; rows = refl } }
-nothing_of (note.Fire k x) i = record { writes = λ h. record { outs = λ d. refl }; flows = λ h. record { places = λ g p. refl; stages = λ g. refl; stream = λ g. refl; came = λ g. refl; went = λ g. refl; began = refl; opened = λ x. refl }; shut = λ h. record { closed = λ d. refl; come = λ d e. e }; left = λ h d. refl; ways = record { ways = λ k h w. w; rows = refl } }
-nothing_of (note.Gone x) i = record { writes = λ h. record { outs = λ d. refl }; flows = λ h. record { places = λ g p. refl; stages = λ g. refl; stream = λ g. refl; came = λ g. refl; went = λ g. refl; began = refl; opened = λ x. refl }; shut = λ h. record { closed = λ d. refl; come = λ d e. e }; left = λ h d. refl; ways = record { ways = λ k h w. w; rows = refl } }
+nothing_of (note.Pause f b) i = record { writes = λ h. record { outs = λ d. refl }; flows = λ h. record { places = λ g p. refl; stages = λ g. refl; stream = λ g. refl; came = λ g. refl; went = λ g. refl; began = refl; opened = λ x. refl }; shut = λ h. record { closed = λ d. refl; come = λ d e. e }; left = λ h d. refl; ways = λ config h w. w }
+nothing_of (note.Resume f b) i = record { writes = λ h. record { outs = λ d. refl }; flows = λ h. record { places = λ g p. refl; stages = λ g. refl; stream = λ g. refl; came = λ g. refl; went = λ g. refl; began = refl; opened = λ x. refl }; shut = λ h. record { closed = λ d. refl; come = λ d e. e }; left = λ h d. refl; ways = λ config h w. w }
+nothing_of (note.Waste c s n) i = record { writes = λ h. record { outs = λ d. refl }; flows = λ h. record { places = λ g p. refl; stages = λ g. refl; stream = λ g. refl; came = λ g. refl; went = λ g. refl; began = refl; opened = λ x. refl }; shut = λ h. record { closed = λ d. refl; come = λ d e. e }; left = λ h d. refl; ways = λ config h w. w }
+nothing_of (note.Fire k x) i = record { writes = λ h. record { outs = λ d. refl }; flows = λ h. record { places = λ g p. refl; stages = λ g. refl; stream = λ g. refl; came = λ g. refl; went = λ g. refl; began = refl; opened = λ x. refl }; shut = λ h. record { closed = λ d. refl; come = λ d e. e }; left = λ h d. refl; ways = λ config h w. w }
+nothing_of (note.Gone x) i = record { writes = λ h. record { outs = λ d. refl }; flows = λ h. record { places = λ g p. refl; stages = λ g. refl; stream = λ g. refl; came = λ g. refl; went = λ g. refl; began = refl; opened = λ x. refl }; shut = λ h. record { closed = λ d. refl; come = λ d e. e }; left = λ h d. refl; ways = λ config h w. w }
 nothing_of (note.Turn k e) i = absurd i
 nothing_of (note.Start x c s d) i = absurd i
 nothing_of (note.Arrive f octets) i = absurd i
@@ -50,8 +50,8 @@ nothing_of (note.Close c code why) i = absurd i
 
 module _ (conns : PagedMap Conn) (flows : Flows) (links : Links) where
   one_told : {k : Config} {l : Footing} → (n : Note) → IsIdle n → (h : WayHistory) (g : ℕ → List ℕ) (start before : List Note) → ToldBy k l h g start conns flows links before → ToldBy k l h g start conns flows links (before ++ n ∷ [])
-  one_told n i = let e = nothing_of n i in
-      told_by (Noted n ∷ []) e.left e.ways conns conns flows flows links links (λ h s. wrote same_octets (Noted n) h conns conns flows links (e.writes h) (e.flows h) (e.shut h) (conns_same conns) (λ c fit. fit) s)
+  one_told {l} n i = let e = nothing_of n i in
+      told_by {l = l} (Noted n ∷ []) e.left conns conns flows flows links links (record { ways = λ h s w. e.ways l.config h w; rows = refl }) (λ h s. wrote same_octets (Noted n) h conns conns flows links (e.writes h) (e.flows h) (e.shut h) (conns_same conns) (λ c fit. fit) s)
 
   pauses_told : {k : Config} {l : Footing} → (c : ℕ) (fs : List FlowId) (h : WayHistory) (g : ℕ → List ℕ) (start before : List Note) → ToldBy k l h g start conns flows links before
       → ToldBy k l h g start conns flows links (before ++ map (λ f. note.Pause f (buffer.Write c)) fs)

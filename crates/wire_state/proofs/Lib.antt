@@ -2,6 +2,7 @@ pub mod Bodies
 pub mod Counted
 pub mod Credits
 pub mod Fitting
+pub mod Givens
 pub mod Goings
 pub mod Held
 pub mod Idle

@@ -6,7 +6,7 @@ use Rattle.std.proofs.Common.{ap, append_assoc, arith, refl, sym, ◌∙◌}
 use Rattle.std.proofs.lemmas.Bool.Decides.{nat_tests}
 use Rattle.std.proofs.lemmas.List.{append-nil, length-append}
 use Rattle.std.specs.Option.{option_and_then}
-use Rattle.std.specs.Prelude.{Bool, List, None, Option, Some, [], false, if◌then◌else◌, length, nat_le, slice_get, suc, true, zero, ℕ, ◌++◌, ◌+◌, ◌-◌, ◌<◌, ◌==◌, ◌∷◌, ◌≡◌, ◌≤◌}
+use Rattle.std.specs.Prelude.{Bool, List, None, Option, Some, [], false, if◌then◌else◌, length, nat_le, nat_lt, slice_get, suc, true, zero, ℕ, ◌++◌, ◌+◌, ◌-◌, ◌<◌, ◌==◌, ◌∷◌, ◌≡◌, ◌≤◌}
 use Rattle.tape_laws.specs.Dispatches.{started}
 use Rattle.tape_laws.specs.History.{Marked, Noted}
 use Rattle.tape_laws.specs.Units.{StageKind}
@@ -21,21 +21,23 @@ rows_of [] = []
 rows_of (Marked (Passes x row there back) ∷ past) = rows_of past ++ row ∷ []
 rows_of (step ∷ past) = rows_of past
 
--- Each flow of an exchange that began passes the stages of its side of the exchange's row, and no other flow has any; and each of
--- these exchanges has its row among the rows.
+-- Each flow of an exchange that began passes the stages of its side of the exchange's row, and no other flow has any; each of these
+-- exchanges has its row among the rows; and they are numbered from 1 on.
 pub record AreStaged (config : Config) (h : WayHistory) : Type 0 where
   pub each : (f : FlowId) → 0 < f.exchange → f.exchange ≤ length (started h) → stages_passed f h ≡ side_stages config (row_in f.exchange h) f.back
   pub none : (f : FlowId) → length (started h) < f.exchange → stages_passed f h ≡ []
   pub count : length (rows_of h) ≡ length (started h)
   pub known : (x : ℕ) → 0 < x → x ≤ length (started h) → slice_get (rows_of h) (x - 1) ≡ Some (row_in x h)
+  pub zero_ : row_in 0 h ≡ None
+  pub numbered : (i : ℕ) → i < length (started h) → slice_get (started h) i ≡ Some (suc i)
 
 -- ---- a list with one more
-get_front : {A : Type 0} (xs ys : List A) (i : ℕ) → i < length xs → slice_get (xs ++ ys) i ≡ slice_get xs i
+pub get_front : {A : Type 0} (xs ys : List A) (i : ℕ) → i < length xs → slice_get (xs ++ ys) i ≡ slice_get xs i
 get_front [] ys i less = absurd (omega (arith, less))
 get_front (x ∷ xs) ys zero less = refl
 get_front (x ∷ xs) ys (suc i) less = get_front xs ys i (omega (arith, less))
 
-get_behind : {A : Type 0} (xs ys : List A) (i j : ℕ) → j ≡ length xs + i → slice_get (xs ++ ys) j ≡ slice_get ys i
+pub get_behind : {A : Type 0} (xs ys : List A) (i j : ℕ) → j ≡ length xs + i → slice_get (xs ++ ys) j ≡ slice_get ys i
 get_behind [] ys i j is = ap (slice_get ys) (none_more i j is)
   where
     none_more : (i j : ℕ) → j ≡ 0 + i → j ≡ i
@@ -103,6 +105,22 @@ module _ (config : Config) (x c s d y : ℕ) (row : Option ℕ) (there back : Li
       within : z ≤ length (started past) → z - 1 < length (rows_of past)
       within most_then = omega (arith, most_then, some, was.count)
 
+  not_zero : (y n : ℕ) → y ≡ n + 1 → (y == 0) ≡ false
+  not_zero y n e = grind (arith, nat_tests)
+
+  number_so : (i : ℕ) (b : Bool) → nat_lt i (length (started past)) ≡ b → i < length (started then_) → slice_get (started then_) i ≡ Some (suc i)
+  number_so i true e less = get_front (started past) (x ∷ []) i (before i (length (started past)) e) ∙ was.numbered i (before i (length (started past)) e)
+    where
+      before : (i n : ℕ) → nat_lt i n ≡ true → i < n
+      before i n e = grind (arith, nat_tests)
+  number_so i false e less = get_last (started past) x i (here i (length (started past)) (length (started then_)) e more less) ∙ ap Some next
+    where
+      here : (i n m : ℕ) → nat_lt i n ≡ false → m ≡ n + 1 → i < m → i ≡ n
+      here i n m e is less = grind (arith, nat_tests)
+
+      next : x ≡ suc i
+      next = omega (arith, b.number, here i (length (started past)) (length (started then_)) e more less)
+
   begun : AreStaged config then_
   begun = record {
     each = λ f. passes_so f (y == f.exchange) refl;
@@ -110,37 +128,42 @@ module _ (config : Config) (x c s d y : ℕ) (row : Option ℕ) (there back : Li
         ∙ was.none f (omega (arith, over, more));
     count = length-append (rows_of past) (row ∷ []) ∙ (ap (λ (n : ℕ). n + 1) was.count ∙ sym more);
     known = λ z. known_so z (y == z) refl;
+    zero_ = ap (λ (v : Bool). if v then row else row_in 0 past) (not_zero y (length (started past)) mark) ∙ was.zero_;
+    numbered = λ i less. number_so i (nat_lt i (length (started past))) refl less;
   }
 
 nothing_given : (n : ℕ) → 0 < n → n ≤ 0 → ⊥
 nothing_given n some most = omega (arith, some, most)
 
+none_below : (n : ℕ) → n < 0 → ⊥
+none_below n less = omega (arith, less)
+
 pub staged : (config : Config) (h : WayHistory) → AreWays config h → AreStaged config h
-staged config [] w = record { each = λ f some most. absurd (nothing_given f.exchange some most); none = λ f over. refl; count = refl; known = λ x some most. absurd (nothing_given x some most) }
+staged config [] w = record { each = λ f some most. absurd (nothing_given f.exchange some most); none = λ f over. refl; count = refl; known = λ x some most. absurd (nothing_given x some most); zero_ = refl; numbered = λ i less. absurd (none_below i less) }
 staged config (Noted (note.Start x c s d) ∷ Marked (Passes y row there back) ∷ past) w = begun config x c s d y row there back past w.0 (staged config past w.1)
 staged config (Noted (note.Start x c s d) ∷ Marked (Opens y t) ∷ past) w = absurd w
 staged config (Noted (note.Start x c s d) ∷ Noted n ∷ past) w = absurd w
 staged config (Noted (note.Start x c s d) ∷ []) w = absurd w
 staged config (Marked (Passes y row there back) ∷ past) w = absurd w
-staged config (Marked (Opens x s) ∷ past) w = let was = staged config past w.1 in record { each = was.each; none = was.none; count = was.count; known = was.known }
-staged config (Noted (note.Turn k e) ∷ past) w = let was = staged config past w in record { each = was.each; none = was.none; count = was.count; known = was.known }
-staged config (Noted (note.Arrive g octets) ∷ past) w = let was = staged config past w in record { each = was.each; none = was.none; count = was.count; known = was.known }
-staged config (Noted (note.Move g p n) ∷ past) w = let was = staged config past w in record { each = was.each; none = was.none; count = was.count; known = was.known }
-staged config (Noted (note.Frame c g n last) ∷ past) w = let was = staged config past w in record { each = was.each; none = was.none; count = was.count; known = was.known }
-staged config (Noted (note.Out c n) ∷ past) w = let was = staged config past w in record { each = was.each; none = was.none; count = was.count; known = was.known }
-staged config (Noted (note.Pause g b) ∷ past) w = let was = staged config past w in record { each = was.each; none = was.none; count = was.count; known = was.known }
-staged config (Noted (note.Resume g b) ∷ past) w = let was = staged config past w in record { each = was.each; none = was.none; count = was.count; known = was.known }
-staged config (Noted (note.Credit c s n) ∷ past) w = let was = staged config past w in record { each = was.each; none = was.none; count = was.count; known = was.known }
-staged config (Noted (note.Head c s octets) ∷ past) w = let was = staged config past w in record { each = was.each; none = was.none; count = was.count; known = was.known }
-staged config (Noted (note.Answer c octets) ∷ past) w = let was = staged config past w in record { each = was.each; none = was.none; count = was.count; known = was.known }
-staged config (Noted (note.Waste c s n) ∷ past) w = let was = staged config past w in record { each = was.each; none = was.none; count = was.count; known = was.known }
-staged config (Noted (note.Doom x why) ∷ past) w = let was = staged config past w in record { each = was.each; none = was.none; count = was.count; known = was.known }
-staged config (Noted (note.Gone x) ∷ past) w = let was = staged config past w in record { each = was.each; none = was.none; count = was.count; known = was.known }
-staged config (Noted (note.Close c code why) ∷ past) w = let was = staged config past w in record { each = was.each; none = was.none; count = was.count; known = was.known }
-staged config (Noted (note.Fire kind id) ∷ past) w = let was = staged config past w in record { each = was.each; none = was.none; count = was.count; known = was.known }
+staged config (Marked (Opens x s) ∷ past) w = let was = staged config past w.1 in record { each = was.each; none = was.none; count = was.count; known = was.known; zero_ = was.zero_; numbered = was.numbered }
+staged config (Noted (note.Turn k e) ∷ past) w = let was = staged config past w in record { each = was.each; none = was.none; count = was.count; known = was.known; zero_ = was.zero_; numbered = was.numbered }
+staged config (Noted (note.Arrive g octets) ∷ past) w = let was = staged config past w.1 in record { each = was.each; none = was.none; count = was.count; known = was.known; zero_ = was.zero_; numbered = was.numbered }
+staged config (Noted (note.Move g p n) ∷ past) w = let was = staged config past w.1 in record { each = was.each; none = was.none; count = was.count; known = was.known; zero_ = was.zero_; numbered = was.numbered }
+staged config (Noted (note.Frame c g n last) ∷ past) w = let was = staged config past w.1 in record { each = was.each; none = was.none; count = was.count; known = was.known; zero_ = was.zero_; numbered = was.numbered }
+staged config (Noted (note.Out c n) ∷ past) w = let was = staged config past w in record { each = was.each; none = was.none; count = was.count; known = was.known; zero_ = was.zero_; numbered = was.numbered }
+staged config (Noted (note.Pause g b) ∷ past) w = let was = staged config past w in record {each = was.each; none = was.none; count = was.count; known = was.known; zero_ = was.zero_; numbered = was.numbered}
+staged config (Noted (note.Resume g b) ∷ past) w = let was = staged config past w in record { each = was.each; none = was.none; count = was.count; known = was.known; zero_ = was.zero_; numbered = was.numbered }
+staged config (Noted (note.Credit c s n) ∷ past) w = let was = staged config past w in record { each = was.each; none = was.none; count = was.count; known = was.known; zero_ = was.zero_; numbered = was.numbered }
+staged config (Noted (note.Head c s octets) ∷ past) w = let was = staged config past w in record { each = was.each; none = was.none; count = was.count; known = was.known; zero_ = was.zero_; numbered = was.numbered }
+staged config (Noted (note.Answer c octets) ∷ past) w = let was = staged config past w in record { each = was.each; none = was.none; count = was.count; known = was.known; zero_ = was.zero_; numbered = was.numbered }
+staged config (Noted (note.Waste c s n) ∷ past) w = let was = staged config past w in record { each = was.each; none = was.none; count = was.count; known = was.known; zero_ = was.zero_; numbered = was.numbered }
+staged config (Noted (note.Doom x why) ∷ past) w = let was = staged config past w.1 in record { each = was.each; none = was.none; count = was.count; known = was.known; zero_ = was.zero_; numbered = was.numbered }
+staged config (Noted (note.Gone x) ∷ past) w = let was = staged config past w in record { each = was.each; none = was.none; count = was.count; known = was.known; zero_ = was.zero_; numbered = was.numbered }
+staged config (Noted (note.Close c code why) ∷ past) w = let was = staged config past w in record { each = was.each; none = was.none; count = was.count; known = was.known; zero_ = was.zero_; numbered = was.numbered }
+staged config (Noted (note.Fire kind id) ∷ past) w = let was = staged config past w in record { each = was.each; none = was.none; count = was.count; known = was.known; zero_ = was.zero_; numbered = was.numbered }
 
 -- ---- the row that a dispatch tells
-rows_after : (steps : List WayStep) (h : WayHistory) → rows_of (after steps h) ≡ rows_of h ++ rows_in steps
+pub rows_after : (steps : List WayStep) (h : WayHistory) → rows_of (after steps h) ≡ rows_of h ++ rows_in steps
 rows_after [] h = sym (append-nil (rows_of h))
 rows_after (Noted n ∷ ss) h = rows_after ss (Noted n ∷ h)
 rows_after (Marked (Opens x s) ∷ ss) h = rows_after ss (Marked (Opens x s) ∷ h)

@@ -28,6 +28,7 @@ use Rattle.wire_flows.specs.declared.moving.Outcome.TheVariants as outcome
 use Rattle.wire_links.specs.Links.{Links}
 use Rattle.wire_state.proofs.Bodies.{moves}
 use Rattle.wire_state.proofs.Goings.{bodies_told, changed_bodies, told_by}
+use Rattle.wire_state.proofs.Givens.{there_given}
 use Rattle.wire_state.proofs.Held.{kept_if}
 use Rattle.wire_state.specs.Marks.{Footing}
 use Rattle.wire_state.specs.Ways.{WayHistory}
@@ -70,7 +71,7 @@ module _ (f : FlowId) (old new : Flows) (o : Outcome) (is : o ≡ option_map_or 
   -- octets moved
   pub moved_told : {k : Config} {l : Footing} → (m : Moved) → o ≡ outcome.Moved m → IsSound new → (conns : PagedMap Conn) (links : Links) (h : WayHistory) (g : ℕ → List ℕ) (start notes : List Note)
       → ToldBy k l h g start conns old links notes → ToldBy k l h g start conns new links (notes ++ note.Move f m.place m.n ∷ [])
-  moved_told m e sound conns links = told_by (Noted (note.Move f m.place m.n) ∷ []) (λ h c. refl) (record { ways = λ k h w. w; rows = refl }) conns conns old new links links (λ h s.
+  moved_told {l} m e sound conns links = told_by {l = l} (Noted (note.Move f m.place m.n) ∷ []) (λ h c. refl) conns conns old new links links (record { ways = λ h s w. (there_given conns old links h f (there (flow_in old f) refl) s, w); rows = refl }) (λ h s.
       moves f m.place m.n h old new conns links (stepped old.gates (goes_to old f)) changes (there (flow_in old f) refl)
       (λ flow found was. let made = step_of old.gates (goes_to old f) f flow m (some_place _ _ was.last) (sym e ∙ outcome_at flow found) in
       record { next = made.next; there = made.at_next; moves_so = made.after_it }) sound s)

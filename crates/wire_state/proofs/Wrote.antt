@@ -16,7 +16,7 @@ use Rattle.std.proofs.Common.{ap, arith, refl, subst, sym, ◌∙◌}
 use Rattle.std.proofs.lemmas.List.{append-nil, length-drop, take_min}
 use Rattle.paged_map.specs.PagedMap.{PagedMap, WritesThrough, value_at}
 use Rattle.std.specs.Option.{option_and_then, option_map_or}
-use Rattle.std.specs.Prelude.{Bool, Err, IfOk, IfSome, List, MatchOption, None, Ok, Option, Result, Some, [], drop, false, if◌then◌else◌, length, min, suc, take, true, zero, ℕ, ◌++◌, ◌+◌, ◌<◌, ◌==◌, ◌∷◌, ◌≡◌, ◌≤◌}
+use Rattle.std.specs.Prelude.{Bool, Err, IfOk, IfSome, List, MatchOption, None, Ok, Option, Result, Some, [], drop, false, if◌then◌else◌, is_some, length, min, suc, take, true, zero, ℕ, ◌++◌, ◌+◌, ◌<◌, ◌==◌, ◌∷◌, ◌≡◌, ◌≤◌}
 use Rattle.tape_laws.specs.Flows.{request}
 use Rattle.tape_laws.specs.History.{Noted}
 use Rattle.tape_laws.specs.World.{window_update}
@@ -25,6 +25,7 @@ use Rattle.wire_links.specs.Links.{Links, ends_of}
 use Rattle.wire_links.specs.declared.links.exchanges.Ends.{Ends}
 use Rattle.wire_state.proofs.Bodies.{frames}
 use Rattle.wire_state.proofs.Fitting.{less_out}
+use Rattle.wire_state.proofs.Givens.{there_given}
 use Rattle.wire_state.proofs.Goings.{KeepBodies, KeepsLeft, KeepsWays, changed_bodies, config_told, footing_kept, keeps_by, links_kept, owes_by, rest_of, same_bodies, told_as, told_at}
 use Rattle.wire_state.proofs.Held.{is_number, listed_keeps}
 use Rattle.wire_state.proofs.Standing.{ConnsAre, KeepsFlows, KeepsShut, Writes, answer_flows, answer_shut, answer_writes, at_one, conns_go, conns_written, credit_flows, credit_shut, credit_writes, head_flows, head_shut, head_writes, out_flows, out_shut, one_room, out_writes, same_octets, wrote}
@@ -70,9 +71,9 @@ module _ (n : ℕ) (old new : WireCore) (v w : Conn) (found : value_at n old.con
   step_stands g step e room outs flows shut h s = links_kept old new rest (step ∷ h)
       (bodies.goes new.conns old.links (step ∷ h) (wrote (at_one n g) step h old.conns new.conns old.flows old.links (outs h) (flows h) (shut h) (conns_written n old.conns new.conns v w found written g e opened) (one_room old.config.limits n old.conns new.conns v w found written room) s))
 
-  step_written : (g : List ℕ → List ℕ) (step : WayStep) → KeepsLeft (step ∷ []) → KeepsWays (step ∷ []) → w.outlet.write.octets ≡ g v.outlet.write.octets → Room
+  step_written : (g : List ℕ → List ℕ) (step : WayStep) → KeepsLeft (step ∷ []) → KeepsWays (footing_of old) old.conns old.flows old.links (step ∷ []) → w.outlet.write.octets ≡ g v.outlet.write.octets → Room
       → ((h : WayHistory) → Writes (at_one n g) step h) → ((h : WayHistory) → KeepsFlows step h) → ((h : WayHistory) → KeepsShut step h) → Owes (shown (step ∷ [])) old new
-  step_written g step left ways e room outs flows shut = owes_by (step ∷ []) left ways old new (footing_kept old new rest) (step_stands g step e room outs flows shut)
+  step_written g step left ways e room outs flows shut = owes_by (step ∷ []) left old new ways (footing_kept old new rest) (step_stands g step e room outs flows shut)
 
   pub answer_written : (octets : List ℕ) → Room → w.outlet.write.octets ≡ v.outlet.write.octets ++ octets → Owes (answers_of n octets) old new
   answer_written [] room e = owes_none old new (nothing_written (e ∙ append-nil v.outlet.write.octets))
@@ -203,7 +204,7 @@ pub body_written : (n : ℕ) (old new : WireCore) (v w : Conn) → value_at n ol
     → (f : FlowId) (s k : ℕ) (last : Bool) (flow : Flow) → stream_in old.links f ≡ Some s → flow_in old.flows f ≡ Some flow
     → w.outlet.write.octets ≡ v.outlet.write.octets ++ (data_head s k last ++ take k (send flow)) → ChangesFlow f (body_framed k last) old.flows.exchanges new.flows.exchanges
     → Owes (note.Frame n f k last ∷ []) old new
-body_written n old new v w found written opened rest room f s k last flow on there octets change = owes_by (Noted (note.Frame n f k last) ∷ []) (λ h c. refl) (record { ways = λ k h w. w; rows = refl }) old new (footing_kept old new rest) (λ h stands.
+body_written n old new v w found written opened rest room f s k last flow on there octets change = owes_by (Noted (note.Frame n f k last) ∷ []) (λ h c. refl) old new (record { ways = λ h s w. (there_given old.conns old.flows old.links h f (ap is_some there) s, w); rows = refl }) (footing_kept old new rest) (λ h stands.
     links_kept old new rest (Noted (note.Frame n f k last) ∷ h)
     (frames n f k last h old.conns new.conns old.flows new.flows old.links s flow (stream_known f old.links h s stands.ends on) there change
     (conns_written n old.conns new.conns v w found written (λ xs. xs ++ (data_head s k last ++ take k (send flow))) octets opened) (one_room old.config.limits n old.conns new.conns v w found written room) stands))

@@ -49,14 +49,22 @@ pub record MayOpen (x : ℕ) (past : WayHistory) : Type 0 where
   pub given : x ≤ length (started past)
   pub first : is_opened x past ≡ false
 
+-- the number of the exchange was given
+abbrev pub IsGiven : ℕ → WayHistory → Type 0
+IsGiven x past = x ≤ length (started past)
+
 -- Each start note stands directly behind its mark, and each such mark before its start note: so an exchange has one, and none before
--- it starts. A request gets at most one stream, after its start.
+-- it starts. A request gets at most one stream, after its start. What moves octets of an exchange, or dooms it, stands behind its start.
 abbrev pub AreWays : Config → WayHistory → Type 0
 AreWays config [] = Unit {0}
 AreWays config (Noted (note.Start x c s d) ∷ Marked (Passes y row there back) ∷ past) = IsBegun config x y row there back past × AreWays config past
 AreWays config (Noted (note.Start x c s d) ∷ past) = ⊥
 AreWays config (Marked (Passes y row there back) ∷ past) = ⊥
 AreWays config (Marked (Opens x s) ∷ past) = MayOpen x past × AreWays config past
+AreWays config (Noted (note.Arrive f octets) ∷ past) = IsGiven f.exchange past × AreWays config past
+AreWays config (Noted (note.Move f p n) ∷ past) = IsGiven f.exchange past × AreWays config past
+AreWays config (Noted (note.Frame c f n last) ∷ past) = IsGiven f.exchange past × AreWays config past
+AreWays config (Noted (note.Doom x why) ∷ past) = IsGiven x past × AreWays config past
 AreWays config (step ∷ past) = AreWays config past
 
 -- ---- what a core keeps of them

@@ -36,8 +36,15 @@ begun limits levels el es ec ex ew = record {
 }
 
 -- stages that were said of an exchange before
-pub passed_known : (old : Levels) (said : StageLimits) → LevelsPass old said old
-passed_known old said = record { goes = λ limits h k. k; grow = record { stay = λ x l e. e; come = λ x e. inl e } }
+pub passed_known : (x : ℕ) (old : Levels) (said : StageLimits) (v : ExchangePlaces) → get nat_cmp old.exchanges x ≡ Some v → LevelsPass x old said old
+passed_known x old said v found = record {
+  goes = λ limits h k. k;
+  grow = record { stay = λ y l e. e; come = λ y e. inl e };
+  says = record {
+    here = λ none. absurd (cc (none, ap (λ (o : Option ExchangePlaces). option_map (λ p. let l : StageLimits = record { request = p.request.limits.items; response = p.response.limits.items } in l) o) found));
+    others = λ y e. refl;
+  };
+}
 
 -- places in which there never was an octet
 empty_from : (level : ℕ → Level) (p n : ℕ) → ((q : ℕ) → level q ≡ no_level) → LevelsFrom level p (replicate n no_level)
@@ -60,10 +67,11 @@ empty_side limits stages f h places said el ev is none = record {
 pub passed_new : (old new : Levels) (x : ℕ) (places : ExchangePlaces) (said : StageLimits) → get nat_cmp old.exchanges x ≡ None → Updates nat_cmp old.exchanges new.exchanges x (Some places)
     → new.limits ≡ old.limits → new.started ≡ old.started → new.conns ≡ old.conns → new.writes ≡ old.writes
     → places.request.limits.items ≡ said.request → places.request.levels.items ≡ replicate (length said.request + 2) no_level
-    → places.response.limits.items ≡ said.response → places.response.levels.items ≡ replicate (length said.response + 2) no_level → LevelsPass old said new
+    → places.response.limits.items ≡ said.response → places.response.levels.items ≡ replicate (length said.response + 2) no_level → LevelsPass x old said new
 passed_new old new x places said fresh u el es ec ew ql qv rl rv = record {
   goes = λ limits h k. record { limits_are = el ∙ k.limits_are; goes = λ stages a. under limits stages h a (k.goes stages (agree_before stages old new said grow a)) };
   grow = grow;
+  says = record { here = λ none. said_here x (itself x); others = same_there };
 }
   where
     at : (y : ℕ) (b : Bool) → (x == y) ≡ b → get nat_cmp new.exchanges y ≡ (if b then Some places else get nat_cmp old.exchanges y)

@@ -56,7 +56,7 @@ known_here old x F new k s =
     ∙ ap (λ (v : List ℕ). let l : StageLimits = record { request = v; response = (F (sides_in old x)).response.limits } in Some l) (k.request (sides_in old x))
     ∙ ap (λ (v : List ℕ). let l : StageLimits = record { request = (sides_in old x).request.limits; response = v } in Some l) (k.response (sides_in old x))
 
-known_there : (old : Levels) (x : ℕ) (sides : Sides) (new : Levels) (y : ℕ) → SetsSides old x sides new → (x == y) ≡ false → known_limits new y ≡ known_limits old y
+pub known_there : (old : Levels) (x : ℕ) (sides : Sides) (new : Levels) (y : ℕ) → SetsSides old x sides new → (x == y) ≡ false → known_limits new y ≡ known_limits old y
 known_there old x sides new y s e =
     ap (λ (o : Option ExchangePlaces). option_map (λ p. let l : StageLimits = record { request = p.request.limits.items; response = p.response.limits.items } in l) o) (s.others y (numbers_equal x y ∙ e))
 
@@ -83,6 +83,9 @@ sides_grow old x F new k s = record { stay = λ y l e. stay y l e (x == y) refl;
     come : (y : ℕ) → known_limits old y ≡ None → (b : Bool) → (x == y) ≡ b → (known_limits new y ≡ None) ⊎ (known_limits new y ≡ Some no_limits)
     come y e true t = inr (here y (number_is x y t) ∙ ap Some (none (get nat_cmp old.exchanges y) e))
     come y e false t = inl (known_there old x (F (sides_in old x)) new y s t ∙ e)
+
+pub known_same : (old new : Levels) → new.exchanges ≡ old.exchanges → (x : ℕ) → known_limits new x ≡ known_limits old x
+known_same old new e x = ap (λ m. option_map (λ (p : ExchangePlaces). let l : StageLimits = record { request = p.request.limits.items; response = p.response.limits.items } in l) (get nat_cmp m x)) e
 
 pub grow_none : (old new : Levels) → new.exchanges ≡ old.exchanges → LimitsGrow old new no_limits
 grow_none old new e = record { stay = λ x l k. same x ∙ k; come = λ x k. inl (same x ∙ k) }

@@ -10,9 +10,10 @@ use Rattle.flow_notes.specs.declared.passages.Passage.{Passage}
 use Rattle.io_ports.specs.declared.octets.NoMemory.{NoMemory}
 use Rattle.std.proofs.Common.{Bor, ap, arith, refl, subst, sym, ◌∙◌}
 use Rattle.std.proofs.lemmas.List.{append-nil}
+use Rattle.std.proofs.lemmas.List.Folds.{list_any-append}
 use Rattle.std.specs.BTreeMap.{get}
 use Rattle.std.specs.Ordering.{nat_cmp}
-use Rattle.std.specs.Prelude.{Bool, Err, List, None, Ok, OnOk, Option, Result, Some, [], false, length, map, min, true, ℕ, ◌++◌, ◌+◌, ◌∷◌, ◌≡◌}
+use Rattle.std.specs.Prelude.{Bool, Err, List, None, Ok, OnOk, Option, Result, Some, [], false, length, map, min, true, ℕ, ◌++◌, ◌+◌, ◌==◌, ◌||◌, ◌∷◌, ◌≡◌}
 use Rattle.tape_laws.specs.Connections.{connections, was_closed}
 use Rattle.tape_laws.specs.Dispatches.{started}
 use Rattle.tape_laws.specs.Flows.{request, response}
@@ -20,11 +21,11 @@ use Rattle.tape_laws.specs.History.{History, NoMark, Noted, onto}
 use Rattle.tape_laws.specs.Units.{StageKind}
 use Rattle.tape_laws.specs.World.{out, place, send}
 use Rattle.tape_summary.proofs.Pausing.{onto_more}
-use Rattle.wire_summary.proofs.Exchanging.{StepsSides, agree_before, arrive_steps, changed_keeps, doom_steps, emptied_keeps, frame_steps, grow_more, grow_none, kept_before, move_steps, same_exchange, sides_grow, step_exchange}
+use Rattle.wire_summary.proofs.Exchanging.{StepsSides, agree_before, arrive_steps, changed_keeps, doom_steps, emptied_keeps, frame_steps, grow_more, grow_none, kept_before, known_same, known_there, move_steps, same_exchange, sides_grow, step_exchange}
 use Rattle.wire_summary.proofs.Exchanging.{KeepsLimits}
 use Rattle.wire_summary.proofs.Moving.{level_same}
 use Rattle.wire_summary.proofs.Writing.{StepsWrite, answer_writes, close_writes, credit_writes, frame_writes, framed_is, gone_writes, head_writes, out_writes, step_write, write_same}
-use Rattle.wire_summary.specs.Levels.{Agrees, ExchangeIs, Frames, LevelsAre, LevelsGo, LevelsUnder, LimitsGrow, SetsSides, SetsWrite, SideIs, SidesAre, is_lost, kept_write, no_limits, place_level, shaped, sides_in, write_in, write_level, written}
+use Rattle.wire_summary.specs.Levels.{Agrees, ExchangeIs, Frames, LevelsAre, LevelsGo, LevelsUnder, LimitsGrow, SetsSides, SetsWrite, SideIs, SidesAre, is_lost, kept_write, known_limits, named, names, no_limits, place_level, shaped, sides_in, write_in, write_level, written}
 use Rattle.wire_summary.specs.Places.{Side, Sides, changed_at, emptied_sides, framed, side_at}
 use Rattle.wire_summary.specs.declared.levels.BufferLimits.{BufferLimits}
 use Rattle.wire_summary.specs.declared.levels.ExchangePlaces.{ExchangePlaces}
@@ -41,6 +42,7 @@ use Rattle.wire_summary.specs.declared.places.Change.TheVariants as change
 
 record GoesUnder (old : Levels) (n : Note) (new : Levels) : Type 0 where
   grow : LimitsGrow old new no_limits
+  hides : (x : ℕ) → names n x ≡ false → known_limits old x ≡ None → known_limits new x ≡ None
   limits : new.limits ≡ old.limits
   goes : (limits : BufferLimits) (stages : FlowId → List StageKind) (h : History NoMark) → Agrees stages new → LevelsUnder limits stages old h → LevelsUnder limits stages new (Noted n ∷ h)
 
@@ -48,7 +50,12 @@ one_goes : (old : Levels) (n : Note) (new : Levels) → GoesUnder old n new → 
 one_goes old n new g = record {
   goes = λ limits h k. record { limits_are = g.limits ∙ k.limits_are; goes = λ stages a. g.goes limits stages h a (k.goes stages (agree_before stages old new no_limits g.grow a)) };
   grow = g.grow;
+  hides = λ x e. g.hides x (first_of (names n x) e);
 }
+  where
+    first_of : (b : Bool) → (b || false) ≡ false → b ≡ false
+    first_of true e = cc
+    first_of false e = refl
 
 -- what a note leaves as it was
 pub record LeavesWrites (n : Note) : Type 0 where
@@ -76,10 +83,11 @@ writes_stay limits stages old new n h l e was c =
     ap (λ m. kept_write (get nat_cmp m c)) e ∙ was c ∙ write_same limits stages c (Noted n) h (ap length (l.octets limits stages c h)) (l.closed c h)
 
 -- a note of an exchange's places
-sides_go : (old : Levels) (n : Note) (x : ℕ) (F : Sides → Sides) (new : Levels) → LeavesWrites n → LeavesNames n → KeepsLimits F
+sides_go : (old : Levels) (n : Note) (x : ℕ) (F : Sides → Sides) (new : Levels) → LeavesWrites n → LeavesNames n → KeepsLimits F → ((y : ℕ) → names n y ≡ (x == y))
     → ((limits : BufferLimits) (stages : FlowId → List StageKind) (h : History NoMark) → StepsSides limits stages (Noted n) h x F) → SetsSides old x (F (sides_in old x)) new → LevelsGo old (n ∷ []) new
-sides_go old n x F new w m k t s = one_goes old n new (record {
+sides_go old n x F new w m k is t s = one_goes old n new (record {
   grow = sides_grow old x F new k s;
+  hides = λ y e none. known_there old x (F (sides_in old x)) new y s (sym (is y) ∙ e) ∙ none;
   limits = s.limits;
   goes = λ limits stages h a u. record {
     started_are = ap (λ v. v.items) s.started ∙ u.started_are ∙ sym (m.started_stay h);
@@ -94,6 +102,7 @@ write_goes : (old : Levels) (n : Note) (c : ℕ) (F : WriteLevel → WriteLevel)
     → ((limits : BufferLimits) (stages : FlowId → List StageKind) (h : History NoMark) → StepsWrite limits stages (Noted n) h c F) → SetsWrite old c (F (write_in old c)) new → LevelsGo old (n ∷ []) new
 write_goes old n c F new l m t s = one_goes old n new (record {
   grow = grow_none old new s.exchanges;
+  hides = λ x e none. known_same old new s.exchanges x ∙ none;
   limits = s.limits;
   goes = λ limits stages h a u. record {
     started_are = ap (λ v. v.items) s.started ∙ u.started_are ∙ sym (m.started_stay h);
@@ -115,6 +124,7 @@ side_of_flow limits stages h f s false e k =
 frame_goes : (old : Levels) (c : ℕ) (f : FlowId) (n : ℕ) (last : Bool) (new : Levels) → Frames old c f n new → LevelsGo old (note.Frame c f n last ∷ []) new
 frame_goes old c f n last new t = one_goes old (note.Frame c f n last) new (record {
   grow = grow_more old t.mid new (sides_grow old f.exchange (changed_at f.back (change.Frame n)) t.mid (changed_keeps f.back (change.Frame n)) t.sides) (grow_none t.mid new t.write.exchanges);
+  hides = λ y e none. known_same t.mid new t.write.exchanges y ∙ (known_there old f.exchange (changed_at f.back (change.Frame n) (sides_in old f.exchange)) t.mid y t.sides e ∙ none);
   limits = t.write.limits ∙ t.sides.limits;
   goes = λ limits stages h a u.
       let F = changed_at f.back (change.Frame n) in
@@ -137,6 +147,7 @@ frame_goes old c f n last new t = one_goes old (note.Frame c f n last) new (reco
 other_goes : (old : Levels) (n : Note) → LeavesWrites n → LeavesPlaces n → LeavesNames n → LevelsGo old (n ∷ []) old
 other_goes old n w l m = one_goes old n old (record {
   grow = grow_none old old refl;
+  hides = λ x e none. none;
   limits = refl;
   goes = λ limits stages h a u. record {
     started_are = u.started_are ∙ sym (m.started_stay h);
@@ -150,6 +161,7 @@ start_goes : (old : Levels) (x c s d : ℕ) (new : Levels) → new.started.items
     → LevelsGo old (note.Start x c s d ∷ []) new
 start_goes old x c s d new es el ec ee ew = one_goes old (note.Start x c s d) new (record {
   grow = grow_none old new ee;
+  hides = λ x e none. known_same old new ee x ∙ none;
   limits = el;
   goes = λ limits stages h a u. record {
     started_are = es ∙ ap (λ (v : List ℕ). v ++ x ∷ []) u.started_are;
@@ -166,6 +178,7 @@ come_goes : (old : Levels) (n : Note) (c : ℕ) (new : Levels) → LeavesWrites 
     → new.conns.items ≡ old.conns.items ++ c ∷ [] → new.limits ≡ old.limits → new.started ≡ old.started → new.exchanges ≡ old.exchanges → new.writes ≡ old.writes → LevelsGo old (n ∷ []) new
 come_goes old n c new w l ms mc ec el es ee ew = one_goes old n new (record {
   grow = grow_none old new ee;
+  hides = λ x e none. known_same old new ee x ∙ none;
   limits = el;
   goes = λ limits stages h a u. record {
     started_are = ap (λ v. v.items) es ∙ u.started_are ∙ sym (ms h);
@@ -224,12 +237,12 @@ event_ends old (event.Plain p) na nj ng k = still old _ (record { octets = λ l 
 as_note : (old new : Levels) (m n : Note) (r : Result (Unit {0}) NoMemory) → m ≡ n → OnOk r (LevelsGo old (n ∷ []) new) → OnOk r (LevelsGo old (m ∷ []) new)
 as_note old new m n r is k = let P : Note → Type 0 = λ v. OnOk r (LevelsGo old (v ∷ []) new) in subst P (sym is) k
 
-sides_end : (old new : Levels) (m n : Note) (x : ℕ) (F : Sides → Sides) (r : Result (Unit {0}) NoMemory) → m ≡ n → LeavesWrites n → LeavesNames n → KeepsLimits F
+sides_end : (old new : Levels) (m n : Note) (x : ℕ) (F : Sides → Sides) (r : Result (Unit {0}) NoMemory) → m ≡ n → LeavesWrites n → LeavesNames n → KeepsLimits F → ((y : ℕ) → names n y ≡ (x == y))
     → ((limits : BufferLimits) (stages : FlowId → List StageKind) (h : History NoMark) → StepsSides limits stages (Noted n) h x F) → OnOk r (SetsSides old x (F (sides_in old x)) new) → OnOk r (LevelsGo old (m ∷ []) new)
-sides_end old new m n x F r is w l k t s = as_note old new m n r is (by r s)
+sides_end old new m n x F r is w l k i t s = as_note old new m n r is (by r s)
   where
     by : (r : Result (Unit {0}) NoMemory) → OnOk r (SetsSides old x (F (sides_in old x)) new) → OnOk r (LevelsGo old (n ∷ []) new)
-    by (Ok u) s = sides_go old n x F new w l k t s
+    by (Ok u) s = sides_go old n x F new w l k i t s
     by (Err x) s = tt
 
 write_ends : (old new : Levels) (m n : Note) (c : ℕ) (F : WriteLevel → WriteLevel) (r : Result (Unit {0}) NoMemory) → m ≡ n → LeavesPlaces n → LeavesNames n
@@ -255,19 +268,19 @@ pub arrive_ends : (old new : Levels) (m : Note) (f : FlowId) (o : List ℕ) (v :
     → OnOk r (LevelsGo old (m ∷ []) new)
 arrive_ends old new m f o v r is ev s =
     let P : ℕ → Type 0 = λ k. OnOk r (SetsSides old f.exchange (changed_at f.back (change.Arrive k) (sides_in old f.exchange)) new) in
-    sides_end old new m (note.Arrive f o) f.exchange (changed_at f.back (change.Arrive (length o))) r is (record { octets = λ l s c h. refl; closed = λ c h. refl }) (record { started_stay = λ h. refl; conns_stay = λ l s h. refl }) (changed_keeps f.back (change.Arrive (length o)))
+    sides_end old new m (note.Arrive f o) f.exchange (changed_at f.back (change.Arrive (length o))) r is (record { octets = λ l s c h. refl; closed = λ c h. refl }) (record { started_stay = λ h. refl; conns_stay = λ l s h. refl }) (changed_keeps f.back (change.Arrive (length o))) (λ y. refl)
     (λ limits stages h. arrive_steps limits stages f o h) (subst P ev s)
 
 pub move_ends : (old new : Levels) (m : Note) (f : FlowId) (p n v : ℕ) (r : Result (Unit {0}) NoMemory) → m ≡ note.Move f p n → v ≡ n → OnOk r (SetsSides old f.exchange (changed_at f.back (change.Shift p v) (sides_in old f.exchange)) new)
     → OnOk r (LevelsGo old (m ∷ []) new)
 move_ends old new m f p n v r is ev s =
     let P : ℕ → Type 0 = λ k. OnOk r (SetsSides old f.exchange (changed_at f.back (change.Shift p k) (sides_in old f.exchange)) new) in
-    sides_end old new m (note.Move f p n) f.exchange (changed_at f.back (change.Shift p n)) r is (record { octets = λ l s c h. refl; closed = λ c h. refl }) (record { started_stay = λ h. refl; conns_stay = λ l s h. refl }) (changed_keeps f.back (change.Shift p n))
+    sides_end old new m (note.Move f p n) f.exchange (changed_at f.back (change.Shift p n)) r is (record { octets = λ l s c h. refl; closed = λ c h. refl }) (record { started_stay = λ h. refl; conns_stay = λ l s h. refl }) (changed_keeps f.back (change.Shift p n)) (λ y. refl)
     (λ limits stages h. move_steps limits stages f p n h) (subst P ev s)
 
 pub doom_ends : (old new : Levels) (m : Note) (x : ℕ) (why : Cause) (r : Result (Unit {0}) NoMemory) → m ≡ note.Doom x why → OnOk r (SetsSides old x (emptied_sides (sides_in old x)) new) → OnOk r (LevelsGo old (m ∷ []) new)
 doom_ends old new m x why r is s =
-    sides_end old new m (note.Doom x why) x emptied_sides r is (record { octets = λ l s c h. refl; closed = λ c h. refl }) (record { started_stay = λ h. refl; conns_stay = λ l s h. refl }) emptied_keeps
+    sides_end old new m (note.Doom x why) x emptied_sides r is (record { octets = λ l s c h. refl; closed = λ c h. refl }) (record { started_stay = λ h. refl; conns_stay = λ l s h. refl }) emptied_keeps (λ y. refl)
     (λ limits stages h. doom_steps limits stages x why h) s
 
 pub frame_ends : (old new : Levels) (m : Note) (c : ℕ) (f : FlowId) (n : ℕ) (last : Bool) (v : ℕ) (r : Result (Unit {0}) NoMemory) → m ≡ note.Frame c f n last → v ≡ n → OnOk r (Frames old c f v new) → OnOk r (LevelsGo old (m ∷ []) new)
@@ -324,13 +337,20 @@ gone_other x = record { writes = record { octets = λ l s c h. refl; closed = λ
 -- ---- note after note
 
 pub goes_none : (log : Levels) → LevelsGo log [] log
-goes_none log = record { goes = λ limits h k. k; grow = grow_none log log refl }
+goes_none log = record { goes = λ limits h k. k; grow = grow_none log log refl; hides = λ x e none. none }
 
 pub goes_more : (a b c : Levels) (ns ms : List Note) → LevelsGo a ns b → LevelsGo b ms c → LevelsGo a (ns ++ ms) c
 goes_more a b c ns ms p q = record {
   goes = λ limits h k. (let P : History NoMark → Type 0 = λ v. LevelsAre limits c v in subst P (sym (onto_more ns ms h)) (q.goes limits (onto ns h) (p.goes limits h k)));
   grow = grow_more a b c p.grow q.grow;
+  hides = λ x e none.
+      let both = neither (named ns x) (named ms x) (sym (list_any-append (λ n. names n x) ns ms) ∙ e) in
+      q.hides x both.1 (p.hides x both.0 none);
 }
+  where
+    neither : (a b : Bool) → (a || b) ≡ false → (a ≡ false) × (b ≡ false)
+    neither true b e = cc
+    neither false b e = (refl, e)
 
 pub all_gone : (a b : Levels) (notes done rest : List Note) → notes ≡ done ++ rest → rest ≡ [] → LevelsGo a done b → LevelsGo a notes b
 all_gone a b notes done rest e none l =

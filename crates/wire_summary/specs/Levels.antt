@@ -2,10 +2,12 @@
 use Rattle.flow_gate.specs.declared.ids.FlowId.{FlowId}
 use Rattle.flow_notes.specs.declared.notes.CloseCause.{CloseCause}
 use Rattle.flow_notes.specs.declared.notes.Note.{Note}
+use Rattle.flow_notes.specs.declared.notes.Note.TheVariants as note
 use Rattle.std.specs.BTreeMap.{Updates, get}
+use Rattle.std.specs.List.{list_any}
 use Rattle.std.specs.Ordering.{is_eq, nat_cmp}
 use Rattle.std.specs.Option.{option_map}
-use Rattle.std.specs.Prelude.{Bool, IfSome, List, None, Option, Some, [], false, if◌then◌else◌, length, map, max, suc, true, ℕ, ◌+◌, ◌∷◌, ◌≡◌, ◌⊎◌}
+use Rattle.std.specs.Prelude.{Bool, IfSome, List, None, Option, Some, [], false, if◌then◌else◌, length, map, max, suc, true, ℕ, ◌+◌, ◌==◌, ◌∷◌, ◌≡◌, ◌⊎◌}
 use Rattle.tape_laws.specs.Connections.{connections, was_closed}
 use Rattle.tape_laws.specs.Dispatches.{started}
 use Rattle.tape_laws.specs.Flows.{request, response}
@@ -128,15 +130,33 @@ pub record LimitsGrow (old new : Levels) (said : StageLimits) : Type 0 where
   pub stay : (x : ℕ) (l : StageLimits) → known_limits old x ≡ Some l → known_limits new x ≡ Some l
   pub come : (x : ℕ) → known_limits old x ≡ None → (known_limits new x ≡ None) ⊎ (known_limits new x ≡ Some said)
 
--- the notes were taken up
+-- the note moves octets of the exchange, or dooms it
+abbrev pub names : Note → ℕ → Bool
+names (note.Arrive f octets) x = f.exchange == x
+names (note.Move f p n) x = f.exchange == x
+names (note.Frame c f n last) x = f.exchange == x
+names (note.Doom y why) x = y == x
+names n x = false
+
+abbrev pub named : List Note → ℕ → Bool
+named ns x = list_any (λ n. names n x) ns
+
+-- the notes were taken up; of an exchange that none of them names nothing is said
 pub record LevelsGo (old : Levels) (ns : List Note) (new : Levels) : Type 0 where
   pub goes : (limits : BufferLimits) (h : History NoMark) → LevelsAre limits old h → LevelsAre limits new (onto ns h)
   pub grow : LimitsGrow old new no_limits
+  pub hides : (x : ℕ) → named ns x ≡ false → known_limits old x ≡ None → known_limits new x ≡ None
+
+-- of this exchange these limits were said, unless others were before, and of each other one what was said before
+pub record SaysOf (x : ℕ) (old new : Levels) (said : StageLimits) : Type 0 where
+  pub here : known_limits old x ≡ None → known_limits new x ≡ Some said
+  pub others : (y : ℕ) → (x == y) ≡ false → known_limits new y ≡ known_limits old y
 
 -- stages were said of an exchange
-pub record LevelsPass (old : Levels) (said : StageLimits) (new : Levels) : Type 0 where
+pub record LevelsPass (x : ℕ) (old : Levels) (said : StageLimits) (new : Levels) : Type 0 where
   pub goes : (limits : BufferLimits) (h : History NoMark) → LevelsAre limits old h → LevelsAre limits new h
   pub grow : LimitsGrow old new said
+  pub says : SaysOf x old new said
 
 -- what one step of the notes does to the log: an exchange's places are other ones, or a connection's level is
 abbrev pub kept_sides : Option ExchangePlaces → Sides

@@ -180,7 +180,7 @@ impl Levels {
         request: Vec<u32>,
         response: Vec<u32>,
     ) -> Result<(), NoMemory>
-        ensures { OnOk result (LevelsPass self.old (record { request = request.items; response = response.items }) self.new) }
+        ensures { OnOk result (LevelsPass exchange self.old (record { request = request.items; response = response.items }) self.new) }
     {
         match self.exchanges.get(&exchange) {
             Some(_) => Ok(()),
@@ -196,7 +196,7 @@ impl Levels {
         response: Vec<u32>,
     ) -> Result<(), NoMemory>
         requires { get nat_cmp self.old.exchanges exchange ≡ None }
-        ensures { OnOk result (LevelsPass self.old (record { request = request.items; response = response.items }) self.new) }
+        ensures { OnOk result (LevelsPass exchange self.old (record { request = request.items; response = response.items }) self.new) }
     {
         let places = ExchangePlaces {
             request: FlowPlaces::new(self.alloc, request)?,

@@ -37,7 +37,7 @@ impl WireLog {
         request: Vec<u32>,
         response: Vec<u32>,
     ) -> Result<(), NoMemory>
-        ensures { OnOk result (WireLogPasses self.old (record { request = request.items; response = response.items }) self.new) }
+        ensures { OnOk result (WireLogPasses exchange self.old (record { request = request.items; response = response.items }) self.new) }
     {
         self.levels.pass(exchange, request, response)
     }

@@ -16,13 +16,13 @@ returns-in-Some-clause-octets c = λ k.
     let old = c.args.core.now in
     let new = c.get_mut.follows.lender c.drop_octets-above.new.self in
     let shut : c.in-Some.conn.now.open ≡ false = subst (λ (v : Option Conn). option_map_or (λ x. x.open) v false ≡ false) (sym c.in-Some.ensures.value) c.requires.closed in
-    owes_by (Noted (note.Turn k (event.Gone c.args.number)) ∷ []) (λ h d. refl) (record { ways = λ j i w. w; rows = refl }) old _ refl (λ h s. drops_rest c.args.number k old.conns new
+    owes_by (Noted (note.Turn k (event.Gone c.args.number)) ∷ []) (λ h d. refl) old _ (record { ways = λ j i w. w; rows = refl }) refl (λ h s. drops_rest c.args.number k old.conns new
     (one_drops c.args.number old.conns new c.in-Some.conn.now c.drop_octets-above.new.self (sym c.in-Some.ensures.value) (c.get_mut.follows.holds c.drop_octets-above.new.self) c.drop_octets-above.ensures.empty (ap (λ (v : Conn). v.open) c.drop_octets-above.ensures.rest) shut)
     old.flows old.links h s)
 
 pub returns-in-None-clause-octets : goal.returns-in-None-clause-octets
 returns-in-None-clause-octets c = λ k.
     let old = c.args.core.now in
-    owes_by (Noted (note.Turn k (event.Gone c.args.number)) ∷ []) (λ h d. refl) (record { ways = λ j i w. w; rows = refl }) old _ refl (λ h s.
+    owes_by (Noted (note.Turn k (event.Gone c.args.number)) ∷ []) (λ h d. refl) old _ (record { ways = λ j i w. w; rows = refl }) refl (λ h s.
     subst (λ (m : PagedMap Conn). Stands old.config.limits m old.flows old.links (Noted (note.Turn k (event.Gone c.args.number)) ∷ h)) (sym c.get_mut.follows.holds-at-none)
     (drops_rest c.args.number k old.conns old.conns (none_drops c.args.number old.conns (sym c.in-None.ensures.value)) old.flows old.links h s))

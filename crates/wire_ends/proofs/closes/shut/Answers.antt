@@ -38,7 +38,7 @@ pub returns-in-Some-clause-octets : goal.returns-in-Some-clause-octets
 returns-in-Some-clause-octets c = λ code.
     let k = c.args.core.now in
     let new = c.get_mut.follows.lender c.shut_conn.new.conn in
-    owes_by (Noted (note.Close c.args.number code c.args.cause) ∷ []) (λ h d. refl) (record { ways = λ j i w. w; rows = refl }) k _ refl (λ h s. closes c.args.number code c.args.cause h k.conns new k.flows k.links c.close.new.self
+    owes_by (Noted (note.Close c.args.number code c.args.cause) ∷ []) (λ h d. refl) k _ (record { ways = λ j i w. w; rows = refl }) refl (λ h s. closes c.args.number code c.args.cause h k.conns new k.flows k.links c.close.new.self
     (conn_shut c.args.number k.conns new c.in-Some.conn.now c.shut_conn.new.conn (sym c.in-Some.ensures.value) (c.get_mut.follows.holds c.shut_conn.new.conn) (left_by c.args.cause) c.shut_conn.ensures.octets c.shut_conn.ensures.closed)
     (λ x. ap (λ (l : Links). ends_of x l) c.close.ensures) (conn_changed_known c.args.number closed k.links c.close.new.self c.close.ensures) s)
 

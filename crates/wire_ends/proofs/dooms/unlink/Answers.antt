@@ -6,6 +6,7 @@ use Rattle.wire_ends.proofs.Unlinking.{live_doomed}
 use Rattle.wire_ends.proofs.dooms.unlink.Goals as goal
 use Rattle.wire_flows.specs.Flows.{is_live_in}
 use Rattle.wire_links.specs.Links.{Links, ends_of}
+use Rattle.wire_state.proofs.Givens.{linked_given}
 use Rattle.wire_state.proofs.Goings.{owes_by}
 use Rattle.wire_state.proofs.Linked.{unlinks}
 use Rattle.wire_state.proofs.Lives.{dooms}
@@ -47,5 +48,5 @@ returns-clause-live c = sym (c.requires.sound.live c.args.exchange) ∙ ap is_so
 pub returns-clause-octets : goal.returns-clause-octets
 returns-clause-octets c =
     let k = c.args.core.now in
-    owes_by (Noted (note.Doom c.args.exchange c.args.cause) ∷ []) (λ h d. refl) (record { ways = λ j i w. w; rows = refl }) k _ refl (λ h s. dooms c.args.exchange c.args.cause h k.flows c.doom-doomed.new.self c.doom-doomed.ensures.dooms k.conns k.links c.doom.new.self
+    owes_by (Noted (note.Doom c.args.exchange c.args.cause) ∷ []) (λ h d. refl) k _ (record { ways = λ h s w. (linked_given k.conns k.flows k.links h c.args.exchange _ (sym c.in-Some.ensures) s, w); rows = refl }) refl (λ h s. dooms c.args.exchange c.args.cause h k.flows c.doom-doomed.new.self c.doom-doomed.ensures.dooms k.conns k.links c.doom.new.self
     (unlinks c.args.exchange k.links c.doom.new.self c.are_sound.ensures c.doom.ensures.gone) s)
