@@ -151,7 +151,7 @@ staged config (Noted (note.Arrive g octets) ∷ past) w = let was = staged confi
 staged config (Noted (note.Move g p n) ∷ past) w = let was = staged config past w.1 in record { each = was.each; none = was.none; count = was.count; known = was.known; zero_ = was.zero_; numbered = was.numbered }
 staged config (Noted (note.Frame c g n last) ∷ past) w = let was = staged config past w.1 in record { each = was.each; none = was.none; count = was.count; known = was.known; zero_ = was.zero_; numbered = was.numbered }
 staged config (Noted (note.Out c n) ∷ past) w = let was = staged config past w in record { each = was.each; none = was.none; count = was.count; known = was.known; zero_ = was.zero_; numbered = was.numbered }
-staged config (Noted (note.Pause g b) ∷ past) w = let was = staged config past w in record {each = was.each; none = was.none; count = was.count; known = was.known; zero_ = was.zero_; numbered = was.numbered}
+staged config (Noted (note.Pause g b) ∷ past) w = let was = staged config past w in record { each = was.each; none = was.none; count = was.count; known = was.known; zero_ = was.zero_; numbered = was.numbered }
 staged config (Noted (note.Resume g b) ∷ past) w = let was = staged config past w in record { each = was.each; none = was.none; count = was.count; known = was.known; zero_ = was.zero_; numbered = was.numbered }
 staged config (Noted (note.Credit c s n) ∷ past) w = let was = staged config past w in record { each = was.each; none = was.none; count = was.count; known = was.known; zero_ = was.zero_; numbered = was.numbered }
 staged config (Noted (note.Head c s octets) ∷ past) w = let was = staged config past w in record { each = was.each; none = was.none; count = was.count; known = was.known; zero_ = was.zero_; numbered = was.numbered }
