@@ -195,9 +195,26 @@ pub fn run(rt: &(impl AllocGlobal + Print + CpuClock)) -> anyhow::Result<()> {
 fn measure(rt: &(impl AllocGlobal + Print + CpuClock), config: &Config) -> anyhow::Result<()>
     requires { IsInRange config.now }
 {
-    let Ok((mut one, mut many)) = both_sides(rt.alloc(), config) else {
-        bail!("out of memory");
-    };
-    take_turns(rt, config, &mut one, &mut many)?;
+    match both_sides(rt.alloc(), config) {
+        Ok((mut one, mut many)) => {
+            let end = measure_both(rt, config, &mut one, &mut many);
+            drop(one);
+            drop(many);
+            end
+        }
+        Err(_) => bail!("out of memory"),
+    }
+}
+
+// The sides are dropped by calls, since the check follows a drop without one field by field.
+fn measure_both(
+    rt: &(impl AllocGlobal + Print + CpuClock),
+    config: &Config,
+    one: &mut Side,
+    many: &mut Side,
+) -> anyhow::Result<()>
+    requires { IsInRange config.now }
+{
+    take_turns(rt, config, one, many)?;
     report(rt, one.calls_per_second(), many.calls_per_second())
 }
