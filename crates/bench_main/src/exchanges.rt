@@ -100,19 +100,23 @@ struct Side {
 }
 
 impl Side {
-    fn new(alloc: Global, config: &Config, living: u64) -> Result<Self, NoMemory>
+    /// None lives yet.
+    fn new(alloc: Global) -> Self {
+        Side {
+            exchanges: Exchanges::new(alloc),
+            gates: Gates::new(alloc),
+            nanos: 0,
+        }
+    }
+
+    /// So many start.
+    fn start_all(&mut self, config: &Config, living: u64) -> Result<(), NoMemory>
         requires { IsInRange config.now }
     {
-        let mut exchanges = Exchanges::new(alloc);
-        let mut gates = Gates::new(alloc);
         for _exchange in 0..living {
-            let _ = start(&mut exchanges, &mut gates, config)?;
+            let _ = start(&mut self.exchanges, &mut self.gates, config)?;
         }
-        Ok(Side {
-            exchanges,
-            gates,
-            nanos: 0,
-        })
+        Ok(())
     }
 
     /// An exchange comes, takes ten octets, moves them, and goes. Answers whether all went so.
@@ -148,11 +152,11 @@ impl Side {
     }
 }
 
-fn both_sides(alloc: Global, config: &Config) -> Result<(Side, Side), NoMemory>
+fn start_both(one: &mut Side, many: &mut Side, config: &Config) -> Result<(), NoMemory>
     requires { IsInRange config.now }
 {
-    let one = Side::new(alloc, config, ONE)?;
-    Ok((one, Side::new(alloc, config, MANY)?))
+    one.start_all(config, ONE)?;
+    many.start_all(config, MANY)
 }
 
 fn report(rt: &(impl Print + AllocGlobal), one: u64, many: u64) -> anyhow::Result<()> {
@@ -195,9 +199,24 @@ pub fn run(rt: &(impl AllocGlobal + Print + CpuClock)) -> anyhow::Result<()> {
 fn measure(rt: &(impl AllocGlobal + Print + CpuClock), config: &Config) -> anyhow::Result<()>
     requires { IsInRange config.now }
 {
-    let Ok((mut one, mut many)) = both_sides(rt.alloc(), config) else {
-        bail!("out of memory");
-    };
-    take_turns(rt, config, &mut one, &mut many)?;
+    let mut one = Side::new(rt.alloc());
+    let mut many = Side::new(rt.alloc());
+    let end = measure_both(rt, config, &mut one, &mut many);
+    drop(one);
+    drop(many);
+    end
+}
+
+// The sides are dropped by calls, since the check follows a drop without one field by field.
+fn measure_both(
+    rt: &(impl AllocGlobal + Print + CpuClock),
+    config: &Config,
+    one: &mut Side,
+    many: &mut Side,
+) -> anyhow::Result<()>
+    requires { IsInRange config.now }
+{
+    start_both(one, many, config).map_err(|_| anyhow!("out of memory"))?;
+    take_turns(rt, config, one, many)?;
     report(rt, one.calls_per_second(), many.calls_per_second())
 }

@@ -95,11 +95,22 @@ fn encode_rate(clock: &impl CpuClock, alloc: Global, block: &[u8]) -> Result<(u6
     let mut best = 0;
     let mut octets = 0;
     for _ in 0..TURNS {
-        let watch = CpuStopwatch::start(clock)?;
-        octets = encode_turn(&mut encoder, &list)? / TURN;
-        best = best.max(per_second(TURN, watch.nanos(clock)?));
+        let (rate, n) = encode_once(clock, &mut encoder, &list)?;
+        best = best.max(rate);
+        octets = n;
     }
     Ok((best, octets))
+}
+
+// The rate of one turn, and the octets of a block.
+fn encode_once(
+    clock: &impl CpuClock,
+    encoder: &mut Encoder,
+    list: &FieldList,
+) -> Result<(u64, u64)> {
+    let watch = CpuStopwatch::start(clock)?;
+    let octets = encode_turn(encoder, list)? / TURN;
+    Ok((per_second(TURN, watch.nanos(clock)?), octets))
 }
 
 /// The blocks of words in hexadecimal.

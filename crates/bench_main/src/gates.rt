@@ -3,7 +3,7 @@ ghost use Rattle.std.specs.Prelude.{◌≤◌};
 
 use crate::line::Line;
 use crate::stopwatch::{CpuStopwatch, per_second};
-use anyhow::{bail, ensure};
+use anyhow::{anyhow, ensure};
 use flow_gate::{BufferId, FlowId, Gates};
 use io_ports::NoMemory;
 use std::alloc::Global;
@@ -43,17 +43,21 @@ struct Side {
 }
 
 impl Side {
-    fn new(alloc: Global, flows: u64) -> Result<Self, NoMemory> {
-        let mut gates = Gates::new(alloc);
-        for exchange in 0..flows {
-            open(&mut gates, request(exchange))?;
-        }
-        Ok(Side {
-            gates,
+    /// No flow is open yet.
+    fn new(alloc: Global, flows: u64) -> Self {
+        Side {
+            gates: Gates::new(alloc),
             flows,
             next: 0,
             nanos: 0,
-        })
+        }
+    }
+
+    fn open_all(&mut self) -> Result<(), NoMemory> {
+        for exchange in 0..self.flows {
+            open(&mut self.gates, request(exchange))?;
+        }
+        Ok(())
     }
 
     /// Takes a round's turns. Answers how many flows were told.
@@ -119,20 +123,35 @@ fn turn(gates: &mut Gates, flow: FlowId) -> u64
     u64::from(first.is_some()) + u64::from(second.is_some())
 }
 
-fn new_side(alloc: Global, flows: u64) -> anyhow::Result<Side> {
-    match Side::new(alloc, flows) {
-        Ok(side) => Ok(side),
-        Err(_) => bail!("out of memory"),
-    }
+/// Opens the flows of all sides.
+fn open_all(few: &mut Side, some: &mut Side, many: &mut Side) -> Result<(), NoMemory> {
+    few.open_all()?;
+    some.open_all()?;
+    many.open_all()
 }
 
 /// Takes turns at each number of open flows, and prints how many calls each does in a second of
 /// processor time.
 pub fn run(rt: &(impl AllocGlobal + Print + CpuClock)) -> anyhow::Result<()> {
-    let mut few = new_side(rt.alloc(), FEW)?;
-    let mut some = new_side(rt.alloc(), SOME)?;
-    let mut many = new_side(rt.alloc(), MANY)?;
-    take_turns(rt, &mut few, &mut some, &mut many)?;
+    let mut few = Side::new(rt.alloc(), FEW);
+    let mut some = Side::new(rt.alloc(), SOME);
+    let mut many = Side::new(rt.alloc(), MANY);
+    let end = measure(rt, &mut few, &mut some, &mut many);
+    drop(few);
+    drop(some);
+    drop(many);
+    end
+}
+
+// The sides are dropped by calls, since the check follows a drop without one field by field, at each end of a function.
+fn measure(
+    rt: &(impl AllocGlobal + Print + CpuClock),
+    few: &mut Side,
+    some: &mut Side,
+    many: &mut Side,
+) -> anyhow::Result<()> {
+    open_all(few, some, many).map_err(|_| anyhow!("out of memory"))?;
+    take_turns(rt, few, some, many)?;
     report(
         rt,
         few.calls_per_second(),

@@ -144,6 +144,30 @@ struct Spent {
     copying: u64,
 }
 
+impl Spent {
+    // A round of relaying. The sum of the first octets, as of the others.
+    fn relay(&mut self, rt: &impl CpuClock, pair: &mut Pair) -> anyhow::Result<u64> {
+        let watch = CpuStopwatch::start(rt)?;
+        let relayed = relay_round(&mut pair.relay, &pair.read).map_err(failed)?;
+        self.relaying = self.relaying.saturating_add(watch.nanos(rt)?);
+        Ok(relayed)
+    }
+
+    fn note(&mut self, rt: &impl CpuClock, pair: &mut Pair) -> anyhow::Result<u64> {
+        let watch = CpuStopwatch::start(rt)?;
+        let noted = noted_round(&mut pair.relay, &pair.read, &mut pair.notes).map_err(failed)?;
+        self.noting = self.noting.saturating_add(watch.nanos(rt)?);
+        Ok(noted)
+    }
+
+    fn copy(&mut self, rt: &impl CpuClock, blocks: &mut Blocks) -> anyhow::Result<u64> {
+        let watch = CpuStopwatch::start(rt)?;
+        let copied = copy_round(&mut blocks.first, &mut blocks.second, &blocks.piece);
+        self.copying = self.copying.saturating_add(watch.nanos(rt)?);
+        Ok(copied)
+    }
+}
+
 /// A round of each, one after the other.
 fn round(
     rt: &impl CpuClock,
@@ -151,15 +175,9 @@ fn round(
     blocks: &mut Blocks,
     spent: &mut Spent,
 ) -> anyhow::Result<()> {
-    let watch = CpuStopwatch::start(rt)?;
-    let relayed = relay_round(&mut pair.relay, &pair.read).map_err(failed)?;
-    spent.relaying = spent.relaying.saturating_add(watch.nanos(rt)?);
-    let watch = CpuStopwatch::start(rt)?;
-    let noted = noted_round(&mut pair.relay, &pair.read, &mut pair.notes).map_err(failed)?;
-    spent.noting = spent.noting.saturating_add(watch.nanos(rt)?);
-    let watch = CpuStopwatch::start(rt)?;
-    let copied = copy_round(&mut blocks.first, &mut blocks.second, &blocks.piece);
-    spent.copying = spent.copying.saturating_add(watch.nanos(rt)?);
+    let relayed = spent.relay(rt, pair)?;
+    let noted = spent.note(rt, pair)?;
+    let copied = spent.copy(rt, blocks)?;
     ensure!(
         relayed == copied && noted == copied,
         "the relay gave other octets"

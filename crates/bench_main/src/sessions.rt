@@ -1,4 +1,6 @@
 // How fast frames become acts.
+ghost use Rattle.std.specs.Prelude.{◌<◌, ◌^◌};
+
 use crate::line::Line;
 use crate::stopwatch::{CpuStopwatch, per_second};
 use anyhow::{Result, bail, ensure};
@@ -14,13 +16,22 @@ const ROUNDS: u32 = 20_000;
 /// How many turns there are. The best of them counts, by the processor's time.
 const TURNS: u32 = 50;
 
+// A frame's head, and its payload.
+fn push_frame(
+    into: &mut Octets,
+    head: [u8; 9],
+    payload: &[u8],
+) -> std::result::Result<(), NoMemory> {
+    into.push_all(&head)?;
+    into.push_all(payload)
+}
+
 // SETTINGS, and HEADERS that open so many streams.
 fn opening(alloc: Global, open: u16) -> std::result::Result<Octets, NoMemory> {
     let mut into = Octets::new(alloc);
     into.push_all(&frame_head(0, 4, 0, 0))?;
     for n in 0..u32::from(open) {
-        into.push_all(&frame_head(16, 1, 4, 2 * n + 1))?;
-        into.push_all(&[0x82; 16])?;
+        push_frame(&mut into, frame_head(16, 1, 4, 2 * n + 1), &[0x82; 16])?;
     }
     Ok(into)
 }
@@ -31,20 +42,19 @@ fn mix(alloc: Global, open: u16) -> std::result::Result<Octets, NoMemory> {
     let mut into = Octets::new(alloc);
     let open = u32::from(open).max(1);
     for n in 0..ROUNDS {
-        let new = 2 * (open + n) + 1;
-        let old = 2 * (n % open) + 1;
-        into.push_all(&frame_head(16, 1, 4, new))?;
-        into.push_all(&[0x82; 16])?;
-        into.push_all(&frame_head(16, 0, 0, new))?;
-        into.push_all(&[7; 16])?;
-        into.push_all(&frame_head(16, 0, 0, old))?;
-        into.push_all(&[7; 16])?;
-        into.push_all(&frame_head(4, 8, 0, old))?;
-        into.push_all(&1024u32.to_be_bytes())?;
-        into.push_all(&frame_head(4, 3, 0, new))?;
-        into.push_all(&8u32.to_be_bytes())?;
+        push_five(&mut into, 2 * (open + n) + 1, 2 * (n % open) + 1)?;
     }
     Ok(into)
+}
+
+fn push_five(into: &mut Octets, new: u32, old: u32) -> std::result::Result<(), NoMemory>
+    requires { (new < 2 ^ 31) × (old < 2 ^ 31) }
+{
+    push_frame(into, frame_head(16, 1, 4, new), &[0x82; 16])?;
+    push_frame(into, frame_head(16, 0, 0, new), &[7; 16])?;
+    push_frame(into, frame_head(16, 0, 0, old), &[7; 16])?;
+    push_frame(into, frame_head(4, 8, 0, old), &1024u32.to_be_bytes())?;
+    push_frame(into, frame_head(4, 3, 0, new), &8u32.to_be_bytes())
 }
 
 // A number that each act gives to a sum, so that none is left out.

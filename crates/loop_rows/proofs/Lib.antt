@@ -1,3 +1,5 @@
+mod Fitting
 pub mod Spelled
 mod Started
 mod Starting
+mod Ticking

@@ -1,6 +1,6 @@
 // Connections and exchanges that come and go.
-use crate::gets::{CONFIG, Route, events_of, timed};
-use crate::rig::Rig;
+use crate::bench::gets::{CONFIG, Route, events_of, timed};
+use crate::bench::rig::Rig;
 use std::time::CpuClock;
 
 /// The cluster's connection.

@@ -1,7 +1,4 @@
-//! Measures the core of wire sessions, a live worker over it, and the drill. Run by hand with the name of a bench; without one it
-//! prints its usage.
-#![tactic(auto)]
-
+// Benches of the core of wire sessions, of a live worker over it, and of the drill.
 mod bodies;
 mod bursts;
 mod crowds;
@@ -17,12 +14,12 @@ mod stage;
 mod stopwatch;
 mod turns;
 
-use bursts::Burst;
-use std::env;
+use crate::bench::bursts::Burst;
+use std::io;
 use std::sync::Wait;
 use std::time::CpuClock;
 
-const USAGE: &str = "usage: core_bench BENCH
+const USAGE: &str = "usage: loop_rows bench BENCH
   gets             small exchanges by ones and by thirty-twos, beside the drill
   alone N AT_ONCE  so many small exchanges
   bodies           bodies of a MiB down and up, beside a plain copy
@@ -38,18 +35,8 @@ const USAGE: &str = "usage: core_bench BENCH
   drill            a drill from end to end, beside its octets through two buffers
 ";
 
-fn main(rt: HostRuntime) -> anyhow::Result<()> {
-    let mut words = env::args(&rt)?;
-    let _program = words.next();
-    let Some(bench) = words.next() else {
-        return usage(&rt);
-    };
-    let one = number(words.next());
-    let two = number(words.next());
-    run(&rt, bench.as_str(), one, two)
-}
-
-fn run(
+/// Runs the bench of this name, and prints what it took. Without one it prints the usage.
+pub fn run(
     rt: &(impl AllocGlobal + Print + Wait + CpuClock),
     bench: &str,
     one: u32,
@@ -69,17 +56,17 @@ fn run(
         "turns" => turns::run(rt),
         "lines" => lines::run(rt),
         "drill" => drill::run(rt),
-        _ => usage(rt),
+        _ => Ok(usage(rt)?),
     }
 }
 
-fn usage(rt: &impl Print) -> anyhow::Result<()> {
-    rt.print(USAGE)?;
-    Ok(())
+/// Prints the usage.
+pub fn usage(rt: &impl Print) -> io::Result<()> {
+    rt.print(USAGE)
 }
 
-// The number that a word spells, else 0.
-fn number(word: Option<String>) -> u32 {
+/// The number that a word spells, else 0.
+pub fn number(word: Option<String>) -> u32 {
     match word {
         Some(word) => word.as_str().parse::<u32>().unwrap_or(0),
         None => 0,

@@ -1,7 +1,7 @@
 // Small exchanges and ticks beside idle connections and exchanges.
-use crate::gets::{CONFIG, EXCHANGES, Route, events_of, timed};
-use crate::rig::{Rig, stream_after};
-use crate::stopwatch::{CpuStopwatch, tenths};
+use crate::bench::gets::{CONFIG, EXCHANGES, Route, events_of, timed};
+use crate::bench::rig::{Rig, stream_after};
+use crate::bench::stopwatch::{CpuStopwatch, tenths};
 use std::time::CpuClock;
 
 /// A connection to a cluster takes so many exchanges at once.

@@ -1,13 +1,13 @@
 // Turns of a live worker over connections in memory, beside the dispatches that they make.
-ghost use Rattle.core_bench.specs.Workers.{IsFresh, IsReady, MayRun};
+ghost use Rattle.loop_rows.specs.Workers.{IsFresh, IsReady, MayRun};
 ghost use Rattle.mem_ports.specs.Memory.{seen_of};
 ghost use Rattle.proxy_config.specs.Ranges.{IsInRange};
 ghost use Rattle.std.specs.Prelude.{◌≡◌, OnOk, true};
 ghost use Rattle.worker_core.specs.Sessions.{RestsWire};
 ghost use Rattle.worker_loop.specs.Keeping.{Holds};
 
-use crate::stage::Stage;
-use crate::stopwatch::CpuStopwatch;
+use crate::bench::stage::Stage;
+use crate::bench::stopwatch::CpuStopwatch;
 use anyhow::anyhow;
 use flow_notes::{Event, Names, Notes};
 use proxy_config::Config;
@@ -135,7 +135,7 @@ fn arrive<R: AllocGlobal + Wait + CpuClock>(
     held: &mut HeldPermits,
     clients: u32,
 ) -> anyhow::Result<(u64, u64)>
-    requires { MayRun core.old names.now stage.old held.old }
+    requires { MayRun core.old names.now stage.old.desk held.old (seen_of stage.old.wires) }
     ensures { Holds stage.new.desk.permits stage.new.desk.seat held.new }
 {
     if !run_turns(rt, core, names, stage, held, clients) {
@@ -156,9 +156,9 @@ fn run_turns<R: AllocGlobal + Wait>(
     held: &mut HeldPermits,
     turns: u32,
 ) -> bool
-    requires { MayRun core.old names.now stage.old held.old }
+    requires { MayRun core.old names.now stage.old.desk held.old (seen_of stage.old.wires) }
     ensures holds { Holds stage.new.desk.permits stage.new.desk.seat held.new }
-    ensures may { result ≡ true → MayRun core.new names.now stage.new held.new }
+    ensures may { result ≡ true → MayRun core.new names.now stage.new.desk held.new (seen_of stage.new.wires) }
 {
     let desk = &mut stage.desk;
     let ended = work(
@@ -192,9 +192,9 @@ fn best_turns<R: AllocGlobal + Wait + CpuClock>(
     stage: &mut Stage,
     held: &mut HeldPermits,
 ) -> anyhow::Result<u64>
-    requires { MayRun core.old names.now stage.old held.old }
+    requires { MayRun core.old names.now stage.old.desk held.old (seen_of stage.old.wires) }
     ensures holds { Holds stage.new.desk.permits stage.new.desk.seat held.new }
-    ensures may { OnOk result (MayRun core.new names.now stage.new held.new) }
+    ensures may { OnOk result (MayRun core.new names.now stage.new.desk held.new (seen_of stage.new.wires)) }
 {
     let mut best = u64::MAX;
     for _round in 0..ROUNDS {
@@ -210,9 +210,9 @@ fn time_turns<R: AllocGlobal + Wait + CpuClock>(
     stage: &mut Stage,
     held: &mut HeldPermits,
 ) -> anyhow::Result<u64>
-    requires { MayRun core.old names.now stage.old held.old }
+    requires { MayRun core.old names.now stage.old.desk held.old (seen_of stage.old.wires) }
     ensures holds { Holds stage.new.desk.permits stage.new.desk.seat held.new }
-    ensures may { OnOk result (MayRun core.new names.now stage.new held.new) }
+    ensures may { OnOk result (MayRun core.new names.now stage.new.desk held.new (seen_of stage.new.wires)) }
 {
     let watch = CpuStopwatch::start(rt)?;
     if !run_turns(rt, core, names, stage, held, TURNS) {

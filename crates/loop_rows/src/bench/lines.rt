@@ -1,5 +1,5 @@
 // Lines of a journal, beside a plain copy of their octets.
-use crate::stopwatch::CpuStopwatch;
+use crate::bench::stopwatch::CpuStopwatch;
 use anyhow::anyhow;
 use io_ports::MemSink;
 use std::time::CpuClock;

@@ -1,8 +1,8 @@
 // Bodies of a MiB, down and up, beside a plain copy of the same octets.
-use crate::frames::Wire;
-use crate::gets::{push, push_room, timed};
-use crate::rig::{Rig, no_memory, piece, stream_after};
-use crate::stopwatch::{CpuStopwatch, tenths};
+use crate::bench::frames::Wire;
+use crate::bench::gets::{push, push_room, timed};
+use crate::bench::rig::{Rig, no_memory, piece, stream_after};
+use crate::bench::stopwatch::{CpuStopwatch, tenths};
 use flow_notes::{Event, EventList};
 use io_ports::{NoMemory, Octets};
 use std::alloc::Global;

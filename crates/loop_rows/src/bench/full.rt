@@ -1,6 +1,6 @@
 // Exchanges whose buffers are full.
-use crate::frames::Wire;
-use crate::rig::{Rig, no_memory, piece, stream_after};
+use crate::bench::frames::Wire;
+use crate::bench::rig::{Rig, no_memory, piece, stream_after};
 use std::cmp;
 
 const PIECE: usize = 16_384;

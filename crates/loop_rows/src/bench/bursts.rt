@@ -1,7 +1,7 @@
 // What one event costs that has to do with all exchanges of a client: a close, a low, SETTINGS.
-use crate::frames::Wire;
-use crate::rig::{Rig, WIDE, no_memory, piece, stream_after};
-use crate::stopwatch::CpuStopwatch;
+use crate::bench::frames::Wire;
+use crate::bench::rig::{Rig, WIDE, no_memory, piece, stream_after};
+use crate::bench::stopwatch::CpuStopwatch;
 use flow_notes::Event;
 use io_ports::{NoMemory, Octets};
 use std::alloc::Global;

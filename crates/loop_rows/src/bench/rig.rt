@@ -1,7 +1,7 @@
 // A core with its peers.
 ghost use Rattle.proxy_config.specs.Ranges.{IsInRange};
 
-use crate::frames::Wire;
+use crate::bench::frames::Wire;
 use anyhow::{anyhow, bail, ensure};
 use flow_notes::{Event, Note, Notes, Passage};
 use io_ports::{NoMemory, Octets};
@@ -35,7 +35,7 @@ pub struct Rig {
 }
 
 impl Model for Rig {
-    ghost use Rattle.core_bench.specs.Rigs.{IsFit};
+    ghost use Rattle.loop_rows.specs.Rigs.{IsFit};
     ghost use Rattle.std.specs.Prelude.{Bool, true};
 
     ghost Value = { Bool };

@@ -1,6 +1,6 @@
 // A drill from end to end, beside its octets through two watermark buffers.
-use crate::rig::{no_memory, piece};
-use crate::stopwatch::{CpuStopwatch, per_second};
+use crate::bench::rig::{no_memory, piece};
+use crate::bench::stopwatch::{CpuStopwatch, per_second};
 use anyhow::{bail, ensure};
 use flow_notes::{Event, EventList, PlainEvent};
 use io_ports::{MemSink, MemSource, NoMemory};

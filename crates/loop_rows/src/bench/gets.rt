@@ -1,8 +1,8 @@
 // Small requests and their responses, one after the other.
-use crate::drill::{drill_once, events_a_second};
-use crate::frames::Wire;
-use crate::rig::{Rig, WIDE, no_memory, piece, stream_after};
-use crate::stopwatch::{CpuStopwatch, per_second};
+use crate::bench::drill::{drill_once, events_a_second};
+use crate::bench::frames::Wire;
+use crate::bench::rig::{Rig, WIDE, no_memory, piece, stream_after};
+use crate::bench::stopwatch::{CpuStopwatch, per_second};
 use flow_notes::{Event, EventList};
 use io_ports::{NoMemory, Octets};
 use std::alloc::Global;
