@@ -8,6 +8,7 @@ mod full;
 mod gets;
 mod lines;
 mod many;
+mod peers;
 mod quiet;
 mod rig;
 mod stage;

@@ -1,14 +1,11 @@
 // Bodies of a MiB, down and up, beside a plain copy of the same octets.
-use crate::bench::frames::Wire;
-use crate::bench::gets::{push, push_room, timed};
-use crate::bench::rig::{Rig, no_memory, piece, stream_after};
+use crate::bench::peers::{Peers, client_and_cluster, stream_after};
+use crate::bench::rig::{Rig, no_memory};
 use crate::bench::stopwatch::{CpuStopwatch, tenths};
-use flow_notes::{Event, EventList};
+use flow_notes::Event;
 use io_ports::{NoMemory, Octets};
 use std::alloc::Global;
 use std::time::CpuClock;
-
-const PIECE: usize = 16_384;
 
 /// The pieces of a body.
 const PIECES: u32 = 64;
@@ -42,106 +39,83 @@ const UP: Direction = Direction {
 };
 
 /// The fewest nanoseconds of processor time that a body took.
-#[derive(Clone, Copy)]
+#[derive(Drop)]
 struct Least {
     passed: u64,
     copied: u64,
 }
 
-/// Bodies of one direction. What the events of each read is copied plainly too, once it has passed.
+impl Least {
+    // A body behind its heads. What its events read is copied plainly too, once it has passed.
+    fn pass(
+        &mut self,
+        rig: &mut Rig,
+        clock: &impl CpuClock,
+        body: &Peers,
+        block: &mut Octets,
+    ) -> anyhow::Result<()> {
+        let passed = rig.cost(clock, body)?.nanos;
+        self.passed = self.passed.min(passed);
+        self.copied = self.copied.min(copy_all(body, block, clock)?);
+        Ok(())
+    }
+}
+
+/// Bodies of one direction.
 fn pass(rt: &(impl AllocGlobal + CpuClock), way: Direction) -> anyhow::Result<Least> {
     let mut rig = Rig::new(rt.alloc(), CONFIG)?;
-    let least = pass_bodies(&mut rig, rt, way);
+    let least = pass_all(&mut rig, rt, way);
     drop(rig);
     least
 }
 
-fn pass_bodies(rig: &mut Rig, clock: &impl CpuClock, way: Direction) -> anyhow::Result<Least> {
-    rig.client(CLIENT, true)?;
-    rig.cluster(CLUSTER, true)?;
-    let body = piece(rig.alloc(), PIECE)?;
-    let mut block = Octets::new(rig.alloc());
-    pass_all(rig, clock, way, body.as_slice(), &mut block)
-}
-
 fn pass_all(
     rig: &mut Rig,
-    clock: &impl CpuClock,
+    rt: &(impl AllocGlobal + CpuClock),
     way: Direction,
-    body: &[u8],
-    block: &mut Octets,
 ) -> anyhow::Result<Least> {
-    let mut passed = u64::MAX;
-    let mut copied = u64::MAX;
+    rig.play_made(client_and_cluster(rt.alloc(), CLIENT, CLUSTER))?;
+    let mut block = Octets::new(rt.alloc());
+    let mut least = Least {
+        passed: u64::MAX,
+        copied: u64::MAX,
+    };
     for one in 0..BODIES {
-        let least = pass_one(rig, clock, way, stream_after(1, one), body, block)?;
-        passed = passed.min(least.passed);
-        copied = copied.min(least.copied);
+        let stream = stream_after(1, one);
+        rig.play_made(heads(rt.alloc(), stream, way))?;
+        let body = body_of(rt.alloc(), stream, way).map_err(no_memory)?;
+        least.pass(rig, rt, &body, &mut block)?;
     }
-    Ok(Least { passed, copied })
-}
-
-// One body.
-fn pass_one(
-    rig: &mut Rig,
-    clock: &impl CpuClock,
-    way: Direction,
-    stream: u32,
-    body: &[u8],
-    block: &mut Octets,
-) -> anyhow::Result<Least> {
-    begin(rig, stream, way)?;
-    let events = events_of(rig.alloc(), stream, way, body)?;
-    let passed = timed(rig, &events, clock)?;
-    let copied = copy_all(&events, block, clock)?;
-    Ok(Least { passed, copied })
+    Ok(least)
 }
 
 // The heads that a body comes behind.
-fn begin(rig: &mut Rig, stream: u32, way: Direction) -> anyhow::Result<()> {
-    rig.posts(CLIENT, stream, 1)?;
-    rig.room(CLUSTER)?;
+fn heads(alloc: Global, stream: u32, way: Direction) -> Result<Peers, NoMemory> {
+    let mut peers = Peers::new(alloc);
+    peers.posts(CLIENT, stream, 1)?;
+    peers.room(CLUSTER)?;
     if way.from == CLUSTER {
-        rig.answer(CLUSTER, stream)?;
-        rig.room(CLIENT)?;
+        peers.answer(CLUSTER, stream)?;
+        peers.room(CLIENT)?;
     }
-    Ok(())
+    Ok(peers)
 }
 
-// The events of a body: each piece is read, and goes on.
-fn events_of(alloc: Global, stream: u32, way: Direction, body: &[u8]) -> anyhow::Result<EventList> {
-    let mut events = EventList::new(alloc);
-    push_pieces(&mut events, alloc, stream, way, body)?;
-    Ok(events)
-}
-
-fn push_pieces(
-    events: &mut EventList,
-    alloc: Global,
-    stream: u32,
-    way: Direction,
-    body: &[u8],
-) -> anyhow::Result<()> {
+// A body: each piece of 16,384 octets is read, and goes on.
+fn body_of(alloc: Global, stream: u32, way: Direction) -> Result<Peers, NoMemory> {
+    let mut peers = Peers::new(alloc);
     for left in (0..PIECES).rev() {
-        let octets = piece_of(alloc, stream, body, left == 0).map_err(no_memory)?;
-        push(events, way.from, octets)?;
-        push_room(events, way.to)?;
+        peers.body(way.from, stream, &[7; 16_384], left == 0)?;
+        peers.room(way.to)?;
     }
-    Ok(())
+    Ok(peers)
 }
 
-// A piece of a body in a frame.
-fn piece_of(alloc: Global, stream: u32, body: &[u8], last: bool) -> Result<Octets, NoMemory> {
-    let mut wire = Wire::new(alloc);
-    wire.data(stream, body, last)?;
-    wire.into_octets()
-}
-
-// The octets that events read, copied one behind the other into a block: nanoseconds of processor time.
-fn copy_all(events: &EventList, block: &mut Octets, clock: &impl CpuClock) -> anyhow::Result<u64> {
+// The octets that the events of a body read, copied one behind the other into a block: nanoseconds of processor time.
+fn copy_all(body: &Peers, block: &mut Octets, clock: &impl CpuClock) -> anyhow::Result<u64> {
     block.clear();
     let watch = CpuStopwatch::start(clock)?;
-    for event in events.as_slice() {
+    for event in body.events() {
         copy(event, block).map_err(no_memory)?;
     }
     Ok(watch.nanos(clock)?)

@@ -1,9 +1,7 @@
 // What one event costs that has to do with all exchanges of a client: a close, a low, SETTINGS.
-use crate::bench::frames::Wire;
-use crate::bench::rig::{Rig, WIDE, no_memory, piece, stream_after};
-use crate::bench::stopwatch::CpuStopwatch;
-use flow_notes::Event;
-use io_ports::{NoMemory, Octets};
+use crate::bench::peers::{Peers, stream_after};
+use crate::bench::rig::{Cost, cost_behind, no_memory};
+use io_ports::NoMemory;
 use std::alloc::Global;
 use std::time::CpuClock;
 
@@ -15,8 +13,6 @@ const SIZES: [u32; 3] = [10, 100, 1_000];
 
 /// How often each is measured; the best counts.
 const TURNS: u32 = 10;
-
-const PIECE: usize = 16_384;
 
 const LARGE: &[u8] =
     b"[limits]\nwrite_buffer = 65536\nsend_buffer = 16384\nconnection_window = 16777216\nmax_streams = 1000\nframe_size = 1048576\n[[clusters]]\nname = \"a\"\n[[routes]]\nprefix = \"/\"\ncluster = \"a\"\n";
@@ -30,13 +26,6 @@ pub enum Burst {
     Low,
     /// SETTINGS of a MiB that name the initial window over and over.
     Settings,
-}
-
-/// What an event took: nanoseconds, and how many notes it wrote.
-#[derive(Clone, Copy)]
-struct Cost {
-    nanos: u64,
-    notes: u64,
 }
 
 /// The event on clients with ten, a hundred and a thousand exchanges.
@@ -72,81 +61,62 @@ fn least(rt: &(impl AllocGlobal + CpuClock), burst: Burst, n: u32) -> anyhow::Re
 }
 
 fn once(rt: &(impl AllocGlobal + CpuClock), burst: Burst, n: u32) -> anyhow::Result<Cost> {
-    let mut rig = Rig::new(rt.alloc(), LARGE)?;
-    let cost = measured(&mut rig, rt, burst, n);
-    drop(rig);
-    cost
+    let client = client_at(n);
+    let before = before(rt.alloc(), burst, client, n).map_err(no_memory)?;
+    let event = event_of(rt.alloc(), burst, client).map_err(no_memory)?;
+    cost_behind(rt, LARGE, &before, &event)
 }
 
-fn measured(rig: &mut Rig, clock: &impl CpuClock, burst: Burst, n: u32) -> anyhow::Result<Cost> {
-    let conn = client_of(rig, n)?;
+// The number of a client with so many exchanges, behind those of connections that take a hundred each.
+fn client_at(exchanges: u32) -> u32 {
+    (exchanges / LANES).saturating_add(2)
+}
+
+// What comes before the event.
+fn before(alloc: Global, burst: Burst, client: u32, n: u32) -> Result<Peers, NoMemory> {
+    let mut peers = Peers::new(alloc);
+    come(&mut peers, client, n)?;
     if let Burst::Low = burst {
-        let body = piece(rig.alloc(), PIECE)?;
-        rise(rig, body.as_slice())?;
+        rise(&mut peers)?;
     }
-    let event = event_of(rig.alloc(), burst, conn)?;
-    dispatched(rig, &event, clock)
+    Ok(peers)
 }
 
-fn event_of(alloc: Global, burst: Burst, conn: u32) -> anyhow::Result<Event> {
+// The event, and SETTINGS of a MiB that name the initial window over and over.
+fn event_of(alloc: Global, burst: Burst, client: u32) -> Result<Peers, NoMemory> {
+    let mut peers = Peers::new(alloc);
     match burst {
-        Burst::Close => Ok(Event::Gone { conn }),
-        Burst::Low => Ok(Event::Room { conn, n: WIDE }),
-        Burst::Settings => {
-            let octets = great_settings(alloc).map_err(no_memory)?;
-            Ok(Event::Read { conn, octets })
-        }
+        Burst::Close => peers.gone(client)?,
+        Burst::Low => peers.room(client)?,
+        Burst::Settings => peers.settings(client, 1_000_000, 174_762)?,
     }
+    Ok(peers)
 }
 
-// SETTINGS of a MiB, which name the initial window over and over.
-fn great_settings(alloc: Global) -> Result<Octets, NoMemory> {
-    let mut wire = Wire::new(alloc);
-    wire.settings(4, 1_000_000, 174_762)?;
-    wire.into_octets()
-}
-
-fn dispatched(rig: &mut Rig, event: &Event, clock: &impl CpuClock) -> anyhow::Result<Cost> {
-    let watch = CpuStopwatch::start(clock)?;
-    rig.go(event)?;
-    Ok(Cost {
-        nanos: watch.nanos(clock)?,
-        notes: rig.written(),
-    })
-}
-
-/// A client with so many exchanges, over connections with a hundred each. The answer is its number.
-fn client_of(rig: &mut Rig, exchanges: u32) -> anyhow::Result<u32> {
-    let client = (exchanges / LANES).saturating_add(2);
+// A client with so many exchanges comes, behind connections to the cluster.
+fn come(peers: &mut Peers, client: u32, exchanges: u32) -> Result<(), NoMemory> {
     for cluster in 1..client {
-        rig.cluster(cluster, true)?;
+        peers.cluster(cluster, true)?;
     }
-    rig.client(client, true)?;
-    rig.posts(client, 1, exchanges)?;
-    drain_below(rig, client)?;
-    Ok(client)
+    peers.client(client, true)?;
+    peers.posts(client, 1, exchanges)?;
+    drain_below(peers, client)
 }
 
 // What waits for the connections below a number goes.
-fn drain_below(rig: &mut Rig, client: u32) -> anyhow::Result<()> {
+fn drain_below(peers: &mut Peers, client: u32) -> Result<(), NoMemory> {
     for cluster in 1..client {
-        rig.room(cluster)?;
+        peers.room(cluster)?;
     }
     Ok(())
 }
 
 // Responses come from the first connection until the client's write buffer is above.
-fn rise(rig: &mut Rig, body: &[u8]) -> anyhow::Result<()> {
+fn rise(peers: &mut Peers) -> Result<(), NoMemory> {
     for place in 0..5 {
-        respond(rig, stream_after(1, place), body)?;
+        let stream = stream_after(1, place);
+        peers.answer(1, stream)?;
+        peers.body(1, stream, &[7; 16_384], false)?;
     }
     Ok(())
-}
-
-// The head and a piece of a response come from the first connection.
-fn respond(rig: &mut Rig, stream: u32, body: &[u8]) -> anyhow::Result<()> {
-    let mut wire = Wire::new(rig.alloc());
-    wire.ok(stream).map_err(no_memory)?;
-    wire.data(stream, body, false).map_err(no_memory)?;
-    rig.read(1, wire)
 }

@@ -1,7 +1,10 @@
 // Small exchanges and ticks beside idle connections and exchanges.
-use crate::bench::gets::{CONFIG, EXCHANGES, Route, events_of, timed};
-use crate::bench::rig::{Rig, stream_after};
-use crate::bench::stopwatch::{CpuStopwatch, tenths};
+use crate::bench::gets::{CONFIG, EXCHANGES, Route, exchanges};
+use crate::bench::peers::{Peers, stream_after};
+use crate::bench::rig::{Cost, Rig, cost_behind, no_memory};
+use crate::bench::stopwatch::tenths;
+use io_ports::NoMemory;
+use std::alloc::Global;
 use std::time::CpuClock;
 
 /// A connection to a cluster takes so many exchanges at once.
@@ -24,22 +27,22 @@ const METERS: &[u8] =
 
 /// So many idle exchanges come, a hundred a client, and so many idle connections more. The answer is the first number of a
 /// connection that is free.
-fn crowd(rig: &mut Rig, exchanges: u32, idle: u32) -> anyhow::Result<u32> {
+fn crowd(peers: &mut Peers, exchanges: u32, idle: u32) -> Result<u32, NoMemory> {
     let whole = exchanges / LANES;
     for place in 0..whole {
-        lane(rig, lane_at(place), LANES)?;
+        lane(peers, lane_at(place), LANES)?;
     }
     let rest = exchanges % LANES;
     if rest > 0 {
-        lane(rig, lane_at(whole), rest)?;
+        lane(peers, lane_at(whole), rest)?;
     }
-    idle_clients(rig, lane_at(whole.saturating_add(1)), idle)
+    idle_clients(peers, lane_at(whole.saturating_add(1)), idle)
 }
 
 // So many clients come that send nothing, the first with this number. The answer is the number behind the last.
-fn idle_clients(rig: &mut Rig, first: u32, idle: u32) -> anyhow::Result<u32> {
+fn idle_clients(peers: &mut Peers, first: u32, idle: u32) -> Result<u32, NoMemory> {
     for place in 0..idle {
-        rig.client(first.saturating_add(place), true)?;
+        peers.client(first.saturating_add(place), true)?;
     }
     Ok(first.saturating_add(idle))
 }
@@ -50,13 +53,13 @@ fn lane_at(place: u32) -> u32 {
 }
 
 // A cluster's connection and a client with so many idle exchanges.
-fn lane(rig: &mut Rig, cluster: u32, exchanges: u32) -> anyhow::Result<()> {
-    rig.cluster(cluster, true)?;
+fn lane(peers: &mut Peers, cluster: u32, exchanges: u32) -> Result<(), NoMemory> {
+    peers.cluster(cluster, true)?;
     let client = cluster.saturating_add(1);
-    rig.client(client, true)?;
-    rig.posts(client, 1, exchanges)?;
-    rig.room(cluster)?;
-    rig.room(client)
+    peers.client(client, true)?;
+    peers.posts(client, 1, exchanges)?;
+    peers.room(cluster)?;
+    peers.room(client)
 }
 
 /// Small exchanges beside ten and beside so many idle connections and exchanges: the fewest nanoseconds each, in turn.
@@ -77,33 +80,23 @@ pub fn idle(rt: &(impl AllocGlobal + Print + CpuClock), count: u32) -> anyhow::R
 
 /// Small exchanges beside so many idle connections and exchanges: nanoseconds.
 fn beside(rt: &(impl AllocGlobal + CpuClock), n: u32) -> anyhow::Result<u64> {
-    let mut rig = Rig::new(rt.alloc(), CONFIG)?;
-    let nanos = exchange_beside(&mut rig, rt, n);
-    drop(rig);
-    nanos
-}
-
-fn exchange_beside(
-    rig: &mut Rig,
-    rt: &(impl AllocGlobal + CpuClock),
-    n: u32,
-) -> anyhow::Result<u64> {
-    let route = route_beside(rig, n)?;
-    let events = events_of(rt.alloc(), route, EXCHANGES, 1)?;
-    timed(rig, &events, rt)
+    let mut before = Peers::new(rt.alloc());
+    let route = route_beside(&mut before, n).map_err(no_memory)?;
+    let then = exchanges(rt.alloc(), route, EXCHANGES, 1).map_err(no_memory)?;
+    Ok(cost_behind(rt, CONFIG, &before, &then)?.nanos)
 }
 
 /// A client beside so many idle connections and exchanges, and the first connection to the cluster that has room.
-fn route_beside(rig: &mut Rig, n: u32) -> anyhow::Result<Route> {
-    let conn = crowd(rig, n, n)?;
+fn route_beside(peers: &mut Peers, n: u32) -> Result<Route, NoMemory> {
+    let conn = crowd(peers, n, n)?;
     let client = conn.saturating_add(1);
     let (cluster, first) = if n < LANES {
         (1, stream_after(1, n))
     } else {
-        rig.cluster(conn, true)?;
+        peers.cluster(conn, true)?;
         (conn, 1)
     };
-    rig.client(client, true)?;
+    peers.client(client, true)?;
     Ok(Route {
         client,
         cluster,
@@ -111,64 +104,60 @@ fn route_beside(rig: &mut Rig, n: u32) -> anyhow::Result<Route> {
     })
 }
 
-/// What ticks took.
-#[derive(Clone, Copy)]
-struct Ticked {
-    /// Nanoseconds of a tick that fires nothing.
-    idle: u64,
-    /// Nanoseconds of the tick that fires all.
-    fired: u64,
-    /// The notes of that tick.
-    notes: u64,
-}
-
 /// Ticks beside ten and beside so many exchanges with idle Meters: those that fire nothing, and one that fires all.
 pub fn tick(rt: &(impl AllocGlobal + Print + CpuClock), count: u32) -> anyhow::Result<()> {
+    let idle = idle_ticks(rt.alloc()).map_err(no_memory)?;
     for n in [FEW, count, FEW, count] {
-        let ticked = ticks_beside(rt, n)?;
-        report_ticks(rt, n, ticked)?;
+        ticks_beside(rt, n, &idle)?;
     }
     Ok(())
 }
 
-fn report_ticks(rt: &impl Print, n: u32, ticked: Ticked) -> anyhow::Result<()> {
-    let notes = ticked.notes.max(1);
-    println!(rt;
-        "beside {n} idle Meters: {} ns a tick that fires nothing; {} ns the tick that fires all, {} notes, {} ns a note",
-        ticked.idle,
-        ticked.fired,
-        notes,
-        ticked.fired / notes
-    )?;
-    Ok(())
+// Ticks of a millisecond each.
+fn idle_ticks(alloc: Global) -> Result<Peers, NoMemory> {
+    let mut peers = Peers::new(alloc);
+    for now in 0..TICKS {
+        peers.tick(now)?;
+    }
+    Ok(peers)
 }
 
 // Ticks beside so many idle Meters.
-fn ticks_beside(rt: &(impl AllocGlobal + CpuClock), n: u32) -> anyhow::Result<Ticked> {
+fn ticks_beside(
+    rt: &(impl AllocGlobal + Print + CpuClock),
+    n: u32,
+    idle: &Peers,
+) -> anyhow::Result<()> {
+    let mut before = Peers::new(rt.alloc());
+    let _first = crowd(&mut before, n, 0).map_err(no_memory)?;
     let mut rig = Rig::new(rt.alloc(), METERS)?;
-    let ticked = ticks(&mut rig, rt, n);
+    let ticked = ticks(&mut rig, rt, &before, idle);
     drop(rig);
-    ticked
+    let (idle, fired) = ticked?;
+    report_ticks(rt, n, idle, fired)
 }
 
-fn ticks(rig: &mut Rig, clock: &impl CpuClock, n: u32) -> anyhow::Result<Ticked> {
-    let _first = crowd(rig, n, 0)?;
-    let idle = idle_ticks(rig, clock)? / TICKS;
-    let watch = CpuStopwatch::start(clock)?;
-    rig.tick(IDLE)?;
-    let fired = watch.nanos(clock)?;
-    Ok(Ticked {
-        idle,
-        fired,
-        notes: rig.written(),
-    })
+// What the ticks take that fire nothing, and the tick that fires all.
+fn ticks(
+    rig: &mut Rig,
+    rt: &(impl AllocGlobal + CpuClock),
+    before: &Peers,
+    idle: &Peers,
+) -> anyhow::Result<(Cost, Cost)> {
+    let mut last = Peers::new(rt.alloc());
+    last.tick(IDLE).map_err(no_memory)?;
+    rig.play(before)?;
+    Ok((rig.cost(rt, idle)?, rig.cost(rt, &last)?))
 }
 
-// Ticks that fire nothing: nanoseconds.
-fn idle_ticks(rig: &mut Rig, clock: &impl CpuClock) -> anyhow::Result<u64> {
-    let watch = CpuStopwatch::start(clock)?;
-    for now in 0..TICKS {
-        rig.tick(now)?;
-    }
-    Ok(watch.nanos(clock)?)
+fn report_ticks(rt: &impl Print, n: u32, idle: Cost, fired: Cost) -> anyhow::Result<()> {
+    let notes = fired.notes.max(1);
+    println!(rt;
+        "beside {n} idle Meters: {} ns a tick that fires nothing; {} ns the tick that fires all, {} notes, {} ns a note",
+        idle.nanos / TICKS,
+        fired.nanos,
+        notes,
+        fired.nanos / notes
+    )?;
+    Ok(())
 }

@@ -1,6 +1,8 @@
 // Exchanges whose buffers are full.
-use crate::bench::frames::Wire;
-use crate::bench::rig::{Rig, no_memory, piece, stream_after};
+use crate::bench::peers::{Peers, stream_after};
+use crate::bench::rig::{Rig, piece};
+use io_ports::NoMemory;
+use std::alloc::Global;
 use std::cmp;
 
 const PIECE: usize = 16_384;
@@ -27,17 +29,17 @@ const CONFIG: &[u8] =
 /// of limits and units.
 pub fn run(rt: &(impl AllocGlobal + Print), clients: u32) -> anyhow::Result<()> {
     let mut rig = Rig::new(rt.alloc(), CONFIG)?;
-    let filled = fill_all(&mut rig, clients);
+    let filled = fill_all(&mut rig, rt.alloc(), clients);
     drop(rig);
     report(rt, clients, filled?)
 }
 
 // The answer is how many octets were taken.
-fn fill_all(rig: &mut Rig, clients: u32) -> anyhow::Result<u64> {
+fn fill_all(rig: &mut Rig, alloc: Global, clients: u32) -> anyhow::Result<u64> {
     let mut taken = 0u64;
     for client in 0..clients {
         let cluster = client.saturating_mul(2).saturating_add(1);
-        let more = fill_hundred(rig, cluster, cluster.saturating_add(1))?;
+        let more = fill_hundred(rig, alloc, cluster, cluster.saturating_add(1))?;
         taken = taken.saturating_add(more);
     }
     Ok(taken)
@@ -53,23 +55,33 @@ fn report(rt: &impl Print, clients: u32, taken: u64) -> anyhow::Result<()> {
 
 // A cluster's connection and a client come, which take nothing, and both send on each stream what they may. The answer is
 // how many octets.
-fn fill_hundred(rig: &mut Rig, cluster: u32, client: u32) -> anyhow::Result<u64> {
-    rig.cluster(cluster, false)?;
-    rig.client(client, false)?;
-    rig.posts(client, 1, LANES)?;
-    rig.room(cluster)?;
+fn fill_hundred(rig: &mut Rig, alloc: Global, cluster: u32, client: u32) -> anyhow::Result<u64> {
+    rig.play_made(come(alloc, cluster, client))?;
     let mut taken = 0u64;
     for place in 0..LANES {
         let stream = stream_after(1, place);
-        rig.answer(cluster, stream)?;
-        taken = taken.saturating_add(fill(rig, client, stream)?);
-        taken = taken.saturating_add(fill(rig, cluster, stream)?);
+        taken = taken.saturating_add(fill(rig, alloc, client, stream)?);
+        taken = taken.saturating_add(fill(rig, alloc, cluster, stream)?);
     }
     Ok(taken)
 }
 
+// A client with a hundred exchanges comes behind a connection to the cluster, and each is answered.
+fn come(alloc: Global, cluster: u32, client: u32) -> Result<Peers, NoMemory> {
+    let mut peers = Peers::new(alloc);
+    peers.cluster(cluster, false)?;
+    peers.client(client, false)?;
+    peers.posts(client, 1, LANES)?;
+    peers.room(cluster)?;
+    for place in 0..LANES {
+        peers.answer(cluster, stream_after(1, place))?;
+    }
+    Ok(peers)
+}
+
 // Body comes on a stream until its window is used up. The answer is how many octets.
-fn fill(rig: &mut Rig, conn: u32, stream: u32) -> anyhow::Result<u64> {
+fn fill(rig: &mut Rig, alloc: Global, conn: u32, stream: u32) -> anyhow::Result<u64> {
+    let body = piece(alloc, PIECE)?;
     let mut left = WINDOW;
     let mut taken = 0u64;
     for _frame in 0..FRAMES {
@@ -77,8 +89,9 @@ fn fill(rig: &mut Rig, conn: u32, stream: u32) -> anyhow::Result<u64> {
         if n == 0 {
             break;
         }
-        send(rig, conn, stream, n)?;
-        taken = taken.saturating_add(u64::try_from(n).unwrap_or(0));
+        let octets = body.as_slice().get(0..n).unwrap_or(&[]);
+        rig.play_made(frame(alloc, conn, stream, octets))?;
+        taken = taken.saturating_add(n as u64);
         left = left
             .saturating_sub(n)
             .saturating_add(rig.granted(conn, stream));
@@ -86,11 +99,9 @@ fn fill(rig: &mut Rig, conn: u32, stream: u32) -> anyhow::Result<u64> {
     Ok(taken)
 }
 
-// So many octets of body come on a stream.
-fn send(rig: &mut Rig, conn: u32, stream: u32, n: usize) -> anyhow::Result<()> {
-    let body = piece(rig.alloc(), n)?;
-    let mut wire = Wire::new(rig.alloc());
-    wire.data(stream, body.as_slice(), false)
-        .map_err(no_memory)?;
-    rig.read(conn, wire)
+// A frame of body comes on a stream.
+fn frame(alloc: Global, conn: u32, stream: u32, body: &[u8]) -> Result<Peers, NoMemory> {
+    let mut peers = Peers::new(alloc);
+    peers.body(conn, stream, body, false)?;
+    Ok(peers)
 }

@@ -1,15 +1,11 @@
 // Small requests and their responses, one after the other.
 use crate::bench::drill::{drill_once, events_a_second};
-use crate::bench::frames::Wire;
-use crate::bench::rig::{Rig, WIDE, no_memory, piece, stream_after};
-use crate::bench::stopwatch::{CpuStopwatch, per_second};
-use flow_notes::{Event, EventList};
-use io_ports::{NoMemory, Octets};
+use crate::bench::peers::{Peers, client_and_cluster, stream_after};
+use crate::bench::rig::{cost_behind, no_memory};
+use crate::bench::stopwatch::per_second;
+use io_ports::NoMemory;
 use std::alloc::Global;
 use std::time::CpuClock;
-
-/// The octets of a response's body.
-const BODY: usize = 100;
 
 /// The exchanges of a turn.
 pub const EXCHANGES: u32 = 20_000;
@@ -31,108 +27,34 @@ pub struct Route {
     pub first: u32,
 }
 
-/// The events of so many exchanges, `at_once` at the same time.
-pub fn events_of(
-    alloc: Global,
-    route: Route,
-    count: u32,
-    at_once: u32,
-) -> anyhow::Result<EventList> {
-    let mut events = EventList::new(alloc);
-    push_all(&mut events, alloc, route, count, at_once.max(1))?;
-    Ok(events)
-}
-
-// The events of so many exchanges.
-fn push_all(
-    events: &mut EventList,
-    alloc: Global,
-    route: Route,
-    count: u32,
-    at_once: u32,
-) -> anyhow::Result<()> {
-    let body = piece(alloc, BODY)?;
+/// So many exchanges, `at_once` at the same time.
+pub fn exchanges(alloc: Global, route: Route, count: u32, at_once: u32) -> Result<Peers, NoMemory> {
+    let mut peers = Peers::new(alloc);
     for turn in 0..count / at_once.max(1) {
         let first = stream_after(route.first, turn.saturating_mul(at_once));
-        let route = Route { first, ..route };
-        push_turn(events, alloc, route, at_once, body.as_slice())?;
+        exchange(&mut peers, Route { first, ..route }, at_once)?;
     }
-    Ok(())
+    Ok(peers)
 }
 
-// The events of exchanges at the same time.
-fn push_turn(
-    events: &mut EventList,
-    alloc: Global,
-    route: Route,
-    at_once: u32,
-    body: &[u8],
-) -> anyhow::Result<()> {
-    let requests = requests(alloc, route.first, at_once).map_err(no_memory)?;
-    push(events, route.client, requests)?;
-    push_room(events, route.cluster)?;
-    let responses = responses(alloc, route.first, at_once, body).map_err(no_memory)?;
-    push(events, route.cluster, responses)?;
-    push_room(events, route.client)
-}
-
-// So many requests on streams from this one on.
-fn requests(alloc: Global, first: u32, count: u32) -> Result<Octets, NoMemory> {
-    let mut wire = Wire::new(alloc);
-    for place in 0..count {
-        wire.get(stream_after(first, place))?;
-    }
-    wire.into_octets()
-}
-
-// Their responses.
-fn responses(alloc: Global, first: u32, count: u32, body: &[u8]) -> Result<Octets, NoMemory> {
-    let mut wire = Wire::new(alloc);
-    for place in 0..count {
-        let stream = stream_after(first, place);
-        wire.ok(stream)?;
-        wire.data(stream, body, true)?;
-    }
-    wire.into_octets()
-}
-
-pub fn push(events: &mut EventList, conn: u32, octets: Octets) -> anyhow::Result<()> {
-    events.push(Event::Read { conn, octets }).map_err(no_memory)
-}
-
-pub fn push_room(events: &mut EventList, conn: u32) -> anyhow::Result<()> {
-    events
-        .push(Event::Room { conn, n: WIDE })
-        .map_err(no_memory)
-}
-
-/// Dispatches events, and answers the nanoseconds of processor time.
-pub fn timed(rig: &mut Rig, events: &EventList, clock: &impl CpuClock) -> anyhow::Result<u64> {
-    let watch = CpuStopwatch::start(clock)?;
-    for event in events.as_slice() {
-        rig.go(event)?;
-    }
-    Ok(watch.nanos(clock)?)
+// Exchanges at the same time, each with a body of 100 octets.
+fn exchange(peers: &mut Peers, route: Route, at_once: u32) -> Result<(), NoMemory> {
+    peers.gets(route.client, route.first, at_once)?;
+    peers.room(route.cluster)?;
+    peers.responses(route.cluster, route.first, at_once, &[7; 100])?;
+    peers.room(route.client)
 }
 
 /// So many exchanges between a client and a cluster that have just come: nanoseconds.
 fn once(rt: &(impl AllocGlobal + CpuClock), count: u32, at_once: u32) -> anyhow::Result<u64> {
-    let mut rig = Rig::new(rt.alloc(), CONFIG)?;
-    let nanos = exchange(&mut rig, rt, count, at_once);
-    drop(rig);
-    nanos
-}
-
-fn exchange(rig: &mut Rig, clock: &impl CpuClock, count: u32, at_once: u32) -> anyhow::Result<u64> {
-    rig.client(1, true)?;
-    rig.cluster(2, true)?;
     let route = Route {
         client: 1,
         cluster: 2,
         first: 1,
     };
-    let events = events_of(rig.alloc(), route, count, at_once)?;
-    timed(rig, &events, clock)
+    let before = client_and_cluster(rt.alloc(), 1, 2).map_err(no_memory)?;
+    let then = exchanges(rt.alloc(), route, count, at_once.max(1)).map_err(no_memory)?;
+    Ok(cost_behind(rt, CONFIG, &before, &then)?.nanos)
 }
 
 /// The fewest nanoseconds that a drill took, and the exchanges of a turn by ones and by thirty-twos.

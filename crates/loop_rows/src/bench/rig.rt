@@ -1,23 +1,16 @@
-// A core with its peers.
+// A core that is given what its peers do.
 ghost use Rattle.proxy_config.specs.Ranges.{IsInRange};
 
-use crate::bench::frames::Wire;
+use crate::bench::peers::Peers;
+use crate::bench::stopwatch::CpuStopwatch;
 use anyhow::{anyhow, bail, ensure};
 use flow_notes::{Event, Note, Notes, Passage};
 use io_ports::{NoMemory, Octets};
 use proxy_config::{Config, read_config};
 use std::alloc::Global;
 use std::marker::Model;
+use std::time::CpuClock;
 use worker_core::Core;
-
-/// The setting of a stream's initial window.
-const INITIAL_WINDOW: u16 = 4;
-
-/// As much as a window may be, and more than a write buffer holds.
-pub const WIDE: u32 = 2_147_483_647;
-
-/// What a connection's window has at first.
-const FIRST: u32 = 65_535;
 
 /// The most octets of a configuration.
 const MOST_CONFIG: usize = 4_096;
@@ -26,10 +19,16 @@ pub fn no_memory(_: NoMemory) -> anyhow::Error {
     anyhow!("out of memory")
 }
 
+/// What events took: nanoseconds of processor time, and how many notes the last of them wrote.
+#[derive(Clone, Copy)]
+pub struct Cost {
+    pub nanos: u64,
+    pub notes: u64,
+}
+
 /// A core of wire sessions, and the room for its notes.
 #[derive(Drop)]
 pub struct Rig {
-    alloc: Global,
     core: Core,
     notes: Notes,
 }
@@ -60,16 +59,11 @@ impl Rig {
     {
         match Core::new(alloc, config) {
             Ok(core) => Ok(Rig {
-                alloc,
                 core,
                 notes: Notes::new(alloc),
             }),
             Err(_) => bail!("out of memory"),
         }
-    }
-
-    pub fn alloc(&self) -> Global {
-        self.alloc
     }
 
     /// Dispatches one event.
@@ -81,68 +75,41 @@ impl Rig {
         Ok(())
     }
 
-    pub fn read(&mut self, conn: u32, wire: Wire) -> anyhow::Result<()> {
-        let octets = wire.into_octets().map_err(no_memory)?;
-        self.go(&Event::Read { conn, octets })
-    }
-
-    /// The clock's time goes on to so many milliseconds.
-    pub fn tick(&mut self, now: u64) -> anyhow::Result<()> {
-        self.go(&Event::Tick { now })
-    }
-
-    /// A connection is lost.
-    pub fn gone(&mut self, conn: u32) -> anyhow::Result<()> {
-        self.go(&Event::Gone { conn })
-    }
-
-    /// All that waits for a connection's socket goes.
-    pub fn room(&mut self, conn: u32) -> anyhow::Result<()> {
-        self.go(&Event::Room { conn, n: WIDE })
-    }
-
-    /// A client comes. Where it is eager it lets all come on its streams, and else nothing.
-    pub fn client(&mut self, conn: u32, eager: bool) -> anyhow::Result<()> {
-        self.go(&Event::Accept { conn })?;
-        let mut wire = Wire::new(self.alloc);
-        wire.preface().map_err(no_memory)?;
-        self.begin(conn, wire, eager)
-    }
-
-    /// A connection to the first cluster comes.
-    pub fn cluster(&mut self, conn: u32, eager: bool) -> anyhow::Result<()> {
-        self.go(&Event::Join { conn, cluster: 0 })?;
-        let wire = Wire::new(self.alloc);
-        self.begin(conn, wire, eager)
-    }
-
-    fn begin(&mut self, conn: u32, mut wire: Wire, eager: bool) -> anyhow::Result<()> {
-        let window = if eager { WIDE } else { 0 };
-        wire.setting(INITIAL_WINDOW, window).map_err(no_memory)?;
-        wire.window(0, WIDE - FIRST).map_err(no_memory)?;
-        self.read(conn, wire)?;
-        self.room(conn)
-    }
-
-    /// So many requests of a client on streams from this one on, which stay open.
-    pub fn posts(&mut self, conn: u32, first: u32, count: u32) -> anyhow::Result<()> {
-        let mut wire = Wire::new(self.alloc);
-        for place in 0..count {
-            wire.post(stream_after(first, place)).map_err(no_memory)?;
+    /// Dispatches what peers do.
+    pub fn play(&mut self, peers: &Peers) -> anyhow::Result<()> {
+        for event in peers.events() {
+            self.go(event)?;
         }
-        self.read(conn, wire)
+        Ok(())
     }
 
-    /// The head of a response comes from a cluster.
-    pub fn answer(&mut self, conn: u32, stream: u32) -> anyhow::Result<()> {
-        let mut wire = Wire::new(self.alloc);
-        wire.ok(stream).map_err(no_memory)?;
-        self.read(conn, wire)
+    /// The same, where there was memory to put it together.
+    pub fn play_made(&mut self, made: Result<Peers, NoMemory>) -> anyhow::Result<()> {
+        match made {
+            Ok(peers) => self.play(&peers),
+            Err(NoMemory) => bail!("out of memory"),
+        }
     }
 
-    /// How many notes the last dispatch wrote.
-    pub fn written(&self) -> u64 {
-        u64::try_from(self.notes.len()).unwrap_or(u64::MAX)
+    /// Dispatches what peers do, and tells what it took.
+    pub fn cost(&mut self, clock: &impl CpuClock, peers: &Peers) -> anyhow::Result<Cost> {
+        let watch = CpuStopwatch::start(clock)?;
+        self.play(peers)?;
+        Ok(Cost {
+            nanos: watch.nanos(clock)?,
+            notes: self.notes.len() as u64,
+        })
+    }
+
+    // The same, behind what they did before.
+    fn play_both(
+        &mut self,
+        clock: &impl CpuClock,
+        before: &Peers,
+        then: &Peers,
+    ) -> anyhow::Result<Cost> {
+        self.play(before)?;
+        self.cost(clock, then)
     }
 
     /// What the last dispatch granted on a stream.
@@ -153,6 +120,19 @@ impl Rig {
         }
         sum
     }
+}
+
+/// What it takes on a new core under this configuration that peers do something, behind what they did before.
+pub fn cost_behind(
+    rt: &(impl AllocGlobal + CpuClock),
+    config: &[u8],
+    before: &Peers,
+    then: &Peers,
+) -> anyhow::Result<Cost> {
+    let mut rig = Rig::new(rt.alloc(), config)?;
+    let cost = rig.play_both(rt, before, then);
+    drop(rig);
+    cost
 }
 
 // What a note grants on a stream.
@@ -167,11 +147,6 @@ fn credit_of(passage: Passage<'_>, conn: u32, stream: u32) -> usize {
         ) if *at == conn && *on == stream => *n as usize,
         _ => 0,
     }
-}
-
-/// The stream of one side that comes so many places after another.
-pub fn stream_after(first: u32, place: u32) -> u32 {
-    first.saturating_add(place.saturating_mul(2))
 }
 
 pub fn piece(alloc: Global, n: usize) -> anyhow::Result<Octets> {
