@@ -62,17 +62,18 @@ impl Load for Enters {
     }
 }
 
-/// A `take` of a token.
+/// A `take` of a token, of a bucket that has enough for all or none.
 #[derive(Drop)]
 pub struct Takes {
     pub bucket: Arc<Bucket, Global>,
     pub seat: TokenSeat,
+    pub has_tokens: bool,
     ghost fits: { IsTaker (arc_value bucket) seat },
 }
 
 impl Load for Takes {
     fn call<R: Wait + AllocGlobal>(&mut self, _rt: &R) -> bool {
-        self.bucket.take(&mut self.seat).is_ok()
+        self.bucket.take(&mut self.seat).is_ok() == self.has_tokens
     }
 }
 

@@ -24,7 +24,6 @@ mod sessions;
 mod shared;
 mod stopwatch;
 mod timers;
-mod tokens;
 
 use std::env;
 use std::rt::Clock;
@@ -48,9 +47,8 @@ const USAGE: &str = "usage: bench_main BENCH
              relay turns: turns of a live relay over connections in memory, with one pair and with 10,000 idle ones beside it;
              relay pairs N: pairs that come, send and go, one after the other
   session    acts of frames, with 10 and with 1,000 open streams
-  shared     permits, tokens and published states on one thread and on four, beside bare fetches
+  shared     permits, tokens that are granted and refused, and published states, on one thread and on four, beside bare fetches
   timers     arming, moving and firing of timers
-  tokens     takes of tokens on one thread and on four, beside a bare fetch
 ";
 
 fn main(rt: HostRuntime) -> anyhow::Result<()> {
@@ -89,7 +87,6 @@ fn run<R: Threads + Wait + AllocGlobal + Clock + CpuClock + Print + Input + Sync
         "session" => sessions::run(rt),
         "shared" => shared::run(rt),
         "timers" => timers::run(rt),
-        "tokens" => tokens::run(rt),
         _ => usage(rt),
     }
 }

@@ -122,21 +122,25 @@ fn enters(alloc: Global, threads: u32) -> anyhow::Result<Vec<Timed<Enters>>>
     Ok(loads)
 }
 
-fn takes(alloc: Global, threads: u32) -> anyhow::Result<Vec<Timed<Takes>>>
+fn takes(alloc: Global, threads: u32, tokens: u64) -> anyhow::Result<Vec<Timed<Takes>>>
     requires { (1 ≤ threads) × (threads ≤ 4) }
 {
     let (bucket, mut seats, mut put) = Bucket::new(alloc, TOKENS, threads).map_err(|_| anyhow!(
         "no memory"
     ))?;
     ensure!(
-        bucket.put(&mut put, TOKENS) == TOKENS,
+        bucket.put(&mut put, tokens) == tokens,
         "the tokens weren't put"
     );
     let bucket = Arc::new(alloc, bucket)?;
     let mut loads = Vec::new(alloc);
     while let Some(seat) = seats.take_one() {
         let bucket = Arc::try_clone(&bucket)?;
-        loads.push(unmeasured(Takes { bucket, seat }))?;
+        loads.push(unmeasured(Takes {
+            bucket,
+            seat,
+            has_tokens: tokens > 0,
+        }))?;
     }
     Ok(loads)
 }
@@ -208,34 +212,52 @@ fn states<R: Threads + Wait + AllocGlobal + CpuClock + Sync>(
     Ok((quiet?, loud?))
 }
 
-fn time_fetches<R: Threads + Wait + AllocGlobal + CpuClock + Sync>(
+// The figure of these loads.
+fn time<R: Threads + Wait + AllocGlobal + CpuClock + Sync, L: Load + Send + Drop>(
     rt: &R,
-    threads: u32,
-) -> anyhow::Result<(u64, u64)> {
-    let mut once = fetches(rt.alloc(), threads)?;
-    let once = best(rt, once.as_mut_slice())?;
-    let mut twice = fetch_pairs(rt.alloc(), threads)?;
-    Ok((once, best(rt, twice.as_mut_slice())?))
-}
-
-fn time_takes<R: Threads + Wait + AllocGlobal + CpuClock + Sync>(
-    rt: &R,
-    threads: u32,
-) -> anyhow::Result<u64>
-    requires { (1 ≤ threads) × (threads ≤ 4) }
-{
-    let mut loads = takes(rt.alloc(), threads)?;
+    loads: Vec<Timed<L>>,
+) -> anyhow::Result<u64> {
+    let mut loads = loads;
     best(rt, loads.as_mut_slice())
 }
 
-fn time_enters<R: Threads + Wait + AllocGlobal + CpuClock + Sync>(
+fn report_tokens<R: Threads + Wait + AllocGlobal + CpuClock + Print + Sync>(
     rt: &R,
     threads: u32,
-) -> anyhow::Result<u64>
+) -> anyhow::Result<()>
     requires { (1 ≤ threads) × (threads ≤ 4) }
 {
-    let mut loads = enters(rt.alloc(), threads)?;
-    best(rt, loads.as_mut_slice())
+    let fetched = time(rt, fetches(rt.alloc(), threads)?)?;
+    tell(rt, threads, "a bare fetch", fetched)?;
+    let taken = time(rt, takes(rt.alloc(), threads, TOKENS)?)?;
+    tell(rt, threads, "a take", taken)?;
+    let refused = time(rt, takes(rt.alloc(), threads, 0)?)?;
+    tell(rt, threads, "a refused take", refused)
+}
+
+fn report_permits<R: Threads + Wait + AllocGlobal + CpuClock + Print + Sync>(
+    rt: &R,
+    threads: u32,
+) -> anyhow::Result<()>
+    requires { (1 ≤ threads) × (threads ≤ 4) }
+{
+    let fetched = time(rt, fetch_pairs(rt.alloc(), threads)?)?;
+    tell(rt, threads, "two bare fetches", fetched)?;
+    let entered = time(rt, enters(rt.alloc(), threads)?)?;
+    tell(rt, threads, "enter and leave", entered)
+}
+
+fn report_states<R: Threads + Wait + AllocGlobal + CpuClock + Print + Sync>(
+    rt: &R,
+    config: &Config,
+    threads: u32,
+) -> anyhow::Result<()>
+    requires threads { 1 ≤ threads }
+    requires resources { length config.now.overload.resources ≡ 2 }
+{
+    let (quiet, loud) = states(rt, config, threads)?;
+    tell(rt, threads, "current with nothing new", quiet)?;
+    tell(rt, threads, "current beside a publisher", loud)
 }
 
 fn report<R: Threads + Wait + AllocGlobal + CpuClock + Print + Sync>(
@@ -246,16 +268,9 @@ fn report<R: Threads + Wait + AllocGlobal + CpuClock + Print + Sync>(
     requires threads { (1 ≤ threads) × (threads ≤ 4) }
     requires resources { length config.now.overload.resources ≡ 2 }
 {
-    let (fetched, fetched_twice) = time_fetches(rt, threads)?;
-    let taken = time_takes(rt, threads)?;
-    let entered = time_enters(rt, threads)?;
-    let (quiet, loud) = states(rt, config, threads)?;
-    tell(rt, threads, "a bare fetch", fetched)?;
-    tell(rt, threads, "a take", taken)?;
-    tell(rt, threads, "two bare fetches", fetched_twice)?;
-    tell(rt, threads, "enter and leave", entered)?;
-    tell(rt, threads, "current with nothing new", quiet)?;
-    tell(rt, threads, "current beside a publisher", loud)
+    report_tokens(rt, threads)?;
+    report_permits(rt, threads)?;
+    report_states(rt, config, threads)
 }
 
 // Prints what a call takes, in nanoseconds with one place behind the point.
