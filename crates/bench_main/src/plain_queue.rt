@@ -83,49 +83,32 @@ fn empty_plain<R: Wait>(rt: &R, alloc: Global, queue: &SegQueue<Post>, by: Empty
     }
 }
 
-/// One poster beside a thread that empties the queue. The sum of the numbers of what came through.
-pub fn plain_turn_of_one<R: Threads + Wait + Sync>(
+// Each poster in a thread of its own.
+fn fill_all<R: Threads + Wait + Sync>(rt: &R, queue: &SegQueue<Post>, posters: &mut [u32], n: u32) {
+    let threads = posters.len().max(1);
+    thread::for_each_mut(
+        rt,
+        posters,
+        threads,
+        &|_, poster: &mut u32| { fill_plain(rt, queue, *poster, n) },
+    );
+}
+
+/// So many posters beside a thread that empties the queue. The sum of the numbers of what came through.
+pub fn plain_turn<R: Threads + Wait + Sync>(
     rt: &R,
     alloc: Global,
+    posters: u32,
     by: Emptying,
 ) -> anyhow::Result<u64> {
     let queue = SegQueue::new(alloc)?;
     let queue = &queue;
+    let mut numbers = vec![in alloc; 0u32; posters as usize]?;
+    let numbers = numbers.as_mut_slice();
+    let n = POSTS / posters.max(1);
     let (_, sum) = thread::join(
         rt,
-        move || fill_plain(rt, queue, 0, POSTS),
-        move || empty_plain(rt, alloc, queue, by),
-    );
-    Ok(sum)
-}
-
-fn fill_plain_by_three<R: Threads + Wait + Sync>(rt: &R, queue: &SegQueue<Post>) {
-    thread::join(
-        rt,
-        move || fill_plain(rt, queue, 0, POSTS / 3),
-        move || fill_plain_by_two(rt, queue),
-    );
-}
-
-fn fill_plain_by_two<R: Threads + Wait + Sync>(rt: &R, queue: &SegQueue<Post>) {
-    thread::join(
-        rt,
-        move || fill_plain(rt, queue, 1, POSTS / 3),
-        move || fill_plain(rt, queue, 2, POSTS / 3),
-    );
-}
-
-/// Three posters beside a thread that empties the queue.
-pub fn plain_turn_of_three<R: Threads + Wait + Sync>(
-    rt: &R,
-    alloc: Global,
-    by: Emptying,
-) -> anyhow::Result<u64> {
-    let queue = SegQueue::new(alloc)?;
-    let queue = &queue;
-    let (_, sum) = thread::join(
-        rt,
-        move || fill_plain_by_three(rt, queue),
+        move || fill_all(rt, queue, numbers, n),
         move || empty_plain(rt, alloc, queue, by),
     );
     Ok(sum)

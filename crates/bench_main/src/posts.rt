@@ -1,17 +1,17 @@
 // How many posts a second go from posters to a runner that drains beside them, and how many values a second go through a
 // queue without a rule in the same way: on as many threads, carrying the same, and taken out in lists as long as those
 // of a drain, whose memory is taken first. Beside that stands the same queue emptied by bare pops.
-ghost use Rattle.std.specs.Prelude.{All, IfOk};
+ghost use Rattle.std.specs.Prelude.{◌≤◌, All, IfOk};
 ghost use Rattle.std.specs.Thread.{IsSync};
 ghost use Rattle.post_queue.specs.Clauses.{IsPosterOf, IsRunnerOf, passes_in};
 
 use crate::line::Line;
-use crate::plain_queue::{Emptying, plain_turn_of_one, plain_turn_of_three};
+use crate::plain_queue::{Emptying, plain_turn};
 use crate::stopwatch::{Stopwatch, per_second};
 use anyhow::{bail, ensure};
 use flow_notes::Job;
 use post_queue::{Post, PostBox, PosterPass, PosterPasses, RunnerPass};
-use std::alloc::Global;
+use std::alloc::{AllocError, Global};
 use std::rt::Clock;
 use std::sync::Wait;
 use std::thread;
@@ -26,7 +26,7 @@ const ROUNDS: usize = 21;
 /// How often the runner looks for posts in a turn, at most.
 pub const LOOKS: u64 = 1_000_000_000;
 
-/// How values go from one thread to another.
+/// How values go from some threads to another.
 #[derive(Clone, Copy)]
 enum Way {
     /// By `post` and `drain`.
@@ -37,28 +37,12 @@ enum Way {
     PlainPops,
 }
 
-/// How many threads post.
-#[derive(Clone, Copy)]
-enum Posters {
-    One,
-    Three,
-}
-
-impl Posters {
-    fn name(self) -> &'static str {
-        match self {
-            Posters::One => "one poster",
-            Posters::Three => "three posters",
-        }
-    }
-}
-
 // Posts so many jobs.
-fn fill<R: Wait>(rt: &R, posts: &PostBox, mut pass: PosterPass, n: u32)
-    requires { IsPosterOf posts.now pass }
+fn fill<R: Wait>(rt: &R, posts: &PostBox, pass: &mut PosterPass, n: u32)
+    requires { IsPosterOf posts.now pass.old }
 {
     for _ in 0..n {
-        if posts.post(rt, &mut pass, Job::Look).is_err() {
+        if posts.post(rt, pass, Job::Look).is_err() {
             return;
         }
     }
@@ -92,114 +76,65 @@ pub fn add_all(sum: u64, posts: &[Post]) -> u64 {
     sum
 }
 
-fn fill_by_two<R: Threads + Wait + Sync>(
-    rt: &R,
-    posts: &PostBox,
-    a: PosterPass,
-    b: PosterPass,
-    n: u32,
-)
-    requires { IsPosterOf posts.now a × IsPosterOf posts.now b }
+// Each poster posts so many, in a thread of its own.
+fn fill_all<R: Threads + Wait + Sync>(rt: &R, posts: &PostBox, passes: &mut [PosterPass], n: u32)
+    requires { All (IsPosterOf posts.now) passes.old }
 {
-    thread::join(
+    let threads = passes.len().max(1);
+    thread::for_each_mut(
         rt,
-        move || -> ()
-            requires { IsSync R.row × IsPosterOf posts.now a }
-        { fill(rt, posts, a, n) },
-        move || -> ()
-            requires { IsSync R.row × IsPosterOf posts.now b }
-        { fill(rt, posts, b, n) },
+        passes,
+        threads,
+        &|_, pass: &mut PosterPass|
+            requires { IsPosterOf posts.now pass.old }
+        { fill(rt, posts, pass, n) },
     );
 }
 
-fn fill_by_three<R: Threads + Wait + Sync>(
-    rt: &R,
-    posts: &PostBox,
-    a: PosterPass,
-    b: PosterPass,
-    c: PosterPass,
-)
-    requires { IsPosterOf posts.now a × IsPosterOf posts.now b × IsPosterOf posts.now c }
+// The passes of all posters.
+fn hire(alloc: Global, posts: &PostBox, passes: PosterPasses) -> Result<Vec<PosterPass>, AllocError>
+    requires { All (IsPosterOf posts.now) (passes_in passes) }
+    ensures { IfOk result (λ v. All (IsPosterOf posts.now) v.items) }
 {
-    thread::join(
-        rt,
-        move || -> ()
-            requires { IsSync R.row × IsPosterOf posts.now a }
-        { fill(rt, posts, a, POSTS / 3) },
-        move || -> ()
-            requires { IsSync R.row × IsPosterOf posts.now b × IsPosterOf posts.now c }
-        { fill_by_two(rt, posts, b, c, POSTS / 3) },
-    );
-}
-
-fn take(posts: &PostBox, passes: &mut PosterPasses) -> anyhow::Result<PosterPass>
-    requires { All (IsPosterOf posts.now) (passes_in passes.old) }
-    ensures one { IfOk result (IsPosterOf posts.now) }
-    ensures rest { All (IsPosterOf posts.now) (passes_in passes.new) }
-{
-    match passes.take_one() {
-        Some(pass) => Ok(pass),
-        None => bail!("no pass"),
+    let mut passes = passes;
+    let mut posters = Vec::new(alloc);
+    while let Some(pass) = passes.take_one() {
+        posters.push(pass)?;
     }
+    Ok(posters)
 }
 
-// One poster beside the runner.
-fn turn_of_one<R: Threads + Wait + Sync>(rt: &R, alloc: Global) -> anyhow::Result<u64> {
-    let Ok((posts, mut passes, runner)) = PostBox::new(alloc, 1) else {
+// So many posters beside the runner.
+fn turn_of_posts<R: Threads + Wait + Sync>(
+    rt: &R,
+    alloc: Global,
+    posters: u32,
+) -> anyhow::Result<u64>
+    requires { 1 ≤ posters }
+{
+    let Ok((posts, passes, runner)) = PostBox::new(alloc, posters) else {
         bail!("no memory");
     };
-    let a = take(&posts, &mut passes)?;
-    Ok(exchange_by_one(rt, alloc, &posts, a, runner))
+    let mut passes = hire(alloc, &posts, passes)?;
+    let n = POSTS / posters.max(1);
+    Ok(exchange(rt, alloc, &posts, passes.as_mut_slice(), n, runner))
 }
 
-fn exchange_by_one<R: Threads + Wait + Sync>(
+fn exchange<R: Threads + Wait + Sync>(
     rt: &R,
     alloc: Global,
     posts: &PostBox,
-    a: PosterPass,
+    passes: &mut [PosterPass],
+    n: u32,
     runner: RunnerPass,
 ) -> u64
-    requires { IsPosterOf posts.now a × IsRunnerOf posts.now runner }
+    requires { All (IsPosterOf posts.now) passes.old × IsRunnerOf posts.now runner }
 {
     thread::join(
         rt,
         move || -> ()
-            requires { IsSync R.row × IsPosterOf posts.now a }
-        { fill(rt, posts, a, POSTS) },
-        move || -> u64
-            requires { IsSync R.row × IsRunnerOf posts.now runner }
-        { empty(rt, alloc, posts, runner) },
-    )
-    .1
-}
-
-// Three posters beside the runner.
-fn turn_of_three<R: Threads + Wait + Sync>(rt: &R, alloc: Global) -> anyhow::Result<u64> {
-    let Ok((posts, mut passes, runner)) = PostBox::new(alloc, 3) else {
-        bail!("no memory");
-    };
-    let c = take(&posts, &mut passes)?;
-    let b = take(&posts, &mut passes)?;
-    let a = take(&posts, &mut passes)?;
-    Ok(exchange_by_three(rt, alloc, &posts, a, b, c, runner))
-}
-
-fn exchange_by_three<R: Threads + Wait + Sync>(
-    rt: &R,
-    alloc: Global,
-    posts: &PostBox,
-    a: PosterPass,
-    b: PosterPass,
-    c: PosterPass,
-    runner: RunnerPass,
-) -> u64
-    requires { IsPosterOf posts.now a × IsPosterOf posts.now b × IsPosterOf posts.now c × IsRunnerOf posts.now runner }
-{
-    thread::join(
-        rt,
-        move || -> ()
-            requires { IsSync R.row × IsPosterOf posts.now a × IsPosterOf posts.now b × IsPosterOf posts.now c }
-        { fill_by_three(rt, posts, a, b, c) },
+            requires { IsSync R.row × All (IsPosterOf posts.now) passes.now }
+        { fill_all(rt, posts, passes, n) },
         move || -> u64
             requires { IsSync R.row × IsRunnerOf posts.now runner }
         { empty(rt, alloc, posts, runner) },
@@ -210,34 +145,36 @@ fn exchange_by_three<R: Threads + Wait + Sync>(
 fn turn(
     rt: &(impl AllocGlobal + Threads + Wait + Sync),
     way: Way,
-    posters: Posters,
-) -> anyhow::Result<u64> {
-    let alloc = rt.alloc();
-    match (way, posters) {
-        (Way::Posts, Posters::One) => turn_of_one(rt, alloc),
-        (Way::Posts, Posters::Three) => turn_of_three(rt, alloc),
-        (Way::PlainLists, Posters::One) => plain_turn_of_one(rt, alloc, Emptying::InLists),
-        (Way::PlainLists, Posters::Three) => plain_turn_of_three(rt, alloc, Emptying::InLists),
-        (Way::PlainPops, Posters::One) => plain_turn_of_one(rt, alloc, Emptying::ByPops),
-        (Way::PlainPops, Posters::Three) => plain_turn_of_three(rt, alloc, Emptying::ByPops),
+    posters: u32,
+) -> anyhow::Result<u64>
+    requires { 1 ≤ posters }
+{
+    match way {
+        Way::Posts => turn_of_posts(rt, rt.alloc(), posters),
+        Way::PlainLists => plain_turn(rt, rt.alloc(), posters, Emptying::InLists),
+        Way::PlainPops => plain_turn(rt, rt.alloc(), posters, Emptying::ByPops),
     }
+}
+
+// The sum of the numbers of all posts of so many posters, of which each counts from 0.
+fn sum_of(posters: u32) -> u64 {
+    let each = u64::from(POSTS / posters.max(1));
+    let sum = each.saturating_mul(each.saturating_sub(1)) / 2;
+    sum.saturating_mul(u64::from(posters))
 }
 
 // The nanoseconds of one turn, in which each value came through.
 fn timed(
     rt: &(impl Clock + AllocGlobal + Threads + Wait + Sync),
     way: Way,
-    posters: Posters,
-) -> anyhow::Result<u64> {
-    let count: u64 = match posters {
-        Posters::One => 1,
-        Posters::Three => 3,
-    };
-    let each = u64::from(POSTS) / count;
+    posters: u32,
+) -> anyhow::Result<u64>
+    requires { 1 ≤ posters }
+{
     let watch = Stopwatch::start(rt)?;
     let sum = turn(rt, way, posters)?;
     let nanos = watch.nanos(rt)?;
-    ensure!(sum == count * (each * (each - 1) / 2), "a post was lost");
+    ensure!(sum == sum_of(posters), "a post was lost");
     Ok(nanos)
 }
 
@@ -253,8 +190,11 @@ fn percent(part: u64, whole: u64) -> u64 {
 
 fn report(
     rt: &(impl Print + Clock + AllocGlobal + Threads + Wait + Sync),
-    posters: Posters,
-) -> anyhow::Result<()> {
+    name: &str,
+    posters: u32,
+) -> anyhow::Result<()>
+    requires { 1 ≤ posters }
+{
     let mut posts = [0; ROUNDS];
     let mut lists = [0; ROUNDS];
     let mut pops = [0; ROUNDS];
@@ -265,7 +205,7 @@ fn report(
     }
     tell_rates(
         rt,
-        posters.name(),
+        name,
         median_rate(posts),
         median_rate(lists),
         median_rate(pops),
@@ -293,6 +233,6 @@ fn tell_rates(
 
 /// Posts of one poster, and of three.
 pub fn run(rt: &(impl Print + Clock + AllocGlobal + Threads + Wait + Sync)) -> anyhow::Result<()> {
-    report(rt, Posters::One)?;
-    report(rt, Posters::Three)
+    report(rt, "one poster", 1)?;
+    report(rt, "three posters", 3)
 }
