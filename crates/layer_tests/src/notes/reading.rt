@@ -1,6 +1,6 @@
 // Lines that are read and written again, and lines that are no spelling.
 use super::some_names;
-use crate::said::{holds, holds_in, same};
+use crate::said::{holds_in, same};
 use flow_notes::{Names, event_text, note_text, read_event, read_note, read_numbers};
 use io_ports::{NoMemory, Octets};
 use std::alloc::AllocGlobal;
@@ -272,32 +272,39 @@ fn plain_events_are_read(rt: HostRuntime) -> Result<(), NoMemory> {
     events_of_lines(&rt, PLAIN, NO_PLAIN, true)
 }
 
+const NO_NUMBERS: [&str; 6] = [
+    "limit 1",
+    "limits ",
+    "limits1",
+    "limits 1 ",
+    "limits  1",
+    "limits 4294967296",
+];
+
+fn same_numbers(
+    rt: &(impl AllocGlobal + Abort),
+    line: &str,
+    wanted: &[u32],
+) -> Result<(), NoMemory> {
+    match read_numbers(rt.alloc(), b"limits", line.as_bytes())? {
+        Some(numbers) => same(rt, &numbers.as_slice(), &wanted),
+        None => holds_in(rt, &line, false),
+    }
+    Ok(())
+}
+
+fn no_numbers(rt: &(impl AllocGlobal + Abort), line: &str) -> Result<(), NoMemory> {
+    let read = read_numbers(rt.alloc(), b"limits", line.as_bytes())?;
+    holds_in(rt, &line, read.is_none());
+    Ok(())
+}
+
 #[test]
 fn numbers_are_read(rt: HostRuntime) -> Result<(), NoMemory> {
-    let alloc = rt.alloc();
-    let Some(numbers) = read_numbers(alloc, b"limits", b"limits 65535 0 4294967295")? else {
-        holds(&rt, false);
-        return Ok(());
-    };
-    same(&rt, &numbers.as_slice(), &[65535, 0, 4294967295].as_slice());
-    let Some(numbers) = read_numbers(alloc, b"limits", b"limits")? else {
-        holds(&rt, false);
-        return Ok(());
-    };
-    holds(&rt, numbers.is_empty());
-    for line in [
-        "limit 1",
-        "limits ",
-        "limits1",
-        "limits 1 ",
-        "limits  1",
-        "limits 4294967296",
-    ] {
-        holds_in(
-            &rt,
-            &line,
-            read_numbers(alloc, b"limits", line.as_bytes())?.is_none(),
-        );
+    same_numbers(&rt, "limits 65535 0 4294967295", &[65535, 0, 4294967295])?;
+    same_numbers(&rt, "limits", &[])?;
+    for line in NO_NUMBERS {
+        no_numbers(&rt, line)?;
     }
     Ok(())
 }
