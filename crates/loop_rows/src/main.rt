@@ -79,18 +79,22 @@ enum Asked {
 
 fn main(rt: HostRuntime) -> anyhow::Result<()> {
     match asked(&rt)? {
-        Asked::Bench { name, one, two } => return bench::run(&rt, name.as_str(), one, two),
+        Asked::Bench { name, one, two } => bench::run(&rt, name.as_str(), one, two),
         Asked::Replay => {
             println!(rt; "## h2replay with this program's words")?;
             replay_words(&rt, io::empty(), rt.stdout());
+            show_cases(&rt)
         }
-        Asked::Cases => {}
+        Asked::Cases => show_cases(&rt),
     }
+}
+
+fn show_cases(rt: &HostRuntime) -> anyhow::Result<()> {
     let mut text = Vec::new(rt.alloc());
     rt.reader().read_to_end(&mut text)?;
     let text = std::str::from_utf8(text.as_slice()).unwrap_or("");
     for case in text.split("## ").skip(1) {
-        show_case(&rt, case)?;
+        show_case(rt, case)?;
     }
     Ok(())
 }

@@ -70,6 +70,10 @@ pub fn idle(rt: &(impl AllocGlobal + Print + CpuClock), count: u32) -> anyhow::R
         few = few.min(beside(rt, FEW)? / u64::from(EXCHANGES));
         many = many.min(beside(rt, count)? / u64::from(EXCHANGES));
     }
+    report_idle(rt, count, few, many)
+}
+
+fn report_idle(rt: &impl Print, count: u32, few: u64, many: u64) -> anyhow::Result<()> {
     let times = tenths(many.saturating_mul(10), few);
     println!(rt;
         "beside {FEW} idle connections and exchanges: {few} ns an exchange; beside {count}: {many} ns, {} hundredths",

@@ -206,13 +206,14 @@ fn report(
     println!(rt;
         "drill {STREAMS}: {events} events with {octets} octets in {drill} ns, {a_second} events a second"
     )?;
+    compare(rt, drill, "the same bodies through two buffers", bodies)?;
+    compare(rt, drill, "as many octets in pieces of 16384", pieces)
+}
+
+fn compare(rt: &impl Print, drill: u64, what: &str, nanos: u64) -> anyhow::Result<()> {
     println!(rt;
-        "the same bodies through two buffers: {bodies} ns, the drill takes {} times that",
-        drill / bodies.max(1)
-    )?;
-    println!(rt;
-        "as many octets in pieces of {PIECE}: {pieces} ns, the drill takes {} times that",
-        drill / pieces.max(1)
+        "{what}: {nanos} ns, the drill takes {} times that",
+        drill / nanos.max(1)
     )?;
     Ok(())
 }

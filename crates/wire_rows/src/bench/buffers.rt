@@ -140,8 +140,18 @@ pub fn run(rt: &(impl AllocGlobal + Print + CpuClock)) -> anyhow::Result<()> {
     let Ok(mut moving) = Moving::new(rt.alloc()) else {
         bail!("out of memory");
     };
+    let end = beside(rt, &mut moving, piece.as_slice());
+    drop(moving);
+    end
+}
+
+fn beside(
+    rt: &(impl AllocGlobal + Print + CpuClock),
+    moving: &mut Moving,
+    piece: &[u8],
+) -> anyhow::Result<()> {
     let mut copying = Copying::new(rt.alloc())?;
-    take_turns(rt, &mut moving, &mut copying, piece.as_slice())?;
+    take_turns(rt, moving, &mut copying, piece)?;
     report(rt, moving.nanos, copying.nanos)
 }
 

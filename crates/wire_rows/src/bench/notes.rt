@@ -45,14 +45,20 @@ fn small_lines(alloc: Global) -> Result<Vec<Octets>, NoMemory> {
     Ok(lines)
 }
 
-// A line of 16,384 octets that follow no pattern.
-fn body_line(alloc: Global) -> Result<Vec<Octets>, NoMemory> {
+// Octets that follow no pattern.
+fn body_of(alloc: Global) -> Result<Octets, NoMemory> {
     let mut body = Octets::new(alloc);
     let mut x: u32 = 1;
     for _ in 0..BODY {
         x = x.wrapping_mul(1_103_515_245).wrapping_add(12_345);
         body.push_all(&x.to_be_bytes()[1..2])?;
     }
+    Ok(body)
+}
+
+// A line of 16,384 such octets.
+fn body_line(alloc: Global) -> Result<Vec<Octets>, NoMemory> {
+    let body = body_of(alloc)?;
     let mut line = Octets::from_slice(alloc, b"in 1q ")?;
     line.push_all(hex::encode(alloc, body.as_slice())?.as_bytes())?;
     let mut lines = Vec::new(alloc);
@@ -74,27 +80,26 @@ fn write_lines(
     alloc: Global,
     lines: &[Octets],
     copies: u32,
+    names: &Names,
     into: &mut Octets,
 ) -> Result<(), NoMemory> {
-    let names = Names::new(alloc);
     for line in lines {
-        if let Some(note) = read_note(alloc, line.as_slice(), &names)? {
-            write_copies(&note, copies, &names, into)?;
+        if let Some(note) = read_note(alloc, line.as_slice(), names)? {
+            write_copies(&note, copies, names, into)?;
         }
     }
     Ok(())
 }
 
 // Reads each line, and answers how many are notes.
-fn read_lines(alloc: Global, text: &[u8]) -> Result<u64, NoMemory> {
-    let names = Names::new(alloc);
+fn read_lines(alloc: Global, text: &[u8], names: &Names) -> Result<u64, NoMemory> {
     let mut notes: u64 = 0;
     let mut start: usize = 0;
     for end in memchr_iter(b'\n', text) {
         let Some(line) = text.get(start..end) else {
             break;
         };
-        if read_note(alloc, line, &names)?.is_some() {
+        if read_note(alloc, line, names)?.is_some() {
             notes = notes.wrapping_add(1);
         }
         start = end.wrapping_add(1);
@@ -107,20 +112,25 @@ fn time_writing(
     rt: &(impl CpuClock + AllocGlobal),
     lines: &[Octets],
     copies: u32,
+    names: &Names,
     text: &mut Octets,
 ) -> anyhow::Result<u64> {
     text.clear();
     let watch = CpuStopwatch::start(rt)?;
-    if write_lines(rt.alloc(), lines, copies, text).is_err() {
+    if write_lines(rt.alloc(), lines, copies, names, text).is_err() {
         bail!("no memory");
     }
     Ok(per_second(text.len() as u64, watch.nanos(rt)?))
 }
 
 // How many notes a text has, and octets a second of reading them.
-fn time_reading(rt: &(impl CpuClock + AllocGlobal), text: &[u8]) -> anyhow::Result<(u64, u64)> {
+fn time_reading(
+    rt: &(impl CpuClock + AllocGlobal),
+    text: &[u8],
+    names: &Names,
+) -> anyhow::Result<(u64, u64)> {
     let watch = CpuStopwatch::start(rt)?;
-    let Ok(notes) = read_lines(rt.alloc(), text) else {
+    let Ok(notes) = read_lines(rt.alloc(), text, names) else {
         bail!("no memory");
     };
     Ok((notes, per_second(text.len() as u64, watch.nanos(rt)?)))
@@ -150,12 +160,13 @@ fn report(
     lines: &[Octets],
     copies: u32,
 ) -> anyhow::Result<()> {
+    let names = Names::new(rt.alloc());
     let mut text = Octets::new(rt.alloc());
     // The first run makes the room that the one measured writes into.
-    if write_lines(rt.alloc(), lines, copies, &mut text).is_err() {
+    if write_lines(rt.alloc(), lines, copies, &names, &mut text).is_err() {
         bail!("no memory");
     }
-    report_on(rt, name, lines, copies, &mut text)
+    report_on(rt, name, lines, copies, &names, &mut text)
 }
 
 fn report_on(
@@ -163,10 +174,11 @@ fn report_on(
     name: &str,
     lines: &[Octets],
     copies: u32,
+    names: &Names,
     text: &mut Octets,
 ) -> anyhow::Result<()> {
-    let written = time_writing(rt, lines, copies, text)?;
-    let (notes, read) = time_reading(rt, text.as_slice())?;
+    let written = time_writing(rt, lines, copies, names, text)?;
+    let (notes, read) = time_reading(rt, text.as_slice(), names)?;
     let copied = time_copying(rt, text.as_slice())?;
     let mut line = Line::new(rt.alloc());
     line.say("notes: ");

@@ -10,6 +10,7 @@ use link_lists::Steps;
 use scaled_timer::{Timer, TimerKind, Timers};
 use std::alloc::Global;
 use std::collections::VecDeque;
+use std::io;
 use std::marker::Brand;
 use std::sync::ledger::{Blank, Ledger};
 use std::time::CpuClock;
@@ -162,6 +163,11 @@ fn turn_all<L: Ledger>(
     all
 }
 
+// The nanoseconds since a start.
+fn since(rt: &impl CpuClock, watch: io::Result<CpuStopwatch>) -> io::Result<u64> {
+    watch?.nanos(rt)
+}
+
 /// Arms so many timers from none, and takes them back. The nanoseconds that the arming took.
 fn arm_round<L: Ledger>(
     rt: &(impl AllocGlobal + CpuClock),
@@ -176,8 +182,9 @@ fn arm_round<L: Ledger>(
     let mut held = none_held(rt.alloc(), &timers);
     let watch = CpuStopwatch::start(rt);
     let filled = fill(&mut timers, &mut held, count, steps);
-    let spent = watch.and_then(|watch| watch.nanos(rt));
+    let spent = since(rt, watch);
     give_back(&mut timers, held, steps);
+    drop(timers);
     ensure!(filled, "out of memory");
     Ok(spent?)
 }
@@ -225,10 +232,10 @@ fn time_both<L: Ledger>(
     let filled = fill(timers, held, count, steps);
     let watch = CpuStopwatch::start(rt);
     let moved = move_all(timers, held, count, steps);
-    let moving = watch.and_then(|watch| watch.nanos(rt));
+    let moving = since(rt, watch);
     let watch = CpuStopwatch::start(rt);
     let fired = turn_all(timers, held, count + CALLS, steps);
-    let turning = watch.and_then(|watch| watch.nanos(rt));
+    let turning = since(rt, watch);
     ensure!(filled && moved, "out of memory");
     ensure!(fired == CALLS, "{fired} timers fired");
     Ok((moving? / CALLS, turning? / CALLS))
