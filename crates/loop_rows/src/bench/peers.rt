@@ -65,7 +65,8 @@ impl Peers {
     /// A connection to the first cluster comes.
     pub fn cluster(&mut self, conn: u32, eager: bool) -> Result<(), NoMemory> {
         self.events.push(Event::Join { conn, cluster: 0 })?;
-        self.begin(conn, Wire::new(self.alloc), eager)
+        let wire = Wire::new(self.alloc);
+        self.begin(conn, wire, eager)
     }
 
     fn begin(&mut self, conn: u32, mut wire: Wire, eager: bool) -> Result<(), NoMemory> {
