@@ -2,4 +2,3 @@ mod Fitting
 pub mod Spelled
 mod Started
 mod Starting
-mod Ticking

@@ -54,9 +54,14 @@ impl Peers {
         self.events.push(Event::Room { conn, n: WIDE })
     }
 
+    /// A client's connection comes, which sends nothing yet.
+    pub fn accept(&mut self, conn: u32) -> Result<(), NoMemory> {
+        self.events.push(Event::Accept { conn })
+    }
+
     /// A client comes. Where it is eager it lets all come on its streams, and else nothing.
     pub fn client(&mut self, conn: u32, eager: bool) -> Result<(), NoMemory> {
-        self.events.push(Event::Accept { conn })?;
+        self.accept(conn)?;
         let mut wire = Wire::new(self.alloc);
         wire.preface()?;
         self.begin(conn, wire, eager)

@@ -2,16 +2,20 @@
 ghost use Rattle.loop_rows.specs.Workers.{IsFresh, IsReady, MayRun};
 ghost use Rattle.mem_ports.specs.Memory.{seen_of};
 ghost use Rattle.proxy_config.specs.Ranges.{IsInRange};
-ghost use Rattle.std.specs.Prelude.{◌≡◌, OnOk, true};
+ghost use Rattle.std.specs.Prelude.{◌≡◌, true};
 ghost use Rattle.worker_core.specs.Sessions.{RestsWire};
 ghost use Rattle.worker_loop.specs.Keeping.{Holds};
 
+use crate::bench::peers::Peers;
+use crate::bench::rig::{cost_behind, no_memory};
 use crate::bench::stage::Stage;
 use crate::bench::stopwatch::CpuStopwatch;
-use anyhow::anyhow;
-use flow_notes::{Event, Names, Notes};
+use anyhow::{anyhow, ensure};
+use flow_notes::Names;
+use io_ports::NoMemory;
 use proxy_config::Config;
 use session_config::names_of;
+use std::alloc::Global;
 use std::sync::Wait;
 use std::time::CpuClock;
 use worker_core::Core;
@@ -33,18 +37,20 @@ pub fn run<R: Print + AllocGlobal + Wait + CpuClock>(rt: &R) -> anyhow::Result<(
 }
 
 fn begin<R: Print + AllocGlobal + Wait + CpuClock>(rt: &R, clients: u32) -> anyhow::Result<()> {
-    match Config::of_defaults(rt.alloc()) {
-        Ok(config) => with_config(rt, config, clients),
-        Err(_) => Err(anyhow!("out of memory")),
-    }
+    let turn = match Config::of_defaults(rt.alloc()) {
+        Ok(config) => with_config(rt, config, clients)?,
+        Err(_) => return Err(anyhow!("out of memory")),
+    };
+    let tick = best_ticks(rt, clients)?;
+    print_nanos(rt, clients, turn, tick)
 }
 
 // A configuration, a stage and a core are dropped by a call, since the check follows a drop without one field by field.
-fn with_config<R: Print + AllocGlobal + Wait + CpuClock>(
+fn with_config<R: AllocGlobal + Wait + CpuClock>(
     rt: &R,
     config: Config,
     clients: u32,
-) -> anyhow::Result<()>
+) -> anyhow::Result<u64>
     requires { IsInRange config }
 {
     match names_of(rt.alloc(), &config) {
@@ -56,19 +62,19 @@ fn with_config<R: Print + AllocGlobal + Wait + CpuClock>(
     }
 }
 
-fn with_names<R: Print + AllocGlobal + Wait + CpuClock>(
+fn with_names<R: AllocGlobal + Wait + CpuClock>(
     rt: &R,
     config: Config,
     names: &Names,
     clients: u32,
-) -> anyhow::Result<()>
+) -> anyhow::Result<u64>
     requires { IsInRange config }
 {
     match Stage::new(rt, &config, names, clients) {
         Ok(mut stage) => {
-            let end = with_stage(rt, config, names, &mut stage, clients);
+            let turn = with_stage(rt, config, names, &mut stage, clients);
             drop(stage);
-            end
+            turn
         }
         Err(_) => {
             drop(config);
@@ -77,48 +83,49 @@ fn with_names<R: Print + AllocGlobal + Wait + CpuClock>(
     }
 }
 
-fn with_stage<R: Print + AllocGlobal + Wait + CpuClock>(
+fn with_stage<R: AllocGlobal + Wait + CpuClock>(
     rt: &R,
     config: Config,
     names: &Names,
     stage: &mut Stage,
     clients: u32,
-) -> anyhow::Result<()>
+) -> anyhow::Result<u64>
     requires range { IsInRange config }
     requires ready { IsReady stage.old.desk }
     requires fresh { IsFresh names.now (seen_of stage.old.wires) }
 {
     match Core::new(rt.alloc(), config) {
         Ok(mut core) => {
-            let end = report(rt, &mut core, names, stage, clients);
+            let turn = measure(rt, &mut core, names, stage, clients);
             drop(core);
-            end
+            turn
         }
         Err(_) => Err(anyhow!("out of memory")),
     }
 }
 
+// The nanoseconds of a turn, once the clients have come.
 #[tactic(auto, using(crate::proofs::Starting::may_start))]
-fn report<R: Print + AllocGlobal + Wait + CpuClock>(
+fn measure<R: AllocGlobal + Wait + CpuClock>(
     rt: &R,
     core: &mut Core,
     names: &Names,
     stage: &mut Stage,
     clients: u32,
-) -> anyhow::Result<()>
+) -> anyhow::Result<u64>
     requires core { RestsWire core.old.kind }
     requires ready { IsReady stage.old.desk }
     requires fresh { IsFresh names.now (seen_of stage.old.wires) }
 {
     let mut held = HeldPermits::new(rt.alloc());
     let turn = arrive(rt, core, names, stage, &mut held, clients);
-    let kept = held.len();
+    let kept = held.len() as u64;
     held.give_back(&stage.desk.permits, &mut stage.desk.seat);
-    let (turn, tick) = turn?;
-    print_nanos(rt, kept, turn, tick)
+    ensure!(kept == u64::from(clients), "{kept} clients have a permit");
+    Ok(turn? / u64::from(TURNS))
 }
 
-fn print_nanos<R: Print>(rt: &R, clients: usize, turn: u64, tick: u64) -> anyhow::Result<()> {
+fn print_nanos<R: Print>(rt: &R, clients: u32, turn: u64, tick: u64) -> anyhow::Result<()> {
     let beside = turn.saturating_sub(tick);
     println!(rt;
         "{clients} clients: a turn {turn} ns, its dispatch alone {tick} ns, beside it {beside} ns"
@@ -126,7 +133,7 @@ fn print_nanos<R: Print>(rt: &R, clients: usize, turn: u64, tick: u64) -> anyhow
     Ok(())
 }
 
-// The clients come, and then turns are measured, and dispatches: nanoseconds of one.
+// The clients come, and then turns are measured: the nanoseconds of the best round.
 fn arrive<R: AllocGlobal + Wait + CpuClock>(
     rt: &R,
     core: &mut Core,
@@ -134,16 +141,14 @@ fn arrive<R: AllocGlobal + Wait + CpuClock>(
     stage: &mut Stage,
     held: &mut HeldPermits,
     clients: u32,
-) -> anyhow::Result<(u64, u64)>
+) -> anyhow::Result<u64>
     requires { MayRun core.old names.now stage.old.desk held.old (seen_of stage.old.wires) }
     ensures { Holds stage.new.desk.permits stage.new.desk.seat held.new }
 {
     if !run_turns(rt, core, names, stage, held, clients) {
         return Err(anyhow!("the clients didn't come"));
     }
-    let turn = best_turns(rt, core, names, stage, held)?;
-    let tick = best_ticks(rt, core)?;
-    Ok((turn / u64::from(TURNS), tick / u64::from(TURNS)))
+    best_turns(rt, core, names, stage, held)
 }
 
 // Runs so many turns, and tells whether all were run.
@@ -193,66 +198,43 @@ fn best_turns<R: AllocGlobal + Wait + CpuClock>(
     held: &mut HeldPermits,
 ) -> anyhow::Result<u64>
     requires { MayRun core.old names.now stage.old.desk held.old (seen_of stage.old.wires) }
-    ensures holds { Holds stage.new.desk.permits stage.new.desk.seat held.new }
-    ensures may { OnOk result (MayRun core.new names.now stage.new.desk held.new (seen_of stage.new.wires)) }
+    ensures { Holds stage.new.desk.permits stage.new.desk.seat held.new }
 {
     let mut best = u64::MAX;
     for _round in 0..ROUNDS {
-        best = best.min(time_turns(rt, core, names, stage, held)?);
-    }
-    Ok(best)
-}
-
-fn time_turns<R: AllocGlobal + Wait + CpuClock>(
-    rt: &R,
-    core: &mut Core,
-    names: &Names,
-    stage: &mut Stage,
-    held: &mut HeldPermits,
-) -> anyhow::Result<u64>
-    requires { MayRun core.old names.now stage.old.desk held.old (seen_of stage.old.wires) }
-    ensures holds { Holds stage.new.desk.permits stage.new.desk.seat held.new }
-    ensures may { OnOk result (MayRun core.new names.now stage.new.desk held.new (seen_of stage.new.wires)) }
-{
-    let watch = CpuStopwatch::start(rt)?;
-    if !run_turns(rt, core, names, stage, held, TURNS) {
-        return Err(anyhow!("the work ended early"));
-    }
-    Ok(watch.nanos(rt)?)
-}
-
-// The nanoseconds of the best round of ticks, which are dispatched alone.
-fn best_ticks<R: AllocGlobal + CpuClock>(rt: &R, core: &mut Core) -> anyhow::Result<u64>
-    requires { RestsWire core.old.kind }
-{
-    let mut notes = Notes::new(rt.alloc());
-    let mut best = u64::MAX;
-    for _round in 0..ROUNDS {
-        best = best.min(time_ticks(rt, core, &mut notes)?);
-    }
-    Ok(best)
-}
-
-fn time_ticks<R: CpuClock>(rt: &R, core: &mut Core, notes: &mut Notes) -> anyhow::Result<u64>
-    requires { RestsWire core.old.kind }
-    ensures { OnOk result (RestsWire core.new.kind) }
-{
-    let watch = CpuStopwatch::start(rt)?;
-    if !run_ticks(core, notes) {
-        return Err(anyhow!("out of memory"));
-    }
-    Ok(watch.nanos(rt)?)
-}
-
-fn run_ticks(core: &mut Core, notes: &mut Notes) -> bool
-    requires { RestsWire core.old.kind }
-    ensures { result ≡ true → RestsWire core.new.kind }
-{
-    for _turn in 0..TURNS {
-        notes.clear();
-        if core.dispatch(&Event::Tick { now: 0 }, notes).is_err() {
-            return false;
+        let watch = CpuStopwatch::start(rt)?;
+        if !run_turns(rt, core, names, stage, held, TURNS) {
+            return Err(anyhow!("the work ended early"));
         }
+        best = best.min(watch.nanos(rt)?);
     }
-    true
+    Ok(best)
+}
+
+// The nanoseconds of a tick in the best round of ticks, which are dispatched alone on a core with as many clients.
+fn best_ticks<R: AllocGlobal + CpuClock>(rt: &R, clients: u32) -> anyhow::Result<u64> {
+    let before = accepts(rt.alloc(), clients).map_err(no_memory)?;
+    let ticks = ticks(rt.alloc()).map_err(no_memory)?;
+    let mut best = u64::MAX;
+    for _round in 0..ROUNDS {
+        best = best.min(cost_behind(rt, b"", &before, &ticks)?.nanos);
+    }
+    Ok(best / u64::from(TURNS))
+}
+
+fn accepts(alloc: Global, clients: u32) -> Result<Peers, NoMemory> {
+    let mut peers = Peers::new(alloc);
+    for client in 0..clients {
+        peers.accept(client.saturating_add(1))?;
+    }
+    Ok(peers)
+}
+
+// As many as a round has turns.
+fn ticks(alloc: Global) -> Result<Peers, NoMemory> {
+    let mut peers = Peers::new(alloc);
+    for _turn in 0..TURNS {
+        peers.tick(0)?;
+    }
+    Ok(peers)
 }
