@@ -6,9 +6,10 @@ ghost use Rattle.scaled_timer.specs.Timing.{AreHeld};
 use crate::said::{holds, same, same_in};
 use link_lists::Steps;
 use scaled_timer::{Fired, Timer, TimerKind, Timers};
-use std::alloc::Global;
+use std::alloc::{AllocGlobal, Global};
 use std::collections::VecDeque;
 use std::marker::Brand;
+use std::process::Abort;
 use std::sync::ledger::{Blank, Ledger};
 
 fn none_held(alloc: Global, timers: &Timers) -> VecDeque<Timer>
@@ -185,7 +186,7 @@ fn fired_of<L: Ledger>(alloc: Global, arms: &[(u32, u64, u64)], blank: Blank) ->
     if armed { fired } else { None }
 }
 
-fn fires(rt: &HostRuntime, arms: &[(u32, u64, u64)], wanted: &[Fired]) {
+fn fires(rt: &(impl AllocGlobal + Abort), arms: &[(u32, u64, u64)], wanted: &[Fired]) {
     let got = fired_of::<Brand>(rt.alloc(), arms, Blank::new(1));
     holds(rt, got.is_some());
     if let Some(fired) = got {

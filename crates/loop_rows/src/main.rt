@@ -89,7 +89,9 @@ fn main(rt: HostRuntime) -> anyhow::Result<()> {
     }
 }
 
-fn show_cases(rt: &HostRuntime) -> anyhow::Result<()> {
+fn show_cases<R: Print + Input + AllocGlobal + Threads + Wait + Sync>(
+    rt: &R,
+) -> anyhow::Result<()> {
     let mut text = Vec::new(rt.alloc());
     rt.reader().read_to_end(&mut text)?;
     let text = std::str::from_utf8(text.as_slice()).unwrap_or("");
