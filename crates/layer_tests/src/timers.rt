@@ -117,7 +117,10 @@ fn pair(min: u64, max: u64) -> TimerKind
 }
 
 /// One timer of 1,000 to 5,000 milliseconds, armed at 0: what turns at 3,000 give under the states 0 and 500,000.
-fn shrunk<L: Ledger>(alloc: Global, blank: Blank) -> Option<[Option<Vec<Fired>>; 2]>
+fn shrunk<L: Ledger>(
+    alloc: Global,
+    blank: Blank,
+) -> Option<(Option<Vec<Fired>>, Option<Vec<Fired>>)>
     requires { (blank.name ≡ L.name) × (blank.parts ≡ L.parts) × (0 < L.parts) }
 {
     let mut steps = Steps::<L>::open(blank);
@@ -128,13 +131,13 @@ fn shrunk<L: Ledger>(alloc: Global, blank: Blank) -> Option<[Option<Vec<Fired>>;
     set_state(&mut timers, &held, 500_000);
     let after = turn(alloc, &mut timers, &held, 3000);
     give_back(&mut timers, held, &mut steps);
-    if armed { Some([before, after]) } else { None }
+    if armed { Some((before, after)) } else { None }
 }
 
 #[test]
 fn a_timer_is_due_as_the_state_rises(rt: HostRuntime) {
     let got = shrunk::<Brand>(rt.alloc(), Blank::new(1));
-    let Some([Some(before), Some(after)]) = got else {
+    let Some((Some(before), Some(after))) = got else {
         holds(&rt, false);
         return;
     };
