@@ -117,10 +117,7 @@ fn pair(min: u64, max: u64) -> TimerKind
 }
 
 /// One timer of 1,000 to 5,000 milliseconds, armed at 0: what turns at 3,000 give under the states 0 and 500,000.
-fn shrunk<L: Ledger>(
-    alloc: Global,
-    blank: Blank,
-) -> Option<(Option<Vec<Fired>>, Option<Vec<Fired>>)>
+fn shrunk<L: Ledger>(alloc: Global, blank: Blank) -> Option<[Option<Vec<Fired>>; 2]>
     requires { (blank.name ≡ L.name) × (blank.parts ≡ L.parts) × (0 < L.parts) }
 {
     let mut steps = Steps::<L>::open(blank);
@@ -131,22 +128,24 @@ fn shrunk<L: Ledger>(
     set_state(&mut timers, &held, 500_000);
     let after = turn(alloc, &mut timers, &held, 3000);
     give_back(&mut timers, held, &mut steps);
-    if armed { Some((before, after)) } else { None }
+    if armed { Some([before, after]) } else { None }
 }
 
 #[test]
 fn a_timer_is_due_as_the_state_rises(rt: HostRuntime) {
     let got = shrunk::<Brand>(rt.alloc(), Blank::new(1));
-    let Some((Some(before), Some(after))) = got else {
-        holds(&rt, false);
-        return;
-    };
-    holds(&rt, before.is_empty());
-    same(
-        &rt,
-        &after.as_slice(),
-        &[Fired { kind: 0, id: 7 }].as_slice(),
-    );
+    holds(&rt, got.is_some());
+    if let Some([before, after]) = got {
+        fired_are(&rt, before, &[]);
+        fired_are(&rt, after, &[Fired { kind: 0, id: 7 }]);
+    }
+}
+
+fn fired_are(rt: &impl Abort, got: Option<Vec<Fired>>, wanted: &[Fired]) {
+    match got {
+        Some(fired) => same(rt, &fired.as_slice(), &wanted),
+        None => holds(rt, false),
+    }
 }
 
 /// Arms timers of three kinds, one after the other: the kind, the number and the moment of each, which is 36 at most.
@@ -191,10 +190,7 @@ fn fired_of<L: Ledger>(alloc: Global, arms: &[(u32, u64, u64)], blank: Blank) ->
 
 fn fires(rt: &(impl AllocGlobal + Abort), arms: &[(u32, u64, u64)], wanted: &[Fired]) {
     let got = fired_of::<Brand>(rt.alloc(), arms, Blank::new(1));
-    holds(rt, got.is_some());
-    if let Some(fired) = got {
-        same(rt, &fired.as_slice(), &wanted);
-    }
+    fired_are(rt, got, wanted);
 }
 
 // Of those armed at 0, 5 and 10 one is due at 25 and two at 30.
