@@ -13,7 +13,7 @@ const MANY: usize = 4_096;
 const ROOM: usize = 65_536;
 
 /// Where octets are.
-#[derive(Debug, Drop)]
+#[derive(Drop)]
 pub(crate) enum Block {
     /// In the block in which they came, which others may share.
     Came(Octets),
@@ -35,7 +35,7 @@ impl Block {
 /// The octets from a place on. Those before it were read. Octets that come where all are read stay in the block that they came
 /// in; behind some that aren't read they go to a block that has room for more, in which what isn't read is moved to the front where
 /// that room is used up and at least as many octets were read: so an octet is moved at the cost of one that was read.
-#[derive(Debug, Drop)]
+#[derive(Drop)]
 pub struct Unread {
     alloc: Global,
     block: Block,
