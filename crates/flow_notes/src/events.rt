@@ -147,7 +147,7 @@ impl Event {
 }
 
 /// A list of events.
-#[derive(Drop)]
+#[derive(Debug, Drop)]
 pub struct EventList {
     events: Vec<Event>,
 }

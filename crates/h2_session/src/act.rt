@@ -68,7 +68,7 @@ impl SettingList {
 }
 
 /// What a frame means.
-#[derive(Drop)]
+#[derive(Debug, Drop)]
 pub enum Act {
     /// Nothing.
     Ignore,

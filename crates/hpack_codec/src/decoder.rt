@@ -15,7 +15,7 @@ use std::alloc::Global;
 use std::marker::Model;
 
 /// Reads the blocks of one direction of a connection, in their order.
-#[derive(Drop)]
+#[derive(Debug, Drop)]
 pub struct Decoder {
     alloc: Global,
     table: DynamicTable,

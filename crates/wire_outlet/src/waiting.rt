@@ -9,7 +9,7 @@ use std::collections::VecDeque;
 use std::marker::Model;
 
 /// A unit that waits to be framed whole.
-#[derive(Drop)]
+#[derive(Debug, Drop)]
 pub enum Waiting {
     /// Octets that go out as they are.
     Answer(Control),
@@ -19,7 +19,7 @@ pub enum Waiting {
 }
 
 /// Units in the order in which they came, fewer than 2^32.
-#[derive(Drop)]
+#[derive(Debug, Drop)]
 pub(crate) struct WaitingList {
     units: VecDeque<Waiting>,
 }
