@@ -78,7 +78,7 @@ enum Asked {
 }
 
 fn main(rt: HostRuntime) -> anyhow::Result<()> {
-    match asked(&rt)? {
+    match what_is_asked(&rt)? {
         Asked::Bench { name, one, two } => bench::run(&rt, name.as_str(), one, two),
         Asked::Replay => {
             println!(rt; "## h2replay with this program's words")?;
@@ -101,7 +101,7 @@ fn show_cases<R: Print + Input + AllocGlobal + Threads + Wait + Sync>(
     Ok(())
 }
 
-fn asked<R: Env + AllocGlobal>(rt: &R) -> io::Result<Asked> {
+fn what_is_asked<R: Env + AllocGlobal>(rt: &R) -> io::Result<Asked> {
     let mut words = env::args(rt)?;
     let _program = words.next();
     let Some(first) = words.next() else {
