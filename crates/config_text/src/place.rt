@@ -7,7 +7,7 @@ use std::alloc::Global;
 use std::io::Eprint;
 
 /// A place of a text: its line and its column, both from 1. A column counts characters.
-#[derive(Clone, Copy, Debug, PartialEq, Eq)]
+#[derive(Clone, Copy, PartialEq, Eq)]
 pub struct Place {
     pub line: usize,
     pub column: usize,

@@ -16,7 +16,7 @@ const CANCEL: u32 = 8;
 const ENHANCE_YOUR_CALM: u32 = 11;
 
 /// What one peer is told of a doom.
-#[derive(Clone, Copy, Debug, PartialEq, Eq)]
+#[derive(Clone, Copy, PartialEq, Eq)]
 pub enum Reply {
     Nothing,
     /// A head of this status alone, with END_STREAM. Where `reset` holds, RST_STREAM with NO_ERROR follows.
@@ -26,7 +26,7 @@ pub enum Reply {
 }
 
 /// What a doom leaves to do.
-#[derive(Clone, Copy, Debug, PartialEq, Eq)]
+#[derive(Clone, Copy, PartialEq, Eq)]
 pub struct Doomed {
     /// The octets that were dropped from the receive buffer of the request, and from that of the response.
     pub request_left: u32,

@@ -24,14 +24,14 @@ use proxy_config::{Config, FilterList};
 use std::alloc::Global;
 
 /// Which ends of an exchange are framed.
-#[derive(Clone, Copy, Debug, PartialEq, Eq)]
+#[derive(Clone, Copy, PartialEq, Eq)]
 pub struct Ends {
     pub request: bool,
     pub response: bool,
 }
 
 /// A request flow, and but for a plain session a response flow, which goes back to where the request comes from.
-#[derive(Debug, Drop)]
+#[derive(Drop)]
 pub(crate) struct Exchange {
     pub(crate) from_conn: u32,
     pub(crate) to_conn: Option<u32>,

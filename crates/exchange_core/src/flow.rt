@@ -29,7 +29,7 @@ use wm_buffer::{Shifted, WatermarkBuffer};
 /// The octets of one flow on their way, and its message.
 ///
 /// Its places are counted from 0: the receive buffer, the stages, the send buffer.
-#[derive(Debug, Drop)]
+#[derive(Drop)]
 pub(crate) struct Flow {
     window: u32,
     recv: WatermarkBuffer,

@@ -9,7 +9,7 @@ use std::alloc::Global;
 use std::marker::Model;
 
 /// A flow in a block of memory of its own: an exchange is small, and moves within the map of them at little cost.
-#[derive(Debug, Drop)]
+#[derive(Drop)]
 pub(crate) struct FlowBox {
     flow: Box<Flow>,
 }

@@ -6,7 +6,7 @@ ghost use Rattle.exchange_core.specs.Message.{awaited, empty_message, fields_of,
 use hpack_codec::FieldList;
 
 /// What of a flow's message is still to come.
-#[derive(Clone, Copy, Debug, PartialEq, Eq)]
+#[derive(Clone, Copy, PartialEq, Eq)]
 pub enum Awaited {
     /// Its end came, or the flow isn't live.
     Nothing,
@@ -17,7 +17,7 @@ pub enum Awaited {
 }
 
 /// What came of a message besides its body, and what of it was framed.
-#[derive(Debug, Drop)]
+#[derive(Drop)]
 pub(crate) struct Message {
     /// The head that came and waits to be framed.
     pub(crate) head: Option<FieldList>,

@@ -8,7 +8,7 @@ use io_ports::NoMemory;
 const LAST_NUMBER: u64 = (1 << 63) - 1;
 
 /// With what an exchange begins.
-#[derive(Clone, Copy, Debug, PartialEq, Eq)]
+#[derive(Clone, Copy, PartialEq, Eq)]
 pub struct StartSpec {
     /// Whether this is a stream of a plain session, which has no response.
     pub plain: bool,

@@ -3,7 +3,7 @@ use flow_rules::Unit;
 use wm_buffer::Shifted;
 
 /// What one step of a flow did.
-#[derive(Clone, Copy, Debug, PartialEq, Eq)]
+#[derive(Clone, Copy, PartialEq, Eq)]
 pub enum Step {
     /// No place may let octets go.
     Still,
@@ -20,21 +20,21 @@ pub enum Step {
 }
 
 /// A DATA frame that is made: it carries the first `n` octets of a flow's send buffer, and the flow's end where `last` holds.
-#[derive(Clone, Copy, Debug, PartialEq, Eq)]
+#[derive(Clone, Copy, PartialEq, Eq)]
 pub struct Piece {
     pub n: u32,
     pub last: bool,
 }
 
 /// What one step of a flow did, and what of the flow goes next then.
-#[derive(Clone, Copy, Debug, PartialEq, Eq)]
+#[derive(Clone, Copy, PartialEq, Eq)]
 pub struct Advance {
     pub step: Step,
     pub unit: Unit,
 }
 
 /// What became of octets that came for a flow.
-#[derive(Clone, Copy, Debug, PartialEq, Eq)]
+#[derive(Clone, Copy, PartialEq, Eq)]
 pub enum Received {
     /// The flow isn't live.
     NotLive,

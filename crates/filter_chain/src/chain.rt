@@ -22,7 +22,7 @@ use wm_buffer::{Shifted, WatermarkBuffer};
 ///
 /// Its places are counted from 1: the stages, and then the send buffer. Place 0 is the flow's receive
 /// buffer, which stands outside. Octets leave a place at its front and come to the end of the next.
-#[derive(Debug, Drop)]
+#[derive(Drop)]
 pub struct Chain {
     flow: FlowId,
     quantum: u32,

@@ -6,7 +6,7 @@ ghost use Rattle.filter_chain.specs.Effects.{whole_steps};
 const STEP: u64 = 50;
 
 /// When the Meters of a chain started, and the last moment that it was told, in ms.
-#[derive(Clone, Copy, Debug)]
+#[derive(Clone, Copy)]
 pub struct Clock {
     pub started: u64,
     pub time: u64,

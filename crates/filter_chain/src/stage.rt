@@ -12,7 +12,7 @@ use std::alloc::Global;
 use wm_buffer::{Shifted, WatermarkBuffer};
 
 /// What a place on the way of a flow does with its octets.
-#[derive(Clone, Copy, Debug, PartialEq, Eq)]
+#[derive(Clone, Copy, PartialEq, Eq)]
 pub enum StageKind {
     /// Keeps the whole body until its end.
     Hold,
@@ -61,7 +61,7 @@ impl StageKind {
 }
 
 /// A place on the way of a flow.
-#[derive(Debug, Drop)]
+#[derive(Drop)]
 pub struct Stage {
     pub kind: StageKind,
     pub buffer: WatermarkBuffer,

@@ -44,7 +44,7 @@ pub enum BufferId {
 }
 
 /// A stage of a flow.
-#[derive(Clone, Copy, Debug, PartialEq, Eq, PartialOrd, Ord)]
+#[derive(Clone, Copy, PartialEq, Eq, PartialOrd, Ord)]
 pub(crate) struct StageId {
     pub(crate) flow: FlowId,
     pub(crate) stage: u32,

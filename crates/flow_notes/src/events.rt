@@ -147,7 +147,7 @@ impl Event {
 }
 
 /// A list of events.
-#[derive(Debug, Drop)]
+#[derive(Drop)]
 pub struct EventList {
     events: Vec<Event>,
 }

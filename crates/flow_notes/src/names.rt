@@ -45,7 +45,7 @@ impl fmt::Display for NameRefusal {
 impl Error for NameRefusal {}
 
 /// The names of clusters, in the configuration's order: fewer than 2^32, and none twice.
-#[derive(Debug, Drop)]
+#[derive(Drop)]
 pub struct Names {
     names: Vec<Octets>,
 }

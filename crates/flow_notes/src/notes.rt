@@ -154,7 +154,7 @@ pub enum Note {
 
 /// A list of notes. The pauses, or the resumes, of a row of flows for one buffer take the room of their
 /// flows alone.
-#[derive(Debug, Drop)]
+#[derive(Drop)]
 pub struct Notes {
     items: Vec<Item>,
     /// The flows of the rows, one row after the other.

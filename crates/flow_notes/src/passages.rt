@@ -10,7 +10,7 @@ use std::marker::Model;
 
 /// What stands in a list of notes: one note, or a row of so many flows, which stand in a list of their
 /// own.
-#[derive(Debug, Drop)]
+#[derive(Drop)]
 pub(crate) enum Item {
     One(Note),
     Pauses { count: usize, buffer: BufferId },
@@ -46,7 +46,7 @@ impl Item {
 }
 
 /// One or more notes that follow each other.
-#[derive(Clone, Copy, Debug)]
+#[derive(Clone, Copy)]
 pub enum Passage<'a> {
     /// One note, which may be a pause or a resume too.
     One(&'a Note),

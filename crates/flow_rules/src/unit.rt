@@ -5,7 +5,7 @@ ghost use Rattle.flow_rules.specs.State.{FlowState};
 ghost use Rattle.flow_rules.specs.Units.{next_unit};
 
 /// What of a flow goes next into the write buffer of its connection (RFC 9113 section 8.1).
-#[derive(Clone, Copy, Debug, PartialEq, Eq)]
+#[derive(Clone, Copy, PartialEq, Eq)]
 pub enum Unit {
     /// Nothing may go now.
     Nothing,

@@ -20,7 +20,7 @@ pub struct Weighting {
 /// A frame, with padding left off. `padded` counts the octets of padding, the one that tells its
 /// length included, and is 0 without the flag PADDED. Reserved bits, and flags that a type doesn't
 /// define, are left out.
-#[derive(Clone, Copy, Debug, PartialEq, Eq)]
+#[derive(Clone, Copy)]
 pub enum Frame<'a> {
     DataFrame {
         stream: u32,
@@ -138,7 +138,7 @@ impl fmt::Display for FrameFault {
 impl Error for FrameFault {}
 
 /// What stands at the front of some octets.
-#[derive(Clone, Copy, Debug, PartialEq, Eq)]
+#[derive(Clone, Copy)]
 pub enum ReadFrame<'a> {
     /// No whole frame, and no fault yet.
     Need,

@@ -68,7 +68,7 @@ impl SettingList {
 }
 
 /// What a frame means.
-#[derive(Debug, Drop)]
+#[derive(Drop)]
 pub enum Act {
     /// Nothing.
     Ignore,

@@ -10,7 +10,7 @@ use std::alloc::Global;
 
 /// The fields that were read so far, and the size of their list. Once it is known to be longer
 /// than the greatest list size, fields are only counted, and none is kept.
-#[derive(Debug, Drop)]
+#[derive(Drop)]
 pub(crate) struct Collected {
     pub alloc: Global,
     pub fields: FieldList,

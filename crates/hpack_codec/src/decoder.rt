@@ -15,7 +15,7 @@ use std::alloc::Global;
 use std::marker::Model;
 
 /// Reads the blocks of one direction of a connection, in their order.
-#[derive(Debug, Drop)]
+#[derive(Drop)]
 pub struct Decoder {
     alloc: Global,
     table: DynamicTable,

@@ -12,7 +12,7 @@ use std::marker::Model;
 
 /// Writes the blocks of one direction of a connection, in their order. It uses no dynamic table
 /// and no Huffman strings, so each list has one spelling.
-#[derive(Debug, Drop)]
+#[derive(Drop)]
 pub struct Encoder {
     alloc: Global,
     anew: bool,

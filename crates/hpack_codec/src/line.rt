@@ -5,7 +5,7 @@ use io_ports::{NoMemory, Octets};
 use std::alloc::Global;
 
 /// An entry of the dynamic table: a name and a value.
-#[derive(Debug, Drop)]
+#[derive(Drop)]
 pub struct Line {
     pub name: Octets,
     pub value: Octets,
@@ -33,14 +33,14 @@ impl Line {
 }
 
 /// A name and a value of the static table.
-#[derive(Clone, Copy, Debug)]
+#[derive(Clone, Copy)]
 pub(crate) struct Row {
     pub name: &'static [u8],
     pub value: &'static [u8],
 }
 
 /// An entry of either table.
-#[derive(Clone, Copy, Debug)]
+#[derive(Clone, Copy)]
 pub(crate) enum Entry<'a> {
     Fixed(Row),
     Added(&'a Line),

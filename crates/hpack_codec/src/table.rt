@@ -11,7 +11,7 @@ use std::collections::VecDeque;
 use std::marker::Model;
 
 /// The dynamic table: its entries, newest first, what they count together, and the size in force.
-#[derive(Debug, Drop)]
+#[derive(Drop)]
 pub(crate) struct DynamicTable {
     lines: VecDeque<Line>,
     octets: usize,

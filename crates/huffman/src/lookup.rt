@@ -6,7 +6,7 @@ ghost use Rattle.huffman.specs.Lookup.{symbol_at, top};
 use crate::tables::{LAST, LOW, MIDDLE, SHORT};
 
 /// A symbol, and the length of its code in bits.
-#[derive(Clone, Copy, Debug)]
+#[derive(Clone, Copy)]
 pub(crate) struct Found {
     pub symbol: u16,
     pub len: u32,

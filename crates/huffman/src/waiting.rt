@@ -3,7 +3,7 @@ ghost use Rattle.std.specs.Prelude.{◌≡◌, ◌+◌, ◌*◌, ◌<◌, ◌≤
 ghost use Rattle.huffman.specs.Huffman.{bits, octet_bits, IsPadding};
 
 /// The last `have` bits of `held`, and then those of `rest`. Bits of `held` above these are stale.
-#[derive(Clone, Copy, Debug)]
+#[derive(Clone, Copy)]
 pub(crate) struct Waiting<'a> {
     pub held: u64,
     pub have: u32,

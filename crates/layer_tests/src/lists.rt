@@ -10,7 +10,7 @@ use std::marker::{Brand, Send};
 use std::sync::ledger::{Blank, Ledger};
 
 /// What is done with the node whose value is 9.
-#[derive(Clone, Copy, Debug)]
+#[derive(Clone, Copy)]
 enum Deed {
     Leave,
     Read,

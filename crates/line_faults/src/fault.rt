@@ -13,7 +13,7 @@ pub struct LineFault {
 }
 
 /// What is wrong with a line, and where.
-#[derive(Debug, Drop)]
+#[derive(Drop)]
 pub struct Fault {
     /// Where it is, in octets from 1, if it is at one place.
     pub column: Option<usize>,
@@ -23,7 +23,7 @@ pub struct Fault {
 }
 
 /// What is wrong.
-#[derive(Clone, Copy, Debug, PartialEq, Eq)]
+#[derive(Clone, Copy)]
 pub enum Mistake {
     /// The session ends behind the line's octets, without a newline.
     Cut,

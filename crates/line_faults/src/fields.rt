@@ -1,7 +1,7 @@
 // The fields of the lines of sessions.
 
 /// What a field of a line may be.
-#[derive(Clone, Copy, Debug, PartialEq, Eq)]
+#[derive(Clone, Copy, PartialEq, Eq)]
 pub enum Kind {
     /// A decimal number in this range.
     Number { least: u64, most: u64 },
@@ -16,7 +16,7 @@ pub enum Kind {
 }
 
 /// A field of a line: what it is called, and what it may be.
-#[derive(Clone, Copy, Debug, PartialEq, Eq)]
+#[derive(Clone, Copy, PartialEq, Eq)]
 pub struct Field {
     pub name: &'static str,
     pub kind: Kind,

@@ -84,6 +84,13 @@ impl fmt::Display for Fault {
     }
 }
 
+// By hand: its text says all that it has.
+impl fmt::Debug for Fault {
+    fn fmt<W: Write>(&self, f: &mut fmt::Formatter<W>) -> fmt::Result {
+        fmt::Display::fmt(self, f)
+    }
+}
+
 impl Error for Fault {}
 
 fn write_place<W: Write>(

@@ -7,7 +7,7 @@ use flow_notes::Names;
 const MOST_OCTETS: usize = 16_384;
 
 /// A mistake in a line, and the octets that are wrong, from one place to another.
-#[derive(Clone, Copy, Debug, PartialEq, Eq)]
+#[derive(Clone, Copy)]
 pub struct Place {
     pub start: usize,
     pub end: usize,

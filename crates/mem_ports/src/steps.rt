@@ -9,7 +9,7 @@ use std::marker::Model;
 use worker_ports::Wired;
 
 /// What a record keeps of a step.
-#[derive(Debug, Drop)]
+#[derive(Drop)]
 pub enum Kept {
     /// This was given.
     Gave(Wired),
@@ -20,7 +20,7 @@ pub enum Kept {
 }
 
 /// For how much a record has room.
-#[derive(Clone, Copy, Debug, PartialEq, Eq)]
+#[derive(Clone, Copy, PartialEq, Eq)]
 pub struct Room {
     /// How many offers.
     pub offers: usize,

@@ -7,7 +7,7 @@ use mio::net::TcpStream;
 use std::io::{ErrorKind, Read, Write};
 
 /// What a read found.
-#[derive(Clone, Copy, Debug, PartialEq, Eq)]
+#[derive(Clone, Copy, PartialEq, Eq)]
 pub(crate) enum ReadOutcome {
     /// So many octets, at least 1.
     Octets(usize),
@@ -18,7 +18,7 @@ pub(crate) enum ReadOutcome {
 }
 
 /// Where a connection comes from.
-#[derive(Clone, Copy, Debug, PartialEq, Eq)]
+#[derive(Clone, Copy, PartialEq, Eq)]
 pub(crate) enum Origin {
     /// A client made it.
     Client,

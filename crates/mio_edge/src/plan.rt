@@ -15,7 +15,7 @@ const OTHER_FILES: u64 = 16;
 const LONGEST_STALL: u64 = 60_000;
 
 /// What clients have of the connections to clusters.
-#[derive(Clone, Copy, Debug, PartialEq, Eq)]
+#[derive(Clone, Copy, PartialEq, Eq)]
 pub enum Sharing {
     /// Each client has one for itself.
     OneEach,

@@ -28,7 +28,7 @@ use tape_laws::PlainLimits;
 use wm_buffer::{Crossed, Shifted};
 
 /// A move of octets from a flow's receive buffer to its send buffer.
-#[derive(Clone, Copy, Debug, PartialEq, Eq)]
+#[derive(Clone, Copy, PartialEq, Eq)]
 pub struct Moved {
     pub n: u32,
     /// The send buffer became above.
@@ -36,7 +36,7 @@ pub struct Moved {
 }
 
 /// What a step of an exchange did.
-#[derive(Clone, Copy, Debug, PartialEq, Eq)]
+#[derive(Clone, Copy, PartialEq, Eq)]
 pub enum Outcome {
     /// It isn't live.
     NotLive,
@@ -47,7 +47,7 @@ pub enum Outcome {
 }
 
 /// A DATA frame that goes next.
-#[derive(Clone, Copy, Debug, PartialEq, Eq)]
+#[derive(Clone, Copy, PartialEq, Eq)]
 pub struct NextFrame {
     pub exchange: u64,
     pub n: u32,
@@ -55,7 +55,7 @@ pub struct NextFrame {
 }
 
 /// What a frame did to the buffers.
-#[derive(Clone, Copy, Debug, PartialEq, Eq)]
+#[derive(Clone, Copy, PartialEq, Eq)]
 pub struct Framed {
     /// The write buffer became above.
     pub rose: bool,

@@ -5,7 +5,7 @@ ghost use Rattle.plain_core.specs.Gaps.{IsFirstHeld, IsGap};
 use crate::flows::Flows;
 
 /// The exchanges from `from` to before `to`.
-#[derive(Clone, Copy, Debug, PartialEq, Eq)]
+#[derive(Clone, Copy, PartialEq, Eq)]
 pub struct Gap {
     pub from: u64,
     pub to: u64,

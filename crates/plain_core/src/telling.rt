@@ -8,7 +8,7 @@ use crate::gaps::Gap;
 use flow_gate::FlowId;
 
 /// The flows that are told in one go that the write buffer drained.
-#[derive(Clone, Copy, Debug, PartialEq, Eq)]
+#[derive(Clone, Copy, PartialEq, Eq)]
 pub struct Told {
     pub n: usize,
     /// The last of them, where it goes on.

@@ -5,7 +5,7 @@ use crate::rows::Rows;
 use io_ports::Octets;
 
 /// The keys of the table `limits`. Buffers, windows and frames are octets.
-#[derive(Clone, Copy, Debug, PartialEq, Eq)]
+#[derive(Clone, Copy, PartialEq, Eq)]
 pub struct LimitKeys {
     /// The limit of the write buffer of a connection; 0 is no limit.
     pub write_buffer: u32,
@@ -34,7 +34,7 @@ pub struct LimitKeys {
 }
 
 /// The keys of the table `timeouts`, in milliseconds; 0 is no timeout.
-#[derive(Clone, Copy, Debug, PartialEq, Eq)]
+#[derive(Clone, Copy, PartialEq, Eq)]
 pub struct TimeoutKeys {
     /// From a request's end to its response's end.
     pub route: u64,
@@ -49,7 +49,7 @@ pub struct TimeoutKeys {
 }
 
 /// A cluster of servers that requests go to.
-#[derive(Debug, Drop)]
+#[derive(Drop)]
 pub struct Cluster {
     pub name: Octets,
     /// Where its servers listen, as a host and a port.
@@ -60,7 +60,7 @@ pub struct Cluster {
 pub type ClusterList = Rows<Cluster>;
 
 /// The keys of the table `proxy`.
-#[derive(Debug, Drop)]
+#[derive(Drop)]
 pub struct ProxyKeys {
     /// Where the proxy listens, as an address and a port.
     pub listen: Octets,
@@ -79,7 +79,7 @@ pub struct ProxyKeys {
 }
 
 /// A configuration.
-#[derive(Debug, Drop)]
+#[derive(Drop)]
 pub struct Config {
     pub limits: LimitKeys,
     pub timeouts: TimeoutKeys,

@@ -13,7 +13,7 @@ use crate::words::{is_cluster, is_listed, is_name, is_word};
 use toml::Value;
 
 /// What is said of a value at a key.
-#[derive(Clone, Copy, Debug, PartialEq, Eq)]
+#[derive(Clone, Copy, PartialEq, Eq)]
 pub enum Verdict {
     Fits,
     /// It is of another kind.

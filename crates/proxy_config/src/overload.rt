@@ -6,7 +6,7 @@ use io_ports::Octets;
 pub type NameList = Rows<Octets>;
 
 /// How the pressure of a resource becomes a state.
-#[derive(Clone, Copy, Debug, PartialEq, Eq)]
+#[derive(Clone, Copy, PartialEq, Eq)]
 pub enum Form {
     /// Saturated where the pressure is at least `value`, and else 0.
     Threshold { value: u32 },
@@ -15,7 +15,7 @@ pub enum Form {
 }
 
 /// A trigger of an overload action.
-#[derive(Clone, Copy, Debug, PartialEq, Eq)]
+#[derive(Clone, Copy, PartialEq, Eq)]
 pub struct Trigger {
     /// The action's number from 0: stop_requests, stop_accepting, reject_incoming, no_keepalive, reduce_timeouts, reset_streams.
     pub action: u32,
@@ -28,7 +28,7 @@ pub struct Trigger {
 pub type TriggerList = Rows<Trigger>;
 
 /// Where arrivals are shed.
-#[derive(Clone, Copy, Debug, PartialEq, Eq)]
+#[derive(Clone, Copy, PartialEq, Eq)]
 pub enum Point {
     /// Connections of clients.
     Accept,
@@ -39,7 +39,7 @@ pub enum Point {
 }
 
 /// A row of the shed table.
-#[derive(Clone, Copy, Debug, PartialEq, Eq)]
+#[derive(Clone, Copy, PartialEq, Eq)]
 pub struct ShedRow {
     pub point: Point,
     /// The resource's number from 0, in the order of `resources`.
@@ -51,7 +51,7 @@ pub struct ShedRow {
 pub type ShedList = Rows<ShedRow>;
 
 /// The keys of the table `overload`.
-#[derive(Debug, Drop)]
+#[derive(Drop)]
 pub struct OverloadKeys {
     /// The names of the resources, at most 16.
     pub resources: NameList,

@@ -17,7 +17,7 @@ pub enum Filter {
 pub type FilterList = Rows<Filter>;
 
 /// A row of the route table. Exactly one of `path` and `prefix` is there.
-#[derive(Debug, Drop)]
+#[derive(Drop)]
 pub struct Route {
     /// The authority that a request must have, or none, where any will do.
     pub authority: Option<Octets>,

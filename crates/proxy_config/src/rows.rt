@@ -6,7 +6,7 @@ use std::alloc::Global;
 use std::marker::Model;
 
 /// A list of fewer than 2^32 rows, in the order of the configuration.
-#[derive(Debug, Drop)]
+#[derive(Drop)]
 pub struct Rows<T> {
     rows: Vec<T>,
 }

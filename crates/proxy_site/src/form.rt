@@ -9,7 +9,7 @@ use itoa::Buffer;
 pub const ENDLESS: u64 = 9_223_372_036_854_775_807;
 
 /// What the words of the proxy ask for.
-#[derive(Clone, Copy, Debug, PartialEq, Eq)]
+#[derive(Clone, Copy, PartialEq, Eq)]
 pub enum ServeForm {
     /// `relay CONFIG` or `relay CONFIG TURNS`: pairs of connections whose octets are relayed, for so many turns.
     Relay { turns: u64 },

@@ -8,14 +8,14 @@ use relay_work::RelayEnded;
 use session_run::Status;
 
 /// How the proxy ended, and why.
-#[derive(Debug, Drop)]
+#[derive(Drop)]
 pub struct Served {
     pub status: Status,
     pub reason: ServeReason,
 }
 
 /// Why the proxy ended.
-#[derive(Debug, Drop)]
+#[derive(Drop)]
 pub enum ServeReason {
     /// The words have no form.
     Words,

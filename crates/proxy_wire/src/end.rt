@@ -13,7 +13,7 @@ use proxy_site::{SiteRefusal, Status};
 use worker_loop::Ended;
 
 /// How the proxy ended.
-#[derive(Debug, Drop)]
+#[derive(Drop)]
 pub enum WireEnd {
     /// The site couldn't listen.
     Listen,

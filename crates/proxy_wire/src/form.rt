@@ -6,7 +6,7 @@ ghost use Rattle.proxy_wire.specs.Forms.{HasNoProxyForm, IsNoWire, IsWire, Spell
 use proxy_site::{ENDLESS, ServeForm, read_serve_form, read_turns};
 
 /// What the words of the proxy ask for.
-#[derive(Clone, Copy, Debug, PartialEq, Eq)]
+#[derive(Clone, Copy, PartialEq, Eq)]
 pub enum ProxyForm {
     /// `relay CONFIG` or `relay CONFIG TURNS`: pairs of connections whose octets are relayed, for so many turns.
     Relay { turns: u64 },

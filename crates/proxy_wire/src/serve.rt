@@ -26,14 +26,14 @@ use std::time::Clock;
 use worker_ports::Gauge;
 
 /// How the proxy ended, and why.
-#[derive(Debug, Drop)]
+#[derive(Drop)]
 pub struct ProxyServed {
     pub status: Status,
     pub reason: ProxyReason,
 }
 
 /// Why the proxy ended.
-#[derive(Debug, Drop)]
+#[derive(Drop)]
 pub enum ProxyReason {
     /// As the relay, or before its workers.
     Relay(ServeReason),

@@ -5,7 +5,7 @@
 use flow_gate::FlowId;
 
 /// The flow that comes from a connection, and the connection that it goes to.
-#[derive(Clone, Copy, Debug, PartialEq, Eq)]
+#[derive(Clone, Copy, PartialEq, Eq)]
 pub struct Feed {
     pub flow: FlowId,
     pub to: u32,

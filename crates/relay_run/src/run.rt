@@ -12,7 +12,7 @@ use session_run::{Lines, Run, Status};
 use std::alloc::Global;
 
 /// How the replay of a relay's session ended.
-#[derive(Debug, Drop)]
+#[derive(Drop)]
 pub struct RelayEnd {
     pub status: Status,
     /// What is wrong with the line at which the session was refused, if it was, and if there was memory to say so.

@@ -9,7 +9,7 @@ use std::collections::BTreeMap;
 use tape_summary::Level;
 
 /// The two connections of a pair: its request flow goes to the cluster's, its response flow to the client's.
-#[derive(Clone, Copy, Debug, PartialEq, Eq)]
+#[derive(Clone, Copy, PartialEq, Eq)]
 pub struct Ends {
     pub client: u32,
     pub cluster: u32,

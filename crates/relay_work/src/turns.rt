@@ -19,7 +19,7 @@ use tcp_relay::{Interests, Relay};
 use worker_ports::WireRefusal;
 
 /// How the work of a relay ended.
-#[derive(Clone, Copy, Debug, PartialEq, Eq)]
+#[derive(Clone, Copy, PartialEq, Eq)]
 pub enum RelayEnded {
     /// After all its turns, in none of which it was to stop.
     Turns,

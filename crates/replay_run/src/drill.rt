@@ -16,7 +16,7 @@ const ROUNDS: u32 = 32;
 const LAST_ROOM: u32 = 1_000_000;
 
 /// The event that comes next: of stream `at`, counted from 0, in a round, or one of the last rooms.
-#[derive(Clone, Copy, Debug, PartialEq, Eq)]
+#[derive(Clone, Copy)]
 pub enum Upcoming {
     Open { at: u32 },
     Body { round: u32, at: u32 },
@@ -26,7 +26,7 @@ pub enum Upcoming {
 }
 
 /// The drill of a number of streams, 1 to 1,000, under way. Holds no memory.
-#[derive(Clone, Copy, Debug, PartialEq, Eq)]
+#[derive(Clone, Copy)]
 pub struct Drill {
     streams: u32,
     /// The generator's number.

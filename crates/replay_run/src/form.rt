@@ -9,7 +9,7 @@ use itoa::Buffer;
 const MOST_STREAMS: u32 = 1_000;
 
 /// What the words of a replay ask for.
-#[derive(Clone, Copy, Debug, PartialEq, Eq)]
+#[derive(Clone, Copy, PartialEq, Eq)]
 pub enum Form {
     /// `plain`: a plain session that is read.
     Plain,

@@ -11,14 +11,14 @@ use std::alloc::Global;
 use std::fmt::Display;
 
 /// How a replay ended, and why.
-#[derive(Debug, Drop)]
+#[derive(Drop)]
 pub struct Outcome {
     pub status: Status,
     pub reason: Reason,
 }
 
 /// Why a replay ended.
-#[derive(Debug, Drop)]
+#[derive(Drop)]
 pub enum Reason {
     /// The session was replayed to its end.
     Done,

@@ -9,7 +9,7 @@ use io_ports::{NoMemory, Octets};
 use tape_summary::{Level, put_behind, write_after};
 
 /// What the short summary tells of the tape of a plain session, kept note by note.
-#[derive(Clone, Copy, Debug, PartialEq, Eq)]
+#[derive(Clone, Copy, PartialEq, Eq)]
 pub struct Tally {
     /// How many streams began.
     pub streams: u64,

@@ -5,7 +5,7 @@ use std::alloc::Global;
 use std::collections::BTreeMap;
 
 /// What came of one stream.
-#[derive(Clone, Copy, Debug, PartialEq, Eq)]
+#[derive(Clone, Copy, PartialEq, Eq)]
 pub struct Course {
     pub ended: bool,
     pub cut: bool,

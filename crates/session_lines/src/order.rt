@@ -10,7 +10,7 @@ use std::alloc::Global;
 use tape_laws::PlainLimits;
 
 /// The format of a session's text.
-#[derive(Clone, Copy, Debug, PartialEq, Eq)]
+#[derive(Clone, Copy, PartialEq, Eq)]
 pub enum Format {
     /// `h2replay-session 1 plain`, whose quantum is 16,384 octets.
     One,
@@ -19,7 +19,7 @@ pub enum Format {
 }
 
 /// What a line was read as.
-#[derive(Debug, Drop)]
+#[derive(Drop)]
 pub enum LineRead {
     Header,
     Limits(PlainLimits),

@@ -6,7 +6,7 @@ ghost use Rattle.session_run.specs.Players.{AddsSummary, IsPlaying, PlaysLine};
 use io_ports::{NoMemory, Octets};
 
 /// How a line went.
-#[derive(Clone, Copy, Debug, PartialEq, Eq)]
+#[derive(Clone, Copy, PartialEq, Eq)]
 pub enum Went {
     /// It was read, and its event was dispatched.
     On,

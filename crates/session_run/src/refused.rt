@@ -3,7 +3,7 @@ use crate::player::Player;
 use crate::run::{LINE, Run};
 
 /// What stands where a session is refused.
-#[derive(Clone, Copy, Debug, PartialEq, Eq)]
+#[derive(Clone, Copy, PartialEq, Eq)]
 pub enum RefusedLine<'a> {
     /// A line that isn't one that may come, without its newline.
     Line(&'a [u8]),

@@ -3,7 +3,7 @@
 #![tactic(auto)]
 
 /// The limits of a plain session's buffers in octets, and what one move carries at most.
-#[derive(Clone, Copy, Debug, PartialEq, Eq)]
+#[derive(Clone, Copy, PartialEq, Eq)]
 pub struct PlainLimits {
     /// What each receive buffer holds at most, 1 to 16,777,216.
     pub recv: u32,

@@ -5,7 +5,7 @@ use crate::words::{read_flow, read_number};
 use flow_gate::FlowId;
 
 /// Which lanes are drawn.
-#[derive(Clone, Copy, Debug, PartialEq, Eq)]
+#[derive(Clone, Copy, PartialEq, Eq)]
 pub enum Lanes {
     /// The 40 that were highest against their limit.
     Highest,
@@ -18,7 +18,7 @@ pub enum Lanes {
 }
 
 /// What is drawn of a tape: which lanes, and the dispatches from the first to the last.
-#[derive(Clone, Copy, Debug, PartialEq, Eq)]
+#[derive(Clone, Copy, PartialEq, Eq)]
 pub struct Choice {
     pub lanes: Lanes,
     pub first: u64,

@@ -8,7 +8,7 @@ pub const COLUMNS: u64 = 960;
 
 /// The present dispatch, and how dispatches go to columns: column j has the dispatches from `first + j * width` on, `width` of
 /// them.
-#[derive(Clone, Copy, Debug, PartialEq, Eq)]
+#[derive(Clone, Copy, PartialEq, Eq)]
 pub struct Clock {
     /// The present dispatch, 0 before the first.
     pub turn: u64,

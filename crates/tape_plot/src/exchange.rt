@@ -12,14 +12,14 @@ use std::alloc::Global;
 const FRAME_HEAD: u64 = 9;
 
 /// The connections of a relay's pair: the octets of the one go to the other's write buffer.
-#[derive(Clone, Copy, Debug, PartialEq, Eq)]
+#[derive(Clone, Copy, PartialEq, Eq)]
 pub struct Relay {
     pub client: u32,
     pub cluster: u32,
 }
 
 /// Octets that come to the write buffer of a connection.
-#[derive(Clone, Copy, Debug, PartialEq, Eq)]
+#[derive(Clone, Copy, PartialEq, Eq)]
 pub struct Fill {
     pub conn: u32,
     pub n: u64,

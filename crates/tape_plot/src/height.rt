@@ -3,7 +3,7 @@ ghost use Rattle.std.specs.Prelude.{◌≡◌};
 ghost use Rattle.tape_plot.specs.Highest as spec;
 
 /// How high a buffer was: in thousandths of its limit, where that is known and isn't 0, and else in octets.
-#[derive(Clone, Copy, Debug, PartialEq, Eq)]
+#[derive(Clone, Copy, PartialEq, Eq)]
 pub struct Height {
     is_limited: bool,
     height: u64,

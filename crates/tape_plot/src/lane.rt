@@ -8,7 +8,7 @@ use io_ports::NoMemory;
 use std::alloc::Global;
 
 /// How a number changed in a column: the least, the greatest and the last that it changed to.
-#[derive(Clone, Copy, Debug, PartialEq, Eq)]
+#[derive(Clone, Copy, PartialEq, Eq)]
 pub struct Point {
     pub column: u64,
     pub low: u64,

@@ -40,7 +40,7 @@ impl fmt::Display for Refusal {
 impl Error for Refusal {}
 
 /// How it ended, and which line was refused, counted from 1, and why, where one was.
-#[derive(Clone, Copy, Debug, PartialEq, Eq)]
+#[derive(Clone, Copy, PartialEq, Eq)]
 pub struct Outcome {
     pub status: Status,
     pub line: u64,
@@ -71,7 +71,7 @@ const LINE: &[u8] = b"line";
 const LENGTH: &[u8] = b"length";
 
 /// A line of a summary.
-#[derive(Clone, Copy, Debug, PartialEq, Eq)]
+#[derive(Clone, Copy)]
 pub enum Line {
     /// A buffer held at most `most` octets.
     Peak {

@@ -5,7 +5,7 @@ ghost use Rattle.tape_plot.specs.Subjects as spec;
 use flow_notes::{Event, Note};
 
 /// What is kept goes on with a note of it.
-#[derive(Clone, Copy, Debug, PartialEq, Eq)]
+#[derive(Clone, Copy, PartialEq, Eq)]
 pub enum Subject {
     /// The flows of an exchange, or its doom.
     Exchange(u64),

@@ -34,7 +34,7 @@ const JOIN: &[u8] = b"join";
 const ROOM: usize = 131_072;
 
 // How far a tape was read.
-#[derive(Clone, Copy, Debug, PartialEq, Eq)]
+#[derive(Clone, Copy, PartialEq, Eq)]
 pub enum Part {
     Notes,
     Summary,

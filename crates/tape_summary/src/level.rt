@@ -9,7 +9,7 @@ use io_ports::NoMemory;
 const FRAME_HEAD: u64 = 9;
 
 /// How many octets a buffer holds, and the most that it ever held.
-#[derive(Clone, Copy, Debug, PartialEq, Eq)]
+#[derive(Clone, Copy, PartialEq, Eq)]
 pub struct Level {
     pub held: u64,
     pub most: u64,

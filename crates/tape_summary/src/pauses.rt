@@ -8,14 +8,14 @@ use io_ports::NoMemory;
 use std::alloc::Global;
 
 /// A flow, and a buffer for which it is paused.
-#[derive(Clone, Copy, Debug, PartialEq, Eq, PartialOrd, Ord)]
+#[derive(Clone, Copy, PartialEq, Eq, PartialOrd, Ord)]
 pub struct Spot {
     pub flow: FlowId,
     pub buffer: BufferId,
 }
 
 /// A pause, the dispatch in which it came, and that of its resume, once it came.
-#[derive(Clone, Copy, Debug, PartialEq, Eq)]
+#[derive(Clone, Copy, PartialEq, Eq)]
 pub struct Pause {
     pub spot: Spot,
     pub at: u64,

@@ -9,7 +9,7 @@ use std::collections::BTreeMap;
 use tape_laws::PlainLimits;
 
 /// The levels of a flow's buffers.
-#[derive(Clone, Copy, Debug, PartialEq, Eq)]
+#[derive(Clone, Copy, PartialEq, Eq)]
 pub struct FlowLevels {
     pub recv: Level,
     pub send: Level,

@@ -32,7 +32,7 @@ impl Conn {
 }
 
 /// What the leaving of octets came to.
-#[derive(Clone, Copy, Debug, PartialEq, Eq)]
+#[derive(Clone, Copy, PartialEq, Eq)]
 pub struct Taken {
     /// How many left.
     pub n: u32,

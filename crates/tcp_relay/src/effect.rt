@@ -3,7 +3,7 @@
 use flow_gate::FlowId;
 
 /// What an event did.
-#[derive(Clone, Copy, Debug, PartialEq, Eq)]
+#[derive(Clone, Copy)]
 pub enum Effect {
     /// Nothing that a tape shows.
     Nothing,
@@ -20,7 +20,7 @@ pub enum Effect {
 }
 
 /// What the leaving of octets did.
-#[derive(Clone, Copy, Debug, PartialEq, Eq)]
+#[derive(Clone, Copy, PartialEq, Eq)]
 pub struct Left {
     pub conn: u32,
     /// How many left, at least 1.
@@ -32,7 +32,7 @@ pub struct Left {
 }
 
 /// A pair that is doomed.
-#[derive(Clone, Copy, Debug, PartialEq, Eq)]
+#[derive(Clone, Copy, PartialEq, Eq)]
 pub struct Ended {
     pub exchange: u64,
     /// The connection that wasn't lost, and whether it is closed, since nothing waits for it.

@@ -6,7 +6,7 @@ use crate::effect::Effect;
 use flow_notes::Event;
 
 /// Which connections there are, and which of them are to be read, after an event.
-#[derive(Clone, Copy, Debug, PartialEq, Eq)]
+#[derive(Clone, Copy, PartialEq, Eq)]
 pub enum Interests {
     /// As before: none has come or was closed, and each is to be read, or isn't, as it was.
     Kept,

@@ -21,7 +21,7 @@ use wire_outlet::Waiting;
 use wire_state::{WireCore, is_stream};
 
 /// Who gave the cause of a doom.
-#[derive(Clone, Copy, Debug, PartialEq, Eq)]
+#[derive(Clone, Copy, PartialEq, Eq)]
 pub enum Origin {
     /// The client, or the request.
     Request,

@@ -30,7 +30,7 @@ use io_ports::NoMemory;
 use wm_buffer::{Crossed, Shifted, WatermarkBuffer};
 
 /// A DATA frame, and what it did to the buffers.
-#[derive(Clone, Copy, Debug, PartialEq, Eq)]
+#[derive(Clone, Copy, PartialEq, Eq)]
 pub struct Framed {
     /// The octets of the body that it carries, and whether it carries the end.
     pub n: u32,

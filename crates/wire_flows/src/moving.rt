@@ -20,7 +20,7 @@ use io_ports::NoMemory;
 use wm_buffer::Crossed;
 
 /// A move of octets from one place of a flow to the next.
-#[derive(Clone, Copy, Debug, PartialEq, Eq)]
+#[derive(Clone, Copy, PartialEq, Eq)]
 pub struct Moved {
     /// The place that they left: 0 is the receive buffer.
     pub place: u32,
@@ -34,7 +34,7 @@ pub struct Moved {
 }
 
 /// What one step of a flow did.
-#[derive(Clone, Copy, Debug, PartialEq, Eq)]
+#[derive(Clone, Copy, PartialEq, Eq)]
 pub enum Outcome {
     /// No place may let octets go.
     Still,

@@ -19,7 +19,7 @@ use io_ports::NoMemory;
 use proxy_config::{Config, Filter};
 
 /// An exchange that began.
-#[derive(Clone, Copy, Debug, PartialEq, Eq)]
+#[derive(Clone, Copy, PartialEq, Eq)]
 pub struct Started {
     pub exchange: u64,
     /// Whether the write buffer that the request goes to holds it back, and the one that the response goes to that.

@@ -4,7 +4,7 @@ ghost use Rattle.std.specs.Option.{ForSome};
 ghost use Rattle.wire_heads.specs.Lengths.{fits};
 
 /// How long the body of a message has to be, and how much of it came (RFC 9113 section 8.1.1).
-#[derive(Clone, Copy, Debug, PartialEq, Eq)]
+#[derive(Clone, Copy, PartialEq, Eq)]
 pub struct Expected {
     /// The content-length that the head named, in octets and below 2^63.
     pub declared: Option<u64>,

@@ -14,7 +14,7 @@ use hpack_codec::{Field, FieldList};
 use proxy_config::{Config, cluster_of, route};
 
 /// A request that has a row of the route table.
-#[derive(Clone, Copy, Debug, PartialEq, Eq)]
+#[derive(Clone, Copy, PartialEq, Eq)]
 pub struct Routed {
     /// The row of the route table, from 0.
     pub row: u32,
@@ -27,7 +27,7 @@ pub struct Routed {
 }
 
 /// What the head of a request leads to.
-#[derive(Clone, Copy, Debug, PartialEq, Eq)]
+#[derive(Clone, Copy, PartialEq, Eq)]
 pub enum Decision {
     /// The request goes by its row on a connection of the row's cluster.
     Going { routed: Routed, conn: u32 },
@@ -40,7 +40,7 @@ pub enum Decision {
 }
 
 /// What the head of a request leads to, as far as it can be said before a connection is chosen.
-#[derive(Clone, Copy, Debug, PartialEq, Eq)]
+#[derive(Clone, Copy, PartialEq, Eq)]
 pub enum Judged {
     /// No connection is needed.
     Decided(Decision),

@@ -8,7 +8,7 @@ use h2_heads::{ResponseHead, check_response, check_trailers};
 use hpack_codec::FieldList;
 
 /// What the head of a response comes to.
-#[derive(Clone, Copy, Debug, PartialEq, Eq)]
+#[derive(Clone, Copy, PartialEq, Eq)]
 pub enum Response {
     /// An interim head, with status 100 or 102 to 199: another head follows.
     Interim,

@@ -3,7 +3,7 @@ use h2_session::Act;
 use hpack_codec::FieldList;
 
 /// Who is at the other end.
-#[derive(Clone, Copy, Debug, PartialEq, Eq)]
+#[derive(Clone, Copy, PartialEq, Eq)]
 pub enum Peer {
     /// A client: its octets begin with the preface (RFC 9113 section 3.4), and it opens the streams.
     Client,
@@ -12,7 +12,7 @@ pub enum Peer {
 }
 
 /// What stands at the front of the octets that aren't read.
-#[derive(Debug, Drop)]
+#[derive(Drop)]
 pub enum Intake {
     /// No whole frame, and no fault yet.
     Need,
@@ -23,7 +23,7 @@ pub enum Intake {
 }
 
 /// A frame that was taken.
-#[derive(Debug, Drop)]
+#[derive(Drop)]
 pub struct Taken {
     /// What it means.
     pub act: Act,
@@ -37,7 +37,7 @@ pub struct Taken {
 }
 
 /// What the header block of an act gives.
-#[derive(Debug, Drop)]
+#[derive(Drop)]
 pub enum Reading {
     /// The act has no header block.
     Nothing,

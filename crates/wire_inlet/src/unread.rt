@@ -8,7 +8,7 @@ use std::alloc::Global;
 use std::marker::Model;
 
 /// Where octets are.
-#[derive(Debug, Drop)]
+#[derive(Drop)]
 pub(crate) enum Block {
     /// In the block in which they came, which others may share.
     Came(Octets),
@@ -32,7 +32,7 @@ impl Block {
 /// more, in which what isn't read is moved to the front where that room is used up and at least as many octets were read: so an octet
 /// is moved at the cost of one that was read. Once none of them is left but some that came last, these are where they came; once
 /// none is left at all no block is kept.
-#[derive(Debug, Drop)]
+#[derive(Drop)]
 pub struct Unread {
     alloc: Global,
     block: Block,

@@ -3,7 +3,7 @@ ghost use Rattle.std.specs.Prelude.{◌≡◌, ◌&&◌, None, Some, is_some, no
 ghost use Rattle.wire_links.specs.Links.{is_same, most_of};
 
 /// The state of a connection.
-#[derive(Clone, Copy, Debug, PartialEq, Eq)]
+#[derive(Clone, Copy, PartialEq, Eq)]
 pub struct Conn {
     /// The number of its cluster; none of a client's connection.
     pub cluster: Option<u32>,

@@ -14,7 +14,7 @@ const PREFACE: &[u8; 24] = b"PRI * HTTP/2.0\r\n\r\nSM\r\n\r\n";
 
 /// A control frame, or the client preface with a SETTINGS frame: octets that are framed as they are.
 /// They are at most 16,417: a payload that every peer takes, the head of its frame, and the preface.
-#[derive(Debug, Drop)]
+#[derive(Drop)]
 pub struct Control {
     octets: Octets,
 }

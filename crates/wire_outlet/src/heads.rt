@@ -13,7 +13,7 @@ use std::marker::Model;
 
 /// The encoder of a connection's field blocks, and whether the next one begins with the size update
 /// 0, so that an encoding whose octets don't go out can be undone.
-#[derive(Debug, Drop)]
+#[derive(Drop)]
 pub(crate) struct HeadWriter {
     alloc: Global,
     encoder: Encoder,

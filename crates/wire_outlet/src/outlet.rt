@@ -26,7 +26,7 @@ use std::marker::Model;
 use wm_buffer::{Crossed, WatermarkBuffer};
 
 /// A unit of the waiting list, as it was framed.
-#[derive(Debug, Drop)]
+#[derive(Drop)]
 pub enum Framed {
     /// Control octets.
     Answer(Octets),
@@ -36,7 +36,7 @@ pub enum Framed {
 
 /// The octets for the socket of one connection, the units that wait to be framed, and the encoder of
 /// its field blocks.
-#[derive(Debug, Drop)]
+#[derive(Drop)]
 pub struct Outlet {
     alloc: Global,
     write: WatermarkBuffer,

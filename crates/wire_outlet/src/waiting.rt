@@ -9,7 +9,7 @@ use std::collections::VecDeque;
 use std::marker::Model;
 
 /// A unit that waits to be framed whole.
-#[derive(Debug, Drop)]
+#[derive(Drop)]
 pub enum Waiting {
     /// Octets that go out as they are.
     Answer(Control),
@@ -19,7 +19,7 @@ pub enum Waiting {
 }
 
 /// Units in the order in which they came, fewer than 2^32.
-#[derive(Debug, Drop)]
+#[derive(Drop)]
 pub(crate) struct WaitingList {
     units: VecDeque<Waiting>,
 }

@@ -16,7 +16,7 @@ use session_run::{Lines, Run, Status};
 use std::alloc::Global;
 
 /// How a session ended, and what is wrong with the line at which it was refused, if it was.
-#[derive(Debug, Drop)]
+#[derive(Drop)]
 pub struct WireEnd {
     pub status: Status,
     pub fault: Option<LineFault>,

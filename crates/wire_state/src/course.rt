@@ -6,7 +6,7 @@ use flow_gate::FlowId;
 use wire_links::Ends;
 
 /// A flow with the connection that it comes from and the one that it goes to: none for a request that is refused.
-#[derive(Clone, Copy, Debug, PartialEq, Eq)]
+#[derive(Clone, Copy, PartialEq, Eq)]
 pub struct Course {
     pub flow: FlowId,
     pub from: Option<u32>,

@@ -10,7 +10,7 @@ use flow_gate::FlowId;
 use wire_flows::WireFlows;
 
 /// What goes next into the write buffer of a connection.
-#[derive(Clone, Copy, Debug, PartialEq, Eq)]
+#[derive(Clone, Copy, PartialEq, Eq)]
 pub enum NextUnit {
     /// The first unit of its waiting list.
     Waiting,

@@ -29,7 +29,7 @@ use wire_load::Load;
 use wire_timers::{DueList, WireTimers};
 
 /// What the bodies of an exchange's messages have to be, and what came of them.
-#[derive(Clone, Copy, Debug)]
+#[derive(Clone, Copy)]
 pub struct Lengths {
     pub request: Expected,
     pub response: Expected,

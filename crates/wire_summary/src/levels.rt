@@ -16,7 +16,7 @@ const FRAME_HEAD: u64 = 9;
 const WINDOW_UPDATE: u64 = 13;
 
 /// The limits of the buffers that every exchange and every connection has, in octets.
-#[derive(Clone, Copy, Debug, PartialEq, Eq)]
+#[derive(Clone, Copy, PartialEq, Eq)]
 pub struct BufferLimits {
     pub recv: u32,
     pub send: u32,
@@ -65,7 +65,7 @@ impl ExchangePlaces {
 }
 
 /// What happens to the octets of a write buffer.
-#[derive(Clone, Copy, Debug, PartialEq, Eq)]
+#[derive(Clone, Copy, PartialEq, Eq)]
 pub enum WriteChange {
     /// Octets come.
     Put { n: u64 },
@@ -78,7 +78,7 @@ pub enum WriteChange {
 }
 
 /// The level of a connection's write buffer, and whether a note closed the connection.
-#[derive(Clone, Copy, Debug, PartialEq, Eq)]
+#[derive(Clone, Copy, PartialEq, Eq)]
 pub struct WriteLevel {
     pub level: Level,
     pub closed: bool,

@@ -6,7 +6,7 @@ use std::alloc::Global;
 use tape_summary::Level;
 
 /// What happens to the octets of a flow.
-#[derive(Clone, Copy, Debug, PartialEq, Eq)]
+#[derive(Clone, Copy)]
 pub enum Change {
     /// Octets come into the receive buffer.
     Arrive { n: u64 },

@@ -4,7 +4,7 @@ ghost use Rattle.std.specs.Prelude.{◌≡◌};
 use h2_windows::RecvWindow;
 
 /// Whether the octets of a DATA frame fit into the windows.
-#[derive(Clone, Copy, Debug, PartialEq, Eq)]
+#[derive(Clone, Copy, PartialEq, Eq)]
 pub enum Came {
     /// They fit into both.
     Fits,
@@ -15,7 +15,7 @@ pub enum Came {
 }
 
 /// The window of a stream, and whether END_STREAM came on it.
-#[derive(Clone, Copy, Debug)]
+#[derive(Clone, Copy)]
 pub struct RecvStream {
     pub window: RecvWindow,
     pub ended: bool,

@@ -31,7 +31,7 @@ use worker_parts::{HeldPermits, Journal};
 use worker_ports::{Clock, Gate, Wires};
 
 /// How the work of a worker ended.
-#[derive(Clone, Copy, Debug, PartialEq, Eq)]
+#[derive(Clone, Copy, PartialEq, Eq)]
 pub enum Ended {
     /// After all its turns, in none of which it was to stop.
     Turns,

@@ -46,7 +46,7 @@ pub trait Gate {
 }
 
 /// A gate that is open.
-#[derive(Clone, Copy, Debug, Drop)]
+#[derive(Clone, Copy, Drop)]
 pub struct OpenGate;
 
 impl Gate for OpenGate {

@@ -11,7 +11,7 @@ use std::error::Error;
 use std::fmt;
 
 /// What came next.
-#[derive(Debug, Drop)]
+#[derive(Drop)]
 pub enum Wired {
     /// A client's connection.
     Accept(u32),
@@ -48,7 +48,7 @@ impl fmt::Display for WireRefusal {
 impl Error for WireRefusal {}
 
 /// One thing that was done, as a record of wires keeps it.
-#[derive(Debug, Drop)]
+#[derive(Drop)]
 pub enum WireStep {
     /// This was given.
     Gave(Wired),

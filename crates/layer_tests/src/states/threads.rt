@@ -11,7 +11,7 @@ use std::thread;
 use std::thread::Threads;
 
 /// What a thread saw of the permits: how many it was given, and the most that were held at once.
-#[derive(Clone, Copy, Debug, PartialEq, Eq)]
+#[derive(Clone, Copy, PartialEq, Eq)]
 struct Saw {
     given: u64,
     most: u64,

@@ -6,7 +6,7 @@ use io_ports::{NoMemory, Octets};
 use tape_summary::put_behind;
 
 /// A triangle, a square and a diamond, whose middle is the point that a path begins with.
-#[derive(Clone, Copy, Debug, PartialEq, Eq)]
+#[derive(Clone, Copy, PartialEq, Eq)]
 pub enum Shape {
     Triangle,
     Square,

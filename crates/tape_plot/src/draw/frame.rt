@@ -27,7 +27,7 @@ pub const AXIS: u64 = 104;
 pub const LANE: u64 = 40;
 
 /// How dispatches go to columns, and these to points.
-#[derive(Clone, Copy, Debug, PartialEq, Eq)]
+#[derive(Clone, Copy, PartialEq, Eq)]
 pub struct Frame {
     pub first: u64,
     /// The last dispatch that is drawn.

@@ -6,7 +6,7 @@ use super::{Links, tables};
 use io_ports::NoMemory;
 
 /// The two ends of an exchange.
-#[derive(Clone, Copy, Debug, PartialEq, Eq)]
+#[derive(Clone, Copy, PartialEq, Eq)]
 pub struct Ends {
     /// The client's connection, and the stream of the request on it.
     pub client: u32,

@@ -137,7 +137,7 @@ impl Blocks {
 }
 
 /// Nanoseconds of processor time that each has taken.
-#[derive(Clone, Copy, Debug)]
+#[derive(Clone, Copy)]
 struct Spent {
     relaying: u64,
     noting: u64,
