@@ -15,19 +15,24 @@ use Rattle.paged_map.specs.PagedMap.{PagedMap, WritesThrough, value_at}
 use Rattle.std.specs.Map.{lookup}
 use Rattle.std.specs.Option.{option_and_then, option_map_or}
 use Rattle.std.specs.Ordering.{nat_cmp}
-use Rattle.std.specs.Prelude.{Bool, Err, IfSome, List, Ok, OnOk, Result, Some, [], false, if◌then◌else◌, is_some, nat_eq, not, true, ℕ, ◌++◌, ◌==◌, ◌∷◌, ◌≡◌, ◌≤◌}
+use Rattle.std.specs.Prelude.{Bool, Err, IfSome, List, Ok, OnOk, Option, Result, Some, [], false, if◌then◌else◌, is_some, nat_eq, not, true, ℕ, ◌++◌, ◌==◌, ◌∷◌, ◌≡◌, ◌≤◌}
 use Rattle.tape_laws.specs.History.{Marked, Noted}
 use Rattle.tape_laws.specs.World.{gone}
+use Rattle.wire_flows.proofs.Cases.{by_case}
 use Rattle.wire_flows.specs.Flows.{Flows, flow_in}
+use Rattle.wire_flows.specs.Sound.{IsSound}
 use Rattle.wire_links.specs.Links.{Links, ends_of, no_links}
 use Rattle.wire_state.proofs.Bodies.{flow_goes, flows_go}
 use Rattle.wire_state.proofs.Fitting.{empty_fits}
-use Rattle.wire_state.proofs.Held.{KeepsOctets}
-use Rattle.wire_state.proofs.Standing.{ConnsAre, at_one, conns_go, conns_written, same_octets}
+use Rattle.wire_state.proofs.Held.{KeepsOctets, is_number}
+use Rattle.wire_state.proofs.CountsKept.{AboveStays, PlacesKeep, changed_keep, counts_conns, counts_flows}
+use Rattle.wire_state.proofs.Standing.{ConnsAre, at_one, conns_go, conns_written, other_now, same_octets, there_now}
+use Rattle.wire_state.specs.Counts.{Counts, is_above_at}
 use Rattle.wire_state.specs.Ways.{Way, WayHistory, WayStep, after, shown, world_setup}
-use Rattle.wire_state.specs.Worlds.{EndsAre, FlowIs, Keeps, KeepsOk, Owes, Stands, Told, ToldBy, octets_of}
+use Rattle.wire_state.specs.Worlds.{EndsAre, FlowIs, Keeps, KeepsOk, Owes, Stands, Told, ToldBy, has_conn, octets_of}
 use Rattle.wire_state.specs.declared.conn.Conn.{Conn}
 use Rattle.wire_state.specs.declared.wire_core.WireCore.{WireCore}
+use Rattle.wm_buffer.specs.Buffer.{Buffer}
 
 after_append : (a b : List WayStep) (h : WayHistory) → after (a ++ b) h ≡ after b (after a h)
 after_append [] b h = refl
@@ -42,46 +47,53 @@ shown_append (Marked m ∷ a) b = shown_append a b
 abbrev pub KeepsLeft : List WayStep → Type 0
 KeepsLeft steps = (h : WayHistory) (c : ℕ) → gone world_setup c (after steps h) ≡ gone world_setup c h
 
+-- what a call makes of the counts, by these steps
+abbrev pub CountsOn : LimitKeys → Option ℕ → Option ℕ → Option ℕ → Option ℕ → PagedMap Conn → PagedMap Conn → Flows → Flows → Links → List WayStep → Type 0
+CountsOn l t u t' u' conns conns' flows flows' links steps = (h : WayHistory) → Stands l conns flows links h → Counts l t u conns flows h → Counts l t' u' conns' flows' (after steps h)
+
 -- the steps that a call makes are still to be noted, where the core stands for them
-pub told_as : {k l : LimitKeys} → (steps : List WayStep) (more : (ℕ → List ℕ) → ℕ → List ℕ) (conns conns' : PagedMap Conn) (flows flows' : Flows) (links links' : Links)
+pub told_as : {k l : LimitKeys} {t u t' u' : Option ℕ} → (steps : List WayStep) (more : (ℕ → List ℕ) → ℕ → List ℕ) (conns conns' : PagedMap Conn) (flows flows' : Flows) (links links' : Links)
     → ((h : WayHistory) (g : ℕ → List ℕ) → Stands l conns flows links h → ((c : ℕ) → gone world_setup c h ≡ g c) → (c : ℕ) → gone world_setup c (after steps h) ≡ more g c)
-    → ((h : WayHistory) → Stands l conns flows links h → Stands l conns' flows' links' (after steps h))
-    → (h : WayHistory) (g : ℕ → List ℕ) (start notes : List Note) → ToldBy k l h g start conns flows links notes → ToldBy k l h (more g) start conns' flows' links' (notes ++ shown steps)
-told_as {l} steps more conns conns' flows flows' links links' leaves goes h g start notes t = record {
+    → ((h : WayHistory) → Stands l conns flows links h → Stands l conns' flows' links' (after steps h)) → CountsOn l t u t' u' conns conns' flows flows' links steps
+    → (h : WayHistory) (g : ℕ → List ℕ) (start notes : List Note) → ToldBy k l t u h g start conns flows links notes → ToldBy k l t' u' h (more g) start conns' flows' links' (notes ++ shown steps)
+told_as {l} {t' = t'} {u' = u'} steps more conns conns' flows flows' links links' leaves goes counts h g start notes t = record {
   steps = t.steps ++ steps;
   is = ap (λ (ns : List Note). ns ++ shown steps) t.is ∙ (append_assoc start (shown t.steps) (shown steps) ∙ ap (λ (ns : List Note). start ++ ns) (sym (shown_append t.steps steps)));
   stands = subst (λ (past : WayHistory). Stands l conns' flows' links' past) (sym (after_append t.steps steps h)) (goes (after t.steps h) t.stands);
+  counts = subst (λ (past : WayHistory). Counts l t' u' conns' flows' past) (sym (after_append t.steps steps h)) (counts (after t.steps h) t.stands t.counts);
   left = λ c. ap (gone world_setup c) (after_append t.steps steps h) ∙ leaves (after t.steps h) g t.stands t.left c;
   under = t.under;
 }
 
-pub told_by : {k l : LimitKeys} → (steps : List WayStep) → KeepsLeft steps → (conns conns' : PagedMap Conn) (flows flows' : Flows) (links links' : Links)
-    → ((h : WayHistory) → Stands l conns flows links h → Stands l conns' flows' links' (after steps h))
-    → (h : WayHistory) (g : ℕ → List ℕ) (start notes : List Note) → ToldBy k l h g start conns flows links notes → ToldBy k l h g start conns' flows' links' (notes ++ shown steps)
-told_by steps keeps conns conns' flows flows' links links' goes = told_as steps (λ g. g) conns conns' flows flows' links links' (λ h g s is c. keeps h c ∙ is c) goes
+pub told_by : {k l : LimitKeys} {t u t' u' : Option ℕ} → (steps : List WayStep) → KeepsLeft steps → (conns conns' : PagedMap Conn) (flows flows' : Flows) (links links' : Links)
+    → ((h : WayHistory) → Stands l conns flows links h → Stands l conns' flows' links' (after steps h)) → CountsOn l t u t' u' conns conns' flows flows' links steps
+    → (h : WayHistory) (g : ℕ → List ℕ) (start notes : List Note) → ToldBy k l t u h g start conns flows links notes → ToldBy k l t' u' h g start conns' flows' links' (notes ++ shown steps)
+told_by steps keeps conns conns' flows flows' links links' goes counts = told_as steps (λ g. g) conns conns' flows flows' links links' (λ h g s is c. keeps h c ∙ is c) goes counts
 
 -- the configuration stays
-pub config_told : {k : LimitKeys} → (old new : WireCore) → new.config ≡ old.config → (h : WayHistory) (g : ℕ → List ℕ) (start notes : List Note) → ToldBy k old.config.limits h g start new.conns new.flows new.links notes → Told k h g start new notes
-config_told {k} old new same h g start notes t = subst (λ (c : Config). ToldBy k c.limits h g start new.conns new.flows new.links notes) (sym same) t
+pub config_told : {k : LimitKeys} {t u : Option ℕ} → (old new : WireCore) → new.config ≡ old.config → (h : WayHistory) (g : ℕ → List ℕ) (start notes : List Note) → ToldBy k old.config.limits t u h g start new.conns new.flows new.links notes → Told k t u h g start new notes
+config_told {k} {t} {u} old new same h g start notes told = subst (λ (c : Config). ToldBy k c.limits t u h g start new.conns new.flows new.links notes) (sym same) told
 
 -- the same with connections and notes that are these
-pub told_at : {k l : LimitKeys} → (h : WayHistory) (g : ℕ → List ℕ) (start : List Note) (conns conns' : PagedMap Conn) (flows : Flows) (links : Links) (notes notes' : List Note) → conns ≡ conns' → notes ≡ notes'
-    → ToldBy k l h g start conns flows links notes → ToldBy k l h g start conns' flows links notes'
-told_at {k} {l} h g start conns conns' flows links notes notes' c n t = subst (λ (v : PagedMap Conn). ToldBy k l h g start v flows links notes') c (subst (λ (ns : List Note). ToldBy k l h g start conns flows links ns) n t)
+pub told_at : {k l : LimitKeys} {t u : Option ℕ} → (h : WayHistory) (g : ℕ → List ℕ) (start : List Note) (conns conns' : PagedMap Conn) (flows : Flows) (links : Links) (notes notes' : List Note) → conns ≡ conns' → notes ≡ notes'
+    → ToldBy k l t u h g start conns flows links notes → ToldBy k l t u h g start conns' flows links notes'
+told_at {k} {l} {t} {u} h g start conns conns' flows links notes notes' c n told = subst (λ (v : PagedMap Conn). ToldBy k l t u h g start v flows links notes') c (subst (λ (ns : List Note). ToldBy k l t u h g start conns flows links ns) n told)
 
 pub owes_by : (steps : List WayStep) → KeepsLeft steps → (old new : WireCore) → new.config ≡ old.config
-    → ((h : WayHistory) → Stands old.config.limits old.conns old.flows old.links h → Stands old.config.limits new.conns new.flows new.links (after steps h)) → Owes (shown steps) old new
-owes_by steps keeps old new same goes = record {
+    → ((h : WayHistory) → Stands old.config.limits old.conns old.flows old.links h → Stands old.config.limits new.conns new.flows new.links (after steps h))
+    → ({t u : Option ℕ} → CountsOn old.config.limits t u t u old.conns new.conns old.flows new.flows old.links steps) → Owes (shown steps) old new
+owes_by steps keeps old new same goes counts = record {
   goes = λ h g start notes t.
       config_told old new same h g start (notes ++ shown steps)
-      (told_by steps keeps old.conns new.conns old.flows new.flows old.links new.links goes h g start notes t);
+      (told_by steps keeps old.conns new.conns old.flows new.flows old.links new.links goes counts h g start notes t);
 }
 
-pub keeps_by : (old new : WireCore) → new.config ≡ old.config → ((h : WayHistory) → Stands old.config.limits old.conns old.flows old.links h → Stands old.config.limits new.conns new.flows new.links h) → Keeps old new
-keeps_by old new same goes = record {
+pub keeps_by : (old new : WireCore) → new.config ≡ old.config → ((h : WayHistory) → Stands old.config.limits old.conns old.flows old.links h → Stands old.config.limits new.conns new.flows new.links h)
+    → ({t u : Option ℕ} → CountsOn old.config.limits t u t u old.conns new.conns old.flows new.flows old.links []) → Keeps old new
+keeps_by old new same goes counts = record {
   goes = λ h g start notes t.
       config_told old new same h g start notes
-      (record { steps = t.steps; is = t.is; stands = goes (after t.steps h) t.stands; left = t.left; under = t.under });
+      (record { steps = t.steps; is = t.is; stands = goes (after t.steps h) t.stands; counts = counts (after t.steps h) t.stands t.counts; left = t.left; under = t.under });
 }
 
 -- the same of a call that may fail
@@ -105,15 +117,31 @@ keeps_same old new c f r = keeps_by old new (config_kept old new r) (λ h s.
     links_kept old new r h
     (subst (λ (v : PagedMap Conn). Stands old.config.limits v new.flows old.links h) (sym c)
     (subst (λ (v : Flows). Stands old.config.limits old.conns v old.links h) (sym f) s)))
+    (λ {t} {u} h s k. subst (λ (v : PagedMap Conn). Counts old.config.limits t u v new.flows h) (sym c) (subst (λ (v : Flows). Counts old.config.limits t u old.conns v h) (sym f) k))
 
 -- ---- one connection
--- it was written through, and its octets are as they were
+-- it was written through, and its write buffer is as it was
+pub above_through : (n : ℕ) (old new : PagedMap Conn) (v w : Conn) → value_at n old ≡ Some v → WritesThrough n old w new → w.outlet.write.above ≡ v.outlet.write.above → AboveStays old new
+above_through n old new v w found written same = record {
+  above_stays = λ c. by_case (n == c)
+      (λ e. ap above_in (there_now n old new v w found written c e) ∙ (same ∙ sym (ap (λ d. is_above_at d old) (sym (is_number n c e)) ∙ ap above_in found)))
+      (λ e. ap above_in (other_now n old new v w found written c e));
+  came = λ c there. by_case (n == c)
+      (λ e. ap (λ d. has_conn d old) (sym (is_number n c e)) ∙ ap is_some found)
+      (λ e. sym (ap is_some (other_now n old new v w found written c e)) ∙ there);
+}
+  where
+    abbrev above_in : Option Conn → Bool
+    above_in o = option_map_or (λ conn. conn.outlet.write.above) o false
+
 pub conn_keeps : (n : ℕ) (old new : WireCore) (v w : Conn) → value_at n old.conns ≡ Some v → WritesThrough n old.conns w new.conns
-    → w.outlet.write.octets ≡ v.outlet.write.octets → w.open ≡ v.open → new.flows ≡ old.flows → rest_of new ≡ rest_of old → Keeps old new
-conn_keeps n old new v w found written octets opened f r = keeps_by old new (config_kept old new r) (λ h s.
+    → w.outlet.write ≡ v.outlet.write → w.open ≡ v.open → new.flows ≡ old.flows → rest_of new ≡ rest_of old → Keeps old new
+conn_keeps n old new v w found written same opened f r = keeps_by old new (config_kept old new r) (λ h s.
     links_kept old new r h
     (subst (λ (fs : Flows). Stands old.config.limits new.conns fs old.links h) (sym f)
-    (conns_go old.conns new.conns old.flows old.links h (same_conns (conns_written n old.conns new.conns v w found written (λ xs. xs) octets opened)) s)))
+    (conns_go old.conns new.conns old.flows old.links h (same_conns (conns_written n old.conns new.conns v w found written (λ xs. xs) (ap (λ (b : Buffer). b.octets) same) opened)) s)))
+    (λ {t} {u} h s k. subst (λ (fs : Flows). Counts old.config.limits t u new.conns fs h) (sym f)
+    (counts_conns old.conns new.conns old.flows h (above_through n old.conns new.conns v w found written (ap (λ (b : Buffer). b.above) same)) k))
   where
     same_one : (b : Bool) (xs : List ℕ) → (if b then xs else xs) ≡ xs
     same_one true xs = refl
@@ -125,27 +153,38 @@ conn_keeps n old new v w found written octets opened f r = keeps_by old new (con
 -- ---- flows whose octets stay
 pub record KeepBodies (old new : Flows) : Type 0 where
   pub goes : {l : LimitKeys} → (conns : PagedMap Conn) (links : Links) (h : WayHistory) → Stands l conns old links h → Stands l conns new links h
+  -- and their counts
+  pub counts : {l : LimitKeys} {t u : Option ℕ} → (conns : PagedMap Conn) (h : WayHistory) → Counts l t u conns old h → Counts l t u conns new h
 
 flows_same : {l : LimitKeys} → (old new : Flows) → new ≡ old → (conns : PagedMap Conn) (links : Links) (h : WayHistory) → Stands l conns old links h → Stands l conns new links h
 flows_same {l} old new e conns links h s = subst (λ (f : Flows). Stands l conns f links h) (sym e) s
 
 pub same_bodies : (old new : Flows) → new ≡ old → KeepBodies old new
-same_bodies old new e = record { goes = λ conns links h s. flows_same old new e conns links h s }
+same_bodies old new e = record {
+  goes = λ conns links h s. flows_same old new e conns links h s;
+  counts = λ {l} {t} {u} conns h c. subst (λ (f : Flows). Counts l t u conns f h) (sym e) c;
+}
 
-pub gate_bodies : (old new : Flows) → new.exchanges ≡ old.exchanges → KeepBodies old new
-gate_bodies old new e = record { goes = flows_go old new (ap (λ (ex : Exchanges). ex.last) e) (λ f. ap (λ (ex : Exchanges). flow_at ex f) e) }
+-- only the gates changed
+pub gates_stand : {l : LimitKeys} → (old new : Flows) → new.exchanges ≡ old.exchanges → (conns : PagedMap Conn) (links : Links) (h : WayHistory) → Stands l conns old links h → Stands l conns new links h
+gates_stand old new e = flows_go old new (ap (λ (ex : Exchanges). ex.last) e) (λ f. ap (λ (ex : Exchanges). flow_at ex f) e)
 
-pub changed_bodies : (f : FlowId) (change : Flow → Flow) (old new : Flows) → ((flow : Flow) → flow_in old f ≡ Some flow → KeepsOctets flow (change flow)) → ChangesFlow f change old.exchanges new.exchanges → KeepBodies old new
-changed_bodies f change old new keeps c = record { goes = flow_goes f change old new keeps c }
+-- only one flow did, which keeps its octets, and its places are above where they were
+pub changed_bodies : (f : FlowId) (change : Flow → Flow) (old new : Flows) → ((flow : Flow) → flow_in old f ≡ Some flow → KeepsOctets flow (change flow)) → ((flow : Flow) → flow_in old f ≡ Some flow → PlacesKeep flow (change flow))
+    → new.gates ≡ old.gates → IsSound new → ChangesFlow f change old.exchanges new.exchanges → KeepBodies old new
+changed_bodies f change old new keeps places gates sound c = record {
+  goes = flow_goes f change old new keeps c;
+  counts = λ conns h k. counts_flows conns old new h (changed_keep f change old new places c) gates sound k;
+}
 
-pub bodies_told : {k l : LimitKeys} → (old new : Flows) → KeepBodies old new → (conns : PagedMap Conn) (links : Links) (h : WayHistory) (g : ℕ → List ℕ) (start notes : List Note) → ToldBy k l h g start conns old links notes → ToldBy k l h g start conns new links notes
-bodies_told old new k conns links h g start notes t = record { steps = t.steps; is = t.is; stands = k.goes conns links (after t.steps h) t.stands; left = t.left; under = t.under }
+pub bodies_told : {k l : LimitKeys} {t u : Option ℕ} → (old new : Flows) → KeepBodies old new → (conns : PagedMap Conn) (links : Links) (h : WayHistory) (g : ℕ → List ℕ) (start notes : List Note) → ToldBy k l t u h g start conns old links notes → ToldBy k l t u h g start conns new links notes
+bodies_told old new k conns links h g start notes t = record { steps = t.steps; is = t.is; stands = k.goes conns links (after t.steps h) t.stands; counts = k.counts conns (after t.steps h) t.counts; left = t.left; under = t.under }
 
 -- the same of a call that may fail
-pub changed_told : {k l : LimitKeys} {A E : Type 0} (r : Result A E) (f : FlowId) (change : Flow → Flow) (old new : Flows) → ((flow : Flow) → KeepsOctets flow (change flow)) → OnOk r (ChangesFlow f change old.exchanges new.exchanges)
-    → (conns : PagedMap Conn) (links : Links) (h : WayHistory) (g : ℕ → List ℕ) (start notes : List Note) → ToldBy k l h g start conns old links notes → OnOk r (ToldBy k l h g start conns new links notes)
-changed_told (Ok u) f change old new keeps c conns links h g start notes t = bodies_told old new (changed_bodies f change old new (λ flow e. keeps flow) c) conns links h g start notes t
-changed_told (Err x) f change old new keeps c conns links h g start notes t = tt
+pub changed_told : {k l : LimitKeys} {t u : Option ℕ} {A E : Type 0} (r : Result A E) (f : FlowId) (change : Flow → Flow) (old new : Flows) → ((flow : Flow) → KeepsOctets flow (change flow)) → ((flow : Flow) → PlacesKeep flow (change flow)) → new.gates ≡ old.gates → IsSound new → OnOk r (ChangesFlow f change old.exchanges new.exchanges)
+    → (conns : PagedMap Conn) (links : Links) (h : WayHistory) (g : ℕ → List ℕ) (start notes : List Note) → ToldBy k l t u h g start conns old links notes → OnOk r (ToldBy k l t u h g start conns new links notes)
+changed_told (Ok a) f change old new keeps places gates sound c conns links h g start notes t = bodies_told old new (changed_bodies f change old new (λ flow e. keeps flow) (λ flow e. places flow) gates sound c) conns links h g start notes t
+changed_told (Err x) f change old new keeps places gates sound c conns links h g start notes t = tt
 
 -- ---- at first
 pub first_stands : {l : LimitKeys} → (conns : PagedMap Conn) (flows : Flows) (links : Links) → conns.entries ≡ [] → flows.exchanges.live ≡ [] → links ≡ no_links → Stands l conns flows links []
@@ -172,8 +211,8 @@ first_stands {l} conns flows links c f none = record {
 
 -- ---- a mark
 -- nothing is noted, but the history has a mark more
-pub marked_told : {k l : LimitKeys} → (m : Way) (conns conns' : PagedMap Conn) (flows flows' : Flows) (links links' : Links)
-    → ((h : WayHistory) → Stands l conns flows links h → Stands l conns' flows' links' (Marked m ∷ h))
-    → (h : WayHistory) (g : ℕ → List ℕ) (start notes : List Note) → ToldBy k l h g start conns flows links notes → ToldBy k l h g start conns' flows' links' notes
-marked_told m conns conns' flows flows' links links' goes h g start notes t =
-    told_at h g start conns' conns' flows' links' (notes ++ []) notes refl (append-nil notes) (told_by (Marked m ∷ []) (λ k c. refl) conns conns' flows flows' links links' goes h g start notes t)
+pub marked_told : {k l : LimitKeys} {t u : Option ℕ} → (m : Way) (conns conns' : PagedMap Conn) (flows flows' : Flows) (links links' : Links)
+    → ((h : WayHistory) → Stands l conns flows links h → Stands l conns' flows' links' (Marked m ∷ h)) → CountsOn l t u t u conns conns' flows flows' links (Marked m ∷ [])
+    → (h : WayHistory) (g : ℕ → List ℕ) (start notes : List Note) → ToldBy k l t u h g start conns flows links notes → ToldBy k l t u h g start conns' flows' links' notes
+marked_told m conns conns' flows flows' links links' goes counts h g start notes t =
+    told_at h g start conns' conns' flows' links' (notes ++ []) notes refl (append-nil notes) (told_by (Marked m ∷ []) (λ k c. refl) conns conns' flows flows' links links' goes counts h g start notes t)

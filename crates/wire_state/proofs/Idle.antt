@@ -1,25 +1,29 @@
 -- Notes that move no octets, and notes that were owed.
-use Rattle.flow_gate.specs.declared.ids.BufferId.TheVariants as buffer
-use Rattle.flow_gate.specs.declared.ids.FlowId.{FlowId}
 use Rattle.flow_notes.specs.declared.notes.Note.{Note}
 use Rattle.flow_notes.specs.declared.notes.Note.TheVariants as note
 use Rattle.proxy_config.specs.declared.config.LimitKeys.{LimitKeys}
-use Rattle.std.proofs.Common.{append_assoc, refl, sym}
-use Rattle.std.proofs.lemmas.List.{append-nil}
+use Rattle.std.proofs.Common.{ap, append_assoc, refl, sym, ◌∙◌}
 use Rattle.paged_map.specs.PagedMap.{PagedMap}
-use Rattle.std.specs.Prelude.{Err, List, Ok, OnOk, Result, [], map, ℕ, ◌++◌, ◌∷◌, ◌≡◌}
+use Rattle.std.specs.Prelude.{Err, List, Ok, OnOk, Option, Result, [], ℕ, ◌++◌, ◌∷◌, ◌≡◌}
 use Rattle.tape_laws.specs.History.{Noted}
 use Rattle.wire_flows.specs.Flows.{Flows}
 use Rattle.wire_links.specs.Links.{Links}
 use Rattle.wire_state.proofs.Goings.{KeepsLeft, told_at, told_by}
+use Rattle.wire_state.proofs.Counting.{CountsGo, counts_go}
+use Rattle.wire_state.proofs.Quiets.{idle_go}
 use Rattle.wire_state.proofs.Standing.{KeepsFlows, KeepsShut, Writes, conns_same, same_octets, wrote}
+use Rattle.wire_state.specs.Counts.{Counts}
 use Rattle.wire_state.specs.Ways.{WayHistory}
-use Rattle.wire_state.specs.Worlds.{IsIdle, Pays, Shows, ToldBy}
+use Rattle.wire_state.specs.Worlds.{IsIdle, Pays, Shows, Stands, ToldBy}
 use Rattle.wire_state.specs.declared.conn.Conn.{Conn}
 
 pub paid : {A E : Type 0} (r : Result A E) (owed before now : List Note) → OnOk r (now ≡ before ++ owed) → Pays r owed before now
-paid (Ok u) owed before now e = record { goes = λ h g start conns flows links t. told_at h g start conns conns flows links (before ++ owed) now refl (sym e) t }
-paid (Err x) owed before now e = record { goes = λ h g start conns flows links t. tt }
+paid (Ok u) owed before now e = record {
+  goes = λ h g start conns flows links t. told_at h g start conns conns flows links (before ++ owed) now refl (sym e) t;
+  front = λ h g start rest conns flows links t.
+      told_at h g start conns conns flows links (before ++ (owed ++ rest)) (now ++ rest) refl (sym (ap (λ (ns : List Note). ns ++ rest) e ∙ append_assoc before owed rest)) t;
+}
+paid (Err x) owed before now e = record { goes = λ h g start conns flows links t. tt; front = λ h g start rest conns flows links t. tt }
 
 -- a step that changes nothing
 record IsNothing (n : Note) : Type 0 where
@@ -27,13 +31,32 @@ record IsNothing (n : Note) : Type 0 where
   flows : (h : WayHistory) → KeepsFlows (Noted n) h
   shut : (h : WayHistory) → KeepsShut (Noted n) h
   left : KeepsLeft (Noted n ∷ [])
+  counts : {l : LimitKeys} {t u : Option ℕ} (conns : PagedMap Conn) (fs : Flows) (h : WayHistory) → Counts l t u conns fs h → CountsGo t u t u conns conns fs fs (Noted n) [] h
 
 nothing_of : (n : Note) → IsIdle n → IsNothing n
-nothing_of (note.Pause f b) i = record { writes = λ h. record { outs = λ d. refl }; flows = λ h. record { places = λ g p. refl; stages = λ g. refl; stream = λ g. refl; came = λ g. refl; went = λ g. refl }; shut = λ h. record { closed = λ d. refl; come = λ d e. e }; left = λ h d. refl }
-nothing_of (note.Resume f b) i = record { writes = λ h. record { outs = λ d. refl }; flows = λ h. record { places = λ g p. refl; stages = λ g. refl; stream = λ g. refl; came = λ g. refl; went = λ g. refl }; shut = λ h. record { closed = λ d. refl; come = λ d e. e }; left = λ h d. refl }
-nothing_of (note.Waste c s n) i = record { writes = λ h. record { outs = λ d. refl }; flows = λ h. record { places = λ g p. refl; stages = λ g. refl; stream = λ g. refl; came = λ g. refl; went = λ g. refl }; shut = λ h. record { closed = λ d. refl; come = λ d e. e }; left = λ h d. refl }
-nothing_of (note.Fire k x) i = record { writes = λ h. record { outs = λ d. refl }; flows = λ h. record { places = λ g p. refl; stages = λ g. refl; stream = λ g. refl; came = λ g. refl; went = λ g. refl }; shut = λ h. record { closed = λ d. refl; come = λ d e. e }; left = λ h d. refl }
-nothing_of (note.Gone x) i = record { writes = λ h. record { outs = λ d. refl }; flows = λ h. record { places = λ g p. refl; stages = λ g. refl; stream = λ g. refl; came = λ g. refl; went = λ g. refl }; shut = λ h. record { closed = λ d. refl; come = λ d e. e }; left = λ h d. refl }
+nothing_of (note.Waste c s n) i = record {
+  writes = λ h. record { outs = λ d. refl };
+  flows = λ h. record { places = λ g p. refl; stages = λ g. refl; stream = λ g. refl; came = λ g. refl; went = λ g. refl };
+  shut = λ h. record { closed = λ d. refl; come = λ d e. e };
+  left = λ h d. refl;
+  counts = λ conns fs h counted. idle_go conns fs (Noted (note.Waste c s n)) h counted (λ f. record { stages = refl; conn = refl; spared = refl }) refl tt (λ f. (refl, refl)) (λ f. refl) (λ f. refl);
+}
+nothing_of (note.Fire k x) i = record {
+  writes = λ h. record { outs = λ d. refl };
+  flows = λ h. record { places = λ g p. refl; stages = λ g. refl; stream = λ g. refl; came = λ g. refl; went = λ g. refl };
+  shut = λ h. record { closed = λ d. refl; come = λ d e. e };
+  left = λ h d. refl;
+  counts = λ conns fs h counted. idle_go conns fs (Noted (note.Fire k x)) h counted (λ f. record { stages = refl; conn = refl; spared = refl }) refl tt (λ f. (refl, refl)) (λ f. refl) (λ f. refl);
+}
+nothing_of (note.Gone x) i = record {
+  writes = λ h. record { outs = λ d. refl };
+  flows = λ h. record { places = λ g p. refl; stages = λ g. refl; stream = λ g. refl; came = λ g. refl; went = λ g. refl };
+  shut = λ h. record { closed = λ d. refl; come = λ d e. e };
+  left = λ h d. refl;
+  counts = λ conns fs h counted. idle_go conns fs (Noted (note.Gone x)) h counted (λ f. record { stages = refl; conn = refl; spared = refl }) refl tt (λ f. (refl, refl)) (λ f. refl) (λ f. refl);
+}
+nothing_of (note.Pause f b) i = absurd i
+nothing_of (note.Resume f b) i = absurd i
 nothing_of (note.Turn k e) i = absurd i
 nothing_of (note.Start x c s d) i = absurd i
 nothing_of (note.Arrive f octets) i = absurd i
@@ -47,22 +70,13 @@ nothing_of (note.Doom x why) i = absurd i
 nothing_of (note.Close c code why) i = absurd i
 
 module _ (conns : PagedMap Conn) (flows : Flows) (links : Links) where
-  one_told : {k l : LimitKeys} → (n : Note) → IsIdle n → (h : WayHistory) (g : ℕ → List ℕ) (start before : List Note) → ToldBy k l h g start conns flows links before → ToldBy k l h g start conns flows links (before ++ n ∷ [])
-  one_told n i = let e = nothing_of n i in
-      told_by (Noted n ∷ []) (e.left) conns conns flows flows links links (λ h s. wrote same_octets (Noted n) h conns conns flows links (e.writes h) (e.flows h) (e.shut h) (conns_same conns) (λ c fit. fit) s)
-
-  pauses_told : {k l : LimitKeys} → (c : ℕ) (fs : List FlowId) (h : WayHistory) (g : ℕ → List ℕ) (start before : List Note) → ToldBy k l h g start conns flows links before
-      → ToldBy k l h g start conns flows links (before ++ map (λ f. note.Pause f (buffer.Write c)) fs)
-  pauses_told c [] h g start before t = told_at h g start conns conns flows links before (before ++ []) refl (sym (append-nil before)) t
-  pauses_told c (f ∷ fs) h g start before t =
-      told_at h g start conns conns flows links ((before ++ note.Pause f (buffer.Write c) ∷ []) ++ map (λ g. note.Pause g (buffer.Write c)) fs) (before ++ note.Pause f (buffer.Write c) ∷ map (λ g. note.Pause g (buffer.Write c)) fs) refl
-      (append_assoc before (note.Pause f (buffer.Write c) ∷ []) (map (λ g. note.Pause g (buffer.Write c)) fs))
-      (pauses_told c fs h g start (before ++ note.Pause f (buffer.Write c) ∷ []) (one_told (note.Pause f (buffer.Write c)) tt h g start before t))
+  one_told : {k l : LimitKeys} {t u : Option ℕ} → (n : Note) → IsIdle n → (h : WayHistory) (g : ℕ → List ℕ) (start before : List Note) → ToldBy k l t u h g start conns flows links before → ToldBy k l t u h g start conns flows links (before ++ n ∷ [])
+  one_told {l = l} {t = t} {u = u} n i =
+      let e = nothing_of n i in
+      let stand : (h : WayHistory) → Stands l conns flows links h → Stands l conns flows links (Noted n ∷ h) = λ h s. wrote same_octets (Noted n) h conns conns flows links (e.writes h) (e.flows h) (e.shut h) (conns_same conns) (λ c fit. fit) s in
+      told_by (Noted n ∷ []) (e.left) conns conns flows flows links links stand
+      (λ h s c. counts_go t u t u conns conns flows flows (Noted n) [] h links links (e.counts conns flows h c) s (stand h s) c)
 
 pub idle : {A E : Type 0} (r : Result A E) (n : Note) (before now : List Note) → OnOk r (now ≡ before ++ n ∷ []) → IsIdle n → Shows r before now
 idle (Ok u) n before now e i = record { goes = λ h g start conns flows links t. told_at h g start conns conns flows links (before ++ n ∷ []) now refl (sym e) (one_told conns flows links n i h g start before t) }
 idle (Err x) n before now e i = record { goes = λ h g start conns flows links t. tt }
-
-pub pauses : {A E : Type 0} (r : Result A E) (c : ℕ) (fs : List FlowId) (before now : List Note) → OnOk r (now ≡ before ++ map (λ f. note.Pause f (buffer.Write c)) fs) → Shows r before now
-pauses (Ok u) c fs before now e = record { goes = λ h g start conns flows links t. told_at h g start conns conns flows links (before ++ map (λ f. note.Pause f (buffer.Write c)) fs) now refl (sym e) (pauses_told conns flows links c fs h g start before t) }
-pauses (Err x) c fs before now e = record { goes = λ h g start conns flows links t. tt }

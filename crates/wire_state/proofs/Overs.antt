@@ -23,6 +23,7 @@ use Rattle.wire_flows.proofs.Cases.{by_case, number_is}
 use Rattle.wire_flows.specs.Sound.{buffer_of}
 use Rattle.wire_state.proofs.Held.{apart}
 use Rattle.wire_state.proofs.Promised.{same_place}
+use Rattle.wire_state.specs.Counts.{AreOver}
 use Rattle.wire_state.specs.Limits.{shape_of, stage_shape}
 use Rattle.wire_state.specs.Tapes.{tape_setup}
 use Rattle.wire_state.specs.Ways.{WayHistory, WayStep, stages_passed}
@@ -117,10 +118,6 @@ pub record PlaceGoes (old new : Place) : Type 0 where
 
 pub record FlowGoes (old new : Flow) : Type 0 where
   pub each : (p : ℕ) (y : Place) → place_at new.chain.places p ≡ Some y → (x : Place) × (place_at old.chain.places p ≡ Some x) × PlaceGoes x y
-
--- its sources are above where those of the tape are
-abbrev pub AreOver : LimitKeys → FlowId → WayHistory → Flow → Type 0
-AreOver l f h flow = (p : ℕ) (x : Place) → place_at flow.chain.places p ≡ Some x → is_source x.kind ≡ true → x.above ≡ above (tape_setup l) (buffer_of f p (kind_of x.kind)) h
 
 module _ (l : LimitKeys) (f : FlowId) (step : WayStep) (h : WayHistory) (old new : Flow) (was : FlowIs l f h old) (is : FlowIs l f (step ∷ h) new)
     (i : ℕ) (y : Place) (found : slice_get new.chain.places i ≡ Some y) (source : is_source y.kind ≡ true)
