@@ -3,11 +3,11 @@ ghost use Rattle.std.specs.Prelude.{◌≡◌, ◌≤◌, ◌<◌, ◌+◌, IfSo
 ghost use Rattle.wire_flows.specs.Flows.{is_live_in};
 ghost use Rattle.wire_flows.specs.Moves.{IsMove};
 ghost use Rattle.wire_state.specs.Agenda.{top_go};
-ghost use Rattle.wire_state.specs.Noting.{Appends};
+ghost use Rattle.wire_state.specs.Noting.{Appends, crossed_of, late_of, moved_of, pause_of};
 ghost use Rattle.wire_state.specs.Progress.{to_go};
 ghost use Rattle.wire_state.specs.Sound.{IsSound};
 ghost use Rattle.flow_notes.specs.Buffer.{CanPause};
-ghost use Rattle.wire_state.specs.Worlds.{Goes, Keeps, KeepsOk, Shows};
+ghost use Rattle.wire_state.specs.Worlds.{Goes, Keeps, KeepsOk, Pays, Settles};
 ghost use Rattle.flow_notes.specs.declared.notes.Note.TheVariants as note;
 
 use crate::drains::{drain_by, next_unit};
@@ -253,7 +253,7 @@ fn go_on(
     ensures sound { OnOk result (IsSound core.new) }
     ensures go { OnOk result (to_go core.new ≤ to_go core.old + 11) }
     ensures notes { Appends notes.old notes.new }
-    ensures octets { Goes result core.old (notes.old ++ note.Move course.flow moved.place moved.n ∷ []) core.new notes.new }
+    ensures octets { Settles (late_of course.flow moved) result core.old (notes.old ++ moved_of course.flow moved) core.new notes.new }
 {
     core.go_on(Task::Run {
         course,
@@ -323,14 +323,12 @@ fn cross(
     ensures sound { OnOk result (IsSound core.new) }
     ensures go { OnOk result (to_go core.new ≤ to_go core.old + 1) }
     ensures notes { Appends notes.old notes.new }
-    ensures octets { Goes result core.old notes.old core.new notes.new }
+    ensures octets { Settles (late_of course.flow moved) result core.old (notes.old ++ crossed_of course.flow moved) core.new notes.new }
 {
     note_pause(course.flow, moved.rose, notes)?;
     if moved.overflow {
-        return core.begin(Task::Doom {
-            exchange: course.flow.exchange,
-            cause: Cause::Overflow,
-        });
+        let exchange = course.flow.exchange;
+        return doom(core, exchange, Cause::Overflow, Origin::Neither, notes);
     }
     match moved.drained {
         Some(buffer) => resume(core, course, buffer, notes),
@@ -342,7 +340,7 @@ fn cross(
 fn note_pause(flow: FlowId, rose: Option<BufferId>, notes: &mut Notes) -> Result<(), NoMemory>
     requires { IfSome rose (CanPause flow) }
     ensures notes { Appends notes.old notes.new }
-    ensures octets { Shows result notes.old notes.new }
+    ensures paid { Pays result (pause_of flow rose) notes.old notes.new }
 {
     match rose {
         Some(buffer) => note(notes, Note::Pause { flow, buffer }),
@@ -362,7 +360,7 @@ fn resume(
     ensures sound { OnOk result (IsSound core.new) }
     ensures go { OnOk result (to_go core.new ≤ to_go core.old) }
     ensures notes { Appends notes.old notes.new }
-    ensures octets { Goes result core.old notes.old core.new notes.new }
+    ensures octets { Goes result core.old (notes.old ++ note.Resume course.flow buffer ∷ []) core.new notes.new }
 {
     let flow = course.flow;
     core.look_due(course)?;

@@ -14,19 +14,23 @@ use Rattle.proxy_config.specs.declared.config.LimitKeys.{LimitKeys}
 use Rattle.std.proofs.Common.{ap, arith, inl, inr, refl, subst, sym, ◌∙◌}
 use Rattle.std.proofs.lemmas.Bool.Decides.{nat_tests}
 use Rattle.std.specs.Option.{option_and_then, option_map, option_map_or}
-use Rattle.std.specs.Prelude.{Bool, IsSome, List, None, Option, Some, [], false, if◌then◌else◌, is_some, length, not, true, ℕ, ◌&&◌, ◌<◌, ◌==◌, ◌||◌, ◌∷◌, ◌≡◌, ◌≤◌, ◌⊎◌}
+use Rattle.std.specs.Prelude.{Bool, IsSome, List, None, Option, Some, [], false, if◌then◌else◌, is_some, length, not, true, ℕ, ◌&&◌, ◌++◌, ◌+◌, ◌<◌, ◌==◌, ◌||◌, ◌∷◌, ◌≡◌, ◌≤◌, ◌⊎◌}
+use Rattle.tape_laws.specs.Dispatches.{has, live}
+use Rattle.tape_laws.specs.Headline.{CountsItsSources}
+use Rattle.tape_laws.specs.History.{BeforeTurn}
+use Rattle.tape_laws.specs.Pauses.{pauses, resumes}
 use Rattle.tape_laws.specs.Sources.{source_buffers}
 use Rattle.tape_laws.specs.Watermark.{above, rises_at}
 use Rattle.wire_flows.proofs.Cases.{by_case}
-use Rattle.wire_flows.specs.Flows.{Flows, flow_in, goes_to, is_there, watches_of}
+use Rattle.wire_flows.specs.Flows.{Flows, flow_in, goes_to, is_live_in, is_there, watches_of}
 use Rattle.wire_flows.specs.Sound.{IsSound}
 use Rattle.wire_flows.specs.Writes.{Write, raised, watchers_on, write_at}
 use Rattle.wire_links.specs.Links.{Links}
-use Rattle.wire_state.proofs.Counting.{AboveGoes, IsSeen, above_written, over_now, watchers_were}
+use Rattle.wire_state.proofs.Counting.{AboveGoes, CountsGo, FlowsGo, IsSeen, WayStays, above_written, lows_stay, over_now, watchers_were}
 use Rattle.wire_state.proofs.Held.{is_number}
-use Rattle.wire_state.proofs.Holding.{AreHolds, paused_in, pauses_hold, pauses_resume_none, pauses_times, resumed_in}
+use Rattle.wire_state.proofs.Holding.{AreHolds, all_append, paused_append, paused_in, pauses_hold, pauses_resume_none, pauses_times, resumed_append, resumed_in}
 use Rattle.wire_state.proofs.Promised.{same_out}
-use Rattle.wire_state.proofs.Rising.{of_one, risen}
+use Rattle.wire_state.proofs.Rising.{drained, of_one, risen}
 use Rattle.wire_state.proofs.Standing.{other_now, there_now}
 use Rattle.wire_state.specs.Counts.{Counts, Fills, MayLag, holds_back, is_above_at}
 use Rattle.wire_state.specs.Noting.{risen_of}
@@ -143,3 +147,45 @@ module _ {l : LimitKeys} {t u : Option ℕ} (n : ℕ) (old new : PagedMap Conn) 
         ∙ (ap (λ (k : ℕ). if rose then k else 0) (watchers_were t u t u old new flows flows' step tail h sound f flow seen (buffer.Write n))
         ∙ (ap (λ (b : Bool). if b then times_of_buffer (buffer.Write n) (source_buffers (tape_setup l) f h) else 0) (sym rises)
         ∙ ap (of_one (λ b. rises_at (tape_setup l) b step h) (source_buffers (tape_setup l) f h)) (sym fed)))
+
+    -- all of it; other notes may stand behind the pauses, that pause no flow
+    pub fills_go : fed_by (tape_setup l) step h ≡ Some (buffer.Write n) → FlowsGo flows flows' → ((x : ℕ) → is_live_in flows' x ≡ is_live_in flows x)
+        → (more : List Note) → AreHolds more → ((f : FlowId) → paused_in f more ≡ 0) → ((f : FlowId) → flows.exchanges.last < f.exchange → resumed_in f more ≡ 0)
+        → ((f : FlowId) → WayStays t u t u old new flows flows' step (risen_of rose n (watchers_on n flows') ++ more) h f) → live (step ∷ h) ≡ live h → BeforeTurn (CountsItsSources (tape_setup l)) step h
+        → ((f : FlowId) → (pauses f (step ∷ h) ≡ pauses f h) × (resumes f (step ∷ h) ≡ resumes f h))
+        → ((f : FlowId) (flow : Flow) → IsSeen t u t u old new flows flows' step (risen_of rose n (watchers_on n flows') ++ more) h f flow → resumed_in f more ≡ drained l f step h)
+        → CountsGo t u t u old new flows flows' step (risen_of rose n (watchers_on n flows') ++ more) h
+    fills_go fed go same more holds unpaused unresumed ways living turned quiet drops = record {
+      sound = fills.sound c.sound;
+      flows_go = go;
+      ways = λ f there. ways f;
+      lives = λ x. ap (λ (xs : List ℕ). has xs x) living ∙ (c.living x ∙ sym (same x));
+      writes = fills_writes;
+      marks = fills_marks;
+      known = fills_known;
+      told = fills_told;
+      turns = turned;
+      holds = all_append (risen_of rose n (watchers_on n flows')) more (risen_holds rose n (watchers_on n flows')) holds;
+      quiet = quiet;
+      paused = λ f flow seen. paused_append f (risen_of rose n (watchers_on n flows')) more (risen_holds rose n (watchers_on n flows'))
+          ∙ no_more _ _ _ (fills_pauses fed (fills.sound c.sound) (risen_of rose n (watchers_on n flows') ++ more) f flow seen) (unpaused f);
+      resumed = λ f flow seen. resumes_more _ _ _ _ _
+          (resumed_append f (risen_of rose n (watchers_on n flows')) more (risen_holds rose n (watchers_on n flows')) ∙ no_first _ _ (risen_resumes_none f rose n (watchers_on n flows')))
+          (lows_stay t u t u old new flows flows' step (risen_of rose n (watchers_on n flows') ++ more) h c.sound (fills.sound c.sound) fills.lows.lows f flow seen) (drops f flow seen);
+      none = λ f lt. let few = risen_none flows flows' (fills.sound c.sound) go.last f lt rose n in (
+        paused_append f (risen_of rose n (watchers_on n flows')) more (risen_holds rose n (watchers_on n flows')) ∙ both_none _ _ few.0 (unpaused f),
+        resumed_append f (risen_of rose n (watchers_on n flows')) more (risen_holds rose n (watchers_on n flows')) ∙ both_none _ _ few.1 (unresumed f lt),
+      );
+    }
+      where
+        no_more : (a b k : ℕ) → a ≡ k → b ≡ 0 → a + b ≡ k
+        no_more a b k e i = omega (arith, e, i)
+
+        no_first : (a b : ℕ) → a ≡ 0 → a + b ≡ b
+        no_first a b e = omega (arith, e)
+
+        both_none : (a b : ℕ) → a ≡ 0 → b ≡ 0 → a + b ≡ 0
+        both_none a b e i = omega (arith, e, i)
+
+        resumes_more : (w1 w0 r m d : ℕ) → r ≡ m → w1 ≡ w0 → m ≡ d → w1 + r ≡ w0 + d
+        resumes_more w1 w0 r m d e i j = omega (arith, e, i, j)

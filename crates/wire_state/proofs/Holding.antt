@@ -7,6 +7,7 @@ use Rattle.flow_laws.proofs.Flags.{flag_now}
 use Rattle.flow_laws.proofs.Lists.{count_cons, flow_swapped, one_if}
 use Rattle.flow_notes.specs.declared.notes.Note.{Note}
 use Rattle.flow_notes.specs.declared.notes.Note.TheVariants as note
+use Rattle.paged_map.specs.PagedMap.{PagedMap}
 use Rattle.proxy_config.specs.declared.config.LimitKeys.{LimitKeys}
 use Rattle.std.proofs.Common.{ap, arith, refl, sym, ◌∙◌}
 use Rattle.std.specs.List.{AllByRecursion}
@@ -18,9 +19,14 @@ use Rattle.tape_laws.specs.History.{BeforeTurn, EachFollows, Noted}
 use Rattle.tape_laws.specs.Pauses.{pauses, resumes}
 use Rattle.tape_laws.specs.Watermark.{above}
 use Rattle.tape_laws.specs.World.{gone}
+use Rattle.wire_flows.specs.Flows.{Flows}
+use Rattle.wire_links.specs.Links.{Links}
+use Rattle.wire_state.proofs.Standing.{conns_same, pause_flows, pause_shut, pause_writes, resume_flows, resume_shut, resume_writes, same_octets, wrote}
 use Rattle.wire_state.specs.Noting.{pauses_of}
 use Rattle.wire_state.specs.Tapes.{conn_to, tape_setup}
 use Rattle.wire_state.specs.Ways.{WayHistory, WayStep, after, shown, stages_passed, world_setup}
+use Rattle.wire_state.specs.Worlds.{Stands}
+use Rattle.wire_state.specs.declared.conn.Conn.{Conn}
 
 abbrev pub IsHold : Note → Type 0
 IsHold (note.Pause f b) = Unit {0}
@@ -169,3 +175,13 @@ pauses_times f c (g ∷ gs) = sums _ _ _ _ _ (ap one_if (flow_swapped g f)) (pau
   where
     sums : (a b n m k : ℕ) → a ≡ b → n ≡ m → k ≡ b + m → a + n ≡ k
     sums a b n m k e1 e2 e3 = omega (arith, e1, e2, e3)
+
+-- ---- a core goes on to stand for its tape
+hold_stands : {l : LimitKeys} → (n : Note) → IsHold n → (conns : PagedMap Conn) (flows : Flows) (links : Links) (h : WayHistory) → Stands l conns flows links h → Stands l conns flows links (Noted n ∷ h)
+hold_stands (note.Pause f b) i conns flows links h s = wrote same_octets (Noted (note.Pause f b)) h conns conns flows links (pause_writes h f b) (pause_flows h f b) (pause_shut h f b) (conns_same conns) (λ c fit. fit) s
+hold_stands (note.Resume f b) i conns flows links h s = wrote same_octets (Noted (note.Resume f b)) h conns conns flows links (resume_writes h f b) (resume_flows h f b) (resume_shut h f b) (conns_same conns) (λ c fit. fit) s
+hold_stands n i conns flows links h s = absurd i
+
+pub holds_stand : {l : LimitKeys} → (ns : List Note) → AreHolds ns → (conns : PagedMap Conn) (flows : Flows) (links : Links) (h : WayHistory) → Stands l conns flows links h → Stands l conns flows links (after (noted ns) h)
+holds_stand [] a conns flows links h s = s
+holds_stand (n ∷ ns) a conns flows links h s = holds_stand ns a.1 conns flows links (Noted n ∷ h) (hold_stands n a.0 conns flows links h s)

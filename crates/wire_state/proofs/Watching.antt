@@ -68,7 +68,7 @@ zero_first : (x : Bool) (n m : ℕ) → x ≡ false → n ≡ m → one_if x + n
 zero_first true n m e i = cc
 zero_first false n m e i = omega (arith, i)
 
-last_one : (x : Bool) → one_if x + 0 ≡ one_if x
+pub last_one : (x : Bool) → one_if x + 0 ≡ one_if x
 last_one true = refl
 last_one false = refl
 

@@ -1,8 +1,21 @@
 -- Units that went into a write buffer, with the notes that are owed for them.
 use Rattle.exchange_core.specs.Changes.{ChangesFlow}
 use Rattle.exchange_core.specs.Effects.{body_framed, list_framed}
-use Rattle.exchange_core.specs.Flow.{Flow, send}
+use Rattle.exchange_core.specs.Exchange.{flow_in as side_of}
+use Rattle.exchange_core.specs.Exchanges.{exchange_at, flow_at, is_send_above, target_of}
+use Rattle.exchange_core.specs.Flow.{Flow, last_place as send_place, send}
+use Rattle.exchange_core.specs.declared.exchange.Exchange.{Exchange}
+use Rattle.filter_chain.specs.Chain.{above_in}
+use Rattle.flow_gate.proofs.SameIds.{same_buffer_exact, same_flow_exact}
+use Rattle.flow_gate.specs.Board.{pending_on, watched_by}
+use Rattle.flow_gate.specs.Ids.{same_buffer, same_flow}
+use Rattle.flow_gate.specs.declared.ids.BufferId.{BufferId}
+use Rattle.flow_gate.specs.declared.ids.BufferId.TheVariants as buffer
 use Rattle.flow_gate.specs.declared.ids.FlowId.{FlowId}
+use Rattle.flow_laws.proofs.Flags.{flag_now}
+use Rattle.flow_laws.proofs.Lists.{one_if}
+use Rattle.flow_laws.proofs.Spared.{spares}
+use Rattle.flow_laws.specs.Steps.{fed_by}
 use Rattle.flow_notes.specs.declared.events.Event.TheVariants as event
 use Rattle.flow_notes.specs.declared.notes.Note.{Note}
 use Rattle.flow_notes.specs.declared.notes.Note.TheVariants as note
@@ -11,39 +24,79 @@ use Rattle.h2_frames.specs.Head.{data_head}
 use Rattle.h2_frames.specs.Spelling.{spelling}
 use Rattle.io_ports.specs.declared.octets.NoMemory.{NoMemory}
 use Rattle.proxy_config.specs.declared.config.LimitKeys.{LimitKeys}
-use Rattle.std.proofs.Common.{ap, arith, refl, subst, sym, ◌∙◌}
+use Rattle.std.proofs.Common.{ap, arith, inl, refl, subst, sym, ◌∙◌}
 use Rattle.std.proofs.lemmas.List.{append-nil, length-drop, take_min}
 use Rattle.paged_map.specs.PagedMap.{PagedMap, WritesThrough, value_at}
-use Rattle.std.specs.Option.{option_and_then, option_map_or}
-use Rattle.std.specs.Prelude.{Bool, Err, IfOk, IfSome, List, MatchOption, None, Ok, Option, Result, Some, [], drop, false, if◌then◌else◌, length, min, suc, take, true, zero, ℕ, ◌++◌, ◌+◌, ◌<◌, ◌==◌, ◌∷◌, ◌≡◌, ◌≤◌}
+use Rattle.std.specs.Option.{option_and_then, option_map, option_map_or}
+use Rattle.std.specs.Prelude.{Bool, Err, IfOk, IfSome, IsSome, List, MatchOption, None, Ok, Option, Result, Some, [], drop, false, if◌then◌else◌, is_some, length, min, not, suc, take, true, zero, ℕ, ◌&&◌, ◌++◌, ◌+◌, ◌<◌, ◌==◌, ◌∷◌, ◌≡◌, ◌≤◌}
 use Rattle.tape_laws.specs.Flows.{request}
-use Rattle.tape_laws.specs.History.{Noted}
-use Rattle.tape_laws.specs.World.{window_update}
-use Rattle.wire_flows.specs.Flows.{Flows, flow_in}
+use Rattle.tape_laws.specs.Dispatches.{live}
+use Rattle.tape_laws.specs.Headline.{CountsItsSources}
+use Rattle.tape_laws.specs.History.{BeforeTurn, Noted}
+use Rattle.tape_laws.specs.Pauses.{pauses, resumes}
+use Rattle.tape_laws.specs.Watermark.{above, drains_at}
+use Rattle.tape_laws.specs.World.{last_place, out, window_update}
+use Rattle.wire_flows.proofs.Cases.{by_case}
+use Rattle.wire_flows.proofs.Found.{live_after}
+use Rattle.wire_flows.specs.Flows.{Flows, flow_in, is_live_in, is_there, watches_of}
+use Rattle.wire_flows.specs.Sound.{IsSound}
+use Rattle.wire_flows.specs.Writes.{Write, watchers_on, write_at}
+use Rattle.wire_flows.specs.declared.framing.Framed.{Framed}
 use Rattle.wire_links.specs.Links.{Links, ends_of}
 use Rattle.wire_links.specs.declared.links.exchanges.Ends.{Ends}
-use Rattle.wire_state.proofs.Bodies.{frames}
+use Rattle.wire_state.proofs.Bodies.{flow_goes, frames}
+use Rattle.wire_state.proofs.Counted.{none_lags}
+use Rattle.wire_state.proofs.Counting.{CountsGo, FlowsGo, IsSeen, changed_go, counts_go, same_go}
+use Rattle.wire_state.proofs.CountsKept.{AboveStays, FlowsKeep, counts_conns, counts_gates, exchanges_keep}
+use Rattle.wire_state.proofs.Drained.{frees_go, lows_seen}
+use Rattle.wire_state.proofs.Filled.{fills_go, fills_known, fills_marks, fills_told, risen_holds}
+use Rattle.wire_state.proofs.Holding.{AreHolds, all_append, holds_gone, holds_stand, noted, paused_in, resumed_in, shown_noted}
+use Rattle.wire_state.proofs.Overs.{framed_goes, send_over}
+use Rattle.wire_state.proofs.Promised.{same_out}
+use Rattle.wire_state.proofs.Rising.{drained}
+use Rattle.wire_state.proofs.Watching.{last_one, lows_same, send_times, watches}
 use Rattle.wire_state.proofs.Fitting.{less_out}
-use Rattle.wire_state.proofs.Goings.{KeepBodies, KeepsLeft, changed_bodies, config_kept, config_told, keeps_by, links_kept, owes_by, rest_of, same_bodies, told_as, told_at}
+use Rattle.wire_state.proofs.Goings.{KeepsLeft, above_through, config_kept, config_told, conn_keeps, gates_stand, links_kept, owes_by, rest_of, told_as, told_at}
 use Rattle.wire_state.proofs.Held.{is_number, listed_keeps}
 use Rattle.wire_state.proofs.Standing.{ConnsAre, KeepsFlows, KeepsShut, Writes, answer_flows, answer_shut, answer_writes, at_one, conns_go, conns_written, credit_flows, credit_shut, credit_writes, head_flows, head_shut, head_writes, out_flows, out_shut, one_room, out_writes, same_octets, wrote}
+use Rattle.wire_state.specs.Counts.{Counts, Fills, Frees, IsCounted, eased, is_above_at}
 use Rattle.wire_state.specs.Limits.{OutFits}
 use Rattle.wire_state.specs.Sound.{AreKept, IsKept, unit_of}
-use Rattle.wire_state.specs.Ways.{WayHistory, WayStep, shown, stream_to}
-use Rattle.wire_state.specs.Worlds.{EndsAre, Keeps, Leaves, Owes, Stands, ToldBy, left_after, octets_of, stream_in}
-use Rattle.wire_state.specs.Noting.{answers_of, heads_of}
-use Rattle.wm_buffer.specs.declared.watermark.Crossed.{Crossed}
+use Rattle.wire_state.specs.Tapes.{conn_to, tape_setup}
+use Rattle.wire_state.specs.Ways.{WayHistory, WayStep, after, stages_passed, stream_to}
+use Rattle.wire_state.specs.Worlds.{EndsAre, FlowIs, Keeps, Leaves, Owes, Stands, Told, ToldBy, left_after, octets_of, stream_in}
+use Rattle.wire_state.specs.Noting.{answers_of, framed_of, heads_of, risen_of, told_of}
+use Rattle.wm_buffer.specs.Watermark.{above_after}
 use Rattle.wire_state.specs.declared.conn.Conn.{Conn}
 use Rattle.wire_state.specs.declared.wire_core.WireCore.{WireCore}
 
-pub listed_bodies : (f : FlowId) (last : Bool) (old new : Flows) → ChangesFlow f (list_framed last) old.exchanges new.exchanges → KeepBodies old new
-listed_bodies f last old new c = changed_bodies f (list_framed last) old new (λ flow e. listed_keeps last flow) c
+-- what holds of the octets of the flows goes on to
+pub record BodiesStand (old new : Flows) : Type 0 where
+  pub goes : {l : LimitKeys} → (conns : PagedMap Conn) (links : Links) (h : WayHistory) → Stands l conns old links h → Stands l conns new links h
+
+pub gate_bodies : (old new : Flows) → new.exchanges ≡ old.exchanges → BodiesStand old new
+gate_bodies old new e = record { goes = gates_stand old new e }
+
+pub listed_bodies : (f : FlowId) (last : Bool) (old new : Flows) → ChangesFlow f (list_framed last) old.exchanges new.exchanges → BodiesStand old new
+listed_bodies f last old new c = record { goes = flow_goes f (list_framed last) old new (λ flow e. listed_keeps last flow) c }
 
 pub owes_none : (old new : WireCore) → Keeps old new → Owes [] old new
 owes_none old new k = record { goes = λ h g start notes t. told_at h g start new.conns new.conns new.flows new.links notes (notes ++ []) refl (sym (append-nil notes)) (k.goes h g start notes t) }
 
+-- a note, and pauses and resumes behind it, are still to be noted
+pub owes_held : (n : Note) (tail : List Note) → AreHolds tail → KeepsLeft (Noted n ∷ []) → (old new : WireCore) → new.config ≡ old.config
+    → ((h : WayHistory) → Stands old.config.limits old.conns old.flows old.links h → Stands old.config.limits new.conns new.flows new.links (Noted n ∷ h))
+    → ({t u : Option ℕ} (h : WayHistory) → Stands old.config.limits old.conns old.flows old.links h → Stands old.config.limits new.conns new.flows new.links (Noted n ∷ h) → Counts old.config.limits t u old.conns old.flows h
+    → CountsGo t u t u old.conns new.conns old.flows new.flows (Noted n) tail h) → Owes (n ∷ tail) old new
+owes_held n tail holds left old new same stand go = subst (λ (ns : List Note). Owes (n ∷ ns) old new) (shown_noted tail)
+    (owes_by (Noted n ∷ noted tail) (λ h c. holds_gone tail holds (Noted n ∷ h) c ∙ left h c) old new same
+    (λ h s. holds_stand tail holds new.conns new.flows new.links (Noted n ∷ h) (stand h s))
+    (λ {t} {u} h s c. counts_go t u t u old.conns new.conns old.flows new.flows (Noted n) tail h old.links new.links (go h s (stand h s) c) s (stand h s) c))
+
 module _ (n : ℕ) (old new : WireCore) (v w : Conn) (found : value_at n old.conns ≡ Some v) (written : WritesThrough n old.conns w new.conns)
-    (opened : w.open ≡ v.open) (bodies : KeepBodies old.flows new.flows) (rest : rest_of new ≡ rest_of old) where
+    (opened : w.open ≡ v.open) (bodies : BodiesStand old.flows new.flows) (rest : rest_of new ≡ rest_of old)
+    (go : FlowsGo old.flows new.flows) (keep : FlowsKeep old.flows new.flows) (limit : v.outlet.write.limit ≡ old.config.limits.write_buffer)
+    (rose : Bool) (fills : Fills n rose v.outlet.write w.outlet.write old.flows new.flows) where
   -- what is in the write buffer fits again
   abbrev pub Room : Type 0
   Room = OutFits old.config.limits v.outlet.write.octets → OutFits old.config.limits w.outlet.write.octets
@@ -57,9 +110,8 @@ module _ (n : ℕ) (old new : WireCore) (v w : Conn) (found : value_at n old.con
       let c = conns_written n old.conns new.conns v w found written (λ xs. xs) e opened in
       record { octets = λ d. c.octets d ∙ same_one (n == d) (octets_of d old.conns); shut = c.shut; there = c.there }
 
-  -- nothing went in
-  pub nothing_written : w.outlet.write.octets ≡ v.outlet.write.octets → Keeps old new
-  nothing_written e = keeps_by old new (config_kept old new rest) (λ h s. links_kept old new rest h (bodies.goes new.conns old.links h (conns_go old.conns new.conns old.flows old.links h (stays e) s)))
+  abbrev held : List Note
+  held = risen_of rose n (watchers_on n new.flows)
 
   -- a step writes these
   step_stands : (g : List ℕ → List ℕ) (step : WayStep) → w.outlet.write.octets ≡ g v.outlet.write.octets → Room
@@ -68,94 +120,90 @@ module _ (n : ℕ) (old new : WireCore) (v w : Conn) (found : value_at n old.con
   step_stands g step e room outs flows shut h s = links_kept old new rest (step ∷ h)
       (bodies.goes new.conns old.links (step ∷ h) (wrote (at_one n g) step h old.conns new.conns old.flows old.links (outs h) (flows h) (shut h) (conns_written n old.conns new.conns v w found written g e opened) (one_room old.config.limits n old.conns new.conns v w found written room) s))
 
-  step_written : (g : List ℕ → List ℕ) (step : WayStep) → KeepsLeft (step ∷ []) → w.outlet.write.octets ≡ g v.outlet.write.octets → Room
-      → ((h : WayHistory) → Writes (at_one n g) step h) → ((h : WayHistory) → KeepsFlows step h) → ((h : WayHistory) → KeepsShut step h) → Owes (shown (step ∷ [])) old new
-  step_written g step left e room outs flows shut = owes_by (step ∷ []) left old new (config_kept old new rest) (step_stands g step e room outs flows shut)
+  nobody : (xs : List Note) → xs ++ [] ≡ xs
+  nobody xs = append-nil xs
 
-  pub answer_written : (octets : List ℕ) → Room → w.outlet.write.octets ≡ v.outlet.write.octets ++ octets → Owes (answers_of n octets) old new
-  answer_written [] room e = owes_none old new (nothing_written (e ∙ append-nil v.outlet.write.octets))
-  answer_written (o ∷ os) room e = step_written (λ xs. xs ++ o ∷ os) (Noted (note.Answer n (o ∷ os))) (λ h c. refl) e room (λ h. answer_writes h n (o ∷ os)) (λ h. answer_flows h n (o ∷ os)) (λ h. answer_shut h n (o ∷ os))
+  -- with its note
+  note_written : (g : List ℕ → List ℕ) (m : Note) → KeepsLeft (Noted m ∷ []) → w.outlet.write.octets ≡ g v.outlet.write.octets → Room
+      → ((h : WayHistory) → Writes (at_one n g) (Noted m) h) → ((h : WayHistory) → KeepsFlows (Noted m) h) → ((h : WayHistory) → KeepsShut (Noted m) h)
+      → ((h : WayHistory) → fed_by (tape_setup old.config.limits) (Noted m) h ≡ Some (buffer.Write n)) → ((h : WayHistory) (f : FlowId) → conn_to f (Noted m ∷ h) ≡ conn_to f h) → ((f : FlowId) → spares f (Noted m) ≡ true)
+      → ((h : WayHistory) → live (Noted m ∷ h) ≡ live h) → ((h : WayHistory) → BeforeTurn (CountsItsSources (tape_setup old.config.limits)) (Noted m) h)
+      → ((h : WayHistory) (f : FlowId) → (pauses f (Noted m ∷ h) ≡ pauses f h) × (resumes f (Noted m ∷ h) ≡ resumes f h)) → ((h : WayHistory) (f : FlowId) → drained old.config.limits f (Noted m) h ≡ 0)
+      → Owes (m ∷ held) old new
+  note_written g m left e room outs flows shut fed conn spared living turned quiet drop = subst (λ (ns : List Note). Owes (m ∷ ns) old new) (nobody held)
+      (owes_held m (held ++ []) (all_append held [] (risen_holds rose n (watchers_on n new.flows)) tt) left old new (config_kept old new rest) (step_stands g (Noted m) e room outs flows shut)
+      (λ h s s' c. fills_go n old.conns new.conns v w found written rose old.flows new.flows fills limit h c old.links new.links (Noted m) s s' (fed h) go keep.live [] tt (λ f. refl) (λ f lt. refl)
+      (λ f. record { stages = (flows h).stages f; conn = conn h f; spared = spared f }) (living h) (turned h) (quiet h) (λ f flow seen. sym (drop h f))))
 
-  pub head_written : (s : ℕ) (octets : List ℕ) → Room → w.outlet.write.octets ≡ v.outlet.write.octets ++ octets → Owes (heads_of n s octets) old new
-  head_written s [] room e = owes_none old new (nothing_written (e ∙ append-nil v.outlet.write.octets))
-  head_written s (o ∷ os) room e = step_written (λ xs. xs ++ o ∷ os) (Noted (note.Head n s (o ∷ os))) (λ h c. refl) e room (λ h. head_writes h n (o ∷ os) s) (λ h. head_flows h n (o ∷ os) s) (λ h. head_shut h n (o ∷ os) s)
+  -- where none were written it didn't rise
+  settled : w.outlet.write.octets ≡ v.outlet.write.octets → {t u : Option ℕ} (h : WayHistory) → Stands old.config.limits old.conns old.flows old.links h → Counts old.config.limits t u old.conns old.flows h → w.outlet.write.above ≡ v.outlet.write.above
+  settled e h s c =
+      let was : is_above_at n old.conns ≡ v.outlet.write.above = ap (λ (o : Option Conn). option_map_or (λ conn. conn.outlet.write.above) o false) found in
+      let octets : octets_of n old.conns ≡ v.outlet.write.octets = ap (λ (o : Option Conn). option_map_or (λ conn. conn.outlet.write.octets) o []) found in
+      let long : out (tape_setup old.config.limits) n h ≡ w.outlet.write.octets = same_out old.config.limits n h ∙ (sym (s.writes n) ∙ (octets ∙ sym e)) in
+      let over : above (tape_setup old.config.limits) (buffer.Write n) h ≡ v.outlet.write.above = sym (c.over n) ∙ was in
+      fills.above ∙ ((λ i. above_after (limit i) (sym over i) (length (sym long i))) ∙ (flag_now (tape_setup old.config.limits) (buffer.Write n) h ∙ over))
+
+  none_stands : w.outlet.write.octets ≡ v.outlet.write.octets → (h : WayHistory) → Stands old.config.limits old.conns old.flows old.links h → Stands old.config.limits new.conns new.flows new.links h
+  none_stands e h s = links_kept old new rest h (bodies.goes new.conns old.links h (conns_go old.conns new.conns old.flows old.links h (stays e) s))
+
+  watched_same : (h : WayHistory) → Stands old.config.limits old.conns old.flows old.links h → Stands old.config.limits new.conns new.flows new.links h → {t u : Option ℕ} → Counts old.config.limits t u old.conns old.flows h
+      → (f : FlowId) → is_there new.flows f ≡ true → watched_by new.flows.gates f ≡ watched_by old.flows.gates f
+  watched_same h s s' c f there = at (flow_in new.flows f) refl there
+    where
+      at : (o : Option Flow) → flow_in new.flows f ≡ o → is_some o ≡ true → watched_by new.flows.gates f ≡ watched_by old.flows.gates f
+      at None is some = cc
+      at (Some flow) is some =
+          let k = keep.each f flow is in
+          let counted : IsCounted old.config.limits old.flows f h k.0 = subst (λ (o : Option Flow). IfSome o (IsCounted old.config.limits old.flows f h)) k.1 (c.each f) in
+          watches old.config.limits new.flows h (fills.sound c.sound) f flow is (subst (λ (o : Option Flow). IfSome o (FlowIs old.config.limits f h)) is (s'.flows_are f)) (keep.goes f ∙ counted.goes)
+          ∙ sym (watches old.config.limits old.flows h c.sound f k.0 k.1 (subst (λ (o : Option Flow). IfSome o (FlowIs old.config.limits f h)) k.1 (s.flows_are f)) counted.goes)
+
+  none_counts : w.outlet.write.octets ≡ v.outlet.write.octets → {t u : Option ℕ} (h : WayHistory) → Stands old.config.limits old.conns old.flows old.links h → Counts old.config.limits t u old.conns old.flows h → Counts old.config.limits t u new.conns new.flows h
+  none_counts e {t} {u} h s c = counts_gates {t = t} {u = u} new.conns old.flows new.flows h keep (fills.sound c.sound) (record {
+    low = λ f there. lows_same f old.flows.gates new.flows.gates (watched_same h s (none_stands e h s) c f there) fills.lows.lows;
+    marks = fills_marks n old.conns new.conns v w found written rose old.flows new.flows fills limit h c;
+    known = fills_known n old.conns new.conns v w found written rose old.flows new.flows fills limit h c;
+    told = fills_told n old.conns new.conns v w found written rose old.flows new.flows fills limit h c;
+  }) (counts_conns old.conns new.conns old.flows h (above_through n old.conns new.conns v w found written (settled e h s c)) c)
+
+  pub none_written : w.outlet.write.octets ≡ v.outlet.write.octets → Owes held old new
+  none_written e = record {
+    goes = λ {k} {t} {u} h g start notes told.
+        let past = after told.steps h in
+        let low : rose ≡ false = fills.rose ∙ (settled e past told.stands told.counts ∙ fills.low) in
+        subst (λ (b : Bool). Told k t u h g start new (notes ++ risen_of b n (watchers_on n new.flows))) (sym low)
+        (told_at h g start new.conns new.conns new.flows new.links notes (notes ++ []) refl (sym (append-nil notes))
+        (config_told old new (config_kept old new rest) h g start notes
+        (record { steps = told.steps; is = told.is; stands = none_stands e past told.stands; counts = none_counts e past told.stands told.counts; left = told.left; under = told.under })));
+  }
+
+  pub answer_written : (octets : List ℕ) → Room → w.outlet.write.octets ≡ v.outlet.write.octets ++ octets → Owes (answers_of n octets ++ held) old new
+  answer_written [] room e = none_written (e ∙ append-nil v.outlet.write.octets)
+  answer_written (o ∷ os) room e = note_written (λ xs. xs ++ o ∷ os) (note.Answer n (o ∷ os)) (λ h c. refl) e room (λ h. answer_writes h n (o ∷ os)) (λ h. answer_flows h n (o ∷ os)) (λ h. answer_shut h n (o ∷ os))
+      (λ h. refl) (λ h f. refl) (λ f. refl) (λ h. refl) (λ h. tt) (λ h f. (refl, refl)) (λ h f. refl)
+
+  pub head_written : (s : ℕ) (octets : List ℕ) → Room → w.outlet.write.octets ≡ v.outlet.write.octets ++ octets → Owes (heads_of n s octets ++ held) old new
+  head_written s [] room e = none_written (e ∙ append-nil v.outlet.write.octets)
+  head_written s (o ∷ os) room e = note_written (λ xs. xs ++ o ∷ os) (note.Head n s (o ∷ os)) (λ h c. refl) e room (λ h. head_writes h n (o ∷ os) s) (λ h. head_flows h n (o ∷ os) s) (λ h. head_shut h n (o ∷ os) s)
+      (λ h. refl) (λ h f. refl) (λ f. refl) (λ h. refl) (λ h. tt) (λ h f. (refl, refl)) (λ h f. refl)
 
   -- a WINDOW_UPDATE frame is spelled as the definitions have it
   update_is : (s k : ℕ) → spelling (WindowUpdate s k) ≡ window_update s k
   update_is s k = refl
 
-  pub credit_written : (s k : ℕ) → Room → w.outlet.write.octets ≡ v.outlet.write.octets ++ spelling (WindowUpdate s k) → Owes (note.Credit n s k ∷ []) old new
-  credit_written s k room e = step_written (λ xs. xs ++ window_update s k) (Noted (note.Credit n s k)) (λ h c. refl) (e ∙ ap (λ xs. v.outlet.write.octets ++ xs) (update_is s k)) room
+  pub credit_written : (s k : ℕ) → Room → w.outlet.write.octets ≡ v.outlet.write.octets ++ spelling (WindowUpdate s k) → Owes (note.Credit n s k ∷ held) old new
+  credit_written s k room e = note_written (λ xs. xs ++ window_update s k) (note.Credit n s k) (λ h c. refl) (e ∙ ap (λ xs. v.outlet.write.octets ++ xs) (update_is s k)) room
       (λ h. credit_writes h n s k) (λ h. credit_flows h n s k) (λ h. credit_shut h n s k)
+      (λ h. refl) (λ h f. refl) (λ f. refl) (λ h. refl) (λ h. tt) (λ h f. (refl, refl)) (λ h f. refl)
 
-  -- up to this many octets left, as many as there were
-  pub out_left : (most k : ℕ) → k ≡ min most (length v.outlet.write.octets) → w.outlet.write.octets ≡ drop k v.outlet.write.octets → Leaves n most k old new
-  out_left most k many e = record { goes = at (k == 0) refl }
-    where
-      shorter : Room
-      shorter fits = less_out old.config.limits v.outlet.write.octets w.outlet.write.octets (subst (λ (xs : List ℕ). length xs ≤ length v.outlet.write.octets) (sym e) (fewer v.outlet.write.octets)) fits
-        where
-          fewer : (xs : List ℕ) → length (drop k xs) ≤ length xs
-          fewer xs = omega (arith, length-drop k xs)
+-- nothing went in, and nothing else changed
+pub nothing_written : (n : ℕ) (old new : WireCore) (v w : Conn) → value_at n old.conns ≡ Some v → WritesThrough n old.conns w new.conns → w ≡ v → new.flows ≡ old.flows → rest_of new ≡ rest_of old → Keeps old new
+nothing_written n old new v w found written same f r = conn_keeps n old new v w found written (ap (λ (k : Conn). k.outlet.write) same) (ap (λ (k : Conn). k.open) same) f r
 
-      here : (c : ℕ) → (n == c) ≡ true → octets_of c old.conns ≡ v.outlet.write.octets
-      here c same = ap (λ d. octets_of d old.conns) (sym (is_number n c same)) ∙ ap (λ (o : Option Conn). option_map_or (λ conn. conn.outlet.write.octets) o []) found
-
-      front : (xs : List ℕ) → k ≡ min most (length xs) → take k xs ≡ take most xs
-      front xs m = ap (λ j. take j xs) m ∙ take_min most xs
-
-      took : (c : ℕ) → (if n == c then take k (octets_of c old.conns) else []) ≡ (if n == c then take most (octets_of c old.conns) else [])
-      took c = by_test (n == c) refl
-        where
-          by_test : (b : Bool) → (n == c) ≡ b → (if b then take k (octets_of c old.conns) else []) ≡ (if b then take most (octets_of c old.conns) else [])
-          by_test true same = front (octets_of c old.conns) (many ∙ ap (λ xs. min most (length xs)) (sym (here c same)))
-          by_test false other = refl
-
-      none : (b : Bool) (xs : List ℕ) → (if b then take 0 xs else []) ≡ []
-      none true [] = refl
-      none true (x ∷ xs) = refl
-      none false xs = refl
-
-      at : {m : LimitKeys} → (b : Bool) → (k == 0) ≡ b → (h : WayHistory) (g : ℕ → List ℕ) (start notes : List Note) → ToldBy m old.config.limits h g start old.conns old.flows old.links notes
-          → ToldBy m new.config.limits h (left_after (event.Room n most) old.conns g) start new.conns new.flows new.links (notes ++ (if b then [] else note.Out n k ∷ []))
-      at true z h g start notes t =
-          let zero_is = is_number k 0 z in
-          let stays = (nothing_written (e ∙ ap (λ j. drop j v.outlet.write.octets) zero_is)).goes h g start notes t in
-          record {
-            steps = stays.steps;
-            is = append-nil notes ∙ stays.is;
-            stands = stays.stands;
-            under = stays.under;
-            left = λ c. stays.left c ∙ (sym (append-nil (g c)) ∙ ap (λ xs. g c ++ xs)
-                (sym (ap (λ j. if n == c then take j (octets_of c old.conns) else []) zero_is ∙ none (n == c) (octets_of c old.conns)) ∙ took c));
-          }
-      at false z h g start notes t = config_told old new (config_kept old new rest) h (left_after (event.Room n most) old.conns g) start (notes ++ note.Out n k ∷ [])
-          (told_as (Noted (note.Out n k) ∷ []) (left_after (event.Room n most) old.conns) old.conns new.conns old.flows new.flows old.links new.links
-          (λ j f s is c. (λ i. is c i ++ (if n == c then take k (sym (s.writes c) i) else [])) ∙ ap (λ xs. f c ++ xs) (took c))
-          (step_stands (drop k) (Noted (note.Out n k)) e shorter (λ j. out_writes j n k) (λ j. out_flows j n k) (λ j. out_shut j n k)) h g start notes t)
-
--- no connection is there, and none left
-pub none_left : (n most : ℕ) (core : WireCore) → value_at n core.conns ≡ None → Leaves n most 0 core core
-none_left n most core gone_ = record {
-  goes = λ h g start notes t. record {
-    steps = t.steps;
-    is = append-nil notes ∙ t.is;
-    stands = t.stands;
-    under = t.under;
-    left = λ c. t.left c ∙ (sym (append-nil (g c)) ∙ ap (λ xs. g c ++ xs) (sym (nothing c (n == c) refl)));
-  };
-}
-  where
-    no_front : (xs : List ℕ) → xs ≡ [] → take most xs ≡ []
-    no_front xs e = ap (take most) e ∙ of_none most
-      where
-        of_none : (j : ℕ) → take {A = ℕ} j [] ≡ []
-        of_none zero = refl
-        of_none (suc j) = refl
-
-    nothing : (c : ℕ) (b : Bool) → (n == c) ≡ b → (if b then take most (octets_of c core.conns) else []) ≡ []
-    nothing c true same = no_front (octets_of c core.conns) (ap (λ d. octets_of d core.conns) (sym (is_number n c same)) ∙ ap (λ (o : Option Conn). option_map_or (λ conn. conn.outlet.write.octets) o []) gone_)
-    nothing c false other = refl
+-- a write buffer that is kept within its bounds has its limit
+pub limit_of : (n : ℕ) (l : LimitKeys) (conns : PagedMap Conn) (v : Conn) → value_at n conns ≡ Some v → AreKept l conns → v.outlet.write.limit ≡ l.write_buffer
+limit_of n l conns v found kept = (subst (λ (o : Option Conn). IfSome o (λ conn. IsKept l conn.outlet)) found (kept n)).limit
 
 -- a write buffer that is kept within its bounds has room
 pub room_of : (n : ℕ) (l : LimitKeys) (conns : PagedMap Conn) (v w : Conn) → value_at n conns ≡ Some v → AreKept l conns → (IsKept l v.outlet → IsKept l w.outlet) → OutFits l v.outlet.write.octets → OutFits l w.outlet.write.octets
@@ -165,12 +213,15 @@ room_of n l conns v w found kept keeps fits = λ some.
 
 -- a GOAWAY went in, or nothing did
 pub farewell_written : (n : ℕ) (old new : WireCore) (v w : Conn) → value_at n old.conns ≡ Some v → WritesThrough n old.conns w new.conns → w.open ≡ v.open
-    → new.flows ≡ old.flows → rest_of new ≡ rest_of old → AreKept old.config.limits old.conns → (IsKept old.config.limits v.outlet → IsKept old.config.limits w.outlet) → (r : Result (Option (List ℕ × Crossed)) NoMemory)
+    → rest_of new ≡ rest_of old → AreKept old.config.limits old.conns → (IsKept old.config.limits v.outlet → IsKept old.config.limits w.outlet) → (r : Result (Option (List ℕ × Bool)) NoMemory)
     → IfOk r (λ o. MatchOption o (w ≡ v) (λ f. w.outlet.write.octets ≡ v.outlet.write.octets ++ f.0))
-    → IfOk r (λ o. MatchOption o (Keeps old new) (λ f. Owes (answers_of n f.0) old new))
-farewell_written n old new v w found written opened f l kept keeps (Err e) p = tt
-farewell_written n old new v w found written opened f l kept keeps (Ok None) p = nothing_written n old new v w found written opened (same_bodies old.flows new.flows f) l (ap (λ (k : Conn). k.outlet.write.octets) p)
-farewell_written n old new v w found written opened f l kept keeps (Ok (Some u)) p = answer_written n old new v w found written opened (same_bodies old.flows new.flows f) l u.0 (room_of n old.config.limits old.conns v w found kept keeps) p
+    → IfOk r (λ o. MatchOption o (new.flows ≡ old.flows) (λ f. new.flows.exchanges ≡ old.flows.exchanges))
+    → IfOk r (λ o. IfSome o (λ f. Fills n f.1 v.outlet.write w.outlet.write old.flows new.flows))
+    → IfOk r (λ o. MatchOption o (Keeps old new) (λ f. Owes (answers_of n f.0 ++ risen_of f.1 n (watchers_on n new.flows)) old new))
+farewell_written n old new v w found written opened l kept keeps (Err e) p q fills = tt
+farewell_written n old new v w found written opened l kept keeps (Ok None) p q fills = nothing_written n old new v w found written p q l
+farewell_written n old new v w found written opened l kept keeps (Ok (Some u)) p q fills = answer_written n old new v w found written opened (gate_bodies old.flows new.flows q) l (same_go old.flows new.flows q) (exchanges_keep old.flows new.flows q)
+    (limit_of n old.config.limits old.conns v found kept) u.1 fills u.0 (room_of n old.config.limits old.conns v w found kept keeps) p
 
 -- ---- DATA frames
 -- the stream of a flow where it goes is that of the world
@@ -191,11 +242,257 @@ stream_known f links h k ends is = at f.back (ends_of f.exchange links) (ends f.
     at false (Some v) is e = some_of v.cluster_stream e is.cluster
 
 -- the octets of a DATA frame went from a flow's send buffer into the write buffer
-pub body_written : (n : ℕ) (old new : WireCore) (v w : Conn) → value_at n old.conns ≡ Some v → WritesThrough n old.conns w new.conns → w.open ≡ v.open → rest_of new ≡ rest_of old → (OutFits old.config.limits v.outlet.write.octets → OutFits old.config.limits w.outlet.write.octets)
-    → (f : FlowId) (s k : ℕ) (last : Bool) (flow : Flow) → stream_in old.links f ≡ Some s → flow_in old.flows f ≡ Some flow
-    → w.outlet.write.octets ≡ v.outlet.write.octets ++ (data_head s k last ++ take k (send flow)) → ChangesFlow f (body_framed k last) old.flows.exchanges new.flows.exchanges
-    → Owes (note.Frame n f k last ∷ []) old new
-body_written n old new v w found written opened rest room f s k last flow on there octets change = owes_by (Noted (note.Frame n f k last) ∷ []) (λ h c. refl) old new (config_kept old new rest) (λ h stands.
-    links_kept old new rest (Noted (note.Frame n f k last) ∷ h)
-    (frames n f k last h old.conns new.conns old.flows new.flows old.links s flow (stream_known f old.links h s stands.ends on) there change
-    (conns_written n old.conns new.conns v w found written (λ xs. xs ++ (data_head s k last ++ take k (send flow))) octets opened) (one_room old.config.limits n old.conns new.conns v w found written room) stands))
+module _ (n : ℕ) (old new : WireCore) (v w : Conn) (found : value_at n old.conns ≡ Some v) (written : WritesThrough n old.conns w new.conns) (opened : w.open ≡ v.open) (rest : rest_of new ≡ rest_of old)
+    (room : OutFits old.config.limits v.outlet.write.octets → OutFits old.config.limits w.outlet.write.octets) (limit : v.outlet.write.limit ≡ old.config.limits.write_buffer)
+    (f : FlowId) (s : ℕ) (framed : Framed) (flow : Flow) (on : stream_in old.links f ≡ Some s) (there : flow_in old.flows f ≡ Some flow)
+    (octets : w.outlet.write.octets ≡ v.outlet.write.octets ++ (data_head s framed.n framed.last ++ take framed.n (send flow))) (change : ChangesFlow f (body_framed framed.n framed.last) old.flows.exchanges new.flows.exchanges)
+    (fills : Fills n framed.rose v.outlet.write w.outlet.write old.flows new.flows) (drains : framed.drained ≡ (is_send_above old.flows.exchanges f && not (is_send_above new.flows.exchanges f))) where
+  abbrev step : WayStep
+  step = Noted (note.Frame n f framed.n framed.last)
+
+  frame_stands : (h : WayHistory) → Stands old.config.limits old.conns old.flows old.links h → Stands old.config.limits new.conns new.flows new.links (step ∷ h)
+  frame_stands h stands = links_kept old new rest (step ∷ h)
+      (frames n f framed.n framed.last h old.conns new.conns old.flows new.flows old.links s flow (stream_known f old.links h s stands.ends on) there change
+      (conns_written n old.conns new.conns v w found written (λ xs. xs ++ (data_head s framed.n framed.last ++ take framed.n (send flow))) octets opened) (one_room old.config.limits n old.conns new.conns v w found written room) stands)
+
+  told_hold : (b : Bool) → AreHolds (told_of b f)
+  told_hold true = (tt, tt)
+  told_hold false = tt
+
+  told_pauses : (b : Bool) (g : FlowId) → paused_in g (told_of b f) ≡ 0
+  told_pauses true g = refl
+  told_pauses false g = refl
+
+  told_times : (b : Bool) (g : FlowId) → resumed_in g (told_of b f) ≡ (if b then one_if (same_flow f g) else 0)
+  told_times true g = last_one (same_flow f g)
+  told_times false g = refl
+
+  too_great : (x last : ℕ) → x ≤ last → last < x → ⊥
+  too_great x last a b = omega (arith, a, b)
+
+  -- a flow of a number that wasn't given is another
+  stranger : IsSound old.flows → (g : FlowId) → old.flows.exchanges.last < g.exchange → same_flow f g ≡ false
+  stranger sound g lt = at (same_flow f g) refl
+    where
+      at : (b : Bool) → same_flow f g ≡ b → b ≡ false
+      at true e = absurd (never (subst (λ (k : FlowId). old.flows.exchanges.last < k.exchange) (sym (same_flow_exact f g e)) lt))
+        where
+          never : old.flows.exchanges.last < f.exchange → ⊥
+          never above = born above (exchange_at old.flows.exchanges f.exchange) refl there
+
+          born : old.flows.exchanges.last < f.exchange → (o : Option Exchange) → exchange_at old.flows.exchanges f.exchange ≡ o → option_and_then (side_of f.back) (exchange_at old.flows.exchanges f.exchange) ≡ Some flow → ⊥
+          born above None is e = cc (ap (λ (v : Option Exchange). option_and_then (side_of f.back) v) is, e)
+          born above (Some x) is e = too_great f.exchange old.flows.exchanges.last (sound.exchanges.below f.exchange (subst (λ (v : Option Exchange). IsSome v) (sym is) refl)) above
+      at false e = refl
+
+  -- how the send buffer of the flow stood, and stands
+  send_drains : {t u : Option ℕ} (tail : List Note) (h : WayHistory) (g : FlowId) (now : Flow) → same_flow f g ≡ true → IsSeen t u t u old.conns new.conns old.flows new.flows step tail h g now → drains_at (tape_setup old.config.limits) (buffer.Send f) step h ≡ framed.drained
+  send_drains tail h g now same seen =
+      let is = same_flow_exact f g same in
+      let before : is_send_above old.flows.exchanges f ≡ above (tape_setup old.config.limits) (buffer.Send f) h =
+      ap (λ (k : FlowId). is_send_above old.flows.exchanges k) is ∙ (ap (λ (o : Option Flow). option_map_or (λ x. above_in x.chain.places (send_place x)) o false) seen.found_was
+      ∙ (send_over old.config.limits g h seen.was seen.is_was seen.over_was ∙ ap (λ (k : FlowId). above (tape_setup old.config.limits) (buffer.Send k) h) (sym is))) in
+      let after_it : is_send_above new.flows.exchanges f ≡ above (tape_setup old.config.limits) (buffer.Send f) (step ∷ h) =
+      ap (λ (k : FlowId). is_send_above new.flows.exchanges k) is ∙ (ap (λ (o : Option Flow). option_map_or (λ x. above_in x.chain.places (send_place x)) o false) seen.found
+      ∙ (send_over old.config.limits g (step ∷ h) now seen.is_now seen.over_is ∙ ap (λ (k : FlowId). above (tape_setup old.config.limits) (buffer.Send k) (step ∷ h)) (sym is))) in
+      sym (drains ∙ (λ i. before i && not (after_it i)))
+
+  -- it is told of that
+  drops : {t u : Option ℕ} (tail : List Note) (h : WayHistory) (g : FlowId) (now : Flow) → IsSeen t u t u old.conns new.conns old.flows new.flows step tail h g now → resumed_in g (told_of framed.drained f) ≡ drained old.config.limits g step h
+  drops tail h g now seen =
+      told_times framed.drained g
+      ∙ (at (same_flow f g) refl
+      ∙ ap (λ (k : ℕ). if drains_at (tape_setup old.config.limits) (buffer.Send f) step h then k else 0) (sym (send_times f g (last_place (tape_setup old.config.limits) g h + 1) (conn_to g h) 1 (stages_passed g h))))
+    where
+      none_if : (b : Bool) → (if b then 0 else 0) ≡ 0
+      none_if true = refl
+      none_if false = refl
+
+      at : (b : Bool) → same_flow f g ≡ b → (if framed.drained then one_if b else 0) ≡ (if drains_at (tape_setup old.config.limits) (buffer.Send f) step h then one_if b else 0)
+      at true e = ap (λ (d : Bool). if d then 1 else 0) (sym (send_drains tail h g now e seen))
+      at false e = none_if framed.drained ∙ sym (none_if (drains_at (tape_setup old.config.limits) (buffer.Send f) step h))
+
+  pub body_written : Owes (framed_of n f framed (watchers_on n new.flows)) old new
+  body_written = owes_held (note.Frame n f framed.n framed.last) (risen_of framed.rose n (watchers_on n new.flows) ++ told_of framed.drained f)
+      (all_append (risen_of framed.rose n (watchers_on n new.flows)) (told_of framed.drained f) (risen_holds framed.rose n (watchers_on n new.flows)) (told_hold framed.drained)) (λ h c. refl) old new (config_kept old new rest) frame_stands
+      (λ h st st' c. fills_go n old.conns new.conns v w found written framed.rose old.flows new.flows fills limit h c old.links new.links step st st' refl
+      (changed_go f (body_framed framed.n framed.last) old.flows new.flows (λ x e. framed_goes framed.n framed.last x) change) (λ x. live_after f (body_framed framed.n framed.last) old.flows.exchanges new.flows.exchanges change x)
+      (told_of framed.drained f) (told_hold framed.drained) (told_pauses framed.drained) (λ g lt. told_times framed.drained g ∙ strange framed.drained (same_flow f g) (stranger c.sound g lt))
+      (λ g. record { stages = refl; conn = refl; spared = refl }) refl tt (λ g. (refl, refl)) (λ g now seen. drops _ h g now seen))
+    where
+      strange : (b s : Bool) → s ≡ false → (if b then one_if s else 0) ≡ 0
+      strange true true e = cc
+      strange true false e = refl
+      strange false s e = refl
+
+-- ---- octets that left
+-- up to this many octets left, as many as there were
+module _ (n : ℕ) (old new : WireCore) (v w : Conn) (found : value_at n old.conns ≡ Some v) (written : WritesThrough n old.conns w new.conns)
+    (opened : w.open ≡ v.open) (rest : rest_of new ≡ rest_of old) (limit : v.outlet.write.limit ≡ old.config.limits.write_buffer)
+    (frees : Frees n (v.outlet.write.above && not w.outlet.write.above) v.outlet.write w.outlet.write old.flows new.flows)
+    (most k : ℕ) (many : k ≡ min most (length v.outlet.write.octets)) (e : w.outlet.write.octets ≡ drop k v.outlet.write.octets) where
+  shorter : OutFits old.config.limits v.outlet.write.octets → OutFits old.config.limits w.outlet.write.octets
+  shorter fits = less_out old.config.limits v.outlet.write.octets w.outlet.write.octets (subst (λ (xs : List ℕ). length xs ≤ length v.outlet.write.octets) (sym e) (fewer v.outlet.write.octets)) fits
+    where
+      fewer : (xs : List ℕ) → length (drop k xs) ≤ length xs
+      fewer xs = omega (arith, length-drop k xs)
+
+  abbrev step : WayStep
+  step = Noted (note.Out n k)
+
+  out_stands : (h : WayHistory) → Stands old.config.limits old.conns old.flows old.links h → Stands old.config.limits new.conns new.flows new.links (step ∷ h)
+  out_stands h s = links_kept old new rest (step ∷ h)
+      (gates_stand old.flows new.flows frees.rest new.conns old.links (step ∷ h)
+      (wrote (at_one n (drop k)) step h old.conns new.conns old.flows old.links (out_writes h n k) (out_flows h n k) (out_shut h n k) (conns_written n old.conns new.conns v w found written (drop k) e opened) (one_room old.config.limits n old.conns new.conns v w found written shorter) s))
+
+  less : (h : WayHistory) → length (out (tape_setup old.config.limits) n (step ∷ h)) ≤ length (out (tape_setup old.config.limits) n h)
+  less h = omega (arith, length-drop (if n == n then k else 0) (out (tape_setup old.config.limits) n h))
+
+  out_counts : (h : WayHistory) → Stands old.config.limits old.conns old.flows old.links h → Counts old.config.limits None None old.conns old.flows h → Counts old.config.limits (Some n) None new.conns new.flows (step ∷ h)
+  out_counts h s c = counts_go None None (Some n) None old.conns new.conns old.flows new.flows step [] h old.links new.links
+      (frees_go n old.conns new.conns v w found written (v.outlet.write.above && not w.outlet.write.above) old.flows new.flows frees limit h c old.links new.links step s (out_stands h s) (less h) refl
+      (λ f. record { stages = refl; conn = refl; spared = refl }) refl tt (λ f. (refl, refl)) (λ f. refl)) s (out_stands h s) c
+
+  -- none left
+  module _ (zero_is : k ≡ 0) (h : WayHistory) (s : Stands old.config.limits old.conns old.flows old.links h) (c : Counts old.config.limits None None old.conns old.flows h) where
+    same_octets_now : w.outlet.write.octets ≡ v.outlet.write.octets
+    same_octets_now = e ∙ ap (λ j. drop j v.outlet.write.octets) zero_is
+
+    settled_now : w.outlet.write.above ≡ v.outlet.write.above
+    settled_now =
+        let was : is_above_at n old.conns ≡ v.outlet.write.above = ap (λ (o : Option Conn). option_map_or (λ conn. conn.outlet.write.above) o false) found in
+        let octets : octets_of n old.conns ≡ v.outlet.write.octets = ap (λ (o : Option Conn). option_map_or (λ conn. conn.outlet.write.octets) o []) found in
+        let long : out (tape_setup old.config.limits) n h ≡ w.outlet.write.octets = same_out old.config.limits n h ∙ (sym (s.writes n) ∙ (octets ∙ sym same_octets_now)) in
+        let over : above (tape_setup old.config.limits) (buffer.Write n) h ≡ v.outlet.write.above = sym (c.over n) ∙ was in
+        frees.above ∙ ((λ i. above_after (limit i) (sym over i) (length (sym long i))) ∙ (flag_now (tape_setup old.config.limits) (buffer.Write n) h ∙ over))
+
+    undrained : (v.outlet.write.above && not w.outlet.write.above) ≡ false
+    undrained = (λ i. v.outlet.write.above && not (settled_now i)) ∙ but_not v.outlet.write.above
+      where
+        but_not : (a : Bool) → (a && not a) ≡ false
+        but_not true = refl
+        but_not false = refl
+
+    write_same_now : (d : ℕ) → write_at d new.flows ≡ write_at d old.flows
+    write_same_now d = frees.writes.writes d ∙ by_case (n == d)
+        (λ same. ap (λ b. if b then option_map (eased (v.outlet.write.above && not w.outlet.write.above) (watchers_on n old.flows)) (write_at n old.flows) else write_at d old.flows) same
+        ∙ (ap (λ b. option_map (eased b (watchers_on n old.flows)) (write_at n old.flows)) undrained ∙ (unchanged (write_at n old.flows) ∙ ap (λ q. write_at q old.flows) (is_number n d same))))
+        (λ other. ap (λ b. if b then option_map (eased (v.outlet.write.above && not w.outlet.write.above) (watchers_on n old.flows)) (write_at n old.flows) else write_at d old.flows) other)
+      where
+        unchanged : (o : Option Write) → option_map (eased false (watchers_on n old.flows)) o ≡ o
+        unchanged None = refl
+        unchanged (Some x) = refl
+
+    lows_same_now : (b : BufferId) → pending_on new.flows.gates b ≡ []
+    lows_same_now b = by_case (same_buffer (buffer.Write n) b)
+        (λ same. ap (pending_on new.flows.gates) (sym (same_buffer_exact (buffer.Write n) b same))
+        ∙ (sym (lows_seen n new.flows (subst IsSome (sym (write_same_now n)) (c.known n (ap is_some found)))) ∙ (ap (λ (o : Option Write). option_map_or (λ x. x.lows) o []) (write_same_now n) ∙ (lows_seen n old.flows (c.known n (ap is_some found)) ∙ none_before (buffer.Write n)))))
+        (λ other. frees.lows.lows b other ∙ none_before b)
+      where
+        none_before : (b : BufferId) → pending_on old.flows.gates b ≡ []
+        none_before b = none_lags (pending_on old.flows.gates b) b (c.told b)
+
+    zero_counts : Counts old.config.limits (Some n) None new.conns new.flows h
+    zero_counts = counts_gates {t = None} {u = None} new.conns old.flows new.flows h (exchanges_keep old.flows new.flows frees.rest) (frees.sound c.sound) (record {
+      low = λ f there. lows_same f old.flows.gates new.flows.gates (watched f) (λ b. lows_same_now b ∙ sym (none_lags (pending_on old.flows.gates b) b (c.told b)));
+      marks = λ d. ap (λ (o : Option Write). option_map_or (λ x. x.above) o false) (write_same_now d) ∙ (c.marks d ∙ sym (stays.above_stays d));
+      known = λ d there. subst IsSome (sym (write_same_now d)) (c.known d (stays.came d there));
+      told = λ b. inl (lows_same_now b);
+    }) (counts_conns old.conns new.conns old.flows h stays c)
+      where
+        stays : AboveStays old.conns new.conns
+        stays = above_through n old.conns new.conns v w found written settled_now
+
+        watched : (f : FlowId) → watched_by new.flows.gates f ≡ watched_by old.flows.gates f
+        watched f = (frees.sound c.sound).watched f ∙ ((λ i. option_map_or (watches_of (target_of (frees.rest i) f)) (flow_at (frees.rest i) f) []) ∙ sym (c.sound.watched f))
+
+  zero_stands : k ≡ 0 → (h : WayHistory) → Stands old.config.limits old.conns old.flows old.links h → Stands old.config.limits new.conns new.flows new.links h
+  zero_stands z h s = links_kept old new rest h (gates_stand old.flows new.flows frees.rest new.conns old.links h (conns_go old.conns new.conns old.flows old.links h (stays (e ∙ ap (λ j. drop j v.outlet.write.octets) z)) s))
+    where
+      same_one : (b : Bool) (xs : List ℕ) → (if b then xs else xs) ≡ xs
+      same_one true xs = refl
+      same_one false xs = refl
+
+      stays : w.outlet.write.octets ≡ v.outlet.write.octets → ConnsAre same_octets old.conns new.conns
+      stays e =
+          let c = conns_written n old.conns new.conns v w found written (λ xs. xs) e opened in
+          record { octets = λ d. c.octets d ∙ same_one (n == d) (octets_of d old.conns); shut = c.shut; there = c.there }
+
+  pub out_left : Leaves n most k old new
+  out_left = record { goes = at (k == 0) refl }
+    where
+      here : (c : ℕ) → (n == c) ≡ true → octets_of c old.conns ≡ v.outlet.write.octets
+      here c same = ap (λ d. octets_of d old.conns) (sym (is_number n c same)) ∙ ap (λ (o : Option Conn). option_map_or (λ conn. conn.outlet.write.octets) o []) found
+
+      front : (xs : List ℕ) → k ≡ min most (length xs) → take k xs ≡ take most xs
+      front xs m = ap (λ j. take j xs) m ∙ take_min most xs
+
+      took : (c : ℕ) → (if n == c then take k (octets_of c old.conns) else []) ≡ (if n == c then take most (octets_of c old.conns) else [])
+      took c = by_test (n == c) refl
+        where
+          by_test : (b : Bool) → (n == c) ≡ b → (if b then take k (octets_of c old.conns) else []) ≡ (if b then take most (octets_of c old.conns) else [])
+          by_test true same = front (octets_of c old.conns) (many ∙ ap (λ xs. min most (length xs)) (sym (here c same)))
+          by_test false other = refl
+
+      none : (b : Bool) (xs : List ℕ) → (if b then take 0 xs else []) ≡ []
+      none true [] = refl
+      none true (x ∷ xs) = refl
+      none false xs = refl
+
+      at : {m : LimitKeys} → (b : Bool) → (k == 0) ≡ b → (h : WayHistory) (g : ℕ → List ℕ) (start notes : List Note) → ToldBy m old.config.limits None None h g start old.conns old.flows old.links notes
+          → ToldBy m new.config.limits (Some n) None h (left_after (event.Room n most) old.conns g) start new.conns new.flows new.links (notes ++ (if b then [] else note.Out n k ∷ []))
+      at true z h g start notes t =
+          let zero_is = is_number k 0 z in
+          let past = after t.steps h in
+          config_told old new (config_kept old new rest) h (left_after (event.Room n most) old.conns g) start (notes ++ []) (record {
+            steps = t.steps;
+            is = append-nil notes ∙ t.is;
+            stands = zero_stands zero_is past t.stands;
+            counts = zero_counts zero_is past t.stands t.counts;
+            under = t.under;
+            left = λ c. t.left c ∙ (sym (append-nil (g c)) ∙ ap (λ xs. g c ++ xs)
+                (sym (ap (λ j. if n == c then take j (octets_of c old.conns) else []) zero_is ∙ none (n == c) (octets_of c old.conns)) ∙ took c));
+          })
+      at false z h g start notes t = config_told old new (config_kept old new rest) h (left_after (event.Room n most) old.conns g) start (notes ++ note.Out n k ∷ [])
+          (told_as (Noted (note.Out n k) ∷ []) (left_after (event.Room n most) old.conns) old.conns new.conns old.flows new.flows old.links new.links
+          (λ j f s is c. (λ i. is c i ++ (if n == c then take k (sym (s.writes c) i) else [])) ∙ ap (λ xs. f c ++ xs) (took c))
+          out_stands out_counts h g start notes t)
+
+-- somebody may be to be told, and nobody is
+pub may_lag : {l : LimitKeys} {conns : PagedMap Conn} {flows : Flows} {h : WayHistory} → (n : ℕ) → Counts l None None conns flows h → Counts l (Some n) None conns flows h
+may_lag {flows = flows} n c = record {
+  sound = c.sound;
+  each = c.each;
+  unpaused = c.unpaused;
+  living = c.living;
+  over = c.over;
+  marks = c.marks;
+  known = c.known;
+  told = λ b. inl (none_lags (pending_on flows.gates b) b (c.told b));
+  turns = c.turns;
+}
+
+-- no connection is there, and none left
+pub none_left : (n most : ℕ) (core : WireCore) → value_at n core.conns ≡ None → Leaves n most 0 core core
+none_left n most core gone_ = record {
+  goes = λ h g start notes t. record {
+    steps = t.steps;
+    is = append-nil notes ∙ t.is;
+    stands = t.stands;
+    counts = may_lag n t.counts;
+    under = t.under;
+    left = λ c. t.left c ∙ (sym (append-nil (g c)) ∙ ap (λ xs. g c ++ xs) (sym (nothing c (n == c) refl)));
+  };
+}
+  where
+    no_front : (xs : List ℕ) → xs ≡ [] → take most xs ≡ []
+    no_front xs e = ap (take most) e ∙ of_none most
+      where
+        of_none : (j : ℕ) → take {A = ℕ} j [] ≡ []
+        of_none zero = refl
+        of_none (suc j) = refl
+
+    nothing : (c : ℕ) (b : Bool) → (n == c) ≡ b → (if b then take most (octets_of c core.conns) else []) ≡ []
+    nothing c true same = no_front (octets_of c core.conns) (ap (λ d. octets_of d core.conns) (sym (is_number n c same)) ∙ ap (λ (o : Option Conn). option_map_or (λ conn. conn.outlet.write.octets) o []) gone_)
+    nothing c false other = refl
+

@@ -9,7 +9,7 @@ use Rattle.flow_gate.specs.declared.ids.FlowId.{FlowId}
 use Rattle.paged_map.specs.PagedMap.{PagedMap, value_at}
 use Rattle.proxy_config.specs.declared.config.LimitKeys.{LimitKeys}
 use Rattle.std.specs.Option.{option_map, option_map_or}
-use Rattle.std.specs.Prelude.{Bool, IfSome, IsSome, Option, Some, [], false, is_some, length, true, ℕ, ◌+◌, ◌<◌, ◌≡◌, ◌⊎◌}
+use Rattle.std.specs.Prelude.{Bool, IfSome, IsSome, List, Option, Some, [], false, if◌then◌else◌, is_some, length, true, ℕ, ◌+◌, ◌<◌, ◌≡◌, ◌⊎◌}
 use Rattle.tape_laws.specs.Dispatches.{has, live}
 use Rattle.tape_laws.specs.Headline.{CountsItsSources}
 use Rattle.tape_laws.specs.History.{BeforeTurn, EachFollows}
@@ -18,7 +18,7 @@ use Rattle.tape_laws.specs.Sources.{disabled}
 use Rattle.tape_laws.specs.Watermark.{above}
 use Rattle.wire_flows.specs.Flows.{Flows, flow_in, goes_to, is_live_in}
 use Rattle.wire_flows.specs.Sound.{IsSound, buffer_of}
-use Rattle.wire_flows.specs.Writes.{ChangesWrite, KeepsLows, raised, write_at}
+use Rattle.wire_flows.specs.Writes.{ChangesWrite, KeepsLows, KeepsOtherLows, Write, lowered, raised, watchers_on, write_at}
 use Rattle.wire_state.specs.Tapes.{conn_to, tape_setup}
 use Rattle.wire_state.specs.Ways.{WayHistory}
 use Rattle.wire_state.specs.declared.conn.Conn.{Conn}
@@ -69,12 +69,32 @@ pub record Counts (l : LimitKeys) (conn exchange : Option ℕ) (conns : PagedMap
   -- before each dispatch each flow's count was the number of its sources that were above
   pub turns : EachFollows (BeforeTurn (CountsItsSources (tape_setup l))) h
 
--- Octets went into the write buffer of a connection, which wasn't above. It rose, or it didn't, and from then on holds its flows
--- back.
-pub record Fills (c : ℕ) (rose : Bool) (old new : Buffer) (before after : Flows) : Type 0 where
+-- octets went into a write buffer that wasn't above, and it rose, or it didn't
+pub record Grows (is_risen : Bool) (old new : Buffer) : Type 0 where
   pub low : old.above ≡ false
   pub above : new.above ≡ above_after old.limit old.above (length new.octets)
-  pub rose : rose ≡ new.above
-  pub writes : ChangesWrite c (option_map (raised rose) (write_at c before)) before after
+  pub rose : is_risen ≡ new.above
+
+-- the flows that go to a connection are to be told that its write buffer drained, where it did
+abbrev pub eased : Bool → List FlowId → Write → Write
+eased is_drained watchers write = if is_drained then lowered watchers write else write
+
+-- Octets left the write buffer of a connection, and it drained, or it didn't.
+pub record Frees (c : ℕ) (is_drained : Bool) (old new : Buffer) (before after : Flows) : Type 0 where
+  pub above : new.above ≡ above_after old.limit old.above (length new.octets)
+  pub drains : old.above ≡ true → new.above ≡ false → is_drained ≡ true
+  pub stays : new.above ≡ true → is_drained ≡ false
+  pub writes : ChangesWrite c (option_map (eased is_drained (watchers_on c before)) (write_at c before)) before after
+  pub lows : KeepsOtherLows (buffer.Write c) before after
+  pub rest : after.exchanges ≡ before.exchanges
+  pub sound : IsSound before → IsSound after
+
+-- Octets went into the write buffer of a connection, which wasn't above. It rose, or it didn't, and from then on holds its flows
+-- back.
+pub record Fills (c : ℕ) (is_risen : Bool) (old new : Buffer) (before after : Flows) : Type 0 where
+  pub low : old.above ≡ false
+  pub above : new.above ≡ above_after old.limit old.above (length new.octets)
+  pub rose : is_risen ≡ new.above
+  pub writes : ChangesWrite c (option_map (raised is_risen) (write_at c before)) before after
   pub lows : KeepsLows before after
-  pub sound : IsSound after
+  pub sound : IsSound before → IsSound after

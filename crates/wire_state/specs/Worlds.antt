@@ -122,9 +122,9 @@ pub record KeepsOk {A E : Type 0} (r : Result A E) (old new : WireCore) : Type 0
 pub record Owes (owed : List Note) (old new : WireCore) : Type 0 where
   pub goes : {k : LimitKeys} {t u : Option ℕ} → (h : WayHistory) (g : ℕ → List ℕ) (start notes : List Note) → Told k t u h g start old notes → Told k t u h g start new (notes ++ owed)
 
--- the same, and the flows that go to this connection are still to be told that its write buffer drained
+-- the same, and from then on the flows that go to this connection may still be to be told that its write buffer drained
 pub record Eases (c : ℕ) (owed : List Note) (old new : WireCore) : Type 0 where
-  pub goes : {k : LimitKeys} {u : Option ℕ} → (h : WayHistory) (g : ℕ → List ℕ) (start notes : List Note) → Told k (Some c) u h g start old notes → Told k (Some c) u h g start new (notes ++ owed)
+  pub goes : {k : LimitKeys} → (h : WayHistory) (g : ℕ → List ℕ) (start notes : List Note) → Told k None None h g start old notes → Told k (Some c) None h g start new (notes ++ owed)
 
 -- the same, and no more of this exchange is to be told of
 pub record EndsOne (x : ℕ) (owed : List Note) (old new : WireCore) : Type 0 where
@@ -197,4 +197,4 @@ pub record Comes {A E : Type 0} (r : Result A E) (c : ℕ) (old new : WireCore) 
 
 -- Up to n octets left a connection's write buffer, k of them there were. Who is held back by it is still to be told where it drained.
 pub record Leaves (c n k : ℕ) (old new : WireCore) : Type 0 where
-  pub goes : {m : LimitKeys} {u : Option ℕ} → (h : WayHistory) (g : ℕ → List ℕ) (start notes : List Note) → Told m (Some c) u h g start old notes → Told m (Some c) u h (left_after (event.Room c n) old.conns g) start new (notes ++ outs_of c k)
+  pub goes : {m : LimitKeys} → (h : WayHistory) (g : ℕ → List ℕ) (start notes : List Note) → Told m None None h g start old notes → Told m (Some c) None h (left_after (event.Room c n) old.conns g) start new (notes ++ outs_of c k)
