@@ -87,6 +87,12 @@ AboveGoes l old new c = ((is_above_at c new ≡ is_above_at c old) × (octets_of
 pub above_same : (l : LimitKeys) (conns : PagedMap Conn) (c : ℕ) → AboveGoes l conns conns c
 above_same l conns c = inl (refl, refl)
 
+abbrev above_in : Option Conn → Bool
+above_in o = option_map_or (λ conn. conn.outlet.write.above) o false
+
+abbrev octets_in : Option Conn → List ℕ
+octets_in o = option_map_or (λ conn. conn.outlet.write.octets) o []
+
 -- one was written through
 pub above_written : (l : LimitKeys) (n : ℕ) (old new : PagedMap Conn) (v w : Conn) (found : value_at n old ≡ Some v) (written : WritesThrough n old w new)
     → (w.outlet.write.above ≡ above_after l.write_buffer v.outlet.write.above (length w.outlet.write.octets)) → (c : ℕ) → AboveGoes l old new c
@@ -94,12 +100,6 @@ above_written l n old new v w found written goes c = by_case (n == c)
     (λ e. inr (ap above_in (there_now n old new v w found written c e) ∙ (goes ∙ (λ i. above_after l.write_buffer (sym (was c e) i) (length (sym (ap octets_in (there_now n old new v w found written c e)) i))))))
     (λ e. inl (ap above_in (other_now n old new v w found written c e), ap octets_in (other_now n old new v w found written c e)))
   where
-    abbrev above_in : Option Conn → Bool
-    above_in o = option_map_or (λ conn. conn.outlet.write.above) o false
-
-    abbrev octets_in : Option Conn → List ℕ
-    octets_in o = option_map_or (λ conn. conn.outlet.write.octets) o []
-
     is_it : (a b : ℕ) → (a == b) ≡ true → a ≡ b
     is_it a b e = grind (arith, nat_tests)
 
@@ -109,20 +109,20 @@ above_written l n old new v w found written goes c = by_case (n == c)
 abbrev waits_at : LimitKeys → ℕ → WayHistory → List ℕ
 waits_at l c h = out (tape_setup l) c h
 
-pub over_now : {l : LimitKeys} → (old new : PagedMap Conn) (step : WayStep) (h : WayHistory) (c : ℕ) → AboveGoes l old new c → is_above_at c old ≡ above (tape_setup l) (buffer.Write c) h
+pub over_now : (l : LimitKeys) (old new : PagedMap Conn) (step : WayStep) (h : WayHistory) (c : ℕ) → AboveGoes l old new c → is_above_at c old ≡ above (tape_setup l) (buffer.Write c) h
     → octets_of c old ≡ waits_at l c h → octets_of c new ≡ waits_at l c (step ∷ h) → is_above_at c new ≡ above (tape_setup l) (buffer.Write c) (step ∷ h)
-over_now {l} old new step h c (inl (same, octets)) over was is =
+over_now l old new step h c (inl (same, octets)) over was is =
     same ∙ (over ∙ (sym (flag_now (tape_setup l) (buffer.Write c) h) ∙ (λ i. above_after l.write_buffer (above (tape_setup l) (buffer.Write c) h) (length ((sym was ∙ (sym octets ∙ is)) i)))))
-over_now {l} old new step h c (inr goes) over was is = goes ∙ (λ i. above_after l.write_buffer (over i) (length (is i)))
+over_now l old new step h c (inr goes) over was is = goes ∙ (λ i. above_after l.write_buffer (over i) (length (is i)))
 
 -- ---- one step, and pauses and resumes behind it
-module _ {l : LimitKeys} (t u t' u' : Option ℕ) (conns conns' : PagedMap Conn) (flows flows' : Flows) (step : WayStep) (tail : List Note) (h : WayHistory) where
-  -- what a step leaves of a flow's way
-  pub record WayStays (f : FlowId) : Type 0 where
-    pub stages : stages_passed f (step ∷ h) ≡ stages_passed f h
-    pub conn : conn_to f (step ∷ h) ≡ conn_to f h
-    pub spared : spares f step ≡ true
+-- what a step leaves of a flow's way
+pub record WayStays (step : WayStep) (h : WayHistory) (f : FlowId) : Type 0 where
+  pub stages : stages_passed f (step ∷ h) ≡ stages_passed f h
+  pub conn : conn_to f (step ∷ h) ≡ conn_to f h
+  pub spared : spares f step ≡ true
 
+module _ {l : LimitKeys} (t u t' u' : Option ℕ) (conns conns' : PagedMap Conn) (flows flows' : Flows) (step : WayStep) (tail : List Note) (h : WayHistory) where
   -- a flow that is there, before the step and after it
   pub record IsSeen (f : FlowId) (flow : Flow) : Type 0 where
     pub found : flow_in flows' f ≡ Some flow
@@ -134,12 +134,12 @@ module _ {l : LimitKeys} (t u t' u' : Option ℕ) (conns conns' : PagedMap Conn)
     pub over_is : AreOver l f (step ∷ h) flow
     pub goes_was : goes_to flows f ≡ conn_to f h
     pub goes_is : goes_to flows' f ≡ conn_to f (step ∷ h)
-    pub way : WayStays f
+    pub way : WayStays step h f
 
   pub record CountsGo : Type 0 where
     pub sound : IsSound flows'
     pub flows_go : FlowsGo flows flows'
-    pub ways : (f : FlowId) → is_there flows' f ≡ true → WayStays f
+    pub ways : (f : FlowId) → is_there flows' f ≡ true → WayStays step h f
     pub lives : (x : ℕ) → has (live (step ∷ h)) x ≡ is_live_in flows' x
     pub writes : (c : ℕ) → AboveGoes l conns conns' c
     pub marks : (c : ℕ) → holds_back c flows' ≡ is_above_at c conns'
@@ -163,7 +163,7 @@ module _ {l : LimitKeys} (t u t' u' : Option ℕ) (conns conns' : PagedMap Conn)
         let few = go.none f above_last in
         (holds_paused f tail go.holds (step ∷ h) ∙ sum_none _ _ _ (go.quiet f).0 was.0 few.0, holds_resumed f tail go.holds (step ∷ h) ∙ sum_none _ _ _ (go.quiet f).1 was.1 few.1);
     living = λ x. ap (λ (xs : List ℕ). has xs x) alike.live_as ∙ go.lives x;
-    over = λ d. over_now conns conns' step h d (go.writes d) (c.over d) (s.writes d ∙ sym (same_out l d h)) (s'.writes d ∙ sym (same_out l d (step ∷ h))) ∙ sym (alike.above_as (buffer.Write d));
+    over = λ d. over_now l conns conns' step h d (go.writes d) (c.over d) (s.writes d ∙ sym (same_out l d h)) (s'.writes d ∙ sym (same_out l d (step ∷ h))) ∙ sym (alike.above_as (buffer.Write d));
     marks = go.marks;
     known = go.known;
     told = go.told;

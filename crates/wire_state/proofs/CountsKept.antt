@@ -14,7 +14,7 @@ use Rattle.flow_gate.specs.Ids.{same_flow}
 use Rattle.flow_gate.specs.declared.ids.BufferId.{BufferId}
 use Rattle.flow_gate.specs.declared.ids.BufferId.TheVariants as buffer
 use Rattle.flow_gate.specs.declared.ids.FlowId.{FlowId}
-use Rattle.hpack_codec.specs.declared.field.Field.{Field}
+use Rattle.hpack_codec.specs.declared.fields.Field.{Field}
 use Rattle.paged_map.specs.PagedMap.{PagedMap}
 use Rattle.proxy_config.specs.declared.config.LimitKeys.{LimitKeys}
 use Rattle.std.proofs.Common.{ap, inl, inr, refl, subst, sym, ◌∙◌}
@@ -27,9 +27,10 @@ use Rattle.tape_laws.specs.Watermark.{above}
 use Rattle.wire_flows.proofs.Boards.{write_of, write_seen}
 use Rattle.wire_flows.proofs.Cases.{by_case}
 use Rattle.wire_flows.proofs.Found.{flow_after, live_after, target_after}
-use Rattle.wire_flows.specs.Flows.{Flows, flow_in, goes_to, is_live_in, is_there}
+use Rattle.wire_flows.specs.Flows.{Flows, flow_in, goes_to, is_live_in, is_there, watches_of}
 use Rattle.wire_flows.specs.Sound.{IsSound, buffer_of}
-use Rattle.wire_flows.specs.Writes.{Write, write_at}
+use Rattle.wire_flows.specs.Writes.{KeepsWrites, Write, write_at}
+use Rattle.wire_state.proofs.Watching.{lows_same}
 use Rattle.wire_state.specs.Counts.{AreOver, Counts, IsCounted, MayLag, holds_back, is_above_at}
 use Rattle.wire_state.specs.Tapes.{tape_setup}
 use Rattle.wire_state.specs.Ways.{WayHistory}
@@ -182,4 +183,18 @@ counts_flows {l} {t} {u} conns old new h keeps e sound c = counts_gates {l} {t} 
   where
     at : (b : BufferId) → (pending_on old.gates b ≡ []) ⊎ MayLag t u b → (pending_on new.gates b ≡ []) ⊎ MayLag t u b
     at b (inl none) = inl (ap (λ (v : Board). pending_on v b) e ∙ none)
+    at b (inr may) = inr may
+
+-- all is found as before, and the gates are seen as before
+pub counts_seen : {l : LimitKeys} {t u : Option ℕ} → (conns : PagedMap Conn) (old new : Flows) (h : WayHistory) → new.exchanges.last ≡ old.exchanges.last → ((f : FlowId) → flow_in new f ≡ flow_in old f) → ((f : FlowId) → goes_to new f ≡ goes_to old f) → ((x : ℕ) → is_live_in new x ≡ is_live_in old x)
+    → IsSound new → KeepsWrites old new → ((b : BufferId) → pending_on new.gates b ≡ pending_on old.gates b) → Counts l t u conns old h → Counts l t u conns new h
+counts_seen {l} {t} {u} conns old new h last found goes live sound writes same c = counts_gates {l} {t} {u} {t} {u} conns old new h (found_keep old new last found goes live) sound (record {
+  low = λ f there. lows_same f old.gates new.gates (sound.watched f ∙ ((λ i. option_map_or (watches_of (goes f i)) (found f i) []) ∙ sym (c.sound.watched f))) same;
+  marks = λ d. ap (λ (o : Option Write). option_map_or (λ w. w.above) o false) (writes.writes d) ∙ c.marks d;
+  known = λ d there. subst IsSome (sym (writes.writes d)) (c.known d there);
+  told = λ b. at b (c.told b);
+}) c
+  where
+    at : (b : BufferId) → (pending_on old.gates b ≡ []) ⊎ MayLag t u b → (pending_on new.gates b ≡ []) ⊎ MayLag t u b
+    at b (inl none) = inl (same b ∙ none)
     at b (inr may) = inr may

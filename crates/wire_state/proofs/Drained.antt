@@ -60,10 +60,10 @@ eased_lows false ws k true true a none must may = none
 eased_lows false ws k true false a none must may = absurd (cc (must refl refl))
 eased_lows false ws k false wa a none must may = none
 
-held : Option Write → Bool
+abbrev held : Option Write → Bool
 held o = option_map_or (λ k. k.above) o false
 
-told_in : Option Write → List FlowId
+abbrev told_in : Option Write → List FlowId
 told_in o = option_map_or (λ k. k.lows) o []
 
 -- what is pending of a known one
@@ -83,7 +83,7 @@ module _ {l : LimitKeys} (n : ℕ) (old new : PagedMap Conn) (v w : Conn) (found
   pub frees_writes : (d : ℕ) → AboveGoes l old new d
   frees_writes = above_written l n old new v w found written (frees.above ∙ ap (λ (k : ℕ). above_after k v.outlet.write.above (length w.outlet.write.octets)) limit)
 
-  above_in : Option Conn → Bool
+  abbrev above_in : Option Conn → Bool
   above_in o = option_map_or (λ conn. conn.outlet.write.above) o false
 
   was_above : is_above_at n old ≡ v.outlet.write.above
@@ -126,7 +126,7 @@ module _ {l : LimitKeys} (n : ℕ) (old new : PagedMap Conn) (v w : Conn) (found
     before = sym (c.over n) ∙ was_above
 
     after_is : above (tape_setup l) (buffer.Write n) (step ∷ h) ≡ w.outlet.write.above
-    after_is = sym (over_now old new step h n (frees_writes n) (c.over n) (s.writes n ∙ sym (same_out l n h)) (s'.writes n ∙ sym (same_out l n (step ∷ h)))) ∙ now_above
+    after_is = sym (over_now l old new step h n (frees_writes n) (c.over n) (s.writes n ∙ sym (same_out l n h)) (s'.writes n ∙ sym (same_out l n (step ∷ h)))) ∙ now_above
 
     low : v.outlet.write.above ≡ false → w.outlet.write.above ≡ false
     low e = at w.outlet.write.above refl
@@ -204,7 +204,7 @@ module _ {l : LimitKeys} (n : ℕ) (old new : PagedMap Conn) (v w : Conn) (found
             sums _ _ _ _ (lows_more f (buffer.Write n) [] (pending_on flows.gates) false refl (none_before (buffer.Write n)) (watched_by flows.gates f)) refl
 
     -- all of it
-    pub frees_go : eased_at l step h ≡ Some (buffer.Write n) → ((f : FlowId) → WayStays None None (Some n) None old new flows flows' step [] h f) → live (step ∷ h) ≡ live h → BeforeTurn (CountsItsSources (tape_setup l)) step h
+    pub frees_go : eased_at l step h ≡ Some (buffer.Write n) → ((f : FlowId) → WayStays step h f) → live (step ∷ h) ≡ live h → BeforeTurn (CountsItsSources (tape_setup l)) step h
         → ((f : FlowId) → (pauses f (step ∷ h) ≡ pauses f h) × (resumes f (step ∷ h) ≡ resumes f h)) → ((f : FlowId) → risen l f step h ≡ 0) → CountsGo None None (Some n) None old new flows flows' step [] h
     frees_go eases ways living turned quiet rise = record {
       sound = frees.sound c.sound;

@@ -3,7 +3,7 @@ use Rattle.exchange_core.specs.Exchange.{flow_in as side_of}
 use Rattle.exchange_core.specs.Exchanges.{exchange_at}
 use Rattle.exchange_core.specs.Flow.{Flow}
 use Rattle.exchange_core.specs.declared.exchange.Exchange.{Exchange}
-use Rattle.flow_gate.specs.Board.{pending_on, times, times_of_buffer, watchers_of}
+use Rattle.flow_gate.specs.Board.{pending_on, times, times_of_buffer, watched_by, watchers_of}
 use Rattle.flow_gate.specs.declared.ids.BufferId.{BufferId}
 use Rattle.flow_gate.specs.declared.ids.BufferId.TheVariants as buffer
 use Rattle.flow_gate.specs.declared.ids.FlowId.{FlowId}
@@ -22,7 +22,7 @@ use Rattle.tape_laws.specs.Pauses.{pauses, resumes}
 use Rattle.tape_laws.specs.Sources.{source_buffers}
 use Rattle.tape_laws.specs.Watermark.{above, rises_at}
 use Rattle.wire_flows.proofs.Cases.{by_case}
-use Rattle.wire_flows.specs.Flows.{Flows, flow_in, goes_to, is_live_in, is_there, watches_of}
+use Rattle.wire_flows.specs.Flows.{Flows, flow_in, goes_to, is_live_in, watches_of}
 use Rattle.wire_flows.specs.Sound.{IsSound}
 use Rattle.wire_flows.specs.Writes.{Write, raised, watchers_on, write_at}
 use Rattle.wire_links.specs.Links.{Links}
@@ -53,24 +53,22 @@ pub risen_times : (f : FlowId) (rose : Bool) (c : ℕ) (fs : List FlowId) → pa
 risen_times f true c fs = pauses_times f c fs
 risen_times f false c fs = refl
 
--- a flow that isn't there watches nothing
-unwatched : (flows : Flows) → IsSound flows → (f : FlowId) → is_there flows f ≡ false → (b : BufferId) → times f (watchers_of flows.gates b) ≡ 0
-unwatched flows sound f none b = sound.gates.paired f b ∙ (ap (times_of_buffer b) (sound.watched f ∙ at (flow_in flows f) none))
-  where
-    at : (o : Option Flow) → is_some o ≡ false → option_map_or (watches_of (goes_to flows f)) o [] ≡ []
-    at None e = refl
-    at (Some flow) e = cc
-
--- nor does one of an exchange whose number wasn't given
-pub unborn_watches : (flows : Flows) → IsSound flows → (f : FlowId) → flows.exchanges.last < f.exchange → (b : BufferId) → times f (watchers_of flows.gates b) ≡ 0
-unborn_watches flows sound f lt b = unwatched flows sound f (not_there (exchange_at flows.exchanges f.exchange) refl) b
+-- a flow of an exchange whose number wasn't given isn't there, and watches nothing
+pub unborn_gone : (flows : Flows) → IsSound flows → (f : FlowId) → flows.exchanges.last < f.exchange → flow_in flows f ≡ None
+unborn_gone flows sound f lt = at (exchange_at flows.exchanges f.exchange) refl
   where
     over : (x last : ℕ) → x ≤ last → last < x → ⊥
     over x last a b = omega (arith, a, b)
 
-    not_there : (o : Option Exchange) → exchange_at flows.exchanges f.exchange ≡ o → is_some (option_and_then (side_of f.back) (exchange_at flows.exchanges f.exchange)) ≡ false
-    not_there None e = ap (λ (v : Option Exchange). is_some (option_and_then (side_of f.back) v)) e
-    not_there (Some v) e = absurd (over f.exchange flows.exchanges.last (sound.exchanges.below f.exchange (subst (λ (w : Option Exchange). IsSome w) (sym e) refl)) lt)
+    at : (o : Option Exchange) → exchange_at flows.exchanges f.exchange ≡ o → option_and_then (side_of f.back) (exchange_at flows.exchanges f.exchange) ≡ None
+    at None e = ap (λ (v : Option Exchange). option_and_then (side_of f.back) v) e
+    at (Some v) e = absurd (over f.exchange flows.exchanges.last (sound.exchanges.below f.exchange (subst (λ (w : Option Exchange). IsSome w) (sym e) refl)) lt)
+
+pub unborn_watched : (flows : Flows) → IsSound flows → (f : FlowId) → flows.exchanges.last < f.exchange → watched_by flows.gates f ≡ []
+unborn_watched flows sound f lt = sound.watched f ∙ ap (λ (o : Option Flow). option_map_or (watches_of (goes_to flows f)) o []) (unborn_gone flows sound f lt)
+
+pub unborn_watches : (flows : Flows) → IsSound flows → (f : FlowId) → flows.exchanges.last < f.exchange → (b : BufferId) → times f (watchers_of flows.gates b) ≡ 0
+unborn_watches flows sound f lt b = sound.gates.paired f b ∙ ap (times_of_buffer b) (unborn_watched flows sound f lt)
 
 pub risen_none : (flows flows' : Flows) → IsSound flows' → flows'.exchanges.last ≡ flows.exchanges.last → (f : FlowId) → flows.exchanges.last < f.exchange → (rose : Bool) (c : ℕ) → (paused_in f (risen_of rose c (watchers_on c flows')) ≡ 0) × (resumed_in f (risen_of rose c (watchers_on c flows')) ≡ 0)
 risen_none flows flows' sound last f lt rose c = (risen_times f rose c (watchers_on c flows') ∙ at rose, risen_resumes_none f rose c (watchers_on c flows'))
@@ -85,8 +83,8 @@ risen_none flows flows' sound last f lt rose c = (risen_times f rose c (watchers
 -- ---- a connection whose write buffer was filled
 module _ {l : LimitKeys} {t u : Option ℕ} (n : ℕ) (old new : PagedMap Conn) (v w : Conn) (found : value_at n old ≡ Some v) (written : WritesThrough n old w new) (rose : Bool) (flows flows' : Flows)
     (fills : Fills n rose v.outlet.write w.outlet.write flows flows') (limit : v.outlet.write.limit ≡ l.write_buffer) (h : WayHistory) (c : Counts l t u old flows h) where
-  above_here : {d : ℕ} (e : (n == d) ≡ true) → is_above_at d old ≡ false
-  above_here {d} e = ap (λ q. is_above_at q old) (sym (is_number n d e)) ∙ (ap (λ (o : Option Conn). option_map_or (λ conn. conn.outlet.write.above) o false) found ∙ fills.low)
+  above_here : (d : ℕ) → (n == d) ≡ true → is_above_at d old ≡ false
+  above_here d e = ap (λ q. is_above_at q old) (sym (is_number n d e)) ∙ (ap (λ (o : Option Conn). option_map_or (λ conn. conn.outlet.write.above) o false) found ∙ fills.low)
 
   pub fills_writes : (d : ℕ) → AboveGoes l old new d
   fills_writes = above_written l n old new v w found written (fills.above ∙ ap (λ (k : ℕ). above_after k v.outlet.write.above (length w.outlet.write.octets)) limit)
@@ -94,7 +92,7 @@ module _ {l : LimitKeys} {t u : Option ℕ} (n : ℕ) (old new : PagedMap Conn) 
   above_there : (d : ℕ) → (n == d) ≡ true → is_above_at d new ≡ rose
   above_there d e = ap (λ (o : Option Conn). option_map_or (λ conn. conn.outlet.write.above) o false) (there_now n old new v w found written d e) ∙ sym fills.rose
 
-  held : Option Write → Bool
+  abbrev held : Option Write → Bool
   held o = option_map_or (λ k. k.above) o false
 
   raised_held : (o : Option Write) → IsSome o → held o ≡ false → held (option_map (raised rose) o) ≡ rose
@@ -136,9 +134,9 @@ module _ {l : LimitKeys} {t u : Option ℕ} (n : ℕ) (old new : PagedMap Conn) 
     rises : rises_at (tape_setup l) (buffer.Write n) step h ≡ rose
     rises =
         let same : (n == n) ≡ true = grind (arith, nat_tests) in
-        let before : above (tape_setup l) (buffer.Write n) h ≡ false = sym (c.over n) ∙ above_here same in
+        let before : above (tape_setup l) (buffer.Write n) h ≡ false = sym (c.over n) ∙ above_here n same in
         let now : above (tape_setup l) (buffer.Write n) (step ∷ h) ≡ rose =
-        sym (over_now old new step h n (fills_writes n) (c.over n) (s.writes n ∙ sym (same_out l n h)) (s'.writes n ∙ sym (same_out l n (step ∷ h)))) ∙ above_there n same in
+        sym (over_now l old new step h n (fills_writes n) (c.over n) (s.writes n ∙ sym (same_out l n h)) (s'.writes n ∙ sym (same_out l n (step ∷ h)))) ∙ above_there n same in
         λ i. not (before i) && now i
 
     pub fills_pauses : fed_by (tape_setup l) step h ≡ Some (buffer.Write n) → IsSound flows' → (tail : List Note) (f : FlowId) (flow : Flow) → IsSeen t u t u old new flows flows' step tail h f flow → paused_in f (risen_of rose n (watchers_on n flows')) ≡ risen l f step h
@@ -151,7 +149,7 @@ module _ {l : LimitKeys} {t u : Option ℕ} (n : ℕ) (old new : PagedMap Conn) 
     -- all of it; other notes may stand behind the pauses, that pause no flow
     pub fills_go : fed_by (tape_setup l) step h ≡ Some (buffer.Write n) → FlowsGo flows flows' → ((x : ℕ) → is_live_in flows' x ≡ is_live_in flows x)
         → (more : List Note) → AreHolds more → ((f : FlowId) → paused_in f more ≡ 0) → ((f : FlowId) → flows.exchanges.last < f.exchange → resumed_in f more ≡ 0)
-        → ((f : FlowId) → WayStays t u t u old new flows flows' step (risen_of rose n (watchers_on n flows') ++ more) h f) → live (step ∷ h) ≡ live h → BeforeTurn (CountsItsSources (tape_setup l)) step h
+        → ((f : FlowId) → WayStays step h f) → live (step ∷ h) ≡ live h → BeforeTurn (CountsItsSources (tape_setup l)) step h
         → ((f : FlowId) → (pauses f (step ∷ h) ≡ pauses f h) × (resumes f (step ∷ h) ≡ resumes f h))
         → ((f : FlowId) (flow : Flow) → IsSeen t u t u old new flows flows' step (risen_of rose n (watchers_on n flows') ++ more) h f flow → resumed_in f more ≡ drained l f step h)
         → CountsGo t u t u old new flows flows' step (risen_of rose n (watchers_on n flows') ++ more) h

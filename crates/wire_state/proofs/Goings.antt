@@ -4,6 +4,8 @@ use Rattle.exchange_core.specs.Exchange.{flow_in as side_of}
 use Rattle.exchange_core.specs.Exchanges.{Exchanges, exchange_at, flow_at}
 use Rattle.exchange_core.specs.Flow.{Flow}
 use Rattle.exchange_core.specs.declared.exchange.Exchange.{Exchange}
+use Rattle.flow_gate.specs.Board.{pending_on}
+use Rattle.flow_gate.specs.declared.ids.BufferId.{BufferId}
 use Rattle.flow_gate.specs.declared.ids.FlowId.{FlowId}
 use Rattle.flow_notes.specs.declared.notes.Note.{Note}
 use Rattle.proxy_config.specs.declared.config.Config.{Config}
@@ -13,23 +15,27 @@ use Rattle.std.proofs.lemmas.List.{append-nil}
 use Rattle.std.specs.BTreeMap.{is_at}
 use Rattle.paged_map.specs.PagedMap.{PagedMap, WritesThrough, value_at}
 use Rattle.std.specs.Map.{lookup}
-use Rattle.std.specs.Option.{option_and_then, option_map_or}
+use Rattle.std.specs.Option.{option_and_then, option_map, option_map_or}
 use Rattle.std.specs.Ordering.{nat_cmp}
-use Rattle.std.specs.Prelude.{Bool, Err, IfSome, List, Ok, OnOk, Option, Result, Some, [], false, if◌then◌else◌, is_some, nat_eq, not, true, ℕ, ◌++◌, ◌==◌, ◌∷◌, ◌≡◌, ◌≤◌}
+use Rattle.std.specs.Prelude.{Bool, Err, IfSome, List, Ok, None, OnOk, Option, Result, Some, [], false, if◌then◌else◌, is_some, nat_eq, not, true, ℕ, ◌++◌, ◌==◌, ◌∷◌, ◌≡◌, ◌≤◌}
 use Rattle.tape_laws.specs.History.{Marked, Noted}
 use Rattle.tape_laws.specs.World.{gone}
+use Rattle.flow_gate.proofs.SameIds.{same_flow_exact}
+use Rattle.flow_gate.specs.Ids.{same_flow}
 use Rattle.wire_flows.proofs.Cases.{by_case}
+use Rattle.wire_flows.proofs.Found.{flow_after, live_after, target_after}
 use Rattle.wire_flows.specs.Flows.{Flows, flow_in}
 use Rattle.wire_flows.specs.Sound.{IsSound}
+use Rattle.wire_flows.specs.Writes.{KeepsWrites}
 use Rattle.wire_links.specs.Links.{Links, ends_of, no_links}
 use Rattle.wire_state.proofs.Bodies.{flow_goes, flows_go}
 use Rattle.wire_state.proofs.Fitting.{empty_fits}
 use Rattle.wire_state.proofs.Held.{KeepsOctets, is_number}
-use Rattle.wire_state.proofs.CountsKept.{AboveStays, PlacesKeep, changed_keep, counts_conns, counts_flows}
+use Rattle.wire_state.proofs.CountsKept.{AboveStays, PlacesKeep, changed_keep, counts_conns, counts_flows, counts_seen}
 use Rattle.wire_state.proofs.Standing.{ConnsAre, at_one, conns_go, conns_written, other_now, same_octets, there_now}
 use Rattle.wire_state.specs.Counts.{Counts, is_above_at}
 use Rattle.wire_state.specs.Ways.{Way, WayHistory, WayStep, after, shown, world_setup}
-use Rattle.wire_state.specs.Worlds.{EndsAre, FlowIs, Keeps, KeepsOk, Owes, Stands, Told, ToldBy, has_conn, octets_of}
+use Rattle.wire_state.specs.Worlds.{Eases, EndsAre, EndsOne, FlowIs, Keeps, KeepsOk, Owes, Stands, Told, ToldBy, has_conn, octets_of}
 use Rattle.wire_state.specs.declared.conn.Conn.{Conn}
 use Rattle.wire_state.specs.declared.wire_core.WireCore.{WireCore}
 use Rattle.wm_buffer.specs.Buffer.{Buffer}
@@ -88,6 +94,26 @@ owes_by steps keeps old new same goes counts = record {
       (told_by steps keeps old.conns new.conns old.flows new.flows old.links new.links goes counts h g start notes t);
 }
 
+-- from then on the flows that go to a connection may be to be told
+pub eases_by : (c : ℕ) (steps : List WayStep) → KeepsLeft steps → (old new : WireCore) → new.config ≡ old.config
+    → ((h : WayHistory) → Stands old.config.limits old.conns old.flows old.links h → Stands old.config.limits new.conns new.flows new.links (after steps h))
+    → CountsOn old.config.limits None None (Some c) None old.conns new.conns old.flows new.flows old.links steps → Eases c (shown steps) old new
+eases_by c steps keeps old new same goes counts = record {
+  goes = λ h g start notes t.
+      config_told old new same h g start (notes ++ shown steps)
+      (told_by steps keeps old.conns new.conns old.flows new.flows old.links new.links goes counts h g start notes t);
+}
+
+-- the exchange that overflowed ends
+pub ends_by : (x : ℕ) (steps : List WayStep) → KeepsLeft steps → (old new : WireCore) → new.config ≡ old.config
+    → ((h : WayHistory) → Stands old.config.limits old.conns old.flows old.links h → Stands old.config.limits new.conns new.flows new.links (after steps h))
+    → ({t : Option ℕ} → CountsOn old.config.limits t (Some x) t None old.conns new.conns old.flows new.flows old.links steps) → EndsOne x (shown steps) old new
+ends_by x steps keeps old new same goes counts = record {
+  goes = λ h g start notes t.
+      config_told old new same h g start (notes ++ shown steps)
+      (told_by steps keeps old.conns new.conns old.flows new.flows old.links new.links goes counts h g start notes t);
+}
+
 pub keeps_by : (old new : WireCore) → new.config ≡ old.config → ((h : WayHistory) → Stands old.config.limits old.conns old.flows old.links h → Stands old.config.limits new.conns new.flows new.links h)
     → ({t u : Option ℕ} → CountsOn old.config.limits t u t u old.conns new.conns old.flows new.flows old.links []) → Keeps old new
 keeps_by old new same goes counts = record {
@@ -120,6 +146,9 @@ keeps_same old new c f r = keeps_by old new (config_kept old new r) (λ h s.
     (λ {t} {u} h s k. subst (λ (v : PagedMap Conn). Counts old.config.limits t u v new.flows h) (sym c) (subst (λ (v : Flows). Counts old.config.limits t u old.conns v h) (sym f) k))
 
 -- ---- one connection
+abbrev above_in : Option Conn → Bool
+above_in o = option_map_or (λ conn. conn.outlet.write.above) o false
+
 -- it was written through, and its write buffer is as it was
 pub above_through : (n : ℕ) (old new : PagedMap Conn) (v w : Conn) → value_at n old ≡ Some v → WritesThrough n old w new → w.outlet.write.above ≡ v.outlet.write.above → AboveStays old new
 above_through n old new v w found written same = record {
@@ -130,9 +159,6 @@ above_through n old new v w found written same = record {
       (λ e. ap (λ d. has_conn d old) (sym (is_number n c e)) ∙ ap is_some found)
       (λ e. sym (ap is_some (other_now n old new v w found written c e)) ∙ there);
 }
-  where
-    abbrev above_in : Option Conn → Bool
-    above_in o = option_map_or (λ conn. conn.outlet.write.above) o false
 
 pub conn_keeps : (n : ℕ) (old new : WireCore) (v w : Conn) → value_at n old.conns ≡ Some v → WritesThrough n old.conns w new.conns
     → w.outlet.write ≡ v.outlet.write → w.open ≡ v.open → new.flows ≡ old.flows → rest_of new ≡ rest_of old → Keeps old new
@@ -176,6 +202,23 @@ changed_bodies f change old new keeps places gates sound c = record {
   goes = flow_goes f change old new keeps c;
   counts = λ conns h k. counts_flows conns old new h (changed_keep f change old new places c) gates sound k;
 }
+
+-- one flow is changed into what it is, and the gates are seen as before
+pub still_bodies : (f : FlowId) (change : Flow → Flow) (old new : Flows) → ((flow : Flow) → flow_in old f ≡ Some flow → KeepsOctets flow (change flow)) → ((flow : Flow) → flow_in old f ≡ Some flow → change flow ≡ flow)
+    → IsSound new → KeepsWrites old new → ((b : BufferId) → pending_on new.gates b ≡ pending_on old.gates b) → ChangesFlow f change old.exchanges new.exchanges → KeepBodies old new
+still_bodies f change old new keeps same sound writes lows c = record {
+  goes = flow_goes f change old new keeps c;
+  counts = λ conns h k. counts_seen conns old new h c.flow.last found (λ g. target_after f change old.exchanges new.exchanges c g) (λ x. live_after f change old.exchanges new.exchanges c x) sound writes lows k;
+}
+  where
+    mapped : (o : Option Flow) → ((flow : Flow) → o ≡ Some flow → change flow ≡ flow) → option_map change o ≡ o
+    mapped None e = refl
+    mapped (Some flow) e = ap (λ (v : Flow). Some v) (e flow refl)
+
+    found : (g : FlowId) → flow_in new g ≡ flow_in old g
+    found g = flow_after f change old.exchanges new.exchanges c g ∙ by_case (same_flow f g)
+        (λ is. ap (λ b. if b then option_map change (flow_in old g) else flow_in old g) is ∙ mapped (flow_in old g) (subst (λ (v : FlowId). (flow : Flow) → flow_in old v ≡ Some flow → change flow ≡ flow) (same_flow_exact f g is) same))
+        (λ other. ap (λ b. if b then option_map change (flow_in old g) else flow_in old g) other)
 
 pub bodies_told : {k l : LimitKeys} {t u : Option ℕ} → (old new : Flows) → KeepBodies old new → (conns : PagedMap Conn) (links : Links) (h : WayHistory) (g : ℕ → List ℕ) (start notes : List Note) → ToldBy k l t u h g start conns old links notes → ToldBy k l t u h g start conns new links notes
 bodies_told old new k conns links h g start notes t = record { steps = t.steps; is = t.is; stands = k.goes conns links (after t.steps h) t.stands; counts = k.counts conns (after t.steps h) t.counts; left = t.left; under = t.under }

@@ -145,7 +145,7 @@ paused_more f (note.Resume g b) ns ms i e = e
 paused_more f n ns ms i e = absurd i
 
 pub paused_append : (f : FlowId) (ns ms : List Note) → AreHolds ns → paused_in f (ns ++ ms) ≡ paused_in f ns + paused_in f ms
-paused_append f [] ms a = refl
+paused_append f [] ms a = omega arith
 paused_append f (n ∷ ns) ms a = paused_more f n ns ms a.0 (paused_append f ns ms a.1)
 
 resumed_more : (f : FlowId) (n : Note) (ns ms : List Note) → IsHold n → resumed_in f (ns ++ ms) ≡ resumed_in f ns + resumed_in f ms → resumed_in f (n ∷ (ns ++ ms)) ≡ resumed_in f (n ∷ ns) + resumed_in f ms
@@ -157,7 +157,7 @@ resumed_more f (note.Resume g b) ns ms i e = more _ _ _ _ e
 resumed_more f n ns ms i e = absurd i
 
 pub resumed_append : (f : FlowId) (ns ms : List Note) → AreHolds ns → resumed_in f (ns ++ ms) ≡ resumed_in f ns + resumed_in f ms
-resumed_append f [] ms a = refl
+resumed_append f [] ms a = omega arith
 resumed_append f (n ∷ ns) ms a = resumed_more f n ns ms a.0 (resumed_append f ns ms a.1)
 
 -- the pauses of these flows

@@ -3,6 +3,7 @@ use Rattle.flow_notes.specs.declared.notes.Note.{Note}
 use Rattle.flow_notes.specs.declared.notes.Note.TheVariants as note
 use Rattle.proxy_config.specs.declared.config.LimitKeys.{LimitKeys}
 use Rattle.std.proofs.Common.{ap, append_assoc, refl, sym, ◌∙◌}
+use Rattle.std.proofs.lemmas.List.{append-nil}
 use Rattle.paged_map.specs.PagedMap.{PagedMap}
 use Rattle.std.specs.Prelude.{Err, List, Ok, OnOk, Option, Result, [], ℕ, ◌++◌, ◌∷◌, ◌≡◌}
 use Rattle.tape_laws.specs.History.{Noted}
@@ -25,6 +26,10 @@ paid (Ok u) owed before now e = record {
 }
 paid (Err x) owed before now e = record { goes = λ h g start conns flows links t. tt; front = λ h g start rest conns flows links t. tt }
 
+-- nothing was to be noted
+pub nothing_paid : {A E : Type 0} {a : A} → (notes : List Note) → Pays {A = A} {E = E} (Ok a) [] notes notes
+nothing_paid {A = A} {E = E} {a = a} notes = paid {A = A} {E = E} (Ok a) [] notes notes (sym (append-nil notes))
+
 -- a step that changes nothing
 record IsNothing (n : Note) : Type 0 where
   writes : (h : WayHistory) → Writes same_octets (Noted n) h
@@ -39,21 +44,21 @@ nothing_of (note.Waste c s n) i = record {
   flows = λ h. record { places = λ g p. refl; stages = λ g. refl; stream = λ g. refl; came = λ g. refl; went = λ g. refl };
   shut = λ h. record { closed = λ d. refl; come = λ d e. e };
   left = λ h d. refl;
-  counts = λ conns fs h counted. idle_go conns fs (Noted (note.Waste c s n)) h counted (λ f. record { stages = refl; conn = refl; spared = refl }) refl tt (λ f. (refl, refl)) (λ f. refl) (λ f. refl);
+  counts = λ conns fs h counted. idle_go conns fs (Noted (note.Waste c s n)) h counted (λ f there. record { stages = refl; conn = refl; spared = refl }) refl tt (λ f. (refl, refl)) (λ f. refl) (λ f. refl);
 }
 nothing_of (note.Fire k x) i = record {
   writes = λ h. record { outs = λ d. refl };
   flows = λ h. record { places = λ g p. refl; stages = λ g. refl; stream = λ g. refl; came = λ g. refl; went = λ g. refl };
   shut = λ h. record { closed = λ d. refl; come = λ d e. e };
   left = λ h d. refl;
-  counts = λ conns fs h counted. idle_go conns fs (Noted (note.Fire k x)) h counted (λ f. record { stages = refl; conn = refl; spared = refl }) refl tt (λ f. (refl, refl)) (λ f. refl) (λ f. refl);
+  counts = λ conns fs h counted. idle_go conns fs (Noted (note.Fire k x)) h counted (λ f there. record { stages = refl; conn = refl; spared = refl }) refl tt (λ f. (refl, refl)) (λ f. refl) (λ f. refl);
 }
 nothing_of (note.Gone x) i = record {
   writes = λ h. record { outs = λ d. refl };
   flows = λ h. record { places = λ g p. refl; stages = λ g. refl; stream = λ g. refl; came = λ g. refl; went = λ g. refl };
   shut = λ h. record { closed = λ d. refl; come = λ d e. e };
   left = λ h d. refl;
-  counts = λ conns fs h counted. idle_go conns fs (Noted (note.Gone x)) h counted (λ f. record { stages = refl; conn = refl; spared = refl }) refl tt (λ f. (refl, refl)) (λ f. refl) (λ f. refl);
+  counts = λ conns fs h counted. idle_go conns fs (Noted (note.Gone x)) h counted (λ f there. record { stages = refl; conn = refl; spared = refl }) refl tt (λ f. (refl, refl)) (λ f. refl) (λ f. refl);
 }
 nothing_of (note.Pause f b) i = absurd i
 nothing_of (note.Resume f b) i = absurd i

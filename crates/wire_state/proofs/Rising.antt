@@ -43,24 +43,24 @@ none_passes p (b ∷ bs) e = count_cons p b bs ∙ at (p b) refl (none_passes p 
     at false is i = omega (arith, i)
 
 one_passes : (p : BufferId → Bool) (c : BufferId) (bs : List BufferId) → AllByRecursion (λ b. p b ≡ true → Some c ≡ Some b) bs → count_by p bs ≡ (if p c then times_of_buffer c bs else 0)
-one_passes p c [] e = none (p c)
+one_passes p c [] e = none (p c) 0
   where
-    none : (y : Bool) → 0 ≡ (if y then 0 else 0)
-    none true = refl
-    none false = refl
-one_passes p c (b ∷ bs) e = count_cons p b bs ∙ at (p b) (same_buffer c b) (p c) refl refl refl (one_passes p c bs e.1) (count_cons (same_buffer c) b bs)
+    none : (y : Bool) (n : ℕ) → n ≡ (if y then n else n)
+    none true n = refl
+    none false n = refl
+one_passes p c (b ∷ bs) e = count_cons p b bs ∙ at (p b) (same_buffer c b) (p c) refl refl refl _ _ _ (one_passes p c bs e.1) (count_cons (same_buffer c) b bs)
   where
     named : Some c ≡ Some b → c ≡ b
     named i = cc
 
-    at : (x s y : Bool) → p b ≡ x → same_buffer c b ≡ s → p c ≡ y → {n m k : ℕ} → n ≡ (if y then m else 0) → k ≡ one_if s + m → one_if x + n ≡ (if y then k else 0)
-    at true true true px sx py i j = omega (arith, i, j)
-    at true true false px sx py i j = absurd (cc (ap p (buffer_is c b sx), px, py))
-    at true false y px sx py i j = not_both (same_buffer c b) (ap (same_buffer c) (sym (named (e.0 px))) ∙ buffer_same c) sx
-    at false true true px sx py i j = absurd (cc (ap p (buffer_is c b sx), px, py))
-    at false true false px sx py i j = omega (arith, i)
-    at false false true px sx py i j = omega (arith, i, j)
-    at false false false px sx py i j = omega (arith, i)
+    at : (x s y : Bool) → p b ≡ x → same_buffer c b ≡ s → p c ≡ y → (n m k : ℕ) → n ≡ (if y then m else 0) → k ≡ one_if s + m → one_if x + n ≡ (if y then k else 0)
+    at true true true px sx py n m k i j = omega (arith, i, j)
+    at true true false px sx py n m k i j = absurd (cc (ap p (buffer_is c b sx), px, py))
+    at true false y px sx py n m k i j = not_both (same_buffer c b) (ap (same_buffer c) (sym (named (e.0 px))) ∙ buffer_same c) sx
+    at false true true px sx py n m k i j = absurd (cc (ap p (buffer_is c b sx), px, py))
+    at false true false px sx py n m k i j = omega (arith, i)
+    at false false true px sx py n m k i j = omega (arith, i, j)
+    at false false false px sx py n m k i j = omega (arith, i)
 
 -- of these the one that passes, if any
 abbrev pub of_one : (BufferId → Bool) → List BufferId → Option BufferId → ℕ

@@ -152,7 +152,7 @@ lost_drained l f k c h e = ap (λ b. if b then times_of_buffer (buffer.Write c) 
 -- nothing else changes
 turn_go : {l : LimitKeys} → (conns : PagedMap Conn) (flows : Flows) (k : ℕ) (e : Event) (h : WayHistory) → ((f : FlowId) → drained l f (Noted (note.Turn k e)) h ≡ 0) → Counts l None None conns flows h
     → CountsGo None None None None conns conns flows flows (Noted (note.Turn k e)) [] h
-turn_go {l} conns flows k e h none c = idle_go conns flows (Noted (note.Turn k e)) h c (λ f. record { stages = refl; conn = refl; spared = refl }) refl (counts_sources l conns flows h c) (λ f. (refl, refl)) (λ f. refl) none
+turn_go {l} conns flows k e h none c = idle_go conns flows (Noted (note.Turn k e)) h c (λ f there. record { stages = refl; conn = refl; spared = refl }) refl (counts_sources l conns flows h c) (λ f. (refl, refl)) (λ f. refl) none
 
 module _ (conns : PagedMap Conn) (flows : Flows) (links : Links) (h : WayHistory) (g : ℕ → List ℕ) (left : (c : ℕ) → gone world_setup c h ≡ g c) where
   -- nothing is noted behind the notes before

@@ -110,6 +110,13 @@ module _ (g f : FlowId) (w : ℕ) (to : Option ℕ) where
   stage_none i q (Meter limit rate ∷ ss) lt = count_cons (same_buffer (buffer.Stage g i)) (buffer.Stage f q) (behind f (q + 1) ss w to)
       ∙ zero_first (same_buffer (buffer.Stage g i) (buffer.Stage f q)) _ _ (other_place (same_flow g f) (i == q) (apart_first i q lt)) (stage_none i (q + 1) ss (omega (arith, lt)))
 
+  -- no stage of another flow is there
+  pub stage_away : (i q : ℕ) (ss : List StageKind) → same_flow g f ≡ false → times_of_buffer (buffer.Stage g i) (behind f q ss w to) ≡ 0
+  stage_away i q [] e = count_cons (same_buffer (buffer.Stage g i)) (buffer.Send f) (map (λ s. s.buffer) (write_source w to)) ∙ zero_first (same_buffer (buffer.Stage g i) (buffer.Send f)) _ _ refl (send_last to (buffer.Stage g i) (λ c. refl))
+  stage_away i q (Hold limit ∷ ss) e = stage_away i (q + 1) ss e
+  stage_away i q (Meter limit rate ∷ ss) e = count_cons (same_buffer (buffer.Stage g i)) (buffer.Stage f q) (behind f (q + 1) ss w to)
+      ∙ zero_first (same_buffer (buffer.Stage g i) (buffer.Stage f q)) _ _ (ap (λ (b : Bool). b && (i == q)) e) (stage_away i (q + 1) ss e)
+
   -- the stage with this number, counted from 0, is a Meter
   abbrev pub meters : List StageKind → ℕ → Bool
   meters [] i = false
@@ -192,7 +199,7 @@ module _ (f : FlowId) (c : BufferId) (more : List FlowId) (told : BufferId → L
       at : (y : Bool) → 0 ≡ 0 + (if y then 0 else 0)
       at true = refl
       at false = refl
-  lows_more (b ∷ bs) = at (same_buffer c b) refl
+  lows_more (b ∷ bs) = at (same_buffer c b) refl (lows_more bs)
     where
       sums : (y : Bool) (s0 s1 t0 t1 a k m : ℕ) → s1 ≡ a + s0 → t1 ≡ 0 + t0 → a ≡ one_if y → k ≡ 1 + m → s0 ≡ t0 + (if y then m else 0) → s1 ≡ t1 + (if y then k else 0)
       sums true s0 s1 t0 t1 a k m e1 e2 e3 e4 e5 = omega (arith, e1, e2, e3, e4, e5)
@@ -202,11 +209,11 @@ module _ (f : FlowId) (c : BufferId) (more : List FlowId) (told : BufferId → L
       skips true s0 s1 t0 t1 a k m e1 e2 e4 e5 = omega (arith, e1, e2, e4, e5)
       skips false s0 s1 t0 t1 a k m e1 e2 e4 e5 = omega (arith, e1, e2, e5)
 
-      at : (s : Bool) → same_buffer c b ≡ s → sum_by (λ d. times f (now d)) (b ∷ bs) ≡ sum_by (λ d. times f (told d)) (b ∷ bs) + (if x then times_of_buffer c (b ∷ bs) else 0)
-      at true e =
+      at : (s : Bool) → same_buffer c b ≡ s → sum_by (λ d. times f (now d)) bs ≡ sum_by (λ d. times f (told d)) bs + (if x then times_of_buffer c bs else 0) → sum_by (λ d. times f (now d)) (b ∷ bs) ≡ sum_by (λ d. times f (told d)) (b ∷ bs) + (if x then times_of_buffer c (b ∷ bs) else 0)
+      at true e ih =
           let empty : times f (told b) ≡ 0 = ap (times f) (ap told (sym (buffer_is c b e)) ∙ none) in
           sums x _ _ _ _ (times f (now b)) _ _ (sum_by-cons (λ d. times f (now d)) b bs) (sum_by-cons (λ d. times f (told d)) b bs ∙ ap (λ (n : ℕ). n + sum_by (λ d. times f (told d)) bs) empty)
-          (ap (λ (v : Bool). times f (if v then more else told b)) e ∙ many) (count_cons (same_buffer c) b bs ∙ ap (λ (v : Bool). one_if v + times_of_buffer c bs) e) (lows_more bs)
-      at false e =
+          (ap (λ (v : Bool). times f (if v then more else told b)) e ∙ many) (count_cons (same_buffer c) b bs ∙ ap (λ (v : Bool). one_if v + times_of_buffer c bs) e) ih
+      at false e ih =
           skips x _ _ _ _ (times f (told b)) _ _ (sum_by-cons (λ d. times f (now d)) b bs ∙ ap (λ (v : Bool). times f (if v then more else told b) + sum_by (λ d. times f (now d)) bs) e) (sum_by-cons (λ d. times f (told d)) b bs)
-          (count_cons (same_buffer c) b bs ∙ ap (λ (v : Bool). one_if v + times_of_buffer c bs) e) (lows_more bs)
+          (count_cons (same_buffer c) b bs ∙ ap (λ (v : Bool). one_if v + times_of_buffer c bs) e) ih

@@ -304,13 +304,13 @@ module _ (n : ℕ) (old new : WireCore) (v w : Conn) (found : value_at n old.con
       ∙ (at (same_flow f g) refl
       ∙ ap (λ (k : ℕ). if drains_at (tape_setup old.config.limits) (buffer.Send f) step h then k else 0) (sym (send_times f g (last_place (tape_setup old.config.limits) g h + 1) (conn_to g h) 1 (stages_passed g h))))
     where
-      none_if : (b : Bool) → (if b then 0 else 0) ≡ 0
-      none_if true = refl
-      none_if false = refl
+      none_if : (b : Bool) {k : ℕ} → k ≡ 0 → (if b then k else 0) ≡ 0
+      none_if true e = e
+      none_if false e = refl
 
       at : (b : Bool) → same_flow f g ≡ b → (if framed.drained then one_if b else 0) ≡ (if drains_at (tape_setup old.config.limits) (buffer.Send f) step h then one_if b else 0)
       at true e = ap (λ (d : Bool). if d then 1 else 0) (sym (send_drains tail h g now e seen))
-      at false e = none_if framed.drained ∙ sym (none_if (drains_at (tape_setup old.config.limits) (buffer.Send f) step h))
+      at false e = none_if framed.drained refl ∙ sym (none_if (drains_at (tape_setup old.config.limits) (buffer.Send f) step h) refl)
 
   pub body_written : Owes (framed_of n f framed (watchers_on n new.flows)) old new
   body_written = owes_held (note.Frame n f framed.n framed.last) (risen_of framed.rose n (watchers_on n new.flows) ++ told_of framed.drained f)

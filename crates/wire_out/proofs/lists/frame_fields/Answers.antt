@@ -5,7 +5,7 @@ returns-clause-octets c = record {
   goes = λ h g start t.
       let owed = rw c.in-Some.is at c.in_ok-octets.ensures.octets in
       let ended = c.in_ok-end_where.ensures.octets.goes h g start _ (c.in_ok-touch.ensures.octets.goes h g start _ (c.in_ok-stir_some.ensures.octets.goes h g start _ (owed.goes h g start c.args.notes.now t))) in
-      c.unit_framed.ensures.octets.goes h g start (c.in_ok-note_head.ensures.paid.goes h g start _ _ _ ended);
+      c.unit_framed.ensures.octets.goes h g start (c.in_ok-note_head.ensures.paid.front h g start _ _ _ _ ended);
 }
 
 pub returns-in_default-clause-octets : goal.returns-in_default-clause-octets

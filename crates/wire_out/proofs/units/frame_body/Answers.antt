@@ -5,7 +5,7 @@ returns-clause-octets c = record {
   goes = λ h g start t.
       let owed = rw c.in-Some.is at c.in_ok-framed.ensures.octets in
       let ended = c.in_ok-end_where.ensures.octets.goes h g start _ (c.in_ok-touch.ensures.octets.goes h g start _ (c.in_ok-stir_course.ensures.octets.goes h g start _ (owed.goes h g start c.args.notes.now t))) in
-      c.resume_where.ensures.octets.goes h g start (c.in_ok-note_risen.ensures.octets.goes h g start _ _ _ (c.in_ok-note.ensures.paid.goes h g start _ _ _ ended));
+      c.resume_where.ensures.octets.goes h g start (c.in_ok-note_risen.ensures.octets.front h g start _ _ _ _ (c.in_ok-note.ensures.paid.front h g start _ _ _ _ ended));
 }
 
 pub returns-in_default-clause-octets : goal.returns-in_default-clause-octets
