@@ -51,7 +51,7 @@ module _ (old new : Flows) (rest : new.exchanges ≡ old.exchanges) (was : IsSou
 
   pub gates_counts : {l : LimitKeys} {t u : Option ℕ} → (conns : PagedMap Conn) (h : WayHistory) → ((c : ℕ) → holds_back c new ≡ is_above_at c conns) → ((c : ℕ) → has_conn c conns ≡ true → IsSome (write_at c new))
       → Counts l t u conns old h → Counts l t u conns new h
-  gates_counts {t = t} {u = u} conns h marks known c = counts_gates {t = t} {u = u} conns old new h (exchanges_keep old new rest) sound (record {
+  gates_counts {t = t} {u = u} conns h marks known c = counts_gates {t = t} {u = u} {t' = t} {u' = u} conns old new h (exchanges_keep old new rest) sound (record {
     low = λ f there. lows_same f old.gates new.gates (watched f) lows.lows;
     marks = marks;
     known = known;

@@ -122,7 +122,7 @@ pub record WayStays (step : WayStep) (h : WayHistory) (f : FlowId) : Type 0 wher
   pub conn : conn_to f (step ∷ h) ≡ conn_to f h
   pub spared : spares f step ≡ true
 
-module _ {l : LimitKeys} (t u t' u' : Option ℕ) (conns conns' : PagedMap Conn) (flows flows' : Flows) (step : WayStep) (tail : List Note) (h : WayHistory) where
+module _ (l : LimitKeys) (t u t' u' : Option ℕ) (conns conns' : PagedMap Conn) (flows flows' : Flows) (step : WayStep) (tail : List Note) (h : WayHistory) where
   -- a flow that is there, before the step and after it
   pub record IsSeen (f : FlowId) (flow : Flow) : Type 0 where
     pub found : flow_in flows' f ≡ Some flow

@@ -174,7 +174,7 @@ counts_gates {l} conns old new h keeps sound g c = record {
 
 -- the gates stay
 pub counts_flows : {l : LimitKeys} {t u : Option ℕ} → (conns : PagedMap Conn) (old new : Flows) (h : WayHistory) → FlowsKeep old new → new.gates ≡ old.gates → IsSound new → Counts l t u conns old h → Counts l t u conns new h
-counts_flows {l} {t} {u} conns old new h keeps e sound c = counts_gates {l} {t} {u} {t} {u} conns old new h keeps sound (record {
+counts_flows {l} {t} {u} conns old new h keeps e sound c = counts_gates {l = l} {t = t} {u = u} {t' = t} {u' = u} conns old new h keeps sound (record {
   low = λ f there. ap (λ (b : Board). lows b f) e;
   marks = λ d. ap (λ (o : Option Write). option_map_or (λ w. w.above) o false) (write_stays d old new e) ∙ c.marks d;
   known = λ d there. subst IsSome (sym (write_stays d old new e)) (c.known d there);
@@ -188,7 +188,7 @@ counts_flows {l} {t} {u} conns old new h keeps e sound c = counts_gates {l} {t} 
 -- all is found as before, and the gates are seen as before
 pub counts_seen : {l : LimitKeys} {t u : Option ℕ} → (conns : PagedMap Conn) (old new : Flows) (h : WayHistory) → new.exchanges.last ≡ old.exchanges.last → ((f : FlowId) → flow_in new f ≡ flow_in old f) → ((f : FlowId) → goes_to new f ≡ goes_to old f) → ((x : ℕ) → is_live_in new x ≡ is_live_in old x)
     → IsSound new → KeepsWrites old new → ((b : BufferId) → pending_on new.gates b ≡ pending_on old.gates b) → Counts l t u conns old h → Counts l t u conns new h
-counts_seen {l} {t} {u} conns old new h last found goes live sound writes same c = counts_gates {l} {t} {u} {t} {u} conns old new h (found_keep old new last found goes live) sound (record {
+counts_seen {l} {t} {u} conns old new h last found goes live sound writes same c = counts_gates {l = l} {t = t} {u = u} {t' = t} {u' = u} conns old new h (found_keep old new last found goes live) sound (record {
   low = λ f there. lows_same f old.gates new.gates (sound.watched f ∙ ((λ i. option_map_or (watches_of (goes f i)) (found f i) []) ∙ sym (c.sound.watched f))) same;
   marks = λ d. ap (λ (o : Option Write). option_map_or (λ w. w.above) o false) (writes.writes d) ∙ c.marks d;
   known = λ d there. subst IsSome (sym (writes.writes d)) (c.known d there);

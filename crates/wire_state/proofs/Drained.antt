@@ -183,9 +183,9 @@ module _ {l : LimitKeys} (n : ℕ) (old new : PagedMap Conn) (v w : Conn) (found
     sums : (a b c d : ℕ) → a ≡ b + c → c ≡ d → a + 0 ≡ b + d
     sums a b c d e i = omega (arith, e, i)
 
-    frees_lows : eased_at l step h ≡ Some (buffer.Write n) → (tail : List Note) (f : FlowId) (flow : Flow) → IsSeen None None (Some n) None old new flows flows' step tail h f flow → lows flows'.gates f + 0 ≡ lows flows.gates f + drained l f step h
+    frees_lows : eased_at l step h ≡ Some (buffer.Write n) → (tail : List Note) (f : FlowId) (flow : Flow) → IsSeen l None None (Some n) None old new flows flows' step tail h f flow → lows flows'.gates f + 0 ≡ lows flows.gates f + drained l f step h
     frees_lows eases tail f flow seen =
-        let watched = watched_stays None None (Some n) None old new flows flows' step tail h c.sound (frees.sound c.sound) f flow seen in
+        let watched = watched_stays l None None (Some n) None old new flows flows' step tail h c.sound (frees.sound c.sound) f flow seen in
         let many : times f (watchers_on n flows) ≡ times_of_buffer (buffer.Write n) (watched_by flows.gates f) = c.sound.gates.paired f (buffer.Write n) in
         let few : times f (watchers_on n flows) ≤ 1 = c.sound.gates.once f (buffer.Write n) in
         let sources = ap (times_of_buffer (buffer.Write n)) (watches l flows h c.sound f seen.was seen.found_was seen.is_was seen.goes_was) in
@@ -205,7 +205,7 @@ module _ {l : LimitKeys} (n : ℕ) (old new : PagedMap Conn) (v w : Conn) (found
 
     -- all of it
     pub frees_go : eased_at l step h ≡ Some (buffer.Write n) → ((f : FlowId) → WayStays step h f) → live (step ∷ h) ≡ live h → BeforeTurn (CountsItsSources (tape_setup l)) step h
-        → ((f : FlowId) → (pauses f (step ∷ h) ≡ pauses f h) × (resumes f (step ∷ h) ≡ resumes f h)) → ((f : FlowId) → risen l f step h ≡ 0) → CountsGo None None (Some n) None old new flows flows' step [] h
+        → ((f : FlowId) → (pauses f (step ∷ h) ≡ pauses f h) × (resumes f (step ∷ h) ≡ resumes f h)) → ((f : FlowId) → risen l f step h ≡ 0) → CountsGo l None None (Some n) None old new flows flows' step [] h
     frees_go eases ways living turned quiet rise = record {
       sound = frees.sound c.sound;
       flows_go = same_go flows flows' frees.rest;

@@ -139,10 +139,10 @@ module _ {l : LimitKeys} {t u : Option ℕ} (n : ℕ) (old new : PagedMap Conn) 
         sym (over_now l old new step h n (fills_writes n) (c.over n) (s.writes n ∙ sym (same_out l n h)) (s'.writes n ∙ sym (same_out l n (step ∷ h)))) ∙ above_there n same in
         λ i. not (before i) && now i
 
-    pub fills_pauses : fed_by (tape_setup l) step h ≡ Some (buffer.Write n) → IsSound flows' → (tail : List Note) (f : FlowId) (flow : Flow) → IsSeen t u t u old new flows flows' step tail h f flow → paused_in f (risen_of rose n (watchers_on n flows')) ≡ risen l f step h
+    pub fills_pauses : fed_by (tape_setup l) step h ≡ Some (buffer.Write n) → IsSound flows' → (tail : List Note) (f : FlowId) (flow : Flow) → IsSeen l t u t u old new flows flows' step tail h f flow → paused_in f (risen_of rose n (watchers_on n flows')) ≡ risen l f step h
     fills_pauses fed sound tail f flow seen =
         risen_times f rose n (watchers_on n flows')
-        ∙ (ap (λ (k : ℕ). if rose then k else 0) (watchers_were t u t u old new flows flows' step tail h sound f flow seen (buffer.Write n))
+        ∙ (ap (λ (k : ℕ). if rose then k else 0) (watchers_were l t u t u old new flows flows' step tail h sound f flow seen (buffer.Write n))
         ∙ (ap (λ (b : Bool). if b then times_of_buffer (buffer.Write n) (source_buffers (tape_setup l) f h) else 0) (sym rises)
         ∙ ap (of_one (λ b. rises_at (tape_setup l) b step h) (source_buffers (tape_setup l) f h)) (sym fed)))
 
@@ -151,8 +151,8 @@ module _ {l : LimitKeys} {t u : Option ℕ} (n : ℕ) (old new : PagedMap Conn) 
         → (more : List Note) → AreHolds more → ((f : FlowId) → paused_in f more ≡ 0) → ((f : FlowId) → flows.exchanges.last < f.exchange → resumed_in f more ≡ 0)
         → ((f : FlowId) → WayStays step h f) → live (step ∷ h) ≡ live h → BeforeTurn (CountsItsSources (tape_setup l)) step h
         → ((f : FlowId) → (pauses f (step ∷ h) ≡ pauses f h) × (resumes f (step ∷ h) ≡ resumes f h))
-        → ((f : FlowId) (flow : Flow) → IsSeen t u t u old new flows flows' step (risen_of rose n (watchers_on n flows') ++ more) h f flow → resumed_in f more ≡ drained l f step h)
-        → CountsGo t u t u old new flows flows' step (risen_of rose n (watchers_on n flows') ++ more) h
+        → ((f : FlowId) (flow : Flow) → IsSeen l t u t u old new flows flows' step (risen_of rose n (watchers_on n flows') ++ more) h f flow → resumed_in f more ≡ drained l f step h)
+        → CountsGo l t u t u old new flows flows' step (risen_of rose n (watchers_on n flows') ++ more) h
     fills_go fed go same more holds unpaused unresumed ways living turned quiet drops = record {
       sound = fills.sound c.sound;
       flows_go = go;
@@ -169,7 +169,7 @@ module _ {l : LimitKeys} {t u : Option ℕ} (n : ℕ) (old new : PagedMap Conn) 
           ∙ no_more _ _ _ (fills_pauses fed (fills.sound c.sound) (risen_of rose n (watchers_on n flows') ++ more) f flow seen) (unpaused f);
       resumed = λ f flow seen. resumes_more _ _ _ _ _
           (resumed_append f (risen_of rose n (watchers_on n flows')) more (risen_holds rose n (watchers_on n flows')) ∙ no_first _ _ (risen_resumes_none f rose n (watchers_on n flows')))
-          (lows_stay t u t u old new flows flows' step (risen_of rose n (watchers_on n flows') ++ more) h c.sound (fills.sound c.sound) fills.lows.lows f flow seen) (drops f flow seen);
+          (lows_stay l t u t u old new flows flows' step (risen_of rose n (watchers_on n flows') ++ more) h c.sound (fills.sound c.sound) fills.lows.lows f flow seen) (drops f flow seen);
       none = λ f lt. let few = risen_none flows flows' (fills.sound c.sound) go.last f lt rose n in (
         paused_append f (risen_of rose n (watchers_on n flows')) more (risen_holds rose n (watchers_on n flows')) ∙ both_none _ _ few.0 (unpaused f),
         resumed_append f (risen_of rose n (watchers_on n flows')) more (risen_holds rose n (watchers_on n flows')) ∙ both_none _ _ few.1 (unresumed f lt),

@@ -87,11 +87,11 @@ told_at {k} {l} {t} {u} h g start conns conns' flows links notes notes' c n told
 
 pub owes_by : (steps : List WayStep) → KeepsLeft steps → (old new : WireCore) → new.config ≡ old.config
     → ((h : WayHistory) → Stands old.config.limits old.conns old.flows old.links h → Stands old.config.limits new.conns new.flows new.links (after steps h))
-    → ({t u : Option ℕ} → CountsOn old.config.limits t u t u old.conns new.conns old.flows new.flows old.links steps) → Owes (shown steps) old new
+    → ((t u : Option ℕ) → CountsOn old.config.limits t u t u old.conns new.conns old.flows new.flows old.links steps) → Owes (shown steps) old new
 owes_by steps keeps old new same goes counts = record {
-  goes = λ h g start notes t.
+  goes = λ {k} {t} {u} h g start notes told.
       config_told old new same h g start (notes ++ shown steps)
-      (told_by steps keeps old.conns new.conns old.flows new.flows old.links new.links goes counts h g start notes t);
+      (told_by steps keeps old.conns new.conns old.flows new.flows old.links new.links goes (counts t u) h g start notes told);
 }
 
 -- from then on the flows that go to a connection may be to be told
@@ -107,19 +107,19 @@ eases_by c steps keeps old new same goes counts = record {
 -- the exchange that overflowed ends
 pub ends_by : (x : ℕ) (steps : List WayStep) → KeepsLeft steps → (old new : WireCore) → new.config ≡ old.config
     → ((h : WayHistory) → Stands old.config.limits old.conns old.flows old.links h → Stands old.config.limits new.conns new.flows new.links (after steps h))
-    → ({t : Option ℕ} → CountsOn old.config.limits t (Some x) t None old.conns new.conns old.flows new.flows old.links steps) → EndsOne x (shown steps) old new
+    → ((t : Option ℕ) → CountsOn old.config.limits t (Some x) t None old.conns new.conns old.flows new.flows old.links steps) → EndsOne x (shown steps) old new
 ends_by x steps keeps old new same goes counts = record {
-  goes = λ h g start notes t.
+  goes = λ {k} {t} h g start notes told.
       config_told old new same h g start (notes ++ shown steps)
-      (told_by steps keeps old.conns new.conns old.flows new.flows old.links new.links goes counts h g start notes t);
+      (told_by steps keeps old.conns new.conns old.flows new.flows old.links new.links goes (counts t) h g start notes told);
 }
 
 pub keeps_by : (old new : WireCore) → new.config ≡ old.config → ((h : WayHistory) → Stands old.config.limits old.conns old.flows old.links h → Stands old.config.limits new.conns new.flows new.links h)
-    → ({t u : Option ℕ} → CountsOn old.config.limits t u t u old.conns new.conns old.flows new.flows old.links []) → Keeps old new
+    → ((t u : Option ℕ) → CountsOn old.config.limits t u t u old.conns new.conns old.flows new.flows old.links []) → Keeps old new
 keeps_by old new same goes counts = record {
-  goes = λ h g start notes t.
+  goes = λ {k} {t} {u} h g start notes told.
       config_told old new same h g start notes
-      (record { steps = t.steps; is = t.is; stands = goes (after t.steps h) t.stands; counts = counts (after t.steps h) t.stands t.counts; left = t.left; under = t.under });
+      (record { steps = told.steps; is = told.is; stands = goes (after told.steps h) told.stands; counts = counts t u (after told.steps h) told.stands told.counts; left = told.left; under = told.under });
 }
 
 -- the same of a call that may fail
@@ -143,7 +143,7 @@ keeps_same old new c f r = keeps_by old new (config_kept old new r) (λ h s.
     links_kept old new r h
     (subst (λ (v : PagedMap Conn). Stands old.config.limits v new.flows old.links h) (sym c)
     (subst (λ (v : Flows). Stands old.config.limits old.conns v old.links h) (sym f) s)))
-    (λ {t} {u} h s k. subst (λ (v : PagedMap Conn). Counts old.config.limits t u v new.flows h) (sym c) (subst (λ (v : Flows). Counts old.config.limits t u old.conns v h) (sym f) k))
+    (λ t u h s k. subst (λ (v : PagedMap Conn). Counts old.config.limits t u v new.flows h) (sym c) (subst (λ (v : Flows). Counts old.config.limits t u old.conns v h) (sym f) k))
 
 -- ---- one connection
 abbrev above_in : Option Conn → Bool
@@ -166,7 +166,7 @@ conn_keeps n old new v w found written same opened f r = keeps_by old new (confi
     links_kept old new r h
     (subst (λ (fs : Flows). Stands old.config.limits new.conns fs old.links h) (sym f)
     (conns_go old.conns new.conns old.flows old.links h (same_conns (conns_written n old.conns new.conns v w found written (λ xs. xs) (ap (λ (b : Buffer). b.octets) same) opened)) s)))
-    (λ {t} {u} h s k. subst (λ (fs : Flows). Counts old.config.limits t u new.conns fs h) (sym f)
+    (λ t u h s k. subst (λ (fs : Flows). Counts old.config.limits t u new.conns fs h) (sym f)
     (counts_conns old.conns new.conns old.flows h (above_through n old.conns new.conns v w found written (ap (λ (b : Buffer). b.above) same)) k))
   where
     same_one : (b : Bool) (xs : List ℕ) → (if b then xs else xs) ≡ xs

@@ -36,7 +36,7 @@ record IsNothing (n : Note) : Type 0 where
   flows : (h : WayHistory) → KeepsFlows (Noted n) h
   shut : (h : WayHistory) → KeepsShut (Noted n) h
   left : KeepsLeft (Noted n ∷ [])
-  counts : {l : LimitKeys} {t u : Option ℕ} (conns : PagedMap Conn) (fs : Flows) (h : WayHistory) → Counts l t u conns fs h → CountsGo t u t u conns conns fs fs (Noted n) [] h
+  counts : {l : LimitKeys} {t u : Option ℕ} (conns : PagedMap Conn) (fs : Flows) (h : WayHistory) → Counts l t u conns fs h → CountsGo l t u t u conns conns fs fs (Noted n) [] h
 
 nothing_of : (n : Note) → IsIdle n → IsNothing n
 nothing_of (note.Waste c s n) i = record {
@@ -80,7 +80,7 @@ module _ (conns : PagedMap Conn) (flows : Flows) (links : Links) where
       let e = nothing_of n i in
       let stand : (h : WayHistory) → Stands l conns flows links h → Stands l conns flows links (Noted n ∷ h) = λ h s. wrote same_octets (Noted n) h conns conns flows links (e.writes h) (e.flows h) (e.shut h) (conns_same conns) (λ c fit. fit) s in
       told_by (Noted n ∷ []) (e.left) conns conns flows flows links links stand
-      (λ h s c. counts_go t u t u conns conns flows flows (Noted n) [] h links links (e.counts conns flows h c) s (stand h s) c)
+      (λ h s c. counts_go l t u t u conns conns flows flows (Noted n) [] h links links (e.counts conns flows h c) s (stand h s) c)
 
 pub idle : {A E : Type 0} (r : Result A E) (n : Note) (before now : List Note) → OnOk r (now ≡ before ++ n ∷ []) → IsIdle n → Shows r before now
 idle (Ok u) n before now e i = record { goes = λ h g start conns flows links t. told_at h g start conns conns flows links (before ++ n ∷ []) now refl (sym e) (one_told conns flows links n i h g start before t) }

@@ -123,7 +123,7 @@ module _ (f : FlowId) (old new : Flows) (o : Outcome) (is : o ≡ option_map_or 
 
   module _ {l : LimitKeys} {t : Option ℕ} (conns : PagedMap Conn) (h : WayHistory) (c : Counts l t None conns old h) where
     abbrev Seen : FlowId → Flow → Type 0
-    Seen g now = IsSeen {l = l} t None t (late_of f m) conns conns old new move tail h g now
+    Seen g now = IsSeen l t None t (late_of f m) conns conns old new move tail h g now
 
     none_own : (p : ℕ) → pending_on old.gates (buffer.Stage f p) ≡ []
     none_own p = at (c.told (buffer.Stage f p))
@@ -257,7 +257,7 @@ module _ (f : FlowId) (old new : Flows) (o : Outcome) (is : o ≡ option_map_or 
           sums a b r d i j k = omega (arith, i, j, k)
 
           watched : watched_by new.gates g ≡ watched_by old.gates g
-          watched = watched_stays t None t (late_of f m) conns conns old new move tail h c.sound sound g now seen
+          watched = watched_stays l t None t (late_of f m) conns conns old new move tail h c.sound sound g now seen
 
           nobody : (b : Bool) → times g (if b then f ∷ [] else []) ≡ 0
           nobody true = count_cons (same_flow g) f [] ∙ ap (λ (v : Bool). one_if v + 0) (flow_swapped g f ∙ apart)
@@ -282,7 +282,7 @@ module _ (f : FlowId) (old new : Flows) (o : Outcome) (is : o ≡ option_map_or 
       own_resumed = at (falls now seen) refl
         where
           watched : watched_by new.gates f ≡ watched_by old.gates f
-          watched = watched_stays t None t (late_of f m) conns conns old new move tail h c.sound sound f now seen
+          watched = watched_stays l t None t (late_of f m) conns conns old new move tail h c.sound sound f now seen
 
           resumes_are : resumed_in f tail ≡ (if is_some m.drained && not m.overflow then 1 else 0)
           resumes_are = crossed_resumes f f m.rose m.drained m.overflow ∙ ap (λ (b : Bool). if is_some m.drained && not m.overflow then one_if b else 0) (flow_same f)
@@ -402,7 +402,7 @@ module _ (f : FlowId) (old new : Flows) (o : Outcome) (is : o ≡ option_map_or 
     where_moved : (flow : Flow) → flow_in old f ≡ Some flow → FlowIs l f h flow → FlowGoes flow (stepped old.gates (goes_to old f) flow)
     where_moved flow found was = subst (FlowGoes flow) (sym (made f old new o is changes m e h flow found was).after_it) (moved_goes m.place m.n flow)
 
-    pub moves_go : ((g : FlowId) → IfSome (flow_in old g) (FlowIs l g h)) → CountsGo {l = l} t None t (late_of f m) conns conns old new move tail h
+    pub moves_go : ((g : FlowId) → IfSome (flow_in old g) (FlowIs l g h)) → CountsGo l t None t (late_of f m) conns conns old new move tail h
     moves_go are = record {
       sound = sound;
       flows_go = changed_go f (stepped old.gates (goes_to old f)) old new (λ flow found. where_moved flow found (subst (λ (v : Option Flow). IfSome v (FlowIs l f h)) found (are f))) changes;
@@ -430,5 +430,5 @@ module _ (f : FlowId) (old new : Flows) (o : Outcome) (is : o ≡ option_map_or 
       subst (λ (ns : List Note). ToldBy k l t (late_of f m) h g start conns new links (notes ++ note.Move f m.place m.n ∷ ns)) (shown_noted tail)
       (told_by (move ∷ noted tail) (λ j d. holds_gone tail (crossed_holds f m.rose m.drained m.overflow) (move ∷ j) d) conns conns old new links links
       (λ j s. holds_stand tail (crossed_holds f m.rose m.drained m.overflow) conns new links (move ∷ j) (move_stands f old new o is changes m e sound conns links j s))
-      (λ j s c. counts_go t None t (late_of f m) conns conns old new move tail j links links (moves_go conns j c s.flows_are) s (move_stands f old new o is changes m e sound conns links j s) c)
+      (λ j s c. counts_go l t None t (late_of f m) conns conns old new move tail j links links (moves_go conns j c s.flows_are) s (move_stands f old new o is changes m e sound conns links j s) c)
       h g start notes told)

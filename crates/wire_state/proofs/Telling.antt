@@ -123,7 +123,7 @@ module _ {l : LimitKeys} {t u : Option ℕ} (n : ℕ) (conns : PagedMap Conn) (o
 
   -- ---- none was to be told
   pub none_told : lows_on n old ≡ [] → Counts l t u conns new h
-  none_told none = counts_gates {t = t} {u = u} conns old new h (exchanges_keep old new rest) sound (record {
+  none_told none = counts_gates {t = t} {u = u} {t' = t} {u' = u} conns old new h (exchanges_keep old new rest) sound (record {
     low = λ f there. lows_same f old.gates new.gates (watched f) same;
     marks = told_marks;
     known = told_known;

@@ -150,8 +150,8 @@ lost_drained l f k c h e = ap (λ b. if b then times_of_buffer (buffer.Write c) 
     never = ap (λ (b : Bool). above (tape_setup l) (buffer.Write c) h && not b) same ∙ but_not (above (tape_setup l) (buffer.Write c) h)
 
 -- nothing else changes
-turn_go : {l : LimitKeys} → (conns : PagedMap Conn) (flows : Flows) (k : ℕ) (e : Event) (h : WayHistory) → ((f : FlowId) → drained l f (Noted (note.Turn k e)) h ≡ 0) → Counts l None None conns flows h
-    → CountsGo None None None None conns conns flows flows (Noted (note.Turn k e)) [] h
+pub turn_go : {l : LimitKeys} → (conns : PagedMap Conn) (flows : Flows) (k : ℕ) (e : Event) (h : WayHistory) → ((f : FlowId) → drained l f (Noted (note.Turn k e)) h ≡ 0) → Counts l None None conns flows h
+    → CountsGo l None None None None conns conns flows flows (Noted (note.Turn k e)) [] h
 turn_go {l} conns flows k e h none c = idle_go conns flows (Noted (note.Turn k e)) h c (λ f there. record { stages = refl; conn = refl; spared = refl }) refl (counts_sources l conns flows h c) (λ f. (refl, refl)) (λ f. refl) none
 
 module _ (conns : PagedMap Conn) (flows : Flows) (links : Links) (h : WayHistory) (g : ℕ → List ℕ) (left : (c : ℕ) → gone world_setup c h ≡ g c) where
@@ -163,7 +163,7 @@ module _ (conns : PagedMap Conn) (flows : Flows) (links : Links) (h : WayHistory
   turned k e w s = wrote same_octets (Noted (note.Turn k e)) h conns conns flows links w (turn_flows k e h) (turn_shut k e h) (conns_same conns) (λ c fit. fit) s
 
   turned_counts : {l : LimitKeys} → (k : ℕ) (e : Event) → Writes same_octets (Noted (note.Turn k e)) h → ((f : FlowId) → drained l f (Noted (note.Turn k e)) h ≡ 0) → Rests l conns flows links h → Counts l None None conns flows (Noted (note.Turn k e) ∷ h)
-  turned_counts k e w none r = counts_go None None None None conns conns flows flows (Noted (note.Turn k e)) [] h links links (turn_go conns flows k e h none r.counts) r.stands (turned k e w r.stands) r.counts
+  turned_counts {l} k e w none r = counts_go l None None None None conns conns flows flows (Noted (note.Turn k e)) [] h links links (turn_go conns flows k e h none r.counts) r.stands (turned k e w r.stands) r.counts
 
   -- with the turn note of an event
   pub turn_rests : {l : LimitKeys} → (k : ℕ) (e : Event) → LosesNone e → (before noted : List Note) → noted ≡ before ++ note.Turn k e ∷ [] → Rests l conns flows links h → ToldBy l l None None h g before conns flows links noted

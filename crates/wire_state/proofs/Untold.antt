@@ -22,6 +22,7 @@ use Rattle.proxy_config.specs.declared.config.LimitKeys.{LimitKeys}
 use Rattle.std.proofs.Common.{ap, arith, inl, inr, refl, subst, sym, ◌∙◌}
 use Rattle.std.proofs.lemmas.Bool.Decides.{nat_tests}
 use Rattle.std.proofs.lemmas.List.Sums.{sum_by-cons}
+use Rattle.std.proofs.lemmas.List.{append-nil}
 use Rattle.std.specs.Option.{option_and_then, option_map, option_map_or}
 use Rattle.std.specs.Prelude.{Bool, IsSome, List, None, Option, Some, [], false, filter, if◌then◌else◌, is_some, map, not, sum_by, true, ℕ, ◌&&◌, ◌++◌, ◌+◌, ◌==◌, ◌∷◌, ◌≡◌, ◌≤◌, ◌⊎◌}
 use Rattle.tape_laws.specs.Dispatches.{has}
@@ -31,12 +32,14 @@ use Rattle.wire_flows.specs.Flows.{Flows, flow_in, goes_to, is_live_in, is_there
 use Rattle.wire_flows.specs.Sound.{IsSound}
 use Rattle.wire_flows.specs.Writes.{LeavesLows, LeavesWrites, Write, left_by, write_at}
 use Rattle.wire_state.proofs.Counting.{CountsGo, IsSeen, above_same, watched_stays}
+use Rattle.wire_state.proofs.Goings.{told_at}
 use Rattle.wire_state.proofs.Held.{turned}
 use Rattle.wire_state.proofs.Overs.{still_goes}
 use Rattle.wire_state.specs.Counts.{Counts, MayLag, holds_back, is_above_at}
-use Rattle.wire_state.specs.Ways.{WayHistory, WayStep}
-use Rattle.wire_state.specs.Worlds.{has_conn}
+use Rattle.wire_state.specs.Ways.{WayHistory, WayStep, after}
+use Rattle.wire_state.specs.Worlds.{EndsOne, has_conn}
 use Rattle.wire_state.specs.declared.conn.Conn.{Conn}
+use Rattle.wire_state.specs.declared.wire_core.WireCore.{WireCore}
 
 -- ---- own buffers of a flow that isn't there
 zero_first : (x : Bool) (n m : ℕ) → x ≡ false → n ≡ m → one_if x + n ≡ m
@@ -162,10 +165,10 @@ module _ {l : LimitKeys} {t : Option ℕ} (x : ℕ) (why : Cause) (h : WayHistor
   other_side : (f : FlowId) (side : Bool) → (x == f.exchange) ≡ false → same_flow (flow_id x side) f ≡ false
   other_side f side e = and_false (x == f.exchange) _ e
 
-  doom_lows : {u u' : Option ℕ} → IsSound old → (f : FlowId) (flow : Flow) → IsSeen {l = l} t u t u' conns conns old new ending [] h f flow → lows new.gates f + 0 ≡ lows old.gates f + 0
+  doom_lows : {u u' : Option ℕ} → IsSound old → (f : FlowId) (flow : Flow) → IsSeen l t u t u' conns conns old new ending [] h f flow → lows new.gates f + 0 ≡ lows old.gates f + 0
   doom_lows {u} {u'} was f flow seen =
       let e = apart f (ap is_some seen.found) in
-      ap (λ (n : ℕ). n + 0) ((λ i. sum_by (λ b. times f (lows_go.lows b i)) (watched_stays t u t u' conns conns old new ending [] h was sound f flow seen i)) ∙ same e (watched_by old.gates f))
+      ap (λ (n : ℕ). n + 0) ((λ i. sum_by (λ b. times f (lows_go.lows b i)) (watched_stays l t u t u' conns conns old new ending [] h was sound f flow seen i)) ∙ same e (watched_by old.gates f))
     where
       sums : (a b c s t : ℕ) → a ≡ b → s ≡ t → a + s ≡ b + t
       sums a b c s t e i = omega (arith, e, i)
@@ -176,7 +179,7 @@ module _ {l : LimitKeys} {t : Option ℕ} (x : ℕ) (why : Cause) (h : WayHistor
           ∙ ((λ i. (times_without f (flow_id x true) (without (flow_id x false) (pending_on old.gates b)) (other_side f true e) ∙ times_without f (flow_id x false) (pending_on old.gates b) (other_side f false e)) i + same e bs i)
           ∙ sym (sum_by-cons (λ b. times f (pending_on old.gates b)) b bs))
 
-  doom_go : {u u' : Option ℕ} → Counts l t u conns old h → ((b : BufferId) → (pending_on new.gates b ≡ []) ⊎ MayLag t u' b) → CountsGo {l = l} t u t u' conns conns old new ending [] h
+  doom_go : {u u' : Option ℕ} → Counts l t u conns old h → ((b : BufferId) → (pending_on new.gates b ≡ []) ⊎ MayLag t u' b) → CountsGo l t u t u' conns conns old new ending [] h
   doom_go c told = record {
     sound = sound;
     flows_go = record {
@@ -208,7 +211,7 @@ module _ {l : LimitKeys} {t : Option ℕ} (x : ℕ) (why : Cause) (h : WayHistor
   empty_now b e = lows_go.lows b ∙ ap (λ (fs : List FlowId). without (flow_id x true) (without (flow_id x false) fs)) e
 
   -- who may lag may go on to
-  pub dooms_counts : {u : Option ℕ} → Counts l t u conns old h → CountsGo {l = l} t u t u conns conns old new ending [] h
+  pub dooms_counts : {u : Option ℕ} → Counts l t u conns old h → CountsGo l t u t u conns conns old new ending [] h
   dooms_counts {u} c = doom_go c (λ b. at b (c.told b))
     where
       at : (b : BufferId) → (pending_on old.gates b ≡ []) ⊎ MayLag t u b → (pending_on new.gates b ≡ []) ⊎ MayLag t u b
@@ -216,7 +219,7 @@ module _ {l : LimitKeys} {t : Option ℕ} (x : ℕ) (why : Cause) (h : WayHistor
       at b (inr may) = inr may
 
   -- the exchange that overflowed is doomed
-  pub late_counts : Counts l t (Some x) conns old h → CountsGo {l = l} t (Some x) t None conns conns old new ending [] h
+  pub late_counts : Counts l t (Some x) conns old h → CountsGo l t (Some x) t None conns conns old new ending [] h
   late_counts c = doom_go c (λ b. at b (c.told b))
     where
       same_number : (a b : ℕ) → Some a ≡ Some b → a ≡ b
@@ -234,3 +237,10 @@ module _ {l : LimitKeys} {t : Option ℕ} (x : ℕ) (why : Cause) (h : WayHistor
       at (buffer.Stage f p) (inr may) = inl (own_told new sound f (away f (same_number x f.exchange may)) p)
       at (buffer.Send f) (inr may) = absurd may
       at (buffer.Recv f) (inr may) = absurd may
+
+-- nobody was late of an exchange that isn't live
+pub ends_none : (x : ℕ) (core : WireCore) → is_live_in core.flows x ≡ false → EndsOne x [] core core
+ends_none x core none = record {
+  goes = λ h g start notes t. told_at h g start core.conns core.conns core.flows core.links notes (notes ++ []) refl (sym (append-nil notes))
+      (record { steps = t.steps; is = t.is; stands = t.stands; counts = none_late x core.conns core.flows (after t.steps h) none t.counts; left = t.left; under = t.under });
+}

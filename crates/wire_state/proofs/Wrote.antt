@@ -86,12 +86,12 @@ owes_none old new k = record { goes = λ h g start notes t. told_at h g start ne
 -- a note, and pauses and resumes behind it, are still to be noted
 pub owes_held : (n : Note) (tail : List Note) → AreHolds tail → KeepsLeft (Noted n ∷ []) → (old new : WireCore) → new.config ≡ old.config
     → ((h : WayHistory) → Stands old.config.limits old.conns old.flows old.links h → Stands old.config.limits new.conns new.flows new.links (Noted n ∷ h))
-    → ({t u : Option ℕ} (h : WayHistory) → Stands old.config.limits old.conns old.flows old.links h → Stands old.config.limits new.conns new.flows new.links (Noted n ∷ h) → Counts old.config.limits t u old.conns old.flows h
-    → CountsGo t u t u old.conns new.conns old.flows new.flows (Noted n) tail h) → Owes (n ∷ tail) old new
+    → ((t u : Option ℕ) (h : WayHistory) → Stands old.config.limits old.conns old.flows old.links h → Stands old.config.limits new.conns new.flows new.links (Noted n ∷ h) → Counts old.config.limits t u old.conns old.flows h
+    → CountsGo old.config.limits t u t u old.conns new.conns old.flows new.flows (Noted n) tail h) → Owes (n ∷ tail) old new
 owes_held n tail holds left old new same stand go = subst (λ (ns : List Note). Owes (n ∷ ns) old new) (shown_noted tail)
     (owes_by (Noted n ∷ noted tail) (λ h c. holds_gone tail holds (Noted n ∷ h) c ∙ left h c) old new same
     (λ h s. holds_stand tail holds new.conns new.flows new.links (Noted n ∷ h) (stand h s))
-    (λ {t} {u} h s c. counts_go t u t u old.conns new.conns old.flows new.flows (Noted n) tail h old.links new.links (go h s (stand h s) c) s (stand h s) c))
+    (λ t u h s c. counts_go old.config.limits t u t u old.conns new.conns old.flows new.flows (Noted n) tail h old.links new.links (go t u h s (stand h s) c) s (stand h s) c))
 
 module _ (n : ℕ) (old new : WireCore) (v w : Conn) (found : value_at n old.conns ≡ Some v) (written : WritesThrough n old.conns w new.conns)
     (opened : w.open ≡ v.open) (bodies : BodiesStand old.flows new.flows) (rest : rest_of new ≡ rest_of old)
@@ -132,7 +132,7 @@ module _ (n : ℕ) (old new : WireCore) (v w : Conn) (found : value_at n old.con
       → Owes (m ∷ held) old new
   note_written g m left e room outs flows shut fed conn spared living turned quiet drop = subst (λ (ns : List Note). Owes (m ∷ ns) old new) (nobody held)
       (owes_held m (held ++ []) (all_append held [] (risen_holds rose n (watchers_on n new.flows)) tt) left old new (config_kept old new rest) (step_stands g (Noted m) e room outs flows shut)
-      (λ h s s' c. fills_go n old.conns new.conns v w found written rose old.flows new.flows fills limit h c old.links new.links (Noted m) s s' (fed h) go keep.live [] tt (λ f. refl) (λ f lt. refl)
+      (λ t u h s s' c. fills_go n old.conns new.conns v w found written rose old.flows new.flows fills limit h c old.links new.links (Noted m) s s' (fed h) go keep.live [] tt (λ f. refl) (λ f lt. refl)
       (λ f. record { stages = (flows h).stages f; conn = conn h f; spared = spared f }) (living h) (turned h) (quiet h) (λ f flow seen. sym (drop h f))))
 
   -- where none were written it didn't rise
@@ -160,7 +160,7 @@ module _ (n : ℕ) (old new : WireCore) (v w : Conn) (found : value_at n old.con
           ∙ sym (watches old.config.limits old.flows h c.sound f k.0 k.1 (subst (λ (o : Option Flow). IfSome o (FlowIs old.config.limits f h)) k.1 (s.flows_are f)) counted.goes)
 
   none_counts : w.outlet.write.octets ≡ v.outlet.write.octets → {t u : Option ℕ} (h : WayHistory) → Stands old.config.limits old.conns old.flows old.links h → Counts old.config.limits t u old.conns old.flows h → Counts old.config.limits t u new.conns new.flows h
-  none_counts e {t} {u} h s c = counts_gates {t = t} {u = u} new.conns old.flows new.flows h keep (fills.sound c.sound) (record {
+  none_counts e {t} {u} h s c = counts_gates {t = t} {u = u} {t' = t} {u' = u} new.conns old.flows new.flows h keep (fills.sound c.sound) (record {
     low = λ f there. lows_same f old.flows.gates new.flows.gates (watched_same h s (none_stands e h s) c f there) fills.lows.lows;
     marks = fills_marks n old.conns new.conns v w found written rose old.flows new.flows fills limit h c;
     known = fills_known n old.conns new.conns v w found written rose old.flows new.flows fills limit h c;
@@ -286,7 +286,7 @@ module _ (n : ℕ) (old new : WireCore) (v w : Conn) (found : value_at n old.con
       at false e = refl
 
   -- how the send buffer of the flow stood, and stands
-  send_drains : {t u : Option ℕ} (tail : List Note) (h : WayHistory) (g : FlowId) (now : Flow) → same_flow f g ≡ true → IsSeen t u t u old.conns new.conns old.flows new.flows step tail h g now → drains_at (tape_setup old.config.limits) (buffer.Send f) step h ≡ framed.drained
+  send_drains : {t u : Option ℕ} (tail : List Note) (h : WayHistory) (g : FlowId) (now : Flow) → same_flow f g ≡ true → IsSeen old.config.limits t u t u old.conns new.conns old.flows new.flows step tail h g now → drains_at (tape_setup old.config.limits) (buffer.Send f) step h ≡ framed.drained
   send_drains tail h g now same seen =
       let is = same_flow_exact f g same in
       let before : is_send_above old.flows.exchanges f ≡ above (tape_setup old.config.limits) (buffer.Send f) h =
@@ -298,7 +298,7 @@ module _ (n : ℕ) (old new : WireCore) (v w : Conn) (found : value_at n old.con
       sym (drains ∙ (λ i. before i && not (after_it i)))
 
   -- it is told of that
-  drops : {t u : Option ℕ} (tail : List Note) (h : WayHistory) (g : FlowId) (now : Flow) → IsSeen t u t u old.conns new.conns old.flows new.flows step tail h g now → resumed_in g (told_of framed.drained f) ≡ drained old.config.limits g step h
+  drops : {t u : Option ℕ} (tail : List Note) (h : WayHistory) (g : FlowId) (now : Flow) → IsSeen old.config.limits t u t u old.conns new.conns old.flows new.flows step tail h g now → resumed_in g (told_of framed.drained f) ≡ drained old.config.limits g step h
   drops tail h g now seen =
       told_times framed.drained g
       ∙ (at (same_flow f g) refl
@@ -315,7 +315,7 @@ module _ (n : ℕ) (old new : WireCore) (v w : Conn) (found : value_at n old.con
   pub body_written : Owes (framed_of n f framed (watchers_on n new.flows)) old new
   body_written = owes_held (note.Frame n f framed.n framed.last) (risen_of framed.rose n (watchers_on n new.flows) ++ told_of framed.drained f)
       (all_append (risen_of framed.rose n (watchers_on n new.flows)) (told_of framed.drained f) (risen_holds framed.rose n (watchers_on n new.flows)) (told_hold framed.drained)) (λ h c. refl) old new (config_kept old new rest) frame_stands
-      (λ h st st' c. fills_go n old.conns new.conns v w found written framed.rose old.flows new.flows fills limit h c old.links new.links step st st' refl
+      (λ t u h st st' c. fills_go n old.conns new.conns v w found written framed.rose old.flows new.flows fills limit h c old.links new.links step st st' refl
       (changed_go f (body_framed framed.n framed.last) old.flows new.flows (λ x e. framed_goes framed.n framed.last x) change) (λ x. live_after f (body_framed framed.n framed.last) old.flows.exchanges new.flows.exchanges change x)
       (told_of framed.drained f) (told_hold framed.drained) (told_pauses framed.drained) (λ g lt. told_times framed.drained g ∙ strange framed.drained (same_flow f g) (stranger c.sound g lt))
       (λ g. record { stages = refl; conn = refl; spared = refl }) refl tt (λ g. (refl, refl)) (λ g now seen. drops _ h g now seen))
@@ -349,7 +349,7 @@ module _ (n : ℕ) (old new : WireCore) (v w : Conn) (found : value_at n old.con
   less h = omega (arith, length-drop (if n == n then k else 0) (out (tape_setup old.config.limits) n h))
 
   out_counts : (h : WayHistory) → Stands old.config.limits old.conns old.flows old.links h → Counts old.config.limits None None old.conns old.flows h → Counts old.config.limits (Some n) None new.conns new.flows (step ∷ h)
-  out_counts h s c = counts_go None None (Some n) None old.conns new.conns old.flows new.flows step [] h old.links new.links
+  out_counts h s c = counts_go old.config.limits None None (Some n) None old.conns new.conns old.flows new.flows step [] h old.links new.links
       (frees_go n old.conns new.conns v w found written (v.outlet.write.above && not w.outlet.write.above) old.flows new.flows frees limit h c old.links new.links step s (out_stands h s) (less h) refl
       (λ f. record { stages = refl; conn = refl; spared = refl }) refl tt (λ f. (refl, refl)) (λ f. refl)) s (out_stands h s) c
 
@@ -393,7 +393,7 @@ module _ (n : ℕ) (old new : WireCore) (v w : Conn) (found : value_at n old.con
         none_before b = none_lags (pending_on old.flows.gates b) b (c.told b)
 
     zero_counts : Counts old.config.limits (Some n) None new.conns new.flows h
-    zero_counts = counts_gates {t = None} {u = None} new.conns old.flows new.flows h (exchanges_keep old.flows new.flows frees.rest) (frees.sound c.sound) (record {
+    zero_counts = counts_gates {t = None} {u = None} {t' = Some n} {u' = None} new.conns old.flows new.flows h (exchanges_keep old.flows new.flows frees.rest) (frees.sound c.sound) (record {
       low = λ f there. lows_same f old.flows.gates new.flows.gates (watched f) (λ b. lows_same_now b ∙ sym (none_lags (pending_on old.flows.gates b) b (c.told b)));
       marks = λ d. ap (λ (o : Option Write). option_map_or (λ x. x.above) o false) (write_same_now d) ∙ (c.marks d ∙ sym (stays.above_stays d));
       known = λ d there. subst IsSome (sym (write_same_now d)) (c.known d (stays.came d there));
