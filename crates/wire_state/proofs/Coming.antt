@@ -132,14 +132,14 @@ module _ {l : LimitKeys} {t u : Option ℕ} (n : ℕ) (old new : PagedMap Conn) 
       let empty : out (tape_setup l) n h ≡ [] = same_out l n h ∙ (sym (s.writes n) ∙ f.empty) in
       c.over n ∙ none_over l.write_buffer (above (tape_setup l) (buffer.Write n) h) ((λ i. above_after l.write_buffer (above (tape_setup l) (buffer.Write n) h) (length (sym empty i))) ∙ flag_now (tape_setup l) (buffer.Write n) h)
 
-  above_now : (d : ℕ) → is_above_at d new ≡ is_above_at d old
-  above_now d = by_case (n == d)
+  above_left : (d : ℕ) → is_above_at d new ≡ is_above_at d old
+  above_left d = by_case (n == d)
       (λ e. ap (λ q. is_above_at q new) (sym (is_number n d e)) ∙ (ap above_in f.gone ∙ (sym low ∙ ap (λ q. is_above_at q old) (is_number n d e))))
       (λ e. ap above_in (f.others d e))
 
   conns_first : Counts l t u new flows h
   conns_first = counts_conns old new flows h (record {
-    above_stays = above_now;
+    above_stays = above_left;
     came = λ d there. by_case (n == d)
         (λ e. absurd (cc (ap (λ q. has_conn q new) (sym (is_number n d e)) ∙ ap is_some f.gone, there)))
         (λ e. sym (ap is_some (f.others d e)) ∙ there);

@@ -44,18 +44,21 @@ use Rattle.wm_buffer.specs.Watermark.{above_after}
 
 -- ---- one write buffer of the gates
 -- it is above as its octets are, and these are to be told
+abbrev lowers : List FlowId → Write → Bool → Write
+lowers ws k b = if b then record { above = false; lows = ws } else k
+
 pub eased_above : (dr : Bool) (ws : List FlowId) (k : Write) (va wa : Bool) → k.above ≡ va → k.lows ≡ [] → (va ≡ true → wa ≡ false → dr ≡ true) → (wa ≡ true → dr ≡ false) → (va ≡ false → wa ≡ false) → (eased dr ws k).above ≡ wa
 eased_above true ws k true true a none must may low = absurd (cc (may refl))
-eased_above true ws k true false a none must may low = λ i. if a i && (length (none i) == 0) then false else k.above
-eased_above true ws k false wa a none must may low = (λ i. if a i && (length k.lows == 0) then false else k.above) ∙ (a ∙ sym (low refl))
+eased_above true ws k true false a none must may low = λ i. (lowers ws k (a i && (length (none i) == 0))).above
+eased_above true ws k false wa a none must may low = (λ i. (lowers ws k (a i && (length k.lows == 0))).above) ∙ (a ∙ sym (low refl))
 eased_above false ws k true true a none must may low = a
 eased_above false ws k true false a none must may low = absurd (cc (must refl refl))
 eased_above false ws k false wa a none must may low = a ∙ sym (low refl)
 
 pub eased_lows : (dr : Bool) (ws : List FlowId) (k : Write) (va wa : Bool) → k.above ≡ va → k.lows ≡ [] → (va ≡ true → wa ≡ false → dr ≡ true) → (wa ≡ true → dr ≡ false) → (eased dr ws k).lows ≡ (if va && not wa then ws else [])
 eased_lows true ws k true true a none must may = absurd (cc (may refl))
-eased_lows true ws k true false a none must may = λ i. if a i && (length (none i) == 0) then ws else none i
-eased_lows true ws k false wa a none must may = λ i. if a i && (length (none i) == 0) then ws else none i
+eased_lows true ws k true false a none must may = λ i. (lowers ws k (a i && (length (none i) == 0))).lows
+eased_lows true ws k false wa a none must may = (λ i. (lowers ws k (a i && (length k.lows == 0))).lows) ∙ none
 eased_lows false ws k true true a none must may = none
 eased_lows false ws k true false a none must may = absurd (cc (must refl refl))
 eased_lows false ws k false wa a none must may = none
@@ -74,9 +77,9 @@ lows_seen c flows some = at (is_known flows.gates (buffer.Write c)) (write_seen 
     at true e some = ap told_in e
     at false e some = absurd (cc (subst IsSome e some))
 
-mapped_some : {f : Write → Write} (o : Option Write) → IsSome o → IsSome (option_map f o)
-mapped_some None some = cc some
-mapped_some (Some k) some = refl
+mapped_some : (f : Write → Write) (o : Option Write) → IsSome o → IsSome (option_map f o)
+mapped_some f None some = cc some
+mapped_some f (Some k) some = refl
 
 module _ {l : LimitKeys} (n : ℕ) (old new : PagedMap Conn) (v w : Conn) (found : value_at n old ≡ Some v) (written : WritesThrough n old w new) (dr : Bool) (flows flows' : Flows)
     (frees : Frees n dr v.outlet.write w.outlet.write flows flows') (limit : v.outlet.write.limit ≡ l.write_buffer) (h : WayHistory) (c : Counts l None None old flows h) where
@@ -109,7 +112,7 @@ module _ {l : LimitKeys} (n : ℕ) (old new : PagedMap Conn) (v w : Conn) (found
 
   pub frees_known : (d : ℕ) → has_conn d new ≡ true → IsSome (write_at d flows')
   frees_known d there = by_case (n == d)
-      (λ e. subst IsSome (sym (own_write d e)) (mapped_some (write_at n flows) known_here))
+      (λ e. subst IsSome (sym (own_write d e)) (mapped_some (eased dr (watchers_on n flows)) (write_at n flows) known_here))
       (λ e. subst IsSome (sym (other_write d e)) (c.known d (sym (ap is_some (other_now n old new v w found written d e)) ∙ there)))
 
   pub frees_told : (b : BufferId) → (pending_on flows'.gates b ≡ []) ⊎ MayLag (Some n) None b

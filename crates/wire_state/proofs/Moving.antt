@@ -269,12 +269,8 @@ module _ (f : FlowId) (old new : Flows) (o : Outcome) (is : o ≡ option_map_or 
           low : (d : Option BufferId) → m.drained ≡ d → lows new.gates g ≡ lows old.gates g
           low None is = lows_same g old.gates new.gates watched (lows_at None is)
           low (Some b0) is = none_more _ _ _
-              (lows_more g b0 (if m.overflow then f ∷ [] else []) (pending_on old.gates) false (nobody m.overflow) (drained_none b0 is) (watched_by old.gates g))
+              (lows_more g b0 (if m.overflow then f ∷ [] else []) (pending_on old.gates) false (nobody m.overflow) (none_of_drained b0 is) (watched_by old.gates g))
               (λ i. sum_by (λ b. times g ((lows_at (Some b0) is b ∙ ap (λ (v : Bool). if v then (if m.overflow then f ∷ [] else []) else pending_on old.gates b) (swapped_buffers b b0)) i)) (watched i))
-
-          -- nobody was to be told of it before
-          drained_none : (b0 : BufferId) → m.drained ≡ Some b0 → pending_on old.gates b0 ≡ []
-          drained_none b0 is = none_of_drained b0 is
 
     -- of the one that moved
     module _ (now : Flow) (seen : Seen f now) where
@@ -327,21 +323,21 @@ module _ (f : FlowId) (old new : Flows) (o : Outcome) (is : o ≡ option_map_or 
               none _ _ _ _ (lows_same f old.gates new.gates watched (lows_at None is)) (resumes_are ∙ ap (λ (o : Option BufferId). if is_some o && not m.overflow then 1 else 0) is) (falls_one now seen ∙ ap one_if down)
           at true up = by_overflow m.overflow refl
             where
-              is : m.drained ≡ Some (buffer.Stage f m.place)
-              is = drained_named now seen ∙ ap (λ (b : Bool). if b then Some (buffer.Stage f m.place) else None) up
+              fell : m.drained ≡ Some (buffer.Stage f m.place)
+              fell = drained_named now seen ∙ ap (λ (b : Bool). if b then Some (buffer.Stage f m.place) else None) up
 
               lows_are : (b : BufferId) → pending_on new.gates b ≡ (if same_buffer (buffer.Stage f m.place) b then (if m.overflow then f ∷ [] else []) else pending_on old.gates b)
-              lows_are b = lows_at (Some (buffer.Stage f m.place)) is b ∙ ap (λ (v : Bool). if v then (if m.overflow then f ∷ [] else []) else pending_on old.gates b) (swapped_buffers b (buffer.Stage f m.place))
+              lows_are b = lows_at (Some (buffer.Stage f m.place)) fell b ∙ ap (λ (v : Bool). if v then (if m.overflow then f ∷ [] else []) else pending_on old.gates b) (swapped_buffers b (buffer.Stage f m.place))
 
               by_overflow : (v : Bool) → m.overflow ≡ v → lows new.gates f + resumed_in f tail ≡ lows old.gates f + drained l f move h
               by_overflow true over = late _ _ _ _ _
                   ((λ i. sum_by (λ b. times f ((lows_are b ∙ ap (λ (x : Bool). if same_buffer (buffer.Stage f m.place) b then (if x then f ∷ [] else []) else pending_on old.gates b) over) i)) (watched i))
                   ∙ lows_more f (buffer.Stage f m.place) (f ∷ []) (pending_on old.gates) true one_time (none_own m.place) (watched_by old.gates f))
-                  (one_source up) (resumes_are ∙ (λ i. if is_some (is i) && not (over i) then 1 else 0)) (falls_one now seen ∙ ap one_if up)
+                  (one_source up) (resumes_are ∙ (λ i. if is_some (fell i) && not (over i) then 1 else 0)) (falls_one now seen ∙ ap one_if up)
               by_overflow false over = told_now _ _ _ _
                   ((λ i. sum_by (λ b. times f ((lows_are b ∙ ap (λ (x : Bool). if same_buffer (buffer.Stage f m.place) b then (if x then f ∷ [] else []) else pending_on old.gates b) over) i)) (watched i))
                   ∙ lows_more f (buffer.Stage f m.place) [] (pending_on old.gates) false refl (none_own m.place) (watched_by old.gates f))
-                  (resumes_are ∙ (λ i. if is_some (is i) && not (over i) then 1 else 0)) (falls_one now seen ∙ ap one_if up)
+                  (resumes_are ∙ (λ i. if is_some (fell i) && not (over i) then 1 else 0)) (falls_one now seen ∙ ap one_if up)
 
     -- ---- all of it
     paused_of : (g : FlowId) (now : Flow) → Seen g now → paused_in g tail ≡ risen l g move h
@@ -390,14 +386,10 @@ module _ (f : FlowId) (old new : Flows) (o : Outcome) (is : o ≡ option_map_or 
           where
             by_overflow : (v : Bool) → m.overflow ≡ v → same_buffer b b0 ≡ true → (pending_on new.gates b ≡ []) ⊎ MayLag t (late_of f m) b
             by_overflow false over same = inl (lows_at (Some b0) d b ∙ (λ i. if same i then (if over i then f ∷ [] else []) else pending_on old.gates b))
-            by_overflow true over same = inr (subst (MayLag t (late_of f m)) (sym (buffer_is b b0 same)) (subst (MayLag t (late_of f m)) (stage_named b0 d) (sym_late over)))
+            by_overflow true over same = inr (subst (MayLag t (late_of f m)) (sym (buffer_is b b0 same)) (subst (MayLag t (late_of f m)) (drained_stage b0 d) (named_late over)))
 
-            sym_late : m.overflow ≡ true → late_of f m ≡ Some f.exchange
-            sym_late over = ap (λ (v : Bool). if v then Some f.exchange else None) over
-
-            -- only a Meter of the flow drains
-            stage_named : (b0 : BufferId) → m.drained ≡ Some b0 → buffer.Stage f m.place ≡ b0
-            stage_named b0 d = drained_stage b0 d
+            named_late : m.overflow ≡ true → late_of f m ≡ Some f.exchange
+            named_late over = ap (λ (v : Bool). if v then Some f.exchange else None) over
 
     where_moved : (flow : Flow) → flow_in old f ≡ Some flow → FlowIs l f h flow → FlowGoes flow (stepped old.gates (goes_to old f) flow)
     where_moved flow found was = subst (FlowGoes flow) (sym (made f old new o is changes m e h flow found was).after_it) (moved_goes m.place m.n flow)

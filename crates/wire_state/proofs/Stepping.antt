@@ -1,7 +1,7 @@
 -- A step of a flow that moved octets, as the world has it.
 use Rattle.exchange_core.specs.Flow.{Flow, last_place}
 use Rattle.exchange_core.specs.Effects.{moved}
-use Rattle.exchange_core.specs.Moves.{Shifted, next_step, stepped}
+use Rattle.exchange_core.specs.Moves.{next_step, stepped}
 use Rattle.exchange_core.specs.declared.step.Step.{Step}
 use Rattle.exchange_core.specs.declared.step.Step.TheVariants as step
 use Rattle.filter_chain.specs.Chain.{above_at}
@@ -37,6 +37,7 @@ use Rattle.wire_state.proofs.Held.{kept_if}
 use Rattle.wire_state.specs.Ways.{WayHistory}
 use Rattle.wire_state.specs.Worlds.{FlowIs, Stands, ToldBy}
 use Rattle.wire_state.specs.declared.conn.Conn.{Conn}
+use Rattle.wm_buffer.specs.declared.buffer.Shifted.{Shifted}
 
 -- the place that the octets left, and how many there were, are those of the step
 pub record IsStep (f : FlowId) (board : Board) (to : Option ℕ) (flow : Flow) (m : Moved) : Type 0 where

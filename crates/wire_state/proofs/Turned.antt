@@ -250,6 +250,7 @@ turns_from r e old mid new noted now same c f l turns = record {
 
 -- a connection comes
 pub turns_joined : {A E : Type 0} (r : Result A E) (c cluster : ℕ) (old new : WireCore) (noted : List Note) → Comes r c old new → Turns r (event.Join c cluster) old noted new noted
+unfolding turn_rests
 turns_joined r c cluster old new noted comes = record {
   goes = λ h g before k is s left fresh.
       comes.goes h g before noted (turn_rests old.conns old.flows old.links h g left k (event.Join c cluster) tt before noted is s)
@@ -258,6 +259,7 @@ turns_joined r c cluster old new noted comes = record {
 
 pub turns_accepted : {A B E : Type 0} (a : A) (r : Result B E) (c : ℕ) (old mid new : WireCore) (noted now : List Note) → Comes {A = A} {E = E} (Ok a) c old mid → Goes r mid noted new now
     → Turns r (event.Accept c) old noted new now
+unfolding turn_rests
 turns_accepted a r c old mid new noted now comes goes = record {
   goes = λ h g before k is s left fresh. goes.goes h g before
       (comes.goes h g before noted (turn_rests old.conns old.flows old.links h g left k (event.Accept c) tt before noted is s)

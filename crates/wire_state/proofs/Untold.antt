@@ -55,10 +55,10 @@ stage_other : (f g : FlowId) (p q w : ℕ) (ks : List Kind) (to : Option ℕ) �
 stage_other f g p q w [] None e = refl
 stage_other f g p q w [] (Some c) e = count_cons (same_buffer (buffer.Stage f p)) (buffer.Write c) [] ∙ zero_first (same_buffer (buffer.Stage f p) (buffer.Write c)) _ _ refl refl
 stage_other f g p q w (Hold ∷ ks) to e = stage_other f g p (q + 1) w ks to e
-stage_other f g p q w (Meter ∷ ks) to e = count_cons (same_buffer (buffer.Stage f p)) (buffer.Stage g q) _ ∙ zero_first (same_buffer (buffer.Stage f p) (buffer.Stage g q)) _ _ (and_false (same_flow f g) (p == q) e) (stage_other f g p (q + 1) w ks to e)
-stage_other f g p q w (Send ∷ ks) to e = count_cons (same_buffer (buffer.Stage f p)) (buffer.Send g) _ ∙ zero_first (same_buffer (buffer.Stage f p) (buffer.Send g)) _ _ refl (stage_other f g p (q + 1) w ks to e)
+stage_other f g p q w (Meter ∷ ks) to e = count_cons (same_buffer (buffer.Stage f p)) (buffer.Stage g q) (map (λ s. s.buffer) (sources_from g (q + 1) ks ++ write_source w to)) ∙ zero_first (same_buffer (buffer.Stage f p) (buffer.Stage g q)) _ _ (and_false (same_flow f g) (p == q) e) (stage_other f g p (q + 1) w ks to e)
+stage_other f g p q w (Send ∷ ks) to e = count_cons (same_buffer (buffer.Stage f p)) (buffer.Send g) (map (λ s. s.buffer) (sources_from g (q + 1) ks ++ write_source w to)) ∙ zero_first (same_buffer (buffer.Stage f p) (buffer.Send g)) _ _ refl (stage_other f g p (q + 1) w ks to e)
 
-all_none : (xs : List FlowId) → ((g : FlowId) → times g xs ≡ 0) → xs ≡ []
+pub all_none : (xs : List FlowId) → ((g : FlowId) → times g xs ≡ 0) → xs ≡ []
 all_none [] e = refl
 all_none (x ∷ xs) e = absurd (never (times x xs) (sym (count_cons (same_flow x) x xs ∙ ap (λ (b : Bool). one_if b + times x xs) (flow_same x)) ∙ e x))
   where
@@ -121,16 +121,13 @@ none_late {t = t} x conns flows h none c = record {
 -- ---- a doom
 times_without : (f g : FlowId) (fs : List FlowId) → same_flow g f ≡ false → times f (without g fs) ≡ times f fs
 times_without f g [] e = refl
-times_without f g (k ∷ ks) e = at (same_flow g k) refl
+times_without f g (k ∷ ks) e = at (times_without f g ks e) (same_flow g k) refl
   where
-    rest : times f (without g ks) ≡ times f ks
-    rest = times_without f g ks e
+    at : times f (without g ks) ≡ times f ks → (b : Bool) → same_flow g k ≡ b → times f (if not b then k ∷ without g ks else without g ks) ≡ times f (k ∷ ks)
+    at rest true is = rest ∙ sym (count_cons (same_flow f) k ks ∙ zero_first (same_flow f k) _ _ (flow_swapped f k ∙ (ap (λ (v : FlowId). same_flow v f) (sym (flow_is g k is)) ∙ e)) refl)
+    at rest false is = count_cons (same_flow f) k (without g ks) ∙ (ap (λ (n : ℕ). one_if (same_flow f k) + n) rest ∙ sym (count_cons (same_flow f) k ks))
 
-    at : (b : Bool) → same_flow g k ≡ b → times f (if not b then k ∷ without g ks else without g ks) ≡ times f (k ∷ ks)
-    at true is = rest ∙ sym (count_cons (same_flow f) k ks ∙ zero_first (same_flow f k) _ _ (flow_swapped f k ∙ (ap (λ (v : FlowId). same_flow v f) (sym (flow_is g k is)) ∙ e)) refl)
-    at false is = count_cons (same_flow f) k (without g ks) ∙ (ap (λ (n : ℕ). one_if (same_flow f k) + n) rest ∙ sym (count_cons (same_flow f) k ks))
-
-module _ {l : LimitKeys} {t : Option ℕ} (x : ℕ) (why : Cause) (h : WayHistory) (conns : PagedMap Conn) (old new : Flows) (d : Dooms x old.exchanges new.exchanges) (writes : LeavesWrites x old new) (lows_go : LeavesLows x old new)
+module _ (l : LimitKeys) (t : Option ℕ) (x : ℕ) (why : Cause) (h : WayHistory) (conns : PagedMap Conn) (old new : Flows) (d : Dooms x old.exchanges new.exchanges) (writes : LeavesWrites x old new) (lows_go : LeavesLows x old new)
     (lives : (y : ℕ) → is_live_in new y ≡ (not (x == y) && is_live_in old y)) (sound : IsSound new) where
   abbrev ending : WayStep
   ending = Noted (note.Doom x why)

@@ -63,7 +63,7 @@ use Rattle.wire_state.specs.Counts.{Counts, Fills, Frees, IsCounted, eased, is_a
 use Rattle.wire_state.specs.Limits.{OutFits}
 use Rattle.wire_state.specs.Sound.{AreKept, IsKept, unit_of}
 use Rattle.wire_state.specs.Tapes.{conn_to, tape_setup}
-use Rattle.wire_state.specs.Ways.{WayHistory, WayStep, after, stages_passed, stream_to}
+use Rattle.wire_state.specs.Ways.{Way, WayHistory, WayStep, after, stages_passed, stream_to}
 use Rattle.wire_state.specs.Worlds.{EndsAre, FlowIs, Keeps, Leaves, Owes, Stands, Told, ToldBy, left_after, octets_of, stream_in}
 use Rattle.wire_state.specs.Noting.{answers_of, framed_of, heads_of, risen_of, told_of}
 use Rattle.wm_buffer.specs.Watermark.{above_after}
@@ -126,7 +126,7 @@ module _ (n : ℕ) (old new : WireCore) (v w : Conn) (found : value_at n old.con
   -- with its note
   note_written : (g : List ℕ → List ℕ) (m : Note) → KeepsLeft (Noted m ∷ []) → w.outlet.write.octets ≡ g v.outlet.write.octets → Room
       → ((h : WayHistory) → Writes (at_one n g) (Noted m) h) → ((h : WayHistory) → KeepsFlows (Noted m) h) → ((h : WayHistory) → KeepsShut (Noted m) h)
-      → ((h : WayHistory) → fed_by (tape_setup old.config.limits) (Noted m) h ≡ Some (buffer.Write n)) → ((h : WayHistory) (f : FlowId) → conn_to f (Noted m ∷ h) ≡ conn_to f h) → ((f : FlowId) → spares f (Noted m) ≡ true)
+      → ((h : WayHistory) → fed_by (tape_setup old.config.limits) (Noted m) h ≡ Some (buffer.Write n)) → ((h : WayHistory) (f : FlowId) → conn_to f (Noted m ∷ h) ≡ conn_to f h) → ((f : FlowId) → spares {Mark = Way} f (Noted m) ≡ true)
       → ((h : WayHistory) → live (Noted m ∷ h) ≡ live h) → ((h : WayHistory) → BeforeTurn (CountsItsSources (tape_setup old.config.limits)) (Noted m) h)
       → ((h : WayHistory) (f : FlowId) → (pauses f (Noted m ∷ h) ≡ pauses f h) × (resumes f (Noted m ∷ h) ≡ resumes f h)) → ((h : WayHistory) (f : FlowId) → drained old.config.limits f (Noted m) h ≡ 0)
       → Owes (m ∷ held) old new
@@ -277,12 +277,12 @@ module _ (n : ℕ) (old new : WireCore) (v w : Conn) (found : value_at n old.con
       at : (b : Bool) → same_flow f g ≡ b → b ≡ false
       at true e = absurd (never (subst (λ (k : FlowId). old.flows.exchanges.last < k.exchange) (sym (same_flow_exact f g e)) lt))
         where
-          never : old.flows.exchanges.last < f.exchange → ⊥
-          never above = born above (exchange_at old.flows.exchanges f.exchange) refl there
-
           born : old.flows.exchanges.last < f.exchange → (o : Option Exchange) → exchange_at old.flows.exchanges f.exchange ≡ o → option_and_then (side_of f.back) (exchange_at old.flows.exchanges f.exchange) ≡ Some flow → ⊥
-          born above None is e = cc (ap (λ (v : Option Exchange). option_and_then (side_of f.back) v) is, e)
-          born above (Some x) is e = too_great f.exchange old.flows.exchanges.last (sound.exchanges.below f.exchange (subst (λ (v : Option Exchange). IsSome v) (sym is) refl)) above
+          born over None is e = cc (ap (λ (v : Option Exchange). option_and_then (side_of f.back) v) is, e)
+          born over (Some x) is e = too_great f.exchange old.flows.exchanges.last (sound.exchanges.below f.exchange (subst (λ (v : Option Exchange). IsSome v) (sym is) refl)) over
+
+          never : old.flows.exchanges.last < f.exchange → ⊥
+          never over = born over (exchange_at old.flows.exchanges f.exchange) refl there
       at false e = refl
 
   -- how the send buffer of the flow stood, and stands
@@ -337,20 +337,20 @@ module _ (n : ℕ) (old new : WireCore) (v w : Conn) (found : value_at n old.con
       fewer : (xs : List ℕ) → length (drop k xs) ≤ length xs
       fewer xs = omega (arith, length-drop k xs)
 
-  abbrev step : WayStep
-  step = Noted (note.Out n k)
+  abbrev out_step : WayStep
+  out_step = Noted (note.Out n k)
 
-  out_stands : (h : WayHistory) → Stands old.config.limits old.conns old.flows old.links h → Stands old.config.limits new.conns new.flows new.links (step ∷ h)
-  out_stands h s = links_kept old new rest (step ∷ h)
-      (gates_stand old.flows new.flows frees.rest new.conns old.links (step ∷ h)
-      (wrote (at_one n (drop k)) step h old.conns new.conns old.flows old.links (out_writes h n k) (out_flows h n k) (out_shut h n k) (conns_written n old.conns new.conns v w found written (drop k) e opened) (one_room old.config.limits n old.conns new.conns v w found written shorter) s))
+  out_stands : (h : WayHistory) → Stands old.config.limits old.conns old.flows old.links h → Stands old.config.limits new.conns new.flows new.links (out_step ∷ h)
+  out_stands h s = links_kept old new rest (out_step ∷ h)
+      (gates_stand old.flows new.flows frees.rest new.conns old.links (out_step ∷ h)
+      (wrote (at_one n (drop k)) out_step h old.conns new.conns old.flows old.links (out_writes h n k) (out_flows h n k) (out_shut h n k) (conns_written n old.conns new.conns v w found written (drop k) e opened) (one_room old.config.limits n old.conns new.conns v w found written shorter) s))
 
-  less : (h : WayHistory) → length (out (tape_setup old.config.limits) n (step ∷ h)) ≤ length (out (tape_setup old.config.limits) n h)
+  less : (h : WayHistory) → length (out (tape_setup old.config.limits) n (out_step ∷ h)) ≤ length (out (tape_setup old.config.limits) n h)
   less h = omega (arith, length-drop (if n == n then k else 0) (out (tape_setup old.config.limits) n h))
 
-  out_counts : (h : WayHistory) → Stands old.config.limits old.conns old.flows old.links h → Counts old.config.limits None None old.conns old.flows h → Counts old.config.limits (Some n) None new.conns new.flows (step ∷ h)
-  out_counts h s c = counts_go old.config.limits None None (Some n) None old.conns new.conns old.flows new.flows step [] h old.links new.links
-      (frees_go n old.conns new.conns v w found written (v.outlet.write.above && not w.outlet.write.above) old.flows new.flows frees limit h c old.links new.links step s (out_stands h s) (less h) refl
+  out_counts : (h : WayHistory) → Stands old.config.limits old.conns old.flows old.links h → Counts old.config.limits None None old.conns old.flows h → Counts old.config.limits (Some n) None new.conns new.flows (out_step ∷ h)
+  out_counts h s c = counts_go old.config.limits None None (Some n) None old.conns new.conns old.flows new.flows out_step [] h old.links new.links
+      (frees_go n old.conns new.conns v w found written (v.outlet.write.above && not w.outlet.write.above) old.flows new.flows frees limit h c old.links new.links out_step s (out_stands h s) (less h) refl
       (λ f. record { stages = refl; conn = refl; spared = refl }) refl tt (λ f. (refl, refl)) (λ f. refl)) s (out_stands h s) c
 
   -- none left

@@ -55,7 +55,7 @@ returns-clause-octets c =
         (unlinks c.args.exchange k.links c.doom.new.self c.are_sound.ensures c.doom.ensures.gone) s in
     owes_by (Noted (note.Doom c.args.exchange c.args.cause) ∷ []) (λ h d. refl) k _ refl stand
     (λ t u h s counts. counts_go k.config.limits t u t u k.conns k.conns k.flows c.doom-doomed.new.self (Noted (note.Doom c.args.exchange c.args.cause)) [] h k.links c.doom.new.self
-    (dooms_counts c.args.exchange c.args.cause h k.conns k.flows c.doom-doomed.new.self c.doom-doomed.ensures.dooms c.doom-doomed.ensures.writes c.doom-doomed.ensures.lows c.doom-doomed.ensures.live c.doom-doomed.ensures.sound counts) s (stand h s) counts)
+    (dooms_counts k.config.limits t c.args.exchange c.args.cause h k.conns k.flows c.doom-doomed.new.self c.doom-doomed.ensures.dooms c.doom-doomed.ensures.writes c.doom-doomed.ensures.lows c.doom-doomed.ensures.live c.doom-doomed.ensures.sound counts) s (stand h s) counts)
 
 -- the exchange that overflowed ends
 pub returns-clause-late : goal.returns-clause-late
@@ -65,7 +65,7 @@ returns-clause-late c =
         (unlinks c.args.exchange k.links c.doom.new.self c.are_sound.ensures c.doom.ensures.gone) s in
     ends_by c.args.exchange (Noted (note.Doom c.args.exchange c.args.cause) ∷ []) (λ h d. refl) k _ refl stand
     (λ t h s counts. counts_go k.config.limits t (Some c.args.exchange) t None k.conns k.conns k.flows c.doom-doomed.new.self (Noted (note.Doom c.args.exchange c.args.cause)) [] h k.links c.doom.new.self
-    (late_counts c.args.exchange c.args.cause h k.conns k.flows c.doom-doomed.new.self c.doom-doomed.ensures.dooms c.doom-doomed.ensures.writes c.doom-doomed.ensures.lows c.doom-doomed.ensures.live c.doom-doomed.ensures.sound counts) s (stand h s) counts)
+    (late_counts k.config.limits t c.args.exchange c.args.cause h k.conns k.flows c.doom-doomed.new.self c.doom-doomed.ensures.dooms c.doom-doomed.ensures.writes c.doom-doomed.ensures.lows c.doom-doomed.ensures.live c.doom-doomed.ensures.sound counts) s (stand h s) counts)
 
 pub returns-in_default-clause-late : goal.returns-in_default-clause-late
 returns-in_default-clause-late c = ends_none c.args.exchange c.args.core.now (sym (c.requires.sound.live c.args.exchange) ∙ ap is_some (sym c.in_default.is))
