@@ -5,7 +5,7 @@ use Rattle.flow_gate.specs.declared.ids.BufferId.{BufferId}
 use Rattle.flow_gate.specs.declared.ids.BufferId.TheVariants as buffer
 use Rattle.flow_gate.specs.declared.ids.FlowId.{FlowId}
 use Rattle.flow_laws.proofs.Flags.{flag_now}
-use Rattle.paged_map.specs.PagedMap.{PagedMap, value_at}
+use Rattle.paged_map.specs.PagedMap.{PagedMap, Updates, value_at}
 use Rattle.proxy_config.specs.declared.config.LimitKeys.{LimitKeys}
 use Rattle.std.proofs.Common.{ap, arith, inl, inr, refl, subst, sym, ◌∙◌}
 use Rattle.std.proofs.lemmas.Bool.Decides.{nat_tests}
@@ -20,7 +20,7 @@ use Rattle.wire_flows.specs.Writes.{ChangesWrite, KeepsLows, Write, new_write, w
 use Rattle.wire_links.specs.Links.{Links}
 use Rattle.wire_state.proofs.CountsKept.{AboveStays, counts_conns, counts_gates, exchanges_keep}
 use Rattle.wire_state.proofs.Held.{is_number}
-use Rattle.wire_state.proofs.Linked.{ComesNew, ForgetsConn, none_octets}
+use Rattle.wire_state.proofs.Linked.{ForgetsConn, updated_at}
 use Rattle.wire_state.proofs.Promised.{same_out}
 use Rattle.wire_state.proofs.Watching.{lows_same}
 use Rattle.wire_state.specs.Counts.{Counts, MayLag, holds_back, is_above_at}
@@ -63,6 +63,11 @@ module _ (old new : Flows) (rest : new.exchanges ≡ old.exchanges) (was : IsSou
       at b (inr may) = inr may
 
 -- ---- a connection comes
+pub put_there : (n : ℕ) (old new : PagedMap Conn) (v : Conn) → Updates n old new (Some v) → value_at n new ≡ Some v
+put_there n old new v u =
+    let self : (n == n) ≡ true = grind (arith, nat_tests) in
+    updated_at n old new (Some v) u n ∙ ap (λ b. if b then Some v else value_at n old) self
+
 -- first its write buffer is known, then it is there
 module _ {l : LimitKeys} {t u : Option ℕ} (n : ℕ) (old new : PagedMap Conn) (v : Conn) (none : has_conn n old ≡ false) (here : value_at n new ≡ Some v) (others : (c : ℕ) → (n == c) ≡ false → value_at c new ≡ value_at c old) (low : v.outlet.write.above ≡ false)
     (flows flows' : Flows) (rest : flows'.exchanges ≡ flows.exchanges) (sound : IsSound flows') (opened : write_at n flows ≡ None → ChangesWrite n (Some new_write) flows flows') (same : (write_at n flows ≡ None → ⊥) → flows' ≡ flows) (lows : KeepsLows flows flows')
