@@ -31,7 +31,7 @@ use Rattle.std.proofs.lemmas.Bool.Decides.{nat_tests}
 use Rattle.std.proofs.lemmas.List.Sums.{sum_by-cons}
 use Rattle.std.proofs.lemmas.Option.{same_Some}
 use Rattle.std.specs.List.{list_any}
-use Rattle.std.specs.Option.{option_and_then, option_map_or}
+use Rattle.std.specs.Option.{option_and_then, option_map_or, unwrap_or}
 use Rattle.std.specs.Prelude.{Bool, IfSome, IsSome, List, None, Option, Some, [], count_by, false, if◌then◌else◌, is_some, length, not, slice_get, suc, sum_by, true, zero, ℕ, ◌&&◌, ◌++◌, ◌+◌, ◌<◌, ◌==◌, ◌||◌, ◌∷◌, ◌≡◌, ◌≤◌, ◌⊎◌}
 use Rattle.tape_laws.specs.Dispatches.{has, live}
 use Rattle.tape_laws.specs.Flows.{request, response}
@@ -47,22 +47,25 @@ use Rattle.wire_flows.proofs.Starts.{response_new}
 use Rattle.wire_flows.specs.Flows.{Flows, flow_in, goes_to, is_live_in, is_there, watches_of}
 use Rattle.wire_flows.specs.Sound.{IsSound, buffer_of}
 use Rattle.wire_flows.specs.Writes.{KeepsLows, KeepsWrites, Write, is_above, write_at}
+use Rattle.wire_flows.specs.declared.starting.Started.{Started}
 use Rattle.wire_links.specs.Links.{Links}
 use Rattle.wire_state.proofs.Counting.{above_same, over_now}
 use Rattle.wire_state.proofs.Filled.{unborn_watches}
+use Rattle.wire_state.proofs.Goings.{KeepsLeft, owes_by}
 use Rattle.wire_state.proofs.Held.{is_number}
-use Rattle.wire_state.proofs.Holding.{AreHolds, IsAlike, all_append, holds_alike, holds_paused, holds_resumed, holds_turns, noted, paused_append, paused_in, resumed_append, resumed_in}
+use Rattle.wire_state.proofs.Holding.{AreHolds, IsAlike, all_append, holds_alike, holds_gone, holds_paused, holds_resumed, holds_stand, holds_turns, noted, paused_append, paused_in, resumed_append, resumed_in, shown_noted}
 use Rattle.wire_state.proofs.Overs.{over_then, still_goes}
 use Rattle.wire_state.proofs.Promised.{same_out, same_place}
 use Rattle.wire_state.proofs.Rising.{disabled_goes}
 use Rattle.wire_state.proofs.Standing.{flow_still}
 use Rattle.wire_state.proofs.Watching.{lows_same}
 use Rattle.wire_state.specs.Counts.{AreOver, Counts, IsCounted, MayLag, holds_back, is_above_at}
-use Rattle.wire_state.specs.Noting.{hold_of}
+use Rattle.wire_state.specs.Noting.{conn_number, held_of, hold_of}
 use Rattle.wire_state.specs.Tapes.{conn_to, named_conn, tape_setup}
-use Rattle.wire_state.specs.Ways.{Passes, WayHistory, WayStep, after, stages_of, stages_passed, world_setup}
-use Rattle.wire_state.specs.Worlds.{FlowIs, Stands}
+use Rattle.wire_state.specs.Ways.{Passes, Way, WayHistory, WayStep, after, stages_of, stages_passed, world_setup}
+use Rattle.wire_state.specs.Worlds.{FlowIs, Owes, Stands}
 use Rattle.wire_state.specs.declared.conn.Conn.{Conn}
+use Rattle.wire_state.specs.declared.wire_core.WireCore.{WireCore}
 use Rattle.wm_buffer.specs.Watermark.{above_after}
 
 -- ---- the pauses of flows that are held back from the start
@@ -363,3 +366,41 @@ module _ (l : LimitKeys) (x c s d : ℕ) (to : Option ℕ) (named : to ≡ named
       swapped true false = refl
       swapped false true = refl
       swapped false false = refl
+
+-- ---- as its notes say
+pub started_holds : (s : Started) (client : ℕ) (to : Option ℕ) → AreHolds (held_of s client to)
+started_holds s client to = all_append (hold_of (request s.exchange) s.request_held to) (hold_of (response s.exchange) s.response_held (Some client)) (hold_holds (request s.exchange) s.request_held to) (hold_holds (response s.exchange) s.response_held (Some client))
+
+pub numbered : (to : Option ℕ) → unwrap_or to 0 ≡ conn_number to
+numbered None = refl
+numbered (Some c) = refl
+
+-- a flow that isn't held back is paused by none, and one that is, once
+pub unheld : (f : FlowId) (b : Bool) (to : Option ℕ) → b ≡ false → hold_of f b to ≡ []
+unheld f true to e = cc
+unheld f false None e = refl
+unheld f false (Some c) e = refl
+
+pub held_is : (f : FlowId) (b : Bool) (to : Option ℕ) (c : ℕ) → b ≡ true → to ≡ Some c → note.Pause f (buffer.Write c) ∷ [] ≡ hold_of f b to
+held_is f b to c up is = λ i. hold_of f (sym up i) (sym is i)
+
+-- a connection that isn't 0 is the one that its start note names
+pub named_is : (to : Option ℕ) → IfSome to (λ c. 0 < c) → to ≡ named_conn (conn_number to)
+named_is None k = sym (ap (λ (b : Bool). if b then None else Some 0) same)
+  where
+    same : (0 == 0) ≡ true
+    same = grind (arith, nat_tests)
+named_is (Some c) k = sym (ap (λ (b : Bool). if b then None else Some c) (positive c k))
+  where
+    positive : (n : ℕ) → 0 < n → (n == 0) ≡ false
+    positive n lt = grind (arith, nat_tests)
+
+-- a mark, a note and the pauses behind it
+pub owes_marked : (m : Way) (n : Note) (tail : List Note) → AreHolds tail → KeepsLeft (Marked m ∷ Noted n ∷ []) → (old new : WireCore) → new.config ≡ old.config
+    → ((h : WayHistory) → Stands old.config.limits old.conns old.flows old.links h → Stands old.config.limits new.conns new.flows new.links (Noted n ∷ Marked m ∷ h))
+    → ((t u : Option ℕ) (h : WayHistory) → Stands old.config.limits old.conns old.flows old.links h → Stands old.config.limits new.conns new.flows new.links (Noted n ∷ Marked m ∷ h) → Counts old.config.limits t u old.conns old.flows h
+    → Counts old.config.limits t u new.conns new.flows (after (noted tail) (Noted n ∷ Marked m ∷ h))) → Owes (n ∷ tail) old new
+owes_marked m n tail holds left old new same stand go = subst (λ (ns : List Note). Owes (n ∷ ns) old new) (shown_noted tail)
+    (owes_by (Marked m ∷ Noted n ∷ noted tail) (λ h c. holds_gone tail holds (Noted n ∷ Marked m ∷ h) c ∙ left h c) old new same
+    (λ h s. holds_stand tail holds new.conns new.flows new.links (Noted n ∷ Marked m ∷ h) (stand h s))
+    (λ t u h s c. go t u h s (stand h s) c))

@@ -30,6 +30,18 @@ paid (Err x) owed before now e = record { goes = λ h g start conns flows links 
 pub nothing_paid : {A E : Type 0} {a : A} → (notes : List Note) → Pays {A = A} {E = E} (Ok a) [] notes notes
 nothing_paid {A = A} {E = E} {a = a} notes = paid {A = A} {E = E} (Ok a) [] notes notes (sym (append-nil notes))
 
+-- nor was this, which is none
+pub owed_none : {A E : Type 0} {a : A} → (owed notes : List Note) → owed ≡ [] → Pays {A = A} {E = E} (Ok a) owed notes notes
+owed_none {A = A} {E = E} {a = a} owed notes e = paid {A = A} {E = E} (Ok a) owed notes notes (sym (ap (λ (ns : List Note). notes ++ ns) e ∙ append-nil notes))
+
+-- one after the other
+pub both_paid : {A B E : Type 0} {b : B} (r : Result A E) (owed later before mid now : List Note) → Pays {A = B} {E = E} (Ok b) owed before mid → Pays r later mid now → Pays r (owed ++ later) before now
+both_paid r owed later before mid now first second = record {
+  goes = λ h g start conns flows links t. second.goes h g start conns flows links (first.front h g start later conns flows links t);
+  front = λ h g start rest conns flows links t. second.front h g start rest conns flows links
+      (first.front h g start (later ++ rest) conns flows links (told_at h g start conns conns flows links (before ++ ((owed ++ later) ++ rest)) (before ++ (owed ++ (later ++ rest))) refl (ap (λ (ns : List Note). before ++ ns) (append_assoc owed later rest)) t));
+}
+
 -- a step that changes nothing
 record IsNothing (n : Note) : Type 0 where
   writes : (h : WayHistory) → Writes same_octets (Noted n) h
