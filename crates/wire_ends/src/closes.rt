@@ -18,8 +18,8 @@ use crate::lists::{append, flood};
 use flow_notes::{Cause, CloseCause, FireKind, Note, Notes};
 use h2_frames::codes::NO_ERROR;
 use io_ports::{NoMemory, Octets};
-use wire_outlet::{Control, Waiting};
 use wire_flows::WireFlows;
+use wire_outlet::{Control, Waiting};
 use wire_state::{Conn, Task, WireCore, note, note_answer, note_pauses};
 
 /// The task Close: the connection is closed, unless it is. That it was lost is no cause of such a task: see `lose`.

@@ -269,3 +269,31 @@ module _ (n : ℕ) (old new : Flows) (rest : new.exchanges ≡ old.exchanges) (s
   -- then nobody is
   pub none_left_told : lows_on n old ≡ [] → lows_on n new ≡ []
   none_left_told none = lows_drop n old new writes ∙ ap (λ (fs : List FlowId). drop 1 fs) none
+
+-- ---- all were told
+nobody_lags : {l : LimitKeys} {conns : PagedMap Conn} {flows : Flows} {h : WayHistory} → (n : ℕ) → lows_on n flows ≡ [] → Counts l (Some n) None conns flows h → Counts l None None conns flows h
+nobody_lags {flows = flows} n none c = record {
+  sound = c.sound;
+  each = c.each;
+  unpaused = c.unpaused;
+  living = c.living;
+  over = c.over;
+  marks = c.marks;
+  known = c.known;
+  told = λ b. at b (c.told b);
+  turns = c.turns;
+}
+  where
+    same_number : (a b : ℕ) → Some a ≡ Some b → a ≡ b
+    same_number a b e = cc
+
+    at : (b : BufferId) → (pending_on flows.gates b ≡ []) ⊎ MayLag (Some n) None b → (pending_on flows.gates b ≡ []) ⊎ MayLag None None b
+    at b (inl e) = inl e
+    at (buffer.Write d) (inr may) = inl (ap (λ (q : ℕ). pending_on flows.gates (buffer.Write q)) (sym (same_number n d may)) ∙ none)
+    at (buffer.Stage f p) (inr may) = cc
+    at (buffer.Send f) (inr may) = absurd may
+    at (buffer.Recv f) (inr may) = absurd may
+
+pub all_told : {k l : LimitKeys} → (n : ℕ) (conns : PagedMap Conn) (flows : Flows) (links : Links) → lows_on n flows ≡ [] → (h : WayHistory) (g : ℕ → List ℕ) (start notes : List Note)
+    → ToldBy k l (Some n) None h g start conns flows links notes → ToldBy k l None None h g start conns flows links notes
+all_told n conns flows links none h g start notes t = record { steps = t.steps; is = t.is; stands = t.stands; counts = nobody_lags n none t.counts; left = t.left; under = t.under }

@@ -495,4 +495,3 @@ none_left n most core gone_ = record {
     nothing : (c : ℕ) (b : Bool) → (n == c) ≡ b → (if b then take most (octets_of c core.conns) else []) ≡ []
     nothing c true same = no_front (octets_of c core.conns) (ap (λ d. octets_of d core.conns) (sym (is_number n c same)) ∙ ap (λ (o : Option Conn). option_map_or (λ conn. conn.outlet.write.octets) o []) gone_)
     nothing c false other = refl
-

@@ -5,10 +5,11 @@ use Rattle.flow_notes.specs.declared.notes.Note.TheVariants as note
 use Rattle.proxy_config.specs.declared.config.LimitKeys.{LimitKeys}
 use Rattle.std.proofs.Common.{ap, append-nil, append_assoc, refl, subst, sym, ◌∙◌}
 use Rattle.std.specs.Prelude.{List, [], ℕ, ◌++◌, ◌∷◌, ◌≡◌}
+use Rattle.tape_laws.specs.Headline.{Headline}
 use Rattle.tape_laws.specs.World.{gone}
-use Rattle.wire_state.proofs.Promised.{promised}
+use Rattle.wire_state.proofs.Counted.{rests_headline}
 use Rattle.wire_state.specs.Noting.{Appends}
-use Rattle.wire_state.specs.Tapes.{Promises}
+use Rattle.wire_state.specs.Tapes.{tape_setup}
 use Rattle.wire_state.specs.Ways.{WayHistory, world_setup}
 use Rattle.wire_state.specs.Worlds.{IsFresh}
 use Rattle.worker_core.specs.Dispatching.{Tells}
@@ -25,7 +26,7 @@ told number e before turned after is a =
 pub goes_on : (k : Kind) (e : Event) (new : Kind) (notes : List Note) → CarriesOut k [] e new notes → (h : WayHistory) → StandsAt k h → IsFresh e h → GoesOn k h (left_at e k (λ c. gone world_setup c h)) new notes
 goes_on (kind.Wire old) e (kind.Wire new) notes carries h stands fresh =
     let told = carries.octets.goes h (λ c. gone world_setup c h) stands (λ c. refl) fresh in
-    record { steps = told.steps; is = told.is; stands = told.stands; left = told.left; under = told.under }
+    record { steps = told.steps; is = told.is; stands = record { stands = told.stands; counts = told.counts }; left = told.left; under = told.under }
 goes_on (kind.Wire old) e (kind.Plain new) notes carries h stands fresh = absurd carries
 goes_on (kind.Plain old) e new notes carries h stands fresh = absurd stands
 
@@ -41,6 +42,6 @@ under_more (kind.Wire a) (kind.Plain b) c one two = absurd one
 under_more (kind.Plain a) b c one two = absurd one
 
 pub stands_promise : (old new : Kind) (h : WayHistory) → SameLimits old new → StandsAt new h → PromisesAt old h
-stands_promise (kind.Wire old) (kind.Wire new) h same stands = subst (λ (l : LimitKeys). Promises l h) same (promised new.core.conns new.core.flows new.core.links h stands)
+stands_promise (kind.Wire old) (kind.Wire new) h same stands = subst (λ (l : LimitKeys). Headline (tape_setup l) h) same (rests_headline new.core.conns new.core.flows new.core.links h stands)
 stands_promise (kind.Wire old) (kind.Plain new) h same stands = absurd same
 stands_promise (kind.Plain old) new h same stands = absurd same

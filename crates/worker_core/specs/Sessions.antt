@@ -6,12 +6,13 @@ use Rattle.plain_core.specs.Stands.{CanTake, Rests, WaitsInFront}
 use Rattle.overload_core.specs.ActionStates.{is_saturated}
 use Rattle.proxy_config.specs.declared.config.Config.{Config}
 use Rattle.std.specs.Prelude.{Bool, List, None, Option, [], false, not, true, ℕ, ◌<◌, ◌≡◌}
+use Rattle.tape_laws.specs.Headline.{Headline}
 use Rattle.tape_laws.specs.World.{gone}
 use Rattle.tape_laws.specs.declared.PlainLimits.{PlainLimits}
 use Rattle.wire_state.specs.Sound.{IsSound, is_open_at}
-use Rattle.wire_state.specs.Tapes.{Promises}
+use Rattle.wire_state.specs.Tapes.{tape_setup}
 use Rattle.wire_state.specs.Ways.{WayHistory, WayStep, after, shown, world_setup}
-use Rattle.wire_state.specs.Worlds.{Rests, left_after}
+use Rattle.wire_state.specs.Worlds.{Rests as RestsAt, left_after}
 use Rattle.worker_core.specs.Dispatching.{Breaks, Dispatches}
 use Rattle.worker_core.specs.Fronts.{IsFront, IsLeastAbove, has_octets, is_there, octets_at}
 use Rattle.worker_core.specs.declared.worker.Kind.{Kind}
@@ -90,12 +91,12 @@ IsNextOut (kind.Wire session) after next = IsLeastAbove after (has_octets sessio
 -- drain.
 abbrev pub StandsAt : Kind → WayHistory → Type 0
 StandsAt (kind.Plain core) h = ⊥
-StandsAt (kind.Wire session) h = Rests session.core.config.limits session.core.conns session.core.flows session.core.links h
+StandsAt (kind.Wire session) h = RestsAt session.core.config.limits session.core.conns session.core.flows session.core.links h
 
--- the history keeps the promise, by the limits of the core
+-- the history has all that a tape of whole dispatches promises, by the limits of the core
 abbrev pub PromisesAt : Kind → WayHistory → Type 0
 PromisesAt (kind.Plain core) h = ⊥
-PromisesAt (kind.Wire session) h = Promises session.core.config.limits h
+PromisesAt (kind.Wire session) h = Headline (tape_setup session.core.config.limits) h
 
 -- the limits are as they were
 abbrev pub SameLimits : Kind → Kind → Type 0

@@ -17,21 +17,27 @@ use wire_state::{Task, WireCore};
 
 /// Small steps until nothing is under way and no connection has anything to do. Where the event may have eased a write buffer, the
 /// flows that go to its connection are told first.
-pub(crate) fn settle(
-    core: &mut WireCore,
-    event: &Event,
-    notes: &mut Notes,
-) -> Result<(), NoMemory>
+pub(crate) fn settle(core: &mut WireCore, event: &Event, notes: &mut Notes) -> Result<(), NoMemory>
     requires sound { IsSound core.old }
     ensures sound { OnOk result (IsSound core.new) }
     ensures notes { Appends notes.old notes.new }
     ensures octets { TellsAll (eased_by event.now) result core.old notes.old core.new notes.new }
 {
-    match event {
-        Event::Room { conn, .. } | Event::Gone { conn } => tell_all(core, *conn, notes)?,
-        _ => {}
+    match eased_conn(event) {
+        Some(conn) => tell_all(core, conn, notes),
+        None => go_to_rest(core, notes),
     }
-    go_to_rest(core, notes)
+}
+
+// The connection whose write buffer the event may have eased.
+fn eased_conn(event: &Event) -> Option<u32>
+    ensures { result ≡ eased_by event.now }
+{
+    match event {
+        Event::Room { conn, .. } => Some(*conn),
+        Event::Gone { conn } => Some(*conn),
+        _ => None,
+    }
 }
 
 fn go_to_rest(core: &mut WireCore, notes: &mut Notes) -> Result<(), NoMemory>
@@ -44,8 +50,7 @@ fn go_to_rest(core: &mut WireCore, notes: &mut Notes) -> Result<(), NoMemory>
     Ok(())
 }
 
-// The flows that go to a connection are told one after the other that its write buffer drained, each once nothing is under way;
-// then the connection is drained.
+// The flows that go to a connection are told one after the other that its write buffer drained, each once nothing is under way.
 fn tell_all(core: &mut WireCore, conn: u32, notes: &mut Notes) -> Result<(), NoMemory>
     requires sound { IsSound core.old }
     ensures sound { OnOk result (IsSound core.new) }
@@ -53,7 +58,19 @@ fn tell_all(core: &mut WireCore, conn: u32, notes: &mut Notes) -> Result<(), NoM
     ensures octets { TellsAll (Some conn) result core.old notes.old core.new notes.new }
 {
     while tell_next(core, conn, notes)? {}
-    core.begin(Task::AskDrain(conn))
+    drain_told(core, conn, notes)
+}
+
+// The flows that go to a connection were told: it is drained, and small steps go on until nothing is under way.
+fn drain_told(core: &mut WireCore, conn: u32, notes: &mut Notes) -> Result<(), NoMemory>
+    requires sound { IsSound core.old }
+    requires told { lows_on conn core.old.flows ≡ [] }
+    ensures sound { OnOk result (IsSound core.new) }
+    ensures notes { Appends notes.old notes.new }
+    ensures octets { TellsAll (Some conn) result core.old notes.old core.new notes.new }
+{
+    core.begin(Task::AskDrain(conn))?;
+    go_to_rest(core, notes)
 }
 
 // One small step, or the next flow is told. The answer is false where there was nothing to do.

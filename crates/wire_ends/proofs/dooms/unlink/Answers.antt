@@ -52,7 +52,7 @@ pub returns-clause-octets : goal.returns-clause-octets
 returns-clause-octets c =
     let k = c.args.core.now in
     let stand = λ (h : WayHistory) (s : Stands k.config.limits k.conns k.flows k.links h). dooms c.args.exchange c.args.cause h k.flows c.doom-doomed.new.self c.doom-doomed.ensures.dooms k.conns k.links c.doom.new.self
-        (unlinks c.args.exchange k.links c.doom.new.self c.are_sound.ensures c.doom.ensures.gone) s in
+    (unlinks c.args.exchange k.links c.doom.new.self c.are_sound.ensures c.doom.ensures.gone) s in
     owes_by (Noted (note.Doom c.args.exchange c.args.cause) ∷ []) (λ h d. refl) k _ refl stand
     (λ t u h s counts. counts_go k.config.limits t u t u k.conns k.conns k.flows c.doom-doomed.new.self (Noted (note.Doom c.args.exchange c.args.cause)) [] h k.links c.doom.new.self
     (dooms_counts k.config.limits t c.args.exchange c.args.cause h k.conns k.flows c.doom-doomed.new.self c.doom-doomed.ensures.dooms c.doom-doomed.ensures.writes c.doom-doomed.ensures.lows c.doom-doomed.ensures.live c.doom-doomed.ensures.sound counts) s (stand h s) counts)
@@ -62,7 +62,7 @@ pub returns-clause-late : goal.returns-clause-late
 returns-clause-late c =
     let k = c.args.core.now in
     let stand = λ (h : WayHistory) (s : Stands k.config.limits k.conns k.flows k.links h). dooms c.args.exchange c.args.cause h k.flows c.doom-doomed.new.self c.doom-doomed.ensures.dooms k.conns k.links c.doom.new.self
-        (unlinks c.args.exchange k.links c.doom.new.self c.are_sound.ensures c.doom.ensures.gone) s in
+    (unlinks c.args.exchange k.links c.doom.new.self c.are_sound.ensures c.doom.ensures.gone) s in
     ends_by c.args.exchange (Noted (note.Doom c.args.exchange c.args.cause) ∷ []) (λ h d. refl) k _ refl stand
     (λ t h s counts. counts_go k.config.limits t (Some c.args.exchange) t None k.conns k.conns k.flows c.doom-doomed.new.self (Noted (note.Doom c.args.exchange c.args.cause)) [] h k.links c.doom.new.self
     (late_counts k.config.limits t c.args.exchange c.args.cause h k.conns k.flows c.doom-doomed.new.self c.doom-doomed.ensures.dooms c.doom-doomed.ensures.writes c.doom-doomed.ensures.lows c.doom-doomed.ensures.live c.doom-doomed.ensures.sound counts) s (stand h s) counts)

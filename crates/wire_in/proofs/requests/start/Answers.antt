@@ -46,7 +46,7 @@ returns-clause-octets c =
     let e = c.in_ok-started.ensures in
     let ends = c.spec_of-spec.ensures.ends in
     let stood = λ (h : WayHistory) (stands : Stands k.config.limits k.conns k.flows k.links h). starts x n c.args.stream d to spec k.config h k.flows c.start.new.self e.starts c.spec_of-spec.ensures.wire e.number c.spec_of-spec.ensures.limits k.conns k.links c.start-2.new.self
-        (links_one x n c.args.stream to k.links c.start-2.new.self c.in_ok-start.ensures.ok) stands in
+    (links_one x n c.args.stream to k.links c.start-2.new.self c.in_ok-start.ensures.ok) stands in
     owes_marked (Passes x (stages_of (filters_of (side_filters false) spec.row k.config)) (stages_of (filters_of (side_filters true) spec.row k.config))) (note.Start x n c.args.stream d) (held_of s n to) (started_holds s n to) (λ h q. refl) k _ refl stood
     (λ t u h stands now counts. begins_counts k.config.limits x n c.args.stream d to (named_is to c.requires.named) spec k.config k.conns k.flows c.start.new.self e.starts c.spec_of-spec.ensures.wire e.number
     (e.request_goes ∙ ends.1) (e.response_goes ∙ ap (λ (v : ℕ). Some v) ends.0) e.writes e.lows e.sound e.live c.requires.to c.requires.from
