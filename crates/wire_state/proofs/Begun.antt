@@ -52,6 +52,7 @@ use Rattle.wire_links.specs.Links.{Links}
 use Rattle.wire_state.proofs.Counting.{above_same, over_now}
 use Rattle.wire_state.proofs.Filled.{unborn_watches}
 use Rattle.wire_state.proofs.Goings.{KeepsLeft, owes_by}
+use Rattle.wire_state.proofs.Grown.{never_above}
 use Rattle.wire_state.proofs.Held.{is_number}
 use Rattle.wire_state.proofs.Holding.{AreHolds, IsAlike, all_append, holds_alike, holds_gone, holds_paused, holds_resumed, holds_stand, holds_turns, noted, paused_append, paused_in, resumed_append, resumed_in, shown_noted}
 use Rattle.wire_state.proofs.Overs.{over_then, still_goes}
@@ -108,11 +109,6 @@ own_none p f low send q (Meter n rate ∷ ss) w to = count_cons p (buffer.Stage 
 sum_none : (p : BufferId → ℕ) → ((b : BufferId) → p b ≡ 0) → (bs : List BufferId) → sum_by p bs ≡ 0
 sum_none p e [] = refl
 sum_none p e (b ∷ bs) = sum_by-cons p b bs ∙ both_none _ _ (e b) (sum_none p e bs)
-
-never_above : (n : ℕ) (a : Bool) → above_after n a 0 ≡ false
-never_above zero a = refl
-never_above (suc n) true = refl
-never_above (suc n) false = refl
 
 fresh_above : (fs : List Filter) (last : Place) (i : ℕ) (y : Place) → last.above ≡ false → slice_get (stages fs ++ last ∷ []) i ≡ Some y → y.above ≡ false
 fresh_above [] last zero y e found = ap (λ (v : Place). v.above) (sym (same_Some last y found)) ∙ e
@@ -224,13 +220,13 @@ module _ (l : LimitKeys) (x c s d : ℕ) (to : Option ℕ) (named : to ≡ named
         let over_mid : AreOver l f mid flow = over_then l f passing h flow flow is_was is_mid (still_goes flow flow refl) was.over in
         let over : AreOver l f then_ flow = over_then l f starting mid flow flow is_mid is_then (still_goes flow flow refl) over_mid in
         record {
-          paused = balance _ _ _ _ _ _ _ _ _ _ _ (paused_k f) (resumed_k f) pauses_other (no_resumes f) was.paused (disabled_k f ∙ disabled_other) lows_other;
+          paused = balance _ _ _ _ _ _ _ _ _ _ (paused_k f) (resumed_k f) pauses_other (no_resumes f) was.paused (disabled_k f ∙ disabled_other) lows_other;
           over = λ p y at source. over p y at source ∙ sym (alike.above_as (buffer_of f p (kind_of y.kind)));
           goes = goes_other ∙ (was.goes ∙ (sym conn_other ∙ sym (alike.conn_as f)));
         }
       where
-        balance : (p p0 r r0 q m d0 d1 w0 w1 z : ℕ) → p ≡ p0 + q → r ≡ r0 + m → q ≡ 0 → m ≡ 0 → p0 ≡ r0 + (d0 + w0) → d1 ≡ d0 → w1 ≡ w0 → p ≡ r + (d1 + w1)
-        balance p p0 r r0 q m d0 d1 w0 w1 z e1 e2 e3 e4 e5 e6 e7 = omega (arith, e1, e2, e3, e4, e5, e6, e7)
+        balance : (p p0 r r0 q m d0 d1 w0 w1 : ℕ) → p ≡ p0 + q → r ≡ r0 + m → q ≡ 0 → m ≡ 0 → p0 ≡ r0 + (d0 + w0) → d1 ≡ d0 → w1 ≡ w0 → p ≡ r + (d1 + w1)
+        balance p p0 r r0 q m d0 d1 w0 w1 e1 e2 e3 e4 e5 e6 e7 = omega (arith, e1, e2, e3, e4, e5, e6, e7)
 
   -- ---- the two that began
   write_then : (e : ℕ) → above (tape_setup l) (buffer.Write e) then_ ≡ above (tape_setup l) (buffer.Write e) h

@@ -3,9 +3,10 @@ use Rattle.flow_gate.specs.Board.{Board, pending_on}
 use Rattle.flow_gate.specs.declared.ids.BufferId.{BufferId}
 use Rattle.flow_gate.specs.declared.ids.BufferId.TheVariants as buffer
 use Rattle.io_ports.specs.declared.octets.NoMemory.{NoMemory}
-use Rattle.std.proofs.Common.{ap, refl, subst, sym, ◌∙◌}
+use Rattle.std.proofs.Common.{ap, arith, refl, subst, sym, ◌∙◌}
+use Rattle.std.proofs.lemmas.Bool.Decides.{nat_tests}
 use Rattle.std.specs.Option.{option_map}
-use Rattle.std.specs.Prelude.{Bool, Err, IfOk, IfSome, List, None, Ok, Option, Result, Some, [], false, if◌then◌else◌, length, not, suc, true, zero, ℕ, ◌&&◌, ◌==◌, ◌∷◌, ◌≡◌}
+use Rattle.std.specs.Prelude.{Bool, Err, IfOk, IfSome, List, None, Ok, Option, Result, Some, [], false, if◌then◌else◌, length, not, true, ℕ, ◌&&◌, ◌==◌, ◌∷◌, ◌≡◌}
 use Rattle.wire_flows.proofs.Crossings.{high_of, low_of}
 use Rattle.wire_flows.specs.Flows.{Flows}
 use Rattle.wire_flows.specs.Moves.{is_high, is_low}
@@ -76,10 +77,16 @@ left_frees n k old new crossed before after drops is writes lows rest sound = re
   sound = sound;
 }
 
-never_above : (l : ℕ) (a : Bool) → above_after l a 0 ≡ false
-never_above zero a = refl
-never_above (suc l) true = refl
-never_above (suc l) false = refl
+none_up : (n : ℕ) (a : Bool) → above_after n a 0 ≡ true → ⊥
+none_up n true e = grind (arith, nat_tests)
+none_up n false e = grind (arith, nat_tests)
+
+pub never_above : (n : ℕ) (a : Bool) → above_after n a 0 ≡ false
+never_above n a = at (above_after n a 0) refl
+  where
+    at : (b : Bool) → above_after n a 0 ≡ b → b ≡ false
+    at true e = absurd (none_up n a e)
+    at false e = refl
 
 -- all of them
 pub dropped_frees : (n : ℕ) (old new : Buffer) (before after : Flows) → new.octets ≡ [] → new.above ≡ false → ChangesWrite n (option_map (eased true (watchers_on n before)) (write_at n before)) before after

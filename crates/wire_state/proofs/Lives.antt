@@ -11,6 +11,7 @@ use Rattle.filter_chain.specs.Place.{Place, empty_place}
 use Rattle.filter_chain.specs.declared.stage.StageKind.TheVariants.{Send}
 use Rattle.flow_gate.specs.declared.ids.FlowId.{FlowId}
 use Rattle.flow_notes.specs.declared.notes.Cause.{Cause}
+use Rattle.flow_notes.specs.declared.notes.Note.{Note}
 use Rattle.proxy_config.specs.declared.config.Config.{Config}
 use Rattle.proxy_config.specs.declared.config.LimitKeys.{LimitKeys}
 use Rattle.proxy_config.specs.declared.routes.Filter.{Filter}
@@ -39,8 +40,8 @@ use Rattle.wire_state.proofs.Standing.{ends_are_still, flow_still, if_some}
 use Rattle.wire_state.proofs.Bodies.{flows_go, flows_mapped}
 use Rattle.wire_state.specs.Counts.{Counts}
 use Rattle.wire_state.specs.Limits.{FlowFits, HasShape}
-use Rattle.wire_state.specs.Ways.{Opens, Passes, WayHistory, WayStep, stages_of, stages_passed, stream_to, world_setup}
-use Rattle.wire_state.specs.Worlds.{EndsAre, FlowIs, IsUnborn, Stands}
+use Rattle.wire_state.specs.Ways.{Opens, Passes, WayHistory, WayStep, after, stages_of, stages_passed, stream_to, world_setup}
+use Rattle.wire_state.specs.Worlds.{EndsAre, FlowIs, IsUnborn, Stands, ToldBy}
 use Rattle.wire_state.specs.declared.conn.Conn.{Conn}
 use Rattle.flow_notes.specs.declared.notes.Note.TheVariants as note
 
@@ -277,3 +278,14 @@ sweeps swept old new w conns links h s = flows_go old new w.last (λ f. ap (opti
 
 pub sweeps_counts : {l : LimitKeys} {t u : Option ℕ} → (swept : Option ℕ) (old new : Flows) → Sweeps swept old.exchanges new.exchanges → KeepsLive old new → new.gates ≡ old.gates → IsSound new → (conns : PagedMap Conn) (h : WayHistory) → Counts l t u conns old h → Counts l t u conns new h
 sweeps_counts swept old new w live gates sound conns h c = counts_flows conns old new h (found_keep old new w.last (λ f. ap (option_and_then (side_of f.back)) (w.live f.exchange)) live.goes live.live) gates sound c
+
+pub swept_told : {k l : LimitKeys} {t u : Option ℕ} → (swept : Option ℕ) (old new : Flows) → Sweeps swept old.exchanges new.exchanges → KeepsLive old new → new.gates ≡ old.gates → IsSound new → (conns : PagedMap Conn) (links : Links)
+    → (h : WayHistory) (g : ℕ → List ℕ) (start notes : List Note) → ToldBy k l t u h g start conns old links notes → ToldBy k l t u h g start conns new links notes
+swept_told swept old new w live gates sound conns links h g start notes t = record {
+  steps = t.steps;
+  is = t.is;
+  stands = sweeps swept old new w conns links (after t.steps h) t.stands;
+  counts = sweeps_counts swept old new w live gates sound conns (after t.steps h) t.counts;
+  left = t.left;
+  under = t.under;
+}
