@@ -3,12 +3,11 @@ use Rattle.exchange_core.specs.Changes.{Starts}
 use Rattle.exchange_core.specs.Exchange.{begun, begun_flow, filters_of, flow_id, flow_in as side_of, goes_to as goes_of, multiple_of, side_filters}
 use Rattle.exchange_core.specs.Exchanges.{exchange_at}
 use Rattle.exchange_core.specs.Flow.{Flow}
-use Rattle.exchange_core.specs.declared.exchange.Exchange.{Exchange}
 use Rattle.exchange_core.specs.declared.start.StartSpec.{StartSpec}
 use Rattle.filter_chain.specs.Chain.{place_at, stages}
-use Rattle.filter_chain.specs.Place.{Place, empty_place, is_source, kind_of}
+use Rattle.filter_chain.specs.Place.{Place, empty_place, kind_of}
 use Rattle.filter_chain.specs.declared.stage.StageKind.TheVariants as kind
-use Rattle.flow_gate.specs.Board.{Board, is_known, is_marked, lows, pending_on, times, watched_by}
+use Rattle.flow_gate.specs.Board.{is_known, is_marked, lows, pending_on, times, watched_by}
 use Rattle.flow_gate.specs.Ids.{same_flow}
 use Rattle.flow_gate.specs.declared.ids.BufferId.{BufferId}
 use Rattle.flow_gate.specs.declared.ids.BufferId.TheVariants as buffer
@@ -30,40 +29,38 @@ use Rattle.std.proofs.Common.{ap, arith, inl, inr, refl, subst, sym, ◌∙◌}
 use Rattle.std.proofs.lemmas.Bool.Decides.{nat_tests}
 use Rattle.std.proofs.lemmas.List.Sums.{sum_by-cons}
 use Rattle.std.proofs.lemmas.Option.{same_Some}
-use Rattle.std.specs.List.{list_any}
 use Rattle.std.specs.Option.{option_and_then, option_map_or, unwrap_or}
 use Rattle.std.specs.Prelude.{Bool, IfSome, IsSome, List, None, Option, Some, [], count_by, false, if◌then◌else◌, is_some, length, not, slice_get, suc, sum_by, true, zero, ℕ, ◌&&◌, ◌++◌, ◌+◌, ◌<◌, ◌==◌, ◌||◌, ◌∷◌, ◌≡◌, ◌≤◌, ◌⊎◌}
 use Rattle.tape_laws.specs.Dispatches.{has, live}
 use Rattle.tape_laws.specs.Flows.{request, response}
 use Rattle.tape_laws.specs.History.{Marked, Noted}
 use Rattle.tape_laws.specs.Pauses.{pauses, resumes}
-use Rattle.tape_laws.specs.Sources.{disabled, source_buffers}
+use Rattle.tape_laws.specs.Sources.{disabled}
 use Rattle.tape_laws.specs.Units.{Hold, Meter, StageKind}
 use Rattle.tape_laws.specs.Watermark.{above, limit}
 use Rattle.tape_laws.specs.World.{last_place, place}
 use Rattle.wire_flows.proofs.Boards.{write_of, write_seen}
 use Rattle.wire_flows.proofs.Cases.{by_case}
 use Rattle.wire_flows.proofs.Starts.{response_new}
-use Rattle.wire_flows.specs.Flows.{Flows, flow_in, goes_to, is_live_in, is_there, watches_of}
+use Rattle.wire_flows.specs.Flows.{Flows, flow_in, goes_to, is_live_in, watches_of}
 use Rattle.wire_flows.specs.Sound.{IsSound, buffer_of}
 use Rattle.wire_flows.specs.Writes.{KeepsLows, KeepsWrites, Write, is_above, write_at}
 use Rattle.wire_flows.specs.declared.starting.Started.{Started}
 use Rattle.wire_links.specs.Links.{Links}
-use Rattle.wire_state.proofs.Counting.{above_same, over_now}
 use Rattle.wire_state.proofs.Filled.{unborn_watches}
 use Rattle.wire_state.proofs.Goings.{KeepsLeft, owes_by}
 use Rattle.wire_state.proofs.Grown.{never_above}
 use Rattle.wire_state.proofs.Held.{is_number}
 use Rattle.wire_state.proofs.Holding.{AreHolds, IsAlike, all_append, holds_alike, holds_gone, holds_paused, holds_resumed, holds_stand, holds_turns, noted, paused_append, paused_in, resumed_append, resumed_in, shown_noted}
 use Rattle.wire_state.proofs.Overs.{over_then, still_goes}
-use Rattle.wire_state.proofs.Promised.{same_out, same_place}
+use Rattle.wire_state.proofs.Promised.{same_place}
 use Rattle.wire_state.proofs.Rising.{disabled_goes}
 use Rattle.wire_state.proofs.Standing.{flow_still}
 use Rattle.wire_state.proofs.Watching.{lows_same}
-use Rattle.wire_state.specs.Counts.{AreOver, Counts, IsCounted, MayLag, holds_back, is_above_at}
+use Rattle.wire_state.specs.Counts.{AreOver, Counts, IsCounted, MayLag, holds_back}
 use Rattle.wire_state.specs.Noting.{conn_number, held_of, hold_of}
 use Rattle.wire_state.specs.Tapes.{conn_to, named_conn, tape_setup}
-use Rattle.wire_state.specs.Ways.{Passes, Way, WayHistory, WayStep, after, stages_of, stages_passed, world_setup}
+use Rattle.wire_state.specs.Ways.{Passes, Way, WayHistory, WayStep, after, stages_of, stages_passed}
 use Rattle.wire_state.specs.Worlds.{FlowIs, Owes, Stands}
 use Rattle.wire_state.specs.declared.conn.Conn.{Conn}
 use Rattle.wire_state.specs.declared.wire_core.WireCore.{WireCore}

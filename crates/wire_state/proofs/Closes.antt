@@ -6,11 +6,11 @@ use Rattle.flow_notes.specs.declared.events.Event.TheVariants as event
 use Rattle.flow_notes.specs.declared.notes.CloseCause.{CloseCause}
 use Rattle.flow_notes.specs.declared.notes.CloseCause.TheVariants as cause
 use Rattle.flow_notes.specs.declared.notes.Note.TheVariants as note
-use Rattle.paged_map.specs.PagedMap.{PagedMap, WritesThrough, value_at}
+use Rattle.paged_map.specs.PagedMap.{WritesThrough, value_at}
 use Rattle.proxy_config.specs.declared.config.LimitKeys.{LimitKeys}
 use Rattle.std.proofs.Common.{ap, arith, inl, refl, subst, sym, ◌∙◌}
 use Rattle.std.specs.Option.{option_map_or}
-use Rattle.std.specs.Prelude.{Bool, List, None, Option, Some, [], false, if◌then◌else◌, is_some, length, not, true, ℕ, ◌&&◌, ◌==◌, ◌∷◌, ◌≡◌, ◌≢◌, ◌≤◌}
+use Rattle.std.specs.Prelude.{Bool, List, None, Option, Some, [], false, if◌then◌else◌, length, not, true, ℕ, ◌&&◌, ◌==◌, ◌∷◌, ◌≡◌, ◌≢◌, ◌≤◌}
 use Rattle.tape_laws.specs.Connections.{was_closed}
 use Rattle.tape_laws.specs.History.{Noted}
 use Rattle.tape_laws.specs.Sources.{source_buffers}
@@ -28,8 +28,8 @@ use Rattle.wire_state.proofs.Quiets.{quiet_go}
 use Rattle.wire_state.proofs.Rising.{drained}
 use Rattle.wire_state.proofs.Standing.{closes, conn_shut, octets_written}
 use Rattle.wire_state.proofs.Turned.{turn_go}
-use Rattle.wire_state.proofs.Wrote.{may_lag}
-use Rattle.wire_state.specs.Counts.{Counts, Frees, is_above_at}
+use Rattle.wire_state.proofs.Left.{may_lag}
+use Rattle.wire_state.specs.Counts.{Counts, Frees}
 use Rattle.wire_state.specs.Tapes.{tape_setup}
 use Rattle.wire_state.specs.Ways.{WayHistory, WayStep}
 use Rattle.wire_state.specs.Worlds.{Eases, Owes, Stands, left_by, octets_of}

@@ -10,7 +10,7 @@ use Rattle.proxy_config.specs.declared.config.LimitKeys.{LimitKeys}
 use Rattle.std.proofs.Common.{ap, arith, inl, inr, refl, subst, sym, ◌∙◌}
 use Rattle.std.proofs.lemmas.Bool.Decides.{nat_tests}
 use Rattle.std.specs.Option.{option_map_or}
-use Rattle.std.specs.Prelude.{Bool, IsSome, List, None, Option, Some, [], false, if◌then◌else◌, is_some, length, true, ℕ, ◌==◌, ◌≡◌, ◌⊎◌}
+use Rattle.std.specs.Prelude.{Bool, IsSome, None, Option, Some, [], false, if◌then◌else◌, is_some, length, true, ℕ, ◌==◌, ◌≡◌, ◌⊎◌}
 use Rattle.tape_laws.specs.Watermark.{above}
 use Rattle.tape_laws.specs.World.{out}
 use Rattle.wire_flows.proofs.Cases.{by_case}
@@ -26,7 +26,7 @@ use Rattle.wire_state.proofs.Watching.{lows_same}
 use Rattle.wire_state.specs.Counts.{Counts, MayLag, holds_back, is_above_at}
 use Rattle.wire_state.specs.Tapes.{tape_setup}
 use Rattle.wire_state.specs.Ways.{WayHistory}
-use Rattle.wire_state.specs.Worlds.{Stands, has_conn, octets_of}
+use Rattle.wire_state.specs.Worlds.{Stands, has_conn}
 use Rattle.wire_state.specs.declared.conn.Conn.{Conn}
 use Rattle.wm_buffer.specs.Watermark.{above_after}
 

@@ -28,7 +28,7 @@ use Rattle.tape_laws.specs.Sources.{disabled, source_buffers}
 use Rattle.tape_laws.specs.Watermark.{above}
 use Rattle.tape_laws.specs.World.{out}
 use Rattle.wire_flows.proofs.Cases.{by_case}
-use Rattle.wire_flows.proofs.Found.{flow_after, target_after, there_after}
+use Rattle.wire_flows.proofs.Found.{flow_after, target_after}
 use Rattle.wire_flows.specs.Flows.{Flows, flow_in, goes_to, is_live_in, is_there}
 use Rattle.wire_flows.specs.Sound.{IsSound, buffer_of}
 use Rattle.wire_flows.specs.Writes.{write_at}

@@ -3,7 +3,7 @@ use Rattle.exchange_core.specs.Exchange.{flow_in as side_of}
 use Rattle.exchange_core.specs.Exchanges.{exchange_at}
 use Rattle.exchange_core.specs.Flow.{Flow}
 use Rattle.exchange_core.specs.declared.exchange.Exchange.{Exchange}
-use Rattle.flow_gate.specs.Board.{is_known, is_marked, pending_on, times, times_of_buffer}
+use Rattle.flow_gate.specs.Board.{is_marked, pending_on, times, times_of_buffer}
 use Rattle.flow_gate.specs.declared.ids.BufferId.{BufferId}
 use Rattle.flow_gate.specs.declared.ids.BufferId.TheVariants as buffer
 use Rattle.flow_gate.specs.declared.ids.FlowId.{FlowId}
@@ -14,7 +14,7 @@ use Rattle.std.specs.BTreeMap.{is_at}
 use Rattle.std.specs.Map.{lookup}
 use Rattle.std.specs.Option.{option_and_then, option_map_or}
 use Rattle.std.specs.Ordering.{nat_cmp}
-use Rattle.std.specs.Prelude.{IfSome, List, None, Option, [], false, is_some, nat_eq, true, ℕ, ◌≡◌, ◌≤◌}
+use Rattle.std.specs.Prelude.{IfSome, List, None, Option, [], false, is_some, nat_eq, ℕ, ◌≡◌, ◌≤◌}
 use Rattle.wire_flows.proofs.Boards.{write_of, write_seen}
 use Rattle.wire_flows.specs.Flows.{Flows, flow_in, goes_to, is_live_in, watches_of}
 use Rattle.wire_flows.specs.Sound.{IsEmpty, IsSound}

@@ -6,7 +6,7 @@ use Rattle.io_ports.specs.declared.octets.NoMemory.{NoMemory}
 use Rattle.std.proofs.Common.{ap, arith, refl, subst, sym, ◌∙◌}
 use Rattle.std.proofs.lemmas.Bool.Decides.{nat_tests}
 use Rattle.std.specs.Option.{option_map}
-use Rattle.std.specs.Prelude.{Bool, Err, IfOk, IfSome, List, None, Ok, Option, Result, Some, [], false, if◌then◌else◌, length, not, true, ℕ, ◌&&◌, ◌==◌, ◌∷◌, ◌≡◌}
+use Rattle.std.specs.Prelude.{Bool, Err, IfOk, IfSome, List, Ok, Option, Result, [], false, if◌then◌else◌, length, not, true, ℕ, ◌&&◌, ◌==◌, ◌∷◌, ◌≡◌}
 use Rattle.wire_flows.proofs.Crossings.{high_of, low_of}
 use Rattle.wire_flows.specs.Flows.{Flows}
 use Rattle.wire_flows.specs.Moves.{is_high, is_low}

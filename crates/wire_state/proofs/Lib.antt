@@ -16,6 +16,7 @@ pub mod Held
 pub mod Holding
 pub mod Idle
 pub mod Keeping
+pub mod Left
 pub mod Linked
 pub mod Lives
 pub mod Moving

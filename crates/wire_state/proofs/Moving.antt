@@ -5,7 +5,7 @@ use Rattle.exchange_core.specs.Exchange.{IsFlowOf}
 use Rattle.exchange_core.specs.Flow.{Flow, last_place as send_place}
 use Rattle.exchange_core.specs.Moves.{next_step, stepped}
 use Rattle.filter_chain.specs.Chain.{above_at}
-use Rattle.filter_chain.specs.Place.{Place, kind_of}
+use Rattle.filter_chain.specs.Place.{Place}
 use Rattle.filter_chain.specs.declared.stage.StageKind.{StageKind as PlaceKind}
 use Rattle.flow_gate.specs.Board.{lows, pending_on, times, times_of_buffer, watched_by}
 use Rattle.flow_gate.specs.Ids.{same_buffer, same_flow}
@@ -47,12 +47,12 @@ use Rattle.wire_state.proofs.Rising.{drained, of_one, risen}
 use Rattle.wire_state.proofs.Shifting.{other_drains, other_rises, own_drains, own_rises, place_named, recv_drains}
 use Rattle.wire_state.proofs.Stepping.{IsStep, made, move_stands, stage_of, there}
 use Rattle.wire_state.proofs.Watching.{last_one, lows_more, lows_same, watches}
-use Rattle.wire_state.specs.Counts.{AreOver, Counts, MayLag}
+use Rattle.wire_state.specs.Counts.{Counts, MayLag}
 use Rattle.wire_state.specs.Limits.{shape_of}
 use Rattle.wire_state.specs.Noting.{crossed_of, late_of, moved_of, pause_of, resume_of}
 use Rattle.wire_state.specs.Tapes.{tape_setup}
-use Rattle.wire_state.specs.Ways.{WayHistory, WayStep, after}
-use Rattle.wire_state.specs.Worlds.{FlowIs, Stands, ToldBy}
+use Rattle.wire_state.specs.Ways.{WayHistory, WayStep}
+use Rattle.wire_state.specs.Worlds.{FlowIs, ToldBy}
 use Rattle.wire_state.specs.declared.conn.Conn.{Conn}
 
 -- ---- the notes

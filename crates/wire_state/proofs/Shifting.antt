@@ -18,9 +18,7 @@ use Rattle.tape_laws.specs.Pauses.{place_buffer}
 use Rattle.tape_laws.specs.Sources.{source_buffers}
 use Rattle.tape_laws.specs.Watermark.{above, drains_at, rises_at}
 use Rattle.tape_laws.specs.World.{last_place}
-use Rattle.wire_flows.proofs.Freed.{place_sound}
 use Rattle.wire_flows.proofs.Steps.{buffer_same}
-use Rattle.wire_flows.specs.Moves.{buffer_at}
 use Rattle.wire_flows.specs.Sound.{buffer_of}
 use Rattle.wire_state.proofs.Rising.{of_one}
 use Rattle.wire_state.proofs.Watching.{place_times, recv_times, send_times, stage_away}

@@ -19,12 +19,12 @@ use Rattle.std.proofs.lemmas.Bool.Decides.{nat_tests}
 use Rattle.std.proofs.lemmas.List.Sums.{sum_by-cons}
 use Rattle.std.proofs.lemmas.Option.{same_Some}
 use Rattle.std.specs.Option.{option_map, option_map_or}
-use Rattle.std.specs.Prelude.{Bool, IfSome, IsSome, List, None, Option, Some, [], count_by, drop, false, if◌then◌else◌, is_some, length, slice_get, sum_by, true, ℕ, ◌++◌, ◌+◌, ◌<◌, ◌==◌, ◌∷◌, ◌≡◌, ◌≤◌, ◌⊎◌}
+use Rattle.std.specs.Prelude.{Bool, IfSome, IsSome, List, None, Option, Some, [], count_by, drop, false, if◌then◌else◌, length, slice_get, sum_by, true, ℕ, ◌++◌, ◌+◌, ◌<◌, ◌==◌, ◌∷◌, ◌≡◌, ◌≤◌, ◌⊎◌}
 use Rattle.tape_laws.specs.History.{Noted}
 use Rattle.tape_laws.specs.Sources.{disabled}
 use Rattle.wire_flows.proofs.Boards.{unknown_none, write_of, write_seen}
 use Rattle.wire_flows.proofs.Cases.{by_case}
-use Rattle.wire_flows.specs.Flows.{Flows, flow_in, goes_to, watches_of}
+use Rattle.wire_flows.specs.Flows.{Flows, flow_in, watches_of}
 use Rattle.wire_flows.specs.Sound.{IsSound, buffer_of}
 use Rattle.wire_flows.specs.Writes.{ChangesWrite, KeepsOtherLows, Write, lows_on, told, write_at}
 use Rattle.wire_state.proofs.CountsKept.{counts_gates, exchanges_keep}

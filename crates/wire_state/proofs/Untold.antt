@@ -1,7 +1,7 @@
 -- Who is still to be told of a drain where an exchange was doomed, and where a flow was told.
 use Rattle.exchange_core.specs.Changes.{Dooms}
 use Rattle.exchange_core.specs.Exchange.{flow_id, flow_in as side_of, goes_to as goes_of}
-use Rattle.exchange_core.specs.Exchanges.{Exchanges, exchange_at, is_live}
+use Rattle.exchange_core.specs.Exchanges.{exchange_at}
 use Rattle.exchange_core.specs.Flow.{Flow}
 use Rattle.exchange_core.specs.declared.exchange.Exchange.{Exchange}
 use Rattle.filter_chain.specs.Place.{kind_of}
@@ -24,8 +24,7 @@ use Rattle.std.proofs.lemmas.Bool.Decides.{nat_tests}
 use Rattle.std.proofs.lemmas.List.Sums.{sum_by-cons}
 use Rattle.std.proofs.lemmas.List.{append-nil}
 use Rattle.std.specs.Option.{option_and_then, option_map, option_map_or}
-use Rattle.std.specs.Prelude.{Bool, IsSome, List, None, Option, Some, [], false, filter, if◌then◌else◌, is_some, map, not, sum_by, true, ℕ, ◌&&◌, ◌++◌, ◌+◌, ◌==◌, ◌∷◌, ◌≡◌, ◌≤◌, ◌⊎◌}
-use Rattle.tape_laws.specs.Dispatches.{has}
+use Rattle.std.specs.Prelude.{Bool, IsSome, List, None, Option, Some, [], false, if◌then◌else◌, is_some, map, not, sum_by, true, ℕ, ◌&&◌, ◌++◌, ◌+◌, ◌==◌, ◌∷◌, ◌≡◌, ◌≤◌, ◌⊎◌}
 use Rattle.tape_laws.specs.History.{Noted}
 use Rattle.wire_flows.proofs.Found.{name_is}
 use Rattle.wire_flows.specs.Flows.{Flows, flow_in, goes_to, is_live_in, is_there, watches_of}
@@ -35,9 +34,9 @@ use Rattle.wire_state.proofs.Counting.{CountsGo, IsSeen, above_same, watched_sta
 use Rattle.wire_state.proofs.Goings.{told_at}
 use Rattle.wire_state.proofs.Held.{turned}
 use Rattle.wire_state.proofs.Overs.{still_goes}
-use Rattle.wire_state.specs.Counts.{Counts, MayLag, holds_back, is_above_at}
+use Rattle.wire_state.specs.Counts.{Counts, MayLag}
 use Rattle.wire_state.specs.Ways.{WayHistory, WayStep, after}
-use Rattle.wire_state.specs.Worlds.{EndsOne, has_conn}
+use Rattle.wire_state.specs.Worlds.{EndsOne}
 use Rattle.wire_state.specs.declared.conn.Conn.{Conn}
 use Rattle.wire_state.specs.declared.wire_core.WireCore.{WireCore}
 

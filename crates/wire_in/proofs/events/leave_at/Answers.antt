@@ -5,7 +5,8 @@ use Rattle.std.proofs.Common.{ap, refl, sym}
 use Rattle.std.specs.Prelude.{◌++◌}
 use Rattle.wire_in.proofs.events.leave_at.Goals as goal
 use Rattle.wire_state.proofs.Goings.{told_at}
-use Rattle.wire_state.proofs.Wrote.{limit_of, none_left, out_left}
+use Rattle.wire_state.proofs.Left.{none_left, out_left}
+use Rattle.wire_state.proofs.Wrote.{limit_of}
 use Rattle.wire_state.specs.Worlds.{left_after, outs_of}
 use Rattle.wire_state.specs.declared.conn.Conn.{Conn}
 
