@@ -41,50 +41,19 @@ use Rattle.wire_links.specs.Links.{Links}
 use Rattle.wire_state.proofs.Counting.{CountsGo, IsSeen, above_same, changed_go, counts_go, watched_stays}
 use Rattle.wire_state.proofs.Filled.{unborn_gone}
 use Rattle.wire_state.proofs.Goings.{told_by}
-use Rattle.wire_state.proofs.Holding.{AreHolds, holds_gone, holds_stand, noted, paused_in, resumed_in, shown_noted}
+use Rattle.wire_state.proofs.Holding.{holds_gone, holds_stand, noted, paused_in, resumed_in, shown_noted}
 use Rattle.wire_state.proofs.Overs.{FlowGoes, moved_goes}
 use Rattle.wire_state.proofs.Rising.{drained, of_one, risen}
-use Rattle.wire_state.proofs.Shifting.{other_drains, other_rises, own_drains, own_rises, place_named, recv_drains}
+use Rattle.wire_state.proofs.Shifting.{crossed_holds, crossed_pauses, crossed_resumes, other_drains, other_rises, own_drains, own_rises, place_named, recv_drains}
 use Rattle.wire_state.proofs.Stepping.{IsStep, made, move_stands, stage_of, there}
-use Rattle.wire_state.proofs.Watching.{last_one, lows_more, lows_same, watches}
+use Rattle.wire_state.proofs.Watching.{lows_more, lows_same, watches}
 use Rattle.wire_state.specs.Counts.{Counts, MayLag}
 use Rattle.wire_state.specs.Limits.{shape_of}
-use Rattle.wire_state.specs.Noting.{crossed_of, late_of, moved_of, pause_of, resume_of}
+use Rattle.wire_state.specs.Noting.{crossed_of, late_of, moved_of}
 use Rattle.wire_state.specs.Tapes.{tape_setup}
 use Rattle.wire_state.specs.Ways.{WayHistory, WayStep}
 use Rattle.wire_state.specs.Worlds.{FlowIs, ToldBy}
 use Rattle.wire_state.specs.declared.conn.Conn.{Conn}
-
--- ---- the notes
-crossed_holds : (f : FlowId) (r d : Option BufferId) (b : Bool) → AreHolds (pause_of f r ++ (if b then [] else resume_of f d))
-crossed_holds f None None true = tt
-crossed_holds f None None false = tt
-crossed_holds f None (Some x) true = tt
-crossed_holds f None (Some x) false = (tt, tt)
-crossed_holds f (Some y) None true = (tt, tt)
-crossed_holds f (Some y) None false = (tt, tt)
-crossed_holds f (Some y) (Some x) true = (tt, tt)
-crossed_holds f (Some y) (Some x) false = (tt, (tt, tt))
-
-crossed_pauses : (f g : FlowId) (r d : Option BufferId) (b : Bool) → paused_in g (pause_of f r ++ (if b then [] else resume_of f d)) ≡ (if is_some r then one_if (same_flow f g) else 0)
-crossed_pauses f g None None true = refl
-crossed_pauses f g None None false = refl
-crossed_pauses f g None (Some x) true = refl
-crossed_pauses f g None (Some x) false = refl
-crossed_pauses f g (Some y) None true = last_one (same_flow f g)
-crossed_pauses f g (Some y) None false = last_one (same_flow f g)
-crossed_pauses f g (Some y) (Some x) true = last_one (same_flow f g)
-crossed_pauses f g (Some y) (Some x) false = last_one (same_flow f g)
-
-crossed_resumes : (f g : FlowId) (r d : Option BufferId) (b : Bool) → resumed_in g (pause_of f r ++ (if b then [] else resume_of f d)) ≡ (if is_some d && not b then one_if (same_flow f g) else 0)
-crossed_resumes f g None None true = refl
-crossed_resumes f g None None false = refl
-crossed_resumes f g None (Some x) true = refl
-crossed_resumes f g None (Some x) false = last_one (same_flow f g)
-crossed_resumes f g (Some y) None true = refl
-crossed_resumes f g (Some y) None false = refl
-crossed_resumes f g (Some y) (Some x) true = refl
-crossed_resumes f g (Some y) (Some x) false = last_one (same_flow f g)
 
 if_same : (b : Bool) (n : ℕ) → (if b then n else n) ≡ n
 if_same true n = refl

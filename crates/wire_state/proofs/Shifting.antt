@@ -13,7 +13,7 @@ use Rattle.flow_laws.proofs.Lists.{flow_same, one_if}
 use Rattle.proxy_config.specs.declared.config.LimitKeys.{LimitKeys}
 use Rattle.std.proofs.Common.{ap, arith, refl, subst, sym, ◌∙◌}
 use Rattle.std.proofs.lemmas.Bool.Decides.{nat_tests}
-use Rattle.std.specs.Prelude.{Bool, Some, false, if◌then◌else◌, not, slice_get, suc, true, ℕ, ◌&&◌, ◌+◌, ◌<◌, ◌==◌, ◌∷◌, ◌≡◌}
+use Rattle.std.specs.Prelude.{Bool, Some, false, if◌then◌else◌, not, slice_get, suc, true, ℕ, ◌&&◌, ◌+◌, ◌<◌, ◌==◌, ◌∷◌, ◌≡◌, None, Option, [], is_some, ◌++◌}
 use Rattle.tape_laws.specs.Pauses.{place_buffer}
 use Rattle.tape_laws.specs.Sources.{source_buffers}
 use Rattle.tape_laws.specs.Watermark.{above, drains_at, rises_at}
@@ -21,11 +21,13 @@ use Rattle.tape_laws.specs.World.{last_place}
 use Rattle.wire_flows.proofs.Steps.{buffer_same}
 use Rattle.wire_flows.specs.Sound.{buffer_of}
 use Rattle.wire_state.proofs.Rising.{of_one}
-use Rattle.wire_state.proofs.Watching.{place_times, recv_times, send_times, stage_away}
+use Rattle.wire_state.proofs.Watching.{place_times, recv_times, send_times, stage_away, last_one}
 use Rattle.wire_state.specs.Counts.{AreOver}
 use Rattle.wire_state.specs.Tapes.{conn_to, tape_setup}
 use Rattle.wire_state.specs.Ways.{WayHistory, WayStep, stages_passed}
 use Rattle.wire_state.specs.Worlds.{FlowIs}
+use Rattle.wire_state.proofs.Holding.{AreHolds, paused_in, resumed_in}
+use Rattle.wire_state.specs.Noting.{pause_of, resume_of}
 
 -- ---- names
 -- the buffer of a place on the tape
@@ -119,3 +121,34 @@ other_drains l f g step h p apart = none_cross (drains_at (tape_setup l) (place_
 -- the receive buffer is nobody's source
 pub recv_drains : (l : LimitKeys) (f g : FlowId) (step : WayStep) (h : WayHistory) → of_one (λ d. drains_at (tape_setup l) d step h) (source_buffers (tape_setup l) g h) (Some (place_buffer (tape_setup l) f 0 h)) ≡ 0
 recv_drains l f g step h = none_cross (drains_at (tape_setup l) (buffer.Recv f) step h) _ (recv_times f g (last_place (tape_setup l) g h + 1) (conn_to g h) 1 (stages_passed g h))
+
+-- ---- the pauses and resumes of what a move crossed
+pub crossed_holds : (f : FlowId) (r d : Option BufferId) (b : Bool) → AreHolds (pause_of f r ++ (if b then [] else resume_of f d))
+crossed_holds f None None true = tt
+crossed_holds f None None false = tt
+crossed_holds f None (Some x) true = tt
+crossed_holds f None (Some x) false = (tt, tt)
+crossed_holds f (Some y) None true = (tt, tt)
+crossed_holds f (Some y) None false = (tt, tt)
+crossed_holds f (Some y) (Some x) true = (tt, tt)
+crossed_holds f (Some y) (Some x) false = (tt, (tt, tt))
+
+pub crossed_pauses : (f g : FlowId) (r d : Option BufferId) (b : Bool) → paused_in g (pause_of f r ++ (if b then [] else resume_of f d)) ≡ (if is_some r then one_if (same_flow f g) else 0)
+crossed_pauses f g None None true = refl
+crossed_pauses f g None None false = refl
+crossed_pauses f g None (Some x) true = refl
+crossed_pauses f g None (Some x) false = refl
+crossed_pauses f g (Some y) None true = last_one (same_flow f g)
+crossed_pauses f g (Some y) None false = last_one (same_flow f g)
+crossed_pauses f g (Some y) (Some x) true = last_one (same_flow f g)
+crossed_pauses f g (Some y) (Some x) false = last_one (same_flow f g)
+
+pub crossed_resumes : (f g : FlowId) (r d : Option BufferId) (b : Bool) → resumed_in g (pause_of f r ++ (if b then [] else resume_of f d)) ≡ (if is_some d && not b then one_if (same_flow f g) else 0)
+crossed_resumes f g None None true = refl
+crossed_resumes f g None None false = refl
+crossed_resumes f g None (Some x) true = refl
+crossed_resumes f g None (Some x) false = last_one (same_flow f g)
+crossed_resumes f g (Some y) None true = refl
+crossed_resumes f g (Some y) None false = refl
+crossed_resumes f g (Some y) (Some x) true = refl
+crossed_resumes f g (Some y) (Some x) false = last_one (same_flow f g)
