@@ -37,7 +37,7 @@ by_fit false octets flow e = cc
 pub arrived_is : (octets : List ℕ) (flow : Flow) → received_by (length octets) (Some flow) ≡ Arrived → received octets flow ≡ arrived octets flow
 arrived_is octets flow e = by_fit (nat_le (length flow.recv + length octets) flow.window) octets flow e
 
-module _ {l : LimitKeys} (f : FlowId) (octets : List ℕ) (old new : Flows) (here : received_by (length octets) (flow_in old f) ≡ Arrived) (c : ChangesFlow f (received octets) old.exchanges new.exchanges) (sound : IsSound new) (gates : new.gates ≡ old.gates)
+module _ (l : LimitKeys) (f : FlowId) (octets : List ℕ) (old new : Flows) (here : received_by (length octets) (flow_in old f) ≡ Arrived) (c : ChangesFlow f (received octets) old.exchanges new.exchanges) (sound : IsSound new) (gates : new.gates ≡ old.gates)
     (conns : PagedMap Conn) (links : Links) where
   is_arrived : (flow : Flow) → flow_in old f ≡ Some flow → received octets flow ≡ arrived octets flow
   is_arrived flow found = arrived_is octets flow (ap (received_by (length octets)) (sym found) ∙ here)
@@ -47,7 +47,7 @@ module _ {l : LimitKeys} (f : FlowId) (octets : List ℕ) (old new : Flows) (her
 
   pub arrival_counts : (t u : Option ℕ) (h : WayHistory) → Stands l conns old links h → Counts l t u conns old h → Counts l t u conns new (Noted (note.Arrive f octets) ∷ h)
   arrival_counts t u h s counts = counts_go l t u t u conns conns old new (Noted (note.Arrive f octets)) [] h links links
-      (gates_go {l} {t} {u} conns old new (Noted (note.Arrive f octets)) h counts
+      (gates_go {l = l} {t = t} {u = u} conns old new (Noted (note.Arrive f octets)) h counts
       (changed_go f (received octets) old new (λ flow found. still_goes flow (received octets flow) (ap (λ (v : Flow). v.chain.places) (is_arrived flow found))) c)
       (λ x. live_after f (received octets) old.exchanges new.exchanges c x) gates sound (λ g at. record { stages = refl; conn = refl; spared = refl }) refl tt (λ g. (refl, refl)) (λ g. refl) (λ g. refl))
       s (arrival_stands h s) counts
@@ -57,5 +57,5 @@ pub arrival_told : {k l : LimitKeys} {t u : Option ℕ} → (f : FlowId) (octets
 arrival_told {k} {l} {t} {u} f octets old new r is arrives_so changes sound gates conns links =
     let here : received_by (length octets) (flow_in old f) ≡ Arrived = sym is ∙ arrives_so in
     let c = changes (arrived_there (length octets) (flow_in old f) here) in
-    told_by (Noted (note.Arrive f octets) ∷ []) (λ h c. refl) conns conns old new links links (arrival_stands {l} f octets old new here c sound gates conns links)
-    (arrival_counts {l} f octets old new here c sound gates conns links t u)
+    told_by (Noted (note.Arrive f octets) ∷ []) (λ h c. refl) conns conns old new links links (arrival_stands l f octets old new here c sound gates conns links)
+    (arrival_counts l f octets old new here c sound gates conns links t u)

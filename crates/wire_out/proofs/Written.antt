@@ -9,7 +9,7 @@ use Rattle.h2_frames.specs.Frame.{WindowUpdate}
 use Rattle.h2_frames.specs.Head.{data_head}
 use Rattle.h2_frames.specs.Spelling.{spelling}
 use Rattle.io_ports.specs.declared.octets.NoMemory.{NoMemory}
-use Rattle.std.proofs.Common.{ap, refl}
+use Rattle.std.proofs.Common.{refl}
 use Rattle.paged_map.specs.PagedMap.{WritesThrough, value_at}
 use Rattle.std.specs.Prelude.{Bool, Err, IfOk, IfSome, IsSome, List, MatchOption, None, Ok, OnOk, Option, Result, Some, not, take, ℕ, ◌&&◌, ◌++◌, ◌∷◌, ◌≡◌}
 use Rattle.wire_flows.specs.Flows.{IsThere, flow_in}

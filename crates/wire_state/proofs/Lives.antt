@@ -281,7 +281,7 @@ sweeps_counts swept old new w live gates sound conns h c = counts_flows conns ol
 
 pub swept_told : {k l : LimitKeys} {t u : Option ℕ} → (swept : Option ℕ) (old new : Flows) → Sweeps swept old.exchanges new.exchanges → KeepsLive old new → new.gates ≡ old.gates → IsSound new → (conns : PagedMap Conn) (links : Links)
     → (h : WayHistory) (g : ℕ → List ℕ) (start notes : List Note) → ToldBy k l t u h g start conns old links notes → ToldBy k l t u h g start conns new links notes
-swept_told swept old new w live gates sound conns links h g start notes t = record {
+swept_told swept old new w live gates sound conns links h g begun_at notes t = record {
   steps = t.steps;
   is = t.is;
   stands = sweeps swept old new w conns links (after t.steps h) t.stands;

@@ -353,12 +353,12 @@ module _ (f : FlowId) (old new : Flows) (o : Outcome) (is : o ≡ option_map_or 
             (λ same. by_overflow m.overflow refl same)
             (λ other. kept (c.told b) (lows_at (Some b0) d b ∙ ap (λ (v : Bool). if v then (if m.overflow then f ∷ [] else []) else pending_on old.gates b) other))
           where
+            named_late : m.overflow ≡ true → late_of f m ≡ Some f.exchange
+            named_late over = ap (λ (v : Bool). if v then Some f.exchange else None) over
+
             by_overflow : (v : Bool) → m.overflow ≡ v → same_buffer b b0 ≡ true → (pending_on new.gates b ≡ []) ⊎ MayLag t (late_of f m) b
             by_overflow false over same = inl (lows_at (Some b0) d b ∙ (λ i. if same i then (if over i then f ∷ [] else []) else pending_on old.gates b))
             by_overflow true over same = inr (subst (MayLag t (late_of f m)) (sym (buffer_is b b0 same)) (subst (MayLag t (late_of f m)) (drained_stage b0 d) (named_late over)))
-
-            named_late : m.overflow ≡ true → late_of f m ≡ Some f.exchange
-            named_late over = ap (λ (v : Bool). if v then Some f.exchange else None) over
 
     where_moved : (flow : Flow) → flow_in old f ≡ Some flow → FlowIs l f h flow → FlowGoes flow (stepped old.gates (goes_to old f) flow)
     where_moved flow found was = subst (FlowGoes flow) (sym (made f old new o is changes m e h flow found was).after_it) (moved_goes m.place m.n flow)

@@ -13,7 +13,7 @@ use Rattle.flow_laws.specs.Steps.{eased_by, fed_by}
 use Rattle.flow_notes.specs.declared.events.Event.TheVariants as event
 use Rattle.flow_notes.specs.declared.notes.Note.TheVariants as note
 use Rattle.proxy_config.specs.declared.config.LimitKeys.{LimitKeys}
-use Rattle.std.proofs.Common.{ap, arith, inl, inr, refl, subst, sym, ◌∙◌}
+use Rattle.std.proofs.Common.{ap, arith, inl, inr, refl, sym, ◌∙◌}
 use Rattle.std.proofs.lemmas.Bool.Decides.{nat_tests}
 use Rattle.std.specs.List.{AllByRecursion}
 use Rattle.std.specs.Option.{option_map_or}

@@ -1,6 +1,6 @@
 -- The sources of a flow are the buffers that it watches, each once, and who is still to be told of their drains.
 use Rattle.exchange_core.specs.Exchange.{IsFlowOf}
-use Rattle.exchange_core.specs.Flow.{Flow, last_place as send_place}
+use Rattle.exchange_core.specs.Flow.{Flow}
 use Rattle.filter_chain.specs.Place.{Place, is_source, kind_of}
 use Rattle.filter_chain.specs.declared.stage.StageKind.{StageKind as PlaceKind}
 use Rattle.filter_chain.specs.declared.stage.StageKind.TheVariants as kind
@@ -14,12 +14,12 @@ use Rattle.flow_laws.proofs.Sources.{behind}
 use Rattle.flow_rules.specs.Kinds.{Kind, Send}
 use Rattle.flow_rules.specs.Sources.{sources_from, write_source}
 use Rattle.proxy_config.specs.declared.config.LimitKeys.{LimitKeys}
-use Rattle.std.proofs.Common.{ap, arith, refl, subst, sym, ◌∙◌}
+use Rattle.std.proofs.Common.{ap, arith, refl, sym, ◌∙◌}
 use Rattle.std.proofs.lemmas.Bool.Decides.{nat_tests}
 use Rattle.std.proofs.lemmas.List.Sums.{sum_by-cons}
 use Rattle.std.proofs.lemmas.Option.{same_Some}
 use Rattle.std.specs.Option.{option_map_or}
-use Rattle.std.specs.Prelude.{Bool, List, None, Option, Some, [], count_by, drop, false, if◌then◌else◌, length, map, slice_get, suc, sum_by, true, zero, ℕ, ◌&&◌, ◌++◌, ◌+◌, ◌<◌, ◌==◌, ◌∷◌, ◌≡◌}
+use Rattle.std.specs.Prelude.{Bool, List, None, Option, Some, [], drop, false, if◌then◌else◌, map, slice_get, suc, sum_by, true, zero, ℕ, ◌&&◌, ◌++◌, ◌+◌, ◌<◌, ◌==◌, ◌∷◌, ◌≡◌}
 use Rattle.tape_laws.specs.Sources.{source_buffers}
 use Rattle.tape_laws.specs.Units.{Hold, Meter, StageKind, kind_of as stage_kind}
 use Rattle.wire_flows.proofs.Found.{flow_is}

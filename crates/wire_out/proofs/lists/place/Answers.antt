@@ -25,6 +25,6 @@ returns-clause-octets c = record {
       let stood = λ (j : WayHistory) (s : Stands l mid.conns mid.flows mid.links j). places x c.args.stream j mid.conns mid.flows mid.links c.framed_to.new.self (links_placed x c.args.stream mid.links c.framed_to.new.self c.in_ok-framed_to.ensures.ok) s in
       marked_told opens mid.conns mid.conns mid.flows mid.flows mid.links c.framed_to.new.self stood
       (λ j s counts. counts_go l t u t u mid.conns mid.conns mid.flows mid.flows (Marked opens) [] j mid.links c.framed_to.new.self
-      (idle_go {l} {t} {u} mid.conns mid.flows (Marked opens) j counts (λ f there. record { stages = refl; conn = refl; spared = refl }) refl tt (λ f. (refl, refl)) (λ f. refl) (λ f. refl)) s (stood j s) counts)
+      (idle_go {l = l} {t = t} {u = u} mid.conns mid.flows (Marked opens) j counts (λ f there. record { stages = refl; conn = refl; spared = refl }) refl tt (λ f. (refl, refl)) (λ f. refl) (λ f. refl)) s (stood j s) counts)
       h g start notes (c.in_ok-begin_stream.ensures.octets.goes h g start notes told);
 }
