@@ -22,5 +22,5 @@ returns-clause-fills c =
     let low : c.args.self.now.outlet.write.above ≡ false = grind (arith, c.may_write.ensures) in
     let e = c.in_ok-octets.ensures in
     let grows = grows_by c.args.self.now.outlet.write c.frame_block.new.self.write c.in_ok-octets.crossed low e.crossed e.writes.write.above in
-    subst (λ (o : Outgoing). Fills c.args.number c.mark_risen.result c.args.self.now.outlet.write o.write c.args.flows.now c.mark_risen.new.flows) (sym (ap (λ (v : Conn). v.outlet) c.framed.ensures.rest))
-    (gates_fills c.args.number _ c.mark_risen.result c.args.self.now.outlet.write c.frame_block.new.self.write c.args.flows.now c.list_framed.new.self c.mark_risen.new.flows grows c.mark_risen.ensures.rose c.list_framed.ensures.rest c.mark_risen.ensures.writes c.mark_risen.ensures.lows c.mark_risen.ensures.sound c.list_framed.ensures.sound)
+    subst (λ (o : Outgoing). Fills c.args.number c.mark_risen-rose.result c.args.self.now.outlet.write o.write c.args.flows.now c.mark_risen-rose.new.flows) (sym (ap (λ (v : Conn). v.outlet) c.framed.ensures.rest))
+    (gates_fills c.args.number _ c.mark_risen-rose.result c.args.self.now.outlet.write c.frame_block.new.self.write c.args.flows.now c.list_framed.new.self c.mark_risen-rose.new.flows grows c.mark_risen-rose.ensures.rose c.list_framed.ensures.rest c.mark_risen-rose.ensures.writes c.mark_risen-rose.ensures.lows c.mark_risen-rose.ensures.sound c.list_framed.ensures.sound)
