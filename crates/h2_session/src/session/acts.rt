@@ -54,16 +54,38 @@ impl Session {
             self.failed = Some(code);
             return Ok(Act::ConnError { code });
         }
-        let act = self.take(frame, content)?;
+        let act = self.take_with(frame, content)?;
         self.started = true;
         Ok(act)
     }
 
-    // What a frame that is no connection error means.
-    fn take(&mut self, frame: &Frame, content: Option<Octets>) -> Result<Act, NoMemory>
+    // As `take`, with the octets of a DATA frame where they are handed in.
+    fn take_with(&mut self, frame: &Frame, content: Option<Octets>) -> Result<Act, NoMemory>
         requires writable { IsWritable (view frame.now) }
         requires padding { padding_of (view frame.now) ≤ 256 }
         requires content { IfSome content (IsContentOf (view frame.now)) }
+        ensures takes { (past : List Happening) → StandsFor past self.old → error_of self.old.side (view frame.now) past ≡ None
+            → IfOk result (λ act. Takes (view frame.now) self.old self.new act past) }
+        ensures side { self.new.side ≡ self.old.side }
+        ensures numbered { breaks_block (view frame.now) self.old.block ≡ false → IfOk result (λ act. stream_of act < 2 ^ 31) }
+        ensures err { OnErr result (self.new ≡ self.old) }
+    {
+        let Frame::DataFrame {
+            stream,
+            last,
+            padded,
+            octets,
+        } = *frame
+        else {
+            return self.take(frame);
+        };
+        self.take_data(stream, last, padded, octets, content)
+    }
+
+    // What a frame that is no connection error means.
+    fn take(&mut self, frame: &Frame) -> Result<Act, NoMemory>
+        requires writable { IsWritable (view frame.now) }
+        requires padding { padding_of (view frame.now) ≤ 256 }
         ensures takes { (past : List Happening) → StandsFor past self.old → error_of self.old.side (view frame.now) past ≡ None
             → IfOk result (λ act. Takes (view frame.now) self.old self.new act past) }
         ensures side { self.new.side ≡ self.old.side }
@@ -76,7 +98,7 @@ impl Session {
                 last,
                 padded,
                 octets,
-            } => self.take_data(stream, last, padded, octets, content),
+            } => self.take_data(stream, last, padded, octets, None),
             Frame::Headers {
                 stream,
                 last,
