@@ -32,12 +32,12 @@ use Rattle.wire_state.proofs.Bodies.{flow_goes, flows_go}
 use Rattle.wire_state.proofs.Fitting.{empty_fits}
 use Rattle.wire_state.proofs.Held.{KeepsOctets, is_number}
 use Rattle.wire_state.proofs.CountsKept.{AboveStays, PlacesKeep, changed_keep, counts_conns, counts_flows, counts_seen}
+use Rattle.wire_state.proofs.Marked.{marks_first, ways_opened}
 use Rattle.wire_state.proofs.Standing.{ConnsAre, at_one, conns_go, conns_written, other_now, same_octets, there_now}
 use Rattle.wire_state.specs.Counts.{Counts, is_above_at}
-use Rattle.wire_state.specs.Ways.{WayHistory, WayStep, after, shown, world_setup, Opens, Passes}
-use Rattle.wire_state.specs.Worlds.{Eases, EndsAre, EndsOne, FlowIs, Keeps, KeepsOk, Owes, Stands, Told, ToldBy, has_conn, octets_of}
-use Rattle.wire_state.proofs.Marked.{marks_first, ways_opened}
 use Rattle.wire_state.specs.Marks.{AreWays, Footing, MayOpen, footing_of, rows_in}
+use Rattle.wire_state.specs.Ways.{Opens, Passes, WayHistory, WayStep, after, shown, world_setup}
+use Rattle.wire_state.specs.Worlds.{Eases, EndsAre, EndsOne, FlowIs, Keeps, KeepsOk, Owes, Stands, Told, ToldBy, has_conn, octets_of}
 use Rattle.wire_state.specs.declared.conn.Conn.{Conn}
 use Rattle.wire_state.specs.declared.wire_core.WireCore.{WireCore}
 use Rattle.wm_buffer.specs.Buffer.{Buffer}

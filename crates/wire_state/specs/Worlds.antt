@@ -12,7 +12,7 @@ use Rattle.paged_map.specs.PagedMap.{PagedMap, value_at}
 use Rattle.proxy_config.specs.declared.config.Config.{Config}
 use Rattle.proxy_config.specs.declared.config.LimitKeys.{LimitKeys}
 use Rattle.std.specs.Option.{option_and_then, option_map_or}
-use Rattle.std.specs.Prelude.{Bool, IfSome, List, None, OnOk, Option, Result, Some, [], false, if◌then◌else◌, is_some, not, take, true, ℕ, ◌++◌, ◌<◌, ◌==◌, ◌∷◌, ◌≡◌, length}
+use Rattle.std.specs.Prelude.{Bool, IfSome, List, None, OnOk, Option, Result, Some, [], false, if◌then◌else◌, is_some, length, not, take, true, ℕ, ◌++◌, ◌<◌, ◌==◌, ◌∷◌, ◌≡◌}
 use Rattle.tape_laws.specs.Connections.{connections, was_closed}
 use Rattle.tape_laws.specs.Dispatches.{has, started}
 use Rattle.tape_laws.specs.Flows.{request, response}

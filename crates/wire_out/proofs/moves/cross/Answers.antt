@@ -1,7 +1,7 @@
 use Rattle.flow_notes.specs.declared.notes.Note.{Note}
 use Rattle.std.proofs.Common.{ap, refl, subst}
 use Rattle.std.proofs.lemmas.List.{append-nil}
-use Rattle.std.specs.Prelude.{Bool, List, None, Option, Some, [], if◌then◌else◌, ◌++◌}
+use Rattle.std.specs.Prelude.{Bool, List, None, Some, [], if◌then◌else◌, ◌++◌}
 use Rattle.wire_out.proofs.moves.cross.Goals as goal
 use Rattle.wire_state.proofs.Goings.{told_at}
 use Rattle.wire_state.specs.Noting.{pause_of, resume_of}
