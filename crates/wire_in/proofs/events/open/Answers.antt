@@ -30,5 +30,8 @@ returns-clause-octets c = λ known none. record {
         counts = comes_counts n k.conns c.insert.new.self c.in_ok-conn.conn none here new.others c.in_ok-conn.ensures.low k.flows c.open_write.new.self c.open_write.ensures.rest c.open_write.ensures.sound c.in_ok-open_write.ensures.ok c.open_write.ensures.known c.open_write.ensures.lows past t.counts;
         left = t.left;
         under = t.under;
+        ways = t.ways;
+        rows = t.rows;
+        since = t.since;
       }));
 }
