@@ -34,7 +34,7 @@ use Rattle.wire_state.specs.Counts.{Counts}
 use Rattle.wire_state.specs.Marks.{Footing, NoneBegan, NoneYet, footing_of}
 use Rattle.wire_state.specs.Tapes.{tape_setup}
 use Rattle.wire_state.specs.Ways.{WayHistory, WayStep, world_setup}
-use Rattle.wire_state.specs.Worlds.{Comes, Goes, KeepsOk, Rests, Stands, Told, ToldBy, Turns, TurnsAnew, eased_by, left_after}
+use Rattle.wire_state.specs.Worlds.{Comes, Goes, IsFresh, KeepsOk, Rests, Stands, Told, ToldBy, Turns, eased_by, left_after}
 use Rattle.wire_state.specs.declared.conn.Conn.{Conn}
 use Rattle.wire_state.specs.declared.wire_core.WireCore.{WireCore}
 use Rattle.wm_buffer.specs.Watermark.{above_after}
@@ -243,17 +243,17 @@ pub turns_same : {A E : Type 0} (a : A) (e f : Event) → e ≡ f → LosesNone 
 turns_same {A = A} {E = E} a e f is l m core noted = turns_kept {A = A} {E = E} (Ok a) e f is l m core core noted (record { goes = λ h g start notes t. t })
 
 -- from a core that has the same configuration, connections, flows and links
-pub turns_from : {A E : Type 0} (r : Result A E) (e : Event) (old mid new : WireCore) (noted now : List Note) → mid.config ≡ old.config → mid.conns ≡ old.conns → mid.flows ≡ old.flows → mid.links ≡ old.links → NoneBegan mid → Turns r e mid noted new now → TurnsAnew r e old noted new now
-turns_from r e old mid new noted now same c f l none turns = record {
-  goes = λ h g before k n s left fresh.
-      subst (λ (v : Config). OnOk r (Told v (eased_by e) None h (left_after e old.conns g) before new now)) same
-      (subst (λ (v : PagedMap Conn). OnOk r (Told mid.config (eased_by e) None h (left_after e v g) before new now)) c
-      (turns.goes h g before k n
-      (subst (λ (v : Config). Rests v.limits mid.conns mid.flows mid.links h) (sym same)
-      (subst (λ (v : PagedMap Conn). Rests old.config.limits v mid.flows mid.links h) (sym c)
-      (subst (λ (v : Flows). Rests old.config.limits old.conns v mid.links h) (sym f)
-      (subst (λ (v : Links). Rests old.config.limits old.conns old.flows v h) (sym l) s)))) left fresh none));
-}
+pub turns_from : {A E : Type 0} (r : Result A E) (e : Event) (old mid new : WireCore) (noted now : List Note) → mid.config ≡ old.config → mid.conns ≡ old.conns → mid.flows ≡ old.flows → mid.links ≡ old.links → NoneBegan mid → Turns r e mid noted new now
+    → (h : WayHistory) (g : ℕ → List ℕ) (before : List Note) (k : ℕ) → noted ≡ before ++ note.Turn k e ∷ [] → Rests old.config.limits old.conns old.flows old.links h → ((c : ℕ) → gone world_setup c h ≡ g c)
+    → IsFresh e h → OnOk r (Told old.config (eased_by e) None h (left_after e old.conns g) before new now)
+turns_from r e old mid new noted now same c f l none turns h g before k n s left fresh =
+    subst (λ (v : Config). OnOk r (Told v (eased_by e) None h (left_after e old.conns g) before new now)) same
+    (subst (λ (v : PagedMap Conn). OnOk r (Told mid.config (eased_by e) None h (left_after e v g) before new now)) c
+    (turns.goes h g before k n
+    (subst (λ (v : Config). Rests v.limits mid.conns mid.flows mid.links h) (sym same)
+    (subst (λ (v : PagedMap Conn). Rests old.config.limits v mid.flows mid.links h) (sym c)
+    (subst (λ (v : Flows). Rests old.config.limits old.conns v mid.links h) (sym f)
+    (subst (λ (v : Links). Rests old.config.limits old.conns old.flows v h) (sym l) s)))) left fresh none))
 
 -- a connection comes
 pub turns_joined : {A E : Type 0} (r : Result A E) (c cluster : ℕ) (old new : WireCore) (noted : List Note) → Comes r c old new → Turns r (event.Join c cluster) old noted new noted

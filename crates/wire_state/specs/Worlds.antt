@@ -195,10 +195,10 @@ pub record Turns {A E : Type 0} (r : Result A E) (e : Event) (old : WireCore) (n
   pub goes : (h : WayHistory) (g : ℕ → List ℕ) (before : List Note) (k : ℕ) → noted ≡ before ++ note.Turn k e ∷ [] → Rests old.config.limits old.conns old.flows old.links h → ((c : ℕ) → gone world_setup c h ≡ g c)
       → IsFresh e h → NoneBegan old → OnOk r (Told old.config (eased_by e) None h (left_after e old.conns g) before new now)
 
--- the same of a core that may have the rows of the dispatch before
+-- All of a dispatch behind its turn note, from a core that may have the rows of the dispatch before: nobody is still to be told.
 pub record TurnsAnew {A E : Type 0} (r : Result A E) (e : Event) (old : WireCore) (noted : List Note) (new : WireCore) (now : List Note) : Type 0 where
   pub goes : (h : WayHistory) (g : ℕ → List ℕ) (before : List Note) (k : ℕ) → noted ≡ before ++ note.Turn k e ∷ [] → Rests old.config.limits old.conns old.flows old.links h → ((c : ℕ) → gone world_setup c h ≡ g c)
-      → IsFresh e h → OnOk r (Told old.config (eased_by e) None h (left_after e old.conns g) before new now)
+      → IsFresh e h → OnOk r (Told old.config None None h (left_after e old.conns g) before new now)
 
 -- The whole dispatch: from the notes before it on.
 pub record Follows (old : WireCore) (before : List Note) (e : Event) (new : WireCore) (now : List Note) : Type 0 where
