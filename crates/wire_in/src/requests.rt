@@ -160,7 +160,6 @@ fn goal_of(core: &WireCore, decision: &Decision) -> (Option<u32>, Option<u32>)
     ensures row { IfSome result.0 (λ row. row < length core.entry.now.config.routes) }
     ensures to { IfSome result.1 (λ c. IsSome (write_at c core.entry.now.flows)) }
     ensures cluster { IfSome result.1 (λ c. IsSome (cluster_of c core.entry.now.links)) }
-    ensures named { IfSome result.1 (λ c. 0 < c) }
 {
     match decision {
         Decision::Going { routed, conn } => {
@@ -180,13 +179,12 @@ fn known_row(core: &WireCore, row: Option<u32>) -> Option<u32>
     }
 }
 
-// The connection, where it is one to a cluster whose write buffer is known. A start note names 0 where there is none.
+// The connection, where it is one to a cluster whose write buffer is known.
 fn known_conn(core: &WireCore, conn: u32) -> Option<u32>
     ensures write { IfSome result (λ c. IsSome (write_at c core.entry.now.flows)) }
     ensures cluster { IfSome result (λ c. IsSome (cluster_of c core.entry.now.links)) }
-    ensures named { IfSome result (λ c. 0 < c) }
 {
-    if conn > 0 && core.flows.knows_write(conn) && core.links.cluster_of(conn).is_some() {
+    if core.flows.knows_write(conn) && core.links.cluster_of(conn).is_some() {
         Some(conn)
     } else {
         None
@@ -208,7 +206,6 @@ fn start(
     requires unused { exchange_at number stream core.old.links ≡ None }
     requires to { IfSome to (λ c. IsSome (write_at c core.old.flows)) }
     requires cluster { IfSome to (λ c. IsSome (cluster_of c core.old.links)) }
-    requires named { IfSome to (λ c. 0 < c) }
     ensures sound { OnOk result (IsSound core.new) }
     ensures go { OnOk result (to_go core.new ≤ to_go core.old + 144) }
     ensures octets { IfOk result (λ s. Owes (note.Start s.exchange number stream (conn_number to) ∷ held_of s number to) core.old core.new) }

@@ -58,8 +58,8 @@ use Rattle.wire_state.proofs.Standing.{flow_still}
 use Rattle.wire_state.proofs.Watching.{lows_same}
 use Rattle.wire_state.specs.Counts.{AreOver, Counts, IsCounted, MayLag, holds_back}
 use Rattle.wire_state.specs.Noting.{conn_number, held_of, hold_of}
-use Rattle.wire_state.specs.Tapes.{conn_to, named_conn, tape_setup}
-use Rattle.wire_state.specs.Ways.{Passes, WayHistory, WayStep, after, stages_of, stages_passed}
+use Rattle.wire_state.specs.Tapes.{conn_to, tape_setup}
+use Rattle.wire_state.specs.Ways.{Passes, WayHistory, WayStep, after, goal_in, stages_of, stages_passed}
 use Rattle.wire_state.specs.Worlds.{FlowIs, Stands}
 use Rattle.wire_state.specs.declared.conn.Conn.{Conn}
 use Rattle.wm_buffer.specs.Watermark.{above_after}
@@ -122,13 +122,13 @@ known_holds e flows some = at (is_known flows.gates (buffer.Write e)) (write_see
     at true i some = ap (λ (o : Option Write). option_map_or (λ w. w.above) o false) i
     at false i some = absurd (cc (subst IsSome i some))
 
-module _ (l : LimitKeys) (x c s d : ℕ) (to : Option ℕ) (named : to ≡ named_conn d) (spec : StartSpec) (config : Config) (conns : PagedMap Conn) (old new : Flows) (b : Starts x spec config old.exchanges new.exchanges) (wire : spec.plain ≡ false)
+module _ (l : LimitKeys) (x c s d : ℕ) (to : Option ℕ) (spec : StartSpec) (config : Config) (conns : PagedMap Conn) (old new : Flows) (b : Starts x spec config old.exchanges new.exchanges) (wire : spec.plain ≡ false)
     (number : x ≡ old.exchanges.last + 1) (request_goes : goes_to new (flow_id x false) ≡ to) (response_goes : goes_to new (flow_id x true) ≡ Some c) (writes : KeepsWrites old new) (lows_go : KeepsLows old new) (sound : IsSound new)
     (lives : (y : ℕ) → is_live_in new y ≡ ((x == y) || is_live_in old y)) (to_known : IfSome to (λ e. IsSome (write_at e old))) (from_known : IsSome (write_at c old))
     (rh sh : Bool) (rh_is : rh ≡ option_map_or (λ e. is_above e old) to false) (sh_is : sh ≡ is_above c old)
     (links links' : Links) (t u : Option ℕ) (h : WayHistory) (counts : Counts l t u conns old h) (stands : Stands l conns old links h) where
   abbrev passing : WayStep
-  passing = Marked (Passes x spec.row (stages_of (filters_of (side_filters false) spec.row config)) (stages_of (filters_of (side_filters true) spec.row config)))
+  passing = Marked (Passes x spec.row to (stages_of (filters_of (side_filters false) spec.row config)) (stages_of (filters_of (side_filters true) spec.row config)))
 
   abbrev mid : WayHistory
   mid = passing ∷ h
@@ -153,6 +153,10 @@ module _ (l : LimitKeys) (x c s d : ℕ) (to : Option ℕ) (named : to ≡ named
 
   self : (x == x) ≡ true
   self = grind (arith, nat_tests)
+
+  -- its request goes where its mark says
+  named : to ≡ goal_in x mid
+  named = sym (ap (λ v. if v then to else goal_in x h) self)
 
   unborn_x : old.exchanges.last < x
   unborn_x = further x old.exchanges.last number
@@ -187,7 +191,7 @@ module _ (l : LimitKeys) (x c s d : ℕ) (to : Option ℕ) (named : to ≡ named
     stages_other = ap (λ v. if v then (if f.back then stages_of (filters_of (side_filters true) spec.row config) else stages_of (filters_of (side_filters false) spec.row config)) else stages_passed f h) apart
 
     conn_other : conn_to f then_ ≡ conn_to f h
-    conn_other = ap (λ v. if v then (if f.back then Some c else named_conn d) else conn_to f h) apart
+    conn_other = ap (λ v. if v then (if f.back then Some c else goal_in x mid) else conn_to f h) apart
 
     side_apart : (side : Bool) → same_flow (flow_id x side) f ≡ false
     side_apart side = ap (λ v. v && (if side then f.back else not f.back)) apart
@@ -252,10 +256,10 @@ module _ (l : LimitKeys) (x c s d : ℕ) (to : Option ℕ) (named : to ≡ named
     send_low = ap (λ (xs : List ℕ). above_after l.send_buffer (above (tape_setup l) (buffer.Send f) mid) (length xs)) (no_octets (last_place (tape_setup l) f then_))
         ∙ never_above l.send_buffer (above (tape_setup l) (buffer.Send f) mid)
 
-    conn_here : conn_to f then_ ≡ (if side then Some c else named_conn d)
-    conn_here = ap (λ v. if v then (if side then Some c else named_conn d) else conn_to f h) self
+    conn_here : conn_to f then_ ≡ (if side then Some c else goal_in x mid)
+    conn_here = ap (λ v. if v then (if side then Some c else goal_in x mid) else conn_to f h) self
 
-    disabled_here : disabled (tape_setup l) f then_ ≡ option_map_or (λ e. one_if (above (tape_setup l) (buffer.Write e) then_)) (if side then Some c else named_conn d) 0
+    disabled_here : disabled (tape_setup l) f then_ ≡ option_map_or (λ e. one_if (above (tape_setup l) (buffer.Write e) then_)) (if side then Some c else goal_in x mid) 0
     disabled_here = own_none (λ v. above (tape_setup l) v then_) f stage_low send_low 1 (stages_passed f then_) (length (stages_passed f then_) + 1 + 1) (conn_to f then_)
         ∙ ap (λ (o : Option ℕ). option_map_or (λ e. one_if (above (tape_setup l) (buffer.Write e) then_)) o 0) conn_here
 
@@ -275,7 +279,7 @@ module _ (l : LimitKeys) (x c s d : ℕ) (to : Option ℕ) (named : to ≡ named
   held_by None is known e = refl
   held_by (Some n) is known e = ap one_if (e ∙ above_then n known)
 
-  pauses_here : (side : Bool) → paused_in (flow_id x side) held ≡ option_map_or (λ e. one_if (above (tape_setup l) (buffer.Write e) then_)) (if side then Some c else named_conn d) 0
+  pauses_here : (side : Bool) → paused_in (flow_id x side) held ≡ option_map_or (λ e. one_if (above (tape_setup l) (buffer.Write e) then_)) (if side then Some c else goal_in x mid) 0
   pauses_here false = paused_append (flow_id x false) (hold_of (request x) rh to) (hold_of (response x) sh (Some c)) (hold_holds (request x) rh to)
       ∙ first_only _ _ _
       (hold_pauses (flow_id x false) (request x) rh to ∙ (ap (λ v. if v && true then option_map_or (λ e. one_if rh) to 0 else 0) self
@@ -290,7 +294,7 @@ module _ (l : LimitKeys) (x c s d : ℕ) (to : Option ℕ) (named : to ≡ named
   begun_here false = found_at (flow_id x false) ∙ ap (λ v. option_and_then (side_of false) (if v then Some (begun x spec config) else exchange_at old.exchanges x)) self
   begun_here true = found_at (flow_id x true) ∙ (ap (λ v. option_and_then (side_of true) (if v then Some (begun x spec config) else exchange_at old.exchanges x)) self ∙ response_new x spec config wire)
 
-  goes_here : (side : Bool) → goes_to new (flow_id x side) ≡ (if side then Some c else named_conn d)
+  goes_here : (side : Bool) → goes_to new (flow_id x side) ≡ (if side then Some c else goal_in x mid)
   goes_here false = request_goes ∙ named
   goes_here true = response_goes
 
@@ -374,14 +378,3 @@ unheld f false (Some c) e = refl
 
 pub held_is : (f : FlowId) (b : Bool) (to : Option ℕ) (c : ℕ) → b ≡ true → to ≡ Some c → note.Pause f (buffer.Write c) ∷ [] ≡ hold_of f b to
 held_is f b to c up is = λ i. hold_of f (sym up i) (sym is i)
-
--- a connection that isn't 0 is the one that its start note names
-pub named_is : (to : Option ℕ) → IfSome to (λ c. 0 < c) → to ≡ named_conn (conn_number to)
-named_is None k = sym (ap (λ (b : Bool). if b then None else Some 0) same)
-  where
-    same : (0 == 0) ≡ true
-    same = grind (arith, nat_tests)
-named_is (Some c) k = sym (ap (λ (b : Bool). if b then None else Some c) (positive c k))
-  where
-    positive : (n : ℕ) → 0 < n → (n == 0) ≡ false
-    positive n lt = grind (arith, nat_tests)

@@ -58,7 +58,7 @@ KeepsLeft steps = (h : WayHistory) (c : ℕ) → gone world_setup c (after steps
 pub rows_append : (a b : List WayStep) → rows_in (a ++ b) ≡ rows_in a ++ rows_in b
 rows_append [] b = refl
 rows_append (Noted n ∷ a) b = rows_append a b
-rows_append (Marked (Passes x row there back) ∷ a) b = ap (λ (rows : List (Option ℕ)). row ∷ rows) (rows_append a b)
+rows_append (Marked (Passes x row to there back) ∷ a) b = ap (λ (rows : List (Option ℕ)). row ∷ rows) (rows_append a b)
 rows_append (Marked (Opens x s) ∷ a) b = rows_append a b
 
 -- no mark comes by these steps, and the marks stay tied

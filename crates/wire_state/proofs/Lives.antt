@@ -115,7 +115,7 @@ module _ (x c s d : ℕ) (to : Option ℕ) (spec : StartSpec) (config : Config) 
   back = filters_of (side_filters true) spec.row config
 
   abbrev passing : WayStep
-  passing = Marked (Passes x spec.row (stages_of there) (stages_of back))
+  passing = Marked (Passes x spec.row to (stages_of there) (stages_of back))
 
   abbrev start : WayStep
   start = Noted (note.Start x c s d)
@@ -227,7 +227,7 @@ module _ (x c s d : ℕ) (to : Option ℕ) (spec : StartSpec) (config : Config) 
         (record { flows = begun_fits (passing ∷ h) (λ f e. passed_stages f false e) (λ f p. refl) (λ f. refl) (λ f. refl) stands.empty stands.unborn fit.flows; outs = fit.outs }, stands.fits),
       );
       fronts = fronts_still start (passing ∷ h) (λ f. refl) (λ f. refl) (fronts_still passing h (λ f. refl) (λ f. refl) stands.fronts);
-      marks = marks_begun config x c s d spec.row h old new links links' linked refl number b.last linked_so.ends stands.marks;
+      marks = marks_begun config x c s d spec.row to h old new links links' linked refl number b.last linked_so.ends stands.marks;
     }
 
 -- ---- the stream of a request at its cluster

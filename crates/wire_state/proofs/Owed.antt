@@ -14,17 +14,17 @@ use Rattle.wire_state.specs.Ways.{Passes, WayHistory, WayStep, after, shown, wor
 use Rattle.wire_state.specs.Worlds.{Owes, Stands, Told, ToldBy}
 use Rattle.wire_state.specs.declared.wire_core.WireCore.{WireCore}
 
-module _ (x : ℕ) (row : Option ℕ) (there back : List StageKind) (n : Note) (tail : List Note) (holds : AreHolds tail) (old new : WireCore) where
+module _ (x : ℕ) (row to : Option ℕ) (there back : List StageKind) (n : Note) (tail : List Note) (holds : AreHolds tail) (old new : WireCore) where
   abbrev steps : List WayStep
-  steps = Marked (Passes x row there back) ∷ Noted n ∷ noted tail
+  steps = Marked (Passes x row to there back) ∷ Noted n ∷ noted tail
 
   abbrev begun : WayHistory → WayHistory
-  begun h = Noted n ∷ Marked (Passes x row there back) ∷ h
+  begun h = Noted n ∷ Marked (Passes x row to there back) ∷ h
 
   abbrev grown : Footing
   grown = with_rows (footing_of old) (old.rows.items ++ row ∷ [])
 
-  module _ (same : footing_of new ≡ grown) (keeps : KeepsLeft (Marked (Passes x row there back) ∷ Noted n ∷ []))
+  module _ (same : footing_of new ≡ grown) (keeps : KeepsLeft (Marked (Passes x row to there back) ∷ Noted n ∷ []))
       (ways : (h : WayHistory) → Stands old.config.limits old.conns old.flows old.links h → AreWays old.config h → AreWays old.config (begun h))
       (goes : (h : WayHistory) → Stands old.config.limits old.conns old.flows old.links h → Stands old.config.limits new.conns new.flows new.links (begun h))
       (counts : (t u : Option ℕ) (h : WayHistory) → Stands old.config.limits old.conns old.flows old.links h → Stands old.config.limits new.conns new.flows new.links (begun h) → Counts old.config.limits t u old.conns old.flows h
