@@ -11,11 +11,11 @@ use Rattle.proxy_config.specs.declared.config.Config.{Config}
 use Rattle.proxy_config.specs.declared.config.LimitKeys.{LimitKeys}
 use Rattle.std.proofs.Common.{ap, refl, sym, ◌∙◌}
 use Rattle.paged_map.specs.PagedMap.{PagedMap}
-use Rattle.std.specs.Prelude.{Bool, IsSome, List, None, Option, Some, [], false, if◌then◌else◌, length, nat_le, true, ℕ, ◌++◌, ◌+◌, ◌∷◌, ◌≡◌}
+use Rattle.std.specs.Prelude.{Bool, IsSome, List, None, Option, Some, [], false, if◌then◌else◌, is_some, length, nat_le, true, ℕ, ◌++◌, ◌+◌, ◌∷◌, ◌≡◌}
 use Rattle.tape_laws.specs.History.{Noted}
-use Rattle.wire_flows.specs.Flows.{Flows, IsThere, flow_in}
+use Rattle.wire_flows.specs.Flows.{Flows, IsThere, flow_in, is_live_in}
 use Rattle.wire_flows.specs.Sound.{IsSound}
-use Rattle.wire_links.specs.Links.{Links}
+use Rattle.wire_links.specs.Links.{Links, ends_of}
 use Rattle.wire_state.proofs.Bodies.{arrives}
 use Rattle.wire_flows.proofs.Found.{live_after}
 use Rattle.wire_state.proofs.Counting.{changed_go, counts_go}
@@ -56,10 +56,10 @@ module _ (l : LimitKeys) (f : FlowId) (octets : List ℕ) (old new : Flows) (her
       s (arrival_stands h s) counts
 
 pub arrival_told : {k : Config} {l : Footing} {t u : Option ℕ} → (f : FlowId) (octets : List ℕ) (old new : Flows) (r : Received) → r ≡ received_by (length octets) (flow_in old f) → r ≡ Arrived → (IsThere old f → ChangesFlow f (received octets) old.exchanges new.exchanges) → IsSound new → new.gates ≡ old.gates
-    → (conns : PagedMap Conn) (links : Links) (h : WayHistory) (g : ℕ → List ℕ) (start notes : List Note) → ToldBy k l t u h g start conns old links notes → ToldBy k l t u h g start conns new links (notes ++ note.Arrive f octets ∷ [])
-arrival_told {l = l} {t = t} {u = u} f octets old new r is arrives_so changes sound gates conns links =
+    → (conns : PagedMap Conn) (links : Links) → is_some (ends_of f.exchange links) ≡ is_live_in old f.exchange → (h : WayHistory) (g : ℕ → List ℕ) (start notes : List Note) → ToldBy k l t u h g start conns old links notes → ToldBy k l t u h g start conns new links (notes ++ note.Arrive f octets ∷ [])
+arrival_told {l = l} {t = t} {u = u} f octets old new r is arrives_so changes sound gates conns links live =
     let here : received_by (length octets) (flow_in old f) ≡ Arrived = sym is ∙ arrives_so in
     let there = arrived_there (length octets) (flow_in old f) here in
     let c = changes there in
-    told_by {l = l} (Noted (note.Arrive f octets) ∷ []) (λ h c. refl) conns conns old new links links (record { ways = λ h s w. (there_given conns old links h f there s, w); rows = refl })
+    told_by {l = l} (Noted (note.Arrive f octets) ∷ []) (λ h c. refl) conns conns old new links links (record { ways = λ h s w. (there_given conns old links h f live there s, w); rows = refl })
     (arrival_stands l.config.limits f octets old new here c sound gates conns links) (arrival_counts l.config.limits f octets old new here c sound gates conns links t u)

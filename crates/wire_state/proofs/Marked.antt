@@ -88,8 +88,8 @@ module _ (config : Config) (x c s d : ℕ) (row to : Option ℕ) (h : WayHistory
       left y true is = mine y (is_number x y is)
       left y false is = each (ends_of y links) (other y) (m.ends y)
 
-  pub ways_begun : (flows : Flows) (links : Links) → x ≡ flows.exchanges.last + 1 → d ≡ conn_number to → MarksAre flows links h → AreWays config h → AreWays config then_
-  ways_begun flows links number goal m ways = (record { number = number ∙ ap (λ (n : ℕ). n + 1) m.numbers; same = refl; goal = goal; request = refl; response = refl }, ways)
+  pub ways_begun : (flows : Flows) (links : Links) → x ≡ flows.exchanges.last + 1 → d ≡ conn_number to → IfSome row (λ r. r < length config.routes) → MarksAre flows links h → AreWays config h → AreWays config then_
+  ways_begun flows links number goal routed m ways = (record { number = number ∙ ap (λ (n : ℕ). n + 1) m.numbers; same = refl; goal = goal; routed = routed; request = refl; response = refl }, ways)
 
 -- ---- a request gets its stream
 pub may_open : (x : ℕ) (flows : Flows) (links : Links) (h : WayHistory) → is_some (ends_of x links) ≡ true → IfSome (ends_of x links) (λ e. e.cluster_stream ≡ None) → MarksAre flows links h → MayOpen x h

@@ -31,14 +31,14 @@ use Rattle.tape_laws.specs.World.{last_place}
 use Rattle.wire_flows.proofs.Found.{flow_after, flow_is as flow_own, live_after}
 use Rattle.wire_flows.proofs.Freed.{found_at, place_sound}
 use Rattle.wire_flows.proofs.Cases.{by_case}
-use Rattle.wire_flows.specs.Flows.{Flows, IsThere, flow_in, goes_to}
+use Rattle.wire_flows.specs.Flows.{Flows, IsThere, flow_in, goes_to, is_live_in}
 use Rattle.wire_flows.specs.Moves.{outcome_of, untold_by}
 use Rattle.wire_flows.specs.Sound.{IsSound}
 use Rattle.wire_flows.specs.Writes.{KeepsWrites, Write}
 use Rattle.wire_flows.specs.declared.moving.Moved.{Moved}
 use Rattle.wire_flows.specs.declared.moving.Outcome.{Outcome}
 use Rattle.wire_flows.specs.declared.moving.Outcome.TheVariants as outcome
-use Rattle.wire_links.specs.Links.{Links}
+use Rattle.wire_links.specs.Links.{Links, ends_of}
 use Rattle.wire_state.proofs.Counting.{CountsGo, IsSeen, above_same, changed_go, counts_go, watched_stays}
 use Rattle.wire_state.proofs.Filled.{unborn_gone}
 use Rattle.wire_state.proofs.Givens.{there_given}
@@ -388,12 +388,12 @@ module _ (f : FlowId) (old new : Flows) (o : Outcome) (is : o ≡ option_map_or 
     }
 
   -- the notes of a move are still to be noted
-  pub moved_told : {k : Config} {l : Footing} {t : Option ℕ} → (conns : PagedMap Conn) (links : Links) (h : WayHistory) (g : ℕ → List ℕ) (start notes : List Note) → ToldBy k l t None h g start conns old links notes
+  pub moved_told : {k : Config} {l : Footing} {t : Option ℕ} → (conns : PagedMap Conn) (links : Links) → is_some (ends_of f.exchange links) ≡ is_live_in old f.exchange → (h : WayHistory) (g : ℕ → List ℕ) (start notes : List Note) → ToldBy k l t None h g start conns old links notes
       → ToldBy k l t (late_of f m) h g start conns new links (notes ++ moved_of f m)
-  moved_told {k} {l} {t} conns links h g start notes told =
+  moved_told {k} {l} {t} conns links live h g start notes told =
       subst (λ (ns : List Note). ToldBy k l t (late_of f m) h g start conns new links (notes ++ note.Move f m.place m.n ∷ ns)) (shown_noted tail)
       (told_by {l = l} (move ∷ noted tail) (λ j d. holds_gone tail (crossed_holds f m.rose m.drained m.overflow) (move ∷ j) d) conns conns old new links links
-      (record { ways = λ j s w. holds_ways l.config tail (crossed_holds f m.rose m.drained m.overflow) (move ∷ j) (there_given conns old links j f (there f old new o is changes m e (flow_in old f) refl) s, w); rows = holds_rows tail })
+      (record { ways = λ j s w. holds_ways l.config tail (crossed_holds f m.rose m.drained m.overflow) (move ∷ j) (there_given conns old links j f live (there f old new o is changes m e (flow_in old f) refl) s, w); rows = holds_rows tail })
       (λ j s. holds_stand tail (crossed_holds f m.rose m.drained m.overflow) conns new links (move ∷ j) (move_stands f old new o is changes m e sound conns links j s))
       (λ j s c. counts_go l.config.limits t None t (late_of f m) conns conns old new move tail j links links (moves_go conns j c s.flows_are) s (move_stands f old new o is changes m e sound conns links j s) c)
       h g start notes told)

@@ -50,7 +50,7 @@ use Rattle.wire_state.proofs.Overs.{framed_goes, send_over}
 use Rattle.wire_state.proofs.Promised.{same_out}
 use Rattle.wire_state.proofs.Rising.{drained}
 use Rattle.wire_state.proofs.Watching.{last_one, lows_same, send_times, watches}
-use Rattle.wire_state.proofs.Givens.{there_given}
+use Rattle.wire_state.proofs.Givens.{stream_given}
 use Rattle.wire_state.proofs.Goings.{KeepsLeft, above_through, config_told, conn_keeps, footing_kept, gates_stand, links_kept, owes_by, rest_of, told_at}
 use Rattle.wire_state.proofs.Held.{listed_keeps}
 use Rattle.wire_state.proofs.Standing.{ConnsAre, KeepsFlows, KeepsShut, Writes, answer_flows, answer_shut, answer_writes, at_one, conns_go, conns_written, credit_flows, credit_shut, credit_writes, head_flows, head_shut, head_writes, one_room, same_octets, wrote}
@@ -313,7 +313,7 @@ module _ (n : ℕ) (old new : WireCore) (v w : Conn) (found : value_at n old.con
   pub body_written : Owes (framed_of n f framed (watchers_on n new.flows)) old new
   body_written = owes_held (note.Frame n f framed.n framed.last) (risen_of framed.rose n (watchers_on n new.flows) ++ told_of framed.drained f)
       (all_append (risen_of framed.rose n (watchers_on n new.flows)) (told_of framed.drained f) (risen_holds framed.rose n (watchers_on n new.flows)) (told_hold framed.drained)) (λ h c. refl) old new
-      (λ h s w. (there_given old.conns old.flows old.links h f (ap is_some there) s, w)) (footing_kept old new rest) frame_stands
+      (λ h st w. (stream_given old.conns old.flows old.links h f s on st, w)) (footing_kept old new rest) frame_stands
       (λ t u h st st' c. fills_go n old.conns new.conns v w found written framed.rose old.flows new.flows fills limit h c old.links new.links step st st' refl
       (changed_go f (body_framed framed.n framed.last) old.flows new.flows (λ x e. framed_goes framed.n framed.last x) change) (λ x. live_after f (body_framed framed.n framed.last) old.flows.exchanges new.flows.exchanges change x)
       (told_of framed.drained f) (told_hold framed.drained) (told_pauses framed.drained) (λ g lt. told_times framed.drained g ∙ strange framed.drained (same_flow f g) (stranger c.sound g lt))

@@ -37,11 +37,12 @@ abbrev pub side_stages : Config → Option ℕ → Bool → List StageKind
 side_stages config row back = stages_of (filters_of (side_filters back) row config)
 
 -- The exchange x has the number that comes next, which its mark has too, and passes the stages of both sides of one row of the
--- routes, or none. Its start note names the connection d that the request goes to, 0 where it goes nowhere.
+-- routes, of which there are so many, or none. Its start note names the connection d that the request goes to, 0 where it goes nowhere.
 pub record IsBegun (config : Config) (x d y : ℕ) (row to : Option ℕ) (there back : List StageKind) (past : WayHistory) : Type 0 where
   pub number : x ≡ length (started past) + 1
   pub same : y ≡ x
   pub goal : d ≡ conn_number to
+  pub routed : IfSome row (λ r. r < length config.routes)
   pub request : there ≡ side_stages config row false
   pub response : back ≡ side_stages config row true
 
@@ -53,7 +54,7 @@ pub record MayOpen (x : ℕ) (past : WayHistory) : Type 0 where
 
 -- the number of the exchange was given
 abbrev pub IsGiven : ℕ → WayHistory → Type 0
-IsGiven x past = x ≤ length (started past)
+IsGiven x past = (0 < x) × (x ≤ length (started past))
 
 -- Each start note stands directly behind its mark, and each such mark before its start note: so an exchange has one, and none before
 -- it starts. A request gets at most one stream, after its start. What moves octets of an exchange, or dooms it, stands behind its start.

@@ -1,8 +1,8 @@
 use Rattle.exchange_core.specs.Exchange.{filters_of, side_filters}
 use Rattle.flow_notes.specs.declared.notes.Note.TheVariants as note
-use Rattle.std.proofs.Common.{ap, arith, refl, sym, ◌∙◌}
+use Rattle.std.proofs.Common.{ap, arith, refl, subst, sym, ◌∙◌}
 use Rattle.std.specs.Option.{option_map_or}
-use Rattle.std.specs.Prelude.{Option, Some, [], false, is_some, true, ℕ, ◌++◌, ◌∷◌}
+use Rattle.std.specs.Prelude.{IfSome, Option, Some, [], false, is_some, length, true, ℕ, ◌++◌, ◌<◌, ◌∷◌}
 use Rattle.wire_flows.specs.Flows.{is_live_in}
 use Rattle.wire_flows.specs.Writes.{is_above}
 use Rattle.wire_in.proofs.Starting.{live_started}
@@ -48,11 +48,12 @@ returns-clause-octets c =
     let spec = c.spec_of-spec.result in
     let e = c.in_ok-started.ensures in
     let ends = c.spec_of-spec.ensures.ends in
+    let routed = subst (λ (o : Option ℕ). IfSome o (λ r. r < length k.config.routes)) (sym c.spec_of-spec.ensures.rest.0) c.requires.row in
     let stood = λ (h : WayHistory) (stands : Stands k.config.limits k.conns k.flows k.links h). starts x n c.args.stream d to spec k.config h k.flows c.start.new.self e.starts c.spec_of-spec.ensures.wire e.number c.spec_of-spec.ensures.limits k.conns k.links c.start-2.new.self
     (links_one x n c.args.stream to k.links c.start-2.new.self c.in_ok-start.ensures.ok) stands in
     begun_owed x spec.row to (stages_of (filters_of (side_filters false) spec.row k.config)) (stages_of (filters_of (side_filters true) spec.row k.config)) (note.Start x n c.args.stream d) (held_of s n to) (started_holds s n to) k _
     (ap (with_rows (footing_of k)) (c.in_ok-push.ensures.items ∙ ap (λ (row : Option ℕ). k.rows.items ++ row ∷ []) (sym c.spec_of-spec.ensures.rest.0))) (λ h q. refl)
-    (λ h stands ways. ways_begun k.config x n c.args.stream d spec.row to h k.flows k.links e.number refl stands.marks ways) stood
+    (λ h stands ways. ways_begun k.config x n c.args.stream d spec.row to h k.flows k.links e.number refl routed stands.marks ways) stood
     (λ t u h stands now counts. begins_counts k.config.limits x n c.args.stream d to spec k.config k.conns k.flows c.start.new.self e.starts c.spec_of-spec.ensures.wire e.number
     (e.request_goes ∙ ends.1) (e.response_goes ∙ ap (λ (v : ℕ). Some v) ends.0) e.writes e.lows e.sound e.live c.requires.to c.requires.from
     s.request_held s.response_held (e.request ∙ ap (λ (o : Option ℕ). option_map_or (λ v. is_above v k.flows) o false) ends.1) (e.response ∙ ap (λ (v : ℕ). is_above v k.flows) ends.0)

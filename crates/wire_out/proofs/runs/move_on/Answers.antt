@@ -24,7 +24,7 @@ pub returns-in-Moved-clause-octets : goal.returns-in-Moved-clause-octets
 returns-in-Moved-clause-octets c = record {
   goes = λ h g start t.
       let k = c.args.core.now in
-      c.go_on.ensures.octets.goes h g start (moved_told c.args.course.flow k.flows c.step.new.self _ c.in_ok-moved.ensures.outcome c.in_ok-moved.ensures.flow c.in-Moved.moved c.in-Moved.is c.step.ensures.sound c.step.ensures.writes (rw c.in-Moved.is at c.in_ok-moved.ensures.lows) k.conns k.links h g start c.args.notes.now t);
+      c.go_on.ensures.octets.goes h g start (moved_told c.args.course.flow k.flows c.step.new.self _ c.in_ok-moved.ensures.outcome c.in_ok-moved.ensures.flow c.in-Moved.moved c.in-Moved.is c.step.ensures.sound c.step.ensures.writes (rw c.in-Moved.is at c.in_ok-moved.ensures.lows) k.conns k.links (c.requires.sound.live c.args.course.flow.exchange) h g start c.args.notes.now t);
 }
 
 pub returns-in-TooLarge-clause-octets : goal.returns-in-TooLarge-clause-octets
