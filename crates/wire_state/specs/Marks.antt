@@ -36,8 +36,8 @@ rows_in (step ∷ steps) = rows_in steps
 abbrev pub side_stages : Config → Option ℕ → Bool → List StageKind
 side_stages config row back = stages_of (filters_of (side_filters back) row config)
 
--- The exchange x has the number that comes next, which its mark has too, and passes the stages of both sides of one row of the
--- routes, of which there are so many, or none. Its start note names the connection d that the request goes to, 0 where it goes nowhere.
+-- The exchange x has the number that comes next, which its mark has too. It passes the stages of both sides of its row, which is one of
+-- the routes, or none where it has no row. Its start note names the connection d that the request goes to, 0 where it goes nowhere.
 pub record IsBegun (config : Config) (x d y : ℕ) (row to : Option ℕ) (there back : List StageKind) (past : WayHistory) : Type 0 where
   pub number : x ≡ length (started past) + 1
   pub same : y ≡ x
