@@ -1,11 +1,14 @@
 // Closes: a connection is given up, with a GOAWAY where one goes, and its exchanges are lost; and the GOAWAY before, by
 // which a connection begins to drain (RFC 9113 section 6.8).
-ghost use Rattle.std.specs.Prelude.{◌≡◌, ◌≤◌, ◌<◌, ◌+◌, ◌^◌, IfSome, OnOk, true, ◌∷◌, [], IfOk, MatchOption, ℕ, false};
+ghost use Rattle.flow_notes.specs.declared.notes.CloseCause.{CloseCause};
+ghost use Rattle.std.specs.Prelude.{◌≡◌, ◌≢◌, ◌≤◌, ◌<◌, ◌+◌, ◌++◌, ◌^◌, IfSome, OnOk, true, ◌∷◌, [], IfOk, MatchOption, ℕ, false};
+ghost use Rattle.wire_flows.specs.Writes.{watchers_on};
+ghost use Rattle.wire_state.specs.Counts.{Frees};
 ghost use Rattle.wire_state.specs.Agenda.{top_go};
-ghost use Rattle.wire_state.specs.Noting.{Appends, answers_of};
-ghost use Rattle.wire_state.specs.Progress.{conn_go, to_go};
+ghost use Rattle.wire_state.specs.Noting.{Appends, answers_of, risen_of};
+ghost use Rattle.wire_state.specs.Progress.{to_go};
 ghost use Rattle.wire_state.specs.Sound.{IsKept, IsSound, is_open_at};
-ghost use Rattle.wire_state.specs.Worlds.{Goes, Keeps, KeepsOk, Owes, Turns, left_by};
+ghost use Rattle.wire_state.specs.Worlds.{Eases, Goes, Keeps, KeepsOk, Owes, Turns};
 ghost use Rattle.flow_notes.specs.declared.notes.Note.TheVariants as note;
 ghost use Rattle.flow_notes.specs.declared.events.Event.TheVariants as event;
 ghost use Rattle.proxy_config.specs.declared.config.LimitKeys.{LimitKeys as Limits};
@@ -15,11 +18,11 @@ use crate::lists::{append, flood};
 use flow_notes::{Cause, CloseCause, FireKind, Note, Notes};
 use h2_frames::codes::NO_ERROR;
 use io_ports::{NoMemory, Octets};
+use wire_flows::WireFlows;
 use wire_outlet::{Control, Waiting};
-use wire_state::{Conn, Task, WireCore, note, note_answer};
-use wm_buffer::Crossed;
+use wire_state::{Conn, Task, WireCore, note, note_answer, note_pauses};
 
-/// The task Close: the connection is closed, unless it is.
+/// The task Close: the connection is closed, unless it is. That it was lost is no cause of such a task: see `lose`.
 pub fn close_task(
     core: &mut WireCore,
     conn: u32,
@@ -35,10 +38,13 @@ pub fn close_task(
     ensures octets { Goes result core.old notes.old core.new notes.new }
 {
     core.end_task();
+    if let CloseCause::Lost = cause {
+        return Ok(());
+    }
     close(core, conn, code, cause, notes)
 }
 
-/// Closes a connection, unless it is closed; its exchanges are lost next.
+/// Closes a connection, unless it is closed, for another cause than that it was lost; its exchanges are lost next.
 pub fn close(
     core: &mut WireCore,
     number: u32,
@@ -47,6 +53,7 @@ pub fn close(
     notes: &mut Notes,
 ) -> Result<(), NoMemory>
     requires sound { IsSound core.old }
+    requires cause { cause ≢ CloseCause.Lost }
     ensures sound { OnOk result (IsSound core.new) }
     ensures go { OnOk result (to_go core.new ≤ to_go core.old) }
     ensures less { is_open_at number core.old ≡ true → OnOk result (to_go core.new < to_go core.old) }
@@ -111,12 +118,12 @@ fn say_farewell(
     if !is_told(cause) {
         return Ok(());
     }
-    let Some((octets, crossed)) = write_farewell(core, number, code)? else {
+    let Some((octets, rose)) = write_farewell(core, number, code)? else {
         return Ok(());
     };
     note_answer(notes, number, octets)?;
-    if crossed == Crossed::High {
-        return core.rise(number, notes);
+    if rose {
+        return note_pauses(&core.flows, number, notes);
     }
     Ok(())
 }
@@ -126,48 +133,37 @@ fn write_farewell(
     core: &mut WireCore,
     number: u32,
     code: u32,
-) -> Result<Option<(Octets, Crossed)>, NoMemory>
+) -> Result<Option<(Octets, bool)>, NoMemory>
     requires sound { IsSound core.old }
     ensures sound { OnOk result (IsSound core.new) }
-    ensures go { to_go core.new ≤ to_go core.old }
-    ensures octets { IfOk result (λ framed. MatchOption framed (Keeps core.old core.new) (λ f. Owes (answers_of number f.0) core.old core.new)) }
+    ensures go { OnOk result (to_go core.new ≤ to_go core.old) }
+    ensures octets { IfOk result (λ framed. MatchOption framed (Keeps core.old core.new) (λ f. Owes (answers_of number f.0 ++ risen_of f.1 number (watchers_on number core.new.flows)) core.old core.new)) }
     ensures stays { is_open_at number core.new ≡ is_open_at number core.old }
 {
     match core.conns.get_mut(&number) {
-        Some(conn) => conn.farewell(code),
+        Some(conn) => conn.farewell(&mut core.flows, number, code),
         None => Ok(None),
     }
 }
 
-// From now on the connection isn't open, and nothing waits; where it is lost, its octets go nowhere.
+// From now on the connection isn't open, and nothing waits.
 fn shut(core: &mut WireCore, number: u32, cause: CloseCause)
     requires sound { IsSound core.old }
     requires open { is_open_at number core.old ≡ true }
+    requires cause { cause ≢ CloseCause.Lost }
     ensures sound { IsSound core.new }
     ensures go { to_go core.new + 4 ≤ to_go core.old }
     ensures octets { (code : ℕ) → Owes (note.Close number code cause ∷ []) core.old core.new }
 {
     core.links.close(number);
     match core.conns.get_mut(&number) {
-        Some(conn) => shut_conn(conn, cause),
+        Some(conn) => conn.shut(),
         None => {}
     }
 }
 
-fn shut_conn(conn: &mut Conn, cause: CloseCause)
-    ensures kept { (limits : Limits) → IsKept limits conn.old.outlet → IsKept limits conn.new.outlet }
-    ensures less { conn.old.open ≡ true → conn_go conn.new + 4 ≤ conn_go conn.old }
-    ensures closed { conn.new.open ≡ false }
-    ensures octets { conn.new.outlet.write.octets ≡ left_by cause conn.old.outlet.write.octets }
-{
-    conn.shut();
-    if let CloseCause::Lost = cause {
-        let _above = conn.drop_octets();
-    }
-}
-
 /// A connection is lost: it is closed, unless it is, and its octets go nowhere, also where it was closed before. Where they held
-/// flows back, these are never told: their exchanges are lost too.
+/// flows back, these are to be told once nothing else is under way: by then their exchanges are lost too.
 pub fn lose(core: &mut WireCore, number: u32, notes: &mut Notes) -> Result<(), NoMemory>
     requires sound { IsSound core.old }
     ensures sound { OnOk result (IsSound core.new) }
@@ -175,12 +171,54 @@ pub fn lose(core: &mut WireCore, number: u32, notes: &mut Notes) -> Result<(), N
     ensures octets { Turns result (event.Gone number) core.old notes.old core.new notes.new }
 {
     if core.is_open(number) {
-        close(core, number, 0, CloseCause::Lost, notes)?;
-        core.flows.write_drained(number);
-        return Ok(());
+        return lose_open(core, number, notes);
     }
     lose_rest(core, number);
     core.stir(number)
+}
+
+// An open connection is lost.
+fn lose_open(core: &mut WireCore, number: u32, notes: &mut Notes) -> Result<(), NoMemory>
+    requires sound { IsSound core.old }
+    requires open { is_open_at number core.old ≡ true }
+    ensures sound { OnOk result (IsSound core.new) }
+    ensures notes { Appends notes.old notes.new }
+    ensures octets { Turns result (event.Gone number) core.old notes.old core.new notes.new }
+{
+    shut_lost(core, number);
+    end_conn(core, number)?;
+    note(
+        notes,
+        Note::Close {
+            conn: number,
+            code: 0,
+            cause: CloseCause::Lost,
+        },
+    )
+}
+
+// From now on the connection isn't open, and what waited for it goes nowhere.
+fn shut_lost(core: &mut WireCore, number: u32)
+    requires sound { IsSound core.old }
+    requires open { is_open_at number core.old ≡ true }
+    ensures sound { IsSound core.new }
+    ensures octets { Eases number (note.Close number 0 CloseCause.Lost ∷ []) core.old core.new }
+{
+    core.links.close(number);
+    match core.conns.get_mut(&number) {
+        Some(conn) => shut_conn(conn, &mut core.flows, number),
+        None => {}
+    }
+}
+
+fn shut_conn(conn: &mut Conn, flows: &mut WireFlows, number: u32)
+    ensures kept { (limits : Limits) → IsKept limits conn.old.outlet → IsKept limits conn.new.outlet }
+    ensures closed { conn.new.open ≡ false }
+    ensures empty { conn.new.outlet.write.octets ≡ [] }
+    ensures frees { Frees number true conn.old.outlet.write conn.new.outlet.write flows.old flows.new }
+{
+    conn.shut();
+    conn.drop_octets(flows, number);
 }
 
 // What was left of a connection that is closed goes nowhere.
@@ -188,22 +226,10 @@ fn lose_rest(core: &mut WireCore, number: u32)
     requires sound { IsSound core.old }
     requires closed { is_open_at number core.old ≡ false }
     ensures sound { IsSound core.new }
-    ensures octets { (k : ℕ) → Owes (note.Turn k (event.Gone number) ∷ []) core.old core.new }
-{
-    drop_octets(core, number);
-    core.flows.write_drained(number);
-}
-
-fn drop_octets(core: &mut WireCore, number: u32)
-    requires sound { IsSound core.old }
-    requires closed { is_open_at number core.old ≡ false }
-    ensures sound { IsSound core.new }
-    ensures octets { (k : ℕ) → Owes (note.Turn k (event.Gone number) ∷ []) core.old core.new }
+    ensures octets { (k : ℕ) → Eases number (note.Turn k (event.Gone number) ∷ []) core.old core.new }
 {
     match core.conns.get_mut(&number) {
-        Some(conn) => {
-            let _above = conn.drop_octets();
-        }
+        Some(conn) => conn.drop_octets(&mut core.flows, number),
         None => {}
     }
 }

@@ -1,12 +1,12 @@
 // Dooms: an exchange is given up, its peers are told, and it is gone at the end of the dispatch.
 ghost use Rattle.flow_notes.specs.declared.notes.Note.TheVariants as note;
-ghost use Rattle.std.specs.Prelude.{◌≡◌, ◌≤◌, ◌<◌, ◌+◌, ◌++◌, ◌∷◌, [], IfSome, IsSome, MatchOption, OnOk, if◌then◌else◌, true};
+ghost use Rattle.std.specs.Prelude.{◌≡◌, ◌≤◌, ◌<◌, ◌+◌, ◌++◌, ◌∷◌, [], IfSome, IsSome, MatchOption, OnOk, Some, if◌then◌else◌, true};
 ghost use Rattle.wire_flows.specs.Flows.{is_live_in};
 ghost use Rattle.wire_state.specs.Agenda.{top_go};
 ghost use Rattle.wire_state.specs.Noting.{Appends};
 ghost use Rattle.wire_state.specs.Progress.{to_go};
 ghost use Rattle.wire_state.specs.Sound.{IsSound};
-ghost use Rattle.wire_state.specs.Worlds.{Goes, Keeps, KeepsOk, Owes, Pays};
+ghost use Rattle.wire_state.specs.Worlds.{EndsOne, Goes, Keeps, KeepsOk, Owes, Pays, Settles};
 
 use crate::closes::start_draining;
 use crate::lists::{append, append_reset, flood};
@@ -116,6 +116,7 @@ pub fn doom(
     ensures notes { Appends notes.old notes.new }
     ensures told { OnOk result (notes.new ≡ (if is_live_in core.old.flows exchange then notes.old ++ note.Doom exchange cause ∷ [] else notes.old)) }
     ensures octets { Goes result core.old notes.old core.new notes.new }
+    ensures late { Settles (Some exchange) result core.old notes.old core.new notes.new }
 {
     let Some((ends, doomed)) = unlink(core, exchange, cause, origin) else {
         return Ok(());
@@ -161,6 +162,7 @@ fn unlink(
     ensures linked { is_live_in core.old.flows exchange ≡ true → IsSome result }
     ensures live { IfSome result (λ ends. is_live_in core.old.flows exchange ≡ true) }
     ensures octets { MatchOption result (Keeps core.old core.new) (λ r. Owes (note.Doom exchange cause ∷ []) core.old core.new) }
+    ensures late { MatchOption result (EndsOne exchange [] core.old core.new) (λ r. EndsOne exchange (note.Doom exchange cause ∷ []) core.old core.new) }
 {
     let Some(ends) = core.links.ends_of(exchange) else {
         return None;

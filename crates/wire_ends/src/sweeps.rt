@@ -1,5 +1,5 @@
 // The end of a dispatch.
-ghost use Rattle.std.specs.Prelude.{[], ◌≡◌, OnOk};
+ghost use Rattle.std.specs.Prelude.{[], ◌≡◌, ◌<◌, IfSome, OnOk, length};
 ghost use Rattle.wire_state.specs.Noting.{Appends};
 ghost use Rattle.wire_state.specs.Sound.{IsSound};
 ghost use Rattle.wire_state.specs.Worlds.{Goes, Keeps, KeepsOk, octets_of};
@@ -15,10 +15,20 @@ pub fn sweep(core: &mut WireCore, notes: &mut Notes) -> Result<(), NoMemory>
     ensures notes { Appends notes.old notes.new }
     ensures octets { Goes result core.old notes.old core.new notes.new }
 {
-    while let Some(exchange) = core.flows.sweep() {
+    while let Some(exchange) = sweep_one(core) {
         note(notes, Note::Gone { exchange })?;
     }
     Ok(())
+}
+
+// The first of the doomed exchanges is gone, if there is one.
+fn sweep_one(core: &mut WireCore) -> Option<u64>
+    requires sound { IsSound core.old }
+    ensures sound { IsSound core.new }
+    ensures fewer { IfSome result (λ x. length core.new.flows.exchanges.doomed < length core.old.flows.exchanges.doomed) }
+    ensures octets { Keeps core.old core.new }
+{
+    core.flows.sweep()
 }
 
 /// What this dispatch touched is timed anew and put into its class, and the connections at which it changed anything come to

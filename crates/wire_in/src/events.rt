@@ -16,7 +16,6 @@ use wire_inlet::Peer;
 use wire_load::Action;
 use wire_outlet::Control;
 use wire_state::{Conn, Task, WireCore, note};
-use wm_buffer::Crossed;
 
 /// The settings that are named beside those of the session (RFC 9113 section 6.5.2).
 const ENABLE_PUSH: u16 = 2;
@@ -196,54 +195,27 @@ fn read_at(core: &mut WireCore, number: u32, octets: &Octets) -> Result<bool, No
     }
 }
 
-// Up to n octets leave the write buffer.
+// Up to n octets leave the write buffer. Who is to be told that it drained, and what may be framed then, comes next.
 fn room(core: &mut WireCore, number: u32, n: u32, notes: &mut Notes) -> Result<(), NoMemory>
     requires sound { IsSound core.old }
     ensures sound { OnOk result (IsSound core.new) }
     ensures notes { Appends notes.old notes.new }
     ensures octets { Turns result (event.Room number n) core.old notes.old core.new notes.new }
 {
-    let Some((n, crossed)) = leave_at(core, number, n) else {
+    let Some(n) = leave_at(core, number, n) else {
         return Ok(());
     };
     core.stir(number)?;
-    note_out(notes, number, n)?;
-    if crossed == Crossed::Low {
-        return tell_drained(core, number);
-    }
-    ask_drain(core, number)
+    note_out(notes, number, n)
 }
 
-// The write buffer of a connection has drained: its watchers are told, and then units are framed there.
-fn tell_drained(core: &mut WireCore, number: u32) -> Result<(), NoMemory>
-    requires sound { IsSound core.old }
-    ensures sound { OnOk result (IsSound core.new) }
-    ensures octets { KeepsOk result core.old core.new }
-{
-    core.begin(Task::AskDrain(number))?;
-    core.flows.write_drained(number);
-    core.begin(Task::Tell(number))
-}
-
-// Units are framed at a connection, if there are any.
-fn ask_drain(core: &mut WireCore, number: u32) -> Result<(), NoMemory>
-    requires sound { IsSound core.old }
-    ensures sound { OnOk result (IsSound core.new) }
-    ensures octets { KeepsOk result core.old core.new }
-{
-    if core.may_frame(number) {
-        return core.begin(Task::AskDrain(number));
-    }
-    Ok(())
-}
-
-fn leave_at(core: &mut WireCore, number: u32, n: u32) -> Option<(u32, Crossed)>
+fn leave_at(core: &mut WireCore, number: u32, n: u32) -> Option<u32>
     requires sound { IsSound core.old }
     ensures sound { IsSound core.new }
-    ensures octets { Leaves number n (option_map_or (λ r. r.0) result 0) core.old core.new }
+    ensures octets { Leaves number n (option_map_or (λ k. k) result 0) core.old core.new }
 {
     match core.conns.get_mut(&number) {
-        Some(conn) => Some(conn.leave_write(n)),
+        Some(conn) => Some(conn.leave_write(&mut core.flows, number, n)),
         None => None,
     }
 }

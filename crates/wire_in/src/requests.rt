@@ -1,13 +1,13 @@
 // Heads of requests: an exchange begins.
 ghost use Rattle.proxy_config.specs.Ranges.{IsBetween, IsInRange, most_octets};
 ghost use Rattle.std.specs.Option.{ForSome, option_copied};
-ghost use Rattle.std.specs.Prelude.{◌≡◌, ◌<◌, ◌≤◌, ◌+◌, ◌^◌, IfSome, IsSome, None, OnOk, false, length, true, ◌∷◌, [], IfOk, ℕ};
+ghost use Rattle.std.specs.Prelude.{◌≡◌, ◌<◌, ◌≤◌, ◌+◌, ◌^◌, IfSome, IsSome, None, OnOk, false, length, true, ◌∷◌, IfOk};
 ghost use Rattle.wire_flows.specs.Writes.{write_at};
 ghost use Rattle.wire_links.specs.Links.{cluster_of, exchange_at, is_client};
-ghost use Rattle.wire_state.specs.Noting.{Appends};
+ghost use Rattle.wire_state.specs.Noting.{Appends, conn_number, held_of, hold_of};
 ghost use Rattle.wire_state.specs.Progress.{to_go};
 ghost use Rattle.wire_state.specs.Sound.{IsSound};
-ghost use Rattle.wire_state.specs.Worlds.{Goes, Keeps, KeepsOk, Owes, Shows};
+ghost use Rattle.wire_state.specs.Worlds.{Goes, Keeps, KeepsOk, Owes, Pays};
 ghost use Rattle.flow_notes.specs.declared.notes.Note.TheVariants as note;
 
 use crate::heads::{self, finish_where};
@@ -208,7 +208,7 @@ fn start(
     requires cluster { IfSome to (λ c. IsSome (cluster_of c core.old.links)) }
     ensures sound { OnOk result (IsSound core.new) }
     ensures go { OnOk result (to_go core.new ≤ to_go core.old + 144) }
-    ensures octets { IfOk result (λ s. (d : ℕ) → Owes (note.Start s.exchange number stream d ∷ []) core.old core.new) }
+    ensures octets { IfOk result (λ s. Owes (note.Start s.exchange number stream (conn_number to) ∷ held_of s number to) core.old core.new) }
 {
     let spec = spec_of(core, number, stream, row, to);
     let started = core.flows.start(&spec, &core.config)?;
@@ -268,7 +268,7 @@ fn note_held(
     notes: &mut Notes,
 ) -> Result<(), NoMemory>
     ensures notes { Appends notes.old notes.new }
-    ensures octets { Shows result notes.old notes.new }
+    ensures paid { Pays result (held_of started number to) notes.old notes.new }
 {
     let exchange = started.exchange;
     note_hold(FlowId::request(exchange), started.request_held, to, notes)?;
@@ -283,18 +283,21 @@ fn note_held(
 // The pause of a flow, where the write buffer of the connection that it goes to holds it back.
 fn note_hold(flow: FlowId, held: bool, to: Option<u32>, notes: &mut Notes) -> Result<(), NoMemory>
     ensures notes { Appends notes.old notes.new }
-    ensures octets { Shows result notes.old notes.new }
+    ensures paid { Pays result (hold_of flow held to) notes.old notes.new }
 {
-    match to {
-        Some(to) if held => note(
-            notes,
-            Note::Pause {
-                flow,
-                buffer: BufferId::Write(to),
-            },
-        ),
-        _ => Ok(()),
+    let Some(to) = to else {
+        return Ok(());
+    };
+    if !held {
+        return Ok(());
     }
+    note(
+        notes,
+        Note::Pause {
+            flow,
+            buffer: BufferId::Write(to),
+        },
+    )
 }
 
 fn lengths_of(decision: &Decision) -> Lengths {

@@ -1,7 +1,8 @@
 // Units that belong to no flow: what waits, and WINDOW_UPDATE frames (RFC 9113 section 6.9).
-ghost use Rattle.std.specs.Prelude.{◌≡◌, ◌≤◌, ◌<◌, ◌+◌, ◌*◌, ◌^◌, IfOk, IfSome, MatchOption, OnOk, ◌∷◌, []};
+ghost use Rattle.std.specs.Prelude.{◌≡◌, ◌≤◌, ◌<◌, ◌+◌, ◌*◌, ◌^◌, ◌++◌, IfOk, IfSome, MatchOption, OnOk, ◌∷◌};
+ghost use Rattle.wire_flows.specs.Writes.{watchers_on};
 ghost use Rattle.wire_state.specs.Agenda.{stirred_at, top_go};
-ghost use Rattle.wire_state.specs.Noting.{Appends};
+ghost use Rattle.wire_state.specs.Noting.{Appends, risen_of};
 ghost use Rattle.wire_state.specs.Progress.{to_go};
 ghost use Rattle.wire_state.specs.Sound.{IsSound};
 ghost use Rattle.wire_state.specs.Worlds.{Goes, Keeps, Owes, Pays, waited_of};
@@ -13,7 +14,6 @@ use io_ports::NoMemory;
 use wire_links::Ends;
 use wire_outlet::Framed;
 use wire_state::{WireCore, note, note_answer, note_head};
-use wm_buffer::Crossed;
 
 /// The first unit of the waiting list of a connection that is drained.
 pub(crate) fn frame_waiting(
@@ -28,24 +28,24 @@ pub(crate) fn frame_waiting(
     ensures notes { Appends notes.old notes.new }
     ensures octets { Goes result core.old notes.old core.new notes.new }
 {
-    let Some((framed, crossed)) = write_waiting(core, number)? else {
+    let Some((framed, rose)) = write_waiting(core, number)? else {
         core.give_up(number);
         return Ok(());
     };
     note_waiting(notes, number, framed)?;
-    unit_framed(core, number, crossed, notes)
+    unit_framed(core, number, rose, notes)
 }
 
 // The unit goes into the write buffer. None where nothing waits, or the connection may not write.
-fn write_waiting(core: &mut WireCore, number: u32) -> Result<Option<(Framed, Crossed)>, NoMemory>
+fn write_waiting(core: &mut WireCore, number: u32) -> Result<Option<(Framed, bool)>, NoMemory>
     requires sound { IsSound core.old }
     ensures sound { OnOk result (IsSound core.new) }
     ensures go { IfOk result (λ framed. MatchOption framed (to_go core.new ≤ to_go core.old) (λ f. to_go core.new + 4 ≤ to_go core.old)) }
-    ensures rest { core.new ≡ record core.old { conns = core.new.conns } }
-    ensures octets { IfOk result (λ framed. MatchOption framed (Keeps core.old core.new) (λ f. Owes (waited_of number f.0) core.old core.new)) }
+    ensures rest { core.new ≡ record core.old { conns = core.new.conns; flows = core.new.flows } }
+    ensures octets { IfOk result (λ framed. MatchOption framed (Keeps core.old core.new) (λ f. Owes (waited_of number f.0 ++ risen_of f.1 number (watchers_on number core.new.flows)) core.old core.new)) }
 {
     match core.conns.get_mut(&number) {
-        Some(conn) => conn.write_waiting(),
+        Some(conn) => conn.write_waiting(&mut core.flows, number),
         None => Ok(None),
     }
 }
@@ -53,7 +53,7 @@ fn write_waiting(core: &mut WireCore, number: u32) -> Result<Option<(Framed, Cro
 // The note of a unit that waited.
 fn note_waiting(notes: &mut Notes, conn: u32, framed: Framed) -> Result<(), NoMemory>
     ensures notes { Appends notes.old notes.new }
-    ensures octets { Pays result (waited_of conn framed) notes.old notes.new }
+    ensures paid { Pays result (waited_of conn framed) notes.old notes.new }
 {
     match framed {
         Framed::Answer(octets) => note_answer(notes, conn, octets),
@@ -185,7 +185,7 @@ fn frame_update(
     ensures notes { Appends notes.old notes.new }
     ensures octets { Goes result core.old notes.old core.new notes.new }
 {
-    let Some(crossed) = write_update(core, number, stream, n)? else {
+    let Some(rose) = write_update(core, number, stream, n)? else {
         core.give_up(number);
         return Ok(());
     };
@@ -197,7 +197,7 @@ fn frame_update(
             n,
         },
     )?;
-    unit_framed(core, number, crossed, notes)
+    unit_framed(core, number, rose, notes)
 }
 
 // The frame goes into the write buffer. None where it would grant nothing, no frame can name the stream, or the connection may
@@ -207,17 +207,17 @@ fn write_update(
     number: u32,
     stream: u32,
     n: u32,
-) -> Result<Option<Crossed>, NoMemory>
+) -> Result<Option<bool>, NoMemory>
     requires sound { IsSound core.old }
     requires fits { n < 2 ^ 31 }
     ensures sound { OnOk result (IsSound core.new) }
     ensures go { OnOk result (to_go core.new ≤ to_go core.old) }
-    ensures some { IfOk result (λ crossed. IfSome crossed (λ c. 0 < n)) }
-    ensures rest { core.new ≡ record core.old { conns = core.new.conns } }
-    ensures octets { IfOk result (λ crossed. MatchOption crossed (Keeps core.old core.new) (λ c. Owes (note.Credit number stream n ∷ []) core.old core.new)) }
+    ensures some { IfOk result (λ rose. IfSome rose (λ c. 0 < n)) }
+    ensures rest { core.new ≡ record core.old { conns = core.new.conns; flows = core.new.flows } }
+    ensures octets { IfOk result (λ rose. MatchOption rose (Keeps core.old core.new) (λ c. Owes (note.Credit number stream n ∷ risen_of c number (watchers_on number core.new.flows)) core.old core.new)) }
 {
     match core.conns.get_mut(&number) {
-        Some(conn) => conn.write_update(stream, n),
+        Some(conn) => conn.write_update(&mut core.flows, number, stream, n),
         None => Ok(None),
     }
 }

@@ -1,18 +1,18 @@
 // Drains: the units of a connection are framed.
-ghost use Rattle.std.specs.Prelude.{◌≡◌, ◌≤◌, ◌<◌, ◌+◌, IfOk, OnOk, length, true};
+ghost use Rattle.std.specs.Prelude.{◌≡◌, ◌≤◌, ◌<◌, ◌+◌, ◌++◌, IfOk, OnOk, length, true};
+ghost use Rattle.wire_flows.specs.Writes.{watchers_on};
 ghost use Rattle.wire_state.specs.Agenda.{stirred_at, top_go};
-ghost use Rattle.wire_state.specs.Noting.{Appends};
+ghost use Rattle.wire_state.specs.Noting.{Appends, risen_of};
 ghost use Rattle.wire_state.specs.Progress.{to_go, conn_go};
 ghost use Rattle.wire_state.specs.Sound.{IsSound};
-ghost use Rattle.wire_state.specs.Worlds.{Goes, Keeps};
+ghost use Rattle.wire_state.specs.Worlds.{Goes, Keeps, Pays};
 
 use crate::controls::{frame_credit, frame_first_credit, frame_stream_credit, frame_waiting};
 use crate::units::frame_flow;
 use flow_notes::Notes;
 use io_ports::NoMemory;
 use wire_flows::WireFlows;
-use wire_state::{Conn, NextUnit, Stirred, Task, WireCore};
-use wm_buffer::Crossed;
+use wire_state::{Conn, NextUnit, Stirred, Task, WireCore, note_pauses};
 
 /// The task AskDrain: the connection is drained, unless it is being drained. Its first unit is framed at once.
 pub fn ask_drain(core: &mut WireCore, number: u32, notes: &mut Notes) -> Result<(), NoMemory>
@@ -237,22 +237,35 @@ fn unit_at(conn: &mut Conn, flows: &WireFlows) -> Option<NextUnit>
     }
 }
 
-/// A unit was framed at a connection. Where the write buffer rose by it, its flows are held back.
+/// A unit was framed at a connection. Where the write buffer rose by it, its flows are held back, each with its note.
 pub(crate) fn unit_framed(
     core: &mut WireCore,
     conn: u32,
-    crossed: Crossed,
+    rose: bool,
     notes: &mut Notes,
 ) -> Result<(), NoMemory>
     requires sound { IsSound core.old }
     ensures sound { OnOk result (IsSound core.new) }
     ensures go { OnOk result (to_go core.new ≤ to_go core.old + 1) }
     ensures notes { Appends notes.old notes.new }
-    ensures octets { Goes result core.old notes.old core.new notes.new }
+    ensures octets { Goes result core.old (notes.old ++ risen_of rose conn (watchers_on conn core.old.flows)) core.new notes.new }
 {
     core.stir(conn)?;
-    if crossed == Crossed::High {
-        return core.rise(conn, notes);
+    note_risen(core, conn, rose, notes)
+}
+
+/// Where the write buffer of a connection rose, the flows that go to it are held back: each with its note.
+pub(crate) fn note_risen(
+    core: &WireCore,
+    conn: u32,
+    rose: bool,
+    notes: &mut Notes,
+) -> Result<(), NoMemory>
+    ensures notes { Appends notes.old notes.new }
+    ensures octets { Pays result (risen_of rose conn (watchers_on conn core.now.flows)) notes.old notes.new }
+{
+    if rose {
+        return note_pauses(&core.flows, conn, notes);
     }
     Ok(())
 }

@@ -1,12 +1,13 @@
 // Heads and trailers are framed.
 ghost use Rattle.exchange_core.specs.Units.{IsFrameable};
 ghost use Rattle.flow_rules.specs.declared.unit.Unit.TheVariants.{Head};
-ghost use Rattle.std.specs.Prelude.{None, ◌≡◌, ◌≤◌, ◌+◌, IfNone, IfOk, IfSome, MatchOption, OnOk, true};
+ghost use Rattle.std.specs.Prelude.{None, ◌≡◌, ◌≤◌, ◌+◌, ◌++◌, IfNone, IfOk, IfSome, MatchOption, OnOk, true};
 ghost use Rattle.wire_flows.specs.Flows.{IsThere, flow_in, is_live_in};
+ghost use Rattle.wire_flows.specs.Writes.{watchers_on};
 ghost use Rattle.wire_links.specs.Links.{exchange_at};
 ghost use Rattle.wire_out.specs.Opening.{IsUnframed};
 ghost use Rattle.wire_state.specs.Agenda.{stirred_at, top_go};
-ghost use Rattle.wire_state.specs.Noting.{Appends, heads_of};
+ghost use Rattle.wire_state.specs.Noting.{Appends, heads_of, risen_of};
 ghost use Rattle.wire_state.specs.Progress.{conn_go, to_go};
 ghost use Rattle.wire_state.specs.Sound.{IsSound};
 ghost use Rattle.wire_state.specs.Worlds.{Goes, Keeps, KeepsOk, Owes};
@@ -17,7 +18,6 @@ use flow_notes::{Cause, Notes};
 use io_ports::{NoMemory, Octets};
 use wire_ends::{Origin, doom};
 use wire_state::{Conn, WireCore, note_head};
-use wm_buffer::Crossed;
 
 /// The head of a flow, or its trailers. A request's head opens its stream; where no number is left for one, the exchange is
 /// lost.
@@ -141,14 +141,14 @@ fn frame_fields(
     ensures octets { Goes result core.old notes.old core.new notes.new }
 {
     let exchange = going.course.flow.exchange;
-    let Some((octets, crossed)) = write_list(core, going, stream, last)? else {
+    let Some((octets, rose)) = write_list(core, going, stream, last)? else {
         unready(core, going.conn, exchange);
         return Ok(());
     };
     core.stir_some(going.course.from)?;
     core.touch(exchange)?;
     note_head(notes, going.conn, stream, octets)?;
-    unit_framed(core, going.conn, crossed, notes)?;
+    unit_framed(core, going.conn, rose, notes)?;
     end_where(core, exchange, last, notes)
 }
 
@@ -158,17 +158,21 @@ fn write_list(
     going: Going,
     stream: u32,
     last: bool,
-) -> Result<Option<(Octets, Crossed)>, NoMemory>
+) -> Result<Option<(Octets, bool)>, NoMemory>
     requires sound { IsSound core.old }
     requires there { IsThere core.old.flows going.course.flow }
     requires unit { IfSome (flow_in core.old.flows going.course.flow) (IsFrameable (Head last)) }
     ensures sound { OnOk result (IsSound core.new) }
     ensures go { IfOk result (λ framed. MatchOption framed (to_go core.new ≤ to_go core.old) (λ f. to_go core.new + 40 ≤ to_go core.old)) }
     ensures rest { core.new ≡ record core.old { conns = core.new.conns; flows = core.new.flows } }
-    ensures octets { IfOk result (λ framed. MatchOption framed (Keeps core.old core.new) (λ f. Owes (heads_of going.conn stream f.0) core.old core.new)) }
+    ensures octets { IfOk result (λ framed. MatchOption framed (Keeps core.old core.new) (λ f. Owes (heads_of going.conn stream f.0 ++ risen_of f.1 going.conn (watchers_on going.conn core.new.flows)) core.old core.new)) }
 {
-    match core.conns.get_mut(&going.conn) {
-        Some(conn) => conn.write_list(&mut core.flows, going.course.flow, stream, last),
+    let number = going.conn;
+    match core.conns.get_mut(&number) {
+        Some(conn) => {
+            let flow = going.course.flow;
+            conn.write_list(&mut core.flows, number, flow, stream, last)
+        }
         None => Ok(None),
     }
 }

@@ -4,16 +4,17 @@ ghost use Rattle.flow_notes.specs.declared.notes.Note.TheVariants as note;
 ghost use Rattle.std.specs.Prelude.{◌≡◌, ◌≤◌, ◌+◌, ◌++◌, ◌∷◌, [], IfSome, OnOk};
 ghost use Rattle.wire_flows.specs.Moves.{IsMove};
 ghost use Rattle.wire_state.specs.Agenda.{top_go};
-ghost use Rattle.wire_state.specs.Noting.{Appends};
+ghost use Rattle.wire_state.specs.Noting.{Appends, crossed_of, late_of, moved_of, pause_of, resume_of};
 ghost use Rattle.wire_state.specs.Progress.{to_go};
 ghost use Rattle.wire_state.specs.Sound.{IsSound};
-ghost use Rattle.wire_state.specs.Worlds.{Goes, KeepsOk, Shows};
+ghost use Rattle.wire_state.specs.Worlds.{Goes, KeepsOk, Pays, Settles};
 
 use crate::drains::drain_at;
 use crate::runs::ask_drain;
 use flow_gate::{BufferId, FlowId};
 use flow_notes::{Cause, Note, Notes};
 use io_ports::NoMemory;
+use wire_ends::{Origin, doom};
 use wire_flows::{Moved, Outcome};
 use wire_state::{Course, Task, WireCore, note};
 
@@ -30,7 +31,7 @@ pub(crate) fn go_on(
     ensures sound { OnOk result (IsSound core.new) }
     ensures go { OnOk result (to_go core.new ≤ to_go core.old + 11) }
     ensures notes { Appends notes.old notes.new }
-    ensures octets { Goes result core.old (notes.old ++ note.Move course.flow moved.place moved.n ∷ []) core.new notes.new }
+    ensures octets { Settles (late_of course.flow moved) result core.old (notes.old ++ moved_of course.flow moved) core.new notes.new }
 {
     core.go_on(Task::Run {
         course,
@@ -100,15 +101,13 @@ fn cross(
     ensures sound { OnOk result (IsSound core.new) }
     ensures go { OnOk result (to_go core.new ≤ to_go core.old + 3) }
     ensures notes { Appends notes.old notes.new }
-    ensures octets { Goes result core.old notes.old core.new notes.new }
+    ensures octets { Settles (late_of course.flow moved) result core.old (notes.old ++ crossed_of course.flow moved) core.new notes.new }
 {
     note_pause(course.flow, moved.rose, notes)?;
     if moved.overflow {
         ask_drain(core, course.to)?;
-        return core.begin(Task::Doom {
-            exchange: course.flow.exchange,
-            cause: Cause::Overflow,
-        });
+        let exchange = course.flow.exchange;
+        return doom(core, exchange, Cause::Overflow, Origin::Neither, notes);
     }
     resume_where(core, course, moved.drained, notes)?;
     drain_at(core, course.to, notes)
@@ -126,7 +125,7 @@ fn resume_where(
     ensures sound { OnOk result (IsSound core.new) }
     ensures go { OnOk result (to_go core.new ≤ to_go core.old) }
     ensures notes { Appends notes.old notes.new }
-    ensures octets { Goes result core.old notes.old core.new notes.new }
+    ensures octets { Goes result core.old (notes.old ++ resume_of course.flow drained) core.new notes.new }
 {
     match drained {
         Some(buffer) => resume(core, course, buffer, notes),
@@ -138,7 +137,7 @@ fn resume_where(
 fn note_pause(flow: FlowId, rose: Option<BufferId>, notes: &mut Notes) -> Result<(), NoMemory>
     requires { IfSome rose (CanPause flow) }
     ensures notes { Appends notes.old notes.new }
-    ensures octets { Shows result notes.old notes.new }
+    ensures paid { Pays result (pause_of flow rose) notes.old notes.new }
 {
     match rose {
         Some(buffer) => note(notes, Note::Pause { flow, buffer }),
@@ -158,7 +157,7 @@ fn resume(
     ensures sound { OnOk result (IsSound core.new) }
     ensures go { OnOk result (to_go core.new ≤ to_go core.old) }
     ensures notes { Appends notes.old notes.new }
-    ensures octets { Goes result core.old notes.old core.new notes.new }
+    ensures octets { Goes result core.old (notes.old ++ note.Resume course.flow buffer ∷ []) core.new notes.new }
 {
     let flow = course.flow;
     core.look_due(course)?;

@@ -1,6 +1,6 @@
 // Flows are told that a write buffer drained.
-ghost use Rattle.std.specs.Prelude.{◌≡◌, ◌≤◌, ◌<◌, ◌+◌, OnOk};
-ghost use Rattle.wire_state.specs.Agenda.{top_go};
+ghost use Rattle.std.specs.Prelude.{◌≡◌, ◌≤◌, ◌<◌, ◌+◌, [], IfOk, OnOk, false, true};
+ghost use Rattle.wire_flows.specs.Writes.{lows_on};
 ghost use Rattle.wire_state.specs.Noting.{Appends};
 ghost use Rattle.wire_state.specs.Progress.{to_go};
 ghost use Rattle.wire_state.specs.Sound.{IsSound};
@@ -11,18 +11,18 @@ use flow_notes::{Note, Notes};
 use io_ports::NoMemory;
 use wire_state::{WireCore, note};
 
-/// The task Tell: the next flow that watches the connection's write buffer is told that it drained, and is run.
-pub fn tell(core: &mut WireCore, conn: u32, notes: &mut Notes) -> Result<(), NoMemory>
+/// The next flow that is still to be told that the write buffer of a connection drained is told, and is to be run. The answer is
+/// false exactly where there was none.
+pub fn tell(core: &mut WireCore, conn: u32, notes: &mut Notes) -> Result<bool, NoMemory>
     requires sound { IsSound core.old }
-    requires top { top_go core.old.agenda ≡ 1 }
     ensures sound { OnOk result (IsSound core.new) }
-    ensures go { OnOk result (to_go core.new < to_go core.old) }
+    ensures go { IfOk result (λ more. more ≡ true → to_go core.new < to_go core.old) }
     ensures notes { Appends notes.old notes.new }
+    ensures told { IfOk result (λ more. more ≡ false → lows_on conn core.new.flows ≡ []) }
     ensures octets { Goes result core.old notes.old core.new notes.new }
 {
     let Some(flow) = core.flows.next_told(conn) else {
-        core.end_task();
-        return Ok(());
+        return Ok(false);
     };
     run_told(core, flow)?;
     note(
@@ -31,7 +31,8 @@ pub fn tell(core: &mut WireCore, conn: u32, notes: &mut Notes) -> Result<(), NoM
             flow,
             buffer: BufferId::Write(conn),
         },
-    )
+    )?;
+    Ok(true)
 }
 
 // A flow that was told runs.

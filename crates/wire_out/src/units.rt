@@ -1,15 +1,17 @@
 // Units of flows: heads, bodies and trailers.
 ghost use Rattle.exchange_core.specs.Units.{IsFrameable};
-ghost use Rattle.std.specs.Prelude.{◌≡◌, ◌≤◌, ◌+◌, IfNone, IfOk, IfSome, IsSome, MatchOption, OnOk, true, ◌∷◌, [], Some};
+ghost use Rattle.flow_notes.specs.declared.notes.Note.TheVariants as note;
+ghost use Rattle.std.specs.Prelude.{◌≡◌, ◌≤◌, ◌+◌, IfNone, IfOk, IfSome, IsSome, MatchOption, OnOk, true, ◌++◌, ◌∷◌, [], Some};
+ghost use Rattle.wire_flows.specs.Writes.{watchers_on};
 ghost use Rattle.wire_flows.specs.Flows.{IsThere, flow_in, is_live_in};
 ghost use Rattle.wire_out.specs.Opening.{IsUnframed};
 ghost use Rattle.wire_state.specs.Agenda.{stirred_at, top_go};
-ghost use Rattle.wire_state.specs.Noting.{Appends};
+ghost use Rattle.wire_state.specs.Noting.{Appends, framed_of, told_of};
 ghost use Rattle.wire_state.specs.Progress.{conn_go, to_go};
 ghost use Rattle.wire_state.specs.Sound.{IsSound};
-ghost use Rattle.wire_state.specs.Worlds.{Goes, Keeps, KeepsOk, Owes, Shows, stream_in};
-ghost use Rattle.flow_notes.specs.declared.notes.Note.TheVariants as note;
+ghost use Rattle.wire_state.specs.Worlds.{Goes, Keeps, KeepsOk, Owes, stream_in};
 
+use crate::drains::note_risen;
 use crate::lists::frame_list;
 use exchange_core::Unit;
 use flow_gate::{BufferId, FlowId};
@@ -17,7 +19,7 @@ use flow_notes::{Note, Notes};
 use io_ports::NoMemory;
 use wire_ends::end_framed;
 use wire_flows::Framed;
-use wire_state::{Conn, Course, Task, WireCore, note, note_pauses};
+use wire_state::{Conn, Course, Task, WireCore, note};
 
 /// A flow at the connection that it goes to: its stream there is none until a request's head is framed.
 #[derive(Clone, Copy)]
@@ -187,7 +189,7 @@ fn end_or_resume(
     ensures sound { OnOk result (IsSound core.new) }
     ensures go { OnOk result (to_go core.new ≤ to_go core.old + 10) }
     ensures notes { Appends notes.old notes.new }
-    ensures octets { Goes result core.old notes.old core.new notes.new }
+    ensures octets { Goes result core.old (notes.old ++ told_of framed.drained course.flow) core.new notes.new }
 {
     let exchange = course.flow.exchange;
     if !framed.drained {
@@ -206,7 +208,7 @@ fn write_body(core: &mut WireCore, going: Going) -> Result<Option<Framed>, NoMem
     ensures sound { OnOk result (IsSound core.new) }
     ensures go { IfOk result (λ framed. MatchOption framed (to_go core.new ≤ to_go core.old) (λ f. to_go core.new + 40 ≤ to_go core.old)) }
     ensures rest { core.new ≡ record core.old { conns = core.new.conns; flows = core.new.flows } }
-    ensures octets { IfOk result (λ framed. MatchOption framed (Keeps core.old core.new) (λ f. Owes (note.Frame going.conn going.course.flow f.n f.last ∷ []) core.old core.new)) }
+    ensures octets { IfOk result (λ framed. MatchOption framed (Keeps core.old core.new) (λ f. Owes (framed_of going.conn going.course.flow f (watchers_on going.conn core.new.flows)) core.old core.new)) }
 {
     match going.stream {
         Some(stream) => write_body_on(core, going.conn, going.course.flow, stream),
@@ -226,7 +228,7 @@ fn write_body_on(
     ensures sound { OnOk result (IsSound core.new) }
     ensures go { IfOk result (λ framed. MatchOption framed (to_go core.new ≤ to_go core.old) (λ f. to_go core.new + 40 ≤ to_go core.old)) }
     ensures rest { core.new ≡ record core.old { conns = core.new.conns; flows = core.new.flows } }
-    ensures octets { IfOk result (λ framed. MatchOption framed (Keeps core.old core.new) (λ f. Owes (note.Frame number flow f.n f.last ∷ []) core.old core.new)) }
+    ensures octets { IfOk result (λ framed. MatchOption framed (Keeps core.old core.new) (λ f. Owes (framed_of number flow f (watchers_on number core.new.flows)) core.old core.new)) }
 {
     let quantum = core.config.limits.quantum;
     match core.conns.get_mut(&number) {
@@ -268,24 +270,13 @@ pub(crate) fn end_where(
     Ok(())
 }
 
-// Where the write buffer rose, the flows that go to the connection are held back.
-fn note_risen(core: &WireCore, conn: u32, rose: bool, notes: &mut Notes) -> Result<(), NoMemory>
-    ensures notes { Appends notes.old notes.new }
-    ensures octets { Shows result notes.old notes.new }
-{
-    if rose {
-        return note_pauses(&core.flows, conn, notes);
-    }
-    Ok(())
-}
-
 // The send buffer of a flow has drained: the flow is told, and runs.
 fn resume(core: &mut WireCore, course: Course, notes: &mut Notes) -> Result<(), NoMemory>
     requires sound { IsSound core.old }
     ensures sound { OnOk result (IsSound core.new) }
     ensures go { OnOk result (to_go core.new ≤ to_go core.old + 9) }
     ensures notes { Appends notes.old notes.new }
-    ensures octets { Goes result core.old notes.old core.new notes.new }
+    ensures octets { Goes result core.old (notes.old ++ note.Resume course.flow (BufferId.Send course.flow) ∷ []) core.new notes.new }
 {
     let flow = course.flow;
     core.look_due(course)?;

@@ -37,7 +37,7 @@ use Rattle.wire_run.specs.declared.play.WirePlay.{WirePlay}
 use Rattle.wire_run.specs.declared.stages.StageTable.{StageTable}
 use Rattle.wire_state.specs.Marks.{row_in}
 use Rattle.wire_state.specs.Sound.{IsSound}
-use Rattle.wire_state.specs.Worlds.{Stands}
+use Rattle.wire_state.specs.Worlds.{Rests}
 use Rattle.wire_summary.specs.Levels.{StageLimits, known_limits}
 use Rattle.wire_summary.specs.Logging.{WireLogIs, WireLogs}
 use Rattle.wire_summary.specs.declared.levels.BufferLimits.{BufferLimits}
@@ -256,7 +256,7 @@ event_line_played old mid line e text_old new text_new result r es et el p = rec
 
 pub play_begins : (play : WirePlay) (config : Config) (text : List ℕ) (names : List (List ℕ)) (resources : ℕ) (limits : BufferLimits) (routes : List Route) → config_of text ≡ Ok config
     → names ≡ names_in config → AreNames names → resources ≡ resources_in config → WireLinesAre play.lines names resources NoLine → play.session.failed ≡ false → IsSound play.session.core → play.session.turn ≡ 0
-    → play.session.core.config ≡ config → Stands play.session.core.config.limits play.session.core.conns play.session.core.flows play.session.core.links [] → limits ≡ limits_of config → WireLogIs limits play.log [] → ((x : ℕ) → known_limits play.log.levels x ≡ None)
+    → play.session.core.config ≡ config → Rests play.session.core.config.limits play.session.core.conns play.session.core.flows play.session.core.links [] → limits ≡ limits_of config → WireLogIs limits play.log [] → ((x : ℕ) → known_limits play.log.levels x ≡ None)
     → routes ≡ config.routes → AreStages play.stages.rows.items routes → Begins wire_kind play text
 play_begins play config text names resources limits routes configured names_are known resources_are lines well sound turn same octets limits_are logs unsaid routes_are stages = record {
   stands = record {

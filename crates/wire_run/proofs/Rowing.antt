@@ -79,16 +79,16 @@ module _ (x : ℕ) where
   -- what is named was given
   named_given : (config : Config) (h : WayHistory) → AreWays config h → names_in x h ≡ true → x ≤ length (started h)
   named_given config [] w e = cc
-  named_given config (Noted (note.Start y c s d) ∷ Marked (Passes z row there back) ∷ past) w e = one_more (length (started past)) (started past) (y ∷ []) refl (named_given config past w.1 e)
+  named_given config (Noted (note.Start y c s d) ∷ Marked (Passes z row to there back) ∷ past) w e = one_more (length (started past)) (started past) (y ∷ []) refl (named_given config past w.1 e)
   named_given config (Noted (note.Start y c s d) ∷ Marked (Opens z t) ∷ past) w e = absurd w
   named_given config (Noted (note.Start y c s d) ∷ Noted n ∷ past) w e = absurd w
   named_given config (Noted (note.Start y c s d) ∷ []) w e = absurd w
-  named_given config (Marked (Passes y row there back) ∷ past) w e = absurd w
+  named_given config (Marked (Passes y row to there back) ∷ past) w e = absurd w
   named_given config (Marked (Opens y s) ∷ past) w e = named_given config past w.1 e
-  named_given config (Noted (note.Arrive f octets) ∷ past) w e = either (f.exchange == x) (names_in x past) (length (started past)) (λ is. same_number f.exchange (length (started past)) is w.0) (λ is. named_given config past w.1 is) e
-  named_given config (Noted (note.Move f p n) ∷ past) w e = either (f.exchange == x) (names_in x past) (length (started past)) (λ is. same_number f.exchange (length (started past)) is w.0) (λ is. named_given config past w.1 is) e
-  named_given config (Noted (note.Frame c f n last) ∷ past) w e = either (f.exchange == x) (names_in x past) (length (started past)) (λ is. same_number f.exchange (length (started past)) is w.0) (λ is. named_given config past w.1 is) e
-  named_given config (Noted (note.Doom y why) ∷ past) w e = either (y == x) (names_in x past) (length (started past)) (λ is. same_number y (length (started past)) is w.0) (λ is. named_given config past w.1 is) e
+  named_given config (Noted (note.Arrive f octets) ∷ past) w e = either (f.exchange == x) (names_in x past) (length (started past)) (λ is. same_number f.exchange (length (started past)) is w.0.1) (λ is. named_given config past w.1 is) e
+  named_given config (Noted (note.Move f p n) ∷ past) w e = either (f.exchange == x) (names_in x past) (length (started past)) (λ is. same_number f.exchange (length (started past)) is w.0.1) (λ is. named_given config past w.1 is) e
+  named_given config (Noted (note.Frame c f n last) ∷ past) w e = either (f.exchange == x) (names_in x past) (length (started past)) (λ is. same_number f.exchange (length (started past)) is w.0.1) (λ is. named_given config past w.1 is) e
+  named_given config (Noted (note.Doom y why) ∷ past) w e = either (y == x) (names_in x past) (length (started past)) (λ is. same_number y (length (started past)) is w.0.1) (λ is. named_given config past w.1 is) e
   named_given config (Noted (note.Turn k t) ∷ past) w e = named_given config past w e
   named_given config (Noted (note.Out c n) ∷ past) w e = named_given config past w e
   named_given config (Noted (note.Pause f b) ∷ past) w e = named_given config past w e

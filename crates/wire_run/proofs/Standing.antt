@@ -15,6 +15,7 @@ use Rattle.std.specs.Prelude.{Bool, IsTrue, List, Option, Some, [], false, lengt
 use Rattle.tape_laws.specs.Bounds.{IsBounded}
 use Rattle.tape_laws.specs.Connections.{connections}
 use Rattle.tape_laws.specs.Dispatches.{before_dispatch, events_back, has, started, this_event}
+use Rattle.tape_laws.specs.Headline.{Headline}
 use Rattle.tape_laws.specs.History.{BeforeTurn, EachFollows, History, Marked, NoMark, Noted, notes_of, onto}
 use Rattle.tape_laws.specs.World.{gone, out}
 use Rattle.wire_run.proofs.Rowing.{rows_on}
@@ -22,13 +23,13 @@ use Rattle.wire_run.specs.Passing.{PassesAll, row_told}
 use Rattle.wire_run.specs.Stages.{AreStages, HaveRows}
 use Rattle.wire_run.specs.declared.stages.RouteStages.{RouteStages}
 use Rattle.wire_run.specs.Worlds.{HasWorld, IsNewTo, LeavesByRoom, StandsFor, leaves_by}
-use Rattle.wire_state.proofs.Promised.{promised}
+use Rattle.wire_state.proofs.Counted.{rests_headline}
 use Rattle.wire_state.specs.Courses.{row_of}
 use Rattle.wire_state.specs.Marks.{AreWays}
 use Rattle.wire_state.specs.Noting.{IsStep}
-use Rattle.wire_state.specs.Tapes.{Promises, tape_setup}
+use Rattle.wire_state.specs.Tapes.{tape_setup}
 use Rattle.wire_state.specs.Ways.{WayHistory, WayStep, after, shown, world_setup}
-use Rattle.wire_state.specs.Worlds.{IsFresh, Stands, left_after, octets_of}
+use Rattle.wire_state.specs.Worlds.{IsFresh, Rests, left_after, octets_of}
 use Rattle.wire_state.specs.declared.conn.Conn.{Conn}
 use Rattle.wire_summary.specs.Logging.{WireLogs}
 use Rattle.wire_summary.specs.declared.log.WireLog.{WireLog}
@@ -46,9 +47,9 @@ none_fits l = record { recv = tt; stages = tt; send = on_true (nat_lt 0 l.send_b
     on_true false = tt
 
 abbrev pub none_left : (config : Config) → HasWorld config []
-none_left config = record { marked = []; notes = refl; ways = tt; promises = record { sent = λ f. refl; bounded = none_fits config.limits }; left = tt; last = λ c. refl }
+none_left config = record { marked = []; notes = refl; ways = tt; promises = record { sent = λ f. refl; bounded = none_fits config.limits; counted = tt; last = tt }; left = tt; last = λ c. refl }
 
-abbrev pub stands_first : (session : WireSession) (config : Config) → session.core.config ≡ config → Stands session.core.config.limits session.core.conns session.core.flows session.core.links [] → StandsFor session config []
+abbrev pub stands_first : (session : WireSession) (config : Config) → session.core.config ≡ config → Rests session.core.config.limits session.core.conns session.core.flows session.core.links [] → StandsFor session config []
 stands_first session config e s = record { under = e; world = none_left config; stands = s }
 
 -- ---- a connection that comes is new
@@ -275,11 +276,11 @@ stands_on old new l e notes h d new_one s =
           marked = after t.steps k;
           notes = same_notes t.steps k notes h t.is s.world.notes;
           ways = tied;
-          promises = subst (λ (v : Config). Promises v.limits (after t.steps k)) same (promised new.core.conns new.core.flows new.core.links (after t.steps k) t.stands);
+          promises = subst (λ (v : Config). Headline (tape_setup v.limits) (after t.steps k)) same (rests_headline new.core.conns new.core.flows new.core.links (after t.steps k) t.stands);
           left = turn.each s.world.left s.world.last;
           last = λ c. t.left c ∙ left_by e old.core.conns (λ x. gone world_setup x k) c
               ∙ leaves_as c (gone world_setup c k) (gone world_setup c (before_dispatch (after t.steps k))) (octets_of c old.core.conns) (out world_setup c (before_dispatch (after t.steps k)))
-              (Some e) (this_event (after t.steps k)) (turn.left_is c) (turn.waits_is c ∙ sym (s.stands.writes c)) turn.event_is;
+              (Some e) (this_event (after t.steps k)) (turn.left_is c) (turn.waits_is c ∙ sym (s.stands.stands.writes c)) turn.event_is;
         };
         stands = t.stands;
       };

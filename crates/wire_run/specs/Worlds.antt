@@ -4,10 +4,11 @@ use Rattle.proxy_config.specs.declared.config.Config.{Config}
 use Rattle.session_lines.specs.WireOrder.{named}
 use Rattle.std.specs.Prelude.{List, Option, Some, [], false, if◌then◌else◌, take, ℕ, ◌++◌, ◌==◌, ◌∷◌, ◌≡◌}
 use Rattle.tape_laws.specs.Dispatches.{before_dispatch, events_back, has, this_event}
+use Rattle.tape_laws.specs.Headline.{Headline}
 use Rattle.tape_laws.specs.History.{BeforeTurn, EachFollows, History, NoMark, notes_of}
 use Rattle.tape_laws.specs.World.{gone, out}
 use Rattle.wire_state.specs.Marks.{AreWays}
-use Rattle.wire_state.specs.Tapes.{Promises}
+use Rattle.wire_state.specs.Tapes.{tape_setup}
 use Rattle.wire_state.specs.Ways.{WayHistory, world_setup}
 use Rattle.worker_core.specs.Sessions.{StandsAt}
 use Rattle.worker_core.specs.declared.wire.WireSession.{WireSession}
@@ -25,13 +26,14 @@ abbrev pub LeavesByRoom : WayHistory → Type 0
 LeavesByRoom past = (c : ℕ) → gone world_setup c past ≡ gone world_setup c (before_dispatch past) ++ leaves_by (this_event past) c (out world_setup c (before_dispatch past))
 
 -- The tape with marks: the stages that each exchange passes, which are those of one row of the routes or none, and the stream that its
--- request gets, which no note tells. At each moment it keeps the promise, and at the end of each dispatch octets had left each
+-- request gets, which no note tells. At each moment what each flow sent on is a front of its body and no buffer holds more than its
+-- bound, after each dispatch each live flow is held back as often as it has sources that are above, and octets had left each
 -- connection as its event says.
 pub record HasWorld (config : Config) (history : History NoMark) : Type 0 where
   pub marked : WayHistory
   pub notes : notes_of marked ≡ notes_of history
   pub ways : AreWays config marked
-  pub promises : Promises config.limits marked
+  pub promises : Headline (tape_setup config.limits) marked
   pub left : EachFollows (BeforeTurn LeavesByRoom) marked
   pub last : LeavesByRoom marked
 

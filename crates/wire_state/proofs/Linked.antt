@@ -71,8 +71,8 @@ links_go old new k conns flows h s = record {
   marks = marks_go flows flows old new h h refl k.ends refl (λ x. refl) s.marks;
 }
 
-pub links_told : {k : Config} {l : Footing} → (old new : Links) → KeepsEnds old new → (conns : PagedMap Conn) (flows : Flows) (h : WayHistory) (g : ℕ → List ℕ) (start notes : List Note) → ToldBy k l h g start conns flows old notes → ToldBy k l h g start conns flows new notes
-links_told old new k conns flows h g start notes t = record { steps = t.steps; is = t.is; stands = links_go old new k conns flows (after t.steps h) t.stands; left = t.left; under = t.under; ways = t.ways; rows = t.rows; since = t.since }
+pub links_told : {k : Config} {l : Footing} {t u : Option ℕ} → (old new : Links) → KeepsEnds old new → (conns : PagedMap Conn) (flows : Flows) (h : WayHistory) (g : ℕ → List ℕ) (start notes : List Note) → ToldBy k l t u h g start conns flows old notes → ToldBy k l t u h g start conns flows new notes
+links_told old new k conns flows h g start notes t = record { steps = t.steps; is = t.is; stands = links_go old new k conns flows (after t.steps h) t.stands; counts = t.counts; left = t.left; under = t.under; ways = t.ways; rows = t.rows; since = t.since }
 
 still_there : (c d : ℕ) (f : Link → Link) (es : List (ℕ × Link)) → is_some (if nat_eq c d then option_map f (under c es) else under d es) ≡ is_some (under d es)
 still_there c d f es = by_case (nat_eq c d)
@@ -132,7 +132,7 @@ comes_new n old new v none u empty opened = record {
   others = other_there n old new (Some v) u;
 }
 
-none_octets : (n : ℕ) (conns : PagedMap Conn) → has_conn n conns ≡ false → octets_of n conns ≡ []
+pub none_octets : (n : ℕ) (conns : PagedMap Conn) → has_conn n conns ≡ false → octets_of n conns ≡ []
 none_octets n conns e = at (value_at n conns) e
   where
     at : (o : Option Conn) → is_some o ≡ false → option_map_or (λ conn. conn.outlet.write.octets) o [] ≡ []
@@ -163,10 +163,6 @@ comes n old new c flows links h known came fresh s = record {
   fits = s.fits;
   marks = s.marks;
 }
-
-pub come_told : {k : Config} {l : Footing} → (n : ℕ) (old new : PagedMap Conn) → ComesNew n old new → (flows : Flows) (links : Links) → is_known n links ≡ true
-    → (h : WayHistory) (g : ℕ → List ℕ) (start notes : List Note) (t : ToldBy k l h g start old flows links notes) → has (connections world_setup (after t.steps h)) n ≡ true → was_closed n (after t.steps h) ≡ false → ToldBy k l h g start new flows links notes
-come_told n old new c flows links known h g start notes t came fresh = record { steps = t.steps; is = t.is; stands = comes n old new c flows links (after t.steps h) known came fresh t.stands; left = t.left; under = t.under; ways = t.ways; rows = t.rows; since = t.since }
 
 -- ---- a connection is forgotten
 pub record ForgetsConn (n : ℕ) (old new : PagedMap Conn) : Type 0 where

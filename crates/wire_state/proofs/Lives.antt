@@ -11,6 +11,7 @@ use Rattle.filter_chain.specs.Place.{Place, empty_place}
 use Rattle.filter_chain.specs.declared.stage.StageKind.TheVariants.{Send}
 use Rattle.flow_gate.specs.declared.ids.FlowId.{FlowId}
 use Rattle.flow_notes.specs.declared.notes.Cause.{Cause}
+use Rattle.flow_notes.specs.declared.notes.Note.{Note}
 use Rattle.proxy_config.specs.declared.config.Config.{Config}
 use Rattle.proxy_config.specs.declared.config.LimitKeys.{LimitKeys}
 use Rattle.proxy_config.specs.declared.routes.Filter.{Filter}
@@ -26,9 +27,11 @@ use Rattle.tape_laws.specs.Units.{StageKind}
 use Rattle.tape_laws.specs.World.{last_place, place, received, sent}
 use Rattle.wire_flows.proofs.Cases.{by_case}
 use Rattle.wire_flows.proofs.Starts.{response_new}
-use Rattle.wire_flows.specs.Flows.{Flows, flow_in, is_there}
+use Rattle.wire_flows.specs.Flows.{Flows, KeepsLive, flow_in, is_there}
+use Rattle.wire_flows.specs.Sound.{IsSound}
 use Rattle.wire_links.specs.Links.{Links, ends_of, is_known, with_stream}
 use Rattle.wire_links.specs.declared.links.exchanges.Ends.{Ends}
+use Rattle.wire_state.proofs.CountsKept.{counts_flows, found_keep, mapped_keep, seen_places}
 use Rattle.wire_state.proofs.Fitting.{doomed_fits, empty_fits, fits_now, still_fits}
 use Rattle.wire_state.proofs.Held.{begun_held, is_number, seen_keeps, turned}
 use Rattle.wire_state.proofs.Marked.{marks_begun, marks_doomed, marks_opened}
@@ -36,10 +39,11 @@ use Rattle.wire_state.proofs.Sending.{begun_loses, fronts_still, unborn_still}
 use Rattle.wire_state.proofs.Shapes.{begun_shape}
 use Rattle.wire_state.proofs.Standing.{ends_are_still, flow_still, if_some}
 use Rattle.wire_state.proofs.Bodies.{flows_go, flows_mapped}
+use Rattle.wire_state.specs.Counts.{Counts}
 use Rattle.wire_state.specs.Limits.{FlowFits, HasShape}
-use Rattle.wire_state.specs.Marks.{MayOpen}
-use Rattle.wire_state.specs.Ways.{Opens, Passes, WayHistory, WayStep, stages_of, stages_passed, stream_to, world_setup}
-use Rattle.wire_state.specs.Worlds.{EndsAre, FlowIs, IsUnborn, Stands}
+use Rattle.wire_state.specs.Ways.{Opens, Passes, WayHistory, WayStep, after, stages_of, stages_passed, stream_to, world_setup}
+use Rattle.wire_state.specs.Worlds.{EndsAre, FlowIs, IsUnborn, Stands, ToldBy}
+use Rattle.wire_state.specs.Marks.{Footing, MayOpen}
 use Rattle.wire_state.specs.declared.conn.Conn.{Conn}
 use Rattle.flow_notes.specs.declared.notes.Note.TheVariants as note
 
@@ -111,7 +115,7 @@ module _ (x c s d : ℕ) (to : Option ℕ) (spec : StartSpec) (config : Config) 
   back = filters_of (side_filters true) spec.row config
 
   abbrev passing : WayStep
-  passing = Marked (Passes x spec.row (stages_of there) (stages_of back))
+  passing = Marked (Passes x spec.row to (stages_of there) (stages_of back))
 
   abbrev start : WayStep
   start = Noted (note.Start x c s d)
@@ -223,7 +227,7 @@ module _ (x c s d : ℕ) (to : Option ℕ) (spec : StartSpec) (config : Config) 
         (record { flows = begun_fits (passing ∷ h) (λ f e. passed_stages f false e) (λ f p. refl) (λ f. refl) (λ f. refl) stands.empty stands.unborn fit.flows; outs = fit.outs }, stands.fits),
       );
       fronts = fronts_still start (passing ∷ h) (λ f. refl) (λ f. refl) (fronts_still passing h (λ f. refl) (λ f. refl) stands.fronts);
-      marks = marks_begun config x c s d spec.row h old new links links' linked refl number b.last linked_so.ends stands.marks;
+      marks = marks_begun config x c s d spec.row to h old new links links' linked refl number b.last linked_so.ends stands.marks;
     }
 
 -- ---- the stream of a request at its cluster
@@ -269,6 +273,27 @@ pub ticks : {l : LimitKeys} → (now : ℕ) (old new : Flows) → Ticks now old.
 ticks now old new t conns links h s = flows_mapped (at_moment now) (seen_keeps now) old new t.last
     (λ f. ap (option_and_then (side_of f.back)) (t.live f.exchange) ∙ seen_found now f.back (exchange_at old.exchanges f.exchange)) conns links h s
 
+pub ticks_counts : {l : LimitKeys} {t u : Option ℕ} → (now : ℕ) (old new : Flows) → Ticks now old.exchanges new.exchanges → KeepsLive old new → new.gates ≡ old.gates → IsSound new → (conns : PagedMap Conn) (h : WayHistory) → Counts l t u conns old h → Counts l t u conns new h
+ticks_counts now old new t live gates sound conns h c = counts_flows conns old new h (mapped_keep (at_moment now) (seen_places now) old new t.last
+    (λ f. ap (option_and_then (side_of f.back)) (t.live f.exchange) ∙ seen_found now f.back (exchange_at old.exchanges f.exchange)) live.goes live.live) gates sound c
+
 -- ---- the deferred list
 pub sweeps : {l : LimitKeys} → (swept : Option ℕ) (old new : Flows) → Sweeps swept old.exchanges new.exchanges → (conns : PagedMap Conn) (links : Links) (h : WayHistory) → Stands l conns old links h → Stands l conns new links h
 sweeps swept old new w conns links h s = flows_go old new w.last (λ f. ap (option_and_then (side_of f.back)) (w.live f.exchange)) conns links h s
+
+pub sweeps_counts : {l : LimitKeys} {t u : Option ℕ} → (swept : Option ℕ) (old new : Flows) → Sweeps swept old.exchanges new.exchanges → KeepsLive old new → new.gates ≡ old.gates → IsSound new → (conns : PagedMap Conn) (h : WayHistory) → Counts l t u conns old h → Counts l t u conns new h
+sweeps_counts swept old new w live gates sound conns h c = counts_flows conns old new h (found_keep old new w.last (λ f. ap (option_and_then (side_of f.back)) (w.live f.exchange)) live.goes live.live) gates sound c
+
+pub swept_told : {k : Config} {l : Footing} {t u : Option ℕ} → (swept : Option ℕ) (old new : Flows) → Sweeps swept old.exchanges new.exchanges → KeepsLive old new → new.gates ≡ old.gates → IsSound new → (conns : PagedMap Conn) (links : Links)
+    → (h : WayHistory) (g : ℕ → List ℕ) (start notes : List Note) → ToldBy k l t u h g start conns old links notes → ToldBy k l t u h g start conns new links notes
+swept_told swept old new w live gates sound conns links h g begun_at notes t = record {
+  steps = t.steps;
+  is = t.is;
+  stands = sweeps swept old new w conns links (after t.steps h) t.stands;
+  counts = sweeps_counts swept old new w live gates sound conns (after t.steps h) t.counts;
+  left = t.left;
+  under = t.under;
+  ways = t.ways;
+  rows = t.rows;
+  since = t.since;
+}

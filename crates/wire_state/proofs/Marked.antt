@@ -14,6 +14,7 @@ use Rattle.wire_links.specs.Links.{Links, ends_of, no_links, with_stream}
 use Rattle.wire_links.specs.declared.links.exchanges.Ends.{Ends}
 use Rattle.wire_state.proofs.Held.{is_number, number_same}
 use Rattle.wire_state.specs.Marks.{AreWays, HasMarks, MarksAre, MayOpen, is_opened, side_stages}
+use Rattle.wire_state.specs.Noting.{conn_number}
 use Rattle.wire_state.specs.Ways.{Opens, Passes, WayHistory, WayStep}
 
 each : {P Q : Ends → Type 0} (o : Option Ends) → ((e : Ends) → P e → Q e) → IfSome o P → IfSome o Q
@@ -55,9 +56,9 @@ marks_doomed x why old new links links' h last ends m = record {
     left y false = each (ends_of y links) (λ e is. record { some = is.some; given = is.given; opened = is.opened }) (m.ends y)
 
 -- ---- an exchange starts
-module _ (config : Config) (x c s d : ℕ) (row : Option ℕ) (h : WayHistory) where
+module _ (config : Config) (x c s d : ℕ) (row to : Option ℕ) (h : WayHistory) where
   abbrev then_ : WayHistory
-  then_ = Noted (note.Start x c s d) ∷ Marked (Passes x row (side_stages config row false) (side_stages config row true)) ∷ h
+  then_ = Noted (note.Start x c s d) ∷ Marked (Passes x row to (side_stages config row false) (side_stages config row true)) ∷ h
 
   more : length (started then_) ≡ length (started h) + 1
   more = length-append (started h) (x ∷ [])
@@ -87,8 +88,8 @@ module _ (config : Config) (x c s d : ℕ) (row : Option ℕ) (h : WayHistory) w
       left y true is = mine y (is_number x y is)
       left y false is = each (ends_of y links) (other y) (m.ends y)
 
-  pub ways_begun : (flows : Flows) (links : Links) → x ≡ flows.exchanges.last + 1 → MarksAre flows links h → AreWays config h → AreWays config then_
-  ways_begun flows links number m ways = (record { number = number ∙ ap (λ (n : ℕ). n + 1) m.numbers; same = refl; request = refl; response = refl }, ways)
+  pub ways_begun : (flows : Flows) (links : Links) → x ≡ flows.exchanges.last + 1 → d ≡ conn_number to → IfSome row (λ r. r < length config.routes) → MarksAre flows links h → AreWays config h → AreWays config then_
+  ways_begun flows links number goal routed m ways = (record { number = number ∙ ap (λ (n : ℕ). n + 1) m.numbers; same = refl; goal = goal; routed = routed; request = refl; response = refl }, ways)
 
 -- ---- a request gets its stream
 pub may_open : (x : ℕ) (flows : Flows) (links : Links) (h : WayHistory) → is_some (ends_of x links) ≡ true → IfSome (ends_of x links) (λ e. e.cluster_stream ≡ None) → MarksAre flows links h → MayOpen x h

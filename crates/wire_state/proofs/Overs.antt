@@ -1,13 +1,14 @@
 -- A Meter and the send buffer of a flow are above where those of the tape are, and go on to be.
 use Rattle.exchange_core.specs.Effects.{body_framed, moved}
-use Rattle.exchange_core.specs.Flow.{Flow, octets_in}
+use Rattle.exchange_core.specs.Flow.{Flow, last_place, octets_in}
 use Rattle.filter_chain.proofs.Changes.{place_at-changed_other, place_at-changed_same}
-use Rattle.filter_chain.specs.Chain.{place_at}
+use Rattle.filter_chain.specs.Chain.{above_in, place_at}
 use Rattle.filter_chain.specs.Effects.{changed_at}
 use Rattle.filter_chain.specs.Place.{Place, gaining, is_source, kind_of, letting_go, losing}
 use Rattle.filter_chain.specs.declared.stage.StageKind.{StageKind as PlaceKind}
 use Rattle.filter_chain.specs.declared.stage.StageKind.TheVariants as kind
 use Rattle.flow_gate.specs.declared.ids.BufferId.{BufferId}
+use Rattle.flow_gate.specs.declared.ids.BufferId.TheVariants as buffer
 use Rattle.flow_gate.specs.declared.ids.FlowId.{FlowId}
 use Rattle.flow_laws.proofs.Flags.{flag_now}
 use Rattle.proxy_config.specs.declared.config.LimitKeys.{LimitKeys}
@@ -23,6 +24,7 @@ use Rattle.wire_flows.proofs.Cases.{by_case, number_is}
 use Rattle.wire_flows.specs.Sound.{buffer_of}
 use Rattle.wire_state.proofs.Held.{apart}
 use Rattle.wire_state.proofs.Promised.{same_place}
+use Rattle.wire_state.specs.Counts.{AreOver}
 use Rattle.wire_state.specs.Limits.{shape_of, stage_shape}
 use Rattle.wire_state.specs.Tapes.{tape_setup}
 use Rattle.wire_state.specs.Ways.{WayHistory, WayStep, stages_passed}
@@ -118,10 +120,6 @@ pub record PlaceGoes (old new : Place) : Type 0 where
 pub record FlowGoes (old new : Flow) : Type 0 where
   pub each : (p : ℕ) (y : Place) → place_at new.chain.places p ≡ Some y → (x : Place) × (place_at old.chain.places p ≡ Some x) × PlaceGoes x y
 
--- its sources are above where those of the tape are
-abbrev pub AreOver : LimitKeys → FlowId → WayHistory → Flow → Type 0
-AreOver l f h flow = (p : ℕ) (x : Place) → place_at flow.chain.places p ≡ Some x → is_source x.kind ≡ true → x.above ≡ above (tape_setup l) (buffer_of f p (kind_of x.kind)) h
-
 module _ (l : LimitKeys) (f : FlowId) (step : WayStep) (h : WayHistory) (old new : Flow) (was : FlowIs l f h old) (is : FlowIs l f (step ∷ h) new)
     (i : ℕ) (y : Place) (found : slice_get new.chain.places i ≡ Some y) (source : is_source y.kind ≡ true)
     (x : Place) (found_old : slice_get old.chain.places i ≡ Some x) (g : PlaceGoes x y) (over : is_source x.kind ≡ true → x.above ≡ above (tape_setup l) (buffer_of f (suc i) (kind_of x.kind)) h) where
@@ -211,3 +209,26 @@ module _ (q n : ℕ) (flow : Flow) where
 pub moved_goes : (q n : ℕ) (flow : Flow) → FlowGoes flow (moved q n flow)
 moved_goes zero n flow = record { each = changed_comes (gaining (take n flow.recv)) (λ x. record { kind = refl; limit = refl; goes = inr refl }) 1 flow.chain.places }
 moved_goes (suc q) n flow = record { each = later_comes q n flow }
+
+-- ---- the send buffer
+abbrev Found_last : ℕ → List StageKind → List Place → Type 0
+Found_last most ss xs = (x : Place) × (slice_get xs (length ss) ≡ Some x) × (x.kind ≡ kind.Send)
+
+last_found : (most : ℕ) (ss : List StageKind) (xs : List Place) → map shape_of xs ≡ map stage_shape ss ++ (kind.Send, most) ∷ [] → Found_last most ss xs
+last_found most [] [] e = cc
+last_found most [] (x ∷ xs) e = (x, refl, ap first_kind e)
+last_found most (s ∷ ss) [] e = cc
+last_found most (s ∷ ss) (x ∷ xs) e = last_found most ss xs (ap rest e)
+
+-- it is above where that of the tape is
+pub send_over : (l : LimitKeys) (f : FlowId) (h : WayHistory) (flow : Flow) → FlowIs l f h flow → AreOver l f h flow → above_in flow.chain.places (last_place flow) ≡ above (tape_setup l) (buffer.Send f) h
+send_over l f h flow is over =
+    let found = last_found l.send_buffer (stages_passed f h) flow.chain.places is.shape.places in
+    let one : length (stages_passed f h) + 1 ≡ suc (length (stages_passed f h)) = more (length (stages_passed f h)) in
+    ap (above_in flow.chain.places) (is.last ∙ one)
+    ∙ (ap (λ (o : Option Place). option_map_or (λ x. x.above) o false) found.1
+    ∙ (over (suc (length (stages_passed f h))) found.0 found.1 (ap is_source found.2)
+    ∙ ap (λ (k : PlaceKind). above (tape_setup l) (buffer_of f (suc (length (stages_passed f h))) (kind_of k)) h) found.2))
+  where
+    more : (n : ℕ) → n + 1 ≡ suc n
+    more n = omega arith

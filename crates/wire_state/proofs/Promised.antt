@@ -45,7 +45,7 @@ module _ (l : LimitKeys) where
   same_sent f (Noted (note.Frame c g n last) ∷ h) = λ i. same_sent f h i ++ (if same_flow g f then take n (same_place f (last_place world_setup f h) h i) else [])
   same_sent f (step ∷ h) = same_sent f h
 
-  same_out : (c : ℕ) (h : WayHistory) → out (tape_setup l) c h ≡ out world_setup c h
+  pub same_out : (c : ℕ) (h : WayHistory) → out (tape_setup l) c h ≡ out world_setup c h
   same_out c [] = refl
   same_out c (Noted (note.Frame d f n last) ∷ h) = λ i. same_out c h i ++ (if d == c then data_head (stream_to f h) n last ++ take n (same_place f (last_place world_setup f h) h i) else [])
   same_out c (Noted (note.Head d s octets) ∷ h) = ap (λ xs. xs ++ (if d == c then octets else [])) (same_out c h)

@@ -18,7 +18,7 @@ use Rattle.wire_state.specs.Ways.{Opens, Passes, WayHistory, WayStep, after, sta
 -- the rows of the exchanges that began, in the order of their numbers
 abbrev pub rows_of : WayHistory → List (Option ℕ)
 rows_of [] = []
-rows_of (Marked (Passes x row there back) ∷ past) = rows_of past ++ row ∷ []
+rows_of (Marked (Passes x row to there back) ∷ past) = rows_of past ++ row ∷ []
 rows_of (step ∷ past) = rows_of past
 
 -- Each flow of an exchange that began passes the stages of its side of the exchange's row, and no other flow has any; each of these
@@ -58,9 +58,9 @@ get_last xs x i is = get_behind xs (x ∷ []) 0 i (is ∙ none_more (length xs))
     none_more n = omega arith
 
 -- ---- an exchange begins
-module _ (config : Config) (x c s d y : ℕ) (row : Option ℕ) (there back : List StageKind) (past : WayHistory) (b : IsBegun config x y row there back past) (was : AreStaged config past) where
+module _ (config : Config) (x c s d y : ℕ) (row to : Option ℕ) (there back : List StageKind) (past : WayHistory) (b : IsBegun config x d y row to there back past) (was : AreStaged config past) where
   abbrev then_ : WayHistory
-  then_ = Noted (note.Start x c s d) ∷ Marked (Passes y row there back) ∷ past
+  then_ = Noted (note.Start x c s d) ∷ Marked (Passes y row to there back) ∷ past
 
   more : length (started then_) ≡ length (started past) + 1
   more = length-append (started past) (x ∷ [])
@@ -140,11 +140,11 @@ none_below n less = omega (arith, less)
 
 pub staged : (config : Config) (h : WayHistory) → AreWays config h → AreStaged config h
 staged config [] w = record { each = λ f some most. absurd (nothing_given f.exchange some most); none = λ f over. refl; count = refl; known = λ x some most. absurd (nothing_given x some most); zero_ = refl; numbered = λ i less. absurd (none_below i less) }
-staged config (Noted (note.Start x c s d) ∷ Marked (Passes y row there back) ∷ past) w = begun config x c s d y row there back past w.0 (staged config past w.1)
+staged config (Noted (note.Start x c s d) ∷ Marked (Passes y row to there back) ∷ past) w = begun config x c s d y row to there back past w.0 (staged config past w.1)
 staged config (Noted (note.Start x c s d) ∷ Marked (Opens y t) ∷ past) w = absurd w
 staged config (Noted (note.Start x c s d) ∷ Noted n ∷ past) w = absurd w
 staged config (Noted (note.Start x c s d) ∷ []) w = absurd w
-staged config (Marked (Passes y row there back) ∷ past) w = absurd w
+staged config (Marked (Passes y row to there back) ∷ past) w = absurd w
 staged config (Marked (Opens x s) ∷ past) w = let was = staged config past w.1 in record { each = was.each; none = was.none; count = was.count; known = was.known; zero_ = was.zero_; numbered = was.numbered }
 staged config (Noted (note.Turn k e) ∷ past) w = let was = staged config past w in record { each = was.each; none = was.none; count = was.count; known = was.known; zero_ = was.zero_; numbered = was.numbered }
 staged config (Noted (note.Arrive g octets) ∷ past) w = let was = staged config past w.1 in record { each = was.each; none = was.none; count = was.count; known = was.known; zero_ = was.zero_; numbered = was.numbered }
@@ -167,7 +167,7 @@ pub rows_after : (steps : List WayStep) (h : WayHistory) → rows_of (after step
 rows_after [] h = sym (append-nil (rows_of h))
 rows_after (Noted n ∷ ss) h = rows_after ss (Noted n ∷ h)
 rows_after (Marked (Opens x s) ∷ ss) h = rows_after ss (Marked (Opens x s) ∷ h)
-rows_after (Marked (Passes x row there back) ∷ ss) h = rows_after ss (Marked (Passes x row there back) ∷ h) ∙ append_assoc (rows_of h) (row ∷ []) (rows_in ss)
+rows_after (Marked (Passes x row to there back) ∷ ss) h = rows_after ss (Marked (Passes x row to there back) ∷ h) ∙ append_assoc (rows_of h) (row ∷ []) (rows_in ss)
 
 -- the row that is kept of an exchange that began in these steps is that of its mark
 pub row_kept : (config : Config) (steps : List WayStep) (h : WayHistory) → AreWays config h → AreWays config (after steps h) → (x : ℕ) → length (started h) < x → x ≤ length (started (after steps h))

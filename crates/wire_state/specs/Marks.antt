@@ -10,6 +10,7 @@ use Rattle.tape_laws.specs.Units.{StageKind}
 use Rattle.wire_flows.specs.Flows.{Flows}
 use Rattle.wire_links.specs.Links.{Links, ends_of}
 use Rattle.wire_links.specs.declared.links.exchanges.Ends.{Ends}
+use Rattle.wire_state.specs.Noting.{conn_number}
 use Rattle.wire_state.specs.Ways.{Opens, Passes, WayHistory, WayStep, stages_of}
 use Rattle.wire_state.specs.declared.wire_core.WireCore.{WireCore}
 
@@ -22,24 +23,26 @@ is_opened x (step ∷ past) = is_opened x past
 -- the row of the routes that an exchange began on, if it began on one
 abbrev pub row_in : ℕ → WayHistory → Option ℕ
 row_in x [] = None
-row_in x (Marked (Passes y row there back) ∷ past) = if y == x then row else row_in x past
+row_in x (Marked (Passes y row to there back) ∷ past) = if y == x then row else row_in x past
 row_in x (step ∷ past) = row_in x past
 
 -- those of all exchanges that began in these steps, in their order
 abbrev pub rows_in : List WayStep → List (Option ℕ)
 rows_in [] = []
-rows_in (Marked (Passes x row there back) ∷ steps) = row ∷ rows_in steps
+rows_in (Marked (Passes x row to there back) ∷ steps) = row ∷ rows_in steps
 rows_in (step ∷ steps) = rows_in steps
 
 -- the stages of one side of a row of the routes, none where there is no row
 abbrev pub side_stages : Config → Option ℕ → Bool → List StageKind
 side_stages config row back = stages_of (filters_of (side_filters back) row config)
 
--- The exchange x has the number that comes next, which its mark has too, and passes the stages of both sides of one row of the
--- routes, or none.
-pub record IsBegun (config : Config) (x y : ℕ) (row : Option ℕ) (there back : List StageKind) (past : WayHistory) : Type 0 where
+-- The exchange x has the number that comes next, which its mark has too. It passes the stages of both sides of its row, which is one of
+-- the routes, or none where it has no row. Its start note names the connection d that the request goes to, 0 where it goes nowhere.
+pub record IsBegun (config : Config) (x d y : ℕ) (row to : Option ℕ) (there back : List StageKind) (past : WayHistory) : Type 0 where
   pub number : x ≡ length (started past) + 1
   pub same : y ≡ x
+  pub goal : d ≡ conn_number to
+  pub routed : IfSome row (λ r. r < length config.routes)
   pub request : there ≡ side_stages config row false
   pub response : back ≡ side_stages config row true
 
@@ -51,15 +54,15 @@ pub record MayOpen (x : ℕ) (past : WayHistory) : Type 0 where
 
 -- the number of the exchange was given
 abbrev pub IsGiven : ℕ → WayHistory → Type 0
-IsGiven x past = x ≤ length (started past)
+IsGiven x past = (0 < x) × (x ≤ length (started past))
 
 -- Each start note stands directly behind its mark, and each such mark before its start note: so an exchange has one, and none before
 -- it starts. A request gets at most one stream, after its start. What moves octets of an exchange, or dooms it, stands behind its start.
 abbrev pub AreWays : Config → WayHistory → Type 0
 AreWays config [] = Unit {0}
-AreWays config (Noted (note.Start x c s d) ∷ Marked (Passes y row there back) ∷ past) = IsBegun config x y row there back past × AreWays config past
+AreWays config (Noted (note.Start x c s d) ∷ Marked (Passes y row to there back) ∷ past) = IsBegun config x d y row to there back past × AreWays config past
 AreWays config (Noted (note.Start x c s d) ∷ past) = ⊥
-AreWays config (Marked (Passes y row there back) ∷ past) = ⊥
+AreWays config (Marked (Passes y row to there back) ∷ past) = ⊥
 AreWays config (Marked (Opens x s) ∷ past) = MayOpen x past × AreWays config past
 AreWays config (Noted (note.Arrive f octets) ∷ past) = IsGiven f.exchange past × AreWays config past
 AreWays config (Noted (note.Move f p n) ∷ past) = IsGiven f.exchange past × AreWays config past

@@ -18,7 +18,6 @@ task_go (task.AskDrain c) = 2
 task_go (task.Drain c) = 1
 task_go (task.AskRun course) = 7
 task_go (task.Run course tried) = if tried then 1 else 6
-task_go (task.Tell c) = 1
 task_go (task.End x) = 1
 task_go (task.Doom x cause) = 1
 task_go (task.Close c code cause) = 1

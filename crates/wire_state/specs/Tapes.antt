@@ -7,21 +7,18 @@ use Rattle.tape_laws.specs.Bounds.{IsBounded}
 use Rattle.tape_laws.specs.Headline.{SendsItsBody}
 use Rattle.tape_laws.specs.History.{AtEachMoment, Noted}
 use Rattle.tape_laws.specs.Setup.{Setup}
-use Rattle.wire_state.specs.Ways.{Way, WayHistory, world_setup}
+use Rattle.wire_state.specs.Ways.{Way, WayHistory, goal_in, world_setup}
 
--- a connection that a start note names: 0 is none
-abbrev pub named_conn : ℕ → Option ℕ
-named_conn c = if c == 0 then None else Some c
-
--- the connection that a flow comes from, and the one that it goes to, if any
+-- The connection that a flow comes from, and the one that it goes to, if any. A start note names 0 where its request goes nowhere, and
+-- where it goes to connection 0: its mark tells which.
 abbrev pub conn_from : FlowId → WayHistory → Option ℕ
 conn_from f [] = None
-conn_from f (Noted (note.Start x c s d) ∷ past) = if x == f.exchange then (if f.back then named_conn d else Some c) else conn_from f past
+conn_from f (Noted (note.Start x c s d) ∷ past) = if x == f.exchange then (if f.back then goal_in x past else Some c) else conn_from f past
 conn_from f (step ∷ past) = conn_from f past
 
 abbrev pub conn_to : FlowId → WayHistory → Option ℕ
 conn_to f [] = None
-conn_to f (Noted (note.Start x c s d) ∷ past) = if x == f.exchange then (if f.back then Some c else named_conn d) else conn_to f past
+conn_to f (Noted (note.Start x c s d) ∷ past) = if x == f.exchange then (if f.back then Some c else goal_in x past) else conn_to f past
 conn_to f (step ∷ past) = conn_to f past
 
 -- a session of these limits, but for what all flows from one connection hold together

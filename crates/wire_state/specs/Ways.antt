@@ -1,5 +1,6 @@
 -- What the world of a wire session's tape needs beside the notes: the stages that an exchange passes, which its start note
--- doesn't tell, and the stream that a request gets at its cluster, of which no note says whose it is.
+-- doesn't tell, whether its request goes to a connection, where that note says 0, and the stream that a request gets at its cluster,
+-- of which no note says whose it is.
 use Rattle.flow_gate.specs.declared.ids.FlowId.{FlowId}
 use Rattle.flow_notes.specs.declared.notes.Note.{Note}
 use Rattle.flow_notes.specs.declared.notes.Note.TheVariants as note
@@ -12,10 +13,10 @@ use Rattle.tape_laws.specs.Setup.{Setup}
 use Rattle.tape_laws.specs.Units.{Hold, Meter, StageKind}
 use Rattle.tape_laws.specs.World.{received}
 
--- with the start of an exchange: the row of its route, if it has one, and the stages of its request and of its response; and when its
--- request gets its stream
+-- with the start of an exchange: the row of its route and the connection that its request goes to, if it has them, and the stages of
+-- its request and of its response; and when its request gets its stream
 pub data Way : Type 0 where
-  Passes : (exchange : ℕ) → (row : Option ℕ) → (request response : List StageKind) → Way
+  Passes : (exchange : ℕ) → (row to : Option ℕ) → (request response : List StageKind) → Way
   Opens : (exchange stream : ℕ) → Way
 
 abbrev pub WayStep : Type 0
@@ -27,8 +28,14 @@ WayHistory = History Way
 -- the stages that a flow passes
 abbrev pub stages_passed : FlowId → WayHistory → List StageKind
 stages_passed f [] = []
-stages_passed f (Marked (Passes x row there back) ∷ past) = if x == f.exchange then (if f.back then back else there) else stages_passed f past
+stages_passed f (Marked (Passes x row to there back) ∷ past) = if x == f.exchange then (if f.back then back else there) else stages_passed f past
 stages_passed f (step ∷ past) = stages_passed f past
+
+-- the connection that the request of an exchange goes to, if there is one
+abbrev pub goal_in : ℕ → WayHistory → Option ℕ
+goal_in x [] = None
+goal_in x (Marked (Passes y row to there back) ∷ past) = if y == x then to else goal_in x past
+goal_in x (step ∷ past) = goal_in x past
 
 -- the stream that it has where it goes: a response's is named by its start
 abbrev pub stream_to : FlowId → WayHistory → ℕ

@@ -12,7 +12,7 @@ use Rattle.paged_map.specs.PagedMap.{PagedMap, value_at}
 use Rattle.proxy_config.specs.declared.config.Config.{Config}
 use Rattle.proxy_config.specs.declared.config.LimitKeys.{LimitKeys}
 use Rattle.std.specs.Option.{option_and_then, option_map_or}
-use Rattle.std.specs.Prelude.{Bool, IfSome, List, OnOk, Option, Result, Some, [], false, if◌then◌else◌, is_some, length, not, take, true, ℕ, ◌++◌, ◌<◌, ◌==◌, ◌∷◌, ◌≡◌}
+use Rattle.std.specs.Prelude.{Bool, IfSome, List, None, OnOk, Option, Result, Some, [], false, if◌then◌else◌, is_some, length, not, take, true, ℕ, ◌++◌, ◌<◌, ◌==◌, ◌∷◌, ◌≡◌}
 use Rattle.tape_laws.specs.Connections.{connections, was_closed}
 use Rattle.tape_laws.specs.Dispatches.{has, started}
 use Rattle.tape_laws.specs.Flows.{request, response}
@@ -24,6 +24,7 @@ use Rattle.wire_links.specs.Links.{Links, ends_of, is_known}
 use Rattle.wire_links.specs.declared.links.exchanges.Ends.{Ends}
 use Rattle.wire_outlet.specs.declared.outlet.Framed.{Framed}
 use Rattle.wire_outlet.specs.declared.outlet.Framed.TheVariants as framed
+use Rattle.wire_state.specs.Counts.{Counts}
 use Rattle.wire_state.specs.Limits.{Fits, HasShape}
 use Rattle.wire_state.specs.Marks.{AreWays, Footing, MarksAre, NoneBegan, footing_of, rows_in}
 use Rattle.wire_state.specs.Noting.{answers_of, heads_of}
@@ -81,51 +82,73 @@ pub record Stands (l : LimitKeys) (conns : PagedMap Conn) (flows : Flows) (links
   pub fits : AtEachMoment (Fits l) h
   pub marks : MarksAre flows links h
 
--- The notes were made by these steps behind that history, and the core, on this footing, stands for what they lead to. What left each
--- connection's write buffer up to there is told beside it, that the configuration is that of the session, that the marks are tied,
--- and that the rows are those of the exchanges that began in these steps.
-pub record ToldBy (k : Config) (l : Footing) (h : WayHistory) (g : ℕ → List ℕ) (start : List Note) (conns : PagedMap Conn) (flows : Flows) (links : Links) (notes : List Note) : Type 0 where
+-- Between two dispatches the core stands for its tape, and nobody is still to be told of a drain.
+pub record Rests (l : LimitKeys) (conns : PagedMap Conn) (flows : Flows) (links : Links) (h : WayHistory) : Type 0 where
+  pub stands : Stands l conns flows links h
+  pub counts : Counts l None None conns flows h
+
+-- The notes were made by these steps behind that history, and the core, on this footing, stands for what they lead to, and counts as
+-- they do. What left each connection's write buffer up to there is told beside it, that the configuration is that of the session, that
+-- the marks are tied, and that the rows are those of the exchanges that began in these steps. Somebody may still be to be told of a
+-- drain of the write buffer of `conn`, or of a Meter of `exchange`.
+pub record ToldBy (k : Config) (l : Footing) (conn exchange : Option ℕ) (h : WayHistory) (g : ℕ → List ℕ) (start : List Note) (conns : PagedMap Conn) (flows : Flows) (links : Links) (notes : List Note) : Type 0 where
   pub steps : List WayStep
   pub is : notes ≡ start ++ shown steps
   pub stands : Stands l.config.limits conns flows links (after steps h)
+  pub counts : Counts l.config.limits conn exchange conns flows (after steps h)
   pub left : (c : ℕ) → gone world_setup c (after steps h) ≡ g c
   pub under : l.config ≡ k
   pub ways : AreWays l.config h → AreWays l.config (after steps h)
   pub rows : l.rows ≡ rows_in steps
   pub since : l.before ≡ length (started h)
 
-abbrev pub Told : Config → WayHistory → (ℕ → List ℕ) → List Note → WireCore → List Note → Type 0
-Told k h g start core notes = ToldBy k (footing_of core) h g start core.conns core.flows core.links notes
+abbrev pub Told : Config → Option ℕ → Option ℕ → WayHistory → (ℕ → List ℕ) → List Note → WireCore → List Note → Type 0
+Told k conn exchange h g start core notes = ToldBy k (footing_of core) conn exchange h g start core.conns core.flows core.links notes
 
 -- Words between a core and its notes before a call and after it. Where memory was refused nothing is said.
 -- it goes on to
 pub record Goes {A E : Type 0} (r : Result A E) (old : WireCore) (before : List Note) (new : WireCore) (now : List Note) : Type 0 where
-  pub goes : {k : Config} → (h : WayHistory) (g : ℕ → List ℕ) (start : List Note) → Told k h g start old before → OnOk r (Told k h g start new now)
+  pub goes : {k : Config} {t : Option ℕ} → (h : WayHistory) (g : ℕ → List ℕ) (start : List Note) → Told k t None h g start old before → OnOk r (Told k t None h g start new now)
+
+-- it ends the exchange, if there is one, that overflowed
+pub record Settles {A E : Type 0} (late : Option ℕ) (r : Result A E) (old : WireCore) (before : List Note) (new : WireCore) (now : List Note) : Type 0 where
+  pub goes : {k : Config} {t : Option ℕ} → (h : WayHistory) (g : ℕ → List ℕ) (start : List Note) → Told k t late h g start old before → OnOk r (Told k t None h g start new now)
+
+-- it tells all who are still to be told of the drain of a write buffer, if there is one
+pub record TellsAll {A E : Type 0} (conn : Option ℕ) (r : Result A E) (old : WireCore) (before : List Note) (new : WireCore) (now : List Note) : Type 0 where
+  pub goes : {k : Config} → (h : WayHistory) (g : ℕ → List ℕ) (start : List Note) → Told k conn None h g start old before → OnOk r (Told k None None h g start new now)
 
 -- whatever was noted, also what is still to be noted
 pub record Keeps (old new : WireCore) : Type 0 where
-  pub goes : {k : Config} → (h : WayHistory) (g : ℕ → List ℕ) (start notes : List Note) → Told k h g start old notes → Told k h g start new notes
+  pub goes : {k : Config} {t u : Option ℕ} → (h : WayHistory) (g : ℕ → List ℕ) (start notes : List Note) → Told k t u h g start old notes → Told k t u h g start new notes
 
 pub record KeepsOk {A E : Type 0} (r : Result A E) (old new : WireCore) : Type 0 where
-  pub goes : {k : Config} → (h : WayHistory) (g : ℕ → List ℕ) (start notes : List Note) → Told k h g start old notes → OnOk r (Told k h g start new notes)
+  pub goes : {k : Config} {t u : Option ℕ} → (h : WayHistory) (g : ℕ → List ℕ) (start notes : List Note) → Told k t u h g start old notes → OnOk r (Told k t u h g start new notes)
 
 -- this is still to be noted
 pub record Owes (owed : List Note) (old new : WireCore) : Type 0 where
-  pub goes : {k : Config} → (h : WayHistory) (g : ℕ → List ℕ) (start notes : List Note) → Told k h g start old notes → Told k h g start new (notes ++ owed)
+  pub goes : {k : Config} {t u : Option ℕ} → (h : WayHistory) (g : ℕ → List ℕ) (start notes : List Note) → Told k t u h g start old notes → Told k t u h g start new (notes ++ owed)
+
+-- the same, and from then on the flows that go to this connection may still be to be told that its write buffer drained
+pub record Eases (c : ℕ) (owed : List Note) (old new : WireCore) : Type 0 where
+  pub goes : {k : Config} → (h : WayHistory) (g : ℕ → List ℕ) (start notes : List Note) → Told k None None h g start old notes → Told k (Some c) None h g start new (notes ++ owed)
+
+-- the same, and no more of this exchange is to be told of
+pub record EndsOne (x : ℕ) (owed : List Note) (old new : WireCore) : Type 0 where
+  pub goes : {k : Config} {t : Option ℕ} → (h : WayHistory) (g : ℕ → List ℕ) (start notes : List Note) → Told k t (Some x) h g start old notes → Told k t None h g start new (notes ++ owed)
 
 -- ---- notes
--- what was still to be noted is
+-- what was still to be noted is, and if it was a front of that, the rest is still to be
 pub record Pays {A E : Type 0} (r : Result A E) (owed before now : List Note) : Type 0 where
-  pub goes : {k : Config} {l : Footing} → (h : WayHistory) (g : ℕ → List ℕ) (start : List Note) (conns : PagedMap Conn) (flows : Flows) (links : Links) → ToldBy k l h g start conns flows links (before ++ owed) → OnOk r (ToldBy k l h g start conns flows links now)
+  pub goes : {k : Config} {l : Footing} {t u : Option ℕ} → (h : WayHistory) (g : ℕ → List ℕ) (start : List Note) (conns : PagedMap Conn) (flows : Flows) (links : Links) → ToldBy k l t u h g start conns flows links (before ++ owed) → OnOk r (ToldBy k l t u h g start conns flows links now)
+  pub front : {k : Config} {l : Footing} {t u : Option ℕ} → (h : WayHistory) (g : ℕ → List ℕ) (start rest : List Note) (conns : PagedMap Conn) (flows : Flows) (links : Links) → ToldBy k l t u h g start conns flows links (before ++ (owed ++ rest)) → OnOk r (ToldBy k l t u h g start conns flows links (now ++ rest))
 
--- what was noted moves no octets
+-- what was noted moves no octets, and holds no flow back
 pub record Shows {A E : Type 0} (r : Result A E) (before now : List Note) : Type 0 where
-  pub goes : {k : Config} {l : Footing} → (h : WayHistory) (g : ℕ → List ℕ) (start : List Note) (conns : PagedMap Conn) (flows : Flows) (links : Links) → ToldBy k l h g start conns flows links before → OnOk r (ToldBy k l h g start conns flows links now)
+  pub goes : {k : Config} {l : Footing} {t u : Option ℕ} → (h : WayHistory) (g : ℕ → List ℕ) (start : List Note) (conns : PagedMap Conn) (flows : Flows) (links : Links) → ToldBy k l t u h g start conns flows links before → OnOk r (ToldBy k l t u h g start conns flows links now)
 
--- the note moves no octets, wherever it stands
+-- the note moves no octets and holds no flow back, wherever it stands
 abbrev pub IsIdle : Note → Type 0
-IsIdle (note.Pause f b) = Unit {0}
-IsIdle (note.Resume f b) = Unit {0}
 IsIdle (note.Waste c s n) = Unit {0}
 IsIdle (note.Fire k x) = Unit {0}
 IsIdle (note.Gone x) = Unit {0}
@@ -160,25 +183,31 @@ abbrev pub left_after : Event → PagedMap Conn → (ℕ → List ℕ) → ℕ �
 left_after (event.Room d n) conns g = λ c. g c ++ (if d == c then take n (octets_of c conns) else [])
 left_after e conns g = g
 
+-- by which event the write buffer of a connection may drain
+abbrev pub eased_by : Event → Option ℕ
+eased_by (event.Room c n) = Some c
+eased_by (event.Gone c) = Some c
+eased_by e = None
+
 -- From before the turn note of an event on, where no exchange began yet: the core stood for a history, and stands for it with the
 -- dispatch's steps.
 pub record Turns {A E : Type 0} (r : Result A E) (e : Event) (old : WireCore) (noted : List Note) (new : WireCore) (now : List Note) : Type 0 where
-  pub goes : (h : WayHistory) (g : ℕ → List ℕ) (before : List Note) (k : ℕ) → noted ≡ before ++ note.Turn k e ∷ [] → Stands old.config.limits old.conns old.flows old.links h → ((c : ℕ) → gone world_setup c h ≡ g c)
-      → IsFresh e h → NoneBegan old → OnOk r (Told old.config h (left_after e old.conns g) before new now)
+  pub goes : (h : WayHistory) (g : ℕ → List ℕ) (before : List Note) (k : ℕ) → noted ≡ before ++ note.Turn k e ∷ [] → Rests old.config.limits old.conns old.flows old.links h → ((c : ℕ) → gone world_setup c h ≡ g c)
+      → IsFresh e h → NoneBegan old → OnOk r (Told old.config (eased_by e) None h (left_after e old.conns g) before new now)
 
--- the same of a core that may have the rows of the dispatch before
+-- All of a dispatch behind its turn note, from a core that may have the rows of the dispatch before: nobody is still to be told.
 pub record TurnsAnew {A E : Type 0} (r : Result A E) (e : Event) (old : WireCore) (noted : List Note) (new : WireCore) (now : List Note) : Type 0 where
-  pub goes : (h : WayHistory) (g : ℕ → List ℕ) (before : List Note) (k : ℕ) → noted ≡ before ++ note.Turn k e ∷ [] → Stands old.config.limits old.conns old.flows old.links h → ((c : ℕ) → gone world_setup c h ≡ g c)
-      → IsFresh e h → OnOk r (Told old.config h (left_after e old.conns g) before new now)
+  pub goes : (h : WayHistory) (g : ℕ → List ℕ) (before : List Note) (k : ℕ) → noted ≡ before ++ note.Turn k e ∷ [] → Rests old.config.limits old.conns old.flows old.links h → ((c : ℕ) → gone world_setup c h ≡ g c)
+      → IsFresh e h → OnOk r (Told old.config None None h (left_after e old.conns g) before new now)
 
 -- The whole dispatch: from the notes before it on.
 pub record Follows (old : WireCore) (before : List Note) (e : Event) (new : WireCore) (now : List Note) : Type 0 where
-  pub goes : (h : WayHistory) (g : ℕ → List ℕ) → Stands old.config.limits old.conns old.flows old.links h → ((c : ℕ) → gone world_setup c h ≡ g c) → IsFresh e h → Told old.config h (left_after e old.conns g) before new now
+  pub goes : (h : WayHistory) (g : ℕ → List ℕ) → Rests old.config.limits old.conns old.flows old.links h → ((c : ℕ) → gone world_setup c h ≡ g c) → IsFresh e h → Told old.config None None h (left_after e old.conns g) before new now
 
 -- A connection comes: it is among those that came, and wasn't closed.
 pub record Comes {A E : Type 0} (r : Result A E) (c : ℕ) (old new : WireCore) : Type 0 where
-  pub goes : {k : Config} → (h : WayHistory) (g : ℕ → List ℕ) (start notes : List Note) (t : Told k h g start old notes) → has (connections world_setup (after t.steps h)) c ≡ true → was_closed c (after t.steps h) ≡ false → OnOk r (Told k h g start new notes)
+  pub goes : {k : Config} {t u : Option ℕ} → (h : WayHistory) (g : ℕ → List ℕ) (start notes : List Note) (told : Told k t u h g start old notes) → has (connections world_setup (after told.steps h)) c ≡ true → was_closed c (after told.steps h) ≡ false → OnOk r (Told k t u h g start new notes)
 
--- Up to n octets left a connection's write buffer, k of them there were.
+-- Up to n octets left a connection's write buffer, k of them there were. Who is held back by it is still to be told where it drained.
 pub record Leaves (c n k : ℕ) (old new : WireCore) : Type 0 where
-  pub goes : {m : Config} → (h : WayHistory) (g : ℕ → List ℕ) (start notes : List Note) → Told m h g start old notes → Told m h (left_after (event.Room c n) old.conns g) start new (notes ++ outs_of c k)
+  pub goes : {m : Config} → (h : WayHistory) (g : ℕ → List ℕ) (start notes : List Note) → Told m None None h g start old notes → Told m (Some c) None h (left_after (event.Room c n) old.conns g) start new (notes ++ outs_of c k)

@@ -24,8 +24,6 @@ pub enum Task {
         course: Course,
         tried: bool,
     },
-    /// The connection's write buffer has drained, and its watchers are told one after the other.
-    Tell(u32),
     /// An end of the exchange was framed: it is doomed where it is done.
     End(u64),
     /// The exchange is doomed, for a cause that neither of its flows gave.

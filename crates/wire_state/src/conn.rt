@@ -1,6 +1,6 @@
 // One connection.
 ghost use Rattle.proxy_config.specs.Ranges.{AreLimits};
-ghost use Rattle.std.specs.Prelude.{◌≡◌, ◌&&◌, ◌<◌, ◌≤◌, ◌≤ℤ◌, ◌+◌, ◌*◌, ◌^◌, [], ℕ, IfOk, min, not, pos, true};
+ghost use Rattle.std.specs.Prelude.{◌≡◌, ◌&&◌, ◌<◌, ◌≤◌, ◌≤ℤ◌, ◌+◌, ◌*◌, ◌^◌, [], ℕ, IfOk, false, min, not, pos, true};
 ghost use Rattle.wire_inlet.specs.Incoming.{is_cluster};
 ghost use Rattle.wire_state.specs.Progress.{conn_go};
 ghost use Rattle.wire_state.specs.Sound.{IsKept};
@@ -56,6 +56,7 @@ impl Conn {
         ensures kept { IfOk result (λ conn. IsKept limits.now conn.outlet) }
         ensures opened { IfOk result (λ conn. conn.open ≡ true) }
         ensures empty { IfOk result (λ conn. conn.outlet.write.octets ≡ []) }
+        ensures low { IfOk result (λ conn. conn.outlet.write.above ≡ false) }
     {
         let unit = LEAST_UNIT.max(limits.quantum + FRAME_HEAD);
         Ok(Conn {

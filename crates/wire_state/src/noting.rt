@@ -56,7 +56,7 @@ pub fn note_head(notes: &mut Notes, conn: u32, stream: u32, octets: Octets) -> R
 pub fn note_pauses(flows: &WireFlows, conn: u32, notes: &mut Notes) -> Result<(), NoMemory>
     ensures notes { Appends notes.old notes.new }
     ensures told { OnOk result (notes.new ≡ notes.old ++ pauses_of conn (watchers_on conn flows.now)) }
-    ensures idle { Shows result notes.old notes.new }
+    ensures paid { Pays result (pauses_of conn (watchers_on conn flows.now)) notes.old notes.new }
 {
     let buffer = BufferId::Write(conn);
     notes.push_pauses(flows.watchers(buffer), buffer)

@@ -1,23 +1,20 @@
 // The state of a worker's wire sessions.
 ghost use Rattle.proxy_config.specs.Ranges.{IsInRange};
 ghost use Rattle.std.specs.Prelude.{◌≡◌, ◌≤◌, ◌+◌, ◌++◌, ◌∷◌, [], IfOk, OnOk};
-ghost use Rattle.wire_flows.specs.Writes.{watchers_on};
 ghost use Rattle.wire_links.specs.Links.{no_links};
 ghost use Rattle.wire_state.specs.Agenda.{stirred_at, top_go};
 ghost use Rattle.wire_state.specs.Courses.{comes_from, course_at, course_in, goes_to, row_of};
-ghost use Rattle.wire_state.specs.Noting.{Appends, pauses_of};
 ghost use Rattle.wire_state.specs.Progress.{task_go, to_go};
 ghost use Rattle.wire_state.specs.Sound.{IsSound, is_open_at};
-ghost use Rattle.wire_state.specs.Worlds.{Goes, Keeps, Stands};
+ghost use Rattle.wire_state.specs.Worlds.{Keeps, Rests};
 
 use crate::agenda::{Agenda, Task};
 use crate::conn::Conn;
 use crate::course::Course;
-use crate::noting::note_pauses;
 use crate::stirred::Stirred;
 use crate::walk::Walk;
 use flow_gate::FlowId;
-use flow_notes::{FireKind, Notes};
+use flow_notes::FireKind;
 use io_ports::NoMemory;
 use paged_map::PagedMap;
 use proxy_config::Config;
@@ -75,7 +72,7 @@ impl WireCore {
         ensures idle { IfOk result (λ core. core.agenda ≡ []) }
         ensures new { IfOk result (λ core. (core.config ≡ config) × (core.conns.entries ≡ [])) }
         ensures none { IfOk result (λ core. (core.links ≡ no_links) × (core.flows.exchanges.live ≡ [])) }
-        ensures octets { IfOk result (λ core. Stands core.config.limits core.conns core.flows core.links []) }
+        ensures octets { IfOk result (λ core. Rests core.config.limits core.conns core.flows core.links []) }
     {
         let load = Load::new(alloc, config.overload.class_start)?;
         let timers = WireTimers::new(alloc, &config)?;
@@ -257,21 +254,6 @@ impl WireCore {
         ensures octets { Keeps self.old self.new }
     {
         self.timers.disarm(kind, id);
-    }
-
-    /// The write buffer of a connection rose: its flows are held back once more, each with its note.
-    pub fn rise(&mut self, conn: u32, notes: &mut Notes) -> Result<(), NoMemory>
-        requires sound { IsSound self.old }
-        ensures sound { OnOk result (IsSound self.new) }
-        ensures go { OnOk result (to_go self.new ≤ to_go self.old) }
-        ensures notes { Appends notes.old notes.new }
-        ensures rest { self.new ≡ record self.old { flows = self.new.flows } }
-        ensures exchanges { self.new.flows.exchanges ≡ self.old.flows.exchanges }
-        ensures told { OnOk result (notes.new ≡ notes.old ++ pauses_of conn (watchers_on conn self.new.flows)) }
-        ensures octets { Goes result self.old notes.old self.new notes.new }
-    {
-        self.flows.write_rose(conn);
-        note_pauses(&self.flows, conn, notes)
     }
 
     /// The course of a flow of a live exchange.

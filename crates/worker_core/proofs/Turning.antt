@@ -5,11 +5,12 @@ use Rattle.flow_notes.specs.declared.notes.Note.TheVariants as note
 use Rattle.proxy_config.specs.declared.config.Config.{Config}
 use Rattle.std.proofs.Common.{ap, append-nil, append_assoc, refl, subst, sym, ◌∙◌}
 use Rattle.std.specs.Prelude.{List, [], ℕ, ◌++◌, ◌∷◌, ◌≡◌}
+use Rattle.tape_laws.specs.Headline.{Headline}
 use Rattle.tape_laws.specs.World.{gone}
-use Rattle.wire_state.proofs.Promised.{promised}
+use Rattle.wire_state.proofs.Counted.{rests_headline}
 use Rattle.wire_state.specs.Marks.{AreWays}
 use Rattle.wire_state.specs.Noting.{Appends}
-use Rattle.wire_state.specs.Tapes.{Promises}
+use Rattle.wire_state.specs.Tapes.{tape_setup}
 use Rattle.wire_state.specs.Ways.{WayHistory, after, world_setup}
 use Rattle.wire_state.specs.Worlds.{IsFresh}
 use Rattle.worker_core.specs.Dispatching.{Tells}
@@ -29,7 +30,7 @@ goes_on (kind.Wire old) e (kind.Wire new) notes carries h stands fresh =
     record {
       steps = told.steps;
       is = told.is;
-      stands = told.stands;
+      stands = record { stands = told.stands; counts = told.counts };
       left = told.left;
       under = told.under;
       ways = subst (λ (v : Config). AreWays v h → AreWays v (after told.steps h)) told.under told.ways;
@@ -60,6 +61,6 @@ ways_back (kind.Plain a) b h same ways = absurd same
 
 -- ---- the promise
 pub stands_promise : (old new : Kind) (h : WayHistory) → SameConfig old new → StandsAt new h → PromisesAt old h
-stands_promise (kind.Wire old) (kind.Wire new) h same stands = subst (λ (v : Config). Promises v.limits h) same (promised new.core.conns new.core.flows new.core.links h stands)
+stands_promise (kind.Wire old) (kind.Wire new) h same stands = subst (λ (v : Config). Headline (tape_setup v.limits) h) same (rests_headline new.core.conns new.core.flows new.core.links h stands)
 stands_promise (kind.Wire old) (kind.Plain new) h same stands = absurd same
 stands_promise (kind.Plain old) new h same stands = absurd same

@@ -6,13 +6,14 @@ use Rattle.plain_core.specs.Stands.{CanTake, Rests, WaitsInFront}
 use Rattle.overload_core.specs.ActionStates.{is_saturated}
 use Rattle.proxy_config.specs.declared.config.Config.{Config}
 use Rattle.std.specs.Prelude.{Bool, List, None, Option, [], false, not, true, ℕ, ◌<◌, ◌≡◌}
+use Rattle.tape_laws.specs.Headline.{Headline}
 use Rattle.tape_laws.specs.World.{gone}
 use Rattle.tape_laws.specs.declared.PlainLimits.{PlainLimits}
 use Rattle.wire_state.specs.Marks.{AreWays}
 use Rattle.wire_state.specs.Sound.{IsSound, is_open_at}
-use Rattle.wire_state.specs.Tapes.{Promises}
+use Rattle.wire_state.specs.Tapes.{tape_setup}
 use Rattle.wire_state.specs.Ways.{WayHistory, WayStep, after, shown, world_setup}
-use Rattle.wire_state.specs.Worlds.{Stands, left_after}
+use Rattle.wire_state.specs.Worlds.{Rests as RestsAt, left_after}
 use Rattle.worker_core.specs.Dispatching.{Breaks, Dispatches}
 use Rattle.worker_core.specs.Fronts.{IsFront, IsLeastAbove, has_octets, is_there, octets_at}
 use Rattle.worker_core.specs.declared.worker.Kind.{Kind}
@@ -87,15 +88,16 @@ IsNextOut (kind.Wire session) after next = IsLeastAbove after (has_octets sessio
 -- ---- the octets of a tape's world
 -- The core stands for the history: what waits for each socket and lies in each place of a body, each stream, and which
 -- connections are open, are those of its world, and at each moment so far what each flow had sent on was a front of what had been
--- read for it, and no buffer had held more than its bound.
+-- read for it, and no buffer had held more than its bound. It counts as the history does, and nobody is still to be told of a
+-- drain.
 abbrev pub StandsAt : Kind → WayHistory → Type 0
 StandsAt (kind.Plain core) h = ⊥
-StandsAt (kind.Wire session) h = Stands session.core.config.limits session.core.conns session.core.flows session.core.links h
+StandsAt (kind.Wire session) h = RestsAt session.core.config.limits session.core.conns session.core.flows session.core.links h
 
--- the history keeps the promise, by the limits of the core
+-- the history has all that a tape of whole dispatches promises, by the limits of the core
 abbrev pub PromisesAt : Kind → WayHistory → Type 0
 PromisesAt (kind.Plain core) h = ⊥
-PromisesAt (kind.Wire session) h = Promises session.core.config.limits h
+PromisesAt (kind.Wire session) h = Headline (tape_setup session.core.config.limits) h
 
 -- the configuration is as it was
 abbrev pub SameConfig : Kind → Kind → Type 0

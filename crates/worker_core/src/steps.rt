@@ -1,21 +1,46 @@
 // Small steps.
-ghost use Rattle.std.specs.Prelude.{◌≡◌, ◌<◌, IfOk, OnOk, true};
+ghost use Rattle.std.specs.Prelude.{◌≡◌, ◌<◌, [], IfOk, OnOk, Some, false, true};
+ghost use Rattle.wire_flows.specs.Writes.{lows_on};
 ghost use Rattle.wire_state.specs.Agenda.{top_go};
 ghost use Rattle.wire_state.specs.Noting.{Appends};
 ghost use Rattle.wire_state.specs.Progress.{task_go, to_go};
 ghost use Rattle.wire_state.specs.Sound.{IsSound};
-ghost use Rattle.wire_state.specs.Worlds.{Goes};
+ghost use Rattle.wire_state.specs.Worlds.{Goes, KeepsOk, TellsAll, eased_by};
 
 use crate::rounds::next_round;
-use flow_notes::Notes;
+use flow_notes::{Event, Notes};
 use io_ports::NoMemory;
 use wire_ends::{close_task, doom_task, drains, end, fire, fires, losses, resets};
 use wire_in::{read, ticks, waste};
 use wire_out::{ask_drain, ask_run, drain, run, tell};
 use wire_state::{Task, WireCore};
 
-/// Small steps until nothing is under way and no connection has anything to do.
-pub(crate) fn settle(core: &mut WireCore, notes: &mut Notes) -> Result<(), NoMemory>
+/// Small steps until nothing is under way and no connection has anything to do. Where the event may have eased a write buffer, the
+/// flows that go to its connection are told first.
+pub(crate) fn settle(core: &mut WireCore, event: &Event, notes: &mut Notes) -> Result<(), NoMemory>
+    requires sound { IsSound core.old }
+    ensures sound { OnOk result (IsSound core.new) }
+    ensures notes { Appends notes.old notes.new }
+    ensures octets { TellsAll (eased_by event.now) result core.old notes.old core.new notes.new }
+{
+    match eased_conn(event) {
+        Some(conn) => tell_all(core, conn, notes),
+        None => go_to_rest(core, notes),
+    }
+}
+
+// The connection whose write buffer the event may have eased.
+fn eased_conn(event: &Event) -> Option<u32>
+    ensures { result ≡ eased_by event.now }
+{
+    match event {
+        Event::Room { conn, .. } => Some(*conn),
+        Event::Gone { conn } => Some(*conn),
+        _ => None,
+    }
+}
+
+fn go_to_rest(core: &mut WireCore, notes: &mut Notes) -> Result<(), NoMemory>
     requires sound { IsSound core.old }
     ensures sound { OnOk result (IsSound core.new) }
     ensures notes { Appends notes.old notes.new }
@@ -23,6 +48,60 @@ pub(crate) fn settle(core: &mut WireCore, notes: &mut Notes) -> Result<(), NoMem
 {
     while go_on(core, notes)? {}
     Ok(())
+}
+
+// The flows that go to a connection are told one after the other that its write buffer drained, each once nothing is under way.
+fn tell_all(core: &mut WireCore, conn: u32, notes: &mut Notes) -> Result<(), NoMemory>
+    requires sound { IsSound core.old }
+    ensures sound { OnOk result (IsSound core.new) }
+    ensures notes { Appends notes.old notes.new }
+    ensures octets { TellsAll (Some conn) result core.old notes.old core.new notes.new }
+{
+    while tell_next(core, conn, notes)? {}
+    drain_told(core, conn, notes)
+}
+
+// The flows that go to a connection were told: it is drained, and small steps go on until nothing is under way.
+fn drain_told(core: &mut WireCore, conn: u32, notes: &mut Notes) -> Result<(), NoMemory>
+    requires sound { IsSound core.old }
+    requires told { lows_on conn core.old.flows ≡ [] }
+    ensures sound { OnOk result (IsSound core.new) }
+    ensures notes { Appends notes.old notes.new }
+    ensures octets { TellsAll (Some conn) result core.old notes.old core.new notes.new }
+{
+    drain_where(core, conn)?;
+    go_to_rest(core, notes)
+}
+
+// Units are framed at a connection next, if there are any.
+fn drain_where(core: &mut WireCore, conn: u32) -> Result<(), NoMemory>
+    requires sound { IsSound core.old }
+    ensures sound { OnOk result (IsSound core.new) }
+    ensures octets { KeepsOk result core.old core.new }
+{
+    if core.may_frame(conn) {
+        return core.begin(Task::AskDrain(conn));
+    }
+    Ok(())
+}
+
+// One small step, or the next flow is told. The answer is false where there was nothing to do.
+#[tactic(auto, using(crate::proofs::Agendas::top_weight))]
+fn tell_next(core: &mut WireCore, conn: u32, notes: &mut Notes) -> Result<bool, NoMemory>
+    requires sound { IsSound core.old }
+    ensures sound { OnOk result (IsSound core.new) }
+    ensures go { IfOk result (λ more. more ≡ true → to_go core.new < to_go core.old) }
+    ensures notes { Appends notes.old notes.new }
+    ensures told { IfOk result (λ more. more ≡ false → lows_on conn core.new.flows ≡ []) }
+    ensures octets { Goes result core.old notes.old core.new notes.new }
+{
+    match core.agenda.top() {
+        Some(task) => {
+            step(core, task, notes)?;
+            Ok(true)
+        }
+        None => tell(core, conn, notes),
+    }
 }
 
 // One small step. The answer is false where there was nothing to do.
@@ -57,7 +136,6 @@ fn step(core: &mut WireCore, task: Task, notes: &mut Notes) -> Result<(), NoMemo
         Task::Drain(conn) => drain(core, conn, notes),
         Task::AskRun(course) => ask_run(core, course, notes),
         Task::Run { course, tried } => run(core, course, tried, notes),
-        Task::Tell(conn) => tell(core, conn, notes),
         Task::End(exchange) => end(core, exchange, notes),
         Task::Doom { exchange, cause } => doom_task(core, exchange, cause, notes),
         Task::Close { conn, code, cause } => close_task(core, conn, code, cause, notes),

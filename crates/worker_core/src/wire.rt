@@ -8,7 +8,7 @@ ghost use Rattle.wire_state.specs.Sound.{IsSound, is_open_at};
 ghost use Rattle.overload_core.specs.ActionStates.{is_saturated};
 ghost use Rattle.worker_core.specs.Dispatching.{Breaks, Dispatches, Tells, obeyed_after};
 ghost use Rattle.worker_core.specs.Fronts.{IsFront, IsLeastAbove, has_octets, is_there, octets_at};
-ghost use Rattle.wire_state.specs.Worlds.{Follows, Stands, TurnsAnew};
+ghost use Rattle.wire_state.specs.Worlds.{Follows, Rests, TurnsAnew};
 
 use crate::steps::settle;
 use flow_notes::{Event, Note, Notes};
@@ -45,7 +45,7 @@ impl WireSession {
         ensures turn { IfOk result (λ session. session.turn ≡ 0) }
         ensures obeyed { IfOk result (λ session. session.obeyed ≡ 0) }
         ensures new { IfOk result (λ session. (session.core.config ≡ config) × (session.core.conns.entries ≡ [])) }
-        ensures octets { IfOk result (λ session. Stands session.core.config.limits session.core.conns session.core.flows session.core.links []) }
+        ensures octets { IfOk result (λ session. Rests session.core.config.limits session.core.conns session.core.flows session.core.links []) }
     {
         Ok(WireSession {
             core: WireCore::new(alloc, config)?,
@@ -188,7 +188,7 @@ fn work(core: &mut WireCore, event: &Event, notes: &mut Notes) -> Result<(), NoM
 {
     begin_rows(core);
     take_event(core, event, notes)?;
-    settle(core, notes)?;
+    settle(core, event, notes)?;
     sweep(core, notes)?;
     rest(core)
 }

@@ -134,8 +134,8 @@ pub record TakesWhatLeft (end : Ended) (notes : List Note) (h now : WayHistory) 
   pub matches : Matches kept (outside_events (turn_events notes))
   pub left : (c : ℕ) → gone world_setup c now ≡ gone world_setup c h ++ taken_of c kept
 
--- the notes go on with a history for which the core stood, its marks are tied as those before were, and it keeps the promise at each
--- moment
+-- the notes go on with a history for which the core stood, its marks are tied as those before were, and it has all that a tape of whole
+-- dispatches promises
 pub record GoesOnIn (end : Ended) (k new : Kind) (old_seen new_seen : Seen) (notes : List Note) (h : WayHistory) : Type 0 where
   pub steps : List WayStep
   pub is : notes ≡ shown steps

@@ -4,7 +4,6 @@ use Rattle.wire_state.proofs.Goings.{conn_keeps, keeps_on}
 use Rattle.wire_state.proofs.Weights.{conn_changed}
 use Rattle.wire_state.specs.Progress.{to_go}
 use Rattle.wire_state.specs.declared.conn.Conn.{Conn}
-use Rattle.wm_buffer.specs.Buffer.{Buffer}
 
 pub returns-in-Some-clause-go : goal.returns-in-Some-clause-go
 unfolding to_go
@@ -13,4 +12,4 @@ returns-in-Some-clause-go c =
 
 pub returns-in-Some-clause-octets : goal.returns-in-Some-clause-octets
 returns-in-Some-clause-octets c =
-    keeps_on c.put.result _ _ (conn_keeps c.args.number c.args.core.now _ c.in-Some.conn.now c.put.new.self (sym c.in-Some.ensures.value) (c.get_mut.follows.holds c.put.new.self) (ap (λ (b : Buffer). b.octets) c.put.ensures.write) (ap (λ (k : Conn). k.open) c.put.ensures.rest) refl refl)
+    keeps_on c.put.result _ _ (conn_keeps c.args.number c.args.core.now _ c.in-Some.conn.now c.put.new.self (sym c.in-Some.ensures.value) (c.get_mut.follows.holds c.put.new.self) c.put.ensures.write (ap (λ (k : Conn). k.open) c.put.ensures.rest) refl refl)

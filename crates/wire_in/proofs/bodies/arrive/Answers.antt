@@ -14,7 +14,7 @@ returns-clause-octets c = record {
   goes = λ h g start t.
       let k = c.args.core.now in
       let f = c.args.course.flow in
-      let came = arrival_told f c.args.octets k.flows c.receive.new.self c.receive.result c.receive.ensures.answer c.in-Arrived.is c.receive.ensures.flow c.receive.ensures.sound k.conns k.links h g start c.args.notes.now t in
+      let came = arrival_told f c.args.octets k.flows c.receive.new.self c.receive.result c.receive.ensures.answer c.in-Arrived.is c.receive.ensures.flow c.receive.ensures.sound c.receive.ensures.rest k.conns k.links (c.requires.sound.live f.exchange) h g start c.args.notes.now t in
       c.note.ensures.paid.goes h g start _ _ _ (c.in_ok-touch.ensures.octets.goes h g start _ (told_at h g start k.conns k.conns c.receive.new.self k.links _ _ refl refl came));
 }
 

@@ -12,4 +12,4 @@ returns-in-Some-clause-go c =
 
 pub returns-in-Some-clause-octets : goal.returns-in-Some-clause-octets
 returns-in-Some-clause-octets c =
-    keeps_on c.moved.result _ _ (conn_keeps c.args.number c.args.core.now _ c.in-Some.conn.now c.moved.new.self (sym c.in-Some.ensures.value) (c.get_mut.follows.holds c.moved.new.self) (ap (λ (k : Conn). k.outlet.write.octets) c.moved.ensures.rest) (ap (λ (k : Conn). k.open) c.moved.ensures.rest) refl refl)
+    keeps_on c.moved.result _ _ (conn_keeps c.args.number c.args.core.now _ c.in-Some.conn.now c.moved.new.self (sym c.in-Some.ensures.value) (c.get_mut.follows.holds c.moved.new.self) (ap (λ (k : Conn). k.outlet.write) c.moved.ensures.rest) (ap (λ (k : Conn). k.open) c.moved.ensures.rest) refl refl)

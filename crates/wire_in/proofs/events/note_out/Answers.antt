@@ -1,3 +1,4 @@
+use Rattle.wire_state.proofs.Idle.{nothing_paid}
 use Rattle.flow_notes.specs.declared.notes.Note.{Note}
 use Rattle.flow_notes.specs.declared.notes.Note.TheVariants as note
 use Rattle.std.proofs.Common.{ap, arith, refl, subst, sym, ◌∙◌}
@@ -9,10 +10,7 @@ use Rattle.wire_state.proofs.Goings.{told_at}
 use Rattle.wire_state.specs.Worlds.{Pays, outs_of}
 
 pub returns-then-n-eq0-clause-octets : goal.returns-then-n-eq0-clause-octets
-returns-then-n-eq0-clause-octets c = record {
-  goes = λ h g start conns flows links t.
-      told_at h g start conns conns flows links (c.args.notes.now ++ outs_of c.args.conn c.args.n) c.args.notes.now refl (ap (λ (j : ℕ). c.args.notes.now ++ outs_of c.args.conn j) c.if-n-eq0.true ∙ append-nil c.args.notes.now) t;
-}
+returns-then-n-eq0-clause-octets c = subst (λ (j : ℕ). Pays _ (outs_of c.args.conn j) c.args.notes.now c.args.notes.now) (sym c.if-n-eq0.true) (nothing_paid c.args.notes.now)
 
 pub returns-clause-octets : goal.returns-clause-octets
 returns-clause-octets c =

@@ -1,9 +1,11 @@
 use Rattle.wire_in.proofs.Opening.{kept_more}
 use Rattle.wire_in.proofs.events.open.Goals as goal
-use Rattle.wire_state.proofs.Goings.{bodies_told, gate_bodies}
-use Rattle.wire_state.proofs.Linked.{come_told, comes_new}
+use Rattle.wire_state.proofs.Coming.{comes_counts, put_there}
+use Rattle.wire_state.proofs.Goings.{gates_stand}
+use Rattle.wire_state.proofs.Linked.{comes, comes_new}
 use Rattle.wire_state.proofs.Results.{on_ok}
 use Rattle.wire_state.proofs.Soundness.{conns_sound, gates_sound}
+use Rattle.wire_state.specs.Ways.{after}
 
 pub stir-requires : goal.stir-requires
 stir-requires c =
@@ -18,7 +20,18 @@ returns-clause-octets c = λ known none. record {
   goes = λ h g start notes t came fresh.
       let k = c.args.core.now in
       let n = c.args.number in
-      on_ok c.stir.result (c.stir.ensures.octets.goes h g start notes
-      (bodies_told k.flows c.open_write.new.self (gate_bodies k.flows c.open_write.new.self c.open_write.ensures.rest) c.insert.new.self k.links h g start notes
-      (come_told n k.conns c.insert.new.self (comes_new n k.conns c.insert.new.self c.in_ok-conn.conn none c.in_ok-insert.ensures.updates c.in_ok-conn.ensures.empty c.in_ok-conn.ensures.opened) k.flows k.links known h g start notes t came fresh)));
+      let past = after t.steps h in
+      let new = comes_new n k.conns c.insert.new.self c.in_ok-conn.conn none c.in_ok-insert.ensures.updates c.in_ok-conn.ensures.empty c.in_ok-conn.ensures.opened in
+      let here = put_there n k.conns c.insert.new.self c.in_ok-conn.conn c.in_ok-insert.ensures.updates in
+      on_ok c.stir.result (c.stir.ensures.octets.goes h g start notes (record {
+        steps = t.steps;
+        is = t.is;
+        stands = gates_stand k.flows c.open_write.new.self c.open_write.ensures.rest c.insert.new.self k.links past (comes n k.conns c.insert.new.self new k.flows k.links past known came fresh t.stands);
+        counts = comes_counts n k.conns c.insert.new.self c.in_ok-conn.conn none here new.others c.in_ok-conn.ensures.low k.flows c.open_write.new.self c.open_write.ensures.rest c.open_write.ensures.sound c.in_ok-open_write.ensures.ok c.open_write.ensures.known c.open_write.ensures.lows past t.counts;
+        left = t.left;
+        under = t.under;
+        ways = t.ways;
+        rows = t.rows;
+        since = t.since;
+      }));
 }

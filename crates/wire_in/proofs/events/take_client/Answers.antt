@@ -17,5 +17,5 @@ returns-clause-octets c = record {
       let k = c.args.core.now in
       let n = c.args.number in
       (c.open.ensures.octets (accepted_known n k.links c.accept.new.self c.in_ok-accept.ensures.ok) (t.stands.known n c.requires.unknown)).goes h g start notes
-      (record { steps = t.steps; is = t.is; stands = links_go k.links c.accept.new.self (accepted_keeps n k.links c.accept.new.self c.in_ok-accept.ensures.ok) k.conns k.flows (after t.steps h) t.stands; left = t.left; under = t.under; ways = t.ways; rows = t.rows; since = t.since }) came fresh;
+      (record { steps = t.steps; is = t.is; stands = links_go k.links c.accept.new.self (accepted_keeps n k.links c.accept.new.self c.in_ok-accept.ensures.ok) k.conns k.flows (after t.steps h) t.stands; counts = t.counts; left = t.left; under = t.under; ways = t.ways; rows = t.rows; since = t.since }) came fresh;
 }

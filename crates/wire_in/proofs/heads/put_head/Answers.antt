@@ -1,3 +1,4 @@
+use Rattle.wire_state.proofs.CountsKept.{headed_places}
 use Rattle.std.proofs.Common.{arith}
 use Rattle.exchange_core.specs.Effects.{headed}
 use Rattle.wire_in.proofs.heads.put_head.Goals as goal
@@ -12,5 +13,5 @@ returns-in-Some-clause-go c = on_ok c.head.result (omega (arith, c.head.ensures.
 
 pub returns-in-Some-clause-octets : goal.returns-in-Some-clause-octets
 returns-in-Some-clause-octets c = record {
-  goes = changed_told c.head.result c.args.flow (headed c.in-Some.fields c.args.last) c.args.core.now.flows c.head.new.self (headed_keeps c.in-Some.fields c.args.last) c.head.ensures.ok c.args.core.now.conns c.args.core.now.links;
+  goes = changed_told c.head.result c.args.flow (headed c.in-Some.fields c.args.last) c.args.core.now.flows c.head.new.self (headed_keeps c.in-Some.fields c.args.last) (headed_places c.in-Some.fields c.args.last) c.head.ensures.rest c.head.ensures.sound c.head.ensures.ok c.args.core.now.conns c.args.core.now.links;
 }

@@ -14,4 +14,4 @@ returns-in-Some-clause-go c =
 
 pub returns-in-Some-clause-octets : goal.returns-in-Some-clause-octets
 returns-in-Some-clause-octets c =
-    keeps_on c.take_frame.result _ _ (conn_keeps c.args.number c.args.core.now _ c.in-Some.conn.now c.take_frame.new.self (sym c.in-Some.ensures.value) (c.get_mut.follows.holds c.take_frame.new.self) (ap (λ (k : Conn). k.outlet.write.octets) c.take_frame.ensures.rest) (ap (λ (k : Conn). k.open) c.take_frame.ensures.rest) refl refl)
+    keeps_on c.take_frame.result _ _ (conn_keeps c.args.number c.args.core.now _ c.in-Some.conn.now c.take_frame.new.self (sym c.in-Some.ensures.value) (c.get_mut.follows.holds c.take_frame.new.self) (ap (λ (k : Conn). k.outlet.write) c.take_frame.ensures.rest) (ap (λ (k : Conn). k.open) c.take_frame.ensures.rest) refl refl)

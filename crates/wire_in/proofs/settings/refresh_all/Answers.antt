@@ -12,4 +12,4 @@ returns-in-Some-clause-go c =
 
 pub returns-in-Some-clause-octets : goal.returns-in-Some-clause-octets
 returns-in-Some-clause-octets c =
-    keeps_on c.refresh_windowed.result _ _ (conn_keeps c.args.number c.args.core.now _ c.in-Some.conn.now c.refresh_windowed.new.self (sym c.in-Some.ensures.value) (c.get_mut.follows.holds c.refresh_windowed.new.self) (ap (λ (k : Conn). k.outlet.write.octets) c.refresh_windowed.ensures.rest) (ap (λ (k : Conn). k.open) c.refresh_windowed.ensures.rest) refl refl)
+    keeps_on c.refresh_windowed.result _ _ (conn_keeps c.args.number c.args.core.now _ c.in-Some.conn.now c.refresh_windowed.new.self (sym c.in-Some.ensures.value) (c.get_mut.follows.holds c.refresh_windowed.new.self) (ap (λ (k : Conn). k.outlet.write) c.refresh_windowed.ensures.rest) (ap (λ (k : Conn). k.open) c.refresh_windowed.ensures.rest) refl refl)

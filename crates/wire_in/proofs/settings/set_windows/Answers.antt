@@ -6,7 +6,6 @@ use Rattle.wire_state.proofs.Keeping.{kept_changed}
 use Rattle.wire_state.proofs.Soundness.{conns_sound}
 use Rattle.wire_state.proofs.Weights.{conn_changed}
 use Rattle.wire_state.specs.Progress.{to_go}
-use Rattle.wm_buffer.specs.Buffer.{Buffer}
 
 pub returns-in-Some-clause-sound : goal.returns-in-Some-clause-sound
 returns-in-Some-clause-sound c =
@@ -23,4 +22,4 @@ returns-in-Some-clause-go c =
 
 pub returns-in-Some-clause-octets : goal.returns-in-Some-clause-octets
 returns-in-Some-clause-octets c =
-    conn_keeps c.args.number c.args.core.now _ c.in-Some.conn.now c.set_windows_of.new.conn (sym c.in-Some.ensures.value) (c.get_mut.follows.holds c.set_windows_of.new.conn) (ap (λ (b : Buffer). b.octets) c.set_windows_of.ensures.write) c.set_windows_of.ensures.opened refl refl
+    conn_keeps c.args.number c.args.core.now _ c.in-Some.conn.now c.set_windows_of.new.conn (sym c.in-Some.ensures.value) (c.get_mut.follows.holds c.set_windows_of.new.conn) c.set_windows_of.ensures.write c.set_windows_of.ensures.opened refl refl

@@ -12,4 +12,4 @@ returns-in-Some-clause-go c =
 
 pub returns-in-Some-clause-octets : goal.returns-in-Some-clause-octets
 returns-in-Some-clause-octets c =
-    conn_keeps c.args.number c.args.core.now _ c.in-Some.conn.now c.grant.new.self (sym c.in-Some.ensures.value) (c.get_mut.follows.holds c.grant.new.self) (ap (λ (k : Conn). k.outlet.write.octets) c.grant.ensures.rest) (ap (λ (k : Conn). k.open) c.grant.ensures.rest) refl refl
+    conn_keeps c.args.number c.args.core.now _ c.in-Some.conn.now c.grant.new.self (sym c.in-Some.ensures.value) (c.get_mut.follows.holds c.grant.new.self) (ap (λ (k : Conn). k.outlet.write) c.grant.ensures.rest) (ap (λ (k : Conn). k.open) c.grant.ensures.rest) refl refl

@@ -13,4 +13,4 @@ returns-in-Some-clause-go c =
     match_ok c.write_waiting.result (λ a. omega (arith, k, a)) (λ b. omega (arith, k, b)) c.write_waiting.ensures.go
 
 pub returns-in-Some-clause-octets : goal.returns-in-Some-clause-octets
-returns-in-Some-clause-octets c = waits_written c.write_waiting.result c.args.number c.args.core.now _ c.in-Some.conn.now c.write_waiting.new.self (sym c.in-Some.ensures.value) (c.get_mut.follows.holds c.write_waiting.new.self) (ap (λ (k : Conn). k.open) c.write_waiting.ensures.rest) c.requires.sound.kept (c.write_waiting.ensures.kept c.args.core.now.config.limits) refl refl c.write_waiting.ensures.octets
+returns-in-Some-clause-octets c = waits_written c.write_waiting.result c.args.number c.args.core.now _ c.in-Some.conn.now c.write_waiting.new.self (sym c.in-Some.ensures.value) (c.get_mut.follows.holds c.write_waiting.new.self) (ap (λ (k : Conn). k.open) c.write_waiting.ensures.rest) c.requires.sound.kept (c.write_waiting.ensures.kept c.args.core.now.config.limits) refl c.write_waiting.ensures.octets c.write_waiting.ensures.flows c.write_waiting.ensures.fills

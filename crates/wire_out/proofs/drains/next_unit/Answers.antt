@@ -12,4 +12,4 @@ returns-in-Some-clause-go c =
 
 pub returns-in-Some-clause-octets : goal.returns-in-Some-clause-octets
 returns-in-Some-clause-octets c =
-    conn_keeps c.args.number c.args.core.now _ c.in-Some.conn.now c.unit_at.new.conn (sym c.in-Some.ensures.value) (c.get_mut.follows.holds c.unit_at.new.conn) (ap (λ (k : Conn). k.outlet.write.octets) c.unit_at.ensures.rest) (ap (λ (k : Conn). k.open) c.unit_at.ensures.rest) refl refl
+    conn_keeps c.args.number c.args.core.now _ c.in-Some.conn.now c.unit_at.new.conn (sym c.in-Some.ensures.value) (c.get_mut.follows.holds c.unit_at.new.conn) (ap (λ (k : Conn). k.outlet.write) c.unit_at.ensures.rest) (ap (λ (k : Conn). k.open) c.unit_at.ensures.rest) refl refl

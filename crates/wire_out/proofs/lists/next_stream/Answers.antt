@@ -13,4 +13,4 @@ returns-in-Some-clause-go c =
 
 pub returns-in-Some-clause-octets : goal.returns-in-Some-clause-octets
 returns-in-Some-clause-octets c =
-    keeps_on c.next_number.result _ _ (conn_keeps c.args.number c.args.core.now _ c.in-Some.conn.now c.next_number.new.conn (sym c.in-Some.ensures.value) (c.get_mut.follows.holds c.next_number.new.conn) (ap (λ (k : Conn). k.outlet.write.octets) c.next_number.ensures.rest) (ap (λ (k : Conn). k.open) c.next_number.ensures.rest) refl refl)
+    keeps_on c.next_number.result _ _ (conn_keeps c.args.number c.args.core.now _ c.in-Some.conn.now c.next_number.new.conn (sym c.in-Some.ensures.value) (c.get_mut.follows.holds c.next_number.new.conn) (ap (λ (k : Conn). k.outlet.write) c.next_number.ensures.rest) (ap (λ (k : Conn). k.open) c.next_number.ensures.rest) refl refl)

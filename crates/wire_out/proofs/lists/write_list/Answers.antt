@@ -12,4 +12,4 @@ returns-in-Some-clause-go c =
     match_ok c.write_list.result (λ a. omega (arith, k, a)) (λ b. omega (arith, k, b)) c.write_list.ensures.go
 
 pub returns-in-Some-clause-octets : goal.returns-in-Some-clause-octets
-returns-in-Some-clause-octets c = list_written c.write_list.result c.args.going.conn c.args.stream c.args.going.course.flow c.args.last c.args.core.now _ c.in-Some.conn.now c.write_list.new.self (sym c.in-Some.ensures.value) (c.get_mut.follows.holds c.write_list.new.self) c.write_list.ensures.open c.requires.sound.kept (c.write_list.ensures.kept c.args.core.now.config.limits) refl c.write_list.ensures.octets c.write_list.ensures.flows
+returns-in-Some-clause-octets c = list_written c.write_list.result c.args.going.conn c.args.stream c.args.going.course.flow c.args.last c.args.core.now _ c.in-Some.conn.now c.write_list.new.self (sym c.in-Some.ensures.value) (c.get_mut.follows.holds c.write_list.new.self) c.write_list.ensures.open c.requires.sound.kept (c.write_list.ensures.kept c.args.core.now.config.limits) refl c.write_list.ensures.octets c.write_list.ensures.flows c.write_list.ensures.fills

@@ -11,5 +11,5 @@ returns-clause-octets c =
     record {
       goes = λ h g before k is s left fresh.
           let f = left_after c.args.event.now c.args.core.now.conns g in
-          c.rest.ensures.octets.goes h f before _ (c.in_ok-sweep.ensures.octets.goes h f before (c.in_ok-settle.ensures.octets.goes h f before (turned.goes h g before k is s left fresh)));
+          c.rest.ensures.octets.goes h f before _ (c.in_ok-sweep.ensures.octets.goes h f before (c.in_ok-settle.ensures.octets.goes h f before (turned h g before k is s left fresh)));
     }

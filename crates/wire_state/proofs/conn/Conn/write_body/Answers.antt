@@ -4,11 +4,13 @@ use Rattle.std.proofs.Common.{ap, arith, subst, sym, ◌∙◌}
 use Rattle.std.proofs.lemmas.Int.{to_z-of_z}
 use mir.Syntax.{w64}
 use Rattle.flow_rules.specs.Narrowed.{octets_of}
-use Rattle.std.specs.Prelude.{false, is_some, length, pos, take, ℤ, ◌+◌, ◌++◌, ◌≡◌, ◌≤ℤ◌, ◌≤◌}
+use Rattle.std.specs.Prelude.{false, is_some, length, not, pos, take, ℤ, ◌&&◌, ◌+◌, ◌++◌, ◌≡◌, ◌≤ℤ◌, ◌≤◌}
 use Rattle.wire_flows.specs.Flows.{flow_in}
 use Rattle.wire_outlet.specs.Outgoing.{Outgoing}
+use Rattle.wire_state.proofs.Grown.{framed_fills}
 use Rattle.wire_state.proofs.Rooms.{body_kept, of_some, within_quantum, within_room}
 use Rattle.wire_state.proofs.conn.Conn.write_body.Goals as goal
+use Rattle.wire_state.specs.Counts.{Fills}
 use Rattle.wire_state.specs.Sound.{IsKept}
 use Rattle.wire_state.specs.declared.conn.Conn.{Conn}
 use Rattle.wm_buffer.specs.Buffer.{AppendsOctets, Buffer}
@@ -41,3 +43,17 @@ returns-clause-kept c = λ limits q k.
     let grown : length c.frame_body.new.out.octets ≡ length c.args.self.now.outlet.write.octets + (9 + n) = rw c.write_mut-out.ensures.value at g in
     let added : AppendsOctets c.args.self.now.outlet.write c.frame_body.new.out octets = subst (λ (u : Buffer). AppendsOctets u c.frame_body.new.out octets) c.write_mut-out.ensures.value p.1 in
     subst (λ (o : Outgoing). IsKept limits o) (sym (ap (λ (v : Conn). v.outlet) c.framed.ensures.rest)) (body_kept limits c.args.self.now.outlet c.frame_body.new.out octets n k low few grown added)
+
+pub returns-clause-fills : goal.returns-clause-fills
+returns-clause-fills c =
+    let n = c.in-Some.framed.n in
+    let a = rw c.in-Some.is at c.in_ok-framed.ensures.appends in
+    let r = rw c.in-Some.is at c.in_ok-framed.ensures.rose in
+    let w = rw c.in-Some.is at c.in_ok-framed.ensures.writes in
+    let p = of_some (flow_in c.args.flows.now c.args.flow) c.requires a in
+    let octets = data_head c.args.stream n c.in-Some.framed.last ++ take n (send p.0) in
+    let low : c.args.self.now.outlet.write.above ≡ false = grind (arith, c.may_write.ensures, c.if-not-may_write.false) in
+    let added : AppendsOctets c.args.self.now.outlet.write c.frame_body.new.out octets = subst (λ (u : Buffer). AppendsOctets u c.frame_body.new.out octets) c.write_mut-out.ensures.value p.1 in
+    let rose : c.in-Some.framed.rose ≡ (not c.args.self.now.outlet.write.above && c.frame_body.new.out.above) = subst (λ (u : Buffer). c.in-Some.framed.rose ≡ (not u.above && c.frame_body.new.out.above)) c.write_mut-out.ensures.value r in
+    subst (λ (o : Outgoing). Fills c.args.number c.in-Some.framed.rose c.args.self.now.outlet.write o.write c.args.flows.now c.frame_body.new.self) (sym (ap (λ (v : Conn). v.outlet) c.framed.ensures.rest))
+    (framed_fills c.args.number c.in-Some.framed.rose c.args.self.now.outlet.write c.frame_body.new.out octets c.args.flows.now c.frame_body.new.self low added rose w c.in_ok-framed.ensures.lows c.in_ok-framed.ensures.sound)

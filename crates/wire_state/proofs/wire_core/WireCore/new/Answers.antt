@@ -1,4 +1,5 @@
 use Rattle.std.proofs.Common.{ap, arith}
+use Rattle.wire_state.proofs.Fresh.{first_counts}
 use Rattle.wire_state.proofs.Goings.{first_stands}
 use Rattle.wire_state.proofs.Soundness.{empty_kept, empty_live}
 use Rattle.wire_state.proofs.wire_core.WireCore.new.Goals as goal
@@ -17,4 +18,7 @@ returns-clause-sound c =
     }
 
 pub returns-clause-octets : goal.returns-clause-octets
-returns-clause-octets c = first_stands c.new-4.result c.new-6.result c.new-3.result c.new-4.ensures.empty c.new-6.ensures.empty.live c.new-6.ensures.empty.last c.new-3.ensures
+returns-clause-octets c = record {
+  stands = first_stands c.new-4.result c.new-6.result c.new-3.result c.new-4.ensures.empty c.new-6.ensures.empty.live c.new-6.ensures.empty.last c.new-3.ensures;
+  counts = first_counts c.args.config.limits c.new-4.result c.new-6.result c.new-4.ensures.empty c.new-6.ensures.empty c.new-6.ensures.sound;
+}

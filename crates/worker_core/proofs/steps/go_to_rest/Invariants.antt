@@ -1,15 +1,15 @@
 use Rattle.flow_notes.specs.declared.notes.Note.{Note}
 use Rattle.proxy_config.specs.declared.config.Config.{Config}
-use Rattle.std.specs.Prelude.{List, ℕ}
+use Rattle.std.specs.Prelude.{List, None, Option, ℕ}
 use Rattle.wire_state.specs.Noting.{Appends}
 use Rattle.wire_state.specs.Progress.{to_go}
 use Rattle.wire_state.specs.Sound.{IsSound}
 use Rattle.wire_state.specs.Ways.{WayHistory}
 use Rattle.wire_state.specs.Worlds.{Told}
-use Rattle.worker_core.proofs.steps.settle.Given as goal
+use Rattle.worker_core.proofs.steps.go_to_rest.Given as goal
 
 abbrev pub invariant-loop : goal.invariant-loop
-invariant-loop l = record { sound : IsSound l.core; notes : Appends l.fn.notes l.notes; octets : (k : Config) (h : WayHistory) (g : ℕ → List ℕ) (start : List Note) → Told k h g start l.fn.core l.fn.notes → Told k h g start l.core l.notes }
+invariant-loop l = record { sound : IsSound l.core; notes : Appends l.fn.notes l.notes; octets : (k : Config) (t : Option ℕ) (h : WayHistory) (g : ℕ → List ℕ) (start : List Note) → Told k t None h g start l.fn.core l.fn.notes → Told k t None h g start l.core l.notes }
 
 abbrev pub decreases-loop : goal.decreases-loop
 decreases-loop l = to_go l.core
