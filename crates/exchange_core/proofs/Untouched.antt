@@ -18,8 +18,8 @@ use Rattle.filter_chain.specs.Chain.{Chain, octets_at}
 use Rattle.filter_chain.specs.Effects.{ticked as chain_ticked}
 use Rattle.filter_chain.specs.Place.{Place, kind_of, refilled}
 use Rattle.filter_chain.specs.Release.{is_source_at}
-use Rattle.flow_notes.specs.declared.notes.Cause.{Cause}
-use Rattle.flow_notes.specs.declared.notes.Cause.TheVariants.{ConnLost}
+use Rattle.flow_rules.specs.declared.causes.Cause.{Cause}
+use Rattle.flow_rules.specs.declared.causes.Cause.TheVariants.{ConnLost}
 use Rattle.std.proofs.Common.{ap, refl, ◌∙◌}
 use Rattle.std.specs.Option.{option_map_or}
 use Rattle.std.specs.Prelude.{pos, Bool, List, None, Option, Some, [], false, if◌then◌else◌, is_some, length, map, not, option_map, suc, true, zero, ℕ, ℤ, ◌&&◌, ◌+◌, ◌∷◌, ◌≡◌}

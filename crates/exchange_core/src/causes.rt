@@ -4,7 +4,7 @@ ghost use Rattle.exchange_core.specs.Replies.{answer, is_target, reckoning, repl
 ghost use Rattle.exchange_core.specs.Replies.Word.{ReplyOr};
 
 use crate::exchange::Exchange;
-use flow_notes::Cause;
+use flow_rules::Cause;
 
 /// The codes of RST_STREAM (RFC 9113 section 7).
 const NO_ERROR: u32 = 0;

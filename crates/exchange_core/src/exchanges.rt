@@ -21,7 +21,7 @@ use crate::start::StartSpec;
 use crate::step::Received;
 use filter_chain::ticks_add_up;
 use flow_gate::{FlowId, Gates};
-use flow_notes::Cause;
+use flow_rules::Cause;
 use hpack_codec::FieldList;
 use io_ports::{NoMemory, Octets};
 use number_set::NumberSet;

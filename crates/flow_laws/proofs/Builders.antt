@@ -17,9 +17,9 @@ use Rattle.flow_laws.specs.Octets.{ReadsBody}
 use Rattle.flow_laws.specs.Suits.{IsSound, Suits}
 use Rattle.flow_laws.specs.Ways.{HasLimits, HasWays}
 use Rattle.flow_notes.specs.declared.events.Event.{Event}
-use Rattle.flow_notes.specs.declared.notes.Cause.{Cause}
+use Rattle.flow_rules.specs.declared.causes.Cause.{Cause}
 use Rattle.flow_notes.specs.declared.notes.CloseCause.{CloseCause}
-use Rattle.flow_notes.specs.declared.notes.FireKind.{FireKind}
+use Rattle.flow_rules.specs.declared.causes.FireKind.{FireKind}
 use Rattle.std.proofs.Common.{ap, arith, subst, sym, ◌∙◌}
 use Rattle.std.specs.Prelude.{Bool, IfSome, List, None, Option, Some, [], false, length, min, suc, true, ℕ, ◌+◌, ◌<◌, ◌∷◌, ◌≡◌}
 use Rattle.tape_laws.specs.Demands.{Answers, MeetsFirst, OnlyAsked, obligations}

@@ -3,7 +3,7 @@ use Rattle.flow_gate.specs.declared.ids.FlowId.{FlowId}
 use Rattle.flow_laws.proofs.Lists.{flow_is, number_is}
 use Rattle.flow_laws.specs.Steps.{eased_by, fed_by}
 use Rattle.flow_notes.specs.declared.events.Event.{Event}
-use Rattle.flow_notes.specs.declared.notes.Cause.{Cause}
+use Rattle.flow_rules.specs.declared.causes.Cause.{Cause}
 use Rattle.flow_notes.specs.declared.notes.CloseCause.{CloseCause}
 use Rattle.std.proofs.Common.{ap, arith, inl, inr, length-append, length-drop, refl, sym, ◌∙◌}
 use Rattle.std.specs.Prelude.{Bool, List, Some, [], drop, false, if◌then◌else◌, length, take, true, ℕ, ◌&&◌, ◌++◌, ◌+◌, ◌==◌, ◌∷◌, ◌≡◌, ◌≤◌, ◌⊎◌}

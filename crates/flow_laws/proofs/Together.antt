@@ -6,7 +6,7 @@ use Rattle.flow_laws.proofs.Lives.{EachOnce, Lives, count_among, lives}
 use Rattle.flow_laws.proofs.Spared.{unborn}
 use Rattle.flow_laws.specs.Fitting.{FitsIn}
 use Rattle.flow_laws.specs.Ways.{AreApart, HasWays, starts}
-use Rattle.flow_notes.specs.declared.notes.Cause.{Cause}
+use Rattle.flow_rules.specs.declared.causes.Cause.{Cause}
 use Rattle.std.proofs.Common.{ap, arith, length-append, refl, subst, sym, ◌∙◌}
 use Rattle.std.proofs.lemmas.List.Sums.{sum_by-append, sum_by-cons}
 use Rattle.std.specs.List.{AllByRecursion, list_any}

@@ -7,8 +7,8 @@ use Rattle.flow_laws.specs.Fitting.{FitsWindow}
 use Rattle.flow_laws.specs.Octets.{GoesOn}
 use Rattle.flow_laws.specs.Rest.{IsResting}
 use Rattle.flow_notes.specs.declared.events.Event.{Event}
-use Rattle.flow_notes.specs.declared.notes.Cause.{Cause}
-use Rattle.flow_notes.specs.declared.notes.FireKind.{FireKind}
+use Rattle.flow_rules.specs.declared.causes.Cause.{Cause}
+use Rattle.flow_rules.specs.declared.causes.FireKind.{FireKind}
 use Rattle.flow_rules.specs.Moves.{overfills}
 use Rattle.std.specs.Bool.{OnTrue}
 use Rattle.std.specs.Prelude.{Bool, IfSome, IsTrue, List, Some, [], false, length, ℕ, ◌++◌, ◌+◌, ◌<◌, ◌≡◌, ◌≤◌}

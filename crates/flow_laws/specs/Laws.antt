@@ -12,9 +12,9 @@ use Rattle.flow_laws.specs.Suits.{IsSound}
 use Rattle.flow_laws.specs.Tellings.{Crosses, KeepsOrder}
 use Rattle.flow_laws.specs.Ways.{HasLimits, HasWays}
 use Rattle.flow_notes.specs.declared.events.Event.{Event}
-use Rattle.flow_notes.specs.declared.notes.Cause.{Cause}
+use Rattle.flow_rules.specs.declared.causes.Cause.{Cause}
 use Rattle.flow_notes.specs.declared.notes.CloseCause.{CloseCause}
-use Rattle.flow_notes.specs.declared.notes.FireKind.{FireKind}
+use Rattle.flow_rules.specs.declared.causes.FireKind.{FireKind}
 use Rattle.std.specs.List.{AllByRecursion}
 use Rattle.std.specs.Prelude.{Bool, List, None, length, true, ℕ, ◌∷◌, ◌≡◌, ◌≤◌}
 use Rattle.tape_laws.specs.Bounds.{IsBounded}

@@ -11,7 +11,8 @@ use Rattle.std.proofs.lemmas.Option.{same_Some, none-some}
 use Rattle.flow_gate.specs.declared.ids.BufferId.{BufferId}
 use Rattle.flow_gate.specs.declared.ids.BufferId.TheVariants as buffers
 use Rattle.flow_gate.specs.declared.ids.FlowId.{FlowId}
-use Rattle.flow_notes.specs.Buffer.{buffer_words, CanPause}
+use Rattle.flow_notes.specs.Buffer.{buffer_words}
+use Rattle.flow_rules.specs.Pausing.{CanPause}
 use Rattle.flow_notes.specs.Cause.{cause_words}
 use Rattle.flow_notes.specs.Close.{close_word}
 use Rattle.flow_notes.specs.Event.{HasEventSpelling, IsEvent, event_spelling, event_words, is_plain, plain_words}
@@ -30,12 +31,12 @@ use Rattle.flow_notes.specs.declared.events.Event.{Event}
 use Rattle.flow_notes.specs.declared.events.Event.TheVariants as event
 use Rattle.flow_notes.specs.declared.events.PlainEvent.{PlainEvent}
 use Rattle.flow_notes.specs.declared.events.PlainEvent.TheVariants as plain
-use Rattle.flow_notes.specs.declared.notes.Cause.{Cause}
-use Rattle.flow_notes.specs.declared.notes.Cause.TheVariants as causes
+use Rattle.flow_rules.specs.declared.causes.Cause.{Cause}
+use Rattle.flow_rules.specs.declared.causes.Cause.TheVariants as causes
 use Rattle.flow_notes.specs.declared.notes.CloseCause.{CloseCause}
 use Rattle.flow_notes.specs.declared.notes.CloseCause.TheVariants as closes
-use Rattle.flow_notes.specs.declared.notes.FireKind.{FireKind}
-use Rattle.flow_notes.specs.declared.notes.FireKind.TheVariants as kinds
+use Rattle.flow_rules.specs.declared.causes.FireKind.{FireKind}
+use Rattle.flow_rules.specs.declared.causes.FireKind.TheVariants as kinds
 use Rattle.flow_notes.specs.declared.notes.Note.{Note}
 use Rattle.flow_notes.specs.declared.notes.Note.TheVariants as notes
 use Rattle.flow_notes.proofs.EventLines.{u32_again, u64_again, octets_again, plain_again, event_again, event_are}

@@ -2,8 +2,8 @@
 use Rattle.std.specs.Prelude.{ℕ, List, [], ◌∷◌, codes}
 use Rattle.std.specs.Fmt.{decimal}
 use Rattle.flow_notes.specs.Fire.{fire_word}
-use Rattle.flow_notes.specs.declared.notes.Cause.{Cause}
-use Rattle.flow_notes.specs.declared.notes.Cause.TheVariants.{Done, PeerReset, StreamError, TooLarge, Timeout, Overload, Overflow, ConnLost, EarlyEnd, Posted, Refused}
+use Rattle.flow_rules.specs.declared.causes.Cause.{Cause}
+use Rattle.flow_rules.specs.declared.causes.Cause.TheVariants.{Done, PeerReset, StreamError, TooLarge, Timeout, Overload, Overflow, ConnLost, EarlyEnd, Posted, Refused}
 
 abbrev pub cause_words : Cause → List (List ℕ)
 cause_words Done = codes "done" ∷ []

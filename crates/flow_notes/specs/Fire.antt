@@ -1,7 +1,7 @@
 -- Kinds of timers.
 use Rattle.std.specs.Prelude.{ℕ, List, codes}
-use Rattle.flow_notes.specs.declared.notes.FireKind.{FireKind}
-use Rattle.flow_notes.specs.declared.notes.FireKind.TheVariants.{Route, StreamIdle, ConnectionIdle}
+use Rattle.flow_rules.specs.declared.causes.FireKind.{FireKind}
+use Rattle.flow_rules.specs.declared.causes.FireKind.TheVariants.{Route, StreamIdle, ConnectionIdle}
 
 abbrev pub fire_word : FireKind → List ℕ
 fire_word Route = codes "route"

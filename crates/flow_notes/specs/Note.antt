@@ -2,7 +2,8 @@
 use Rattle.std.specs.Prelude.{ℕ, ◌≤◌, Bool, List, [], ◌∷◌, codes, if◌then◌else◌}
 use Rattle.std.specs.Fmt.{decimal}
 use Rattle.hex.specs.Hex.{encode_lower}
-use Rattle.flow_notes.specs.Buffer.{buffer_words, CanPause}
+use Rattle.flow_notes.specs.Buffer.{buffer_words}
+use Rattle.flow_rules.specs.Pausing.{CanPause}
 use Rattle.flow_notes.specs.Cause.{cause_words}
 use Rattle.flow_notes.specs.Close.{close_word}
 use Rattle.flow_notes.specs.Event.{event_words, IsEvent}

@@ -10,12 +10,12 @@ use Rattle.flow_notes.specs.Meaning.{◌>>=◌, counted_of, number_of, u16_of, u
 use Rattle.flow_notes.specs.Split.{one_of, two_of, three_of, four_of}
 use Rattle.flow_notes.specs.declared.events.Event.{Event}
 use Rattle.flow_notes.specs.declared.events.Event.TheVariants as event
-use Rattle.flow_notes.specs.declared.notes.Cause.{Cause}
-use Rattle.flow_notes.specs.declared.notes.Cause.TheVariants as causes
+use Rattle.flow_rules.specs.declared.causes.Cause.{Cause}
+use Rattle.flow_rules.specs.declared.causes.Cause.TheVariants as causes
 use Rattle.flow_notes.specs.declared.notes.CloseCause.{CloseCause}
 use Rattle.flow_notes.specs.declared.notes.CloseCause.TheVariants as closes
-use Rattle.flow_notes.specs.declared.notes.FireKind.{FireKind}
-use Rattle.flow_notes.specs.declared.notes.FireKind.TheVariants as kinds
+use Rattle.flow_rules.specs.declared.causes.FireKind.{FireKind}
+use Rattle.flow_rules.specs.declared.causes.FireKind.TheVariants as kinds
 use Rattle.flow_notes.specs.declared.notes.Note.{Note}
 use Rattle.flow_notes.specs.declared.notes.Note.TheVariants as notes
 

@@ -2,7 +2,8 @@
 use Rattle.std.specs.Prelude.{◌≡◌, ℕ, List, ◌∷◌, false}
 use Rattle.flow_gate.specs.declared.ids.BufferId.{BufferId}
 use Rattle.flow_gate.specs.declared.ids.FlowId.{FlowId}
-use Rattle.flow_notes.specs.Buffer.{buffer_words, CanPause}
+use Rattle.flow_notes.specs.Buffer.{buffer_words}
+use Rattle.flow_rules.specs.Pausing.{CanPause}
 use Rattle.flow_notes.specs.Cause.{cause_words}
 use Rattle.flow_notes.specs.Event.{event_words, plain_words, is_plain, IsEvent, IsPlainEvent}
 use Rattle.flow_notes.specs.Fields.{FitsBuffer, FitsCause, FitsEvent, FitsFlow, FitsJob, FitsNote, FitsPlain}
@@ -12,7 +13,7 @@ use Rattle.flow_notes.specs.Note.{note_words, IsNote}
 use Rattle.flow_notes.specs.declared.events.Event.{Event}
 use Rattle.flow_notes.specs.declared.events.Job.{Job}
 use Rattle.flow_notes.specs.declared.events.PlainEvent.{PlainEvent}
-use Rattle.flow_notes.specs.declared.notes.Cause.{Cause}
+use Rattle.flow_rules.specs.declared.causes.Cause.{Cause}
 use Rattle.flow_notes.specs.declared.notes.Note.{Note}
 
 -- the words are those of the event, which is in its ranges

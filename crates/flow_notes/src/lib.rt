@@ -13,8 +13,9 @@ mod writing;
 const HEX_PIECE: usize = 256;
 
 pub use events::{Event, EventList, Job, PlainEvent};
+pub use flow_rules::{Cause, FireKind};
 pub use names::{NameRefusal, Names};
-pub use notes::{Cause, CloseCause, FireKind, Note, Notes};
+pub use notes::{CloseCause, Note, Notes};
 pub use passages::{Passage, Passages};
 pub use reading::{one_event, one_note, read_event, read_note, read_numbers};
 pub use writing::{event_text, note_text};

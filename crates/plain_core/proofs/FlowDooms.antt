@@ -7,7 +7,7 @@ use Rattle.exchange_core.specs.declared.exchange.Exchange.{Exchange}
 use Rattle.flow_gate.specs.Board.{Board, IsSound as IsSoundBoard, is_known, is_marked, pending_on, watchers_of}
 use Rattle.flow_gate.specs.Changes.{Forgets, goes_with, without as without_flow}
 use Rattle.flow_gate.specs.declared.ids.FlowId.{FlowId}
-use Rattle.flow_notes.specs.declared.notes.Cause.{Cause}
+use Rattle.flow_rules.specs.declared.causes.Cause.{Cause}
 use Rattle.plain_laws.proofs.Counts.{doom_low, is_live_is}
 use Rattle.plain_laws.proofs.Keepings.{doom_high}
 use Rattle.plain_laws.proofs.Streams.{by_case, has_left, has_lost, has_stays, not_both, own_or_other, same_number}

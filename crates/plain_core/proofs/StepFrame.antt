@@ -1,7 +1,7 @@
 -- The steps of rounds and drains: the frame that goes next goes, or there is none.
 use Rattle.flow_gate.specs.Board.{watchers_of}
 use Rattle.flow_gate.specs.declared.ids.FlowId.{FlowId}
-use Rattle.flow_notes.specs.Buffer.{CanPause}
+use Rattle.flow_rules.specs.Pausing.{CanPause}
 use Rattle.flow_notes.specs.declared.notes.Note.{Note}
 use Rattle.plain_laws.proofs.Changes.{frame_keeps_lists, frame_paired}
 use Rattle.plain_laws.proofs.Steps.{frame_step}

@@ -1,7 +1,7 @@
 -- The steps of a run: its flow moves, or may not, or isn't live.
 use Rattle.flow_gate.specs.Board.{watchers_of}
 use Rattle.flow_gate.specs.declared.ids.FlowId.{FlowId}
-use Rattle.flow_notes.specs.Buffer.{CanPause}
+use Rattle.flow_rules.specs.Pausing.{CanPause}
 use Rattle.flow_notes.specs.declared.notes.Note.{Note}
 use Rattle.plain_laws.proofs.Changes.{move_keeps_lists, move_paired, move_recv}
 use Rattle.plain_laws.proofs.Steps.{move_step}

@@ -2,7 +2,7 @@
 use Rattle.exchange_core.specs.Exchanges.{flow_at}
 use Rattle.exchange_core.specs.declared.step.Received.{Received}
 use Rattle.flow_notes.specs.declared.events.PlainEvent.{PlainEvent}
-use Rattle.flow_notes.specs.declared.notes.Cause.{Cause}
+use Rattle.flow_rules.specs.declared.causes.Cause.{Cause}
 use Rattle.plain_laws.specs.StepNotes.{begin_notes, body_notes, frame_notes, move_notes, room_notes}
 use Rattle.std.specs.Prelude.{Bool, List, None, Option, IfSome, Some, [], false, length, min, nat_lt, take, true, ℕ, ◌&&◌, ◌+◌, ◌<◌, ◌==◌, ◌∷◌, ◌≡◌, ◌≤◌, ◌⊎◌}
 use Rattle.tape_laws.specs.Dispatches.{has, live, started}

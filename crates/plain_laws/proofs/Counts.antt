@@ -3,7 +3,7 @@ use Rattle.plain_laws.proofs.Balances.{tally_at}
 use Rattle.plain_laws.proofs.Streams.{swapped}
 use Rattle.std.proofs.Math.Bool.{and-false}
 use Rattle.flow_gate.specs.declared.ids.FlowId.{FlowId}
-use Rattle.flow_notes.specs.declared.notes.Cause.{Cause}
+use Rattle.flow_rules.specs.declared.causes.Cause.{Cause}
 use Rattle.plain_laws.proofs.Changes.{frame_paused, frame_resumed, move_paused, move_resumed}
 use Rattle.plain_laws.proofs.Counting.{disabled_is, lows_are, one_if, told_of, write_flag, write_left}
 use Rattle.plain_laws.proofs.EventChanges.{begin_paused, begin_resumed}

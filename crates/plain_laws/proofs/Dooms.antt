@@ -4,7 +4,7 @@ use Rattle.std.proofs.lemmas.Bool.{or_left, or_right}
 use Rattle.plain_laws.specs.Words.{Past, Alive, conn_lows, conn_out, end_out, lows_of, send_high, turn_of}
 use Rattle.tape_laws.specs.Doomed.{is_swept}
 use Rattle.flow_gate.specs.declared.ids.FlowId.{FlowId}
-use Rattle.flow_notes.specs.declared.notes.Cause.{Cause}
+use Rattle.flow_rules.specs.declared.causes.Cause.{Cause}
 use Rattle.plain_laws.proofs.Extending.{MayAdd, free_meets, nothing_owed, one_owed, regular_more}
 use Rattle.plain_laws.proofs.Leaving.{Leaves, only_other, room_kept, unborn_kept}
 use Rattle.plain_laws.proofs.Rising.{rising_filter}
@@ -26,7 +26,7 @@ use Rattle.tape_laws.specs.PlainSession.{plain_session}
 use Rattle.tape_laws.specs.Units.{WantsDoom}
 use Rattle.tape_laws.specs.declared.PlainLimits.{PlainLimits}
 use Rattle.flow_notes.specs.declared.events.PlainEvent.TheVariants as plain
-use Rattle.flow_notes.specs.declared.notes.Cause.TheVariants as cause
+use Rattle.flow_rules.specs.declared.causes.Cause.TheVariants as cause
 use Rattle.flow_notes.specs.declared.notes.Note.TheVariants as note
 use Rattle.plain_laws.proofs.Streams.{or_true as later}
 use Rattle.plain_laws.proofs.Quiets.{on_true as under}

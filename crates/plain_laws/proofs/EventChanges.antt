@@ -2,7 +2,7 @@
 use Rattle.flow_gate.specs.declared.ids.BufferId.{BufferId}
 use Rattle.flow_gate.specs.declared.ids.FlowId.{FlowId}
 use Rattle.flow_notes.specs.declared.events.PlainEvent.{PlainEvent}
-use Rattle.flow_notes.specs.declared.notes.Cause.{Cause}
+use Rattle.flow_rules.specs.declared.causes.Cause.{Cause}
 use Rattle.plain_laws.proofs.Counting.{one_if}
 use Rattle.plain_laws.proofs.Dooms.{doom_leaves}
 use Rattle.plain_laws.proofs.Flags.{send_same}
@@ -35,7 +35,7 @@ use Rattle.tape_laws.specs.declared.PlainLimits.{PlainLimits}
 use Rattle.wm_buffer.specs.Watermark.{above_after}
 use Rattle.flow_gate.specs.declared.ids.BufferId.TheVariants as buffer
 use Rattle.flow_notes.specs.declared.events.PlainEvent.TheVariants as plain
-use Rattle.flow_notes.specs.declared.notes.Cause.TheVariants as cause
+use Rattle.flow_rules.specs.declared.causes.Cause.TheVariants as cause
 use Rattle.flow_notes.specs.declared.notes.Note.TheVariants as note
 
 -- ---- a stream begins

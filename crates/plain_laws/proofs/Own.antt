@@ -1,6 +1,6 @@
 -- What each note does to the octets of its own stream.
 use Rattle.h2_frames.specs.Head.{data_head}
-use Rattle.flow_notes.specs.declared.notes.Cause.{Cause}
+use Rattle.flow_rules.specs.declared.causes.Cause.{Cause}
 use Rattle.plain_laws.proofs.Flags.{send_same}
 use Rattle.plain_laws.proofs.Greatest.{peak_kept}
 use Rattle.plain_laws.proofs.Leaving.{Leaves}

@@ -1,6 +1,6 @@
 -- What is still owed between a note and those that have to follow it.
 use Rattle.flow_gate.specs.declared.ids.BufferId.{BufferId}
-use Rattle.flow_notes.specs.declared.notes.Cause.{Cause}
+use Rattle.flow_rules.specs.declared.causes.Cause.{Cause}
 use Rattle.flow_notes.specs.declared.notes.Note.{Note}
 use Rattle.std.specs.Prelude.{Bool, List, [], count_by, false, if◌then◌else◌, map, true, ℕ, ◌==◌, ◌∷◌, ◌≡◌, ◌⊎◌}
 use Rattle.tape_laws.specs.Demands.{is_at_once}
@@ -10,7 +10,7 @@ use Rattle.tape_laws.specs.History.{History, NoMark}
 use Rattle.tape_laws.specs.Pauses.{Owed}
 use Rattle.tape_laws.specs.Units.{Demand, WantsArrive, WantsDoom, WantsStart}
 use Rattle.tape_laws.specs.Watermark.{above}
-use Rattle.flow_notes.specs.declared.notes.Cause.TheVariants as cause
+use Rattle.flow_rules.specs.declared.causes.Cause.TheVariants as cause
 use Rattle.flow_notes.specs.declared.notes.Note.TheVariants as note
 
 -- the pauses that have to follow, what is asked for at once, and what came of each stream's body and wasn't received yet

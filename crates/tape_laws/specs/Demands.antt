@@ -1,5 +1,5 @@
 -- What a step asks for at once stands at once, in order: the obligations. Pauses may stand between.
-use Rattle.flow_notes.specs.declared.notes.Cause.{Cause}
+use Rattle.flow_rules.specs.declared.causes.Cause.{Cause}
 use Rattle.flow_notes.specs.declared.notes.Note.{Note}
 use Rattle.std.specs.Bool.{OnTrue}
 use Rattle.std.specs.Prelude.{Bool, IsTrue, List, None, Option, Some, [], drop, false, true, ℕ, ◌++◌, ◌==◌, ◌∷◌, ◌≡◌}
@@ -7,7 +7,7 @@ use Rattle.tape_laws.specs.History.{History, Marked, Noted, Step}
 use Rattle.tape_laws.specs.Pauses.{Heads}
 use Rattle.tape_laws.specs.Setup.{Session, Setup}
 use Rattle.tape_laws.specs.Units.{Demand, Farewell, FramedUnit, Pick, WantsArrive, WantsClose, WantsDoom, WantsOut, WantsPicked, WantsStart}
-use Rattle.flow_notes.specs.declared.notes.Cause.TheVariants as cause
+use Rattle.flow_rules.specs.declared.causes.Cause.TheVariants as cause
 use Rattle.flow_notes.specs.declared.notes.Note.TheVariants as note
 
 -- a farewell is followed by its close

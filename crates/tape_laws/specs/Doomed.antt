@@ -4,7 +4,7 @@ use Rattle.std.specs.Prelude.{Bool, IfSome, IsTrue, List, None, Option, Some, []
 use Rattle.tape_laws.specs.Dispatches.{has, live, started}
 use Rattle.tape_laws.specs.History.{History, Marked, Noted, Step}
 use Rattle.tape_laws.specs.Pauses.{Heads}
-use Rattle.flow_notes.specs.declared.notes.FireKind.TheVariants as kind
+use Rattle.flow_rules.specs.declared.causes.FireKind.TheVariants as kind
 use Rattle.flow_notes.specs.declared.notes.Note.TheVariants as note
 
 -- the exchange that a note names

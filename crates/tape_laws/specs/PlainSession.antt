@@ -11,7 +11,7 @@ use Rattle.tape_laws.specs.Setup.{Session, Setup}
 use Rattle.tape_laws.specs.Units.{Demand, WantsArrive, WantsDoom, WantsStart}
 use Rattle.tape_laws.specs.World.{recv}
 use Rattle.tape_laws.specs.declared.PlainLimits.{PlainLimits}
-use Rattle.flow_notes.specs.declared.notes.Cause.TheVariants as cause
+use Rattle.flow_rules.specs.declared.causes.Cause.TheVariants as cause
 use Rattle.flow_notes.specs.declared.events.Event.TheVariants as event
 use Rattle.flow_notes.specs.declared.notes.Note.TheVariants as note
 use Rattle.flow_notes.specs.declared.events.PlainEvent.TheVariants as plain

@@ -4,7 +4,7 @@ use Rattle.std.proofs.Common.{lit<, lit≤}
 use Rattle.std.specs.Prelude.{List, [], false, true, ◌∷◌}
 use Rattle.tape_laws.specs.declared.PlainLimits.{PlainLimits}
 use Rattle.tape_rows.proofs.Tapes.{Whole, octets, q1, q3, write}
-use Rattle.flow_notes.specs.declared.notes.Cause.TheVariants as cause
+use Rattle.flow_rules.specs.declared.causes.Cause.TheVariants as cause
 use Rattle.flow_notes.specs.declared.events.Event.TheVariants as event
 use Rattle.flow_notes.specs.declared.notes.Note.TheVariants as note
 use Rattle.flow_notes.specs.declared.events.PlainEvent.TheVariants as plain

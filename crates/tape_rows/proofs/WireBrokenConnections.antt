@@ -17,9 +17,9 @@ use Rattle.tape_rows.proofs.WireTapes.{Begun, hex, picks_put}
 use Rattle.tape_rows.proofs.WireTimers.{config_of_route_timeout, route_timeout}
 use Rattle.wire_laws.specs.Marks.{Picked}
 use Rattle.flow_notes.specs.declared.events.Event.TheVariants as event
-use Rattle.flow_notes.specs.declared.notes.Cause.TheVariants as cause
+use Rattle.flow_rules.specs.declared.causes.Cause.TheVariants as cause
 use Rattle.flow_notes.specs.declared.notes.CloseCause.TheVariants as closed
-use Rattle.flow_notes.specs.declared.notes.FireKind.TheVariants as kind
+use Rattle.flow_rules.specs.declared.causes.FireKind.TheVariants as kind
 use Rattle.flow_notes.specs.declared.notes.Note.TheVariants as note
 
 -- a unit for a full list, and the connection stays

@@ -16,7 +16,7 @@ use Rattle.tape_laws.specs.Units.{Control, HeadOf, Put, Reply}
 use Rattle.tape_rows.proofs.WireTapes.{Lawful, cluster, field, hex, route}
 use Rattle.wire_laws.specs.Marks.{Fields, NoBlock, Picked, Took, WireHistory}
 use Rattle.flow_notes.specs.declared.events.Event.TheVariants as event
-use Rattle.flow_notes.specs.declared.notes.Cause.TheVariants as cause
+use Rattle.flow_rules.specs.declared.causes.Cause.TheVariants as cause
 use Rattle.flow_notes.specs.declared.notes.Note.TheVariants as note
 use Rattle.h2_session.specs.declared.act.Act.TheVariants as act
 

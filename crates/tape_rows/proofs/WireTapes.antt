@@ -13,7 +13,7 @@ use Rattle.tape_laws.specs.Units.{FramedUnit, Pick, Put}
 use Rattle.wire_laws.specs.Marks.{WireHistory, WireStep}
 use Rattle.wire_laws.specs.Truth.{ActsRight}
 use Rattle.wire_rules.specs.WireSession.{wire_session}
-use Rattle.flow_notes.specs.declared.notes.Cause.TheVariants as cause
+use Rattle.flow_rules.specs.declared.causes.Cause.TheVariants as cause
 use Rattle.flow_notes.specs.declared.notes.Note.TheVariants as note
 
 abbrev pub digit : ℕ → ℕ

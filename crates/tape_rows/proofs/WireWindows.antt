@@ -19,7 +19,7 @@ use Rattle.wire_laws.specs.Marks.{Fields, NoBlock, Picked, Took, WireHistory}
 use Rattle.wire_rules.specs.WireSetup.{wire_setup}
 use Rattle.flow_gate.specs.declared.ids.BufferId.TheVariants as buffer
 use Rattle.flow_notes.specs.declared.events.Event.TheVariants as event
-use Rattle.flow_notes.specs.declared.notes.Cause.TheVariants as cause
+use Rattle.flow_rules.specs.declared.causes.Cause.TheVariants as cause
 use Rattle.flow_notes.specs.declared.notes.CloseCause.TheVariants as closed
 use Rattle.flow_notes.specs.declared.notes.Note.TheVariants as note
 use Rattle.h2_session.specs.declared.act.Act.TheVariants as act

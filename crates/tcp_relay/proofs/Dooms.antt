@@ -25,7 +25,7 @@ use Rattle.tcp_relay.proofs.SoundTurns.{after}
 use Rattle.tcp_relay.proofs.Sounds.{left_feed, left_other}
 use Rattle.tcp_relay.proofs.Tests.{and_both, by_case, by_option, for_some, if_some, is_not, or_left, or_right, same_number}
 use Rattle.flow_notes.specs.declared.events.Event.TheVariants as event
-use Rattle.flow_notes.specs.declared.notes.Cause.TheVariants as cause
+use Rattle.flow_rules.specs.declared.causes.Cause.TheVariants as cause
 use Rattle.flow_notes.specs.declared.notes.CloseCause.TheVariants as closed
 use Rattle.flow_notes.specs.declared.notes.Note.TheVariants as note
 

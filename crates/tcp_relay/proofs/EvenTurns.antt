@@ -28,7 +28,7 @@ use Rattle.tcp_relay.proofs.SoundTurns.{after, read_turn, room_turn, turned}
 use Rattle.tcp_relay.proofs.Sounds.{feed_c, feed_d, feed_other, left_feed}
 use Rattle.tcp_relay.proofs.Tests.{by_case, by_option, differs_above, for_some, if_some, no_some, number_is, same_number}
 use Rattle.flow_notes.specs.declared.events.Event.TheVariants as event
-use Rattle.flow_notes.specs.declared.notes.Cause.TheVariants as cause
+use Rattle.flow_rules.specs.declared.causes.Cause.TheVariants as cause
 use Rattle.flow_notes.specs.declared.notes.CloseCause.TheVariants as closed
 use Rattle.flow_notes.specs.declared.notes.Note.TheVariants as note
 

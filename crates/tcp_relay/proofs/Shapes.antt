@@ -12,7 +12,7 @@ use Rattle.std.specs.Prelude.{Bool, List, None, Option, Some, [], drop, false, i
 use Rattle.tape_laws.specs.Dispatches.{turns}
 use Rattle.tape_laws.specs.History.{Noted, onto}
 use Rattle.flow_gate.specs.declared.ids.BufferId.TheVariants as buffer
-use Rattle.flow_notes.specs.declared.notes.Cause.TheVariants as cause
+use Rattle.flow_rules.specs.declared.causes.Cause.TheVariants as cause
 use Rattle.flow_notes.specs.declared.notes.CloseCause.TheVariants as closed
 use Rattle.flow_notes.specs.declared.events.Event.TheVariants as event
 use Rattle.flow_notes.specs.declared.notes.Note.TheVariants as note

@@ -26,7 +26,7 @@ use Rattle.tcp_relay.proofs.Sounds.{left_feed}
 use Rattle.tcp_relay.proofs.Tests.{by_case, for_some, if_some, no_some, number_is, same_number}
 use Rattle.wm_buffer.specs.Watermark.{above_after}
 use Rattle.flow_gate.specs.declared.ids.BufferId.TheVariants as buffer
-use Rattle.flow_notes.specs.declared.notes.Cause.TheVariants as cause
+use Rattle.flow_rules.specs.declared.causes.Cause.TheVariants as cause
 use Rattle.flow_notes.specs.declared.notes.CloseCause.TheVariants as closed
 use Rattle.flow_notes.specs.declared.notes.Note.TheVariants as note
 

@@ -26,7 +26,7 @@ use Rattle.tcp_relay.proofs.Tests.{by_case, by_option, if_some}
 use Rattle.tcp_relay.proofs.Tolds.{IsTold, told_close, told_doomed, told_gone, told_lost, told_overload, told_read, told_room, told_start, told_turn}
 use Rattle.tcp_relay.specs.AsGiven.{IsAsGiven}
 use Rattle.flow_notes.specs.declared.events.Event.TheVariants as event
-use Rattle.flow_notes.specs.declared.notes.Cause.TheVariants as cause
+use Rattle.flow_rules.specs.declared.causes.Cause.TheVariants as cause
 use Rattle.flow_notes.specs.declared.notes.CloseCause.TheVariants as closed
 use Rattle.flow_notes.specs.declared.notes.Note.TheVariants as note
 

@@ -8,7 +8,7 @@ use Rattle.tcp_relay.specs.declared.effect.Ended.{Ended}
 use Rattle.tcp_relay.specs.declared.effect.Left.{Left}
 use Rattle.flow_gate.specs.declared.ids.BufferId.TheVariants as buffer
 use Rattle.flow_notes.specs.declared.events.Event.TheVariants as event
-use Rattle.flow_notes.specs.declared.notes.Cause.TheVariants as cause
+use Rattle.flow_rules.specs.declared.causes.Cause.TheVariants as cause
 use Rattle.flow_notes.specs.declared.notes.CloseCause.TheVariants as closed
 use Rattle.flow_notes.specs.declared.notes.Note.TheVariants as note
 use Rattle.tcp_relay.specs.declared.effect.Effect.TheVariants as effect

@@ -10,7 +10,7 @@ use Rattle.exchange_core.specs.Replies.{reckoning}
 use Rattle.exchange_core.specs.Units.{IsFrameable, list_may_end}
 use Rattle.exchange_core.specs.declared.exchange.Exchange.{Exchange}
 use Rattle.exchange_core.specs.declared.causes.Doomed.{Doomed}
-use Rattle.flow_notes.specs.declared.notes.Cause.{Cause}
+use Rattle.flow_rules.specs.declared.causes.Cause.{Cause}
 use Rattle.flow_rules.specs.declared.unit.Unit.TheVariants.{Head}
 use Rattle.hpack_codec.specs.declared.fields.Field.{Field}
 use Rattle.flow_gate.specs.declared.ids.FlowId.{FlowId}

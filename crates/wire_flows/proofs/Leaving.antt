@@ -12,7 +12,7 @@ use Rattle.flow_gate.specs.Board.{Board, IsSound as AreSoundGates, is_marked, pe
 use Rattle.flow_gate.specs.Ids.{is_own, same_buffer, same_flow}
 use Rattle.flow_gate.specs.declared.ids.BufferId.{BufferId}
 use Rattle.flow_gate.specs.declared.ids.FlowId.{FlowId}
-use Rattle.flow_notes.specs.Buffer.{CanPause}
+use Rattle.flow_rules.specs.Pausing.{CanPause}
 use Rattle.std.proofs.Common.{ap, arith, refl, subst, sym, ◌∙◌}
 use Rattle.std.proofs.lemmas.Option.{same_Some}
 use Rattle.std.specs.Option.{option_map_or}

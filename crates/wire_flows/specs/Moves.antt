@@ -7,7 +7,7 @@ use Rattle.flow_gate.specs.Board.{Board, is_known, is_marked, pending_on, watche
 use Rattle.flow_gate.specs.Ids.{same_buffer}
 use Rattle.flow_gate.specs.declared.ids.BufferId.{BufferId}
 use Rattle.flow_gate.specs.declared.ids.FlowId.{FlowId}
-use Rattle.flow_notes.specs.Buffer.{CanPause}
+use Rattle.flow_rules.specs.Pausing.{CanPause}
 use Rattle.flow_rules.specs.declared.unit.Unit.{Unit as NextUnit}
 use Rattle.flow_rules.specs.declared.unit.Unit.TheVariants.{Body}
 use Rattle.std.specs.Option.{option_map_or}

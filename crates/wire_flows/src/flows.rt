@@ -16,7 +16,7 @@ ghost use Rattle.wire_flows.specs.Writes.{ChangesWrite, Keeps, KeepsLows, KeepsO
 
 use exchange_core::{Doomed, Exchanges, Received};
 use flow_gate::{BufferId, FlowId, Gates};
-use flow_notes::Cause;
+use flow_rules::Cause;
 use hpack_codec::FieldList;
 use io_ports::{NoMemory, Octets};
 use std::alloc::Global;

@@ -1,6 +1,6 @@
 -- What a doom puts for its client and its cluster (RFC 9113 sections 5.4.2, 7 and 8.1).
 use Rattle.flow_gate.specs.declared.ids.FlowId.{FlowId}
-use Rattle.flow_notes.specs.declared.notes.Cause.{Cause}
+use Rattle.flow_rules.specs.declared.causes.Cause.{Cause}
 use Rattle.flow_rules.specs.Moves.{overfills}
 use Rattle.proxy_config.specs.declared.config.Config.{Config}
 use Rattle.std.specs.Option.{option_map_or}
@@ -15,7 +15,7 @@ use Rattle.wire_laws.specs.ControlFrames.{rst_stream}
 use Rattle.wire_laws.specs.Marks.{WireHistory, taking}
 use Rattle.wire_laws.specs.Peers.{is_client}
 use Rattle.wire_laws.specs.Streams.{down_stream, up_stream}
-use Rattle.flow_notes.specs.declared.notes.Cause.TheVariants as cause
+use Rattle.flow_rules.specs.declared.causes.Cause.TheVariants as cause
 
 -- the cause came from the cluster: the frame that was taken last did
 abbrev pub by_cluster : WireHistory → Bool

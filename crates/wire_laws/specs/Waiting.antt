@@ -1,6 +1,6 @@
 -- The waiting list of a connection: its answers, replies and resets, in the order in which they were put.
 use Rattle.flow_notes.specs.declared.events.Event.{Event}
-use Rattle.flow_notes.specs.declared.notes.Cause.{Cause}
+use Rattle.flow_rules.specs.declared.causes.Cause.{Cause}
 use Rattle.h2_session.specs.declared.act.Act.{Act}
 use Rattle.proxy_config.specs.declared.config.Config.{Config}
 use Rattle.std.specs.Prelude.{Bool, List, [], drop, if◌then◌else◌, is_some, length, nat_lt, take, ℕ, ◌&&◌, ◌++◌, ◌==◌, ◌||◌, ◌∷◌}

@@ -1,5 +1,5 @@
 // Moves: what octets begin that went from one place of a flow to the next.
-ghost use Rattle.flow_notes.specs.Buffer.{CanPause};
+ghost use Rattle.flow_rules.specs.Pausing.{CanPause};
 ghost use Rattle.flow_notes.specs.declared.notes.Note.TheVariants as note;
 ghost use Rattle.std.specs.Prelude.{◌≡◌, ◌≤◌, ◌+◌, ◌++◌, ◌∷◌, [], IfSome, OnOk};
 ghost use Rattle.wire_flows.specs.Moves.{IsMove};

@@ -14,7 +14,7 @@ use Rattle.wire_laws.specs.Base.{wire_base}
 use Rattle.wire_laws.specs.Marks.{WireHistory}
 use Rattle.wire_laws.specs.Overload.{actions}
 use Rattle.flow_notes.specs.declared.events.Event.TheVariants as event
-use Rattle.flow_notes.specs.declared.notes.Cause.TheVariants as cause
+use Rattle.flow_rules.specs.declared.causes.Cause.TheVariants as cause
 use Rattle.flow_notes.specs.declared.notes.Note.TheVariants as note
 
 -- what both flows of an exchange hold in all their places

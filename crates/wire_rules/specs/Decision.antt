@@ -1,5 +1,5 @@
 -- What is decided of a request head (RFC 9113 section 8.3.1): whether its exchange is doomed at once, and where it goes.
-use Rattle.flow_notes.specs.declared.notes.Cause.{Cause}
+use Rattle.flow_rules.specs.declared.causes.Cause.{Cause}
 use Rattle.hpack_codec.specs.declared.fields.Field.{Field}
 use Rattle.proxy_config.specs.declared.config.Config.{Config}
 use Rattle.std.specs.Prelude.{Bool, List, None, Option, Some, false, if◌then◌else◌, not, true, ℕ, ◌&&◌, ◌∷◌}
@@ -12,7 +12,7 @@ use Rattle.wire_laws.specs.Marks.{Fields, Reading, Refused, Took, WireHistory}
 use Rattle.wire_laws.specs.Overload.{stops_requests}
 use Rattle.wire_laws.specs.Peers.{is_client}
 use Rattle.wire_rules.specs.Choice.{chosen}
-use Rattle.flow_notes.specs.declared.notes.Cause.TheVariants as cause
+use Rattle.flow_rules.specs.declared.causes.Cause.TheVariants as cause
 use Rattle.h2_session.specs.declared.act.Act.TheVariants as act
 use Rattle.wire_heads.specs.declared.requests.Decision.TheVariants as decision
 

@@ -2,8 +2,8 @@
 use Rattle.flow_gate.specs.declared.ids.BufferId.{BufferId}
 use Rattle.flow_gate.specs.declared.ids.FlowId.{FlowId}
 use Rattle.flow_notes.specs.declared.events.Event.{Event}
-use Rattle.flow_notes.specs.declared.notes.Cause.{Cause}
-use Rattle.flow_notes.specs.declared.notes.FireKind.{FireKind}
+use Rattle.flow_rules.specs.declared.causes.Cause.{Cause}
+use Rattle.flow_rules.specs.declared.causes.FireKind.{FireKind}
 use Rattle.h2_frames.specs.Frame.{Frame}
 use Rattle.h2_session.specs.declared.act.Act.{Act}
 use Rattle.proxy_config.specs.declared.config.Config.{Config}
@@ -27,9 +27,9 @@ use Rattle.wire_rules.specs.Faults.{conn_fault, flow_of_act, stream_fault}
 use Rattle.wire_rules.specs.Floods.{close_if_flooded, resets_too_many}
 use Rattle.flow_notes.specs.declared.events.Event.TheVariants as event
 use Rattle.flow_notes.specs.declared.events.Job.TheVariants as job
-use Rattle.flow_notes.specs.declared.notes.Cause.TheVariants as cause
+use Rattle.flow_rules.specs.declared.causes.Cause.TheVariants as cause
 use Rattle.flow_notes.specs.declared.notes.CloseCause.TheVariants as closed
-use Rattle.flow_notes.specs.declared.notes.FireKind.TheVariants as kind
+use Rattle.flow_rules.specs.declared.causes.FireKind.TheVariants as kind
 use Rattle.flow_notes.specs.declared.notes.Note.TheVariants as note
 use Rattle.h2_session.specs.declared.act.Act.TheVariants as act
 

@@ -1,6 +1,6 @@
 -- Which timers fire in a tick, and in which order.
 use Rattle.flow_notes.specs.declared.events.Event.{Event}
-use Rattle.flow_notes.specs.declared.notes.FireKind.{FireKind}
+use Rattle.flow_rules.specs.declared.causes.FireKind.{FireKind}
 use Rattle.proxy_config.specs.declared.config.Config.{Config}
 use Rattle.scaled_timer.specs.Order.{in_order}
 use Rattle.std.specs.Bool.{OnTrue}

@@ -7,7 +7,7 @@ use Rattle.wire_laws.specs.Marks.{Took, WireHistory, WireStep}
 use Rattle.wire_laws.specs.Peers.{is_client}
 use Rattle.wire_laws.specs.Streams.{comes_from}
 use Rattle.wire_laws.specs.Waiting.{overflows}
-use Rattle.flow_notes.specs.declared.notes.Cause.TheVariants as cause
+use Rattle.flow_rules.specs.declared.causes.Cause.TheVariants as cause
 use Rattle.flow_notes.specs.declared.notes.CloseCause.TheVariants as closed
 use Rattle.flow_notes.specs.declared.notes.Note.TheVariants as note
 use Rattle.h2_session.specs.declared.act.Act.TheVariants as act

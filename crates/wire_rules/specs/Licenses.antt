@@ -1,6 +1,6 @@
 -- Each doom and each close has its cause in its own dispatch.
 use Rattle.flow_gate.specs.declared.ids.FlowId.{FlowId}
-use Rattle.flow_notes.specs.declared.notes.Cause.{Cause}
+use Rattle.flow_rules.specs.declared.causes.Cause.{Cause}
 use Rattle.flow_notes.specs.declared.notes.CloseCause.{CloseCause}
 use Rattle.proxy_config.specs.declared.config.Config.{Config}
 use Rattle.std.specs.Prelude.{Bool, IsTrue, false, length, nat_le, not, ℕ, ◌&&◌, ◌==◌, ◌^◌, ◌||◌, ◌≡◌, ◌⊎◌}
@@ -19,7 +19,7 @@ use Rattle.wire_laws.specs.Streams.{exchanges_of, next_stream_on}
 use Rattle.wire_laws.specs.Waiting.{waiting_on}
 use Rattle.wire_rules.specs.Owed.{owed}
 use Rattle.wire_rules.specs.WireSetup.{wire_setup}
-use Rattle.flow_notes.specs.declared.notes.Cause.TheVariants as cause
+use Rattle.flow_rules.specs.declared.causes.Cause.TheVariants as cause
 use Rattle.flow_notes.specs.declared.notes.CloseCause.TheVariants as closed
 use Rattle.flow_notes.specs.declared.notes.Note.TheVariants as note
 use Rattle.flow_rules.specs.declared.unit.Unit.TheVariants as unit

@@ -1,5 +1,5 @@
 -- The timers of a wire session: which are armed, in the order of arming.
-use Rattle.flow_notes.specs.declared.notes.FireKind.{FireKind}
+use Rattle.flow_rules.specs.declared.causes.FireKind.{FireKind}
 use Rattle.h2_session.specs.Acts.{stream_of as stream_of_act}
 use Rattle.h2_session.specs.declared.act.Act.{Act}
 use Rattle.proxy_config.specs.declared.config.Config.{Config}
@@ -15,7 +15,7 @@ use Rattle.wire_laws.specs.Marks.{Picked, Took, WireHistory}
 use Rattle.wire_laws.specs.Peers.{is_client}
 use Rattle.wire_laws.specs.Streams.{exchanges_of, live_at, origin}
 use Rattle.flow_notes.specs.declared.events.Event.TheVariants as event
-use Rattle.flow_notes.specs.declared.notes.FireKind.TheVariants as kind
+use Rattle.flow_rules.specs.declared.causes.FireKind.TheVariants as kind
 use Rattle.flow_notes.specs.declared.notes.Note.TheVariants as note
 
 -- a timer that was armed for an exchange or a connection

@@ -10,7 +10,7 @@ use Rattle.filter_chain.specs.Chain.{stages}
 use Rattle.filter_chain.specs.Place.{Place, empty_place}
 use Rattle.filter_chain.specs.declared.stage.StageKind.TheVariants.{Send}
 use Rattle.flow_gate.specs.declared.ids.FlowId.{FlowId}
-use Rattle.flow_notes.specs.declared.notes.Cause.{Cause}
+use Rattle.flow_rules.specs.declared.causes.Cause.{Cause}
 use Rattle.flow_notes.specs.declared.notes.Note.{Note}
 use Rattle.proxy_config.specs.declared.config.Config.{Config}
 use Rattle.proxy_config.specs.declared.config.LimitKeys.{LimitKeys}

@@ -1,5 +1,5 @@
 -- What each kind of step leaves of what ties the marks.
-use Rattle.flow_notes.specs.declared.notes.Cause.{Cause}
+use Rattle.flow_rules.specs.declared.causes.Cause.{Cause}
 use Rattle.flow_notes.specs.declared.notes.Note.TheVariants as note
 use Rattle.proxy_config.specs.declared.config.Config.{Config}
 use Rattle.std.proofs.Common.{ap, arith, refl, subst, sym, ◌∙◌}

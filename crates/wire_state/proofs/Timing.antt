@@ -1,6 +1,6 @@
 -- How many timers are armed, and what the latest moment is.
-use Rattle.flow_notes.specs.declared.notes.FireKind.{FireKind}
-use Rattle.flow_notes.specs.declared.notes.FireKind.TheVariants.{Route, StreamIdle}
+use Rattle.flow_rules.specs.declared.causes.FireKind.{FireKind}
+use Rattle.flow_rules.specs.declared.causes.FireKind.TheVariants.{Route, StreamIdle}
 use Rattle.scaled_timer.proofs.Sorting.{length-in_order}
 use Rattle.scaled_timer.specs.Order.{in_order}
 use Rattle.std.proofs.Common.{arith, refl}

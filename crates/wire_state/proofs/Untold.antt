@@ -13,7 +13,7 @@ use Rattle.flow_gate.specs.declared.ids.BufferId.TheVariants as buffer
 use Rattle.flow_gate.specs.declared.ids.FlowId.{FlowId}
 use Rattle.flow_laws.proofs.Lists.{count_cons, flow_is, flow_same, flow_swapped, one_if}
 use Rattle.flow_laws.proofs.Lives.{has_without}
-use Rattle.flow_notes.specs.declared.notes.Cause.{Cause}
+use Rattle.flow_rules.specs.declared.causes.Cause.{Cause}
 use Rattle.flow_notes.specs.declared.notes.Note.TheVariants as note
 use Rattle.flow_rules.specs.Kinds.{Hold, Kind, Meter, Send}
 use Rattle.flow_rules.specs.Sources.{sources_from, write_source}

@@ -2,7 +2,7 @@
 use Rattle.std.proofs.Common.{◌≡◌, ℕ, true, false, cond, List, [], ◌∷◌, ◌++◌, sym, ap, ◌∙◌, subst}
 use Rattle.std.specs.Prelude.{◌==◌, Option, None, Some}
 use denote.RawPtr.{Ptr}
-use Rattle.flow_notes.specs.declared.notes.FireKind.{FireKind}
+use Rattle.flow_rules.specs.declared.causes.FireKind.{FireKind}
 use Rattle.scaled_timer.specs.declared.timers.TimerKind.{TimerKind}
 use Rattle.scaled_timer.specs.Timing.{Timing, has_timer, without_timer}
 use Rattle.wire_timers.specs.Kinds.{number_of, longest_at}

@@ -4,8 +4,8 @@ use Rattle.std.specs.Prelude.{◌==◌, Option, None, Some}
 use Rattle.std.specs.List.{IsDistinct}
 use denote.RawPtr.{Ptr}
 use Rattle.link_lists.specs.Lists.{contains_id}
-use Rattle.flow_notes.specs.declared.notes.FireKind.{FireKind}
-use Rattle.flow_notes.specs.declared.notes.FireKind.TheVariants.{Route, StreamIdle, ConnectionIdle}
+use Rattle.flow_rules.specs.declared.causes.FireKind.{FireKind}
+use Rattle.flow_rules.specs.declared.causes.FireKind.TheVariants.{Route, StreamIdle, ConnectionIdle}
 use Rattle.scaled_timer.specs.declared.fired.Fired.{Fired}
 use Rattle.scaled_timer.specs.declared.timers.TimerKind.{TimerKind}
 use Rattle.scaled_timer.specs.Due as scaled

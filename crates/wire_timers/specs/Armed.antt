@@ -1,8 +1,8 @@
 -- The armed timers of a worker.
 use Rattle.std.specs.Prelude.{ℕ, Bool, ◌==◌, ◌&&◌, not, cond, List, [], ◌∷◌, ◌++◌, filter}
 use Rattle.std.specs.List.{list_any}
-use Rattle.flow_notes.specs.declared.notes.FireKind.{FireKind}
-use Rattle.flow_notes.specs.declared.notes.FireKind.TheVariants.{Route, StreamIdle}
+use Rattle.flow_rules.specs.declared.causes.FireKind.{FireKind}
+use Rattle.flow_rules.specs.declared.causes.FireKind.TheVariants.{Route, StreamIdle}
 use Rattle.scaled_timer.specs.declared.timers.TimerKind.{TimerKind}
 use Rattle.wire_timers.specs.Kinds.{number_of, longest_at}
 

@@ -1,7 +1,7 @@
 -- The kinds of timers of a worker, and how long each runs.
 use Rattle.std.specs.Prelude.{◌≡◌, ℕ, zero, suc, List, [], ◌∷◌, map}
-use Rattle.flow_notes.specs.declared.notes.FireKind.{FireKind}
-use Rattle.flow_notes.specs.declared.notes.FireKind.TheVariants.{Route, StreamIdle, ConnectionIdle}
+use Rattle.flow_rules.specs.declared.causes.FireKind.{FireKind}
+use Rattle.flow_rules.specs.declared.causes.FireKind.TheVariants.{Route, StreamIdle, ConnectionIdle}
 use Rattle.proxy_config.specs.declared.config.TimeoutKeys.{TimeoutKeys}
 use Rattle.scaled_timer.specs.declared.timers.TimerKind.{TimerKind}
 

@@ -3,7 +3,7 @@ ghost use Rattle.std.specs.Prelude.{◌≡◌, ◌==◌, [], ◌∷◌, ⊤, len
 ghost use Rattle.wire_timers.specs.Kinds.{kind_of};
 ghost use Rattle.wire_timers.specs.Told.{told_of};
 
-use flow_notes::FireKind;
+use flow_rules::FireKind;
 use scaled_timer::{Fired, FiredList};
 use std::alloc::Global;
 use std::marker::Model;

@@ -3,7 +3,7 @@ ghost use Rattle.std.specs.Prelude.{◌≡◌, ◌<◌};
 ghost use Rattle.proxy_config.specs.Ranges.{AreTimeouts};
 ghost use Rattle.wire_timers.specs.Kinds.{number_of, HasSpans};
 
-use flow_notes::FireKind;
+use flow_rules::FireKind;
 use proxy_config::TimeoutKeys;
 use scaled_timer::TimerKind;
 

@@ -8,7 +8,7 @@ ghost use Rattle.wire_timers.specs.Kinds.{HasSpans};
 use crate::due::DueList;
 use crate::spans::{number, spans};
 use crate::tokens::{Tokens, give_back, give_back_all, give_back_fired};
-use flow_notes::FireKind;
+use flow_rules::FireKind;
 use io_ports::NoMemory;
 use proxy_config::Config;
 use scaled_timer::{TimerKind, Timers};

@@ -1,5 +1,5 @@
 use Rattle.flow_notes.specs.declared.events.PlainEvent.TheVariants as plain
-use Rattle.flow_notes.specs.declared.notes.Cause.TheVariants as cause
+use Rattle.flow_rules.specs.declared.causes.Cause.TheVariants as cause
 use Rattle.std.proofs.Common.{ap}
 use Rattle.plain_core.proofs.EventBody.{cut_opened}
 use Rattle.plain_core.proofs.EventOpens.{number_given, opened_given}

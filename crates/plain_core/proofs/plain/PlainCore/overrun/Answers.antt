@@ -1,4 +1,4 @@
-use Rattle.flow_notes.specs.declared.notes.Cause.TheVariants as cause
+use Rattle.flow_rules.specs.declared.causes.Cause.TheVariants as cause
 use Rattle.plain_core.proofs.EventBody.{over_any}
 use Rattle.plain_core.proofs.EventOpens.{number_given, opened_given}
 use Rattle.plain_core.specs.Noting.{doom_of}
