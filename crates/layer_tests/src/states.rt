@@ -10,7 +10,8 @@ mod followed;
 mod threads;
 
 use io_ports::NoMemory;
-use proxy_config::{Config, read_config};
+use config_tables::read_config;
+use proxy_config::Config;
 use shared_state::{Follower, Followers, Publisher, make_shared};
 use std::alloc::AllocGlobal;
 use std::process::Abort;

@@ -1,10 +1,11 @@
 // A case, line by line.
 ghost use Rattle.proxy_config.specs.Ranges.{IsInRange};
-ghost use Rattle.proxy_config.specs.Reading.{config_of};
+ghost use Rattle.config_tables.specs.Reading.{config_of};
 ghost use Rattle.std.specs.Prelude.{◌≡◌, IfSome, List, Ok, ℕ};
 
 use io_ports::NoMemory;
-use proxy_config::{Config, read_config};
+use config_tables::read_config;
+use proxy_config::Config;
 use std::alloc::Global;
 
 /// How many octets a configuration has at most.

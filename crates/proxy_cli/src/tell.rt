@@ -3,7 +3,7 @@
 use crate::pages::USAGE;
 use config_text::tell_no_toml;
 use io_ports::Octets;
-use proxy_config::ConfigFault;
+use config_tables::ConfigFault;
 use proxy_site::{ServeReason, Status};
 use proxy_wire::{ProxyReason, ProxyServed, WireEnd};
 use relay_work::RelayEnded;

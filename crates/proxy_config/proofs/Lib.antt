@@ -1,6 +1,1 @@
-pub mod Faults
-pub mod Fits
-pub mod InRange
-pub mod Least
 pub mod Listed
-pub mod Lists

@@ -1,11 +1,4 @@
 pub mod Clusters
-pub mod Answers
 pub mod Defaults
-pub mod Keys
-pub mod Kinds
 pub mod Ranges
-pub mod Reading
 pub mod Routing
-pub mod Tables
-pub mod Texts
-pub mod Values

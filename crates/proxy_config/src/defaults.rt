@@ -1,8 +1,7 @@
 // The configuration of the empty text.
-ghost use Rattle.std.specs.Prelude.{◌≡◌, [], Ok, IfOk};
+ghost use Rattle.std.specs.Prelude.{◌≡◌, IfOk};
 ghost use Rattle.proxy_config.specs.Defaults.{config_of_empty, default_limits, default_timeouts};
 ghost use Rattle.proxy_config.specs.Ranges.{IsInRange};
-ghost use Rattle.proxy_config.specs.Reading.{config_of};
 
 use crate::config::{Config, LimitKeys, ProxyKeys, TimeoutKeys};
 use crate::overload::OverloadKeys;
@@ -40,11 +39,6 @@ fn default_timeouts() -> TimeoutKeys
         connection_idle_min: 3_600_000,
     }
 }
-
-/// The configuration of the defaults is that of the empty text.
-pub fn defaults_are_of_empty_text()
-    ensures { config_of [] ≡ Ok config_of_empty }
-{}
 
 impl Config {
     /// The configuration of the empty text: every key has its default.

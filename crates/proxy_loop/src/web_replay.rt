@@ -3,7 +3,7 @@
 use crate::web_journal::{Kept, put_note};
 use flow_notes::{NameRefusal, Names, read_note};
 use io_ports::{MemSink, MemSource, NoMemory, Octets};
-use proxy_config::read_config;
+use config_tables::read_config;
 use session_run::Status;
 use std::alloc::Global;
 use wire_run::run_wire;

@@ -1,6 +1,6 @@
 -- What the proxy does by its configuration.
 use Rattle.flow_notes.specs.Line.{newline}
-use Rattle.proxy_config.specs.Reading.{config_of}
+use Rattle.config_tables.specs.Reading.{config_of}
 use Rattle.proxy_config.specs.declared.config.Config.{Config}
 use Rattle.session_config.specs.Loading.{IsWhole, StopsAs}
 use Rattle.session_config.specs.Refusals.{refusal_line}

@@ -3,7 +3,7 @@ ghost use Rattle.std.specs.Prelude.{◌≡◌};
 ghost use Rattle.proxy_site.specs.Reasons.{reason_status};
 ghost use Rattle.proxy_site.specs.Relaying.{ended_status};
 
-use proxy_config::ConfigFault;
+use config_tables::ConfigFault;
 use relay_work::RelayEnded;
 use session_run::Status;
 

@@ -1,8 +1,8 @@
 -- Connections and seats that nobody has used.
 use Rattle.metered_wires.specs.Rising.{IsRising}
-use Rattle.proxy_config.specs.Reading.{config_of}
+use Rattle.config_tables.specs.Reading.{config_of}
 use Rattle.proxy_config.specs.declared.config.Config.{Config}
-use Rattle.proxy_config.specs.declared.fault.ConfigFault.{ConfigFault}
+use Rattle.config_tables.specs.declared.fault.ConfigFault.{ConfigFault}
 use Rattle.proxy_site.specs.Sites.{IsUnused}
 use Rattle.proxy_wire.specs.Pools.{IsStaff, SharesOf}
 use Rattle.proxy_wire.specs.Leading.{Leads}

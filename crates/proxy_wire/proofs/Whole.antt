@@ -1,9 +1,9 @@
 -- The configuration was read whole, or there is none.
 use Rattle.io_ports.specs.Faults.{Rose}
 use Rattle.proxy_config.specs.Ranges.{IsInRange}
-use Rattle.proxy_config.specs.Reading.{config_of}
+use Rattle.config_tables.specs.Reading.{config_of}
 use Rattle.proxy_config.specs.declared.config.Config.{Config}
-use Rattle.proxy_config.specs.declared.fault.ConfigFault.{ConfigFault}
+use Rattle.config_tables.specs.declared.fault.ConfigFault.{ConfigFault}
 use Rattle.proxy_site.proofs.Ending.{not_usage}
 use Rattle.proxy_site.specs.Relaying.{SiteOrOut}
 use Rattle.proxy_site.specs.Serving.{TellsEnd, end_status}
@@ -18,7 +18,7 @@ use Rattle.session_run.specs.declared.status.Status.{Status}
 use Rattle.std.proofs.Common.{ap, arith, inl, inr, refl, subst, sym, ◌∙◌}
 use Rattle.std.specs.List.{list_any}
 use Rattle.std.specs.Prelude.{Bool, Err, List, Ok, Option, Result, false, if◌then◌else◌, length, true, ℕ, ◌<◌, ◌^◌, ◌≡◌, ◌≢◌, ◌≤◌, ◌⊎◌}
-use Rattle.proxy_config.specs.declared.fault.ConfigFault.TheVariants as faults
+use Rattle.config_tables.specs.declared.fault.ConfigFault.TheVariants as faults
 use Rattle.proxy_wire.specs.declared.end.WireEnd.TheVariants as ends
 use Rattle.session_config.specs.declared.load.ConfigEnd.TheVariants as end
 use Rattle.session_run.specs.declared.status.Status.TheVariants as status

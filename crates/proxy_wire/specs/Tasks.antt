@@ -1,6 +1,6 @@
 -- What workers are to do.
 use Rattle.proxy_config.specs.Ranges.{IsInRange}
-use Rattle.proxy_config.specs.Reading.{config_of}
+use Rattle.config_tables.specs.Reading.{config_of}
 use Rattle.proxy_wire.specs.declared.pool.Task.{Task}
 use Rattle.std.specs.Prelude.{Ok, length, ◌<◌, ◌^◌, ◌≡◌}
 

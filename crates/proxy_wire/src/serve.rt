@@ -16,7 +16,7 @@ use crate::pool::Task;
 use crate::serving::serve_wire;
 use crate::site::WireSite;
 use io_ports::{Sink, Source};
-use proxy_config::{ConfigFault, read_config};
+use config_tables::{ConfigFault, read_config};
 use proxy_site::{ServeReason, Status, end_at_config, serve_with_reason};
 use session_config::{ConfigEnd, load_text};
 use std::alloc::Global;

@@ -1,5 +1,5 @@
 -- What a run of a relay's session tells, in terms of its lines and its tape.
-use Rattle.proxy_config.specs.Reading.{config_of}
+use Rattle.config_tables.specs.Reading.{config_of}
 use Rattle.proxy_config.specs.declared.config.Config.{Config}
 use Rattle.relay_laws.specs.Lawful.{IsRelayWhole}
 use Rattle.relay_laws.specs.Pairs.{Tape}

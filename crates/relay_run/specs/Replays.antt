@@ -1,6 +1,6 @@
 -- What the replay of a relay's session tells.
 use Rattle.flow_notes.specs.Line.{newline}
-use Rattle.proxy_config.specs.Reading.{config_of}
+use Rattle.config_tables.specs.Reading.{config_of}
 use Rattle.proxy_config.specs.declared.config.Config.{Config}
 use Rattle.relay_laws.specs.Lawful.{IsRelayWhole}
 use Rattle.relay_laws.specs.Pairs.{Tape}

@@ -23,7 +23,7 @@ pub struct RelayPlay {
 
 impl RelayPlay {
     ghost use Rattle.std.specs.Prelude.{◌≡◌, IfOk, List, Ok, ℕ};
-    ghost use Rattle.proxy_config.specs.Reading.{config_of};
+    ghost use Rattle.config_tables.specs.Reading.{config_of};
     ghost use Rattle.relay_run.specs.Played.{CanTake, PlaysEvent, relay_kind};
     ghost use Rattle.session_run.specs.Runs.{Begins};
 

@@ -1,7 +1,7 @@
 // The whole of a relay's session.
 ghost use Rattle.std.specs.Prelude.{◌≡◌, List, Ok, ℕ};
 ghost use Rattle.io_ports.specs.Faults.{Rose};
-ghost use Rattle.proxy_config.specs.Reading.{config_of};
+ghost use Rattle.config_tables.specs.Reading.{config_of};
 ghost use Rattle.relay_run.specs.Replays.{ReplaysRelay};
 
 use crate::play::RelayPlay;

@@ -8,7 +8,7 @@ use crate::pages::{HELP, USAGE, VERSION};
 use crate::tell::tell_outcome;
 use config_text::{ConfigFile, tell_no_toml};
 use program_ports::{Input, Output};
-use proxy_config::ConfigFault;
+use config_tables::ConfigFault;
 use replay_run::{Reason, Status, replay_with_reason};
 use std::env::{self, Env};
 use std::fs;

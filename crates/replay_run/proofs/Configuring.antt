@@ -1,6 +1,6 @@
 -- A configuration that isn't there, and a session that is run under one.
 use Rattle.io_ports.specs.Faults.{Rose}
-use Rattle.proxy_config.specs.Reading.{config_of}
+use Rattle.config_tables.specs.Reading.{config_of}
 use Rattle.proxy_config.specs.declared.config.Config.{Config}
 use Rattle.relay_run.specs.Replays.{ReplaysRelay}
 use Rattle.replay_run.specs.ReplayUnder.{ConfigEnds, ConfigEndsAs, Configured, EndsAtConfig, ReplaysUnder, Unconfigured, WireCompletes, end_status, end_text}

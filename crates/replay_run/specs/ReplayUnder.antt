@@ -1,8 +1,8 @@
 -- What a replay does that reads a configuration first.
 use Rattle.flow_notes.specs.Line.{newline}
-use Rattle.proxy_config.specs.Reading.{config_of}
+use Rattle.config_tables.specs.Reading.{config_of}
 use Rattle.proxy_config.specs.declared.config.Config.{Config}
-use Rattle.proxy_config.specs.declared.fault.ConfigFault.{ConfigFault}
+use Rattle.config_tables.specs.declared.fault.ConfigFault.{ConfigFault}
 use Rattle.session_config.specs.Loading.{IsWhole, StopsAs, longest_config}
 use Rattle.session_config.specs.Refusals.{refusal_line}
 use Rattle.session_config.specs.declared.load.ConfigEnd.{ConfigEnd}

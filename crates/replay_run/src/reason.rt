@@ -4,7 +4,7 @@ ghost use Rattle.flow_notes.specs.Extends.{Extends};
 
 use io_ports::{NoMemory, Octets};
 use line_faults::LineFault;
-use proxy_config::ConfigFault;
+use config_tables::ConfigFault;
 use session_config::put_config_fault;
 use session_run::Status;
 use std::alloc::Global;

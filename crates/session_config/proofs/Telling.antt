@@ -1,7 +1,7 @@
 -- The line of a refusal is written piece by piece.
 use Rattle.flow_notes.specs.Line.{newline}
 use Rattle.io_ports.specs.declared.octets.NoMemory.{NoMemory}
-use Rattle.proxy_config.specs.declared.fault.ConfigFault.{ConfigFault}
+use Rattle.config_tables.specs.declared.fault.ConfigFault.{ConfigFault}
 use Rattle.session_config.specs.Refusals.{fault_number, key_text, refusal_line}
 use Rattle.std.proofs.Common.{ap, append_assoc, ◌∙◌}
 use Rattle.std.specs.Fmt.{decimal}

@@ -1,6 +1,6 @@
 -- What reading a configuration answers, by the octets that its source gave.
 use Rattle.io_ports.specs.Faults.{Rose}
-use Rattle.proxy_config.specs.Reading.{config_of}
+use Rattle.config_tables.specs.Reading.{config_of}
 use Rattle.proxy_config.specs.declared.config.Config.{Config}
 use Rattle.session_config.specs.declared.load.ConfigEnd.{ConfigEnd}
 use Rattle.std.specs.Io.KnownBytes.{Consumes, IsAtEnd}

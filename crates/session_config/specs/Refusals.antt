@@ -1,12 +1,12 @@
 -- The line that tells of a refused configuration.
 use Rattle.std.specs.Char.{is_ascii_alphanumeric, is_ascii_digit}
 use Rattle.flow_notes.specs.Line.{newline}
-use Rattle.proxy_config.specs.declared.fault.ConfigFault.{ConfigFault}
+use Rattle.config_tables.specs.declared.fault.ConfigFault.{ConfigFault}
 use Rattle.std.specs.Fmt.{decimal}
 use Rattle.std.specs.List.{find, list_all, starts_with}
 use Rattle.std.specs.Option.{option_map_or}
 use Rattle.std.specs.Prelude.{Bool, List, [], codes, drop, flat_map, if◌then◌else◌, length, nat_eq, nat_lt, not, position, take, ℕ, ◌%◌, ◌&&◌, ◌++◌, ◌+◌, ◌/◌, ◌==◌, ◌||◌, ◌∷◌}
-use Rattle.proxy_config.specs.declared.fault.ConfigFault.TheVariants as fault
+use Rattle.config_tables.specs.declared.fault.ConfigFault.TheVariants as fault
 
 -- the kinds of faults are numbered; out of memory, which refuses no configuration, is the last
 abbrev pub fault_number : ConfigFault → ℕ

@@ -4,7 +4,8 @@ ghost use Rattle.proxy_config.specs.Ranges.{IsInRange};
 ghost use Rattle.session_config.specs.Loading.{CausesFault, Loads, ReadsPiece, ReadsWhole};
 
 use io_ports::{Failed, NoMemory, Octets, Source};
-use proxy_config::{Config, ConfigFault, read_config};
+use config_tables::{ConfigFault, read_config};
+use proxy_config::Config;
 use std::alloc::Global;
 use std::error::Error;
 use std::fmt;

@@ -4,7 +4,7 @@ ghost use Rattle.flow_notes.specs.Extends.{Extends};
 
 use crate::refusal::put_key;
 use io_ports::{NoMemory, Octets};
-use proxy_config::ConfigFault;
+use config_tables::ConfigFault;
 
 /// What may stand at a key, by the last part of its name.
 const ASKED: [(&[u8], &[u8]); 46] = [

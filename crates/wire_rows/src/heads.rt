@@ -19,7 +19,8 @@ use crate::words::{Answers, number, small_number};
 use anyhow::{Result, bail};
 use hpack_codec::{Field, FieldList};
 use io_ports::{NoMemory, Octets};
-use proxy_config::{Config, read_config};
+use config_tables::read_config;
+use proxy_config::Config;
 use std::alloc::Global;
 use wire_heads::{
     Decision, Expected, Judged, Response, judge_request, judge_response, judge_trailers, place,

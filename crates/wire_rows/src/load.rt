@@ -1,7 +1,8 @@
 // A load, and what is done to it.
 use crate::words::{Answers, next, number, small_number};
 use anyhow::{Result, bail};
-use proxy_config::{Config, read_config};
+use config_tables::read_config;
+use proxy_config::Config;
 use std::alloc::Global;
 use wire_load::{Action, Load};
 

@@ -3,7 +3,7 @@ use Rattle.flow_notes.specs.Event.{event_spelling}
 use Rattle.flow_notes.specs.Line.{newline}
 use Rattle.flow_notes.specs.Name.{AreNames}
 use Rattle.flow_notes.specs.declared.events.Event.{Event}
-use Rattle.proxy_config.specs.Reading.{config_of}
+use Rattle.config_tables.specs.Reading.{config_of}
 use Rattle.proxy_config.specs.declared.config.Config.{Config}
 use Rattle.session_config.specs.ClusterNames.{names_in, resources_in}
 use Rattle.session_lines.specs.WireLines.{Behind, IsWireSeen, MayComeWire, NoLine, SpellsNoWire, WireEvent, WireHeader, WireItem, WireSeen, is_headed, wire_event_lines, wire_header, wire_line, wire_text}

@@ -6,7 +6,7 @@ use Rattle.flow_notes.specs.Note.{IsNote}
 use Rattle.flow_notes.specs.declared.events.Event.{Event}
 use Rattle.flow_notes.specs.declared.notes.Note.{Note}
 use Rattle.io_ports.specs.declared.octets.NoMemory.{NoMemory}
-use Rattle.proxy_config.specs.Reading.{config_of}
+use Rattle.config_tables.specs.Reading.{config_of}
 use Rattle.proxy_config.specs.declared.config.Config.{Config}
 use Rattle.proxy_config.specs.declared.routes.Route.{Route}
 use Rattle.session_config.specs.ClusterNames.{names_in, resources_in}

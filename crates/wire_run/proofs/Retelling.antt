@@ -1,5 +1,5 @@
 -- What a run of a wire session tells, in terms of its lines and its tape.
-use Rattle.proxy_config.specs.Reading.{config_of}
+use Rattle.config_tables.specs.Reading.{config_of}
 use Rattle.proxy_config.specs.declared.config.Config.{Config}
 use Rattle.session_config.specs.ClusterNames.{names_in, resources_in}
 use Rattle.session_lines.specs.WireLines.{NoLine, SpellsNoWire, WireLinesAre, WireSeen, is_headed, wire_text}

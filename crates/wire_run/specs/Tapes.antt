@@ -1,7 +1,7 @@
 -- What a run of a wire session tells.
 use Rattle.flow_notes.specs.Line.{newline}
 use Rattle.flow_notes.specs.Note.{IsNote}
-use Rattle.proxy_config.specs.Reading.{config_of}
+use Rattle.config_tables.specs.Reading.{config_of}
 use Rattle.proxy_config.specs.declared.config.Config.{Config}
 use Rattle.session_config.specs.ClusterNames.{names_in, resources_in}
 use Rattle.session_lines.specs.WireLines.{IsWireSeen, SpellsNoWire, WireSeen, is_headed, wire_events, wire_lines, wire_text}

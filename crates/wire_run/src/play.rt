@@ -31,7 +31,7 @@ impl WirePlay {
     ghost use Rattle.std.specs.Prelude.{◌≡◌, List, Ok, ℕ, IfOk, OnOk, false};
     ghost use Rattle.flow_notes.specs.Event.{IsEvent};
     ghost use Rattle.proxy_config.specs.Ranges.{IsInRange};
-    ghost use Rattle.proxy_config.specs.Reading.{config_of};
+    ghost use Rattle.config_tables.specs.Reading.{config_of};
     ghost use Rattle.session_run.specs.Runs.{Begins};
     ghost use Rattle.wire_run.specs.Passing.{CarriesOn};
     ghost use Rattle.wire_run.specs.Played.{PlaysEvent, wire_kind};

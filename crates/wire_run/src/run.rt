@@ -2,7 +2,7 @@
 ghost use Rattle.std.specs.Prelude.{◌≡◌, List, Ok, ℕ};
 ghost use Rattle.io_ports.specs.Faults.{Rose};
 ghost use Rattle.proxy_config.specs.Ranges.{IsInRange};
-ghost use Rattle.proxy_config.specs.Reading.{config_of};
+ghost use Rattle.config_tables.specs.Reading.{config_of};
 ghost use Rattle.wire_run.specs.Allowed.{Completes};
 ghost use Rattle.wire_run.specs.Tapes.{RunsWire};
 ghost use Rattle.flow_notes.specs.Name.{AreNames};

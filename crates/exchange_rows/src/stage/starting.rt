@@ -7,7 +7,8 @@ use crate::answer::Answer;
 use exchange_core::StartSpec;
 use flow_gate::{BufferId, FlowId, Gates};
 use io_ports::NoMemory;
-use proxy_config::{Config, read_config};
+use config_tables::read_config;
+use proxy_config::Config;
 use std::alloc::Global;
 
 const CLIENT: u32 = 1;

@@ -1,5 +1,5 @@
 -- The text is refused.
-use Rattle.proxy_config.specs.Reading.{config_of}
+use Rattle.config_tables.specs.Reading.{config_of}
 use Rattle.proxy_wire.proofs.Whole.{unfit}
 use Rattle.std.proofs.Common.{ap, sym, ◌∙◌}
 use Rattle.proxy_wire.proofs.serve.serve_workers.Goals as goal

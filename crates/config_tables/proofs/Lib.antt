@@ -1,0 +1,5 @@
+pub mod Faults
+pub mod Fits
+pub mod InRange
+pub mod Least
+pub mod Lists

@@ -1,0 +1,4 @@
+use Rattle.config_tables.proofs.overload_rows.read_shed.Goals as goal
+
+pub returns-clause-faults : goal.returns-clause-faults
+returns-clause-faults c = rw (c.as_slice.ensures.rows, c.list.ensures) at c.shed_rows.ensures.faults

@@ -1,4 +1,0 @@
-use Rattle.proxy_config.proofs.overload_rows.read_shed.Goals as goal
-
-pub returns-clause-faults : goal.returns-clause-faults
-returns-clause-faults c = rw (c.as_slice.ensures.rows, c.list.ensures) at c.shed_rows.ensures.faults

@@ -1,4 +1,0 @@
-use Rattle.proxy_config.proofs.route_rows.check_route.Goals as goal
-
-pub returns : goal.returns
-returns c = rw c.target_key.ensures at c.check_all.ensures

@@ -1,9 +1,0 @@
-use Rattle.std.proofs.Common.{◌≡◌, map, drop}
-use Rattle.proxy_config.specs.Kinds.{key_of}
-use Rattle.proxy_config.specs.Texts.{is_among}
-use Rattle.proxy_config.proofs.section.is_key.Given as goal
-
--- what is left decides
-abbrev pub invariant-loop-key : goal.invariant-loop-key
-invariant-loop-key l =
-    is_among (map (λ key. key.name) (map key_of (drop l.key-index l.keys))) l.name ≡ is_among (map (λ key. key.name) (map key_of l.keys)) l.name
