@@ -5,7 +5,7 @@ use Rattle.mem_wire_site.specs.declared.play.WorkerPlay.{WorkerPlay}
 use Rattle.mem_wire_site.specs.declared.site.MemWireSite.{MemWireSite}
 use Rattle.proxy_site.specs.Memory.{new_sink}
 use Rattle.proxy_site.specs.declared.mem_site.MemSite.{MemSite}
-use Rattle.proxy_wire.specs.Sites.{WireTold}
+use Rattle.proxy_site.specs.WireSites.{WireTold}
 use Rattle.relay_ports.specs.Memory.{TapsMemory, is_new}
 use Rattle.std.specs.Option.{option_map}
 use Rattle.std.specs.Prelude.{List, None, Option, Some, [], false, if◌then◌else◌, min, slice_get, ℕ, ◌-◌, ◌^◌, ◌∷◌, ◌≡◌}

@@ -6,7 +6,7 @@ ghost use Rattle.mem_wire_site.specs.Memory.{IsNewWireSite, fit_of, given_at, wi
 ghost use Rattle.proxy_site.specs.Memory.{told_of};
 ghost use Rattle.proxy_site.specs.Sites.{IsUnused, TellsListening};
 ghost use Rattle.proxy_site.specs.declared.site.SiteRefusal.TheVariants as refusals;
-ghost use Rattle.proxy_wire.specs.Sites.{with_fitted};
+ghost use Rattle.proxy_site.specs.WireSites.{with_fitted};
 ghost use Rattle.relay_ports.specs.Memory.{seen_of};
 
 use crate::journal::PlayJournal;
@@ -16,8 +16,7 @@ use crate::wires::PlayWires;
 use io_ports::{Failed, NoMemory, Octets};
 use mem_ports::MemClock;
 use proxy_config::Config;
-use proxy_site::{MemJournal, MemSite, Site, SiteRefusal};
-use proxy_wire::WireSite;
+use proxy_site::{MemJournal, MemSite, Site, SiteRefusal, WireSite};
 use relay_ports::MemTaps;
 use std::alloc::Global;
 use std::sync::Arc;

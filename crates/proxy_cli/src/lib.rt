@@ -1,22 +1,15 @@
-//! The command line of `h2proxy`, whose words are those behind the program's name, and the site over sockets that it serves.
+//! The command line of `h2proxy`, whose words are those behind the program's name.
 #![tactic(auto)]
 
-mod counts;
-mod journal;
 mod pages;
-mod socket_site;
 mod tell;
-mod warn;
-mod wire_sockets;
 
 use crate::pages::{HELP, USAGE, VERSION};
 use config_text::ConfigFile;
-pub use counts::{ClientCounts, ClientGauge};
-pub use journal::FileJournal;
 use program_ports::{Input, Output};
 use proxy_site::Status;
+use proxy_sockets::{ClientCounts, ClientGauge, SocketSite};
 use proxy_wire::{ProxyForm, read_proxy_form, serve_proxy};
-pub use socket_site::SocketSite;
 use std::env::{self, Env};
 use std::fs;
 use std::io::{Eprint, ErrorKind, Write};

@@ -1,15 +1,15 @@
 // The site over sockets, with a client and a server.
 ghost use Rattle.std.specs.Prelude.{◌≡◌};
-ghost use Rattle.proxy_cli.specs.Sites.{site_faults};
+ghost use Rattle.proxy_sockets.specs.Sites.{site_faults};
 
 use crate::beside::Beside;
 use crate::client::Client;
 use crate::server::Server;
 use io_ports::Octets;
 use mio_edge::read_address;
-use proxy_cli::{FileJournal, SocketSite};
 use proxy_config::Config;
 use proxy_site::{Site, SiteRefusal};
+use proxy_sockets::{FileJournal, SocketSite};
 use std::io::Eprint;
 use std::net::Net;
 use std::rt::Files;

@@ -4,7 +4,7 @@ ghost use Rattle.std.specs.Prelude.{◌≡◌};
 use flow_gate::{BufferId, FlowId};
 use flow_notes::{Note, Notes, Passage};
 use io_ports::{Failed, NoMemory, Octets, Sink};
-use proxy_cli::FileJournal;
+use proxy_sockets::FileJournal;
 use std::alloc::Global;
 use std::io::Write;
 use worker_parts::Journal;
@@ -68,7 +68,7 @@ impl<F: Write> NotedJournal<F> {
 
 impl<F: Write> Sink for NotedJournal<F> {
     ghost use Rattle.std.specs.Prelude.{None};
-    ghost use Rattle.proxy_cli.specs.Journals.{journal_faults};
+    ghost use Rattle.proxy_sockets.specs.Journals.{journal_faults};
 
     ghost contents = { λ _. None };
 

@@ -1,6 +1,6 @@
 // The site over sockets, with a client and a server of HTTP/2.
 ghost use Rattle.std.specs.Prelude.{◌≡◌};
-ghost use Rattle.proxy_cli.specs.Sites.{site_faults};
+ghost use Rattle.proxy_sockets.specs.Sites.{site_faults};
 
 use crate::web_journal::{Kept, NotedJournal};
 use crate::web_origin::Origin;
@@ -9,10 +9,9 @@ use io_ports::{Failed, NoMemory, Octets};
 use mio::net::{TcpListener, TcpStream};
 use mio_accept::QueueInlet;
 use mio_edge::{MonotonicClock, SocketTaps, read_address};
-use proxy_cli::{FileJournal, SocketSite};
 use proxy_config::Config;
-use proxy_site::{Site, SiteRefusal};
-use proxy_wire::WireSite;
+use proxy_site::{Site, SiteRefusal, WireSite};
+use proxy_sockets::{FileJournal, SocketSite};
 use std::io::Eprint;
 use std::mem;
 use std::net::{Net, SocketAddr};

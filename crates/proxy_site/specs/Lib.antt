@@ -4,3 +4,4 @@ pub mod Reasons
 pub mod Relaying
 pub mod Serving
 pub mod Sites
+pub mod WireSites

@@ -9,6 +9,7 @@ mod refused;
 mod relaying;
 mod serving;
 mod site;
+mod wire_site;
 
 pub use form::{ENDLESS, ServeForm, read_serve_form, read_turns};
 pub use mem_journal::MemJournal;
@@ -19,3 +20,4 @@ pub use relaying::put_listening;
 pub use serving::{serve, serve_with_reason};
 pub use session_run::Status;
 pub use site::{Site, SiteRefusal};
+pub use wire_site::WireSite;

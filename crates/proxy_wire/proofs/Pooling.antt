@@ -7,7 +7,7 @@ use Rattle.proxy_config.specs.declared.config.Config.{Config}
 use Rattle.proxy_wire.proofs.Telling.{fits_more, fitted_none}
 use Rattle.proxy_wire.specs.Pools.{EachTwo, IsPool, IsHired, IsIdle, IsPaid, OneFailed, SharesOf}
 use Rattle.proxy_wire.specs.Hires.{Fits, HasParts, HiresAll, HiresNone, HiresOne, HiresSome, IsNext, IsTaken, Joins, SharesMore, Stays}
-use Rattle.proxy_wire.specs.Sites.{TellsFitted, WireTold, numbered}
+use Rattle.proxy_site.specs.WireSites.{TellsFitted, WireTold, numbered}
 use Rattle.proxy_wire.specs.Working.{Begins}
 use Rattle.proxy_wire.specs.declared.pool.Pool.{Pool}
 use Rattle.proxy_wire.specs.declared.pool.Parts.{Parts}

@@ -2,7 +2,7 @@
 use Rattle.io_ports.specs.Faults.{Rose}
 use Rattle.proxy_wire.proofs.Telling.{returned_none, returns_more}
 use Rattle.proxy_wire.specs.Pools.{IsBackOf, IsPaid, OneFailed, back_of}
-use Rattle.proxy_wire.specs.Sites.{TellsReturned, WireTold, numbered}
+use Rattle.proxy_site.specs.WireSites.{TellsReturned, WireTold, numbered}
 use Rattle.proxy_wire.specs.declared.giving_back.Back.{Back}
 use Rattle.shared_state.specs.PermitSeats.{IsSeatOf}
 use Rattle.shared_state.specs.declared.permits.PermitSeat.{PermitSeat}

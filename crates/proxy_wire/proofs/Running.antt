@@ -11,7 +11,7 @@ use Rattle.proxy_wire.proofs.Telling.{fitted_none, returned_none, workers_tell}
 use Rattle.proxy_wire.specs.Pools.{EachTwo, IsHired, IsIdle, IsPaid, OneFailed, back_of}
 use Rattle.proxy_wire.specs.Runs.{PoolIdle, PoolRan, PoolWorks, WorksAll}
 use Rattle.proxy_wire.specs.Serving.{AllRan, NoneRan, Unused, wire_status}
-use Rattle.proxy_wire.specs.Sites.{TellsFitted, TellsReturned, WireTold, numbered}
+use Rattle.proxy_site.specs.WireSites.{TellsFitted, TellsReturned, WireTold, numbered}
 use Rattle.proxy_wire.specs.Working.{EndsSo, WorkerRan, ends_status, is_fault, is_memory}
 use Rattle.proxy_wire.specs.declared.end.LoopEnd.{LoopEnd}
 use Rattle.proxy_wire.specs.declared.end.WireEnd.{WireEnd}

@@ -6,7 +6,7 @@ use Rattle.proxy_site.proofs.Relayed.{rose_later}
 use Rattle.proxy_site.specs.Relaying.{IsCutShort, SiteOrOut}
 use Rattle.proxy_site.specs.Sites.{TellsListening, Told}
 use Rattle.proxy_wire.specs.Serving.{AllRan, NoneRan, ServesWire, metered_outside}
-use Rattle.proxy_wire.specs.Sites.{WireTold}
+use Rattle.proxy_site.specs.WireSites.{WireTold}
 use Rattle.session_run.specs.declared.status.Status.{Status}
 use Rattle.std.proofs.Common.{inl, inr, subst, sym}
 use Rattle.std.specs.Prelude.{List, Option, ℕ, ◌<◌, ◌≡◌, ◌≤◌, ◌⊎◌}

@@ -1,5 +1,5 @@
 -- What a site tells of workers, one thing after another.
-use Rattle.proxy_wire.specs.Sites.{TellsFitted, TellsReturned, TellsWorkers, WireTold, numbered, with_fitted, with_returned}
+use Rattle.proxy_site.specs.WireSites.{TellsFitted, TellsReturned, TellsWorkers, WireTold, numbered, with_fitted, with_returned}
 use Rattle.std.proofs.Common.{ap, append_assoc, arith, inl, inr, refl, subst, sym, ◌∙◌}
 use Rattle.std.proofs.lemmas.List.{append-nil, reverse-append}
 use Rattle.std.specs.Prelude.{List, None, Option, Some, [], length, reverse, suc, ℕ, ◌+◌, ◌++◌, ◌∷◌, ◌≡◌}

@@ -3,7 +3,7 @@ use Rattle.post_queue.specs.declared.passes.RunnerPass.{RunnerPass}
 use Rattle.post_queue.specs.declared.post_box.PostBox.{PostBox}
 use Rattle.proxy_config.specs.declared.config.Config.{Config}
 use Rattle.proxy_wire.specs.Pools.{EachTwo, IsPool, IsHired, IsIdle}
-use Rattle.proxy_wire.specs.Sites.{TellsFitted, WireTold, numbered}
+use Rattle.proxy_site.specs.WireSites.{TellsFitted, WireTold, numbered}
 use Rattle.proxy_wire.specs.Working.{Begins}
 use Rattle.proxy_wire.specs.declared.pool.Pool.{Pool}
 use Rattle.proxy_wire.specs.declared.pool.Parts.{Parts}

@@ -7,6 +7,5 @@ pub mod Pools
 pub mod Reasons
 pub mod Runs
 pub mod Serving
-pub mod Sites
 pub mod Tasks
 pub mod Working

@@ -4,7 +4,7 @@ use Rattle.proxy_site.specs.Relaying.{IsCutShort, listening_line}
 use Rattle.proxy_wire.specs.Pools.{EachTwo, IsHired, SharesOf}
 use Rattle.proxy_wire.specs.Hires.{HiresSome}
 use Rattle.proxy_wire.specs.Serving.{wire_status}
-use Rattle.proxy_wire.specs.Sites.{TellsFitted, WireTold, numbered}
+use Rattle.proxy_site.specs.WireSites.{TellsFitted, WireTold, numbered}
 use Rattle.proxy_wire.specs.Working.{EndsSo}
 use Rattle.proxy_wire.specs.declared.end.WireEnd.{WireEnd}
 use Rattle.session_run.specs.Ends.{AppendsFront}

@@ -5,7 +5,7 @@ use Rattle.proxy_config.specs.declared.config.Config.{Config}
 use Rattle.proxy_site.specs.Relaying.{IsCutShort, listening_line}
 use Rattle.proxy_site.specs.Serving.{HasConfig, HasNoConfig}
 use Rattle.proxy_site.specs.Sites.{TellsListening, Told}
-use Rattle.proxy_wire.specs.Sites.{TellsWorkers, WireTold}
+use Rattle.proxy_site.specs.WireSites.{TellsWorkers, WireTold}
 use Rattle.proxy_wire.specs.Working.{EndsSo, RanEach, ends_status, threads_status}
 use Rattle.proxy_wire.specs.declared.end.WireEnd.{WireEnd}
 use Rattle.session_run.specs.Ends.{AppendsFront}

@@ -2,12 +2,12 @@
 ghost use Rattle.std.specs.Prelude.{All, [], map, reverse, vec_len, ◌<◌, ◌∷◌, ◌^◌, ◌≡◌, ◌≤◌, ◌⊎◌};
 ghost use Rattle.io_ports.specs.Faults.{Rose};
 ghost use Rattle.proxy_wire.specs.Pools.{IsBackOf, IsPaid, OneFailed, back_of};
-ghost use Rattle.proxy_wire.specs.Sites.{TellsReturned, numbered};
+ghost use Rattle.proxy_site.specs.WireSites.{TellsReturned, numbered};
 ghost use Rattle.shared_state.specs.PermitSeats.{IsSeatOf};
 ghost use Rattle.worker_threads.specs.Starting.{outside_of};
 
 use crate::meter::Meter;
-use crate::site::WireSite;
+use proxy_site::WireSite;
 use shared_state::{PermitSeat, Permits};
 use worker_loop::HeldPermits;
 use worker_ports::OpenGate;

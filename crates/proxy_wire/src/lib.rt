@@ -12,10 +12,8 @@ mod metering;
 mod pool;
 mod serve;
 mod serving;
-mod site;
 mod working;
 
 pub use end::WireEnd;
 pub use form::{ProxyForm, read_proxy_form};
 pub use serve::{ProxyReason, ProxyServed, serve_proxy};
-pub use site::WireSite;

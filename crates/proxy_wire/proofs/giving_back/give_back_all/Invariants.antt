@@ -1,6 +1,6 @@
 use Rattle.io_ports.specs.Faults.{Rose}
 use Rattle.proxy_wire.specs.Pools.{IsPaid, OneFailed, back_of}
-use Rattle.proxy_wire.specs.Sites.{TellsReturned, numbered}
+use Rattle.proxy_site.specs.WireSites.{TellsReturned, numbered}
 use Rattle.std.proofs.Common.{All, map, reverse, vec_len, ◌<◌, ◌^◌, ◌≡◌, ◌≤◌, ◌⊎◌}
 use Rattle.worker_threads.specs.Starting.{outside_of}
 use Rattle.proxy_wire.proofs.giving_back.give_back_all.Given as goal

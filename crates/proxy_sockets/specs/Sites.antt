@@ -1,5 +1,5 @@
 -- What is seen of the site over sockets.
-use Rattle.proxy_cli.specs.declared.socket_site.SocketSite.{SocketSite}
+use Rattle.proxy_sockets.specs.declared.socket_site.SocketSite.{SocketSite}
 use Rattle.std.specs.Prelude.{ℕ}
 
 -- whatever its runtime is, with the types of its traits

@@ -3,8 +3,8 @@ ghost use Rattle.std.specs.Prelude.{◌≡◌, ◌≤◌, IfOk, length};
 ghost use Rattle.io_ports.specs.Faults.{Rose};
 ghost use Rattle.mio_edge.specs.Rolls.{new_roll, roll_seen};
 ghost use Rattle.mio_edge.specs.Sockets.{faults_of, seen_of};
-ghost use Rattle.proxy_cli.specs.Journals.{journal_faults};
-ghost use Rattle.proxy_cli.specs.Sites.{site_faults};
+ghost use Rattle.proxy_sockets.specs.Journals.{journal_faults};
+ghost use Rattle.proxy_sockets.specs.Sites.{site_faults};
 
 use crate::counts::ClientCounts;
 use crate::journal::FileJournal;
@@ -248,7 +248,7 @@ fn name_of(front: &Octets, worker: u32, alloc: Global) -> Result<Octets, NoMemor
 }
 
 impl<R: Eprint + Files + Net + Clock + Wait + AllocGlobal + Copy + Drop> Site for SocketSite<R> {
-    ghost use Rattle.proxy_cli.specs.Sites.{site_faults};
+    ghost use Rattle.proxy_sockets.specs.Sites.{site_faults};
     ghost use Rattle.std.specs.Prelude.{None};
 
     type T = SocketTaps<R, TcpListener>;

@@ -1,5 +1,5 @@
 -- Each cluster that was looked at has its place.
-use Rattle.proxy_cli.proofs.socket_site.SocketSite.plan.Given as goal
+use Rattle.proxy_sockets.proofs.socket_site.SocketSite.plan.Given as goal
 use Rattle.std.proofs.Common.{length, ◌≡◌}
 
 abbrev pub invariant-loop-cluster : goal.invariant-loop-cluster

@@ -3,11 +3,11 @@ ghost use Rattle.std.specs.Prelude.{[], ◌∷◌, ◌≡◌, ◌<◌, ◌≤◌
 ghost use Rattle.io_ports.specs.Faults.{FailsByFault, Rose};
 ghost use Rattle.proxy_site.specs.Sites.{IsUnused, TellsListening};
 ghost use Rattle.proxy_site.specs.declared.site.SiteRefusal.TheVariants as refusal;
-ghost use Rattle.proxy_wire.specs.Sites.{TellsFitted, TellsReturned, WireTold};
+ghost use Rattle.proxy_site.specs.WireSites.{TellsFitted, TellsReturned, WireTold};
 
+use crate::site::{Site, SiteRefusal};
 use io_ports::{Failed, Octets};
 use proxy_config::Config;
-use proxy_site::{Site, SiteRefusal};
 use worker_parts::Journal;
 use worker_ports::{Clock, Wires};
 

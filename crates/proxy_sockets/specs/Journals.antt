@@ -1,8 +1,8 @@
 -- What is seen of a journal.
-use Rattle.proxy_cli.specs.declared.journal.FileJournal.{FileJournal}
+use Rattle.proxy_sockets.specs.declared.journal.FileJournal.{FileJournal}
 use Rattle.program_ports.specs.Outside.{write_faults}
 use Rattle.std.specs.Prelude.{ℕ}
-use Rattle.proxy_cli.specs.declared.journal.FileJournal.TheVariants as journal
+use Rattle.proxy_sockets.specs.declared.journal.FileJournal.TheVariants as journal
 
 module _ {X : Type 0} where
   -- one that isn't kept never fails

@@ -1,6 +1,6 @@
 // The journal of a relay or a worker.
 ghost use Rattle.std.specs.Prelude.{◌≡◌};
-ghost use Rattle.proxy_cli.specs.Journals.{journal_faults};
+ghost use Rattle.proxy_sockets.specs.Journals.{journal_faults};
 
 use flow_notes::Notes;
 use io_ports::{Failed, NoMemory, Sink};
@@ -37,7 +37,7 @@ impl<F: Write> FileJournal<F> {
 
 impl<F: Write> Sink for FileJournal<F> {
     ghost use Rattle.std.specs.Prelude.{None};
-    ghost use Rattle.proxy_cli.specs.Journals.{journal_faults};
+    ghost use Rattle.proxy_sockets.specs.Journals.{journal_faults};
 
     ghost contents = { λ _. None };
 

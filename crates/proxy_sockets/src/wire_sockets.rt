@@ -2,7 +2,7 @@
 ghost use Rattle.std.specs.Prelude.{IfOk, length, ◌≡◌};
 ghost use Rattle.mio_edge.specs.Rolls.{new_roll, roll_seen};
 ghost use Rattle.mio_edge.specs.Sockets.{faults_of, seen_of};
-ghost use Rattle.proxy_cli.specs.Sites.{site_faults};
+ghost use Rattle.proxy_sockets.specs.Sites.{site_faults};
 
 use crate::journal::FileJournal;
 use crate::socket_site::SocketSite;
@@ -12,8 +12,7 @@ use mio::Poll;
 use mio_accept::{AcceptQueue, Acceptor, QueueInlet};
 use mio_edge::{EdgeFault, MonotonicClock, Sharing, SocketTaps};
 use proxy_config::Config;
-use proxy_site::{Site, SiteRefusal};
-use proxy_wire::WireSite;
+use proxy_site::{Site, SiteRefusal, WireSite};
 use std::alloc::Global;
 use std::io::{Eprint, Error, ErrorKind};
 use std::net::Net;
