@@ -1,5 +1,4 @@
 pub mod Arriving
-pub mod Opening
 pub mod Paying
 pub mod Settled
 pub mod Starting

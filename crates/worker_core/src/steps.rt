@@ -10,10 +10,11 @@ ghost use Rattle.wire_state.specs.Worlds.{Goes, KeepsOk, TellsAll, eased_by};
 use crate::rounds::next_round;
 use flow_notes::{Event, Notes};
 use io_ports::NoMemory;
-use wire_ends::{close_task, doom_task, drains, end, fire, fires, losses, resets};
-use wire_in::{read, ticks, waste};
+use wire_ends::{close_task, doom_task, end, losses};
+use wire_in::{read, waste};
 use wire_out::{ask_drain, ask_run, drain, run, tell};
 use wire_state::{Task, WireCore};
+use wire_turns::{drains, fire, fires, resets, ticks};
 
 /// Small steps until nothing is under way and no connection has anything to do. Where the event may have eased a write buffer, the
 /// flows that go to its connection are told first.

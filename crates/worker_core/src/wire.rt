@@ -16,10 +16,9 @@ use io_ports::NoMemory;
 use plain_core::CoreFault;
 use proxy_config::Config;
 use std::alloc::Global;
-use wire_ends::{rest, sweep};
-use wire_in::take_event;
 use wire_load::Action;
 use wire_state::WireCore;
+use wire_turns::{rest, sweep, take_event};
 
 /// The greatest number of a dispatch.
 const LAST_TURN: u64 = (1 << 63) - 1;

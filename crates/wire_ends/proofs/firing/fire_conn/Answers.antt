@@ -1,7 +1,0 @@
-use Rattle.wire_ends.proofs.firing.fire_conn.Goals as goal
-
-pub returns-clause-octets : goal.returns-clause-octets
-returns-clause-octets c = record {
-  goes = λ h g start t.
-      c.close.ensures.octets.goes h g start ((c.in_ok-note.ensures.idle tt).goes h g start _ _ _ t);
-}
